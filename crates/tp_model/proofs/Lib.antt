@@ -1,0 +1,15 @@
+pub mod Lists
+pub mod Histories
+pub mod LawProofs
+pub mod WordProofs
+pub mod Walks
+pub mod PassStates
+pub mod PlainLemmas
+pub mod Claims
+pub mod UnitEnds
+pub mod RowProofs
+pub mod Commits
+pub mod RunProofs
+pub mod Kills
+pub mod Bridges
+pub mod Later

@@ -1,0 +1,9 @@
+pub mod History
+pub mod Steps
+pub mod Laws
+pub mod Words
+pub mod Passes
+pub mod Counts
+pub mod Noted
+pub mod OneThread
+pub mod Rows

@@ -1,0 +1,44 @@
+-- Worked histories, with two passes (the second is the server's) of 8 rows and 256 units, and three attempts.
+use Rattle.std.specs.Prelude.{◌≡◌, ℕ, Some, List, [], ◌∷◌, map}
+use Rattle.tp_model.specs.declared.types.Element.{Element}
+use Rattle.tp_model.specs.declared.types.Limits.{Limits}
+use Rattle.tp_model.specs.declared.types.Status.TheVariants.{Waiting, Consumed, Parked, Killed}
+use Rattle.tp_model.specs.declared.event.Event.{Event}
+use Rattle.tp_model.specs.declared.event.Event.TheVariants.{Enqueue, Claim, Commit, Abort, Kill}
+use Rattle.tp_model.specs.History.{born, Committed, end_of, status_of, events_by}
+use Rattle.tp_model.specs.Words.{TakenWord, KilledWord, claim_word}
+use Rattle.tp_model.specs.Counts.{taken, counts, counts_in}
+use Rattle.tp_model.specs.Steps.{IsLegal}
+use Rattle.tp_model.specs.OneThread.{request}
+
+abbrev pub row_limits : Limits
+row_limits = record { parts = 2; rows = 8; units = 256; attempts = 3 }
+
+abbrev output : ℕ → ℕ → ℕ → ℕ → ℕ → Element
+output id stage root amount unit = record { id = id; stage = stage; root = root; key = 0; amount = amount; by = Some unit }
+
+-- a request, and its reply
+abbrev pub with_reply : List Event
+with_reply = Enqueue 0 (request 0 1 0 10) ∷ Claim 1 256 0 1 ∷ Commit 1 256 (output 8 15 0 10 256 ∷ []) ∷ []
+
+-- a request that is taken and given up three times
+abbrev pub given_up : List Event
+given_up = Enqueue 0 (request 0 1 0 11) ∷ Claim 1 256 0 1 ∷ Abort 1 256 ∷ Claim 1 257 0 2 ∷ Abort 1 257 ∷ Claim 1 258 0 3 ∷ Abort 1 258 ∷ []
+
+-- a request that is killed while a unit holds it
+abbrev pub killed_in_hand : List Event
+killed_in_hand = Enqueue 0 (request 0 1 0 5) ∷ Claim 1 256 0 1 ∷ Abort 0 256 ∷ Kill 0 0 ∷ []
+
+pub record WorkedRows : Type 0 where
+  pub reply_is : map (λ (e : Element). e.id) (born with_reply) ≡ 0 ∷ 8 ∷ []
+  pub reply_end : end_of with_reply 256 ≡ Some (Committed 8 1)
+  pub reply_status : status_of 3 with_reply 0 ≡ Consumed 256
+  pub reply_waits : status_of 3 with_reply 8 ≡ Waiting 0
+  pub reply_taken : map (λ (e : Element). e.amount) (taken (events_by 1 with_reply) with_reply) ≡ 10 ∷ []
+  pub reply_counts : counts 3 with_reply ≡ record { waiting = 1; held = 0; consumed = 1; parked = 0; killed = 0 }
+  pub reply_stage_counts : counts_in 3 with_reply 15 ≡ record { waiting = 1; held = 0; consumed = 0; parked = 0; killed = 0 }
+  pub parked : status_of 3 given_up 0 ≡ Parked 3
+  pub parked_word : claim_word given_up 0 ≡ TakenWord 3 258
+  pub killed : status_of 3 killed_in_hand 0 ≡ Killed
+  pub killed_word : claim_word killed_in_hand 0 ≡ KilledWord 1 256
+  pub legal : IsLegal row_limits with_reply

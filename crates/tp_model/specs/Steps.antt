@@ -1,0 +1,121 @@
+-- Which event may come next, and which histories are legal.
+use Rattle.std.specs.Prelude.{◌≡◌, ℕ, ◌+◌, ◌-◌, ◌*◌, ◌<◌, ◌≤◌, Some, None, List, [], ◌∷◌, ◌++◌, length}
+use Rattle.tp_model.specs.declared.types.Element.{Element}
+use Rattle.tp_model.specs.declared.types.Limits.{Limits}
+use Rattle.tp_model.specs.declared.types.Status.{Status}
+use Rattle.tp_model.specs.declared.types.Status.TheVariants.{Waiting, Held, Consumed, Parked, Killed}
+use Rattle.tp_model.specs.declared.event.Event.{Event}
+use Rattle.tp_model.specs.declared.event.Event.TheVariants.{Enqueue, Claim, Commit, Abort, Kill}
+use Rattle.tp_model.specs.History.{element_of, status_of, UnitClaim, claim_of, end_of, first_id}
+
+-- the limits are in their ranges
+pub record AreLimits (l : Limits) : Type 0 where
+  pub parts : (1 ≤ l.parts) × (l.parts ≤ 32)
+  pub rows : (1 ≤ l.rows) × (l.rows ≤ 256)
+  pub units : (1 ≤ l.units) × (l.units ≤ 1024)
+  pub attempts : (1 ≤ l.attempts) × (l.attempts ≤ 7)
+
+-- how many rows there are
+abbrev pub rows_of : Limits → ℕ
+rows_of l = l.parts * l.rows
+
+-- how many units there are
+abbrev pub units_of : Limits → ℕ
+units_of l = l.parts * l.units
+
+-- row i is one of pass c's
+abbrev pub IsRowOf : Limits → ℕ → ℕ → Type 0
+IsRowOf l c i = (c < l.parts) × (c * l.rows ≤ i) × (i < c * l.rows + l.rows)
+
+-- unit u is one of pass c's
+abbrev pub IsUnitOf : Limits → ℕ → ℕ → Type 0
+IsUnitOf l c u = (c < l.parts) × (c * l.units ≤ u) × (u < c * l.units + l.units)
+
+-- a stage that servers take from
+abbrev pub IsServerStage : ℕ → Type 0
+IsServerStage s = (1 ≤ s) × (s ≤ 14)
+
+-- a stage that an output may go to: those, and the replies
+abbrev pub IsStage : ℕ → Type 0
+IsStage s = (1 ≤ s) × (s ≤ 15)
+
+-- unit u was claimed, and neither committed nor aborted
+pub record IsOpen (h : List Event) (u : ℕ) (t : UnitClaim) : Type 0 where
+  pub claimed : claim_of h u ≡ Some t
+  pub unfinished : end_of h u ≡ None
+
+-- Enqueue c e may come next
+pub record MayEnqueue (l : Limits) (h : List Event) (c : ℕ) (e : Element) : Type 0 where
+  pub row : IsRowOf l c e.id
+  pub unborn : element_of h e.id ≡ None
+  pub stage : IsServerStage e.stage
+  pub root : e.root ≡ e.id
+  pub by : e.by ≡ None
+
+-- Claim c u i n may come next
+pub record MayClaim (l : Limits) (h : List Event) (c u i n : ℕ) : Type 0 where
+  pub unit : IsUnitOf l c u
+  pub unused : claim_of h u ≡ None
+  pub alone : (v : ℕ) (t : UnitClaim) → t.pass ≡ c → ¬ IsOpen h v t
+  pub item : Element
+  pub born : element_of h i ≡ Some item
+  pub stage : IsServerStage item.stage
+  pub attempt : 1 ≤ n
+  pub waits : status_of l.attempts h i ≡ Waiting (n - 1)
+
+-- e may be the output with this id of unit u of pass c, for a request with this root
+pub record IsOutput (l : Limits) (h : List Event) (c u root id : ℕ) (e : Element) : Type 0 where
+  pub place : e.id ≡ id
+  pub row : IsRowOf l c id
+  pub unborn : element_of h id ≡ None
+  pub stage : IsStage e.stage
+  pub by : e.by ≡ Some u
+  pub root_is : e.root ≡ root
+
+-- and these may be its outputs, with ids one after another
+abbrev pub AreOutputs : Limits → List Event → ℕ → ℕ → ℕ → ℕ → List Element → Type 0
+AreOutputs l h c u root id [] = Unit {0}
+AreOutputs l h c u root id (e ∷ es) = IsOutput l h c u root id e × AreOutputs l h c u root (id + 1) es
+
+-- Commit c u outs may come next
+pub record MayCommit (l : Limits) (h : List Event) (c u : ℕ) (outs : List Element) : Type 0 where
+  pub taking : UnitClaim
+  pub open_unit : IsOpen h u taking
+  pub own : taking.pass ≡ c
+  pub item : Element
+  pub taken : element_of h taking.item ≡ Some item
+  pub few : length outs ≤ 4
+  pub outputs : AreOutputs l h c u item.root (first_id outs) outs
+
+-- Abort c u may come next: any pass may abort an open unit
+pub record MayAbort (l : Limits) (h : List Event) (c u : ℕ) : Type 0 where
+  pub pass : c < l.parts
+  pub taking : UnitClaim
+  pub open_unit : IsOpen h u taking
+
+-- an element with this status may be killed
+abbrev pub IsKillable : Status → Type 0
+IsKillable (Waiting n) = Unit {0}
+IsKillable (Held u n) = ⊥
+IsKillable (Consumed u) = ⊥
+IsKillable (Parked n) = Unit {0}
+IsKillable Killed = ⊥
+
+-- Kill c i may come next: any pass may kill an element that waits or is parked
+pub record MayKill (l : Limits) (h : List Event) (c i : ℕ) : Type 0 where
+  pub pass : c < l.parts
+  pub item : Element
+  pub born : element_of h i ≡ Some item
+  pub free : IsKillable (status_of l.attempts h i)
+
+-- the event may come next
+abbrev pub Step : Limits → List Event → Event → Type 0
+Step l h (Enqueue c e) = MayEnqueue l h c e
+Step l h (Claim c u i n) = MayClaim l h c u i n
+Step l h (Commit c u outs) = MayCommit l h c u outs
+Step l h (Abort c u) = MayAbort l h c u
+Step l h (Kill c i) = MayKill l h c i
+
+-- each event may come after those before it
+pub record IsLegal (l : Limits) (h : List Event) : Type 0 where
+  pub each : (before : List Event) (e : Event) (after : List Event) → before ++ e ∷ after ≡ h → Step l before e

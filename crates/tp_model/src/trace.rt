@@ -1,0 +1,25 @@
+//! The atomic steps of a pass, for contracts alone: no value of them is made when the program runs.
+
+use crate::event::Event;
+use std::collections::LinkedList;
+
+/// The kinds of atomic step on a shared word.
+pub enum StepKind {
+    /// The store of a word of an element that isn't born.
+    DraftStore,
+    /// The store of the head of a client's element, which is its birth.
+    Publish,
+    Load,
+    /// The look at the word of an own unit that was never claimed, which is thereby chosen for the next claim.
+    UnitChoice,
+    ClaimExchange,
+    CommitExchange,
+    AbortExchange,
+    KillExchange,
+}
+
+/// An atomic step of a pass, and the history that the pass has seen after it.
+pub struct TraceEntry {
+    pub kind: StepKind,
+    pub seen: LinkedList<Event>,
+}

@@ -1,0 +1,196 @@
+//! The values that callers hand in and get back.
+
+ghost use Rattle.std.specs.Prelude.{◌≡◌, ◌≤◌, ◌↔◌, IsSome, IfSome};
+
+/// A request, or a further request or reply that a server's unit of work made of one.
+#[derive(Clone, Copy, Debug, PartialEq, Eq)]
+pub struct Element {
+    /// Its identifier: the number of its row, below the manager's capacity.
+    pub id: u32,
+    /// The stage whose servers take it, 1 to 14, or 15 for a reply.
+    pub stage: u8,
+    /// The id of the client's element that it goes back to; its own id where a client submitted it.
+    pub root: u32,
+    /// The first word of its body: which register of a server it concerns.
+    pub key: u64,
+    /// The second word of its body.
+    pub amount: u64,
+    /// The unit of work that made it, or `None` where a client submitted it.
+    pub by: Option<u16>,
+}
+
+/// How an element stands.
+#[derive(Clone, Copy, Debug, PartialEq, Eq)]
+pub enum Status {
+    /// It may be claimed. So many units of work took it and were aborted: fewer than the attempt limit.
+    Waiting { attempts: u8 },
+    /// An undecided unit of work holds it, and is the `attempt`-th to do so.
+    Held { unit: u16, attempt: u8 },
+    /// A unit of work took it and committed.
+    Consumed { unit: u16 },
+    /// All attempts, as many as the limit, were aborted: it is in the error queue.
+    Parked { attempts: u8 },
+    /// It was killed, and is never taken again.
+    Killed,
+}
+
+/// An element as a read shows it.
+#[derive(Clone, Copy, Debug, PartialEq, Eq)]
+pub struct Look {
+    pub element: Element,
+    pub status: Status,
+}
+
+/// What a claim hands out: an element, and the unit of work that holds it from now on.
+#[derive(Clone, Copy, Debug, PartialEq, Eq)]
+pub struct Work {
+    pub unit: u16,
+    pub element: Element,
+    /// How many units have taken the element, this one included: 1 to the attempt limit.
+    pub attempt: u8,
+}
+
+/// The limits that a manager is made with.
+#[derive(Clone, Copy, Debug, PartialEq, Eq)]
+pub struct Limits {
+    /// How many passes there are, 1 to 32.
+    pub parts: u16,
+    /// How many elements each pass may make, 1 to 256.
+    pub rows: u16,
+    /// How many units of work each pass may begin, 1 to 1024.
+    pub units: u16,
+    /// How many attempts an element has before it is parked, 1 to 7.
+    pub attempts: u8,
+}
+
+impl Limits {
+    ghost use Rattle.std.specs.Prelude.{◌↔◌, IsTrue};
+    ghost use Rattle.tp_model.specs.Steps.{AreLimits};
+
+    /// Whether each limit is in its range.
+    pub fn is_valid(&self) -> bool
+        ensures { IsTrue result ↔ AreLimits self.now }
+    {
+        self.parts >= 1
+            && self.parts <= 32
+            && self.rows >= 1
+            && self.rows <= 256
+            && self.units >= 1
+            && self.units <= 1024
+            && self.attempts >= 1
+            && self.attempts <= 7
+    }
+}
+
+/// The answer of a claim.
+#[derive(Clone, Copy, Debug, PartialEq, Eq)]
+pub enum Claimed {
+    /// An element, in the hand of a new unit of work.
+    Work(Work),
+    /// No element of the stage waited.
+    Idle,
+    /// The pass has used up its units of work.
+    NoUnit,
+}
+
+/// The answer of a commit.
+#[derive(Clone, Copy, Debug, PartialEq, Eq)]
+pub enum Outcome {
+    /// The element is consumed and the outputs are born: `count` of them, with the ids from `first` on (0 where there is
+    /// none).
+    Committed { first: u32, count: u8 },
+    /// Another caller had aborted the unit of work: none of it is seen. The rows of its drafts stay unused.
+    Lost,
+    /// The pass has too few rows left for the outputs: the unit of work is aborted.
+    Full,
+}
+
+/// The answer of an abort.
+#[derive(Clone, Copy, Debug, PartialEq, Eq)]
+pub enum Ended {
+    Aborted,
+    /// Another caller had aborted the unit of work.
+    Already,
+}
+
+/// The answer of a kill.
+#[derive(Clone, Copy, Debug, PartialEq, Eq)]
+pub struct Killed {
+    /// How many units of work that held the element this call aborted, at most the attempt limit.
+    pub units_aborted: u8,
+}
+
+/// Why a call was refused. A refused call changes nothing, but that a refused kill may have aborted units of work.
+#[derive(Clone, Copy, Debug, PartialEq, Eq)]
+pub enum Refusal {
+    /// Memory could not be had.
+    NoMemory,
+    /// A limit is outside its range.
+    BadLimits,
+    /// The stage is not one that a client may submit to.
+    BadStage,
+    /// No element with this id was born.
+    NotThere,
+    /// The element was consumed by a unit of work that committed.
+    Consumed { unit: u16 },
+    /// The element was killed before.
+    AlreadyKilled,
+    /// The pass has no row left.
+    Full,
+}
+
+/// An output of a unit of work before it is born. Its stage is 1 to 15.
+#[derive(Clone, Copy, Debug, PartialEq, Eq)]
+pub struct Draft {
+    stage: u8,
+    key: u64,
+    amount: u64,
+    ghost has_stage: { (1 ≤ stage) × (stage ≤ 15) },
+}
+
+impl Draft {
+    /// A draft for a stage, or `None` unless the stage is 1 to 15.
+    pub fn new(stage: u8, key: u64, amount: u64) -> Option<Draft>
+        ensures some { IsSome result ↔ ((1 ≤ stage) × (stage ≤ 15)) }
+        ensures value { IfSome result (λ d. (d.stage ≡ stage) × (d.key ≡ key) × (d.amount ≡ amount)) }
+    {
+        if stage >= 1 && stage <= 15 {
+            Some(Draft { stage, key, amount })
+        } else {
+            None
+        }
+    }
+
+    /// The stage of the output, 1 to 15.
+    pub fn stage(&self) -> u8
+        ensures value { result ≡ self.now.stage }
+        ensures bounds { (1 ≤ result) × (result ≤ 15) }
+    {
+        self.stage
+    }
+
+    /// The first word of the output's body.
+    pub fn key(&self) -> u64
+        ensures { result ≡ self.now.key }
+    {
+        self.key
+    }
+
+    /// The second word of the output's body.
+    pub fn amount(&self) -> u64
+        ensures { result ≡ self.now.amount }
+    {
+        self.amount
+    }
+}
+
+/// The draft that fills unused places: a reply with a body of zeros.
+impl Default for Draft {
+    fn default() -> Draft {
+        Draft {
+            stage: 15,
+            key: 0,
+            amount: 0,
+        }
+    }
+}
