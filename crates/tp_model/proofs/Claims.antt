@@ -18,7 +18,12 @@ use Rattle.tp_model.specs.declared.event.Event.TheVariants.{Enqueue, Claim, Comm
 use Rattle.tp_model.specs.History.{births, born, UnitClaim, claim_by, claim_of, end_by, status_after, status_of}
 use Rattle.tp_model.specs.Counts.{is_waiting}
 use Rattle.tp_model.specs.Steps.{IsServerStage, IsOpen, Step, IsLegal}
-use Rattle.tp_model.specs.OneThread.{State, fresh_pass, pass_at, PassFits, IsReached, Waits, Takes, look_at, look_after, fresh_look, waits_in, sooner, attempts_in}
+use Rattle.tp_model.specs.Computed.{claim_of_stage}
+use Rattle.tp_model.specs.declared.types.Claimed.TheVariants as claimed
+use Rattle.tp_model.proofs.Computations.{claim_takes, claim_idle}
+use Rattle.tp_model.specs.OneThread.{State, fresh_pass, pass_at, Waits, Takes}
+use Rattle.tp_model.specs.Reached.{PassFits, IsReached}
+use Rattle.tp_model.specs.Looks.{look_at, look_after, fresh_look, waits_in, sooner, attempts_in}
 use Rattle.tp_model.proofs.Lists.{first-snoc, if_same, if_other, some_if}
 use Rattle.tp_model.proofs.Histories.{by_steps, status_of-snoc, born_once, element_of-snoc, open_before}
 use Rattle.tp_model.proofs.WordProofs.{unended}
@@ -267,6 +272,7 @@ module _ (l : Limits) (h : List Event) (passes : List PassState) (looks : List L
   ClaimLeft x =
       IsReached (claimed_state x) × (map (look_after l.attempts (the_claim x)) looks ≡ map (look_at l.attempts (h ++ the_claim x ∷ [])) (born (h ++ the_claim x ∷ [])))
       × Takes old_state c stage (the_work x) (claimed_state x)
+      × (claim_of_stage old_state c stage ≡ (claimed.Work (the_work x), claimed_state x))
 
   left_by_claim : (pass_at old_state c).claimed < l.units → (pass_at old_state c).holding ≡ None → ClaimLeft (pass_at old_state c)
   left_by_claim room free =
@@ -295,6 +301,7 @@ module _ (l : Limits) (h : List Event) (passes : List PassState) (looks : List L
           step = step;
           after = refl;
         },
+        claim_takes old_state c stage look room (ap (fold (sooner stage) None) (sym agree) ∙ is),
       )
 
   pub claim_leaves : (used : PassState) → used ≡ slice_index_or passes c used → used.claimed < l.units → (slice_index_or passes c fresh_pass).holding ≡ None → ClaimLeft used
@@ -311,7 +318,10 @@ pub idle_leaves : (l : Limits) (h : List Event) (passes : List PassState) (looks
     (reached : IsReached (record { limits = l; history = h; passes = passes })) → looks ≡ map (look_at l.attempts h) (born h) → c < l.parts
     → (used : PassState) → used ≡ slice_index_or passes c used → used.claimed < l.units → fold (sooner stage) None looks ≡ None
     → ((slice_index_or passes c fresh_pass).claimed < l.units) × ((e : Element) (n : ℕ) → ¬ Waits (record { limits = l; history = h; passes = passes }) stage e n)
+    × (claim_of_stage (record { limits = l; history = h; passes = passes }) c stage ≡ (claimed.Idle, record { limits = l; history = h; passes = passes }))
 idle_leaves l h passes looks c stage reached agree is_pass used read room none =
     let there : c < length passes = rw reached.passes is_pass in
     let same : used ≡ slice_index_or passes c fresh_pass = get_or_read passes c used there read fresh_pass in
-    (subst (λ (x : PassState). x.claimed < l.units) same room, idle (record { limits = l; history = h; passes = passes }) looks stage reached agree none)
+    let s : State = record { limits = l; history = h; passes = passes } in
+    let left = subst (λ (x : PassState). x.claimed < l.units) same room in
+    (left, idle s looks stage reached agree none, claim_idle s c stage left (ap (fold (sooner stage) None) (sym agree) ∙ none))

@@ -3,8 +3,8 @@ use Rattle.std.proofs.Common.{◌≡◌, ℕ, zero, suc, ◌+◌, ◌*◌, ◌<�
 use Rattle.std.proofs.lemmas.Bool.{eqb-true}
 use Rattle.std.proofs.lemmas.Bool.Decides.{eqb_tells}
 use Rattle.std.proofs.lemmas.List.{get_or_read, map-append}
-use Rattle.std.specs.List.{find, Contains}
-use Rattle.tp_model.specs.declared.types.Draft.{Draft}
+use Rattle.std.specs.List.{find, All, Contains}
+use Rattle.tp_model.specs.Drafts.{DraftView}
 use Rattle.tp_model.specs.declared.types.Element.{Element}
 use Rattle.tp_model.specs.declared.types.Limits.{Limits}
 use Rattle.tp_model.specs.declared.types.Look.{Look}
@@ -16,7 +16,13 @@ use Rattle.tp_model.specs.declared.event.Event.TheVariants.{Enqueue, Claim, Comm
 use Rattle.tp_model.specs.History.{born, element_of, UnitClaim, UnitEnd, Committed, Aborted, claim_by, claim_of, end_of, first_id, status_of}
 use Rattle.tp_model.specs.Words.{ClaimWord, FreeWord, TakenWord, KilledWord, kill_word, claim_word_after, claim_word, taken_status, word_status}
 use Rattle.tp_model.specs.Steps.{AreOutputs, IsOpen, Step, IsLegal}
-use Rattle.tp_model.specs.OneThread.{State, fresh_pass, pass_at, PassFits, IsReached, look_at, look_after, fresh_look, is_held_by, outputs, Commits}
+use Rattle.std.proofs.lemmas.List.Elements.{All-head, All-tail}
+use Rattle.tp_model.specs.Computed.{commit_of}
+use Rattle.tp_model.specs.declared.types.Outcome.TheVariants as outcome
+use Rattle.tp_model.proofs.Computations.{commit_goes}
+use Rattle.tp_model.specs.OneThread.{HasStage, root_of, State, fresh_pass, pass_at, outputs, Commits}
+use Rattle.tp_model.specs.Reached.{PassFits, IsReached}
+use Rattle.tp_model.specs.Looks.{look_at, look_after, fresh_look, is_held_by}
 use Rattle.tp_model.proofs.Lists.{first-snoc, first-kept, if_same, if_other, none_if}
 use Rattle.tp_model.proofs.Histories.{by_steps, element_of-snoc, open_before, born_once}
 use Rattle.tp_model.proofs.WordProofs.{WordIsClaimed, word_claimed, claim_word-snoc, status_by_words}
@@ -26,7 +32,7 @@ use Rattle.tp_model.proofs.Claims.{mapped, found_contains}
 use Rattle.tp_model.proofs.UnitEnds.{open_of}
 
 -- one draft more
-pub outputs_more : (u root id : ℕ) (ds : List Draft) (i : ℕ) (d : Draft) → i < length ds → d ≡ slice_index_or ds i d
+pub outputs_more : (u root id : ℕ) (ds : List DraftView) (i : ℕ) (d : DraftView) → i < length ds → d ≡ slice_index_or ds i d
     → outputs u root id (take (suc i) ds) ≡ outputs u root id (take i ds) ++ record { id = id + i; stage = d.stage; root = root; key = d.key; amount = d.amount; by = Some u } ∷ []
 outputs_more u root id [] i d less is = absurd (omega arith)
 outputs_more u root id (x ∷ ds) zero d less is = rw (is, add-zero) refl
@@ -35,28 +41,28 @@ outputs_more u root id (x ∷ ds) (suc i) d less is =
     let same : id + 1 + i ≡ id + suc i = omega arith in
     ap (λ r. record { id = id; stage = x.stage; root = root; key = x.key; amount = x.amount; by = Some u } ∷ r) (rw same at rest)
 
-pub length-outputs : (u root id : ℕ) (ds : List Draft) → length (outputs u root id ds) ≡ length ds
+pub length-outputs : (u root id : ℕ) (ds : List DraftView) → length (outputs u root id ds) ≡ length ds
 length-outputs u root id [] = refl
 length-outputs u root id (d ∷ ds) = ap suc (length-outputs u root (id + 1) ds)
 
-first_id-outputs : (u root id : ℕ) (ds : List Draft) → first_id (outputs u root id ds) ≡ (if length ds == 0 then 0 else id)
+first_id-outputs : (u root id : ℕ) (ds : List DraftView) → first_id (outputs u root id ds) ≡ (if length ds == 0 then 0 else id)
 first_id-outputs u root id [] = refl
 first_id-outputs u root id (d ∷ ds) = sym (if_other (suc (length ds)) 0 0 id (λ e. omega arith))
 
-are_outputs : (l : Limits) (h : List Event) (c u root id : ℕ) (ds : List Draft) → c < l.parts → c * l.rows ≤ id → id + length ds ≤ c * l.rows + l.rows
+are_outputs : (l : Limits) (h : List Event) (c u root id : ℕ) (ds : List DraftView) → All HasStage ds → c < l.parts → c * l.rows ≤ id → id + length ds ≤ c * l.rows + l.rows
     → ((i : ℕ) → id ≤ i → i < c * l.rows + l.rows → element_of h i ≡ None) → AreOutputs l h c u root id (outputs u root id ds)
-are_outputs l h c u root id [] is_pass low high unborn = tt
-are_outputs l h c u root id (d ∷ ds) is_pass low high unborn = (
-  record { place = refl; row = (is_pass, low, omega arith); unborn = unborn id (omega arith) (omega arith); stage = d.has_stage; by = refl; root_is = refl },
-  are_outputs l h c u root (id + 1) ds is_pass (omega arith) (omega arith) (λ i more less. unborn i (omega arith) less),
+are_outputs l h c u root id [] staged is_pass low high unborn = tt
+are_outputs l h c u root id (d ∷ ds) staged is_pass low high unborn = (
+  record { place = refl; row = (is_pass, low, omega arith); unborn = unborn id (omega arith) (omega arith); stage = All-head HasStage d ds staged; by = refl; root_is = refl },
+  are_outputs l h c u root (id + 1) ds (All-tail HasStage d ds staged) is_pass (omega arith) (omega arith) (λ i more less. unborn i (omega arith) less),
 )
 
 -- and with the first id as the history tells it
-are_outputs_from : (l : Limits) (h : List Event) (c u root id : ℕ) (ds : List Draft) → AreOutputs l h c u root id (outputs u root id ds) → AreOutputs l h c u root (first_id (outputs u root id ds)) (outputs u root id ds)
+are_outputs_from : (l : Limits) (h : List Event) (c u root id : ℕ) (ds : List DraftView) → AreOutputs l h c u root id (outputs u root id ds) → AreOutputs l h c u root (first_id (outputs u root id ds)) (outputs u root id ds)
 are_outputs_from l h c u root id [] are = tt
 are_outputs_from l h c u root id (d ∷ ds) are = are
 
-none_later : (u root id : ℕ) (ds : List Draft) (i : ℕ) → id + length ds ≤ i → find (λ (y : Element). y.id == i) (outputs u root id ds) ≡ None
+none_later : (u root id : ℕ) (ds : List DraftView) (i : ℕ) → id + length ds ≤ i → find (λ (y : Element). y.id == i) (outputs u root id ds) ≡ None
 none_later u root id [] i more = refl
 none_later u root id (d ∷ ds) i more =
     if_other id i (Some (record { id = id; stage = d.stage; root = root; key = d.key; amount = d.amount; by = Some u })) (find (λ (y : Element). y.id == i) (outputs u root (id + 1) ds)) (λ same. omega arith)
@@ -80,7 +86,7 @@ held_claimed l h i u n legal is = go (claim_word h i) (sym (status_by_words l h 
     go (TakenWord m v) e c = let same = at_unit m v (end_of h v) e in subst (λ k. (t : UnitClaim) × (claim_of h k ≡ Some t) × (t.item ≡ i)) same c
     go (KilledWord m v) e c = absurd (cc (e))
 
-fits_commit : (l : Limits) (h : List Event) (c u root : ℕ) (ds : List Draft) (used : PassState) → PassFits l h c used → used.holding ≡ Some u → used.drawn + length ds ≤ l.rows
+fits_commit : (l : Limits) (h : List Event) (c u root : ℕ) (ds : List DraftView) (used : PassState) → PassFits l h c used → used.holding ≡ Some u → used.drawn + length ds ≤ l.rows
     → PassFits l (h ++ Commit c u (outputs u root (c * l.rows + used.drawn) ds) ∷ []) c (record { drawn = used.drawn + length ds; claimed = used.claimed; holding = None })
 fits_commit l h c u root ds used fits hand room =
     let outs = outputs u root (c * l.rows + used.drawn) ds in
@@ -112,7 +118,7 @@ looks_committed l h c u outs looks legal step agree =
 
 module _ (l : Limits) (h : List Event) (passes : List PassState) (looks : List Look) (c : ℕ)
     (reached : IsReached (record { limits = l; history = h; passes = passes })) (agree : looks ≡ map (look_at l.attempts h) (born h)) (is_pass : c < l.parts)
-    (u : ℕ) (look : Look) (is : find (λ (l : Look). is_held_by u l.status) looks ≡ Some look) (ds : List Draft) (few : length ds ≤ 4) where
+    (u : ℕ) (look : Look) (is : find (λ (l : Look). is_held_by u l.status) looks ≡ Some look) (ds : List DraftView) (staged : All HasStage ds) (few : length ds ≤ 4) where
   abbrev pub at_first : State
   at_first = record { limits = l; history = h; passes = passes }
 
@@ -128,7 +134,8 @@ module _ (l : Limits) (h : List Event) (passes : List PassState) (looks : List L
       IsReached (committed_state x)
       × (map (look_after l.attempts (Commit c u (the_outputs x))) (looks ++ map fresh_look (the_outputs x)) ≡ map (look_at l.attempts (h ++ Commit c u (the_outputs x) ∷ [])) (born (h ++ Commit c u (the_outputs x) ∷ [])))
       × ((pass_at at_first c).holding ≡ Some u)
-      × Commits at_first c u ds look.element.root (if length ds == 0 then 0 else c * l.rows + x.drawn) (length ds) (committed_state x)
+      × Commits at_first c u ds (if length ds == 0 then 0 else c * l.rows + x.drawn) (length ds) (committed_state x)
+      × (commit_of at_first c ds ≡ (outcome.Committed (if length ds == 0 then 0 else c * l.rows + x.drawn) (length ds), committed_state x))
 
   -- the element in the unit's hand
   the_item : (t : UnitClaim) → IsOpen h u t → element_of h t.item ≡ Some look.element
@@ -162,12 +169,14 @@ module _ (l : Limits) (h : List Event) (passes : List PassState) (looks : List L
         taken = the_item o.0 o.1;
         few = rw (length-outputs u look.element.root (c * l.rows + x.drawn) ds) few;
         outputs = are_outputs_from l h c u look.element.root (c * l.rows + x.drawn) ds
-            (are_outputs l h c u look.element.root (c * l.rows + x.drawn) ds is_pass (omega arith) (omega arith) (λ i more less. fits.undrawn i more less));
-      } in (
+            (are_outputs l h c u look.element.root (c * l.rows + x.drawn) ds staged is_pass (omega arith) (omega arith) (λ i more less. fits.undrawn i more less));
+      } in
+      let root : root_of h u ≡ look.element.root = rw (o.1.claimed, the_item o.0 o.1) refl in (
         reached_moved at_first (Commit c u (the_outputs x)) c _ reached step refl is_pass (fits_commit l h c u look.element.root ds x fits hand room),
         looks_committed l h c u (the_outputs x) looks reached.legal step agree,
         hand,
-        record { room = room; count_is = refl; next = refl; step = step; after = refl },
+        record { room = room; count_is = refl; first_is = refl; step = rw root step; after = rw root refl },
+        commit_goes at_first c u ds hand o.1.unfinished room ∙ rw root refl,
       )
 
   pub commit_leaves : (used : PassState) → used ≡ slice_index_or passes c used → used.holding ≡ Some u → used.drawn + length ds ≤ l.rows → CommitLeft used

@@ -10,7 +10,9 @@ use Rattle.tp_model.specs.declared.event.Event.{Event}
 use Rattle.tp_model.specs.declared.event.Event.TheVariants.{Enqueue, Claim, Commit, Abort, Kill}
 use Rattle.tp_model.specs.History.{births, born, element_of, claim_by, aborted, status_of, pass_of}
 use Rattle.tp_model.specs.Steps.{IsKillable, Step, IsLegal}
-use Rattle.tp_model.specs.OneThread.{State, pass_at, extended, IsQuiet, PassFits, IsReached, look_at, look_after}
+use Rattle.tp_model.specs.OneThread.{State, pass_at, extended}
+use Rattle.tp_model.specs.Reached.{IsQuiet, PassFits, IsReached}
+use Rattle.tp_model.specs.Looks.{look_at, look_after}
 use Rattle.tp_model.proofs.Lists.{first-snoc, if_same}
 use Rattle.tp_model.proofs.Histories.{legal_more, element_of-kept, element_of-snoc, open_before, status_of-snoc}
 use Rattle.tp_model.proofs.PassStates.{fits_other}

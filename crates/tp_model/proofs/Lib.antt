@@ -3,6 +3,7 @@ pub mod Histories
 pub mod LawProofs
 pub mod WordProofs
 pub mod Walks
+pub mod Computations
 pub mod PassStates
 pub mod PlainLemmas
 pub mod Claims

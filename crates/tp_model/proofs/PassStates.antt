@@ -12,7 +12,8 @@ use Rattle.tp_model.specs.declared.event.Event.{Event}
 use Rattle.tp_model.specs.declared.event.Event.TheVariants.{Enqueue, Claim, Commit, Abort, Kill}
 use Rattle.tp_model.specs.History.{births, UnitClaim, claim_by, claim_of, Aborted, end_by, end_of, first_id, pass_of}
 use Rattle.tp_model.specs.Steps.{AreLimits, IsRowOf, IsUnitOf, IsServerStage, AreOutputs, IsOpen, Step}
-use Rattle.tp_model.specs.OneThread.{State, start, fresh_pass, pass_at, moved, request, PassFits, IsReached}
+use Rattle.tp_model.specs.OneThread.{State, start, fresh_pass, pass_at, moved, request}
+use Rattle.tp_model.specs.Reached.{PassFits, IsReached}
 use Rattle.tp_model.proofs.Lists.{first-snoc, first-kept, option_or-None, if_same, if_other, some_if}
 use Rattle.tp_model.proofs.Histories.{legal_empty, legal_more, element_of-snoc, open_before}
 

@@ -1,5 +1,5 @@
 -- What the manager of one thread keeps.
-use Rattle.std.proofs.Common.{◌≡◌, ℕ, ◌+◌, ◌*◌, ◌<◌, ◌==◌, Bool, true, false, cond, Option, Some, None, List, [], ◌∷◌, ◌++◌, map, length, take, drop, slice_index_or, slice_set, refl, sym, ◌∙◌, ap, subst, arith}
+use Rattle.std.proofs.Common.{◌≡◌, ℕ, ◌+◌, ◌*◌, ◌<◌, ◌==◌, Bool, true, false, cond, Option, Some, None, Ok, List, [], ◌∷◌, ◌++◌, map, length, take, drop, slice_index_or, slice_set, refl, sym, ◌∙◌, ap, subst, arith}
 use Rattle.std.proofs.lemmas.Bool.{eqb-true}
 use Rattle.std.specs.List.{find, Contains}
 use Rattle.std.proofs.lemmas.List.Elements.{Contains-append_right}
@@ -15,8 +15,13 @@ use Rattle.tp_model.specs.declared.pass_state.PassState.{PassState}
 use Rattle.tp_model.specs.declared.event.Event.TheVariants.{Enqueue}
 use Rattle.tp_model.specs.History.{births, born, element_of, status_after, status_of}
 use Rattle.tp_model.specs.Steps.{IsServerStage, Step, IsLegal}
-use Rattle.tp_model.specs.OneThread.{look_at, look_after, fresh_look, State, pass_at, fresh_pass, request, Submits, IsReached}
+use Rattle.tp_model.specs.Looks.{look_at, look_after, fresh_look}
+use Rattle.tp_model.specs.Computed.{submit_of}
+use Rattle.tp_model.proofs.Computations.{submit_goes}
+use Rattle.tp_model.specs.OneThread.{State, pass_at, fresh_pass, request, Submits}
+use Rattle.tp_model.specs.Reached.{IsReached}
 use Rattle.tp_model.proofs.Histories.{status_of-snoc, born-snoc, new_found, unborn_waits, unborn_after}
+use Rattle.tp_model.proofs.Bridges.{element_of-id}
 use Rattle.tp_model.proofs.PassStates.{may_submit, fits_submit, reached_moved}
 
 pub find-passes : {A : Type 0} (p : A → Bool) (xs : List A) (x : A) → find p xs ≡ Some x → p x ≡ true
@@ -26,9 +31,6 @@ find-passes {A} p (y ∷ xs) x e = go (find-passes p xs x) (p y) refl e
     go : (find p xs ≡ Some x → p x ≡ true) → (b : Bool) → p y ≡ b → cond b (Some y) (find p xs) ≡ Some x → p x ≡ true
     go later true is e = let same : y ≡ x = cc in ap p (sym same) ∙ is
     go later false is e = later e
-
-pub element_of-id : (h : List Event) (i : ℕ) (e : Element) → element_of h i ≡ Some e → e.id ≡ i
-element_of-id h i e is = eqb-true e.id i (find-passes (λ (e : Element). e.id == i) (born h) e is)
 
 pub find-looks : (limit : ℕ) (h : List Event) (i : ℕ) (xs : List Element)
     → find (λ (l : Look). l.element.id == i) (map (look_at limit h) xs) ≡ option_map (look_at limit h) (find (λ (e : Element). e.id == i) xs)
@@ -102,6 +104,7 @@ module _ (l : Limits) (h : List Event) (passes : List PassState) (looks : List L
   Left x t =
       IsReached t × (looks ++ fresh_look (new_request x) ∷ [] ≡ map (look_at l.attempts t.history) (born t.history))
       × Submits (record { limits = l; history = h; passes = passes }) c stage key amount (c * l.rows + x.drawn) t
+      × (submit_of (record { limits = l; history = h; passes = passes }) c stage key amount ≡ (Ok (c * l.rows + x.drawn), t))
 
   abbrev pub left_state : PassState → State
   left_state x =
@@ -115,6 +118,7 @@ module _ (l : Limits) (h : List Event) (passes : List PassState) (looks : List L
         reached_moved s (Enqueue c (new_request x)) c _ reached step refl is_pass (fits_submit l h c (new_request x) x (reached.fits c is_pass) room refl),
         looks_submit l h c (new_request x) looks reached.legal step agree,
         record { room = room; next = refl; step = step; after = refl },
+        submit_goes s c stage key amount good room,
       )
 
   pub submit_leaves : (used : PassState) → used ≡ slice_index_or passes c used → used.drawn < l.rows → Left used (left_state used)

@@ -2,7 +2,7 @@
 use Rattle.std.proofs.Common.{◌≡◌, ℕ, zero, suc, Ok, Err, List, [], ◌∷◌, ◌++◌, refl, sym, ◌∙◌, ap, subst, inl, inr, append_assoc}
 use Rattle.std.proofs.lemmas.List.{append-nil}
 use mathlib.Core.List.{IsPrefix}
-use Rattle.tp_model.specs.declared.types.Draft.{Draft}
+use Rattle.tp_model.specs.Drafts.{DraftView}
 use Rattle.tp_model.specs.declared.pass_state.PassState.{PassState}
 use Rattle.tp_model.specs.declared.types.Claimed.{Claimed}
 use Rattle.tp_model.specs.declared.types.Claimed.TheVariants as claimed
@@ -51,8 +51,8 @@ goes_claim s c stage (claimed.Work w) t is = moves s t (Claim c w.unit w.element
 goes_claim s c stage claimed.Idle t is = stays s t is.0
 goes_claim s c stage claimed.NoUnit t is = stays s t is.0
 
-goes_commit : (s : State) (c u : ℕ) (drafts : List Draft) (a : Outcome) (t : State) → Ends s c u drafts a t → Goes s t
-goes_commit s c u drafts (outcome.Committed id count) t is = moves s t _ c _ is.1.step is.1.after
+goes_commit : (s : State) (c u : ℕ) (drafts : List DraftView) (a : Outcome) (t : State) → Ends s c u drafts a t → Goes s t
+goes_commit s c u drafts (outcome.Committed id count) t is = moves s t _ c _ is.step is.after
 goes_commit s c u drafts outcome.Lost t is = passes_alone s t c _ is.2
 goes_commit s c u drafts outcome.Full t is = elim is.1 [ inl p ↦ moves s t (Abort c u) c _ p.0 p.1 | inr p ↦ passes_alone s t c _ p.1 ]
 
@@ -86,7 +86,7 @@ goes : (s : State) (call : Call) (t : State) → Answers s call t → Goes s t
 goes s (CallSubmit c stage key amount (Ok id)) t is = moves s t _ c _ is.step is.after
 goes s (CallSubmit c stage key amount (Err why)) t is = stays s t is.1
 goes s (CallClaim c stage (Ok a)) t is = goes_claim s c stage a t is
-goes s (CallClaim c stage (Err why)) t is = stays s t is.1
+goes s (CallClaim c stage (Err why)) t is = absurd is
 goes s (CallCommit c drafts (Ok a)) t is = goes_commit s c is.0 drafts a t is.2
 goes s (CallCommit c drafts (Err why)) t is = stays s t is.2.1
 goes s (CallAbort c a) t is = goes_abort s c is.0 a t is.2

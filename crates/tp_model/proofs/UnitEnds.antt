@@ -1,5 +1,5 @@
 -- How units end: what an abort finds, and what it leaves.
-use Rattle.std.proofs.Common.{◌≡◌, ◌⊎◌, ℕ, ◌<◌, ◌≤◌, ◌==◌, nat_lt, Bool, true, false, cond, Option, Some, None, List, [], ◌∷◌, ◌++◌, map, length, slice_index_or, slice_set, refl, sym, ◌∙◌, ap, subst, inl, inr, arith}
+use Rattle.std.proofs.Common.{◌≡◌, ◌⊎◌, ℕ, ◌<◌, ◌≤◌, ◌==◌, nat_lt, Bool, true, false, cond, Option, Some, None, List, [], ◌∷◌, ◌++◌, map, length, slice_index_or, slice_set, refl, sym, ◌∙◌, ap, subst, inl, inr, arith, ◌+◌, ◌≢◌}
 use Rattle.std.proofs.lemmas.Bool.{eqb-true, eq-eqb}
 use Rattle.std.proofs.lemmas.Bool.Decides.{eqb_tells}
 use Rattle.std.proofs.lemmas.List.{get_or_read, get_or-set_same, get_or-set_other, length-set}
@@ -16,12 +16,18 @@ use Rattle.tp_model.specs.declared.event.Event.TheVariants.{Enqueue, Claim, Comm
 use Rattle.tp_model.specs.History.{born, element_of, UnitClaim, UnitEnd, Committed, Aborted, claim_by, claim_of, end_of, status_of}
 use Rattle.tp_model.specs.Words.{ClaimWord, FreeWord, TakenWord, KilledWord, claim_word, taken_status, word_status}
 use Rattle.tp_model.specs.Steps.{IsOpen, Step, IsLegal}
-use Rattle.tp_model.specs.OneThread.{State, fresh_pass, pass_at, moved, with_pass, free_pass, PassFits, IsReached, look_at, look_after, is_held_by}
+use Rattle.tp_model.specs.Computed.{abort_of}
+use Rattle.tp_model.specs.declared.types.Ended.TheVariants as ended
+use Rattle.tp_model.proofs.Computations.{abort_goes}
+use Rattle.tp_model.specs.OneThread.{State, fresh_pass, pass_at, moved, with_pass, free_pass}
+use Rattle.tp_model.specs.Reached.{PassFits, IsReached}
+use Rattle.tp_model.specs.Looks.{look_at, look_after, is_held_by}
 use Rattle.tp_model.proofs.Lists.{first-snoc, option_or-some, some_if, none_if}
 use Rattle.tp_model.proofs.Histories.{by_steps, element_of-kept, element_of-snoc, open_before, open_holds}
 use Rattle.tp_model.proofs.WordProofs.{status_by_words}
 use Rattle.tp_model.proofs.PassStates.{reached_moved}
-use Rattle.tp_model.proofs.PlainLemmas.{find-passes, element_of-id}
+use Rattle.tp_model.proofs.PlainLemmas.{find-passes}
+use Rattle.tp_model.proofs.Bridges.{element_of-id}
 use Rattle.tp_model.proofs.Claims.{mapped, map_contains, found_contains, looks_changed, one_of}
 
 -- a unit that holds an element is undecided
@@ -176,6 +182,7 @@ module _ (l : Limits) (h : List Event) (passes : List PassState) (looks : List L
       × (map (look_after l.attempts (Abort c u)) looks ≡ map (look_at l.attempts (h ++ Abort c u ∷ [])) (born (h ++ Abort c u ∷ [])))
       × Step l h (Abort c u) × ((pass_at before c).holding ≡ Some u)
       × (moved before (Abort c u) c (emptied used used.drawn) ≡ moved before (Abort c u) c (free_pass before c (pass_at before c).drawn))
+      × (abort_of before c ≡ (ended.Aborted, moved before (Abort c u) c (free_pass before c (pass_at before c).drawn)))
   abort_leaves used read u hand look is =
       let there : c < length passes = rw reached.passes is_pass in
       let same : used ≡ pass_at before c = get_or_read passes c used there read fresh_pass in
@@ -188,6 +195,7 @@ module _ (l : Limits) (h : List Event) (passes : List PassState) (looks : List L
         step,
         hand',
         ap (λ (x : PassState). moved before (Abort c u) c (emptied x x.drawn)) same,
+        abort_goes before c u hand' o.1.unfinished,
       )
 
   pub drawn_within : (used : PassState) → used ≡ slice_index_or passes c used → used.drawn ≤ l.rows
@@ -215,3 +223,13 @@ module _ (l : Limits) (h : List Event) (passes : List PassState) (looks : List L
         ap (λ (x : PassState). with_pass before c (emptied x (f x))) same,
         subst (λ (x : PassState). f x ≤ l.rows) same room,
       )
+
+  -- it is neither aborted nor ended otherwise, and the rows suffice for n outputs
+  pub undecided_leaves : (used : PassState) → used ≡ slice_index_or passes c used → (u : ℕ) → used.holding ≡ Some u → (look : Look) → find (λ (l : Look). is_held_by u l.status) looks ≡ Some look
+      → (n : ℕ) → used.drawn + n ≤ l.rows → ((pass_at before c).holding ≡ Some u) × ((pass_at before c).drawn + n ≤ l.rows) × (end_of h u ≢ Some Aborted)
+  undecided_leaves used read u hand look is n room =
+      let there : c < length passes = rw reached.passes is_pass in
+      let same : used ≡ pass_at before c = get_or_read passes c used there read fresh_pass in
+      let hand' : (pass_at before c).holding ≡ Some u = rw same at hand in
+      let o = open_of before looks reached agree c u is_pass hand' look is in
+      (hand', subst (λ (x : PassState). x.drawn + n ≤ l.rows) same room, λ gone. let clash : None ≡ Some Aborted = sym o.1.unfinished ∙ gone in cc)

@@ -1,3 +1,4 @@
+pub mod Drafts
 pub mod History
 pub mod Steps
 pub mod Laws
@@ -6,4 +7,7 @@ pub mod Passes
 pub mod Counts
 pub mod Noted
 pub mod OneThread
+pub mod Looks
+pub mod Reached
+pub mod Computed
 pub mod Rows

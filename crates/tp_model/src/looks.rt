@@ -1,8 +1,9 @@
 //! The looks of a manager of one thread: each born element as it stands.
 ghost use Rattle.std.specs.Prelude.{◌≡◌, ◌==◌, if◌then◌else◌, ◌<◌, ◌+◌, ◌^◌, length, IfOk, map};
-ghost use Rattle.std.specs.List.{find, fold};
+ghost use Rattle.std.specs.List.{find, fold, All};
 ghost use Rattle.tp_model.specs.Noted.{event_of};
-ghost use Rattle.tp_model.specs.OneThread.{look_after, sooner, attempts_in, is_held_by, outputs, fresh_look};
+ghost use Rattle.tp_model.specs.Looks.{look_after, sooner, attempts_in, is_held_by, fresh_look};
+ghost use Rattle.tp_model.specs.OneThread.{HasStage, outputs};
 
 use crate::history::Note;
 use crate::types::{Draft, Element, Look, Status};
@@ -125,7 +126,8 @@ pub(crate) fn outputs_of(
     drafts: &[Draft],
 ) -> Result<Vec<Element>, AllocError>
     requires { first + length drafts.now < 2 ^ 32 }
-    ensures { IfOk result (λ v. v.items ≡ outputs unit root first drafts.now) }
+    ensures outputs { IfOk result (λ v. v.items ≡ outputs unit root first drafts.now) }
+    ensures stages { IfOk result (λ _. All HasStage drafts.now) }
 {
     let mut outs = Vec::with_capacity(alloc, drafts.len())?;
     let mut id = first;

@@ -1,7 +1,9 @@
 //! The manager of one thread.
 ghost use Rattle.std.specs.Prelude.{◌≡◌, ◌<◌, ◌≤◌, ◌↔◌, ◌⊎◌, length, IfOk, IfErr, IsSome, replicate};
 ghost use Rattle.tp_model.specs.Noted.{event_of};
-ghost use Rattle.tp_model.specs.OneThread.{Answers, CallSubmit, CallAbort, CallClaim, CallCommit, CallKill, CallRead, IsQuiet, IsReached, extended, start, fresh_pass, pass_at};
+ghost use Rattle.tp_model.specs.Computed.{IsComputed, IsComputedOk, submit_of, claim_of_stage, commit_of, abort_of, kill_of, read_of};
+ghost use Rattle.tp_model.specs.OneThread.{Answers, CallSubmit, CallAbort, CallClaim, CallCommit, CallKill, CallRead, extended, start, fresh_pass, pass_at};
+ghost use Rattle.tp_model.specs.Reached.{IsQuiet, IsReached};
 ghost use Rattle.tp_model.specs.Steps.{AreLimits, IsServerStage, Step};
 
 use crate::history::{History, Note};
@@ -27,7 +29,10 @@ pub struct Plain {
 
 impl Model for Plain {
     ghost use Rattle.std.specs.Prelude.{◌≡◌, map};
-    ghost use Rattle.tp_model.specs.OneThread.{State, IsReached, look_at};
+    ghost use Rattle.tp_model.specs.Computed.{IsComputed, IsComputedOk, submit_of, claim_of_stage, commit_of, abort_of, kill_of, read_of};
+    ghost use Rattle.tp_model.specs.OneThread.{State};
+    ghost use Rattle.tp_model.specs.Reached.{IsReached};
+    ghost use Rattle.tp_model.specs.Looks.{look_at};
     ghost use Rattle.tp_model.specs.History.{born};
 
     ghost Value = { State };
@@ -63,6 +68,7 @@ impl Plain {
     pub fn submit(&mut self, caller: u16, stage: u8, key: u64, amount: u64) -> Result<u32, Refusal>
         requires { caller < self.old.limits.parts }
         ensures answer { Answers self.old (CallSubmit caller stage key amount result) self.new }
+        ensures computed { IsComputed self.old self.new result (submit_of self.old caller stage key amount) }
         ensures limits { self.new.limits ≡ self.old.limits }
     {
         if stage < 1 || stage > 14 {
@@ -103,6 +109,7 @@ impl Plain {
         requires server { IsServerStage stage }
         requires free { (pass_at self.old caller).holding ≡ None }
         ensures answer { Answers self.old (CallClaim caller stage result) self.new }
+        ensures computed { IsComputedOk self.old self.new result (claim_of_stage self.old caller stage) }
         ensures limits { self.new.limits ≡ self.old.limits }
     {
         let used = self.passes[caller as usize];
@@ -135,6 +142,7 @@ impl Plain {
         requires holding { IsSome (pass_at self.old caller).holding }
         requires few { length drafts.now ≤ 4 }
         ensures answer { Answers self.old (CallCommit caller drafts.now result) self.new }
+        ensures computed { IsComputedOk self.old self.new result (commit_of self.old caller drafts.now) }
         ensures limits { self.new.limits ≡ self.old.limits }
     {
         let used = self.passes[caller as usize];
@@ -183,6 +191,7 @@ impl Plain {
         requires pass { caller < self.old.limits.parts }
         requires holding { IsSome (pass_at self.old caller).holding }
         ensures answer { Answers self.old (CallAbort caller result) self.new }
+        ensures computed { (result ≡ (abort_of self.old caller).0) × (self.new ≡ (abort_of self.old caller).1) }
         ensures free { (pass_at self.new caller).holding ≡ None }
         ensures limits { self.new.limits ≡ self.old.limits }
     {
@@ -212,6 +221,7 @@ impl Plain {
         requires pass { caller < self.old.limits.parts }
         requires free { (pass_at self.old caller).holding ≡ None }
         ensures answer { Answers self.old (CallKill caller id result) self.new }
+        ensures computed { (result ≡ (kill_of self.old caller id).0) × (self.new ≡ (kill_of self.old caller id).1) }
         ensures limits { self.new.limits ≡ self.old.limits }
     {
         self.show_reached();
@@ -252,7 +262,8 @@ impl Plain {
 
     /// The element with this id, and how it stands.
     pub fn read(&self, id: u32) -> Result<Look, Refusal>
-        ensures { Answers self.now (CallRead id result) self.now }
+        ensures answer { Answers self.now (CallRead id result) self.now }
+        ensures computed { result ≡ read_of self.now id }
     {
         match look_of(&self.looks, id) {
             Some(look) => Ok(look),

@@ -2,6 +2,8 @@
 
 ghost use Rattle.std.specs.Prelude.{◌≡◌, ◌≤◌, ◌↔◌, IsSome, IfSome};
 
+use std::marker::Model;
+
 /// A request, or a further request or reply that a server's unit of work made of one.
 #[derive(Clone, Copy, Debug, PartialEq, Eq)]
 pub struct Element {
@@ -145,14 +147,26 @@ pub struct Draft {
     stage: u8,
     key: u64,
     amount: u64,
-    ghost has_stage: { (1 ≤ stage) × (stage ≤ 15) },
+}
+
+impl Model for Draft {
+    ghost use Rattle.std.specs.Prelude.{◌≤◌};
+    ghost use Rattle.tp_model.specs.Drafts.{DraftView};
+
+    ghost Value = { DraftView };
+
+    ghost view = { λ d. record { stage = d.stage; key = d.key; amount = d.amount } };
+
+    ghost invariant = { λ d. (1 ≤ d.stage) × (d.stage ≤ 15) };
+
+    ghost inverse = { λ d. record { stage = d.stage; key = d.key; amount = d.amount } };
 }
 
 impl Draft {
     /// A draft for a stage, or `None` unless the stage is 1 to 15.
     pub fn new(stage: u8, key: u64, amount: u64) -> Option<Draft>
         ensures some { IsSome result ↔ ((1 ≤ stage) × (stage ≤ 15)) }
-        ensures value { IfSome result (λ d. (d.stage ≡ stage) × (d.key ≡ key) × (d.amount ≡ amount)) }
+        ensures value { IfSome result (λ d. d ≡ record { stage = stage; key = key; amount = amount }) }
     {
         if stage >= 1 && stage <= 15 {
             Some(Draft { stage, key, amount })
@@ -164,7 +178,8 @@ impl Draft {
     /// The stage of the output, 1 to 15.
     pub fn stage(&self) -> u8
         ensures value { result ≡ self.now.stage }
-        ensures bounds { (1 ≤ result) × (result ≤ 15) }
+        ensures low { 1 ≤ result }
+        ensures high { result ≤ 15 }
     {
         self.stage
     }

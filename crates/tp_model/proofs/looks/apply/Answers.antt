@@ -1,5 +1,5 @@
 use Rattle.tp_model.specs.Noted.{event_of}
-use Rattle.tp_model.specs.OneThread.{look_after}
+use Rattle.tp_model.specs.Looks.{look_after}
 use Rattle.tp_model.proofs.PlainLemmas.{map_step}
 use Rattle.tp_model.proofs.looks.apply.Goals as goal
 

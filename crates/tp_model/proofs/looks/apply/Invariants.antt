@@ -1,6 +1,6 @@
 use Rattle.std.proofs.Common.{◌≡◌, map, take, drop, ◌++◌}
 use Rattle.tp_model.specs.Noted.{event_of}
-use Rattle.tp_model.specs.OneThread.{look_after}
+use Rattle.tp_model.specs.Looks.{look_after}
 use Rattle.tp_model.proofs.looks.apply.Given as goal
 
 -- those so far are changed, and the others are as they were

@@ -1,5 +1,5 @@
 use Rattle.std.proofs.Common.{◌≡◌, take, map}
-use Rattle.tp_model.specs.OneThread.{fresh_look}
+use Rattle.tp_model.specs.Looks.{fresh_look}
 use Rattle.tp_model.proofs.looks.fresh_looks.Given as goal
 
 abbrev pub invariant-loop-element : goal.invariant-loop-element

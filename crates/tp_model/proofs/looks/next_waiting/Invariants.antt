@@ -1,6 +1,6 @@
 use Rattle.std.proofs.Common.{◌≡◌, take, None}
 use Rattle.std.specs.List.{fold}
-use Rattle.tp_model.specs.OneThread.{sooner}
+use Rattle.tp_model.specs.Looks.{sooner}
 use Rattle.tp_model.proofs.looks.next_waiting.Given as goal
 
 abbrev pub invariant-loop-look : goal.invariant-loop-look

@@ -1,6 +1,13 @@
 use Rattle.std.proofs.Common.{◌≡◌, ◌+◌, take}
-use Rattle.tp_model.specs.OneThread.{outputs}
+use Rattle.std.specs.List.{All}
+use Rattle.tp_model.specs.OneThread.{HasStage, outputs}
 use Rattle.tp_model.proofs.looks.outputs_of.Given as goal
 
+-- the drafts so far have become outputs, and have stages
 abbrev pub invariant-loop-draft : goal.invariant-loop-draft
-invariant-loop-draft l = (l.id ≡ l.first + l.draft-index) × (l.outs.items ≡ outputs l.unit l.root l.first (take l.draft-index l.drafts))
+invariant-loop-draft l =
+    record {
+      place : l.id ≡ l.first + l.draft-index;
+      made : l.outs.items ≡ outputs l.unit l.root l.first (take l.draft-index l.drafts);
+      staged : All HasStage (take l.draft-index l.drafts);
+    }

@@ -1,6 +1,6 @@
 use Rattle.std.proofs.Common.{◌≡◌, ◌<◌, Some, None, length, refl, sym, ◌∙◌, ap, arith, rules}
 use Rattle.std.specs.List.{fold}
-use Rattle.tp_model.specs.OneThread.{sooner}
+use Rattle.tp_model.specs.Looks.{sooner}
 use Rattle.tp_model.proofs.Claims.{whole_write, idle_leaves, claim_leaves, claim_below}
 use Rattle.tp_model.proofs.plain.Plain.claim.Goals as goal
 

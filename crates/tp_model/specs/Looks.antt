@@ -1,0 +1,67 @@
+-- The looks of a manager of one thread: how each born element stands.
+use Rattle.std.specs.Prelude.{◌≡◌, ◌≢◌, ◌⊎◌, ℕ, zero, suc, ◌+◌, ◌-◌, ◌*◌, ◌<◌, ◌≤◌, ◌==◌, nat_lt, Bool, false, ◌&&◌, if◌then◌else◌, Option, Some, None, Result, List, [], ◌∷◌, ◌++◌, length, replicate, slice_index_or, slice_set, MatchResult, map}
+use mathlib.Core.List.{IsPrefix}
+use Rattle.tp_model.specs.declared.types.Element.{Element}
+use Rattle.tp_model.specs.declared.types.Limits.{Limits}
+use Rattle.tp_model.specs.Drafts.{DraftView}
+use Rattle.tp_model.specs.declared.types.Look.{Look}
+use Rattle.tp_model.specs.declared.types.Work.{Work}
+use Rattle.tp_model.specs.declared.types.Status.{Status}
+use Rattle.tp_model.specs.declared.types.Status.TheVariants.{Waiting, Held, Consumed, Parked, Killed}
+use Rattle.tp_model.specs.declared.types.Killed.{Killed as KilledAnswer}
+use Rattle.tp_model.specs.declared.types.Claimed.{Claimed}
+use Rattle.tp_model.specs.declared.types.Claimed.TheVariants as claimed
+use Rattle.tp_model.specs.declared.types.Outcome.{Outcome}
+use Rattle.tp_model.specs.declared.types.Outcome.TheVariants as outcome
+use Rattle.tp_model.specs.declared.types.Ended.{Ended}
+use Rattle.tp_model.specs.declared.types.Ended.TheVariants as ended
+use Rattle.tp_model.specs.declared.types.Refusal.{Refusal}
+use Rattle.tp_model.specs.declared.types.Refusal.TheVariants as refusal
+use Rattle.tp_model.specs.declared.pass_state.PassState.{PassState}
+use Rattle.tp_model.specs.declared.event.Event.{Event}
+use Rattle.tp_model.specs.declared.event.Event.TheVariants.{Enqueue, Claim, Commit, Abort, Kill}
+use Rattle.tp_model.specs.History.{element_of, status_after, status_of, UnitClaim, claim_of, Aborted, end_of}
+use Rattle.tp_model.specs.Counts.{is_waiting}
+use Rattle.tp_model.specs.Steps.{AreLimits, IsServerStage, Step, IsOpen, IsLegal}
+use Rattle.tp_model.specs.History.{born, status_after, status_of}
+
+-- each born element, as it is read
+abbrev pub look_at : ℕ → List Event → Element → Look
+look_at limit h e = record { element = e; status = status_of limit h e.id }
+
+-- a look after one more event
+abbrev pub look_after : ℕ → Event → Look → Look
+look_after limit e l = record { element = l.element; status = status_after limit l.element.id l.status e }
+
+-- a look at an element that was just born
+abbrev pub fresh_look : Element → Look
+fresh_look x = record { element = x; status = Waiting 0 }
+
+-- whether a look shows an element of this stage that waits
+abbrev pub waits_in : ℕ → Look → Bool
+waits_in stage l = (l.element.stage == stage) && is_waiting l.status
+
+-- of a look found before and another one, the one to be claimed first
+abbrev pub sooner : ℕ → Option Look → Look → Option Look
+sooner stage None l = if waits_in stage l then Some l else None
+sooner stage (Some b) l = if waits_in stage l && nat_lt l.element.id b.element.id then Some l else Some b
+
+-- how many attempts an element that waits has had
+abbrev pub attempts_in : Status → ℕ
+attempts_in (Waiting n) = n
+attempts_in (Held u n) = 0
+attempts_in (Consumed u) = 0
+attempts_in (Parked n) = 0
+attempts_in Killed = 0
+
+-- whether a look shows an element that unit u holds
+abbrev pub is_held_by : ℕ → Status → Bool
+is_held_by u (Waiting n) = false
+is_held_by u (Held v n) = u == v
+is_held_by u (Consumed v) = false
+is_held_by u (Parked n) = false
+is_held_by u Killed = false
+
+-- the looks at all born elements
+abbrev pub looks_after_all : ℕ → List Event → List Look
+looks_after_all limit h = map (look_at limit h) (born h)
