@@ -51,6 +51,12 @@ next_row s c = c * s.limits.rows + (pass_at s c).drawn
 abbrev pub next_unit : State → ℕ → ℕ
 next_unit s c = c * s.limits.units + (pass_at s c).claimed
 
+-- what a pass holds after a claim with this answer
+abbrev pub held_after : Claimed → Option ℕ
+held_after (claimed.Work w) = Some w.unit
+held_after claimed.Idle = None
+held_after claimed.NoUnit = None
+
 -- one call, with its answer
 pub data Call : Type 0 where
   CallSubmit : ℕ → ℕ → ℕ → ℕ → Result ℕ Refusal → Call

@@ -1,10 +1,10 @@
 //! The manager of one thread.
-ghost use Rattle.std.specs.Prelude.{◌≡◌, ◌<◌, ◌≤◌, ◌↔◌, ◌⊎◌, length, IfOk, IfErr, IsSome, replicate};
+ghost use Rattle.std.specs.Prelude.{◌≡◌, ℕ, ◌<◌, ◌≤◌, ◌↔◌, ◌⊎◌, length, IfOk, IfErr, IsSome, replicate};
 ghost use Rattle.tp_model.specs.Noted.{event_of};
 ghost use Rattle.tp_model.specs.Computed.{IsComputed, IsComputedOk, submit_of, claim_of_stage, commit_of, abort_of, kill_of, read_of};
-ghost use Rattle.tp_model.specs.OneThread.{Answers, CallSubmit, CallAbort, CallClaim, CallCommit, CallKill, CallRead, extended, start, fresh_pass, pass_at};
+ghost use Rattle.tp_model.specs.OneThread.{Answers, CallSubmit, CallAbort, CallClaim, CallCommit, CallKill, CallRead, extended, start, fresh_pass, held_after, pass_at};
 ghost use Rattle.tp_model.specs.Reached.{IsQuiet, IsReached};
-ghost use Rattle.tp_model.specs.Steps.{AreLimits, IsServerStage, Step};
+ghost use Rattle.tp_model.specs.Steps.{AreLimits, IsServerStage, Step, rows_of};
 
 use crate::history::{History, Note};
 use crate::looks::{
@@ -29,7 +29,6 @@ pub struct Plain {
 
 impl Model for Plain {
     ghost use Rattle.std.specs.Prelude.{◌≡◌, map};
-    ghost use Rattle.tp_model.specs.Computed.{IsComputed, IsComputedOk, submit_of, claim_of_stage, commit_of, abort_of, kill_of, read_of};
     ghost use Rattle.tp_model.specs.OneThread.{State};
     ghost use Rattle.tp_model.specs.Reached.{IsReached};
     ghost use Rattle.tp_model.specs.Looks.{look_at};
@@ -64,11 +63,19 @@ impl Plain {
         })
     }
 
+    /// How many elements there can be: the ids are below this.
+    pub fn capacity(&self) -> u32
+        ensures { result ≡ rows_of self.now.limits }
+    {
+        u32::from(self.limits.parts) * u32::from(self.limits.rows)
+    }
+
     /// A client puts a new request into a stage.
     pub fn submit(&mut self, caller: u16, stage: u8, key: u64, amount: u64) -> Result<u32, Refusal>
         requires { caller < self.old.limits.parts }
         ensures answer { Answers self.old (CallSubmit caller stage key amount result) self.new }
         ensures computed { IsComputed self.old self.new result (submit_of self.old caller stage key amount) }
+        ensures hands { (c : ℕ) → (pass_at self.new c).holding ≡ (pass_at self.old c).holding }
         ensures limits { self.new.limits ≡ self.old.limits }
     {
         if stage < 1 || stage > 14 {
@@ -110,6 +117,7 @@ impl Plain {
         requires free { (pass_at self.old caller).holding ≡ None }
         ensures answer { Answers self.old (CallClaim caller stage result) self.new }
         ensures computed { IsComputedOk self.old self.new result (claim_of_stage self.old caller stage) }
+        ensures hand { IfOk result (λ a. (pass_at self.new caller).holding ≡ held_after a) }
         ensures limits { self.new.limits ≡ self.old.limits }
     {
         let used = self.passes[caller as usize];
@@ -143,6 +151,7 @@ impl Plain {
         requires few { length drafts.now ≤ 4 }
         ensures answer { Answers self.old (CallCommit caller drafts.now result) self.new }
         ensures computed { IsComputedOk self.old self.new result (commit_of self.old caller drafts.now) }
+        ensures free { IfOk result (λ _. (pass_at self.new caller).holding ≡ None) }
         ensures limits { self.new.limits ≡ self.old.limits }
     {
         let used = self.passes[caller as usize];

@@ -1,0 +1,13 @@
+pub mod Devices
+pub mod Fault
+pub mod Text
+pub mod Keyword
+pub mod Script
+pub mod Terms
+pub mod ServerLines
+pub mod Grammar
+pub mod Reading
+pub mod Answer
+pub mod Report
+pub mod Running
+pub mod Whole

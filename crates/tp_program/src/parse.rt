@@ -1,0 +1,73 @@
+//! A script from its bytes.
+ghost use Rattle.std.specs.Prelude.{◌≡◌, ◌+◌, ◌^◌, ◌<◌, ◌≤◌, IfSome, IsErrOf};
+ghost use Rattle.tp_program.specs.Devices.{StopsReading};
+ghost use Rattle.tp_program.specs.Grammar.{no_lines, script};
+ghost use Rattle.tp_program.specs.Script.{script_view};
+ghost use Rattle.tp_program.specs.Reading.{Answers, fault_at};
+
+use crate::fault::{LineError, LineFault, ReadFault};
+use crate::script::{Script, Settings};
+use crate::source::{MOST_BYTES, MOST_REQUESTS, Source, read_all};
+use crate::text::lines;
+use std::alloc::Global;
+
+impl Script {
+    // A script without lines.
+    fn new(alloc: Global) -> Script
+        ensures { script_view result ≡ no_lines }
+    {
+        Script {
+            settings: Settings {
+                rows: 64,
+                units: 256,
+                attempts: 3,
+            },
+            servers: Vec::new(alloc),
+            commands: Vec::new(alloc),
+        }
+    }
+}
+
+// The fault of a line.
+fn at_line(line: u32, error: LineError) -> ReadFault
+    ensures { result ≡ fault_at line error }
+{
+    match error {
+        LineError::NoMemory => ReadFault::NoMemory,
+        LineError::Fault(fault) => ReadFault::Script {
+            line,
+            number: fault.number(),
+        },
+    }
+}
+
+/// The script that bytes say.
+pub fn parse(alloc: Global, bytes: &[u8]) -> Result<Script, ReadFault>
+    ensures script { Answers result (script bytes.now) }
+    ensures no_read { ¬ (IsErrOf result ReadFault.Read) }
+{
+    if bytes.len() > MOST_BYTES {
+        return Err(at_line(0, LineError::Fault(LineFault::TooLong)));
+    }
+    let lines = lines(alloc, bytes)?;
+    let mut script = Script::new(alloc);
+    let mut line = 1;
+    for text in &lines {
+        match script.line(alloc, text) {
+            Ok(()) => line += 1,
+            Err(error) => return Err(at_line(line, error)),
+        }
+    }
+    Ok(script)
+}
+
+/// The script that a source gives.
+pub fn read_script<S: Source>(alloc: Global, source: &mut S) -> Result<Script, ReadFault>
+    requires { S.asked source.old + MOST_REQUESTS < 2 ^ 64 }
+    ensures script { IfSome (S.rest source.old) (λ bytes. Answers result (script bytes)) }
+    ensures asked { S.asked source.new ≤ S.asked source.old + MOST_REQUESTS }
+    ensures fault { IsErrOf result ReadFault.Read → StopsReading (S.has_failed source.new) (S.asked source.old) (S.asked source.new) }
+{
+    let bytes = read_all(alloc, source)?;
+    parse(alloc, bytes.as_slice())
+}

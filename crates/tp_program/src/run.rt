@@ -1,0 +1,241 @@
+//! A script over the manager of one thread.
+ghost use Rattle.std.specs.Prelude.{◌≡◌, ◌<◌, ◌≤◌, Ok, None, map, length, string_bytes, IfOk, IsSome};
+ghost use Rattle.tp_model.specs.Computed.{read_of};
+ghost use Rattle.tp_model.specs.OneThread.{pass_at};
+ghost use Rattle.tp_server.specs.Check.{check_of};
+ghost use Rattle.tp_server.specs.Effect.{effect_of};
+ghost use Rattle.tp_program.specs.Answer.{turn_text};
+ghost use Rattle.tp_program.specs.Report.{worker, turn_of, settled, submit_step, turn_step, reply_step, reply_text, is_reply, command_step, registers_of, begin, final_text, final_line};
+ghost use Rattle.tp_program.specs.Running.{state, IsReady};
+ghost use Rattle.tp_program.specs.Script.{script_view, server_view};
+
+use crate::answer::{Turned, submit_text, turn_text};
+use crate::script::{Command, Script, ScriptServer};
+use std::alloc::{AllocError, Global};
+use std::string::String;
+use tp_model::plain::Plain;
+use tp_model::types::{Claimed, Element, Limits, Look, Outcome, Refusal, Status, Work};
+use tp_server::{Recipe, Registers};
+
+/// The pass of the script's own client.
+const CLIENT: u16 = 0;
+
+/// The pass of the script's server.
+const WORKER: u16 = 1;
+
+/// A script that runs: the manager of one thread, and the registers of the server. A script without one has a register
+/// that nothing uses.
+#[derive(Drop)]
+pub struct Run {
+    plain: Plain,
+    registers: Registers,
+}
+
+impl Run {
+    /// The script before its first command.
+    pub fn new(alloc: Global, script: &Script) -> Result<Run, AllocError>
+        ensures begins { IfOk result (λ run. state run ≡ begin (script_view script.now)) }
+        ensures ready { IfOk result (λ run. IsReady (map server_view script.now.servers.items) run.plain) }
+    {
+        let settings = script.settings;
+        let limits = Limits {
+            parts: 1 + script.servers.len() as u16,
+            rows: settings.rows,
+            units: settings.units,
+            attempts: settings.attempts,
+        };
+        let registers = first_registers(script.servers.as_slice())?;
+        match Plain::new(alloc, limits) {
+            Ok(plain) => Ok(Run { plain, registers }),
+            Err(_) => Err(AllocError),
+        }
+    }
+
+    // Performs a submit and answers its line.
+    fn submit(
+        &mut self,
+        alloc: Global,
+        stage: u8,
+        key: u64,
+        amount: u64,
+    ) -> Result<String, AllocError>
+        requires { 0 < self.old.plain.limits.parts }
+        ensures step { IfOk result (λ text. submit_step stage key amount (state self.old) ≡ (string_bytes text, state self.new)) }
+    {
+        match self.plain.submit(CLIENT, stage, key, amount) {
+            Ok(id) => submit_text(alloc, Ok(id)),
+            Err(Refusal::NoMemory) => Err(AllocError),
+            Err(Refusal::BadStage) => submit_text(alloc, Err(Refusal::BadStage)),
+            Err(Refusal::Full) => submit_text(alloc, Err(Refusal::Full)),
+            Err(Refusal::BadLimits) => unreachable!(),
+            Err(Refusal::NotThere) => unreachable!(),
+            Err(Refusal::Consumed { unit: _ }) => unreachable!(),
+            Err(Refusal::AlreadyKilled) => unreachable!(),
+        }
+    }
+
+    // Commits the work with the effect of the recipe, or aborts it where the recipe declines.
+    fn settle(&mut self, work: &Work, recipe: &Recipe) -> Result<Turned, AllocError>
+        requires checked { check_of recipe.now ≡ Ok tt }
+        requires parts { worker < self.old.plain.limits.parts }
+        requires holding { IsSome (pass_at self.old.plain worker).holding }
+        ensures gives { IfOk result (λ t. settled work.now (effect_of recipe.now self.old.registers work.now.element) (state self.old) ≡ (t, state self.new)) }
+        ensures free { IfOk result (λ _. (pass_at self.new.plain worker).holding ≡ None) }
+        ensures limits { self.new.plain.limits ≡ self.old.plain.limits }
+    {
+        let element = work.element.id;
+        let prepared = match recipe.effect(&self.registers, &work.element) {
+            Ok(prepared) => prepared,
+            Err(why) => {
+                let _ended = self.plain.abort(WORKER);
+                return Ok(Turned::Refused { element, why });
+            }
+        };
+        match self.plain.commit(WORKER, prepared.drafts.as_slice()) {
+            Ok(Outcome::Committed { first, count }) => {
+                self.registers.set(work.element.key, prepared.after);
+                let unit = work.unit;
+                Ok(Turned::Done {
+                    unit,
+                    element,
+                    first,
+                    count,
+                })
+            }
+            Ok(Outcome::Lost) => Ok(Turned::Lost { element }),
+            Ok(Outcome::Full) => Ok(Turned::Full { element }),
+            Err(_) => Err(AllocError),
+        }
+    }
+
+    // A turn of the server: a claim and, where it takes work, a commit or an abort.
+    fn turn(&mut self, server: &ScriptServer) -> Result<Turned, AllocError>
+        requires parts { worker < self.old.plain.limits.parts }
+        requires free { (pass_at self.old.plain worker).holding ≡ None }
+        ensures gives { IfOk result (λ t. turn_of (server_view server.now) (state self.old) ≡ (t, state self.new)) }
+        ensures free { IfOk result (λ _. (pass_at self.new.plain worker).holding ≡ None) }
+        ensures limits { self.new.plain.limits ≡ self.old.plain.limits }
+    {
+        match self.plain.claim(WORKER, server.recipe.stage) {
+            Ok(Claimed::Work(work)) => self.settle(&work, &server.recipe),
+            Ok(Claimed::Idle) => Ok(Turned::Idle),
+            Ok(Claimed::NoUnit) => Ok(Turned::NoUnit),
+            Err(_) => Err(AllocError),
+        }
+    }
+
+    // Performs a turn and answers its line.
+    fn turn_line(&mut self, alloc: Global, server: &ScriptServer) -> Result<String, AllocError>
+        requires parts { worker < self.old.plain.limits.parts }
+        requires free { (pass_at self.old.plain worker).holding ≡ None }
+        ensures step { IfOk result (λ text. turn_step (server_view server.now) (state self.old) ≡ (string_bytes text, state self.new)) }
+        ensures free { IfOk result (λ _. (pass_at self.new.plain worker).holding ≡ None) }
+        ensures limits { self.new.plain.limits ≡ self.old.plain.limits }
+    {
+        let turned = self.turn(server)?;
+        turn_text(alloc, server.name.as_str(), turned)
+    }
+
+    // The line of the replies to a request.
+    fn reply(&self, alloc: Global, root: u32) -> Result<String, AllocError>
+        ensures { IfOk result (λ text. reply_step root (state self.now) ≡ (string_bytes text, state self.now)) }
+    {
+        let mut text = format!(in alloc; "replies {root}")?;
+        let capacity = self.plain.capacity();
+        for id in 0..capacity {
+            let piece = self.reply_at(alloc, root, id)?;
+            text.push_str(piece.as_str())?;
+        }
+        text.push_str("\n")?;
+        Ok(text)
+    }
+
+    // What the line of replies says of one id.
+    fn reply_at(&self, alloc: Global, root: u32, id: u32) -> Result<String, AllocError>
+        ensures { IfOk result (λ text. string_bytes text ≡ reply_text root (read_of self.now.plain id)) }
+    {
+        match self.plain.read(id) {
+            Ok(look) => {
+                if !is_reply(root, &look) {
+                    return Ok(String::new(alloc));
+                }
+                let Element {
+                    id,
+                    key,
+                    amount,
+                    ..
+                } = look.element;
+                format!(in alloc; " {id}:{key}:{amount}")
+            }
+            Err(_) => Ok(String::new(alloc)),
+        }
+    }
+
+    /// Performs a command and answers its line.
+    pub fn command(
+        &mut self,
+        alloc: Global,
+        servers: &[ScriptServer],
+        command: Command,
+    ) -> Result<String, AllocError>
+        requires { IsReady (map server_view servers.now) self.old.plain }
+        ensures step { IfOk result (λ text. command_step (map server_view servers.now) command (state self.old) ≡ (string_bytes text, state self.new)) }
+        ensures ready { IfOk result (λ _. IsReady (map server_view servers.now) self.new.plain) }
+    {
+        match command {
+            Command::Submit { stage, key, amount } => self.submit(alloc, stage, key, amount),
+            Command::Turn { server } => match servers.get(server) {
+                Some(server) => self.turn_line(alloc, server),
+                None => Ok(String::new(alloc)),
+            },
+            Command::Reply { root } => self.reply(alloc, root),
+        }
+    }
+
+    // The final line of a server.
+    fn final_line(&self, alloc: Global, server: &ScriptServer) -> Result<String, AllocError>
+        ensures { IfOk result (λ text. string_bytes text ≡ final_line (state self.now) (server_view server.now)) }
+    {
+        let name = server.name.as_str();
+        let mut text = format!(in alloc; "final {name}")?;
+        for value in self.registers.as_slice() {
+            write!(text, " {value}")?;
+        }
+        text.push_str("\n")?;
+        Ok(text)
+    }
+
+    /// The final lines.
+    pub fn finals(&self, alloc: Global, servers: &[ScriptServer]) -> Result<String, AllocError>
+        ensures { IfOk result (λ text. string_bytes text ≡ final_text (map server_view servers.now) (state self.now)) }
+    {
+        let mut text = String::new(alloc);
+        for server in servers {
+            let line = self.final_line(alloc, server)?;
+            text.push_str(line.as_str())?;
+        }
+        Ok(text)
+    }
+}
+
+// The registers that the server of a script begins with.
+fn first_registers(servers: &[ScriptServer]) -> Result<Registers, AllocError>
+    ensures { IfOk result (λ r. r ≡ registers_of (map server_view servers.now)) }
+{
+    match servers.first() {
+        Some(server) => server.registers.clone(),
+        None => match Registers::new(1) {
+            Some(registers) => Ok(registers),
+            None => unreachable!(),
+        },
+    }
+}
+
+// Whether a look shows a reply to this request that waits.
+fn is_reply(root: u32, look: &Look) -> bool
+    ensures { result ≡ is_reply root look.now }
+{
+    look.element.stage == 15
+        && look.element.root == root
+        && matches!(look.status, Status::Waiting { attempts: _ })
+}

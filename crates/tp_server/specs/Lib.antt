@@ -1,0 +1,4 @@
+pub mod Check
+pub mod Effect
+pub mod Making
+pub mod Entries

@@ -1,0 +1,92 @@
+//! A server that changes its registers as it prepares.
+ghost use Rattle.std.specs.Prelude.{◌≡◌, ◌<◌, ◌≤◌, ◌≢◌, length, Ok, Err, None, IfOk, IfErr, OnOk};
+ghost use Rattle.std.specs.Option.{ForSome};
+ghost use Rattle.tp_server.specs.Check.{check_of};
+
+use crate::outputs;
+use crate::recipe::{BadRecipe, Declined, Recipe};
+use crate::registers::Registers;
+use crate::server::Server;
+use arrayvec::ArrayVec;
+use tp_model::types::{Draft, Element};
+
+#[derive(Drop)]
+pub struct EagerServer {
+    registers: Registers,
+    recipe: Recipe,
+    undo: Option<(u64, u64)>,
+    ghost checked: { check_of recipe ≡ Ok tt },
+    ghost counted: { length registers ≡ recipe.registers },
+    ghost kept: { ForSome undo (λ e. e.0 < length registers) },
+}
+
+impl EagerServer {
+    ghost use Rattle.tp_server.specs.Making.{new_of};
+
+    pub fn new(registers: Registers, recipe: Recipe) -> Result<EagerServer, BadRecipe>
+        ensures refusal { IfErr result (λ why. new_of registers recipe ≡ Err why) }
+        ensures made { OnOk result (new_of registers recipe ≡ Ok tt) }
+        ensures recipe { IfOk result (λ s. ⟦<EagerServer as Server>⟧.recipe s ≡ recipe) }
+        ensures registers { IfOk result (λ s. ⟦<EagerServer as Server>⟧.registers s ≡ registers) }
+        ensures not_prepared { IfOk result (λ s. ⟦<EagerServer as Server>⟧.pending s ≡ None) }
+    {
+        recipe.check()?;
+        if registers.len() != recipe.registers {
+            return Err(BadRecipe::BadRegisters);
+        }
+        Ok(EagerServer {
+            registers,
+            recipe,
+            undo: None,
+        })
+    }
+}
+
+impl Server for EagerServer {
+    ghost use Rattle.tp_server.specs.Entries.{restored, where_kept};
+
+    ghost recipe = { λ s. s.recipe };
+
+    ghost registers = { λ s. restored s.registers s.undo };
+
+    ghost pending = { λ s. where_kept s.registers s.undo };
+
+    fn stage(&self) -> u8 {
+        self.recipe.stage
+    }
+
+    fn recipe(&self) -> &Recipe {
+        &self.recipe
+    }
+
+    fn balance(&self, k: u64) -> Option<u64> {
+        match self.undo {
+            Some((key, value)) if key == k => Some(value),
+            _ => self.registers.get(k),
+        }
+    }
+
+    fn is_prepared(&self) -> bool {
+        self.undo.is_some()
+    }
+
+    fn prepare(&mut self, element: &Element) -> Result<ArrayVec<Draft, 4>, Declined> {
+        let after = outputs::after(&self.recipe, &self.registers, element)?;
+        if let Some(before) = self.registers.get(element.key) {
+            self.undo = Some((element.key, before));
+        }
+        self.registers.set(element.key, after);
+        Ok(outputs::drafts(&self.recipe.outputs, element, after))
+    }
+
+    fn commit(&mut self) {
+        self.undo = None;
+    }
+
+    fn undo(&mut self) {
+        if let Some((key, value)) = self.undo {
+            self.registers.set(key, value);
+        }
+        self.undo = None;
+    }
+}

@@ -1,0 +1,86 @@
+//! A server that keeps the write until it commits.
+ghost use Rattle.std.specs.Prelude.{◌≡◌, ◌<◌, ◌≤◌, ◌≢◌, length, Ok, Err, None, IfOk, IfErr, OnOk};
+ghost use Rattle.std.specs.Option.{ForSome};
+ghost use Rattle.tp_server.specs.Check.{check_of};
+
+use crate::outputs;
+use crate::recipe::{BadRecipe, Declined, Recipe};
+use crate::registers::Registers;
+use crate::server::Server;
+use arrayvec::ArrayVec;
+use tp_model::types::{Draft, Element};
+
+#[derive(Drop)]
+pub struct LazyServer {
+    registers: Registers,
+    recipe: Recipe,
+    write: Option<(u64, u64)>,
+    ghost checked: { check_of recipe ≡ Ok tt },
+    ghost counted: { length registers ≡ recipe.registers },
+    ghost kept: { ForSome write (λ e. e.0 < length registers) },
+}
+
+impl LazyServer {
+    ghost use Rattle.tp_server.specs.Making.{new_of};
+
+    pub fn new(registers: Registers, recipe: Recipe) -> Result<LazyServer, BadRecipe>
+        ensures refusal { IfErr result (λ why. new_of registers recipe ≡ Err why) }
+        ensures made { OnOk result (new_of registers recipe ≡ Ok tt) }
+        ensures recipe { IfOk result (λ s. ⟦<LazyServer as Server>⟧.recipe s ≡ recipe) }
+        ensures registers { IfOk result (λ s. ⟦<LazyServer as Server>⟧.registers s ≡ registers) }
+        ensures not_prepared { IfOk result (λ s. ⟦<LazyServer as Server>⟧.pending s ≡ None) }
+    {
+        recipe.check()?;
+        if registers.len() != recipe.registers {
+            return Err(BadRecipe::BadRegisters);
+        }
+        Ok(LazyServer {
+            registers,
+            recipe,
+            write: None,
+        })
+    }
+}
+
+impl Server for LazyServer {
+    ghost use Rattle.tp_server.specs.Entries.{written};
+
+    ghost recipe = { λ s. s.recipe };
+
+    ghost registers = { λ s. s.registers };
+
+    ghost pending = { λ s. written s.registers s.write };
+
+    fn stage(&self) -> u8 {
+        self.recipe.stage
+    }
+
+    fn recipe(&self) -> &Recipe {
+        &self.recipe
+    }
+
+    fn balance(&self, k: u64) -> Option<u64> {
+        self.registers.get(k)
+    }
+
+    fn is_prepared(&self) -> bool {
+        self.write.is_some()
+    }
+
+    fn prepare(&mut self, element: &Element) -> Result<ArrayVec<Draft, 4>, Declined> {
+        let after = outputs::after(&self.recipe, &self.registers, element)?;
+        self.write = Some((element.key, after));
+        Ok(outputs::drafts(&self.recipe.outputs, element, after))
+    }
+
+    fn commit(&mut self) {
+        if let Some((key, value)) = self.write {
+            self.registers.set(key, value);
+        }
+        self.write = None;
+    }
+
+    fn undo(&mut self) {
+        self.write = None;
+    }
+}
