@@ -2,8 +2,7 @@
 use Rattle.std.specs.Prelude.{ℕ, List, ◌++◌, Result, Ok, Err, codes, decimal}
 use Rattle.tp_model.specs.declared.types.Refusal.{Refusal}
 use Rattle.tp_model.specs.declared.types.Refusal.TheVariants as refusal
-use Rattle.tp_server.specs.declared.recipe.Declined.{Declined}
-use Rattle.tp_server.specs.declared.recipe.Declined.TheVariants.{NoRegister, TooLarge, Short}
+use Rattle.tp_server.specs.Names.{declined_name}
 use Rattle.tp_program.specs.declared.answer.Turned.{Turned}
 use Rattle.tp_program.specs.declared.answer.Turned.TheVariants as turned
 use Rattle.tp_program.specs.declared.fault.Refused.{Refused}
@@ -14,18 +13,12 @@ infixr 10 ◌<>◌
 abbrev pub ◌<>◌ : List ℕ → List ℕ → List ℕ
 xs <> ys = xs ++ ys
 
--- the name of a reason
-abbrev pub why_text : Declined → List ℕ
-why_text NoRegister = codes "NoRegister"
-why_text TooLarge = codes "TooLarge"
-why_text Short = codes "Short"
-
 -- the line of a turn of the server of this name
 abbrev pub turn_text : List ℕ → Turned → List ℕ
 turn_text name turned.Idle = name <> codes " idle\n"
 turn_text name turned.NoUnit = name <> codes " nounit\n"
 turn_text name (turned.Done unit element first count) = name <> codes " done " <> decimal element <> codes " unit " <> decimal unit <> codes " outputs " <> decimal first <> codes " " <> decimal count <> codes "\n"
-turn_text name (turned.Refused element why) = name <> codes " refused " <> decimal element <> codes " " <> why_text why <> codes "\n"
+turn_text name (turned.Refused element why) = name <> codes " refused " <> decimal element <> codes " " <> declined_name why <> codes "\n"
 turn_text name (turned.Lost element) = name <> codes " lost " <> decimal element <> codes "\n"
 turn_text name (turned.Full element) = name <> codes " full " <> decimal element <> codes "\n"
 

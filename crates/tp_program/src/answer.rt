@@ -1,6 +1,6 @@
 //! The lines of a report.
 ghost use Rattle.std.specs.Prelude.{◌≡◌, IfOk, string_bytes};
-ghost use Rattle.tp_program.specs.Answer.{why_text, turn_text, submit_text, refusal_text, refused_text};
+ghost use Rattle.tp_program.specs.Answer.{turn_text, submit_text, refusal_text, refused_text};
 ghost use Rattle.tp_program.specs.Fault.{fault_name};
 
 use crate::fault::Refused;
@@ -38,17 +38,6 @@ pub enum Turned {
     },
 }
 
-// The name of a reason.
-fn why_text(why: Declined) -> &'static str
-    ensures { result.now ≡ why_text why }
-{
-    match why {
-        Declined::NoRegister => "NoRegister",
-        Declined::TooLarge => "TooLarge",
-        Declined::Short => "Short",
-    }
-}
-
 /// The line of a turn.
 pub(crate) fn turn_text(alloc: Global, name: &str, turned: Turned) -> Result<String, AllocError>
     ensures { IfOk result (λ s. string_bytes s ≡ turn_text name.now turned) }
@@ -63,7 +52,6 @@ pub(crate) fn turn_text(alloc: Global, name: &str, turned: Turned) -> Result<Str
             count,
         } => { format!(in alloc; "{name} done {element} unit {unit} outputs {first} {count}\n") }
         Turned::Refused { element, why } => {
-            let why = why_text(why);
             format!(in alloc; "{name} refused {element} {why}\n")
         }
         Turned::Lost { element } => format!(in alloc; "{name} lost {element}\n"),

@@ -1,3 +1,4 @@
+-- What a recipe does with an element, and with a list of them.
 use Rattle.std.specs.Prelude.{ℕ, ◌+◌, ◌-◌, ◌^◌, nat_lt, nat_le, List, [], ◌∷◌, map, Option, Some, None, Result, Ok, Err, slice_get, slice_set, if◌then◌else◌}
 use Rattle.tp_model.specs.Drafts.{DraftView}
 use Rattle.tp_model.specs.declared.types.Element.{Element}
@@ -12,56 +13,73 @@ use Rattle.tp_server.specs.declared.recipe.AmountFrom.TheVariants.{Same as SameA
 use Rattle.tp_server.specs.declared.recipe.Declined.{Declined}
 use Rattle.tp_server.specs.declared.recipe.Declined.TheVariants.{NoRegister, TooLarge, Short}
 
--- the registers and the outputs of work that was done
+-- work that was done: all registers as it leaves them, and the drafts that it makes
 pub record Effect : Type 0 where
   pub registers : List ℕ
   pub drafts : List DraftView
 
--- the register after the act
+-- a register's value after the act, or why the act can't be done
 abbrev pub act_on : Act → ℕ → ℕ → Result ℕ Declined
 act_on Add value amount = if nat_lt (value + amount) (2 ^ 64) then Ok (value + amount) else Err TooLarge
 act_on Take value amount = if nat_le amount value then Ok (value - amount) else Err Short
 act_on Pass value amount = Ok value
 
+-- the same where there may be no such register
+abbrev pub act_at : Act → Option ℕ → ℕ → Result ℕ Declined
+act_at act None amount = Err NoRegister
+act_at act (Some value) amount = act_on act value amount
+
+-- the register that the element's key names, after the recipe's act, or why that can't be done
+abbrev pub register_after : Recipe → List ℕ → Element → Result ℕ Declined
+register_after recipe registers element = act_at recipe.act (slice_get registers element.key) element.amount
+
+-- an output's key: the element's own, or a fixed one
 abbrev pub key_of : KeyFrom → ℕ → ℕ
 key_of Same key = key
 key_of (Fixed k) key = k
 
--- after is the register's value after the act
+-- an output's amount: the element's own, the register's value after the act, or a fixed one
 abbrev pub amount_of : AmountFrom → ℕ → ℕ → ℕ
 amount_of SameAmount amount after = amount
 amount_of After amount after = after
 amount_of (FixedAmount n) amount after = n
 
+-- the draft of one output, where the act leaves the register at after
 abbrev pub draft_of : Element → ℕ → Output → DraftView
-draft_of body after o = record { stage = o.stage; key = key_of o.key body.key; amount = amount_of o.amount body.amount after }
+draft_of element after output = record {
+  stage = output.stage;
+  key = key_of output.key element.key;
+  amount = amount_of output.amount element.amount after;
+}
 
+-- the whole effect, once it is known what becomes of the one register
 abbrev pub effect_with : Recipe → List ℕ → Element → Result ℕ Declined → Result Effect Declined
-effect_with recipe registers body (Err why) = Err why
-effect_with recipe registers body (Ok after) =
-    Ok (record { registers = slice_set registers body.key after; drafts = map (draft_of body after) recipe.outputs.items })
+effect_with recipe registers element (Err why) = Err why
+effect_with recipe registers element (Ok after) = Ok (record {
+  registers = slice_set registers element.key after;
+  drafts = map (draft_of element after) recipe.outputs.items;
+})
 
-abbrev pub effect_at : Recipe → List ℕ → Element → Option ℕ → Result Effect Declined
-effect_at recipe registers body None = Err NoRegister
-effect_at recipe registers body (Some value) = effect_with recipe registers body (act_on recipe.act value body.amount)
-
--- what the recipe does with a body, or why it declines
+-- what the recipe does with an element, or why it declines
 abbrev pub effect_of : Recipe → List ℕ → Element → Result Effect Declined
-effect_of recipe registers body = effect_at recipe registers body (slice_get registers body.key)
+effect_of recipe registers element = effect_with recipe registers element (register_after recipe registers element)
 
+-- the registers that an effect leaves, if it wasn't declined
 abbrev pub registers_after : Result Effect Declined → Option (List ℕ)
 registers_after (Ok e) = Some e.registers
 registers_after (Err why) = None
 
+-- the drafts that an effect makes, or why it was declined
 abbrev pub drafts_after : Result Effect Declined → Result (List DraftView) Declined
 drafts_after (Ok e) = Ok e.drafts
 drafts_after (Err why) = Err why
 
+-- the registers after the effects of the elements in order, from registers that are there only if nothing was declined yet
 abbrev pub fold_from : Recipe → Option (List ℕ) → List Element → Option (List ℕ)
 fold_from recipe None es = None
 fold_from recipe (Some registers) [] = Some registers
 fold_from recipe (Some registers) (e ∷ es) = fold_from recipe (registers_after (effect_of recipe registers e)) es
 
--- the registers after the effects of the elements in order; none where one of them is declined
+-- the registers after the effects of the elements in order, if none of them is declined
 abbrev pub fold_of : Recipe → List ℕ → List Element → Option (List ℕ)
 fold_of recipe start es = fold_from recipe (Some start) es

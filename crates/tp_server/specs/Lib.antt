@@ -1,4 +1,4 @@
 pub mod Check
 pub mod Effect
-pub mod Making
 pub mod Entries
+pub mod Names

@@ -1,39 +1,42 @@
 //! A server that changes its registers as it prepares.
-ghost use Rattle.std.specs.Prelude.{◌≡◌, ◌<◌, ◌≤◌, ◌≢◌, length, Ok, Err, None, IfOk, IfErr, OnOk};
+ghost use Rattle.std.specs.Prelude.{◌≡◌, ◌<◌, length, Ok, Err, None, IfOk, IfErr, OnOk};
 ghost use Rattle.std.specs.Option.{ForSome};
 ghost use Rattle.tp_server.specs.Check.{check_of};
 
-use crate::outputs;
+use crate::effect;
 use crate::recipe::{BadRecipe, Declined, Recipe};
 use crate::registers::Registers;
 use crate::server::Server;
 use arrayvec::ArrayVec;
 use tp_model::types::{Draft, Element};
 
-#[derive(Drop)]
+/// A server that changes its registers as it prepares, and keeps what the one changed register was before.
+#[derive(Debug, Drop)]
 pub struct EagerServer {
     registers: Registers,
     recipe: Recipe,
+    /// The changed register and its value before, while work is prepared.
     undo: Option<(u64, u64)>,
     ghost checked: { check_of recipe ≡ Ok tt },
     ghost counted: { length registers ≡ recipe.registers },
-    ghost kept: { ForSome undo (λ e. e.0 < length registers) },
+    ghost in_range: { ForSome undo (λ entry. entry.0 < length registers) },
 }
 
 impl EagerServer {
-    ghost use Rattle.tp_server.specs.Making.{new_of};
+    ghost use Rattle.tp_server.specs.Check.{check_with};
 
+    /// A server with this recipe and these registers, with nothing prepared.
+    ///
+    /// It is refused as `Recipe::check` refuses the recipe, and then as `BadRegisters` where the recipe asks for more or
+    /// fewer registers than these. A refusal gives the registers up.
     pub fn new(registers: Registers, recipe: Recipe) -> Result<EagerServer, BadRecipe>
-        ensures refusal { IfErr result (λ why. new_of registers recipe ≡ Err why) }
-        ensures made { OnOk result (new_of registers recipe ≡ Ok tt) }
+        ensures refusal { IfErr result (λ why. check_with registers recipe ≡ Err why) }
+        ensures made { OnOk result (check_with registers recipe ≡ Ok tt) }
         ensures recipe { IfOk result (λ s. ⟦<EagerServer as Server>⟧.recipe s ≡ recipe) }
         ensures registers { IfOk result (λ s. ⟦<EagerServer as Server>⟧.registers s ≡ registers) }
         ensures not_prepared { IfOk result (λ s. ⟦<EagerServer as Server>⟧.pending s ≡ None) }
     {
-        recipe.check()?;
-        if registers.len() != recipe.registers {
-            return Err(BadRecipe::BadRegisters);
-        }
+        recipe.check_with(&registers)?;
         Ok(EagerServer {
             registers,
             recipe,
@@ -71,12 +74,12 @@ impl Server for EagerServer {
     }
 
     fn prepare(&mut self, element: &Element) -> Result<ArrayVec<Draft, 4>, Declined> {
-        let after = outputs::after(&self.recipe, &self.registers, element)?;
+        let after = effect::register_after(&self.recipe, &self.registers, element)?;
         if let Some(before) = self.registers.get(element.key) {
             self.undo = Some((element.key, before));
         }
         self.registers.set(element.key, after);
-        Ok(outputs::drafts(&self.recipe.outputs, element, after))
+        Ok(effect::drafts(&self.recipe.outputs, element, after))
     }
 
     fn commit(&mut self) {

@@ -1,39 +1,42 @@
 //! A server that keeps the write until it commits.
-ghost use Rattle.std.specs.Prelude.{◌≡◌, ◌<◌, ◌≤◌, ◌≢◌, length, Ok, Err, None, IfOk, IfErr, OnOk};
+ghost use Rattle.std.specs.Prelude.{◌≡◌, ◌<◌, length, Ok, Err, None, IfOk, IfErr, OnOk};
 ghost use Rattle.std.specs.Option.{ForSome};
 ghost use Rattle.tp_server.specs.Check.{check_of};
 
-use crate::outputs;
+use crate::effect;
 use crate::recipe::{BadRecipe, Declined, Recipe};
 use crate::registers::Registers;
 use crate::server::Server;
 use arrayvec::ArrayVec;
 use tp_model::types::{Draft, Element};
 
-#[derive(Drop)]
+/// A server that leaves its registers alone as it prepares, and keeps what it has to write until it commits.
+#[derive(Debug, Drop)]
 pub struct LazyServer {
     registers: Registers,
     recipe: Recipe,
+    /// The register to write and its new value, while work is prepared.
     write: Option<(u64, u64)>,
     ghost checked: { check_of recipe ≡ Ok tt },
     ghost counted: { length registers ≡ recipe.registers },
-    ghost kept: { ForSome write (λ e. e.0 < length registers) },
+    ghost in_range: { ForSome write (λ entry. entry.0 < length registers) },
 }
 
 impl LazyServer {
-    ghost use Rattle.tp_server.specs.Making.{new_of};
+    ghost use Rattle.tp_server.specs.Check.{check_with};
 
+    /// A server with this recipe and these registers, with nothing prepared.
+    ///
+    /// It is refused as `Recipe::check` refuses the recipe, and then as `BadRegisters` where the recipe asks for more or
+    /// fewer registers than these. A refusal gives the registers up.
     pub fn new(registers: Registers, recipe: Recipe) -> Result<LazyServer, BadRecipe>
-        ensures refusal { IfErr result (λ why. new_of registers recipe ≡ Err why) }
-        ensures made { OnOk result (new_of registers recipe ≡ Ok tt) }
+        ensures refusal { IfErr result (λ why. check_with registers recipe ≡ Err why) }
+        ensures made { OnOk result (check_with registers recipe ≡ Ok tt) }
         ensures recipe { IfOk result (λ s. ⟦<LazyServer as Server>⟧.recipe s ≡ recipe) }
         ensures registers { IfOk result (λ s. ⟦<LazyServer as Server>⟧.registers s ≡ registers) }
         ensures not_prepared { IfOk result (λ s. ⟦<LazyServer as Server>⟧.pending s ≡ None) }
     {
-        recipe.check()?;
-        if registers.len() != recipe.registers {
-            return Err(BadRecipe::BadRegisters);
-        }
+        recipe.check_with(&registers)?;
         Ok(LazyServer {
             registers,
             recipe,
@@ -68,9 +71,9 @@ impl Server for LazyServer {
     }
 
     fn prepare(&mut self, element: &Element) -> Result<ArrayVec<Draft, 4>, Declined> {
-        let after = outputs::after(&self.recipe, &self.registers, element)?;
+        let after = effect::register_after(&self.recipe, &self.registers, element)?;
         self.write = Some((element.key, after));
-        Ok(outputs::drafts(&self.recipe.outputs, element, after))
+        Ok(effect::drafts(&self.recipe.outputs, element, after))
     }
 
     fn commit(&mut self) {

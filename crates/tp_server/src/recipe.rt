@@ -1,40 +1,60 @@
 //! What a server does with an element, and which recipes are good.
-ghost use Rattle.std.specs.Prelude.{◌≡◌};
+ghost use Rattle.std.specs.Prelude.{◌≡◌, Some};
 ghost use Rattle.std.specs.List.{list_all};
-ghost use Rattle.tp_server.specs.Check.{check_of, is_output};
+ghost use Rattle.tp_server.specs.Check.{check_of, check_with, is_output};
 
+use crate::registers::Registers;
 use arrayvec::ArrayVec;
-use std::alloc::AllocError;
+use std::error::Error;
+use std::fmt;
 
+/// What a server does to the register that an element's key names.
 #[derive(Clone, Copy, Debug, PartialEq, Eq)]
 pub enum Act {
+    /// The register is increased by the element's amount. It holds 18446744073709551615 at most.
     Add,
+    /// The register is decreased by the element's amount. It holds 0 at least.
     Take,
+    /// The register stays as it is.
     Pass,
 }
 
+/// Where the key of an output comes from.
 #[derive(Clone, Copy, Debug, PartialEq, Eq)]
 pub enum KeyFrom {
+    /// It is the element's own key.
     Same,
+    /// It is this number, whatever the element's key is.
     Fixed(u64),
 }
 
+/// Where the amount of an output comes from.
 #[derive(Clone, Copy, Debug, PartialEq, Eq)]
 pub enum AmountFrom {
+    /// It is the element's own amount.
     Same,
+    /// It is the value that the register has after the act.
     After,
+    /// It is this number, whatever the element's amount is.
     Fixed(u64),
 }
 
+/// An output that a recipe makes of each element.
 #[derive(Clone, Copy, Debug, PartialEq, Eq)]
 pub struct Output {
+    /// The stage that it goes to: 1 to 14 for servers, 15 for replies.
     pub stage: u8,
     pub key: KeyFrom,
     pub amount: AmountFrom,
 }
 
-/// It only fills unused places.
+/// A reply with the element's own key and amount. It only fills unused places.
 impl Default for Output {
+    ghost use Rattle.tp_server.specs.declared.recipe.KeyFrom.TheVariants.{Same};
+    ghost use Rattle.tp_server.specs.declared.recipe.AmountFrom.TheVariants.{Same as SameAmount};
+
+    ghost is_default = { λ output. output ≡ record { stage = 15; key = Same; amount = SameAmount } };
+
     fn default() -> Output {
         Output {
             stage: 15,
@@ -44,30 +64,77 @@ impl Default for Output {
     }
 }
 
-#[derive(Drop)]
+/// What a server does with each element that it takes.
+#[derive(Clone, Debug, PartialEq, Eq, Drop)]
 pub struct Recipe {
+    /// The stage whose elements it takes, 1 to 14.
     pub stage: u8,
+    /// How many registers it has, 1 to 64.
     pub registers: u8,
+    /// What it does to the register that the element's key names.
     pub act: Act,
+    /// The outputs that it makes, in this order.
     pub outputs: ArrayVec<Output, 4>,
 }
 
+/// The first fault of a recipe.
 #[derive(Clone, Copy, Debug, PartialEq, Eq)]
 pub enum BadRecipe {
+    /// Its own stage isn't 1 to 14.
     BadStage,
+    /// The number of its registers isn't 1 to 64, or isn't that of the registers that came with it.
     BadRegisters,
+    /// The stage of an output isn't 1 to 15.
     BadOutput,
 }
 
+/// Its bare name, as `BadStage`.
+impl fmt::Display for BadRecipe {
+    ghost use Rattle.tp_server.specs.Names.{fault_name};
+
+    ghost output = { λ fault. Some (fault_name fault) };
+
+    fn fmt<W: fmt::Write>(&self, f: &mut fmt::Formatter<W>) -> fmt::Result {
+        match self {
+            BadRecipe::BadStage => f.write_str("BadStage"),
+            BadRecipe::BadRegisters => f.write_str("BadRegisters"),
+            BadRecipe::BadOutput => f.write_str("BadOutput"),
+        }
+    }
+}
+
+impl Error for BadRecipe {}
+
+/// Why a server declined an element. Where several hold, the first is told.
 #[derive(Clone, Copy, Debug, PartialEq, Eq)]
 pub enum Declined {
+    /// The element's key isn't below the number of registers. This holds for each act.
     NoRegister,
+    /// The act adds, and the sum would pass 18446744073709551615.
     TooLarge,
+    /// The act takes, and the register holds less than the element's amount.
     Short,
 }
 
+/// Its bare name, as `NoRegister`.
+impl fmt::Display for Declined {
+    ghost use Rattle.tp_server.specs.Names.{declined_name};
+
+    ghost output = { λ why. Some (declined_name why) };
+
+    fn fmt<W: fmt::Write>(&self, f: &mut fmt::Formatter<W>) -> fmt::Result {
+        match self {
+            Declined::NoRegister => f.write_str("NoRegister"),
+            Declined::TooLarge => f.write_str("TooLarge"),
+            Declined::Short => f.write_str("Short"),
+        }
+    }
+}
+
+impl Error for Declined {}
+
 impl Recipe {
-    /// The first fault.
+    /// The first fault of the recipe: `BadStage`, then `BadRegisters`, then `BadOutput`.
     pub fn check(&self) -> Result<(), BadRecipe>
         ensures { result ≡ check_of self.now }
     {
@@ -82,30 +149,24 @@ impl Recipe {
         }
         Ok(())
     }
+
+    /// The first fault of the recipe for these registers: its own, then `BadRegisters` where it asks for more or fewer.
+    pub(crate) fn check_with(&self, registers: &Registers) -> Result<(), BadRecipe>
+        ensures { result ≡ check_with registers.now self.now }
+    {
+        self.check()?;
+        if registers.len() != self.registers {
+            return Err(BadRecipe::BadRegisters);
+        }
+        Ok(())
+    }
 }
 
+/// Whether each output goes to a stage that there is.
 fn are_outputs_good(outputs: &[Output]) -> bool
     ensures { result ≡ list_all is_output outputs.now }
 {
     outputs
         .iter()
         .all(|output| 1 <= output.stage && output.stage <= 15)
-}
-
-/// Takes no memory, and so never fails.
-impl Clone for Recipe {
-    ghost is_clone = { λ old new. new ≡ old };
-
-    fn clone(&self) -> Result<Self, AllocError> {
-        let mut outputs = ArrayVec::new();
-        for output in self.outputs.as_slice() {
-            outputs.push(*output);
-        }
-        Ok(Recipe {
-            stage: self.stage,
-            registers: self.registers,
-            act: self.act,
-            outputs,
-        })
-    }
 }

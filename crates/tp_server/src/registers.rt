@@ -5,8 +5,8 @@ use arrayvec::ArrayVec;
 use std::alloc::AllocError;
 use std::marker::Model;
 
-/// 1 to 64 numbers. Contracts see them as a list.
-#[derive(Drop)]
+/// 1 to 64 numbers of 64 bits, which lie in the value itself. Contracts see them as a list.
+#[derive(Debug, Drop)]
 pub struct Registers {
     cells: ArrayVec<u64, 64>,
 }
@@ -22,9 +22,9 @@ impl Model for Registers {
 }
 
 impl Registers {
-    /// All zero, or none where the count isn't 1..64.
+    /// So many registers, all 0, or `None` unless the count is 1 to 64.
     pub fn new(count: u8) -> Option<Registers>
-        ensures made { IsSome result ↔ ((1 ≤ count) × (count ≤ 64)) }
+        ensures some { IsSome result ↔ ((1 ≤ count) × (count ≤ 64)) }
         ensures zeros { IfSome result (λ r. r ≡ replicate count 0) }
     {
         if count < 1 || count > 64 {
@@ -37,19 +37,16 @@ impl Registers {
         Some(Registers { cells })
     }
 
+    /// How many there are, 1 to 64.
     pub fn len(&self) -> u8
-        ensures { result ≡ length self.now }
+        ensures value { result ≡ length self.now }
+        ensures low { 1 ≤ result }
+        ensures high { result ≤ 64 }
     {
         self.cells.len() as u8
     }
 
-    /// The registers, in order.
-    pub fn as_slice(&self) -> &[u64]
-        ensures { result.now ≡ self.now }
-    {
-        self.cells.as_slice()
-    }
-
+    /// The register with this number, counted from 0, or `None` past the last one.
     pub fn get(&self, k: u64) -> Option<u64>
         ensures { result ≡ slice_get self.now k }
     {
@@ -60,6 +57,14 @@ impl Registers {
         }
     }
 
+    /// All of them, in order.
+    pub fn as_slice(&self) -> &[u64]
+        ensures { result.now ≡ self.now }
+    {
+        self.cells.as_slice()
+    }
+
+    /// Writes the register with this number, counted from 0, and leaves the others as they are.
     pub fn set(&mut self, k: u64, value: u64)
         requires { k < length self.old }
         ensures { self.new ≡ slice_set self.old k value }

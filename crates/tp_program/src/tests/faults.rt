@@ -1,0 +1,83 @@
+//! Failing readers and writers, at each of their calls.
+
+ghost use Rattle.std.specs.Prelude.{◌≡◌};
+
+use super::devices::{Reader, Writer};
+use crate::fault::{Exit, Fault};
+use crate::program::run_plain;
+
+const SCRIPT: &str =
+    "rows 8\nserver a eager 1 1 add 15:same:after\nsubmit 1 0 10\nturn a\nreply 0\n";
+
+const REPORT: &str = "submitted 0\na done 0 unit 256 outputs 8 1\nreplies 0 8:0:10\nfinal a 10\n";
+
+fn reader(most: usize, fails_at: u64) -> Reader<'static>
+    ensures { result.calls ≡ 0 }
+{
+    Reader {
+        bytes: SCRIPT.as_bytes(),
+        most,
+        fails_at,
+        calls: 0,
+    }
+}
+
+fn writer(rt: &HostRuntime, most: usize, fails_at: u64) -> Writer {
+    Writer {
+        taken: Vec::new(rt.alloc()),
+        most,
+        fails_at,
+        calls: 0,
+    }
+}
+
+#[test]
+fn one_byte_a_call(rt: HostRuntime) {
+    let mut writer = writer(&rt, 1, 0);
+    let answer = run_plain(rt.alloc(), &mut reader(1, 0), &mut writer);
+    assert_eq!(rt; answer, Ok(Exit::Done));
+    assert_eq!(rt; writer.taken.as_slice(), REPORT.as_bytes());
+}
+
+#[test]
+fn a_reader_that_fails_at_each_call(rt: HostRuntime) {
+    // 73 bytes one at a time, and the call that finds the end.
+    for fails_at in 1..75u64 {
+        let mut writer = writer(&rt, 100, 0);
+        let answer = run_plain(rt.alloc(), &mut reader(1, fails_at), &mut writer);
+        assert_eq!(rt; answer, Err(Fault::Read), "at call {fails_at}");
+        assert!(rt; writer.taken.is_empty());
+    }
+}
+
+#[test]
+fn a_writer_that_fails_at_each_call(rt: HostRuntime) {
+    for (calls, most) in [(4, 100), (70, 1)] {
+        for fails_at in 1..=calls {
+            let mut writer = writer(&rt, most, fails_at);
+            let answer = run_plain(rt.alloc(), &mut reader(100, 0), &mut writer);
+            assert_eq!(rt; answer, Err(Fault::Write), "at call {fails_at}");
+            assert!(rt; REPORT.as_bytes().starts_with(writer.taken.as_slice()));
+        }
+    }
+}
+
+#[test]
+fn a_writer_that_takes_nothing(rt: HostRuntime) {
+    let mut writer = writer(&rt, 0, 0);
+    let answer = run_plain(rt.alloc(), &mut reader(100, 0), &mut writer);
+    assert_eq!(rt; answer, Err(Fault::Write));
+    assert!(rt; writer.taken.is_empty());
+}
+
+#[test]
+fn the_lines_of_faults(rt: HostRuntime) -> Result<(), std::test::Fail> {
+    for (fault, want) in [
+        (Fault::NoMemory, "fault 1 NoMemory"),
+        (Fault::Read, "fault 2 Read"),
+        (Fault::Write, "fault 3 Write"),
+    ] {
+        assert_eq!(rt; format!(in rt.alloc(); "{fault}")?.as_str(), want);
+    }
+    Ok(())
+}
