@@ -274,7 +274,7 @@ module _ (l : Limits) (h : List Event) (passes : List PassState) (looks : List L
       × Takes old_state c stage (the_work x) (claimed_state x)
       × (claim_of_stage old_state c stage ≡ (claimed.Work (the_work x), claimed_state x))
 
-  left_by_claim : (pass_at old_state c).claimed < l.units → (pass_at old_state c).holding ≡ None → ClaimLeft (pass_at old_state c)
+  pub left_by_claim : (pass_at old_state c).claimed < l.units → (pass_at old_state c).holding ≡ None → ClaimLeft (pass_at old_state c)
   left_by_claim room free =
       let x = pass_at old_state c in
       let fits : PassFits l h c x = reached.fits c is_pass in

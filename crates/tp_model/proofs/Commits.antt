@@ -155,7 +155,7 @@ module _ (l : Limits) (h : List Event) (passes : List PassState) (looks : List L
       held (Parked n) e = absurd (cc (e))
       held Killed e = absurd (cc (e))
 
-  left_by_commit : (pass_at at_first c).holding ≡ Some u → (pass_at at_first c).drawn + length ds ≤ l.rows → CommitLeft (pass_at at_first c)
+  pub left_by_commit : (pass_at at_first c).holding ≡ Some u → (pass_at at_first c).drawn + length ds ≤ l.rows → CommitLeft (pass_at at_first c)
   left_by_commit hand room =
       let x = pass_at at_first c in
       let fits : PassFits l h c x = reached.fits c is_pass in

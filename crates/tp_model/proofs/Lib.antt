@@ -14,3 +14,4 @@ pub mod RunProofs
 pub mod Kills
 pub mod Bridges
 pub mod Later
+pub mod Allowed

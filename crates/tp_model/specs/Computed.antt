@@ -1,6 +1,8 @@
 -- The answers of a manager of one thread, computed: what each call answers, and the state that it leaves.
 use Rattle.std.specs.Prelude.{◌≡◌, ℕ, ◌+◌, ◌<◌, ◌≤◌, nat_le, nat_lt, ◌&&◌, ◌==◌, Bool, if◌then◌else◌, Option, Some, None, Result, Ok, Err, List, length, map, unwrap_or}
 use Rattle.std.specs.List.{fold, All}
+use Rattle.tp_model.specs.Steps.{IsServerStage}
+use Rattle.tp_model.specs.Reached.{IsReached}
 use Rattle.tp_model.specs.declared.types.Element.{Element}
 use Rattle.tp_model.specs.declared.types.Look.{Look}
 use Rattle.tp_model.specs.declared.types.Work.{Work}
@@ -19,7 +21,7 @@ use Rattle.tp_model.specs.declared.event.Event.TheVariants.{Enqueue, Claim, Comm
 use Rattle.tp_model.specs.Drafts.{DraftView}
 use Rattle.tp_model.specs.History.{element_of, UnitEnd, Committed, Aborted, end_of, status_of}
 use Rattle.tp_model.specs.Looks.{look_at, sooner, attempts_in, looks_after_all}
-use Rattle.tp_model.specs.OneThread.{State, pass_at, next_row, next_unit, moved, with_pass, extended, request, free_pass, made_of}
+use Rattle.tp_model.specs.OneThread.{Answers, CallSubmit, CallClaim, CallCommit, CallAbort, CallKill, CallRead, HasStage, State, pass_at, next_row, next_unit, moved, with_pass, extended, request, free_pass, made_of}
 
 -- whether clients may submit to this stage
 abbrev pub is_server_stage : ℕ → Bool
@@ -129,3 +131,17 @@ IsComputed old new (Err refusal.Full) computed = (computed.0 ≡ Err refusal.Ful
 abbrev pub IsComputedOk : {A : Type 0} → State → State → Result A Refusal → A × State → Type 0
 IsComputedOk old new (Ok x) computed = (computed.0 ≡ x) × (new ≡ computed.1)
 IsComputedOk old new (Err why) computed = (why ≡ refusal.NoMemory) × (new ≡ old)
+
+-- the computed answers to the calls of pass c are those that a manager of one thread may give
+pub record AreAllowed (s : State) (c : ℕ) : Type 0 where
+  pub submit : (stage key amount : ℕ) → Answers s (CallSubmit c stage key amount (submit_of s c stage key amount).0) (submit_of s c stage key amount).1
+  pub claim : (stage : ℕ) → IsServerStage stage → (pass_at s c).holding ≡ None → Answers s (CallClaim c stage (Ok (claim_of_stage s c stage).0)) (claim_of_stage s c stage).1
+  pub commit : (u : ℕ) (drafts : List DraftView) → (pass_at s c).holding ≡ Some u → length drafts ≤ 4 → All HasStage drafts
+      → Answers s (CallCommit c drafts (Ok (commit_of s c drafts).0)) (commit_of s c drafts).1
+  pub abort : (u : ℕ) → (pass_at s c).holding ≡ Some u → Answers s (CallAbort c (abort_of s c).0) (abort_of s c).1
+  pub kill : (i : ℕ) → Answers s (CallKill c i (kill_of s c i).0) (kill_of s c i).1
+  pub read : (id : ℕ) → Answers s (CallRead id (read_of s id)) s
+
+-- so it is in every state that a manager of one thread reaches
+abbrev pub ComputedAreAllowed : Type 0
+ComputedAreAllowed = (s : State) (c : ℕ) → IsReached s → c < s.limits.parts → AreAllowed s c

@@ -1,6 +1,7 @@
 //! The laws of legal histories. These functions do nothing: their contracts are the laws.
 
 ghost use Rattle.tp_model.specs.Rows.{WorkedRows};
+ghost use Rattle.tp_model.specs.Computed.{ComputedAreAllowed};
 ghost use Rattle.tp_model.specs.OneThread.{RunsAreLegal, RunsGrow};
 ghost use Rattle.tp_model.specs.Laws.{ConsumedOnce, NeverClaimedAfterKill, NeverCommittedAfterKill, StatusSteps, BornStays, BornOnce, StatusByWords, WordsRise, SettledStays, UnitsStay};
 
@@ -48,4 +49,9 @@ pub fn worked_rows()
 pub fn runs()
     ensures legal { RunsAreLegal }
     ensures grow { RunsGrow }
+{}
+
+/// What is computed as the answer of a call is an answer that a manager of one thread may give.
+pub fn computed_answers()
+    ensures { ComputedAreAllowed }
 {}

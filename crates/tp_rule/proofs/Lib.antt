@@ -1,0 +1,15 @@
+pub mod Units
+pub mod Working
+pub mod Parts
+pub mod Seats
+pub mod Frames
+pub mod Events
+pub mod Watching
+pub mod Opening
+pub mod Drafting
+pub mod Publishing
+pub mod Reading
+pub mod Sharing
+pub mod Claiming
+pub mod Deciding
+pub mod Killing

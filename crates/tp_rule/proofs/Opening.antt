@@ -1,0 +1,88 @@
+-- The table at the start meets the rule.
+use Rattle.std.proofs.Common.{◌≡◌, ℕ, zero, suc, ◌+◌, ◌*◌, ◌<◌, ◌≤◌, List, [], ◌∷◌, replicate, get_or, sym, refl, ap, ◌∙◌, subst, ⊎_elim, arith}
+use Rattle.std.proofs.lemmas.List.{length-replicate}
+use mathlib.Core.Option.{some, some-injective, some-ne-none}
+use lib.ListN.{get_elem?}
+use Rattle.atomic_table.specs.Table.{opening}
+use Rattle.tp_model.proofs.Histories.{legal_empty}
+use Rattle.tp_model.proofs.Bridges.{begins_refl, in_cons, in_none}
+use Rattle.tp_model.specs.History.{In}
+use Rattle.tp_model.specs.Steps.{rows_of}
+use Rattle.tp_model.specs.declared.types.Limits.{Limits}
+use Rattle.tp_rule.specs.Rule.{HandHolds, IsApart, Rule, SeatHolds}
+use Rattle.tp_rule.specs.Views.{first_view, fresh, fresh_from}
+use Rattle.tp_rule.specs.declared.view.Hand.{Hand}
+use Rattle.tp_rule.specs.declared.view.View.{View}
+use Rattle.tp_words.specs.Places.{size_of}
+use Rattle.tp_words.specs.declared.words.Head.TheVariants.{Empty}
+
+zeros : (n i : ℕ) → ◌≡◌ {A = ℕ} (get_or (replicate n 0) i 0) 0
+zeros zero i = refl
+zeros (suc n) zero = refl
+zeros (suc n) (suc i) = zeros n i
+
+fresh_in : (c n : ℕ) (a : Hand) → In a (fresh_from c n) → (c ≤ a.number) × (a.number < c + n) × (a ≡ fresh a.number)
+fresh_in c zero a p = absurd (in_none p)
+fresh_in c (suc n) a p = ⊎_elim (λ e. let same : a.number ≡ c = ap (λ (z : Hand). z.number) e in (omega arith, omega arith, e ∙ ap fresh (sym same)))
+    (λ q. let t = fresh_in (c + 1) n a q in let x = t.0 in let y = t.1 in (omega arith, omega arith, t.2)) (in_cons p)
+
+fresh_apart : (c n : ℕ) → IsApart (fresh_from c n)
+fresh_apart c zero = tt
+fresh_apart c (suc n) = (λ b p e. let t = fresh_in (c + 1) n b p in let x = t.0 in omega arith, fresh_apart (c + 1) n)
+
+module _ (k : Limits) where
+  fresh_holds : (c : ℕ) → c < k.parts → HandHolds k [] (replicate (size_of k) 0) (fresh c)
+  fresh_holds c below = record {
+    given = below;
+    mine = refl;
+    rows = record {
+      counted = refl;
+      drawn_below = omega arith;
+      unborn = λ i l m. refl;
+      empty = λ i l m. zeros (size_of k) (4 * i);
+      key_there = λ x is. absurd cc;
+      amount_there = λ x is. absurd cc;
+      run = tt;
+      written = λ x p. absurd (in_none p);
+    };
+    units = record {
+      used_below = omega arith;
+      unused = λ u l m. refl;
+      spare_next = λ u is. absurd cc;
+      held_own = λ u is. absurd cc;
+      closed = λ u i n p. absurd cc;
+    };
+  }
+
+  pub opens : (ws : List ℕ) → ws ≡ replicate (size_of k) 0 → Rule k (opening ws [] (first_view k))
+  opens ws e = subst (λ (l : List ℕ). Rule k (opening l [] (first_view k))) (sym e) record {
+    history = [];
+    owner = λ c. 0;
+    world = record {
+      legal = legal_empty k;
+      wide = length-replicate (size_of k) 0;
+      rows = λ i l. record {
+        head = Empty;
+        packed = zeros (size_of k) (4 * i);
+        fit = tt;
+        full = λ x p. absurd cc;
+        draft = λ un. tt;
+        claim = zeros (size_of k) (4 * i + 3);
+        claim_fit = tt;
+      };
+      units = λ u l. (zeros (size_of k) (4 * rows_of k + u), tt);
+      fits = λ x p. absurd cc;
+    };
+    seats = first;
+  }
+    where
+      first : (j : ℕ) (v : View) → get_elem? (first_view k ∷ []) j ≡ some v → SeatHolds k [] (replicate (size_of k) 0) (λ c. 0) j v
+      first zero v e = subst (λ z. SeatHolds k [] (replicate (size_of k) 0) (λ c. 0) 0 z) (some-injective (first_view k) v e) record {
+        limits = λ a p. refl;
+        seen = begins_refl [];
+        also_seen = begins_refl [];
+        apart = fresh_apart 0 k.parts;
+        owns = λ a p. refl;
+        hands = λ a p. let t = fresh_in 0 k.parts a p in let low = t.1 in subst (HandHolds k [] (replicate (size_of k) 0)) (sym t.2) (fresh_holds a.number (omega arith));
+      }
+      first (suc j) v e = absurd (some-ne-none v (sym e))

@@ -1,0 +1,179 @@
+-- Cutting a seat in two and joining two seats keep the rule.
+use Rattle.std.proofs.Common.{◌≡◌, ℕ, zero, suc, ◌<◌, ◌≢◌, eqb, Bool, true, false, cond, List, [], ◌∷◌, ◌++◌, map, length, set, sym, refl, ap, ◌∙◌, subst, ◌⊎◌, inl, inr, ⊎_elim, arith, eq-eqb, ne_eqb, length-set}
+use mathlib.Core.Option.{some, some-injective, some-ne-none}
+use mathlib.Core.Logic.{dite}
+use native.Mathlib.Decide.{ℕ_discrete}
+use lib.ListN.{get_elem?}
+use Rattle.atomic_table.specs.Table.{Splits, Joins}
+use Rattle.atomic_table.proofs.Lists.{at_set}
+use Rattle.tp_model.specs.declared.trace.StepKind.TheVariants as kinds
+use Rattle.tp_rule.specs.Rule.{HandHolds, IsApart, Rule, SeatHolds}
+use Rattle.tp_rule.specs.Views.{HasPass}
+use Rattle.tp_rule.specs.Steps.{noted, looked, with_hands, handed_on, handed_out, kept, parted, joined, spent, rest_of, front_of}
+use Rattle.tp_rule.proofs.Seats.{in_map, apart_map, seats_after, hand_noted}
+use Rattle.tp_model.proofs.Bridges.{in_cons, in_either, in_left, in_none, in_one}
+use Rattle.tp_model.specs.History.{In, here, there}
+use Rattle.tp_model.specs.declared.event.Event.{Event}
+use Rattle.tp_model.specs.declared.types.Limits.{Limits}
+use Rattle.tp_rule.specs.declared.view.Hand.{Hand}
+use Rattle.tp_rule.specs.declared.view.View.{View}
+
+at_end : {A : Type 0} (l : List A) (a b : A) (j : ℕ) → get_elem? (l ++ a ∷ []) j ≡ some b → ((get_elem? l j ≡ some b) × (j < length l)) ⊎ ((j ≡ length l) × (a ≡ b))
+at_end [] a b zero e = inr (refl, some-injective a b e)
+at_end [] a b (suc j) e = absurd (some-ne-none b (sym e))
+at_end (x ∷ xs) a b zero e = inl (e, omega arith)
+at_end (x ∷ xs) a b (suc j) e = ⊎_elim (λ t. let m = t.1 in inl (t.0, omega arith)) (λ t. let m = t.0 in inr (omega arith, t.1)) (at_end xs a b j e)
+
+at_below : {A : Type 0} (l : List A) (a : A) (j : ℕ) → get_elem? l j ≡ some a → j < length l
+at_below [] a j e = absurd (some-ne-none a (sym e))
+at_below (x ∷ xs) a zero e = omega arith
+at_below (x ∷ xs) a (suc j) e = let m = at_below xs a j e in omega arith
+
+-- the number c is that of one of the hands
+abbrev among : ℕ → List Hand → Bool
+among c [] = false
+among c (a ∷ hs) = cond (eqb a.number c) true (among c hs)
+
+among_or : (b : Bool) (rest : Bool) → cond b true rest ≡ true → (b ≡ true) ⊎ (rest ≡ true)
+among_or true rest e = inl refl
+among_or false rest e = inr e
+
+among_in : (c : ℕ) (hs : List Hand) (a : Hand) → In a hs → a.number ≡ c → among c hs ≡ true
+among_in c [] a p e = absurd (in_none p)
+among_in c (b ∷ hs) a p e = ⊎_elim (λ is. ap (λ t. cond t true (among c hs)) (eq-eqb b.number c (ap (λ (z : Hand). z.number) (sym is) ∙ e)))
+    (λ q. dite (ℕ_discrete b.number c) (λ y. ap (λ t. cond t true (among c hs)) (eq-eqb b.number c y)) (λ n. ap (λ t. cond t true (among c hs)) (ne_eqb b.number c n) ∙ among_in c hs a q e)) (in_cons p)
+
+not_among : (c : ℕ) (hs : List Hand) → ((a : Hand) → In a hs → a.number ≢ c) → among c hs ≡ false
+not_among c [] n = refl
+not_among c (b ∷ hs) n = ap (λ t. cond t true (among c hs)) (ne_eqb b.number c (n b here)) ∙ not_among c hs (λ a p. n a (there p))
+
+apart_append : (xs ys : List Hand) → IsApart xs → IsApart ys → ((a b : Hand) → In a xs → In b ys → b.number ≢ a.number) → IsApart (xs ++ ys)
+apart_append [] ys p q r = q
+apart_append (x ∷ xs) ys p q r = (λ b i. ⊎_elim (λ t. p.0 b t) (λ t. r x b here t) (in_either xs ys i), apart_append xs ys p.1 q (λ a b i j. r a b (there i) j))
+
+in_rest : (hs : List Hand) (a : Hand) → In a (rest_of hs) → In a hs
+in_rest [] a p = p
+in_rest (x ∷ hs) a p = there p
+
+in_front : (hs : List Hand) (a : Hand) → In a (front_of hs) → In a hs
+in_front [] a p = p
+in_front (x ∷ hs) a p = in_left hs p
+
+apart_rest : (hs : List Hand) → IsApart hs → IsApart (rest_of hs)
+apart_rest [] t = tt
+apart_rest (x ∷ hs) t = t.1
+
+apart_front : (hs : List Hand) → IsApart hs → IsApart (front_of hs)
+apart_front [] t = tt
+apart_front (x ∷ hs) t = (λ b p. absurd (in_none p), tt)
+
+cross : (hs : List Hand) → IsApart hs → (a b : Hand) → In a (front_of hs) → In b (rest_of hs) → b.number ≢ a.number
+cross [] t a b p q e = absurd (in_none p)
+cross (x ∷ hs) t a b p q e = t.0 b q (e ∙ ap (λ (z : Hand). z.number) (in_one p))
+
+module _ (k : Limits) where
+  -- a seat with some of the hands
+  seat_of : (h : List Event) (ws : List ℕ) (owner owner' : ℕ → ℕ) (j n : ℕ) (v : View) (hs : List Hand) (u : View) → u ≡ with_hands hs v → ((a : Hand) → In a hs → (b : Hand) × In b v.hands × (HandHolds k h ws b → HandHolds k h ws a)) → IsApart hs
+      → ((a : Hand) → In a hs → owner' a.number ≡ n) → SeatHolds k h ws owner j v → SeatHolds k h ws owner' n u
+  seat_of h ws owner owner' j n v hs u is from apart owns r = subst (SeatHolds k h ws owner' n) (sym is) record {
+    limits = λ a p. let t = from a p in r.limits t.0 t.1;
+    seen = r.seen;
+    also_seen = r.also_seen;
+    apart = apart;
+    owns = owns;
+    hands = λ a p. let t = from a p in t.2 (r.hands t.0 t.1);
+  }
+
+  owned_anew : (h : List Event) (ws : List ℕ) (owner owner' : ℕ → ℕ) (j : ℕ) (v : View) → ((a : Hand) → In a v.hands → owner' a.number ≡ owner a.number) → SeatHolds k h ws owner j v → SeatHolds k h ws owner' j v
+  owned_anew h ws owner owner' j v same r = record {
+    limits = r.limits;
+    seen = r.seen;
+    also_seen = r.also_seen;
+    apart = r.apart;
+    owns = λ a p. same a p ∙ r.owns a p;
+    hands = r.hands;
+  }
+
+  -- these hands are of the seat's passes, perhaps with more in their traces
+  abbrev From : List Hand → View → Type 0
+  From hs v = (a : Hand) → In a hs → (b : Hand) × In b v.hands × (a.number ≡ b.number) × ((h : List Event) (ws : List ℕ) → HandHolds k h ws b → HandHolds k h ws a)
+
+  pub splits : (id : ℕ) (v : View) (L R : List Hand) → From L v → From R v → (IsApart v.hands → IsApart L) → (IsApart v.hands → IsApart R)
+      → (IsApart v.hands → (a b : Hand) → In a R → In b L → a.number ≢ b.number) → Splits (Rule k) id v (with_hands L v) (with_hands R v)
+  splits id v L R left right apart_l apart_r cross s r at = let n : ℕ = length s.views in let h = r.history in let mine = r.seats id v at in let room = at_below s.views v id at in
+      let owner : ℕ → ℕ = λ c. cond (among c R) n (r.owner c) in
+      let in_r : (a : Hand) → In a R → owner a.number ≡ n = λ a p. ap (λ t. cond t n (r.owner a.number)) (among_in a.number R a p refl) in
+      let not_r : (c : ℕ) → ((a : Hand) → In a R → a.number ≢ c) → owner c ≡ r.owner c = λ c f. ap (λ t. cond t n (r.owner c)) (not_among c R f) in
+      let all : SeatHolds k h s.words owner id (with_hands L v) = seat_of h s.words r.owner owner id id v L (with_hands L v) refl (λ a p. let t = left a p in (t.0, t.1, t.3 h s.words)) (apart_l mine.apart)
+      (λ b q. let t = left b q in not_r b.number (λ a p. cross mine.apart a b p q) ∙ (ap r.owner t.2 ∙ mine.owns t.0 t.1)) mine in
+      let new : SeatHolds k h s.words owner n (with_hands R v) = seat_of h s.words r.owner owner id n v R (with_hands R v) refl (λ a p. let t = right a p in (t.0, t.1, t.3 h s.words)) (apart_r mine.apart) in_r mine in
+      let old = seats_after k h s.words owner s.views id (with_hands L v) all (λ j u apart e. owned_anew h s.words r.owner owner j u
+      (λ b q. not_r b.number (λ a p same. let t = right a p in apart (sym ((r.seats j u e).owns b q) ∙ (ap r.owner (sym same) ∙ (ap r.owner t.2 ∙ mine.owns t.0 t.1))))) (r.seats j u e)) in record {
+        history = h;
+        owner = owner;
+        world = r.world;
+        seats = λ j u e. ⊎_elim (λ t. old j u t.0) (λ t. subst (λ (z : ℕ × View). SeatHolds k h s.words owner z.0 z.1) (λ i. (sym (t.0 ∙ length-set s.views id (with_hands L v)) i, t.1 i)) new)
+            (at_end (set s.views id (with_hands L v)) (with_hands R v) u j e);
+      }
+
+  pub joins : (id : ℕ) (v : View) (other : ℕ) (w : View) → HasPass v → Joins (Rule k) id v other w (joined v w) spent
+  joins id v other w has s r at ne their_at = let h = r.history in let mine = r.seats id v at in
+      let found : get_elem? s.views other ≡ some w = ⊎_elim (λ (t : (other ≡ id) × (joined v w ≡ w)). absurd (ne t.0)) (λ (t : (other ≢ id) × (get_elem? s.views other ≡ some w)). t.1) (at_set s.views id other (joined v w) w their_at) in
+      let theirs = r.seats other w found in let owner : ℕ → ℕ = λ c. cond (eqb (r.owner c) other) id (r.owner c) in let f : Hand → Hand = noted kinds.Load v.seen in
+      let moved : (c : ℕ) → r.owner c ≡ other → owner c ≡ id = λ c e. ap (λ b. cond b id (r.owner c)) (eq-eqb (r.owner c) other e) in
+      let stays : (c : ℕ) → r.owner c ≢ other → owner c ≡ r.owner c = λ c e. ap (λ b. cond b id (r.owner c)) (ne_eqb (r.owner c) other e) in
+      let apart : (a b : Hand) → In a (map f v.hands) → In b w.hands → b.number ≢ a.number = λ a b p q same. let t = in_map f a v.hands p in
+      ne (sym (theirs.owns b q) ∙ (ap r.owner (same ∙ ap (λ (z : Hand). z.number) t.2) ∙ mine.owns t.0 t.1)) in
+      let whole : SeatHolds k h s.words owner id (joined v w) = record {
+        limits = λ a p. mine.limits has.0 has.1;
+        seen = mine.seen;
+        also_seen = theirs.seen;
+        apart = apart_append (map f v.hands) w.hands (apart_map f (λ a. refl) v.hands mine.apart) theirs.apart apart;
+        owns = λ a p. ⊎_elim (λ q. let t = in_map f a v.hands q in let own : r.owner a.number ≡ id = ap (λ (z : Hand). r.owner z.number) t.2 ∙ mine.owns t.0 t.1 in stays a.number (λ e. ne (sym e ∙ own)) ∙ own)
+            (λ q. moved a.number (theirs.owns a q)) (in_either (map f v.hands) w.hands p);
+        hands = λ a p. ⊎_elim (λ q. let t = in_map f a v.hands q in subst (HandHolds k h s.words) (sym t.2) (hand_noted k h s.words kinds.Load v.seen t.0 (mine.hands t.0 t.1))) (λ q. theirs.hands a q) (in_either (map f v.hands) w.hands p);
+      } in
+      let none_left : SeatHolds k h s.words owner other spent = record {
+        limits = λ a p. absurd (in_none p);
+        seen = (h, refl);
+        also_seen = (h, refl);
+        apart = tt;
+        owns = λ a p. absurd (in_none p);
+        hands = λ a p. absurd (in_none p);
+      } in record {
+        history = h;
+        owner = owner;
+        world = r.world;
+        seats = seats_after k h s.words owner (set s.views id (joined v w)) other spent none_left (λ j u far e. ⊎_elim
+            (λ (t : (j ≡ id) × (joined v w ≡ u)). subst (λ (z : ℕ × View). SeatHolds k h s.words owner z.0 z.1) (λ i. (sym t.0 i, t.1 i)) whole)
+            (λ (t : (j ≢ id) × (get_elem? s.views j ≡ some u)). let old = r.seats j u t.1 in owned_anew h s.words r.owner owner j u (λ a p. stays a.number (λ e. far (sym (old.owns a p) ∙ e))) old)
+            (at_set s.views id j (joined v w) u e));
+      }
+
+  from_rest : (v : View) → From (rest_of v.hands) v
+  from_rest v a p = (a, in_rest v.hands a p, refl, λ h ws holds. holds)
+
+  from_front : (v : View) → From (looked v (front_of v.hands)) v
+  from_front v a p = let f : Hand → Hand = noted kinds.Load v.seen in let t = in_map f a (front_of v.hands) p in
+      (t.0, in_front v.hands t.0 t.1, ap (λ (z : Hand). z.number) t.2, λ h ws holds. subst (HandHolds k h ws) (sym t.2) (hand_noted k h ws kinds.Load v.seen t.0 holds))
+
+  apart_looked : (v : View) → IsApart v.hands → IsApart (looked v (front_of v.hands))
+  apart_looked v t = apart_map (noted kinds.Load v.seen) (λ a. refl) (front_of v.hands) (apart_front v.hands t)
+
+  cross_looked : (v : View) → IsApart v.hands → (a b : Hand) → In a (looked v (front_of v.hands)) → In b (rest_of v.hands) → b.number ≢ a.number
+  cross_looked v apart a b p q e = let t = in_map (noted kinds.Load v.seen) a (front_of v.hands) p in cross v.hands apart t.0 b t.1 q (e ∙ ap (λ (z : Hand). z.number) t.2)
+
+  -- the first hand goes to a new seat
+  pub gives_first : (id : ℕ) (v : View) → Splits (Rule k) id v (handed_on v) (handed_out v)
+  gives_first id v = splits id v (rest_of v.hands) (looked v (front_of v.hands)) (from_rest v) (from_front v) (apart_rest v.hands) (apart_looked v) (λ t a b p q e. cross_looked v t a b p q (sym e))
+
+  -- the first hand stays, and the others go to a new seat
+  pub keeps_first : (id : ℕ) (v : View) → Splits (Rule k) id v (kept v) (parted v)
+  keeps_first id v = splits id v (looked v (front_of v.hands)) (rest_of v.hands) (from_front v) (from_rest v) (apart_looked v) (apart_rest v.hands) (λ t a b p q. cross_looked v t b a q p)
+
+in_map_to : {A B : Type 0} (f : A → B) {a : A} {xs : List A} → In a xs → In (f a) (map f xs)
+in_map_to f here = here
+in_map_to f (there p) = there (in_map_to f p)
+
+pub joined_has : (v w : View) → HasPass v → HasPass (joined v w)
+joined_has v w t = (noted kinds.Load v.seen t.0, in_left w.hands (in_map_to (noted kinds.Load v.seen) t.1))

@@ -1,0 +1,11 @@
+use Rattle.std.proofs.Common.{sym, subst}
+use Rattle.tp_rule.specs.Views.{HasPass}
+use Rattle.tp_rule.proofs.Seats.{one_has}
+use Rattle.tp_rule.proofs.Sharing.{joined_has}
+use Rattle.tp_rule.proofs.words.Words.meet.Goals as goal
+
+pub join-requires-clause-pass : goal.join-requires-clause-pass
+join-requires-clause-pass c = one_has c.args.seat.now.me.0 c.requires.one.0.0
+
+pub load-requires-clause-pass : goal.load-requires-clause-pass
+load-requires-clause-pass c = subst HasPass (sym c.join.ensures.joins) (joined_has c.args.seat.now.me.0 c.args.other.me.0 (one_has c.args.seat.now.me.0 c.requires.one.0.0))

@@ -1,0 +1,5 @@
+pub mod Plays
+pub mod Rule
+pub mod Steps
+pub mod Tables
+pub mod Views

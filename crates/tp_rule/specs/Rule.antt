@@ -1,0 +1,138 @@
+-- The rule: at every moment there is one legal history behind the words.
+-- It is read from the bottom of this page up. In each record l are the table's limits, h is the history, and ws are the words.
+use Rattle.std.specs.Prelude.{◌≡◌, ℕ, ◌+◌, ◌*◌, ◌<◌, ◌≤◌, List, [], ◌∷◌, length, slice_index, Option, Some, None}
+use mathlib.Core.Option.{some}
+use lib.ListN.{get_elem?}
+use Rattle.atomic_table.specs.Table.{State}
+use Rattle.tp_model.specs.History.{Committed, In, IsBorn, IsClaim, IsUnborn, IsUnused, end_of, events_by}
+use Rattle.tp_model.specs.Steps.{IsLegal, rows_of, units_of}
+use Rattle.tp_model.specs.Words.{claim_word}
+use Rattle.tp_model.specs.declared.event.Event.{Event}
+use Rattle.tp_model.specs.declared.event.Event.TheVariants.{Abort}
+use Rattle.tp_model.specs.declared.types.Element.{Element}
+use Rattle.tp_model.specs.declared.types.Limits.{Limits}
+use Rattle.tp_rule.specs.declared.view.Hand.{Hand}
+use Rattle.tp_rule.specs.declared.view.View.{View}
+use Rattle.tp_words.specs.Places.{head_place, key_place, amount_place, claim_place, unit_place, size_of}
+use Rattle.tp_words.specs.Words.{IsFitHead, IsFitClaim, IsFitUnit, head_of, pack_claim, pack_head, pack_unit}
+use Rattle.tp_words.specs.declared.words.Head.{Head}
+use Rattle.tp_words.specs.declared.words.Head.TheVariants.{Empty, There}
+use mathlib.Core.List.{IsPrefix}
+
+-- the head, key and amount words of row x.id hold the element x
+abbrev pub Holds : List ℕ → Element → Type 0
+Holds ws x = (slice_index ws (head_place x.id) ≡ pack_head (head_of x)) × (slice_index ws (key_place x.id) ≡ x.key) × (slice_index ws (amount_place x.id) ≡ x.amount)
+
+-- these elements have the ids i, i + 1, ..
+abbrev pub AreFrom : ℕ → List Element → Type 0
+AreFrom i [] = Unit {0}
+AreFrom i (x ∷ xs) = (x.id ≡ i) × AreFrom (i + 1) xs
+
+-- the head of a row that is not born is empty, or names a unit
+abbrev pub IsDraft : Head → Type 0
+IsDraft Empty = Unit {0}
+IsDraft (There stage root by) = ¬ (by ≡ None)
+
+-- what is so of the rows of pass c
+pub record RowsHold (l : Limits) (h : List Event) (ws : List ℕ) (c first_draft drawn : ℕ) (key amount : Option ℕ) (drafts : List Element) : Type 0 where
+  -- there is one row for each draft
+  pub counted : first_draft + length drafts ≡ drawn
+  -- no more rows are drawn than the pass has
+  pub drawn_below : drawn ≤ l.rows
+  -- no row from the first draft on is born
+  pub unborn : (i : ℕ) → c * l.rows + first_draft ≤ i → i < c * l.rows + l.rows → IsUnborn h i
+  -- the head of each row that is not drawn is empty
+  pub empty : (i : ℕ) → c * l.rows + drawn ≤ i → i < c * l.rows + l.rows → slice_index ws (head_place i) ≡ 0
+  -- the key that the pass remembers stands in the next row
+  pub key_there : (x : ℕ) → key ≡ Some x → (drawn < l.rows) × (slice_index ws (key_place (c * l.rows + drawn)) ≡ x)
+  -- the amount that the pass remembers stands in the next row
+  pub amount_there : (x : ℕ) → amount ≡ Some x → (drawn < l.rows) × (slice_index ws (amount_place (c * l.rows + drawn)) ≡ x)
+  -- the drafts stand in the rows from the first draft on, one after another
+  pub run : AreFrom (c * l.rows + first_draft) drafts
+  -- the words of each draft's row hold it
+  pub written : (x : Element) → In x drafts → Holds ws x
+
+-- what is so of the units of pass c
+pub record UnitsHold (l : Limits) (h : List Event) (c claimed : ℕ) (spare_unit open_unit : Option ℕ) : Type 0 where
+  -- no more units are claimed than the pass has
+  pub used_below : claimed ≤ l.units
+  -- no unit behind those is in a claim
+  pub unused : (u : ℕ) → c * l.units + claimed ≤ u → u < c * l.units + l.units → IsUnused h u
+  -- a spare unit is the first of those behind
+  pub spare_next : (u : ℕ) → spare_unit ≡ Some u → (u ≡ c * l.units + claimed) × (claimed < l.units)
+  -- an open unit was claimed by this pass, is not committed, and was not aborted by this pass
+  pub held_own : (u : ℕ) → open_unit ≡ Some u → ((i : ℕ) × (n : ℕ) × IsClaim h c u i n) × ((f m : ℕ) → ¬ (end_of h u ≡ Some (Committed f m))) × ¬ (In (Abort c u) h)
+  -- every other unit that the pass has claimed is decided
+  pub closed : (u i n : ℕ) → IsClaim h c u i n → ¬ (open_unit ≡ Some u) → ¬ (end_of h u ≡ None)
+
+-- what is so of one pass
+pub record HandHolds (l : Limits) (h : List Event) (ws : List ℕ) (a : Hand) : Type 0 where
+  -- it is one of the table's passes
+  pub given : a.number < l.parts
+  -- its own events are all of the history's events with its number
+  pub mine : a.mine ≡ events_by a.number h
+  -- its rows are as it remembers them
+  pub rows : RowsHold l h ws a.number a.first_draft a.drawn a.next_key a.next_amount a.drafts
+  -- its units are as it remembers them
+  pub units : UnitsHold l h a.number a.claimed a.spare_unit a.open_unit
+
+-- no two of these passes have one number
+abbrev pub IsApart : List Hand → Type 0
+IsApart [] = Unit {0}
+IsApart (a ∷ hands) = ((b : Hand) → In b hands → ¬ (b.number ≡ a.number)) × IsApart hands
+
+-- what is so of seat j with the view v, where `owner` says which seat stands for a pass
+pub record SeatHolds (l : Limits) (h : List Event) (ws : List ℕ) (owner : ℕ → ℕ) (j : ℕ) (v : View) : Type 0 where
+  -- a seat that stands for a pass knows the limits
+  pub limits : (a : Hand) → In a v.hands → v.limits ≡ l
+  -- what it has seen begins the history
+  pub seen : IsPrefix v.seen h
+  -- so does what the seat that was joined to it had seen
+  pub also_seen : IsPrefix v.also_seen h
+  -- it stands for no pass twice
+  pub apart : IsApart v.hands
+  -- it is the one seat that stands for its passes
+  pub owns : (a : Hand) → In a v.hands → owner a.number ≡ j
+  -- each of its passes is as the seat knows it
+  pub hands : (a : Hand) → In a v.hands → HandHolds l h ws a
+
+-- what is so of row i
+pub record RowHolds (h : List Event) (ws : List ℕ) (i : ℕ) : Type 0 where
+  -- what its head word tells
+  pub head : Head
+  -- the head word is the packing of that
+  pub packed : slice_index ws (head_place i) ≡ pack_head head
+  -- which is a value that a head word can tell
+  pub fit : IsFitHead head
+  -- where an element is born, the row's words hold it
+  pub full : (x : Element) → IsBorn h x → x.id ≡ i → Holds ws x
+  -- where none is born, the head is empty or names a unit
+  pub draft : IsUnborn h i → IsDraft head
+  -- the claim word is the packing of what the history says of the element's claims and kill
+  pub claim : slice_index ws (claim_place i) ≡ pack_claim (claim_word h i)
+  -- which is a value that a claim word can tell
+  pub claim_fit : IsFitClaim (claim_word h i)
+
+-- what is so of the words after the history h
+pub record World (l : Limits) (h : List Event) (ws : List ℕ) : Type 0 where
+  -- each event of the history may come after those before it
+  pub legal : IsLegal l h
+  -- there are as many words as the limits say
+  pub wide : length ws ≡ size_of l
+  -- the words of each row tell what the history says of it
+  pub rows : (i : ℕ) → i < rows_of l → RowHolds h ws i
+  -- the word of each unit is the packing of how the unit ended, which is a value that a unit's word can tell
+  pub units : (u : ℕ) → u < units_of l → (slice_index ws (unit_place l u) ≡ pack_unit (end_of h u)) × IsFitUnit (end_of h u)
+  -- each born element has a head that a word can tell
+  pub fits : (x : Element) → IsBorn h x → IsFitHead (head_of x)
+
+-- the rule
+pub record Rule (l : Limits) (s : State (Unit {0}) View) : Type 0 where
+  -- the one history behind the words
+  pub history : List Event
+  -- which seat stands for each pass
+  pub owner : ℕ → ℕ
+  -- the words tell what the history says
+  pub world : World l history s.words
+  -- each seat has seen a beginning of the history, and its passes are as it knows them
+  pub seats : (j : ℕ) (v : View) → get_elem? s.views j ≡ some v → SeatHolds l history s.words owner j v

@@ -1,0 +1,271 @@
+-- What each kind of step makes of a seat's view, and what it tells. In each definition v is the view before the step, and w the view after it.
+-- A view changes in two ways alone: `after` a step, and by a split or a join of seats.
+use Rattle.std.specs.Prelude.{◌≡◌, ◌≢◌, ℕ, ◌+◌, ◌-◌, ◌<◌, ◌≤◌, List, [], ◌∷◌, ◌++◌, map, Option, Some, None, IsSome}
+use mathlib.Core.List.{IsPrefix}
+use Rattle.tp_model.specs.declared.types.Element.{Element}
+use Rattle.tp_model.specs.declared.types.Limits.{Limits}
+use Rattle.tp_model.specs.declared.types.Status.TheVariants.{Waiting}
+use Rattle.tp_model.specs.declared.event.Event.{Event}
+use Rattle.tp_model.specs.declared.event.Event.TheVariants.{Enqueue, Claim, Commit, Abort, Kill}
+use Rattle.tp_model.specs.declared.trace.StepKind.{StepKind}
+use Rattle.tp_model.specs.declared.trace.StepKind.TheVariants as kinds
+use Rattle.tp_model.specs.History.{Aborted, In, IsBorn, IsUnborn, UnitClaim, UnitEnd, claim_of, element_of, end_of, events_by}
+use Rattle.tp_model.specs.Words.{ClaimWord, claim_word, word_status}
+use Rattle.tp_model.specs.Steps.{rows_of, units_of, IsStage, IsServerStage, IsKillable, IsLegal}
+use Rattle.tp_words.specs.declared.words.Head.{Head}
+use Rattle.tp_words.specs.Words.{IsFitHead, IsFitClaim, IsFitUnit, head_of, pack_claim, pack_head, pack_unit}
+use Rattle.tp_words.specs.Places.{head_place, key_place, amount_place, claim_place, unit_place}
+use Rattle.tp_rule.specs.Rule.{IsDraft}
+use Rattle.tp_rule.specs.Views.{IsOnePass, hand, next_row}
+use Rattle.tp_rule.specs.declared.view.Hand.{Hand}
+use Rattle.tp_rule.specs.declared.view.View.{View}
+
+-- the pass with one more entry in its trace
+abbrev pub noted : StepKind → List Event → Hand → Hand
+noted kind seen a = record a { trace = a.trace ++ record { kind = kind; seen = seen } ∷ [] }
+
+-- the view after a step that makes f of each pass of the seat, and after which the seat has seen `seen`
+abbrev pub after : StepKind → (Hand → Hand) → List Event → View → View
+after kind f seen v = record { limits = v.limits; seen = seen; also_seen = []; hands = map (λ a. noted kind seen (f a)) v.hands }
+
+-- a step that looks at the table: the seat has then seen the history so far, which ends with the step's own events
+pub record Grew (kind : StepKind) (f : Hand → Hand) (events : List Event) (v w : View) : Type 0 where
+  -- what happened since the seat looked last, before its own events
+  pub between : List Event
+  -- what is seen is what was seen, and that, and the own events
+  pub seen : w.seen ≡ (v.seen ++ between) ++ events
+  -- it begins with what a seat that was joined had seen
+  pub also_seen : IsPrefix v.also_seen w.seen
+  -- it is legal
+  pub legal : IsLegal v.limits w.seen
+  -- the step has one entry in the trace of each pass of the seat, and changes nothing else but by f
+  pub view : w ≡ after kind f w.seen v
+  -- a pass's own events are all with its number
+  pub mine : (a : Hand) → In a w.hands → a.mine ≡ events_by a.number w.seen
+
+-- a step that changes nothing in the pass but its trace
+abbrev pub unchanged : Hand → Hand
+unchanged a = a
+
+-- what the number r tells, which was found at the place `word` after h
+pub record Found (l : Limits) (h : List Event) (word r : ℕ) : Type 0 where
+  -- at a head: a head, which is empty or names a unit where no element is born
+  pub head : (i : ℕ) → i < rows_of l → word ≡ head_place i → (x : Head) × (r ≡ pack_head x) × IsFitHead x × (IsUnborn h i → IsDraft x)
+  -- and that of the element where one is
+  pub head_born : (e : Element) → IsBorn h e → word ≡ head_place e.id → (r ≡ pack_head (head_of e)) × IsFitHead (head_of e)
+  -- the key and the amount of a born element
+  pub key : (e : Element) → IsBorn h e → word ≡ key_place e.id → r ≡ e.key
+  pub amount : (e : Element) → IsBorn h e → word ≡ amount_place e.id → r ≡ e.amount
+  -- at a claim: what the history says of the element's claims and kill
+  pub claim : (i : ℕ) → i < rows_of l → word ≡ claim_place i → (r ≡ pack_claim (claim_word h i)) × IsFitClaim (claim_word h i)
+  -- at a unit's word: how it ended
+  pub unit : (u : ℕ) → u < units_of l → word ≡ unit_place l u → (r ≡ pack_unit (end_of h u)) × IsFitUnit (end_of h u)
+
+-- a load, which found r at the place `word`
+abbrev pub Loads : View → ℕ → ℕ → View → Type 0
+Loads v word r w = Grew kinds.Load unchanged [] v w × Found v.limits w.seen word r
+
+-- draft stores, which see nothing
+
+-- the view after a draft store
+abbrev pub drafted : (Hand → Hand) → View → View
+drafted f v = after kinds.DraftStore f v.seen v
+
+-- the key of the next row is stored
+abbrev pub with_key : ℕ → Hand → Hand
+with_key x a = record a { next_key = Some x }
+
+-- the amount of the next row is stored
+abbrev pub with_amount : ℕ → Hand → Hand
+with_amount x a = record a { next_amount = Some x }
+
+abbrev pub or_zero : Option ℕ → ℕ
+or_zero None = 0
+or_zero (Some x) = x
+
+-- the element that the next row holds once its head is stored
+abbrev pub next_element : View → ℕ → ℕ → Option ℕ → Element
+next_element v stage root by = record { id = next_row v; stage = stage; root = root; key = or_zero (hand v).next_key; amount = or_zero (hand v).next_amount; by = by }
+
+-- the next row has become a draft of the open unit
+abbrev pub with_draft : Element → Hand → Hand
+with_draft x a = record a { drawn = a.drawn + 1; next_key = None; next_amount = None; drafts = a.drafts ++ x ∷ [] }
+
+-- the key and the amount of the next row are stored
+abbrev pub IsReady : View → Type 0
+IsReady v = IsOnePass v × IsSome (hand v).next_key × IsSome (hand v).next_amount
+
+-- the store of the head of a draft of unit u
+abbrev pub Drafts : View → ℕ → ℕ → ℕ → View → Type 0
+Drafts v stage root u w = w ≡ drafted (with_draft (next_element v stage root (Some u))) v
+
+-- publish
+
+-- the event of a publish: the next row is a client's element, and its own root
+abbrev pub birth : View → ℕ → Event
+birth v stage = Enqueue (hand v).number (next_element v stage (next_row v) None)
+
+-- the next row is born
+abbrev pub with_birth : Event → Hand → Hand
+with_birth e a = record a { mine = a.mine ++ e ∷ []; first_draft = a.drawn + 1; drawn = a.drawn + 1; next_key = None; next_amount = None; drafts = [] }
+
+abbrev pub Publishes : View → ℕ → View → Type 0
+Publishes v stage w = Grew kinds.Publish (with_birth (birth v stage)) (birth v stage ∷ []) v w
+
+-- unit choice
+
+abbrev pub with_spare : ℕ → Hand → Hand
+with_spare u a = record a { spare_unit = Some u }
+
+abbrev pub Chooses : View → ℕ → View → Type 0
+Chooses v u w = Grew kinds.UnitChoice (with_spare u) [] v w
+
+-- exchanges
+
+-- where the claim word w was found, the n-th attempt may begin: the element waits
+abbrev pub AllowsClaim : Limits → List Event → ClaimWord → ℕ → Type 0
+AllowsClaim l h w n = (1 ≤ n) × (word_status l.attempts h w ≡ Waiting (n - 1))
+
+-- where the claim word w was found, the element may be killed: it waits or is parked
+abbrev pub AllowsKill : Limits → List Event → ClaimWord → Type 0
+AllowsKill l h w = IsKillable (word_status l.attempts h w)
+
+-- row i has an element
+abbrev pub HasElement : List Event → ℕ → Type 0
+HasElement h i = (x : Element) × (element_of h i ≡ Some x)
+
+-- row i has an element of a stage that servers take from
+abbrev pub HasWork : List Event → ℕ → Type 0
+HasWork h i = (x : Element) × (element_of h i ≡ Some x) × IsServerStage x.stage
+
+-- y may be an output of unit u for a request with this root
+abbrev pub IsOut : ℕ → ℕ → Element → Type 0
+IsOut u root y = IsStage y.stage × (y.by ≡ Some u) × (y.root ≡ root)
+
+-- the pass claimed unit u, and its drafts may be the unit's outputs
+pub record IsOwnWork (v : View) (u : ℕ) : Type 0 where
+  -- the claim of the unit
+  pub taking : UnitClaim
+  pub claimed : claim_of v.seen u ≡ Some taking
+  -- the pass made it
+  pub own : taking.pass ≡ (hand v).number
+  -- the element that it took
+  pub item : Element
+  pub taken : element_of v.seen taking.item ≡ Some item
+  -- each draft names the unit and has the root of that element
+  pub outputs : (y : Element) → In y (hand v).drafts → IsOut u item.root y
+
+-- unit u was claimed
+abbrev pub IsClaimed : List Event → ℕ → Type 0
+IsClaimed h u = (t : UnitClaim) × (claim_of h u ≡ Some t)
+
+-- unit u was committed or aborted
+abbrev pub HasEnded : List Event → ℕ → Type 0
+HasEnded h u = (x : UnitEnd) × (end_of h u ≡ Some x)
+
+-- an exchange that failed and changed nothing; the number r was found
+abbrev pub Misses : StepKind → View → ℕ → ℕ → View → Type 0
+Misses kind v word r w = Grew kind unchanged [] v w × Found v.limits w.seen word r
+
+-- the pass has one more event
+abbrev pub with_event : Event → Hand → Hand
+with_event e a = record a { mine = a.mine ++ e ∷ [] }
+
+-- the event of a claim exchange
+abbrev pub claimed : View → ℕ → ℕ → ℕ → Event
+claimed v u i n = Claim (hand v).number u i n
+
+-- the spare unit is claimed, and open
+abbrev pub with_claim : ℕ → Event → Hand → Hand
+with_claim u e a = record a { mine = a.mine ++ e ∷ []; claimed = a.claimed + 1; spare_unit = None; open_unit = Some u }
+
+abbrev pub MakesClaim : View → ℕ → ℕ → ℕ → View → Type 0
+MakesClaim v u i n w = Grew kinds.ClaimExchange (with_claim u (claimed v u i n)) (claimed v u i n ∷ []) v w
+
+-- a claim or kill exchange that failed: the claim word is not the one that was found before
+abbrev pub FindsOther : StepKind → View → ℕ → ClaimWord → View → Type 0
+FindsOther kind v i found w = Grew kind unchanged [] v w × (claim_word w.seen i ≢ found)
+
+-- the event of a commit exchange: the drafts are born
+abbrev pub committed : View → ℕ → Event
+committed v u = Commit (hand v).number u (hand v).drafts
+
+-- the open unit has ended by the pass's own event; its drafts are drafts no more
+abbrev pub with_end : Event → Hand → Hand
+with_end e a = record a { mine = a.mine ++ e ∷ []; first_draft = a.drawn; drafts = []; open_unit = None }
+
+-- the open unit was aborted by another; its drafts are given up
+abbrev pub with_lost : Hand → Hand
+with_lost a = record a { first_draft = a.drawn; drafts = []; open_unit = None }
+
+abbrev pub MakesCommit : View → ℕ → View → Type 0
+MakesCommit v u w = Grew kinds.CommitExchange (with_end (committed v u)) (committed v u ∷ []) v w
+
+-- an exchange on the open unit that failed: another pass had aborted it
+abbrev pub Loses : StepKind → View → ℕ → View → Type 0
+Loses kind v u w = Grew kind with_lost [] v w × (end_of w.seen u ≡ Some Aborted) × ¬ (In (Abort (hand v).number u) w.seen)
+
+abbrev pub MakesAbort : View → ℕ → View → Type 0
+MakesAbort v u w = Grew kinds.AbortExchange (with_end (Abort (hand v).number u)) (Abort (hand v).number u ∷ []) v w
+
+-- an abort exchange on another's unit that failed: the unit had ended
+abbrev pub FindsEnded : View → ℕ → View → Type 0
+FindsEnded v u w = Grew kinds.AbortExchange unchanged [] v w × HasEnded w.seen u
+
+abbrev pub MakesKill : View → ℕ → View → Type 0
+MakesKill v i w = Grew kinds.KillExchange (with_event (Kill (hand v).number i)) (Kill (hand v).number i ∷ []) v w
+
+-- splits and joins of seats, each a load
+
+abbrev pub rest_of : List Hand → List Hand
+rest_of [] = []
+rest_of (a ∷ hands) = hands
+
+abbrev pub front_of : List Hand → List Hand
+front_of [] = []
+front_of (a ∷ hands) = a ∷ []
+
+-- the view of a seat that stands for these passes
+abbrev pub with_hands : List Hand → View → View
+with_hands hands v = record { limits = v.limits; seen = v.seen; also_seen = v.also_seen; hands = hands }
+
+-- these passes with one more load in their traces
+abbrev pub looked : View → List Hand → List Hand
+looked v hands = map (noted kinds.Load v.seen) hands
+
+-- the new seat after the first pass is handed out; the load is the first entry of its trace
+abbrev pub handed_out : View → View
+handed_out v = with_hands (looked v (front_of v.hands)) v
+
+-- the seat that it was handed out from
+abbrev pub handed_on : View → View
+handed_on v = with_hands (rest_of v.hands) v
+
+-- the seat that keeps its first pass alone, which made the load
+abbrev pub kept : View → View
+kept v = with_hands (looked v (front_of v.hands)) v
+
+-- the new seat for the others
+abbrev pub parted : View → View
+parted v = with_hands (rest_of v.hands) v
+
+-- the seat v after the seat w was joined to it; v's passes made the load
+abbrev pub joined : View → View → View
+joined v w = record { limits = v.limits; seen = v.seen; also_seen = w.seen; hands = looked v v.hands ++ w.hands }
+
+-- the view of a seat that was joined to another: it stands for no pass
+abbrev pub spent : View
+spent = record { limits = record { parts = 0; rows = 0; units = 0; attempts = 0 }; seen = []; also_seen = []; hands = [] }
+
+-- two seats that met, where each was v and w before: both have seen the same legal history, which begins with what either had seen
+pub record Meets (v w v' w' : View) : Type 0 where
+  pub same : v'.seen ≡ w'.seen
+  pub legal : IsLegal v.limits v'.seen
+  pub first_saw : IsPrefix v.seen v'.seen
+  pub second_saw : IsPrefix w.seen v'.seen
+  -- the first made the three loads, and the second was there at the one between; nothing else changed
+  pub first_one : IsOnePass v'
+  pub first_is : hand v' ≡ noted kinds.Load v'.seen (noted kinds.Load v'.seen (noted kinds.Load v.seen (hand v)))
+  pub second_one : IsOnePass w'
+  pub second_is : hand w' ≡ noted kinds.Load v'.seen (hand w)
+  pub limits : (v'.limits ≡ v.limits) × (w'.limits ≡ v.limits)

@@ -1,0 +1,17 @@
+-- The shared words as a whole.
+use Rattle.std.specs.Prelude.{◌≡◌}
+use Rattle.tp_model.specs.declared.types.Limits.{Limits}
+use Rattle.tp_rule.specs.Views.{Seated, IsOnePass, view_of}
+use Rattle.tp_rule.specs.declared.words.Words.{Words}
+
+-- what the words have room for
+abbrev pub limits_of : Words → Limits
+limits_of words = words.places.limits
+
+-- the seat is one of this table's
+abbrev pub IsSeatOf : Words → Seated → Type 0
+IsSeatOf words seat = seat.table_id ≡ words.table.shared.table_id
+
+-- the seat stands for one pass, and knows the limits of the words
+abbrev pub IsPassOf : Words → Seated → Type 0
+IsPassOf words seat = IsOnePass (view_of seat) × ((view_of seat).limits ≡ limits_of words)

@@ -1,0 +1,70 @@
+-- What a seat is, and what its view says.
+use Rattle.std.specs.Prelude.{◌≡◌, ℕ, zero, suc, ◌+◌, ◌*◌, ◌<◌, List, [], ◌∷◌, None}
+use Rattle.atomic_table.specs.declared.shared.Seat.{Seat}
+use Rattle.tp_model.specs.History.{In}
+use Rattle.tp_model.specs.Steps.{rows_of, units_of}
+use Rattle.tp_model.specs.declared.event.Event.{Event}
+use Rattle.tp_model.specs.declared.types.Limits.{Limits}
+use Rattle.tp_rule.specs.declared.view.Hand.{Hand}
+use Rattle.tp_rule.specs.declared.view.View.{View}
+
+-- a seat at a table that has words and no slots
+abbrev pub Seated : Type 0
+Seated = Seat (Unit {0}) View
+
+-- what the seat knows
+abbrev pub view_of : Seated → View
+view_of seat = seat.me.0
+
+-- it is the same seat, at the same table, and holds the slots that it held: none, since the table has none
+abbrev pub IsSameSeat : Seated → Seated → Type 0
+IsSameSeat old new = (new.table_id ≡ old.table_id) × (new.id ≡ old.id) × (new.me.1 ≡ old.me.1)
+
+-- the pass c, which has done nothing
+abbrev pub fresh : ℕ → Hand
+fresh c = record { number = c; mine = []; trace = []; first_draft = 0; drawn = 0; next_key = None; next_amount = None; drafts = []; claimed = 0; spare_unit = None; open_unit = None }
+
+-- so many passes from c on, which have done nothing
+abbrev pub fresh_from : ℕ → ℕ → List Hand
+fresh_from c zero = []
+fresh_from c (suc n) = fresh c ∷ fresh_from (c + 1) n
+
+-- the keeper's view at the start: it stands for all passes
+abbrev pub first_view : Limits → View
+first_view l = record { limits = l; seen = []; also_seen = []; hands = fresh_from 0 l.parts }
+
+abbrev pub first_hand : List Hand → Hand
+first_hand [] = fresh 0
+first_hand (a ∷ hands) = a
+
+-- the first pass of a view, and the only one where the seat stands for one
+abbrev pub hand : View → Hand
+hand v = first_hand v.hands
+
+-- what a seat that stands for one pass knows as that pass
+abbrev pub hand_of : Seated → Hand
+hand_of seat = hand (view_of seat)
+
+-- the history as the seat saw it last
+abbrev pub seen_by : Seated → List Event
+seen_by seat = (view_of seat).seen
+
+-- the seat stands for one pass
+abbrev pub IsOnePass : View → Type 0
+IsOnePass v = v.hands ≡ hand v ∷ []
+
+-- the seat stands for a pass
+abbrev pub HasPass : View → Type 0
+HasPass v = (a : Hand) × In a v.hands
+
+-- the row that the pass draws next
+abbrev pub next_row : View → ℕ
+next_row v = (hand v).number * v.limits.rows + (hand v).drawn
+
+-- row i is the one that the pass draws next, and there is one
+abbrev pub IsNextRow : Limits → View → ℕ → Type 0
+IsNextRow l v i = (i ≡ (hand v).number * l.rows + (hand v).drawn) × ((hand v).drawn < l.rows) × (i < rows_of l)
+
+-- unit u is the one that the pass claims with next, and there is one
+abbrev pub IsNextUnit : Limits → View → ℕ → Type 0
+IsNextUnit l v u = (u ≡ (hand v).number * l.units + (hand v).claimed) × ((hand v).claimed < l.units) × (u < units_of l)

@@ -1,0 +1,112 @@
+//! Loads. Each shows the seat the history so far.
+ghost use Rattle.std.specs.Prelude.{◌≡◌, ◌<◌, [], Some};
+ghost use Rattle.tp_model.specs.declared.types.Element.{Element};
+ghost use Rattle.tp_model.specs.declared.trace.StepKind.TheVariants as kinds;
+ghost use Rattle.tp_model.specs.History.{IsUnborn, element_of, end_of};
+ghost use Rattle.tp_model.specs.Words.{claim_word};
+ghost use Rattle.tp_model.specs.Steps.{rows_of, units_of};
+ghost use Rattle.tp_words.specs.Words.{claim_value, unit_value, head_of, IsFitClaim};
+ghost use Rattle.tp_words.specs.Places.{size_of};
+ghost use Rattle.tp_rule.specs.Rule.{IsDraft};
+ghost use Rattle.tp_rule.specs.Views.{seen_by, view_of, HasPass, IsSameSeat};
+ghost use Rattle.tp_rule.specs.Steps.{Loads, Grew, unchanged};
+
+use crate::plays::Load;
+use crate::rule::Seat;
+use crate::words::Words;
+use tp_words::{Claim, Head, UnitWord};
+
+impl Words {
+    ghost use Rattle.tp_rule.specs.Tables.{limits_of, IsSeatOf, IsPassOf};
+
+    /// Reads the word at a place. The seat may stand for several passes: each has one more entry in its trace.
+    pub fn load(&self, seat: &mut Seat, word: usize) -> u64
+        requires own { IsSeatOf self.now seat.old }
+        requires inside { word < size_of (limits_of self.now) }
+        requires pass { HasPass (view_of seat.old) }
+        ensures same { IsSameSeat seat.old seat.new }
+        ensures looks { Loads (view_of seat.old) word result (view_of seat.new) }
+    {
+        self.table.shared.load::<Load>(seat, word)
+    }
+
+    /// Reads the head of a row. Where an element is born in what is then seen, it is that element's head. Where none
+    /// is, it is empty or names a unit: a draft is no element before its unit commits.
+    pub fn load_head(&self, seat: &mut Seat, row: u32) -> Head
+        requires own { IsSeatOf self.now seat.old }
+        requires one { IsPassOf self.now seat.old }
+        requires row { row < rows_of (limits_of self.now) }
+        ensures same { IsSameSeat seat.old seat.new }
+        ensures grew { Grew kinds.Load unchanged [] (view_of seat.old) (view_of seat.new) }
+        ensures born { (e : Element) → element_of (seen_by seat.new) row ≡ Some e → result ≡ head_of e }
+        ensures draft { IsUnborn (seen_by seat.new) row → IsDraft result }
+    {
+        let word = self.places.head(row);
+        let found = self.load(seat, word);
+        match Head::unpack(found) {
+            Some(head) => head,
+            None => unreachable!(),
+        }
+    }
+
+    /// Reads the key of a row: that of its element, where one is born.
+    pub fn load_key(&self, seat: &mut Seat, row: u32) -> u64
+        requires own { IsSeatOf self.now seat.old }
+        requires one { IsPassOf self.now seat.old }
+        requires row { row < rows_of (limits_of self.now) }
+        ensures same { IsSameSeat seat.old seat.new }
+        ensures grew { Grew kinds.Load unchanged [] (view_of seat.old) (view_of seat.new) }
+        ensures born { (e : Element) → element_of (seen_by seat.new) row ≡ Some e → result ≡ e.key }
+    {
+        let word = self.places.key(row);
+        self.load(seat, word)
+    }
+
+    /// Reads the amount of a row: that of its element, where one is born.
+    pub fn load_amount(&self, seat: &mut Seat, row: u32) -> u64
+        requires own { IsSeatOf self.now seat.old }
+        requires one { IsPassOf self.now seat.old }
+        requires row { row < rows_of (limits_of self.now) }
+        ensures same { IsSameSeat seat.old seat.new }
+        ensures grew { Grew kinds.Load unchanged [] (view_of seat.old) (view_of seat.new) }
+        ensures born { (e : Element) → element_of (seen_by seat.new) row ≡ Some e → result ≡ e.amount }
+    {
+        let word = self.places.amount(row);
+        self.load(seat, word)
+    }
+
+    /// Reads the claim of a row: which unit took its element last, for which time, and whether it was killed.
+    pub fn load_claim(&self, seat: &mut Seat, row: u32) -> Claim
+        requires own { IsSeatOf self.now seat.old }
+        requires one { IsPassOf self.now seat.old }
+        requires row { row < rows_of (limits_of self.now) }
+        ensures same { IsSameSeat seat.old seat.new }
+        ensures grew { Grew kinds.Load unchanged [] (view_of seat.old) (view_of seat.new) }
+        ensures claim { claim_value result ≡ claim_word (seen_by seat.new) row }
+        ensures fits { IsFitClaim (claim_value result) }
+    {
+        let word = self.places.claim(row);
+        let found = self.load(seat, word);
+        match Claim::unpack(found) {
+            Some(claim) => claim,
+            None => unreachable!(),
+        }
+    }
+
+    /// Reads the word of a unit: how it ended, or that it is undecided.
+    pub fn load_unit(&self, seat: &mut Seat, unit: u16) -> UnitWord
+        requires own { IsSeatOf self.now seat.old }
+        requires one { IsPassOf self.now seat.old }
+        requires unit { unit < units_of (limits_of self.now) }
+        ensures same { IsSameSeat seat.old seat.new }
+        ensures grew { Grew kinds.Load unchanged [] (view_of seat.old) (view_of seat.new) }
+        ensures end { unit_value result ≡ end_of (seen_by seat.new) unit }
+    {
+        let word = self.places.unit(unit);
+        let found = self.load(seat, word);
+        match UnitWord::unpack(found) {
+            Some(word) => word,
+            None => unreachable!(),
+        }
+    }
+}

@@ -1,0 +1,19 @@
+//! The rule of the table, and the seats at it.
+ghost use Rattle.tp_rule.specs.Rule.{Rule};
+ghost use Rattle.tp_rule.specs.Views.{first_view};
+
+use crate::view::View;
+use atomic_table::TableRule;
+use tp_model::types::Limits;
+
+/// The rule: there is one legal history behind the words.
+pub(crate) struct OneHistory;
+
+impl TableRule<(), View, Limits> for OneHistory {
+    ghost holds = { Rule };
+
+    ghost first = { first_view };
+}
+
+/// What a thread acts with: it stands for one or more passes, and knows what its view says. It has no bytes.
+pub type Seat = atomic_table::Seat<(), View>;

@@ -1,0 +1,83 @@
+//! Stores to a pass's own rows: draft stores, which nobody sees, and publish.
+ghost use Rattle.std.specs.Prelude.{◌≡◌, ◌<◌, [], Some};
+ghost use Rattle.tp_model.specs.Steps.{IsServerStage, IsStage};
+ghost use Rattle.tp_rule.specs.Views.{hand_of, view_of, IsNextRow, IsOnePass, IsSameSeat};
+ghost use Rattle.tp_rule.specs.Steps.{drafted, with_key, with_amount, Drafts, Publishes, IsReady};
+
+use crate::plays::{DraftAmount, DraftHead, DraftKey, Publish};
+use crate::rule::Seat;
+use crate::words::Words;
+use tp_words::Head;
+
+impl Words {
+    ghost use Rattle.tp_rule.specs.Tables.{limits_of, IsPassOf, IsSeatOf};
+
+    /// Stores the key of the row that the pass draws next. The row is not born, so the history does not change, and
+    /// the seat sees nothing new.
+    pub fn store_draft_key(&self, seat: &mut Seat, row: u32, key: u64)
+        requires own { IsSeatOf self.now seat.old }
+        requires one { IsOnePass (view_of seat.old) }
+        requires next { IsNextRow (limits_of self.now) (view_of seat.old) row }
+        ensures same { IsSameSeat seat.old seat.new }
+        ensures view { view_of seat.new ≡ drafted (with_key key) (view_of seat.old) }
+    {
+        let word = self.places.key(row);
+        self.table.shared.store::<DraftKey>(seat, word, key);
+    }
+
+    /// Stores the amount of the row that the pass draws next, likewise.
+    pub fn store_draft_amount(&self, seat: &mut Seat, row: u32, amount: u64)
+        requires own { IsSeatOf self.now seat.old }
+        requires one { IsOnePass (view_of seat.old) }
+        requires next { IsNextRow (limits_of self.now) (view_of seat.old) row }
+        ensures same { IsSameSeat seat.old seat.new }
+        ensures view { view_of seat.new ≡ drafted (with_amount amount) (view_of seat.old) }
+    {
+        let word = self.places.amount(row);
+        self.table.shared.store::<DraftAmount>(seat, word, amount);
+    }
+
+    /// Stores the head of the row that the pass draws next, whose key and amount are stored. It names the pass's open
+    /// unit, so the row is a draft from now on: an output that is born when the unit commits, and never if it does
+    /// not.
+    pub fn store_draft_head(&self, seat: &mut Seat, row: u32, stage: u8, root: u16, unit: u16)
+        requires own { IsSeatOf self.now seat.old }
+        requires ready { IsReady (view_of seat.old) }
+        requires next { IsNextRow (limits_of self.now) (view_of seat.old) row }
+        requires fits { IsStage stage × (unit < 65535) }
+        requires open_unit { (hand_of seat.old).open_unit ≡ Some unit }
+        ensures same { IsSameSeat seat.old seat.new }
+        ensures view { Drafts (view_of seat.old) stage root unit (view_of seat.new) }
+    {
+        let word = self.places.head(row);
+        let head = Head::There {
+            stage,
+            root,
+            by: Some(unit),
+        }
+        .pack();
+        self.table.shared.store::<DraftHead>(seat, word, head);
+    }
+
+    /// Stores the head of the row that the pass draws next, whose key and amount are stored. It names no unit, so the
+    /// store is the birth of a client's element, and the history has its event: it is its own root.
+    pub fn publish(&self, seat: &mut Seat, row: u32, stage: u8)
+        requires own { IsSeatOf self.now seat.old }
+        requires one { IsPassOf self.now seat.old }
+        requires ready { IsReady (view_of seat.old) }
+        requires no_drafts { (hand_of seat.old).drafts ≡ [] }
+        requires next { IsNextRow (limits_of self.now) (view_of seat.old) row }
+        requires fits { IsServerStage stage }
+        ensures same { IsSameSeat seat.old seat.new }
+        ensures grew { Publishes (view_of seat.old) stage (view_of seat.new) }
+    {
+        let word = self.places.head(row);
+        let head = Head::There {
+            stage,
+            root: row as u16,
+            by: None,
+        }
+        .pack();
+        self.table.shared.store::<Publish>(seat, word, head);
+    }
+}

@@ -1,0 +1,48 @@
+//! What a seat knows, for contracts alone: no value of these types is made when the program runs.
+
+use std::collections::LinkedList;
+use tp_model::event::Event;
+use tp_model::trace::TraceEntry;
+use tp_model::types::{Element, Limits};
+
+/// What a seat knows as one of the passes that it stands for.
+///
+/// The rows of a pass are numbered from 0 here, and so are its units: row `r` of pass `number` is the row
+/// `number * limits.rows + r` of the table, and unit `u` of it the unit `number * limits.units + u`.
+pub struct Hand {
+    /// The number of the pass, below `limits.parts`.
+    pub number: u16,
+    /// The events that the pass made, oldest first.
+    pub mine: LinkedList<Event>,
+    /// The atomic steps that the pass made, oldest first. Every step adds one entry, and nothing else adds any.
+    pub trace: LinkedList<TraceEntry>,
+    /// The own rows below this are born, or given up with a unit that was lost.
+    pub first_draft: u16,
+    /// The own rows below this, at most `limits.rows`, are used: those from `first_draft` on hold the drafts, and the
+    /// heads of all behind are empty.
+    pub drawn: u16,
+    /// The key that was stored in the next row, the one at `drawn`.
+    pub next_key: Option<u64>,
+    /// The amount that was stored in the next row.
+    pub next_amount: Option<u64>,
+    /// The outputs that are written for the open unit, and are born when it commits.
+    pub drafts: LinkedList<Element>,
+    /// The own units below this, at most `limits.units`, were claimed.
+    pub claimed: u16,
+    /// The unit that was chosen for the next claim.
+    pub spare_unit: Option<u16>,
+    /// The unit that the pass has claimed, and neither committed nor aborted itself. Another may have aborted it.
+    pub open_unit: Option<u16>,
+}
+
+/// What a seat knows.
+pub struct View {
+    /// The limits of the table.
+    pub limits: Limits,
+    /// The history as the seat saw it last.
+    pub seen: LinkedList<Event>,
+    /// What a seat that was joined to this one had seen, until the next load.
+    pub also_seen: LinkedList<Event>,
+    /// The passes that the seat stands for. The keeper's seat stands for all that were not handed out.
+    pub hands: LinkedList<Hand>,
+}

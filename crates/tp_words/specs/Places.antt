@@ -1,0 +1,60 @@
+-- Where the words stand in the table.
+use Rattle.std.specs.Prelude.{◌≡◌, ℕ, ◌+◌, ◌*◌, ◌<◌}
+use Rattle.tp_model.specs.declared.types.Limits.{Limits}
+use Rattle.tp_model.specs.Steps.{rows_of, units_of}
+
+-- the place of the head of row i
+abbrev pub head_place : ℕ → ℕ
+head_place i = 4 * i
+
+-- the place of the key of row i
+abbrev pub key_place : ℕ → ℕ
+key_place i = 4 * i + 1
+
+-- the place of the amount of row i
+abbrev pub amount_place : ℕ → ℕ
+amount_place i = 4 * i + 2
+
+-- the place of the claim of row i
+abbrev pub claim_place : ℕ → ℕ
+claim_place i = 4 * i + 3
+
+-- the place of the word of unit u, behind those of all rows
+abbrev pub unit_place : Limits → ℕ → ℕ
+unit_place l u = 4 * rows_of l + u
+
+-- how many words there are
+abbrev pub size_of : Limits → ℕ
+size_of l = 4 * rows_of l + units_of l
+
+-- a word of the table
+pub data Word : Type 0 where
+  HeadWord : ℕ → Word
+  KeyWord : ℕ → Word
+  AmountWord : ℕ → Word
+  ClaimWord : ℕ → Word
+  UnitWord : ℕ → Word
+
+-- it is there: its row or its unit is
+abbrev pub IsThere : Limits → Word → Type 0
+IsThere l (HeadWord i) = i < rows_of l
+IsThere l (KeyWord i) = i < rows_of l
+IsThere l (AmountWord i) = i < rows_of l
+IsThere l (ClaimWord i) = i < rows_of l
+IsThere l (UnitWord u) = u < units_of l
+
+-- its place
+abbrev pub place_of : Limits → Word → ℕ
+place_of l (HeadWord i) = head_place i
+place_of l (KeyWord i) = key_place i
+place_of l (AmountWord i) = amount_place i
+place_of l (ClaimWord i) = claim_place i
+place_of l (UnitWord u) = unit_place l u
+
+-- places of different words differ
+abbrev pub PlacesDiffer : Type 0
+PlacesDiffer = (l : Limits) (v w : Word) → IsThere l v → IsThere l w → place_of l v ≡ place_of l w → v ≡ w
+
+-- each word lies in the table
+abbrev pub PlacesInside : Type 0
+PlacesInside = (l : Limits) (w : Word) → IsThere l w → place_of l w < size_of l

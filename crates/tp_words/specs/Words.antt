@@ -1,0 +1,80 @@
+-- The words as numbers, and which numbers are words.
+use Rattle.std.specs.Prelude.{◌≡◌, ◌⊎◌, ℕ, ◌+◌, ◌*◌, ◌/◌, ◌%◌, ◌≤◌, Option, Some, None}
+use Rattle.tp_model.specs.declared.types.Element.{Element}
+use Rattle.tp_model.specs.History.{UnitEnd, Committed, Aborted}
+use Rattle.tp_model.specs.Words.{ClaimWord, FreeWord, TakenWord, KilledWord}
+use Rattle.tp_words.specs.declared.bits.TheConstants.{HEAD_EMPTY, HEAD_PRESENT, HEAD_STAGE, HEAD_ROOT, HEAD_BY, CLAIM_FREE, CLAIM_TAKEN, CLAIM_KILLED, CLAIM_ATTEMPT, CLAIM_UNIT, UNIT_UNDECIDED, UNIT_COMMITTED, UNIT_ABORTED, UNIT_COUNT, UNIT_FIRST, MAX_ATTEMPT, MAX_UNIT, MAX_ID, MAX_OUTPUTS}
+use Rattle.tp_words.specs.declared.words.Head.{Head}
+use Rattle.tp_words.specs.declared.words.Head.TheVariants.{Empty, There}
+use Rattle.tp_words.specs.declared.words.Claim as claims
+use Rattle.tp_words.specs.declared.words.Claim.TheVariants as claim
+use Rattle.tp_words.specs.declared.words.UnitWord as units
+use Rattle.tp_words.specs.declared.words.UnitWord.TheVariants as unit
+
+-- the claim word that a `Claim` speaks of
+abbrev pub claim_value : claims.Claim → ClaimWord
+claim_value claim.Free = FreeWord
+claim_value (claim.Taken n u) = TakenWord n u
+claim_value (claim.Killed n u) = KilledWord n u
+
+-- how a unit ended that has this word
+abbrev pub unit_value : units.UnitWord → Option UnitEnd
+unit_value unit.Undecided = None
+unit_value (unit.Committed first count) = Some (Committed first count)
+unit_value unit.Aborted = Some Aborted
+
+-- what the head of an element tells
+abbrev pub head_of : Element → Head
+head_of x = There x.stage x.root x.by
+
+-- who made the element, as a number: 0 for a client, and u + 1 for unit u
+abbrev pub pack_by : Option ℕ → ℕ
+pack_by None = 0
+pack_by (Some u) = u + 1
+
+-- the head word
+abbrev pub pack_head : Head → ℕ
+pack_head Empty = HEAD_EMPTY
+pack_head (There stage root by) = HEAD_PRESENT + HEAD_STAGE * stage + HEAD_ROOT * root + HEAD_BY * pack_by by
+
+-- the claim word
+abbrev pub pack_claim : ClaimWord → ℕ
+pack_claim FreeWord = CLAIM_FREE
+pack_claim (TakenWord n u) = CLAIM_TAKEN + CLAIM_ATTEMPT * n + CLAIM_UNIT * u
+pack_claim (KilledWord n u) = CLAIM_KILLED + CLAIM_ATTEMPT * n + CLAIM_UNIT * u
+
+-- the word of a unit
+abbrev pub pack_unit : Option UnitEnd → ℕ
+pack_unit None = UNIT_UNDECIDED
+pack_unit (Some (Committed first count)) = UNIT_COMMITTED + UNIT_COUNT * count + UNIT_FIRST * first
+pack_unit (Some Aborted) = UNIT_ABORTED
+
+-- the values that heads have: a stage that is 1 to 15, an id, and a unit's number with room for 1 more
+abbrev pub IsFitHead : Head → Type 0
+IsFitHead Empty = Unit {0}
+IsFitHead (There stage root by) = (1 ≤ stage) × (stage ≤ 15) × (root ≤ MAX_ID) × (pack_by by ≤ MAX_UNIT + 1)
+
+-- the values that claim words have: an element that was taken is so for the first time or a later one, and one that was killed without ever being taken has no unit
+abbrev pub IsFitClaim : ClaimWord → Type 0
+IsFitClaim FreeWord = Unit {0}
+IsFitClaim (TakenWord n u) = (1 ≤ n) × (n ≤ MAX_ATTEMPT) × (u ≤ MAX_UNIT)
+IsFitClaim (KilledWord n u) = (n ≤ MAX_ATTEMPT) × (u ≤ MAX_UNIT) × (n ≡ 0 → u ≡ 0)
+
+-- the values that units' words have: a committed unit without outputs has no first one
+abbrev pub IsFitUnit : Option UnitEnd → Type 0
+IsFitUnit None = Unit {0}
+IsFitUnit (Some (Committed first count)) = (count ≤ MAX_OUTPUTS) × (first ≤ MAX_ID) × (count ≡ 0 → first ≡ 0)
+IsFitUnit (Some Aborted) = Unit {0}
+
+-- the numbers that are head words: 0, and those with bit 0 and a stage and nothing above bit 36
+abbrev pub IsHeadWord : ℕ → Type 0
+IsHeadWord word = (word ≡ HEAD_EMPTY) ⊎ ((word % HEAD_STAGE ≡ HEAD_PRESENT) × (1 ≤ word % HEAD_ROOT / HEAD_STAGE) × (word / HEAD_BY ≤ MAX_UNIT + 1))
+
+-- the numbers that are claim words: 0, those of kind 1 with attempt 1 to 7, and those of kind 2 with attempt 1 to 7, or with attempt 0 and unit 0
+abbrev pub IsClaimWord : ℕ → Type 0
+IsClaimWord word = (word ≡ CLAIM_FREE) ⊎ ((word % CLAIM_UNIT / CLAIM_ATTEMPT ≤ MAX_ATTEMPT) × (word / CLAIM_UNIT ≤ MAX_UNIT)
+    × (((word % CLAIM_ATTEMPT ≡ CLAIM_TAKEN) × (1 ≤ word % CLAIM_UNIT / CLAIM_ATTEMPT)) ⊎ ((word % CLAIM_ATTEMPT ≡ CLAIM_KILLED) × ((1 ≤ word % CLAIM_UNIT / CLAIM_ATTEMPT) ⊎ (word ≡ CLAIM_KILLED)))))
+
+-- the numbers that are words of units: 0, 2, and those of kind 1 with 1 to 4 outputs, or with none and no first one
+abbrev pub IsUnitWord : ℕ → Type 0
+IsUnitWord word = (word ≡ UNIT_UNDECIDED) ⊎ ((word ≡ UNIT_ABORTED) ⊎ ((word ≡ UNIT_COMMITTED) ⊎ ((word % UNIT_COUNT ≡ UNIT_COMMITTED) × (1 ≤ word % UNIT_FIRST / UNIT_COUNT) × (word % UNIT_FIRST / UNIT_COUNT ≤ MAX_OUTPUTS) × (word / UNIT_FIRST ≤ MAX_ID))))

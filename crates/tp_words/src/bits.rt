@@ -1,0 +1,61 @@
+//! The bits of the words, each said once. Bits are counted from the least.
+//!
+//! A field's constant is what a value of 1 in that field counts in the word, so a word is the sum of its fields, each
+//! times its constant, and a field is read by `word % NEXT / OWN`, where `NEXT` is the constant of the field above it.
+
+/// The head of a row that has neither an element nor a draft.
+pub const HEAD_EMPTY: u64 = 0;
+
+/// Head, bit 0: the row has an element or a draft.
+pub const HEAD_PRESENT: u64 = 1;
+
+/// Head, bits 1 to 4: the stage, 1 to 15.
+pub const HEAD_STAGE: u64 = 1 << 1;
+
+/// Head, bits 5 to 20: the id of the client's element that it goes back to.
+pub const HEAD_ROOT: u64 = 1 << 5;
+
+/// Head, bits 21 to 36: 0 where a client made it, else the number of the unit that did, plus 1.
+pub const HEAD_BY: u64 = 1 << 21;
+
+/// The claim of an element that was never taken or killed, and of a row without an element.
+pub const CLAIM_FREE: u64 = 0;
+
+/// Claim, bits 0 and 1: a unit took the element.
+pub const CLAIM_TAKEN: u64 = 1;
+
+/// Claim, bits 0 and 1: the element was killed. The attempt and the unit stay as they were.
+pub const CLAIM_KILLED: u64 = 2;
+
+/// Claim, bits 2 to 5: how many units have taken the element, at most 7.
+pub const CLAIM_ATTEMPT: u64 = 1 << 2;
+
+/// Claim, bits 6 to 21: the unit that took it last.
+pub const CLAIM_UNIT: u64 = 1 << 6;
+
+/// The word of a unit that was neither committed nor aborted.
+pub const UNIT_UNDECIDED: u64 = 0;
+
+/// Unit, bits 0 and 1: it was committed.
+pub const UNIT_COMMITTED: u64 = 1;
+
+/// Unit, bits 0 and 1: it was aborted. The other bits are 0.
+pub const UNIT_ABORTED: u64 = 2;
+
+/// Unit, bits 2 to 4: how many outputs a committed unit has, at most 4.
+pub const UNIT_COUNT: u64 = 1 << 2;
+
+/// Unit, bits 5 to 20: the id of its first output, and 0 where there is none.
+pub const UNIT_FIRST: u64 = 1 << 5;
+
+/// The most attempts that a claim word tells of.
+pub const MAX_ATTEMPT: u64 = 7;
+
+/// The greatest number of a unit: a head has room for the number plus 1.
+pub const MAX_UNIT: u64 = 65534;
+
+/// The greatest id of an element.
+pub const MAX_ID: u64 = 65535;
+
+/// The most outputs of a unit.
+pub const MAX_OUTPUTS: u64 = 4;

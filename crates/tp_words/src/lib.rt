@@ -1,0 +1,11 @@
+//! The words of the shared table as typed values, and their places in it. Nothing here has memory of its own.
+#![tactic(auto)]
+
+pub mod bits;
+mod places;
+#[cfg(test)]
+mod tests;
+mod words;
+
+pub use places::{Places, places_differ};
+pub use words::{Claim, Head, UnitWord};

@@ -1,0 +1,99 @@
+//! Where the words stand in the table: four for each row, then one for each unit.
+ghost use Rattle.std.specs.Prelude.{◌≡◌, ◌<◌, ◌↔◌, IsOk, IfOk, Err};
+ghost use Rattle.tp_model.specs.Steps.{AreLimits};
+ghost use Rattle.tp_words.specs.Places.{PlacesDiffer, PlacesInside};
+
+use tp_model::types::{Limits, Refusal};
+
+/// The places of the words of a table. It has at most 65,536 words.
+#[derive(Clone, Copy, Debug, PartialEq, Eq)]
+pub struct Places {
+    /// What the table has room for, each limit in its range.
+    pub limits: Limits,
+    pub ghost valid: { AreLimits limits },
+}
+
+impl Places {
+    ghost use Rattle.tp_model.specs.Steps.{rows_of, units_of};
+    ghost use Rattle.tp_words.specs.Places.{head_place, key_place, amount_place, claim_place, unit_place, size_of};
+    ghost use Rattle.tp_model.specs.declared.types.Refusal.TheVariants as Refusal;
+
+    /// The places for these limits. The one refusal is `BadLimits`, for a limit outside its range.
+    pub fn new(limits: Limits) -> Result<Places, Refusal>
+        ensures valid { IsOk result ↔ AreLimits limits }
+        ensures ok { IfOk result (λ p. p.limits ≡ limits) }
+        ensures bad { (result ≡ Err Refusal.BadLimits) ↔ (¬ AreLimits limits) }
+    {
+        if limits.is_valid() {
+            Ok(Places { limits })
+        } else {
+            Err(Refusal::BadLimits)
+        }
+    }
+
+    /// How many rows there are, at most 8192.
+    pub fn rows(&self) -> u32
+        ensures { result ≡ rows_of self.now.limits }
+    {
+        self.limits.parts as u32 * self.limits.rows as u32
+    }
+
+    /// How many words there are.
+    pub fn size(&self) -> usize
+        ensures { result ≡ size_of self.now.limits }
+    {
+        4 * self.rows() as usize + self.limits.parts as usize * self.limits.units as usize
+    }
+
+    /// The place of the head of a row.
+    pub fn head(&self, row: u32) -> usize
+        requires { row < rows_of self.now.limits }
+        ensures place { result ≡ head_place row }
+        ensures inside { result < size_of self.now.limits }
+    {
+        4 * row as usize
+    }
+
+    /// The place of the key of a row.
+    pub fn key(&self, row: u32) -> usize
+        requires { row < rows_of self.now.limits }
+        ensures place { result ≡ key_place row }
+        ensures inside { result < size_of self.now.limits }
+    {
+        self.head(row) + 1
+    }
+
+    /// The place of the amount of a row.
+    pub fn amount(&self, row: u32) -> usize
+        requires { row < rows_of self.now.limits }
+        ensures place { result ≡ amount_place row }
+        ensures inside { result < size_of self.now.limits }
+    {
+        self.head(row) + 2
+    }
+
+    /// The place of the claim of a row.
+    pub fn claim(&self, row: u32) -> usize
+        requires { row < rows_of self.now.limits }
+        ensures place { result ≡ claim_place row }
+        ensures inside { result < size_of self.now.limits }
+    {
+        self.head(row) + 3
+    }
+
+    /// The place of the word of a unit.
+    pub fn unit(&self, unit: u16) -> usize
+        requires { unit < units_of self.now.limits }
+        ensures place { result ≡ unit_place self.now.limits unit }
+        ensures inside { result < size_of self.now.limits }
+    {
+        4 * self.rows() as usize + unit as usize
+    }
+}
+
+/// Places of different words differ, and each lies below the number of words. The function does nothing: its contract
+/// is the law.
+pub fn places_differ()
+    ensures differ { PlacesDiffer }
+    ensures inside { PlacesInside }
+{}

@@ -1,0 +1,173 @@
+//! Worked values with their words, and numbers that are no words.
+ghost use Rattle.std.specs.Prelude.{◌≡◌};
+
+use crate::{Claim, Head, Places, UnitWord};
+use tp_model::types::{Limits, Refusal};
+
+#[test]
+fn heads(rt: HostRuntime) {
+    let first = Head::There {
+        stage: 1,
+        root: 0,
+        by: None,
+    };
+    assert!(rt; first.pack() == 3);
+    assert!(rt; Head::unpack(3) == Some(first));
+    let third = Head::There {
+        stage: 3,
+        root: 5,
+        by: None,
+    };
+    assert!(rt; third.pack() == 167);
+    assert!(rt; Head::unpack(167) == Some(third));
+    let reply = Head::There {
+        stage: 15,
+        root: 0,
+        by: Some(256),
+    };
+    assert!(rt; reply.pack() == 538968095);
+    assert!(rt; Head::unpack(538968095) == Some(reply));
+    assert!(rt; Head::Empty.pack() == 0);
+    assert!(rt; Head::unpack(0) == Some(Head::Empty));
+}
+
+#[test]
+fn refused_heads(rt: HostRuntime) {
+    // Present, but of stage 0.
+    assert!(rt; Head::unpack(1).is_none());
+    // Not present, with other bits.
+    assert!(rt; Head::unpack(2).is_none());
+    // Bit 37.
+    assert!(rt; Head::unpack(137438953475).is_none());
+}
+
+#[test]
+fn claims(rt: HostRuntime) {
+    let first = Claim::Taken {
+        attempt: 1,
+        unit: 256,
+    };
+    assert!(rt; first.pack() == 16389);
+    assert!(rt; Claim::unpack(16389) == Some(first));
+    let second = Claim::Taken {
+        attempt: 2,
+        unit: 512,
+    };
+    assert!(rt; second.pack() == 32777);
+    assert!(rt; Claim::unpack(32777) == Some(second));
+    let last = Claim::Taken {
+        attempt: 7,
+        unit: 32767,
+    };
+    assert!(rt; last.pack() == 2097117);
+    assert!(rt; Claim::unpack(2097117) == Some(last));
+    let never_taken = Claim::Killed {
+        attempt: 0,
+        unit: 0,
+    };
+    assert!(rt; never_taken.pack() == 2);
+    assert!(rt; Claim::unpack(2) == Some(never_taken));
+    assert!(rt; Claim::Free.killed() == never_taken);
+    let killed = Claim::Killed {
+        attempt: 1,
+        unit: 256,
+    };
+    assert!(rt; killed.pack() == 16390);
+    assert!(rt; Claim::unpack(16390) == Some(killed));
+    assert!(rt; first.killed() == killed);
+    assert!(rt; Claim::Free.pack() == 0);
+    assert!(rt; Claim::unpack(0) == Some(Claim::Free));
+}
+
+#[test]
+fn refused_claims(rt: HostRuntime) {
+    // Taken for the 0th time.
+    assert!(rt; Claim::unpack(1).is_none());
+    // No such kind.
+    assert!(rt; Claim::unpack(3).is_none());
+    // Never taken, with other bits.
+    assert!(rt; Claim::unpack(4).is_none());
+    // Taken for the 8th time.
+    assert!(rt; Claim::unpack(33).is_none());
+    // Killed without ever being taken, with a unit.
+    assert!(rt; Claim::unpack(66).is_none());
+    // Taken by unit 65535.
+    assert!(rt; Claim::unpack(4194245).is_none());
+    // Bit 22.
+    assert!(rt; Claim::unpack(4194309).is_none());
+}
+
+#[test]
+fn units(rt: HostRuntime) {
+    let bare = UnitWord::Committed { first: 0, count: 0 };
+    assert!(rt; bare.pack() == 1);
+    assert!(rt; UnitWord::unpack(1) == Some(bare));
+    let one = UnitWord::Committed { first: 8, count: 1 };
+    assert!(rt; one.pack() == 261);
+    assert!(rt; UnitWord::unpack(261) == Some(one));
+    let four = UnitWord::Committed {
+        first: 8188,
+        count: 4,
+    };
+    assert!(rt; four.pack() == 262033);
+    assert!(rt; UnitWord::unpack(262033) == Some(four));
+    assert!(rt; UnitWord::Aborted.pack() == 2);
+    assert!(rt; UnitWord::unpack(2) == Some(UnitWord::Aborted));
+    assert!(rt; UnitWord::Undecided.pack() == 0);
+    assert!(rt; UnitWord::unpack(0) == Some(UnitWord::Undecided));
+}
+
+#[test]
+fn refused_units(rt: HostRuntime) {
+    // No such kind.
+    assert!(rt; UnitWord::unpack(3).is_none());
+    // Five outputs.
+    assert!(rt; UnitWord::unpack(21).is_none());
+    // No outputs, of which the first is 1.
+    assert!(rt; UnitWord::unpack(33).is_none());
+    // Aborted with an output.
+    assert!(rt; UnitWord::unpack(6).is_none());
+}
+
+fn limits(parts: u16, rows: u16, units: u16, attempts: u8) -> Limits
+    ensures { (result.parts ≡ parts) × (result.rows ≡ rows) × (result.units ≡ units) }
+{
+    Limits {
+        parts,
+        rows,
+        units,
+        attempts,
+    }
+}
+
+#[test]
+fn places(rt: HostRuntime) {
+    let Ok(small) = Places::new(limits(2, 8, 256, 3)) else {
+        assert!(rt; false);
+        return;
+    };
+    assert!(rt; small.rows() == 16);
+    assert!(rt; small.size() == 576);
+    assert!(rt; small.head(15) == 60);
+    assert!(rt; small.key(15) == 61);
+    assert!(rt; small.amount(15) == 62);
+    assert!(rt; small.claim(15) == 63);
+    assert!(rt; small.unit(256) == 320);
+    let Ok(largest) = Places::new(limits(32, 256, 1024, 7)) else {
+        assert!(rt; false);
+        return;
+    };
+    assert!(rt; largest.size() == 65536);
+}
+
+#[test]
+fn bad_limits(rt: HostRuntime) {
+    assert!(rt; Places::new(limits(0, 8, 8, 3)) == Err(Refusal::BadLimits));
+    assert!(rt; Places::new(limits(33, 8, 8, 3)) == Err(Refusal::BadLimits));
+    assert!(rt; Places::new(limits(2, 0, 8, 3)) == Err(Refusal::BadLimits));
+    assert!(rt; Places::new(limits(2, 257, 8, 3)) == Err(Refusal::BadLimits));
+    assert!(rt; Places::new(limits(2, 8, 0, 3)) == Err(Refusal::BadLimits));
+    assert!(rt; Places::new(limits(2, 8, 1025, 3)) == Err(Refusal::BadLimits));
+    assert!(rt; Places::new(limits(2, 8, 8, 0)) == Err(Refusal::BadLimits));
+    assert!(rt; Places::new(limits(2, 8, 8, 8)) == Err(Refusal::BadLimits));
+}

@@ -1,0 +1,204 @@
+//! The words as typed values, and as numbers.
+//!
+//! Each of the three types can hold more than the words tell; `pack` asks for a value that a word can tell, and
+//! `unpack` answers such values alone. `unpack` undoes `pack`, and `pack` undoes `unpack`.
+ghost use Rattle.std.specs.Prelude.{◌≡◌, ◌↔◌, IfSome, IsSome, Option, Some};
+ghost use Rattle.std.specs.Option.{option_map};
+ghost use Rattle.tp_model.specs.History.{UnitEnd};
+ghost use Rattle.tp_model.specs.Words.{ClaimWord, kill_word};
+
+use crate::bits::{
+    CLAIM_ATTEMPT, CLAIM_FREE, CLAIM_KILLED, CLAIM_TAKEN, CLAIM_UNIT, HEAD_BY, HEAD_EMPTY,
+    HEAD_PRESENT, HEAD_ROOT, HEAD_STAGE, MAX_ATTEMPT, MAX_ID, MAX_OUTPUTS, MAX_UNIT, UNIT_ABORTED,
+    UNIT_COMMITTED, UNIT_COUNT, UNIT_FIRST, UNIT_UNDECIDED,
+};
+
+/// What the head word of a row tells.
+#[derive(Clone, Copy, Debug, PartialEq, Eq)]
+pub enum Head {
+    /// The row has neither an element nor a draft.
+    Empty,
+    /// The row has an element, or the draft of one.
+    There {
+        /// The stage whose servers take it, 1 to 15.
+        stage: u8,
+        /// The id of the client's element that it goes back to.
+        root: u16,
+        /// The unit that makes it, at most 65534, or `None` for a client. What names a unit is born when that unit
+        /// commits.
+        by: Option<u16>,
+    },
+}
+
+/// What the claim word of a row tells.
+#[derive(Clone, Copy, Debug, PartialEq, Eq)]
+pub enum Claim {
+    /// The element was never taken, or the row has none.
+    Free,
+    /// The unit was the `attempt`-th to take the element. `attempt` is 1 to 7, `unit` at most 65534.
+    Taken { attempt: u8, unit: u16 },
+    /// The element was killed after that, and both are 0 where it was never taken. `attempt` is at most 7, `unit` at
+    /// most 65534.
+    Killed { attempt: u8, unit: u16 },
+}
+
+/// What the word of a unit tells.
+#[derive(Clone, Copy, Debug, PartialEq, Eq)]
+pub enum UnitWord {
+    /// The unit was never used, or it is open.
+    Undecided,
+    /// The unit was committed with `count` outputs, at most 4, with the ids from `first` on. `first` is 0 where there
+    /// is none.
+    Committed { first: u16, count: u8 },
+    /// The unit was aborted.
+    Aborted,
+}
+
+impl Head {
+    ghost use Rattle.tp_words.specs.Words.{pack_head, IsFitHead, IsHeadWord};
+    ghost use Rattle.tp_words.specs.declared.words.Head.{Head};
+
+    /// The word that tells this.
+    pub fn pack(self) -> u64
+        requires { IsFitHead self }
+        ensures { result ≡ pack_head self }
+    {
+        match self {
+            Head::Empty => HEAD_EMPTY,
+            Head::There { stage, root, by } => {
+                let by = match by {
+                    None => 0,
+                    Some(unit) => unit as u64 + 1,
+                };
+                HEAD_PRESENT + HEAD_STAGE * stage as u64 + HEAD_ROOT * root as u64 + HEAD_BY * by
+            }
+        }
+    }
+
+    /// What the word tells, or `None` for a number that is no head word.
+    pub fn unpack(word: u64) -> Option<Head>
+        ensures of_pack { (h : Head) → IsFitHead h → word ≡ pack_head h → result ≡ Some h }
+        ensures to_pack { IfSome result (λ h. IsFitHead h × (word ≡ pack_head h)) }
+        ensures accepted { IsSome result ↔ IsHeadWord word }
+    {
+        if word == HEAD_EMPTY {
+            return Some(Head::Empty);
+        }
+        let stage = word % HEAD_ROOT / HEAD_STAGE;
+        let root = word % HEAD_BY / HEAD_ROOT;
+        let by = word / HEAD_BY;
+        if word % HEAD_STAGE != HEAD_PRESENT || stage == 0 || by > MAX_UNIT + 1 {
+            return None;
+        }
+        let by = if by == 0 { None } else { Some((by - 1) as u16) };
+        Some(Head::There {
+            stage: stage as u8,
+            root: root as u16,
+            by,
+        })
+    }
+}
+
+impl Claim {
+    ghost use Rattle.tp_words.specs.Words.{pack_claim, claim_value, IsFitClaim, IsClaimWord};
+
+    /// The word that tells this.
+    pub fn pack(self) -> u64
+        requires { IsFitClaim (claim_value self) }
+        ensures { result ≡ pack_claim (claim_value self) }
+    {
+        match self {
+            Claim::Free => CLAIM_FREE,
+            Claim::Taken { attempt, unit } => {
+                CLAIM_TAKEN + CLAIM_ATTEMPT * attempt as u64 + CLAIM_UNIT * unit as u64
+            }
+            Claim::Killed { attempt, unit } => {
+                CLAIM_KILLED + CLAIM_ATTEMPT * attempt as u64 + CLAIM_UNIT * unit as u64
+            }
+        }
+    }
+
+    /// The claim after a kill: the attempt and the unit stay.
+    pub fn killed(self) -> Claim
+        requires { IsFitClaim (claim_value self) }
+        ensures value { claim_value result ≡ kill_word (claim_value self) }
+        ensures fits { IsFitClaim (claim_value result) }
+    {
+        match self {
+            Claim::Free => Claim::Killed {
+                attempt: 0,
+                unit: 0,
+            },
+            Claim::Taken { attempt, unit } => Claim::Killed { attempt, unit },
+            Claim::Killed { attempt, unit } => Claim::Killed { attempt, unit },
+        }
+    }
+
+    /// What the word tells, or `None` for a number that is no claim word.
+    pub fn unpack(word: u64) -> Option<Claim>
+        ensures of_pack { (w : ClaimWord) → IsFitClaim w → word ≡ pack_claim w → option_map claim_value result ≡ Some w }
+        ensures to_pack { IfSome result (λ c. IsFitClaim (claim_value c) × (word ≡ pack_claim (claim_value c))) }
+        ensures accepted { IsSome result ↔ IsClaimWord word }
+    {
+        let kind = word % CLAIM_ATTEMPT;
+        let attempt = word % CLAIM_UNIT / CLAIM_ATTEMPT;
+        let unit = word / CLAIM_UNIT;
+        if attempt > MAX_ATTEMPT || unit > MAX_UNIT {
+            return None;
+        }
+        let attempt = attempt as u8;
+        let unit = unit as u16;
+        if word == CLAIM_FREE {
+            Some(Claim::Free)
+        } else if kind == CLAIM_TAKEN && attempt > 0 {
+            Some(Claim::Taken { attempt, unit })
+        } else if kind == CLAIM_KILLED && (attempt > 0 || unit == 0) {
+            Some(Claim::Killed { attempt, unit })
+        } else {
+            None
+        }
+    }
+}
+
+impl UnitWord {
+    ghost use Rattle.tp_words.specs.Words.{pack_unit, unit_value, IsFitUnit, IsUnitWord};
+
+    /// The word that tells this.
+    pub fn pack(self) -> u64
+        requires { IsFitUnit (unit_value self) }
+        ensures { result ≡ pack_unit (unit_value self) }
+    {
+        match self {
+            UnitWord::Undecided => UNIT_UNDECIDED,
+            UnitWord::Committed { first, count } => {
+                UNIT_COMMITTED + UNIT_COUNT * count as u64 + UNIT_FIRST * first as u64
+            }
+            UnitWord::Aborted => UNIT_ABORTED,
+        }
+    }
+
+    /// What the word tells, or `None` for a number that is no word of a unit.
+    pub fn unpack(word: u64) -> Option<UnitWord>
+        ensures of_pack { (w : Option UnitEnd) → IsFitUnit w → word ≡ pack_unit w → option_map unit_value result ≡ Some w }
+        ensures to_pack { IfSome result (λ u. IsFitUnit (unit_value u) × (word ≡ pack_unit (unit_value u))) }
+        ensures accepted { IsSome result ↔ IsUnitWord word }
+    {
+        let kind = word % UNIT_COUNT;
+        let count = word % UNIT_FIRST / UNIT_COUNT;
+        let first = word / UNIT_FIRST;
+        if count > MAX_OUTPUTS || first > MAX_ID {
+            return None;
+        }
+        let count = count as u8;
+        let first = first as u16;
+        if word == UNIT_UNDECIDED {
+            Some(UnitWord::Undecided)
+        } else if kind == UNIT_COMMITTED && (count > 0 || first == 0) {
+            Some(UnitWord::Committed { first, count })
+        } else if word == UNIT_ABORTED {
+            Some(UnitWord::Aborted)
+        } else {
+            None
+        }
+    }
+}
