@@ -1,5 +1,5 @@
 -- The computed answers are allowed ones.
-use Rattle.std.proofs.Common.{◌≡◌, ◌≢◌, ℕ, suc, ◌+◌, ◌<◌, ◌≤◌, nat_le, nat_lt, ◌&&◌, Bool, true, false, cond, if◌then◌else◌, Option, Some, None, Result, Ok, Err, subst, List, length, map, refl, sym, ◌∙◌, ap, inl, inr, arith}
+use Rattle.std.proofs.Common.{◌≡◌, ◌≢◌, ℕ, suc, ◌+◌, ◌<◌, ◌≤◌, nat_le, nat_lt, ◌&&◌, Bool, true, false, cond, if◌then◌else◌, Option, Some, None, Result, Ok, Err, subst, List, length, refl, sym, ◌∙◌, ap, inl, inr, arith}
 use Rattle.std.proofs.lemmas.Bool.{leb-true, ltb-false, and_from, le-leb}
 use Rattle.std.proofs.lemmas.Bool.Decides.{nat_tests}
 use Rattle.std.specs.List.{find, All}
@@ -13,14 +13,14 @@ use Rattle.tp_model.specs.declared.types.Claimed.{Claimed}
 use Rattle.tp_model.specs.declared.types.Outcome.{Outcome}
 use Rattle.tp_model.specs.declared.types.Claimed.TheVariants as claimed
 use Rattle.tp_model.specs.declared.types.Outcome.TheVariants as outcome
-use Rattle.tp_model.specs.declared.event.Event.TheVariants.{Enqueue, Abort, Kill}
+use Rattle.tp_model.specs.declared.event.Event.TheVariants.{Abort}
 use Rattle.tp_model.specs.Drafts.{DraftView}
 use Rattle.tp_model.specs.History.{element_of, UnitClaim, UnitEnd, Committed, Aborted, end_of, status_of}
 use Rattle.tp_model.specs.Steps.{IsServerStage, IsOpen, Step}
 use Rattle.tp_model.specs.OneThread.{Answers, CallSubmit, CallClaim, CallCommit, CallAbort, CallKill, CallRead, HasStage, Leaves, State, pass_at, next_row}
 use Rattle.tp_model.specs.Looks.{is_held_by, looks_after_all}
 use Rattle.tp_model.specs.Reached.{IsReached}
-use Rattle.tp_model.specs.Computed.{is_server_stage, submit_of, with_request, next_waiting, claim_found, claim_of_stage, abort_at, abort_of, commit_at, commit_of, unit_in_hand, kill_at, kill_found, read_found, AreAllowed, ComputedAreAllowed}
+use Rattle.tp_model.specs.Computed.{is_server_stage, submit_of, with_request, next_waiting, claim_found, claim_of_stage, abort_at, abort_of, commit_at, commit_of, unit_in_hand, kill_at, kill_found, read_found, ComputedAreAllowed}
 use Rattle.tp_model.proofs.Bridges.{element_of-id}
 use Rattle.tp_model.proofs.PassStates.{may_submit}
 use Rattle.tp_model.proofs.Claims.{idle, left_by_claim}

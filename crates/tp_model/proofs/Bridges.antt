@@ -1,5 +1,5 @@
 -- What one more event makes of what was born, of the claims of units, and of the events of a pass.
-use Rattle.std.proofs.Common.{◌≡◌, ◌≢◌, ◌⊎◌, ℕ, ◌+◌, ◌-◌, ◌<◌, ◌≤◌, ◌==◌, eqb, cond, nat_lt, Bool, true, false, Option, Some, None, List, [], ◌∷◌, ◌++◌, length, filter, refl, sym, ◌∙◌, ap, subst, inl, inr, ⊎_elim, append_assoc, arith}
+use Rattle.std.proofs.Common.{◌≡◌, ◌≢◌, ◌⊎◌, ℕ, ◌+◌, ◌<◌, ◌≤◌, ◌==◌, cond, nat_lt, Bool, true, false, Option, Some, None, List, [], ◌∷◌, ◌++◌, length, refl, sym, ◌∙◌, ap, subst, inl, inr, ⊎_elim, append_assoc, arith}
 use Rattle.std.proofs.lemmas.Bool.{eq-eqb, ne_eqb}
 use Rattle.std.proofs.lemmas.Bool.Decides.{eqb_tells, nat_tests}
 use Rattle.std.proofs.lemmas.List.Elements.{filter-append}
@@ -13,10 +13,10 @@ use Rattle.tp_model.specs.declared.event.Event.{Event}
 use Rattle.tp_model.specs.declared.event.Event.TheVariants.{Enqueue, Claim, Commit, Abort, Kill}
 use Rattle.tp_model.specs.History.{In, here, there, births, born, element_of, IsBorn, IsUnborn, UnitClaim, claim_by, claim_of, IsClaim, IsUnused, UnitEnd, Committed, Aborted, end_by, end_of, first_id, status_of, pass_of, events_by}
 use Rattle.tp_model.specs.Words.{ClaimWord, FreeWord, TakenWord, KilledWord, claim_word, taken_status, word_status}
-use Rattle.tp_model.specs.Steps.{IsRowOf, IsUnitOf, IsStage, IsOpen, IsOutput, AreOutputs, IsKillable, Step, IsLegal}
-use Rattle.tp_model.proofs.Lists.{option_or-none, option_or-some, first-append, first-kept, first-snoc, if_same, if_other, some_if, none_if}
-use Rattle.tp_model.proofs.Histories.{element_of-append, element_of-kept, element_of-snoc}
-use Rattle.tp_model.proofs.WordProofs.{claim_word-snoc, end_of-snoc, status_by_words}
+use Rattle.tp_model.specs.Steps.{IsRowOf, IsOutput, AreOutputs, IsKillable, Step, IsLegal}
+use Rattle.tp_model.proofs.Lists.{option_or-none, option_or-some, first-kept, first-snoc, if_same, if_other, some_if}
+use Rattle.tp_model.proofs.Histories.{element_of-kept, element_of-snoc}
+use Rattle.tp_model.proofs.WordProofs.{status_by_words}
 
 module _ {A : Type 0} where
   pub in_left : {a : A} {xs : List A} (ys : List A) → In a xs → In a (xs ++ ys)

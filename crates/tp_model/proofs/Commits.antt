@@ -1,7 +1,6 @@
 -- What a commit makes, and what it leaves.
 use Rattle.std.proofs.Common.{◌≡◌, ℕ, zero, suc, ◌+◌, ◌*◌, ◌<◌, ◌≤◌, ◌==◌, nat_lt, Bool, true, false, cond, if◌then◌else◌, Option, Some, None, List, [], ◌∷◌, ◌++◌, map, length, take, slice_index_or, slice_set, refl, sym, ◌∙◌, ap, subst, inl, inr, arith, add-zero}
 use Rattle.std.proofs.lemmas.Bool.{eqb-true}
-use Rattle.std.proofs.lemmas.Bool.Decides.{eqb_tells}
 use Rattle.std.proofs.lemmas.List.{get_or_read, map-append}
 use Rattle.std.specs.List.{find, All, Contains}
 use Rattle.tp_model.specs.Drafts.{DraftView}
@@ -12,9 +11,9 @@ use Rattle.tp_model.specs.declared.pass_state.PassState.{PassState}
 use Rattle.tp_model.specs.declared.types.Status.{Status}
 use Rattle.tp_model.specs.declared.types.Status.TheVariants.{Waiting, Held, Consumed, Parked, Killed}
 use Rattle.tp_model.specs.declared.event.Event.{Event}
-use Rattle.tp_model.specs.declared.event.Event.TheVariants.{Enqueue, Claim, Commit, Abort, Kill}
+use Rattle.tp_model.specs.declared.event.Event.TheVariants.{Commit}
 use Rattle.tp_model.specs.History.{born, element_of, UnitClaim, UnitEnd, Committed, Aborted, claim_by, claim_of, end_of, first_id, status_of}
-use Rattle.tp_model.specs.Words.{ClaimWord, FreeWord, TakenWord, KilledWord, kill_word, claim_word_after, claim_word, taken_status, word_status}
+use Rattle.tp_model.specs.Words.{ClaimWord, FreeWord, TakenWord, KilledWord, claim_word, taken_status, word_status}
 use Rattle.tp_model.specs.Steps.{AreOutputs, IsOpen, Step, IsLegal}
 use Rattle.std.proofs.lemmas.List.Elements.{All-head, All-tail}
 use Rattle.tp_model.specs.Computed.{commit_of}
@@ -23,9 +22,9 @@ use Rattle.tp_model.proofs.Computations.{commit_goes}
 use Rattle.tp_model.specs.OneThread.{HasStage, root_of, State, fresh_pass, pass_at, outputs, Commits}
 use Rattle.tp_model.specs.Reached.{PassFits, IsReached}
 use Rattle.tp_model.specs.Looks.{look_at, look_after, fresh_look, is_held_by}
-use Rattle.tp_model.proofs.Lists.{first-snoc, first-kept, if_same, if_other, none_if}
-use Rattle.tp_model.proofs.Histories.{by_steps, element_of-snoc, open_before, born_once}
-use Rattle.tp_model.proofs.WordProofs.{WordIsClaimed, word_claimed, claim_word-snoc, status_by_words}
+use Rattle.tp_model.proofs.Lists.{first-snoc, if_other, none_if}
+use Rattle.tp_model.proofs.Histories.{element_of-snoc, open_before, born_once}
+use Rattle.tp_model.proofs.WordProofs.{WordIsClaimed, word_claimed, status_by_words}
 use Rattle.tp_model.proofs.PassStates.{reached_moved}
 use Rattle.tp_model.proofs.PlainLemmas.{find-passes, looks_after}
 use Rattle.tp_model.proofs.Claims.{mapped, found_contains}

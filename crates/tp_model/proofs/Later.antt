@@ -1,19 +1,19 @@
 -- What a history tells of later ones, and what an end of a unit tells of the births and claims before it.
-use Rattle.std.proofs.Common.{◌≡◌, ◌≢◌, ◌⊎◌, ℕ, suc, ◌+◌, ◌-◌, ◌*◌, ◌<◌, ◌≤◌, ◌==◌, cond, Bool, true, false, Option, Some, None, List, [], ◌∷◌, ◌++◌, length, refl, sym, ◌∙◌, ap, subst, inl, inr, ⊎_elim, arith, suc-mul, mul-le-mul_right}
+use Rattle.std.proofs.Common.{◌≡◌, ◌≢◌, ℕ, suc, ◌+◌, ◌-◌, ◌*◌, ◌<◌, ◌≤◌, ◌==◌, Option, Some, None, List, [], ◌∷◌, ◌++◌, length, refl, sym, ◌∙◌, ap, subst, inl, inr, ⊎_elim, arith, suc-mul, mul-le-mul_right}
 use Rattle.std.proofs.lemmas.Bool.Decides.{eqb_tells}
 use Rattle.std.specs.List.{find}
 use Rattle.std.specs.Option.{option_or}
 use mathlib.Core.List.{IsPrefix}
 use Rattle.tp_model.specs.declared.types.Element.{Element}
 use Rattle.tp_model.specs.declared.types.Limits.{Limits}
-use Rattle.tp_model.specs.declared.types.Status.TheVariants.{Waiting, Held}
+use Rattle.tp_model.specs.declared.types.Status.TheVariants.{Waiting}
 use Rattle.tp_model.specs.declared.event.Event.{Event}
 use Rattle.tp_model.specs.declared.event.Event.TheVariants.{Enqueue, Claim, Commit, Abort, Kill}
-use Rattle.tp_model.specs.History.{In, here, there, births, element_of, IsBorn, IsUnborn, UnitClaim, claim_by, claim_of, IsClaim, UnitEnd, Committed, Aborted, end_by, end_of, first_id, status_of, pass_of}
-use Rattle.tp_model.specs.Words.{ClaimWord, FreeWord, TakenWord, KilledWord, kill_word, claim_word_after, claim_word, taken_status, word_status}
-use Rattle.tp_model.specs.Steps.{rows_of, IsUnitOf, units_of, IsOpen, IsKillable, AreOutputs, Step, IsLegal}
-use Rattle.tp_model.proofs.Lists.{option_or-none, option_or-some, first-kept, first-snoc, if_same, if_other, some_if}
-use Rattle.tp_model.proofs.Histories.{legal_start, along, by_steps, element_of-kept, element_of-snoc}
+use Rattle.tp_model.specs.History.{In, here, there, births, element_of, IsBorn, IsUnborn, UnitClaim, claim_of, UnitEnd, Committed, Aborted, end_by, end_of, first_id, status_of, pass_of}
+use Rattle.tp_model.specs.Words.{TakenWord, kill_word, claim_word_after, claim_word, taken_status, word_status}
+use Rattle.tp_model.specs.Steps.{rows_of, IsUnitOf, units_of, IsKillable, AreOutputs, Step, IsLegal}
+use Rattle.tp_model.proofs.Lists.{option_or-none, option_or-some, if_same, if_other, some_if}
+use Rattle.tp_model.proofs.Histories.{along, by_steps, element_of-kept, element_of-snoc}
 use Rattle.tp_model.proofs.WordProofs.{WordIsClaimed, word_claimed, claim_word-snoc, end_of-snoc, status_by_words}
 use Rattle.tp_model.proofs.Bridges.{in_none, in_cons, births_of, born_either, end_stays, claim_either, status_taken}
 

@@ -1,5 +1,5 @@
 -- The answers of a manager of one thread, computed: what each call answers, and the state that it leaves.
-use Rattle.std.specs.Prelude.{◌≡◌, ℕ, ◌+◌, ◌<◌, ◌≤◌, nat_le, nat_lt, ◌&&◌, ◌==◌, Bool, if◌then◌else◌, Option, Some, None, Result, Ok, Err, List, length, map, unwrap_or}
+use Rattle.std.specs.Prelude.{◌≡◌, ℕ, ◌+◌, ◌<◌, ◌≤◌, nat_le, nat_lt, ◌&&◌, ◌==◌, Bool, if◌then◌else◌, Option, Some, None, Result, Ok, Err, List, length, unwrap_or}
 use Rattle.std.specs.List.{fold, All}
 use Rattle.tp_model.specs.Steps.{IsServerStage}
 use Rattle.tp_model.specs.Reached.{IsReached}

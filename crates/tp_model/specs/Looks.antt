@@ -1,28 +1,12 @@
 -- The looks of a manager of one thread: how each born element stands.
-use Rattle.std.specs.Prelude.{◌≡◌, ◌≢◌, ◌⊎◌, ℕ, zero, suc, ◌+◌, ◌-◌, ◌*◌, ◌<◌, ◌≤◌, ◌==◌, nat_lt, Bool, false, ◌&&◌, if◌then◌else◌, Option, Some, None, Result, List, [], ◌∷◌, ◌++◌, length, replicate, slice_index_or, slice_set, MatchResult, map}
-use mathlib.Core.List.{IsPrefix}
+use Rattle.std.specs.Prelude.{ℕ, ◌==◌, nat_lt, Bool, false, ◌&&◌, if◌then◌else◌, Option, Some, None, List, map}
 use Rattle.tp_model.specs.declared.types.Element.{Element}
-use Rattle.tp_model.specs.declared.types.Limits.{Limits}
-use Rattle.tp_model.specs.Drafts.{DraftView}
 use Rattle.tp_model.specs.declared.types.Look.{Look}
-use Rattle.tp_model.specs.declared.types.Work.{Work}
 use Rattle.tp_model.specs.declared.types.Status.{Status}
 use Rattle.tp_model.specs.declared.types.Status.TheVariants.{Waiting, Held, Consumed, Parked, Killed}
-use Rattle.tp_model.specs.declared.types.Killed.{Killed as KilledAnswer}
-use Rattle.tp_model.specs.declared.types.Claimed.{Claimed}
-use Rattle.tp_model.specs.declared.types.Claimed.TheVariants as claimed
-use Rattle.tp_model.specs.declared.types.Outcome.{Outcome}
-use Rattle.tp_model.specs.declared.types.Outcome.TheVariants as outcome
-use Rattle.tp_model.specs.declared.types.Ended.{Ended}
-use Rattle.tp_model.specs.declared.types.Ended.TheVariants as ended
-use Rattle.tp_model.specs.declared.types.Refusal.{Refusal}
-use Rattle.tp_model.specs.declared.types.Refusal.TheVariants as refusal
-use Rattle.tp_model.specs.declared.pass_state.PassState.{PassState}
 use Rattle.tp_model.specs.declared.event.Event.{Event}
-use Rattle.tp_model.specs.declared.event.Event.TheVariants.{Enqueue, Claim, Commit, Abort, Kill}
-use Rattle.tp_model.specs.History.{element_of, status_after, status_of, UnitClaim, claim_of, Aborted, end_of}
+use Rattle.tp_model.specs.History.{status_after, status_of}
 use Rattle.tp_model.specs.Counts.{is_waiting}
-use Rattle.tp_model.specs.Steps.{AreLimits, IsServerStage, Step, IsOpen, IsLegal}
 use Rattle.tp_model.specs.History.{born, status_after, status_of}
 
 -- each born element, as it is read

@@ -1,5 +1,5 @@
 -- Runs of a manager of one thread: which answers its calls may give, and what state they leave.
-use Rattle.std.specs.Prelude.{◌≡◌, ◌≢◌, ◌⊎◌, ℕ, zero, suc, ◌+◌, ◌-◌, ◌*◌, ◌<◌, ◌≤◌, ◌==◌, nat_lt, Bool, false, ◌&&◌, if◌then◌else◌, Option, Some, None, Result, List, [], ◌∷◌, ◌++◌, length, replicate, slice_index_or, slice_set, MatchResult}
+use Rattle.std.specs.Prelude.{◌≡◌, ◌≢◌, ◌⊎◌, ℕ, zero, suc, ◌+◌, ◌-◌, ◌*◌, ◌<◌, ◌≤◌, ◌==◌, if◌then◌else◌, Option, Some, None, Result, List, [], ◌∷◌, ◌++◌, length, replicate, slice_index_or, slice_set, MatchResult}
 use Rattle.std.specs.Option.{option_and_then, option_map_or}
 use mathlib.Core.List.{IsPrefix}
 use Rattle.tp_model.specs.declared.types.Element.{Element}
@@ -7,8 +7,7 @@ use Rattle.tp_model.specs.declared.types.Limits.{Limits}
 use Rattle.tp_model.specs.Drafts.{DraftView}
 use Rattle.tp_model.specs.declared.types.Look.{Look}
 use Rattle.tp_model.specs.declared.types.Work.{Work}
-use Rattle.tp_model.specs.declared.types.Status.{Status}
-use Rattle.tp_model.specs.declared.types.Status.TheVariants.{Waiting, Held, Consumed, Parked, Killed}
+use Rattle.tp_model.specs.declared.types.Status.TheVariants.{Waiting, Held, Consumed, Killed}
 use Rattle.tp_model.specs.declared.types.Killed.{Killed as KilledAnswer}
 use Rattle.tp_model.specs.declared.types.Claimed.{Claimed}
 use Rattle.tp_model.specs.declared.types.Claimed.TheVariants as claimed
@@ -21,9 +20,8 @@ use Rattle.tp_model.specs.declared.types.Refusal.TheVariants as refusal
 use Rattle.tp_model.specs.declared.pass_state.PassState.{PassState}
 use Rattle.tp_model.specs.declared.event.Event.{Event}
 use Rattle.tp_model.specs.declared.event.Event.TheVariants.{Enqueue, Claim, Commit, Abort, Kill}
-use Rattle.tp_model.specs.History.{element_of, status_after, status_of, UnitClaim, claim_of, Aborted, end_of}
-use Rattle.tp_model.specs.Counts.{is_waiting}
-use Rattle.tp_model.specs.Steps.{AreLimits, IsServerStage, IsStage, Step, IsOpen, IsLegal}
+use Rattle.tp_model.specs.History.{element_of, status_of, UnitClaim, claim_of, Aborted, end_of}
+use Rattle.tp_model.specs.Steps.{IsServerStage, IsStage, Step, IsLegal}
 
 -- what a manager of one thread is between two calls: its limits, its history, and what each of its passes has used
 pub record State : Type 0 where

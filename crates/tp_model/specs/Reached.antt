@@ -1,28 +1,11 @@
 -- What holds of each state that a manager of one thread reaches.
-use Rattle.std.specs.Prelude.{◌≡◌, ◌≢◌, ◌⊎◌, ℕ, zero, suc, ◌+◌, ◌-◌, ◌*◌, ◌<◌, ◌≤◌, ◌==◌, nat_lt, Bool, false, ◌&&◌, if◌then◌else◌, Option, Some, None, Result, List, [], ◌∷◌, ◌++◌, length, replicate, slice_index_or, slice_set, MatchResult}
-use mathlib.Core.List.{IsPrefix}
-use Rattle.tp_model.specs.declared.types.Element.{Element}
+use Rattle.std.specs.Prelude.{◌≡◌, ◌≢◌, ℕ, ◌+◌, ◌*◌, ◌<◌, ◌≤◌, Some, None, List, length}
 use Rattle.tp_model.specs.declared.types.Limits.{Limits}
-use Rattle.tp_model.specs.Drafts.{DraftView}
-use Rattle.tp_model.specs.declared.types.Look.{Look}
-use Rattle.tp_model.specs.declared.types.Work.{Work}
-use Rattle.tp_model.specs.declared.types.Status.{Status}
-use Rattle.tp_model.specs.declared.types.Status.TheVariants.{Waiting, Held, Consumed, Parked, Killed}
-use Rattle.tp_model.specs.declared.types.Killed.{Killed as KilledAnswer}
-use Rattle.tp_model.specs.declared.types.Claimed.{Claimed}
-use Rattle.tp_model.specs.declared.types.Claimed.TheVariants as claimed
-use Rattle.tp_model.specs.declared.types.Outcome.{Outcome}
-use Rattle.tp_model.specs.declared.types.Outcome.TheVariants as outcome
-use Rattle.tp_model.specs.declared.types.Ended.{Ended}
-use Rattle.tp_model.specs.declared.types.Ended.TheVariants as ended
-use Rattle.tp_model.specs.declared.types.Refusal.{Refusal}
-use Rattle.tp_model.specs.declared.types.Refusal.TheVariants as refusal
 use Rattle.tp_model.specs.declared.pass_state.PassState.{PassState}
 use Rattle.tp_model.specs.declared.event.Event.{Event}
 use Rattle.tp_model.specs.declared.event.Event.TheVariants.{Enqueue, Claim, Commit, Abort, Kill}
-use Rattle.tp_model.specs.History.{element_of, status_after, status_of, UnitClaim, claim_of, Aborted, end_of}
-use Rattle.tp_model.specs.Counts.{is_waiting}
-use Rattle.tp_model.specs.Steps.{AreLimits, IsServerStage, Step, IsOpen, IsLegal}
+use Rattle.tp_model.specs.History.{element_of, UnitClaim, claim_of, Aborted, end_of}
+use Rattle.tp_model.specs.Steps.{AreLimits, IsOpen, IsLegal}
 use Rattle.tp_model.specs.OneThread.{State, pass_at}
 
 -- what pass c has used, as the history says

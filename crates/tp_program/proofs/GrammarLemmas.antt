@@ -1,14 +1,13 @@
 -- Servers by name, and outputs one after the other.
-use Rattle.std.proofs.Common.{◌≡◌, ℕ, suc, ◌+◌, ◌≤◌, ◌<◌, Bool, true, false, cond, List, [], ◌∷◌, ◌++◌, length, map, drop, get_or, Option, Some, None, Result, Ok, Err, refl, sym, ap, ◌∙◌, append_assoc, arith, position, Vec, Global, Bor}
-use Rattle.std.proofs.Common.{zero, ◌&&◌, not, rules, tests, ◌==◌, MatchResult}
+use Rattle.std.proofs.Common.{◌≡◌, ℕ, suc, ◌≤◌, ◌<◌, Bool, true, false, List, [], ◌∷◌, ◌++◌, length, map, get_or, Option, Some, Result, Ok, Err, refl, sym, ap, ◌∙◌, append_assoc, arith, position, Bor}
+use Rattle.std.proofs.Common.{zero, ◌&&◌, not, rules, tests, ◌==◌}
 use Rattle.std.specs.Prelude.{nat_le, IsOk}
 use Rattle.std.specs.List.{list_all}
-use Rattle.std.specs.Str.{bytes_eq, IsAscii, IsUtf8}
+use Rattle.std.specs.Str.{IsAscii, IsUtf8}
 use Rattle.std.proofs.lemmas.Str.{IsUtf8-from_ascii}
 use Rattle.tp_program.proofs.TextLemmas.{ReadsText}
-use Rattle.std.proofs.lemmas.List.{append-nil, at_drop_more, at_drop_all}
+use Rattle.std.proofs.lemmas.List.{append-nil}
 use Rattle.tp_program.specs.declared.fault.LineFault.{LineFault}
-use Rattle.tp_program.specs.declared.fault.LineFault.TheVariants.{BadName}
 use Rattle.tp_program.specs.declared.fault.LineError.{LineError}
 use Rattle.tp_program.specs.declared.fault.LineError.TheVariants as errors
 use Rattle.tp_server.specs.declared.recipe.Output.{Output}

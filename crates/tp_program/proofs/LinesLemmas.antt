@@ -1,10 +1,9 @@
 -- ScriptView, one after the other.
-use Rattle.std.proofs.Common.{◌≡◌, ℕ, ◌+◌, ◌≤◌, ◌<◌, List, [], ◌∷◌, length, take, Option, Some, None, Result, Ok, Err, refl, sym, ap, ◌∙◌, arith, inl, inr, ltb}
+use Rattle.std.proofs.Common.{◌≡◌, ℕ, ◌+◌, ◌≤◌, ◌<◌, List, [], ◌∷◌, length, take, Option, Some, None, Result, Ok, Err, refl, sym, ap, ◌∙◌, arith, inl, inr}
 use Rattle.std.specs.Prelude.{IfSome}
 use Rattle.std.proofs.lemmas.Bool.{cases_lt, le-ltb, lt-ltb}
 use Rattle.std.proofs.lemmas.List.{take_all, length-take}
 use Rattle.tp_program.specs.declared.source.TheConstants.{MOST_BYTES}
-use Rattle.tp_program.specs.declared.fault.LineFault.{LineFault}
 use Rattle.tp_program.specs.declared.fault.LineFault.TheVariants.{TooLong}
 use Rattle.tp_program.specs.declared.fault.LineError.{LineError}
 use Rattle.tp_program.specs.declared.fault.LineError.TheVariants as errors

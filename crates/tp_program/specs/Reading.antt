@@ -1,5 +1,5 @@
 -- How what the code reads stands to what a script says.
-use Rattle.std.specs.Prelude.{◌≡◌, ℕ, List, Result, Ok, Err, map}
+use Rattle.std.specs.Prelude.{◌≡◌, ℕ, Result, Ok, Err, map}
 use Rattle.tp_program.specs.declared.fault.LineFault.{LineFault}
 use Rattle.tp_program.specs.declared.fault.LineError.{LineError}
 use Rattle.tp_program.specs.declared.fault.LineError.TheVariants as errors

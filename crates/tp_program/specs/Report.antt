@@ -1,7 +1,6 @@
 -- What is reported of a script: the run of one thread over its commands, with the registers of its server.
-use Rattle.std.specs.Prelude.{ℕ, zero, suc, ◌+◌, ◌*◌, ◌==◌, ◌&&◌, List, [], ◌∷◌, ◌++◌, length, replicate, Bool, Option, Some, None, Result, Ok, Err, codes, decimal, slice_get, if◌then◌else◌}
+use Rattle.std.specs.Prelude.{ℕ, zero, suc, ◌+◌, ◌==◌, ◌&&◌, List, [], ◌∷◌, ◌++◌, length, replicate, Bool, Option, Some, None, Result, Ok, Err, codes, decimal, slice_get, if◌then◌else◌}
 use Rattle.std.specs.List.{flat_map}
-use Rattle.tp_model.specs.declared.types.Element.{Element}
 use Rattle.tp_model.specs.declared.types.Limits.{Limits}
 use Rattle.tp_model.specs.declared.types.Look.{Look}
 use Rattle.tp_model.specs.declared.types.Work.{Work}
@@ -23,7 +22,7 @@ use Rattle.tp_program.specs.declared.answer.Turned.{Turned}
 use Rattle.tp_program.specs.declared.answer.Turned.TheVariants as turned
 use Rattle.tp_program.specs.declared.fault.Refused.{Refused}
 use Rattle.tp_program.specs.Answer.{◌<>◌, turn_text, submit_text, refused_text}
-use Rattle.tp_program.specs.Script.{SettingsView, ScriptView, ServerView}
+use Rattle.tp_program.specs.Script.{ScriptView, ServerView}
 
 -- the manager of one thread, and the registers of the server
 pub record State : Type 0 where

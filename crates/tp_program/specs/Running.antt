@@ -1,5 +1,5 @@
 -- What holds of a script that runs.
-use Rattle.std.specs.Prelude.{◌≡◌, ℕ, ◌+◌, None, List, length}
+use Rattle.std.specs.Prelude.{◌≡◌, ◌+◌, None, List, length}
 use Rattle.tp_model.specs.OneThread as thread
 use Rattle.tp_model.specs.OneThread.{pass_at}
 use Rattle.tp_program.specs.declared.run.Run.{Run}

@@ -1,5 +1,5 @@
 -- The lines that make servers.
-use Rattle.std.specs.Prelude.{ℕ, ◌-◌, ◌^◌, List, [], ◌∷◌, ◌++◌, length, Bool, not, ◌&&◌, Some, None, Result, Ok, Err, nat_lt, nat_le, ◌==◌, replicate, slice_set, position, slice_get, is_none, is_ok}
+use Rattle.std.specs.Prelude.{ℕ, ◌-◌, ◌^◌, List, [], ◌∷◌, ◌++◌, length, Bool, not, ◌&&◌, Result, Ok, Err, nat_lt, nat_le, ◌==◌, replicate, slice_set, position, slice_get, is_none, is_ok}
 use Rattle.std.specs.List.{list_all}
 use Rattle.std.specs.Str.{bytes_eq}
 use Rattle.tp_server.specs.declared.recipe.Act.{Act}

@@ -1,5 +1,5 @@
 -- What the whole program does.
-use Rattle.std.specs.Prelude.{◌≡◌, ℕ, List, Option, Result, Ok, Err, IsOk, IsErr}
+use Rattle.std.specs.Prelude.{ℕ, List, Option, Result, Ok, Err, IsOk, IsErr}
 use Rattle.std.specs.Io.KnownBytes.{Appends, Keeps}
 use Rattle.tp_program.specs.declared.fault.Exit.{Exit}
 use Rattle.tp_program.specs.declared.fault.Exit.TheVariants as exits

@@ -1,4 +1,4 @@
-use Rattle.std.proofs.Common.{◌≡◌, ◌+◌, ◌∷◌, [], List, ℕ, drop, map, get_or, ◌∙◌, ap, sym, refl, rules, arith, Bor, length}
+use Rattle.std.proofs.Common.{◌≡◌, [], List, ℕ, drop, map, ◌∙◌, ap, refl, arith, Bor, length}
 use Rattle.std.proofs.lemmas.List.{drop_more, drop_all}
 use Rattle.tp_program.specs.Text.{lines}
 use Rattle.tp_program.specs.Grammar.{lines_from, no_lines}

@@ -1,10 +1,8 @@
-use Rattle.std.proofs.Common.{length, ◌≡◌, ◌+◌, ◌++◌, [], drop, map, rules, arith, subst, ap, sym, refl}
+use Rattle.std.proofs.Common.{length, [], map, arith, ap, refl}
 use Rattle.std.specs.Prelude.{string_bytes}
-use Rattle.std.proofs.lemmas.List.{append-nil}
-use Rattle.tp_program.specs.Devices.{IsWrittenUpTo}
 use Rattle.tp_program.specs.Script.{script_view, server_view}
 use Rattle.tp_program.specs.Running.{state}
-use Rattle.tp_program.specs.Report.{report, reports}
+use Rattle.tp_program.specs.Report.{report}
 use Rattle.tp_program.proofs.Devices.{front_of, written_line, front_more, front_last, written_last, always_err, Appends-none}
 use Rattle.tp_program.proofs.ReportLemmas.{reports_more, reports_done}
 use Rattle.tp_program.proofs.report.write_report.Goals as goal

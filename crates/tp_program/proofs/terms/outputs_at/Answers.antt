@@ -1,8 +1,8 @@
-use Rattle.std.proofs.Common.{◌≡◌, ℕ, ◌+◌, ◌∷◌, [], List, drop, map, get_or, ◌∙◌, ap, sym, rules, arith, Bor}
+use Rattle.std.proofs.Common.{◌≡◌, ℕ, [], List, drop, map, ap, arith, Bor}
 use Rattle.std.proofs.lemmas.Result.{err_from_is_err_and}
 use Rattle.std.proofs.lemmas.List.{drop_more, drop_all}
 use Rattle.tp_program.specs.Terms.{outputs_at}
-use Rattle.tp_program.proofs.GrammarLemmas.{with_front, outputs_go_on, outputs_end, outputs_done}
+use Rattle.tp_program.proofs.GrammarLemmas.{outputs_go_on, outputs_end, outputs_done}
 use Rattle.tp_program.proofs.terms.outputs_at.Goals as goal
 
 pub returns-in_err-output_at : goal.returns-in_err-output_at
