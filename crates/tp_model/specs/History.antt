@@ -36,6 +36,7 @@ pub record UnitClaim : Type 0 where
   pub item : ℕ
   pub attempt : ℕ
 
+-- the claim of unit u that an event is
 abbrev pub claim_by : ℕ → Event → Option UnitClaim
 claim_by u (Enqueue c e) = None
 claim_by u (Claim c v i n) = if v == u then Some (record { pass = c; item = i; attempt = n }) else None
@@ -57,6 +58,7 @@ abbrev pub first_id : List Element → ℕ
 first_id [] = 0
 first_id (e ∷ es) = e.id
 
+-- the end of unit u that an event is
 abbrev pub end_by : ℕ → Event → Option UnitEnd
 end_by u (Enqueue c e) = None
 end_by u (Claim c v i n) = None
@@ -96,7 +98,7 @@ status_after limit i s (Kill c j) = if j == i then Killed else s
 abbrev pub status_of : ℕ → List Event → ℕ → Status
 status_of limit h i = fold (status_after limit i) (Waiting 0) h
 
--- x is an element of this list
+-- a is one of the list, as a relation for inductions
 pub data In {A : Type 0} (a : A) : List A → Type 0 where
   here : {xs : List A} → In a (a ∷ xs)
   there : {b : A} {xs : List A} → In a xs → In a (b ∷ xs)

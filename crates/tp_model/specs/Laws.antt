@@ -44,6 +44,7 @@ Moves (Parked n) s = s ≡ Killed
 Moves (Consumed u) s = ⊥
 Moves Killed s = ⊥
 
+-- one event leaves a status, or changes it in one of those ways
 abbrev pub StatusSteps : Type 0
 StatusSteps =
     (l : Limits) (h : List Event) (e : Event) (i : ℕ) → IsLegal l (h ++ e ∷ [])

@@ -5,7 +5,6 @@ use Rattle.tp_model.specs.declared.types.Look.{Look}
 use Rattle.tp_model.specs.declared.types.Status.{Status}
 use Rattle.tp_model.specs.declared.types.Status.TheVariants.{Waiting, Held, Consumed, Parked, Killed}
 use Rattle.tp_model.specs.declared.event.Event.{Event}
-use Rattle.tp_model.specs.History.{status_after, status_of}
 use Rattle.tp_model.specs.Counts.{is_waiting}
 use Rattle.tp_model.specs.History.{born, status_after, status_of}
 

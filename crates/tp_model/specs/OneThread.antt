@@ -222,9 +222,10 @@ abbrev pub Run : State → List Call → State → Type 0
 Run s [] t = t ≡ s
 Run s (call ∷ calls) t = (mid : State) × Answers s call mid × Run mid calls t
 
--- a run of calls from the start leaves a legal history, and each longer run a history that begins with it
+-- a run of calls from the start leaves a legal history
 abbrev pub RunsAreLegal : Type 0
 RunsAreLegal = (l : Limits) (calls : List Call) (t : State) → Run (start l) calls t → (t.limits ≡ l) × IsLegal l t.history
 
+-- a run only adds events
 abbrev pub RunsGrow : Type 0
 RunsGrow = (s : State) (calls : List Call) (t : State) → Run s calls t → IsPrefix s.history t.history

@@ -11,9 +11,11 @@ use Rattle.tp_model.specs.Counts.{taken, counts, counts_in}
 use Rattle.tp_model.specs.Steps.{IsLegal}
 use Rattle.tp_model.specs.OneThread.{request}
 
+-- the limits of the worked histories
 abbrev pub row_limits : Limits
 row_limits = record { parts = 2; rows = 8; units = 256; attempts = 3 }
 
+-- an output of a unit
 abbrev output : ℕ → ℕ → ℕ → ℕ → ℕ → Element
 output id stage root amount unit = record { id = id; stage = stage; root = root; key = 0; amount = amount; by = Some unit }
 
@@ -29,6 +31,7 @@ given_up = Enqueue 0 (request 0 1 0 11) ∷ Claim 1 256 0 1 ∷ Abort 1 256 ∷ 
 abbrev pub killed_in_hand : List Event
 killed_in_hand = Enqueue 0 (request 0 1 0 5) ∷ Claim 1 256 0 1 ∷ Abort 0 256 ∷ Kill 0 0 ∷ []
 
+-- what these histories come to
 pub record WorkedRows : Type 0 where
   pub reply_is : map (λ (e : Element). e.id) (born with_reply) ≡ 0 ∷ 8 ∷ []
   pub reply_end : end_of with_reply 256 ≡ Some (Committed 8 1)

@@ -13,11 +13,13 @@ pub data ClaimWord : Type 0 where
   TakenWord : ℕ → ℕ → ClaimWord
   KilledWord : ℕ → ℕ → ClaimWord
 
+-- the claim word after a kill: the attempt and the unit stay
 abbrev pub kill_word : ClaimWord → ClaimWord
 kill_word FreeWord = KilledWord 0 0
 kill_word (TakenWord n u) = KilledWord n u
 kill_word (KilledWord n u) = KilledWord n u
 
+-- the claim word of element i after one more event
 abbrev pub claim_word_after : ℕ → ClaimWord → Event → ClaimWord
 claim_word_after i w (Enqueue c e) = w
 claim_word_after i w (Claim c u j n) = if j == i then TakenWord n u else w
@@ -41,6 +43,7 @@ word_status limit h FreeWord = Waiting 0
 word_status limit h (TakenWord n u) = taken_status limit n u (end_of h u)
 word_status limit h (KilledWord n u) = Killed
 
+-- the attempt that a claim word tells
 abbrev pub attempt_in : ClaimWord → ℕ
 attempt_in FreeWord = 0
 attempt_in (TakenWord n u) = n

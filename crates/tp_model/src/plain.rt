@@ -45,6 +45,7 @@ impl Plain {
     /// A manager with these limits, in which nothing happened.
     pub fn new(alloc: Global, limits: Limits) -> Result<Plain, Refusal>
         ensures ok { IfOk result (λ p. p ≡ start limits) }
+        ensures valid { IfOk result (λ _. AreLimits limits) }
         ensures bad { (result ≡ Err Refusal.BadLimits) ↔ (¬ AreLimits limits) }
         ensures only { IfErr result (λ why. (why ≡ Refusal.BadLimits) ⊎ (why ≡ Refusal.NoMemory)) }
     {

@@ -9,17 +9,24 @@ pub enum StepKind {
     DraftStore,
     /// The store of the head of a client's element, which is its birth.
     Publish,
+    /// The load of a word.
     Load,
     /// The look at the word of an own unit that was never claimed, which is thereby chosen for the next claim.
     UnitChoice,
+    /// The compare-exchange of an element's claim word by which a unit takes it.
     ClaimExchange,
+    /// The compare-exchange of an own unit's word from undecided to committed.
     CommitExchange,
+    /// The compare-exchange of a unit's word from undecided to aborted.
     AbortExchange,
+    /// The compare-exchange of an element's claim word by which it is killed.
     KillExchange,
 }
 
 /// An atomic step of a pass, and the history that the pass has seen after it.
 pub struct TraceEntry {
+    /// Which kind of step it was.
     pub kind: StepKind,
+    /// The history that the pass has seen after it.
     pub seen: LinkedList<Event>,
 }

@@ -39,14 +39,18 @@ pub enum Status {
 /// An element as a read shows it.
 #[derive(Clone, Copy, Debug, PartialEq, Eq)]
 pub struct Look {
+    /// The element itself, whose contents never change.
     pub element: Element,
+    /// How it stood at a point of the read.
     pub status: Status,
 }
 
 /// What a claim hands out: an element, and the unit of work that holds it from now on.
 #[derive(Clone, Copy, Debug, PartialEq, Eq)]
 pub struct Work {
+    /// The unit of work, one of the pass's own.
     pub unit: u16,
+    /// The element that it holds.
     pub element: Element,
     /// How many units have taken the element, this one included: 1 to the attempt limit.
     pub attempt: u8,
@@ -110,6 +114,7 @@ pub enum Outcome {
 /// The answer of an abort.
 #[derive(Clone, Copy, Debug, PartialEq, Eq)]
 pub enum Ended {
+    /// The unit of work is aborted, by this call.
     Aborted,
     /// Another caller had aborted the unit of work.
     Already,
@@ -201,6 +206,8 @@ impl Draft {
 
 /// The draft that fills unused places: a reply with a body of zeros.
 impl Default for Draft {
+    ghost is_default = { λ d. d ≡ record { stage = 15; key = 0; amount = 0 } };
+
     fn default() -> Draft {
         Draft {
             stage: 15,

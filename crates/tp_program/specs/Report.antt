@@ -29,10 +29,11 @@ pub record State : Type 0 where
   pub manager : thread.State
   pub registers : List ℕ
 
--- the pass of the script's own client, and that of its server
+-- the pass of the script's own client
 abbrev pub client : ℕ
 client = 0
 
+-- and that of its server
 abbrev pub worker : ℕ
 worker = 1
 
@@ -55,16 +56,19 @@ turned_by server (claimed.Work work, manager) registers = settled work (effect_o
 turned_by server (claimed.Idle, manager) registers = (turned.Idle, record { manager = manager; registers = registers })
 turned_by server (claimed.NoUnit, manager) registers = (turned.NoUnit, record { manager = manager; registers = registers })
 
+-- a turn of a server
 abbrev pub turn_of : ServerView → State → Turned × State
 turn_of server s = turned_by server (claim_of_stage s.manager worker server.recipe.stage) s.registers
 
 -- ---- each command: its line, and the state after it
 
+-- a submit by the client
 abbrev pub submit_step : ℕ → ℕ → ℕ → State → List ℕ × State
 submit_step stage key amount s =
     let answer = submit_of s.manager client stage key amount in
     (submit_text answer.0, record { manager = answer.1; registers = s.registers })
 
+-- a turn of the server
 abbrev pub turn_step : ServerView → State → List ℕ × State
 turn_step server s = let turn = turn_of server s in (turn_text server.name turn.0, turn.1)
 
@@ -82,13 +86,16 @@ unfoldable pub replies_below : thread.State → ℕ → ℕ → List ℕ
 replies_below manager root zero = []
 replies_below manager root (suc id) = replies_below manager root id ++ reply_text root (read_of manager id)
 
+-- the replies to a request
 abbrev pub reply_step : ℕ → State → List ℕ × State
 reply_step root s = (codes "replies " <> decimal root <> replies_below s.manager root (rows_of s.manager.limits) <> codes "\n", s)
 
+-- a turn of the server at a place; there is always one
 abbrev pub turn_at : Option ServerView → State → List ℕ × State
 turn_at (Some server) s = turn_step server s
 turn_at None s = ([], s)
 
+-- one command
 abbrev pub command_step : List ServerView → Command → State → List ℕ × State
 command_step servers (Submit stage key amount) s = submit_step stage key amount s
 command_step servers (Turn server) s = turn_at (slice_get servers server) s

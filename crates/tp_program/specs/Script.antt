@@ -26,11 +26,14 @@ pub record ScriptView : Type 0 where
   pub servers : List ServerView
   pub commands : List Command
 
+-- what settings show
 abbrev pub settings_view : Settings → SettingsView
 settings_view s = record { rows = s.rows; units = s.units; attempts = s.attempts }
 
+-- what a server line shows
 abbrev pub server_view : ScriptServer → ServerView
 server_view s = record { name = string_bytes s.name; kind = s.kind; recipe = s.recipe; registers = s.registers }
 
+-- what a script shows
 abbrev pub script_view : Script → ScriptView
 script_view s = record { settings = settings_view s.settings; servers = map server_view s.servers.items; commands = s.commands.items }

@@ -21,6 +21,7 @@ Reports (Err faults.NoMemory) script old new = AppendsFront old new (report_of s
 Reports (Err faults.Write) script old new = AppendsFront old new (report_of script)
 Reports (Err faults.Read) script old new = Keeps old new
 
+-- the fault of the program that a fault of its run is
 abbrev pub fault_of : RunFault → Fault
 fault_of runs.NoMemory = faults.NoMemory
 fault_of runs.Write = faults.Write

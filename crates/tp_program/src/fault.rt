@@ -61,14 +61,18 @@ impl LineFault {
 /// Where a script is refused, and the number of the fault.
 #[derive(Clone, Copy, Debug, PartialEq, Eq)]
 pub struct Refused {
+    /// The line's number, from 1 on; 0 where the script is too long as a whole.
     pub line: u32,
+    /// The number of the fault, 1 to 7.
     pub number: u8,
 }
 
 /// Why a line isn't read.
 #[derive(Clone, Copy, Debug, PartialEq, Eq)]
 pub enum LineError {
+    /// Memory could not be had.
     NoMemory,
+    /// The line has this fault.
     Fault(LineFault),
 }
 
@@ -89,16 +93,6 @@ impl<T: Drop> From<AllocFailed<T>> for LineError {
 
     fn from(_: AllocFailed<T>) -> LineError {
         LineError::NoMemory
-    }
-}
-
-impl From<LineFault> for LineError {
-    ghost use Rattle.tp_program.specs.declared.fault.LineError.TheVariants.{Fault};
-
-    ghost from_gives = { λ f e. e ≡ Fault f };
-
-    fn from(fault: LineFault) -> LineError {
-        LineError::Fault(fault)
     }
 }
 

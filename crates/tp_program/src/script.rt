@@ -26,7 +26,9 @@ pub struct Settings {
 /// How a server keeps prepared work: by changing its registers at once, or by keeping what it will write.
 #[derive(Clone, Copy, Debug, PartialEq, Eq)]
 pub enum Kind {
+    /// It changes its registers as it prepares.
     Eager,
+    /// It keeps what it will write until it commits.
     Lazy,
 }
 
@@ -35,7 +37,9 @@ pub enum Kind {
 pub struct ScriptServer {
     /// 1 to 8 small letters, which no other server of the script has.
     pub name: String,
+    /// How it keeps prepared work.
     pub kind: Kind,
+    /// What it does; a recipe without a fault.
     pub recipe: Recipe,
     /// What its registers begin with.
     pub registers: Registers,
@@ -46,16 +50,22 @@ pub struct ScriptServer {
 /// A command. A server is given by its place among the script's servers.
 #[derive(Clone, Copy, Debug, PartialEq, Eq)]
 pub enum Command {
+    /// The client submits an element.
     Submit { stage: u8, key: u64, amount: u64 },
+    /// The server takes a turn.
     Turn { server: usize },
+    /// The replies to a request are listed.
     Reply { root: u32 },
 }
 
 /// A whole script.
 #[derive(Drop)]
 pub struct Script {
+    /// The limits that it sets.
     pub settings: Settings,
+    /// Its servers, in the order of their lines.
     pub servers: Vec<ScriptServer>,
+    /// Its commands, in their order.
     pub commands: Vec<Command>,
     ghost few_servers: { vec_len servers ≤ MOST_SERVERS },
 }

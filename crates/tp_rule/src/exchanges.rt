@@ -32,7 +32,7 @@ impl Words {
 
     /// The spare unit takes the element of a row, for the `attempt`-th time that a unit does, if the element's claim
     /// is still the one that was found: it was free, or its unit was aborted and the attempts are not used up. `true`
-    /// adds the claim to the history, and the unit is the pass's open one. `false` changes nothing: the claim is
+    /// adds the claim to the history, and the unit is the pass's open one. `false` changes no word: the claim is
     /// another by now.
     pub fn claim_exchange(
         &self,
@@ -112,7 +112,7 @@ impl Words {
     }
 
     /// The element of a row is killed, if its claim is still the one that was found: it was free, or its unit was
-    /// aborted. `true` adds the kill to the history, and no unit takes the element any more. `false` changes nothing:
+    /// aborted. `true` adds the kill to the history, and no unit takes the element any more. `false` changes no word:
     /// the claim is another by now.
     pub fn kill_exchange(&self, seat: &mut Seat, row: u32, found: Claim) -> bool
         requires own { IsSeatOf self.now seat.old }

@@ -16,7 +16,7 @@ pub struct Hand {
     pub mine: LinkedList<Event>,
     /// The atomic steps that the pass made, oldest first. Every step adds one entry, and nothing else adds any.
     pub trace: LinkedList<TraceEntry>,
-    /// The own rows below this are born, or given up with a unit that was lost.
+    /// The own rows below this are born, or given up with a unit that was aborted.
     pub first_draft: u16,
     /// The own rows below this, at most `limits.rows`, are used: those from `first_draft` on hold the drafts, and the
     /// heads of all behind are empty.

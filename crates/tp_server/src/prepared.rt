@@ -12,7 +12,9 @@ use tp_model::types::{Draft, Element};
 /// What work on an element comes to: what the register of the element's key becomes, and the outputs.
 #[derive(Debug, Drop)]
 pub struct Prepared {
+    /// The register of the element's key after the act.
     pub after: u64,
+    /// The outputs, in the recipe's order.
     pub drafts: ArrayVec<Draft, 4>,
 }
 

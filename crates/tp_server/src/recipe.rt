@@ -44,7 +44,9 @@ pub enum AmountFrom {
 pub struct Output {
     /// The stage that it goes to: 1 to 14 for servers, 15 for replies.
     pub stage: u8,
+    /// Where its key comes from.
     pub key: KeyFrom,
+    /// Where its amount comes from.
     pub amount: AmountFrom,
 }
 
