@@ -1,0 +1,169 @@
+-- A claim: the choice of a unit, and the scan.
+use Rattle.std.proofs.Common.{◌≡◌, ℕ, ◌+◌, ◌*◌, ◌<◌, ◌≤◌, ◌==◌, Bool, true, false, cond, Option, Some, None, List, [], ◌∷◌, ◌++◌, sym, refl, ap, ◌∙◌, subst, arith}
+use Rattle.std.specs.Option.{option_or}
+use mathlib.Core.List.{IsPrefix}
+use Rattle.atomic_table.specs.Seated.{TableId}
+use Rattle.tp_model.specs.declared.types.Element.{Element}
+use Rattle.tp_model.specs.declared.types.Limits.{Limits}
+use Rattle.tp_model.specs.declared.types.Claimed.TheVariants as claimeds
+use Rattle.tp_model.specs.declared.event.Event.{Event}
+use Rattle.tp_model.specs.declared.event.Event.TheVariants.{Claim}
+use Rattle.tp_model.specs.declared.trace.StepKind.TheVariants as kinds
+use Rattle.tp_model.specs.declared.trace.TraceEntry.{TraceEntry}
+use Rattle.tp_model.specs.History.{here, claim_by, claim_of, element_of, events_by, pass_of, status_of}
+use Rattle.tp_model.specs.Passes.{IsPoint, opening_of}
+use Rattle.tp_model.specs.Steps.{IsLegal, Step, rows_of}
+use Rattle.tp_model.proofs.Lists.{option_or-none}
+use Rattle.tp_model.proofs.Histories.{legal_at}
+use Rattle.tp_model.proofs.Bridges.{begins_trans, new_claim}
+use Rattle.tp_model.proofs.Later.{births_inside}
+use Rattle.tp_rule.specs.Views.{Seated, hand, view_of}
+use Rattle.tp_rule.specs.Steps.{Chooses, claimed, noted, with_claim, with_spare}
+use Rattle.tp_rule.specs.declared.view.Hand.{Hand}
+use Rattle.tp_rule.specs.declared.view.View.{View}
+use Rattle.tp_manager.specs.declared.manager.Task.{Task}
+use Rattle.tp_manager.specs.Shown.{PassShown, shown}
+use Rattle.tp_manager.specs.Calls.{AtPoint, Claims, FoundNone, HasLooked, IsQuiet, IsWaiting, Takes, claims_in, opening}
+use Rattle.tp_manager.specs.Walks.{Steady, Walked, Looked, Rests, Took, IsSpare, PassedBelow, with_trace}
+use Rattle.tp_manager.proofs.Walks.{at_point, grew_hand, grew_walked, has_looked, opening_is, steady_quiet, walked_begins, walked_then}
+use Rattle.tp_manager.proofs.Passes.{claims_append, steady_at, task_later}
+
+-- a unit that nobody claimed isn't in a pass's own claims
+pub unused_mine : (c u : ℕ) (h : List Event) → claim_of h u ≡ None → claim_of (events_by c h) u ≡ None
+unused_mine c u [] p = refl
+unused_mine c u (e ∷ h) p = let t = option_or-none (claim_by u e) (claim_of h u) p in go (unused_mine c u h t.1) t.0 (pass_of e == c)
+  where
+    go : claim_of (events_by c h) u ≡ None → claim_by u e ≡ None → (b : Bool) → claim_of (cond b (e ∷ events_by c h) (events_by c h)) u ≡ None
+    go r q true = ap (λ o. option_or o (claim_of (events_by c h) u)) q ∙ r
+    go r q false = r
+
+unused_start : (u : ℕ) (h g : List Event) → IsPrefix h g → claim_of g u ≡ None → claim_of h u ≡ None
+unused_start u h g b p = starts h (ap (λ z. claim_of z u) b.1 ∙ p)
+  where
+    starts : (h : List Event) → claim_of (h ++ b.0) u ≡ None → claim_of h u ≡ None
+    starts [] q = refl
+    starts (e ∷ h) q = let t = option_or-none (claim_by u e) (claim_of (h ++ b.0) u) q in ap (λ o. option_or o (claim_of h u)) t.0 ∙ starts h t.1
+
+module _ (l : Limits) (u : ℕ) (v w : View) (s : Steady l v) (g : Chooses v u w) where
+  chose_hand : hand w ≡ noted kinds.UnitChoice w.seen (with_spare u (hand v))
+  chose_hand = grew_hand l kinds.UnitChoice (with_spare u) [] v w s g
+
+  pub chose_steady : Steady l w
+  chose_steady = steady_quiet l kinds.UnitChoice (with_spare u) v w s g refl refl refl
+
+  pub chose_spare : (hand v).open_unit ≡ None → IsSpare u w
+  chose_spare e = (ap (λ (a : Hand). a.spare_unit) chose_hand, ap (λ (a : Hand). a.open_unit) chose_hand ∙ e)
+
+  abbrev pub choice : TraceEntry
+  choice = record { kind = kinds.UnitChoice; seen = w.seen }
+
+  chose_walked : Walked l 1 (choice ∷ []) v w
+  chose_walked = grew_walked l kinds.UnitChoice (with_spare u) [] v w s g tt refl refl chose_steady
+
+  -- nothing was found
+  module _ (n : ℕ) (y : View) (a : Looked l n w y) where
+    idle_hand : hand y ≡ with_trace (hand y).trace (with_spare u (hand v))
+    idle_hand = a.kept ∙ ap (with_trace (hand y).trace) chose_hand
+
+    pub idle_walked : Walked l (1 + n) (choice ∷ a.marks) v y
+    idle_walked = walked_then l 1 n (choice ∷ []) a.marks v w y chose_walked a.walk
+
+    pub idle_quiet : (t t' : TableId) (old : PassShown) → shown t v ≡ old → IsQuiet old (shown t' y)
+    idle_quiet t t' old is = record {
+      mine = ap (λ (z : Hand). z.mine) idle_hand ∙ ap (λ (p : PassShown). p.mine) is;
+      open_unit = ap (λ (z : Hand). z.open_unit) idle_hand ∙ ap (λ (p : PassShown). p.open_unit) is;
+      drawn = ap (λ (z : Hand). z.drawn) idle_hand ∙ ap (λ (p : PassShown). p.drawn) is;
+    }
+
+    pub idle_found : (stage : ℕ) (t t' : TableId) (old : PassShown) → shown t v ≡ old → PassedBelow l stage (rows_of l) w.seen y.seen → FoundNone l stage old (shown t' y)
+    idle_found stage t t' old is p = λ x q st.
+        let o = opening_is t t' v y old is l (1 + n) (choice ∷ a.marks) idle_walked in
+        let born : element_of w.seen x.id ≡ Some x = subst (λ z. element_of z x.id ≡ Some x) o q in
+        let r = p x.id (births_inside l w.seen chose_steady.shows.legal x born) x born st in
+        at_point t t' v y old is l (1 + n) (choice ∷ a.marks) idle_walked (λ h. ¬ IsWaiting (status_of l.attempts h x.id)) r.0 (record { opened = r.1; seen = r.2 }) r.3
+
+    pub idle_looked : (t t' : TableId) (old : PassShown) → shown t v ≡ old → HasLooked old (shown t' y)
+    idle_looked t t' old is = has_looked t t' v y old is l (1 + n) (choice ∷ a.marks) idle_walked (choice, here, tt)
+
+    pub idle_answer : (stage used number drawn : ℕ) (task : Option Task) (seat : Seated) (t t' : TableId) (old : PassShown) → view_of seat ≡ v → v.limits ≡ l → shown t v ≡ old → Rests seat number drawn used task → ¬ (used ≡ l.units) → PassedBelow l stage (rows_of l) w.seen y.seen
+        → Claims l stage old (shown t' y) claimeds.Idle
+    idle_answer stage used number drawn task seat t t' old same lim is r not p =
+        let count : claims_in (hand v).mine ≡ used = subst (λ z. claims_in (hand z).mine ≡ used) same r.claims in
+        let below : used ≤ l.units = subst (λ (z : Limits). used ≤ z.units) (ap (λ (z : View). z.limits) same ∙ lim) r.used_below in
+        let room : claims_in (hand v).mine < l.units = omega arith in
+        (subst (λ (z : PassShown). claims_in z.mine < l.units) is room, idle_quiet t t' old is, idle_looked t t' old is, idle_found stage t t' old is p)
+
+  -- an element was taken
+  module _ (n stage attempt : ℕ) (y : View) (x : Element) (k : Took l n stage u w y x attempt) where
+    took_hand : hand y ≡ with_trace (hand y).trace (with_claim u (Claim (hand v).number u x.id attempt) (noted kinds.UnitChoice w.seen (with_spare u (hand v))))
+    took_hand = subst (λ (a : Hand). hand y ≡ with_trace (hand y).trace (with_claim u (Claim a.number u x.id attempt) a)) chose_hand k.kept
+
+    pub took_walked : Walked l (1 + n) (choice ∷ k.marks) v y
+    took_walked = walked_then l 1 n (choice ∷ []) k.marks v w y chose_walked k.walk
+
+    abbrev E : Event
+    E = Claim (hand v).number u x.id attempt
+
+    took_ends : y.seen ≡ k.before ++ E ∷ []
+    took_ends = k.ends ∙ ap (λ (a : Hand). k.before ++ Claim a.number u x.id attempt ∷ []) chose_hand
+
+    took_begins : IsPrefix v.seen k.before
+    took_begins = begins_trans v.seen w.seen k.before (walked_begins l 1 _ v w chose_walked) k.begins
+
+    took_step : Step l k.before E
+    took_step = legal_at l k.before E [] (subst (IsLegal l) took_ends k.walk.steady.shows.legal)
+
+    took_fresh : claim_of (hand v).mine u ≡ None
+    took_fresh = ap (λ z. claim_of z u) s.shows.own ∙ unused_mine (hand v).number u v.seen (unused_start u v.seen k.before took_begins took_step.unused)
+
+    pub took_answer : (used number drawn : ℕ) (task : Option Task) (seat : Seated) (t t' : TableId) (old : PassShown) → view_of seat ≡ v → v.limits ≡ l → shown t v ≡ old → Rests seat number drawn used task → ¬ (used ≡ l.units) → u ≡ number * l.units + used
+        → Takes l stage (record { unit = u; element = x; attempt = attempt }) old (shown t' y)
+    took_answer used number drawn task seat t t' old same lim is r not next =
+        let count : claims_in (hand v).mine ≡ used = subst (λ z. claims_in (hand z).mine ≡ used) same r.claims in
+        let below : used ≤ l.units = subst (λ (z : Limits). used ≤ z.units) (ap (λ (z : View). z.limits) same ∙ lim) r.used_below in
+        let num : (hand v).number ≡ number = subst (λ z. (hand z).number ≡ number) same r.number_is in
+        subst (λ (p : PassShown). Takes l stage (record { unit = u; element = x; attempt = attempt }) p (shown t' y)) is record {
+          room = omega arith;
+          unit_is = next ∙ (ap (λ c. c * l.units + used) (sym num) ∙ ap (λ c. (hand v).number * l.units + c) (sym count));
+          fresh = took_fresh;
+          adds = record { mine = ap (λ (z : Hand). z.mine) took_hand; before = k.before; seen = took_ends; begins = took_begins };
+          is_born = k.born;
+          of_stage = k.of_stage;
+          open_unit = ap (λ (z : Hand). z.open_unit) took_hand;
+          drawn = ap (λ (z : Hand). z.drawn) took_hand;
+        }
+
+pub chose_rests : (l : Limits) (u n number drawn used : ℕ) (task : Option Task) (seat next : Seated) (w : View) → (s : Steady l (view_of seat)) → Chooses (view_of seat) u w → Looked l n w (view_of next) → (view_of seat).limits ≡ l → next.me.1 ≡ seat.me.1 → Rests seat number drawn used task → Rests next number drawn used task
+chose_rests l u n number drawn used task seat next w s g a same bare r =
+    let h = idle_hand l u (view_of seat) w s g n (view_of next) a in let lim : l ≡ (view_of next).limits = sym a.walk.steady.pass.1 in record {
+      steady = steady_at l (view_of next).limits (view_of next) lim a.walk.steady;
+      bare = bare ∙ r.bare;
+      number_is = ap (λ (z : Hand). z.number) h ∙ r.number_is;
+      drawn_is = ap (λ (z : Hand). z.drawn) h ∙ r.drawn_is;
+      used_is = ap (λ (z : Hand). z.claimed) h ∙ r.used_is;
+      used_below = subst (λ (z : Limits). used ≤ z.units) (same ∙ lim) r.used_below;
+      claims = ap (λ (z : Hand). claims_in z.mine) h ∙ r.claims;
+      no_drafts = ap (λ (z : Hand). z.drafts) h ∙ r.no_drafts;
+      open_is = ap (λ (z : Hand). z.open_unit) h ∙ r.open_is;
+      work = task_later (view_of seat).seen (view_of next).seen number task (walked_begins l (1 + n) _ _ _ (idle_walked l u (view_of seat) w s g n (view_of next) a)) r.work;
+    }
+
+pub took_rests : (l : Limits) (u n stage attempt root number drawn used : ℕ) (task : Option Task) (seat next : Seated) (w : View) (x : Element) → (s : Steady l (view_of seat)) → Chooses (view_of seat) u w → Took l n stage u w (view_of next) x attempt → (view_of seat).limits ≡ l
+    → next.me.1 ≡ seat.me.1 → x.root ≡ root → ¬ (used ≡ l.units) → Rests seat number drawn used task → Rests next number drawn (used + 1) (Some (record { unit = u; root = root }))
+took_rests l u n stage attempt root number drawn used task seat next w x s g k same bare root_is not r =
+    let v : View = view_of seat in let y : View = view_of next in
+    let h = took_hand l u v w s g n stage attempt y x k in let lim : l ≡ y.limits = sym k.walk.steady.pass.1 in
+    let ends = took_ends l u v w s g n stage attempt y x k in let unused = (took_step l u v w s g n stage attempt y x k).unused in
+    let below : used ≤ l.units = subst (λ (z : Limits). used ≤ z.units) same r.used_below in
+    record {
+      steady = steady_at l y.limits y lim k.walk.steady;
+      bare = bare ∙ r.bare;
+      number_is = ap (λ (z : Hand). z.number) h ∙ r.number_is;
+      drawn_is = ap (λ (z : Hand). z.drawn) h ∙ r.drawn_is;
+      used_is = ap (λ (z : Hand). z.claimed) h ∙ ap (λ z. z + 1) r.used_is;
+      used_below = subst (λ (z : Limits). used + 1 ≤ z.units) lim (omega arith);
+      claims = ap (λ (z : Hand). claims_in z.mine) h ∙ (claims_append (hand v).mine (Claim (hand v).number u x.id attempt ∷ []) ∙ (let c = r.claims in omega arith));
+      no_drafts = ap (λ (z : Hand). z.drafts) h ∙ r.no_drafts;
+      open_is = ap (λ (z : Hand). z.open_unit) h;
+      work = (x.id, attempt, x, subst (λ c. claim_of y.seen u ≡ Some (record { pass = c; item = x.id; attempt = attempt })) r.number_is (ap (λ z. claim_of z u) ends ∙ new_claim k.before (hand v).number u x.id attempt unused), k.born, root_is);
+    }

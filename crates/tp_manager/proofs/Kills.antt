@@ -1,0 +1,251 @@
+-- A kill, on its way.
+use Rattle.std.proofs.Common.{◌≡◌, ◌≢◌, ◌⊎◌, ℕ, ◌+◌, ◌-◌, ◌*◌, ◌<◌, ◌≤◌, nat_lt, cond, Bool, true, false, List, [], ◌∷◌, ◌++◌, length, Result, Ok, Err, sym, refl, ap, ◌∙◌, subst, inl, inr, ⊎_elim, arith, append_assoc, Option, Some, None}
+use Rattle.std.specs.Prelude.{MatchResult}
+use Rattle.std.specs.Option.{option_or}
+use Rattle.atomic_table.specs.Seated.{TableId}
+use Rattle.tp_model.specs.declared.types.Refusal.{Refusal}
+use Rattle.tp_model.specs.declared.types.Refusal.TheVariants as refusals
+use Rattle.tp_model.specs.declared.types.Status.TheVariants as statuses
+use Rattle.tp_model.specs.declared.trace.TraceEntry.{TraceEntry}
+use Rattle.tp_manager.specs.Shown.{PassShown, shown}
+use Rattle.tp_manager.proofs.Passes.{claims_append, steady_at}
+use mathlib.Core.List.{IsPrefix}
+use Rattle.tp_model.specs.declared.types.Element.{Element}
+use Rattle.tp_model.specs.declared.types.Limits.{Limits}
+use Rattle.tp_model.specs.declared.types.Status.TheVariants.{Waiting, Held, Parked}
+use Rattle.tp_model.specs.declared.event.Event.{Event}
+use Rattle.tp_model.specs.declared.event.Event.TheVariants.{Abort, Kill}
+use Rattle.tp_model.specs.declared.trace.StepKind.TheVariants as kinds
+use Rattle.tp_model.specs.History.{Aborted, In, here, there, UnitEnd, end_by, end_of, status_of}
+use Rattle.tp_model.specs.Words.{ClaimWord, FreeWord, TakenWord, KilledWord, Rises, attempt_in, claim_word, taken_status, word_status}
+use Rattle.tp_model.specs.Steps.{AreLimits, IsKillable, IsLegal, Step}
+use Rattle.tp_model.proofs.Lists.{if_same}
+use Rattle.tp_model.proofs.Histories.{legal_at, legal_start}
+use Rattle.tp_model.proofs.WordProofs.{end_of-snoc, words_rise}
+use Rattle.tp_model.proofs.Bridges.{append_nil, begins_refl, begins_trans, in_either, in_none, in_one, status_taken}
+use Rattle.tp_model.proofs.Later.{claim_stands}
+use Rattle.tp_rule.specs.Steps.{MakesAbort, MakesKill, AllowsKill, with_end, with_event}
+use Rattle.tp_rule.specs.Views.{Seated, hand, view_of}
+use Rattle.tp_rule.specs.declared.view.Hand.{Hand}
+use Rattle.tp_rule.specs.declared.view.View.{View}
+use Rattle.tp_manager.specs.Calls.{AreOfHolders, KillFails, Kills, OnlyAborts, claims_in, one_claim}
+use Rattle.tp_manager.specs.Kills.{FailsIn, Freed, KillsIn, Slain, IsEnoughToKill}
+use Rattle.tp_manager.specs.Walks.{Rests, Steady, Walked, Looked}
+use Rattle.tp_manager.proofs.Births.{attempt_range}
+use Rattle.tp_manager.proofs.Walks.{at_point, point_last, grew_hand, grew_walked, steady_own, walked_begins, walked_few, walked_then}
+
+module _ (l : Limits) where
+  pub freed_looked : (n i : ℕ) (v w : View) → Looked l n v w → Freed l n i [] v w
+  freed_looked n i v w a = record {
+    marks = a.marks;
+    walk = a.walk;
+    drawn = ap (λ (z : Hand). z.drawn) a.kept;
+    claimed = ap (λ (z : Hand). z.claimed) a.kept;
+    mine = ap (λ (z : Hand). z.mine) a.kept ∙ sym (append_nil (hand v).mine);
+    drafts = λ e. ap (λ (z : Hand). z.drafts) a.kept ∙ e;
+    open_unit = λ e. ap (λ (z : Hand). z.open_unit) a.kept ∙ e;
+    aborts = λ e p. absurd (in_none p);
+  }
+
+  -- the Abort of the unit that holds the element
+  pub freed_abort : (i n u : ℕ) (v w : View) → Steady l v → claim_word v.seen i ≡ TakenWord n u → MakesAbort v u w → Freed l 2 i (Abort (hand v).number u ∷ []) v w × (end_of w.seen u ≡ Some Aborted)
+  freed_abort i n u v w s taken g =
+      let e = Abort (hand v).number u in let f : Hand → Hand = with_end e in let x = grew_hand l kinds.AbortExchange f (e ∷ []) v w s g in
+      let st = steady_own l kinds.AbortExchange f e v w s g refl (omega arith) s.shows.within refl refl (λ x p. absurd (in_none p)) in
+      let walk = grew_walked l kinds.AbortExchange f (e ∷ []) v w s g tt refl refl st in
+      let p : List Event = v.seen ++ g.between in
+      let legal : IsLegal l (p ++ e ∷ []) = subst (IsLegal l) g.seen st.shows.legal in
+      let step : Step l p e = legal_at l p e [] legal in
+      let open_yet : end_of p u ≡ None = step.open_unit.unfinished in
+      let before : IsLegal l p = legal_start l p (e ∷ []) legal in
+      let still : claim_word p i ≡ TakenWord n u = claim_stands l v.seen p before (g.between, refl) i n u taken (λ z. absurd cc) in
+      let held : status_of l.attempts p i ≡ Held u n = status_taken l p i n u before still ∙ ap (taken_status l.attempts n u) open_yet in (
+        record {
+          marks = record { kind = kinds.AbortExchange; seen = w.seen } ∷ [];
+          walk = walked_few l 1 2 _ v w (omega arith) walk;
+          drawn = ap (λ (a : Hand). a.drawn) x;
+          claimed = ap (λ (a : Hand). a.claimed) x;
+          mine = ap (λ (a : Hand). a.mine) x;
+          drafts = λ q. ap (λ (a : Hand). a.drafts) x;
+          open_unit = λ q. ap (λ (a : Hand). a.open_unit) x;
+          aborts = λ y q. (u, n, p, in_one q, (g.between, refl), held, subst (λ z. IsPrefix (p ++ z ∷ []) w.seen) (sym (in_one q)) (subst (IsPrefix (p ++ e ∷ [])) (sym g.seen) (begins_refl (p ++ e ∷ []))));
+        },
+        ap (λ z. end_of z u) g.seen ∙ (end_of-snoc p e u ∙ (ap (λ o. option_or o (end_by u e)) open_yet ∙ if_same u u (Some Aborted) None refl)),
+      )
+
+  pub held_later : (c i : ℕ) (s t t' : List Event) (es : List Event) → IsPrefix t t' → AreOfHolders l c i s t es → AreOfHolders l c i s t' es
+  held_later c i s t t' es b h e p = let r = h e p in (r.0, r.1, r.2, r.3, r.4, r.5, begins_trans (r.2 ++ e ∷ []) t t' b' b)
+    where
+      b' : IsPrefix (((h e p).2) ++ e ∷ []) t
+      b' = (h e p).6
+
+  held_both : (c d i : ℕ) (s t t' : List Event) (es fs : List Event) → d ≡ c → IsPrefix s t → IsPrefix t t' → AreOfHolders l c i s t es → AreOfHolders l d i t t' fs → AreOfHolders l c i s t' (es ++ fs)
+  held_both c d i s t t' es fs same before after a b e p = ⊎_elim (λ q. held_later c i s t t' es after a e q)
+      (λ q. let r = b e q in (r.0, r.1, r.2, r.3 ∙ ap (λ z. Abort z r.0) same, begins_trans s t r.2 before r.4, r.5, r.6)) (in_either es fs p)
+
+  pub freed_then : (n m i : ℕ) (es fs : List Event) (v w y : View) → Freed l n i es v w → Freed l m i fs w y → Freed l (n + m) i (es ++ fs) v y
+  freed_then n m i es fs v w y a b = record {
+    marks = a.marks ++ b.marks;
+    walk = walked_then l n m a.marks b.marks v w y a.walk b.walk;
+    drawn = b.drawn ∙ a.drawn;
+    claimed = b.claimed ∙ a.claimed;
+    mine = b.mine ∙ (ap (λ z. z ++ fs) a.mine ∙ append_assoc (hand v).mine es fs);
+    drafts = λ e. b.drafts (a.drafts e);
+    open_unit = λ e. b.open_unit (a.open_unit e);
+    aborts = held_both (hand v).number (hand w).number i v.seen w.seen y.seen es fs a.walk.number (walked_begins l n a.marks v w a.walk) (walked_begins l m b.marks w y b.walk) a.aborts b.aborts;
+  }
+
+  -- steps that change nothing, after the Aborts
+  pub freed_look : (n m i : ℕ) (es : List Event) (v w y : View) → Freed l n i es v w → Looked l m w y → Freed l (n + m) i es v y
+  freed_look n m i es v w y a b = subst (λ z. Freed l (n + m) i z v y) (append_nil es) (freed_then n m i es [] v w y a (freed_looked m i w y b))
+
+  pub freed_few : (n m i : ℕ) (es : List Event) (v w : View) → n ≤ m → Freed l n i es v w → Freed l m i es v w
+  freed_few n m i es v w le a = record { marks = a.marks; walk = walked_few l n m a.marks v w le a.walk; drawn = a.drawn; claimed = a.claimed; mine = a.mine; drafts = a.drafts; open_unit = a.open_unit; aborts = a.aborts }
+
+  -- the kill itself
+  pub slain_by : (n i : ℕ) (es : List Event) (v w y : View) → Freed l n i es v w → MakesKill w i y → Slain l (n + 1) i es v y
+  slain_by n i es v w y a g =
+      let e = Kill (hand w).number i in let f : Hand → Hand = with_event e in let s = a.walk.steady in let x = grew_hand l kinds.KillExchange f (e ∷ []) w y s g in
+      let st = steady_own l kinds.KillExchange f e w y s g refl (omega arith) s.shows.within refl refl (λ x p. absurd (in_none p)) in
+      let walk = grew_walked l kinds.KillExchange f (e ∷ []) w y s g tt refl refl st in
+      let same : (hand w).number ≡ (hand v).number = a.walk.number in
+      record {
+        marks = a.marks ++ record { kind = kinds.KillExchange; seen = y.seen } ∷ [];
+        walk = walked_then l n 1 a.marks _ v w y a.walk walk;
+        drawn = ap (λ (z : Hand). z.drawn) x ∙ a.drawn;
+        claimed = ap (λ (z : Hand). z.claimed) x ∙ a.claimed;
+        mine = ap (λ (z : Hand). z.mine) x ∙ (λ j. a.mine j ++ Kill (same j) i ∷ []);
+        drafts = λ q. ap (λ (z : Hand). z.drafts) x ∙ a.drafts q;
+        open_unit = λ q. ap (λ (z : Hand). z.open_unit) x ∙ a.open_unit q;
+        before = w.seen ++ g.between;
+        begins = begins_trans v.seen w.seen (w.seen ++ g.between) (walked_begins l n a.marks v w a.walk) (g.between, refl);
+        ends = g.seen ∙ ap (λ z. (w.seen ++ g.between) ++ Kill z i ∷ []) same;
+        aborts = held_later (hand v).number i v.seen w.seen y.seen es (walked_begins l 1 _ w y walk) a.aborts;
+      }
+
+  pub freed_slain : (n m i : ℕ) (es fs : List Event) (v w y : View) → Freed l n i es v w → Slain l m i fs w y → Slain l (n + m) i (es ++ fs) v y
+  freed_slain n m i es fs v w y a b = let same : (hand w).number ≡ (hand v).number = a.walk.number in record {
+    marks = a.marks ++ b.marks;
+    walk = walked_then l n m a.marks b.marks v w y a.walk b.walk;
+    drawn = b.drawn ∙ a.drawn;
+    claimed = b.claimed ∙ a.claimed;
+    mine = b.mine ∙ ((λ j. (a.mine j ++ fs) ++ Kill (same j) i ∷ []) ∙ ap (λ z. z ++ Kill (hand v).number i ∷ []) (append_assoc (hand v).mine es fs));
+    drafts = λ e. b.drafts (a.drafts e);
+    open_unit = λ e. b.open_unit (a.open_unit e);
+    before = b.before;
+    begins = begins_trans v.seen w.seen b.before (walked_begins l n a.marks v w a.walk) b.begins;
+    ends = b.ends ∙ ap (λ z. b.before ++ Kill z i ∷ []) same;
+    aborts = held_both (hand v).number (hand w).number i v.seen w.seen y.seen es fs same (walked_begins l n a.marks v w a.walk) (walked_begins l m b.marks w y b.walk) a.aborts b.aborts;
+  }
+
+  pub slain_few : (n m i : ℕ) (es : List Event) (v w : View) → n ≤ m → Slain l n i es v w → Slain l m i es v w
+  slain_few n m i es v w le a = record { marks = a.marks; walk = walked_few l n m a.marks v w le a.walk; drawn = a.drawn; claimed = a.claimed; mine = a.mine; drafts = a.drafts; open_unit = a.open_unit; before = a.before; begins = a.begins; ends = a.ends; aborts = a.aborts }
+
+  -- an element whose unit was aborted may be killed
+  pub may_kill : (h : List Event) (w : ClaimWord) (n u : ℕ) → w ≡ TakenWord n u → end_of h u ≡ Some Aborted → AllowsKill l h w
+  may_kill h w n u is lost = subst (λ z. AllowsKill l h z) (sym is) (subst (λ o. IsKillable (taken_status l.attempts n u o)) (sym lost) (go (nat_lt n l.attempts)))
+    where
+      go : (b : Bool) → IsKillable (cond b (Waiting n) (Parked n))
+      go true = tt
+      go false = tt
+
+  other_one : (n u : ℕ) (w z : ClaimWord) → Rises (TakenWord n u) w → w ≢ TakenWord n u → Rises w z → (z ≡ KilledWord n u) ⊎ ((n < attempt_in z) ⊎ ((m : ℕ) × (k : ℕ) × (z ≡ KilledWord m k)))
+  other_one n u FreeWord z r not s = ⊎_elim (λ p. absurd (not p)) (λ q. ⊎_elim (λ (less : n < 0). absurd (omega arith)) (λ p. absurd cc) q) r
+  other_one n u (TakenWord m k) z r not s = ⊎_elim (λ p. absurd (not p)) (λ q. ⊎_elim (λ (less : n < m). (⊎_elim (λ same. let e : attempt_in z ≡ m = ap attempt_in same in inr (inl (omega arith))) (λ t. ⊎_elim (λ (more : m < attempt_in z). inr (inl (omega arith))) (λ p. inr (inr (m, k, p))) t) s)) (λ p. absurd cc) q) r
+  other_one n u (KilledWord m k) z r not s = inr (inr (m, k, s))
+
+  enough_of : (n u left : ℕ) (z : ClaimWord) → (z ≡ KilledWord n u) ⊎ ((n < attempt_in z) ⊎ ((m : ℕ) × (k : ℕ) × (z ≡ KilledWord m k))) → l.attempts < n + left → IsEnoughToKill l (left - 1) z
+  enough_of n u left FreeWord r e = ⊎_elim (λ p. absurd cc) (λ q. ⊎_elim (λ (less : n < 0). absurd (omega arith)) (λ t. let p = t.2 in absurd cc) q) r
+  enough_of n u left (TakenWord m k) r e = ⊎_elim (λ p. absurd cc) (λ q. ⊎_elim (λ (less : n < m). (let x : l.attempts < m + (left - 1) = omega arith in x)) (λ t. let p = t.2 in absurd cc) q) r
+  enough_of n u left (KilledWord m k) r e = tt
+
+  -- the exchange missed, so a later attempt has begun since, or the element was killed
+  pub enough_again : (i n u left : ℕ) (v x y : List Event) → IsPrefix v x → IsPrefix x y → IsLegal l x → IsLegal l y → claim_word v i ≡ TakenWord n u → claim_word x i ≢ TakenWord n u → l.attempts < n + left → IsEnoughToKill l (left - 1) (claim_word y i)
+  enough_again i n u left v x y b c lx ly is not e = enough_of n u left (claim_word y i) (other_one n u (claim_word x i) (claim_word y i) (subst (λ z. Rises z (claim_word x i)) is (words_rise l v x i lx b)) not (words_rise l x y i ly c)) e
+
+  never_free : (w z : ClaimWord) → w ≢ FreeWord → Rises w z → z ≢ FreeWord
+  never_free FreeWord z not r = absurd (not refl)
+  never_free (TakenWord n u) z not r = λ p. ⊎_elim (λ q. absurd cc) (λ t. ⊎_elim (λ (less : n < attempt_in z). (let e : attempt_in z ≡ 0 = ap attempt_in p in absurd (omega arith))) (λ q. absurd cc) t) r
+  never_free (KilledWord n u) z not r = λ p. absurd cc
+
+  -- every attempt is left for a claim that isn't free
+  pub enough_all : AreLimits l → (h : List Event) (i : ℕ) → IsLegal l h → claim_word h i ≢ FreeWord → IsEnoughToKill l l.attempts (claim_word h i)
+  enough_all fair h i legal not = go (claim_word h i) refl
+    where
+      go : (w : ClaimWord) → claim_word h i ≡ w → IsEnoughToKill l l.attempts w
+      go FreeWord e = not e
+      go (TakenWord n u) e = let a = (attempt_range l fair h legal i n u e).0 in omega arith
+      go (KilledWord n u) e = tt
+
+  pub enough_freed : AreLimits l → (x y : List Event) (i : ℕ) → IsLegal l y → IsPrefix x y → claim_word x i ≢ FreeWord → IsEnoughToKill l l.attempts (claim_word y i)
+  enough_freed fair x y i legal b not = enough_all fair y i legal (never_free (claim_word x i) (claim_word y i) not (words_rise l x y i legal b))
+
+  pub enough_left : AreLimits l → (h : List Event) (i n u left : ℕ) → IsLegal l h → claim_word h i ≡ TakenWord n u → l.attempts < n + left → 1 ≤ left
+  enough_left fair h i n u left legal is e = let a = (attempt_range l fair h legal i n u is).1 in omega arith
+
+-- a result whose parts tell more
+pub match_map : {A B : Type 0} (P P' : A → Type 0) (Q Q' : B → Type 0) (r : Result A B) → ((a : A) → P a → P' a) → ((b : B) → Q b → Q' b) → MatchResult r P Q → MatchResult r P' Q'
+match_map P P' Q Q' (Ok a) f g m = f a m
+match_map P P' Q Q' (Err b) f g m = g b m
+
+module _ (l : Limits) (n m k i left most : ℕ) (v w y : View) (a : Looked l n v w) (same : left ≡ most) (le : n + m ≤ k) where
+  pub kills_after : (count : ℕ) → KillsIn l m i left count w y → KillsIn l k i most count v y
+  kills_after count t = (t.0, t.1, subst (λ z. count ≤ z) same t.2, slain_few l (n + m) k i t.0 v y le (freed_slain l n m i [] t.0 v w y (freed_looked l n i v w a) t.3))
+
+  pub fails_after : (e : Refusal) → FailsIn l m i left e w y → FailsIn l k i most e v y
+  fails_after e t = (t.0, subst (λ z. length t.0 ≤ z) same t.1, freed_few l (n + m) k i t.0 v y le (freed_then l n m i [] t.0 v w y (freed_looked l n i v w a) t.2), t.3)
+
+-- Aborts are no claims
+pub no_claims : (l : Limits) (c i : ℕ) (s t es : List Event) → AreOfHolders l c i s t es → claims_in es ≡ 0
+no_claims l c i s t [] h = refl
+no_claims l c i s t (e ∷ es) h = let first : one_claim e ≡ 0 = ap one_claim (h e here).3 in let rest = no_claims l c i s t es (λ x p. h x (there p)) in omega arith
+
+module _ (l : Limits) (seat next : Seated) (number drawn used : ℕ) (same : (view_of seat).limits ≡ l) (bare : next.me.1 ≡ seat.me.1) (r : Rests seat number drawn used None) where
+  rests_kill : (n : ℕ) (ms : List TraceEntry) (es : List Event) → Walked l n ms (view_of seat) (view_of next) → (hand (view_of next)).drawn ≡ (hand (view_of seat)).drawn → (hand (view_of next)).claimed ≡ (hand (view_of seat)).claimed
+      → (hand (view_of next)).mine ≡ (hand (view_of seat)).mine ++ es → claims_in es ≡ 0 → ((hand (view_of seat)).drafts ≡ [] → (hand (view_of next)).drafts ≡ []) → ((hand (view_of seat)).open_unit ≡ None → (hand (view_of next)).open_unit ≡ None) → Rests next number drawn used None
+  rests_kill n ms es walk d c m none dr op = let lim : l ≡ (view_of next).limits = sym walk.steady.pass.1 in record {
+    steady = steady_at l (view_of next).limits (view_of next) lim walk.steady;
+    bare = bare ∙ r.bare;
+    number_is = walk.number ∙ r.number_is;
+    drawn_is = d ∙ r.drawn_is;
+    used_is = c ∙ r.used_is;
+    used_below = subst (λ (z : Limits). used ≤ z.units) (same ∙ lim) r.used_below;
+    claims = ap claims_in m ∙ (claims_append (hand (view_of seat)).mine es ∙ (let k = r.claims in omega arith));
+    no_drafts = dr r.no_drafts;
+    open_is = op r.open_is;
+    work = tt;
+  }
+
+  pub rests_freed : (n i : ℕ) (es : List Event) → Freed l n i es (view_of seat) (view_of next) → Rests next number drawn used None
+  rests_freed n i es a = rests_kill n a.marks es a.walk a.drawn a.claimed a.mine (no_claims l (hand (view_of seat)).number i _ _ es a.aborts) a.drafts a.open_unit
+
+  pub rests_slain : (n i : ℕ) (es : List Event) → Slain l n i es (view_of seat) (view_of next) → Rests next number drawn used None
+  rests_slain n i es a = let k : Event = Kill (hand (view_of seat)).number i in let none = no_claims l (hand (view_of seat)).number i _ _ es a.aborts in
+      rests_kill n a.marks (es ++ k ∷ []) a.walk a.drawn a.claimed (a.mine ∙ append_assoc (hand (view_of seat)).mine es (k ∷ [])) (claims_append es (k ∷ []) ∙ omega arith) a.drafts a.open_unit
+
+module _ (t t' : TableId) (v w : View) (old : PassShown) (is : shown t v ≡ old) (l : Limits) (free : (hand v).open_unit ≡ None) where
+  pub kills_shown : (n i count : ℕ) → KillsIn l n i l.attempts count v w → Kills l i count old (shown t' w)
+  kills_shown n i count k = let a = k.3 in subst (λ (p : PassShown). Kills l i count p (shown t' w)) is record {
+    aborts = k.0;
+    counted = k.1;
+    few = k.2;
+    held = a.aborts;
+    mine = a.mine;
+    before = a.before;
+    begins = a.begins;
+    seen = a.ends;
+    open_unit = a.open_unit free ∙ sym free;
+    drawn = a.drawn;
+  }
+
+  only_aborts : (n i : ℕ) (es : List Event) → length es ≤ l.attempts → Freed l n i es v w → OnlyAborts l i old (shown t' w)
+  only_aborts n i es few a = subst (λ (p : PassShown). OnlyAborts l i p (shown t' w)) is record { aborts = es; few = few; held = a.aborts; mine = a.mine; open_unit = a.open_unit free ∙ sym free; drawn = a.drawn }
+
+  pub fails_shown : (n i : ℕ) (e : Refusal) → FailsIn l n i l.attempts e v w → KillFails l i old (shown t' w) e
+  fails_shown n i refusals.NoMemory k = k.3
+  fails_shown n i refusals.BadLimits k = k.3
+  fails_shown n i refusals.BadStage k = k.3
+  fails_shown n i refusals.NotThere k = absurd k.3
+  fails_shown n i (refusals.Consumed u) k = (only_aborts n i k.0 k.1 k.2, at_point t t' v w old is l n k.2.marks k.2.walk (λ h. status_of l.attempts h i ≡ statuses.Consumed u) w.seen (point_last l n k.2.marks v w k.2.walk) k.3)
+  fails_shown n i refusals.AlreadyKilled k = (only_aborts n i k.0 k.1 k.2, at_point t t' v w old is l n k.2.marks k.2.walk (λ h. status_of l.attempts h i ≡ statuses.Killed) w.seen (point_last l n k.2.marks v w k.2.walk) k.3)
+  fails_shown n i refusals.Full k = k.3

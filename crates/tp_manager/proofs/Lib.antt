@@ -1,0 +1,12 @@
+pub mod Fresh
+pub mod Points
+pub mod Rows
+pub mod Walks
+pub mod Births
+pub mod Looks
+pub mod Passes
+pub mod Submits
+pub mod Scans
+pub mod Claims
+pub mod Shuts
+pub mod Kills

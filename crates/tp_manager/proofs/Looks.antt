@@ -1,0 +1,139 @@
+-- What the words that were found tell of a row.
+use Rattle.std.proofs.Common.{◌≡◌, ◌≢◌, ◌⊎◌, ℕ, ◌+◌, ◌-◌, ◌*◌, ◌<◌, ◌≤◌, nat_lt, Bool, true, false, cond, Option, Some, None, List, refl, sym, ◌∙◌, ap, subst, ⊎_elim, arith}
+use Rattle.std.proofs.lemmas.Bool.Decides.{nat_tests}
+use mathlib.Core.List.{IsPrefix}
+use Rattle.tp_model.specs.declared.types.Element.{Element}
+use Rattle.tp_model.specs.declared.types.Limits.{Limits}
+use Rattle.tp_model.specs.declared.types.Status.{Status}
+use Rattle.tp_model.specs.declared.types.Status.TheVariants.{Waiting, Held, Consumed, Parked}
+use Rattle.tp_model.specs.declared.event.Event.{Event}
+use Rattle.tp_model.specs.History.{IsUnborn, element_of, UnitEnd, Committed, Aborted, end_of, status_of}
+use Rattle.tp_model.specs.Words.{ClaimWord, FreeWord, TakenWord, KilledWord, Rises, attempt_in, claim_word, taken_status}
+use Rattle.tp_model.specs.Steps.{AreLimits, units_of, IsLegal}
+use Rattle.tp_model.proofs.WordProofs.{words_rise}
+use Rattle.tp_model.proofs.Bridges.{born_or_not, born_at, found_later, end_stays}
+use Rattle.tp_model.proofs.Later.{committed_born, claim_stands, status_found, status_aborted}
+use Rattle.tp_words.specs.declared.words.Head.{Head}
+use Rattle.tp_words.specs.declared.words.Head.TheVariants.{Empty, There}
+use Rattle.tp_words.specs.declared.words.Claim.{Claim}
+use Rattle.tp_words.specs.declared.words.Claim.TheVariants as claims
+use Rattle.tp_words.specs.Words.{claim_value, head_of}
+use Rattle.tp_rule.specs.Rule.{IsDraft}
+use Rattle.tp_manager.specs.declared.looking.Birth.{Birth}
+use Rattle.tp_manager.specs.Looks.{HeadTold, IsThere, IsEnough}
+use Rattle.tp_manager.proofs.Births.{MadeBy, by_unit, attempt_range}
+
+-- births
+
+pub unborn_if : (h : List Event) (i : ℕ) → ((x : Element) → element_of h i ≡ Some x → ⊥) → IsUnborn h i
+unborn_if h i not = ⊎_elim (λ t. absurd (not t.0 (born_at h i t.0 t.1 t.2))) (λ un. un) (born_or_not h i)
+
+pub none_empty : (h : List Event) (i : ℕ) (head : Head) → head ≡ Empty → HeadTold h i head → IsUnborn h i
+none_empty h i head is t = unborn_if h i (λ x p. let e = t.born x p in absurd cc)
+
+same_by : (x : Element) (s r u : ℕ) (b : Option ℕ) (head : Head) → head ≡ There s r b → head ≡ head_of x → b ≡ Some u → x.by ≡ Some u
+same_by x s r u b head is e q = cc
+
+module _ (l : Limits) where
+  pub none_outside : (h : List Event) (i s r u : ℕ) (b : Option ℕ) (head : Head) → head ≡ There s r b → b ≡ Some u → HeadTold h i head → IsLegal l h → ¬ (u < units_of l) → IsUnborn h i
+  none_outside h i s r u b head is q t legal out = unborn_if h i (λ x p. out (by_unit l h legal i x u p (same_by x s r u b head is (t.born x p) q)).inside)
+
+  -- the unit has made no element i
+  abbrev pub MadeNot : List Event → ℕ → ℕ → Type 0
+  MadeNot h i u = (f m : ℕ) → end_of h u ≡ Some (Committed f m) → f ≤ i → i < f + m → ⊥
+
+  pub none_unit : (h g : List Event) (i s r u : ℕ) (b : Option ℕ) (head : Head) → head ≡ There s r b → b ≡ Some u → HeadTold h i head → IsLegal l h → IsPrefix h g → MadeNot g i u → IsUnborn h i
+  none_unit h g i s r u b head is q t legal begins not =
+      unborn_if h i (λ x p. let m = by_unit l h legal i x u p (same_by x s r u b head is (t.born x p) q) in not m.from m.count (end_stays h g u (Committed m.from m.count) begins m.committed) m.low m.high)
+
+  pub there_client : (h : List Event) (i s r : ℕ) (b : Option ℕ) (head : Head) → head ≡ There s r b → b ≡ None → HeadTold h i head → (e : Element) × (element_of h i ≡ Some e) × (head_of e ≡ There s r b)
+  there_client h i s r b head is q t = ⊎_elim (λ x. let p = born_at h i x.0 x.1 x.2 in (x.0, p, sym (t.born x.0 p) ∙ is))
+      (λ un. absurd (subst IsDraft is (t.draft un) q)) (born_or_not h i)
+
+  pub there_unit : (h g : List Event) (i u f m s r : ℕ) (b : Option ℕ) (head : Head) → IsLegal l h → IsPrefix h g → end_of h u ≡ Some (Committed f m) → f ≤ i → i < f + m → head ≡ There s r b
+      → ((e : Element) → element_of g i ≡ Some e → head ≡ head_of e) → (e : Element) × (element_of g i ≡ Some e) × (head_of e ≡ There s r b)
+  there_unit h g i u f m s r b head legal begins end_is low high is told =
+      let x = committed_born l h legal u f m i end_is low high in let p = found_later h g begins i x.0 x.1 in (x.0, p, sym (told x.0 p) ∙ is)
+
+  pub never_empty : (h g : List Event) (i u f m : ℕ) (head : Head) → IsLegal l h → IsPrefix h g → end_of h u ≡ Some (Committed f m) → f ≤ i → i < f + m → head ≡ Empty
+      → ((e : Element) → element_of g i ≡ Some e → head ≡ head_of e) → ⊥
+  never_empty h g i u f m head legal begins end_is low high is told =
+      let x = committed_born l h legal u f m i end_is low high in let e = told x.0 (found_later h g begins i x.0 x.1) in absurd cc
+
+pub there_later : (h g : List Event) (i : ℕ) (b : Birth) → IsPrefix h g → IsThere h i b → IsThere g i b
+there_later h g i b begins t = (t.0, found_later h g begins i t.0 t.1, t.2)
+
+same_head : (e : Element) (b : Birth) → head_of e ≡ There b.stage b.root b.by → (e.stage ≡ b.stage) × (e.root ≡ b.root) × (e.by ≡ b.by)
+same_head e b h = (cc, cc, cc)
+
+pub element_there : (h g : List Event) (i key amount : ℕ) (b : Birth) → IsPrefix h g → IsThere h i b → ((e : Element) → element_of h i ≡ Some e → key ≡ e.key) → ((e : Element) → element_of g i ≡ Some e → amount ≡ e.amount)
+    → ((e : Element) → element_of h i ≡ Some e → e.id ≡ i) → element_of g i ≡ Some (record { id = i; stage = b.stage; root = b.root; key = key; amount = amount; by = b.by })
+element_there h g i key amount b begins t keys amounts ids =
+    let e = t.0 in
+    let p = found_later h g begins i e t.1 in
+    let s = same_head e b t.2 in
+    let id : e.id ≡ i = ids e t.1 in
+    let key_is : e.key ≡ key = sym (keys e t.1) in
+    let amount_is : e.amount ≡ amount = sym (amounts e p) in
+    p ∙ ap Some (λ j. record { id = id j; stage = s.0 j; root = s.1 j; key = key_is j; amount = amount_is j; by = s.2 j })
+
+-- statuses
+
+pub claim_is : (x : Claim) (n u : ℕ) → claim_value x ≡ TakenWord n u → x ≡ claims.Taken n u
+claim_is claims.Free n u p = absurd cc
+claim_is (claims.Taken m v) n u p = cc
+claim_is (claims.Killed m v) n u p = absurd cc
+
+module _ (l : Limits) where
+  standing : (a b : List Event) → IsLegal l b → IsPrefix a b → (i n u : ℕ) → claim_word a i ≡ TakenWord n u → (x : Option UnitEnd) → x ≡ end_of b u → x ≢ Some Aborted → taken_status l.attempts n u x ≡ status_of l.attempts b i
+  standing a b legal begins i n u is x end_is not = ap (taken_status l.attempts n u) end_is ∙ sym (status_found l a b legal begins i n u is (λ p. not (end_is ∙ p)))
+
+  pub held_yet : (a b : List Event) → IsLegal l b → IsPrefix a b → (i n u : ℕ) → claim_word a i ≡ TakenWord n u → None ≡ end_of b u → Held u n ≡ status_of l.attempts b i
+  held_yet a b legal begins i n u is e = standing a b legal begins i n u is None e (λ p. absurd cc)
+
+  pub consumed_now : (a b : List Event) → IsLegal l b → IsPrefix a b → (i n u f m : ℕ) → claim_word a i ≡ TakenWord n u → Some (Committed f m) ≡ end_of b u → Consumed u ≡ status_of l.attempts b i
+  consumed_now a b legal begins i n u f m is e = standing a b legal begins i n u is (Some (Committed f m)) e (λ p. absurd cc)
+
+  pub taken_still : (a b : List Event) → IsLegal l b → IsPrefix a b → (i n u : ℕ) → claim_word a i ≡ TakenWord n u → (x : Option UnitEnd) → x ≡ end_of b u → x ≢ Some Aborted → TakenWord n u ≡ claim_word b i
+  taken_still a b legal begins i n u is x end_is not = sym (claim_stands l a b legal begins i n u is (λ p. not (end_is ∙ p)))
+
+  pub held_still : (a b : List Event) → IsLegal l b → IsPrefix a b → (i n u : ℕ) → claim_word a i ≡ TakenWord n u → None ≡ end_of b u → TakenWord n u ≡ claim_word b i
+  held_still a b legal begins i n u is e = taken_still a b legal begins i n u is None e (λ p. absurd cc)
+
+  pub consumed_still : (a b : List Event) → IsLegal l b → IsPrefix a b → (i n u f m : ℕ) → claim_word a i ≡ TakenWord n u → Some (Committed f m) ≡ end_of b u → TakenWord n u ≡ claim_word b i
+  consumed_still a b legal begins i n u f m is e = taken_still a b legal begins i n u is (Some (Committed f m)) e (λ p. absurd cc)
+
+  -- the unit was found aborted, and the same claim was found afterwards
+  pub returned : (a b : List Event) → IsLegal l b → IsPrefix a b → (i n u : ℕ) → end_of a u ≡ Some Aborted → claim_word b i ≡ TakenWord n u
+      → (n < l.attempts → Waiting n ≡ status_of l.attempts b i) × (l.attempts ≤ n → Parked n ≡ status_of l.attempts b i)
+  returned a b legal begins i n u ended is = let s = status_aborted l a b legal begins i n u ended is in go (nat_lt n l.attempts) refl s
+    where
+      go : (t : Bool) → nat_lt n l.attempts ≡ t → status_of l.attempts b i ≡ cond t (Waiting n) (Parked n) → (n < l.attempts → Waiting n ≡ status_of l.attempts b i) × (l.attempts ≤ n → Parked n ≡ status_of l.attempts b i)
+      go true e s = (λ _. sym s, λ high. let below : n < l.attempts = grind (arith, nat_tests) in absurd (omega arith))
+      go false e s = (λ below. let above : l.attempts ≤ n = grind (arith, nat_tests) in absurd (omega arith), λ _. sym s)
+
+  enough_other : (n u left : ℕ) (w : ClaimWord) → (w ≡ TakenWord n u) ⊎ ((n < attempt_in w) ⊎ (w ≡ KilledWord n u)) → w ≢ TakenWord n u → l.attempts < n + left → IsEnough l (left - 1) w
+  enough_other n u left FreeWord r not e = tt
+  enough_other n u left (TakenWord m v) r not e = ⊎_elim (λ p. absurd (not p)) (λ q. ⊎_elim (λ (less : n < m). (let x : l.attempts < m + (left - 1) = omega arith in x)) (λ p. absurd cc) q) r
+  enough_other n u left (KilledWord m v) r not e = tt
+
+  -- another claim has fewer attempts left
+  pub enough_next : (a b : List Event) → IsLegal l b → IsPrefix a b → (i n u left : ℕ) → claim_word a i ≡ TakenWord n u → claim_word b i ≢ TakenWord n u → l.attempts < n + left → IsEnough l (left - 1) (claim_word b i)
+  enough_next a b legal begins i n u left is not e =
+      let r = subst (λ w. (claim_word b i ≡ w) ⊎ ((attempt_in w < attempt_in (claim_word b i)) ⊎ (claim_word b i ≡ KilledWord n u))) is (rising (claim_word a i) is (words_rise l a b i legal begins)) in
+      enough_other n u left (claim_word b i) r not e
+    where
+      rising : (w : ClaimWord) → w ≡ TakenWord n u → Rises w (claim_word b i) → (claim_word b i ≡ w) ⊎ ((attempt_in w < attempt_in (claim_word b i)) ⊎ (claim_word b i ≡ KilledWord n u))
+      rising w at r = subst (λ z. (claim_word b i ≡ z) ⊎ ((attempt_in z < attempt_in (claim_word b i)) ⊎ (claim_word b i ≡ KilledWord n u))) (sym at) (subst (λ z. Rises z (claim_word b i)) at r)
+
+  pub enough_first : AreLimits l → (h : List Event) (i : ℕ) → IsLegal l h → IsEnough l l.attempts (claim_word h i)
+  enough_first fair h i legal = go (claim_word h i) (attempt_range l fair h legal i)
+    where
+      go : (w : ClaimWord) → ((n u : ℕ) → w ≡ TakenWord n u → (1 ≤ n) × (n ≤ l.attempts)) → IsEnough l l.attempts w
+      go FreeWord r = tt
+      go (TakenWord n u) r = let a = (r n u refl).0 in omega arith
+      go (KilledWord n u) r = tt
+
+  -- a claim with attempts left is not the last one
+  pub enough_some : AreLimits l → (h : List Event) (i n u left : ℕ) → IsLegal l h → claim_word h i ≡ TakenWord n u → l.attempts < n + left → 1 ≤ left
+  enough_some fair h i n u left legal is e = let a = (attempt_range l fair h legal i n u is).1 in omega arith

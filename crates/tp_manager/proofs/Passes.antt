@@ -1,0 +1,70 @@
+-- What is so of a pass after a call.
+use Rattle.std.proofs.Common.{◌≡◌, ℕ, ◌+◌, ◌*◌, ◌<◌, ◌≤◌, List, [], ◌∷◌, ◌++◌, length, drop, sym, refl, ap, ◌∙◌, subst, arith, append_assoc, Option, Some, None}
+use mathlib.Core.List.{IsPrefix}
+use Rattle.atomic_table.specs.Seated.{TableId}
+use Rattle.tp_model.specs.declared.types.Element.{Element}
+use Rattle.tp_model.specs.declared.types.Limits.{Limits}
+use Rattle.tp_model.specs.declared.event.Event.{Event}
+use Rattle.tp_model.specs.declared.trace.TraceEntry.{TraceEntry}
+use Rattle.tp_model.specs.History.{IsUnborn, element_of, IsClaim}
+use Rattle.tp_model.specs.Steps.{rows_of, IsLegal}
+use Rattle.tp_model.proofs.Bridges.{append_nil, begins_refl, begins_trans, claim_later, found_later, is_born, element_of-id}
+use Rattle.tp_model.proofs.Later.{births_inside}
+use Rattle.tp_rule.specs.Views.{Seated, hand, view_of}
+use Rattle.tp_rule.specs.declared.view.Hand.{Hand}
+use Rattle.tp_rule.specs.declared.view.View.{View}
+use Rattle.tp_manager.specs.declared.manager.Task.{Task}
+use Rattle.tp_manager.specs.Shown.{PassShown, shown}
+use Rattle.tp_manager.specs.Calls.{AtPoint, Follows, IsQuiet}
+use Rattle.tp_manager.specs.Walks.{Steady, Walked, Looked, Acted, Rests, IsTask, unit_in}
+use Rattle.tp_manager.specs.Calls.{claims_in, one_claim}
+use Rattle.tp_manager.proofs.Looks.{unborn_if}
+use Rattle.tp_manager.proofs.Walks.{walked_none, walked_begins, looked_begins, follows, at_point, has_looked}
+
+pub task_later : (h g : List Event) (c : ℕ) (task : Option Task) → IsPrefix h g → IsTask h c task → IsTask g c task
+task_later h g c None b t = tt
+task_later h g c (Some k) b t = (t.0, t.1, t.2, claim_later h g b c k.unit t.0 t.1 t.3, found_later h g b t.0 t.2 t.4, t.5)
+
+pub claims_append : (h m : List Event) → claims_in (h ++ m) ≡ claims_in h + claims_in m
+claims_append [] m = omega arith
+claims_append (e ∷ h) m = let i = claims_append h m in omega arith
+
+pub steady_at : (k l : Limits) (v : View) → k ≡ l → Steady k v → Steady l v
+steady_at k l v same s = subst (λ (z : Limits). Steady z v) same s
+
+module _ (l : Limits) (seat next : Seated) (same : (view_of seat).limits ≡ l) (number drawn used : ℕ) (task : Option Task) (r : Rests seat number drawn used task) where
+  -- the pass has looked, and no more
+  pub rests_looked : (n : ℕ) → Looked l n (view_of seat) (view_of next) → next.me.1 ≡ seat.me.1 → Rests next number drawn used task
+  rests_looked n a bare = let k = a.kept in let lim : l ≡ (view_of next).limits = sym a.walk.steady.pass.1 in record {
+    steady = steady_at l (view_of next).limits (view_of next) lim a.walk.steady;
+    bare = bare ∙ r.bare;
+    number_is = ap (λ (z : Hand). z.number) k ∙ r.number_is;
+    drawn_is = ap (λ (z : Hand). z.drawn) k ∙ r.drawn_is;
+    used_is = ap (λ (z : Hand). z.claimed) k ∙ r.used_is;
+    used_below = subst (λ (z : Limits). used ≤ z.units) (same ∙ lim) r.used_below;
+    claims = ap (λ (z : Hand). claims_in z.mine) k ∙ r.claims;
+    no_drafts = ap (λ (z : Hand). z.drafts) k ∙ r.no_drafts;
+    open_is = ap (λ (z : Hand). z.open_unit) k ∙ r.open_is;
+    work = task_later (view_of seat).seen (view_of next).seen number task (looked_begins l n (view_of seat) (view_of next) a) r.work;
+  }
+
+-- what a call that has looked shows
+module _ (t t' : TableId) (v w : View) (old : PassShown) (is : shown t v ≡ old) (l : Limits) (n : ℕ) (a : Looked l n v w) where
+  pub quiet_looked : IsQuiet old (shown t' w)
+  quiet_looked = let k = a.kept in record {
+    mine = ap (λ (z : Hand). z.mine) k ∙ ap (λ (p : PassShown). p.mine) is;
+    open_unit = ap (λ (z : Hand). z.open_unit) k ∙ ap (λ (p : PassShown). p.open_unit) is;
+    drawn = ap (λ (z : Hand). z.drawn) k ∙ ap (λ (p : PassShown). p.drawn) is;
+  }
+
+-- a call that made no step has its entry for a point
+pub point_none : (t : TableId) (v : View) (old : PassShown) → shown t v ≡ old → (l : Limits) → Steady l v → (Holds : List Event → Type 0) → Holds v.seen → AtPoint old (shown t v) Holds
+point_none t v old is l s Holds h = at_point t t v v old is l 0 [] (walked_none l v s) Holds v.seen (record { opened = begins_refl v.seen; seen = begins_refl v.seen }) h
+
+-- no element has an id from the capacity on
+pub unborn_beyond : (l : Limits) (h : List Event) (i : ℕ) → IsLegal l h → rows_of l ≤ i → IsUnborn h i
+unborn_beyond l h i legal out = unborn_if h i (λ x p. let b = births_inside l h legal x (is_born h i x p) in let at : x.id ≡ i = element_of-id h i x p in absurd (omega arith))
+
+pub task_none : (t : Option Task) → unit_in t ≡ None → t ≡ None
+task_none None e = refl
+task_none (Some k) e = absurd cc

@@ -1,0 +1,145 @@
+-- A row that was passed by, and a row whose element was taken.
+use Rattle.std.proofs.Common.{◌≡◌, ◌≢◌, ◌⊎◌, ℕ, suc, ◌+◌, ◌-◌, ◌*◌, ◌<◌, ◌≤◌, Option, Some, None, List, [], ◌∷◌, ◌++◌, sym, refl, ap, ◌∙◌, subst, inl, inr, ⊎_elim, arith, append_assoc, suc-mul, mul-le-mul_right}
+use Rattle.std.proofs.lemmas.Bool.Decides.{eqb_tells}
+use mathlib.Core.List.{IsPrefix}
+use Rattle.tp_model.specs.declared.types.Element.{Element}
+use Rattle.tp_model.specs.declared.types.Limits.{Limits}
+use Rattle.tp_model.specs.declared.types.Status.{Status}
+use Rattle.tp_model.specs.declared.types.Status.TheVariants.{Waiting, Held, Consumed, Parked, Killed}
+use Rattle.tp_model.specs.declared.event.Event.{Event}
+use Rattle.tp_model.specs.declared.event.Event.TheVariants.{Enqueue, Claim, Commit, Abort, Kill}
+use Rattle.tp_model.specs.declared.trace.StepKind.TheVariants as kinds
+use Rattle.tp_model.specs.History.{IsUnborn, element_of, status_after, status_of}
+use Rattle.tp_model.specs.Words.{ClaimWord, FreeWord, TakenWord, KilledWord, kill_word, claim_word, claim_word_after, word_status}
+use Rattle.tp_model.specs.Steps.{AreLimits, IsLegal, Step}
+use Rattle.tp_model.proofs.Lists.{if_same, if_other}
+use Rattle.tp_model.proofs.Histories.{along, status_of-snoc}
+use Rattle.tp_model.proofs.WordProofs.{claim_word-snoc, status_by_words}
+use Rattle.tp_model.proofs.Bridges.{in_none, begins_refl, begins_more, begins_trans, found_later, waits_below, waits_later}
+use Rattle.tp_words.specs.declared.words.Head.{Head}
+use Rattle.tp_words.specs.declared.words.Head.TheVariants.{There}
+use Rattle.tp_words.specs.Words.{head_of}
+use Rattle.tp_rule.specs.Steps.{AllowsClaim, Grew, MakesClaim, claimed, noted, with_claim}
+use Rattle.tp_rule.specs.Views.{hand}
+use Rattle.tp_rule.specs.declared.view.Hand.{Hand}
+use Rattle.tp_rule.specs.declared.view.View.{View}
+use Rattle.tp_manager.specs.declared.looking.Birth.{Birth}
+use Rattle.tp_manager.specs.Calls.{IsWaiting}
+use Rattle.tp_manager.specs.Looks.{HeadTold, IsThere}
+use Rattle.tp_manager.specs.Walks.{Steady, Walked, Looked, PassedBy, PassedBelow, Took, with_trace}
+use Rattle.tp_manager.proofs.Walks.{steady_own, grew_hand, grew_walked, walked_then, walked_few, looked_begins, walked_begins}
+
+module _ (l : Limits) (stage i : ℕ) where
+  pub pass_other : (a h b : List Event) → IsPrefix a h → ((x : Element) → element_of h i ≡ Some x → ¬ (x.stage ≡ stage)) → PassedBy l stage i a b
+  pass_other a h b begins others = λ x p st. absurd (others x (found_later a h begins i x p) st)
+
+  pub pass_unborn : (a h b : List Event) → IsPrefix a h → IsUnborn h i → PassedBy l stage i a b
+  pass_unborn a h b begins un = pass_other a h b begins (λ x p. absurd cc)
+
+  pub pass_birth : (a h b : List Event) (birth : Birth) → IsPrefix a h → IsThere h i birth → ¬ (birth.stage ≡ stage) → PassedBy l stage i a b
+  pass_birth a h b birth begins t not = pass_other a h b begins (λ x p st. let same : x ≡ t.0 = one x t.0 p t.1 in not (sym (staged t.0 t.2) ∙ (ap (λ (e : Element). e.stage) (sym same) ∙ st)))
+    where
+      one : (x y : Element) → element_of h i ≡ Some x → element_of h i ≡ Some y → x ≡ y
+      one x y p q = cc
+
+      staged : (e : Element) → head_of e ≡ There birth.stage birth.root birth.by → e.stage ≡ birth.stage
+      staged e q = cc
+
+  pub pass_status : (a h b : List Event) → IsPrefix a h → IsPrefix h b → ¬ IsWaiting (status_of l.attempts h i) → PassedBy l stage i a b
+  pass_status a h b before after not = λ x p st. (h, before, after, not)
+
+  -- between two histories in which the claim words of an element differ it didn't wait at some time
+  abbrev pub HasMoved : List Event → List Event → Type 0
+  HasMoved a z = (claim_word z i ≡ claim_word a i) ⊎ ((p : List Event) × IsPrefix a p × IsPrefix p z × ¬ IsWaiting (status_of l.attempts p i))
+
+  moved_more : (a x : List Event) (e : Event) → IsPrefix a x → HasMoved a x → HasMoved a (x ++ e ∷ [])
+  moved_more a x e begins m = ⊎_elim (λ same. now e same) (λ t. inr (t.0, t.1, begins_more t.0 x e t.2, t.3)) m
+    where
+      still : (e : Event) → claim_word x i ≡ claim_word a i → claim_word_after i (claim_word x i) e ≡ claim_word x i → HasMoved a (x ++ e ∷ [])
+      still e same after = inl (claim_word-snoc x e i ∙ (after ∙ same))
+
+      here : (e : Event) (s : Status) → status_after l.attempts i (status_of l.attempts x i) e ≡ s → ¬ IsWaiting s → HasMoved a (x ++ e ∷ [])
+      here e s is not = inr (x ++ e ∷ [], begins_more a x e begins, begins_refl (x ++ e ∷ []), λ w. not (w.0, sym (status_of-snoc l.attempts x e i ∙ is) ∙ w.1))
+
+      now : (e : Event) → claim_word x i ≡ claim_word a i → HasMoved a (x ++ e ∷ [])
+      now (Enqueue c y) same = still (Enqueue c y) same refl
+      now (Claim c v j n) same =
+          elim (eqb_tells j i) [
+            | inl q ↦ here (Claim c v j n) (Held v n) (if_same j i (Held v n) (status_of l.attempts x i) q.1) (λ w. let e = w.1 in absurd cc)
+            | inr q ↦ still (Claim c v j n) same (if_other j i (TakenWord n v) (claim_word x i) q.1)
+          ]
+      now (Commit c v outs) same = still (Commit c v outs) same refl
+      now (Abort c v) same = still (Abort c v) same refl
+      now (Kill c j) same =
+          elim (eqb_tells j i) [
+            | inl q ↦ here (Kill c j) Killed (if_same j i Killed (status_of l.attempts x i) q.1) (λ w. let e = w.1 in absurd cc)
+            | inr q ↦ still (Kill c j) same (if_other j i (kill_word (claim_word x i)) (claim_word x i) q.1)
+          ]
+
+  moved : (a b : List Event) → IsLegal l b → IsPrefix a b → HasMoved a b
+  moved a b legal begins = let P : List Event → Type 0 = λ z. IsPrefix a z × HasMoved a z in
+      let all : P (a ++ begins.0) = along l P (λ x e _ _ t. (begins_more a x e t.0, moved_more a x e t.0 t.1)) a begins.0 (rw begins.1 legal) (begins_refl a, inl refl) in
+      let there : P b = subst P begins.1 all in there.1
+
+  pub pass_missed : (a h b : List Event) (w : ClaimWord) → IsLegal l b → IsPrefix a h → IsPrefix h b → w ≡ claim_word h i → claim_word b i ≢ w → PassedBy l stage i a b
+  pass_missed a h b w legal before after found differs = λ x p st. ⊎_elim (λ same. absurd (differs (same ∙ sym found))) (λ t. (t.0, begins_trans a h t.0 before t.1, t.2, t.3)) (moved h b legal after)
+
+  -- where the element was found to wait, the next attempt may begin
+  pub allows : (h g : List Event) (w : ClaimWord) (n : ℕ) → IsLegal l h → IsPrefix h g → w ≡ claim_word h i → status_of l.attempts h i ≡ Waiting n → AllowsClaim l g w (n + 1)
+  allows h g w n legal begins found waits =
+      let at : word_status l.attempts h w ≡ Waiting n = ap (word_status l.attempts h) found ∙ (sym (status_by_words l h i legal) ∙ waits) in
+      let same : n ≡ n + 1 - 1 = omega arith in
+      (omega arith, waits_later l.attempts h g w n begins at ∙ ap Waiting same)
+
+  pub few_attempts : AreLimits l → (h : List Event) (n : ℕ) → IsLegal l h → status_of l.attempts h i ≡ Waiting n → n < 7
+  few_attempts fair h n legal waits = let less = waits_below l.attempts h (claim_word h i) n fair.attempts.0 (sym (status_by_words l h i legal) ∙ waits) in let most = fair.attempts.1 in omega arith
+
+module _ (l : Limits) (stage : ℕ) where
+  pub below_none : (a b : List Event) → PassedBelow l stage 0 a b
+  below_none a b = λ i less. absurd (omega arith)
+
+  pub below_next : (n : ℕ) (a h b : List Event) → IsPrefix a h → IsPrefix h b → PassedBelow l stage n a h → PassedBy l stage n h b → PassedBelow l stage (n + 1) a b
+  below_next n a h b before after all this i less x p st = elim (eqb_tells i n) [
+      | inl q ↦ (let at : element_of a n ≡ Some x = subst (λ z. element_of a z ≡ Some x) q.1 p in let t = this x (found_later a h before n x at) st in
+          (t.0, begins_trans a h t.0 before t.1, t.2, subst (λ z. ¬ IsWaiting (status_of l.attempts t.0 z)) (sym q.1) t.3))
+      | inr q ↦ (let not : i ≢ n = q.1 in let t = all i (omega arith) x p st in (t.0, t.1, begins_trans t.0 h b t.2 after, t.3))
+    ]
+
+  module _ (u attempt : ℕ) (e : Element) where
+    pub took_by : (n i : ℕ) (v w y : View) → e.id ≡ i → Looked l n v w → element_of w.seen i ≡ Some e → e.stage ≡ stage → MakesClaim w u i attempt y → Took l (n + 1) stage u v y e attempt
+    took_by n i v w y at a born staged made =
+        let g : MakesClaim w u e.id attempt y = subst (λ z. MakesClaim w u z attempt y) (sym at) made in
+        let E : Event = claimed w u e.id attempt in let f : Hand → Hand = with_claim u E in let s = a.walk.steady in
+        let h = grew_hand l kinds.ClaimExchange f (E ∷ []) w y s g in
+        let steady = steady_own l kinds.ClaimExchange f E w y s g refl (omega arith) s.shows.within refl refl (λ x p. absurd (in_none p)) in
+        let walk = grew_walked l kinds.ClaimExchange f (E ∷ []) w y s g tt refl refl steady in
+        let same : (hand w).number ≡ (hand v).number = a.walk.number in
+        record {
+          marks = a.marks ++ record { kind = kinds.ClaimExchange; seen = y.seen } ∷ [];
+          walk = walked_then l n 1 a.marks _ v w y a.walk walk;
+          kept = subst (λ k. hand y ≡ with_trace (hand y).trace (with_claim u (Claim k u e.id attempt) (hand v))) same
+              (h ∙ (ap (λ t. with_trace t (f (hand w))) (sym (ap (λ (z : Hand). z.trace) h)) ∙ ap (λ k. with_trace (hand y).trace (f k)) a.kept));
+          before = w.seen ++ g.between;
+          begins = begins_trans v.seen w.seen (w.seen ++ g.between) (looked_begins l n v w a) (g.between, refl);
+          ends = g.seen ∙ ap (λ k. (w.seen ++ g.between) ++ Claim k u e.id attempt ∷ []) same;
+          born = subst (λ z. element_of y.seen z ≡ Some e) (sym at) (found_later w.seen y.seen (walked_begins l 1 _ w y walk) i e born);
+          of_stage = staged;
+        }
+
+    pub took_then : (n m : ℕ) (v w y : View) → Looked l n v w → Took l m stage u w y e attempt → Took l (n + m) stage u v y e attempt
+    took_then n m v w y a t = let same : (hand w).number ≡ (hand v).number = a.walk.number in record {
+      marks = a.marks ++ t.marks;
+      walk = walked_then l n m a.marks t.marks v w y a.walk t.walk;
+      kept = subst (λ k. hand y ≡ with_trace (hand y).trace (with_claim u (Claim k u e.id attempt) (hand v))) same (t.kept ∙ ap (λ k. with_trace (hand y).trace (with_claim u (claimed w u e.id attempt) k)) a.kept);
+      before = t.before;
+      begins = begins_trans v.seen w.seen t.before (looked_begins l n v w a) t.begins;
+      ends = t.ends ∙ ap (λ k. t.before ++ Claim k u e.id attempt ∷ []) same;
+      born = t.born;
+      of_stage = t.of_stage;
+    }
+
+    pub took_few : (n m : ℕ) (v w : View) → n ≤ m → Took l n stage u v w e attempt → Took l m stage u v w e attempt
+    took_few n m v w le t = record { marks = t.marks; walk = walked_few l n m t.marks v w le t.walk; kept = t.kept; before = t.before; begins = t.begins; ends = t.ends; born = t.born; of_stage = t.of_stage }
+
+pub rows_more : (row rows s : ℕ) → row < rows → row * s + s ≤ rows * s
+rows_more row rows s less = let all : suc row * s ≤ rows * s = mul-le-mul_right s less in omega (arith, suc-mul row s)

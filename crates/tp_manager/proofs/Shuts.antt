@@ -1,0 +1,251 @@
+-- The drafts of a pass's own unit, and the unit's end.
+use Rattle.std.proofs.Common.{◌≡◌, ℕ, suc, ◌+◌, ◌*◌, ◌<◌, ◌≤◌, List, [], ◌∷◌, ◌++◌, length, slice_index_or, take, sym, refl, ap, ◌∙◌, subst, inl, inr, ⊎_elim, arith, append_assoc, length-append, mul-le-mul_right, Option, Some, None}
+use mathlib.Core.List.{IsPrefix}
+use Rattle.atomic_table.specs.Seated.{TableId}
+use Rattle.tp_model.specs.Drafts.{DraftView}
+use Rattle.std.specs.List.{All}
+use Rattle.std.proofs.lemmas.List.Elements.{All-head, All-tail}
+use Rattle.tp_model.specs.declared.types.Element.{Element}
+use Rattle.tp_model.specs.declared.types.Limits.{Limits}
+use Rattle.tp_model.specs.declared.event.Event.{Event}
+use Rattle.tp_model.specs.declared.event.Event.TheVariants.{Abort, Commit}
+use Rattle.tp_model.specs.declared.trace.StepKind.{StepKind}
+use Rattle.tp_model.specs.declared.trace.StepKind.TheVariants as kinds
+use Rattle.tp_model.specs.declared.trace.TraceEntry.{TraceEntry}
+use Rattle.tp_model.specs.History.{Aborted, Committed, In, UnitEnd, end_by, births, end_of, first_id, pass_of, element_of, IsClaim, claim_of}
+use Rattle.tp_model.specs.OneThread.{outputs, HasStage}
+use Rattle.tp_model.specs.Steps.{AreLimits, IsLegal, IsStage, rows_of, units_of}
+use Rattle.tp_model.proofs.Bridges.{append_nil, begins_refl, begins_trans, in_cons, in_none}
+use Rattle.std.specs.Prelude.{IfSome}
+use Rattle.std.specs.Option.{option_or}
+use Rattle.tp_model.proofs.Lists.{if_same}
+use Rattle.tp_model.proofs.WordProofs.{end_of-snoc}
+use Rattle.tp_model.proofs.Commits.{length-outputs, outputs_more}
+use Rattle.tp_model.proofs.Later.{aborted_by, abort_ends}
+use Rattle.tp_model.proofs.Bridges.{in_right}
+use Rattle.tp_model.specs.History.{here}
+use Rattle.tp_rule.specs.Views.{Seated, hand, next_row, view_of}
+use Rattle.tp_rule.specs.Steps.{Grew, Drafts, IsOut, IsOwnWork, IsClaimed, committed, drafted, next_element, noted, or_zero, with_amount, with_draft, with_end, with_key, with_lost}
+use Rattle.tp_rule.specs.declared.view.Hand.{Hand}
+use Rattle.tp_rule.specs.declared.view.View.{View}
+use Rattle.tp_manager.specs.declared.manager.Task.{Task}
+use Rattle.tp_manager.specs.Shown.{PassShown, shown}
+use Rattle.tp_manager.specs.Calls.{Adds, Closes, Commits, EndedByOther, IsEnded, IsLookingStep, Loses, claims_in}
+use Rattle.tp_manager.specs.Walks.{Rests, Shut, Steady, Walked, Wrote, output, unit_in, IsTask}
+use Rattle.tp_manager.proofs.Births.{claimed_inside}
+use Rattle.tp_manager.proofs.Passes.{claims_append, steady_at}
+use Rattle.tp_manager.proofs.Submits.{body_hand, body_seen, body_steady, body_walked, stored_hand, stored_seen, stored_steady, stored_walked}
+use Rattle.tp_manager.proofs.Walks.{grew_hand, grew_walked, steady_own, steady_quiet, walked_few, walked_none, walked_then, walked_begins}
+
+module _ (l : Limits) where
+  pub wrote_one : (row root unit : ℕ) (d : DraftView) (v0 v1 v2 v3 : View) → Steady l v0 → v1 ≡ drafted (with_key d.key) v0 → v2 ≡ drafted (with_amount d.amount) v1 → Drafts v2 d.stage root unit v3
+      → row ≡ (hand v0).number * l.rows + (hand v0).drawn → (hand v0).drawn < l.rows → Wrote l (output unit root row d ∷ []) v0 v3
+  wrote_one row root unit d v0 v1 v2 v3 s d1 d2 d3 next room =
+      let s2 = body_steady l d.key d.amount v0 v1 v2 s d1 d2 in
+      let x : Element = next_element v2 d.stage root (Some unit) in
+      let f : Hand → Hand = with_draft x in
+      let b = body_hand l d.key d.amount v0 v1 v2 s d1 d2 in
+      let h = stored_hand l f v2 v3 s2 d3 in
+      let seen : v3.seen ≡ v0.seen = stored_seen l f v2 v3 s2 d3 ∙ body_seen l d.key d.amount v0 v1 v2 s d1 d2 in
+      let drawn : (hand v2).drawn ≡ (hand v0).drawn = ap (λ (a : Hand). a.drawn) b in
+      let id : next_row v2 ≡ row = ap (λ (z : Limits). (hand v2).number * z.rows + (hand v2).drawn) s2.pass.1 ∙ (ap (λ (a : Hand). a.number * l.rows + a.drawn) b ∙ sym next) in
+      let same : x ≡ output unit root row d = (λ i. record { id = id i; stage = d.stage; root = root; key = or_zero (b i).next_key; amount = or_zero (b i).next_amount; by = Some unit }) in
+      let steady = stored_steady l f v2 v3 s2 d3 refl (omega arith) (omega arith) refl in
+      record {
+        marks = _;
+        walk = walked_then l 2 1 _ _ v0 v2 v3 (body_walked l d.key d.amount v0 v1 v2 s d1 d2) (stored_walked l f v2 v3 s2 d3 refl refl steady);
+        seen = seen;
+        drawn = ap (λ (a : Hand). a.drawn) h ∙ ap (λ (a : Hand). a.drawn + 1) b;
+        claimed = ap (λ (a : Hand). a.claimed) h ∙ ap (λ (a : Hand). a.claimed) b;
+        mine = ap (λ (a : Hand). a.mine) h ∙ ap (λ (a : Hand). a.mine) b;
+        drafts = ap (λ (a : Hand). a.drafts) h ∙ (ap (λ (a : Hand). a.drafts ++ x ∷ []) b ∙ ap (λ z. (hand v0).drafts ++ z ∷ []) same);
+        open_unit = ap (λ (a : Hand). a.open_unit) h ∙ ap (λ (a : Hand). a.open_unit) b;
+      }
+
+  pub wrote_none : (v : View) → Steady l v → Wrote l [] v v
+  wrote_none v s = record { marks = []; walk = walked_none l v s; seen = refl; drawn = omega arith; claimed = refl; mine = refl; drafts = sym (append_nil (hand v).drafts); open_unit = refl }
+
+  pub wrote_then : (xs ys : List Element) (v w y : View) → Wrote l xs v w → Wrote l ys w y → Wrote l (xs ++ ys) v y
+  wrote_then xs ys v w y a b = let g = walked_then l (3 * length xs) (3 * length ys) a.marks b.marks v w y a.walk b.walk in record {
+    marks = a.marks ++ b.marks;
+    walk = walked_few l (3 * length xs + 3 * length ys) (3 * length (xs ++ ys)) _ v y (omega (arith, length-append xs ys)) g;
+    seen = b.seen ∙ a.seen;
+    drawn = let p = a.drawn in let q = b.drawn in omega (arith, length-append xs ys);
+    claimed = b.claimed ∙ a.claimed;
+    mine = b.mine ∙ a.mine;
+    drafts = b.drafts ∙ (ap (λ z. z ++ ys) a.drafts ∙ append_assoc (hand v).drafts xs ys);
+    open_unit = b.open_unit ∙ a.open_unit;
+  }
+
+  shut_by : (kind : StepKind) (f : Hand → Hand) (es : List Event) (v w : View) → IsLookingStep kind → (s : Steady l v) → (g : Grew kind f es v w) → Steady l w → (f (hand v)).trace ≡ (hand v).trace → (f (hand v)).number ≡ (hand v).number → (f (hand v)).drawn ≡ (hand v).drawn
+      → (f (hand v)).claimed ≡ (hand v).claimed → (f (hand v)).mine ≡ (hand v).mine ++ es → (f (hand v)).drafts ≡ [] → (f (hand v)).open_unit ≡ None → Shut l 1 0 es v w
+  shut_by kind f es v w d s g steady t number drawn claimed mine drafts held = let x = grew_hand l kind f es v w s g in record {
+    marks = record { kind = kind; seen = w.seen } ∷ [];
+    walk = grew_walked l kind f es v w s g d t number steady;
+    before = v.seen ++ g.between;
+    begins = (g.between, refl);
+    ends = g.seen;
+    drawn = let d : (hand w).drawn ≡ (hand v).drawn = ap (λ (a : Hand). a.drawn) x ∙ drawn in omega arith;
+    claimed = ap (λ (a : Hand). a.claimed) x ∙ claimed;
+    mine = ap (λ (a : Hand). a.mine) x ∙ mine;
+    drafts = ap (λ (a : Hand). a.drafts) x ∙ drafts;
+    open_unit = ap (λ (a : Hand). a.open_unit) x ∙ held;
+  }
+
+  pub shut_hit : (kind : StepKind) (e : Event) (v w : View) → IsLookingStep kind → (s : Steady l v) → pass_of e ≡ (hand v).number → ((x : Element) → In x (births e) → x.id < (hand v).number * l.rows + (hand v).drawn) → Grew kind (with_end e) (e ∷ []) v w → Shut l 1 0 (e ∷ []) v w
+  shut_hit kind e v w d s own below g = shut_by kind (with_end e) (e ∷ []) v w d s g (steady_own l kind (with_end e) e v w s g refl (omega arith) s.shows.within refl own below) refl refl refl refl refl refl refl
+
+  pub shut_miss : (kind : StepKind) (v w : View) → IsLookingStep kind → (s : Steady l v) → Grew kind with_lost [] v w → Shut l 1 0 [] v w
+  shut_miss kind v w d s g = shut_by kind with_lost [] v w d s g (steady_quiet l kind with_lost v w s g refl refl refl) refl refl refl refl (sym (append_nil (hand v).mine)) refl refl
+
+pub other_abort : (c u : ℕ) (h : List Event) → end_of h u ≡ Some Aborted → ¬ (In (Abort c u) h) → EndedByOther c u h
+other_abort c u h lost not = let t = aborted_by h u lost in (t.0, t.1, λ same. not (subst (λ z. In (Abort z u) h) same t.1))
+
+-- the open unit is claimed
+pub task_claimed : (l : Limits) (h : List Event) (c : ℕ) (t : Task) → IsLegal l h → IsTask h c (Some t) → IsClaimed h t.unit × (t.unit < units_of l)
+task_claimed l h c t legal w = let k : IsClaimed h t.unit = (record { pass = c; item = w.0; attempt = w.1 }, w.3) in (k, claimed_inside l h t.unit k.0 legal k.1)
+
+-- an aborted unit has ended
+pub abort_ended : (u : ℕ) (c : ℕ) (h before : List Event) → h ≡ before ++ Abort c u ∷ [] → (how : UnitEnd) × (end_of h u ≡ Some how)
+abort_ended u c h before is = some (end_of h u) (abort_ends h c u (subst (λ (z : List Event). In (Abort c u) z) (sym is) (in_right before here)))
+  where
+    some : (o : Option UnitEnd) → ¬ (o ≡ None) → (how : UnitEnd) × (o ≡ Some how)
+    some None not = absurd (not refl)
+    some (Some x) not = (x, refl)
+
+-- a pass whose unit is closed
+pub shut_rests : (l : Limits) (n k : ℕ) (es : List Event) (seat next : Seated) (number drawn used drawn' : ℕ) (task : Option Task) → (view_of seat).limits ≡ l → Shut l n k es (view_of seat) (view_of next) → claims_in es ≡ 0 → next.me.1 ≡ seat.me.1 → drawn + k ≡ drawn' → Rests seat number drawn used task → Rests next number drawn' used None
+shut_rests l n k es seat next number drawn used drawn' task same t none bare more r = let w : View = view_of next in let lim : l ≡ w.limits = sym t.walk.steady.pass.1 in record {
+  steady = steady_at l w.limits w lim t.walk.steady;
+  bare = bare ∙ r.bare;
+  number_is = t.walk.number ∙ r.number_is;
+  drawn_is = t.drawn ∙ (ap (λ z. z + k) r.drawn_is ∙ more);
+  used_is = t.claimed ∙ r.used_is;
+  used_below = subst (λ (z : Limits). used ≤ z.units) (same ∙ lim) r.used_below;
+  claims = ap claims_in t.mine ∙ (claims_append (hand (view_of seat)).mine es ∙ (let c = r.claims in omega arith));
+  no_drafts = t.drafts;
+  open_is = t.open_unit;
+  work = tt;
+}
+
+pub shut_closes : (t t' : TableId) (v w : View) (old : PassShown) → shown t v ≡ old → (l : Limits) (n k u drawn : ℕ) (es : List Event) → Shut l n k es v w → (hand v).open_unit ≡ Some u → (how : UnitEnd) × (end_of w.seen u ≡ Some how) → old.drawn + k ≡ drawn → Closes u drawn old (shown t' w)
+shut_closes t t' v w old is l n k u drawn es sh held ended more = record {
+  was_open = sym (ap (λ (p : PassShown). p.open_unit) is) ∙ held;
+  open_unit = sh.open_unit;
+  ended = ended;
+  drawn_is = sh.drawn ∙ (ap (λ (p : PassShown). p.drawn + k) is ∙ more);
+}
+
+pub shut_adds : (t t' : TableId) (v w : View) (old : PassShown) → shown t v ≡ old → (l : Limits) (n k u : ℕ) → Shut l n k (Abort (hand v).number u ∷ []) v w → Adds (Abort old.number u) old (shown t' w)
+shut_adds t t' v w old is l n k u sh = subst (λ (p : PassShown). Adds (Abort p.number u) p (shown t' w)) is record { mine = sh.mine; before = sh.before; seen = sh.ends; begins = sh.begins }
+
+pub shut_loses : (t t' : TableId) (v w : View) (old : PassShown) → shown t v ≡ old → (l : Limits) (n k u : ℕ) → Shut l n k [] v w → end_of w.seen u ≡ Some Aborted → ¬ (In (Abort (hand v).number u) w.seen) → Loses u old (shown t' w)
+shut_loses t t' v w old is l n k u sh lost not = subst (λ (p : PassShown). Loses u p (shown t' w)) is (sh.mine ∙ append_nil (hand v).mine, other_abort (hand v).number u w.seen lost not)
+
+-- the drafts, and then the end
+pub wrote_shut : (l : Limits) (xs : List Element) (es : List Event) (v w y : View) → Wrote l xs v w → Shut l 1 0 es w y → Shut l (3 * length xs + 1) (length xs) es v y
+wrote_shut l xs es v w y wr sh = record {
+  marks = wr.marks ++ sh.marks;
+  walk = walked_then l (3 * length xs) 1 wr.marks sh.marks v w y wr.walk sh.walk;
+  before = sh.before;
+  begins = begins_trans v.seen w.seen sh.before (walked_begins l _ wr.marks v w wr.walk) sh.begins;
+  ends = sh.ends;
+  drawn = let a = sh.drawn in let b = wr.drawn in omega arith;
+  claimed = sh.claimed ∙ wr.claimed;
+  mine = sh.mine ∙ ap (λ z. z ++ es) wr.mine;
+  drafts = sh.drafts;
+  open_unit = sh.open_unit;
+}
+
+-- the outputs are in rows below the end of their range
+pub outs_below : (u root i : ℕ) (ds : List DraftView) (x : Element) → In x (outputs u root i ds) → x.id < i + length ds
+outs_below u root i [] x p = absurd (in_none p)
+outs_below u root i (d ∷ ds) x p = ⊎_elim (λ e. let at : x.id ≡ i = ap (λ (z : Element). z.id) e in omega arith) (λ q. let r = outs_below u root (i + 1) ds x q in omega arith) (in_cons p)
+
+pub outs_fit : (u root i : ℕ) (ds : List DraftView) (y : Element) → All HasStage ds → In y (outputs u root i ds) → IsOut u root y
+outs_fit u root i [] y staged p = absurd (in_none p)
+outs_fit u root i (d ∷ ds) y staged p =
+    ⊎_elim (λ e. subst (IsOut u root) (sym e) (All-head HasStage d ds staged, refl, refl)) (λ q. outs_fit u root (i + 1) ds y (All-tail HasStage d ds staged) q) (in_cons p)
+
+pub outs_first : (u root i : ℕ) (ds : List DraftView) (f : ℕ) → (0 < length ds → f ≡ i) → (length ds ≡ 0 → f ≡ 0) → f ≡ first_id (outputs u root i ds)
+outs_first u root i [] f a b = b refl
+outs_first u root i (d ∷ ds) f a b = a (omega arith)
+
+-- the unit with its drafts written
+module _ (l : Limits) (v w : View) (number drawn used row : ℕ) (t : Task) (ds : List DraftView) (seat : Seated) (same : view_of seat ≡ v) (r : Rests seat number drawn used (Some t)) (next : row ≡ number * l.rows + drawn) (wr : Wrote l (outputs t.unit t.root row ds) v w) where
+  outs_are : (hand w).drafts ≡ outputs t.unit t.root row ds
+  outs_are = wr.drafts ∙ ap (λ z. z ++ outputs t.unit t.root row ds) (subst (λ (z : View). (hand z).drafts ≡ []) same r.no_drafts)
+
+  pub own_count : length ds ≡ length (hand w).drafts
+  own_count = sym (ap length outs_are ∙ length-outputs t.unit t.root row ds)
+
+  pub own_first : (f : ℕ) → (0 < length ds → f ≡ row) → (length ds ≡ 0 → f ≡ 0) → f ≡ first_id (hand w).drafts
+  own_first f a b = outs_first t.unit t.root row ds f a b ∙ ap first_id (sym outs_are)
+
+  own_task : IsTask v.seen number (Some t)
+  own_task = subst (λ (z : View). IsTask z.seen number (Some t)) same r.work
+
+  own_number : (hand v).number ≡ number
+  own_number = subst (λ (z : View). (hand z).number ≡ number) same r.number_is
+
+  own_drawn : (hand v).drawn ≡ drawn
+  own_drawn = subst (λ (z : View). (hand z).drawn ≡ drawn) same r.drawn_is
+
+  pub own_work : All HasStage ds → IsOwnWork w t.unit
+  own_work staged = let k = own_task in record {
+    taking = record { pass = number; item = k.0; attempt = k.1 };
+    claimed = ap (λ z. claim_of z t.unit) wr.seen ∙ k.3;
+    own = sym (wr.walk.number ∙ own_number);
+    item = k.2;
+    taken = ap (λ z. element_of z k.0) wr.seen ∙ k.4;
+    outputs = λ y p. subst (λ z. IsOut t.unit z y) (sym k.5) (outs_fit t.unit t.root row ds y staged (subst (λ (xs : List Element). In y xs) outs_are p));
+  }
+
+  pub own_below : (x : Element) → In x (hand w).drafts → x.id < (hand w).number * l.rows + (hand w).drawn
+  own_below x p = let b = outs_below t.unit t.root row ds x (subst (λ (xs : List Element). In x xs) outs_are p) in let n : (hand w).number * l.rows ≡ number * l.rows = ap (λ z. z * l.rows) (wr.walk.number ∙ own_number) in
+      let d = wr.drawn in let e = own_drawn in let c = length-outputs t.unit t.root row ds in omega arith
+
+  pub committed_is : v.limits ≡ l → committed w t.unit ≡ Commit (hand v).number t.unit (outputs t.unit t.root ((hand v).number * v.limits.rows + (hand v).drawn) ds)
+  committed_is lim = let outs : (hand w).drafts ≡ outputs t.unit t.root ((hand v).number * v.limits.rows + (hand v).drawn) ds = outs_are ∙ ap (λ z. outputs t.unit t.root z ds) (next ∙ (λ i. sym own_number i * (sym lim i).rows + sym own_drawn i)) in
+      (λ i. Commit (wr.walk.number i) t.unit (outs i))
+
+  pub row_is : v.limits ≡ l → row ≡ (hand v).number * v.limits.rows + (hand v).drawn
+  row_is lim = next ∙ (λ i. sym own_number i * (sym lim i).rows + sym own_drawn i)
+
+pub outs_next : (u root id : ℕ) (ds : List DraftView) (i : ℕ) (d : DraftView) → i < length ds → d ≡ slice_index_or ds i d → outputs u root id (take (i + 1) ds) ≡ outputs u root id (take i ds) ++ output u root (id + i) d ∷ []
+outs_next u root id ds i d less is = let one : i + 1 ≡ suc i = omega arith in ap (λ n. outputs u root id (take n ds)) one ∙ outputs_more u root id ds i d less is
+
+pub units_few : (l : Limits) → AreLimits l → units_of l ≤ 32768
+units_few l f = let a = f.parts.1 in let b = f.units.1 in let m : l.parts * l.units ≤ 32 * l.units = mul-le-mul_right l.units a in omega arith
+
+-- a commit has an end of its unit
+pub commit_ended : (c u : ℕ) (h before : List Event) (outs : List Element) → h ≡ before ++ Commit c u outs ∷ [] → (how : UnitEnd) × (end_of h u ≡ Some how)
+commit_ended c u h before outs is = go (end_of before u) refl
+  where
+    last : end_of h u ≡ option_or (end_of before u) (end_by u (Commit c u outs))
+    last = ap (λ z. end_of z u) is ∙ end_of-snoc before (Commit c u outs) u
+
+    go : (o : Option UnitEnd) → end_of before u ≡ o → (how : UnitEnd) × (end_of h u ≡ Some how)
+    go None e = (Committed (first_id outs) (length outs), last ∙ (ap (λ o. option_or o (end_by u (Commit c u outs))) e ∙ if_same u u (Some (Committed (first_id outs) (length outs))) None refl))
+    go (Some x) e = (x, last ∙ ap (λ o. option_or o (end_by u (Commit c u outs))) e)
+
+-- the answer of a commit that was made
+pub committed_answer : (t t' : TableId) (l : Limits) (v w y : View) (old : PassShown) → shown t v ≡ old → (number drawn used row : ℕ) (k : Task) (ds : List DraftView) (seat : Seated) → view_of seat ≡ v → Rests seat number drawn used (Some k) → row ≡ number * l.rows + drawn
+    → Wrote l (outputs k.unit k.root row ds) v w → v.limits ≡ l → (hand v).open_unit ≡ Some k.unit → (f n : ℕ) → Shut l n (length ds) (committed w k.unit ∷ []) v y → (0 < length ds → f ≡ row) → (length ds ≡ 0 → f ≡ 0) → Commits f (length ds) ds old (shown t' y)
+committed_answer t t' l v w y old is number drawn used row k ds seat same r next wr lim held f n sh a b =
+    let e = committed_is l v w number drawn used row k ds seat same r next wr lim in
+    let work : IsTask v.seen number (Some k) = subst (λ (z : View). IsTask z.seen number (Some k)) same r.work in
+    let num : (hand v).number ≡ number = subst (λ (z : View). (hand z).number ≡ number) same r.number_is in
+    subst (λ (p : PassShown). Commits f (length ds) ds p (shown t' y)) is record {
+      unit = k.unit;
+      root = k.root;
+      root_is = (work.0, work.1, work.2, subst (λ c. IsClaim v.seen c k.unit work.0 work.1) (sym num) work.3, work.4, work.5);
+      closes = record { was_open = held; open_unit = sh.open_unit; ended = commit_ended (hand w).number k.unit y.seen sh.before (hand w).drafts sh.ends; drawn_is = sh.drawn };
+      adds = record { mine = sh.mine ∙ ap (λ z. (hand v).mine ++ z ∷ []) e; before = sh.before; seen = sh.ends ∙ ap (λ z. sh.before ++ z ∷ []) e; begins = sh.begins };
+      first_is = outs_first k.unit k.root row ds f a b ∙ ap (λ z. first_id (outputs k.unit k.root z ds)) (row_is l v w number drawn used row k ds seat same r next wr lim);
+      count_is = refl;
+    }
+
+-- what a closed unit leaves
+pub closed_ended : (u drawn : ℕ) (old new : PassShown) → Closes u drawn old new → IfSome old.open_unit (IsEnded new.seen)
+closed_ended u drawn old new k = subst (λ o. IfSome o (IsEnded new.seen)) (sym k.was_open) k.ended

@@ -1,0 +1,122 @@
+-- Draft stores, and the birth of a client's element.
+use Rattle.std.proofs.Common.{◌≡◌, ℕ, ◌+◌, ◌*◌, ◌<◌, ◌≤◌, List, [], ◌∷◌, ◌++◌, sym, refl, ap, ◌∙◌, subst, arith, append_assoc, Option, Some, None}
+use mathlib.Core.List.{IsPrefix}
+use Rattle.tp_model.specs.declared.types.Element.{Element}
+use Rattle.tp_model.specs.declared.types.Limits.{Limits}
+use Rattle.tp_model.specs.declared.event.Event.{Event}
+use Rattle.tp_model.specs.declared.trace.StepKind.TheVariants as kinds
+use Rattle.tp_model.specs.declared.trace.TraceEntry.{TraceEntry}
+use Rattle.tp_model.specs.History.{IsUnborn, events_by}
+use Rattle.tp_model.specs.Steps.{IsLegal}
+use Rattle.tp_model.proofs.Bridges.{begins_refl, in_one}
+use Rattle.tp_rule.specs.Views.{Seated, IsOnePass, hand, view_of}
+use Rattle.tp_rule.specs.Steps.{Publishes, birth, drafted, noted, with_amount, with_birth, with_key}
+use Rattle.tp_rule.specs.declared.view.Hand.{Hand}
+use Rattle.tp_rule.specs.declared.view.View.{View}
+use Rattle.tp_rule.proofs.Reading.{one_after}
+use Rattle.tp_manager.specs.declared.manager.Task.{Task}
+use Rattle.tp_manager.specs.Walks.{Steady, Walked, Rests}
+use Rattle.tp_manager.specs.Calls.{claims_in}
+use Rattle.tp_manager.proofs.Walks.{steady_own, grew_hand, grew_walked, walked_then, walked_begins}
+use Rattle.tp_manager.proofs.Passes.{claims_append, steady_at, task_later}
+
+module _ (l : Limits) (f : Hand → Hand) (v w : View) (s : Steady l v) (is : w ≡ drafted f v) where
+  stored_after : IsOnePass w × (hand w ≡ noted kinds.DraftStore v.seen (f (hand v))) × (w.limits ≡ v.limits)
+  stored_after = one_after kinds.DraftStore f v.seen v w s.pass.0 is
+
+  pub stored_hand : hand w ≡ noted kinds.DraftStore v.seen (f (hand v))
+  stored_hand = stored_after.1
+
+  pub stored_seen : w.seen ≡ v.seen
+  stored_seen = ap (λ (z : View). z.seen) is
+
+  pub stored_steady : (f (hand v)).number ≡ (hand v).number → (hand v).drawn ≤ (f (hand v)).drawn → (f (hand v)).drawn ≤ l.rows → (f (hand v)).mine ≡ (hand v).mine → Steady l w
+  stored_steady number more room mine =
+      let h = stored_hand in
+      let c : (hand w).number ≡ (hand v).number = ap (λ (a : Hand). a.number) h ∙ number in
+      let d : (hand w).drawn ≡ (f (hand v)).drawn = ap (λ (a : Hand). a.drawn) h in
+      record {
+        pass = (stored_after.0, stored_after.2 ∙ s.pass.1);
+        shows = record {
+          given = subst (λ n. n < l.parts) (sym c) s.shows.given;
+          legal = subst (IsLegal l) (sym stored_seen) s.shows.legal;
+          own = ap (λ (a : Hand). a.mine) h ∙ (mine ∙ (s.shows.own ∙ (ap (events_by (hand v).number) (sym stored_seen) ∙ ap (λ n. events_by n w.seen) (sym c))));
+          within = subst (λ n. n ≤ l.rows) (sym d) room;
+          unborn = λ i low high. let low' : (hand v).number * l.rows + (f (hand v)).drawn ≤ i = subst (λ n. n * l.rows + (f (hand v)).drawn ≤ i) c (subst (λ n. (hand w).number * l.rows + n ≤ i) d low) in
+              subst (λ z. IsUnborn z i) (sym stored_seen) (s.shows.unborn i (omega arith) (subst (λ n. i < n * l.rows + l.rows) c high));
+        };
+      }
+
+  pub stored_walked : (f (hand v)).number ≡ (hand v).number → (f (hand v)).trace ≡ (hand v).trace → Steady l w → Walked l 1 (record { kind = kinds.DraftStore; seen = v.seen } ∷ []) v w
+  stored_walked number trace steady = record {
+    traced = ap (λ (a : Hand). a.trace) stored_hand ∙ ap (λ t. t ++ record { kind = kinds.DraftStore; seen = v.seen } ∷ []) trace;
+    few = omega arith;
+    opens = begins_refl v.seen;
+    closes = subst (IsPrefix v.seen) (sym stored_seen) (begins_refl v.seen);
+    number = ap (λ (a : Hand). a.number) stored_hand ∙ number;
+    steady = steady;
+  }
+
+-- the stores of a row's key and amount
+module _ (l : Limits) (x y : ℕ) (v k a : View) (s : Steady l v) (key : k ≡ drafted (with_key x) v) (amount : a ≡ drafted (with_amount y) k) where
+  key_steady : Steady l k
+  key_steady = stored_steady l (with_key x) v k s key refl (omega arith) s.shows.within refl
+
+  pub body_steady : Steady l a
+  body_steady = stored_steady l (with_amount y) k a key_steady amount refl (omega arith) key_steady.shows.within refl
+
+  pub body_hand : hand a ≡ noted kinds.DraftStore k.seen (with_amount y (noted kinds.DraftStore v.seen (with_key x (hand v))))
+  body_hand = stored_hand l (with_amount y) k a key_steady amount ∙ ap (λ h. noted kinds.DraftStore k.seen (with_amount y h)) (stored_hand l (with_key x) v k s key)
+
+  pub body_seen : a.seen ≡ v.seen
+  body_seen = stored_seen l (with_amount y) k a key_steady amount ∙ stored_seen l (with_key x) v k s key
+
+  abbrev pub body_marks : List TraceEntry
+  body_marks = record { kind = kinds.DraftStore; seen = v.seen } ∷ record { kind = kinds.DraftStore; seen = k.seen } ∷ []
+
+  pub body_walked : Walked l 2 body_marks v a
+  body_walked = walked_then l 1 1 _ _ v k a (stored_walked l (with_key x) v k s key refl refl key_steady) (stored_walked l (with_amount y) k a key_steady amount refl refl body_steady)
+
+-- a submit as a whole
+module _ (l : Limits) (x y stage : ℕ) (v k a w : View) (s : Steady l v) (key : k ≡ drafted (with_key x) v) (amount : a ≡ drafted (with_amount y) k) (g : Publishes a stage w) (room : (hand v).drawn < l.rows) where
+  abbrev E : Event
+  E = birth a stage
+
+  pub made_hand : hand w ≡ noted kinds.Publish w.seen (with_birth E (hand a))
+  made_hand = grew_hand l kinds.Publish (with_birth E) (E ∷ []) a w (body_steady l x y v k a s key amount) g
+
+  before_steady : Steady l a
+  before_steady = body_steady l x y v k a s key amount
+
+  pub made_steady : Steady l w
+  made_steady = let drawn : (hand a).drawn ≡ (hand v).drawn = ap (λ (z : Hand). z.drawn) (body_hand l x y v k a s key amount) in
+      steady_own l kinds.Publish (with_birth E) E a w before_steady g refl (omega arith) (omega arith) refl refl
+      (λ e p. let at : e.id ≡ (hand a).number * a.limits.rows + (hand a).drawn = ap (λ (z : Element). z.id) (in_one p) in
+      let rows : (hand a).number * a.limits.rows ≡ (hand a).number * l.rows = ap (λ (z : Limits). (hand a).number * z.rows) before_steady.pass.1 in omega arith)
+
+  pub made_walked : Walked l 3 (body_marks l x y v k a s key amount ++ record { kind = kinds.Publish; seen = w.seen } ∷ []) v w
+  made_walked = walked_then l 2 1 _ _ v a w (body_walked l x y v k a s key amount) (grew_walked l kinds.Publish (with_birth E) (E ∷ []) a w before_steady g tt refl refl made_steady)
+
+  made_all : hand w ≡ noted kinds.Publish w.seen (with_birth E (noted kinds.DraftStore k.seen (with_amount y (noted kinds.DraftStore v.seen (with_key x (hand v))))))
+  made_all = made_hand ∙ ap (λ h. noted kinds.Publish w.seen (with_birth E h)) (body_hand l x y v k a s key amount)
+
+pub made_rests : (l : Limits) (x y stage : ℕ) (seat next : Seated) (k a : View) → (same : (view_of seat).limits ≡ l) → (s : Steady l (view_of seat)) → (key : k ≡ drafted (with_key x) (view_of seat)) → (amount : a ≡ drafted (with_amount y) k) → Publishes a stage (view_of next)
+    → (hand (view_of seat)).drawn < l.rows → next.me.1 ≡ seat.me.1 → (number drawn used : ℕ) (task : Option Task) → Rests seat number drawn used task → Rests next number (drawn + 1) used task
+made_rests l x y stage seat next k a same s key amount g room bare number drawn used task r =
+    let v : View = view_of seat in let w : View = view_of next in
+    let h = made_all l x y stage v k a w s key amount g room in
+    let steady : Steady l w = made_steady l x y stage v k a w s key amount g room in
+    let lim : l ≡ w.limits = sym steady.pass.1 in
+    let walk = made_walked l x y stage v k a w s key amount g room in
+    record {
+      steady = steady_at l w.limits w lim steady;
+      bare = bare ∙ r.bare;
+      number_is = ap (λ (z : Hand). z.number) h ∙ r.number_is;
+      drawn_is = ap (λ (z : Hand). z.drawn) h ∙ ap (λ n. n + 1) r.drawn_is;
+      used_is = ap (λ (z : Hand). z.claimed) h ∙ r.used_is;
+      used_below = subst (λ (z : Limits). used ≤ z.units) (same ∙ lim) r.used_below;
+      claims = ap (λ (z : Hand). claims_in z.mine) h ∙ (claims_append (hand v).mine (birth a stage ∷ []) ∙ (let c = r.claims in omega arith));
+      no_drafts = ap (λ (z : Hand). z.drafts) h;
+      open_is = ap (λ (z : Hand). z.open_unit) h ∙ r.open_is;
+      work = task_later v.seen w.seen number task (walked_begins l 3 _ v w walk) r.work;
+    }

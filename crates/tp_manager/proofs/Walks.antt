@@ -1,0 +1,188 @@
+-- What a step leaves of the view, and what the steps of two parts of a call leave.
+use Rattle.std.proofs.Common.{◌≡◌, ◌≢◌, ℕ, ◌+◌, ◌*◌, ◌<◌, ◌≤◌, List, [], ◌∷◌, ◌++◌, map, length, drop, sym, refl, ap, ◌∙◌, subst, arith, append_assoc, length-append}
+use mathlib.Core.List.{IsPrefix}
+use Rattle.atomic_table.specs.Seated.{TableId}
+use Rattle.tp_model.specs.declared.types.Element.{Element}
+use Rattle.tp_model.specs.declared.types.Limits.{Limits}
+use Rattle.tp_model.specs.declared.event.Event.{Event}
+use Rattle.tp_model.specs.declared.trace.StepKind.{StepKind}
+use Rattle.tp_model.specs.declared.trace.TraceEntry.{TraceEntry}
+use Rattle.tp_model.specs.History.{In, here, there, births, IsUnborn, pass_of, events_by}
+use Rattle.tp_model.specs.Steps.{IsLegal}
+use Rattle.tp_model.specs.Passes.{IsPassView, IsPoint, opening_of}
+use Rattle.tp_model.proofs.Histories.{legal_start}
+use Rattle.tp_model.proofs.Bridges.{append_nil, begins_refl, begins_trans, by_own, unborn_still}
+use Rattle.tp_rule.specs.Views.{IsOnePass, hand}
+use Rattle.tp_rule.specs.Steps.{Grew, noted, unchanged}
+use Rattle.tp_rule.specs.declared.view.Hand.{Hand}
+use Rattle.tp_rule.specs.declared.view.View.{View}
+use Rattle.tp_rule.proofs.Reading.{one_after, grew_begins}
+use Rattle.tp_manager.specs.Calls.{HasStep, IsLookingStep, Follows, AtPoint, HasLooked, steps_of, opening}
+use Rattle.tp_manager.specs.Shown.{PassShown, shown}
+use Rattle.tp_manager.specs.Walks.{Steady, Walked, Looked, Acted, pass_in, with_trace}
+use Rattle.tp_manager.proofs.Points.{opening_one, opening_later, opening_kept, opens_later, has_more, has_later, drop_steps}
+use Rattle.tp_manager.proofs.Rows.{unborn_quiet}
+
+module _ (l : Limits) (kind : StepKind) (f : Hand → Hand) (es : List Event) (v w : View) (s : Steady l v) (g : Grew kind f es v w) where
+  pub grew_one : IsOnePass w × (hand w ≡ noted kind w.seen (f (hand v))) × (w.limits ≡ v.limits)
+  grew_one = one_after kind f w.seen v w s.pass.0 g.view
+
+  pub grew_hand : hand w ≡ noted kind w.seen (f (hand v))
+  grew_hand = grew_one.1
+
+  pub grew_seen : IsPrefix v.seen w.seen
+  grew_seen = grew_begins kind f es v w g
+
+  pub grew_legal : IsLegal l w.seen
+  grew_legal = subst (λ (z : Limits). IsLegal z w.seen) s.pass.1 g.legal
+
+  grew_own : (hand w).mine ≡ events_by (hand w).number w.seen
+  grew_own = g.mine (hand w) (subst (λ (hs : List Hand). In (hand w) hs) (sym grew_one.0) here)
+
+  grew_steady : (f (hand v)).number ≡ (hand v).number → (f (hand v)).drawn ≤ l.rows
+      → ((i : ℕ) → (hand w).number * l.rows + (hand w).drawn ≤ i → i < (hand w).number * l.rows + l.rows → IsUnborn w.seen i) → Steady l w
+  grew_steady number room un = let h = grew_hand in record {
+    pass = (grew_one.0, grew_one.2 ∙ s.pass.1);
+    shows = record {
+      given = subst (λ n. n < l.parts) (sym (ap (λ (a : Hand). a.number) h ∙ number)) s.shows.given;
+      legal = grew_legal;
+      own = grew_own;
+      within = subst (λ n. n ≤ l.rows) (sym (ap (λ (a : Hand). a.drawn) h)) room;
+      unborn = un;
+    };
+  }
+
+  pub grew_walked : IsLookingStep kind → (f (hand v)).trace ≡ (hand v).trace → (f (hand v)).number ≡ (hand v).number → Steady l w → Walked l 1 (record { kind = kind; seen = w.seen } ∷ []) v w
+  grew_walked d trace number steady = let o = opening_one v.seen (record { kind = kind; seen = w.seen }) d in record {
+    traced = ap (λ (a : Hand). a.trace) grew_hand ∙ ap (λ t. t ++ record { kind = kind; seen = w.seen } ∷ []) trace;
+    few = omega arith;
+    opens = subst (IsPrefix v.seen) (sym o) grew_seen;
+    closes = subst (λ z. IsPrefix z w.seen) (sym o) (begins_refl w.seen);
+    number = ap (λ (a : Hand). a.number) grew_hand ∙ number;
+    steady = steady;
+  }
+
+-- a step without an event
+pub steady_quiet : (l : Limits) (kind : StepKind) (f : Hand → Hand) (v w : View) → Steady l v → Grew kind f [] v w → (f (hand v)).number ≡ (hand v).number → (f (hand v)).drawn ≡ (hand v).drawn → (f (hand v)).mine ≡ (hand v).mine → Steady l w
+steady_quiet l kind f v w s g number drawn mine =
+    let h = grew_hand l kind f [] v w s g in
+    let c : (hand w).number ≡ (hand v).number = ap (λ (a : Hand). a.number) h ∙ number in
+    let d : (hand w).drawn ≡ (hand v).drawn = ap (λ (a : Hand). a.drawn) h ∙ drawn in
+    let m : events_by (hand v).number w.seen ≡ events_by (hand v).number v.seen = ap (λ n. events_by n w.seen) (sym c) ∙ (sym (grew_own l kind f [] v w s g) ∙ (ap (λ (a : Hand). a.mine) h ∙ (mine ∙ s.shows.own))) in
+    let few : length (events_by (hand v).number w.seen) ≤ length (events_by (hand v).number v.seen) = let e = ap length m in omega arith in
+    grew_steady l kind f [] v w s g number (subst (λ n. n ≤ l.rows) (sym drawn) s.shows.within)
+        (λ i low high. let low' : (hand v).number * l.rows + (hand v).drawn ≤ i = subst (λ n. n * l.rows + (hand v).drawn ≤ i) c (subst (λ n. (hand w).number * l.rows + n ≤ i) d low) in
+        let high' : i < (hand v).number * l.rows + l.rows = subst (λ n. i < n * l.rows + l.rows) c high in
+        unborn_quiet l (hand v).number i (s.shows.given, omega arith, high') v.seen (s.shows.unborn i low' high') w.seen (grew_legal l kind f [] v w s g) (grew_seen l kind f [] v w s g) few)
+
+-- a step with an event of the pass, which bears nothing in the rows that the pass has not used then
+pub steady_own : (l : Limits) (kind : StepKind) (f : Hand → Hand) (e : Event) (v w : View) → Steady l v → Grew kind f (e ∷ []) v w → (f (hand v)).number ≡ (hand v).number
+    → (hand v).drawn ≤ (f (hand v)).drawn → (f (hand v)).drawn ≤ l.rows → (f (hand v)).mine ≡ (hand v).mine ++ e ∷ [] → pass_of e ≡ (hand v).number
+    → ((x : Element) → In x (births e) → x.id < (hand v).number * l.rows + (f (hand v)).drawn) → Steady l w
+steady_own l kind f e v w s g number more room mine own below =
+    let h = grew_hand l kind f (e ∷ []) v w s g in
+    let k : ℕ = (hand v).number in
+    let p : List Event = v.seen ++ g.between in
+    let c : (hand w).number ≡ k = ap (λ (a : Hand). a.number) h ∙ number in
+    let d : (hand w).drawn ≡ (f (hand v)).drawn = ap (λ (a : Hand). a.drawn) h in
+    let legal : IsLegal l (p ++ e ∷ []) = subst (IsLegal l) g.seen (grew_legal l kind f (e ∷ []) v w s g) in
+    let m : events_by k p ++ e ∷ [] ≡ events_by k v.seen ++ e ∷ [] = sym (by_own k p e own) ∙ (ap (events_by k) (sym g.seen) ∙ (ap (λ n. events_by n w.seen) (sym c) ∙ (sym (grew_own l kind f (e ∷ []) v w s g) ∙ (ap (λ (a : Hand). a.mine) h ∙ (mine ∙ ap (λ z. z ++ e ∷ []) s.shows.own))))) in
+    let few : length (events_by k p) ≤ length (events_by k v.seen) = (let q = ap length m in let a = length-append (events_by k p) (e ∷ []) in let b = length-append (events_by k v.seen) (e ∷ []) in omega arith) in
+    grew_steady l kind f (e ∷ []) v w s g number room
+        (λ i low high. let low' : k * l.rows + (f (hand v)).drawn ≤ i = subst (λ n. n * l.rows + (f (hand v)).drawn ≤ i) c (subst (λ n. (hand w).number * l.rows + n ≤ i) d low) in
+        let high' : i < k * l.rows + l.rows = subst (λ n. i < n * l.rows + l.rows) c high in
+        subst (λ z. IsUnborn z i) (sym g.seen)
+          (unborn_still p e i (unborn_quiet l k i (s.shows.given, omega arith, high') v.seen (s.shows.unborn i (omega arith) high') p (legal_start l p (e ∷ []) legal) (g.between, refl) few)
+            (λ x q same. let b = below x q in let z : x.id ≡ i = same in omega arith)))
+
+module _ (l : Limits) where
+  pub walked_none : (v : View) → Steady l v → Walked l 0 [] v v
+  walked_none v s = record { traced = sym (append_nil (hand v).trace); few = omega arith; opens = begins_refl v.seen; closes = begins_refl v.seen; number = refl; steady = s }
+
+  pub walked_begins : (n : ℕ) (ms : List TraceEntry) (v w : View) → Walked l n ms v w → IsPrefix v.seen w.seen
+  walked_begins n ms v w a = begins_trans _ _ _ a.opens a.closes
+
+  pub walked_then : (n m : ℕ) (ms ns : List TraceEntry) (v w x : View) → Walked l n ms v w → Walked l m ns w x → Walked l (n + m) (ms ++ ns) v x
+  walked_then n m ms ns v w x a b = record {
+    traced = b.traced ∙ (ap (λ t. t ++ ns) a.traced ∙ append_assoc (hand v).trace ms ns);
+    few = let p = a.few in let q = b.few in omega (arith, length-append ms ns);
+    opens = opens_later v.seen w.seen ms ns a.opens a.closes b.opens;
+    closes = begins_trans _ _ _ (opening_later v.seen w.seen ms ns a.closes b.opens) b.closes;
+    number = b.number ∙ a.number;
+    steady = b.steady;
+  }
+
+  pub walked_few : (n m : ℕ) (ms : List TraceEntry) (v w : View) → n ≤ m → Walked l n ms v w → Walked l m ms v w
+  walked_few n m ms v w le a = record { traced = a.traced; few = let p = a.few in omega arith; opens = a.opens; closes = a.closes; number = a.number; steady = a.steady }
+
+  -- a point of the second part is one of both
+  pub point_second : (n m : ℕ) (ms ns : List TraceEntry) (v w x : View) → Walked l n ms v w → Walked l m ns w x → (p : List Event) → IsPoint (opening_of w.seen ns) x.seen p → IsPoint (opening_of v.seen (ms ++ ns)) x.seen p
+  point_second n m ms ns v w x a b p q = record { opened = begins_trans _ _ _ (opening_later v.seen w.seen ms ns a.closes b.opens) q.opened; seen = q.seen }
+
+  -- and so is a point of the first, where that has a step that is no draft store
+  pub point_first : (m : ℕ) (ms ns : List TraceEntry) (v w x : View) → HasStep ms → Walked l m ns w x → (p : List Event) → IsPoint (opening_of v.seen ms) w.seen p → IsPoint (opening_of v.seen (ms ++ ns)) x.seen p
+  point_first m ms ns v w x h b p q = record {
+    opened = subst (λ z. IsPrefix z p) (sym (opening_kept v.seen ms ns h.0 h.1 h.2)) q.opened;
+    seen = begins_trans _ _ _ q.seen (walked_begins m ns w x b);
+  }
+
+  pub point_last : (n : ℕ) (ms : List TraceEntry) (v w : View) → Walked l n ms v w → IsPoint (opening_of v.seen ms) w.seen w.seen
+  point_last n ms v w a = record { opened = a.closes; seen = begins_refl w.seen }
+
+  pub acted_by : (kind : StepKind) (v w : View) → Steady l v → IsLookingStep kind → Grew kind unchanged [] v w → Acted l 1 v w
+  acted_by kind v w s d g = record {
+    marks = record { kind = kind; seen = w.seen } ∷ [];
+    walk = grew_walked l kind unchanged [] v w s g d refl refl (steady_quiet l kind unchanged v w s g refl refl refl);
+    kept = let e = grew_hand l kind unchanged [] v w s g in e ∙ ap (λ t. with_trace t (hand v)) (sym (ap (λ (a : Hand). a.trace) e));
+    step = (record { kind = kind; seen = w.seen }, here, d);
+  }
+
+  pub looked : (n : ℕ) (v w : View) → Acted l n v w → Looked l n v w
+  looked n v w a = record { marks = a.marks; walk = a.walk; kept = a.kept }
+
+  pub looked_none : (v : View) → Steady l v → Looked l 0 v v
+  looked_none v s = record { marks = []; walk = walked_none v s; kept = refl }
+
+  pub looked_then : (n m : ℕ) (v w x : View) → Looked l n v w → Looked l m w x → Looked l (n + m) v x
+  looked_then n m v w x a b = record { marks = a.marks ++ b.marks; walk = walked_then n m a.marks b.marks v w x a.walk b.walk; kept = b.kept ∙ ap (λ z. with_trace (hand x).trace z) a.kept }
+
+  pub looked_few : (n m : ℕ) (v w : View) → n ≤ m → Looked l n v w → Looked l m v w
+  looked_few n m v w le a = record { marks = a.marks; walk = walked_few n m a.marks v w le a.walk; kept = a.kept }
+
+  pub looked_begins : (n : ℕ) (v w : View) → Looked l n v w → IsPrefix v.seen w.seen
+  looked_begins n v w a = walked_begins n a.marks v w a.walk
+
+  pub acted_then : (n m : ℕ) (v w x : View) → Acted l n v w → Looked l m w x → Acted l (n + m) v x
+  acted_then n m v w x a b = record {
+    marks = a.marks ++ b.marks;
+    walk = walked_then n m a.marks b.marks v w x a.walk b.walk;
+    kept = b.kept ∙ ap (λ z. with_trace (hand x).trace z) a.kept;
+    step = has_more a.marks b.marks a.step;
+  }
+
+  pub acted_few : (n m : ℕ) (v w : View) → n ≤ m → Acted l n v w → Acted l m v w
+  acted_few n m v w le a = record { marks = a.marks; walk = walked_few n m a.marks v w le a.walk; kept = a.kept; step = a.step }
+
+-- what a caller sees of the steps of a call
+module _ (t t' : TableId) (v w : View) (old : PassShown) (is : shown t v ≡ old) (l : Limits) (n : ℕ) (ms : List TraceEntry) (a : Walked l n ms v w) where
+  pub steps_are : steps_of old (shown t' w) ≡ ms
+  steps_are = ap (λ (p : PassShown). drop (length p.trace) (hand w).trace) (sym is) ∙ (ap (drop (length (hand v).trace)) a.traced ∙ drop_steps (hand v).trace ms)
+
+  pub opening_is : opening old (shown t' w) ≡ opening_of v.seen ms
+  opening_is = ap (λ z. opening_of old.seen z) steps_are ∙ ap (λ (p : PassShown). opening_of p.seen ms) (sym is)
+
+  pub follows : (m : ℕ) → n ≤ m → Follows m old (shown t' w)
+  follows m le = record {
+    shows = subst (λ (z : Limits). IsPassView z (pass_in w)) (sym a.steady.pass.1) a.steady.shows;
+    number = a.number ∙ ap (λ (p : PassShown). p.number) is;
+    traced = a.traced ∙ (ap (λ z. (hand v).trace ++ z) (sym steps_are) ∙ ap (λ (p : PassShown). p.trace ++ steps_of old (shown t' w)) is);
+    few = let p = a.few in subst (λ z. length z ≤ m) (sym steps_are) (omega arith);
+    opened = subst (IsPrefix old.seen) (sym opening_is) (subst (λ (p : PassShown). IsPrefix p.seen (opening_of v.seen ms)) is a.opens);
+    closed = subst (λ z. IsPrefix z w.seen) (sym opening_is) a.closes;
+  }
+
+  pub at_point : (Holds : List Event → Type 0) (p : List Event) → IsPoint (opening_of v.seen ms) w.seen p → Holds p → AtPoint old (shown t' w) Holds
+  at_point Holds p q h = (p, subst (λ z. IsPoint z w.seen p) (sym opening_is) q, h)
+
+  pub has_looked : HasStep ms → HasLooked old (shown t' w)
+  has_looked h = subst HasStep (sym steps_are) h

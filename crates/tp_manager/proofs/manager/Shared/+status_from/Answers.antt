@@ -1,0 +1,102 @@
+use Rattle.std.proofs.Common.{◌≡◌, ◌≢◌, ◌+◌, ◌-◌, ◌*◌, ◌<◌, ◌≤◌, ℕ, sym, ◌∙◌, refl, ap, arith, rules, subst, Some, None}
+use Rattle.tp_model.specs.declared.types.Limits.{Limits}
+use Rattle.tp_model.specs.History.{Aborted, end_of}
+use Rattle.tp_model.specs.Words.{TakenWord, claim_word}
+use Rattle.tp_model.proofs.Bridges.{status_free, status_killed}
+use Rattle.tp_model.proofs.Later.{unit_inside}
+use Rattle.tp_words.specs.Words.{claim_value, unit_value}
+use Rattle.tp_rule.specs.Tables.{limits_of}
+use Rattle.tp_rule.specs.Views.{seen_by, view_of}
+use Rattle.tp_rule.proofs.Reading.{grew_begins}
+use Rattle.tp_manager.specs.Looks.{IsEnough}
+use Rattle.tp_manager.specs.Walks.{Acted, Looked}
+use Rattle.tp_manager.proofs.Walks.{acted_by, looked, looked_none, looked_few, looked_then, looked_begins}
+use Rattle.tp_manager.proofs.Looks.{claim_is, held_yet, held_still, consumed_now, consumed_still, returned, enough_next, enough_some}
+use Rattle.tp_manager.proofs.manager.Shared.+status_from.Goals as goal
+use Rattle.tp_manager.proofs.manager.Shared.+status_from.Goals.{In-Taken, After-load_unit, After-load_claim-again}
+
+taken : (t : ℕ) (c : In-Taken t) → claim_word (seen_by c.args.seat.now) c.args.row ≡ TakenWord c.in-Taken.attempt c.in-Taken.unit
+taken t c = sym c.requires.found.0 ∙ ap claim_value c.in-Taken.is
+
+less : (t : ℕ) (c : In-Taken t) → (limits_of c.args.self.now.words).attempts < c.in-Taken.attempt + c.args.left
+less t c = subst (λ w. IsEnough (limits_of c.args.self.now.words) c.args.left (claim_value w)) c.in-Taken.is c.requires.enough
+
+some : (t : ℕ) (c : In-Taken t) → 1 ≤ c.args.left
+some t c = enough_some (limits_of c.args.self.now.words) c.args.self.now.words.places.valid (seen_by c.args.seat.now) c.args.row c.in-Taken.attempt c.in-Taken.unit c.args.left c.requires.steady.shows.legal (taken t c) (less t c)
+
+one : (t : ℕ) (c : After-load_unit t) → Looked (limits_of c.args.self.now.words) 1 (view_of c.args.seat.now) (view_of c.load_unit.new.seat)
+one t c = looked _ 1 _ _ (acted_by _ _ _ _ c.requires.steady tt c.load_unit.ensures.grew)
+
+two : (t : ℕ) (c : After-load_claim-again t) → Looked (limits_of c.args.self.now.words) 1 (view_of c.args.seat.now) (view_of c.load_unit.new.seat) → Looked (limits_of c.args.self.now.words) 2 (view_of c.args.seat.now) (view_of c.load_claim-again.new.seat)
+two t c o = looked_then _ 1 1 _ _ _ o (looked _ 1 _ _ (acted_by _ _ _ _ o.walk.steady tt c.load_claim-again.ensures.grew))
+
+pub load_unit-requires-clause-unit : goal.load_unit-requires-clause-unit
+load_unit-requires-clause-unit t c = unit_inside (limits_of c.args.self.now.words) (seen_by c.args.seat.now) c.args.row c.in-Taken.attempt c.in-Taken.unit c.requires.steady.shows.legal (taken t (goal.at.load_unit-requires-clause-unit t c).In-Taken)
+
+pub overflow_sub-left : goal.overflow_sub-left
+overflow_sub-left t c = some t (goal.at.overflow_sub-left t c).In-Taken
+
+pub status_from-requires : goal.status_from-requires
+status_from-requires t c = let at = goal.at.status_from-requires t c in let i = at.In-Taken in let s = some t i in let b = two t at.After-load_claim-again (one t at.After-load_unit) in let again = c.load_claim-again.ensures in
+    let differs : c.load_claim-again.result ≢ c.args.claim = search rules in
+    let not : claim_word (seen_by c.load_claim-again.new.seat) c.args.row ≢ TakenWord c.in-Taken.attempt c.in-Taken.unit = λ same. differs (claim_is c.load_claim-again.result c.in-Taken.attempt c.in-Taken.unit (again.claim ∙ same) ∙ sym c.in-Taken.is) in
+    (search rules, (search rules, (b.walk.steady, (c.requires.row, ((again.claim, again.fits), subst (IsEnough (limits_of c.args.self.now.words) (c.args.left - 1)) (sym again.claim)
+        (enough_next (limits_of c.args.self.now.words) (seen_by c.args.seat.now) (seen_by c.load_claim-again.new.seat) b.walk.steady.shows.legal (looked_begins _ 2 _ _ b) c.args.row c.in-Taken.attempt c.in-Taken.unit c.args.left (taken t i) not (less t i)))))))
+
+pub returns-then-ne-clause-looked : goal.returns-then-ne-clause-looked
+returns-then-ne-clause-looked t c = let at = goal.at.returns-then-ne-clause-looked t c in let s = some t at.In-Taken in
+    looked_few _ (2 + 2 * (c.args.left - 1)) (2 * c.args.left) _ _ (omega arith) (looked_then _ 2 (2 * (c.args.left - 1)) _ _ _ (two t at.After-load_claim-again (one t at.After-load_unit)) c.status_from.ensures.looked)
+
+pub returns-in-Free-clause-status : goal.returns-in-Free-clause-status
+returns-in-Free-clause-status t c = sym (status_free (limits_of c.args.self.now.words) _ c.args.row c.requires.steady.shows.legal (sym c.requires.found.0 ∙ ap claim_value c.in-Free.is))
+
+pub returns-in-Killed-clause-status : goal.returns-in-Killed-clause-status
+returns-in-Killed-clause-status t c = sym (status_killed (limits_of c.args.self.now.words) _ c.args.row _ _ c.requires.steady.shows.legal (sym c.requires.found.0 ∙ ap claim_value c.in-Killed.is))
+
+pub returns-in-Free-clause-looked : goal.returns-in-Free-clause-looked
+returns-in-Free-clause-looked t c = looked_few _ 0 (2 * c.args.left) _ _ (omega arith) (looked_none _ _ c.requires.steady)
+
+pub returns-in-Killed-clause-looked : goal.returns-in-Killed-clause-looked
+returns-in-Killed-clause-looked t c = looked_few _ 0 (2 * c.args.left) _ _ (omega arith) (looked_none _ _ c.requires.steady)
+
+pub returns-in-Undecided-clause-looked : goal.returns-in-Undecided-clause-looked
+returns-in-Undecided-clause-looked t c = let at = goal.at.returns-in-Undecided-clause-looked t c in let s = some t at.In-Taken in looked_few _ 1 (2 * c.args.left) _ _ (omega arith) (one t at.After-load_unit)
+
+pub returns-in-Committed-clause-looked : goal.returns-in-Committed-clause-looked
+returns-in-Committed-clause-looked t c = let at = goal.at.returns-in-Committed-clause-looked t c in let s = some t at.In-Taken in looked_few _ 1 (2 * c.args.left) _ _ (omega arith) (one t at.After-load_unit)
+
+pub returns-in-Undecided-clause-claim : goal.returns-in-Undecided-clause-claim
+returns-in-Undecided-clause-claim t c = let at = goal.at.returns-in-Undecided-clause-claim t c in let o = one t at.After-load_unit in
+    (held_still (limits_of c.args.self.now.words) _ _ o.walk.steady.shows.legal (looked_begins _ 1 _ _ o) c.args.row _ _ (taken t at.In-Taken) (sym (ap unit_value c.in-Undecided.is) ∙ c.load_unit.ensures.end), search rules)
+
+pub returns-in-Undecided-clause-status : goal.returns-in-Undecided-clause-status
+returns-in-Undecided-clause-status t c = let at = goal.at.returns-in-Undecided-clause-status t c in let o = one t at.After-load_unit in
+    held_yet (limits_of c.args.self.now.words) _ _ o.walk.steady.shows.legal (looked_begins _ 1 _ _ o) c.args.row _ _ (taken t at.In-Taken) (sym (ap unit_value c.in-Undecided.is) ∙ c.load_unit.ensures.end)
+
+pub returns-in-Committed-clause-claim : goal.returns-in-Committed-clause-claim
+returns-in-Committed-clause-claim t c = let at = goal.at.returns-in-Committed-clause-claim t c in let o = one t at.After-load_unit in
+    (consumed_still (limits_of c.args.self.now.words) _ _ o.walk.steady.shows.legal (looked_begins _ 1 _ _ o) c.args.row _ _ _ _ (taken t at.In-Taken) (sym (ap unit_value c.in-Committed.is) ∙ c.load_unit.ensures.end), search rules)
+
+pub returns-in-Committed-clause-status : goal.returns-in-Committed-clause-status
+returns-in-Committed-clause-status t c = let at = goal.at.returns-in-Committed-clause-status t c in let o = one t at.After-load_unit in
+    consumed_now (limits_of c.args.self.now.words) _ _ o.walk.steady.shows.legal (looked_begins _ 1 _ _ o) c.args.row _ _ _ _ (taken t at.In-Taken) (sym (ap unit_value c.in-Committed.is) ∙ c.load_unit.ensures.end)
+
+pub returns-then-attempt-self-clause-looked : goal.returns-then-attempt-self-clause-looked
+returns-then-attempt-self-clause-looked t c = let at = goal.at.returns-then-attempt-self-clause-looked t c in let s = some t at.In-Taken in looked_few _ 2 (2 * c.args.left) _ _ (omega arith) (two t at.After-load_claim-again (one t at.After-load_unit))
+
+pub returns-then-attempt-self-clause-status : goal.returns-then-attempt-self-clause-status
+returns-then-attempt-self-clause-status t c = let at = goal.at.returns-then-attempt-self-clause-status t c in let o = one t at.After-load_unit in let b = two t at.After-load_claim-again o in let l : Limits = limits_of c.args.self.now.words in
+    let same : c.load_claim-again.result ≡ c.args.claim = search rules in
+    (returned l (seen_by c.load_unit.new.seat) (seen_by c.load_claim-again.new.seat) b.walk.steady.shows.legal (grew_begins _ _ _ _ _ c.load_claim-again.ensures.grew) c.args.row c.in-Taken.attempt c.in-Taken.unit
+        (sym c.load_unit.ensures.end ∙ ap unit_value c.in-Aborted.is) (sym c.load_claim-again.ensures.claim ∙ (ap claim_value same ∙ ap claim_value c.in-Taken.is))).0
+        (subst (λ (z : Limits). c.in-Taken.attempt < z.attempts) (sym c.args.self.now.same) c.if-attempt-self.true)
+
+pub returns-else-attempt-self-clause-looked : goal.returns-else-attempt-self-clause-looked
+returns-else-attempt-self-clause-looked t c = let at = goal.at.returns-else-attempt-self-clause-looked t c in let s = some t at.In-Taken in looked_few _ 2 (2 * c.args.left) _ _ (omega arith) (two t at.After-load_claim-again (one t at.After-load_unit))
+
+pub returns-else-attempt-self-clause-status : goal.returns-else-attempt-self-clause-status
+returns-else-attempt-self-clause-status t c = let at = goal.at.returns-else-attempt-self-clause-status t c in let o = one t at.After-load_unit in let b = two t at.After-load_claim-again o in let l : Limits = limits_of c.args.self.now.words in
+    let same : c.load_claim-again.result ≡ c.args.claim = search rules in
+    (returned l (seen_by c.load_unit.new.seat) (seen_by c.load_claim-again.new.seat) b.walk.steady.shows.legal (grew_begins _ _ _ _ _ c.load_claim-again.ensures.grew) c.args.row c.in-Taken.attempt c.in-Taken.unit
+        (sym c.load_unit.ensures.end ∙ ap unit_value c.in-Aborted.is) (sym c.load_claim-again.ensures.claim ∙ (ap claim_value same ∙ ap claim_value c.in-Taken.is))).1
+        (subst (λ (z : Limits). z.attempts ≤ c.in-Taken.attempt) (sym c.args.self.now.same) c.if-attempt-self.false)

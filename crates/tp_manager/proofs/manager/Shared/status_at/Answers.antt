@@ -1,0 +1,25 @@
+use Rattle.std.proofs.Common.{◌≡◌, ◌+◌, ◌*◌, sym, ap, subst}
+use Rattle.tp_model.specs.declared.types.Limits.{Limits}
+use Rattle.tp_words.specs.Words.{claim_value}
+use Rattle.tp_rule.specs.Tables.{limits_of}
+use Rattle.tp_rule.specs.Views.{seen_by, view_of}
+use Rattle.tp_manager.specs.Looks.{IsEnough}
+use Rattle.tp_manager.specs.Walks.{Acted, Looked}
+use Rattle.tp_manager.proofs.Walks.{acted_by, acted_then}
+use Rattle.tp_manager.proofs.Looks.{enough_first}
+use Rattle.tp_manager.proofs.manager.Shared.status_at.Goals as goal
+use Rattle.tp_manager.proofs.manager.Shared.status_at.Goals.{After-load_claim-claim}
+
+one : (c : After-load_claim-claim) → Acted (limits_of c.args.self.now.words) 1 (view_of c.args.seat.now) (view_of c.load_claim-claim.new.seat)
+one c = acted_by _ _ _ _ c.requires.steady tt c.load_claim-claim.ensures.grew
+
+pub status_from-requires-clause-steady : goal.status_from-requires-clause-steady
+status_from-requires-clause-steady c = (one (goal.at.status_from-requires-clause-steady c).After-load_claim-claim).walk.steady
+
+pub status_from-requires-clause-enough : goal.status_from-requires-clause-enough
+status_from-requires-clause-enough c = let l : Limits = limits_of c.args.self.now.words in let o = one (goal.at.status_from-requires-clause-enough c).After-load_claim-claim in
+    subst (λ (z : Limits). IsEnough l z.attempts (claim_value c.load_claim-claim.result)) c.args.self.now.same (subst (IsEnough l l.attempts) (sym c.load_claim-claim.ensures.claim) (enough_first l c.args.self.now.words.places.valid (seen_by c.load_claim-claim.new.seat) c.args.row o.walk.steady.shows.legal))
+
+pub returns-clause-acted : goal.returns-clause-acted
+returns-clause-acted c = let l : Limits = limits_of c.args.self.now.words in let o = one (goal.at.returns-clause-acted c).After-load_claim-claim in
+    acted_then l 1 (2 * l.attempts) _ _ _ o (subst (λ (z : Limits). Looked l (2 * z.attempts) (view_of c.load_claim-claim.new.seat) (view_of c.status_from.new.seat)) (sym c.args.self.now.same) c.status_from.ensures.looked)

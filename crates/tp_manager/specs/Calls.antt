@@ -1,0 +1,225 @@
+-- What the calls answer, and what they leave. In each definition `old` is what the pass shows before the call, and `new` what it shows after it.
+use Rattle.std.specs.Prelude.{◌≡◌, ℕ, ◌+◌, ◌*◌, ◌<◌, ◌≤◌, ◌⊎◌, List, [], ◌∷◌, ◌++◌, length, drop, Option, Some, None}
+use mathlib.Core.List.{IsPrefix}
+use Rattle.tp_model.specs.declared.types.Element.{Element}
+use Rattle.tp_model.specs.declared.types.Limits.{Limits}
+use Rattle.tp_model.specs.declared.types.Look.{Look}
+use Rattle.tp_model.specs.declared.types.Claimed.{Claimed}
+use Rattle.tp_model.specs.declared.types.Claimed.TheVariants as claimeds
+use Rattle.tp_model.specs.Drafts.{DraftView}
+use Rattle.tp_model.specs.declared.types.Ended.{Ended}
+use Rattle.tp_model.specs.declared.types.Ended.TheVariants as endeds
+use Rattle.tp_model.specs.declared.types.Outcome.{Outcome}
+use Rattle.tp_model.specs.declared.types.Outcome.TheVariants as outcomes
+use Rattle.tp_model.specs.declared.types.Work.{Work}
+use Rattle.tp_model.specs.declared.types.Status.{Status}
+use Rattle.tp_model.specs.declared.types.Status.TheVariants.{Waiting, Held}
+use Rattle.tp_model.specs.declared.types.Status.TheVariants as statuses
+use Rattle.tp_model.specs.declared.types.Refusal.{Refusal}
+use Rattle.tp_model.specs.declared.types.Refusal.TheVariants as refusals
+use Rattle.tp_model.specs.declared.event.Event.{Event}
+use Rattle.tp_model.specs.declared.event.Event.TheVariants.{Enqueue, Claim, Commit, Abort, Kill}
+use Rattle.tp_model.specs.declared.trace.StepKind.{StepKind}
+use Rattle.tp_model.specs.declared.trace.StepKind.TheVariants.{DraftStore, Publish, Load, UnitChoice, ClaimExchange, CommitExchange, AbortExchange, KillExchange}
+use Rattle.tp_model.specs.declared.trace.TraceEntry.{TraceEntry}
+use Rattle.tp_model.specs.History.{In, IsClaim, IsUnborn, UnitEnd, claim_of, element_of, end_of, first_id, status_of}
+use Rattle.tp_model.specs.OneThread.{outputs}
+use Rattle.tp_model.specs.Steps.{IsServerStage}
+use Rattle.tp_model.specs.Passes.{IsPassView, IsPoint, opening_of}
+use Rattle.tp_manager.specs.Shown.{PassShown, view_in}
+
+-- a step that is no draft store
+abbrev pub IsLookingStep : StepKind → Type 0
+IsLookingStep DraftStore = ⊥
+IsLookingStep Publish = Unit {0}
+IsLookingStep Load = Unit {0}
+IsLookingStep UnitChoice = Unit {0}
+IsLookingStep ClaimExchange = Unit {0}
+IsLookingStep CommitExchange = Unit {0}
+IsLookingStep AbortExchange = Unit {0}
+IsLookingStep KillExchange = Unit {0}
+
+-- one of the steps is no draft store
+abbrev pub HasStep : List TraceEntry → Type 0
+HasStep steps = (step : TraceEntry) × In step steps × IsLookingStep step.kind
+
+-- the steps of a call
+abbrev pub steps_of : PassShown → PassShown → List TraceEntry
+steps_of old new = drop (length old.trace) new.trace
+
+-- the opening of a call
+abbrev pub opening : PassShown → PassShown → List Event
+opening old new = opening_of old.seen (steps_of old new)
+
+-- what every call leaves: what a pass shows. It has the same number, its trace has grown by the call's steps, of which there are at most n, and it has seen what it had seen, and more
+pub record Follows (n : ℕ) (old new : PassShown) : Type 0 where
+  pub shows : IsPassView new.limits (view_in new)
+  pub number : new.number ≡ old.number
+  pub traced : new.trace ≡ old.trace ++ steps_of old new
+  pub few : length (steps_of old new) ≤ n
+  pub opened : IsPrefix old.seen (opening old new)
+  pub closed : IsPrefix (opening old new) new.seen
+
+-- one of the call's steps is no draft store
+abbrev pub HasLooked : PassShown → PassShown → Type 0
+HasLooked old new = HasStep (steps_of old new)
+
+-- there is a point of the call at which this is so
+abbrev pub AtPoint : PassShown → PassShown → (List Event → Type 0) → Type 0
+AtPoint old new Holds = (point : List Event) × IsPoint (opening old new) new.seen point × Holds point
+
+-- the pass made no event, its open unit is the same, and it has used no row
+pub record IsQuiet (old new : PassShown) : Type 0 where
+  pub mine : new.mine ≡ old.mine
+  pub open_unit : new.open_unit ≡ old.open_unit
+  pub drawn : new.drawn ≡ old.drawn
+
+-- the pass made this event, which is the last that it has seen
+pub record Adds (e : Event) (old new : PassShown) : Type 0 where
+  pub mine : new.mine ≡ old.mine ++ e ∷ []
+  pub before : List Event
+  pub seen : new.seen ≡ before ++ e ∷ []
+  pub begins : IsPrefix old.seen before
+
+-- the look shows the born element with this id, and its status
+abbrev pub IsLook : Limits → ℕ → Look → List Event → Type 0
+IsLook l id look h = (element_of h id ≡ Some look.element) × (look.status ≡ status_of l.attempts h id)
+
+-- the client's element that a submit makes
+abbrev pub request : ℕ → ℕ → ℕ → ℕ → Element
+request id stage key amount = record { id = id; stage = stage; root = id; key = key; amount = amount; by = None }
+
+-- the pass has used its next row for a client's element, which is born
+pub record Submits (id stage key amount : ℕ) (old new : PassShown) : Type 0 where
+  pub stage_is : IsServerStage stage
+  pub room : old.drawn < old.limits.rows
+  pub id_is : id ≡ old.number * old.limits.rows + old.drawn
+  pub adds : Adds (Enqueue old.number (request id stage key amount)) old new
+  pub open_unit : new.open_unit ≡ old.open_unit
+  pub drawn : new.drawn ≡ old.drawn + 1
+
+-- why a submit was refused: the stage is no server's, or else the pass has used its rows
+abbrev pub SubmitRefused : ℕ → PassShown → Refusal → Type 0
+SubmitRefused stage old e = ((e ≡ refusals.BadStage) × ¬ IsServerStage stage) ⊎ ((e ≡ refusals.Full) × IsServerStage stage × (old.drawn ≡ old.limits.rows))
+
+-- how many claims there are among the events
+abbrev pub one_claim : Event → ℕ
+one_claim (Enqueue c x) = 0
+one_claim (Claim c u i n) = 1
+one_claim (Commit c u outs) = 0
+one_claim (Abort c u) = 0
+one_claim (Kill c i) = 0
+
+abbrev pub claims_in : List Event → ℕ
+claims_in [] = 0
+claims_in (e ∷ h) = one_claim e + claims_in h
+
+-- an element with this status waits
+abbrev pub IsWaiting : Status → Type 0
+IsWaiting s = (n : ℕ) × (s ≡ Waiting n)
+
+-- each element of the stage that was born at the opening has a point at which it wasn't waiting
+abbrev pub FoundNone : Limits → ℕ → PassShown → PassShown → Type 0
+FoundNone l stage old new = (x : Element) → element_of (opening old new) x.id ≡ Some x → x.stage ≡ stage → AtPoint old new (λ h. ¬ IsWaiting (status_of l.attempts h x.id))
+
+-- the pass has a new unit open, which took the element
+pub record Takes (l : Limits) (stage : ℕ) (work : Work) (old new : PassShown) : Type 0 where
+  pub room : claims_in old.mine < l.units
+  pub unit_is : work.unit ≡ old.number * l.units + claims_in old.mine
+  -- no claim of the pass before was of that unit
+  pub fresh : claim_of old.mine work.unit ≡ None
+  pub adds : Adds (Claim old.number work.unit work.element.id work.attempt) old new
+  pub is_born : element_of new.seen work.element.id ≡ Some work.element
+  pub of_stage : work.element.stage ≡ stage
+  pub open_unit : new.open_unit ≡ Some work.unit
+  pub drawn : new.drawn ≡ old.drawn
+
+-- what a claim answers
+abbrev pub Claims : Limits → ℕ → PassShown → PassShown → Claimed → Type 0
+Claims l stage old new claimeds.NoUnit = (claims_in old.mine ≡ l.units) × (new ≡ old)
+Claims l stage old new claimeds.Idle = (claims_in old.mine < l.units) × IsQuiet old new × HasLooked old new × FoundNone l stage old new
+Claims l stage old new (claimeds.Work work) = Takes l stage work old new
+
+-- another pass than c aborted unit u
+abbrev pub EndedByOther : ℕ → ℕ → List Event → Type 0
+EndedByOther c u h = (d : ℕ) × In (Abort d u) h × ¬ (d ≡ c)
+
+-- unit u was committed or aborted
+abbrev pub IsEnded : List Event → ℕ → Type 0
+IsEnded h u = (how : UnitEnd) × (end_of h u ≡ Some how)
+
+-- the pass had unit u open, has none open now, has seen how u ended, and has used so many rows
+pub record Closes (u drawn : ℕ) (old new : PassShown) : Type 0 where
+  pub was_open : old.open_unit ≡ Some u
+  pub open_unit : new.open_unit ≡ None
+  pub ended : IsEnded new.seen u
+  pub drawn_is : new.drawn ≡ drawn
+
+-- the pass made no event, since another had aborted its unit
+abbrev pub Loses : ℕ → PassShown → PassShown → Type 0
+Loses u old new = (new.mine ≡ old.mine) × EndedByOther old.number u new.seen
+
+-- what an abort answers
+abbrev pub Ends : PassShown → PassShown → Ended → Type 0
+Ends old new endeds.Aborted = (u : ℕ) × Closes u old.drawn old new × Adds (Abort old.number u) old new
+Ends old new endeds.Already = (u : ℕ) × Closes u old.drawn old new × Loses u old new
+
+-- the element that unit u of pass c took has this root
+abbrev pub IsRoot : List Event → ℕ → ℕ → ℕ → Type 0
+IsRoot h c u root = (i : ℕ) × (n : ℕ) × (x : Element) × IsClaim h c u i n × (element_of h i ≡ Some x) × (x.root ≡ root)
+
+-- the outputs that these drafts become: in the next rows of the pass, made by unit u, with this root
+abbrev pub outputs_from : PassShown → ℕ → ℕ → List DraftView → List Element
+outputs_from old u root drafts = outputs u root (old.number * old.limits.rows + old.drawn) drafts
+
+-- the unit is committed with the drafts, which are born
+pub record Commits (first count : ℕ) (drafts : List DraftView) (old new : PassShown) : Type 0 where
+  pub unit : ℕ
+  pub root : ℕ
+  pub root_is : IsRoot old.seen old.number unit root
+  pub closes : Closes unit (old.drawn + length drafts) old new
+  pub adds : Adds (Commit old.number unit (outputs_from old unit root drafts)) old new
+  pub first_is : first ≡ first_id (outputs_from old unit root drafts)
+  pub count_is : count ≡ length drafts
+
+-- what a commit answers
+abbrev pub Settles : List DraftView → PassShown → PassShown → Outcome → Type 0
+Settles drafts old new outcomes.Full = (old.limits.rows < old.drawn + length drafts) × ((u : ℕ) × Closes u old.drawn old new × (Adds (Abort old.number u) old new ⊎ Loses u old new))
+Settles drafts old new outcomes.Lost = (old.drawn + length drafts ≤ old.limits.rows) × ((u : ℕ) × Closes u (old.drawn + length drafts) old new × Loses u old new)
+Settles drafts old new (outcomes.Committed first count) = (old.drawn + length drafts ≤ old.limits.rows) × Commits first count drafts old new
+
+-- each of these events is an Abort by pass c, between two histories, of a unit that held element i where the Abort stands
+abbrev pub AreOfHolders : Limits → ℕ → ℕ → List Event → List Event → List Event → Type 0
+AreOfHolders l c i from to aborts = (e : Event) → In e aborts → (u : ℕ) × (n : ℕ) × (p : List Event) × (e ≡ Abort c u) × IsPrefix from p × (status_of l.attempts p i ≡ Held u n) × IsPrefix (p ++ e ∷ []) to
+
+-- the pass has aborted so many units that held the element, at most as many as attempts are allowed, and then killed it
+pub record Kills (l : Limits) (id count : ℕ) (old new : PassShown) : Type 0 where
+  pub aborts : List Event
+  pub counted : length aborts ≡ count
+  pub few : count ≤ l.attempts
+  pub held : AreOfHolders l old.number id old.seen new.seen aborts
+  pub mine : new.mine ≡ (old.mine ++ aborts) ++ Kill old.number id ∷ []
+  pub before : List Event
+  pub begins : IsPrefix old.seen before
+  pub seen : new.seen ≡ before ++ Kill old.number id ∷ []
+  pub open_unit : new.open_unit ≡ old.open_unit
+  pub drawn : new.drawn ≡ old.drawn
+
+-- the pass has aborted units that held the element, at most as many as attempts are allowed, and no more
+pub record OnlyAborts (l : Limits) (id : ℕ) (old new : PassShown) : Type 0 where
+  pub aborts : List Event
+  pub few : length aborts ≤ l.attempts
+  pub held : AreOfHolders l old.number id old.seen new.seen aborts
+  pub mine : new.mine ≡ old.mine ++ aborts
+  pub open_unit : new.open_unit ≡ old.open_unit
+  pub drawn : new.drawn ≡ old.drawn
+
+-- why a kill was refused
+abbrev pub KillFails : Limits → ℕ → PassShown → PassShown → Refusal → Type 0
+KillFails l id old new refusals.NoMemory = ⊥
+KillFails l id old new refusals.BadLimits = ⊥
+KillFails l id old new refusals.BadStage = ⊥
+KillFails l id old new refusals.NotThere = IsQuiet old new × AtPoint old new (λ h. IsUnborn h id)
+KillFails l id old new (refusals.Consumed u) = OnlyAborts l id old new × AtPoint old new (λ h. status_of l.attempts h id ≡ statuses.Consumed u)
+KillFails l id old new refusals.AlreadyKilled = OnlyAborts l id old new × AtPoint old new (λ h. status_of l.attempts h id ≡ statuses.Killed)
+KillFails l id old new refusals.Full = ⊥

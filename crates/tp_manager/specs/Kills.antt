@@ -1,0 +1,69 @@
+-- What a kill does on its way. In each definition l are the table's limits, i is the row, v is the view before, and w the view after.
+use Rattle.std.specs.Prelude.{◌≡◌, ℕ, ◌+◌, ◌*◌, ◌<◌, ◌≤◌, List, [], ◌∷◌, ◌++◌, length, Some, None}
+use mathlib.Core.List.{IsPrefix}
+use Rattle.tp_model.specs.declared.types.Limits.{Limits}
+use Rattle.tp_model.specs.declared.types.Refusal.{Refusal}
+use Rattle.tp_model.specs.declared.types.Refusal.TheVariants as refusals
+use Rattle.tp_model.specs.declared.types.Status.TheVariants as statuses
+use Rattle.tp_model.specs.declared.event.Event.{Event}
+use Rattle.tp_model.specs.declared.event.Event.TheVariants.{Kill}
+use Rattle.tp_model.specs.declared.trace.TraceEntry.{TraceEntry}
+use Rattle.tp_model.specs.History.{Aborted, end_of, status_of}
+use Rattle.tp_model.specs.Words.{ClaimWord, FreeWord, TakenWord, KilledWord}
+use Rattle.tp_rule.specs.Views.{hand}
+use Rattle.tp_rule.specs.declared.view.View.{View}
+use Rattle.tp_manager.specs.Calls.{AreOfHolders}
+use Rattle.tp_manager.specs.Walks.{Walked}
+
+-- in at most n steps the pass has made the events es, all of them Aborts of units that held the element
+pub record Freed (l : Limits) (n i : ℕ) (es : List Event) (v w : View) : Type 0 where
+  pub marks : List TraceEntry
+  pub walk : Walked l n marks v w
+  pub drawn : (hand w).drawn ≡ (hand v).drawn
+  pub claimed : (hand w).claimed ≡ (hand v).claimed
+  pub mine : (hand w).mine ≡ (hand v).mine ++ es
+  pub drafts : (hand v).drafts ≡ [] → (hand w).drafts ≡ []
+  pub open_unit : (hand v).open_unit ≡ None → (hand w).open_unit ≡ None
+  pub aborts : AreOfHolders l (hand v).number i v.seen w.seen es
+
+-- and then the Kill of the element, which is the last that it has seen
+pub record Slain (l : Limits) (n i : ℕ) (es : List Event) (v w : View) : Type 0 where
+  pub marks : List TraceEntry
+  pub walk : Walked l n marks v w
+  pub drawn : (hand w).drawn ≡ (hand v).drawn
+  pub claimed : (hand w).claimed ≡ (hand v).claimed
+  pub mine : (hand w).mine ≡ ((hand v).mine ++ es) ++ Kill (hand v).number i ∷ []
+  pub drafts : (hand v).drafts ≡ [] → (hand w).drafts ≡ []
+  pub open_unit : (hand v).open_unit ≡ None → (hand w).open_unit ≡ None
+  pub before : List Event
+  pub begins : IsPrefix v.seen before
+  pub ends : w.seen ≡ before ++ Kill (hand v).number i ∷ []
+  pub aborts : AreOfHolders l (hand v).number i v.seen w.seen es
+
+-- the element can't be killed any more
+abbrev pub IsPastKill : Limits → List Event → ℕ → Refusal → Type 0
+IsPastKill l h i refusals.NoMemory = ⊥
+IsPastKill l h i refusals.BadLimits = ⊥
+IsPastKill l h i refusals.BadStage = ⊥
+IsPastKill l h i refusals.NotThere = ⊥
+IsPastKill l h i (refusals.Consumed u) = status_of l.attempts h i ≡ statuses.Consumed u
+IsPastKill l h i refusals.AlreadyKilled = status_of l.attempts h i ≡ statuses.Killed
+IsPastKill l h i refusals.Full = ⊥
+
+-- unit u, which had taken the element, is aborted, in at most two steps and by so many own Aborts, none or one
+abbrev pub Loosened : Limits → ℕ → ℕ → ℕ → View → View → Type 0
+Loosened l i u count v w = (es : List Event) × (length es ≡ count) × (count ≤ 1) × Freed l 2 i es v w × (end_of w.seen u ≡ Some Aborted)
+
+-- there are at most so many attempts from this claim on
+abbrev pub IsEnoughToKill : Limits → ℕ → ClaimWord → Type 0
+IsEnoughToKill l left FreeWord = ⊥
+IsEnoughToKill l left (TakenWord n u) = l.attempts < n + left
+IsEnoughToKill l left (KilledWord n u) = Unit {0}
+
+-- the element was killed, in at most n steps, after so many own Aborts, at most `left`
+abbrev pub KillsIn : Limits → ℕ → ℕ → ℕ → ℕ → View → View → Type 0
+KillsIn l n i left count v w = (es : List Event) × (length es ≡ count) × (count ≤ left) × Slain l n i es v w
+
+-- it was not, in at most n steps, after at most `left` own Aborts
+abbrev pub FailsIn : Limits → ℕ → ℕ → ℕ → Refusal → View → View → Type 0
+FailsIn l n i left e v w = (es : List Event) × (length es ≤ left) × Freed l n i es v w × IsPastKill l w.seen i e

@@ -1,0 +1,5 @@
+pub mod Shown
+pub mod Calls
+pub mod Walks
+pub mod Looks
+pub mod Kills

@@ -1,0 +1,27 @@
+-- What the words of a row tell.
+use Rattle.std.specs.Prelude.{◌≡◌, ℕ, ◌+◌, ◌<◌, List, Some}
+use Rattle.tp_model.specs.declared.types.Element.{Element}
+use Rattle.tp_model.specs.declared.types.Limits.{Limits}
+use Rattle.tp_model.specs.declared.event.Event.{Event}
+use Rattle.tp_model.specs.History.{IsUnborn, element_of}
+use Rattle.tp_model.specs.Words.{ClaimWord, FreeWord, TakenWord, KilledWord}
+use Rattle.tp_words.specs.declared.words.Head.{Head}
+use Rattle.tp_words.specs.declared.words.Head.TheVariants.{There}
+use Rattle.tp_words.specs.Words.{head_of}
+use Rattle.tp_rule.specs.Rule.{IsDraft}
+use Rattle.tp_manager.specs.declared.looking.Birth.{Birth}
+
+-- what the head of row i tells: it is that of the born element, or empty or naming a unit where none is born
+pub record HeadTold (h : List Event) (i : ℕ) (head : Head) : Type 0 where
+  pub born : (e : Element) → element_of h i ≡ Some e → head ≡ head_of e
+  pub draft : IsUnborn h i → IsDraft head
+
+-- an element with this head is born in row i
+abbrev pub IsThere : List Event → ℕ → Birth → Type 0
+IsThere h i b = (e : Element) × (element_of h i ≡ Some e) × (head_of e ≡ There b.stage b.root b.by)
+
+-- there are at most so many attempts after this claim
+abbrev pub IsEnough : Limits → ℕ → ClaimWord → Type 0
+IsEnough l left FreeWord = Unit {0}
+IsEnough l left (TakenWord n u) = l.attempts < n + left
+IsEnough l left (KilledWord n u) = Unit {0}

@@ -1,0 +1,138 @@
+-- What the view of a pass keeps over some of a call's steps. In each definition l are the table's limits, v is the view before, and w the view after.
+use Rattle.std.specs.Prelude.{◌≡◌, ℕ, ◌+◌, ◌-◌, ◌*◌, ◌<◌, ◌≤◌, List, [], ◌∷◌, ◌++◌, length, Option, Some, None}
+use mathlib.Core.List.{IsPrefix}
+use Rattle.tp_model.specs.declared.types.Element.{Element}
+use Rattle.tp_model.specs.declared.types.Limits.{Limits}
+use Rattle.tp_model.specs.declared.event.Event.{Event}
+use Rattle.tp_model.specs.declared.event.Event.TheVariants.{Enqueue, Claim, Commit, Abort, Kill}
+use Rattle.tp_model.specs.declared.trace.TraceEntry.{TraceEntry}
+use Rattle.tp_model.specs.History.{In, IsClaim, element_of, status_of}
+use Rattle.tp_model.specs.Drafts.{DraftView}
+use Rattle.tp_model.specs.Passes.{PassView, IsPassView, IsPoint, opening_of}
+use Rattle.tp_model.specs.Steps.{AreLimits}
+use Rattle.tp_rule.specs.Views.{Seated, IsOnePass, fresh_from, hand, view_of}
+use Rattle.tp_rule.specs.declared.view.Hand.{Hand}
+use Rattle.tp_rule.specs.declared.view.View.{View}
+use Rattle.tp_manager.specs.declared.manager.Task.{Task}
+use Rattle.tp_rule.specs.Steps.{claimed, with_claim}
+use Rattle.tp_manager.specs.Calls.{HasStep, IsWaiting, claims_in}
+
+-- what a seat that stands for one pass shows of it
+abbrev pub pass_in : View → PassView
+pass_in v = record { number = (hand v).number; seen = v.seen; mine = (hand v).mine; open_unit = (hand v).open_unit; drawn = (hand v).drawn; trace = (hand v).trace }
+
+-- the seat stands for one pass, knows the limits, and shows what a pass shows
+pub record Steady (l : Limits) (v : View) : Type 0 where
+  pub pass : IsOnePass v × (v.limits ≡ l)
+  pub shows : IsPassView l (pass_in v)
+
+-- these steps lead from v to w, and there are at most n
+pub record Walked (l : Limits) (n : ℕ) (marks : List TraceEntry) (v w : View) : Type 0 where
+  pub traced : (hand w).trace ≡ (hand v).trace ++ marks
+  pub few : length marks ≤ n
+  pub opens : IsPrefix v.seen (opening_of v.seen marks)
+  pub closes : IsPrefix (opening_of v.seen marks) w.seen
+  pub number : (hand w).number ≡ (hand v).number
+  pub steady : Steady l w
+
+-- the pass with this trace
+abbrev pub with_trace : List TraceEntry → Hand → Hand
+with_trace t a = record a { trace = t }
+
+-- at most n steps have changed nothing in the pass but its trace
+pub record Looked (l : Limits) (n : ℕ) (v w : View) : Type 0 where
+  pub marks : List TraceEntry
+  pub walk : Walked l n marks v w
+  pub kept : hand w ≡ with_trace (hand w).trace (hand v)
+
+-- the same, and one of the steps is no draft store
+pub record Acted (l : Limits) (n : ℕ) (v w : View) : Type 0 where
+  pub marks : List TraceEntry
+  pub walk : Walked l n marks v w
+  pub kept : hand w ≡ with_trace (hand w).trace (hand v)
+  pub step : HasStep marks
+
+-- the number of the open unit
+abbrev pub unit_in : Option Task → Option ℕ
+unit_in None = None
+unit_in (Some t) = Some t.unit
+
+-- pass c took an element of this root with this unit
+abbrev pub IsTask : List Event → ℕ → Option Task → Type 0
+IsTask h c None = Unit {0}
+IsTask h c (Some t) = (i : ℕ) × (n : ℕ) × (x : Element) × IsClaim h c t.unit i n × (element_of h i ≡ Some x) × (x.root ≡ t.root)
+
+-- what is so of every pass between two calls
+pub record Rests (seat : Seated) (number drawn used : ℕ) (task : Option Task) : Type 0 where
+  pub steady : Steady (view_of seat).limits (view_of seat)
+  -- the seat has no slots
+  pub bare : seat.me.1 ≡ []
+  pub number_is : (hand (view_of seat)).number ≡ number
+  pub drawn_is : (hand (view_of seat)).drawn ≡ drawn
+  pub used_is : (hand (view_of seat)).claimed ≡ used
+  pub used_below : used ≤ (view_of seat).limits.units
+  -- each used unit is in an own claim
+  pub claims : claims_in (hand (view_of seat)).mine ≡ used
+  pub no_drafts : (hand (view_of seat)).drafts ≡ []
+  pub open_is : (hand (view_of seat)).open_unit ≡ unit_in task
+  pub work : IsTask (view_of seat).seen number task
+
+-- what is so of every keeper: its seat stands for the passes that are not given out, and has seen nothing
+pub record Keeps (seat : Seated) (limits : Limits) (given : ℕ) : Type 0 where
+  pub valid : AreLimits limits
+  pub limits_are : (view_of seat).limits ≡ limits
+  pub below : given ≤ limits.parts
+  pub rest : (view_of seat).hands ≡ fresh_from given (limits.parts - given)
+  pub unseen : (view_of seat).seen ≡ []
+  pub bare : seat.me.1 ≡ []
+
+-- an element of the stage that was born in row i in history a wasn't waiting in some history from a to b
+abbrev pub PassedBy : Limits → ℕ → ℕ → List Event → List Event → Type 0
+PassedBy l stage i a b = (x : Element) → element_of a i ≡ Some x → x.stage ≡ stage → (p : List Event) × IsPrefix a p × IsPrefix p b × ¬ IsWaiting (status_of l.attempts p i)
+
+-- the same of each row below n
+abbrev pub PassedBelow : Limits → ℕ → ℕ → List Event → List Event → Type 0
+PassedBelow l stage n a b = (i : ℕ) → i < n → PassedBy l stage i a b
+
+-- the pass has unit u chosen for the next claim, and none open
+abbrev pub IsSpare : ℕ → View → Type 0
+IsSpare u v = ((hand v).spare_unit ≡ Some u) × ((hand v).open_unit ≡ None)
+
+-- in at most n steps unit u took the element e for this attempt, and that was the last of what was seen
+pub record Took (l : Limits) (n stage u : ℕ) (v w : View) (e : Element) (attempt : ℕ) : Type 0 where
+  pub marks : List TraceEntry
+  pub walk : Walked l n marks v w
+  pub kept : hand w ≡ with_trace (hand w).trace (with_claim u (claimed v u e.id attempt) (hand v))
+  pub before : List Event
+  pub begins : IsPrefix v.seen before
+  pub ends : w.seen ≡ before ++ claimed v u e.id attempt ∷ []
+  pub born : element_of w.seen e.id ≡ Some e
+  pub of_stage : e.stage ≡ stage
+
+-- in at most n steps the pass has used k rows and closed its open unit, with its own events es at the end
+pub record Shut (l : Limits) (n k : ℕ) (es : List Event) (v w : View) : Type 0 where
+  pub marks : List TraceEntry
+  pub walk : Walked l n marks v w
+  pub before : List Event
+  pub begins : IsPrefix v.seen before
+  pub ends : w.seen ≡ before ++ es
+  pub drawn : (hand w).drawn ≡ (hand v).drawn + k
+  pub claimed : (hand w).claimed ≡ (hand v).claimed
+  pub mine : (hand w).mine ≡ (hand v).mine ++ es
+  pub drafts : (hand w).drafts ≡ []
+  pub open_unit : (hand w).open_unit ≡ None
+
+-- the output that a draft becomes in row i
+abbrev pub output : ℕ → ℕ → ℕ → DraftView → Element
+output u root i d = record { id = i; stage = d.stage; root = root; key = d.key; amount = d.amount; by = Some u }
+
+-- the pass has stored the drafts xs, and has seen nothing more
+pub record Wrote (l : Limits) (xs : List Element) (v w : View) : Type 0 where
+  pub marks : List TraceEntry
+  pub walk : Walked l (3 * length xs) marks v w
+  pub seen : w.seen ≡ v.seen
+  pub drawn : (hand w).drawn ≡ (hand v).drawn + length xs
+  pub claimed : (hand w).claimed ≡ (hand v).claimed
+  pub mine : (hand w).mine ≡ (hand v).mine
+  pub drafts : (hand w).drafts ≡ (hand v).drafts ++ xs
+  pub open_unit : (hand w).open_unit ≡ (hand v).open_unit

@@ -1,0 +1,42 @@
+//! A server's call for work.
+ghost use Rattle.std.specs.Prelude.{◌≡◌, ◌+◌, ◌*◌, None};
+ghost use Rattle.tp_model.specs.Steps.{rows_of, IsServerStage};
+ghost use Rattle.tp_manager.specs.Shown.{IsOf};
+ghost use Rattle.tp_manager.specs.Calls.{Claims, Follows};
+
+use crate::manager::{Manager, Pass, Task};
+use tp_model::types::{Claimed, Work};
+
+impl Manager {
+    /// Takes an element that waits in the stage, 1 to 14, into a new unit of work of the pass, which has none open.
+    /// `NoUnit` where the pass has used its units; `Idle` where nothing was found to wait.
+    pub fn claim(&self, pass: &mut Pass, stage: u8) -> Claimed
+        requires own { IsOf self.now pass.old }
+        requires stage { IsServerStage stage }
+        requires free { pass.old.open_unit ≡ None }
+        ensures own { IsOf self.now pass.new }
+        ensures follows { Follows (rows_of self.now.limits * (2 * self.now.limits.attempts + 9) + 1) pass.old pass.new }
+        ensures answer { Claims self.now.limits stage pass.old pass.new result }
+    {
+        let seat = &mut pass.seat;
+        let units = self.shared.places.limits.units;
+        if pass.used == units {
+            return Claimed::NoUnit;
+        }
+        let unit = pass.number * units + pass.used;
+        self.shared.words.choose_unit(seat, unit);
+        let Some(taken) = self.shared.scan(seat, stage, unit) else {
+            return Claimed::Idle;
+        };
+        pass.used += 1;
+        pass.task = Some(Task {
+            unit,
+            root: taken.root,
+        });
+        Claimed::Work(Work {
+            unit,
+            element: taken.element,
+            attempt: taken.attempt,
+        })
+    }
+}

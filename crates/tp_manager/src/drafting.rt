@@ -1,0 +1,55 @@
+//! The drafts of a unit of work.
+ghost use Rattle.std.specs.Prelude.{◌≡◌, ◌+◌, ◌*◌, ◌<◌, ◌≤◌, Some, [], ◌∷◌, length};
+ghost use Rattle.std.specs.List.{All};
+ghost use Rattle.tp_model.specs.OneThread.{HasStage, outputs};
+ghost use Rattle.tp_model.specs.Steps.{rows_of};
+ghost use Rattle.tp_rule.specs.Views.{hand_of, view_of, IsNextRow, IsSameSeat};
+ghost use Rattle.tp_rule.specs.Tables.{limits_of, IsSeatOf};
+ghost use Rattle.tp_manager.specs.Walks.{output, Steady, Wrote};
+
+use crate::manager::Shared;
+use tp_model::types::Draft;
+use tp_rule::Seat;
+
+impl Shared {
+    /// Writes a draft into the next row of the pass, which has the unit open. Three steps.
+    fn write_one(&self, seat: &mut Seat, row: u32, draft: Draft, root: u16, unit: u16)
+        requires own { IsSeatOf self.now.words seat.old }
+        requires steady { Steady (limits_of self.now.words) (view_of seat.old) }
+        requires next { IsNextRow (limits_of self.now.words) (view_of seat.old) row }
+        requires fits { unit < 65535 }
+        requires open_unit { (hand_of seat.old).open_unit ≡ Some unit }
+        ensures same { IsSameSeat seat.old seat.new }
+        ensures wrote { Wrote (limits_of self.now.words) (output unit root row draft ∷ []) (view_of seat.old) (view_of seat.new) }
+        ensures staged { HasStage draft }
+    {
+        self.words.store_draft_key(seat, row, draft.key());
+        self.words.store_draft_amount(seat, row, draft.amount());
+        self.words.store_draft_head(seat, row, draft.stage(), root, unit);
+    }
+
+    /// Writes the drafts into the next rows of the pass, which has the unit open and room for them.
+    pub(crate) fn write_all(
+        &self,
+        seat: &mut Seat,
+        first: u32,
+        drafts: &[Draft],
+        root: u16,
+        unit: u16,
+    )
+        requires own { IsSeatOf self.now.words seat.old }
+        requires steady { Steady (limits_of self.now.words) (view_of seat.old) }
+        requires next { first ≡ (hand_of seat.old).number * (limits_of self.now.words).rows + (hand_of seat.old).drawn }
+        requires room { ((hand_of seat.old).drawn + length drafts.now ≤ (limits_of self.now.words).rows) × (first + length drafts.now ≤ rows_of (limits_of self.now.words)) }
+        requires fits { unit < 65535 }
+        requires open_unit { (hand_of seat.old).open_unit ≡ Some unit }
+        ensures same { IsSameSeat seat.old seat.new }
+        ensures wrote { Wrote (limits_of self.now.words) (outputs unit root first drafts.now) (view_of seat.old) (view_of seat.new) }
+        ensures staged { All HasStage drafts.now }
+    {
+        for i in 0..drafts.len() {
+            let draft = drafts[i];
+            self.write_one(seat, first + i as u32, draft, root, unit);
+        }
+    }
+}

@@ -1,0 +1,80 @@
+//! The end of a server's unit of work.
+ghost use Rattle.std.specs.Prelude.{◌≡◌, ◌+◌, ◌*◌, ◌≤◌, None, IfSome, IsSome, length};
+ghost use Rattle.tp_manager.specs.Shown.{IsOf};
+ghost use Rattle.tp_manager.specs.Calls.{Ends, Follows, IsEnded, Settles};
+
+use crate::manager::{Manager, Pass};
+use tp_model::types::{Draft, Ended, Outcome};
+
+impl Manager {
+    /// Gives up the open unit of work: its element waits again, or is parked. `Already` where another caller had
+    /// aborted the unit. Either way the pass has no unit open any more.
+    pub fn abort(&self, pass: &mut Pass) -> Ended
+        requires own { IsOf self.now pass.old }
+        requires busy { IsSome pass.old.open_unit }
+        ensures own { IsOf self.now pass.new }
+        ensures follows { Follows 2 pass.old pass.new }
+        ensures free { pass.new.open_unit ≡ None }
+        ensures ended { IfSome pass.old.open_unit (IsEnded pass.new.seen) }
+        ensures answer { Ends pass.old pass.new result }
+    {
+        let shared = &self.shared;
+        let seat = &mut pass.seat;
+        let Some(task) = pass.task else {
+            unreachable!();
+        };
+        if shared.words.abort_exchange(seat, task.unit) {
+            pass.task = None;
+            Ended::Aborted
+        } else {
+            pass.task = None;
+            Ended::Already
+        }
+    }
+
+    /// Commits the open unit of work with at most four drafts: in one step its element is consumed and the drafts are
+    /// born, with the ids of the pass's next rows. `Full` where the pass has fewer rows left than drafts: the unit is
+    /// aborted, and no row is used. `Lost` where another caller had aborted the unit: the rows of the drafts are used
+    /// up. Whatever the answer, the pass has no unit open any more.
+    pub fn commit(&self, pass: &mut Pass, drafts: &[Draft]) -> Outcome
+        requires own { IsOf self.now pass.old }
+        requires busy { IsSome pass.old.open_unit }
+        requires few { length drafts.now ≤ 4 }
+        ensures own { IsOf self.now pass.new }
+        ensures follows { Follows (4 * length drafts.now + 3) pass.old pass.new }
+        ensures free { pass.new.open_unit ≡ None }
+        ensures ended { IfSome pass.old.open_unit (IsEnded pass.new.seen) }
+        ensures answer { Settles drafts.now pass.old pass.new result }
+    {
+        let shared = &self.shared;
+        let seat = &mut pass.seat;
+        let Some(task) = pass.task else {
+            unreachable!();
+        };
+        let rows = shared.places.limits.rows;
+        let count = drafts.len() as u16;
+        if count > rows - pass.drawn {
+            if shared.words.abort_exchange(seat, task.unit) {
+                pass.task = None;
+                return Outcome::Full;
+            }
+            pass.task = None;
+            return Outcome::Full;
+        }
+        let row = pass.number * rows + pass.drawn;
+        shared.write_all(seat, row as u32, drafts, task.root, task.unit);
+        let first = if count == 0 { 0 } else { row };
+        if shared.words.commit_exchange(seat, task.unit, first, count as u8) {
+            pass.drawn += count;
+            pass.task = None;
+            Outcome::Committed {
+                first: first as u32,
+                count: count as u8,
+            }
+        } else {
+            pass.drawn += count;
+            pass.task = None;
+            Outcome::Lost
+        }
+    }
+}

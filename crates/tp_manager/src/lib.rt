@@ -1,0 +1,16 @@
+//! The manager of queued requests: every call answers at a point of one history.
+#![tactic(auto)]
+
+mod claiming;
+mod drafting;
+mod ending;
+mod killing;
+mod looking;
+mod manager;
+mod reading;
+mod scanning;
+mod submitting;
+#[cfg(test)]
+mod tests;
+
+pub use manager::{Keeper, MakeFault, Manager, Pass};

@@ -1,0 +1,160 @@
+//! What a pass finds at a row.
+ghost use Rattle.std.specs.Prelude.{◌≡◌, ◌+◌, ◌*◌, ◌<◌, Some, MatchOption, true, false};
+ghost use Rattle.tp_model.specs.History.{IsUnborn, element_of, status_of};
+ghost use Rattle.tp_model.specs.Steps.{rows_of, units_of};
+ghost use Rattle.tp_model.specs.Words.{claim_word};
+ghost use Rattle.tp_words.specs.Words.{claim_value, IsFitClaim};
+ghost use Rattle.tp_rule.specs.Views.{seen_by, view_of, IsSameSeat};
+ghost use Rattle.tp_rule.specs.Tables.{limits_of, IsSeatOf};
+ghost use Rattle.tp_manager.specs.Walks.{Steady, Looked, Acted};
+ghost use Rattle.tp_manager.specs.Looks.{HeadTold, IsThere, IsEnough};
+
+use crate::manager::Shared;
+use tp_model::types::{Element, Status};
+use tp_rule::Seat;
+use tp_words::{Claim, Head, UnitWord};
+
+/// What the head of a born element says.
+#[derive(Clone, Copy, Debug, PartialEq, Eq)]
+pub(crate) struct Birth {
+    pub stage: u8,
+    pub root: u16,
+    pub by: Option<u16>,
+}
+
+impl Shared {
+    /// What the head of a row says. One step.
+    pub(crate) fn head_at(&self, seat: &mut Seat, row: u32) -> Head
+        requires own { IsSeatOf self.now.words seat.old }
+        requires steady { Steady (limits_of self.now.words) (view_of seat.old) }
+        requires row { row < rows_of (limits_of self.now.words) }
+        ensures same { IsSameSeat seat.old seat.new }
+        ensures acted { Acted (limits_of self.now.words) 1 (view_of seat.old) (view_of seat.new) }
+        ensures told { HeadTold (seen_by seat.new) row result }
+    {
+        self.words.load_head(seat, row)
+    }
+
+    /// Whether the row whose head was just found has a born element, and what its head says. At most two steps.
+    pub(crate) fn birth_from(&self, seat: &mut Seat, row: u32, head: Head) -> Option<Birth>
+        requires own { IsSeatOf self.now.words seat.old }
+        requires steady { Steady (limits_of self.now.words) (view_of seat.old) }
+        requires row { row < rows_of (limits_of self.now.words) }
+        requires told { HeadTold (seen_by seat.old) row head }
+        ensures same { IsSameSeat seat.old seat.new }
+        ensures looked { Looked (limits_of self.now.words) 2 (view_of seat.old) (view_of seat.new) }
+        ensures told { MatchOption result (IsUnborn (seen_by seat.old) row) (λ birth. IsThere (seen_by seat.new) row birth) }
+    {
+        let Head::There { stage, root, by } = head else {
+            return None;
+        };
+        let Some(unit) = by else {
+            return Some(Birth { stage, root, by });
+        };
+        if !self.is_unit(unit) {
+            return None;
+        }
+        match self.words.load_unit(seat, unit) {
+            UnitWord::Undecided => None,
+            UnitWord::Aborted => None,
+            UnitWord::Committed { first, count } => {
+                if row < first as u32 || row - first as u32 >= count as u32 {
+                    return None;
+                }
+                match self.words.load_head(seat, row) {
+                    Head::Empty => unreachable!(),
+                    Head::There { stage, root, by } => Some(Birth { stage, root, by }),
+                }
+            }
+        }
+    }
+
+    /// Whether there is a unit with this number.
+    fn is_unit(&self, unit: u16) -> bool
+        ensures yes { result ≡ true → unit < units_of (limits_of self.now.words) }
+        ensures no { result ≡ false → ¬ (unit < units_of (limits_of self.now.words)) }
+    {
+        let limits = self.places.limits;
+        (unit as u32) < limits.parts as u32 * limits.units as u32
+    }
+
+    /// The element that is born in the row with this head. Two steps.
+    pub(crate) fn element_at(&self, seat: &mut Seat, row: u32, birth: Birth) -> Element
+        requires own { IsSeatOf self.now.words seat.old }
+        requires steady { Steady (limits_of self.now.words) (view_of seat.old) }
+        requires row { row < rows_of (limits_of self.now.words) }
+        requires there { IsThere (seen_by seat.old) row birth }
+        ensures same { IsSameSeat seat.old seat.new }
+        ensures looked { Looked (limits_of self.now.words) 2 (view_of seat.old) (view_of seat.new) }
+        ensures born { element_of (seen_by seat.new) row ≡ Some result }
+        ensures head { (result.stage ≡ birth.stage) × (result.root ≡ birth.root) × (result.id ≡ row) }
+    {
+        let key = self.words.load_key(seat, row);
+        let amount = self.words.load_amount(seat, row);
+        Element {
+            id: row,
+            stage: birth.stage,
+            root: birth.root as u32,
+            key,
+            amount,
+            by: birth.by,
+        }
+    }
+
+    /// The claim and the status of the element of a row, whose claim was just found; there are at most so many further
+    /// attempts. At most twice as many steps.
+    pub(crate) fn status_from(
+        &self,
+        seat: &mut Seat,
+        row: u32,
+        claim: Claim,
+        left: u8,
+    ) -> (Claim, Status)
+        requires own { IsSeatOf self.now.words seat.old }
+        requires steady { Steady (limits_of self.now.words) (view_of seat.old) }
+        requires row { row < rows_of (limits_of self.now.words) }
+        requires found { (claim_value claim ≡ claim_word (seen_by seat.old) row) × IsFitClaim (claim_value claim) }
+        requires enough { IsEnough (limits_of self.now.words) left (claim_value claim) }
+        ensures same { IsSameSeat seat.old seat.new }
+        ensures looked { Looked (limits_of self.now.words) (2 * left) (view_of seat.old) (view_of seat.new) }
+        ensures claim { (claim_value result.0 ≡ claim_word (seen_by seat.new) row) × IsFitClaim (claim_value result.0) }
+        ensures status { result.1 ≡ status_of (limits_of self.now.words).attempts (seen_by seat.new) row }
+    {
+        match claim {
+            Claim::Free => (claim, Status::Waiting { attempts: 0 }),
+            Claim::Killed {
+                attempt: _,
+                unit: _,
+            } => (claim, Status::Killed),
+            Claim::Taken { attempt, unit } => match self.words.load_unit(seat, unit) {
+                UnitWord::Undecided => (claim, Status::Held { unit, attempt }),
+                UnitWord::Committed { first: _, count: _ } => (claim, Status::Consumed { unit }),
+                UnitWord::Aborted => {
+                    let again = self.words.load_claim(seat, row);
+                    if again != claim {
+                        return self.status_from(seat, row, again, left - 1);
+                    }
+                    if attempt < self.places.limits.attempts {
+                        (again, Status::Waiting { attempts: attempt })
+                    } else {
+                        (again, Status::Parked { attempts: attempt })
+                    }
+                }
+            },
+        }
+    }
+
+    /// The claim and the status of the element of a row. At most one step, and two for each attempt that is allowed.
+    pub(crate) fn status_at(&self, seat: &mut Seat, row: u32) -> (Claim, Status)
+        requires own { IsSeatOf self.now.words seat.old }
+        requires steady { Steady (limits_of self.now.words) (view_of seat.old) }
+        requires row { row < rows_of (limits_of self.now.words) }
+        ensures same { IsSameSeat seat.old seat.new }
+        ensures acted { Acted (limits_of self.now.words) (1 + 2 * (limits_of self.now.words).attempts) (view_of seat.old) (view_of seat.new) }
+        ensures claim { (claim_value result.0 ≡ claim_word (seen_by seat.new) row) × IsFitClaim (claim_value result.0) }
+        ensures status { result.1 ≡ status_of (limits_of self.now.words).attempts (seen_by seat.new) row }
+    {
+        let claim = self.words.load_claim(seat, row);
+        self.status_from(seat, row, claim, self.places.limits.attempts)
+    }
+}

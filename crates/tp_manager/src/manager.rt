@@ -1,0 +1,175 @@
+//! The manager, the keeper that hands out its passes, and the passes.
+ghost use Rattle.std.specs.Prelude.{◌≡◌, ◌↔◌, ◌+◌, ◌-◌, ◌≤◌, [], true, false, None, IfOk, IfErr, is_some, Err};
+ghost use Rattle.tp_model.specs.Steps.{AreLimits, rows_of};
+ghost use Rattle.tp_model.specs.Passes.{IsPassView};
+ghost use Rattle.tp_rule.specs.Views.{fresh_from, view_of};
+ghost use Rattle.tp_rule.specs.Tables.{limits_of};
+ghost use Rattle.tp_manager.specs.Shown.{view_in, IsOf, IsKeptBy};
+ghost use Rattle.tp_manager.specs.declared.manager.MakeFault.TheVariants as faults;
+
+use std::alloc::Global;
+use std::marker::Model;
+use tp_model::types::Limits;
+use tp_rule::{Seat, Words};
+use tp_words::Places;
+
+/// Why a manager could not be made, or a pass not be given out.
+#[derive(Clone, Copy, Debug, PartialEq, Eq)]
+pub enum MakeFault {
+    /// Memory could not be had.
+    NoMemory,
+    /// A limit is outside its range.
+    BadLimits,
+    /// All passes are given out.
+    NoPart,
+}
+
+/// The words that all passes share, and where they stand.
+#[derive(Drop)]
+pub(crate) struct Shared {
+    pub words: Words,
+    pub places: Places,
+    pub ghost same: { limits_of words ≡ places.limits },
+}
+
+/// A manager of queued requests, that callers share: each call takes `&self` and the caller's own pass.
+#[derive(Drop)]
+pub struct Manager {
+    pub(crate) shared: Shared,
+}
+
+impl Model for Manager {
+    ghost use Rattle.tp_manager.specs.Shown.{ManagerShown};
+
+    ghost Value = { ManagerShown };
+
+    ghost view = { λ m. record { table = m.shared.words.table.shared.table_id; limits = m.shared.places.limits } };
+}
+
+/// What gives out the passes of a manager.
+#[derive(Drop)]
+pub struct Keeper {
+    seat: Seat,
+    limits: Limits,
+    given: u16,
+}
+
+impl Model for Keeper {
+    ghost use Rattle.tp_manager.specs.Shown.{KeeperShown};
+
+    ghost Value = { KeeperShown };
+
+    ghost view = { λ k. record { table = k.seat.table_id; limits = k.limits; given = k.given } };
+
+    ghost use Rattle.tp_manager.specs.Walks.{Keeps};
+
+    ghost invariant = { λ k. Keeps k.seat k.limits k.given };
+}
+
+/// The unit of work that a pass has open, and the root of the element that it took.
+#[derive(Clone, Copy, Debug, PartialEq, Eq)]
+pub(crate) struct Task {
+    pub unit: u16,
+    pub root: u16,
+}
+
+/// What one caller acts through, one call at a time. A pass that is dropped leaves its open unit open: the element
+/// stays held, and a kill still takes it.
+#[derive(Drop)]
+pub struct Pass {
+    pub(crate) seat: Seat,
+    pub(crate) number: u16,
+    pub(crate) drawn: u16,
+    pub(crate) used: u16,
+    pub(crate) task: Option<Task>,
+}
+
+impl Model for Pass {
+    ghost use Rattle.tp_manager.specs.Shown.{PassShown, shown};
+
+    ghost Value = { PassShown };
+
+    ghost use Rattle.tp_manager.specs.Walks.{Rests};
+
+    ghost view = { λ p. shown p.seat.table_id p.seat.me.0 };
+
+    ghost invariant = { λ p. Rests p.seat p.number p.drawn p.used p.task };
+}
+
+impl Keeper {
+    /// A manager with these limits, and the keeper of its passes. `BadLimits` where a limit is outside its range;
+    /// `NoMemory` only where the allocator refused.
+    pub fn new(alloc: Global, limits: Limits) -> Result<(Manager, Keeper), MakeFault>
+        ensures keeper { IfOk result (λ made. IsKeptBy made.0 made.1 × (made.1.given ≡ 0)) }
+        ensures limits { IfOk result (λ made. (made.0.limits ≡ limits) × AreLimits limits) }
+        ensures bad { (result ≡ Err faults.BadLimits) ↔ (¬ AreLimits limits) }
+        ensures part { ¬ (result ≡ Err faults.NoPart) }
+    {
+        let Ok(places) = Places::new(limits) else {
+            return Err(MakeFault::BadLimits);
+        };
+        let limits = places.limits;
+        match Words::new(alloc, places) {
+            Ok((words, seat)) => Ok((
+                Manager {
+                    shared: Shared { words, places },
+                },
+                Keeper {
+                    seat,
+                    limits,
+                    given: 0,
+                },
+            )),
+            Err(_) => Err(MakeFault::NoMemory),
+        }
+    }
+
+    /// The next pass of the manager, the first with number 0. `NoPart` where as many are given out as there are parts.
+    pub fn pass(&mut self, manager: &Manager) -> Result<Pass, MakeFault>
+        requires keeper { IsKeptBy manager.now self.old }
+        ensures keeper { IsKeptBy manager.now self.new }
+        ensures own { IfOk result (λ pass. IsOf manager.now pass × IsPassView pass.limits (view_in pass)) }
+        ensures fresh { IfOk result (λ pass. (pass.number ≡ self.old.given) × (pass.mine ≡ []) × (pass.seen ≡ []) × (pass.open_unit ≡ None) × (pass.drawn ≡ 0)) }
+        ensures given { IfOk result (λ pass. self.new.given ≡ self.old.given + 1) }
+        ensures none { IfErr result (λ fault. (fault ≡ faults.NoPart) × (self.old.given ≡ self.old.limits.parts) × (self.new ≡ self.old)) }
+    {
+        if self.given == self.limits.parts {
+            return Err(MakeFault::NoPart);
+        }
+        let seat = manager.shared.words.hand_out(&mut self.seat);
+        let number = self.given;
+        self.given += 1;
+        Ok(Pass {
+            seat,
+            number,
+            drawn: 0,
+            used: 0,
+            task: None,
+        })
+    }
+}
+
+impl Pass {
+    /// The number of the pass: how many were given out before it.
+    pub fn number(&self) -> u16
+        ensures { result ≡ self.now.number }
+    {
+        self.number
+    }
+
+    /// Whether the pass has a unit of work open: claimed, and neither committed nor aborted by its own calls.
+    pub fn has_open(&self) -> bool
+        ensures { result ≡ is_some self.now.open_unit }
+    {
+        self.task.is_some()
+    }
+}
+
+impl Manager {
+    /// How many elements the manager has room for, at most 8192.
+    pub fn capacity(&self) -> u32
+        ensures { result ≡ rows_of self.now.limits }
+    {
+        self.shared.places.rows()
+    }
+}

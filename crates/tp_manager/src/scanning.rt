@@ -1,0 +1,99 @@
+//! A server's look for work.
+ghost use Rattle.std.specs.Prelude.{◌≡◌, ◌+◌, ◌*◌, ◌<◌, MatchOption, true, false};
+ghost use Rattle.tp_model.specs.declared.types.Element.{Element as element};
+ghost use Rattle.tp_model.specs.Steps.{rows_of, IsServerStage};
+ghost use Rattle.tp_words.specs.Words.{head_of};
+ghost use Rattle.tp_rule.specs.Views.{seen_by, view_of, IsSameSeat};
+ghost use Rattle.tp_rule.specs.Tables.{limits_of, IsSeatOf};
+ghost use Rattle.tp_manager.specs.Walks.{Steady, Looked, PassedBy, PassedBelow, IsSpare, Took};
+
+use crate::manager::Shared;
+use tp_model::types::{Element, Status};
+use tp_rule::Seat;
+use tp_words::Head;
+
+/// An element that a unit took.
+#[derive(Clone, Copy, Debug, PartialEq, Eq)]
+pub(crate) struct Taken {
+    pub element: Element,
+    pub root: u16,
+    pub attempt: u8,
+}
+
+fn is_of_stage(head: Head, stage: u8) -> bool
+    ensures no { result ≡ false → (e : element) → head ≡ head_of e → ¬ (e.stage ≡ stage) }
+{
+    match head {
+        Head::Empty => false,
+        Head::There {
+            stage: found,
+            root: _,
+            by: _,
+        } => found == stage,
+    }
+}
+
+impl Shared {
+    /// The unit takes the element of a row, if that waits in the stage. At most eight steps, and two for each attempt
+    /// that is allowed; one where the head is not of the stage.
+    fn try_row(&self, seat: &mut Seat, row: u32, stage: u8, unit: u16) -> Option<Taken>
+        requires own { IsSeatOf self.now.words seat.old }
+        requires steady { Steady (limits_of self.now.words) (view_of seat.old) }
+        requires row { row < rows_of (limits_of self.now.words) }
+        requires stage { IsServerStage stage }
+        requires spare { IsSpare unit (view_of seat.old) × (unit < 65535) }
+        ensures same { IsSameSeat seat.old seat.new }
+        ensures told { MatchOption result
+            (Looked (limits_of self.now.words) (2 * (limits_of self.now.words).attempts + 9) (view_of seat.old) (view_of seat.new)
+                × PassedBy (limits_of self.now.words) stage row (seen_by seat.old) (seen_by seat.new))
+            (λ t. Took (limits_of self.now.words) (2 * (limits_of self.now.words).attempts + 9) stage unit (view_of seat.old) (view_of seat.new) t.element t.attempt
+                × (t.element.root ≡ t.root)) }
+    {
+        let head = self.head_at(seat, row);
+        if !is_of_stage(head, stage) {
+            return None;
+        }
+        let Some(birth) = self.birth_from(seat, row, head) else {
+            return None;
+        };
+        if birth.stage != stage {
+            return None;
+        }
+        let (claim, status) = self.status_at(seat, row);
+        let Status::Waiting { attempts } = status else {
+            return None;
+        };
+        let element = self.element_at(seat, row, birth);
+        let attempt = attempts + 1;
+        if !self.words.claim_exchange(seat, row, claim, attempt, unit) {
+            return None;
+        }
+        Some(Taken {
+            element,
+            root: birth.root,
+            attempt,
+        })
+    }
+
+    /// The unit takes the first element that waits in the stage.
+    pub(crate) fn scan(&self, seat: &mut Seat, stage: u8, unit: u16) -> Option<Taken>
+        requires own { IsSeatOf self.now.words seat.old }
+        requires steady { Steady (limits_of self.now.words) (view_of seat.old) }
+        requires stage { IsServerStage stage }
+        requires spare { IsSpare unit (view_of seat.old) × (unit < 65535) }
+        ensures same { IsSameSeat seat.old seat.new }
+        ensures told { MatchOption result
+            (Looked (limits_of self.now.words) (rows_of (limits_of self.now.words) * (2 * (limits_of self.now.words).attempts + 9)) (view_of seat.old) (view_of seat.new)
+                × PassedBelow (limits_of self.now.words) stage (rows_of (limits_of self.now.words)) (seen_by seat.old) (seen_by seat.new))
+            (λ t. Took (limits_of self.now.words) (rows_of (limits_of self.now.words) * (2 * (limits_of self.now.words).attempts + 9)) stage unit (view_of seat.old) (view_of seat.new) t.element t.attempt
+                × (t.element.root ≡ t.root)) }
+    {
+        let rows = self.places.rows();
+        for row in 0..rows {
+            if let Some(taken) = self.try_row(seat, row, stage, unit) {
+                return Some(taken);
+            }
+        }
+        None
+    }
+}
