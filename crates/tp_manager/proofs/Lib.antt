@@ -10,3 +10,5 @@ pub mod Scans
 pub mod Claims
 pub mod Shuts
 pub mod Kills
+pub mod Meetings
+pub mod Finds

@@ -1,0 +1,46 @@
+-- What the listings answer. In each definition `old` is what the pass shows before the call, and `new` what it shows after it.
+use Rattle.std.specs.Prelude.{◌≡◌, ℕ, ◌<◌, ◌≤◌, List, Some}
+use Rattle.tp_model.specs.declared.types.Element.{Element}
+use Rattle.tp_model.specs.declared.types.Limits.{Limits}
+use Rattle.tp_model.specs.declared.types.Status.{Status}
+use Rattle.tp_model.specs.declared.types.Status.TheVariants.{Killed, Parked}
+use Rattle.tp_model.specs.declared.event.Event.{Event}
+use Rattle.tp_model.specs.History.{element_of, status_of}
+use Rattle.tp_manager.specs.Shown.{PassShown}
+use Rattle.tp_manager.specs.Calls.{AtPoint, IsWaiting, opening}
+
+-- the element is a reply to the request with this root
+abbrev pub IsReply : ℕ → Element → Type 0
+IsReply root x = (x.stage ≡ 15) × (x.root ≡ root)
+
+-- an element with this status is parked
+abbrev pub IsParked : Status → Type 0
+IsParked s = (n : ℕ) × (s ≡ Parked n)
+
+-- a reply of this root with this id is born, and waits
+abbrev pub HasReply : Limits → ℕ → ℕ → List Event → Type 0
+HasReply l root id h = (x : Element) × (element_of h id ≡ Some x) × IsReply root x × IsWaiting (status_of l.attempts h id)
+
+-- an element with this id is born, and parked
+abbrev pub HasError : Limits → ℕ → List Event → Type 0
+HasError l id h = (x : Element) × (element_of h id ≡ Some x) × IsParked (status_of l.attempts h id)
+
+-- each reply of the root that was born at the opening with one of these ids had a point at which it was killed
+abbrev pub AllKilled : Limits → ℕ → (ℕ → Type 0) → PassShown → PassShown → Type 0
+AllKilled l root Ids old new = (x : Element) → element_of (opening old new) x.id ≡ Some x → IsReply root x → Ids x.id → AtPoint old new (λ h. status_of l.attempts h x.id ≡ Killed)
+
+-- each element that was born at the opening with one of these ids had a point at which it wasn't parked
+abbrev pub NoneParked : Limits → (ℕ → Type 0) → PassShown → PassShown → Type 0
+NoneParked l Ids old new = (x : Element) → element_of (opening old new) x.id ≡ Some x → Ids x.id → AtPoint old new (λ h. ¬ IsParked (status_of l.attempts h x.id))
+
+-- a reply of the root waited at a point, and each before it from `from` on was killed at one
+pub record NextReply (l : Limits) (root from id : ℕ) (old new : PassShown) : Type 0 where
+  pub from_on : from ≤ id
+  pub waits : AtPoint old new (HasReply l root id)
+  pub before : AllKilled l root (λ i. (from ≤ i) × (i < id)) old new
+
+-- an element was parked at a point, and each before it from `from` on wasn't at one
+pub record NextError (l : Limits) (from id : ℕ) (old new : PassShown) : Type 0 where
+  pub from_on : from ≤ id
+  pub parked : AtPoint old new (HasError l id)
+  pub before : NoneParked l (λ i. (from ≤ i) × (i < id)) old new
