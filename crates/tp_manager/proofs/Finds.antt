@@ -105,10 +105,10 @@ module _ (l : Limits) (wanted : Wanted) where
 
   pub from_next : (from n : ℕ) (a h b : List Event) → IsPrefix a h → IsPrefix h b → PassedFrom l wanted from n a h → PassedOver l wanted n h b → PassedFrom l wanted from (n + 1) a b
   from_next from n a h b before after all this i low high x p = elim (eqb_tells i n) [
-      | inl q ↦ (let at : element_of a n ≡ Some x = subst (λ z. element_of a z ≡ Some x) q.1 p in let t = this x (found_later a h before n x at) in
-          (t.0, begins_trans a h t.0 before t.1, t.2, subst (λ z. ¬ IsWanted wanted x.stage x.root (status_of l.attempts t.0 z)) (sym q.1) t.3))
-      | inr q ↦ (let not : i ≢ n = q.1 in from_later from n a h b after all i low (omega arith) x p)
-    ]
+    | inl q ↦ (let at : element_of a n ≡ Some x = subst (λ z. element_of a z ≡ Some x) q.1 p in let t = this x (found_later a h before n x at) in
+        (t.0, begins_trans a h t.0 before t.1, t.2, subst (λ z. ¬ IsWanted wanted x.stage x.root (status_of l.attempts t.0 z)) (sym q.1) t.3))
+    | inr q ↦ (let not : i ≢ n = q.1 in from_later from n a h b after all i low (omega arith) x p)
+  ]
 
 -- a listing as a whole: a load opens it, and the rows from `from` on are looked at after that
 module _ (t t' : TableId) (v w y : View) (old : PassShown) (is : shown t v ≡ old) (l : Limits) (m from : ℕ) (a : Acted l 1 v w) (b : Looked l m w y) where
@@ -134,7 +134,7 @@ module _ (t t' : TableId) (v w y : View) (old : PassShown) (is : shown t v ≡ o
   all_killed : (root end : ℕ) (Ids : ℕ → Type 0) → ((i : ℕ) → Ids i → i < rows_of l → (from ≤ i) × (i < end)) → PassedFrom l (wanteds.Reply root) from end w.seen y.seen → AllKilled l root Ids old (shown t' y)
   all_killed root end Ids range passed x p reply id = let born = born_there x p in let r = range x.id id (inside x born) in let q = passed x.id r.0 r.1 x born in
       point (λ h. status_of l.attempts h x.id ≡ Killed) q.0 q.1 q.2
-        (reply_killed l q.0 x.id x (legal_within q.0 q.2) (found_later w.seen q.0 q.1 x.id x born) reply.0 (λ waits. q.3 (reply.0, reply.1, waits)))
+      (reply_killed l q.0 x.id x (legal_within q.0 q.2) (found_later w.seen q.0 q.1 x.id x born) reply.0 (λ waits. q.3 (reply.0, reply.1, waits)))
 
   last : IsPrefix w.seen y.seen
   last = begins_trans w.seen (opening_of w.seen b.marks) y.seen b.walk.opens b.walk.closes

@@ -28,11 +28,11 @@ module _ (l : Limits) (v w : View) (s : Steady l v) (one : IsOnePass w) (lim : w
       own = own;
       within = subst (λ n. n ≤ l.rows) (sym drawn) s.shows.within;
       unborn = λ i low high.
-        let low' : (hand v).number * l.rows + (hand v).drawn ≤ i = subst (λ n. n * l.rows + (hand v).drawn ≤ i) number (subst (λ n. (hand w).number * l.rows + n ≤ i) drawn low) in
-        let high' : i < (hand v).number * l.rows + l.rows = subst (λ n. i < n * l.rows + l.rows) number high in
-        let m : events_by (hand v).number w.seen ≡ events_by (hand v).number v.seen = ap (λ n. events_by n w.seen) (sym number) ∙ (sym own ∙ (mine ∙ s.shows.own)) in
-        let few : length (events_by (hand v).number w.seen) ≤ length (events_by (hand v).number v.seen) = let e = ap length m in omega arith in
-        unborn_quiet l (hand v).number i (s.shows.given, omega arith, high') v.seen (s.shows.unborn i low' high') w.seen legal begins few;
+          let low' : (hand v).number * l.rows + (hand v).drawn ≤ i = subst (λ n. n * l.rows + (hand v).drawn ≤ i) number (subst (λ n. (hand w).number * l.rows + n ≤ i) drawn low) in
+          let high' : i < (hand v).number * l.rows + l.rows = subst (λ n. i < n * l.rows + l.rows) number high in
+          let m : events_by (hand v).number w.seen ≡ events_by (hand v).number v.seen = ap (λ n. events_by n w.seen) (sym number) ∙ (sym own ∙ (mine ∙ s.shows.own)) in
+          let few : length (events_by (hand v).number w.seen) ≤ length (events_by (hand v).number v.seen) = let e = ap length m in omega arith in
+          unborn_quiet l (hand v).number i (s.shows.given, omega arith, high') v.seen (s.shows.unborn i low' high') w.seen legal begins few;
     };
   }
 
@@ -91,14 +91,14 @@ module _ (l : Limits) (v w k j m x y : View) (sv : Steady l v) (sw : Steady l w)
   steady_first : Steady l x
   steady_first = let h = first_hand_is in
       steady_seen l v x sv (first_hands ∙ ap (λ (a : Hand). a ∷ []) (sym h)) (ap (λ (z : View). z.limits) first ∙ limits_met) (subst (IsLegal l) (sym first_seen) legal_met) (subst (IsPrefix v.seen) (sym first_seen) first_saw)
-        (ap (λ (a : Hand). a.mine) h ∙ (g.mine A (subst (λ hs. In A hs) (sym met_hands) here) ∙ (ap (events_by (hand v).number) (sym first_seen) ∙ ap (λ (a : Hand). events_by a.number x.seen) (sym h))))
-        (ap (λ (a : Hand). a.number) h) (ap (λ (a : Hand). a.drawn) h) (ap (λ (a : Hand). a.mine) h)
+      (ap (λ (a : Hand). a.mine) h ∙ (g.mine A (subst (λ hs. In A hs) (sym met_hands) here) ∙ (ap (events_by (hand v).number) (sym first_seen) ∙ ap (λ (a : Hand). events_by a.number x.seen) (sym h))))
+      (ap (λ (a : Hand). a.number) h) (ap (λ (a : Hand). a.drawn) h) (ap (λ (a : Hand). a.mine) h)
 
   steady_second : Steady l y
   steady_second = let h = second_hand_is in
       steady_seen l w y sw (second_hands ∙ ap (λ (a : Hand). a ∷ []) (sym h)) (ap (λ (z : View). z.limits) second ∙ limits_met) (subst (IsLegal l) (sym second_seen) legal_met) (subst (IsPrefix w.seen) (sym second_seen) second_saw)
-        (ap (λ (a : Hand). a.mine) h ∙ (g.mine B (subst (λ hs. In B hs) (sym met_hands) (there here)) ∙ (ap (events_by (hand w).number) (sym second_seen) ∙ ap (λ (a : Hand). events_by a.number y.seen) (sym h))))
-        (ap (λ (a : Hand). a.number) h) (ap (λ (a : Hand). a.drawn) h) (ap (λ (a : Hand). a.mine) h)
+      (ap (λ (a : Hand). a.mine) h ∙ (g.mine B (subst (λ hs. In B hs) (sym met_hands) (there here)) ∙ (ap (events_by (hand w).number) (sym second_seen) ∙ ap (λ (a : Hand). events_by a.number y.seen) (sym h))))
+      (ap (λ (a : Hand). a.number) h) (ap (λ (a : Hand). a.drawn) h) (ap (λ (a : Hand). a.mine) h)
 
   -- what a meeting is for the first
   pub met_first : Acted l 3 v x

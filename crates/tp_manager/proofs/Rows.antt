@@ -25,9 +25,10 @@ module _ (l : Limits) (c i : ℕ) (row : IsRowOf l c i) (h : List Event) where
       elim (eqb_tells (pass_of e) c) [
         | inl p ↦ let low = old.0 in let more : length (events_by c (x ++ e ∷ [])) ≡ length (events_by c x) + 1 = ap length (by_own c x e p.1) ∙ length-append (events_by c x) (e ∷ []) in (omega arith, λ high. absurd (omega arith))
         | inr p ↦
-            let same = by_other c x e p.1 in
-            (subst (λ z. length (events_by c h) ≤ length z) (sym same) old.0,
-                λ high. element_of-snoc x e i ∙ (ap (λ o. option_or o (find (λ (y : Element). y.id == i) (births e))) (old.1 (subst (λ z. length z ≤ length (events_by c h)) same high)) ∙ no_birth l x e step i (other_row e p.1)))
+            let same = by_other c x e p.1 in (
+              subst (λ z. length (events_by c h) ≤ length z) (sym same) old.0,
+              λ high. element_of-snoc x e i ∙ (ap (λ o. option_or o (find (λ (y : Element). y.id == i) (births e))) (old.1 (subst (λ z. length z ≤ length (events_by c h)) same high)) ∙ no_birth l x e step i (other_row e p.1)),
+            )
       ]
 
   -- a row of a pass that made no event since is still unborn

@@ -100,10 +100,10 @@ module _ (l : Limits) (stage : ℕ) where
 
   pub below_next : (n : ℕ) (a h b : List Event) → IsPrefix a h → IsPrefix h b → PassedBelow l stage n a h → PassedBy l stage n h b → PassedBelow l stage (n + 1) a b
   below_next n a h b before after all this i less x p st = elim (eqb_tells i n) [
-      | inl q ↦ (let at : element_of a n ≡ Some x = subst (λ z. element_of a z ≡ Some x) q.1 p in let t = this x (found_later a h before n x at) st in
-          (t.0, begins_trans a h t.0 before t.1, t.2, subst (λ z. ¬ IsWaiting (status_of l.attempts t.0 z)) (sym q.1) t.3))
-      | inr q ↦ (let not : i ≢ n = q.1 in let t = all i (omega arith) x p st in (t.0, t.1, begins_trans t.0 h b t.2 after, t.3))
-    ]
+    | inl q ↦ (let at : element_of a n ≡ Some x = subst (λ z. element_of a z ≡ Some x) q.1 p in let t = this x (found_later a h before n x at) st in
+        (t.0, begins_trans a h t.0 before t.1, t.2, subst (λ z. ¬ IsWaiting (status_of l.attempts t.0 z)) (sym q.1) t.3))
+    | inr q ↦ (let not : i ≢ n = q.1 in let t = all i (omega arith) x p st in (t.0, t.1, begins_trans t.0 h b t.2 after, t.3))
+  ]
 
   module _ (u attempt : ℕ) (e : Element) where
     pub took_by : (n i : ℕ) (v w y : View) → e.id ≡ i → Looked l n v w → element_of w.seen i ≡ Some e → e.stage ≡ stage → MakesClaim w u i attempt y → Took l (n + 1) stage u v y e attempt

@@ -71,9 +71,9 @@ steady_quiet l kind f v w s g number drawn mine =
     let m : events_by (hand v).number w.seen ≡ events_by (hand v).number v.seen = ap (λ n. events_by n w.seen) (sym c) ∙ (sym (grew_own l kind f [] v w s g) ∙ (ap (λ (a : Hand). a.mine) h ∙ (mine ∙ s.shows.own))) in
     let few : length (events_by (hand v).number w.seen) ≤ length (events_by (hand v).number v.seen) = let e = ap length m in omega arith in
     grew_steady l kind f [] v w s g number (subst (λ n. n ≤ l.rows) (sym drawn) s.shows.within)
-        (λ i low high. let low' : (hand v).number * l.rows + (hand v).drawn ≤ i = subst (λ n. n * l.rows + (hand v).drawn ≤ i) c (subst (λ n. (hand w).number * l.rows + n ≤ i) d low) in
-        let high' : i < (hand v).number * l.rows + l.rows = subst (λ n. i < n * l.rows + l.rows) c high in
-        unborn_quiet l (hand v).number i (s.shows.given, omega arith, high') v.seen (s.shows.unborn i low' high') w.seen (grew_legal l kind f [] v w s g) (grew_seen l kind f [] v w s g) few)
+    (λ i low high. let low' : (hand v).number * l.rows + (hand v).drawn ≤ i = subst (λ n. n * l.rows + (hand v).drawn ≤ i) c (subst (λ n. (hand w).number * l.rows + n ≤ i) d low) in
+    let high' : i < (hand v).number * l.rows + l.rows = subst (λ n. i < n * l.rows + l.rows) c high in
+    unborn_quiet l (hand v).number i (s.shows.given, omega arith, high') v.seen (s.shows.unborn i low' high') w.seen (grew_legal l kind f [] v w s g) (grew_seen l kind f [] v w s g) few)
 
 -- a step with an event of the pass, which bears nothing in the rows that the pass has not used then
 pub steady_own : (l : Limits) (kind : StepKind) (f : Hand → Hand) (e : Event) (v w : View) → Steady l v → Grew kind f (e ∷ []) v w → (f (hand v)).number ≡ (hand v).number
@@ -89,11 +89,11 @@ steady_own l kind f e v w s g number more room mine own below =
     let m : events_by k p ++ e ∷ [] ≡ events_by k v.seen ++ e ∷ [] = sym (by_own k p e own) ∙ (ap (events_by k) (sym g.seen) ∙ (ap (λ n. events_by n w.seen) (sym c) ∙ (sym (grew_own l kind f (e ∷ []) v w s g) ∙ (ap (λ (a : Hand). a.mine) h ∙ (mine ∙ ap (λ z. z ++ e ∷ []) s.shows.own))))) in
     let few : length (events_by k p) ≤ length (events_by k v.seen) = (let q = ap length m in let a = length-append (events_by k p) (e ∷ []) in let b = length-append (events_by k v.seen) (e ∷ []) in omega arith) in
     grew_steady l kind f (e ∷ []) v w s g number room
-        (λ i low high. let low' : k * l.rows + (f (hand v)).drawn ≤ i = subst (λ n. n * l.rows + (f (hand v)).drawn ≤ i) c (subst (λ n. (hand w).number * l.rows + n ≤ i) d low) in
-        let high' : i < k * l.rows + l.rows = subst (λ n. i < n * l.rows + l.rows) c high in
-        subst (λ z. IsUnborn z i) (sym g.seen)
-          (unborn_still p e i (unborn_quiet l k i (s.shows.given, omega arith, high') v.seen (s.shows.unborn i (omega arith) high') p (legal_start l p (e ∷ []) legal) (g.between, refl) few)
-            (λ x q same. let b = below x q in let z : x.id ≡ i = same in omega arith)))
+    (λ i low high. let low' : k * l.rows + (f (hand v)).drawn ≤ i = subst (λ n. n * l.rows + (f (hand v)).drawn ≤ i) c (subst (λ n. (hand w).number * l.rows + n ≤ i) d low) in
+    let high' : i < k * l.rows + l.rows = subst (λ n. i < n * l.rows + l.rows) c high in
+    subst (λ z. IsUnborn z i) (sym g.seen)
+    (unborn_still p e i (unborn_quiet l k i (s.shows.given, omega arith, high') v.seen (s.shows.unborn i (omega arith) high') p (legal_start l p (e ∷ []) legal) (g.between, refl) few)
+    (λ x q same. let b = below x q in let z : x.id ≡ i = same in omega arith)))
 
 module _ (l : Limits) where
   pub walked_none : (v : View) → Steady l v → Walked l 0 [] v v

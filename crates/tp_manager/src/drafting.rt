@@ -25,7 +25,8 @@ impl Shared {
     {
         self.words.store_draft_key(seat, row, draft.key());
         self.words.store_draft_amount(seat, row, draft.amount());
-        self.words.store_draft_head(seat, row, draft.stage(), root, unit);
+        self.words
+            .store_draft_head(seat, row, draft.stage(), root, unit);
     }
 
     /// Writes the drafts into the next rows of the pass, which has the unit open and room for them.

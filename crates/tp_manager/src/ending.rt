@@ -64,7 +64,10 @@ impl Manager {
         let row = pass.number * rows + pass.drawn;
         shared.write_all(seat, row as u32, drafts, task.root, task.unit);
         let first = if count == 0 { 0 } else { row };
-        if shared.words.commit_exchange(seat, task.unit, first, count as u8) {
+        if shared
+            .words
+            .commit_exchange(seat, task.unit, first, count as u8)
+        {
             pass.drawn += count;
             pass.task = None;
             Outcome::Committed {

@@ -42,13 +42,7 @@ impl Shared {
 
     /// Kills the element of the row, whose claim was just found and isn't free; there are at most so many attempts from
     /// it on. How many units it aborted. At most four steps for each attempt.
-    fn kill_from(
-        &self,
-        seat: &mut Seat,
-        row: u32,
-        claim: Claim,
-        left: u8,
-    ) -> Result<u8, Refusal>
+    fn kill_from(&self, seat: &mut Seat, row: u32, claim: Claim, left: u8) -> Result<u8, Refusal>
         requires own { IsSeatOf self.now.words seat.old }
         requires steady { Steady (limits_of self.now.words) (view_of seat.old) }
         requires row { (row < rows_of (limits_of self.now.words)) × HasElement (seen_by seat.old) row }

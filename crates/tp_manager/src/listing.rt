@@ -85,7 +85,7 @@ impl Shared {
         ensures told { MatchOption result
             (PassedFrom (limits_of self.now.words) wanted from (rows_of (limits_of self.now.words)) (seen_by seat.old) (seen_by seat.new))
             (λ id. (from ≤ id) × Hits (limits_of self.now.words) wanted id (seen_by seat.new)
-                × PassedFrom (limits_of self.now.words) wanted from id (seen_by seat.old) (seen_by seat.new)) }
+            × PassedFrom (limits_of self.now.words) wanted from id (seen_by seat.old) (seen_by seat.new)) }
     {
         let rows = self.places.rows();
         for row in from..rows {

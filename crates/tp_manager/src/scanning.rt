@@ -45,9 +45,9 @@ impl Shared {
         ensures same { IsSameSeat seat.old seat.new }
         ensures told { MatchOption result
             (Looked (limits_of self.now.words) (2 * (limits_of self.now.words).attempts + 9) (view_of seat.old) (view_of seat.new)
-                × PassedBy (limits_of self.now.words) stage row (seen_by seat.old) (seen_by seat.new))
+            × PassedBy (limits_of self.now.words) stage row (seen_by seat.old) (seen_by seat.new))
             (λ t. Took (limits_of self.now.words) (2 * (limits_of self.now.words).attempts + 9) stage unit (view_of seat.old) (view_of seat.new) t.element t.attempt
-                × (t.element.root ≡ t.root)) }
+            × (t.element.root ≡ t.root)) }
     {
         let head = self.head_at(seat, row);
         if !is_of_stage(head, stage) {
@@ -84,9 +84,9 @@ impl Shared {
         ensures same { IsSameSeat seat.old seat.new }
         ensures told { MatchOption result
             (Looked (limits_of self.now.words) (rows_of (limits_of self.now.words) * (2 * (limits_of self.now.words).attempts + 9)) (view_of seat.old) (view_of seat.new)
-                × PassedBelow (limits_of self.now.words) stage (rows_of (limits_of self.now.words)) (seen_by seat.old) (seen_by seat.new))
+            × PassedBelow (limits_of self.now.words) stage (rows_of (limits_of self.now.words)) (seen_by seat.old) (seen_by seat.new))
             (λ t. Took (limits_of self.now.words) (rows_of (limits_of self.now.words) * (2 * (limits_of self.now.words).attempts + 9)) stage unit (view_of seat.old) (view_of seat.new) t.element t.attempt
-                × (t.element.root ≡ t.root)) }
+            × (t.element.root ≡ t.root)) }
     {
         let rows = self.places.rows();
         for row in 0..rows {

@@ -11,7 +11,10 @@ pub invariant_of-self : goal.invariant_of-self
 invariant_of-self c = keeps_on c.self.inside.seat c.self.inside.limits c.self.inside.given c.self.invariant c.if-self.false c.hand_out-seat.new.keeper c.hand_out-seat.ensures.keeps c.hand_out-seat.ensures.same.2
 
 pub returns-clause-own : goal.returns-clause-own
-returns-clause-own c = let k = c.self.invariant in let seat = c.hand_out-seat.result in
-    ((c.hand_out-seat.ensures.at_table ∙ ap (λ (m : ManagerShown). m.table) c.manager.view_is,
-        fresh_limits c.self.inside.seat c.self.inside.limits c.self.inside.given k c.if-self.false seat c.hand_out-seat.ensures.hands_out ∙ (ap (λ (s : KeeperShown). s.limits) c.self.view_is ∙ c.requires.keeper.1)),
-    fresh_shows c.self.inside.seat c.self.inside.limits c.self.inside.given k c.if-self.false seat c.hand_out-seat.ensures.hands_out)
+returns-clause-own c = let k = c.self.invariant in let seat = c.hand_out-seat.result in (
+  (
+    c.hand_out-seat.ensures.at_table ∙ ap (λ (m : ManagerShown). m.table) c.manager.view_is,
+    fresh_limits c.self.inside.seat c.self.inside.limits c.self.inside.given k c.if-self.false seat c.hand_out-seat.ensures.hands_out ∙ (ap (λ (s : KeeperShown). s.limits) c.self.view_is ∙ c.requires.keeper.1),
+  ),
+  fresh_shows c.self.inside.seat c.self.inside.limits c.self.inside.given k c.if-self.false seat c.hand_out-seat.ensures.hands_out,
+)

@@ -48,17 +48,21 @@ returns-else-abort_exchange-clause-follows c = let i = (goal.at.returns-else-abo
 pub returns-then-abort_exchange-clause-answer : goal.returns-then-abort_exchange-clause-answer
 returns-then-abort_exchange-clause-answer c = let i = (goal.at.returns-then-abort_exchange-clause-answer c).In-Some in let l : Limits = limits_of c.self.inside.shared.words in let u = c.in-Some.task.unit in
     let v = view_of c.pass.inside.seat in let w = view_of c.abort_exchange.new.seat in
-    let sh : Shut l 1 0 (Abort (hand v).number u ∷ []) v w = shut_hit l kinds.AbortExchange _ _ _ tt (steady i) refl (λ x p. absurd (in_none p)) (c.abort_exchange.ensures.hit c.if-abort_exchange.true) in
-    (u, shut_closes c.pass.inside.seat.table_id c.abort_exchange.new.seat.table_id v w c.args.pass.now c.pass.view_is l 1 0 u _ _ sh (held i) (abort_ended u (hand v).number w.seen sh.before sh.ends) (omega arith),
-      shut_adds c.pass.inside.seat.table_id c.abort_exchange.new.seat.table_id v w c.args.pass.now c.pass.view_is l 1 0 u sh)
+    let sh : Shut l 1 0 (Abort (hand v).number u ∷ []) v w = shut_hit l kinds.AbortExchange _ _ _ tt (steady i) refl (λ x p. absurd (in_none p)) (c.abort_exchange.ensures.hit c.if-abort_exchange.true) in (
+      u,
+      shut_closes c.pass.inside.seat.table_id c.abort_exchange.new.seat.table_id v w c.args.pass.now c.pass.view_is l 1 0 u _ _ sh (held i) (abort_ended u (hand v).number w.seen sh.before sh.ends) (omega arith),
+      shut_adds c.pass.inside.seat.table_id c.abort_exchange.new.seat.table_id v w c.args.pass.now c.pass.view_is l 1 0 u sh,
+    )
 
 pub returns-else-abort_exchange-clause-answer : goal.returns-else-abort_exchange-clause-answer
 returns-else-abort_exchange-clause-answer c = let i = (goal.at.returns-else-abort_exchange-clause-answer c).In-Some in let l : Limits = limits_of c.self.inside.shared.words in let u = c.in-Some.task.unit in
     let v = view_of c.pass.inside.seat in let w = view_of c.abort_exchange.new.seat in
     let miss = c.abort_exchange.ensures.own_miss c.if-abort_exchange.false (held i) in
-    let sh : Shut l 1 0 [] v w = shut_miss l kinds.AbortExchange _ _ tt (steady i) miss.0 in
-    (u, shut_closes c.pass.inside.seat.table_id c.abort_exchange.new.seat.table_id v w c.args.pass.now c.pass.view_is l 1 0 u _ _ sh (held i) (Aborted, miss.1) (omega arith),
-      shut_loses c.pass.inside.seat.table_id c.abort_exchange.new.seat.table_id v w c.args.pass.now c.pass.view_is l 1 0 u sh miss.1 miss.2)
+    let sh : Shut l 1 0 [] v w = shut_miss l kinds.AbortExchange _ _ tt (steady i) miss.0 in (
+      u,
+      shut_closes c.pass.inside.seat.table_id c.abort_exchange.new.seat.table_id v w c.args.pass.now c.pass.view_is l 1 0 u _ _ sh (held i) (Aborted, miss.1) (omega arith),
+      shut_loses c.pass.inside.seat.table_id c.abort_exchange.new.seat.table_id v w c.args.pass.now c.pass.view_is l 1 0 u sh miss.1 miss.2,
+    )
 
 pub returns-then-abort_exchange-clause-free : goal.returns-then-abort_exchange-clause-free
 returns-then-abort_exchange-clause-free c = (returns-then-abort_exchange-clause-answer c).1.open_unit

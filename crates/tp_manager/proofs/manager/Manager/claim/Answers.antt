@@ -34,12 +34,12 @@ scan-requires-clause-steady c = chose_steady _ _ _ _ (steady (goal.at.scan-requi
 pub returns-in_default-clause-follows : goal.returns-in_default-clause-follows
 returns-in_default-clause-follows c = let at = (goal.at.returns-in_default-clause-follows c).After-choose_unit in let l : Limits = limits_of c.self.inside.shared.words in let told = c.in_default.ensures.told in
     follows c.pass.inside.seat.table_id c.scan.new.seat.table_id (view_of c.pass.inside.seat) (view_of c.scan.new.seat) c.args.pass.now c.pass.view_is l _ _
-        (idle_walked l _ _ (view_of c.choose_unit.new.seat) (steady at) c.choose_unit.ensures.chooses _ _ told.0) (rows_of c.args.self.now.limits * (2 * c.args.self.now.limits.attempts + 9) + 1) (few l c.args.self.now.limits (limits at))
+    (idle_walked l _ _ (view_of c.choose_unit.new.seat) (steady at) c.choose_unit.ensures.chooses _ _ told.0) (rows_of c.args.self.now.limits * (2 * c.args.self.now.limits.attempts + 9) + 1) (few l c.args.self.now.limits (limits at))
 
 pub returns-in_default-clause-answer : goal.returns-in_default-clause-answer
 returns-in_default-clause-answer c = let at = (goal.at.returns-in_default-clause-answer c).After-choose_unit in let l : Limits = limits_of c.self.inside.shared.words in let told = c.in_default.ensures.told in
     subst (λ (z : Limits). Claims z c.args.stage c.args.pass.now (shown c.scan.new.seat.table_id (view_of c.scan.new.seat)) claimeds.Idle) (limits at)
-        (idle_answer l _ _ (view_of c.choose_unit.new.seat) (steady at) c.choose_unit.ensures.chooses _ _ told.0 c.args.stage _ _ _ _ c.pass.inside.seat c.pass.inside.seat.table_id c.scan.new.seat.table_id c.args.pass.now refl (lim at) c.pass.view_is c.pass.invariant (not at) told.1)
+    (idle_answer l _ _ (view_of c.choose_unit.new.seat) (steady at) c.choose_unit.ensures.chooses _ _ told.0 c.args.stage _ _ _ _ c.pass.inside.seat c.pass.inside.seat.table_id c.scan.new.seat.table_id c.args.pass.now refl (lim at) c.pass.view_is c.pass.invariant (not at) told.1)
 
 pub invariant_of-pass-in_default : goal.invariant_of-pass-in_default
 invariant_of-pass-in_default c = let at = (goal.at.invariant_of-pass-in_default c).After-choose_unit in let l : Limits = limits_of c.self.inside.shared.words in
@@ -52,11 +52,11 @@ invariant_of-pass-2 c = let at = (goal.at.invariant_of-pass-2 c).After-choose_un
 pub returns-clause-follows : goal.returns-clause-follows
 returns-clause-follows c = let at = (goal.at.returns-clause-follows c).After-choose_unit in let l : Limits = limits_of c.self.inside.shared.words in let told = c.in-Some.ensures.told in
     follows c.pass.inside.seat.table_id c.scan.new.seat.table_id (view_of c.pass.inside.seat) (view_of c.scan.new.seat) c.args.pass.now c.pass.view_is l _ _
-        (took_walked l _ _ (view_of c.choose_unit.new.seat) (steady at) c.choose_unit.ensures.chooses _ _ _ _ _ told.0) (rows_of c.args.self.now.limits * (2 * c.args.self.now.limits.attempts + 9) + 1) (few l c.args.self.now.limits (limits at))
+    (took_walked l _ _ (view_of c.choose_unit.new.seat) (steady at) c.choose_unit.ensures.chooses _ _ _ _ _ told.0) (rows_of c.args.self.now.limits * (2 * c.args.self.now.limits.attempts + 9) + 1) (few l c.args.self.now.limits (limits at))
 
 pub returns-clause-answer : goal.returns-clause-answer
 returns-clause-answer c = let at = (goal.at.returns-clause-answer c).After-choose_unit in let l : Limits = limits_of c.self.inside.shared.words in let told = c.in-Some.ensures.told in
     let u : ℕ = c.pass.inside.number * c.self.inside.shared.places.limits.units + c.pass.inside.used in
     subst (λ (z : Limits). Takes z c.args.stage (record { unit = u; element = c.in-Some.taken.element; attempt = c.in-Some.taken.attempt }) c.args.pass.now (shown c.scan.new.seat.table_id (view_of c.scan.new.seat))) (limits at)
-        (took_answer l u _ (view_of c.choose_unit.new.seat) (steady at) c.choose_unit.ensures.chooses _ c.args.stage c.in-Some.taken.attempt _ c.in-Some.taken.element told.0 _ _ _ _ c.pass.inside.seat c.pass.inside.seat.table_id c.scan.new.seat.table_id c.args.pass.now refl (lim at) c.pass.view_is
-          c.pass.invariant (not at) (ap (λ (z : Limits). c.pass.inside.number * z.units + c.pass.inside.used) (sym c.self.inside.shared.same)))
+    (took_answer l u _ (view_of c.choose_unit.new.seat) (steady at) c.choose_unit.ensures.chooses _ c.args.stage c.in-Some.taken.attempt _ c.in-Some.taken.element told.0 _ _ _ _ c.pass.inside.seat c.pass.inside.seat.table_id c.scan.new.seat.table_id c.args.pass.now refl (lim at) c.pass.view_is
+    c.pass.invariant (not at) (ap (λ (z : Limits). c.pass.inside.number * z.units + c.pass.inside.used) (sym c.self.inside.shared.same)))

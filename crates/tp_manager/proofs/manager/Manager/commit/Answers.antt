@@ -60,17 +60,27 @@ returns-then-count-rows-clause-follows c = let i = (goal.at.returns-then-count-r
 pub returns-then-abort_exchange-clause-answer : goal.returns-then-abort_exchange-clause-answer
 returns-then-abort_exchange-clause-answer c = let i = (goal.at.returns-then-abort_exchange-clause-answer c).In-Some in let l : Limits = limits_of c.self.inside.shared.words in let u = c.in-Some.task.unit in
     let v = view_of c.pass.inside.seat in let w = view_of c.abort_exchange.new.seat in
-    let sh : Shut l 1 0 (Abort (hand v).number u ∷ []) v w = shut_hit l kinds.AbortExchange _ _ _ tt (steady i) refl (λ x p. absurd (in_none p)) (c.abort_exchange.ensures.hit c.if-abort_exchange.true) in
-    (full i c.if-count-rows.true, (u, shut_closes c.pass.inside.seat.table_id c.abort_exchange.new.seat.table_id v w c.args.pass.now c.pass.view_is l 1 0 u _ _ sh (held i) (abort_ended u (hand v).number w.seen sh.before sh.ends) (omega arith),
-      inl (shut_adds c.pass.inside.seat.table_id c.abort_exchange.new.seat.table_id v w c.args.pass.now c.pass.view_is l 1 0 u sh)))
+    let sh : Shut l 1 0 (Abort (hand v).number u ∷ []) v w = shut_hit l kinds.AbortExchange _ _ _ tt (steady i) refl (λ x p. absurd (in_none p)) (c.abort_exchange.ensures.hit c.if-abort_exchange.true) in (
+      full i c.if-count-rows.true,
+      (
+        u,
+        shut_closes c.pass.inside.seat.table_id c.abort_exchange.new.seat.table_id v w c.args.pass.now c.pass.view_is l 1 0 u _ _ sh (held i) (abort_ended u (hand v).number w.seen sh.before sh.ends) (omega arith),
+        inl (shut_adds c.pass.inside.seat.table_id c.abort_exchange.new.seat.table_id v w c.args.pass.now c.pass.view_is l 1 0 u sh),
+      ),
+    )
 
 pub returns-then-count-rows-clause-answer : goal.returns-then-count-rows-clause-answer
 returns-then-count-rows-clause-answer c = let i = (goal.at.returns-then-count-rows-clause-answer c).In-Some in let l : Limits = limits_of c.self.inside.shared.words in let u = c.in-Some.task.unit in
     let v = view_of c.pass.inside.seat in let w = view_of c.abort_exchange.new.seat in
     let miss = c.abort_exchange.ensures.own_miss c.if-abort_exchange.false (held i) in
-    let sh : Shut l 1 0 [] v w = shut_miss l kinds.AbortExchange _ _ tt (steady i) miss.0 in
-    (full i c.if-count-rows.true, (u, shut_closes c.pass.inside.seat.table_id c.abort_exchange.new.seat.table_id v w c.args.pass.now c.pass.view_is l 1 0 u _ _ sh (held i) (Aborted, miss.1) (omega arith),
-      inr (shut_loses c.pass.inside.seat.table_id c.abort_exchange.new.seat.table_id v w c.args.pass.now c.pass.view_is l 1 0 u sh miss.1 miss.2)))
+    let sh : Shut l 1 0 [] v w = shut_miss l kinds.AbortExchange _ _ tt (steady i) miss.0 in (
+      full i c.if-count-rows.true,
+      (
+        u,
+        shut_closes c.pass.inside.seat.table_id c.abort_exchange.new.seat.table_id v w c.args.pass.now c.pass.view_is l 1 0 u _ _ sh (held i) (Aborted, miss.1) (omega arith),
+        inr (shut_loses c.pass.inside.seat.table_id c.abort_exchange.new.seat.table_id v w c.args.pass.now c.pass.view_is l 1 0 u sh miss.1 miss.2),
+      ),
+    )
 
 rests : (c : In-Some) → Rests c.pass.inside.seat c.pass.inside.number c.pass.inside.drawn c.pass.inside.used (Some c.in-Some.task)
 rests c = subst (λ t. Rests c.pass.inside.seat c.pass.inside.number c.pass.inside.drawn c.pass.inside.used t) c.in-Some.is c.pass.invariant
@@ -98,21 +108,21 @@ commit_exchange-requires-clause-count c = let i = (goal.at.commit_exchange-requi
 pub commit_exchange-requires-clause-first : goal.commit_exchange-requires-clause-first
 commit_exchange-requires-clause-first c = let i = (goal.at.commit_exchange-requires-clause-first c).In-Some in
     own_first (limits_of c.self.inside.shared.words) (view_of c.pass.inside.seat) _ _ _ _ _ c.in-Some.task c.args.drafts.now c.pass.inside.seat refl (rests i) (next i) c.write_all.ensures.wrote c.if-count-eq0.first
-        (λ some. elim c.if-count-eq0.branch [ then-count-eq0 w ↦ let z = w.if-count-eq0.true in absurd (omega arith) | else-count-eq0 w ↦ w.first-is ])
-        (λ none. elim c.if-count-eq0.branch [ then-count-eq0 w ↦ w.first-is | else-count-eq0 w ↦ absurd (w.if-count-eq0.false none) ])
+    (λ some. elim c.if-count-eq0.branch [ then-count-eq0 w ↦ let z = w.if-count-eq0.true in absurd (omega arith) | else-count-eq0 w ↦ w.first-is ])
+    (λ none. elim c.if-count-eq0.branch [ then-count-eq0 w ↦ w.first-is | else-count-eq0 w ↦ absurd (w.if-count-eq0.false none) ])
 
 hit : (c : After-write_all) (i : In-Some) → (y : View) → MakesCommit (view_of c.write_all.new.seat) c.in-Some.task.unit y
     → Shut (limits_of c.self.inside.shared.words) 1 0 (committed (view_of c.write_all.new.seat) c.in-Some.task.unit ∷ []) (view_of c.write_all.new.seat) y
 hit c i y made = let l : Limits = limits_of c.self.inside.shared.words in
     shut_hit l kinds.CommitExchange _ _ _ tt c.write_all.ensures.wrote.walk.steady refl
-        (own_below l (view_of c.pass.inside.seat) (view_of c.write_all.new.seat) c.pass.inside.number c.pass.inside.drawn c.pass.inside.used (c.pass.inside.number * c.self.inside.shared.places.limits.rows + c.pass.inside.drawn) c.in-Some.task c.args.drafts.now c.pass.inside.seat refl
-          (subst (λ t. Rests c.pass.inside.seat c.pass.inside.number c.pass.inside.drawn c.pass.inside.used t) c.in-Some.is c.pass.invariant) (ap (λ (z : Limits). c.pass.inside.number * z.rows + c.pass.inside.drawn) (sym c.self.inside.shared.same)) c.write_all.ensures.wrote) made
+    (own_below l (view_of c.pass.inside.seat) (view_of c.write_all.new.seat) c.pass.inside.number c.pass.inside.drawn c.pass.inside.used (c.pass.inside.number * c.self.inside.shared.places.limits.rows + c.pass.inside.drawn) c.in-Some.task c.args.drafts.now c.pass.inside.seat refl
+    (subst (λ t. Rests c.pass.inside.seat c.pass.inside.number c.pass.inside.drawn c.pass.inside.used t) c.in-Some.is c.pass.invariant) (ap (λ (z : Limits). c.pass.inside.number * z.rows + c.pass.inside.drawn) (sym c.self.inside.shared.same)) c.write_all.ensures.wrote) made
 
 both : (c : After-write_all) → (es : List Event) (y : View) → Shut (limits_of c.self.inside.shared.words) 1 0 es (view_of c.write_all.new.seat) y
     → Shut (limits_of c.self.inside.shared.words) (3 * length c.args.drafts.now + 1) (length c.args.drafts.now) es (view_of c.pass.inside.seat) y
 both c es y sh = let row : ℕ = c.pass.inside.number * c.self.inside.shared.places.limits.rows + c.pass.inside.drawn in
     subst (λ n. Shut (limits_of c.self.inside.shared.words) (3 * n + 1) n es (view_of c.pass.inside.seat) y) (length-outputs c.in-Some.task.unit c.in-Some.task.root row c.args.drafts.now)
-      (wrote_shut (limits_of c.self.inside.shared.words) (outputs c.in-Some.task.unit c.in-Some.task.root row c.args.drafts.now) es (view_of c.pass.inside.seat) (view_of c.write_all.new.seat) y c.write_all.ensures.wrote sh)
+    (wrote_shut (limits_of c.self.inside.shared.words) (outputs c.in-Some.task.unit c.in-Some.task.root row c.args.drafts.now) es (view_of c.pass.inside.seat) (view_of c.write_all.new.seat) y c.write_all.ensures.wrote sh)
 
 room : (c : In-Some) → length c.args.drafts.now ≤ c.self.inside.shared.places.limits.rows - c.pass.inside.drawn → c.pass.inside.drawn ≤ c.self.inside.shared.places.limits.rows → c.args.pass.now.drawn + length c.args.drafts.now ≤ c.args.pass.now.limits.rows
 room c test below = let r = c.pass.invariant in
@@ -144,19 +154,25 @@ returns-else-commit_exchange-clause-follows c = let at = goal.at.returns-else-co
 pub returns-then-commit_exchange-clause-answer : goal.returns-then-commit_exchange-clause-answer
 returns-then-commit_exchange-clause-answer c = let at = goal.at.returns-then-commit_exchange-clause-answer c in let i = at.In-Some in let u = c.in-Some.task.unit in let l : Limits = limits_of c.self.inside.shared.words in
     let v = view_of c.pass.inside.seat in let w = view_of c.write_all.new.seat in let y = view_of c.commit_exchange.new.seat in
-    let sh : Shut l _ _ (committed w u ∷ []) v y = both at.After-write_all _ _ (hit at.After-write_all i y (c.commit_exchange.ensures.hit c.if-commit_exchange.true)) in
-    (room i c.if-count-rows.false (below i),
+    let sh : Shut l _ _ (committed w u ∷ []) v y = both at.After-write_all _ _ (hit at.After-write_all i y (c.commit_exchange.ensures.hit c.if-commit_exchange.true)) in (
+      room i c.if-count-rows.false (below i),
       committed_answer c.pass.inside.seat.table_id c.commit_exchange.new.seat.table_id l v w y c.args.pass.now c.pass.view_is _ _ _ _ c.in-Some.task c.args.drafts.now c.pass.inside.seat refl (rests i) (next i) c.write_all.ensures.wrote (lim i) (held i) c.if-count-eq0.first _ sh
-        (λ some. elim c.if-count-eq0.branch [ then-count-eq0 w ↦ let z = w.if-count-eq0.true in absurd (omega arith) | else-count-eq0 w ↦ w.first-is ])
-        (λ none. elim c.if-count-eq0.branch [ then-count-eq0 w ↦ w.first-is | else-count-eq0 w ↦ absurd (w.if-count-eq0.false none) ]))
+          (λ some. elim c.if-count-eq0.branch [ then-count-eq0 w ↦ let z = w.if-count-eq0.true in absurd (omega arith) | else-count-eq0 w ↦ w.first-is ])
+          (λ none. elim c.if-count-eq0.branch [ then-count-eq0 w ↦ w.first-is | else-count-eq0 w ↦ absurd (w.if-count-eq0.false none) ]),
+    )
 
 pub returns-else-commit_exchange-clause-answer : goal.returns-else-commit_exchange-clause-answer
 returns-else-commit_exchange-clause-answer c = let at = goal.at.returns-else-commit_exchange-clause-answer c in let i = at.In-Some in let u = c.in-Some.task.unit in let l : Limits = limits_of c.self.inside.shared.words in
     let v = view_of c.pass.inside.seat in let w = view_of c.write_all.new.seat in let y = view_of c.commit_exchange.new.seat in
     let miss = c.commit_exchange.ensures.miss c.if-commit_exchange.false in
-    let sh : Shut l _ _ [] v y = both at.After-write_all _ _ (shut_miss l kinds.CommitExchange w y tt c.write_all.ensures.wrote.walk.steady miss.0) in
-    (room i c.if-count-rows.false (below i), (u, shut_closes c.pass.inside.seat.table_id c.commit_exchange.new.seat.table_id v y c.args.pass.now c.pass.view_is l _ _ u _ _ sh (held i) (Aborted, miss.1) refl,
-      shut_loses c.pass.inside.seat.table_id c.commit_exchange.new.seat.table_id v y c.args.pass.now c.pass.view_is l _ _ u sh miss.1 (subst (λ k. ¬ (In (Abort k u) y.seen)) c.write_all.ensures.wrote.walk.number miss.2)))
+    let sh : Shut l _ _ [] v y = both at.After-write_all _ _ (shut_miss l kinds.CommitExchange w y tt c.write_all.ensures.wrote.walk.steady miss.0) in (
+      room i c.if-count-rows.false (below i),
+      (
+        u,
+        shut_closes c.pass.inside.seat.table_id c.commit_exchange.new.seat.table_id v y c.args.pass.now c.pass.view_is l _ _ u _ _ sh (held i) (Aborted, miss.1) refl,
+        shut_loses c.pass.inside.seat.table_id c.commit_exchange.new.seat.table_id v y c.args.pass.now c.pass.view_is l _ _ u sh miss.1 (subst (λ k. ¬ (In (Abort k u) y.seen)) c.write_all.ensures.wrote.walk.number miss.2),
+      ),
+    )
 
 pub returns-then-abort_exchange-clause-free : goal.returns-then-abort_exchange-clause-free
 returns-then-abort_exchange-clause-free c = (returns-then-abort_exchange-clause-answer c).1.1.open_unit

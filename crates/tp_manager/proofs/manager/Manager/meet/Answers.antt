@@ -48,11 +48,13 @@ returns-clause-second c = let at = (goal.at.returns-clause-second c).After-part 
     follows c.second.inside.seat.table_id c.part.result.table_id (view_of c.second.inside.seat) (view_of c.part.result) c.args.second.now c.second.view_is _ 3 _ (two at).walk 3 (omega arith)
 
 pub returns-clause-looks : goal.returns-clause-looks
-returns-clause-looks c = let at = (goal.at.returns-clause-looks c).After-part in
-    (has_looked c.first.inside.seat.table_id c.part.new.seat.table_id (view_of c.first.inside.seat) (view_of c.part.new.seat) c.args.first.now c.first.view_is _ 3 _ (one at).walk (one at).step,
-    has_looked c.second.inside.seat.table_id c.part.result.table_id (view_of c.second.inside.seat) (view_of c.part.result) c.args.second.now c.second.view_is _ 3 _ (two at).walk (two at).step)
+returns-clause-looks c = let at = (goal.at.returns-clause-looks c).After-part in (
+  has_looked c.first.inside.seat.table_id c.part.new.seat.table_id (view_of c.first.inside.seat) (view_of c.part.new.seat) c.args.first.now c.first.view_is _ 3 _ (one at).walk (one at).step,
+  has_looked c.second.inside.seat.table_id c.part.result.table_id (view_of c.second.inside.seat) (view_of c.part.result) c.args.second.now c.second.view_is _ 3 _ (two at).walk (two at).step,
+)
 
 pub returns-clause-quiet : goal.returns-clause-quiet
-returns-clause-quiet c = let at = (goal.at.returns-clause-quiet c).After-part in
-    (quiet_looked c.first.inside.seat.table_id c.part.new.seat.table_id (view_of c.first.inside.seat) (view_of c.part.new.seat) c.args.first.now c.first.view_is _ 3 (looked _ _ _ _ (one at)),
-    quiet_looked c.second.inside.seat.table_id c.part.result.table_id (view_of c.second.inside.seat) (view_of c.part.result) c.args.second.now c.second.view_is _ 3 (looked _ _ _ _ (two at)))
+returns-clause-quiet c = let at = (goal.at.returns-clause-quiet c).After-part in (
+  quiet_looked c.first.inside.seat.table_id c.part.new.seat.table_id (view_of c.first.inside.seat) (view_of c.part.new.seat) c.args.first.now c.first.view_is _ 3 (looked _ _ _ _ (one at)),
+  quiet_looked c.second.inside.seat.table_id c.part.result.table_id (view_of c.second.inside.seat) (view_of c.part.result) c.args.second.now c.second.view_is _ 3 (looked _ _ _ _ (two at)),
+)

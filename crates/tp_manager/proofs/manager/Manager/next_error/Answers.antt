@@ -24,7 +24,7 @@ whole c = acted_then _ 1 _ _ _ _ c.head_at.ensures.acted c.find.ensures.looked
 pub returns-then-from-rows-clause-answer : goal.returns-then-from-rows-clause-answer
 returns-then-from-rows-clause-answer c = let at = (goal.at.returns-then-from-rows-clause-answer c).After-rows in let v = view_of c.pass.inside.seat in let t = c.pass.inside.seat.table_id in
     let out : rows_of v.limits ≤ c.args.from = subst (λ (z : Limits). rows_of z ≤ c.args.from) (sym (lim at ∙ c.self.inside.shared.same)) (subst (λ n. n ≤ c.args.from) c.rows.ensures c.if-from-rows.true) in
-    subst (λ (l : Limits). NoneParked l (λ i. c.args.from ≤ i) c.args.pass.now (shown t v)) (lim at ∙ limits at) (none_beyond t v c.args.pass.now c.pass.view_is v.limits c.pass.invariant.steady c.args.from out )
+    subst (λ (l : Limits). NoneParked l (λ i. c.args.from ≤ i) c.args.pass.now (shown t v)) (lim at ∙ limits at) (none_beyond t v c.args.pass.now c.pass.view_is v.limits c.pass.invariant.steady c.args.from out)
 
 pub invariant_of-pass-2 : goal.invariant_of-pass-2
 invariant_of-pass-2 c = let at = goal.at.invariant_of-pass-2 c in
@@ -34,7 +34,7 @@ pub returns-clause-follows : goal.returns-clause-follows
 returns-clause-follows c = let at = goal.at.returns-clause-follows c in let l = limits_of c.self.inside.shared.words in
     let less : c.args.from < rows_of l = subst (λ n. c.args.from < n) (c.rows.ensures ∙ ap rows_of (sym c.self.inside.shared.same)) c.if-from-rows.false in
     follows c.pass.inside.seat.table_id c.find.new.seat.table_id (view_of c.pass.inside.seat) (view_of c.find.new.seat) c.args.pass.now c.pass.view_is _ _ _ (whole at.After-find).walk (rows_of c.args.self.now.limits * (2 * c.args.self.now.limits.attempts + 8))
-      (subst (λ (z : Limits). 1 + rows_of l * (2 * l.attempts + 4) ≤ rows_of z * (2 * z.attempts + 8)) (limits at.After-rows) (few_rows (rows_of l) l.attempts c.args.from less))
+    (subst (λ (z : Limits). 1 + rows_of l * (2 * l.attempts + 4) ≤ rows_of z * (2 * z.attempts + 8)) (limits at.After-rows) (few_rows (rows_of l) l.attempts c.args.from less))
 
 pub returns-clause-looks : goal.returns-clause-looks
 returns-clause-looks c = λ _. let a = whole (goal.at.returns-clause-looks c).After-find in
@@ -43,4 +43,4 @@ returns-clause-looks c = λ _. let a = whole (goal.at.returns-clause-looks c).Af
 pub returns-clause-answer : goal.returns-clause-answer
 returns-clause-answer c = let at = goal.at.returns-clause-answer c in let t' = c.find.new.seat.table_id in let y = view_of c.find.new.seat in
     subst (λ (l : Limits). MatchOption c.find.result (NoneParked l (λ i. c.args.from ≤ i) c.args.pass.now (shown t' y)) (λ id. NextError l c.args.from id c.args.pass.now (shown t' y))) (limits at.After-rows)
-      (error_answer c.pass.inside.seat.table_id t' (view_of c.pass.inside.seat) (view_of c.head_at.new.seat) y c.args.pass.now c.pass.view_is _ _ c.args.from c.head_at.ensures.acted c.find.ensures.looked c.find.result c.find.ensures.told)
+    (error_answer c.pass.inside.seat.table_id t' (view_of c.pass.inside.seat) (view_of c.head_at.new.seat) y c.args.pass.now c.pass.view_is _ _ c.args.from c.head_at.ensures.acted c.find.ensures.looked c.find.result c.find.ensures.told)

@@ -43,9 +43,11 @@ returns-in_default-clause-looks c = λ _. let at = goal.at.returns-in_default-cl
     has_looked c.pass.inside.seat.table_id c.birth_from.new.seat.table_id (view_of c.pass.inside.seat) (view_of c.birth_from.new.seat) c.args.pass.now c.pass.view_is _ 3 _ a.walk a.step
 
 pub returns-in_default-clause-answer : goal.returns-in_default-clause-answer
-returns-in_default-clause-answer c = let at = goal.at.returns-in_default-clause-answer c in let h = c.head_at-head.ensures.acted in let b = c.birth_from.ensures.looked in
-    (refl, at_point c.pass.inside.seat.table_id c.birth_from.new.seat.table_id (view_of c.pass.inside.seat) (view_of c.birth_from.new.seat) c.args.pass.now c.pass.view_is (limits_of c.self.inside.shared.words) 3 (h.marks ++ b.marks)
-        (walked_then _ 1 2 _ _ _ _ _ h.walk b.walk) (λ z. IsUnborn z c.args.id) (seen_by c.head_at-head.new.seat) (point_first _ 2 h.marks b.marks (view_of c.pass.inside.seat) (view_of c.head_at-head.new.seat) (view_of c.birth_from.new.seat) h.step b.walk _ (point_last _ 1 h.marks (view_of c.pass.inside.seat) (view_of c.head_at-head.new.seat) h.walk)) c.in_default.ensures.told)
+returns-in_default-clause-answer c = let at = goal.at.returns-in_default-clause-answer c in let h = c.head_at-head.ensures.acted in let b = c.birth_from.ensures.looked in (
+  refl,
+  at_point c.pass.inside.seat.table_id c.birth_from.new.seat.table_id (view_of c.pass.inside.seat) (view_of c.birth_from.new.seat) c.args.pass.now c.pass.view_is (limits_of c.self.inside.shared.words) 3 (h.marks ++ b.marks)
+      (walked_then _ 1 2 _ _ _ _ _ h.walk b.walk) (λ z. IsUnborn z c.args.id) (seen_by c.head_at-head.new.seat) (point_first _ 2 h.marks b.marks (view_of c.pass.inside.seat) (view_of c.head_at-head.new.seat) (view_of c.birth_from.new.seat) h.step b.walk _ (point_last _ 1 h.marks (view_of c.pass.inside.seat) (view_of c.head_at-head.new.seat) h.walk)) c.in_default.ensures.told,
+)
 
 pub invariant_of-pass-2 : goal.invariant_of-pass-2
 invariant_of-pass-2 c = let at = goal.at.invariant_of-pass-2 c in
@@ -62,5 +64,5 @@ returns-clause-looks c = λ _. let at = goal.at.returns-clause-looks c in let a 
 pub returns-clause-answer : goal.returns-clause-answer
 returns-clause-answer c = let at = goal.at.returns-clause-answer c in let a = whole at.After-status_at-status in let s = c.status_at-status.ensures in let h = seen_by c.status_at-status.new.seat in
     at_point c.pass.inside.seat.table_id c.status_at-status.new.seat.table_id (view_of c.pass.inside.seat) (view_of c.status_at-status.new.seat) c.args.pass.now c.pass.view_is _ _ _ a.walk
-        (IsLook c.args.self.now.limits c.args.id (record { element = c.element_at-element.result; status = c.status_at-status.result.1 })) h (point_last _ _ _ _ _ a.walk)
-        (found_later _ h (looked_begins _ _ _ _ (looked _ _ _ _ s.acted)) c.args.id _ c.element_at-element.ensures.born, s.status ∙ ap (λ (l : Limits). status_of l.attempts h c.args.id) (limits at.After-rows))
+    (IsLook c.args.self.now.limits c.args.id (record { element = c.element_at-element.result; status = c.status_at-status.result.1 })) h (point_last _ _ _ _ _ a.walk)
+    (found_later _ h (looked_begins _ _ _ _ (looked _ _ _ _ s.acted)) c.args.id _ c.element_at-element.ensures.born, s.status ∙ ap (λ (l : Limits). status_of l.attempts h c.args.id) (limits at.After-rows))

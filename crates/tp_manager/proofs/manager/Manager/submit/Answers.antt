@@ -27,4 +27,4 @@ invariant_of-pass-2 c = let at = (goal.at.invariant_of-pass-2 c).After-publish i
 pub returns-clause-follows : goal.returns-clause-follows
 returns-clause-follows c = let at = (goal.at.returns-clause-follows c).After-publish in
     follows c.pass.inside.seat.table_id c.publish.new.seat.table_id (view_of c.pass.inside.seat) (view_of c.publish.new.seat) c.args.pass.now c.pass.view_is (limits_of c.self.inside.shared.words) 3 _
-        (made_walked (limits_of c.self.inside.shared.words) c.args.key c.args.amount c.args.stage _ _ _ _ (steady at) c.store_draft_key.ensures.view c.store_draft_amount.ensures.view c.publish.ensures.grew (room at)) 4 (omega arith)
+    (made_walked (limits_of c.self.inside.shared.words) c.args.key c.args.amount c.args.stage _ _ _ _ (steady at) c.store_draft_key.ensures.view c.store_draft_amount.ensures.view c.publish.ensures.grew (room at)) 4 (omega arith)

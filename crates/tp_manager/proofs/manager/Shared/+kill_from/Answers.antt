@@ -39,11 +39,27 @@ pub kill_from-requires : goal.kill_from-requires
 kill_from-requires t c = let l : Limits = limits_of c.args.self.now.words in let at = goal.at.kill_from-requires t c in let i = at.In-Taken in let s = some t i in let f = so_far t at.After-load_claim-again in let b = c.requires.row.1 in
     let miss = c.kill_exchange.ensures.miss c.if-kill_exchange.false in let before = walked_begins l _ _ _ _ c.in-Ok.ensures.told.3.walk in
     let not : claim_word (seen_by c.kill_exchange.new.seat) c.args.row ≢ TakenWord c.in-Taken.attempt c.in-Taken.unit = λ same. miss.1 same in
-    let first = acted_by l _ (view_of c.loosen.new.seat) (view_of c.kill_exchange.new.seat) c.in-Ok.ensures.told.3.walk.steady tt miss.0 in
-    (search rules, (search rules, (f.walk.steady, ((c.requires.row.0, (b.0, found_later _ _ (walked_begins l _ _ _ _ f.walk) c.args.row b.0 b.1)), ((c.load_claim-again.ensures.claim, c.load_claim-again.ensures.fits), (f.open_unit c.requires.free,
-        subst (IsEnoughToKill l (c.args.left - 1)) (sym c.load_claim-again.ensures.claim)
-          (enough_again l c.args.row c.in-Taken.attempt c.in-Taken.unit c.args.left (seen_by c.args.seat.now) (seen_by c.kill_exchange.new.seat) (seen_by c.load_claim-again.new.seat)
-            (begins_trans _ (seen_by c.loosen.new.seat) _ before (grew_begins _ _ _ _ _ miss.0)) (grew_begins _ _ _ _ _ c.load_claim-again.ensures.grew) first.walk.steady.shows.legal f.walk.steady.shows.legal (taken t i) not (less t i))))))))
+    let first = acted_by l _ (view_of c.loosen.new.seat) (view_of c.kill_exchange.new.seat) c.in-Ok.ensures.told.3.walk.steady tt miss.0 in (
+      search rules,
+      (
+        search rules,
+        (
+          f.walk.steady,
+          (
+            (c.requires.row.0, (b.0, found_later _ _ (walked_begins l _ _ _ _ f.walk) c.args.row b.0 b.1)),
+            (
+              (c.load_claim-again.ensures.claim, c.load_claim-again.ensures.fits),
+              (
+                f.open_unit c.requires.free,
+                subst (IsEnoughToKill l (c.args.left - 1)) (sym c.load_claim-again.ensures.claim)
+                    (enough_again l c.args.row c.in-Taken.attempt c.in-Taken.unit c.args.left (seen_by c.args.seat.now) (seen_by c.kill_exchange.new.seat) (seen_by c.load_claim-again.new.seat)
+                    (begins_trans _ (seen_by c.loosen.new.seat) _ before (grew_begins _ _ _ _ _ miss.0)) (grew_begins _ _ _ _ _ c.load_claim-again.ensures.grew) first.walk.steady.shows.legal f.walk.steady.shows.legal (taken t i) not (less t i)),
+              ),
+            ),
+          ),
+        ),
+      ),
+    )
 
 pub returns-in-Killed-clause-told : goal.returns-in-Killed-clause-told
 returns-in-Killed-clause-told t c = let l : Limits = limits_of c.args.self.now.words in
@@ -55,12 +71,18 @@ returns-in-Err-clause-told t c = let l : Limits = limits_of c.args.self.now.word
 
 pub returns-in-Ok-kill_from-clause-told : goal.returns-in-Ok-kill_from-clause-told
 returns-in-Ok-kill_from-clause-told t c = let l : Limits = limits_of c.args.self.now.words in let at = goal.at.returns-in-Ok-kill_from-clause-told t c in let s = some t at.In-Taken in let f = so_far t at.After-load_claim-again in
-    let told = c.in-Ok.ensures.told in let more = c.in-Ok-kill_from.ensures.told in let a = told.1 in let b = more.1 in let low = told.2 in let high = more.2 in
-    (told.0 ++ more.0, omega (arith, length-append told.0 more.0), omega arith,
-    slain_few l (4 + 4 * (c.args.left - 1)) (4 * c.args.left) _ _ _ _ (omega arith) (freed_slain l (2 + 2) (4 * (c.args.left - 1)) c.args.row told.0 more.0 _ _ _ f more.3))
+    let told = c.in-Ok.ensures.told in let more = c.in-Ok-kill_from.ensures.told in let a = told.1 in let b = more.1 in let low = told.2 in let high = more.2 in (
+      told.0 ++ more.0,
+      omega (arith, length-append told.0 more.0),
+      omega arith,
+      slain_few l (4 + 4 * (c.args.left - 1)) (4 * c.args.left) _ _ _ _ (omega arith) (freed_slain l (2 + 2) (4 * (c.args.left - 1)) c.args.row told.0 more.0 _ _ _ f more.3),
+    )
 
 pub returns-in-Err-kill_from-clause-told : goal.returns-in-Err-kill_from-clause-told
 returns-in-Err-kill_from-clause-told t c = let l : Limits = limits_of c.args.self.now.words in let at = goal.at.returns-in-Err-kill_from-clause-told t c in let s = some t at.In-Taken in let f = so_far t at.After-load_claim-again in
-    let told = c.in-Ok.ensures.told in let more = c.in-Err-kill_from.ensures.told in let a = told.1 in let b = more.1 in let low = told.2 in
-    (told.0 ++ more.0, omega (arith, length-append told.0 more.0),
-    freed_few l (4 + 4 * (c.args.left - 1)) (4 * c.args.left) _ _ _ _ (omega arith) (freed_then l (2 + 2) (4 * (c.args.left - 1)) c.args.row told.0 more.0 _ _ _ f more.2), more.3)
+    let told = c.in-Ok.ensures.told in let more = c.in-Err-kill_from.ensures.told in let a = told.1 in let b = more.1 in let low = told.2 in (
+      told.0 ++ more.0,
+      omega (arith, length-append told.0 more.0),
+      freed_few l (4 + 4 * (c.args.left - 1)) (4 * c.args.left) _ _ _ _ (omega arith) (freed_then l (2 + 2) (4 * (c.args.left - 1)) c.args.row told.0 more.0 _ _ _ f more.2),
+      more.3,
+    )

@@ -39,9 +39,23 @@ overflow_sub-left t c = some t (goal.at.overflow_sub-left t c).In-Taken
 pub status_from-requires : goal.status_from-requires
 status_from-requires t c = let at = goal.at.status_from-requires t c in let i = at.In-Taken in let s = some t i in let b = two t at.After-load_claim-again (one t at.After-load_unit) in let again = c.load_claim-again.ensures in
     let differs : c.load_claim-again.result ≢ c.args.claim = search rules in
-    let not : claim_word (seen_by c.load_claim-again.new.seat) c.args.row ≢ TakenWord c.in-Taken.attempt c.in-Taken.unit = λ same. differs (claim_is c.load_claim-again.result c.in-Taken.attempt c.in-Taken.unit (again.claim ∙ same) ∙ sym c.in-Taken.is) in
-    (search rules, (search rules, (b.walk.steady, (c.requires.row, ((again.claim, again.fits), subst (IsEnough (limits_of c.args.self.now.words) (c.args.left - 1)) (sym again.claim)
-        (enough_next (limits_of c.args.self.now.words) (seen_by c.args.seat.now) (seen_by c.load_claim-again.new.seat) b.walk.steady.shows.legal (looked_begins _ 2 _ _ b) c.args.row c.in-Taken.attempt c.in-Taken.unit c.args.left (taken t i) not (less t i)))))))
+    let not : claim_word (seen_by c.load_claim-again.new.seat) c.args.row ≢ TakenWord c.in-Taken.attempt c.in-Taken.unit = λ same. differs (claim_is c.load_claim-again.result c.in-Taken.attempt c.in-Taken.unit (again.claim ∙ same) ∙ sym c.in-Taken.is) in (
+      search rules,
+      (
+        search rules,
+        (
+          b.walk.steady,
+          (
+            c.requires.row,
+            (
+              (again.claim, again.fits),
+              subst (IsEnough (limits_of c.args.self.now.words) (c.args.left - 1)) (sym again.claim)
+                  (enough_next (limits_of c.args.self.now.words) (seen_by c.args.seat.now) (seen_by c.load_claim-again.new.seat) b.walk.steady.shows.legal (looked_begins _ 2 _ _ b) c.args.row c.in-Taken.attempt c.in-Taken.unit c.args.left (taken t i) not (less t i)),
+            ),
+          ),
+        ),
+      ),
+    )
 
 pub returns-then-ne-clause-looked : goal.returns-then-ne-clause-looked
 returns-then-ne-clause-looked t c = let at = goal.at.returns-then-ne-clause-looked t c in let s = some t at.In-Taken in
@@ -88,8 +102,8 @@ pub returns-then-attempt-self-clause-status : goal.returns-then-attempt-self-cla
 returns-then-attempt-self-clause-status t c = let at = goal.at.returns-then-attempt-self-clause-status t c in let o = one t at.After-load_unit in let b = two t at.After-load_claim-again o in let l : Limits = limits_of c.args.self.now.words in
     let same : c.load_claim-again.result ≡ c.args.claim = search rules in
     (returned l (seen_by c.load_unit.new.seat) (seen_by c.load_claim-again.new.seat) b.walk.steady.shows.legal (grew_begins _ _ _ _ _ c.load_claim-again.ensures.grew) c.args.row c.in-Taken.attempt c.in-Taken.unit
-        (sym c.load_unit.ensures.end ∙ ap unit_value c.in-Aborted.is) (sym c.load_claim-again.ensures.claim ∙ (ap claim_value same ∙ ap claim_value c.in-Taken.is))).0
-        (subst (λ (z : Limits). c.in-Taken.attempt < z.attempts) (sym c.args.self.now.same) c.if-attempt-self.true)
+    (sym c.load_unit.ensures.end ∙ ap unit_value c.in-Aborted.is) (sym c.load_claim-again.ensures.claim ∙ (ap claim_value same ∙ ap claim_value c.in-Taken.is))).0
+    (subst (λ (z : Limits). c.in-Taken.attempt < z.attempts) (sym c.args.self.now.same) c.if-attempt-self.true)
 
 pub returns-else-attempt-self-clause-looked : goal.returns-else-attempt-self-clause-looked
 returns-else-attempt-self-clause-looked t c = let at = goal.at.returns-else-attempt-self-clause-looked t c in let s = some t at.In-Taken in looked_few _ 2 (2 * c.args.left) _ _ (omega arith) (two t at.After-load_claim-again (one t at.After-load_unit))
@@ -98,5 +112,5 @@ pub returns-else-attempt-self-clause-status : goal.returns-else-attempt-self-cla
 returns-else-attempt-self-clause-status t c = let at = goal.at.returns-else-attempt-self-clause-status t c in let o = one t at.After-load_unit in let b = two t at.After-load_claim-again o in let l : Limits = limits_of c.args.self.now.words in
     let same : c.load_claim-again.result ≡ c.args.claim = search rules in
     (returned l (seen_by c.load_unit.new.seat) (seen_by c.load_claim-again.new.seat) b.walk.steady.shows.legal (grew_begins _ _ _ _ _ c.load_claim-again.ensures.grew) c.args.row c.in-Taken.attempt c.in-Taken.unit
-        (sym c.load_unit.ensures.end ∙ ap unit_value c.in-Aborted.is) (sym c.load_claim-again.ensures.claim ∙ (ap claim_value same ∙ ap claim_value c.in-Taken.is))).1
-        (subst (λ (z : Limits). z.attempts ≤ c.in-Taken.attempt) (sym c.args.self.now.same) c.if-attempt-self.false)
+    (sym c.load_unit.ensures.end ∙ ap unit_value c.in-Aborted.is) (sym c.load_claim-again.ensures.claim ∙ (ap claim_value same ∙ ap claim_value c.in-Taken.is))).1
+    (subst (λ (z : Limits). z.attempts ≤ c.in-Taken.attempt) (sym c.args.self.now.same) c.if-attempt-self.false)

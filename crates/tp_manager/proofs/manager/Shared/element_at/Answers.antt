@@ -19,4 +19,4 @@ returns-clause-born c = let l : Limits = limits_of c.args.self.now.words in
     let a : Acted l 1 (view_of c.args.seat.now) (view_of c.load_key-key.new.seat) = acted_by l _ _ _ c.requires.steady tt c.load_key-key.ensures.grew in
     let b : Acted l 1 (view_of c.load_key-key.new.seat) (view_of c.load_amount-amount.new.seat) = acted_by l _ _ _ a.walk.steady tt c.load_amount-amount.ensures.grew in
     element_there (seen_by c.load_key-key.new.seat) (seen_by c.load_amount-amount.new.seat) c.args.row c.load_key-key.result c.load_amount-amount.result c.args.birth (looked_begins l 1 _ _ (looked l 1 _ _ b))
-        (there_later _ _ c.args.row c.args.birth (looked_begins l 1 _ _ (looked l 1 _ _ a)) c.requires.there) c.load_key-key.ensures.born c.load_amount-amount.ensures.born (element_of-id (seen_by c.load_key-key.new.seat) c.args.row)
+    (there_later _ _ c.args.row c.args.birth (looked_begins l 1 _ _ (looked l 1 _ _ a)) c.requires.there) c.load_key-key.ensures.born c.load_amount-amount.ensures.born (element_of-id (seen_by c.load_key-key.new.seat) c.args.row)

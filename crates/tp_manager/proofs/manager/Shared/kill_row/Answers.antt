@@ -38,7 +38,7 @@ kill_from-requires-clause-enough c = let l : Limits = limits_of c.args.self.now.
     let miss = c.kill_exchange.ensures.miss c.if-kill_exchange.false in
     let not : claim_word (seen_by c.kill_exchange.new.seat) c.args.row ≢ FreeWord = λ same. miss.1 (same ∙ sym (ap claim_value c.in-Free.is)) in
     subst (λ (z : Limits). IsEnoughToKill l z.attempts (claim_value c.load_claim-again.result)) c.args.self.now.same
-      (subst (IsEnoughToKill l l.attempts) (sym c.load_claim-again.ensures.claim) (enough_freed l c.args.self.now.words.places.valid (seen_by c.kill_exchange.new.seat) (seen_by c.load_claim-again.new.seat) c.args.row w.walk.steady.shows.legal (grew_begins _ _ _ _ _ c.load_claim-again.ensures.grew) not))
+    (subst (IsEnoughToKill l l.attempts) (sym c.load_claim-again.ensures.claim) (enough_freed l c.args.self.now.words.places.valid (seen_by c.kill_exchange.new.seat) (seen_by c.load_claim-again.new.seat) c.args.row w.walk.steady.shows.legal (grew_begins _ _ _ _ _ c.load_claim-again.ensures.grew) not))
 
 attempts : (l k : Limits) → l ≡ k → k.attempts ≡ l.attempts
 attempts l k e = ap (λ (z : Limits). z.attempts) (sym e)
@@ -47,7 +47,7 @@ pub returns-in-Free-clause-told : goal.returns-in-Free-clause-told
 returns-in-Free-clause-told c = let l : Limits = limits_of c.args.self.now.words in let at = goal.at.returns-in-Free-clause-told c in let a = three at.After-load_claim-again (one at.After-load_claim-claim) in let left : ℕ = c.args.self.now.places.limits.attempts in
     let v = view_of c.args.seat.now in let w = view_of c.load_claim-again.new.seat in let y = view_of c.kill_from.new.seat in let e = attempts l c.args.self.now.places.limits c.args.self.now.same in
     match_map (λ count. KillsIn l (4 * left) c.args.row left count w y) (λ count. KillsIn l (4 * l.attempts + 3) c.args.row l.attempts count v y) (λ r. FailsIn l (4 * left) c.args.row left r w y) (λ r. FailsIn l (4 * l.attempts + 3) c.args.row l.attempts r v y) c.kill_from.result
-      (kills_after l (1 + 2) (4 * left) (4 * l.attempts + 3) c.args.row left l.attempts v w y a e (omega arith)) (fails_after l (1 + 2) (4 * left) (4 * l.attempts + 3) c.args.row left l.attempts v w y a e (omega arith)) c.kill_from.ensures.told
+    (kills_after l (1 + 2) (4 * left) (4 * l.attempts + 3) c.args.row left l.attempts v w y a e (omega arith)) (fails_after l (1 + 2) (4 * left) (4 * l.attempts + 3) c.args.row left l.attempts v w y a e (omega arith)) c.kill_from.ensures.told
 
 pub kill_from-requires-in-Taken-clause-steady : goal.kill_from-requires-in-Taken-clause-steady
 kill_from-requires-in-Taken-clause-steady c = (one (goal.at.kill_from-requires-in-Taken-clause-steady c).After-load_claim-claim).walk.steady
@@ -59,13 +59,13 @@ pub kill_from-requires-in-Taken-clause-enough : goal.kill_from-requires-in-Taken
 kill_from-requires-in-Taken-clause-enough c = let l : Limits = limits_of c.args.self.now.words in let o = one (goal.at.kill_from-requires-in-Taken-clause-enough c).After-load_claim-claim in
     let e = sym c.load_claim-claim.ensures.claim ∙ ap claim_value c.in-Taken.is in
     subst (λ (z : Limits). IsEnoughToKill l z.attempts (claim_value c.load_claim-claim.result)) c.args.self.now.same
-      (subst (IsEnoughToKill l l.attempts) (sym c.load_claim-claim.ensures.claim) (enough_all l c.args.self.now.words.places.valid (seen_by c.load_claim-claim.new.seat) c.args.row o.walk.steady.shows.legal (λ p. let q = sym e ∙ p in absurd cc)))
+    (subst (IsEnoughToKill l l.attempts) (sym c.load_claim-claim.ensures.claim) (enough_all l c.args.self.now.words.places.valid (seen_by c.load_claim-claim.new.seat) c.args.row o.walk.steady.shows.legal (λ p. let q = sym e ∙ p in absurd cc)))
 
 pub returns-in-Taken-clause-told : goal.returns-in-Taken-clause-told
 returns-in-Taken-clause-told c = let l : Limits = limits_of c.args.self.now.words in let at = goal.at.returns-in-Taken-clause-told c in let a = one at.After-load_claim-claim in let left : ℕ = c.args.self.now.places.limits.attempts in
     let v = view_of c.args.seat.now in let w = view_of c.load_claim-claim.new.seat in let y = view_of c.kill_from-in-Taken.new.seat in let e = attempts l c.args.self.now.places.limits c.args.self.now.same in
     match_map (λ count. KillsIn l (4 * left) c.args.row left count w y) (λ count. KillsIn l (4 * l.attempts + 3) c.args.row l.attempts count v y) (λ r. FailsIn l (4 * left) c.args.row left r w y) (λ r. FailsIn l (4 * l.attempts + 3) c.args.row l.attempts r v y) c.kill_from-in-Taken.result
-      (kills_after l 1 (4 * left) (4 * l.attempts + 3) c.args.row left l.attempts v w y a e (omega arith)) (fails_after l 1 (4 * left) (4 * l.attempts + 3) c.args.row left l.attempts v w y a e (omega arith)) c.kill_from-in-Taken.ensures.told
+    (kills_after l 1 (4 * left) (4 * l.attempts + 3) c.args.row left l.attempts v w y a e (omega arith)) (fails_after l 1 (4 * left) (4 * l.attempts + 3) c.args.row left l.attempts v w y a e (omega arith)) c.kill_from-in-Taken.ensures.told
 
 pub returns-in-Killed-clause-told : goal.returns-in-Killed-clause-told
 returns-in-Killed-clause-told c = let l : Limits = limits_of c.args.self.now.words in let o = one (goal.at.returns-in-Killed-clause-told c).After-load_claim-claim in

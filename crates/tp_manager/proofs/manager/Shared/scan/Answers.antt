@@ -9,10 +9,11 @@ use Rattle.tp_manager.proofs.manager.Shared.scan.Goals as goal
 
 pub returns-in-Some-clause-told : goal.returns-in-Some-clause-told
 returns-in-Some-clause-told c = let l : Limits = limits_of c.args.self.now.words in let s = 2 * l.attempts + 9 in
-    let less : c.loop-row.row < rows_of l = subst (λ n. c.loop-row.row < n) (c.rows-rows.ensures ∙ ap rows_of (sym c.args.self.now.same)) c.loop-row-test.true in
-    (took_few l c.args.stage c.args.unit c.in-Some.taken.attempt c.in-Some.taken.element _ _ _ _ (rows_more c.loop-row.row (rows_of l) s less)
-        (took_then l c.args.stage c.args.unit c.in-Some.taken.attempt c.in-Some.taken.element (c.loop-row.row * s) s (view_of c.args.seat.now) (view_of c.loop-row.seat) (view_of c.try_row.new.seat) c.loop-row.invariant.looked c.in-Some.ensures.told.0),
-    c.in-Some.ensures.told.1)
+    let less : c.loop-row.row < rows_of l = subst (λ n. c.loop-row.row < n) (c.rows-rows.ensures ∙ ap rows_of (sym c.args.self.now.same)) c.loop-row-test.true in (
+      took_few l c.args.stage c.args.unit c.in-Some.taken.attempt c.in-Some.taken.element _ _ _ _ (rows_more c.loop-row.row (rows_of l) s less)
+          (took_then l c.args.stage c.args.unit c.in-Some.taken.attempt c.in-Some.taken.element (c.loop-row.row * s) s (view_of c.args.seat.now) (view_of c.loop-row.seat) (view_of c.try_row.new.seat) c.loop-row.invariant.looked c.in-Some.ensures.told.0),
+      c.in-Some.ensures.told.1,
+    )
 
 pub loop-row-preserved : goal.loop-row-preserved
 loop-row-preserved c = let l : Limits = limits_of c.args.self.now.words in let t = c.in_default.ensures.told in let i = c.loop-row.invariant in let row = c.loop-row.row in let s = 2 * l.attempts + 9 in

@@ -58,12 +58,16 @@ claim_exchange-requires-clause-found c = allows (limits_of c.args.self.now.words
 pub returns-then-not-claim_exchange-clause-told : goal.returns-then-not-claim_exchange-clause-told
 returns-then-not-claim_exchange-clause-told c = let l : Limits = limits_of c.args.self.now.words in let at = goal.at.returns-then-not-claim_exchange-clause-told c in let m = most at.After-status_at-claim in let a = all at.After-element_at-element in let miss = c.claim_exchange.ensures.miss c.if-not-claim_exchange.true in
     let b = looked l 1 _ _ (acted_by l _ _ _ a.walk.steady tt miss.0) in
-    let w = looked_then l _ 1 _ _ _ a b in
-    (looked_few l _ _ _ _ (omega arith) w, pass_missed l c.args.stage c.args.row _ (seen_by c.status_at-claim.new.seat) _ _ b.walk.steady.shows.legal (looked_begins l _ _ _ m)
-        (begins_trans _ _ _ (looked_begins l _ _ _ c.element_at-element.ensures.looked) (looked_begins l 1 _ _ b)) c.status_at-claim.ensures.claim.0 miss.1)
+    let w = looked_then l _ 1 _ _ _ a b in (
+      looked_few l _ _ _ _ (omega arith) w,
+      pass_missed l c.args.stage c.args.row _ (seen_by c.status_at-claim.new.seat) _ _ b.walk.steady.shows.legal (looked_begins l _ _ _ m)
+          (begins_trans _ _ _ (looked_begins l _ _ _ c.element_at-element.ensures.looked) (looked_begins l 1 _ _ b)) c.status_at-claim.ensures.claim.0 miss.1,
+    )
 
 pub returns-clause-told : goal.returns-clause-told
 returns-clause-told c = let l : Limits = limits_of c.args.self.now.words in let a = all (goal.at.returns-clause-told c).After-element_at-element in let e = c.element_at-element.ensures in
-    let staged : c.element_at-element.result.stage ≡ c.args.stage = search rules in
-    (took_few l c.args.stage c.args.unit (c.in-Waiting.attempts + 1) c.element_at-element.result (((3 + (1 + 2 * l.attempts)) + 2) + 1) _ _ _ (omega arith)
-        (took_by l c.args.stage c.args.unit (c.in-Waiting.attempts + 1) c.element_at-element.result _ c.args.row _ _ _ e.head.2 a e.born staged (c.claim_exchange.ensures.hit c.if-not-claim_exchange.false)), e.head.1)
+    let staged : c.element_at-element.result.stage ≡ c.args.stage = search rules in (
+      took_few l c.args.stage c.args.unit (c.in-Waiting.attempts + 1) c.element_at-element.result (((3 + (1 + 2 * l.attempts)) + 2) + 1) _ _ _ (omega arith)
+          (took_by l c.args.stage c.args.unit (c.in-Waiting.attempts + 1) c.element_at-element.result _ c.args.row _ _ _ e.head.2 a e.born staged (c.claim_exchange.ensures.hit c.if-not-claim_exchange.false)),
+      e.head.1,
+    )
