@@ -1,34 +1,34 @@
 -- A kill, on its way.
-use Rattle.std.proofs.Common.{◌≡◌, ◌≢◌, ◌⊎◌, ℕ, ◌+◌, ◌-◌, ◌*◌, ◌<◌, ◌≤◌, nat_lt, cond, Bool, true, false, List, [], ◌∷◌, ◌++◌, length, Result, Ok, Err, sym, refl, ap, ◌∙◌, subst, inl, inr, ⊎_elim, arith, append_assoc, Option, Some, None}
+use Rattle.std.proofs.Common.{◌≡◌, ◌≢◌, ◌⊎◌, ℕ, ◌+◌, ◌-◌, ◌<◌, ◌≤◌, nat_lt, cond, Bool, true, false, List, [], ◌∷◌, ◌++◌, length, Result, Ok, Err, sym, refl, ap, ◌∙◌, subst, inl, inr, ⊎_elim, arith, append_assoc, Some, None}
 use Rattle.std.specs.Prelude.{MatchResult}
 use Rattle.std.specs.Option.{option_or}
 use Rattle.atomic_table.specs.Seated.{TableId}
 use Rattle.tp_model.specs.declared.types.Refusal.{Refusal}
 use Rattle.tp_model.specs.declared.types.Refusal.TheVariants as refusals
+use Rattle.tp_model.specs.declared.types.Status.{Status}
 use Rattle.tp_model.specs.declared.types.Status.TheVariants as statuses
 use Rattle.tp_model.specs.declared.trace.TraceEntry.{TraceEntry}
 use Rattle.tp_manager.specs.Shown.{PassShown, shown}
 use Rattle.tp_manager.proofs.Passes.{claims_append, steady_at}
 use mathlib.Core.List.{IsPrefix}
-use Rattle.tp_model.specs.declared.types.Element.{Element}
 use Rattle.tp_model.specs.declared.types.Limits.{Limits}
 use Rattle.tp_model.specs.declared.types.Status.TheVariants.{Waiting, Held, Parked}
 use Rattle.tp_model.specs.declared.event.Event.{Event}
 use Rattle.tp_model.specs.declared.event.Event.TheVariants.{Abort, Kill}
 use Rattle.tp_model.specs.declared.trace.StepKind.TheVariants as kinds
-use Rattle.tp_model.specs.History.{Aborted, In, here, there, UnitEnd, end_by, end_of, status_of}
-use Rattle.tp_model.specs.Words.{ClaimWord, FreeWord, TakenWord, KilledWord, Rises, attempt_in, claim_word, taken_status, word_status}
+use Rattle.tp_model.specs.History.{Aborted, here, there, end_by, end_of, status_of}
+use Rattle.tp_model.specs.Words.{ClaimWord, FreeWord, TakenWord, KilledWord, Rises, attempt_in, claim_word, taken_status}
 use Rattle.tp_model.specs.Steps.{AreLimits, IsKillable, IsLegal, Step}
 use Rattle.tp_model.proofs.Lists.{if_same}
 use Rattle.tp_model.proofs.Histories.{legal_at, legal_start}
 use Rattle.tp_model.proofs.WordProofs.{end_of-snoc, words_rise}
 use Rattle.tp_model.proofs.Bridges.{append_nil, begins_refl, begins_trans, in_either, in_none, in_one, status_taken}
 use Rattle.tp_model.proofs.Later.{claim_stands}
-use Rattle.tp_rule.specs.Steps.{MakesAbort, MakesKill, AllowsKill, with_end, with_event}
+use Rattle.tp_rule.specs.Steps.{MakesAbort, MakesKill, AllowsKill, HasElement, with_end, with_event}
 use Rattle.tp_rule.specs.Views.{Seated, hand, view_of}
 use Rattle.tp_rule.specs.declared.view.Hand.{Hand}
 use Rattle.tp_rule.specs.declared.view.View.{View}
-use Rattle.tp_manager.specs.Calls.{AreOfHolders, KillFails, Kills, OnlyAborts, claims_in, one_claim}
+use Rattle.tp_manager.specs.Calls.{AreOfHolders, AtPoint, HasStatus, KillFails, Kills, OnlyAborts, claims_in, one_claim}
 use Rattle.tp_manager.specs.Kills.{FailsIn, Freed, KillsIn, Slain, IsEnoughToKill}
 use Rattle.tp_manager.specs.Walks.{Rests, Steady, Walked, Looked}
 use Rattle.tp_manager.proofs.Births.{attempt_range}
@@ -241,11 +241,15 @@ module _ (t t' : TableId) (v w : View) (old : PassShown) (is : shown t v ≡ old
   only_aborts : (n i : ℕ) (es : List Event) → length es ≤ l.attempts → Freed l n i es v w → OnlyAborts l i old (shown t' w)
   only_aborts n i es few a = subst (λ (p : PassShown). OnlyAborts l i p (shown t' w)) is record { aborts = es; few = few; held = a.aborts; mine = a.mine; open_unit = a.open_unit free ∙ sym free; drawn = a.drawn }
 
-  pub fails_shown : (n i : ℕ) (e : Refusal) → FailsIn l n i l.attempts e v w → KillFails l i old (shown t' w) e
-  fails_shown n i refusals.NoMemory k = k.3
-  fails_shown n i refusals.BadLimits k = k.3
-  fails_shown n i refusals.BadStage k = k.3
-  fails_shown n i refusals.NotThere k = absurd k.3
-  fails_shown n i (refusals.Consumed u) k = (only_aborts n i k.0 k.1 k.2, at_point t t' v w old is l n k.2.marks k.2.walk (λ h. status_of l.attempts h i ≡ statuses.Consumed u) w.seen (point_last l n k.2.marks v w k.2.walk) k.3)
-  fails_shown n i refusals.AlreadyKilled k = (only_aborts n i k.0 k.1 k.2, at_point t t' v w old is l n k.2.marks k.2.walk (λ h. status_of l.attempts h i ≡ statuses.Killed) w.seen (point_last l n k.2.marks v w k.2.walk) k.3)
-  fails_shown n i refusals.Full k = k.3
+  -- the element is born when the kill fails, and has that status then
+  stands_at_end : (n i : ℕ) (s : Status) (es : List Event) → Freed l n i es v w → HasElement w.seen i → status_of l.attempts w.seen i ≡ s → AtPoint old (shown t' w) (HasStatus l i s)
+  stands_at_end n i s es a b e = at_point t t' v w old is l n a.marks a.walk (HasStatus l i s) w.seen (point_last l n a.marks v w a.walk) (b.0, b.1, e)
+
+  pub fails_shown : (n i : ℕ) (e : Refusal) → HasElement w.seen i → FailsIn l n i l.attempts e v w → KillFails l i old (shown t' w) e
+  fails_shown n i refusals.NoMemory b k = k.3
+  fails_shown n i refusals.BadLimits b k = k.3
+  fails_shown n i refusals.BadStage b k = k.3
+  fails_shown n i refusals.NotThere b k = absurd k.3
+  fails_shown n i (refusals.Consumed u) b k = (only_aborts n i k.0 k.1 k.2, stands_at_end n i (statuses.Consumed u) k.0 k.2 b k.3)
+  fails_shown n i refusals.AlreadyKilled b k = (only_aborts n i k.0 k.1 k.2, stands_at_end n i statuses.Killed k.0 k.2 b k.3)
+  fails_shown n i refusals.Full b k = k.3

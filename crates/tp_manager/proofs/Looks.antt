@@ -1,10 +1,9 @@
 -- What the words that were found tell of a row.
-use Rattle.std.proofs.Common.{◌≡◌, ◌≢◌, ◌⊎◌, ℕ, ◌+◌, ◌-◌, ◌*◌, ◌<◌, ◌≤◌, nat_lt, Bool, true, false, cond, Option, Some, None, List, refl, sym, ◌∙◌, ap, subst, ⊎_elim, arith}
+use Rattle.std.proofs.Common.{◌≡◌, ◌≢◌, ◌⊎◌, ℕ, ◌+◌, ◌-◌, ◌<◌, ◌≤◌, nat_lt, Bool, true, false, cond, Option, Some, None, List, refl, sym, ◌∙◌, ap, subst, ⊎_elim, arith}
 use Rattle.std.proofs.lemmas.Bool.Decides.{nat_tests}
 use mathlib.Core.List.{IsPrefix}
 use Rattle.tp_model.specs.declared.types.Element.{Element}
 use Rattle.tp_model.specs.declared.types.Limits.{Limits}
-use Rattle.tp_model.specs.declared.types.Status.{Status}
 use Rattle.tp_model.specs.declared.types.Status.TheVariants.{Waiting, Held, Consumed, Parked}
 use Rattle.tp_model.specs.declared.event.Event.{Event}
 use Rattle.tp_model.specs.History.{IsUnborn, element_of, UnitEnd, Committed, Aborted, end_of, status_of}
@@ -21,7 +20,7 @@ use Rattle.tp_words.specs.Words.{claim_value, head_of}
 use Rattle.tp_rule.specs.Rule.{IsDraft}
 use Rattle.tp_manager.specs.declared.looking.Birth.{Birth}
 use Rattle.tp_manager.specs.Looks.{HeadTold, IsThere, IsEnough}
-use Rattle.tp_manager.proofs.Births.{MadeBy, by_unit, attempt_range}
+use Rattle.tp_manager.proofs.Births.{by_unit, attempt_range}
 
 -- births
 

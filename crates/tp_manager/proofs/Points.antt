@@ -1,12 +1,12 @@
 -- The steps of one part of a call after those of another.
-use Rattle.std.proofs.Common.{◌≡◌, ℕ, ◌+◌, ◌≤◌, List, [], ◌∷◌, ◌++◌, length, drop, sym, refl, ap, ◌∙◌, subst, arith, append_assoc, length-append}
+use Rattle.std.proofs.Common.{◌≡◌, List, [], ◌∷◌, ◌++◌, length, drop, refl, ap}
 use mathlib.Core.List.{IsPrefix}
 use Rattle.tp_model.specs.declared.event.Event.{Event}
 use Rattle.tp_model.specs.declared.trace.StepKind.{StepKind}
 use Rattle.tp_model.specs.declared.trace.StepKind.TheVariants.{DraftStore, Publish, Load, UnitChoice, ClaimExchange, CommitExchange, AbortExchange, KillExchange}
 use Rattle.tp_model.specs.declared.trace.TraceEntry.{TraceEntry}
 use Rattle.tp_model.specs.History.{In, here, there}
-use Rattle.tp_model.specs.Passes.{IsPoint, opening_of, unless_draft}
+use Rattle.tp_model.specs.Passes.{opening_of, unless_draft}
 use Rattle.tp_model.proofs.Bridges.{begins_refl, begins_trans, in_left, in_right}
 use Rattle.tp_manager.specs.Calls.{HasStep, IsLookingStep}
 

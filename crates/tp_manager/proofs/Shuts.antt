@@ -1,6 +1,5 @@
 -- The drafts of a pass's own unit, and the unit's end.
-use Rattle.std.proofs.Common.{◌≡◌, ℕ, suc, ◌+◌, ◌*◌, ◌<◌, ◌≤◌, List, [], ◌∷◌, ◌++◌, length, slice_index_or, take, sym, refl, ap, ◌∙◌, subst, inl, inr, ⊎_elim, arith, append_assoc, length-append, mul-le-mul_right, Option, Some, None}
-use mathlib.Core.List.{IsPrefix}
+use Rattle.std.proofs.Common.{◌≡◌, ℕ, suc, ◌+◌, ◌*◌, ◌<◌, ◌≤◌, List, [], ◌∷◌, ◌++◌, length, slice_index_or, take, sym, refl, ap, ◌∙◌, subst, ⊎_elim, arith, append_assoc, length-append, mul-le-mul_right, Option, Some, None}
 use Rattle.atomic_table.specs.Seated.{TableId}
 use Rattle.tp_model.specs.Drafts.{DraftView}
 use Rattle.std.specs.List.{All}
@@ -10,12 +9,10 @@ use Rattle.tp_model.specs.declared.types.Limits.{Limits}
 use Rattle.tp_model.specs.declared.event.Event.{Event}
 use Rattle.tp_model.specs.declared.event.Event.TheVariants.{Abort, Commit}
 use Rattle.tp_model.specs.declared.trace.StepKind.{StepKind}
-use Rattle.tp_model.specs.declared.trace.StepKind.TheVariants as kinds
-use Rattle.tp_model.specs.declared.trace.TraceEntry.{TraceEntry}
 use Rattle.tp_model.specs.History.{Aborted, Committed, In, UnitEnd, end_by, births, end_of, first_id, pass_of, element_of, IsClaim, claim_of}
 use Rattle.tp_model.specs.OneThread.{outputs, HasStage}
-use Rattle.tp_model.specs.Steps.{AreLimits, IsLegal, IsStage, rows_of, units_of}
-use Rattle.tp_model.proofs.Bridges.{append_nil, begins_refl, begins_trans, in_cons, in_none}
+use Rattle.tp_model.specs.Steps.{AreLimits, IsLegal, units_of}
+use Rattle.tp_model.proofs.Bridges.{append_nil, begins_trans, in_cons, in_none}
 use Rattle.std.specs.Prelude.{IfSome}
 use Rattle.std.specs.Option.{option_or}
 use Rattle.tp_model.proofs.Lists.{if_same}
@@ -25,13 +22,13 @@ use Rattle.tp_model.proofs.Later.{aborted_by, abort_ends}
 use Rattle.tp_model.proofs.Bridges.{in_right}
 use Rattle.tp_model.specs.History.{here}
 use Rattle.tp_rule.specs.Views.{Seated, hand, next_row, view_of}
-use Rattle.tp_rule.specs.Steps.{Grew, Drafts, IsOut, IsOwnWork, IsClaimed, committed, drafted, next_element, noted, or_zero, with_amount, with_draft, with_end, with_key, with_lost}
+use Rattle.tp_rule.specs.Steps.{Grew, Drafts, IsOut, IsOwnWork, IsClaimed, committed, drafted, next_element, or_zero, with_amount, with_draft, with_end, with_key, with_lost}
 use Rattle.tp_rule.specs.declared.view.Hand.{Hand}
 use Rattle.tp_rule.specs.declared.view.View.{View}
 use Rattle.tp_manager.specs.declared.manager.Task.{Task}
 use Rattle.tp_manager.specs.Shown.{PassShown, shown}
 use Rattle.tp_manager.specs.Calls.{Adds, Closes, Commits, EndedByOther, IsEnded, IsLookingStep, Loses, claims_in}
-use Rattle.tp_manager.specs.Walks.{Rests, Shut, Steady, Walked, Wrote, output, unit_in, IsTask}
+use Rattle.tp_manager.specs.Walks.{Rests, Shut, Steady, Wrote, output, IsTask}
 use Rattle.tp_manager.proofs.Births.{claimed_inside}
 use Rattle.tp_manager.proofs.Passes.{claims_append, steady_at}
 use Rattle.tp_manager.proofs.Submits.{body_hand, body_seen, body_steady, body_walked, stored_hand, stored_seen, stored_steady, stored_walked}

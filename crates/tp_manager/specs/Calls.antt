@@ -1,5 +1,5 @@
 -- What the calls answer, and what they leave. In each definition `old` is what the pass shows before the call, and `new` what it shows after it.
-use Rattle.std.specs.Prelude.{◌≡◌, ℕ, ◌+◌, ◌*◌, ◌<◌, ◌≤◌, ◌⊎◌, List, [], ◌∷◌, ◌++◌, length, drop, Option, Some, None}
+use Rattle.std.specs.Prelude.{◌≡◌, ℕ, ◌+◌, ◌*◌, ◌<◌, ◌≤◌, ◌⊎◌, List, [], ◌∷◌, ◌++◌, length, drop, Some, None}
 use mathlib.Core.List.{IsPrefix}
 use Rattle.tp_model.specs.declared.types.Element.{Element}
 use Rattle.tp_model.specs.declared.types.Limits.{Limits}
@@ -214,12 +214,16 @@ pub record OnlyAborts (l : Limits) (id : ℕ) (old new : PassShown) : Type 0 whe
   pub open_unit : new.open_unit ≡ old.open_unit
   pub drawn : new.drawn ≡ old.drawn
 
+-- an element with this id is born, and has this status
+abbrev pub HasStatus : Limits → ℕ → Status → List Event → Type 0
+HasStatus l id s h = (x : Element) × (element_of h id ≡ Some x) × (status_of l.attempts h id ≡ s)
+
 -- why a kill was refused
 abbrev pub KillFails : Limits → ℕ → PassShown → PassShown → Refusal → Type 0
 KillFails l id old new refusals.NoMemory = ⊥
 KillFails l id old new refusals.BadLimits = ⊥
 KillFails l id old new refusals.BadStage = ⊥
 KillFails l id old new refusals.NotThere = IsQuiet old new × AtPoint old new (λ h. IsUnborn h id)
-KillFails l id old new (refusals.Consumed u) = OnlyAborts l id old new × AtPoint old new (λ h. status_of l.attempts h id ≡ statuses.Consumed u)
-KillFails l id old new refusals.AlreadyKilled = OnlyAborts l id old new × AtPoint old new (λ h. status_of l.attempts h id ≡ statuses.Killed)
+KillFails l id old new (refusals.Consumed u) = OnlyAborts l id old new × AtPoint old new (HasStatus l id (statuses.Consumed u))
+KillFails l id old new refusals.AlreadyKilled = OnlyAborts l id old new × AtPoint old new (HasStatus l id statuses.Killed)
 KillFails l id old new refusals.Full = ⊥

@@ -4,11 +4,10 @@ use mathlib.Core.List.{IsPrefix}
 use Rattle.tp_model.specs.declared.types.Element.{Element}
 use Rattle.tp_model.specs.declared.types.Limits.{Limits}
 use Rattle.tp_model.specs.declared.event.Event.{Event}
-use Rattle.tp_model.specs.declared.event.Event.TheVariants.{Enqueue, Claim, Commit, Abort, Kill}
 use Rattle.tp_model.specs.declared.trace.TraceEntry.{TraceEntry}
-use Rattle.tp_model.specs.History.{In, IsClaim, element_of, status_of}
+use Rattle.tp_model.specs.History.{IsClaim, element_of, status_of}
 use Rattle.tp_model.specs.Drafts.{DraftView}
-use Rattle.tp_model.specs.Passes.{PassView, IsPassView, IsPoint, opening_of}
+use Rattle.tp_model.specs.Passes.{PassView, IsPassView, opening_of}
 use Rattle.tp_model.specs.Steps.{AreLimits}
 use Rattle.tp_rule.specs.Views.{Seated, IsOnePass, fresh_from, hand, view_of}
 use Rattle.tp_rule.specs.declared.view.Hand.{Hand}

@@ -39,11 +39,12 @@ pub struct Manager {
 }
 
 impl Model for Manager {
+    ghost use Rattle.tp_rule.specs.Tables.{table_of};
     ghost use Rattle.tp_manager.specs.Shown.{ManagerShown};
 
     ghost Value = { ManagerShown };
 
-    ghost view = { λ m. record { table = m.shared.words.table.shared.table_id; limits = m.shared.places.limits } };
+    ghost view = { λ m. record { table = table_of m.shared.words; limits = m.shared.places.limits } };
 }
 
 /// What gives out the passes of a manager.
