@@ -23,7 +23,7 @@ use Rattle.tp_rule.specs.declared.view.View.{View}
 use Rattle.tp_manager.specs.declared.manager.Task.{Task}
 use Rattle.tp_manager.specs.Shown.{PassShown, shown}
 use Rattle.tp_manager.specs.Calls.{Claims, FoundNone, HasLooked, IsQuiet, IsWaiting, Takes, claims_in}
-use Rattle.tp_manager.specs.Walks.{Steady, Walked, Looked, Rests, Took, IsSpare, PassedBelow, with_trace}
+use Rattle.tp_manager.specs.Walks.{Steady, Walked, Looked, Rests, Took, PassedBelow, with_trace}
 use Rattle.tp_manager.proofs.Walks.{at_point, grew_hand, grew_walked, has_looked, opening_is, steady_quiet, walked_begins, walked_then}
 use Rattle.tp_manager.proofs.Passes.{claims_append, steady_at, task_later}
 
@@ -49,9 +49,6 @@ module _ (l : Limits) (u : ℕ) (v w : View) (s : Steady l v) (g : Chooses v u w
 
   pub chose_steady : Steady l w
   chose_steady = steady_quiet l kinds.UnitChoice (with_spare u) v w s g refl refl refl
-
-  pub chose_spare : (hand v).open_unit ≡ None → IsSpare u w
-  chose_spare e = (ap (λ (a : Hand). a.spare_unit) chose_hand, ap (λ (a : Hand). a.open_unit) chose_hand ∙ e)
 
   abbrev pub choice : TraceEntry
   choice = record { kind = kinds.UnitChoice; seen = w.seen }

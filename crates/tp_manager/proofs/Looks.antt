@@ -17,7 +17,6 @@ use Rattle.tp_words.specs.declared.words.Head.TheVariants.{Empty, There}
 use Rattle.tp_words.specs.declared.words.Claim.{Claim}
 use Rattle.tp_words.specs.declared.words.Claim.TheVariants as claims
 use Rattle.tp_words.specs.Words.{claim_value, head_of}
-use Rattle.tp_rule.specs.Rule.{IsDraft}
 use Rattle.tp_manager.specs.declared.looking.Birth.{Birth}
 use Rattle.tp_manager.specs.Looks.{HeadTold, IsThere, IsEnough}
 use Rattle.tp_manager.proofs.Births.{by_unit, attempt_range}
@@ -26,9 +25,6 @@ use Rattle.tp_manager.proofs.Births.{by_unit, attempt_range}
 
 pub unborn_if : (h : List Event) (i : ℕ) → ((x : Element) → element_of h i ≡ Some x → ⊥) → IsUnborn h i
 unborn_if h i not = ⊎_elim (λ t. absurd (not t.0 (born_at h i t.0 t.1 t.2))) (λ un. un) (born_or_not h i)
-
-pub none_empty : (h : List Event) (i : ℕ) (head : Head) → head ≡ Empty → HeadTold h i head → IsUnborn h i
-none_empty h i head is t = unborn_if h i (λ x p. let e = t.born x p in absurd cc)
 
 same_by : (x : Element) (s r u : ℕ) (b : Option ℕ) (head : Head) → head ≡ There s r b → head ≡ head_of x → b ≡ Some u → x.by ≡ Some u
 same_by x s r u b head is e q = cc
@@ -44,10 +40,6 @@ module _ (l : Limits) where
   pub none_unit : (h g : List Event) (i s r u : ℕ) (b : Option ℕ) (head : Head) → head ≡ There s r b → b ≡ Some u → HeadTold h i head → IsLegal l h → IsPrefix h g → MadeNot g i u → IsUnborn h i
   none_unit h g i s r u b head is q t legal begins not =
       unborn_if h i (λ x p. let m = by_unit l h legal i x u p (same_by x s r u b head is (t.born x p) q) in not m.from m.count (end_stays h g u (Committed m.from m.count) begins m.committed) m.low m.high)
-
-  pub there_client : (h : List Event) (i s r : ℕ) (b : Option ℕ) (head : Head) → head ≡ There s r b → b ≡ None → HeadTold h i head → (e : Element) × (element_of h i ≡ Some e) × (head_of e ≡ There s r b)
-  there_client h i s r b head is q t = ⊎_elim (λ x. let p = born_at h i x.0 x.1 x.2 in (x.0, p, sym (t.born x.0 p) ∙ is))
-      (λ un. absurd (subst IsDraft is (t.draft un) q)) (born_or_not h i)
 
   pub there_unit : (h g : List Event) (i u f m s r : ℕ) (b : Option ℕ) (head : Head) → IsLegal l h → IsPrefix h g → end_of h u ≡ Some (Committed f m) → f ≤ i → i < f + m → head ≡ There s r b
       → ((e : Element) → element_of g i ≡ Some e → head ≡ head_of e) → (e : Element) × (element_of g i ≡ Some e) × (head_of e ≡ There s r b)

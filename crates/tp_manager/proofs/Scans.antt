@@ -94,9 +94,6 @@ module _ (l : Limits) (stage i : ℕ) where
   few_attempts fair h n legal waits = let less = waits_below l.attempts h (claim_word h i) n fair.attempts.0 (sym (status_by_words l h i legal) ∙ waits) in let most = fair.attempts.1 in omega arith
 
 module _ (l : Limits) (stage : ℕ) where
-  pub below_none : (a b : List Event) → PassedBelow l stage 0 a b
-  below_none a b = λ i less. absurd (omega arith)
-
   pub below_next : (n : ℕ) (a h b : List Event) → IsPrefix a h → IsPrefix h b → PassedBelow l stage n a h → PassedBy l stage n h b → PassedBelow l stage (n + 1) a b
   below_next n a h b before after all this i less x p st = elim (eqb_tells i n) [
     | inl q ↦ (let at : element_of a n ≡ Some x = subst (λ z. element_of a z ≡ Some x) q.1 p in let t = this x (found_later a h before n x at) st in

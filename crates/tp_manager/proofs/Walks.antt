@@ -115,11 +115,7 @@ module _ (l : Limits) where
   pub walked_few : (n m : ℕ) (ms : List TraceEntry) (v w : View) → n ≤ m → Walked l n ms v w → Walked l m ms v w
   walked_few n m ms v w le a = record { traced = a.traced; few = let p = a.few in omega arith; opens = a.opens; closes = a.closes; number = a.number; steady = a.steady }
 
-  -- a point of the second part is one of both
-  pub point_second : (n m : ℕ) (ms ns : List TraceEntry) (v w x : View) → Walked l n ms v w → Walked l m ns w x → (p : List Event) → IsPoint (opening_of w.seen ns) x.seen p → IsPoint (opening_of v.seen (ms ++ ns)) x.seen p
-  point_second n m ms ns v w x a b p q = record { opened = begins_trans _ _ _ (opening_later v.seen w.seen ms ns a.closes b.opens) q.opened; seen = q.seen }
-
-  -- and so is a point of the first, where that has a step that is no draft store
+  -- a point of a first part is one of both, where that part has a step that is no draft store
   pub point_first : (m : ℕ) (ms ns : List TraceEntry) (v w x : View) → HasStep ms → Walked l m ns w x → (p : List Event) → IsPoint (opening_of v.seen ms) w.seen p → IsPoint (opening_of v.seen (ms ++ ns)) x.seen p
   point_first m ms ns v w x h b p q = record {
     opened = subst (λ z. IsPrefix z p) (sym (opening_kept v.seen ms ns h.0 h.1 h.2)) q.opened;
@@ -159,9 +155,6 @@ module _ (l : Limits) where
     kept = b.kept ∙ ap (λ z. with_trace (hand x).trace z) a.kept;
     step = has_more a.marks b.marks a.step;
   }
-
-  pub acted_few : (n m : ℕ) (v w : View) → n ≤ m → Acted l n v w → Acted l m v w
-  acted_few n m v w le a = record { marks = a.marks; walk = walked_few n m a.marks v w le a.walk; kept = a.kept; step = a.step }
 
 -- what a caller sees of the steps of a call
 module _ (t t' : TableId) (v w : View) (old : PassShown) (is : shown t v ≡ old) (l : Limits) (n : ℕ) (ms : List TraceEntry) (a : Walked l n ms v w) where

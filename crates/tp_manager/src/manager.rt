@@ -129,10 +129,13 @@ impl Keeper {
     pub fn pass(&mut self, manager: &Manager) -> Result<Pass, MakeFault>
         requires keeper { IsKeptBy manager.now self.old }
         ensures keeper { IsKeptBy manager.now self.new }
-        ensures own { IfOk result (λ pass. IsOf manager.now pass × IsPassView pass.limits (view_in pass)) }
-        ensures fresh { IfOk result (λ pass. (pass.number ≡ self.old.given) × (pass.mine ≡ []) × (pass.seen ≡ []) × (pass.open_unit ≡ None) × (pass.drawn ≡ 0)) }
+        ensures own { IfOk result (λ pass. IsOf manager.now pass
+            × IsPassView pass.limits (view_in pass)) }
+        ensures fresh { IfOk result (λ pass. (pass.number ≡ self.old.given) × (pass.mine ≡ [])
+            × (pass.seen ≡ []) × (pass.open_unit ≡ None) × (pass.drawn ≡ 0)) }
         ensures given { IfOk result (λ pass. self.new.given ≡ self.old.given + 1) }
-        ensures none { IfErr result (λ fault. (fault ≡ faults.NoPart) × (self.old.given ≡ self.old.limits.parts) × (self.new ≡ self.old)) }
+        ensures none { IfErr result (λ fault. (fault ≡ faults.NoPart)
+            × (self.old.given ≡ self.old.limits.parts) × (self.new ≡ self.old)) }
     {
         if self.given == self.limits.parts {
             return Err(MakeFault::NoPart);
