@@ -5,7 +5,7 @@ ghost use Rattle.tp_manager.specs.Shown.{IsOf};
 use super::{SMALL, two};
 use crate::{Keeper, Manager, Pass};
 use std::thread::{Threads, join_mut};
-use tp_model::types::{Claimed, Limits, Outcome, Status};
+use tp_model::types::{Claimed, Limits, Outcome, Refusal, Status};
 
 /// Submits until the rows are used up, and answers how many ids came, each of them the next one.
 fn fill(manager: &Manager, pass: &mut Pass, key: u64, first: u32) -> u32
@@ -49,6 +49,8 @@ fn two_threads_submit(rt: HostRuntime) {
         &mut || fill(&manager, &mut second, 8, 256),
     );
     assert!(rt; a == 256 && b == 256);
+    assert!(rt; manager.submit(&mut first, 14, 7, 0) == Err(Refusal::Full));
+    assert!(rt; manager.submit(&mut second, 14, 8, 0) == Err(Refusal::Full));
     assert!(rt; read_back(&manager, &mut first, 7, 0) == 256);
     assert!(rt; read_back(&manager, &mut first, 8, 256) == 256);
 }
