@@ -95,11 +95,12 @@ abbrev pub turn_at : Option ServerView → State → List ℕ × State
 turn_at (Some server) s = turn_step server s
 turn_at None s = ([], s)
 
--- one command
+-- one command; those that a script of the plain reach doesn't have write nothing
 abbrev pub command_step : List ServerView → Command → State → List ℕ × State
 command_step servers (Submit stage key amount) s = submit_step stage key amount s
 command_step servers (Turn server) s = turn_at (slice_get servers server) s
 command_step servers (Reply root) s = reply_step root s
+command_step servers other s = ([], s)
 
 -- ---- the whole report
 

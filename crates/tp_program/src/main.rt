@@ -5,11 +5,13 @@
 #![tactic(auto)]
 
 mod answer;
+mod commands;
 mod fault;
 mod grammar;
 mod keyword;
 mod parse;
 mod program;
+mod reach;
 mod report;
 mod run;
 mod script;

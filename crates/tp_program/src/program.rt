@@ -8,7 +8,8 @@ ghost use Rattle.tp_program.specs.Whole.{Reports, fault_of};
 
 use crate::answer::refused_text;
 use crate::fault::{Exit, Fault, ReadFault, Refused, RunFault};
-use crate::parse::read_script;
+use crate::parse::read_script_at;
+use crate::reach::Reach;
 use crate::report::write_report;
 use crate::sink::{Sink, write_all};
 use crate::source::{MOST_REQUESTS, Source};
@@ -34,7 +35,7 @@ fn fault_of(fault: RunFault) -> Fault
     }
 }
 
-/// Reads a script of at most one server, runs it over the manager of one thread, and writes its report and nothing else.
+/// Reads a script of the plain reach, runs it over the manager of one thread, and writes its report and nothing else.
 /// The reader is asked at most 100,000 times.
 pub fn run_plain<R: Source, W: Sink>(
     alloc: Global,
@@ -43,11 +44,11 @@ pub fn run_plain<R: Source, W: Sink>(
 ) -> Result<Exit, Fault>
     requires { R.asked reader.old + MOST_REQUESTS < 2 ^ 64 }
     ensures asked { R.asked reader.new ≤ R.asked reader.old + MOST_REQUESTS }
-    ensures report { IfSome (R.rest reader.old) (λ bytes. Reports result (script bytes) (W.contents writer.old) (W.contents writer.new)) }
+    ensures report { IfSome (R.rest reader.old) (λ bytes. Reports result (script Reach.Plain bytes) (W.contents writer.old) (W.contents writer.new)) }
     ensures read { IsErrOf result Fault.Read → StopsReading (R.has_failed reader.new) (R.asked reader.old) (R.asked reader.new) }
     ensures write { IsErrOf result Fault.Write → IsTrue (W.has_failed writer.new) }
 {
-    match read_script(alloc, reader) {
+    match read_script_at(alloc, Reach::Plain, reader) {
         Ok(script) => match write_report(alloc, &script, writer) {
             Ok(()) => Ok(Exit::Done),
             Err(fault) => Err(fault_of(fault)),

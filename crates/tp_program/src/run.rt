@@ -189,6 +189,8 @@ impl Run {
                 None => Ok(String::new(alloc)),
             },
             Command::Reply { root } => self.reply(alloc, root),
+            // No script of the plain reach has another command.
+            _ => Ok(String::new(alloc)),
         }
     }
 
