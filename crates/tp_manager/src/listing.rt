@@ -1,5 +1,5 @@
 //! The next reply to a request, and the next element of the error queue.
-ghost use Rattle.std.specs.Prelude.{◌≡◌, ◌+◌, ◌*◌, ◌<◌, ◌≤◌, MatchOption, true, false};
+ghost use Rattle.std.specs.Prelude.{◌≡◌, ◌+◌, ◌*◌, ◌<◌, ◌≤◌, IfSome, MatchOption, true, false};
 ghost use Rattle.tp_model.specs.History.{IsUnborn, status_of};
 ghost use Rattle.tp_model.specs.Steps.{rows_of};
 ghost use Rattle.tp_rule.specs.Views.{seen_by, view_of, IsSameSeat};
@@ -88,6 +88,7 @@ impl Shared {
         ensures same { IsSameSeat seat.old seat.new }
         ensures looked { let l = limits_of self.now.words in
             Looked l (rows_of l * (2 * l.attempts + 4)) (view_of seat.old) (view_of seat.new) }
+        ensures inside { IfSome result (λ id. id < rows_of (limits_of self.now.words)) }
         ensures told { let l = limits_of self.now.words in MatchOption result
             (PassedFrom l wanted from (rows_of l) (seen_by seat.old) (seen_by seat.new))
             (λ id. (from ≤ id) × Hits l wanted id (seen_by seat.new)
@@ -112,6 +113,7 @@ impl Manager {
             Follows (rows_of l * (2 * l.attempts + 8)) pass.old pass.new }
         ensures quiet { IsQuiet pass.old pass.new }
         ensures looks { from < rows_of self.now.limits → HasLooked pass.old pass.new }
+        ensures inside { IfSome result (λ id. id < rows_of self.now.limits) }
         ensures answer { MatchOption result
             (AllKilled self.now.limits root (λ i. from ≤ i) pass.old pass.new)
             (λ id. NextReply self.now.limits root from id pass.old pass.new) }
@@ -132,6 +134,7 @@ impl Manager {
             Follows (rows_of l * (2 * l.attempts + 8)) pass.old pass.new }
         ensures quiet { IsQuiet pass.old pass.new }
         ensures looks { from < rows_of self.now.limits → HasLooked pass.old pass.new }
+        ensures inside { IfSome result (λ id. id < rows_of self.now.limits) }
         ensures answer { MatchOption result
             (NoneParked self.now.limits (λ i. from ≤ i) pass.old pass.new)
             (λ id. NextError self.now.limits from id pass.old pass.new) }
