@@ -8,6 +8,7 @@ pub mod laws;
 mod looks;
 pub mod pass_state;
 pub mod plain;
+pub mod remembered;
 #[cfg(test)]
 mod tests;
 pub mod trace;

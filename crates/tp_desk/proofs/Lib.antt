@@ -1,0 +1,3 @@
+pub mod Serves
+pub mod Keeping
+pub mod Steps

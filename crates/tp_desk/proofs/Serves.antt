@@ -1,0 +1,121 @@
+-- What a desk has served, after a few events more.
+use Rattle.std.proofs.Common.{◌≡◌, ℕ, List, [], ◌∷◌, ◌++◌, Option, Some, None, length, drop, inl, inr, ⊎_elim, refl, sym, ◌∙◌, ap, subst, append_assoc}
+use Rattle.std.proofs.lemmas.Option.{option_and_then_some}
+use Rattle.std.proofs.lemmas.List.Elements.{filter_map-append}
+use Rattle.std.specs.List.{filter_map}
+use mathlib.Core.List.{IsPrefix}
+use Rattle.tp_model.specs.declared.types.Element.{Element}
+use Rattle.tp_model.specs.declared.event.Event.{Event}
+use Rattle.tp_model.specs.declared.event.Event.TheVariants.{Enqueue, Claim, Commit, Abort, Kill}
+use Rattle.tp_model.specs.Counts.{taken, taken_by}
+use Rattle.tp_model.specs.History.{In, here, there, UnitClaim, claim_by, claim_of, element_of}
+use Rattle.tp_model.proofs.Bridges.{begins_trans, in_either}
+use Rattle.tp_model.proofs.Histories.{element_of-kept}
+use Rattle.tp_model.proofs.Lists.{first-kept, option_or-some, first-snoc, first-append, option_or-none}
+use Rattle.tp_server.specs.declared.recipe.Recipe.{Recipe}
+use Rattle.tp_server.specs.Effect.{effect_of, fold_from, fold_of, registers_after}
+use Rattle.tp_manager.specs.Calls.{IsEnded}
+use Rattle.tp_manager.specs.Shown.{PassShown}
+use Rattle.tp_desk.specs.Serving.{AreEnded, AreTaken, Serves, gained}
+
+dropped : (a more : List Event) → drop (length a) (a ++ more) ≡ more
+dropped [] more = refl
+dropped (x ∷ a) more = dropped a more
+
+-- what is gained grows by what is added
+pub gained_more : (a b more : List Event) → IsPrefix a b → gained a (b ++ more) ≡ gained a b ++ more
+gained_more a b more p =
+    let whole : b ++ more ≡ a ++ (p.0 ++ more) = ap (λ (l : List Event). l ++ more) (sym p.1) ∙ append_assoc a p.0 more in
+    ap (drop (length a)) whole ∙ (dropped a (p.0 ++ more) ∙ ap (λ (l : List Event). l ++ more) (sym (dropped a p.0) ∙ ap (drop (length a)) p.1))
+
+pub begun_more : (a b more : List Event) → IsPrefix a b → IsPrefix a (b ++ more)
+begun_more a b more p = (p.0 ++ more, sym (append_assoc a p.0 more) ∙ ap (λ (l : List Event). l ++ more) p.1)
+
+-- the list itself, and what it gained
+pub whole : (a b : List Event) → IsPrefix a b → b ≡ a ++ gained a b
+whole a b p = sym p.1 ∙ ap (λ (l : List Event). a ++ l) (sym (dropped a p.0) ∙ ap (drop (length a)) p.1)
+
+-- a unit took the same element in longer lists
+kept : (g more h news : List Event) (e : Event) (x : Element) → taken_by g h e ≡ Some x → taken_by (g ++ more) (h ++ news) e ≡ Some x
+kept g more h news (Enqueue c y) x is = is
+kept g more h news (Claim c u i n) x is = is
+kept g more h news (Commit c u outs) x is =
+    option_and_then_some (λ (t : UnitClaim). element_of h t.item) (claim_of g u) x is (λ t claimed found.
+    rw (first-kept (claim_by u) g more t claimed) (element_of-kept h news t.item x found))
+kept g more h news (Abort c u) x is = is
+kept g more h news (Kill c i) x is = is
+
+-- and so did all units that were committed
+all_kept : (g more h news es : List Event) → ((c u : ℕ) (outs : List Element) → In (Commit c u outs) es → (x : Element) × (taken_by g h (Commit c u outs) ≡ Some x))
+    → filter_map (taken_by (g ++ more) (h ++ news)) es ≡ filter_map (taken_by g h) es
+all_kept g more h news [] all = refl
+all_kept g more h news (Enqueue c y ∷ es) all = all_kept g more h news es (λ c u outs p. all c u outs (there p))
+all_kept g more h news (Claim c u i n ∷ es) all = all_kept g more h news es (λ c u outs p. all c u outs (there p))
+all_kept g more h news (Commit c u outs ∷ es) all =
+    let one = all c u outs here in
+    let after : taken_by (g ++ more) (h ++ news) (Commit c u outs) ≡ Some one.0 = kept g more h news (Commit c u outs) one.0 one.1 in
+    rw (after, one.1) (ap (λ (xs : List Element). one.0 ∷ xs) (all_kept g more h news es (λ c u outs p. all c u outs (there p))))
+all_kept g more h news (Abort c u ∷ es) all = all_kept g more h news es (λ c u outs p. all c u outs (there p))
+all_kept g more h news (Kill c i ∷ es) all = all_kept g more h news es (λ c u outs p. all c u outs (there p))
+
+fold_from-append : (recipe : Recipe) (o : Option (List ℕ)) (xs ys : List Element) → fold_from recipe o (xs ++ ys) ≡ fold_from recipe (fold_from recipe o xs) ys
+fold_from-append recipe None xs ys = refl
+fold_from-append recipe (Some s) [] ys = refl
+fold_from-append recipe (Some s) (x ∷ xs) ys = fold_from-append recipe (registers_after (effect_of recipe s x)) xs ys
+
+-- the pass made these events more, which consumed these elements
+pub serves_more : (recipe : Recipe) (start r r' : List ℕ) (f p q : PassShown) (more : List Event) (es : List Element)
+    → q.number ≡ p.number → IsPrefix p.seen q.seen → q.mine ≡ p.mine ++ more
+    → filter_map (taken_by (gained f.mine p.mine ++ more) q.seen) more ≡ es
+    → ((c u : ℕ) (outs : List Element) → In (Commit c u outs) more → (x : Element) × (taken_by (gained f.mine p.mine ++ more) q.seen (Commit c u outs) ≡ Some x))
+    → fold_from recipe (Some r) es ≡ Some r'
+    → Serves recipe start r f p → Serves recipe start r' f q
+serves_more recipe start r r' f p q more es number seen adds took all folds s =
+    let g : List Event = gained f.mine p.mine in
+    let now : gained f.mine q.mine ≡ g ++ more = ap (gained f.mine) adds ∙ gained_more f.mine p.mine more s.mine in
+    let same : filter_map (taken_by (g ++ more) q.seen) g ≡ taken g p.seen =
+    subst (λ (h : List Event). filter_map (taken_by (g ++ more) h) g ≡ taken g p.seen) seen.1 (all_kept g more p.seen seen.0 g s.claimed) in
+    let total : taken (g ++ more) q.seen ≡ taken g p.seen ++ es =
+    filter_map-append (taken_by (g ++ more) q.seen) g more ∙ (ap (λ (xs : List Element). xs ++ filter_map (taken_by (g ++ more) q.seen) more) same ∙ ap (λ (xs : List Element). taken g p.seen ++ xs) took) in
+    let folded : fold_of recipe start (taken (g ++ more) q.seen) ≡ Some r' =
+    ap (fold_of recipe start) total ∙ (fold_from-append recipe (Some start) (taken g p.seen) es ∙ (ap (λ (o : Option (List ℕ)). fold_from recipe o es) s.folded ∙ folds)) in
+    let claimed : AreTaken (g ++ more) q.seen = λ c u outs at.
+    ⊎_elim (λ before. let one = s.claimed c u outs before in
+    (one.0, subst (λ (h : List Event). taken_by (g ++ more) h (Commit c u outs) ≡ Some one.0) seen.1 (kept g more p.seen seen.0 (Commit c u outs) one.0 one.1)))
+    (λ after. all c u outs after) (in_either g more at) in
+    record {
+      number = number ∙ s.number;
+      seen = begins_trans f.seen p.seen q.seen s.seen seen;
+      mine = subst (IsPrefix f.mine) (sym adds) (begun_more f.mine p.mine more s.mine);
+      claimed = subst (λ (l : List Event). AreTaken l q.seen) (sym now) claimed;
+      folded = subst (λ (l : List Event). fold_of recipe start (taken l q.seen) ≡ Some r') (sym now) folded;
+    }
+
+-- a unit that ended has ended in a longer history
+pub ended_later : (h k : List Event) (u : ℕ) → IsPrefix h k → IsEnded h u → IsEnded k u
+ended_later h k u b e = subst (λ (l : List Event). IsEnded l u) b.1 (e.0, first-kept _ h b.0 e.0 e.1)
+
+-- all units have ended, where the open one has
+pub all_ended : (g h k : List Event) (o : Option ℕ) (u : ℕ) → IsPrefix h k → o ≡ Some u → IsEnded k u → AreEnded o g h → AreEnded None g k
+all_ended g h k o u b is e all = λ v t claimed.
+    ⊎_elim (λ same. inr (subst (IsEnded k) (some_same u v (sym is ∙ same)) e)) (λ old. inr (ended_later h k v b old)) (all v t claimed)
+  where
+    some_same : (x y : ℕ) → Some x ≡ Some y → x ≡ y
+    some_same x y e = cc
+
+-- they stay so
+pub still_ended : (g h k : List Event) (o : Option ℕ) → IsPrefix h k → AreEnded o g h → AreEnded o g k
+still_ended g h k o b all = λ v t claimed. ⊎_elim (λ same. inl same) (λ old. inr (ended_later h k v b old)) (all v t claimed)
+
+-- an event that is no claim
+pub ended_other : (g h : List Event) (o : Option ℕ) (e : Event) → ((u : ℕ) → claim_by u e ≡ None) → AreEnded o g h → AreEnded o (g ++ e ∷ []) h
+ended_other g h o e other all = λ v t claimed.
+    ⊎_elim (λ before. all v t before) (λ now. absurd (no_some _ t (other v) now.1)) (option_or-some (claim_of g v) (claim_by v e) t (sym (first-snoc (claim_by v) g e) ∙ claimed))
+  where
+    no_some : (x : Option UnitClaim) (t : UnitClaim) → x ≡ None → x ≡ Some t → ⊥
+    no_some x t a b = cc
+
+-- no claim among all is none among the gained
+pub fresh_gained : (a b : List Event) (u : ℕ) → IsPrefix a b → claim_of b u ≡ None → claim_of (gained a b) u ≡ None
+fresh_gained a b u p none =
+    (option_or-none (claim_of a u) (claim_of (gained a b) u) (sym (first-append (claim_by u) a (gained a b)) ∙ (sym (ap (λ (l : List Event). claim_of l u) (whole a b p)) ∙ none))).1

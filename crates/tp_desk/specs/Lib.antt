@@ -1,0 +1,4 @@
+pub mod InHand
+pub mod Serving
+pub mod Steady
+pub mod Turns

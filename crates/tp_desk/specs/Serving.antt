@@ -1,0 +1,38 @@
+-- What a desk has done with a pass and a server since it was made.
+use Rattle.std.specs.Prelude.{◌≡◌, ◌⊎◌, ℕ, List, length, drop, Option, Some, None}
+use mathlib.Core.List.{IsPrefix}
+use Rattle.tp_model.specs.declared.event.Event.{Event}
+use Rattle.tp_model.specs.declared.event.Event.TheVariants.{Commit}
+use Rattle.tp_model.specs.declared.types.Element.{Element}
+use Rattle.tp_model.specs.Counts.{taken, taken_by}
+use Rattle.tp_model.specs.History.{In, UnitClaim, claim_of}
+use Rattle.tp_server.specs.declared.recipe.Recipe.{Recipe}
+use Rattle.tp_server.specs.Effect.{fold_of}
+use Rattle.tp_manager.specs.Shown.{PassShown}
+use Rattle.tp_manager.specs.Calls.{IsEnded}
+
+-- what the second list has behind the first
+abbrev pub gained : List Event → List Event → List Event
+gained first mine = drop (length first) mine
+
+-- the unit of each Commit among the events had claimed an element there, which was born
+abbrev pub AreTaken : List Event → List Event → Type 0
+AreTaken events h = (c u : ℕ) (outs : List Element) → In (Commit c u outs) events → (x : Element) × (taken_by events h (Commit c u outs) ≡ Some x)
+
+-- The pass has made events of its own and seen more, and the server's registers of committed work are the fold of its recipe
+-- over the elements that those events consumed, from the registers with which it began.
+pub record Serves (recipe : Recipe) (start registers : List ℕ) (old new : PassShown) : Type 0 where
+  pub number : new.number ≡ old.number
+  pub seen : IsPrefix old.seen new.seen
+  pub mine : IsPrefix old.mine new.mine
+  pub claimed : AreTaken (gained old.mine new.mine) new.seen
+  pub folded : fold_of recipe start (taken (gained old.mine new.mine) new.seen) ≡ Some registers
+
+-- each unit that was claimed among the events has ended, or is the one that may be open
+abbrev pub AreEnded : Option ℕ → List Event → List Event → Type 0
+AreEnded but events h = (u : ℕ) (t : UnitClaim) → claim_of events u ≡ Some t → (but ≡ Some u) ⊎ IsEnded h u
+
+-- what the lenders of a pass and a server find when the desk has ended
+pub record Leaves (recipe : Recipe) (start registers : List ℕ) (old new : PassShown) : Type 0 where
+  pub serves : Serves recipe start registers old new
+  pub ended : AreEnded None (gained old.mine new.mine) new.seen

@@ -1,0 +1,83 @@
+//! The desk, and what it shows.
+ghost use Rattle.std.specs.Prelude.{◌≡◌, None, IfSome, is_some, slice_get};
+ghost use Rattle.tp_manager.specs.Calls.{Follows};
+ghost use Rattle.tp_manager.specs.Shown.{IsOf};
+ghost use Rattle.tp_desk.specs.InHand.{IsSteady};
+ghost use Rattle.tp_desk.specs.Serving.{Leaves};
+ghost use Rattle.tp_desk.specs.Turns.{EndsOpen};
+
+use crate::{boxed, closing};
+use arrayvec::ArrayVec;
+use tp_manager::{Manager, Pass};
+use tp_model::remembered::Remembered;
+use tp_model::types::{Draft, Work};
+use tp_server::{Recipe, Server};
+
+/// Where a pass and a boxed server are at work, for as long as it borrows them.
+pub struct Desk<'m, 'p, 's> {
+    pub(crate) manager: &'m Manager,
+    pub(crate) pass: &'p mut Pass,
+    pub(crate) server: &'s mut Box<dyn Server + Send>,
+    pub(crate) work: Option<Work>,
+    pub(crate) drafts: ArrayVec<Draft, 4>,
+    pub(crate) first_pass: Remembered<Pass>,
+    pub(crate) first_server: Remembered<Box<dyn Server + Send>>,
+    ghost own: { IsOf manager.now pass.now },
+}
+
+impl Desk<'_, '_, '_> {
+    /// Whether an element is in hand: claimed, and neither committed nor aborted by the desk's own calls.
+    pub fn has_open(&self) -> bool
+        ensures { result ≡ is_some self.now.work }
+    {
+        self.work.is_some()
+    }
+
+    /// Whether the server has prepared the work in hand.
+    pub fn is_prepared(&self) -> bool
+        ensures { result ≡ is_some (pending self.now.server.now) }
+    {
+        self.server.is_prepared()
+    }
+
+    /// What the server does with an element.
+    pub fn recipe(&self) -> &Recipe
+        ensures { result.now ≡ recipe self.now.server.now }
+    {
+        self.server.recipe()
+    }
+
+    /// The server's register of committed work with this number, counted from 0, or `None` past the last one. Prepared
+    /// work isn't counted.
+    pub fn balance(&self, k: u64) -> Option<u64>
+        ensures { result ≡ slice_get (registers self.now.server.now) k }
+    {
+        self.server.balance(k)
+    }
+}
+
+impl Drop for Desk<'_, '_, '_> {
+    fn drop(self)
+        ensures free { self.exit.1.0.now.open_unit ≡ None }
+        ensures clear { pending self.exit.1.1.0.now ≡ None }
+        ensures own { IsOf self.entry.manager.now self.exit.1.0.now }
+        ensures recipe { recipe self.exit.1.1.0.now ≡ recipe self.entry.server.now }
+        ensures registers { registers self.exit.1.1.0.now ≡ registers self.entry.server.now }
+        ensures adds { EndsOpen self.entry.pass.now.open_unit self.entry.pass.now self.exit.1.0.now }
+        ensures follows { IfSome self.entry.pass.now.open_unit (λ _. Follows 2 self.entry.pass.now self.exit.1.0.now) }
+        ensures leaves { IsSteady (recipe self.entry.server.now) (registers self.entry.server.now) (pending self.entry.server.now) (registers self.entry.first_server.value) self.entry.first_pass.value self.entry.pass.now self.entry.work self.entry.drafts.items
+            → Leaves (recipe self.exit.1.1.0.now) (registers self.entry.first_server.value) (registers self.exit.1.1.0.now) self.entry.first_pass.value self.exit.1.0.now }
+    {
+        let Desk {
+            manager,
+            pass,
+            server,
+            work: _,
+            drafts: _,
+            first_pass: _,
+            first_server: _,
+        } = self;
+        boxed::clear(server);
+        closing::close(manager, pass);
+    }
+}

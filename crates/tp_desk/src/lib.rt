@@ -1,0 +1,15 @@
+//! Desks: where a pass of the manager and a server come together, so that a server's work is kept exactly where its
+//! unit of work was committed.
+#![tactic(auto)]
+
+mod boxed;
+mod closing;
+mod desk;
+#[cfg(test)]
+mod tests;
+mod turned;
+mod turning;
+mod working;
+
+pub use desk::Desk;
+pub use turned::Turned;

@@ -1,0 +1,32 @@
+//! The answer of a turn.
+
+use tp_server::Declined;
+
+/// What a turn of a server came to. Elements are given by their ids.
+#[derive(Clone, Copy, Debug, PartialEq, Eq)]
+pub enum Turned {
+    /// Nothing waited in the server's stage.
+    Idle,
+    /// The pass has used up its units of work.
+    NoUnit,
+    /// The element was consumed by this unit, with `count` outputs from the id `first` on (0 where there is none).
+    Done {
+        unit: u16,
+        element: u32,
+        first: u32,
+        count: u8,
+    },
+    /// The recipe declined the element, and its unit was aborted.
+    Refused {
+        element: u32,
+        why: Declined,
+    },
+    /// Another caller had aborted the unit: none of the work is seen.
+    Lost {
+        element: u32,
+    },
+    /// The pass has too few rows left for the outputs: the unit was aborted.
+    Full {
+        element: u32,
+    },
+}
