@@ -26,6 +26,7 @@ fn outputs_appear_at_commit(rt: HostRuntime) -> Result<(), Fail> {
         panic!(rt; "no work")
     };
     assert!(rt; work.unit == 8 && work.attempt == 1 && work.element.amount == 3);
+    assert!(rt; desk.in_hand() == Some(work) && desk.has_open());
     assert!(rt; desk.prepare() == Ok(()));
     assert!(rt; manager.read(&mut client, 4).is_err());
     assert!(rt; desk.commit() == Outcome::Committed { first: 4, count: 1 });
