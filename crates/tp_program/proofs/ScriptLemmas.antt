@@ -1,5 +1,5 @@
 -- How many passes a script needs.
-use Rattle.std.proofs.Common.{◌≡◌, ℕ, List, [], ◌∷◌, length, refl, Vec, Global, vec_len, arith}
+use Rattle.std.proofs.Common.{◌≡◌, List, [], ◌∷◌, length, refl, Vec, Global, vec_len, arith}
 use Rattle.tp_program.specs.declared.script.Command.{Command}
 use Rattle.tp_program.specs.Passes.{racing}
 

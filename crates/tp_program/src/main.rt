@@ -6,6 +6,7 @@
 
 mod answer;
 mod commands;
+mod display;
 mod fault;
 mod grammar;
 mod keyword;

@@ -1,12 +1,12 @@
 //! The whole run of a script, from the reader's bytes to the writer's.
 ghost use Rattle.std.specs.Prelude.{◌≡◌, ◌+◌, ◌^◌, ◌<◌, ◌≤◌, IfSome, IsErrOf, IsTrue, OnOk, OnErr};
 ghost use Rattle.std.specs.Io.KnownBytes.{Appends};
-ghost use Rattle.tp_program.specs.Answer.{refused_text};
+ghost use Rattle.tp_program.specs.Answer.{line, refused_text};
 ghost use Rattle.tp_program.specs.Devices.{AppendsFront, StopsReading};
 ghost use Rattle.tp_program.specs.Grammar.{script};
 ghost use Rattle.tp_program.specs.Whole.{Reports, fault_of};
 
-use crate::answer::refused_text;
+use crate::answer::refused_line;
 use crate::fault::{Exit, Fault, ReadFault, Refused, RunFault};
 use crate::parse::read_script_at;
 use crate::reach::Reach;
@@ -17,11 +17,11 @@ use std::alloc::Global;
 
 // Writes the one line of a refused script.
 fn write_refusal<W: Sink>(alloc: Global, refused: Refused, writer: &mut W) -> Result<(), RunFault>
-    ensures done { OnOk result (Appends (W.contents writer.old) (W.contents writer.new) (refused_text refused)) }
-    ensures front { OnErr result (AppendsFront (W.contents writer.old) (W.contents writer.new) (refused_text refused)) }
+    ensures done { OnOk result (Appends (W.contents writer.old) (W.contents writer.new) (line (refused_text refused))) }
+    ensures front { OnErr result (AppendsFront (W.contents writer.old) (W.contents writer.new) (line (refused_text refused))) }
     ensures write { IsErrOf result RunFault.Write → IsTrue (W.has_failed writer.new) }
 {
-    let text = refused_text(alloc, refused)?;
+    let text = refused_line(alloc, refused)?;
     write_all(writer, text.as_bytes())?;
     Ok(())
 }
