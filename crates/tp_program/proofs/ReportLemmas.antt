@@ -1,8 +1,8 @@
 -- The report, one command after the other.
 use Rattle.std.proofs.Common.{◌≡◌, ℕ, ◌+◌, ◌<◌, ◌≤◌, List, [], ◌++◌, length, drop, get_or, refl, ap, ◌∙◌, add-one}
-use Rattle.std.proofs.Common.{Option, Some, None, map}
+use Rattle.std.proofs.Common.{Option, Some, map}
 use Rattle.std.specs.Prelude.{slice_get, option_map}
-use Rattle.std.proofs.lemmas.Option.{slice_get-map, slice_get_read, slice_get_past}
+use Rattle.std.proofs.lemmas.Option.{slice_get-map, slice_get_read}
 use Rattle.tp_model.specs.OneThread as thread
 use Rattle.tp_program.specs.declared.script.ScriptServer.{ScriptServer}
 use Rattle.tp_model.specs.Computed.{read_of}
@@ -34,6 +34,3 @@ replies_more manager root id = rw (add-one id) refl
 pub server_there : (servers : List ScriptServer) (i : ℕ) (server : ScriptServer) → i < length servers → server ≡ get_or servers i server → slice_get (map server_view servers) i ≡ Some (server_view server)
 server_there servers i server less is =
     slice_get-map server_view servers i ∙ ap (λ (o : Option ScriptServer). option_map server_view o) (slice_get_read servers (length servers) i server refl less is)
-
-pub server_gone : (servers : List ScriptServer) (i : ℕ) → length servers ≤ i → slice_get (map server_view servers) i ≡ None
-server_gone servers i past = slice_get-map server_view servers i ∙ ap (λ (o : Option ScriptServer). option_map server_view o) (slice_get_past servers i past)

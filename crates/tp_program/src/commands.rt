@@ -1,6 +1,7 @@
 //! The command lines of a script.
-ghost use Rattle.std.specs.Prelude.{◌≡◌, ◌≤◌, map, IfOk};
+ghost use Rattle.std.specs.Prelude.{◌<◌, ◌≤◌, ℕ, map, vec_len, IfOk};
 ghost use Rattle.tp_program.specs.Commands.{named, one_server, one_id, submit_at, balance_at, race_words, stage_at, race_at, command_at};
+ghost use Rattle.tp_program.specs.Ranges.{IsInRange};
 ghost use Rattle.tp_program.specs.Reading.{Gives, race_view};
 ghost use Rattle.tp_program.specs.Script.{script_view};
 
@@ -21,7 +22,8 @@ fn one_id(words: &[&[u8]]) -> Result<u32, LineError>
 // `submit STAGE KEY AMOUNT`
 #[tactic(auto, unfolding(crate::specs::Commands::submit_at))]
 fn submit_at(words: (&[u8], &[u8], &[u8])) -> Result<Command, LineError>
-    ensures { Gives (λ c. c) result (submit_at (words.entry.0.now, words.entry.1.now, words.entry.2.now)) }
+    ensures gives { Gives (λ c. c) result (submit_at (words.entry.0.now, words.entry.1.now, words.entry.2.now)) }
+    ensures in_range { IfOk result (λ c. (servers : ℕ) → IsInRange servers c) }
 {
     let stage = number_at(words.0, 255)? as u8;
     let key = number_at(words.1, u64::MAX)?;
@@ -62,7 +64,8 @@ fn race_words<'a>(words: &[&'a [u8]]) -> Result<RaceWords<'a>, LineError>
 // A stage that clients may submit to.
 #[tactic(auto, unfolding(crate::specs::Commands::stage_at))]
 fn stage_at(word: &[u8]) -> Result<u8, LineError>
-    ensures { Gives (λ n. n) result (stage_at word.now) }
+    ensures gives { Gives (λ n. n) result (stage_at word.now) }
+    ensures bounds { IfOk result (λ n. (1 ≤ n) × (n ≤ 14)) }
 {
     let stage = number_at(word, 14)?;
     if stage < 1 {
@@ -74,7 +77,8 @@ fn stage_at(word: &[u8]) -> Result<u8, LineError>
 // `race CLIENTS SUBMITS STAGE KEY AMOUNT CANCELLERS TURNS`
 #[tactic(auto, unfolding(crate::specs::Commands::race_at))]
 fn race_at(words: RaceWords<'_>) -> Result<Command, LineError>
-    ensures { Gives (λ c. c) result (race_at (race_view words.entry)) }
+    ensures gives { Gives (λ c. c) result (race_at (race_view words.entry)) }
+    ensures in_range { IfOk result (λ c. (servers : ℕ) → IsInRange servers c) }
 {
     let clients = number_at(words.clients, 31)? as u8;
     let submits = number_at(words.submits, 256)? as u16;
@@ -98,7 +102,8 @@ impl Script {
     // The server of this name.
     #[tactic(auto, unfolding(crate::specs::Commands::named))]
     fn named(&self, name: &[u8]) -> Result<usize, LineError>
-        ensures { Gives (λ n. n) result (named name.now (script_view self.now)) }
+        ensures gives { Gives (λ n. n) result (named name.now (script_view self.now)) }
+        ensures within { IfOk result (λ n. n < vec_len self.now.servers) }
     {
         if !is_name(name) {
             return Err(LineError::Fault(LineFault::BadName));
@@ -109,7 +114,8 @@ impl Script {
     // The one word, a server.
     #[tactic(auto, unfolding(crate::specs::Commands::one_server))]
     fn one_server(&self, words: &[&[u8]]) -> Result<usize, LineError>
-        ensures { Gives (λ n. n) result (one_server (map (λ x. x.now) words.now) (script_view self.now)) }
+        ensures gives { Gives (λ n. n) result (one_server (map (λ x. x.now) words.now) (script_view self.now)) }
+        ensures within { IfOk result (λ n. n < vec_len self.now.servers) }
     {
         self.named(one(words)?)
     }
@@ -117,7 +123,8 @@ impl Script {
     // `balance NAME K`
     #[tactic(auto, unfolding(crate::specs::Commands::balance_at))]
     fn balance_at(&self, words: (&[u8], &[u8])) -> Result<Command, LineError>
-        ensures { Gives (λ c. c) result (balance_at (words.entry.0.now, words.entry.1.now) (script_view self.now)) }
+        ensures gives { Gives (λ c. c) result (balance_at (words.entry.0.now, words.entry.1.now) (script_view self.now)) }
+        ensures in_range { IfOk result (λ c. IsInRange (vec_len self.now.servers) c) }
     {
         let server = self.named(words.0)?;
         let k = number_at(words.1, u64::MAX)?;
@@ -127,7 +134,8 @@ impl Script {
     /// The command of this first word, with the words behind it.
     #[tactic(auto, unfolding(crate::specs::Commands::command_at))]
     pub(crate) fn command_at(&self, verb: Verb, words: &[&[u8]]) -> Result<Command, LineError>
-        ensures { Gives (λ c. c) result (command_at verb (map (λ x. x.now) words.now) (script_view self.now)) }
+        ensures gives { Gives (λ c. c) result (command_at verb (map (λ x. x.now) words.now) (script_view self.now)) }
+        ensures in_range { IfOk result (λ c. IsInRange (vec_len self.now.servers) c) }
     {
         match verb {
             Verb::Submit => submit_at(three(words)?),

@@ -5,6 +5,7 @@ ghost use Rattle.tp_model.specs.OneThread.{pass_at};
 ghost use Rattle.tp_model.specs.Steps.{rows_of};
 ghost use Rattle.tp_server.specs.Check.{check_of};
 ghost use Rattle.tp_server.specs.Effect.{effect_of};
+ghost use Rattle.tp_program.specs.Ranges.{IsInRange};
 ghost use Rattle.tp_program.specs.Report.{worker, turn_of, settled, submit_step, turn_step, reply_step, replies_below, reply_of, with_last, is_reply, command_step, registers_of, begin, final_lines, final_line};
 ghost use Rattle.tp_program.specs.Running.{state, IsReady};
 ghost use Rattle.tp_program.specs.Script.{script_view, server_view};
@@ -182,16 +183,14 @@ impl Run {
         servers: &[ScriptServer],
         command: Command,
     ) -> Result<String, AllocError>
-        requires { IsReady (map server_view servers.now) self.old.plain }
+        requires ready { IsReady (map server_view servers.now) self.old.plain }
+        requires in_range { IsInRange (length servers.now) command }
         ensures step { IfOk result (λ text. command_step (map server_view servers.now) command (state self.old) ≡ (string_bytes text, state self.new)) }
         ensures ready { IfOk result (λ _. IsReady (map server_view servers.now) self.new.plain) }
     {
         match command {
             Command::Submit { stage, key, amount } => self.submit(alloc, stage, key, amount),
-            Command::Turn { server } => match servers.get(server) {
-                Some(server) => self.turn_line(alloc, server),
-                None => Ok(String::new(alloc)),
-            },
+            Command::Turn { server } => self.turn_line(alloc, &servers[server]),
             Command::Reply { root } => self.reply(alloc, root),
             // No script of the plain reach has another command.
             _ => Ok(String::new(alloc)),

@@ -1,7 +1,9 @@
 //! A script that was read: settings, servers and commands.
 ghost use Rattle.std.specs.Prelude.{◌≡◌, ◌≤◌, ◌<◌, ◌+◌, Ok, length, vec_len};
 ghost use Rattle.tp_server.specs.Check.{check_of};
+ghost use Rattle.std.specs.List.{All};
 ghost use Rattle.tp_program.specs.Passes.{racing};
+ghost use Rattle.tp_program.specs.Ranges.{IsInRange, IsInRange-prop};
 ghost use Rattle.tp_program.specs.declared.script.TheConstants.{MOST_SERVERS, MOST_PASSES};
 
 use crate::fault::{LineError, LineFault};
@@ -162,6 +164,7 @@ pub struct Script {
     ghost few_servers: { vec_len servers ≤ MOST_SERVERS },
     ghost passes_counted: { pass_count ≡ 1 + vec_len servers + racing commands.items },
     ghost few_passes: { pass_count ≤ MOST_PASSES },
+    ghost commands_in_range: { All (IsInRange (vec_len servers)) commands.items } by { Prim.hlevel IsInRange-prop },
 }
 
 impl Script {
@@ -196,7 +199,7 @@ impl Script {
     }
 
     /// Adds a server.
-    #[tactic(auto, using(crate::proofs::ScriptLemmas::racing_none))]
+    #[tactic(auto, using(crate::proofs::ScriptLemmas::racing_none, crate::proofs::ScriptLemmas::all_in_range_none))]
     pub(crate) fn add_server(&mut self, server: ScriptServer) -> Result<(), LineError>
         requires few { vec_len self.old.servers < MOST_SERVERS }
         requires first { vec_len self.old.commands ≡ 0 }
@@ -208,8 +211,9 @@ impl Script {
     }
 
     /// Adds a command, unless the script needs more passes then than there can be.
-    #[tactic(auto, unfolding(crate::specs::Commands::with_command), using(std::proofs::lemmas::List::Sums::sum_by_push))]
+    #[tactic(auto, unfolding(crate::specs::Commands::with_command), using(std::proofs::lemmas::List::Sums::sum_by_push, crate::proofs::ScriptLemmas::all_in_range_push))]
     pub(crate) fn add(&mut self, command: Command) -> Result<(), LineError>
+        requires { IsInRange (vec_len self.old.servers) command }
         ensures { GivesScript self.new result (with_command command (script_view self.old)) }
     {
         let racers = command.racers();
