@@ -12,8 +12,8 @@ use Rattle.tp_program.specs.declared.answer.Answer.{Answer}
 use Rattle.tp_program.specs.declared.answer.Answer.TheVariants as answer
 use Rattle.tp_program.specs.declared.answer.ServerAnswer.{ServerAnswer}
 use Rattle.tp_program.specs.declared.answer.ServerAnswer.TheVariants as server
-use Rattle.tp_program.specs.declared.answer.Turned.{Turned}
-use Rattle.tp_program.specs.declared.answer.Turned.TheVariants as turned
+use Rattle.tp_desk.specs.declared.turned.Turned.{Turned}
+use Rattle.tp_desk.specs.declared.turned.Turned.TheVariants as turned
 use Rattle.tp_program.specs.declared.fault.Refused.{Refused}
 use Rattle.tp_program.specs.Fault.{fault_name}
 

@@ -4,6 +4,7 @@ pub mod Text
 pub mod Reach
 pub mod Keyword
 pub mod Passes
+pub mod Performing
 pub mod Ranges
 pub mod Script
 pub mod Terms

@@ -1,6 +1,6 @@
--- How many passes commands need.
-use Rattle.std.specs.Prelude.{ℕ, ◌+◌, List}
-use Rattle.std.specs.List.{sum_by}
+-- How many passes commands need, and whether they race.
+use Rattle.std.specs.Prelude.{ℕ, ◌+◌, List, Bool, true, false}
+use Rattle.std.specs.List.{list_any, sum_by}
 use Rattle.tp_program.specs.declared.script.Command.{Command}
 use Rattle.tp_program.specs.declared.script.Command.TheVariants.{Race}
 
@@ -12,3 +12,12 @@ racers other = 0
 -- what all of them need
 abbrev pub racing : List Command → ℕ
 racing commands = sum_by racers commands
+
+-- a race
+abbrev pub is_race : Command → Bool
+is_race (Race clients submits stage key amount cancellers turns) = true
+is_race other = false
+
+-- whether there is a race among the commands
+abbrev pub has_race : List Command → Bool
+has_race commands = list_any is_race commands

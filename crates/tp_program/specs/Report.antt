@@ -19,8 +19,8 @@ use Rattle.tp_server.specs.declared.recipe.Declined.{Declined}
 use Rattle.tp_server.specs.Effect.{Effect, effect_of}
 use Rattle.tp_program.specs.declared.script.Command.{Command}
 use Rattle.tp_program.specs.declared.script.Command.TheVariants.{Submit, Turn, Reply}
-use Rattle.tp_program.specs.declared.answer.Turned.{Turned}
-use Rattle.tp_program.specs.declared.answer.Turned.TheVariants as turned
+use Rattle.tp_desk.specs.declared.turned.Turned.{Turned}
+use Rattle.tp_desk.specs.declared.turned.Turned.TheVariants as turned
 use Rattle.tp_program.specs.declared.fault.Refused.{Refused}
 use Rattle.tp_program.specs.declared.answer.ServerAnswer.TheVariants as told
 use Rattle.tp_program.specs.Answer.{line, submitted_text, refusal_text, named_text, replies_text, final_text, refused_text}

@@ -1,41 +1,13 @@
 //! The answers that commands come to. Each is one line of the report; `display.rt` says how they are told.
 ghost use Rattle.std.specs.Prelude.{◌≡◌, IfOk, string_bytes};
 ghost use Rattle.tp_program.specs.Answer.{answer_text, refused_text, line};
+ghost use Rattle.tp_program.specs.Performing.{IsLine};
 
 use crate::fault::Refused;
 use std::alloc::{AllocError, Global};
 use std::string::String;
+use tp_desk::Turned;
 use tp_model::types::{Element, Look, Refusal};
-use tp_server::Declined;
-
-/// What a turn of a server came to. Elements are given by their ids.
-#[derive(Clone, Copy, Debug, PartialEq, Eq)]
-pub enum Turned {
-    /// Nothing waited in the server's stage.
-    Idle,
-    /// The server's pass has used up its units of work.
-    NoUnit,
-    /// The element was consumed by this unit, with `count` outputs from the id `first` on.
-    Done {
-        unit: u16,
-        element: u32,
-        first: u32,
-        count: u8,
-    },
-    /// The recipe declined the element, and the unit was aborted.
-    Refused {
-        element: u32,
-        why: Declined,
-    },
-    /// Another caller had aborted the unit.
-    Lost {
-        element: u32,
-    },
-    /// Too few rows were left for the outputs, and the unit was aborted.
-    Full {
-        element: u32,
-    },
-}
 
 /// What a command on a server came to. Elements are given by their ids.
 #[derive(Clone, Copy, Debug, PartialEq, Eq)]
@@ -130,7 +102,8 @@ pub enum Answer<'a> {
 
 /// The line of an answer.
 pub(crate) fn line(alloc: Global, answer: Answer<'_>) -> Result<String, AllocError>
-    ensures { IfOk result (λ s. string_bytes s ≡ line (answer_text answer.entry)) }
+    ensures text { IfOk result (λ s. string_bytes s ≡ line (answer_text answer.entry)) }
+    ensures line { IfOk result (λ s. IsLine (string_bytes s)) }
 {
     format!(in alloc; "{answer}\n")
 }

@@ -4,28 +4,28 @@ ghost use Rattle.std.specs.Fmt.{WritesOnOk};
 ghost use Rattle.tp_program.specs.Answer.{turned_text, server_text, refusal_text, maker_text, status_text, look_text, replies_text, errors_text, balance_text, final_text, answer_text, refused_text};
 ghost use Rattle.tp_program.specs.Fault.{fault_name};
 
-use crate::answer::{Answer, ServerAnswer, Turned};
+use crate::answer::{Answer, ServerAnswer};
 use crate::fault::Refused;
 use std::fmt;
+use tp_desk::Turned;
 use tp_model::types::{Element, Look, Refusal, Status};
 
-impl fmt::Display for Turned {
-    ghost output = { λ turned. Some (turned_text turned) };
-
-    fn fmt<W: fmt::Write>(&self, f: &mut fmt::Formatter<W>) -> fmt::Result {
-        match *self {
-            Turned::Idle => write!(f, "idle"),
-            Turned::NoUnit => write!(f, "nounit"),
-            Turned::Done {
-                unit,
-                element,
-                first,
-                count,
-            } => write!(f, "done {element} unit {unit} outputs {first} {count}"),
-            Turned::Refused { element, why } => write!(f, "refused {element} {why}"),
-            Turned::Lost { element } => write!(f, "lost {element}"),
-            Turned::Full { element } => write!(f, "full {element}"),
-        }
+// What a turn came to.
+fn turned<W: fmt::Write>(f: &mut fmt::Formatter<W>, turned: Turned) -> fmt::Result
+    ensures { WritesOnOk W.write_str_gives f.old result (turned_text turned) f.new }
+{
+    match turned {
+        Turned::Idle => write!(f, "idle"),
+        Turned::NoUnit => write!(f, "nounit"),
+        Turned::Done {
+            unit,
+            element,
+            first,
+            count,
+        } => write!(f, "done {element} unit {unit} outputs {first} {count}"),
+        Turned::Refused { element, why } => write!(f, "refused {element} {why}"),
+        Turned::Lost { element } => write!(f, "lost {element}"),
+        Turned::Full { element } => write!(f, "full {element}"),
     }
 }
 
@@ -34,7 +34,7 @@ impl fmt::Display for ServerAnswer {
 
     fn fmt<W: fmt::Write>(&self, f: &mut fmt::Formatter<W>) -> fmt::Result {
         match *self {
-            ServerAnswer::Turned(turned) => write!(f, "{turned}"),
+            ServerAnswer::Turned(answer) => turned(f, answer),
             ServerAnswer::Work {
                 element,
                 unit,

@@ -127,6 +127,16 @@ impl From<Failed> for ReadFault {
     }
 }
 
+impl<T: Drop> From<AllocFailed<T>> for RunFault {
+    ghost use Rattle.tp_program.specs.declared.fault.RunFault.TheVariants.{NoMemory};
+
+    ghost from_gives = { λ _ e. e ≡ NoMemory };
+
+    fn from(_: AllocFailed<T>) -> RunFault {
+        RunFault::NoMemory
+    }
+}
+
 impl From<AllocError> for RunFault {
     ghost use Rattle.tp_program.specs.declared.fault.RunFault.TheVariants.{NoMemory};
 

@@ -5,17 +5,23 @@
 #![tactic(auto)]
 
 mod answer;
+mod client;
 mod commands;
+mod desks;
 mod display;
 mod fault;
+mod finals;
 mod grammar;
 mod keyword;
 mod parse;
+mod perform;
+mod plain;
 mod program;
 mod reach;
 mod report;
 mod run;
 mod script;
+mod serve;
 mod servers;
 mod sink;
 mod source;
@@ -23,7 +29,7 @@ mod terms;
 mod text;
 
 use fault::Exit;
-use program::run_plain;
+use program::run;
 use sink::StdSink;
 use source::StdSource;
 use std::io;
@@ -32,7 +38,7 @@ use std::process::ExitCode;
 fn main(rt: HostRuntime) -> ExitCode {
     let mut source = StdSource::new(rt.reader());
     let mut sink = StdSink::new(io::writer(&rt));
-    match run_plain(rt.alloc(), &mut source, &mut sink) {
+    match run(&rt, rt.alloc(), &mut source, &mut sink) {
         Ok(Exit::Done) => ExitCode::SUCCESS,
         Ok(Exit::Refused) => ExitCode::from(2),
         Err(fault) => {

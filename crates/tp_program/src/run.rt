@@ -10,10 +10,11 @@ ghost use Rattle.tp_program.specs.Report.{worker, turn_of, settled, submit_step,
 ghost use Rattle.tp_program.specs.Running.{state, IsReady};
 ghost use Rattle.tp_program.specs.Script.{script_view, server_view};
 
-use crate::answer::{Answer, ServerAnswer, Turned, line};
+use crate::answer::{Answer, ServerAnswer, line};
 use crate::script::{Command, Script, ScriptServer};
 use std::alloc::{AllocError, Global};
 use std::string::String;
+use tp_desk::Turned;
 use tp_model::plain::Plain;
 use tp_model::types::{Claimed, Element, Limits, Look, Outcome, Refusal, Status, Work};
 use tp_server::{Recipe, Registers};

@@ -133,7 +133,14 @@ pub enum Command {
 }
 
 impl Command {
-    ghost use Rattle.tp_program.specs.Passes.{racers};
+    ghost use Rattle.tp_program.specs.Passes.{is_race, racers};
+
+    /// Whether it is a race.
+    fn is_race(self) -> bool
+        ensures { result ≡ is_race self }
+    {
+        matches!(self, Command::Race { .. })
+    }
 
     /// How many passes it needs for itself: those of a race's clients and cancellers.
     fn racers(self) -> u16
@@ -169,6 +176,7 @@ pub struct Script {
 
 impl Script {
     ghost use Rattle.tp_program.specs.Grammar.{no_lines};
+    ghost use Rattle.tp_program.specs.Passes.{has_race};
     ghost use Rattle.tp_program.specs.Script.{script_view, server_view, passes};
     ghost use Rattle.tp_program.specs.ServerLines.{with_server};
     ghost use Rattle.tp_program.specs.Commands.{with_command};
@@ -196,6 +204,13 @@ impl Script {
         ensures bound { result ≤ MOST_PASSES }
     {
         self.pass_count
+    }
+
+    /// Whether there is a race among its commands.
+    pub fn has_race(&self) -> bool
+        ensures { result ≡ has_race self.now.commands.items }
+    {
+        self.commands.iter().any(|command| command.is_race())
     }
 
     /// Adds a server.

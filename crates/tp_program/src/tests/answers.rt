@@ -1,8 +1,9 @@
 //! The line of each answer.
 
-use crate::answer::{Answer, ServerAnswer, Turned, line, refused_line};
+use crate::answer::{Answer, ServerAnswer, line, refused_line};
 use crate::fault::Refused;
 use std::test::Fail;
+use tp_desk::Turned;
 use tp_model::types::{Element, Look, Refusal, Status};
 use tp_server::Declined;
 

@@ -4,7 +4,9 @@ ghost use Rattle.std.specs.Prelude.{◌≡◌};
 
 use super::devices::{Reader, Writer};
 use crate::fault::{Exit, Fault};
-use crate::program::run_plain;
+use crate::plain::run_plain;
+use crate::program::run;
+use std::thread::Threads;
 
 const SCRIPT: &str =
     "rows 8\nserver a eager 1 1 add 15:same:after\nsubmit 1 0 10\nturn a\nreply 0\n";
@@ -31,31 +33,56 @@ fn writer(rt: &HostRuntime, most: usize, fails_at: u64) -> Writer {
     }
 }
 
+/// The script over the manager of one thread, or over the shared one.
+fn run_over<R: AllocGlobal + Threads + Sync>(
+    rt: &R,
+    shared: bool,
+    reader: &mut Reader<'_>,
+    writer: &mut Writer,
+) -> Result<Exit, Fault>
+    requires { reader.old.calls ≡ 0 }
+{
+    if shared {
+        run(rt, rt.alloc(), reader, writer)
+    } else {
+        run_plain(rt.alloc(), reader, writer)
+    }
+}
+
 #[test]
 fn one_byte_a_call(rt: HostRuntime) {
-    let mut writer = writer(&rt, 1, 0);
-    let answer = run_plain(rt.alloc(), &mut reader(1, 0), &mut writer);
-    assert_eq!(rt; answer, Ok(Exit::Done));
-    assert_eq!(rt; writer.taken.as_slice(), REPORT.as_bytes());
+    for shared in [false, true] {
+        let mut writer = writer(&rt, 1, 0);
+        let answer = run_over(&rt, shared, &mut reader(1, 0), &mut writer);
+        assert_eq!(rt; answer, Ok(Exit::Done));
+        assert_eq!(rt; writer.taken.as_slice(), REPORT.as_bytes());
+    }
 }
 
 #[test]
 fn a_reader_that_fails_at_each_call(rt: HostRuntime) {
     // 73 bytes one at a time, and the call that finds the end.
-    for fails_at in 1..75u64 {
-        let mut writer = writer(&rt, 100, 0);
-        let answer = run_plain(rt.alloc(), &mut reader(1, fails_at), &mut writer);
-        assert_eq!(rt; answer, Err(Fault::Read), "at call {fails_at}");
-        assert!(rt; writer.taken.is_empty());
+    for shared in [false, true] {
+        for fails_at in 1..75u64 {
+            let mut writer = writer(&rt, 100, 0);
+            let answer = run_over(&rt, shared, &mut reader(1, fails_at), &mut writer);
+            assert_eq!(rt; answer, Err(Fault::Read), "at call {fails_at}");
+            assert!(rt; writer.taken.is_empty());
+        }
     }
 }
 
 #[test]
 fn a_writer_that_fails_at_each_call(rt: HostRuntime) {
-    for (calls, most) in [(4, 100), (70, 1)] {
+    for (shared, calls, most) in [
+        (false, 4, 100),
+        (false, 70, 1),
+        (true, 4, 100),
+        (true, 70, 1),
+    ] {
         for fails_at in 1..=calls {
             let mut writer = writer(&rt, most, fails_at);
-            let answer = run_plain(rt.alloc(), &mut reader(100, 0), &mut writer);
+            let answer = run_over(&rt, shared, &mut reader(100, 0), &mut writer);
             assert_eq!(rt; answer, Err(Fault::Write), "at call {fails_at}");
             assert!(rt; REPORT.as_bytes().starts_with(writer.taken.as_slice()));
         }
@@ -64,10 +91,12 @@ fn a_writer_that_fails_at_each_call(rt: HostRuntime) {
 
 #[test]
 fn a_writer_that_takes_nothing(rt: HostRuntime) {
-    let mut writer = writer(&rt, 0, 0);
-    let answer = run_plain(rt.alloc(), &mut reader(100, 0), &mut writer);
-    assert_eq!(rt; answer, Err(Fault::Write));
-    assert!(rt; writer.taken.is_empty());
+    for shared in [false, true] {
+        let mut writer = writer(&rt, 0, 0);
+        let answer = run_over(&rt, shared, &mut reader(100, 0), &mut writer);
+        assert_eq!(rt; answer, Err(Fault::Write));
+        assert!(rt; writer.taken.is_empty());
+    }
 }
 
 #[test]

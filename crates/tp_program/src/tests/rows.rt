@@ -1,6 +1,6 @@
 //! Worked scripts with their reports, and the refused ones with the line that says so.
 
-use super::written;
+use super::{agreed, performed, written};
 use crate::fault::Exit;
 use std::test::Fail;
 
@@ -31,7 +31,7 @@ fn reports(rt: HostRuntime) {
             "submitted 0\na full 0\na full 0\nreplies 0\nfinal a 0\n",
         ),
     ] {
-        let (answer, held) = written(&rt, script.as_bytes());
+        let (answer, held) = agreed(&rt, script);
         assert_eq!(rt; answer, Ok(Exit::Done), "at {script:?}");
         assert_eq!(rt; held.as_slice(), want.as_bytes(), "at {script:?}");
     }
@@ -40,7 +40,7 @@ fn reports(rt: HostRuntime) {
 #[test]
 fn settings_hold_as_last_given(rt: HostRuntime) {
     let script = "# two rows, then one\nrows 2\n\n  rows   1  \nsubmit 1 0 7\nsubmit 1 0 7\n";
-    let (answer, held) = written(&rt, script.as_bytes());
+    let (answer, held) = agreed(&rt, script);
     assert_eq!(rt; answer, Ok(Exit::Done));
     assert_eq!(rt; held.as_slice(), "submitted 0\nrefused 7 Full\n".as_bytes());
 }
@@ -50,7 +50,7 @@ fn outputs_by_their_recipes(rt: HostRuntime) {
     let script =
         "rows 4\nserver a lazy 2 2 take 15:same:same 15:7:after 3:same:9\nstart a 1 5\nsubmit 2 1 2\nturn a\nreply 0\n";
     let want = "submitted 0\na done 0 unit 256 outputs 4 3\nreplies 0 4:1:2 5:7:3\nfinal a 0 3\n";
-    let (answer, held) = written(&rt, script.as_bytes());
+    let (answer, held) = agreed(&rt, script);
     assert_eq!(rt; answer, Ok(Exit::Done));
     assert_eq!(rt; held.as_slice(), want.as_bytes());
 }
@@ -160,5 +160,18 @@ fn names_and_lines_at_their_edges(rt: HostRuntime) -> Result<(), Fail> {
         let (_, held) = written(&rt, script.as_slice());
         assert_eq!(rt; held.as_slice(), want.as_bytes());
     }
+    Ok(())
+}
+
+#[test]
+fn names_the_ninth_server(rt: HostRuntime) -> Result<(), Fail> {
+    let mut script = Vec::new(rt.alloc());
+    for name in ["a", "b", "c", "d", "e", "f", "g", "h", "i"] {
+        let line = format!(in rt.alloc(); "server {name} eager 1 1 add\n")?;
+        script.extend_from_slice(line.as_bytes())?;
+    }
+    let (answer, held) = performed(&rt, script.as_slice());
+    assert_eq!(rt; answer, Ok(Exit::Refused));
+    assert_eq!(rt; held.as_slice(), "refused line 9: 3 BadLimits\n".as_bytes());
     Ok(())
 }

@@ -1,0 +1,35 @@
+-- What a performed script writes.
+use Rattle.std.specs.Prelude.{◌≡◌, ℕ, zero, suc, ◌≤◌, List, [], ◌++◌, length, Option, None, if◌then◌else◌}
+use Rattle.std.specs.Io.KnownBytes.{Appends}
+use Rattle.tp_manager.specs.Shown.{IsOf, ManagerShown, PassShown}
+use Rattle.tp_program.specs.declared.answer.Answer.{Answer}
+use Rattle.tp_program.specs.Answer.{answer_text, line}
+use Rattle.tp_program.specs.Devices.{AppendsFront}
+use Rattle.tp_program.specs.Passes.{has_race}
+use Rattle.tp_program.specs.Script.{ScriptView}
+
+-- the pass is of this manager, and has no unit open
+pub record IsFreeOf (m : ManagerShown) (p : PassShown) : Type 0 where
+  pub own : IsOf m p
+  pub free : p.open_unit ≡ None
+
+-- the text is the line of an answer
+abbrev pub IsLine : List ℕ → Type 0
+IsLine text = (a : Answer) × (text ≡ line (answer_text a))
+
+-- the text is n lines, each of an answer
+abbrev pub AreLines : ℕ → List ℕ → Type 0
+AreLines zero text = text ≡ []
+AreLines (suc n) text = (front last : List ℕ) × AreLines n front × IsLine last × (text ≡ front ++ last)
+
+-- n lines were written and nothing else, each of an answer
+abbrev pub Writes : ℕ → Option (List ℕ) → Option (List ℕ) → Type 0
+Writes n old new = (text : List ℕ) × AreLines n text × Appends old new text
+
+-- a front of at most n such lines was written
+abbrev pub WritesFront : ℕ → Option (List ℕ) → Option (List ℕ) → Type 0
+WritesFront n old new = (some : ℕ) × (text : List ℕ) × (some ≤ n) × AreLines some text × AppendsFront old new text
+
+-- how many final lines there are: one for each server, and none where there is a race
+abbrev pub final_count : ScriptView → ℕ
+final_count s = if has_race s.commands then 0 else length s.servers

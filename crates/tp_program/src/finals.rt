@@ -1,0 +1,53 @@
+//! The final lines of a report: what each server's registers hold at the end.
+ghost use Rattle.std.specs.Prelude.{◌≡◌, IfOk, IsErrOf, IsTrue, OnErr, OnOk, length, string_bytes};
+ghost use Rattle.tp_program.specs.Performing.{IsLine, Writes, WritesFront, final_count};
+ghost use Rattle.tp_program.specs.Script.{script_view};
+
+use crate::answer::{Answer, line};
+use crate::fault::RunFault;
+use crate::script::Script;
+use crate::sink::{Sink, write_all};
+use std::alloc::{AllocError, Global};
+use std::string::String;
+use tp_server::Server;
+
+/// The final line of the server of this name: its registers of committed work, in order.
+fn final_line(
+    alloc: Global,
+    name: &str,
+    server: &Box<dyn Server + Send>,
+) -> Result<String, AllocError>
+    ensures { IfOk result (λ text. IsLine (string_bytes text)) }
+{
+    let mut values = Vec::new(alloc);
+    for k in 0..server.recipe().registers {
+        if let Some(value) = server.balance(u64::from(k)) {
+            values.push(value)?;
+        }
+    }
+    let registers = values.as_slice();
+    line(alloc, Answer::Final { name, registers })
+}
+
+/// Writes a final line for each server of a script, unless there is a race in it, since what a race leaves isn't told.
+/// The servers are the script's, in their order.
+pub fn finals<W: Sink>(
+    alloc: Global,
+    script: &Script,
+    servers: &[Box<dyn Server + Send>],
+    writer: &mut W,
+) -> Result<(), RunFault>
+    requires { length servers.now ≡ length script.now.servers.items }
+    ensures done { OnOk result (Writes (final_count (script_view script.now)) (W.contents writer.old) (W.contents writer.new)) }
+    ensures front { OnErr result (WritesFront (final_count (script_view script.now)) (W.contents writer.old) (W.contents writer.new)) }
+    ensures write { IsErrOf result RunFault.Write → IsTrue (W.has_failed writer.new) }
+{
+    if script.has_race() {
+        return Ok(());
+    }
+    for i in 0..servers.len() {
+        let text = final_line(alloc, script.servers[i].name.as_str(), &servers[i])?;
+        write_all(writer, text.as_bytes())?;
+    }
+    Ok(())
+}
