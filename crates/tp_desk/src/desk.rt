@@ -33,6 +33,13 @@ impl Desk<'_, '_, '_> {
         self.work.is_some()
     }
 
+    /// The element in hand, with the unit of work that holds it.
+    pub fn in_hand(&self) -> Option<Work>
+        ensures { result ≡ self.now.work }
+    {
+        self.work
+    }
+
     /// Whether the server has prepared the work in hand.
     pub fn is_prepared(&self) -> bool
         ensures { result ≡ is_some (pending self.now.server.now) }

@@ -5,6 +5,8 @@
 mod boxed;
 mod closing;
 mod desk;
+#[cfg(test)]
+mod tests;
 mod turned;
 mod turning;
 mod working;

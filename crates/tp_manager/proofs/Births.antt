@@ -1,21 +1,19 @@
 -- What births and claims tell of the units behind them.
-use Rattle.std.proofs.Common.{◌≡◌, ◌≢◌, ◌⊎◌, ℕ, suc, ◌+◌, ◌-◌, ◌*◌, ◌<◌, ◌≤◌, ◌==◌, Option, Some, None, List, [], ◌∷◌, ◌++◌, length, refl, sym, ◌∙◌, ap, subst, inl, inr, ⊎_elim, arith, suc-mul, mul-le-mul_right}
+use Rattle.std.proofs.Common.{◌≡◌, ◌≢◌, ℕ, suc, ◌+◌, ◌-◌, ◌*◌, ◌<◌, ◌≤◌, ◌==◌, Some, None, List, [], ◌∷◌, ◌++◌, length, refl, sym, ◌∙◌, ap, subst, inl, inr, ⊎_elim, arith, suc-mul, mul-le-mul_right}
 use Rattle.std.proofs.lemmas.Bool.Decides.{eqb_tells}
 use Rattle.std.specs.List.{find}
 use Rattle.std.specs.Option.{option_or}
-use mathlib.Core.List.{IsPrefix}
 use Rattle.tp_model.specs.declared.types.Element.{Element}
 use Rattle.tp_model.specs.declared.types.Limits.{Limits}
-use Rattle.tp_model.specs.declared.types.Status.TheVariants.{Waiting}
 use Rattle.tp_model.specs.declared.event.Event.{Event}
 use Rattle.tp_model.specs.declared.event.Event.TheVariants.{Enqueue, Claim, Commit, Abort, Kill}
-use Rattle.tp_model.specs.History.{In, births, element_of, UnitClaim, claim_of, UnitEnd, Committed, end_by, end_of, first_id}
+use Rattle.tp_model.specs.History.{births, element_of, UnitClaim, claim_of, Committed, end_by, end_of, first_id}
 use Rattle.tp_model.specs.Words.{ClaimWord, FreeWord, TakenWord, KilledWord, kill_word, claim_word, claim_word_after}
 use Rattle.tp_model.specs.Steps.{AreLimits, IsUnitOf, units_of, Step, IsLegal}
 use Rattle.tp_model.proofs.Lists.{option_or-some, if_same, if_other}
 use Rattle.tp_model.proofs.Histories.{by_steps, element_of-snoc}
 use Rattle.tp_model.proofs.WordProofs.{claim_word-snoc, end_of-snoc}
-use Rattle.tp_model.proofs.Bridges.{in_one, in_none, find_in, outputs_place, end_stays}
+use Rattle.tp_model.proofs.Bridges.{in_one, find_in, outputs_place, end_stays}
 use Rattle.tp_model.proofs.Later.{claims_inside}
 use Rattle.tp_model.proofs.Claims.{waiting_below}
 

@@ -11,20 +11,19 @@ use Rattle.tp_model.specs.declared.event.Event.TheVariants.{Claim}
 use Rattle.tp_model.specs.declared.trace.StepKind.TheVariants as kinds
 use Rattle.tp_model.specs.declared.trace.TraceEntry.{TraceEntry}
 use Rattle.tp_model.specs.History.{here, claim_by, claim_of, element_of, events_by, pass_of, status_of}
-use Rattle.tp_model.specs.Passes.{IsPoint, opening_of}
 use Rattle.tp_model.specs.Steps.{IsLegal, Step, rows_of}
 use Rattle.tp_model.proofs.Lists.{option_or-none}
 use Rattle.tp_model.proofs.Histories.{legal_at}
 use Rattle.tp_model.proofs.Bridges.{begins_trans, new_claim}
 use Rattle.tp_model.proofs.Later.{births_inside}
 use Rattle.tp_rule.specs.Views.{Seated, hand, view_of}
-use Rattle.tp_rule.specs.Steps.{Chooses, claimed, noted, with_claim, with_spare}
+use Rattle.tp_rule.specs.Steps.{Chooses, noted, with_claim, with_spare}
 use Rattle.tp_rule.specs.declared.view.Hand.{Hand}
 use Rattle.tp_rule.specs.declared.view.View.{View}
 use Rattle.tp_manager.specs.declared.manager.Task.{Task}
 use Rattle.tp_manager.specs.Shown.{PassShown, shown}
-use Rattle.tp_manager.specs.Calls.{AtPoint, Claims, FoundNone, HasLooked, IsQuiet, IsWaiting, Takes, claims_in, opening}
-use Rattle.tp_manager.specs.Walks.{Steady, Walked, Looked, Rests, Took, IsSpare, PassedBelow, with_trace}
+use Rattle.tp_manager.specs.Calls.{Claims, FoundNone, HasLooked, IsQuiet, IsWaiting, Takes, claims_in}
+use Rattle.tp_manager.specs.Walks.{Steady, Walked, Looked, Rests, Took, PassedBelow, with_trace}
 use Rattle.tp_manager.proofs.Walks.{at_point, grew_hand, grew_walked, has_looked, opening_is, steady_quiet, walked_begins, walked_then}
 use Rattle.tp_manager.proofs.Passes.{claims_append, steady_at, task_later}
 
@@ -50,9 +49,6 @@ module _ (l : Limits) (u : ℕ) (v w : View) (s : Steady l v) (g : Chooses v u w
 
   pub chose_steady : Steady l w
   chose_steady = steady_quiet l kinds.UnitChoice (with_spare u) v w s g refl refl refl
-
-  pub chose_spare : (hand v).open_unit ≡ None → IsSpare u w
-  chose_spare e = (ap (λ (a : Hand). a.spare_unit) chose_hand, ap (λ (a : Hand). a.open_unit) chose_hand ∙ e)
 
   abbrev pub choice : TraceEntry
   choice = record { kind = kinds.UnitChoice; seen = w.seen }

@@ -9,7 +9,7 @@ use Rattle.tp_model.specs.declared.types.Status.{Status}
 use Rattle.tp_model.specs.declared.types.Status.TheVariants.{Killed}
 use Rattle.tp_model.specs.declared.event.Event.{Event}
 use Rattle.tp_model.specs.declared.event.Event.TheVariants.{Enqueue, Claim, Commit, Abort, Kill}
-use Rattle.tp_model.specs.History.{IsUnborn, element_of, status_of}
+use Rattle.tp_model.specs.History.{element_of, status_of}
 use Rattle.tp_model.specs.Passes.{opening_of}
 use Rattle.tp_model.specs.Words.{ClaimWord, FreeWord, TakenWord, KilledWord, kill_word, claim_word, claim_word_after}
 use Rattle.tp_model.specs.Steps.{IsLegal, IsServerStage, Step, rows_of}
@@ -92,9 +92,6 @@ module _ (l : Limits) (wanted : Wanted) where
 
       rooted : (e : Element) → head_of e ≡ There birth.stage birth.root birth.by → e.root ≡ birth.root
       rooted e q = cc
-
-  pub over_unborn : (i : ℕ) (a b : List Event) → IsUnborn a i → PassedOver l wanted i a b
-  over_unborn i a b un = λ x p. absurd cc
 
   pub over_found : (i : ℕ) (a b : List Event) (birth : Birth) (s : Status) → IsPrefix a b → IsThere b i birth → s ≡ status_of l.attempts b i → ¬ IsWanted wanted birth.stage birth.root s → PassedOver l wanted i a b
   over_found i a b birth s begins t status not = λ x p. let same = same_there i a b birth x begins t p in

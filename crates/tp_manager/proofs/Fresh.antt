@@ -1,17 +1,16 @@
 -- A pass that was just given out.
-use Rattle.std.proofs.Common.{◌≡◌, ℕ, zero, suc, ◌+◌, ◌-◌, ◌*◌, ◌<◌, ◌≤◌, List, [], ◌∷◌, map, sym, refl, ap, ◌∙◌, subst, arith, None}
+use Rattle.std.proofs.Common.{◌≡◌, ℕ, suc, ◌+◌, ◌-◌, ◌<◌, ◌≤◌, [], ◌∷◌, sym, refl, ap, ◌∙◌, subst, arith, None}
 use Rattle.tp_model.specs.declared.types.Limits.{Limits}
-use Rattle.tp_model.specs.declared.event.Event.{Event}
 use Rattle.tp_model.specs.declared.trace.StepKind.TheVariants as kinds
 use Rattle.tp_model.specs.History.{IsUnborn, events_by}
 use Rattle.tp_model.specs.Steps.{IsLegal}
 use Rattle.tp_model.specs.Passes.{IsPassView}
 use Rattle.tp_model.proofs.Histories.{legal_empty}
-use Rattle.tp_rule.specs.Views.{Seated, IsOnePass, first_hand, fresh, fresh_from, hand, view_of}
+use Rattle.tp_rule.specs.Views.{Seated, first_hand, fresh, fresh_from, hand, view_of}
 use Rattle.tp_rule.specs.Steps.{handed_out, handed_on, front_of, rest_of, looked, noted}
 use Rattle.tp_rule.specs.declared.view.Hand.{Hand}
 use Rattle.tp_rule.specs.declared.view.View.{View}
-use Rattle.tp_manager.specs.Walks.{Keeps, Rests, Steady, pass_in}
+use Rattle.tp_manager.specs.Walks.{Keeps, Rests, pass_in}
 use Rattle.tp_manager.specs.Calls.{claims_in}
 
 module _ (seat : Seated) (l : Limits) (given : ℕ) (k : Keeps seat l given) (left : ¬ (given ≡ l.parts)) where

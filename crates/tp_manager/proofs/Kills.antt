@@ -1,34 +1,34 @@
 -- A kill, on its way.
-use Rattle.std.proofs.Common.{◌≡◌, ◌≢◌, ◌⊎◌, ℕ, ◌+◌, ◌-◌, ◌*◌, ◌<◌, ◌≤◌, nat_lt, cond, Bool, true, false, List, [], ◌∷◌, ◌++◌, length, Result, Ok, Err, sym, refl, ap, ◌∙◌, subst, inl, inr, ⊎_elim, arith, append_assoc, Option, Some, None}
+use Rattle.std.proofs.Common.{◌≡◌, ◌≢◌, ◌⊎◌, ℕ, ◌+◌, ◌-◌, ◌<◌, ◌≤◌, List, [], ◌∷◌, ◌++◌, length, Result, Ok, Err, sym, refl, ap, ◌∙◌, subst, inl, inr, ⊎_elim, arith, append_assoc, Some, None}
 use Rattle.std.specs.Prelude.{MatchResult}
 use Rattle.std.specs.Option.{option_or}
 use Rattle.atomic_table.specs.Seated.{TableId}
 use Rattle.tp_model.specs.declared.types.Refusal.{Refusal}
 use Rattle.tp_model.specs.declared.types.Refusal.TheVariants as refusals
+use Rattle.tp_model.specs.declared.types.Status.{Status}
 use Rattle.tp_model.specs.declared.types.Status.TheVariants as statuses
 use Rattle.tp_model.specs.declared.trace.TraceEntry.{TraceEntry}
 use Rattle.tp_manager.specs.Shown.{PassShown, shown}
 use Rattle.tp_manager.proofs.Passes.{claims_append, steady_at}
 use mathlib.Core.List.{IsPrefix}
-use Rattle.tp_model.specs.declared.types.Element.{Element}
 use Rattle.tp_model.specs.declared.types.Limits.{Limits}
 use Rattle.tp_model.specs.declared.types.Status.TheVariants.{Waiting, Held, Parked}
 use Rattle.tp_model.specs.declared.event.Event.{Event}
 use Rattle.tp_model.specs.declared.event.Event.TheVariants.{Abort, Kill}
 use Rattle.tp_model.specs.declared.trace.StepKind.TheVariants as kinds
-use Rattle.tp_model.specs.History.{Aborted, In, here, there, UnitEnd, end_by, end_of, status_of}
-use Rattle.tp_model.specs.Words.{ClaimWord, FreeWord, TakenWord, KilledWord, Rises, attempt_in, claim_word, taken_status, word_status}
-use Rattle.tp_model.specs.Steps.{AreLimits, IsKillable, IsLegal, Step}
+use Rattle.tp_model.specs.History.{Aborted, here, there, end_by, end_of, status_of}
+use Rattle.tp_model.specs.Words.{ClaimWord, FreeWord, TakenWord, KilledWord, Rises, attempt_in, claim_word, taken_status}
+use Rattle.tp_model.specs.Steps.{AreLimits, IsLegal, Step}
 use Rattle.tp_model.proofs.Lists.{if_same}
 use Rattle.tp_model.proofs.Histories.{legal_at, legal_start}
 use Rattle.tp_model.proofs.WordProofs.{end_of-snoc, words_rise}
 use Rattle.tp_model.proofs.Bridges.{append_nil, begins_refl, begins_trans, in_either, in_none, in_one, status_taken}
 use Rattle.tp_model.proofs.Later.{claim_stands}
-use Rattle.tp_rule.specs.Steps.{MakesAbort, MakesKill, AllowsKill, with_end, with_event}
+use Rattle.tp_rule.specs.Steps.{MakesAbort, MakesKill, HasElement, with_end, with_event}
 use Rattle.tp_rule.specs.Views.{Seated, hand, view_of}
 use Rattle.tp_rule.specs.declared.view.Hand.{Hand}
 use Rattle.tp_rule.specs.declared.view.View.{View}
-use Rattle.tp_manager.specs.Calls.{AreOfHolders, KillFails, Kills, OnlyAborts, claims_in, one_claim}
+use Rattle.tp_manager.specs.Calls.{AreOfHolders, AtPoint, HasStatus, KillFails, Kills, OnlyAborts, claims_in, one_claim}
 use Rattle.tp_manager.specs.Kills.{FailsIn, Freed, KillsIn, Slain, IsEnoughToKill}
 use Rattle.tp_manager.specs.Walks.{Rests, Steady, Walked, Looked}
 use Rattle.tp_manager.proofs.Births.{attempt_range}
@@ -68,20 +68,40 @@ module _ (l : Limits) where
           mine = ap (λ (a : Hand). a.mine) x;
           drafts = λ q. ap (λ (a : Hand). a.drafts) x;
           open_unit = λ q. ap (λ (a : Hand). a.open_unit) x;
-          aborts = λ y q. (u, n, p, in_one q, (g.between, refl), held, subst (λ z. IsPrefix (p ++ z ∷ []) w.seen) (sym (in_one q)) (subst (IsPrefix (p ++ e ∷ [])) (sym g.seen) (begins_refl (p ++ e ∷ []))));
+          aborts = λ y q. record {
+            unit = u;
+            attempt = n;
+            before = p;
+            is_abort = in_one q;
+            begins = (g.between, refl);
+            held = held;
+            within = subst (λ z. IsPrefix (p ++ z ∷ []) w.seen) (sym (in_one q)) (subst (IsPrefix (p ++ e ∷ [])) (sym g.seen) (begins_refl (p ++ e ∷ [])));
+          };
         },
         ap (λ z. end_of z u) g.seen ∙ (end_of-snoc p e u ∙ (ap (λ o. option_or o (end_by u e)) open_yet ∙ if_same u u (Some Aborted) None refl)),
       )
 
   pub held_later : (c i : ℕ) (s t t' : List Event) (es : List Event) → IsPrefix t t' → AreOfHolders l c i s t es → AreOfHolders l c i s t' es
-  held_later c i s t t' es b h e p = let r = h e p in (r.0, r.1, r.2, r.3, r.4, r.5, begins_trans (r.2 ++ e ∷ []) t t' b' b)
-    where
-      b' : IsPrefix (((h e p).2) ++ e ∷ []) t
-      b' = (h e p).6
+  held_later c i s t t' es b h e p = let r = h e p in record {
+    unit = r.unit;
+    attempt = r.attempt;
+    before = r.before;
+    is_abort = r.is_abort;
+    begins = r.begins;
+    held = r.held;
+    within = begins_trans (r.before ++ e ∷ []) t t' r.within b;
+  }
 
   held_both : (c d i : ℕ) (s t t' : List Event) (es fs : List Event) → d ≡ c → IsPrefix s t → IsPrefix t t' → AreOfHolders l c i s t es → AreOfHolders l d i t t' fs → AreOfHolders l c i s t' (es ++ fs)
-  held_both c d i s t t' es fs same before after a b e p = ⊎_elim (λ q. held_later c i s t t' es after a e q)
-      (λ q. let r = b e q in (r.0, r.1, r.2, r.3 ∙ ap (λ z. Abort z r.0) same, begins_trans s t r.2 before r.4, r.5, r.6)) (in_either es fs p)
+  held_both c d i s t t' es fs same before after a b e p = ⊎_elim (held_later c i s t t' es after a e) (λ q. let r = b e q in record {
+    unit = r.unit;
+    attempt = r.attempt;
+    before = r.before;
+    is_abort = r.is_abort ∙ ap (λ z. Abort z r.unit) same;
+    begins = begins_trans s t r.before before r.begins;
+    held = r.held;
+    within = r.within;
+  }) (in_either es fs p)
 
   pub freed_then : (n m i : ℕ) (es fs : List Event) (v w y : View) → Freed l n i es v w → Freed l m i fs w y → Freed l (n + m) i (es ++ fs) v y
   freed_then n m i es fs v w y a b = record {
@@ -141,14 +161,6 @@ module _ (l : Limits) where
   pub slain_few : (n m i : ℕ) (es : List Event) (v w : View) → n ≤ m → Slain l n i es v w → Slain l m i es v w
   slain_few n m i es v w le a = record { marks = a.marks; walk = walked_few l n m a.marks v w le a.walk; drawn = a.drawn; claimed = a.claimed; mine = a.mine; drafts = a.drafts; open_unit = a.open_unit; before = a.before; begins = a.begins; ends = a.ends; aborts = a.aborts }
 
-  -- an element whose unit was aborted may be killed
-  pub may_kill : (h : List Event) (w : ClaimWord) (n u : ℕ) → w ≡ TakenWord n u → end_of h u ≡ Some Aborted → AllowsKill l h w
-  may_kill h w n u is lost = subst (λ z. AllowsKill l h z) (sym is) (subst (λ o. IsKillable (taken_status l.attempts n u o)) (sym lost) (go (nat_lt n l.attempts)))
-    where
-      go : (b : Bool) → IsKillable (cond b (Waiting n) (Parked n))
-      go true = tt
-      go false = tt
-
   other_one : (n u : ℕ) (w z : ClaimWord) → Rises (TakenWord n u) w → w ≢ TakenWord n u → Rises w z → (z ≡ KilledWord n u) ⊎ ((n < attempt_in z) ⊎ ((m : ℕ) × (k : ℕ) × (z ≡ KilledWord m k)))
   other_one n u FreeWord z r not s = ⊎_elim (λ p. absurd (not p)) (λ q. ⊎_elim (λ (less : n < 0). absurd (omega arith)) (λ p. absurd cc) q) r
   other_one n u (TakenWord m k) z r not s = ⊎_elim (λ p. absurd (not p)) (λ q. ⊎_elim (λ (less : n < m). (⊎_elim (λ same. let e : attempt_in z ≡ m = ap attempt_in same in inr (inl (omega arith))) (λ t. ⊎_elim (λ (more : m < attempt_in z). inr (inl (omega arith))) (λ p. inr (inr (m, k, p))) t) s)) (λ p. absurd cc) q) r
@@ -198,7 +210,7 @@ module _ (l : Limits) (n m k i left most : ℕ) (v w y : View) (a : Looked l n v
 -- Aborts are no claims
 pub no_claims : (l : Limits) (c i : ℕ) (s t es : List Event) → AreOfHolders l c i s t es → claims_in es ≡ 0
 no_claims l c i s t [] h = refl
-no_claims l c i s t (e ∷ es) h = let first : one_claim e ≡ 0 = ap one_claim (h e here).3 in let rest = no_claims l c i s t es (λ x p. h x (there p)) in omega arith
+no_claims l c i s t (e ∷ es) h = let first : one_claim e ≡ 0 = ap one_claim (h e here).is_abort in let rest = no_claims l c i s t es (λ x p. h x (there p)) in omega arith
 
 module _ (l : Limits) (seat next : Seated) (number drawn used : ℕ) (same : (view_of seat).limits ≡ l) (bare : next.me.1 ≡ seat.me.1) (r : Rests seat number drawn used None) where
   rests_kill : (n : ℕ) (ms : List TraceEntry) (es : List Event) → Walked l n ms (view_of seat) (view_of next) → (hand (view_of next)).drawn ≡ (hand (view_of seat)).drawn → (hand (view_of next)).claimed ≡ (hand (view_of seat)).claimed
@@ -241,11 +253,15 @@ module _ (t t' : TableId) (v w : View) (old : PassShown) (is : shown t v ≡ old
   only_aborts : (n i : ℕ) (es : List Event) → length es ≤ l.attempts → Freed l n i es v w → OnlyAborts l i old (shown t' w)
   only_aborts n i es few a = subst (λ (p : PassShown). OnlyAborts l i p (shown t' w)) is record { aborts = es; few = few; held = a.aborts; mine = a.mine; open_unit = a.open_unit free ∙ sym free; drawn = a.drawn }
 
-  pub fails_shown : (n i : ℕ) (e : Refusal) → FailsIn l n i l.attempts e v w → KillFails l i old (shown t' w) e
-  fails_shown n i refusals.NoMemory k = k.3
-  fails_shown n i refusals.BadLimits k = k.3
-  fails_shown n i refusals.BadStage k = k.3
-  fails_shown n i refusals.NotThere k = absurd k.3
-  fails_shown n i (refusals.Consumed u) k = (only_aborts n i k.0 k.1 k.2, at_point t t' v w old is l n k.2.marks k.2.walk (λ h. status_of l.attempts h i ≡ statuses.Consumed u) w.seen (point_last l n k.2.marks v w k.2.walk) k.3)
-  fails_shown n i refusals.AlreadyKilled k = (only_aborts n i k.0 k.1 k.2, at_point t t' v w old is l n k.2.marks k.2.walk (λ h. status_of l.attempts h i ≡ statuses.Killed) w.seen (point_last l n k.2.marks v w k.2.walk) k.3)
-  fails_shown n i refusals.Full k = k.3
+  -- the element is born when the kill fails, and has that status then
+  stands_at_end : (n i : ℕ) (s : Status) (es : List Event) → Freed l n i es v w → HasElement w.seen i → status_of l.attempts w.seen i ≡ s → AtPoint old (shown t' w) (HasStatus l i s)
+  stands_at_end n i s es a b e = at_point t t' v w old is l n a.marks a.walk (HasStatus l i s) w.seen (point_last l n a.marks v w a.walk) (b.0, b.1, e)
+
+  pub fails_shown : (n i : ℕ) (e : Refusal) → HasElement w.seen i → FailsIn l n i l.attempts e v w → KillFails l i old (shown t' w) e
+  fails_shown n i refusals.NoMemory b k = k.3
+  fails_shown n i refusals.BadLimits b k = k.3
+  fails_shown n i refusals.BadStage b k = k.3
+  fails_shown n i refusals.NotThere b k = absurd k.3
+  fails_shown n i (refusals.Consumed u) b k = (only_aborts n i k.0 k.1 k.2, stands_at_end n i (statuses.Consumed u) k.0 k.2 b k.3)
+  fails_shown n i refusals.AlreadyKilled b k = (only_aborts n i k.0 k.1 k.2, stands_at_end n i statuses.Killed k.0 k.2 b k.3)
+  fails_shown n i refusals.Full b k = k.3

@@ -1,10 +1,9 @@
 -- What the words that were found tell of a row.
-use Rattle.std.proofs.Common.{◌≡◌, ◌≢◌, ◌⊎◌, ℕ, ◌+◌, ◌-◌, ◌*◌, ◌<◌, ◌≤◌, nat_lt, Bool, true, false, cond, Option, Some, None, List, refl, sym, ◌∙◌, ap, subst, ⊎_elim, arith}
+use Rattle.std.proofs.Common.{◌≡◌, ◌≢◌, ◌⊎◌, ℕ, ◌+◌, ◌-◌, ◌<◌, ◌≤◌, nat_lt, Bool, true, false, cond, Option, Some, None, List, refl, sym, ◌∙◌, ap, subst, ⊎_elim, arith}
 use Rattle.std.proofs.lemmas.Bool.Decides.{nat_tests}
 use mathlib.Core.List.{IsPrefix}
 use Rattle.tp_model.specs.declared.types.Element.{Element}
 use Rattle.tp_model.specs.declared.types.Limits.{Limits}
-use Rattle.tp_model.specs.declared.types.Status.{Status}
 use Rattle.tp_model.specs.declared.types.Status.TheVariants.{Waiting, Held, Consumed, Parked}
 use Rattle.tp_model.specs.declared.event.Event.{Event}
 use Rattle.tp_model.specs.History.{IsUnborn, element_of, UnitEnd, Committed, Aborted, end_of, status_of}
@@ -18,18 +17,14 @@ use Rattle.tp_words.specs.declared.words.Head.TheVariants.{Empty, There}
 use Rattle.tp_words.specs.declared.words.Claim.{Claim}
 use Rattle.tp_words.specs.declared.words.Claim.TheVariants as claims
 use Rattle.tp_words.specs.Words.{claim_value, head_of}
-use Rattle.tp_rule.specs.Rule.{IsDraft}
 use Rattle.tp_manager.specs.declared.looking.Birth.{Birth}
 use Rattle.tp_manager.specs.Looks.{HeadTold, IsThere, IsEnough}
-use Rattle.tp_manager.proofs.Births.{MadeBy, by_unit, attempt_range}
+use Rattle.tp_manager.proofs.Births.{by_unit, attempt_range}
 
 -- births
 
 pub unborn_if : (h : List Event) (i : ℕ) → ((x : Element) → element_of h i ≡ Some x → ⊥) → IsUnborn h i
 unborn_if h i not = ⊎_elim (λ t. absurd (not t.0 (born_at h i t.0 t.1 t.2))) (λ un. un) (born_or_not h i)
-
-pub none_empty : (h : List Event) (i : ℕ) (head : Head) → head ≡ Empty → HeadTold h i head → IsUnborn h i
-none_empty h i head is t = unborn_if h i (λ x p. let e = t.born x p in absurd cc)
 
 same_by : (x : Element) (s r u : ℕ) (b : Option ℕ) (head : Head) → head ≡ There s r b → head ≡ head_of x → b ≡ Some u → x.by ≡ Some u
 same_by x s r u b head is e q = cc
@@ -45,10 +40,6 @@ module _ (l : Limits) where
   pub none_unit : (h g : List Event) (i s r u : ℕ) (b : Option ℕ) (head : Head) → head ≡ There s r b → b ≡ Some u → HeadTold h i head → IsLegal l h → IsPrefix h g → MadeNot g i u → IsUnborn h i
   none_unit h g i s r u b head is q t legal begins not =
       unborn_if h i (λ x p. let m = by_unit l h legal i x u p (same_by x s r u b head is (t.born x p) q) in not m.from m.count (end_stays h g u (Committed m.from m.count) begins m.committed) m.low m.high)
-
-  pub there_client : (h : List Event) (i s r : ℕ) (b : Option ℕ) (head : Head) → head ≡ There s r b → b ≡ None → HeadTold h i head → (e : Element) × (element_of h i ≡ Some e) × (head_of e ≡ There s r b)
-  there_client h i s r b head is q t = ⊎_elim (λ x. let p = born_at h i x.0 x.1 x.2 in (x.0, p, sym (t.born x.0 p) ∙ is))
-      (λ un. absurd (subst IsDraft is (t.draft un) q)) (born_or_not h i)
 
   pub there_unit : (h g : List Event) (i u f m s r : ℕ) (b : Option ℕ) (head : Head) → IsLegal l h → IsPrefix h g → end_of h u ≡ Some (Committed f m) → f ≤ i → i < f + m → head ≡ There s r b
       → ((e : Element) → element_of g i ≡ Some e → head ≡ head_of e) → (e : Element) × (element_of g i ≡ Some e) × (head_of e ≡ There s r b)

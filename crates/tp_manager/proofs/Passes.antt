@@ -1,25 +1,23 @@
 -- What is so of a pass after a call.
-use Rattle.std.proofs.Common.{◌≡◌, ℕ, ◌+◌, ◌*◌, ◌<◌, ◌≤◌, List, [], ◌∷◌, ◌++◌, length, drop, sym, refl, ap, ◌∙◌, subst, arith, append_assoc, Option, Some, None}
+use Rattle.std.proofs.Common.{◌≡◌, ℕ, ◌+◌, ◌≤◌, List, [], ◌∷◌, ◌++◌, sym, refl, ap, ◌∙◌, subst, arith, Option, Some, None}
 use mathlib.Core.List.{IsPrefix}
 use Rattle.atomic_table.specs.Seated.{TableId}
-use Rattle.tp_model.specs.declared.types.Element.{Element}
 use Rattle.tp_model.specs.declared.types.Limits.{Limits}
 use Rattle.tp_model.specs.declared.event.Event.{Event}
-use Rattle.tp_model.specs.declared.trace.TraceEntry.{TraceEntry}
-use Rattle.tp_model.specs.History.{IsUnborn, element_of, IsClaim}
+use Rattle.tp_model.specs.History.{IsUnborn}
 use Rattle.tp_model.specs.Steps.{rows_of, IsLegal}
-use Rattle.tp_model.proofs.Bridges.{append_nil, begins_refl, begins_trans, claim_later, found_later, is_born, element_of-id}
+use Rattle.tp_model.proofs.Bridges.{begins_refl, claim_later, found_later, is_born, element_of-id}
 use Rattle.tp_model.proofs.Later.{births_inside}
-use Rattle.tp_rule.specs.Views.{Seated, hand, view_of}
+use Rattle.tp_rule.specs.Views.{Seated, view_of}
 use Rattle.tp_rule.specs.declared.view.Hand.{Hand}
 use Rattle.tp_rule.specs.declared.view.View.{View}
 use Rattle.tp_manager.specs.declared.manager.Task.{Task}
 use Rattle.tp_manager.specs.Shown.{PassShown, shown}
-use Rattle.tp_manager.specs.Calls.{AtPoint, Follows, IsQuiet}
-use Rattle.tp_manager.specs.Walks.{Steady, Walked, Looked, Acted, Rests, IsTask, unit_in}
-use Rattle.tp_manager.specs.Calls.{claims_in, one_claim}
+use Rattle.tp_manager.specs.Calls.{AtPoint, IsQuiet}
+use Rattle.tp_manager.specs.Walks.{Steady, Looked, Rests, IsTask, unit_in}
+use Rattle.tp_manager.specs.Calls.{claims_in}
 use Rattle.tp_manager.proofs.Looks.{unborn_if}
-use Rattle.tp_manager.proofs.Walks.{walked_none, walked_begins, looked_begins, follows, at_point, has_looked}
+use Rattle.tp_manager.proofs.Walks.{walked_none, looked_begins, at_point}
 
 pub task_later : (h g : List Event) (c : ℕ) (task : Option Task) → IsPrefix h g → IsTask h c task → IsTask g c task
 task_later h g c None b t = tt

@@ -1,13 +1,13 @@
 -- The steps of one part of a call after those of another.
-use Rattle.std.proofs.Common.{◌≡◌, ℕ, ◌+◌, ◌≤◌, List, [], ◌∷◌, ◌++◌, length, drop, sym, refl, ap, ◌∙◌, subst, arith, append_assoc, length-append}
+use Rattle.std.proofs.Common.{◌≡◌, List, [], ◌∷◌, ◌++◌, length, drop, refl, ap}
 use mathlib.Core.List.{IsPrefix}
 use Rattle.tp_model.specs.declared.event.Event.{Event}
 use Rattle.tp_model.specs.declared.trace.StepKind.{StepKind}
 use Rattle.tp_model.specs.declared.trace.StepKind.TheVariants.{DraftStore, Publish, Load, UnitChoice, ClaimExchange, CommitExchange, AbortExchange, KillExchange}
 use Rattle.tp_model.specs.declared.trace.TraceEntry.{TraceEntry}
 use Rattle.tp_model.specs.History.{In, here, there}
-use Rattle.tp_model.specs.Passes.{IsPoint, opening_of, unless_draft}
-use Rattle.tp_model.proofs.Bridges.{begins_refl, begins_trans, in_left, in_right}
+use Rattle.tp_model.specs.Passes.{opening_of, unless_draft}
+use Rattle.tp_model.proofs.Bridges.{begins_refl, begins_trans, in_left}
 use Rattle.tp_manager.specs.Calls.{HasStep, IsLookingStep}
 
 -- a step is a draft store or not
@@ -26,9 +26,6 @@ F = List Event → List Event → List Event
 
 pub opening_one : (s : List Event) (m : TraceEntry) → IsLookingStep m.kind → opening_of s (m ∷ []) ≡ m.seen
 opening_one s m is = unless_cases m.kind (λ (f : F). f m.seen s ≡ m.seen) (λ _. refl) (λ not. absurd (not is))
-
-pub opening_draft : (s : List Event) (seen : List Event) (ms : List TraceEntry) → opening_of s (record { kind = DraftStore; seen = seen } ∷ ms) ≡ opening_of s ms
-opening_draft s seen ms = refl
 
 opening_mono : (s t : List Event) (ns : List TraceEntry) → IsPrefix s t → IsPrefix (opening_of s ns) (opening_of t ns)
 opening_mono s t [] b = b
@@ -56,9 +53,6 @@ opens_later s w (m ∷ ms) ns o b c = unless_cases m.kind (λ (f : F). IsPrefix 
 
 pub has_more : (ms ns : List TraceEntry) → HasStep ms → HasStep (ms ++ ns)
 has_more ms ns h = (h.0, in_left ns h.1, h.2)
-
-pub has_later : (ms ns : List TraceEntry) → HasStep ns → HasStep (ms ++ ns)
-has_later ms ns h = (h.0, in_right ms h.1, h.2)
 
 pub drop_steps : (old marks : List TraceEntry) → drop (length old) (old ++ marks) ≡ marks
 drop_steps [] marks = refl

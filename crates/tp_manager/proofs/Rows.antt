@@ -1,5 +1,5 @@
 -- The rows of a pass are born by its own events alone.
-use Rattle.std.proofs.Common.{◌≡◌, ◌≢◌, ◌⊎◌, ℕ, ◌+◌, ◌*◌, ◌<◌, ◌≤◌, ◌==◌, Option, Some, None, List, [], ◌∷◌, ◌++◌, length, sym, refl, ap, ◌∙◌, subst, inl, inr, ⊎_elim, arith, length-append}
+use Rattle.std.proofs.Common.{◌≡◌, ◌≢◌, ℕ, ◌+◌, ◌≤◌, ◌==◌, List, [], ◌∷◌, ◌++◌, length, sym, ap, ◌∙◌, subst, inl, inr, arith, length-append}
 use Rattle.std.proofs.lemmas.Bool.Decides.{eqb_tells}
 use Rattle.std.specs.List.{find}
 use Rattle.std.specs.Option.{option_or}
@@ -7,7 +7,7 @@ use mathlib.Core.List.{IsPrefix}
 use Rattle.tp_model.specs.declared.types.Element.{Element}
 use Rattle.tp_model.specs.declared.types.Limits.{Limits}
 use Rattle.tp_model.specs.declared.event.Event.{Event}
-use Rattle.tp_model.specs.History.{In, births, element_of, IsUnborn, pass_of, events_by}
+use Rattle.tp_model.specs.History.{births, IsUnborn, pass_of, events_by}
 use Rattle.tp_model.specs.Steps.{IsRowOf, Step, IsLegal}
 use Rattle.tp_model.proofs.Histories.{along, element_of-snoc}
 use Rattle.tp_model.proofs.Bridges.{by_own, by_other}

@@ -1,32 +1,31 @@
 -- A row that was passed by, and a row whose element was taken.
-use Rattle.std.proofs.Common.{◌≡◌, ◌≢◌, ◌⊎◌, ℕ, suc, ◌+◌, ◌-◌, ◌*◌, ◌<◌, ◌≤◌, Option, Some, None, List, [], ◌∷◌, ◌++◌, sym, refl, ap, ◌∙◌, subst, inl, inr, ⊎_elim, arith, append_assoc, suc-mul, mul-le-mul_right}
+use Rattle.std.proofs.Common.{◌≡◌, ◌≢◌, ◌⊎◌, ℕ, suc, ◌+◌, ◌-◌, ◌*◌, ◌<◌, ◌≤◌, Some, List, [], ◌∷◌, ◌++◌, sym, refl, ap, ◌∙◌, subst, inl, inr, ⊎_elim, arith, suc-mul, mul-le-mul_right}
 use Rattle.std.proofs.lemmas.Bool.Decides.{eqb_tells}
 use mathlib.Core.List.{IsPrefix}
 use Rattle.tp_model.specs.declared.types.Element.{Element}
 use Rattle.tp_model.specs.declared.types.Limits.{Limits}
 use Rattle.tp_model.specs.declared.types.Status.{Status}
-use Rattle.tp_model.specs.declared.types.Status.TheVariants.{Waiting, Held, Consumed, Parked, Killed}
+use Rattle.tp_model.specs.declared.types.Status.TheVariants.{Waiting, Held, Killed}
 use Rattle.tp_model.specs.declared.event.Event.{Event}
 use Rattle.tp_model.specs.declared.event.Event.TheVariants.{Enqueue, Claim, Commit, Abort, Kill}
 use Rattle.tp_model.specs.declared.trace.StepKind.TheVariants as kinds
 use Rattle.tp_model.specs.History.{IsUnborn, element_of, status_after, status_of}
-use Rattle.tp_model.specs.Words.{ClaimWord, FreeWord, TakenWord, KilledWord, kill_word, claim_word, claim_word_after, word_status}
-use Rattle.tp_model.specs.Steps.{AreLimits, IsLegal, Step}
+use Rattle.tp_model.specs.Words.{ClaimWord, TakenWord, kill_word, claim_word, claim_word_after, word_status}
+use Rattle.tp_model.specs.Steps.{AreLimits, IsLegal}
 use Rattle.tp_model.proofs.Lists.{if_same, if_other}
 use Rattle.tp_model.proofs.Histories.{along, status_of-snoc}
 use Rattle.tp_model.proofs.WordProofs.{claim_word-snoc, status_by_words}
 use Rattle.tp_model.proofs.Bridges.{in_none, begins_refl, begins_more, begins_trans, found_later, waits_below, waits_later}
-use Rattle.tp_words.specs.declared.words.Head.{Head}
 use Rattle.tp_words.specs.declared.words.Head.TheVariants.{There}
 use Rattle.tp_words.specs.Words.{head_of}
-use Rattle.tp_rule.specs.Steps.{AllowsClaim, Grew, MakesClaim, claimed, noted, with_claim}
+use Rattle.tp_rule.specs.Steps.{AllowsClaim, MakesClaim, claimed, with_claim}
 use Rattle.tp_rule.specs.Views.{hand}
 use Rattle.tp_rule.specs.declared.view.Hand.{Hand}
 use Rattle.tp_rule.specs.declared.view.View.{View}
 use Rattle.tp_manager.specs.declared.looking.Birth.{Birth}
 use Rattle.tp_manager.specs.Calls.{IsWaiting}
-use Rattle.tp_manager.specs.Looks.{HeadTold, IsThere}
-use Rattle.tp_manager.specs.Walks.{Steady, Walked, Looked, PassedBy, PassedBelow, Took, with_trace}
+use Rattle.tp_manager.specs.Looks.{IsThere}
+use Rattle.tp_manager.specs.Walks.{Looked, PassedBy, PassedBelow, Took, with_trace}
 use Rattle.tp_manager.proofs.Walks.{steady_own, grew_hand, grew_walked, walked_then, walked_few, looked_begins, walked_begins}
 
 module _ (l : Limits) (stage i : ℕ) where
@@ -95,9 +94,6 @@ module _ (l : Limits) (stage i : ℕ) where
   few_attempts fair h n legal waits = let less = waits_below l.attempts h (claim_word h i) n fair.attempts.0 (sym (status_by_words l h i legal) ∙ waits) in let most = fair.attempts.1 in omega arith
 
 module _ (l : Limits) (stage : ℕ) where
-  pub below_none : (a b : List Event) → PassedBelow l stage 0 a b
-  below_none a b = λ i less. absurd (omega arith)
-
   pub below_next : (n : ℕ) (a h b : List Event) → IsPrefix a h → IsPrefix h b → PassedBelow l stage n a h → PassedBy l stage n h b → PassedBelow l stage (n + 1) a b
   below_next n a h b before after all this i less x p st = elim (eqb_tells i n) [
     | inl q ↦ (let at : element_of a n ≡ Some x = subst (λ z. element_of a z ≡ Some x) q.1 p in let t = this x (found_later a h before n x at) st in

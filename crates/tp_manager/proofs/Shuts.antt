@@ -1,6 +1,5 @@
 -- The drafts of a pass's own unit, and the unit's end.
-use Rattle.std.proofs.Common.{◌≡◌, ℕ, suc, ◌+◌, ◌*◌, ◌<◌, ◌≤◌, List, [], ◌∷◌, ◌++◌, length, slice_index_or, take, sym, refl, ap, ◌∙◌, subst, inl, inr, ⊎_elim, arith, append_assoc, length-append, mul-le-mul_right, Option, Some, None}
-use mathlib.Core.List.{IsPrefix}
+use Rattle.std.proofs.Common.{◌≡◌, ℕ, suc, ◌+◌, ◌*◌, ◌<◌, ◌≤◌, List, [], ◌∷◌, ◌++◌, length, slice_index_or, take, sym, refl, ap, ◌∙◌, subst, ⊎_elim, arith, append_assoc, length-append, mul-le-mul_right, Option, Some, None}
 use Rattle.atomic_table.specs.Seated.{TableId}
 use Rattle.tp_model.specs.Drafts.{DraftView}
 use Rattle.std.specs.List.{All}
@@ -10,12 +9,10 @@ use Rattle.tp_model.specs.declared.types.Limits.{Limits}
 use Rattle.tp_model.specs.declared.event.Event.{Event}
 use Rattle.tp_model.specs.declared.event.Event.TheVariants.{Abort, Commit}
 use Rattle.tp_model.specs.declared.trace.StepKind.{StepKind}
-use Rattle.tp_model.specs.declared.trace.StepKind.TheVariants as kinds
-use Rattle.tp_model.specs.declared.trace.TraceEntry.{TraceEntry}
 use Rattle.tp_model.specs.History.{Aborted, Committed, In, UnitEnd, end_by, births, end_of, first_id, pass_of, element_of, IsClaim, claim_of}
 use Rattle.tp_model.specs.OneThread.{outputs, HasStage}
-use Rattle.tp_model.specs.Steps.{AreLimits, IsLegal, IsStage, rows_of, units_of}
-use Rattle.tp_model.proofs.Bridges.{append_nil, begins_refl, begins_trans, in_cons, in_none}
+use Rattle.tp_model.specs.Steps.{AreLimits, IsLegal, units_of}
+use Rattle.tp_model.proofs.Bridges.{append_nil, begins_trans, in_cons, in_none}
 use Rattle.std.specs.Prelude.{IfSome}
 use Rattle.std.specs.Option.{option_or}
 use Rattle.tp_model.proofs.Lists.{if_same}
@@ -24,47 +21,19 @@ use Rattle.tp_model.proofs.Commits.{length-outputs, outputs_more}
 use Rattle.tp_model.proofs.Later.{aborted_by, abort_ends}
 use Rattle.tp_model.proofs.Bridges.{in_right}
 use Rattle.tp_model.specs.History.{here}
-use Rattle.tp_rule.specs.Views.{Seated, hand, next_row, view_of}
-use Rattle.tp_rule.specs.Steps.{Grew, Drafts, IsOut, IsOwnWork, IsClaimed, committed, drafted, next_element, noted, or_zero, with_amount, with_draft, with_end, with_key, with_lost}
+use Rattle.tp_rule.specs.Views.{Seated, hand, view_of}
+use Rattle.tp_rule.specs.Steps.{Grew, IsOut, IsOwnWork, IsClaimed, committed, with_end, with_lost}
 use Rattle.tp_rule.specs.declared.view.Hand.{Hand}
 use Rattle.tp_rule.specs.declared.view.View.{View}
 use Rattle.tp_manager.specs.declared.manager.Task.{Task}
 use Rattle.tp_manager.specs.Shown.{PassShown, shown}
 use Rattle.tp_manager.specs.Calls.{Adds, Closes, Commits, EndedByOther, IsEnded, IsLookingStep, Loses, claims_in}
-use Rattle.tp_manager.specs.Walks.{Rests, Shut, Steady, Walked, Wrote, output, unit_in, IsTask}
+use Rattle.tp_manager.specs.Walks.{Rests, Shut, Steady, Wrote, output, IsTask}
 use Rattle.tp_manager.proofs.Births.{claimed_inside}
 use Rattle.tp_manager.proofs.Passes.{claims_append, steady_at}
-use Rattle.tp_manager.proofs.Submits.{body_hand, body_seen, body_steady, body_walked, stored_hand, stored_seen, stored_steady, stored_walked}
-use Rattle.tp_manager.proofs.Walks.{grew_hand, grew_walked, steady_own, steady_quiet, walked_few, walked_none, walked_then, walked_begins}
+use Rattle.tp_manager.proofs.Walks.{grew_hand, grew_walked, steady_own, steady_quiet, walked_few, walked_then, walked_begins}
 
 module _ (l : Limits) where
-  pub wrote_one : (row root unit : ℕ) (d : DraftView) (v0 v1 v2 v3 : View) → Steady l v0 → v1 ≡ drafted (with_key d.key) v0 → v2 ≡ drafted (with_amount d.amount) v1 → Drafts v2 d.stage root unit v3
-      → row ≡ (hand v0).number * l.rows + (hand v0).drawn → (hand v0).drawn < l.rows → Wrote l (output unit root row d ∷ []) v0 v3
-  wrote_one row root unit d v0 v1 v2 v3 s d1 d2 d3 next room =
-      let s2 = body_steady l d.key d.amount v0 v1 v2 s d1 d2 in
-      let x : Element = next_element v2 d.stage root (Some unit) in
-      let f : Hand → Hand = with_draft x in
-      let b = body_hand l d.key d.amount v0 v1 v2 s d1 d2 in
-      let h = stored_hand l f v2 v3 s2 d3 in
-      let seen : v3.seen ≡ v0.seen = stored_seen l f v2 v3 s2 d3 ∙ body_seen l d.key d.amount v0 v1 v2 s d1 d2 in
-      let drawn : (hand v2).drawn ≡ (hand v0).drawn = ap (λ (a : Hand). a.drawn) b in
-      let id : next_row v2 ≡ row = ap (λ (z : Limits). (hand v2).number * z.rows + (hand v2).drawn) s2.pass.1 ∙ (ap (λ (a : Hand). a.number * l.rows + a.drawn) b ∙ sym next) in
-      let same : x ≡ output unit root row d = (λ i. record { id = id i; stage = d.stage; root = root; key = or_zero (b i).next_key; amount = or_zero (b i).next_amount; by = Some unit }) in
-      let steady = stored_steady l f v2 v3 s2 d3 refl (omega arith) (omega arith) refl in
-      record {
-        marks = _;
-        walk = walked_then l 2 1 _ _ v0 v2 v3 (body_walked l d.key d.amount v0 v1 v2 s d1 d2) (stored_walked l f v2 v3 s2 d3 refl refl steady);
-        seen = seen;
-        drawn = ap (λ (a : Hand). a.drawn) h ∙ ap (λ (a : Hand). a.drawn + 1) b;
-        claimed = ap (λ (a : Hand). a.claimed) h ∙ ap (λ (a : Hand). a.claimed) b;
-        mine = ap (λ (a : Hand). a.mine) h ∙ ap (λ (a : Hand). a.mine) b;
-        drafts = ap (λ (a : Hand). a.drafts) h ∙ (ap (λ (a : Hand). a.drafts ++ x ∷ []) b ∙ ap (λ z. (hand v0).drafts ++ z ∷ []) same);
-        open_unit = ap (λ (a : Hand). a.open_unit) h ∙ ap (λ (a : Hand). a.open_unit) b;
-      }
-
-  pub wrote_none : (v : View) → Steady l v → Wrote l [] v v
-  wrote_none v s = record { marks = []; walk = walked_none l v s; seen = refl; drawn = omega arith; claimed = refl; mine = refl; drafts = sym (append_nil (hand v).drafts); open_unit = refl }
-
   pub wrote_then : (xs ys : List Element) (v w y : View) → Wrote l xs v w → Wrote l ys w y → Wrote l (xs ++ ys) v y
   wrote_then xs ys v w y a b = let g = walked_then l (3 * length xs) (3 * length ys) a.marks b.marks v w y a.walk b.walk in record {
     marks = a.marks ++ b.marks;

@@ -1,5 +1,5 @@
 -- Draft stores, and the birth of a client's element.
-use Rattle.std.proofs.Common.{◌≡◌, ℕ, ◌+◌, ◌*◌, ◌<◌, ◌≤◌, List, [], ◌∷◌, ◌++◌, sym, refl, ap, ◌∙◌, subst, arith, append_assoc, Option, Some, None}
+use Rattle.std.proofs.Common.{◌≡◌, ℕ, ◌+◌, ◌*◌, ◌<◌, ◌≤◌, List, [], ◌∷◌, ◌++◌, sym, refl, ap, ◌∙◌, subst, arith, Option}
 use mathlib.Core.List.{IsPrefix}
 use Rattle.tp_model.specs.declared.types.Element.{Element}
 use Rattle.tp_model.specs.declared.types.Limits.{Limits}
@@ -67,9 +67,6 @@ module _ (l : Limits) (x y : ℕ) (v k a : View) (s : Steady l v) (key : k ≡ d
 
   pub body_hand : hand a ≡ noted kinds.DraftStore k.seen (with_amount y (noted kinds.DraftStore v.seen (with_key x (hand v))))
   body_hand = stored_hand l (with_amount y) k a key_steady amount ∙ ap (λ h. noted kinds.DraftStore k.seen (with_amount y h)) (stored_hand l (with_key x) v k s key)
-
-  pub body_seen : a.seen ≡ v.seen
-  body_seen = stored_seen l (with_amount y) k a key_steady amount ∙ stored_seen l (with_key x) v k s key
 
   abbrev pub body_marks : List TraceEntry
   body_marks = record { kind = kinds.DraftStore; seen = v.seen } ∷ record { kind = kinds.DraftStore; seen = k.seen } ∷ []

@@ -1,5 +1,5 @@
 -- What a step leaves of the view, and what the steps of two parts of a call leave.
-use Rattle.std.proofs.Common.{◌≡◌, ◌≢◌, ℕ, ◌+◌, ◌*◌, ◌<◌, ◌≤◌, List, [], ◌∷◌, ◌++◌, map, length, drop, sym, refl, ap, ◌∙◌, subst, arith, append_assoc, length-append}
+use Rattle.std.proofs.Common.{◌≡◌, ℕ, ◌+◌, ◌*◌, ◌<◌, ◌≤◌, List, [], ◌∷◌, ◌++◌, length, drop, sym, refl, ap, ◌∙◌, subst, arith, append_assoc, length-append}
 use mathlib.Core.List.{IsPrefix}
 use Rattle.atomic_table.specs.Seated.{TableId}
 use Rattle.tp_model.specs.declared.types.Element.{Element}
@@ -7,7 +7,7 @@ use Rattle.tp_model.specs.declared.types.Limits.{Limits}
 use Rattle.tp_model.specs.declared.event.Event.{Event}
 use Rattle.tp_model.specs.declared.trace.StepKind.{StepKind}
 use Rattle.tp_model.specs.declared.trace.TraceEntry.{TraceEntry}
-use Rattle.tp_model.specs.History.{In, here, there, births, IsUnborn, pass_of, events_by}
+use Rattle.tp_model.specs.History.{In, here, births, IsUnborn, pass_of, events_by}
 use Rattle.tp_model.specs.Steps.{IsLegal}
 use Rattle.tp_model.specs.Passes.{IsPassView, IsPoint, opening_of}
 use Rattle.tp_model.proofs.Histories.{legal_start}
@@ -20,7 +20,7 @@ use Rattle.tp_rule.proofs.Reading.{one_after, grew_begins}
 use Rattle.tp_manager.specs.Calls.{HasStep, IsLookingStep, Follows, AtPoint, HasLooked, steps_of, opening}
 use Rattle.tp_manager.specs.Shown.{PassShown, shown}
 use Rattle.tp_manager.specs.Walks.{Steady, Walked, Looked, Acted, pass_in, with_trace}
-use Rattle.tp_manager.proofs.Points.{opening_one, opening_later, opening_kept, opens_later, has_more, has_later, drop_steps}
+use Rattle.tp_manager.proofs.Points.{opening_one, opening_later, opening_kept, opens_later, has_more, drop_steps}
 use Rattle.tp_manager.proofs.Rows.{unborn_quiet}
 
 module _ (l : Limits) (kind : StepKind) (f : Hand → Hand) (es : List Event) (v w : View) (s : Steady l v) (g : Grew kind f es v w) where
@@ -115,11 +115,7 @@ module _ (l : Limits) where
   pub walked_few : (n m : ℕ) (ms : List TraceEntry) (v w : View) → n ≤ m → Walked l n ms v w → Walked l m ms v w
   walked_few n m ms v w le a = record { traced = a.traced; few = let p = a.few in omega arith; opens = a.opens; closes = a.closes; number = a.number; steady = a.steady }
 
-  -- a point of the second part is one of both
-  pub point_second : (n m : ℕ) (ms ns : List TraceEntry) (v w x : View) → Walked l n ms v w → Walked l m ns w x → (p : List Event) → IsPoint (opening_of w.seen ns) x.seen p → IsPoint (opening_of v.seen (ms ++ ns)) x.seen p
-  point_second n m ms ns v w x a b p q = record { opened = begins_trans _ _ _ (opening_later v.seen w.seen ms ns a.closes b.opens) q.opened; seen = q.seen }
-
-  -- and so is a point of the first, where that has a step that is no draft store
+  -- a point of a first part is one of both, where that part has a step that is no draft store
   pub point_first : (m : ℕ) (ms ns : List TraceEntry) (v w x : View) → HasStep ms → Walked l m ns w x → (p : List Event) → IsPoint (opening_of v.seen ms) w.seen p → IsPoint (opening_of v.seen (ms ++ ns)) x.seen p
   point_first m ms ns v w x h b p q = record {
     opened = subst (λ z. IsPrefix z p) (sym (opening_kept v.seen ms ns h.0 h.1 h.2)) q.opened;
@@ -159,9 +155,6 @@ module _ (l : Limits) where
     kept = b.kept ∙ ap (λ z. with_trace (hand x).trace z) a.kept;
     step = has_more a.marks b.marks a.step;
   }
-
-  pub acted_few : (n m : ℕ) (v w : View) → n ≤ m → Acted l n v w → Acted l m v w
-  acted_few n m v w le a = record { marks = a.marks; walk = walked_few n m a.marks v w le a.walk; kept = a.kept; step = a.step }
 
 -- what a caller sees of the steps of a call
 module _ (t t' : TableId) (v w : View) (old : PassShown) (is : shown t v ≡ old) (l : Limits) (n : ℕ) (ms : List TraceEntry) (a : Walked l n ms v w) where

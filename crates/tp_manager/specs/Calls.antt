@@ -1,5 +1,6 @@
--- What the calls answer, and what they leave. In each definition `old` is what the pass shows before the call, and `new` what it shows after it.
-use Rattle.std.specs.Prelude.{◌≡◌, ℕ, ◌+◌, ◌*◌, ◌<◌, ◌≤◌, ◌⊎◌, List, [], ◌∷◌, ◌++◌, length, drop, Option, Some, None}
+-- What the calls answer, and what they leave. In each definition `old` is what the pass shows before the call, and
+-- `new` what it shows after it.
+use Rattle.std.specs.Prelude.{◌≡◌, ℕ, ◌+◌, ◌*◌, ◌<◌, ◌≤◌, ◌⊎◌, List, [], ◌∷◌, ◌++◌, length, drop, Some, None}
 use mathlib.Core.List.{IsPrefix}
 use Rattle.tp_model.specs.declared.types.Element.{Element}
 use Rattle.tp_model.specs.declared.types.Limits.{Limits}
@@ -51,7 +52,8 @@ steps_of old new = drop (length old.trace) new.trace
 abbrev pub opening : PassShown → PassShown → List Event
 opening old new = opening_of old.seen (steps_of old new)
 
--- what every call leaves: what a pass shows. It has the same number, its trace has grown by the call's steps, of which there are at most n, and it has seen what it had seen, and more
+-- what every call leaves: what a pass shows. It has the same number, its trace has grown by the call's steps, of which
+-- there are at most n, and it has seen what it had seen, and more
 pub record Follows (n : ℕ) (old new : PassShown) : Type 0 where
   pub shows : IsPassView new.limits (view_in new)
   pub number : new.number ≡ old.number
@@ -100,7 +102,8 @@ pub record Submits (id stage key amount : ℕ) (old new : PassShown) : Type 0 wh
 
 -- why a submit was refused: the stage is no server's, or else the pass has used its rows
 abbrev pub SubmitRefused : ℕ → PassShown → Refusal → Type 0
-SubmitRefused stage old e = ((e ≡ refusals.BadStage) × ¬ IsServerStage stage) ⊎ ((e ≡ refusals.Full) × IsServerStage stage × (old.drawn ≡ old.limits.rows))
+SubmitRefused stage old e = ((e ≡ refusals.BadStage) × ¬ IsServerStage stage)
+    ⊎ ((e ≡ refusals.Full) × IsServerStage stage × (old.drawn ≡ old.limits.rows))
 
 -- how many claims there are among the events
 abbrev pub one_claim : Event → ℕ
@@ -120,7 +123,8 @@ IsWaiting s = (n : ℕ) × (s ≡ Waiting n)
 
 -- each element of the stage that was born at the opening has a point at which it wasn't waiting
 abbrev pub FoundNone : Limits → ℕ → PassShown → PassShown → Type 0
-FoundNone l stage old new = (x : Element) → element_of (opening old new) x.id ≡ Some x → x.stage ≡ stage → AtPoint old new (λ h. ¬ IsWaiting (status_of l.attempts h x.id))
+FoundNone l stage old new = (x : Element) → element_of (opening old new) x.id ≡ Some x → x.stage ≡ stage
+    → AtPoint old new (λ h. ¬ IsWaiting (status_of l.attempts h x.id))
 
 -- the pass has a new unit open, which took the element
 pub record Takes (l : Limits) (stage : ℕ) (work : Work) (old new : PassShown) : Type 0 where
@@ -137,7 +141,8 @@ pub record Takes (l : Limits) (stage : ℕ) (work : Work) (old new : PassShown) 
 -- what a claim answers
 abbrev pub Claims : Limits → ℕ → PassShown → PassShown → Claimed → Type 0
 Claims l stage old new claimeds.NoUnit = (claims_in old.mine ≡ l.units) × (new ≡ old)
-Claims l stage old new claimeds.Idle = (claims_in old.mine < l.units) × IsQuiet old new × HasLooked old new × FoundNone l stage old new
+Claims l stage old new claimeds.Idle = (claims_in old.mine < l.units) × IsQuiet old new × HasLooked old new
+    × FoundNone l stage old new
 Claims l stage old new (claimeds.Work work) = Takes l stage work old new
 
 -- another pass than c aborted unit u
@@ -166,7 +171,8 @@ Ends old new endeds.Already = (u : ℕ) × Closes u old.drawn old new × Loses u
 
 -- the element that unit u of pass c took has this root
 abbrev pub IsRoot : List Event → ℕ → ℕ → ℕ → Type 0
-IsRoot h c u root = (i : ℕ) × (n : ℕ) × (x : Element) × IsClaim h c u i n × (element_of h i ≡ Some x) × (x.root ≡ root)
+IsRoot h c u root = (i : ℕ) × (n : ℕ) × (x : Element) × IsClaim h c u i n
+    × (element_of h i ≡ Some x) × (x.root ≡ root)
 
 -- the outputs that these drafts become: in the next rows of the pass, made by unit u, with this root
 abbrev pub outputs_from : PassShown → ℕ → ℕ → List DraftView → List Element
@@ -184,15 +190,28 @@ pub record Commits (first count : ℕ) (drafts : List DraftView) (old new : Pass
 
 -- what a commit answers
 abbrev pub Settles : List DraftView → PassShown → PassShown → Outcome → Type 0
-Settles drafts old new outcomes.Full = (old.limits.rows < old.drawn + length drafts) × ((u : ℕ) × Closes u old.drawn old new × (Adds (Abort old.number u) old new ⊎ Loses u old new))
-Settles drafts old new outcomes.Lost = (old.drawn + length drafts ≤ old.limits.rows) × ((u : ℕ) × Closes u (old.drawn + length drafts) old new × Loses u old new)
-Settles drafts old new (outcomes.Committed first count) = (old.drawn + length drafts ≤ old.limits.rows) × Commits first count drafts old new
+Settles drafts old new outcomes.Full = (old.limits.rows < old.drawn + length drafts)
+    × ((u : ℕ) × Closes u old.drawn old new × (Adds (Abort old.number u) old new ⊎ Loses u old new))
+Settles drafts old new outcomes.Lost = (old.drawn + length drafts ≤ old.limits.rows)
+    × ((u : ℕ) × Closes u (old.drawn + length drafts) old new × Loses u old new)
+Settles drafts old new (outcomes.Committed first count) = (old.drawn + length drafts ≤ old.limits.rows)
+    × Commits first count drafts old new
 
--- each of these events is an Abort by pass c, between two histories, of a unit that held element i where the Abort stands
+-- the event is an Abort by pass c, between two histories, of a unit that held element i where the Abort stands
+pub record IsOfHolder (l : Limits) (c i : ℕ) (from to : List Event) (e : Event) : Type 0 where
+  pub unit : ℕ
+  pub attempt : ℕ
+  pub before : List Event
+  pub is_abort : e ≡ Abort c unit
+  pub begins : IsPrefix from before
+  pub held : status_of l.attempts before i ≡ Held unit attempt
+  pub within : IsPrefix (before ++ e ∷ []) to
+
+-- each of these events is one
 abbrev pub AreOfHolders : Limits → ℕ → ℕ → List Event → List Event → List Event → Type 0
-AreOfHolders l c i from to aborts = (e : Event) → In e aborts → (u : ℕ) × (n : ℕ) × (p : List Event) × (e ≡ Abort c u) × IsPrefix from p × (status_of l.attempts p i ≡ Held u n) × IsPrefix (p ++ e ∷ []) to
+AreOfHolders l c i from to aborts = (e : Event) → In e aborts → IsOfHolder l c i from to e
 
--- the pass has aborted so many units that held the element, at most as many as attempts are allowed, and then killed it
+-- the pass has aborted so many units that held the element, at most the attempt limit, and then killed it
 pub record Kills (l : Limits) (id count : ℕ) (old new : PassShown) : Type 0 where
   pub aborts : List Event
   pub counted : length aborts ≡ count
@@ -205,7 +224,7 @@ pub record Kills (l : Limits) (id count : ℕ) (old new : PassShown) : Type 0 wh
   pub open_unit : new.open_unit ≡ old.open_unit
   pub drawn : new.drawn ≡ old.drawn
 
--- the pass has aborted units that held the element, at most as many as attempts are allowed, and no more
+-- the pass has aborted units that held the element, at most the attempt limit, and has done nothing else
 pub record OnlyAborts (l : Limits) (id : ℕ) (old new : PassShown) : Type 0 where
   pub aborts : List Event
   pub few : length aborts ≤ l.attempts
@@ -214,12 +233,18 @@ pub record OnlyAborts (l : Limits) (id : ℕ) (old new : PassShown) : Type 0 whe
   pub open_unit : new.open_unit ≡ old.open_unit
   pub drawn : new.drawn ≡ old.drawn
 
+-- an element with this id is born, and has this status
+abbrev pub HasStatus : Limits → ℕ → Status → List Event → Type 0
+HasStatus l id s h = (x : Element) × (element_of h id ≡ Some x) × (status_of l.attempts h id ≡ s)
+
 -- why a kill was refused
 abbrev pub KillFails : Limits → ℕ → PassShown → PassShown → Refusal → Type 0
 KillFails l id old new refusals.NoMemory = ⊥
 KillFails l id old new refusals.BadLimits = ⊥
 KillFails l id old new refusals.BadStage = ⊥
 KillFails l id old new refusals.NotThere = IsQuiet old new × AtPoint old new (λ h. IsUnborn h id)
-KillFails l id old new (refusals.Consumed u) = OnlyAborts l id old new × AtPoint old new (λ h. status_of l.attempts h id ≡ statuses.Consumed u)
-KillFails l id old new refusals.AlreadyKilled = OnlyAborts l id old new × AtPoint old new (λ h. status_of l.attempts h id ≡ statuses.Killed)
+KillFails l id old new (refusals.Consumed u) = OnlyAborts l id old new
+    × AtPoint old new (HasStatus l id (statuses.Consumed u))
+KillFails l id old new refusals.AlreadyKilled = OnlyAborts l id old new
+    × AtPoint old new (HasStatus l id statuses.Killed)
 KillFails l id old new refusals.Full = ⊥

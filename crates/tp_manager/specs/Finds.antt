@@ -1,4 +1,5 @@
--- What a listing finds on its way. In each definition l are the table's limits, a is the history before, and b the history after.
+-- What a listing finds on its way. In each definition l are the table's limits, a is the history before, and b the
+-- history after.
 use Rattle.std.specs.Prelude.{◌≡◌, ℕ, ◌<◌, ◌≤◌, List, Some}
 use mathlib.Core.List.{IsPrefix}
 use Rattle.tp_model.specs.declared.types.Element.{Element}
@@ -18,11 +19,13 @@ IsWanted Error stage root s = IsParked s
 
 -- the element of row i is looked for
 abbrev pub Hits : Limits → Wanted → ℕ → List Event → Type 0
-Hits l wanted i h = (x : Element) × (element_of h i ≡ Some x) × IsWanted wanted x.stage x.root (status_of l.attempts h i)
+Hits l wanted i h = (x : Element) × (element_of h i ≡ Some x)
+    × IsWanted wanted x.stage x.root (status_of l.attempts h i)
 
 -- if row i had an element in history a, that wasn't looked for in some history from a to b
 abbrev pub PassedOver : Limits → Wanted → ℕ → List Event → List Event → Type 0
-PassedOver l wanted i a b = (x : Element) → element_of a i ≡ Some x → (p : List Event) × IsPrefix a p × IsPrefix p b × ¬ IsWanted wanted x.stage x.root (status_of l.attempts p i)
+PassedOver l wanted i a b = (x : Element) → element_of a i ≡ Some x
+    → (p : List Event) × IsPrefix a p × IsPrefix p b × ¬ IsWanted wanted x.stage x.root (status_of l.attempts p i)
 
 -- the same of each row from `from` on and below `end`
 abbrev pub PassedFrom : Limits → Wanted → ℕ → ℕ → List Event → List Event → Type 0

@@ -1,5 +1,6 @@
--- What a kill does on its way. In each definition l are the table's limits, i is the row, v is the view before, and w the view after.
-use Rattle.std.specs.Prelude.{◌≡◌, ℕ, ◌+◌, ◌*◌, ◌<◌, ◌≤◌, List, [], ◌∷◌, ◌++◌, length, Some, None}
+-- What a kill does on its way. In each definition l are the table's limits, i is the row, v is the view before, and w
+-- the view after.
+use Rattle.std.specs.Prelude.{◌≡◌, ℕ, ◌+◌, ◌<◌, ◌≤◌, List, [], ◌∷◌, ◌++◌, length, Some, None}
 use mathlib.Core.List.{IsPrefix}
 use Rattle.tp_model.specs.declared.types.Limits.{Limits}
 use Rattle.tp_model.specs.declared.types.Refusal.{Refusal}
@@ -52,7 +53,8 @@ IsPastKill l h i refusals.Full = ⊥
 
 -- unit u, which had taken the element, is aborted, in at most two steps and by so many own Aborts, none or one
 abbrev pub Loosened : Limits → ℕ → ℕ → ℕ → View → View → Type 0
-Loosened l i u count v w = (es : List Event) × (length es ≡ count) × (count ≤ 1) × Freed l 2 i es v w × (end_of w.seen u ≡ Some Aborted)
+Loosened l i u count v w = (es : List Event) × (length es ≡ count) × (count ≤ 1) × Freed l 2 i es v w
+    × (end_of w.seen u ≡ Some Aborted)
 
 -- there are at most so many attempts from this claim on
 abbrev pub IsEnoughToKill : Limits → ℕ → ClaimWord → Type 0

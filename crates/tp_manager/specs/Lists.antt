@@ -1,4 +1,5 @@
--- What the listings answer. In each definition `old` is what the pass shows before the call, and `new` what it shows after it.
+-- What the listings answer. In each definition `old` is what the pass shows before the call, and `new` what it shows
+-- after it.
 use Rattle.std.specs.Prelude.{◌≡◌, ℕ, ◌<◌, ◌≤◌, List, Some}
 use Rattle.tp_model.specs.declared.types.Element.{Element}
 use Rattle.tp_model.specs.declared.types.Limits.{Limits}
@@ -19,7 +20,8 @@ IsParked s = (n : ℕ) × (s ≡ Parked n)
 
 -- a reply of this root with this id is born, and waits
 abbrev pub HasReply : Limits → ℕ → ℕ → List Event → Type 0
-HasReply l root id h = (x : Element) × (element_of h id ≡ Some x) × IsReply root x × IsWaiting (status_of l.attempts h id)
+HasReply l root id h = (x : Element) × (element_of h id ≡ Some x) × IsReply root x
+    × IsWaiting (status_of l.attempts h id)
 
 -- an element with this id is born, and parked
 abbrev pub HasError : Limits → ℕ → List Event → Type 0
@@ -27,11 +29,13 @@ HasError l id h = (x : Element) × (element_of h id ≡ Some x) × IsParked (sta
 
 -- each reply of the root that was born at the opening with one of these ids had a point at which it was killed
 abbrev pub AllKilled : Limits → ℕ → (ℕ → Type 0) → PassShown → PassShown → Type 0
-AllKilled l root Ids old new = (x : Element) → element_of (opening old new) x.id ≡ Some x → IsReply root x → Ids x.id → AtPoint old new (λ h. status_of l.attempts h x.id ≡ Killed)
+AllKilled l root Ids old new = (x : Element) → element_of (opening old new) x.id ≡ Some x → IsReply root x → Ids x.id
+    → AtPoint old new (λ h. status_of l.attempts h x.id ≡ Killed)
 
 -- each element that was born at the opening with one of these ids had a point at which it wasn't parked
 abbrev pub NoneParked : Limits → (ℕ → Type 0) → PassShown → PassShown → Type 0
-NoneParked l Ids old new = (x : Element) → element_of (opening old new) x.id ≡ Some x → Ids x.id → AtPoint old new (λ h. ¬ IsParked (status_of l.attempts h x.id))
+NoneParked l Ids old new = (x : Element) → element_of (opening old new) x.id ≡ Some x → Ids x.id
+    → AtPoint old new (λ h. ¬ IsParked (status_of l.attempts h x.id))
 
 -- a reply of the root waited at a point, and each before it from `from` on was killed at one
 pub record NextReply (l : Limits) (root from id : ℕ) (old new : PassShown) : Type 0 where

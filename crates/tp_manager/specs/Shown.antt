@@ -32,7 +32,14 @@ pub record PassShown : Type 0 where
 
 -- what the definitions say that a pass shows
 abbrev pub view_in : PassShown → PassView
-view_in p = record { number = p.number; seen = p.seen; mine = p.mine; open_unit = p.open_unit; drawn = p.drawn; trace = p.trace }
+view_in p = record {
+  number = p.number;
+  seen = p.seen;
+  mine = p.mine;
+  open_unit = p.open_unit;
+  drawn = p.drawn;
+  trace = p.trace;
+}
 
 -- the pass comes from this manager's keeper
 abbrev pub IsOf : ManagerShown → PassShown → Type 0
@@ -44,4 +51,13 @@ IsKeptBy m k = (k.table ≡ m.table) × (k.limits ≡ m.limits)
 
 -- a pass at this table that knows this
 abbrev pub shown : TableId → View → PassShown
-shown table v = record { table = table; limits = v.limits; number = (hand v).number; seen = v.seen; mine = (hand v).mine; open_unit = (hand v).open_unit; drawn = (hand v).drawn; trace = (hand v).trace }
+shown table v = record {
+  table = table;
+  limits = v.limits;
+  number = (hand v).number;
+  seen = v.seen;
+  mine = (hand v).mine;
+  open_unit = (hand v).open_unit;
+  drawn = (hand v).drawn;
+  trace = (hand v).trace;
+}

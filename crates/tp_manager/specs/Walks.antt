@@ -1,14 +1,14 @@
--- What the view of a pass keeps over some of a call's steps. In each definition l are the table's limits, v is the view before, and w the view after.
+-- What the view of a pass keeps over some of a call's steps. In each definition l are the table's limits, v is the
+-- view before, and w the view after.
 use Rattle.std.specs.Prelude.{◌≡◌, ℕ, ◌+◌, ◌-◌, ◌*◌, ◌<◌, ◌≤◌, List, [], ◌∷◌, ◌++◌, length, Option, Some, None}
 use mathlib.Core.List.{IsPrefix}
 use Rattle.tp_model.specs.declared.types.Element.{Element}
 use Rattle.tp_model.specs.declared.types.Limits.{Limits}
 use Rattle.tp_model.specs.declared.event.Event.{Event}
-use Rattle.tp_model.specs.declared.event.Event.TheVariants.{Enqueue, Claim, Commit, Abort, Kill}
 use Rattle.tp_model.specs.declared.trace.TraceEntry.{TraceEntry}
-use Rattle.tp_model.specs.History.{In, IsClaim, element_of, status_of}
+use Rattle.tp_model.specs.History.{IsClaim, element_of, status_of}
 use Rattle.tp_model.specs.Drafts.{DraftView}
-use Rattle.tp_model.specs.Passes.{PassView, IsPassView, IsPoint, opening_of}
+use Rattle.tp_model.specs.Passes.{PassView, IsPassView, opening_of}
 use Rattle.tp_model.specs.Steps.{AreLimits}
 use Rattle.tp_rule.specs.Views.{Seated, IsOnePass, fresh_from, hand, view_of}
 use Rattle.tp_rule.specs.declared.view.Hand.{Hand}
@@ -19,7 +19,14 @@ use Rattle.tp_manager.specs.Calls.{HasStep, IsWaiting, claims_in}
 
 -- what a seat that stands for one pass shows of it
 abbrev pub pass_in : View → PassView
-pass_in v = record { number = (hand v).number; seen = v.seen; mine = (hand v).mine; open_unit = (hand v).open_unit; drawn = (hand v).drawn; trace = (hand v).trace }
+pass_in v = record {
+  number = (hand v).number;
+  seen = v.seen;
+  mine = (hand v).mine;
+  open_unit = (hand v).open_unit;
+  drawn = (hand v).drawn;
+  trace = (hand v).trace;
+}
 
 -- the seat stands for one pass, knows the limits, and shows what a pass shows
 pub record Steady (l : Limits) (v : View) : Type 0 where
@@ -60,7 +67,8 @@ unit_in (Some t) = Some t.unit
 -- pass c took an element of this root with this unit
 abbrev pub IsTask : List Event → ℕ → Option Task → Type 0
 IsTask h c None = Unit {0}
-IsTask h c (Some t) = (i : ℕ) × (n : ℕ) × (x : Element) × IsClaim h c t.unit i n × (element_of h i ≡ Some x) × (x.root ≡ t.root)
+IsTask h c (Some t) = (i : ℕ) × (n : ℕ) × (x : Element) × IsClaim h c t.unit i n
+    × (element_of h i ≡ Some x) × (x.root ≡ t.root)
 
 -- what is so of every pass between two calls
 pub record Rests (seat : Seated) (number drawn used : ℕ) (task : Option Task) : Type 0 where
@@ -88,7 +96,8 @@ pub record Keeps (seat : Seated) (limits : Limits) (given : ℕ) : Type 0 where
 
 -- an element of the stage that was born in row i in history a wasn't waiting in some history from a to b
 abbrev pub PassedBy : Limits → ℕ → ℕ → List Event → List Event → Type 0
-PassedBy l stage i a b = (x : Element) → element_of a i ≡ Some x → x.stage ≡ stage → (p : List Event) × IsPrefix a p × IsPrefix p b × ¬ IsWaiting (status_of l.attempts p i)
+PassedBy l stage i a b = (x : Element) → element_of a i ≡ Some x → x.stage ≡ stage
+    → (p : List Event) × IsPrefix a p × IsPrefix p b × ¬ IsWaiting (status_of l.attempts p i)
 
 -- the same of each row below n
 abbrev pub PassedBelow : Limits → ℕ → ℕ → List Event → List Event → Type 0

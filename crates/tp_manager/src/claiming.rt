@@ -16,7 +16,8 @@ impl Manager {
         requires free { pass.old.open_unit ≡ None }
         ensures own { IsOf self.now pass.new }
         ensures limits { AreLimits self.now.limits }
-        ensures follows { Follows (rows_of self.now.limits * (2 * self.now.limits.attempts + 9) + 1) pass.old pass.new }
+        ensures follows { let l = self.now.limits in
+            Follows (rows_of l * (2 * l.attempts + 9) + 1) pass.old pass.new }
         ensures answer { Claims self.now.limits stage pass.old pass.new result }
     {
         let seat = &mut pass.seat;

@@ -20,7 +20,8 @@ impl Shared {
         requires fits { unit < 65535 }
         requires open_unit { (hand_of seat.old).open_unit ≡ Some unit }
         ensures same { IsSameSeat seat.old seat.new }
-        ensures wrote { Wrote (limits_of self.now.words) (output unit root row draft ∷ []) (view_of seat.old) (view_of seat.new) }
+        ensures wrote { let l = limits_of self.now.words in
+            Wrote l (output unit root row draft ∷ []) (view_of seat.old) (view_of seat.new) }
         ensures staged { HasStage draft }
     {
         self.words.store_draft_key(seat, row, draft.key());
@@ -40,12 +41,16 @@ impl Shared {
     )
         requires own { IsSeatOf self.now.words seat.old }
         requires steady { Steady (limits_of self.now.words) (view_of seat.old) }
-        requires next { first ≡ (hand_of seat.old).number * (limits_of self.now.words).rows + (hand_of seat.old).drawn }
-        requires room { ((hand_of seat.old).drawn + length drafts.now ≤ (limits_of self.now.words).rows) × (first + length drafts.now ≤ rows_of (limits_of self.now.words)) }
+        requires next { let pass = hand_of seat.old in
+            first ≡ pass.number * (limits_of self.now.words).rows + pass.drawn }
+        requires room { let l = limits_of self.now.words in
+            ((hand_of seat.old).drawn + length drafts.now ≤ l.rows)
+            × (first + length drafts.now ≤ rows_of l) }
         requires fits { unit < 65535 }
         requires open_unit { (hand_of seat.old).open_unit ≡ Some unit }
         ensures same { IsSameSeat seat.old seat.new }
-        ensures wrote { Wrote (limits_of self.now.words) (outputs unit root first drafts.now) (view_of seat.old) (view_of seat.new) }
+        ensures wrote { let l = limits_of self.now.words in
+            Wrote l (outputs unit root first drafts.now) (view_of seat.old) (view_of seat.new) }
         ensures staged { All HasStage drafts.now }
     {
         for i in 0..drafts.len() {

@@ -26,9 +26,10 @@ impl Shared {
         requires found { claim_word (seen_by seat.old) row ≡ TakenWord attempt unit }
         requires free { (hand_of seat.old).open_unit ≡ None }
         ensures same { IsSameSeat seat.old seat.new }
-        ensures told { MatchResult result
-            (λ count. Loosened (limits_of self.now.words) row unit count (view_of seat.old) (view_of seat.new))
-            (λ refusal. Looked (limits_of self.now.words) 2 (view_of seat.old) (view_of seat.new) × IsPastKill (limits_of self.now.words) (seen_by seat.new) row refusal) }
+        ensures told { let l = limits_of self.now.words in MatchResult result
+            (λ count. Loosened l row unit count (view_of seat.old) (view_of seat.new))
+            (λ refusal. Looked l 2 (view_of seat.old) (view_of seat.new)
+            × IsPastKill l (seen_by seat.new) row refusal) }
     {
         if self.words.abort_exchange(seat, unit) {
             return Ok(1);
@@ -46,13 +47,14 @@ impl Shared {
         requires own { IsSeatOf self.now.words seat.old }
         requires steady { Steady (limits_of self.now.words) (view_of seat.old) }
         requires row { (row < rows_of (limits_of self.now.words)) × HasElement (seen_by seat.old) row }
-        requires found { (claim_value claim ≡ claim_word (seen_by seat.old) row) × IsFitClaim (claim_value claim) }
+        requires found { (claim_value claim ≡ claim_word (seen_by seat.old) row)
+            × IsFitClaim (claim_value claim) }
         requires free { (hand_of seat.old).open_unit ≡ None }
         requires enough { IsEnoughToKill (limits_of self.now.words) left (claim_value claim) }
         ensures same { IsSameSeat seat.old seat.new }
-        ensures told { MatchResult result
-            (λ count. KillsIn (limits_of self.now.words) (4 * left) row left count (view_of seat.old) (view_of seat.new))
-            (λ refusal. FailsIn (limits_of self.now.words) (4 * left) row left refusal (view_of seat.old) (view_of seat.new)) }
+        ensures told { let l = limits_of self.now.words in MatchResult result
+            (λ count. KillsIn l (4 * left) row left count (view_of seat.old) (view_of seat.new))
+            (λ refusal. FailsIn l (4 * left) row left refusal (view_of seat.old) (view_of seat.new)) }
     {
         match claim {
             Claim::Free => unreachable!(),
@@ -84,9 +86,9 @@ impl Shared {
         requires row { (row < rows_of (limits_of self.now.words)) × HasElement (seen_by seat.old) row }
         requires free { (hand_of seat.old).open_unit ≡ None }
         ensures same { IsSameSeat seat.old seat.new }
-        ensures told { MatchResult result
-            (λ count. KillsIn (limits_of self.now.words) (4 * (limits_of self.now.words).attempts + 3) row (limits_of self.now.words).attempts count (view_of seat.old) (view_of seat.new))
-            (λ refusal. FailsIn (limits_of self.now.words) (4 * (limits_of self.now.words).attempts + 3) row (limits_of self.now.words).attempts refusal (view_of seat.old) (view_of seat.new)) }
+        ensures told { let l = limits_of self.now.words in let n = 4 * l.attempts + 3 in MatchResult result
+            (λ count. KillsIn l n row l.attempts count (view_of seat.old) (view_of seat.new))
+            (λ refusal. FailsIn l n row l.attempts refusal (view_of seat.old) (view_of seat.new)) }
     {
         let left = self.places.limits.attempts;
         let claim = self.words.load_claim(seat, row);

@@ -1,5 +1,5 @@
 //! The next reply to a request, and the next element of the error queue.
-ghost use Rattle.std.specs.Prelude.{◌≡◌, ◌+◌, ◌*◌, ◌<◌, ◌≤◌, MatchOption, true, false};
+ghost use Rattle.std.specs.Prelude.{◌≡◌, ◌+◌, ◌*◌, ◌<◌, ◌≤◌, IfSome, MatchOption, true, false};
 ghost use Rattle.tp_model.specs.History.{IsUnborn, status_of};
 ghost use Rattle.tp_model.specs.Steps.{rows_of};
 ghost use Rattle.tp_rule.specs.Views.{seen_by, view_of, IsSameSeat};
@@ -47,9 +47,12 @@ impl Shared {
         requires steady { Steady (limits_of self.now.words) (view_of seat.old) }
         requires row { row < rows_of (limits_of self.now.words) }
         ensures same { IsSameSeat seat.old seat.new }
-        ensures looked { Looked (limits_of self.now.words) (2 * (limits_of self.now.words).attempts + 4) (view_of seat.old) (view_of seat.new) }
-        ensures told { MatchOption result (IsUnborn (seen_by seat.old) row)
-            (λ found. IsThere (seen_by seat.new) row found.0 × (found.1 ≡ status_of (limits_of self.now.words).attempts (seen_by seat.new) row)) }
+        ensures looked { let l = limits_of self.now.words in
+            Looked l (2 * l.attempts + 4) (view_of seat.old) (view_of seat.new) }
+        ensures told { MatchOption result
+            (IsUnborn (seen_by seat.old) row)
+            (λ found. IsThere (seen_by seat.new) row found.0
+            × (found.1 ≡ status_of (limits_of self.now.words).attempts (seen_by seat.new) row)) }
     {
         let head = self.head_at(seat, row);
         let Some(birth) = self.birth_from(seat, row, head) else {
@@ -65,9 +68,11 @@ impl Shared {
         requires steady { Steady (limits_of self.now.words) (view_of seat.old) }
         requires row { row < rows_of (limits_of self.now.words) }
         ensures same { IsSameSeat seat.old seat.new }
-        ensures looked { Looked (limits_of self.now.words) (2 * (limits_of self.now.words).attempts + 4) (view_of seat.old) (view_of seat.new) }
+        ensures looked { let l = limits_of self.now.words in
+            Looked l (2 * l.attempts + 4) (view_of seat.old) (view_of seat.new) }
         ensures yes { result ≡ true → Hits (limits_of self.now.words) wanted row (seen_by seat.new) }
-        ensures no { result ≡ false → PassedOver (limits_of self.now.words) wanted row (seen_by seat.old) (seen_by seat.new) }
+        ensures no { result ≡ false
+            → PassedOver (limits_of self.now.words) wanted row (seen_by seat.old) (seen_by seat.new) }
     {
         let Some((birth, status)) = self.standing_at(seat, row) else {
             return false;
@@ -81,11 +86,13 @@ impl Shared {
         requires steady { Steady (limits_of self.now.words) (view_of seat.old) }
         requires from { from < rows_of (limits_of self.now.words) }
         ensures same { IsSameSeat seat.old seat.new }
-        ensures looked { Looked (limits_of self.now.words) (rows_of (limits_of self.now.words) * (2 * (limits_of self.now.words).attempts + 4)) (view_of seat.old) (view_of seat.new) }
-        ensures told { MatchOption result
-            (PassedFrom (limits_of self.now.words) wanted from (rows_of (limits_of self.now.words)) (seen_by seat.old) (seen_by seat.new))
-            (λ id. (from ≤ id) × Hits (limits_of self.now.words) wanted id (seen_by seat.new)
-            × PassedFrom (limits_of self.now.words) wanted from id (seen_by seat.old) (seen_by seat.new)) }
+        ensures looked { let l = limits_of self.now.words in
+            Looked l (rows_of l * (2 * l.attempts + 4)) (view_of seat.old) (view_of seat.new) }
+        ensures inside { IfSome result (λ id. id < rows_of (limits_of self.now.words)) }
+        ensures told { let l = limits_of self.now.words in MatchOption result
+            (PassedFrom l wanted from (rows_of l) (seen_by seat.old) (seen_by seat.new))
+            (λ id. (from ≤ id) × Hits l wanted id (seen_by seat.new)
+            × PassedFrom l wanted from id (seen_by seat.old) (seen_by seat.new)) }
     {
         let rows = self.places.rows();
         for row in from..rows {
@@ -102,10 +109,13 @@ impl Manager {
     pub fn reply(&self, pass: &mut Pass, root: u32, from: u32) -> Option<u32>
         requires own { IsOf self.now pass.old }
         ensures own { IsOf self.now pass.new }
-        ensures follows { Follows (rows_of self.now.limits * (2 * self.now.limits.attempts + 8)) pass.old pass.new }
+        ensures follows { let l = self.now.limits in
+            Follows (rows_of l * (2 * l.attempts + 8)) pass.old pass.new }
         ensures quiet { IsQuiet pass.old pass.new }
         ensures looks { from < rows_of self.now.limits → HasLooked pass.old pass.new }
-        ensures answer { MatchOption result (AllKilled self.now.limits root (λ i. from ≤ i) pass.old pass.new)
+        ensures inside { IfSome result (λ id. id < rows_of self.now.limits) }
+        ensures answer { MatchOption result
+            (AllKilled self.now.limits root (λ i. from ≤ i) pass.old pass.new)
             (λ id. NextReply self.now.limits root from id pass.old pass.new) }
     {
         let seat = &mut pass.seat;
@@ -120,10 +130,13 @@ impl Manager {
     pub fn next_error(&self, pass: &mut Pass, from: u32) -> Option<u32>
         requires own { IsOf self.now pass.old }
         ensures own { IsOf self.now pass.new }
-        ensures follows { Follows (rows_of self.now.limits * (2 * self.now.limits.attempts + 8)) pass.old pass.new }
+        ensures follows { let l = self.now.limits in
+            Follows (rows_of l * (2 * l.attempts + 8)) pass.old pass.new }
         ensures quiet { IsQuiet pass.old pass.new }
         ensures looks { from < rows_of self.now.limits → HasLooked pass.old pass.new }
-        ensures answer { MatchOption result (NoneParked self.now.limits (λ i. from ≤ i) pass.old pass.new)
+        ensures inside { IfSome result (λ id. id < rows_of self.now.limits) }
+        ensures answer { MatchOption result
+            (NoneParked self.now.limits (λ i. from ≤ i) pass.old pass.new)
             (λ id. NextError self.now.limits from id pass.old pass.new) }
     {
         let seat = &mut pass.seat;

@@ -43,7 +43,9 @@ impl Shared {
         requires told { HeadTold (seen_by seat.old) row head }
         ensures same { IsSameSeat seat.old seat.new }
         ensures looked { Looked (limits_of self.now.words) 2 (view_of seat.old) (view_of seat.new) }
-        ensures told { MatchOption result (IsUnborn (seen_by seat.old) row) (λ birth. IsThere (seen_by seat.new) row birth) }
+        ensures told { MatchOption result
+            (IsUnborn (seen_by seat.old) row)
+            (λ birth. IsThere (seen_by seat.new) row birth) }
     {
         let Head::There { stage, root, by } = head else {
             return None;
@@ -113,11 +115,13 @@ impl Shared {
         requires own { IsSeatOf self.now.words seat.old }
         requires steady { Steady (limits_of self.now.words) (view_of seat.old) }
         requires row { row < rows_of (limits_of self.now.words) }
-        requires found { (claim_value claim ≡ claim_word (seen_by seat.old) row) × IsFitClaim (claim_value claim) }
+        requires found { (claim_value claim ≡ claim_word (seen_by seat.old) row)
+            × IsFitClaim (claim_value claim) }
         requires enough { IsEnough (limits_of self.now.words) left (claim_value claim) }
         ensures same { IsSameSeat seat.old seat.new }
         ensures looked { Looked (limits_of self.now.words) (2 * left) (view_of seat.old) (view_of seat.new) }
-        ensures claim { (claim_value result.0 ≡ claim_word (seen_by seat.new) row) × IsFitClaim (claim_value result.0) }
+        ensures claim { (claim_value result.0 ≡ claim_word (seen_by seat.new) row)
+            × IsFitClaim (claim_value result.0) }
         ensures status { result.1 ≡ status_of (limits_of self.now.words).attempts (seen_by seat.new) row }
     {
         match claim {
@@ -150,8 +154,10 @@ impl Shared {
         requires steady { Steady (limits_of self.now.words) (view_of seat.old) }
         requires row { row < rows_of (limits_of self.now.words) }
         ensures same { IsSameSeat seat.old seat.new }
-        ensures acted { Acted (limits_of self.now.words) (1 + 2 * (limits_of self.now.words).attempts) (view_of seat.old) (view_of seat.new) }
-        ensures claim { (claim_value result.0 ≡ claim_word (seen_by seat.new) row) × IsFitClaim (claim_value result.0) }
+        ensures acted { let l = limits_of self.now.words in
+            Acted l (1 + 2 * l.attempts) (view_of seat.old) (view_of seat.new) }
+        ensures claim { (claim_value result.0 ≡ claim_word (seen_by seat.new) row)
+            × IsFitClaim (claim_value result.0) }
         ensures status { result.1 ≡ status_of (limits_of self.now.words).attempts (seen_by seat.new) row }
     {
         let claim = self.words.load_claim(seat, row);

@@ -39,11 +39,12 @@ pub struct Manager {
 }
 
 impl Model for Manager {
+    ghost use Rattle.tp_rule.specs.Tables.{table_of};
     ghost use Rattle.tp_manager.specs.Shown.{ManagerShown};
 
     ghost Value = { ManagerShown };
 
-    ghost view = { λ m. record { table = m.shared.words.table.shared.table_id; limits = m.shared.places.limits } };
+    ghost view = { λ m. record { table = table_of m.shared.words; limits = m.shared.places.limits } };
 }
 
 /// What gives out the passes of a manager.
@@ -128,10 +129,13 @@ impl Keeper {
     pub fn pass(&mut self, manager: &Manager) -> Result<Pass, MakeFault>
         requires keeper { IsKeptBy manager.now self.old }
         ensures keeper { IsKeptBy manager.now self.new }
-        ensures own { IfOk result (λ pass. IsOf manager.now pass × IsPassView pass.limits (view_in pass)) }
-        ensures fresh { IfOk result (λ pass. (pass.number ≡ self.old.given) × (pass.mine ≡ []) × (pass.seen ≡ []) × (pass.open_unit ≡ None) × (pass.drawn ≡ 0)) }
+        ensures own { IfOk result (λ pass. IsOf manager.now pass
+            × IsPassView pass.limits (view_in pass)) }
+        ensures fresh { IfOk result (λ pass. (pass.number ≡ self.old.given) × (pass.mine ≡ [])
+            × (pass.seen ≡ []) × (pass.open_unit ≡ None) × (pass.drawn ≡ 0)) }
         ensures given { IfOk result (λ pass. self.new.given ≡ self.old.given + 1) }
-        ensures none { IfErr result (λ fault. (fault ≡ faults.NoPart) × (self.old.given ≡ self.old.limits.parts) × (self.new ≡ self.old)) }
+        ensures none { IfErr result (λ fault. (fault ≡ faults.NoPart)
+            × (self.old.given ≡ self.old.limits.parts) × (self.new ≡ self.old)) }
     {
         if self.given == self.limits.parts {
             return Err(MakeFault::NoPart);

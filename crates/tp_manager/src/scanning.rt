@@ -43,10 +43,10 @@ impl Shared {
         requires stage { IsServerStage stage }
         requires spare { IsSpare unit (view_of seat.old) × (unit < 65535) }
         ensures same { IsSameSeat seat.old seat.new }
-        ensures told { MatchOption result
-            (Looked (limits_of self.now.words) (2 * (limits_of self.now.words).attempts + 9) (view_of seat.old) (view_of seat.new)
-            × PassedBy (limits_of self.now.words) stage row (seen_by seat.old) (seen_by seat.new))
-            (λ t. Took (limits_of self.now.words) (2 * (limits_of self.now.words).attempts + 9) stage unit (view_of seat.old) (view_of seat.new) t.element t.attempt
+        ensures told { let l = limits_of self.now.words in let n = 2 * l.attempts + 9 in MatchOption result
+            (Looked l n (view_of seat.old) (view_of seat.new)
+            × PassedBy l stage row (seen_by seat.old) (seen_by seat.new))
+            (λ t. Took l n stage unit (view_of seat.old) (view_of seat.new) t.element t.attempt
             × (t.element.root ≡ t.root)) }
     {
         let head = self.head_at(seat, row);
@@ -82,10 +82,11 @@ impl Shared {
         requires stage { IsServerStage stage }
         requires spare { IsSpare unit (view_of seat.old) × (unit < 65535) }
         ensures same { IsSameSeat seat.old seat.new }
-        ensures told { MatchOption result
-            (Looked (limits_of self.now.words) (rows_of (limits_of self.now.words) * (2 * (limits_of self.now.words).attempts + 9)) (view_of seat.old) (view_of seat.new)
-            × PassedBelow (limits_of self.now.words) stage (rows_of (limits_of self.now.words)) (seen_by seat.old) (seen_by seat.new))
-            (λ t. Took (limits_of self.now.words) (rows_of (limits_of self.now.words) * (2 * (limits_of self.now.words).attempts + 9)) stage unit (view_of seat.old) (view_of seat.new) t.element t.attempt
+        ensures told { let l = limits_of self.now.words in
+            let n = rows_of l * (2 * l.attempts + 9) in MatchOption result
+            (Looked l n (view_of seat.old) (view_of seat.new)
+            × PassedBelow l stage (rows_of l) (seen_by seat.old) (seen_by seat.new))
+            (λ t. Took l n stage unit (view_of seat.old) (view_of seat.new) t.element t.attempt
             × (t.element.root ≡ t.root)) }
     {
         let rows = self.places.rows();

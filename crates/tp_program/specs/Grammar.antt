@@ -1,20 +1,21 @@
 -- What a script says, line by line, or its first fault.
-use Rattle.std.specs.Prelude.{ℕ, ◌+◌, ◌-◌, ◌^◌, List, [], ◌∷◌, ◌++◌, length, Bool, false, not, ◌&&◌, Result, Ok, Err, nat_lt, nat_le, ◌==◌, if◌then◌else◌}
+use Rattle.std.specs.Prelude.{ℕ, ◌+◌, ◌-◌, ◌^◌, List, [], ◌∷◌, length, Bool, false, not, ◌&&◌, Result, Ok, Err, nat_lt, nat_le, ◌==◌, if◌then◌else◌}
 use Rattle.std.specs.List.{list_all}
 use Rattle.tp_program.specs.declared.source.TheConstants.{MOST_BYTES}
 use Rattle.tp_program.specs.declared.fault.LineFault.{LineFault}
-use Rattle.tp_program.specs.declared.fault.LineFault.TheVariants.{Syntax, BadLimits, BadName, TooLong, Order}
+use Rattle.tp_program.specs.declared.fault.LineFault.TheVariants.{Syntax, BadLimits, TooLong, Order}
 use Rattle.tp_program.specs.declared.fault.Refused.{Refused}
 use Rattle.tp_program.specs.declared.keyword.Keyword.{Keyword}
 use Rattle.tp_program.specs.declared.keyword.Keyword.TheVariants as first
-use Rattle.tp_program.specs.declared.script.Command.{Command}
-use Rattle.tp_program.specs.declared.script.Command.TheVariants.{Submit, Turn, Reply}
+use Rattle.tp_program.specs.declared.reach.Reach.{Reach}
 use Rattle.tp_program.specs.Fault.{number_of}
 use Rattle.tp_program.specs.Text.{lines, words}
-use Rattle.tp_program.specs.Keyword.{keyword}
+use Rattle.tp_program.specs.Commands.{command_at, with_command}
+use Rattle.tp_program.specs.Keyword.{keyword, first_reach}
+use Rattle.tp_program.specs.Reach.{has}
 use Rattle.tp_program.specs.Script.{ScriptView}
-use Rattle.tp_program.specs.ServerLines.{has_commands, server_at, server_line, start_line}
-use Rattle.tp_program.specs.Terms.{◌>>=◌, require, known, one, three, number_at, is_name}
+use Rattle.tp_program.specs.ServerLines.{has_commands, server_line, start_line}
+use Rattle.tp_program.specs.Terms.{◌>>=◌, require, known, one, three, number_at}
 
 -- ---- settings
 
@@ -44,50 +45,28 @@ limit_line w s = do
   n ← setting_at 7 w s
   Ok (record s { settings = record s.settings { attempts = n } })
 
--- ---- commands
-
--- the script with one command more
-abbrev pub with_command : Command → ScriptView → ScriptView
-with_command c s = record s { commands = s.commands ++ c ∷ [] }
-
--- `submit STAGE KEY AMOUNT`
-unfoldable pub submit_line : List ℕ × List ℕ × List ℕ → ScriptView → Result ScriptView LineFault
-submit_line (stage, key, amount) s = do
-  stage ← number_at 255 stage
-  key ← number_at (2 ^ 64 - 1) key
-  amount ← number_at (2 ^ 64 - 1) amount
-  Ok (with_command (Submit stage key amount) s)
-
--- `turn NAME`
-unfoldable pub turn_line : List ℕ → ScriptView → Result ScriptView LineFault
-turn_line name s = do
-  _ ← require (is_name name) BadName
-  server ← server_at name s
-  Ok (with_command (Turn server) s)
-
--- `reply ROOT`
-unfoldable pub reply_line : List ℕ → ScriptView → Result ScriptView LineFault
-reply_line root s = do
-  root ← number_at (2 ^ 32 - 1) root
-  Ok (with_command (Reply root) s)
-
 -- ---- a whole line, and all lines
 
 -- a line of this first word, with the words behind it
-unfoldable pub keyword_line : Keyword → List (List ℕ) → ScriptView → Result ScriptView LineFault
-keyword_line first.Rows ws s = one ws >>= λ w. rows_line w s
-keyword_line first.Units ws s = one ws >>= λ w. units_line w s
-keyword_line first.Limit ws s = one ws >>= λ w. limit_line w s
-keyword_line first.Server ws s = server_line ws s
-keyword_line first.Start ws s = three ws >>= λ w. start_line w s
-keyword_line first.Submit ws s = three ws >>= λ w. submit_line w s
-keyword_line first.Turn ws s = one ws >>= λ w. turn_line w s
-keyword_line first.Reply ws s = one ws >>= λ w. reply_line w s
+unfoldable pub keyword_line : Reach → Keyword → List (List ℕ) → ScriptView → Result ScriptView LineFault
+keyword_line reach first.Rows ws s = one ws >>= λ w. rows_line w s
+keyword_line reach first.Units ws s = one ws >>= λ w. units_line w s
+keyword_line reach first.Limit ws s = one ws >>= λ w. limit_line w s
+keyword_line reach first.Server ws s = server_line reach ws s
+keyword_line reach first.Start ws s = three ws >>= λ w. start_line w s
+keyword_line reach (first.Do verb) ws s = command_at verb ws s >>= λ c. with_command c s
+
+-- the keyword that a word is, where the script may have such a line
+unfoldable pub first_word : Reach → List ℕ → Result Keyword LineFault
+first_word reach w = do
+  k ← known (keyword w) Syntax
+  _ ← require (has reach (first_reach k)) Syntax
+  Ok k
 
 -- a line of these words says nothing where there are none
-unfoldable pub words_line : List (List ℕ) → ScriptView → Result ScriptView LineFault
-words_line [] s = Ok s
-words_line (w ∷ ws) s = known (keyword w) Syntax >>= λ k. keyword_line k ws s
+unfoldable pub words_line : Reach → List (List ℕ) → ScriptView → Result ScriptView LineFault
+words_line reach [] s = Ok s
+words_line reach (w ∷ ws) s = first_word reach w >>= λ k. keyword_line reach k ws s
 
 -- a line that begins with `#`
 abbrev pub is_comment : List ℕ → Bool
@@ -95,11 +74,11 @@ is_comment [] = false
 is_comment (b ∷ bs) = b == 35
 
 -- a line of at most 200 bytes, each a space or visible
-unfoldable pub line_at : List ℕ → ScriptView → Result ScriptView LineFault
-line_at line s = do
+unfoldable pub line_at : Reach → List ℕ → ScriptView → Result ScriptView LineFault
+line_at reach line s = do
   _ ← require (nat_le (length line) 200) TooLong
   _ ← require (list_all (λ b. nat_le 32 b && nat_le b 126) line) Syntax
-  if is_comment line then Ok s else words_line (words line) s
+  if is_comment line then Ok s else words_line reach (words line) s
 
 -- what the others say, unless line n has a fault
 abbrev pub at_line : ℕ → Result ScriptView LineFault → (ScriptView → Result ScriptView Refused) → Result ScriptView Refused
@@ -107,14 +86,14 @@ at_line n (Ok s) others = others s
 at_line n (Err fault) others = Err (record { line = n; number = number_of fault })
 
 -- the lines from number n on
-unfoldable pub lines_from : ℕ → List (List ℕ) → ScriptView → Result ScriptView Refused
-lines_from n [] s = Ok s
-lines_from n (line ∷ others) s = at_line n (line_at line s) (λ t. lines_from (n + 1) others t)
+unfoldable pub lines_from : Reach → ℕ → List (List ℕ) → ScriptView → Result ScriptView Refused
+lines_from reach n [] s = Ok s
+lines_from reach n (line ∷ others) s = at_line n (line_at reach line s) (λ t. lines_from reach (n + 1) others t)
 
 -- a script without lines
 abbrev pub no_lines : ScriptView
 no_lines = record { settings = record { rows = 64; units = 256; attempts = 3 }; servers = []; commands = [] }
 
--- what the bytes of a script say, or the line and number of its first fault
-unfoldable pub script : List ℕ → Result ScriptView Refused
-script bytes = if nat_lt MOST_BYTES (length bytes) then Err (record { line = 0; number = number_of TooLong }) else lines_from 1 (lines bytes) no_lines
+-- what the bytes of a script say that may go so far, or the line and number of its first fault
+unfoldable pub script : Reach → List ℕ → Result ScriptView Refused
+script reach bytes = if nat_lt MOST_BYTES (length bytes) then Err (record { line = 0; number = number_of TooLong }) else lines_from reach 1 (lines bytes) no_lines

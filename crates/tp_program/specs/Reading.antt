@@ -11,6 +11,8 @@ use Rattle.tp_program.specs.declared.servers.Shape.{Shape}
 use Rattle.tp_program.specs.Fault.{number_of}
 use Rattle.tp_program.specs.Script.{ScriptView, script_view}
 use Rattle.tp_program.specs.ServerLines as lines
+use Rattle.tp_program.specs.declared.commands.RaceWords.{RaceWords}
+use Rattle.tp_program.specs.Commands as commands
 
 -- a fault is the one that is said, and a lack of memory may always come
 abbrev pub Fails : {Y : Type 0} → LineError → Result Y LineFault → Type 0
@@ -29,6 +31,10 @@ GivesScript s r read = Gives (λ _. script_view s) r read
 -- the words of a server line, without where they lie in memory
 abbrev pub shape_view : Shape → lines.Shape
 shape_view s = record { name = s.name.now; kind = s.kind; stage = s.stage.now; registers = s.registers.now; act = s.act; outputs = map (λ x. x.now) s.outputs.now }
+
+-- the words of a race line, without where they lie in memory
+abbrev pub race_view : RaceWords → commands.RaceWords
+race_view w = record { clients = w.clients.now; submits = w.submits.now; stage = w.stage.now; key = w.key.now; amount = w.amount.now; cancellers = w.cancellers.now; turns = w.turns.now }
 
 -- the answer is this script or this refusal, unless memory ran out or the reader stopped
 abbrev pub Answers : Result Script ReadFault → Result ScriptView Refused → Type 0

@@ -1,6 +1,7 @@
 -- What is reported of a script: the run of one thread over its commands, with the registers of its server.
-use Rattle.std.specs.Prelude.{ℕ, zero, suc, ◌+◌, ◌==◌, ◌&&◌, List, [], ◌∷◌, ◌++◌, length, replicate, Bool, Option, Some, None, Result, Ok, Err, codes, decimal, slice_get, if◌then◌else◌}
+use Rattle.std.specs.Prelude.{ℕ, zero, suc, ◌+◌, ◌==◌, ◌&&◌, List, [], ◌∷◌, ◌++◌, length, replicate, Bool, Option, Some, None, Result, Ok, Err, slice_get, if◌then◌else◌}
 use Rattle.std.specs.List.{flat_map}
+use Rattle.tp_model.specs.declared.types.Element.{Element}
 use Rattle.tp_model.specs.declared.types.Limits.{Limits}
 use Rattle.tp_model.specs.declared.types.Look.{Look}
 use Rattle.tp_model.specs.declared.types.Work.{Work}
@@ -21,7 +22,8 @@ use Rattle.tp_program.specs.declared.script.Command.TheVariants.{Submit, Turn, R
 use Rattle.tp_program.specs.declared.answer.Turned.{Turned}
 use Rattle.tp_program.specs.declared.answer.Turned.TheVariants as turned
 use Rattle.tp_program.specs.declared.fault.Refused.{Refused}
-use Rattle.tp_program.specs.Answer.{◌<>◌, turn_text, submit_text, refused_text}
+use Rattle.tp_program.specs.declared.answer.ServerAnswer.TheVariants as told
+use Rattle.tp_program.specs.Answer.{line, submitted_text, refusal_text, named_text, replies_text, final_text, refused_text}
 use Rattle.tp_program.specs.Script.{ScriptView, ServerView}
 
 -- the manager of one thread, and the registers of the server
@@ -62,58 +64,69 @@ turn_of server s = turned_by server (claim_of_stage s.manager worker server.reci
 
 -- ---- each command: its line, and the state after it
 
+-- what a submit is told as
+abbrev pub submit_text : Result ℕ Refusal → List ℕ
+submit_text (Ok id) = submitted_text id
+submit_text (Err why) = refusal_text why
+
 -- a submit by the client
 abbrev pub submit_step : ℕ → ℕ → ℕ → State → List ℕ × State
 submit_step stage key amount s =
     let answer = submit_of s.manager client stage key amount in
-    (submit_text answer.0, record { manager = answer.1; registers = s.registers })
+    (line (submit_text answer.0), record { manager = answer.1; registers = s.registers })
 
 -- a turn of the server
 abbrev pub turn_step : ServerView → State → List ℕ × State
-turn_step server s = let turn = turn_of server s in (turn_text server.name turn.0, turn.1)
+turn_step server s = let turn = turn_of server s in (line (named_text server.name (told.Turned turn.0)), turn.1)
 
 -- whether a look shows a reply to this request
 abbrev pub is_reply : ℕ → Look → Bool
 is_reply root look = (look.element.stage == 15) && (look.element.root == root) && is_waiting look.status
 
--- what a list of replies says of what a read gave
-abbrev pub reply_text : ℕ → Result Look Refusal → List ℕ
-reply_text root (Ok look) = if is_reply root look then codes " " <> decimal look.element.id <> codes ":" <> decimal look.element.key <> codes ":" <> decimal look.element.amount else []
-reply_text root (Err why) = []
+-- the reply to this request that a read gave, if it gave one
+abbrev pub reply_of : ℕ → Result Look Refusal → Option Element
+reply_of root (Ok look) = if is_reply root look then Some look.element else None
+reply_of root (Err why) = None
+
+-- the elements, and one more if there is one
+abbrev pub with_last : List Element → Option Element → List Element
+with_last es (Some e) = es ++ e ∷ []
+with_last es None = es
 
 -- the replies to a request with ids below a bound, in ascending order
-unfoldable pub replies_below : thread.State → ℕ → ℕ → List ℕ
+unfoldable pub replies_below : thread.State → ℕ → ℕ → List Element
 replies_below manager root zero = []
-replies_below manager root (suc id) = replies_below manager root id ++ reply_text root (read_of manager id)
+replies_below manager root (suc id) = with_last (replies_below manager root id) (reply_of root (read_of manager id))
 
 -- the replies to a request
 abbrev pub reply_step : ℕ → State → List ℕ × State
-reply_step root s = (codes "replies " <> decimal root <> replies_below s.manager root (rows_of s.manager.limits) <> codes "\n", s)
+reply_step root s = (line (replies_text root (replies_below s.manager root (rows_of s.manager.limits))), s)
 
 -- a turn of the server at a place; there is always one
 abbrev pub turn_at : Option ServerView → State → List ℕ × State
 turn_at (Some server) s = turn_step server s
 turn_at None s = ([], s)
 
--- one command
+-- one command; those that a script of the plain reach doesn't have write nothing
 abbrev pub command_step : List ServerView → Command → State → List ℕ × State
 command_step servers (Submit stage key amount) s = submit_step stage key amount s
 command_step servers (Turn server) s = turn_at (slice_get servers server) s
 command_step servers (Reply root) s = reply_step root s
+command_step servers other s = ([], s)
 
 -- ---- the whole report
 
 -- the final line of a server
 abbrev pub final_line : State → ServerView → List ℕ
-final_line s server = codes "final " <> server.name <> flat_map (λ v. codes " " <> decimal v) s.registers <> codes "\n"
+final_line s server = line (final_text server.name s.registers)
 
 -- the final lines
-abbrev pub final_text : List ServerView → State → List ℕ
-final_text servers s = flat_map (final_line s) servers
+abbrev pub final_lines : List ServerView → State → List ℕ
+final_lines servers s = flat_map (final_line s) servers
 
 -- what the commands from here on write, and then the final lines
 unfoldable pub reports : List ServerView → List Command → State → List ℕ
-reports servers [] s = final_text servers s
+reports servers [] s = final_lines servers s
 reports servers (c ∷ cs) s = let step = command_step servers c s in step.0 ++ reports servers cs step.1
 
 -- a pass for the client, and one for each server
@@ -136,4 +149,4 @@ report s = reports s.servers s.commands (begin s)
 -- the report of what a script's bytes say: of a refusal the one line of it
 abbrev pub report_of : Result ScriptView Refused → List ℕ
 report_of (Ok s) = report s
-report_of (Err r) = refused_text r
+report_of (Err r) = line (refused_text r)

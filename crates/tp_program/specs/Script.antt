@@ -1,11 +1,12 @@
 -- A script as contracts see it, without where it lies in memory.
-use Rattle.std.specs.Prelude.{ℕ, List, map, string_bytes}
+use Rattle.std.specs.Prelude.{ℕ, ◌+◌, List, length, map, string_bytes}
 use Rattle.tp_server.specs.declared.recipe.Recipe.{Recipe}
 use Rattle.tp_program.specs.declared.script.Kind.{Kind}
 use Rattle.tp_program.specs.declared.script.Settings.{Settings}
 use Rattle.tp_program.specs.declared.script.Command.{Command}
 use Rattle.tp_program.specs.declared.script.ScriptServer.{ScriptServer}
 use Rattle.tp_program.specs.declared.script.Script.{Script}
+use Rattle.tp_program.specs.Passes.{racing}
 
 -- the limits that a script sets
 pub record SettingsView : Type 0 where
@@ -25,6 +26,10 @@ pub record ScriptView : Type 0 where
   pub settings : SettingsView
   pub servers : List ServerView
   pub commands : List Command
+
+-- how many passes a script needs: the client's, one for each server, and those of its races
+abbrev pub passes : ScriptView → ℕ
+passes s = 1 + length s.servers + racing s.commands
 
 -- what settings show
 abbrev pub settings_view : Settings → SettingsView

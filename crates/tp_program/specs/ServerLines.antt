@@ -8,7 +8,8 @@ use Rattle.tp_server.specs.Check.{check_of}
 use Rattle.tp_program.specs.declared.fault.LineFault.{LineFault}
 use Rattle.tp_program.specs.declared.fault.LineFault.TheVariants.{Syntax, BadLimits, BadRecipe, BadName, Order}
 use Rattle.tp_program.specs.declared.script.Kind.{Kind}
-use Rattle.tp_program.specs.declared.script.TheConstants.{MOST_SERVERS}
+use Rattle.tp_program.specs.declared.reach.Reach.{Reach}
+use Rattle.tp_program.specs.Reach.{most_servers}
 use Rattle.tp_program.specs.Terms.{◌>>=◌, require, known, number_at, is_name, kind_at, act_at, is_output, outputs_at}
 use Rattle.tp_program.specs.Script.{ScriptView, ServerView}
 
@@ -58,16 +59,20 @@ registers_for recipe = do
   _ ← require (is_ok (check_of recipe)) BadRecipe
   Ok (replicate recipe.registers 0)
 
+-- the script with one server more
+abbrev pub with_server : ServerView → ScriptView → ScriptView
+with_server server s = record s { servers = s.servers ++ server ∷ [] }
+
 -- `server NAME KIND STAGE REGISTERS ACT OUT..`
-unfoldable pub server_line : List (List ℕ) → ScriptView → Result ScriptView LineFault
-server_line ws s = do
+unfoldable pub server_line : Reach → List (List ℕ) → ScriptView → Result ScriptView LineFault
+server_line reach ws s = do
   shape ← shape_at ws
   _ ← require (not (has_commands s)) Order
   name ← new_name shape.name s
   recipe ← recipe_at shape
-  _ ← require (nat_lt (length s.servers) MOST_SERVERS) BadLimits
+  _ ← require (nat_lt (length s.servers) (most_servers reach)) BadLimits
   registers ← registers_for recipe
-  Ok (record s { servers = s.servers ++ record { name = name; kind = shape.kind; recipe = recipe; registers = registers } ∷ [] })
+  Ok (with_server (record { name = name; kind = shape.kind; recipe = recipe; registers = registers }) s)
 
 -- register k of a server begins with v
 unfoldable pub begun : ℕ → ℕ → ServerView → Result ServerView LineFault

@@ -1,12 +1,11 @@
-//! The lines of a report.
+//! The answers that commands come to. Each is one line of the report; `display.rt` says how they are told.
 ghost use Rattle.std.specs.Prelude.{◌≡◌, IfOk, string_bytes};
-ghost use Rattle.tp_program.specs.Answer.{turn_text, submit_text, refusal_text, refused_text};
-ghost use Rattle.tp_program.specs.Fault.{fault_name};
+ghost use Rattle.tp_program.specs.Answer.{answer_text, refused_text, line};
 
 use crate::fault::Refused;
 use std::alloc::{AllocError, Global};
 use std::string::String;
-use tp_model::types::Refusal;
+use tp_model::types::{Element, Look, Refusal};
 use tp_server::Declined;
 
 /// What a turn of a server came to. Elements are given by their ids.
@@ -38,73 +37,107 @@ pub enum Turned {
     },
 }
 
-/// The line of a turn.
-pub(crate) fn turn_text(alloc: Global, name: &str, turned: Turned) -> Result<String, AllocError>
-    ensures { IfOk result (λ s. string_bytes s ≡ turn_text name.now turned) }
-{
-    match turned {
-        Turned::Idle => format!(in alloc; "{name} idle\n"),
-        Turned::NoUnit => format!(in alloc; "{name} nounit\n"),
-        Turned::Done {
-            unit,
-            element,
-            first,
-            count,
-        } => { format!(in alloc; "{name} done {element} unit {unit} outputs {first} {count}\n") }
-        Turned::Refused { element, why } => {
-            format!(in alloc; "{name} refused {element} {why}\n")
-        }
-        Turned::Lost { element } => format!(in alloc; "{name} lost {element}\n"),
-        Turned::Full { element } => format!(in alloc; "{name} full {element}\n"),
-    }
+/// What a command on a server came to. Elements are given by their ids.
+#[derive(Clone, Copy, Debug, PartialEq, Eq)]
+pub enum ServerAnswer {
+    /// A turn, or the part of it that was asked for, came to this.
+    Turned(Turned),
+    /// A new unit of work took the element, as the `attempt`-th to do so.
+    Work {
+        element: u32,
+        unit: u16,
+        attempt: u8,
+    },
+    /// A unit of work is open, or is prepared already.
+    Busy,
+    /// No unit of work is open.
+    NoneOpen,
+    /// The work is prepared.
+    Ready,
+    /// The unit that held the element is aborted.
+    Aborted {
+        element: u32,
+    },
+    /// Another caller had aborted the unit that held the element.
+    Already {
+        element: u32,
+    },
+    /// The desk is dropped.
+    Dropped,
+    /// The desk had been dropped before, and nothing was done.
+    Ended,
 }
 
-/// The line of a refused call.
-pub(crate) fn refusal_text(alloc: Global, refusal: Refusal) -> Result<String, AllocError>
-    ensures { IfOk result (λ s. string_bytes s ≡ refusal_text refusal) }
-{
-    match refusal {
-        Refusal::NoMemory => format!(in alloc; "refused 1 NoMemory\n"),
-        Refusal::BadLimits => format!(in alloc; "refused 2 BadLimits\n"),
-        Refusal::BadStage => format!(in alloc; "refused 3 BadStage\n"),
-        Refusal::NotThere => format!(in alloc; "refused 4 NotThere\n"),
-        Refusal::Consumed { unit } => format!(in alloc; "refused 5 Consumed {unit}\n"),
-        Refusal::AlreadyKilled => format!(in alloc; "refused 6 AlreadyKilled\n"),
-        Refusal::Full => format!(in alloc; "refused 7 Full\n"),
-    }
+/// What a command came to.
+#[derive(Clone, Copy, Debug, PartialEq, Eq)]
+pub enum Answer<'a> {
+    /// The submitted element has this id.
+    Submitted {
+        id: u32,
+    },
+    /// The manager refused the call.
+    Refused(Refusal),
+    /// The answer of the server of this name.
+    Server {
+        name: &'a str,
+        answer: ServerAnswer,
+    },
+    /// The replies to the request of this root.
+    Replies {
+        root: u32,
+        replies: &'a [Element],
+    },
+    /// The element is killed, and so many units that held it were aborted.
+    Killed {
+        id: u32,
+        aborted: u8,
+    },
+    /// An element as it was read.
+    Read(Look),
+    /// The ids of the parked elements.
+    Errors(&'a [u32]),
+    /// Register `k` of the server of this name, if it has one.
+    Balance {
+        name: &'a str,
+        k: u64,
+        value: Option<u64>,
+    },
+    /// The sum of register `k` over the servers.
+    Sum {
+        k: u64,
+        sum: u128,
+    },
+    /// How many elements stand in each way.
+    Count {
+        waiting: u32,
+        held: u32,
+        consumed: u32,
+        parked: u32,
+        killed: u32,
+    },
+    /// How many submits of a race's clients were accepted.
+    Raced {
+        submitted: u32,
+    },
+    /// Nothing is left for the servers.
+    Drained,
+    /// What the registers of the server of this name hold at the end.
+    Final {
+        name: &'a str,
+        registers: &'a [u64],
+    },
 }
 
-/// The line of a submit.
-pub(crate) fn submit_text(alloc: Global, answer: Result<u32, Refusal>) -> Result<String, AllocError>
-    ensures { IfOk result (λ s. string_bytes s ≡ submit_text answer) }
+/// The line of an answer.
+pub(crate) fn line(alloc: Global, answer: Answer<'_>) -> Result<String, AllocError>
+    ensures { IfOk result (λ s. string_bytes s ≡ line (answer_text answer.entry)) }
 {
-    match answer {
-        Ok(id) => format!(in alloc; "submitted {id}\n"),
-        Err(refusal) => refusal_text(alloc, refusal),
-    }
-}
-
-// The name of the fault with a number, 1 to 7.
-fn fault_name(number: u8) -> &'static str
-    ensures { result.now ≡ fault_name number }
-{
-    match number {
-        1 => "Syntax",
-        2 => "BadNumber",
-        3 => "BadLimits",
-        4 => "BadRecipe",
-        5 => "BadName",
-        6 => "TooLong",
-        _ => "Order",
-    }
+    format!(in alloc; "{answer}\n")
 }
 
 /// The line of a refused script.
-pub(crate) fn refused_text(alloc: Global, refused: Refused) -> Result<String, AllocError>
-    ensures { IfOk result (λ s. string_bytes s ≡ refused_text refused) }
+pub(crate) fn refused_line(alloc: Global, refused: Refused) -> Result<String, AllocError>
+    ensures { IfOk result (λ s. string_bytes s ≡ line (refused_text refused)) }
 {
-    let line = refused.line;
-    let number = refused.number;
-    let name = fault_name(number);
-    format!(in alloc; "refused line {line}: {number} {name}\n")
+    format!(in alloc; "{refused}\n")
 }

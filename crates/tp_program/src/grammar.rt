@@ -1,14 +1,15 @@
-//! The lines of a script.
+//! The lines of a script, and its settings.
 ghost use Rattle.std.specs.Prelude.{◌≡◌, ◌≤◌, ◌&&◌, map, IfOk, nat_le};
 ghost use Rattle.std.specs.List.{list_all};
-ghost use Rattle.tp_program.specs.Grammar.{setting_at, rows_line, units_line, limit_line, submit_line, turn_line, reply_line, keyword_line, words_line, is_comment, line_at};
+ghost use Rattle.tp_program.specs.Grammar.{setting_at, rows_line, units_line, limit_line, keyword_line, first_word, words_line, is_comment, line_at};
 ghost use Rattle.tp_program.specs.Reading.{Gives, GivesScript};
 ghost use Rattle.tp_program.specs.Script.{script_view};
 
 use crate::fault::{LineError, LineFault};
 use crate::keyword::Keyword;
-use crate::script::{Command, Script};
-use crate::terms::{is_name, number_at, one, three};
+use crate::reach::Reach;
+use crate::script::Script;
+use crate::terms::{number_at, one, three};
 use crate::text::words;
 use std::alloc::Global;
 
@@ -56,81 +57,46 @@ impl Script {
         Ok(())
     }
 
-    // `submit STAGE KEY AMOUNT`
-    #[tactic(auto, unfolding(crate::specs::Grammar::submit_line))]
-    fn submit_line(&mut self, words: (&[u8], &[u8], &[u8])) -> Result<(), LineError>
-        ensures { GivesScript self.new result (submit_line (words.entry.0.now, words.entry.1.now, words.entry.2.now) (script_view self.old)) }
-    {
-        let stage = number_at(words.0, 255)? as u8;
-        let key = number_at(words.1, u64::MAX)?;
-        let amount = number_at(words.2, u64::MAX)?;
-        self.commands.push(Command::Submit { stage, key, amount })?;
-        Ok(())
-    }
-
-    // `turn NAME`
-    #[tactic(auto, unfolding(crate::specs::Grammar::turn_line))]
-    fn turn_line(&mut self, name: &[u8]) -> Result<(), LineError>
-        ensures { GivesScript self.new result (turn_line name.now (script_view self.old)) }
-    {
-        if !is_name(name) {
-            return Err(LineError::Fault(LineFault::BadName));
-        }
-        let server = self.server_at(name)?;
-        self.commands.push(Command::Turn { server })?;
-        Ok(())
-    }
-
-    // `reply ROOT`
-    #[tactic(auto, unfolding(crate::specs::Grammar::reply_line))]
-    fn reply_line(&mut self, word: &[u8]) -> Result<(), LineError>
-        ensures { GivesScript self.new result (reply_line word.now (script_view self.old)) }
-    {
-        let root = number_at(word, u64::from(u32::MAX))? as u32;
-        self.commands.push(Command::Reply { root })?;
-        Ok(())
-    }
-
     // What a line says behind its first word.
     #[tactic(auto, unfolding(crate::specs::Grammar::keyword_line))]
     fn keyword_line(
         &mut self,
         alloc: Global,
+        reach: Reach,
         keyword: Keyword,
         words: &[&[u8]],
     ) -> Result<(), LineError>
-        ensures { GivesScript self.new result (keyword_line keyword (map (λ x. x.now) words.now) (script_view self.old)) }
+        ensures { GivesScript self.new result (keyword_line reach keyword (map (λ x. x.now) words.now) (script_view self.old)) }
     {
         match keyword {
             Keyword::Rows => self.rows_line(one(words)?),
             Keyword::Units => self.units_line(one(words)?),
             Keyword::Limit => self.limit_line(one(words)?),
-            Keyword::Server => self.server_line(alloc, words),
+            Keyword::Server => self.server_line(alloc, reach, words),
             Keyword::Start => self.start_line(three(words)?),
-            Keyword::Submit => self.submit_line(three(words)?),
-            Keyword::Turn => self.turn_line(one(words)?),
-            Keyword::Reply => self.reply_line(one(words)?),
+            Keyword::Do(verb) => {
+                let command = self.command_at(verb, words)?;
+                self.add(command)
+            }
         }
     }
 
     // What the words of a line say.
     #[tactic(auto, unfolding(crate::specs::Grammar::words_line))]
-    fn words_line(&mut self, alloc: Global, words: &[&[u8]]) -> Result<(), LineError>
-        ensures { GivesScript self.new result (words_line (map (λ x. x.now) words.now) (script_view self.old)) }
+    fn words_line(&mut self, alloc: Global, reach: Reach, words: &[&[u8]]) -> Result<(), LineError>
+        ensures { GivesScript self.new result (words_line reach (map (λ x. x.now) words.now) (script_view self.old)) }
     {
         let Some((first, others)) = words.split_first() else {
             return Ok(());
         };
-        match Keyword::of(first) {
-            Some(keyword) => self.keyword_line(alloc, keyword, others),
-            None => Err(LineError::Fault(LineFault::Syntax)),
-        }
+        let keyword = first_word(reach, first)?;
+        self.keyword_line(alloc, reach, keyword, others)
     }
 
-    /// Adds what a line says.
+    /// Adds what a line says, in a script that may go so far.
     #[tactic(auto, unfolding(crate::specs::Grammar::line_at))]
-    pub(crate) fn line(&mut self, alloc: Global, line: &[u8]) -> Result<(), LineError>
-        ensures { GivesScript self.new result (line_at line.now (script_view self.old)) }
+    pub(crate) fn line(&mut self, alloc: Global, reach: Reach, line: &[u8]) -> Result<(), LineError>
+        ensures { GivesScript self.new result (line_at reach line.now (script_view self.old)) }
     {
         if line.len() > 200 {
             return Err(LineError::Fault(LineFault::TooLong));
@@ -142,7 +108,24 @@ impl Script {
             return Ok(());
         }
         let words = words(alloc, line)?;
-        self.words_line(alloc, words.as_slice())
+        self.words_line(alloc, reach, words.as_slice())
+    }
+}
+
+// The keyword that a word is, where the script may have such a line.
+#[tactic(auto, unfolding(crate::specs::Grammar::first_word))]
+fn first_word(reach: Reach, word: &[u8]) -> Result<Keyword, LineError>
+    ensures { Gives (λ k. k) result (first_word reach word.now) }
+{
+    match Keyword::of(word) {
+        Some(keyword) => {
+            if reach.has(keyword.reach()) {
+                Ok(keyword)
+            } else {
+                Err(LineError::Fault(LineFault::Syntax))
+            }
+        }
+        None => Err(LineError::Fault(LineFault::Syntax)),
     }
 }
 

@@ -5,11 +5,14 @@
 #![tactic(auto)]
 
 mod answer;
+mod commands;
+mod display;
 mod fault;
 mod grammar;
 mod keyword;
 mod parse;
 mod program;
+mod reach;
 mod report;
 mod run;
 mod script;

@@ -1,32 +1,15 @@
 //! A script from its bytes.
 ghost use Rattle.std.specs.Prelude.{◌≡◌, ◌+◌, ◌^◌, ◌<◌, ◌≤◌, IfSome, IsErrOf};
 ghost use Rattle.tp_program.specs.Devices.{StopsReading};
-ghost use Rattle.tp_program.specs.Grammar.{no_lines, script};
-ghost use Rattle.tp_program.specs.Script.{script_view};
+ghost use Rattle.tp_program.specs.Grammar.{script};
 ghost use Rattle.tp_program.specs.Reading.{Answers, fault_at};
 
 use crate::fault::{LineError, LineFault, ReadFault};
-use crate::script::{Script, Settings};
+use crate::reach::{REACH, Reach};
+use crate::script::Script;
 use crate::source::{MOST_BYTES, MOST_REQUESTS, Source, read_all};
 use crate::text::lines;
 use std::alloc::Global;
-
-impl Script {
-    // A script without lines.
-    fn new(alloc: Global) -> Script
-        ensures { script_view result ≡ no_lines }
-    {
-        Script {
-            settings: Settings {
-                rows: 64,
-                units: 256,
-                attempts: 3,
-            },
-            servers: Vec::new(alloc),
-            commands: Vec::new(alloc),
-        }
-    }
-}
 
 // The fault of a line.
 fn at_line(line: u32, error: LineError) -> ReadFault
@@ -41,9 +24,9 @@ fn at_line(line: u32, error: LineError) -> ReadFault
     }
 }
 
-/// The script that bytes say.
-pub fn parse(alloc: Global, bytes: &[u8]) -> Result<Script, ReadFault>
-    ensures script { Answers result (script bytes.now) }
+/// The script that bytes say, where scripts may go so far.
+pub fn parse(alloc: Global, reach: Reach, bytes: &[u8]) -> Result<Script, ReadFault>
+    ensures script { Answers result (script reach bytes.now) }
     ensures no_read { ¬ (IsErrOf result ReadFault.Read) }
 {
     if bytes.len() > MOST_BYTES {
@@ -53,7 +36,7 @@ pub fn parse(alloc: Global, bytes: &[u8]) -> Result<Script, ReadFault>
     let mut script = Script::new(alloc);
     let mut line = 1;
     for text in &lines {
-        match script.line(alloc, text) {
+        match script.line(alloc, reach, text) {
             Ok(()) => line += 1,
             Err(error) => return Err(at_line(line, error)),
         }
@@ -61,13 +44,27 @@ pub fn parse(alloc: Global, bytes: &[u8]) -> Result<Script, ReadFault>
     Ok(script)
 }
 
-/// The script that a source gives.
-pub fn read_script<S: Source>(alloc: Global, source: &mut S) -> Result<Script, ReadFault>
+/// The script that a source gives, where scripts may go so far.
+pub fn read_script_at<S: Source>(
+    alloc: Global,
+    reach: Reach,
+    source: &mut S,
+) -> Result<Script, ReadFault>
     requires { S.asked source.old + MOST_REQUESTS < 2 ^ 64 }
-    ensures script { IfSome (S.rest source.old) (λ bytes. Answers result (script bytes)) }
+    ensures script { IfSome (S.rest source.old) (λ bytes. Answers result (script reach bytes)) }
     ensures asked { S.asked source.new ≤ S.asked source.old + MOST_REQUESTS }
     ensures fault { IsErrOf result ReadFault.Read → StopsReading (S.has_failed source.new) (S.asked source.old) (S.asked source.new) }
 {
     let bytes = read_all(alloc, source)?;
-    parse(alloc, bytes.as_slice())
+    parse(alloc, reach, bytes.as_slice())
+}
+
+/// The script that a source gives.
+pub fn read_script<S: Source>(alloc: Global, source: &mut S) -> Result<Script, ReadFault>
+    requires { S.asked source.old + MOST_REQUESTS < 2 ^ 64 }
+    ensures script { IfSome (S.rest source.old) (λ bytes. Answers result (script REACH bytes)) }
+    ensures asked { S.asked source.new ≤ S.asked source.old + MOST_REQUESTS }
+    ensures fault { IsErrOf result ReadFault.Read → StopsReading (S.has_failed source.new) (S.asked source.old) (S.asked source.new) }
+{
+    read_script_at(alloc, REACH, source)
 }

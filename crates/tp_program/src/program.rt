@@ -1,14 +1,15 @@
 //! The whole run of a script, from the reader's bytes to the writer's.
 ghost use Rattle.std.specs.Prelude.{◌≡◌, ◌+◌, ◌^◌, ◌<◌, ◌≤◌, IfSome, IsErrOf, IsTrue, OnOk, OnErr};
 ghost use Rattle.std.specs.Io.KnownBytes.{Appends};
-ghost use Rattle.tp_program.specs.Answer.{refused_text};
+ghost use Rattle.tp_program.specs.Answer.{line, refused_text};
 ghost use Rattle.tp_program.specs.Devices.{AppendsFront, StopsReading};
 ghost use Rattle.tp_program.specs.Grammar.{script};
 ghost use Rattle.tp_program.specs.Whole.{Reports, fault_of};
 
-use crate::answer::refused_text;
+use crate::answer::refused_line;
 use crate::fault::{Exit, Fault, ReadFault, Refused, RunFault};
-use crate::parse::read_script;
+use crate::parse::read_script_at;
+use crate::reach::Reach;
 use crate::report::write_report;
 use crate::sink::{Sink, write_all};
 use crate::source::{MOST_REQUESTS, Source};
@@ -16,11 +17,11 @@ use std::alloc::Global;
 
 // Writes the one line of a refused script.
 fn write_refusal<W: Sink>(alloc: Global, refused: Refused, writer: &mut W) -> Result<(), RunFault>
-    ensures done { OnOk result (Appends (W.contents writer.old) (W.contents writer.new) (refused_text refused)) }
-    ensures front { OnErr result (AppendsFront (W.contents writer.old) (W.contents writer.new) (refused_text refused)) }
+    ensures done { OnOk result (Appends (W.contents writer.old) (W.contents writer.new) (line (refused_text refused))) }
+    ensures front { OnErr result (AppendsFront (W.contents writer.old) (W.contents writer.new) (line (refused_text refused))) }
     ensures write { IsErrOf result RunFault.Write → IsTrue (W.has_failed writer.new) }
 {
-    let text = refused_text(alloc, refused)?;
+    let text = refused_line(alloc, refused)?;
     write_all(writer, text.as_bytes())?;
     Ok(())
 }
@@ -34,7 +35,7 @@ fn fault_of(fault: RunFault) -> Fault
     }
 }
 
-/// Reads a script of at most one server, runs it over the manager of one thread, and writes its report and nothing else.
+/// Reads a script of the plain reach, runs it over the manager of one thread, and writes its report and nothing else.
 /// The reader is asked at most 100,000 times.
 pub fn run_plain<R: Source, W: Sink>(
     alloc: Global,
@@ -43,11 +44,11 @@ pub fn run_plain<R: Source, W: Sink>(
 ) -> Result<Exit, Fault>
     requires { R.asked reader.old + MOST_REQUESTS < 2 ^ 64 }
     ensures asked { R.asked reader.new ≤ R.asked reader.old + MOST_REQUESTS }
-    ensures report { IfSome (R.rest reader.old) (λ bytes. Reports result (script bytes) (W.contents writer.old) (W.contents writer.new)) }
+    ensures report { IfSome (R.rest reader.old) (λ bytes. Reports result (script Reach.Plain bytes) (W.contents writer.old) (W.contents writer.new)) }
     ensures read { IsErrOf result Fault.Read → StopsReading (R.has_failed reader.new) (R.asked reader.old) (R.asked reader.new) }
     ensures write { IsErrOf result Fault.Write → IsTrue (W.has_failed writer.new) }
 {
-    match read_script(alloc, reader) {
+    match read_script_at(alloc, Reach::Plain, reader) {
         Ok(script) => match write_report(alloc, &script, writer) {
             Ok(()) => Ok(Exit::Done),
             Err(fault) => Err(fault_of(fault)),

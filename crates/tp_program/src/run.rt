@@ -1,15 +1,16 @@
 //! A script over the manager of one thread.
-ghost use Rattle.std.specs.Prelude.{◌≡◌, ◌<◌, ◌≤◌, Ok, None, map, length, string_bytes, IfOk, IsSome};
+ghost use Rattle.std.specs.Prelude.{◌≡◌, ◌<◌, ◌≤◌, Ok, None, map, length, string_bytes, IfOk, OnOk, IsSome};
 ghost use Rattle.tp_model.specs.Computed.{read_of};
 ghost use Rattle.tp_model.specs.OneThread.{pass_at};
+ghost use Rattle.tp_model.specs.Steps.{rows_of};
 ghost use Rattle.tp_server.specs.Check.{check_of};
 ghost use Rattle.tp_server.specs.Effect.{effect_of};
-ghost use Rattle.tp_program.specs.Answer.{turn_text};
-ghost use Rattle.tp_program.specs.Report.{worker, turn_of, settled, submit_step, turn_step, reply_step, reply_text, is_reply, command_step, registers_of, begin, final_text, final_line};
+ghost use Rattle.tp_program.specs.Ranges.{IsInRange};
+ghost use Rattle.tp_program.specs.Report.{worker, turn_of, settled, submit_step, turn_step, reply_step, replies_below, reply_of, with_last, is_reply, command_step, registers_of, begin, final_lines, final_line};
 ghost use Rattle.tp_program.specs.Running.{state, IsReady};
 ghost use Rattle.tp_program.specs.Script.{script_view, server_view};
 
-use crate::answer::{Turned, submit_text, turn_text};
+use crate::answer::{Answer, ServerAnswer, Turned, line};
 use crate::script::{Command, Script, ScriptServer};
 use std::alloc::{AllocError, Global};
 use std::string::String;
@@ -63,10 +64,10 @@ impl Run {
         ensures step { IfOk result (λ text. submit_step stage key amount (state self.old) ≡ (string_bytes text, state self.new)) }
     {
         match self.plain.submit(CLIENT, stage, key, amount) {
-            Ok(id) => submit_text(alloc, Ok(id)),
+            Ok(id) => line(alloc, Answer::Submitted { id }),
             Err(Refusal::NoMemory) => Err(AllocError),
-            Err(Refusal::BadStage) => submit_text(alloc, Err(Refusal::BadStage)),
-            Err(Refusal::Full) => submit_text(alloc, Err(Refusal::Full)),
+            Err(Refusal::BadStage) => line(alloc, Answer::Refused(Refusal::BadStage)),
+            Err(Refusal::Full) => line(alloc, Answer::Refused(Refusal::Full)),
             Err(Refusal::BadLimits) => unreachable!(),
             Err(Refusal::NotThere) => unreachable!(),
             Err(Refusal::Consumed { unit: _ }) => unreachable!(),
@@ -133,41 +134,45 @@ impl Run {
         ensures limits { self.new.plain.limits ≡ self.old.plain.limits }
     {
         let turned = self.turn(server)?;
-        turn_text(alloc, server.name.as_str(), turned)
+        let name = server.name.as_str();
+        let answer = ServerAnswer::Turned(turned);
+        line(alloc, Answer::Server { name, answer })
     }
 
     // The line of the replies to a request.
     fn reply(&self, alloc: Global, root: u32) -> Result<String, AllocError>
         ensures { IfOk result (λ text. reply_step root (state self.now) ≡ (string_bytes text, state self.now)) }
     {
-        let mut text = format!(in alloc; "replies {root}")?;
-        let capacity = self.plain.capacity();
-        for id in 0..capacity {
-            let piece = self.reply_at(alloc, root, id)?;
-            text.push_str(piece.as_str())?;
-        }
-        text.push_str("\n")?;
-        Ok(text)
+        let replies = self.replies(alloc, root)?;
+        let replies = replies.as_slice();
+        line(alloc, Answer::Replies { root, replies })
     }
 
-    // What the line of replies says of one id.
-    fn reply_at(&self, alloc: Global, root: u32, id: u32) -> Result<String, AllocError>
-        ensures { IfOk result (λ text. string_bytes text ≡ reply_text root (read_of self.now.plain id)) }
+    // The replies to a request.
+    fn replies(&self, alloc: Global, root: u32) -> Result<Vec<Element>, AllocError>
+        ensures { IfOk result (λ replies. replies.items ≡ replies_below self.now.plain root (rows_of self.now.plain.limits)) }
+    {
+        let mut replies = Vec::new(alloc);
+        let capacity = self.plain.capacity();
+        for id in 0..capacity {
+            push_some(&mut replies, self.reply_at(root, id))?;
+        }
+        Ok(replies)
+    }
+
+    // The reply to a request with this id, if there is one.
+    fn reply_at(&self, root: u32, id: u32) -> Option<Element>
+        ensures { result ≡ reply_of root (read_of self.now.plain id) }
     {
         match self.plain.read(id) {
             Ok(look) => {
-                if !is_reply(root, &look) {
-                    return Ok(String::new(alloc));
+                if is_reply(root, &look) {
+                    Some(look.element)
+                } else {
+                    None
                 }
-                let Element {
-                    id,
-                    key,
-                    amount,
-                    ..
-                } = look.element;
-                format!(in alloc; " {id}:{key}:{amount}")
             }
-            Err(_) => Ok(String::new(alloc)),
+            Err(_) => None,
         }
     }
 
@@ -178,17 +183,17 @@ impl Run {
         servers: &[ScriptServer],
         command: Command,
     ) -> Result<String, AllocError>
-        requires { IsReady (map server_view servers.now) self.old.plain }
+        requires ready { IsReady (map server_view servers.now) self.old.plain }
+        requires in_range { IsInRange (length servers.now) command }
         ensures step { IfOk result (λ text. command_step (map server_view servers.now) command (state self.old) ≡ (string_bytes text, state self.new)) }
         ensures ready { IfOk result (λ _. IsReady (map server_view servers.now) self.new.plain) }
     {
         match command {
             Command::Submit { stage, key, amount } => self.submit(alloc, stage, key, amount),
-            Command::Turn { server } => match servers.get(server) {
-                Some(server) => self.turn_line(alloc, server),
-                None => Ok(String::new(alloc)),
-            },
+            Command::Turn { server } => self.turn_line(alloc, &servers[server]),
             Command::Reply { root } => self.reply(alloc, root),
+            // No script of the plain reach has another command.
+            _ => Ok(String::new(alloc)),
         }
     }
 
@@ -197,17 +202,13 @@ impl Run {
         ensures { IfOk result (λ text. string_bytes text ≡ final_line (state self.now) (server_view server.now)) }
     {
         let name = server.name.as_str();
-        let mut text = format!(in alloc; "final {name}")?;
-        for value in self.registers.as_slice() {
-            write!(text, " {value}")?;
-        }
-        text.push_str("\n")?;
-        Ok(text)
+        let registers = self.registers.as_slice();
+        line(alloc, Answer::Final { name, registers })
     }
 
     /// The final lines.
     pub fn finals(&self, alloc: Global, servers: &[ScriptServer]) -> Result<String, AllocError>
-        ensures { IfOk result (λ text. string_bytes text ≡ final_text (map server_view servers.now) (state self.now)) }
+        ensures { IfOk result (λ text. string_bytes text ≡ final_lines (map server_view servers.now) (state self.now)) }
     {
         let mut text = String::new(alloc);
         for server in servers {
@@ -228,6 +229,19 @@ fn first_registers(servers: &[ScriptServer]) -> Result<Registers, AllocError>
             Some(registers) => Ok(registers),
             None => unreachable!(),
         },
+    }
+}
+
+// Adds an element, if there is one.
+fn push_some(elements: &mut Vec<Element>, element: Option<Element>) -> Result<(), AllocError>
+    ensures { OnOk result (elements.new.items ≡ with_last elements.old.items element) }
+{
+    match element {
+        Some(element) => {
+            elements.push(element)?;
+            Ok(())
+        }
+        None => Ok(()),
     }
 }
 

@@ -7,7 +7,8 @@ ghost use Rattle.tp_program.specs.Script.{script_view, server_view};
 ghost use Rattle.tp_program.specs.ServerLines.{server_at, shape_at, new_name, recipe_at, registers_for, server_line, begun, begin_at, start_line};
 
 use crate::fault::{LineError, LineFault};
-use crate::script::{Kind, MOST_SERVERS, Script, ScriptServer};
+use crate::reach::Reach;
+use crate::script::{Kind, Script, ScriptServer};
 use crate::terms::{act_at, all_outputs, is_name, kind_at, name_text, number_at, outputs_at};
 use std::alloc::Global;
 use std::string::String;
@@ -125,8 +126,13 @@ impl Script {
 
     /// `server NAME KIND STAGE REGISTERS ACT OUT..`
     #[tactic(auto, unfolding(crate::specs::ServerLines::server_line))]
-    pub(crate) fn server_line(&mut self, alloc: Global, words: &[&[u8]]) -> Result<(), LineError>
-        ensures { GivesScript self.new result (server_line (map (λ x. x.now) words.now) (script_view self.old)) }
+    pub(crate) fn server_line(
+        &mut self,
+        alloc: Global,
+        reach: Reach,
+        words: &[&[u8]],
+    ) -> Result<(), LineError>
+        ensures { GivesScript self.new result (server_line reach (map (λ x. x.now) words.now) (script_view self.old)) }
     {
         let shape = shape_at(words)?;
         if !self.commands.is_empty() {
@@ -134,18 +140,17 @@ impl Script {
         }
         let name = self.new_name(alloc, shape.name)?;
         let recipe = recipe_at(alloc, &shape)?;
-        if self.servers.len() >= MOST_SERVERS {
+        if self.servers.len() >= reach.most_servers() {
             return Err(LineError::Fault(LineFault::BadLimits));
         }
         let registers = registers_for(&recipe)?;
         let kind = shape.kind;
-        self.servers.push(ScriptServer {
+        self.add_server(ScriptServer {
             name,
             kind,
             recipe,
             registers,
-        })?;
-        Ok(())
+        })
     }
 
     /// `start NAME K V`

@@ -3,7 +3,7 @@ ghost use Rattle.std.specs.Prelude.{◌≡◌, ◌≤◌, ◌-◌, ◌^◌, ◌&
 ghost use Rattle.std.specs.List.{list_all};
 ghost use Rattle.std.specs.Str.{bytes_eq};
 ghost use Rattle.tp_program.specs.Reading.{Gives};
-ghost use Rattle.tp_program.specs.Terms.{one, three, number_at, is_name, kind_at, act_at, key_at, amount_at, is_output, output_at, outputs_at};
+ghost use Rattle.tp_program.specs.Terms.{none, one, two, three, number_at, is_name, kind_at, act_at, key_at, amount_at, is_output, output_at, outputs_at};
 
 use crate::fault::{LineError, LineFault};
 use crate::script::Kind;
@@ -12,12 +12,32 @@ use arrayvec::ArrayVec;
 use std::alloc::Global;
 use tp_server::{Act, AmountFrom, KeyFrom, Output};
 
+/// No word of a line behind the first.
+pub(crate) fn none(words: &[&[u8]]) -> Result<(), LineError>
+    ensures { Gives (λ x. x) result (none (map (λ x. x.now) words.now)) }
+{
+    match words {
+        [] => Ok(()),
+        _ => Err(LineError::Fault(LineFault::Syntax)),
+    }
+}
+
 /// The one word of a line behind the first.
 pub(crate) fn one<'a>(words: &[&'a [u8]]) -> Result<&'a [u8], LineError>
     ensures { Gives (λ x. x.now) result (one (map (λ x. x.now) words.now)) }
 {
     match words {
         [a] => Ok(*a),
+        _ => Err(LineError::Fault(LineFault::Syntax)),
+    }
+}
+
+/// The two words of a line behind the first.
+pub(crate) fn two<'a>(words: &[&'a [u8]]) -> Result<(&'a [u8], &'a [u8]), LineError>
+    ensures { Gives (λ x. (x.0.now, x.1.now)) result (two (map (λ x. x.now) words.now)) }
+{
+    match words {
+        [a, b] => Ok((*a, *b)),
         _ => Err(LineError::Fault(LineFault::Syntax)),
     }
 }

@@ -1,5 +1,6 @@
 -- The shared words as a whole.
 use Rattle.std.specs.Prelude.{◌≡◌}
+use Rattle.atomic_table.specs.Seated.{TableId}
 use Rattle.tp_model.specs.declared.types.Limits.{Limits}
 use Rattle.tp_rule.specs.Views.{Seated, IsOnePass, view_of}
 use Rattle.tp_rule.specs.declared.words.Words.{Words}
@@ -8,9 +9,13 @@ use Rattle.tp_rule.specs.declared.words.Words.{Words}
 abbrev pub limits_of : Words → Limits
 limits_of words = words.places.limits
 
+-- which table the words stand in
+abbrev pub table_of : Words → TableId
+table_of words = words.table.shared.table_id
+
 -- the seat is one of this table's
 abbrev pub IsSeatOf : Words → Seated → Type 0
-IsSeatOf words seat = seat.table_id ≡ words.table.shared.table_id
+IsSeatOf words seat = seat.table_id ≡ table_of words
 
 -- the seat stands for one pass, and knows the limits of the words
 abbrev pub IsPassOf : Words → Seated → Type 0

@@ -6,7 +6,8 @@ use Rattle.tp_server.specs.declared.recipe.Recipe.{Recipe}
 use Rattle.tp_manager.specs.Calls.{claims_in}
 use Rattle.tp_desk.specs.declared.desk.Desk.{Desk}
 use Rattle.tp_workers.specs.declared.tally.Shift.{Shift}
-use Rattle.tp_workers.specs.Desks.{DeskDrained, IsReady, TookTurn}
+use Rattle.tp_desk.specs.Steady.{IsReady}
+use Rattle.tp_workers.specs.Desks.{DeskDrained, TookTurn}
 use Rattle.tp_workers.specs.Ran.{RanAll}
 use Rattle.tp_workers.specs.Sums.{commits_of}
 use Rattle.tp_workers.specs.Tally.{claimed, none, plus, turn_count}

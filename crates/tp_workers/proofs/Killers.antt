@@ -10,7 +10,7 @@ use Rattle.tp_model.specs.declared.types.Limits.{Limits}
 use Rattle.tp_model.specs.declared.types.Refusal.{Refusal}
 use Rattle.tp_model.specs.declared.types.Refusal.TheVariants as refusals
 use Rattle.tp_model.specs.History.{In, here, there}
-use Rattle.tp_model.proofs.Bridges.{begins_refl, begins_trans, in_one}
+use Rattle.tp_model.proofs.Bridges.{begins_refl, begins_trans}
 use Rattle.tp_manager.specs.Calls.{AreOfHolders, KillFails, OnlyAborts}
 use Rattle.tp_manager.specs.Shown.{PassShown}
 use Rattle.tp_workers.specs.declared.tally.Shift.{Shift}
@@ -50,15 +50,14 @@ module _ (l : Limits) where
   no_kills c id from to [] held = refl
   no_kills c id from to (e ∷ aborts) held =
       let one = held e here in
-      let not_kill : ◌≡◌ {A = ℕ} (cond (is_kill e) 1 0) 0 = ap (λ (x : Event). cond (is_kill x) 1 0) one.3 in
+      let not_kill : ◌≡◌ {A = ℕ} (cond (is_kill e) 1 0) 0 = ap (λ (x : Event). cond (is_kill x) 1 0) one.is_abort in
       omega (arith, sum_by-cons (λ (x : Event). cond (is_kill x) 1 0) e aborts, not_kill, no_kills c id from to aborts (λ x at. held x (there at)))
 
   -- each of them is of a holder by itself
   abort_work : (c id : ℕ) (from to aborts : List Event) → AreOfHolders l c id from to aborts → All (IsKillWork l c id (id + 1) from to) aborts
   abort_work c id from to [] held = All-nil (IsKillWork l c id (id + 1) from to)
   abort_work c id from to (e ∷ aborts) held =
-      let alone : AreOfHolders l c id from to (e ∷ []) = λ x at. held x (subst (λ (y : Event). In y (e ∷ aborts)) (sym (in_one at)) here) in
-      All-cons (IsKillWork l c id (id + 1) from to) e aborts (id, omega arith, omega arith, inr alone) (abort_work c id from to aborts (λ x at. held x (there at)))
+      All-cons (IsKillWork l c id (id + 1) from to) e aborts (id, omega arith, omega arith, inr (held e here)) (abort_work c id from to aborts (λ x at. held x (there at)))
 
   -- a wider range, and histories further apart
   wider : (c first end first' end' : ℕ) (from to from' to' : List Event) → first' ≤ first → end ≤ end' → IsPrefix from' from → IsPrefix to to' → (e : Event) → IsKillWork l c first end from to e → IsKillWork l c first' end' from' to' e
@@ -66,9 +65,15 @@ module _ (l : Limits) where
     id,
     omega arith,
     omega arith,
-    ⊎_elim (λ kill. inl kill) (λ held. inr (λ x at.
-        let h = held x at in
-        (h.0, h.1, h.2, h.3, begins_trans from' from h.2 earlier h.4, h.5, begins_trans (h.2 ++ x ∷ []) to to' h.6 later))) what,
+    ⊎_elim (λ kill. inl kill) (λ h. inr (record {
+      unit = h.unit;
+      attempt = h.attempt;
+      before = h.before;
+      is_abort = h.is_abort;
+      begins = begins_trans from' from h.before earlier h.begins;
+      held = h.held;
+      within = begins_trans (h.before ++ e ∷ []) to to' h.within later;
+    })) what,
   )
 
   -- from one id to another, the pass made Kills of the ids between, and Aborts of units that held such

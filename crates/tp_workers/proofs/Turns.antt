@@ -15,7 +15,8 @@ use Rattle.tp_desk.specs.declared.turned.Turned.TheVariants as turneds
 use Rattle.tp_desk.specs.Turns.{Turns, Works, WorksOff}
 use Rattle.tp_workers.specs.declared.tally.Shift.{Shift}
 use Rattle.tp_workers.specs.Calling.{Called}
-use Rattle.tp_workers.specs.Desks.{IsReady, IsSameDesk, TakesTurn}
+use Rattle.tp_desk.specs.Steady.{IsReady}
+use Rattle.tp_workers.specs.Desks.{IsSameDesk, TakesTurn}
 use Rattle.tp_workers.specs.Gains.{commits_in, is_commit}
 use Rattle.tp_workers.specs.Tally.{claimed, none, plus, total, turn_count}
 use Rattle.tp_workers.proofs.Calling.{called_gains, called_more, called_none, called_total}

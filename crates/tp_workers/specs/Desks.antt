@@ -7,27 +7,14 @@ use Rattle.tp_server.specs.declared.recipe.Recipe.{Recipe}
 use Rattle.tp_manager.specs.Calls.{Follows}
 use Rattle.tp_desk.specs.declared.desk.Desk.{Desk}
 use Rattle.tp_desk.specs.declared.turned.Turned.{Turned}
-use Rattle.tp_desk.specs.Steady.{Steady}
+use Rattle.tp_desk.specs.Steady.{IsReady, shown}
 use Rattle.tp_desk.specs.Turns.{Turns, turn_steps}
 use Rattle.tp_workers.specs.declared.tally.Shift.{Shift}
 use Rattle.tp_workers.specs.Calling.{Called}
 use Rattle.tp_workers.specs.Gains.{commits_in}
 use Rattle.tp_workers.specs.Tally.{claimed, turn_count}
 
--- what a boxed server shows
-abbrev pub shown : {X : Type 0} {F : X → Type 0} {A : Type 0} → ((x : X) × F x → A) → DynBox X Global F → A
-shown part box = part (box.vtable, box.value)
-
 module _ {X : Type 0} {F : X → Type 0} (recipe : (x : X) × F x → Recipe) (registers : (x : X) × F x → List ℕ) (pending : (x : X) × F x → Option (List ℕ)) where
-  -- what holds of the desk between its calls
-  abbrev pub IsSteadyDesk : Desk X F → Type 0
-  IsSteadyDesk d = Steady (shown recipe) (shown registers) (shown pending) d
-
-  -- the desk is steady, and has no work in hand
-  pub record IsReady (d : Desk X F) : Type 0 where
-    pub steady : IsSteadyDesk d
-    pub free : d.work ≡ None
-
   -- the desk has the same manager and lenders, began alike, and its server has the same recipe
   pub record IsSameDesk (old new : Desk X F) : Type 0 where
     pub manager : new.manager ≡ old.manager
@@ -43,7 +30,7 @@ module _ {X : Type 0} {F : X → Type 0} (recipe : (x : X) × F x → Recipe) (r
     pub follows : Follows (turn_steps old.manager.now.limits) old.pass.now new.pass.now
     pub limits : AreLimits old.manager.now.limits
     pub same : IsSameDesk old new
-    pub ready : IsReady new
+    pub ready : IsReady recipe registers pending new
 
   -- the desk took at most so many turns, and fewer only after one that found no unit left
   pub record DeskRan (turns : ℕ) (old : Desk X F) (counts : Shift) (new : Desk X F) : Type 0 where
@@ -53,7 +40,7 @@ module _ {X : Type 0} {F : X → Type 0} (recipe : (x : X) × F x → Recipe) (r
     pub all_taken : counts.nounit ≡ 0 → taken ≡ turns
     pub done : counts.done + commits_in old.pass.now ≡ commits_in new.pass.now
     pub same : IsSameDesk old new
-    pub ready : IsReady new
+    pub ready : IsReady recipe registers pending new
 
   -- the desk took one turn, which is counted
   abbrev pub TookTurn : Desk X F → Shift → Desk X F → Type 0
@@ -77,4 +64,4 @@ module _ {X : Type 0} {F : X → Type 0} (recipe : (x : X) × F x → Recipe) (r
     pub few : counts.done ≤ 1024
     pub idle : EndsIdle old new
     pub same : IsSameDesk old new
-    pub ready : IsReady new
+    pub ready : IsReady recipe registers pending new

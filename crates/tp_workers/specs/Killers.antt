@@ -5,7 +5,7 @@ use Rattle.tp_model.specs.declared.event.Event.TheVariants.{Kill}
 use Rattle.tp_model.specs.declared.types.Killed.{Killed}
 use Rattle.tp_model.specs.declared.types.Limits.{Limits}
 use Rattle.tp_model.specs.declared.types.Refusal.{Refusal}
-use Rattle.tp_manager.specs.Calls.{AreOfHolders, Follows, KillFails, Kills}
+use Rattle.tp_manager.specs.Calls.{Follows, IsOfHolder, KillFails, Kills}
 use Rattle.tp_manager.specs.Shown.{IsOf, ManagerShown, PassShown}
 use Rattle.tp_workers.specs.declared.killer.KillJob.{KillJob}
 use Rattle.tp_workers.specs.declared.tally.Shift.{Shift}
@@ -37,7 +37,7 @@ pub record KillsNext (l : Limits) (old : Killing) (answer : Result Killed Refusa
 
 -- the event is pass c's Kill of an id from `first` up to and without `end`, or its Abort, between two histories, of a unit that held such an id where the Abort stands
 abbrev pub IsKillWork : Limits → ℕ → ℕ → ℕ → List Event → List Event → Event → Type 0
-IsKillWork l c first end from to e = (id : ℕ) × (first ≤ id) × (id < end) × ((e ≡ Kill c id) ⊎ AreOfHolders l c id from to (e ∷ []))
+IsKillWork l c first end from to e = (id : ℕ) × (first ≤ id) × (id < end) × ((e ≡ Kill c id) ⊎ IsOfHolder l c id from to e)
 
 -- it is the same job, with the same pass
 pub record IsSameKiller (old new : KillJob) : Type 0 where

@@ -3,7 +3,8 @@ ghost use Rattle.std.specs.Prelude.{◌≡◌, ◌≤◌, None, Some, IsSome};
 ghost use Rattle.tp_model.specs.Steps.{AreLimits};
 ghost use Rattle.tp_manager.specs.Calls.{Follows};
 ghost use Rattle.tp_desk.specs.Turns.{Turns, WorksOff, turn_steps};
-ghost use Rattle.tp_workers.specs.Desks.{shown, IsSteadyDesk, IsReady, IsSameDesk, TakesTurn, DeskRan};
+ghost use Rattle.tp_desk.specs.Steady.{shown, IsSteadyDesk, IsReady};
+ghost use Rattle.tp_workers.specs.Desks.{IsSameDesk, TakesTurn, DeskRan};
 ghost use Rattle.tp_workers.specs.Tally.{total};
 
 use crate::gate::{Gate, Point};

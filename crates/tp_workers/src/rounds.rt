@@ -1,7 +1,8 @@
 //! Rounds of turns until nothing is left.
 ghost use Rattle.std.specs.Prelude.{◌≡◌, ◌+◌, ◌*◌, ◌<◌, ◌≤◌, ◌^◌, All, sum_by, length};
 ghost use Rattle.tp_workers.specs.declared.tally.Shift.{Shift};
-ghost use Rattle.tp_workers.specs.Desks.{DeskDrained, IsReady, TookTurn};
+ghost use Rattle.tp_desk.specs.Steady.{IsReady};
+ghost use Rattle.tp_workers.specs.Desks.{DeskDrained, TookTurn};
 ghost use Rattle.tp_workers.specs.Ran.{RanAll};
 ghost use Rattle.tp_workers.specs.Sums.{commits_of};
 

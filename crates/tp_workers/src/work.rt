@@ -1,7 +1,8 @@
 //! A shift of desks, clients and killers.
 ghost use Rattle.std.specs.Prelude.{◌≡◌, ◌+◌, ◌-◌, ◌*◌, ◌<◌, ◌≤◌, ◌^◌, All, sum_by, length};
 ghost use Rattle.tp_workers.specs.Clients.{ClientRan, IsClientOf};
-ghost use Rattle.tp_workers.specs.Desks.{DeskRan, IsReady};
+ghost use Rattle.tp_desk.specs.Steady.{IsReady};
+ghost use Rattle.tp_workers.specs.Desks.{DeskRan};
 ghost use Rattle.tp_workers.specs.Killers.{IsKillerOf, KillerRan};
 ghost use Rattle.tp_workers.specs.Ran.{RanAll};
 ghost use Rattle.tp_workers.specs.Sums.{calls_of, client_part, commits_of, desk_part, enqueues_of, killer_part, kills_of, size_of_range};

@@ -30,8 +30,8 @@ loop-command-preserved g c =
       ready = rw c.as_slice.ensures.value at c.in_ok-line.ensures.ready;
     }
 
-pub command-requires : goal.command-requires
-command-requires g c = rw c.as_slice.ensures.value c.loop-command.invariant.ready
+pub command-requires-clause-ready : goal.command-requires-clause-ready
+command-requires-clause-ready g c = rw c.as_slice.ensures.value c.loop-command.invariant.ready
 
 pub returns-in_err-last-clause-front : goal.returns-in_err-last-clause-front
 returns-in_err-last-clause-front g c = always_err c.from_residual-in_err-last.result (front_of _ _ _ _ c.loop-command.invariant.written)

@@ -1,5 +1,6 @@
 use Rattle.std.proofs.Common.{arith, ap}
-use Rattle.tp_workers.specs.Desks.{IsReady, TookTurn}
+use Rattle.tp_desk.specs.Steady.{IsReady}
+use Rattle.tp_workers.specs.Desks.{TookTurn}
 use Rattle.tp_workers.specs.Tally.{total}
 use Rattle.tp_workers.proofs.Ran.{may_run, ran_as}
 use Rattle.tp_workers.proofs.Sums.{ran_weaker, sum_by-const}

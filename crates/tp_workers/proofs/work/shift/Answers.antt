@@ -1,6 +1,7 @@
 use Rattle.std.proofs.Common.{arith, rules}
 use Rattle.tp_workers.specs.Clients.{ClientRan, IsClientOf}
-use Rattle.tp_workers.specs.Desks.{DeskRan, IsReady}
+use Rattle.tp_desk.specs.Steady.{IsReady}
+use Rattle.tp_workers.specs.Desks.{DeskRan}
 use Rattle.tp_workers.specs.Killers.{IsKillerOf, KillerRan}
 use Rattle.tp_workers.specs.Sums.{calls_of, size_of_range}
 use Rattle.tp_workers.proofs.Ran.{may_run, ran_as}

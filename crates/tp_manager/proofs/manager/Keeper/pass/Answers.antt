@@ -1,5 +1,4 @@
-use Rattle.std.proofs.Common.{◌≡◌, ◌∙◌, sym, ap, rules}
-use Rattle.tp_rule.specs.declared.view.View.{View}
+use Rattle.std.proofs.Common.{◌∙◌, ap}
 use Rattle.tp_manager.specs.Shown.{ManagerShown, KeeperShown}
 use Rattle.tp_manager.proofs.Fresh.{keeps_on, fresh_rests, fresh_shows, fresh_limits}
 use Rattle.tp_manager.proofs.manager.Keeper.pass.Goals as goal

@@ -1,12 +1,12 @@
-use Rattle.std.proofs.Common.{◌≡◌, ◌+◌, ◌*◌, ◌<◌, ◌≤◌, ℕ, sym, ◌∙◌, ap, refl, arith, rules, subst}
+use Rattle.std.proofs.Common.{◌≡◌, ◌+◌, ◌*◌, ◌≤◌, ℕ, sym, ◌∙◌, ap, refl, arith, rules, subst}
 use Rattle.tp_model.specs.declared.types.Limits.{Limits}
 use Rattle.tp_model.specs.declared.types.Claimed.TheVariants as claimeds
 use Rattle.tp_model.specs.Steps.{rows_of}
 use Rattle.tp_rule.specs.Tables.{limits_of}
-use Rattle.tp_rule.specs.Views.{hand, seen_by, view_of}
+use Rattle.tp_rule.specs.Views.{view_of}
 use Rattle.tp_manager.specs.Shown.{ManagerShown, PassShown, shown}
 use Rattle.tp_manager.specs.Calls.{Claims, Takes}
-use Rattle.tp_manager.specs.Walks.{Steady, Looked}
+use Rattle.tp_manager.specs.Walks.{Steady}
 use Rattle.tp_manager.proofs.Walks.{follows}
 use Rattle.tp_manager.proofs.Passes.{steady_at}
 use Rattle.tp_manager.proofs.Claims.{chose_steady, chose_rests, idle_walked, idle_answer, took_walked, took_answer, took_rests}

@@ -1,7 +1,9 @@
-use Rattle.std.proofs.Common.{◌≡◌, ◌+◌, ◌*◌, ◌<◌, ◌≤◌, ℕ, ◌++◌, sym, ◌∙◌, ap, refl, arith, rules, subst, None}
+use Rattle.std.proofs.Common.{◌≡◌, ◌+◌, ◌*◌, ◌≤◌, ◌++◌, sym, ◌∙◌, ap, refl, arith, rules, subst, None}
 use Rattle.tp_model.specs.declared.types.Limits.{Limits}
 use Rattle.tp_model.specs.History.{IsUnborn}
 use Rattle.tp_model.specs.Steps.{rows_of}
+use Rattle.tp_model.proofs.Bridges.{found_later}
+use Rattle.tp_rule.specs.Steps.{HasElement}
 use Rattle.tp_rule.specs.Tables.{limits_of}
 use Rattle.tp_rule.specs.Views.{hand, seen_by, view_of}
 use Rattle.tp_rule.specs.declared.view.Hand.{Hand}
@@ -9,7 +11,7 @@ use Rattle.tp_manager.specs.Shown.{ManagerShown, PassShown, shown}
 use Rattle.tp_manager.specs.Calls.{Kills, KillFails}
 use Rattle.tp_manager.specs.Walks.{Rests, Acted}
 use Rattle.tp_manager.proofs.Points.{has_more}
-use Rattle.tp_manager.proofs.Walks.{acted_then, looked, looked_none, follows, at_point, has_looked, point_first, point_last, walked_then}
+use Rattle.tp_manager.proofs.Walks.{acted_then, looked, looked_none, follows, at_point, has_looked, point_first, point_last, walked_begins, walked_then}
 use Rattle.tp_manager.proofs.Passes.{rests_looked, quiet_looked, point_none, unborn_beyond, task_none}
 use Rattle.tp_manager.proofs.Kills.{kills_after, fails_after, kills_shown, fails_shown, rests_slain, rests_freed}
 use Rattle.tp_manager.proofs.manager.Manager.kill.Goals as goal
@@ -104,8 +106,9 @@ returns-in-Ok-clause-answer c = let at = goal.at.returns-in-Ok-clause-answer c i
 pub returns-in-Err-clause-answer : goal.returns-in-Err-clause-answer
 returns-in-Err-clause-answer c = let at = goal.at.returns-in-Err-clause-answer c in let l : Limits = limits_of c.self.inside.shared.words in let a = l.attempts in
     let k = fails_after l 3 (4 * a + 3) (4 * a + 6) c.args.id a a (view_of c.pass.inside.seat) (view_of c.birth_from.new.seat) (view_of c.kill_row.new.seat) (looked l 3 _ _ (none at.After-birth_from)) refl (omega arith) c.in-Err.refusal c.in-Err.ensures.told in
+    let told = c.in-Err.ensures.told in let there = c.in-Some.ensures.told in let later = walked_begins l _ _ _ _ told.2.walk in let born : HasElement (seen_by c.kill_row.new.seat) c.args.id = (there.0, found_later _ _ later c.args.id there.0 there.1) in
     subst (λ (z : Limits). KillFails z c.args.id c.args.pass.now (shown c.kill_row.new.seat.table_id (view_of c.kill_row.new.seat)) c.in-Err.refusal) (limits at.After-rows)
-    (fails_shown c.pass.inside.seat.table_id c.kill_row.new.seat.table_id (view_of c.pass.inside.seat) (view_of c.kill_row.new.seat) c.args.pass.now c.pass.view_is l (free at.After-rows) _ c.args.id c.in-Err.refusal k)
+    (fails_shown c.pass.inside.seat.table_id c.kill_row.new.seat.table_id (view_of c.pass.inside.seat) (view_of c.kill_row.new.seat) c.args.pass.now c.pass.view_is l (free at.After-rows) _ c.args.id c.in-Err.refusal born k)
 
 pub returns-in_default-clause-open_unit : goal.returns-in_default-clause-open_unit
 returns-in_default-clause-open_unit c = let at = goal.at.returns-in_default-clause-open_unit c in ap (λ (h : Hand). h.open_unit) (none at.After-birth_from).kept ∙ free at.After-rows

@@ -1,15 +1,15 @@
-use Rattle.std.proofs.Common.{◌≡◌, ◌+◌, ◌*◌, ◌<◌, ◌≤◌, ℕ, ◌++◌, sym, ◌∙◌, ap, refl, arith, rules, subst}
+use Rattle.std.proofs.Common.{◌≡◌, ◌+◌, ◌*◌, ◌≤◌, ◌++◌, sym, ◌∙◌, ap, refl, arith, rules, subst}
 use Rattle.tp_model.specs.declared.types.Limits.{Limits}
-use Rattle.tp_model.specs.History.{IsUnborn, element_of, status_of}
+use Rattle.tp_model.specs.History.{IsUnborn, status_of}
 use Rattle.tp_model.specs.Steps.{rows_of}
-use Rattle.tp_model.proofs.Bridges.{begins_refl, found_later}
+use Rattle.tp_model.proofs.Bridges.{found_later}
 use Rattle.tp_rule.specs.Tables.{limits_of}
-use Rattle.tp_rule.specs.Views.{hand, seen_by, view_of}
+use Rattle.tp_rule.specs.Views.{seen_by, view_of}
 use Rattle.tp_manager.specs.Shown.{ManagerShown, PassShown}
 use Rattle.tp_manager.specs.Calls.{IsLook}
-use Rattle.tp_manager.specs.Walks.{Steady, Looked, Acted}
+use Rattle.tp_manager.specs.Walks.{Acted}
 use Rattle.tp_manager.proofs.Walks.{acted_then, looked, looked_begins, follows, at_point, has_looked, point_first, point_last, walked_then}
-use Rattle.tp_manager.proofs.Passes.{steady_at, rests_looked, quiet_looked, point_none, unborn_beyond}
+use Rattle.tp_manager.proofs.Passes.{rests_looked, point_none, unborn_beyond}
 use Rattle.tp_manager.proofs.manager.Manager.read.Goals as goal
 use Rattle.tp_manager.proofs.manager.Manager.read.Goals.{After-rows, After-birth_from, After-status_at-status}
 

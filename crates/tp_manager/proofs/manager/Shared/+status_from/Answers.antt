@@ -1,6 +1,5 @@
-use Rattle.std.proofs.Common.{◌≡◌, ◌≢◌, ◌+◌, ◌-◌, ◌*◌, ◌<◌, ◌≤◌, ℕ, sym, ◌∙◌, refl, ap, arith, rules, subst, Some, None}
+use Rattle.std.proofs.Common.{◌≡◌, ◌≢◌, ◌+◌, ◌-◌, ◌*◌, ◌<◌, ◌≤◌, ℕ, sym, ◌∙◌, ap, arith, rules, subst}
 use Rattle.tp_model.specs.declared.types.Limits.{Limits}
-use Rattle.tp_model.specs.History.{Aborted, end_of}
 use Rattle.tp_model.specs.Words.{TakenWord, claim_word}
 use Rattle.tp_model.proofs.Bridges.{status_free, status_killed}
 use Rattle.tp_model.proofs.Later.{unit_inside}
@@ -9,7 +8,7 @@ use Rattle.tp_rule.specs.Tables.{limits_of}
 use Rattle.tp_rule.specs.Views.{seen_by, view_of}
 use Rattle.tp_rule.proofs.Reading.{grew_begins}
 use Rattle.tp_manager.specs.Looks.{IsEnough}
-use Rattle.tp_manager.specs.Walks.{Acted, Looked}
+use Rattle.tp_manager.specs.Walks.{Looked}
 use Rattle.tp_manager.proofs.Walks.{acted_by, looked, looked_none, looked_few, looked_then, looked_begins}
 use Rattle.tp_manager.proofs.Looks.{claim_is, held_yet, held_still, consumed_now, consumed_still, returned, enough_next, enough_some}
 use Rattle.tp_manager.proofs.manager.Shared.+status_from.Goals as goal

@@ -1,13 +1,11 @@
-use Rattle.std.proofs.Common.{◌≡◌, ◌+◌, ◌*◌, ◌<◌, ◌≤◌, ℕ, sym, ◌∙◌, refl, ap, arith, subst, Some, None}
-use Rattle.tp_model.specs.declared.types.Limits.{Limits}
+use Rattle.std.proofs.Common.{◌≡◌, sym, ◌∙◌, ap, arith, Some, None}
 use Rattle.tp_model.specs.History.{Committed, end_of}
 use Rattle.tp_words.specs.Words.{unit_value}
-use Rattle.tp_words.specs.declared.words.Head.TheVariants.{There}
 use Rattle.tp_rule.specs.Tables.{limits_of}
 use Rattle.tp_rule.specs.Views.{seen_by, view_of}
-use Rattle.tp_manager.specs.Walks.{Acted, Looked}
+use Rattle.tp_manager.specs.Walks.{Looked}
 use Rattle.tp_manager.proofs.Walks.{acted_by, looked, looked_none, looked_few, looked_then, looked_begins}
-use Rattle.tp_manager.proofs.Looks.{none_empty, none_outside, none_unit, there_client, there_unit, never_empty}
+use Rattle.tp_manager.proofs.Looks.{none_outside, none_unit, there_unit, never_empty}
 use Rattle.tp_manager.proofs.manager.Shared.birth_from.Goals as goal
 use Rattle.tp_manager.proofs.manager.Shared.birth_from.Goals.{After-load_unit, After-load_head, In-Committed, then-row-first-via-then-row-first, then-row-first-via-else-row-first+then-row-first-2}
 

@@ -1,4 +1,3 @@
-use Rattle.std.proofs.Common.{◌≡◌}
 use Rattle.tp_model.specs.declared.types.Limits.{Limits}
 use Rattle.tp_model.proofs.Bridges.{element_of-id}
 use Rattle.tp_rule.specs.Tables.{limits_of}

@@ -1,7 +1,7 @@
-use Rattle.std.proofs.Common.{◌≡◌, ◌+◌, ◌*◌, ◌<◌, ◌≤◌, ℕ, [], ◌∷◌, sym, ◌∙◌, ap, refl, arith, rules, subst, Some, None}
+use Rattle.std.proofs.Common.{◌≡◌, [], ◌∷◌, sym, ◌∙◌, ap, refl, arith, Some, None}
 use Rattle.tp_model.specs.declared.types.Limits.{Limits}
 use Rattle.tp_model.specs.declared.event.Event.TheVariants.{Abort}
-use Rattle.tp_model.specs.History.{Aborted, Committed, end_of}
+use Rattle.tp_model.specs.History.{end_of}
 use Rattle.tp_model.proofs.Bridges.{end_stays}
 use Rattle.tp_model.proofs.Later.{claim_taken, unit_inside}
 use Rattle.tp_words.specs.Words.{unit_value}

@@ -1,4 +1,4 @@
-use Rattle.std.proofs.Common.{◌≡◌, ◌+◌, ◌*◌, sym, ap, subst}
+use Rattle.std.proofs.Common.{◌*◌, sym, subst}
 use Rattle.tp_model.specs.declared.types.Limits.{Limits}
 use Rattle.tp_words.specs.Words.{claim_value}
 use Rattle.tp_rule.specs.Tables.{limits_of}

@@ -1,13 +1,10 @@
-use Rattle.std.proofs.Common.{◌≡◌, ◌+◌, ◌*◌, ◌<◌, ◌≤◌, ℕ, sym, ◌∙◌, ap, refl, arith, rules, subst, Some}
+use Rattle.std.proofs.Common.{◌≡◌, ◌+◌, ◌*◌, sym, ◌∙◌, arith, rules}
 use Rattle.tp_model.specs.declared.types.Limits.{Limits}
 use Rattle.tp_model.specs.declared.types.Status.TheVariants.{Waiting}
-use Rattle.tp_model.specs.History.{element_of, status_of}
 use Rattle.tp_model.proofs.Bridges.{begins_refl, begins_trans}
-use Rattle.tp_rule.specs.Steps.{MakesClaim}
 use Rattle.tp_rule.specs.Tables.{limits_of}
-use Rattle.tp_rule.specs.Views.{hand, seen_by, view_of}
-use Rattle.tp_rule.proofs.Reading.{grew_begins}
-use Rattle.tp_manager.specs.Walks.{Looked, Acted, Took}
+use Rattle.tp_rule.specs.Views.{seen_by, view_of}
+use Rattle.tp_manager.specs.Walks.{Looked}
 use Rattle.tp_manager.proofs.Walks.{acted_by, looked, looked_few, looked_then, looked_begins}
 use Rattle.tp_manager.proofs.Looks.{there_later}
 use Rattle.tp_manager.proofs.Scans.{pass_other, pass_unborn, pass_birth, pass_status, pass_missed, allows, few_attempts, took_by, took_few}

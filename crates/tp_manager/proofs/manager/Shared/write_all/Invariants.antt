@@ -1,4 +1,4 @@
-use Rattle.std.proofs.Common.{◌≡◌, take}
+use Rattle.std.proofs.Common.{take}
 use Rattle.std.specs.List.{All}
 use Rattle.tp_model.specs.OneThread.{HasStage, outputs}
 use Rattle.tp_rule.specs.Tables.{limits_of}

@@ -1,0 +1,63 @@
+//! What a lender can prove of its pass and its server from the contracts of a desk alone.
+ghost use Rattle.std.specs.Prelude.{◌≡◌, None};
+ghost use Rattle.tp_manager.specs.Shown.{IsOf};
+ghost use Rattle.tp_desk.specs.Serving.{Leaves};
+
+use crate::tests::{eager, lazy, two};
+use crate::{Desk, Turned};
+use std::test::Fail;
+use tp_manager::{Manager, Pass};
+use tp_server::{Act, Server};
+
+/// Lends a pass and a server for one turn, and ends the desk.
+fn serve(manager: &Manager, pass: &mut Pass, server: &mut Box<dyn Server + Send>) -> Turned
+    requires own { IsOf manager.now pass.old }
+    requires free { pass.old.open_unit ≡ None }
+    requires unprepared { pending server.old ≡ None }
+    ensures own { IsOf manager.now pass.new }
+    ensures free { pass.new.open_unit ≡ None }
+    ensures clear { pending server.new ≡ None }
+    ensures leaves { Leaves (recipe server.new) (registers server.old) (registers server.new) pass.old pass.new }
+{
+    let mut desk = Desk::new(manager, pass, server);
+    let turned = desk.turn();
+    desk.end();
+    turned
+}
+
+/// The same, where the desk is dropped with an element in hand.
+fn claim_and_drop(manager: &Manager, pass: &mut Pass, server: &mut Box<dyn Server + Send>)
+    requires own { IsOf manager.now pass.old }
+    requires free { pass.old.open_unit ≡ None }
+    requires unprepared { pending server.old ≡ None }
+    ensures own { IsOf manager.now pass.new }
+    ensures free { pass.new.open_unit ≡ None }
+    ensures clear { pending server.new ≡ None }
+    ensures leaves { Leaves (recipe server.new) (registers server.old) (registers server.new) pass.old pass.new }
+{
+    let mut desk = Desk::new(manager, pass, server);
+    let _ = desk.claim();
+}
+
+#[test]
+fn lent_twice(rt: HostRuntime) -> Result<(), Fail> {
+    let Some((manager, mut client, mut worker)) = two(rt.alloc(), 4, 8) else {
+        panic!(rt; "no manager")
+    };
+    let mut adding = eager(rt.alloc(), Act::Add, &[])?;
+    let mut later = lazy(rt.alloc(), Act::Add, &[])?;
+    assert!(rt; manager.submit(&mut client, 1, 0, 5) == Ok(0));
+    claim_and_drop(&manager, &mut worker, &mut adding);
+    assert!(rt; adding.balance(0) == Some(0));
+    let done = Turned::Done {
+        unit: 9,
+        element: 0,
+        first: 0,
+        count: 0,
+    };
+    assert!(rt; serve(&manager, &mut worker, &mut later) == done);
+    assert!(rt; later.balance(0) == Some(5));
+    assert!(rt; serve(&manager, &mut worker, &mut adding) == Turned::Idle);
+    assert!(rt; adding.balance(0) == Some(0));
+    Ok(())
+}

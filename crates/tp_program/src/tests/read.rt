@@ -1,0 +1,61 @@
+//! What a script says, as it is read.
+
+use crate::parse::read_script_at;
+use crate::reach::Reach;
+use crate::script::{Command, Kind};
+use crate::source::StdSource;
+
+const SCRIPT: &str =
+    "units 3\nserver a eager 1 2 add\nserver b lazy 2 1 take 15:7:after\nstart a 1 5\nsubmit 9 8 7\nturn b\nreply 6\nclaim a\nprepare b\ncommit a\nabort b\ndrop a\nkill 5\nread 4\nerrors\nbalance b 3\nsum 2\ncount\nrace 4 256 14 3 2 1 10000\ndrain\n";
+
+#[test]
+fn each_command(rt: HostRuntime) {
+    let mut source = StdSource::new(SCRIPT.as_bytes());
+    match read_script_at(rt.alloc(), Reach::Workers, &mut source) {
+        Ok(script) => {
+            // The client, two servers, four clients and a canceller.
+            assert_eq!(rt; script.passes(), 8);
+            let settings = script.settings;
+            assert_eq!(rt;
+                (settings.rows, settings.units, settings.attempts),
+                (64, 3, 3)
+            );
+            assert_eq!(rt; script.servers.len(), 2);
+            let b = &script.servers[1];
+            assert_eq!(rt; (b.name.as_str(), b.kind), ("b", Kind::Lazy));
+            assert_eq!(rt; script.servers[0].registers.get(1), Some(5));
+            let commands = [
+                Command::Submit {
+                    stage: 9,
+                    key: 8,
+                    amount: 7,
+                },
+                Command::Turn { server: 1 },
+                Command::Reply { root: 6 },
+                Command::Claim { server: 0 },
+                Command::Prepare { server: 1 },
+                Command::Commit { server: 0 },
+                Command::Abort { server: 1 },
+                Command::Drop { server: 0 },
+                Command::Kill { id: 5 },
+                Command::Read { id: 4 },
+                Command::Errors,
+                Command::Balance { server: 1, k: 3 },
+                Command::Sum { k: 2 },
+                Command::Count,
+                Command::Race {
+                    clients: 4,
+                    submits: 256,
+                    stage: 14,
+                    key: 3,
+                    amount: 2,
+                    cancellers: 1,
+                    turns: 10_000,
+                },
+                Command::Drain,
+            ];
+            assert_eq!(rt; script.commands.as_slice(), commands.as_slice());
+        }
+        Err(fault) => assert!(rt; false, "{fault}"),
+    }
+}
