@@ -1,5 +1,6 @@
 //! The making of a desk, the parts of its work (claim, prepare, commit or abort), and its end.
 ghost use Rattle.std.specs.Prelude.{◌≡◌, None, Some, IsSome, IfErr, IfSome, OnOk, OnErr};
+ghost use Rattle.tp_model.specs.Steps.{AreLimits};
 ghost use Rattle.tp_manager.specs.Shown.{IsOf};
 ghost use Rattle.tp_manager.specs.Calls.{Claims, Ends, Follows};
 ghost use Rattle.tp_desk.specs.InHand.{work_of};
@@ -57,6 +58,7 @@ impl<'m, 'p, 's> Desk<'m, 'p, 's> {
         ensures same_server { self.new.server.ghost_name ≡ self.old.server.ghost_name }
         ensures same_first { (self.new.first_pass ≡ self.old.first_pass) × (self.new.first_server ≡ self.old.first_server) }
         ensures server { self.new.server.now ≡ self.old.server.now }
+        ensures limits { AreLimits self.old.manager.now.limits }
         ensures follows { Follows (claim_steps self.old.manager.now.limits) self.old.pass.now self.new.pass.now }
         ensures answer { Claims self.old.manager.now.limits (recipe self.old.server.now).stage self.old.pass.now self.new.pass.now result }
         ensures work { self.new.work ≡ work_of result }

@@ -1,6 +1,6 @@
 //! A server's call for work.
 ghost use Rattle.std.specs.Prelude.{◌≡◌, ◌+◌, ◌*◌, None};
-ghost use Rattle.tp_model.specs.Steps.{rows_of, IsServerStage};
+ghost use Rattle.tp_model.specs.Steps.{rows_of, AreLimits, IsServerStage};
 ghost use Rattle.tp_manager.specs.Shown.{IsOf};
 ghost use Rattle.tp_manager.specs.Calls.{Claims, Follows};
 
@@ -15,6 +15,7 @@ impl Manager {
         requires stage { IsServerStage stage }
         requires free { pass.old.open_unit ≡ None }
         ensures own { IsOf self.now pass.new }
+        ensures limits { AreLimits self.now.limits }
         ensures follows { let l = self.now.limits in
             Follows (rows_of l * (2 * l.attempts + 9) + 1) pass.old pass.new }
         ensures answer { Claims self.now.limits stage pass.old pass.new result }

@@ -1,0 +1,38 @@
+-- What a client's calls add to its pass.
+use Rattle.std.proofs.Common.{◌≡◌, ℕ, ◌+◌, Result, Ok, Err, refl, sym, ◌∙◌, ap, zero-add}
+use Rattle.tp_model.specs.declared.event.Event.TheVariants.{Enqueue}
+use Rattle.tp_model.specs.declared.types.Refusal.{Refusal}
+use Rattle.tp_manager.specs.Shown.{PassShown}
+use Rattle.tp_manager.specs.Calls.{request}
+use Rattle.tp_workers.specs.declared.tally.Shift.{Shift}
+use Rattle.tp_workers.specs.Calling.{Called}
+use Rattle.tp_workers.specs.Clients.{IsRequest, SubmitsOnce}
+use Rattle.tp_workers.specs.Gains.{GainsOnly, enqueues_in, is_enqueue}
+use Rattle.tp_workers.specs.Tally.{submit_count, total}
+use Rattle.tp_workers.proofs.Calling.{called_gains, called_keeps, called_total}
+use Rattle.tp_workers.proofs.Events.{counted_one}
+use Rattle.tp_workers.proofs.Gains.{gains_none, gains_one, gains_then}
+
+pub one_submit : (r : Result ℕ Refusal) → total (submit_count r) ≡ 1
+one_submit (Ok id) = refl
+one_submit (Err why) = refl
+
+module _ (stage key amount : ℕ) where
+  submitted_once : (p : PassShown) (r : Result ℕ Refusal) (q : PassShown) → SubmitsOnce stage key amount p r q → (submit_count r).submitted + enqueues_in p ≡ enqueues_in q
+  submitted_once p (Ok id) q h = counted_one is_enqueue p.mine q.mine _ 1 h.told.adds.mine refl
+  submitted_once p (Err why) q h = zero-add (enqueues_in p) ∙ ap enqueues_in (sym h.told.0)
+
+  gained_once : (p : PassShown) (r : Result ℕ Refusal) (q : PassShown) → SubmitsOnce stage key amount p r q → GainsOnly (IsRequest stage key amount) p q
+  gained_once p (Ok id) q h = gains_one (IsRequest stage key amount) p q (Enqueue p.number (request id stage key amount)) h.told.adds.mine (p.number, id, refl)
+  gained_once p (Err why) q h = gains_none (IsRequest stage key amount) p q (ap (λ (s : PassShown). s.mine) h.told.0)
+
+  pub total_submits : (n : ℕ) (p q : PassShown) (s : Shift) → Called (SubmitsOnce stage key amount) submit_count n p s q → total s ≡ n
+  total_submits n p q s h = called_total (SubmitsOnce stage key amount) submit_count one_submit n p q s h
+
+  pub submits_counted : (n : ℕ) (p q : PassShown) (s : Shift) → Called (SubmitsOnce stage key amount) submit_count n p s q → s.submitted + enqueues_in p ≡ enqueues_in q
+  submits_counted n p q s h =
+      called_gains (SubmitsOnce stage key amount) submit_count (λ (c : Shift). c.submitted) enqueues_in refl (λ a b. refl) submitted_once n p q s h
+
+  pub submits_gained : (n : ℕ) (p q : PassShown) (s : Shift) → Called (SubmitsOnce stage key amount) submit_count n p s q → GainsOnly (IsRequest stage key amount) p q
+  submits_gained n p q s h =
+      called_keeps (SubmitsOnce stage key amount) submit_count (GainsOnly (IsRequest stage key amount)) (λ x. gains_none (IsRequest stage key amount) x x refl) (gains_then (IsRequest stage key amount)) gained_once n p q s h

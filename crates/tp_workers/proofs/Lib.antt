@@ -1,0 +1,11 @@
+pub mod Counts
+pub mod Ran
+pub mod Calling
+pub mod Events
+pub mod Gains
+pub mod Turns
+pub mod Clients
+pub mod Killers
+pub mod Sums
+pub mod Shifts
+pub mod Drains

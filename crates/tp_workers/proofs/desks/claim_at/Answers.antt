@@ -1,0 +1,5 @@
+use Rattle.tp_desk.proofs.Steps.{follows_then}
+use Rattle.tp_workers.proofs.desks.claim_at.Goals as goal
+
+pub returns-in-Work-clause-follows : goal.returns-in-Work-clause-follows
+returns-in-Work-clause-follows g c = follows_then _ _ _ _ _ c.in-Work.ensures.follows c.work_at.ensures.follows

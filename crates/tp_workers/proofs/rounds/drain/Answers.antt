@@ -1,0 +1,37 @@
+use Rattle.std.proofs.Common.{arith, refl}
+use Rattle.tp_workers.specs.Tally.{none, plus}
+use Rattle.tp_workers.proofs.Drains.{all_end, drained_sum, going_few, going_length, going_none, going_ready, going_round, round_smaller}
+use Rattle.tp_workers.proofs.rounds.drain.Goals as goal
+
+pub rounds-init : goal.rounds-init
+rounds-init g c = record { counts = none; ran = going_none _ _ _ c.args.desks.now c.requires.ready; counted = refl }
+
+pub round-counts-requires-clause-ready : goal.round-counts-requires-clause-ready
+round-counts-requires-clause-ready g c = going_ready _ _ _ _ _ _ c.rounds.invariant.ran
+
+pub round-counts-requires-clause-fit : goal.round-counts-requires-clause-fit
+round-counts-requires-clause-fit g c = let same = going_length _ _ _ _ _ _ c.rounds.invariant.ran in omega arith
+
+pub overflow_add-done : goal.overflow_add-done
+overflow_add-done g c =
+    let few = going_few _ _ _ _ _ _ (going_round _ _ _ _ _ _ _ _ c.rounds.invariant.ran c.round-counts.ensures.ran) in
+    omega (arith, few, c.rounds.invariant.counted)
+
+pub returns-then-not-has_claimed-clause-desks : goal.returns-then-not-has_claimed-clause-desks
+returns-then-not-has_claimed-clause-desks g c =
+    (plus c.rounds.invariant.counts c.round-counts.result, all_end _ _ _ _ _ _ _ _ c.rounds.invariant.ran c.round-counts.ensures.ran c.if-not-has_claimed.ensures.unclaimed, omega (arith, c.rounds.invariant.counted))
+
+pub returns-then-not-has_claimed-clause-done : goal.returns-then-not-has_claimed-clause-done
+returns-then-not-has_claimed-clause-done g c =
+    let sum = drained_sum _ _ _ _ _ _ (all_end _ _ _ _ _ _ _ _ c.rounds.invariant.ran c.round-counts.ensures.ran c.if-not-has_claimed.ensures.unclaimed) in
+    omega (arith, sum, c.rounds.invariant.counted)
+
+pub rounds-smaller : goal.rounds-smaller
+rounds-smaller g c = round_smaller _ _ _ _ _ _ c.round-counts.ensures.ran c.if-not-has_claimed.ensures.claimed
+
+pub rounds-preserved : goal.rounds-preserved
+rounds-preserved g c = record {
+  counts = plus c.rounds.invariant.counts c.round-counts.result;
+  ran = going_round _ _ _ _ _ _ _ _ c.rounds.invariant.ran c.round-counts.ensures.ran;
+  counted = omega (arith, c.rounds.invariant.counted);
+}

@@ -1,0 +1,68 @@
+-- What workers count.
+use Rattle.std.specs.Prelude.{ℕ, ◌+◌, Result, Ok, Err}
+use Rattle.tp_model.specs.declared.types.Killed.{Killed}
+use Rattle.tp_model.specs.declared.types.Refusal.{Refusal}
+use Rattle.tp_model.specs.declared.types.Refusal.TheVariants as refusals
+use Rattle.tp_desk.specs.declared.turned.Turned.{Turned}
+use Rattle.tp_desk.specs.declared.turned.Turned.TheVariants as turneds
+use Rattle.tp_workers.specs.declared.tally.Shift.{Shift}
+
+-- nothing was done
+abbrev pub none : Shift
+none = record { done = 0; refused = 0; lost = 0; full = 0; idle = 0; nounit = 0; submitted = 0; submit_full = 0; killed = 0; late = 0; already = 0; missing = 0 }
+
+-- what two workers did together
+abbrev pub plus : Shift → Shift → Shift
+plus a b = record {
+  done = a.done + b.done;
+  refused = a.refused + b.refused;
+  lost = a.lost + b.lost;
+  full = a.full + b.full;
+  idle = a.idle + b.idle;
+  nounit = a.nounit + b.nounit;
+  submitted = a.submitted + b.submitted;
+  submit_full = a.submit_full + b.submit_full;
+  killed = a.killed + b.killed;
+  late = a.late + b.late;
+  already = a.already + b.already;
+  missing = a.missing + b.missing;
+}
+
+-- all counts together
+abbrev pub total : Shift → ℕ
+total a =
+    a.done + a.refused + a.lost + a.full + a.idle + a.nounit + a.submitted + a.submit_full + a.killed + a.late
+    + a.already + a.missing
+
+-- a turn with this answer
+abbrev pub turn_count : Turned → Shift
+turn_count turneds.Idle = record none { idle = 1 }
+turn_count turneds.NoUnit = record none { nounit = 1 }
+turn_count (turneds.Done unit element first outputs) = record none { done = 1 }
+turn_count (turneds.Refused element why) = record none { refused = 1 }
+turn_count (turneds.Lost element) = record none { lost = 1 }
+turn_count (turneds.Full element) = record none { full = 1 }
+
+-- a submit with this answer: a client's stage is a good one, so it is refused as Full alone
+abbrev pub submit_count : Result ℕ Refusal → Shift
+submit_count (Ok id) = record none { submitted = 1 }
+submit_count (Err why) = record none { submit_full = 1 }
+
+-- a kill that was refused so: as Consumed, AlreadyKilled, or NotThere
+abbrev pub refusal_count : Refusal → Shift
+refusal_count refusals.NoMemory = record none { missing = 1 }
+refusal_count refusals.BadLimits = record none { missing = 1 }
+refusal_count refusals.BadStage = record none { missing = 1 }
+refusal_count refusals.NotThere = record none { missing = 1 }
+refusal_count (refusals.Consumed unit) = record none { late = 1 }
+refusal_count refusals.AlreadyKilled = record none { already = 1 }
+refusal_count refusals.Full = record none { missing = 1 }
+
+-- a kill with this answer
+abbrev pub kill_count : Result Killed Refusal → Shift
+kill_count (Ok killed) = record none { killed = 1 }
+kill_count (Err why) = refusal_count why
+
+-- how many elements were claimed
+abbrev pub claimed : Shift → ℕ
+claimed s = s.done + s.refused + s.lost + s.full
