@@ -42,6 +42,11 @@ pub fn shift<R: Threads + Sync, G: Gate>(
     ensures clients { RanAll (ClientRan manager.now) clients.old (client_part result) clients.new }
     ensures killers { RanAll (KillerRan manager.now) killers.old (killer_part result) killers.new }
 
+    // The desks may work on.
+    ensures desks_of { All (λ d. d.manager.now ≡ manager.now) desks.new }
+    ensures as_many { length desks.new ≡ length desks.old }
+    ensures desks_ready { All (IsReady recipe registers pending) desks.new }
+
     // The counts are sums of what the passes gained, and of what was asked.
     ensures done { result.done + sum_by commits_of desks.old ≡ sum_by commits_of desks.new }
     ensures submitted { result.submitted + sum_by enqueues_of clients.old ≡ sum_by enqueues_of clients.new }

@@ -1,6 +1,7 @@
-use Rattle.std.proofs.Common.{arith, refl}
+use Rattle.std.proofs.Common.{◌≡◌, ◌∙◌, ap, arith, refl}
 use Rattle.tp_workers.specs.Tally.{none, plus}
 use Rattle.tp_workers.proofs.Drains.{all_end, drained_sum, going_few, going_length, going_none, going_ready, going_round, round_smaller}
+use Rattle.tp_workers.proofs.Ran.{ran_keeps, ran_leaves, ran_length}
 use Rattle.tp_workers.proofs.rounds.drain.Goals as goal
 
 pub rounds-init : goal.rounds-init
@@ -35,3 +36,12 @@ rounds-preserved g c = record {
   ran = going_round _ _ _ _ _ _ _ _ c.rounds.invariant.ran c.round-counts.ensures.ran;
   counted = omega (arith, c.rounds.invariant.counted);
 }
+
+pub returns-then-not-has_claimed-clause-ready : goal.returns-then-not-has_claimed-clause-ready
+returns-then-not-has_claimed-clause-ready g c = ran_leaves _ _ (λ x s y ran. ran.ready) _ _ _ (returns-then-not-has_claimed-clause-desks g c).1
+
+pub returns-then-not-has_claimed-clause-managers : goal.returns-then-not-has_claimed-clause-managers
+returns-then-not-has_claimed-clause-managers g c m all = ran_keeps _ (λ d. d.manager.now ≡ m) (λ x s y ran is. ap (λ b. b.now) ran.same.manager ∙ is) _ _ _ (returns-then-not-has_claimed-clause-desks g c).1 all
+
+pub returns-then-not-has_claimed-clause-as_many : goal.returns-then-not-has_claimed-clause-as_many
+returns-then-not-has_claimed-clause-as_many g c = ran_length _ _ _ _ (returns-then-not-has_claimed-clause-desks g c).1

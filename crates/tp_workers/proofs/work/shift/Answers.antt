@@ -1,4 +1,4 @@
-use Rattle.std.proofs.Common.{arith, rules}
+use Rattle.std.proofs.Common.{◌≡◌, ◌∙◌, ap, arith, rules}
 use Rattle.tp_workers.specs.Clients.{ClientRan, IsClientOf}
 use Rattle.tp_desk.specs.Steady.{IsReady}
 use Rattle.tp_workers.specs.Desks.{DeskRan}
@@ -7,6 +7,7 @@ use Rattle.tp_workers.specs.Sums.{calls_of, size_of_range}
 use Rattle.tp_workers.proofs.Ran.{may_run, ran_as}
 use Rattle.tp_workers.proofs.Shifts.{calls_sum, clients_part, desks_part, done_sum, ids_sum, killed_sum, killers_part, submitted_sum, turns_sum}
 use Rattle.tp_workers.proofs.Sums.{ran_weaker, sum_by-const}
+use Rattle.tp_workers.proofs.Ran.{ran_keeps, ran_leaves, ran_length}
 use Rattle.tp_workers.proofs.work.shift.Goals as goal
 
 pub fork_three-requires-clause-xs_may : goal.fork_three-requires-clause-xs_may
@@ -53,3 +54,12 @@ returns-clause-all_calls g c = calls_sum c.args.manager.now _ _ _ (returns-claus
 
 pub returns-clause-all_ids : goal.returns-clause-all_ids
 returns-clause-all_ids g c = ids_sum c.args.manager.now _ _ _ (returns-clause-killers g c)
+
+pub returns-clause-desks_ready : goal.returns-clause-desks_ready
+returns-clause-desks_ready g c = ran_leaves _ _ (λ x s y ran. ran.ready) _ _ _ (returns-clause-desks g c)
+
+pub returns-clause-desks_of : goal.returns-clause-desks_of
+returns-clause-desks_of g c = ran_keeps _ (λ d. d.manager.now ≡ c.args.manager.now) (λ x s y ran is. ap (λ b. b.now) ran.same.manager ∙ is) _ _ _ (returns-clause-desks g c) c.requires.desks_of
+
+pub returns-clause-as_many : goal.returns-clause-as_many
+returns-clause-as_many g c = ran_length _ _ _ _ (returns-clause-desks g c)
