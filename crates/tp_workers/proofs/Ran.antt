@@ -1,5 +1,5 @@
 -- What workers of a list did, and parts of the list.
-use Rattle.std.proofs.Common.{◌≡◌, ℕ, suc, ◌+◌, ◌≤◌, ◌<◌, ◌^◌, List, [], ◌∷◌, ◌++◌, refl, sym, ◌∙◌, ap, subst, arith, length, get_or, slice_set, sum_by, All}
+use Rattle.std.proofs.Common.{◌≡◌, ℕ, ◌+◌, ◌≤◌, ◌<◌, ◌^◌, List, [], ◌∷◌, ◌++◌, refl, sym, ◌∙◌, ap, subst, arith, length, get_or, slice_set, sum_by, All}
 use denote.Ref.{MutBor}
 use denote.Param.Members.{Shared}
 use Rattle.std.proofs.lemmas.List.Sums.{sum_by-cons, sum_by-append}
@@ -68,24 +68,3 @@ module _ {F T : Type 0} (g : Shared F (MutBor T × (ℕ × Unit {0})) (Shift × 
     bounded = ran_as (λ x s y. total s ≤ most x) bounded;
     fits = fits;
   }
-
--- what each run leaves holds of all that they left
-pub ran_leaves : {T : Type 0} (R : T → Shift → T → Type 0) (P : T → Type 0) → ((x : T) (s : Shift) (y : T) → R x s y → P y) → (xs : List T) (s : Shift) (ys : List T) → RanAll R xs s ys → All P ys
-ran_leaves R P leaves [] s [] h = All-nil P
-ran_leaves R P leaves [] s (y ∷ ys) h = absurd h
-ran_leaves R P leaves (x ∷ xs) s [] h = absurd h
-ran_leaves R P leaves (x ∷ xs) s (y ∷ ys) h = All-cons P y ys (leaves x h.0 y h.2) (ran_leaves R P leaves xs h.1 ys h.3)
-
--- what each run keeps holds of all that they left, where it held of all before
-pub ran_keeps : {T : Type 0} (R : T → Shift → T → Type 0) (P : T → Type 0) → ((x : T) (s : Shift) (y : T) → R x s y → P x → P y) → (xs : List T) (s : Shift) (ys : List T) → RanAll R xs s ys → All P xs → All P ys
-ran_keeps R P keeps [] s [] h all = All-nil P
-ran_keeps R P keeps [] s (y ∷ ys) h all = absurd h
-ran_keeps R P keeps (x ∷ xs) s [] h all = absurd h
-ran_keeps R P keeps (x ∷ xs) s (y ∷ ys) h all = All-cons P y ys (keeps x h.0 y h.2 (All-head P x xs all)) (ran_keeps R P keeps xs h.1 ys h.3 (All-tail P x xs all))
-
--- as many are left
-pub ran_length : {T : Type 0} (R : T → Shift → T → Type 0) (xs : List T) (s : Shift) (ys : List T) → RanAll R xs s ys → length ys ≡ length xs
-ran_length R [] s [] h = refl
-ran_length R [] s (y ∷ ys) h = absurd h
-ran_length R (x ∷ xs) s [] h = absurd h
-ran_length R (x ∷ xs) s (y ∷ ys) h = ap suc (ran_length R xs h.1 ys h.3)
