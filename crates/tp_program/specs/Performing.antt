@@ -6,7 +6,8 @@ use Rattle.tp_manager.specs.Shown.{IsOf, ManagerShown, PassShown}
 use Rattle.tp_desk.specs.declared.desk.Desk.{Desk}
 use Rattle.tp_desk.specs.Steady.{IsSteadyDesk}
 use Rattle.tp_program.specs.declared.answer.Answer.{Answer}
-use Rattle.tp_program.specs.Answer.{answer_text, line}
+use Rattle.tp_program.specs.declared.answer.ServerAnswer.TheVariants as told
+use Rattle.tp_program.specs.Answer.{answer_text, balance_text, line, named_text}
 use Rattle.tp_program.specs.Devices.{AppendsFront}
 use Rattle.tp_program.specs.Passes.{has_race}
 use Rattle.tp_program.specs.Script.{ScriptView}
@@ -25,6 +26,11 @@ module _ {X : Type 0} {F : X → Type 0} (recipe : (x : X) × F x → Recipe) (r
 -- the text is the line of an answer
 abbrev pub IsLine : List ℕ → Type 0
 IsLine text = (a : Answer) × (text ≡ line (answer_text a))
+
+-- the text tells a register of the desk of this name, or that the desk was dropped
+abbrev pub TellsBalance : {D : Type 0} → List ℕ → ℕ → Option D → List ℕ → Type 0
+TellsBalance name k (Some desk) text = (value : Option ℕ) × (text ≡ line (balance_text name k value))
+TellsBalance name k None text = text ≡ line (named_text name told.Ended)
 
 -- the text is n lines, each of an answer
 abbrev pub AreLines : ℕ → List ℕ → Type 0

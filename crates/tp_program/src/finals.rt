@@ -1,5 +1,6 @@
 //! The final lines of a report: what each server's registers hold at the end.
-ghost use Rattle.std.specs.Prelude.{◌≡◌, IfOk, IsErrOf, IsTrue, OnErr, OnOk, length, string_bytes};
+ghost use Rattle.std.specs.Prelude.{◌≡◌, IfOk, IsErrOf, IsTrue, OnErr, OnOk, length, slice_get, string_bytes};
+ghost use Rattle.tp_program.specs.Answer.{final_text, line};
 ghost use Rattle.tp_program.specs.Performing.{IsLine, Writes, WritesFront, final_count};
 ghost use Rattle.tp_program.specs.Script.{script_view};
 
@@ -11,17 +12,32 @@ use std::alloc::{AllocError, Global};
 use std::string::String;
 use tp_server::Server;
 
+/// How many registers a server has.
+fn register_count(server: &Box<dyn Server + Send>) -> u8
+    ensures { result ≡ length (registers server.now) }
+{
+    server.recipe().registers
+}
+
+/// A server's register of committed work, or `None` past the last one.
+fn register(server: &Box<dyn Server + Send>, k: u8) -> Option<u64>
+    ensures { result ≡ slice_get (registers server.now) k }
+{
+    server.balance(u64::from(k))
+}
+
 /// The final line of the server of this name: its registers of committed work, in order.
 fn final_line(
     alloc: Global,
     name: &str,
     server: &Box<dyn Server + Send>,
 ) -> Result<String, AllocError>
-    ensures { IfOk result (λ text. IsLine (string_bytes text)) }
+    ensures text { IfOk result (λ text. string_bytes text ≡ line (final_text name.now (registers server.now))) }
+    ensures line { IfOk result (λ text. IsLine (string_bytes text)) }
 {
     let mut values = Vec::new(alloc);
-    for k in 0..server.recipe().registers {
-        if let Some(value) = server.balance(u64::from(k)) {
+    for k in 0..register_count(server) {
+        if let Some(value) = register(server, k) {
             values.push(value)?;
         }
     }

@@ -1,9 +1,10 @@
 //! A script performed over the shared manager: each server at a desk of its own, each command one line of the report.
-ghost use Rattle.std.specs.Prelude.{◌≡◌, ◌+◌, ◌<◌, ◌≤◌, None, All, IfOk, IfSome, IsErrOf, IsTrue, OnErr, OnOk, length, string_bytes};
+ghost use Rattle.std.specs.Prelude.{◌≡◌, ◌+◌, ◌<◌, ◌≤◌, None, All, IfOk, IfSome, IsErrOf, IsTrue, OnErr, OnOk, length, slice_get, string_bytes};
 ghost use Rattle.tp_manager.specs.Shown.{IsOf};
 ghost use Rattle.tp_desk.specs.Steady.{IsSteadyDesk, Steady};
+ghost use Rattle.tp_program.specs.Answer.{line, named_text};
 ghost use Rattle.tp_program.specs.Ranges.{IsInRange};
-ghost use Rattle.tp_program.specs.Performing.{IsFreeOf, IsLine, IsPlace, Writes, WritesFront};
+ghost use Rattle.tp_program.specs.Performing.{IsFreeOf, IsLine, IsPlace, TellsBalance, Writes, WritesFront};
 ghost use Rattle.tp_program.specs.Passes.{racers as racers_of};
 ghost use Rattle.tp_program.specs.Script.{passes as passes_of, script_view};
 
@@ -63,7 +64,8 @@ fn server_line(
     answer: ServerAnswer,
 ) -> Result<String, AllocError>
     requires { server < length servers.now }
-    ensures { IfOk result (λ text. IsLine (string_bytes text)) }
+    ensures text { IfOk result (λ text. IfSome (slice_get servers.now server) (λ it. string_bytes text ≡ line (named_text (string_bytes it.name) answer))) }
+    ensures line { IfOk result (λ text. IsLine (string_bytes text)) }
 {
     let name = servers[server].name.as_str();
     line(alloc, Answer::Server { name, answer })
@@ -76,7 +78,8 @@ fn balance_line(
     place: &Option<Desk<'_, '_, '_>>,
     k: u64,
 ) -> Result<String, AllocError>
-    ensures { IfOk result (λ text. IsLine (string_bytes text)) }
+    ensures text { IfOk result (λ text. TellsBalance (string_bytes server.now.name) k place.now (string_bytes text)) }
+    ensures line { IfOk result (λ text. IsLine (string_bytes text)) }
 {
     let name = server.name.as_str();
     match place {

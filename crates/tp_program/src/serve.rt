@@ -106,7 +106,11 @@ fn settle(servers: &mut [Box<dyn Server + Send>])
 }
 
 /// A server of a script that changes its registers as it prepares.
-fn eager(server: &ScriptServer) -> Result<EagerServer, AllocError> {
+fn eager(server: &ScriptServer) -> Result<EagerServer, AllocError>
+    ensures recipe { IfOk result (λ made. ⟦<EagerServer as Server>⟧.recipe made ≡ server.now.recipe) }
+    ensures registers { IfOk result (λ made. ⟦<EagerServer as Server>⟧.registers made ≡ server.now.registers) }
+    ensures unprepared { IfOk result (λ made. ⟦<EagerServer as Server>⟧.pending made ≡ None) }
+{
     match EagerServer::new(server.registers.clone()?, server.recipe.clone()?) {
         Ok(made) => Ok(made),
         Err(_) => unreachable!(),
@@ -114,7 +118,11 @@ fn eager(server: &ScriptServer) -> Result<EagerServer, AllocError> {
 }
 
 /// A server of a script that keeps what it will write.
-fn lazy(server: &ScriptServer) -> Result<LazyServer, AllocError> {
+fn lazy(server: &ScriptServer) -> Result<LazyServer, AllocError>
+    ensures recipe { IfOk result (λ made. ⟦<LazyServer as Server>⟧.recipe made ≡ server.now.recipe) }
+    ensures registers { IfOk result (λ made. ⟦<LazyServer as Server>⟧.registers made ≡ server.now.registers) }
+    ensures unprepared { IfOk result (λ made. ⟦<LazyServer as Server>⟧.pending made ≡ None) }
+{
     match LazyServer::new(server.registers.clone()?, server.recipe.clone()?) {
         Ok(made) => Ok(made),
         Err(_) => unreachable!(),
