@@ -1,7 +1,10 @@
 -- What a performed script writes.
-use Rattle.std.specs.Prelude.{◌≡◌, ℕ, zero, suc, ◌≤◌, List, [], ◌++◌, length, Option, Some, None, if◌then◌else◌}
+use Rattle.std.specs.Prelude.{◌≡◌, ℕ, zero, suc, ◌≤◌, List, [], ◌++◌, length, Option, None, Some, if◌then◌else◌}
 use Rattle.std.specs.Io.KnownBytes.{Appends}
+use Rattle.tp_server.specs.declared.recipe.Recipe.{Recipe}
 use Rattle.tp_manager.specs.Shown.{IsOf, ManagerShown, PassShown}
+use Rattle.tp_desk.specs.declared.desk.Desk.{Desk}
+use Rattle.tp_desk.specs.Steady.{IsSteadyDesk}
 use Rattle.tp_program.specs.declared.answer.Answer.{Answer}
 use Rattle.tp_program.specs.declared.answer.ServerAnswer.TheVariants as told
 use Rattle.tp_program.specs.Answer.{answer_text, balance_text, line, named_text}
@@ -13,6 +16,12 @@ use Rattle.tp_program.specs.Script.{ScriptView}
 pub record IsFreeOf (m : ManagerShown) (p : PassShown) : Type 0 where
   pub own : IsOf m p
   pub free : p.open_unit ≡ None
+
+module _ {X : Type 0} {F : X → Type 0} (recipe : (x : X) × F x → Recipe) (registers : (x : X) × F x → List ℕ) (pending : (x : X) × F x → Option (List ℕ)) (m : ManagerShown) where
+  -- a desk is steady and of this manager, unless it was dropped
+  abbrev pub IsPlace : Option (Desk X F) → Type 0
+  IsPlace None = Unit {0}
+  IsPlace (Some d) = IsSteadyDesk recipe registers pending d × (d.manager.now ≡ m)
 
 -- the text is the line of an answer
 abbrev pub IsLine : List ℕ → Type 0

@@ -1,6 +1,8 @@
 //! Commands on one server, at its desk, which is there until it is dropped.
 ghost use Rattle.std.specs.Prelude.{IfSome};
+ghost use Rattle.tp_manager.specs.Shown.{ManagerShown};
 ghost use Rattle.tp_desk.specs.Steady.{IsSteadyDesk};
+ghost use Rattle.tp_program.specs.Performing.{IsPlace};
 
 use crate::answer::ServerAnswer;
 use tp_desk::{Desk, Turned};
@@ -9,7 +11,7 @@ use tp_model::types::{Claimed, Ended, Outcome, Work};
 /// `turn NAME`
 pub(crate) fn turn(place: &mut Option<Desk<'_, '_, '_>>) -> ServerAnswer
     requires { IfSome place.old (IsSteadyDesk recipe registers pending) }
-    ensures { IfSome place.new (IsSteadyDesk recipe registers pending) }
+    ensures { (m : ManagerShown) → IsPlace recipe registers pending m place.old → IsPlace recipe registers pending m place.new }
 {
     let Some(desk) = place else {
         return ServerAnswer::Ended;
@@ -23,7 +25,7 @@ pub(crate) fn turn(place: &mut Option<Desk<'_, '_, '_>>) -> ServerAnswer
 /// `claim NAME`
 pub(crate) fn claim(place: &mut Option<Desk<'_, '_, '_>>) -> ServerAnswer
     requires { IfSome place.old (IsSteadyDesk recipe registers pending) }
-    ensures { IfSome place.new (IsSteadyDesk recipe registers pending) }
+    ensures { (m : ManagerShown) → IsPlace recipe registers pending m place.old → IsPlace recipe registers pending m place.new }
 {
     let Some(desk) = place else {
         return ServerAnswer::Ended;
@@ -45,7 +47,7 @@ pub(crate) fn claim(place: &mut Option<Desk<'_, '_, '_>>) -> ServerAnswer
 /// `prepare NAME`
 pub(crate) fn prepare(place: &mut Option<Desk<'_, '_, '_>>) -> ServerAnswer
     requires { IfSome place.old (IsSteadyDesk recipe registers pending) }
-    ensures { IfSome place.new (IsSteadyDesk recipe registers pending) }
+    ensures { (m : ManagerShown) → IsPlace recipe registers pending m place.old → IsPlace recipe registers pending m place.new }
 {
     let Some(desk) = place else {
         return ServerAnswer::Ended;
@@ -68,7 +70,7 @@ pub(crate) fn prepare(place: &mut Option<Desk<'_, '_, '_>>) -> ServerAnswer
 /// `commit NAME`: work that isn't prepared is prepared first.
 pub(crate) fn commit(place: &mut Option<Desk<'_, '_, '_>>) -> ServerAnswer
     requires { IfSome place.old (IsSteadyDesk recipe registers pending) }
-    ensures { IfSome place.new (IsSteadyDesk recipe registers pending) }
+    ensures { (m : ManagerShown) → IsPlace recipe registers pending m place.old → IsPlace recipe registers pending m place.new }
 {
     let Some(desk) = place else {
         return ServerAnswer::Ended;
@@ -98,7 +100,7 @@ pub(crate) fn commit(place: &mut Option<Desk<'_, '_, '_>>) -> ServerAnswer
 /// `abort NAME`
 pub(crate) fn abort(place: &mut Option<Desk<'_, '_, '_>>) -> ServerAnswer
     requires { IfSome place.old (IsSteadyDesk recipe registers pending) }
-    ensures { IfSome place.new (IsSteadyDesk recipe registers pending) }
+    ensures { (m : ManagerShown) → IsPlace recipe registers pending m place.old → IsPlace recipe registers pending m place.new }
 {
     let Some(desk) = place else {
         return ServerAnswer::Ended;
@@ -116,7 +118,7 @@ pub(crate) fn abort(place: &mut Option<Desk<'_, '_, '_>>) -> ServerAnswer
 /// `drop NAME`
 pub(crate) fn dismiss(place: &mut Option<Desk<'_, '_, '_>>) -> ServerAnswer
     requires { IfSome place.old (IsSteadyDesk recipe registers pending) }
-    ensures { IfSome place.new (IsSteadyDesk recipe registers pending) }
+    ensures { (m : ManagerShown) → IsPlace recipe registers pending m place.old → IsPlace recipe registers pending m place.new }
 {
     match place.take() {
         Some(desk) => {

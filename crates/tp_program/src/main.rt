@@ -17,6 +17,7 @@ mod parse;
 mod perform;
 mod plain;
 mod program;
+mod racing;
 mod reach;
 mod report;
 mod run;

@@ -4,15 +4,18 @@ ghost use Rattle.tp_manager.specs.Shown.{IsOf};
 ghost use Rattle.tp_desk.specs.Steady.{IsSteadyDesk, Steady};
 ghost use Rattle.tp_program.specs.Answer.{line, named_text};
 ghost use Rattle.tp_program.specs.Ranges.{IsInRange};
-ghost use Rattle.tp_program.specs.Performing.{IsFreeOf, IsLine, TellsBalance, Writes, WritesFront};
+ghost use Rattle.tp_program.specs.Performing.{IsFreeOf, IsLine, IsPlace, TellsBalance, Writes, WritesFront};
+ghost use Rattle.tp_program.specs.Passes.{racers as racers_of};
 ghost use Rattle.tp_program.specs.Script.{passes as passes_of, script_view};
 
 use crate::answer::{Answer, ServerAnswer, line};
 use crate::fault::RunFault;
+use crate::racing::{RacePlan, drain_all, run_race};
 use crate::script::{Command, Script, ScriptServer};
 use crate::sink::{Sink, write_all};
 use crate::{client, desks};
 use std::alloc::{AllocError, Global};
+use std::mem;
 use std::string::String;
 use std::thread::Threads;
 use tp_desk::Desk;
@@ -30,6 +33,7 @@ fn desks_for<'m, 'p, 's>(
     requires servers { All (λ server. pending server ≡ None) servers.old }
     requires enough { length servers.old ≤ length passes.old }
     ensures steady { IfOk result (λ places. All (λ place. IfSome place (Steady recipe registers pending)) places.items) }
+    ensures manager { IfOk result (λ places. All (λ place. IfSome place (λ desk. desk.manager.now ≡ manager.now)) places.items) }
     ensures places { IfOk result (λ places. length places.items ≡ length servers.old) }
 {
     let mut places = Vec::new(alloc);
@@ -90,24 +94,29 @@ fn balance_line(
     }
 }
 
-/// Performs a command, and answers its line.
-fn command_line(
+/// Performs a command, and answers its line. The passes are those of its race, if it is one.
+fn command_line<R: Threads + Sync>(
+    rt: &R,
     alloc: Global,
-    servers: &[ScriptServer],
+    script: &Script,
     manager: &Manager,
     client: &mut Pass,
     places: &mut [Option<Desk<'_, '_, '_>>],
+    racers: &mut [Pass],
     command: Command,
 ) -> Result<String, AllocError>
     requires client { IsFreeOf manager.now client.old }
-    requires steady { All (λ place. IfSome place (IsSteadyDesk recipe registers pending)) places.old }
-    requires places { length places.old ≡ length servers.now }
-    requires in_range { IsInRange (length servers.now) command }
+    requires places { All (IsPlace recipe registers pending manager.now) places.old }
+    requires as_many { length places.old ≡ length script.now.servers.items }
+    requires racers { All (IsFreeOf manager.now) racers.old }
+    requires enough { length racers.old ≡ racers_of command }
+    requires in_range { IsInRange (length script.now.servers.items) command }
     ensures client { IsFreeOf manager.now client.new }
-    ensures steady { All (λ place. IfSome place (IsSteadyDesk recipe registers pending)) places.new }
-    ensures places { length places.new ≡ length places.old }
+    ensures places { All (IsPlace recipe registers pending manager.now) places.new }
+    ensures as_many { length places.new ≡ length places.old }
     ensures line { IfOk result (λ text. IsLine (string_bytes text)) }
 {
+    let servers = script.servers.as_slice();
     match command {
         Command::Submit { stage, key, amount } => {
             line(alloc, client::submit(manager, client, stage, key, amount))
@@ -148,13 +157,36 @@ fn command_line(
             let sum = sum(places, k);
             line(alloc, Answer::Sum { k, sum })
         }
-        // No script of this reach has another command.
-        _ => line(alloc, Answer::Drained),
+        Command::Race {
+            clients,
+            submits,
+            stage,
+            key,
+            amount,
+            cancellers: _,
+            turns,
+        } => {
+            let plan = RacePlan {
+                clients,
+                submits,
+                stage,
+                key,
+                amount,
+                turns,
+            };
+            let rows = script.settings.rows;
+            let submitted = run_race(rt, alloc, manager, places, racers, rows, plan)?;
+            line(alloc, Answer::Raced { submitted })
+        }
+        Command::Drain => {
+            drain_all(alloc, manager, places)?;
+            line(alloc, Answer::Drained)
+        }
     }
 }
 
 /// Performs the commands of a script over the manager, each server at a desk of its own, and writes a line for each as it
-/// comes. The passes are the manager's: the client's, then one for each server. The servers are the script's, in their
+/// comes. The passes are the manager's: the client's, then one for each server, then those of each race. The servers are the script's, in their
 /// order. When the commands are done, and after a fault, all desks are dropped. What was done before a fault stands.
 pub fn perform<R: Threads + Sync, W: Sink>(
     rt: &R,
@@ -176,17 +208,15 @@ pub fn perform<R: Threads + Sync, W: Sink>(
     let Some((client, others)) = passes.split_first_mut() else {
         unreachable!();
     };
-    let mut desks = desks_for(alloc, manager, others, servers)?;
+    let (workers, racers) = others.split_at_mut(servers.len());
+    let mut racers = racers;
+    let mut desks = desks_for(alloc, manager, workers, servers)?;
     let places = desks.as_mut_slice();
     for command in &script.commands {
-        let line = command_line(
-            alloc,
-            script.servers.as_slice(),
-            manager,
-            client,
-            places,
-            *command,
-        )?;
+        let needed = usize::from(command.racers());
+        let (here, rest) = mem::take(&mut racers).split_at_mut(needed);
+        racers = rest;
+        let line = command_line(rt, alloc, script, manager, client, places, here, *command)?;
         write_all(writer, line.as_bytes())?;
     }
     Ok(())

@@ -16,7 +16,7 @@ pub enum Reach {
 }
 
 /// How far the scripts of this program go.
-pub const REACH: Reach = Reach::Desks;
+pub const REACH: Reach = Reach::Workers;
 
 impl Reach {
     // Its place among the reaches.

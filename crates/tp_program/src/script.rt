@@ -143,7 +143,7 @@ impl Command {
     }
 
     /// How many passes it needs for itself: those of a race's clients and cancellers.
-    fn racers(self) -> u16
+    pub(crate) fn racers(self) -> u16
         ensures { result ≡ racers self }
     {
         match self {

@@ -9,6 +9,8 @@ mod gate;
 mod killer;
 mod rounds;
 mod tally;
+#[cfg(test)]
+mod tests;
 mod work;
 
 pub use client::ClientJob;

@@ -42,6 +42,13 @@ pub fn shift<R: Threads + Sync, G: Gate>(
     ensures clients { RanAll (ClientRan manager.now) clients.old (client_part result) clients.new }
     ensures killers { RanAll (KillerRan manager.now) killers.old (killer_part result) killers.new }
 
+    // All of them can be at work again.
+    ensures desks_of { All (λ d. d.manager.now ≡ manager.now) desks.new }
+    ensures desks_ready { All (IsReady recipe registers pending) desks.new }
+    ensures desks_kept { length desks.new ≡ length desks.old }
+    ensures clients_ready { All (IsClientOf manager.now) clients.new }
+    ensures killers_ready { All (IsKillerOf manager.now) killers.new }
+
     // The counts are sums of what the passes gained, and of what was asked.
     ensures done { result.done + sum_by commits_of desks.old ≡ sum_by commits_of desks.new }
     ensures submitted { result.submitted + sum_by enqueues_of clients.old ≡ sum_by enqueues_of clients.new }

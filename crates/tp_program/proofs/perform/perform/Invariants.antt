@@ -1,13 +1,14 @@
-use Rattle.std.proofs.Common.{◌≡◌, All, IfSome, length}
-use Rattle.tp_desk.specs.Steady.{Steady}
-use Rattle.tp_program.specs.Performing.{IsFreeOf, Writes}
+use Rattle.std.proofs.Common.{◌≡◌, All, drop, length}
+use Rattle.tp_program.specs.Passes.{racing}
+use Rattle.tp_program.specs.Performing.{IsFreeOf, IsPlace, Writes}
 use Rattle.tp_program.proofs.perform.perform.Given as goal
 
 abbrev pub invariant-loop-command : goal.invariant-loop-command
 invariant-loop-command g l = record {
   client : IsFreeOf l.manager l.client;
-  steady : All (λ place. IfSome place (Steady (λ b. (goal.Server-dyn g (b.vtable, b.value)).recipe b.value)
-      (λ b. (goal.Server-dyn g (b.vtable, b.value)).registers b.value) (λ b. (goal.Server-dyn g (b.vtable, b.value)).pending b.value))) l.places;
-  count : length l.places ≡ length l.script.servers.items;
+  places : All (IsPlace (λ z. (goal.Server-dyn g z).recipe z.1) (λ z. (goal.Server-dyn g z).registers z.1) (λ z. (goal.Server-dyn g z).pending z.1) l.manager) l.places;
+  as_many : length l.places ≡ length l.script.servers.items;
+  racers : All (IsFreeOf l.manager) l.racers;
+  enough : length l.racers ≡ racing (drop l.command-index l.script.commands.items);
   written : Writes l.command-index (g.W.Sink.contents l.fn.writer) (g.W.Sink.contents l.writer);
 }

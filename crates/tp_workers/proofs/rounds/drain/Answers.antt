@@ -1,5 +1,7 @@
-use Rattle.std.proofs.Common.{arith, refl}
+use Rattle.std.proofs.Common.{◌≡◌, ap, ◌∙◌, arith, refl}
 use Rattle.tp_workers.specs.Tally.{none, plus}
+use Rattle.tp_desk.specs.Steady.{IsReady}
+use Rattle.tp_workers.proofs.Sums.{ran_all, ran_length}
 use Rattle.tp_workers.proofs.Drains.{all_end, drained_sum, going_few, going_length, going_none, going_ready, going_round, round_smaller}
 use Rattle.tp_workers.proofs.rounds.drain.Goals as goal
 
@@ -35,3 +37,15 @@ rounds-preserved g c = record {
   ran = going_round _ _ _ _ _ _ _ _ c.rounds.invariant.ran c.round-counts.ensures.ran;
   counted = omega (arith, c.rounds.invariant.counted);
 }
+
+pub returns-then-not-has_claimed-clause-ready : goal.returns-then-not-has_claimed-clause-ready
+returns-then-not-has_claimed-clause-ready g c =
+    let Is = IsReady (λ v. (goal.Server-dyn g v).recipe v.1) (λ v. (goal.Server-dyn g v).registers v.1) (λ v. (goal.Server-dyn g v).pending v.1) in
+    ran_all _ Is Is (λ x s y r is. r.ready) _ _ _ (returns-then-not-has_claimed-clause-desks g c).1 c.requires.ready
+
+pub returns-then-not-has_claimed-clause-kept : goal.returns-then-not-has_claimed-clause-kept
+returns-then-not-has_claimed-clause-kept g c = ran_length _ _ _ _ (returns-then-not-has_claimed-clause-desks g c).1
+
+pub returns-then-not-has_claimed-clause-managers : goal.returns-then-not-has_claimed-clause-managers
+returns-then-not-has_claimed-clause-managers g c =
+    λ m all. ran_all _ (λ d. d.manager.now ≡ m) (λ d. d.manager.now ≡ m) (λ x s y r of. ap (λ k. k.now) r.same.manager ∙ of) _ _ _ (returns-then-not-has_claimed-clause-desks g c).1 all

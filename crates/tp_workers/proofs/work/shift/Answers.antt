@@ -1,4 +1,4 @@
-use Rattle.std.proofs.Common.{arith, rules}
+use Rattle.std.proofs.Common.{◌≡◌, ap, ◌∙◌, arith, rules}
 use Rattle.tp_workers.specs.Clients.{ClientRan, IsClientOf}
 use Rattle.tp_desk.specs.Steady.{IsReady}
 use Rattle.tp_workers.specs.Desks.{DeskRan}
@@ -6,7 +6,7 @@ use Rattle.tp_workers.specs.Killers.{IsKillerOf, KillerRan}
 use Rattle.tp_workers.specs.Sums.{calls_of, size_of_range}
 use Rattle.tp_workers.proofs.Ran.{may_run, ran_as}
 use Rattle.tp_workers.proofs.Shifts.{calls_sum, clients_part, desks_part, done_sum, ids_sum, killed_sum, killers_part, submitted_sum, turns_sum}
-use Rattle.tp_workers.proofs.Sums.{ran_weaker, sum_by-const}
+use Rattle.tp_workers.proofs.Sums.{ran_all, ran_length, ran_weaker, sum_by-const}
 use Rattle.tp_workers.proofs.work.shift.Goals as goal
 
 pub fork_three-requires-clause-xs_may : goal.fork_three-requires-clause-xs_may
@@ -53,3 +53,25 @@ returns-clause-all_calls g c = calls_sum c.args.manager.now _ _ _ (returns-claus
 
 pub returns-clause-all_ids : goal.returns-clause-all_ids
 returns-clause-all_ids g c = ids_sum c.args.manager.now _ _ _ (returns-clause-killers g c)
+
+pub returns-clause-desks_of : goal.returns-clause-desks_of
+returns-clause-desks_of g c =
+    ran_all _ (λ d. d.manager.now ≡ c.args.manager.now) (λ d. d.manager.now ≡ c.args.manager.now) (λ x s y r of. ap (λ m. m.now) r.same.manager ∙ of) _ _ _ (returns-clause-desks g c) c.requires.desks_of
+
+pub returns-clause-desks_ready : goal.returns-clause-desks_ready
+returns-clause-desks_ready g c =
+    let Is = IsReady (λ v. (goal.Server-dyn g v).recipe v.1) (λ v. (goal.Server-dyn g v).registers v.1) (λ v. (goal.Server-dyn g v).pending v.1) in
+    ran_all _ Is Is (λ x s y r is. r.ready) _ _ _ (returns-clause-desks g c) c.requires.desks_ready
+
+pub returns-clause-desks_kept : goal.returns-clause-desks_kept
+returns-clause-desks_kept g c = ran_length _ _ _ _ (returns-clause-desks g c)
+
+pub returns-clause-clients_ready : goal.returns-clause-clients_ready
+returns-clause-clients_ready g c =
+    let Is = IsClientOf c.args.manager.now in
+    ran_all _ Is Is (λ x s y r is. r.ready) _ _ _ (returns-clause-clients g c) c.requires.clients_ready
+
+pub returns-clause-killers_ready : goal.returns-clause-killers_ready
+returns-clause-killers_ready g c =
+    let Is = IsKillerOf c.args.manager.now in
+    ran_all _ Is Is (λ x s y r is. r.ready) _ _ _ (returns-clause-killers g c) c.requires.killers_ready

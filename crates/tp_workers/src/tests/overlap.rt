@@ -1,0 +1,68 @@
+//! Two desks whose turns overlap: in neither order could one take its turn after the other.
+
+use crate::tests::{eager, hold, lazy, manager, pass, recipe};
+use crate::{Gate, Point, shift};
+use std::sync::atomic::{AtomicU64, Ordering};
+use std::test::Fail;
+use tp_desk::Desk;
+use tp_model::types::Limits;
+use tp_server::{Act, Server};
+
+/// Holds worker 1 at its start until worker 0 has claimed, and worker 0, once prepared, until worker 1 has settled.
+#[derive(Drop)]
+struct Overlap {
+    claimed: AtomicU64,
+    settled: AtomicU64,
+    failed: AtomicU64,
+}
+
+impl Gate for Overlap {
+    fn pause(&self, worker: u32, point: Point) {
+        match (worker, point) {
+            (0, Point::Claimed) => self.claimed.store(1, Ordering::SeqCst),
+            (1, Point::Settled) => self.settled.store(1, Ordering::SeqCst),
+            (1, Point::Start) => hold(&self.claimed, 1, &self.failed),
+            (0, Point::Prepared) => hold(&self.settled, 1, &self.failed),
+            _ => {}
+        }
+    }
+}
+
+#[test]
+fn two_desks_overlap(rt: HostRuntime) -> Result<(), Fail> {
+    let limits = Limits {
+        parts: 3,
+        rows: 4,
+        units: 4,
+        attempts: 3,
+    };
+    let (manager, mut keeper) = manager(rt.alloc(), limits)?;
+    let mut client = pass(&mut keeper, &manager)?;
+    let mut first = pass(&mut keeper, &manager)?;
+    let mut second = pass(&mut keeper, &manager)?;
+    assert!(rt; manager.submit(&mut client, 1, 0, 5) == Ok(0));
+    assert!(rt; manager.submit(&mut client, 1, 0, 7) == Ok(1));
+    let mut a: Box<dyn Server + Send> = eager(rt.alloc(), recipe(1, Act::Add, &[]))?;
+    let mut b: Box<dyn Server + Send> = lazy(rt.alloc(), recipe(1, Act::Add, &[]))?;
+    let gate = Overlap {
+        claimed: AtomicU64::new(0),
+        settled: AtomicU64::new(0),
+        failed: AtomicU64::new(0),
+    };
+    let mut desks = Vec::new(rt.alloc());
+    desks.push(Desk::new(&manager, &mut first, &mut a))?;
+    desks.push(Desk::new(&manager, &mut second, &mut b))?;
+    let (mut clients, mut killers) = (Vec::new(rt.alloc()), Vec::new(rt.alloc()));
+    let counts = shift(
+        &rt,
+        &manager,
+        desks.as_mut_slice(),
+        clients.as_mut_slice(),
+        killers.as_mut_slice(),
+        1,
+        &gate,
+    );
+    assert_eq!(rt; gate.failed.load(Ordering::SeqCst), 0);
+    assert_eq!(rt; counts.done, 2);
+    Ok(())
+}

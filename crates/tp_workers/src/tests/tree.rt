@@ -1,0 +1,77 @@
+//! Three servers in a tree of outputs, two clients and two killers at once, with many turns.
+
+use crate::tests::{clients, eager, killers, lazy, manager, output, pass, recipe, survey, three};
+use crate::{NoGate, shift};
+use std::test::Fail;
+use tp_desk::Desk;
+use tp_model::types::Limits;
+use tp_server::{Act, Server};
+
+/// The root makes two outputs of each element, for the two branches, and each branch makes a reply. The passes have twice
+/// as many rows as units, so that no turn of the root lacks rows.
+#[test]
+fn tree_with_killers(rt: HostRuntime) -> Result<(), Fail> {
+    let limits = Limits {
+        parts: 8,
+        rows: 256,
+        units: 128,
+        attempts: 7,
+    };
+    let (manager, mut keeper) = manager(rt.alloc(), limits)?;
+    let mut first = pass(&mut keeper, &manager)?;
+    let mut second = pass(&mut keeper, &manager)?;
+    let mut third = pass(&mut keeper, &manager)?;
+    let mut fourth = pass(&mut keeper, &manager)?;
+    let mut fifth = pass(&mut keeper, &manager)?;
+    let mut sixth = pass(&mut keeper, &manager)?;
+    let mut seventh = pass(&mut keeper, &manager)?;
+    let mut reader = pass(&mut keeper, &manager)?;
+    let root = recipe(1, Act::Add, &[output(2), output(3)]);
+    let mut a: Box<dyn Server + Send> = eager(rt.alloc(), root)?;
+    let mut b: Box<dyn Server + Send> = lazy(rt.alloc(), recipe(2, Act::Add, &[output(15)]))?;
+    let mut c: Box<dyn Server + Send> = eager(rt.alloc(), recipe(3, Act::Add, &[output(15)]))?;
+    let one = Desk::new(&manager, &mut third, &mut a);
+    let other = Desk::new(&manager, &mut fourth, &mut b);
+    let last = Desk::new(&manager, &mut fifth, &mut c);
+    let mut desks = three(rt.alloc(), &manager, one, other, last)?;
+    let mut clients = clients(rt.alloc(), &manager, &mut first, &mut second, (1, 3), 40)?;
+    let mut killers = killers(rt.alloc(), &manager, &mut sixth, &mut seventh, 512, 768)?;
+    let counts = shift(
+        &rt,
+        &manager,
+        desks.as_mut_slice(),
+        clients.as_mut_slice(),
+        killers.as_mut_slice(),
+        200,
+        &NoGate,
+    );
+    drop(desks);
+    let requests = survey(&manager, &mut reader, 1, 2048);
+    let left = survey(&manager, &mut reader, 2, 2048);
+    let right = survey(&manager, &mut reader, 3, 2048);
+    let replies = survey(&manager, &mut reader, 15, 2048);
+    assert!(rt; counts.submitted == 80 && requests.all() == 80);
+
+    // What was taken is consumed once, and each consumed element has its outputs.
+    assert!(rt; left.all() == requests.consumed && right.all() == requests.consumed);
+    assert_eq!(rt; replies.waiting, left.consumed.wrapping_add(right.consumed));
+    assert_eq!(rt;
+        counts.done,
+        replies.waiting.wrapping_add(requests.consumed)
+    );
+    assert!(rt; replies.all() == replies.waiting);
+
+    // Nothing is held or parked, and what the killers killed stays so.
+    assert!(rt; requests.other == 0 && left.other == 0 && right.other == 0);
+    let killed = requests
+        .killed
+        .wrapping_add(left.killed)
+        .wrapping_add(right.killed);
+    assert_eq!(rt; counts.killed, killed);
+
+    // Each register is the sum of what its server consumed.
+    assert!(rt; a.balance(0) == Some(requests.amount));
+    assert!(rt; b.balance(0) == Some(left.amount));
+    assert!(rt; c.balance(0) == Some(right.amount));
+    Ok(())
+}
