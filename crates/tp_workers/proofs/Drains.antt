@@ -1,6 +1,6 @@
 -- Rounds of turns.
-use Rattle.std.proofs.Common.{◌≡◌, ℕ, ◌+◌, ◌-◌, ◌*◌, ◌≤◌, ◌<◌, suc, List, [], ◌∷◌, Option, All, refl, sym, ◌∙◌, ap, ap₂, arith, length, sum_by}
-use Rattle.std.proofs.lemmas.List.Elements.{All-cons, All-head, All-nil, All-tail}
+use Rattle.std.proofs.Common.{◌≡◌, ℕ, ◌+◌, ◌-◌, ◌*◌, ◌≤◌, ◌<◌, List, [], ◌∷◌, Option, All, refl, sym, ◌∙◌, ap, ap₂, arith, length, sum_by}
+use Rattle.std.proofs.lemmas.List.Elements.{All-head, All-tail}
 use Rattle.std.proofs.lemmas.List.Sums.{sum_by-cons}
 use Rattle.tp_server.specs.declared.recipe.Recipe.{Recipe}
 use Rattle.tp_manager.specs.Calls.{claims_in}
@@ -11,7 +11,7 @@ use Rattle.tp_workers.specs.Desks.{DeskDrained, TookTurn}
 use Rattle.tp_workers.specs.Ran.{RanAll}
 use Rattle.tp_workers.specs.Sums.{commits_of}
 use Rattle.tp_workers.specs.Tally.{claimed, none, plus, turn_count}
-use Rattle.tp_workers.proofs.Sums.{ran_gains}
+use Rattle.tp_workers.proofs.Sums.{ran_all, ran_gains}
 use Rattle.tp_workers.proofs.Turns.{SoFar, done_so_far, none_so_far, one_more, taken_so_far, turn_claims, turn_room}
 
 four : (n m k l : ℕ) → (n + m) + (k + l) ≡ (n + k) + (m + l)
@@ -70,17 +70,8 @@ module _ {X : Type 0} {F : X → Type 0} (recipe : (x : X) × F x → Recipe) (r
   going_round (x ∷ xs) (y ∷ ys) (z ∷ zs) s t h k =
       (plus h.0 k.0, plus h.1 k.1, one_round x y z h.0 k.0 h.2 k.2, going_round xs ys zs h.1 k.1 h.3 k.3, ap₂ plus h.4 k.4 ∙ plus_swap h.0 h.1 k.0 k.1)
 
-  pub going_ready : (xs : List (Desk X F)) (s : Shift) (ys : List (Desk X F)) → RanAll Going xs s ys → All (IsReady recipe registers pending) ys
-  going_ready [] s [] h = All-nil (IsReady recipe registers pending)
-  going_ready [] s (y ∷ ys) h = absurd h
-  going_ready (x ∷ xs) s [] h = absurd h
-  going_ready (x ∷ xs) s (y ∷ ys) h = All-cons (IsReady recipe registers pending) y ys h.2.so_far.ready (going_ready xs h.1 ys h.3)
-
-  pub going_length : (xs : List (Desk X F)) (s : Shift) (ys : List (Desk X F)) → RanAll Going xs s ys → length ys ≡ length xs
-  going_length [] s [] h = refl
-  going_length [] s (y ∷ ys) h = absurd h
-  going_length (x ∷ xs) s [] h = absurd h
-  going_length (x ∷ xs) s (y ∷ ys) h = ap suc (going_length xs h.1 ys h.3)
+  pub going_ready : (xs : List (Desk X F)) (s : Shift) (ys : List (Desk X F)) → All (IsReady recipe registers pending) xs → RanAll Going xs s ys → All (IsReady recipe registers pending) ys
+  going_ready xs s ys ready h = ran_all Going (IsReady recipe registers pending) (IsReady recipe registers pending) (λ x t y r is. r.so_far.ready) xs s ys h ready
 
   pub going_few : (xs : List (Desk X F)) (s : Shift) (ys : List (Desk X F)) → RanAll Going xs s ys → s.done ≤ length xs * 1024
   going_few [] s [] h = omega (arith, ap (λ (u : Shift). u.done) h)

@@ -9,7 +9,7 @@ use Rattle.tp_model.specs.declared.types.Killed.{Killed}
 use Rattle.tp_model.specs.declared.types.Limits.{Limits}
 use Rattle.tp_model.specs.declared.types.Refusal.{Refusal}
 use Rattle.tp_model.specs.declared.types.Refusal.TheVariants as refusals
-use Rattle.tp_model.specs.History.{In, here, there}
+use Rattle.tp_model.specs.History.{here, there}
 use Rattle.tp_model.proofs.Bridges.{begins_refl, begins_trans}
 use Rattle.tp_manager.specs.Calls.{AreOfHolders, KillFails, OnlyAborts}
 use Rattle.tp_manager.specs.Shown.{PassShown}

@@ -22,7 +22,9 @@ pub record IsClientOf (m : ManagerShown) (j : ClientJob) : Type 0 where
 pub record SubmitsOnce (stage key amount : ℕ) (old : PassShown) (answer : Result ℕ Refusal) (new : PassShown) : Type 0 where
   pub follows : Follows 4 old new
   pub open_unit : new.open_unit ≡ old.open_unit
-  pub told : MatchResult answer (λ id. Submits id stage key amount old new) (λ why. (new ≡ old) × SubmitRefused stage old why)
+  pub told : MatchResult answer
+      (λ id. Submits id stage key amount old new)
+      (λ why. (new ≡ old) × SubmitRefused stage old why)
 
 -- the event is an Enqueue of this body
 abbrev pub IsRequest : ℕ → ℕ → ℕ → Event → Type 0

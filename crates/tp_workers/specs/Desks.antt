@@ -1,7 +1,5 @@
 -- What desks do in a shift. The first three arguments say of a box what its server shows, as those of `Steady`.
-use Rattle.std.specs.Prelude.{◌≡◌, ℕ, ◌+◌, ◌≤◌, List, Option, None}
-use Rattle.std.specs.declared.alloc.Global.{Global}
-use Rattle.std.specs.declared.dyn_box.DynBox.{DynBox}
+use Rattle.std.specs.Prelude.{◌≡◌, ℕ, ◌+◌, ◌≤◌, List, Option}
 use Rattle.tp_model.specs.Steps.{AreLimits}
 use Rattle.tp_server.specs.declared.recipe.Recipe.{Recipe}
 use Rattle.tp_manager.specs.Calls.{Follows}
@@ -26,7 +24,8 @@ module _ {X : Type 0} {F : X → Type 0} (recipe : (x : X) × F x → Recipe) (r
 
   -- the desk took a turn with this answer
   pub record TakesTurn (old : Desk X F) (turned : Turned) (new : Desk X F) : Type 0 where
-    pub answer : Turns old.manager.now.limits (shown recipe old.server.now) (shown registers old.server.now) old.pass.now new.pass.now turned
+    pub answer : Turns old.manager.now.limits (shown recipe old.server.now) (shown registers old.server.now)
+        old.pass.now new.pass.now turned
     pub follows : Follows (turn_steps old.manager.now.limits) old.pass.now new.pass.now
     pub limits : AreLimits old.manager.now.limits
     pub same : IsSameDesk old new

@@ -1,5 +1,5 @@
 -- What killers do in a shift.
-use Rattle.std.specs.Prelude.{◌≡◌, ◌⊎◌, ℕ, ◌+◌, ◌-◌, ◌*◌, ◌≤◌, ◌<◌, List, [], ◌∷◌, Result, MatchResult, None}
+use Rattle.std.specs.Prelude.{◌≡◌, ◌⊎◌, ℕ, ◌+◌, ◌-◌, ◌*◌, ◌≤◌, ◌<◌, List, Result, MatchResult, None}
 use Rattle.tp_model.specs.declared.event.Event.{Event}
 use Rattle.tp_model.specs.declared.event.Event.TheVariants.{Kill}
 use Rattle.tp_model.specs.declared.types.Killed.{Killed}
@@ -30,14 +30,19 @@ pub record Killing : Type 0 where
   pub id : ℕ
   pub pass : PassShown
 
+abbrev pub killing : ℕ → PassShown → Killing
+killing id pass = record { id = id; pass = pass }
+
 -- the killer took the id that it came to, and goes on to the next
 pub record KillsNext (l : Limits) (old : Killing) (answer : Result Killed Refusal) (new : Killing) : Type 0 where
   pub next : new.id ≡ old.id + 1
   pub call : KillsOnce l old.id old.pass answer new.pass
 
--- the event is pass c's Kill of an id from `first` up to and without `end`, or its Abort, between two histories, of a unit that held such an id where the Abort stands
+-- The event is pass c's Kill of an id from `first` up to and without `end`, or, between two histories, its Abort of a unit that
+-- held such an id where the Abort stands.
 abbrev pub IsKillWork : Limits → ℕ → ℕ → ℕ → List Event → List Event → Event → Type 0
-IsKillWork l c first end from to e = (id : ℕ) × (first ≤ id) × (id < end) × ((e ≡ Kill c id) ⊎ IsOfHolder l c id from to e)
+IsKillWork l c first end from to e = (id : ℕ) × (first ≤ id) × (id < end)
+    × ((e ≡ Kill c id) ⊎ IsOfHolder l c id from to e)
 
 -- it is the same job, with the same pass
 pub record IsSameKiller (old new : KillJob) : Type 0 where
@@ -47,8 +52,10 @@ pub record IsSameKiller (old new : KillJob) : Type 0 where
 
 -- the killer took each id of its range once, and this left its job so
 pub record KillerRan (m : ManagerShown) (old : KillJob) (counts : Shift) (new : KillJob) : Type 0 where
-  pub calls : Called (KillsNext m.limits) kill_count (old.end - old.first) (record { id = old.first; pass = old.pass.now }) counts (record { id = old.end; pass = new.pass.now })
-  pub gains : GainsOnly (IsKillWork m.limits old.pass.now.number old.first old.end old.pass.now.seen new.pass.now.seen) old.pass.now new.pass.now
+  pub calls : Called (KillsNext m.limits) kill_count (old.end - old.first)
+      (killing old.first old.pass.now) counts (killing old.end new.pass.now)
+  pub gains : GainsOnly (IsKillWork m.limits old.pass.now.number old.first old.end old.pass.now.seen new.pass.now.seen)
+      old.pass.now new.pass.now
   pub killed : counts.killed + kills_in old.pass.now ≡ kills_in new.pass.now
   pub same : IsSameKiller old new
   pub ready : IsKillerOf m new

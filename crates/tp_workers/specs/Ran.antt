@@ -5,7 +5,8 @@ use denote.Param.Members.{Shared}
 use Rattle.tp_workers.specs.declared.tally.Shift.{Shift}
 use Rattle.tp_workers.specs.Tally.{none, plus, total}
 
--- each worker of the first list ran, with counts of its own, and became the one at its place in the second list; the counts add up to these
+-- Each worker of the first list ran, with counts of its own, and became the one at its place in the second list. The counts add up
+-- to these.
 abbrev pub RanAll : {T : Type 0} → (T → Shift → T → Type 0) → List T → Shift → List T → Type 0
 RanAll R [] s [] = s ≡ none
 RanAll R [] s (y ∷ ys) = ⊥

@@ -47,7 +47,8 @@ fn claim_at<G: Gate>(desk: &mut Desk, worker: u32, gate: &G) -> Turned
     ensures free { desk.new.work ≡ None }
     ensures limits { AreLimits desk.old.manager.now.limits }
     ensures follows { Follows (turn_steps desk.old.manager.now.limits) desk.old.pass.now desk.new.pass.now }
-    ensures answer { Turns desk.old.manager.now.limits (shown recipe desk.old.server.now) (shown registers desk.old.server.now) desk.old.pass.now desk.new.pass.now result }
+    ensures answer { Turns desk.old.manager.now.limits (shown recipe desk.old.server.now) (shown registers desk.old.server.now)
+        desk.old.pass.now desk.new.pass.now result }
     ensures steady { IsSteadyDesk recipe registers pending desk.new }
 {
     match desk.claim() {
@@ -64,7 +65,8 @@ fn work_at<G: Gate>(desk: &mut Desk, work: Work, worker: u32, gate: &G) -> Turne
     ensures same { IsSameDesk recipe registers pending desk.old desk.new }
     ensures free { desk.new.work ≡ None }
     ensures follows { Follows 19 desk.old.pass.now desk.new.pass.now }
-    ensures answer { WorksOff (shown recipe desk.old.server.now) (shown registers desk.old.server.now) work desk.old.pass.now desk.new.pass.now result }
+    ensures answer { WorksOff (shown recipe desk.old.server.now) (shown registers desk.old.server.now) work
+        desk.old.pass.now desk.new.pass.now result }
     ensures steady { IsSteadyDesk recipe registers pending desk.new }
 {
     let element = work.element.id;

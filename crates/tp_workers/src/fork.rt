@@ -123,7 +123,8 @@ pub(crate) fn fork_three<
     { fork(rt, run_x, first, xs) };
     let mut other = || -> (Shift, Shift)
         requires { MayRun H.Fn run_y.now ys.now × MayRun K.Fn run_z.now zs.now }
-        ensures { RanAll (Runs H.Fn run_y.entry.now) ys.entry.now result.0 ys.exit.now × RanAll (Runs K.Fn run_z.entry.now) zs.entry.now result.1 zs.exit.now }
+        ensures { RanAll (Runs H.Fn run_y.entry.now) ys.entry.now result.0 ys.exit.now
+            × RanAll (Runs K.Fn run_z.entry.now) zs.entry.now result.1 zs.exit.now }
     { fork_two(rt, run_y, run_z, second, third, ys, zs) };
     join_mut(rt, &mut one, &mut other)
 }

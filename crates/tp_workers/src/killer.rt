@@ -2,7 +2,7 @@
 ghost use Rattle.std.specs.Prelude.{◌≡◌, ◌≤◌, ◌-◌, None};
 ghost use Rattle.tp_manager.specs.Shown.{IsOf};
 ghost use Rattle.tp_workers.specs.Calling.{Called};
-ghost use Rattle.tp_workers.specs.Killers.{IsKillerOf, KillerRan, KillsNext, KillsOnce};
+ghost use Rattle.tp_workers.specs.Killers.{IsKillerOf, KillerRan, KillsNext, KillsOnce, killing};
 ghost use Rattle.tp_workers.specs.Tally.{kill_count, total};
 
 use crate::gate::{Gate, Point};
@@ -45,7 +45,8 @@ fn kill_range<G: Gate>(
     requires free { pass.old.open_unit ≡ None }
     ensures own { IsOf manager.now pass.new }
     ensures free { pass.new.open_unit ≡ None }
-    ensures calls { Called (KillsNext manager.now.limits) kill_count (end - first) (record { id = first; pass = pass.old }) result (record { id = end; pass = pass.new }) }
+    ensures calls { Called (KillsNext manager.now.limits) kill_count (end - first)
+        (killing first pass.old) result (killing end pass.new) }
 {
     let mut counts = Shift::none();
     for id in first..end {

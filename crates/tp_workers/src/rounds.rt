@@ -22,10 +22,12 @@ pub struct Drained {
 pub fn drain(desks: &mut [Desk]) -> Drained
     requires ready { All (IsReady recipe registers pending) desks.old }
     requires fit { length desks.old * 1024 < 2 ^ 32 }
-    ensures desks { (counts : Shift) × RanAll (DeskDrained recipe registers pending) desks.old counts desks.new × (result.done ≡ counts.done) }
+    ensures desks { (counts : Shift) × RanAll (DeskDrained recipe registers pending) desks.old counts desks.new
+        × (result.done ≡ counts.done) }
     ensures ready { All (IsReady recipe registers pending) desks.new }
     ensures kept { length desks.new ≡ length desks.old }
-    ensures managers { (m : ManagerShown) → All (λ d. d.manager.now ≡ m) desks.old → All (λ d. d.manager.now ≡ m) desks.new }
+    ensures managers { (m : ManagerShown) → All (λ d. d.manager.now ≡ m) desks.old
+        → All (λ d. d.manager.now ≡ m) desks.new }
     ensures done { result.done + sum_by commits_of desks.old ≡ sum_by commits_of desks.new }
 {
     let mut done = 0u32;

@@ -135,8 +135,10 @@ fn three<'m, 'p, 's>(
     other: Desk<'m, 'p, 's>,
     third: Desk<'m, 'p, 's>,
 ) -> Result<Vec<Desk<'m, 'p, 's>>, Fail>
-    requires managers { (one.manager.now ≡ manager.now) × (other.manager.now ≡ manager.now) × (third.manager.now ≡ manager.now) }
-    requires ready { IsReady recipe registers pending one × IsReady recipe registers pending other × IsReady recipe registers pending third }
+    requires managers { (one.manager.now ≡ manager.now) × (other.manager.now ≡ manager.now)
+        × (third.manager.now ≡ manager.now) }
+    requires ready { IsReady recipe registers pending one × IsReady recipe registers pending other
+        × IsReady recipe registers pending third }
     ensures managers { IfOk result (λ made. All (λ d. d.manager.now ≡ manager.now) made.items) }
     ensures ready { IfOk result (λ made. All (IsReady recipe registers pending) made.items) }
     ensures count { IfOk result (λ made. length made.items ≡ 3) }

@@ -53,7 +53,8 @@ pub fn shift<R: Threads + Sync, G: Gate>(
     ensures done { result.done + sum_by commits_of desks.old ≡ sum_by commits_of desks.new }
     ensures submitted { result.submitted + sum_by enqueues_of clients.old ≡ sum_by enqueues_of clients.new }
     ensures killed { result.killed + sum_by kills_of killers.old ≡ sum_by kills_of killers.new }
-    ensures all_turns { result.nounit ≡ 0 → result.done + result.refused + result.lost + result.full + result.idle ≡ turns * length desks.old }
+    ensures all_turns { result.nounit ≡ 0
+        → result.done + result.refused + result.lost + result.full + result.idle ≡ turns * length desks.old }
     ensures all_calls { result.submitted + result.submit_full ≡ sum_by calls_of clients.old }
     ensures all_ids { result.killed + result.late + result.already + result.missing ≡ sum_by size_of_range killers.old }
 {
@@ -67,7 +68,8 @@ pub fn shift<R: Threads + Sync, G: Gate>(
     { run_client(manager, it, worker, gate) };
     let killer = |it: &mut KillJob, worker: u32| -> Shift
         requires { IsKillerOf manager.now it.now }
-        ensures { KillerRan manager.entry.now it.entry.now result it.exit.now × (total result ≤ it.entry.now.end - it.entry.now.first) }
+        ensures { KillerRan manager.entry.now it.entry.now result it.exit.now
+            × (total result ≤ it.entry.now.end - it.entry.now.first) }
     { run_killer(manager, it, worker, gate) };
     let first_client = number_after(0, desks.len());
     let first_killer = number_after(first_client, clients.len());

@@ -2,17 +2,17 @@ use Rattle.std.proofs.Common.{◌≡◌, ap, ◌∙◌, arith, refl}
 use Rattle.tp_workers.specs.Tally.{none, plus}
 use Rattle.tp_desk.specs.Steady.{IsReady}
 use Rattle.tp_workers.proofs.Sums.{ran_all, ran_length}
-use Rattle.tp_workers.proofs.Drains.{all_end, drained_sum, going_few, going_length, going_none, going_ready, going_round, round_smaller}
+use Rattle.tp_workers.proofs.Drains.{all_end, drained_sum, going_few, going_none, going_ready, going_round, round_smaller}
 use Rattle.tp_workers.proofs.rounds.drain.Goals as goal
 
 pub rounds-init : goal.rounds-init
 rounds-init g c = record { counts = none; ran = going_none _ _ _ c.args.desks.now c.requires.ready; counted = refl }
 
 pub round-counts-requires-clause-ready : goal.round-counts-requires-clause-ready
-round-counts-requires-clause-ready g c = going_ready _ _ _ _ _ _ c.rounds.invariant.ran
+round-counts-requires-clause-ready g c = going_ready _ _ _ _ _ _ c.requires.ready c.rounds.invariant.ran
 
 pub round-counts-requires-clause-fit : goal.round-counts-requires-clause-fit
-round-counts-requires-clause-fit g c = let same = going_length _ _ _ _ _ _ c.rounds.invariant.ran in omega arith
+round-counts-requires-clause-fit g c = let same = ran_length _ _ _ _ c.rounds.invariant.ran in omega arith
 
 pub overflow_add-done : goal.overflow_add-done
 overflow_add-done g c =
