@@ -31,10 +31,10 @@ module _ (seat : Seated) (l : Limits) (given : ℕ) (k : Keeps seat l given) (le
   }
 
   module _ (next : Seated) (is : view_of next ≡ handed_out (view_of seat)) where
-    out : (view_of next).hands ≡ noted kinds.Load (view_of seat).seen (fresh given) ∷ []
+    out : (view_of next).hands ≡ noted kinds.SeatLoad (view_of seat).seen (fresh given) ∷ []
     out = ap (λ (v : View). v.hands) is ∙ ap (λ hs. looked (view_of seat) (front_of hs)) hands_are
 
-    pub fresh_hand : hand (view_of next) ≡ noted kinds.Load (view_of seat).seen (fresh given)
+    pub fresh_hand : hand (view_of next) ≡ noted kinds.SeatLoad (view_of seat).seen (fresh given)
     fresh_hand = ap first_hand out
 
     pub fresh_seen : (view_of next).seen ≡ []

@@ -39,18 +39,21 @@ module _ (l : Limits) (v w : View) (s : Steady l v) (one : IsOnePass w) (lim : w
 abbrev load : List Event → TraceEntry
 load h = record { kind = kinds.Load; seen = h }
 
+abbrev cutting : List Event → TraceEntry
+cutting h = record { kind = kinds.SeatLoad; seen = h }
+
 module _ (l : Limits) (v w k j m x y : View) (sv : Steady l v) (sw : Steady l w) (cut : k ≡ kept w) (join : j ≡ joined v k) (g : Grew kinds.Load unchanged [] j m) (first : x ≡ kept m) (second : y ≡ parted m) where
   abbrev A : Hand
-  A = noted kinds.Load m.seen (noted kinds.Load v.seen (hand v))
+  A = noted kinds.Load m.seen (noted kinds.SeatLoad v.seen (hand v))
 
   abbrev B : Hand
-  B = noted kinds.Load m.seen (noted kinds.Load w.seen (hand w))
+  B = noted kinds.Load m.seen (noted kinds.SeatLoad w.seen (hand w))
 
-  cut_hands : k.hands ≡ noted kinds.Load w.seen (hand w) ∷ []
+  cut_hands : k.hands ≡ noted kinds.SeatLoad w.seen (hand w) ∷ []
   cut_hands = ap (λ (z : View). z.hands) cut ∙ ap (λ hs. looked w (front_of hs)) sw.pass.0
 
-  join_hands : j.hands ≡ noted kinds.Load v.seen (hand v) ∷ noted kinds.Load w.seen (hand w) ∷ []
-  join_hands = ap (λ (z : View). z.hands) join ∙ (ap (λ hs. looked v hs ++ k.hands) sv.pass.0 ∙ ap (λ hs. noted kinds.Load v.seen (hand v) ∷ hs) cut_hands)
+  join_hands : j.hands ≡ noted kinds.SeatLoad v.seen (hand v) ∷ noted kinds.SeatLoad w.seen (hand w) ∷ []
+  join_hands = ap (λ (z : View). z.hands) join ∙ (ap (λ hs. looked v hs ++ k.hands) sv.pass.0 ∙ ap (λ hs. noted kinds.SeatLoad v.seen (hand v) ∷ hs) cut_hands)
 
   met_hands : m.hands ≡ A ∷ B ∷ []
   met_hands = ap (λ (z : View). z.hands) g.view ∙ ap (map (λ a. noted kinds.Load m.seen a)) join_hands
@@ -76,13 +79,13 @@ module _ (l : Limits) (v w k j m x y : View) (sv : Steady l v) (sw : Steady l w)
   pub second_seen : y.seen ≡ m.seen
   second_seen = ap (λ (z : View). z.seen) second
 
-  first_hands : x.hands ≡ noted kinds.Load m.seen A ∷ []
+  first_hands : x.hands ≡ noted kinds.SeatLoad m.seen A ∷ []
   first_hands = ap (λ (z : View). z.hands) first ∙ ap (λ hs. looked m (front_of hs)) met_hands
 
   second_hands : y.hands ≡ B ∷ []
   second_hands = ap (λ (z : View). z.hands) second ∙ ap rest_of met_hands
 
-  first_hand_is : hand x ≡ noted kinds.Load m.seen A
+  first_hand_is : hand x ≡ noted kinds.SeatLoad m.seen A
   first_hand_is = ap first_hand first_hands
 
   second_hand_is : hand y ≡ B
@@ -103,31 +106,31 @@ module _ (l : Limits) (v w k j m x y : View) (sv : Steady l v) (sw : Steady l w)
   -- what a meeting is for the first
   pub met_first : Acted l 3 v x
   met_first = let h = first_hand_is in record {
-    marks = load v.seen ∷ load m.seen ∷ load m.seen ∷ [];
+    marks = cutting v.seen ∷ load m.seen ∷ cutting m.seen ∷ [];
     walk = record {
-      traced = ap (λ (a : Hand). a.trace) h ∙ (append_assoc ((hand v).trace ++ load v.seen ∷ []) (load m.seen ∷ []) (load m.seen ∷ []) ∙ append_assoc (hand v).trace (load v.seen ∷ []) (load m.seen ∷ load m.seen ∷ []));
+      traced = ap (λ (a : Hand). a.trace) h ∙ (append_assoc ((hand v).trace ++ cutting v.seen ∷ []) (load m.seen ∷ []) (cutting m.seen ∷ []) ∙ append_assoc (hand v).trace (cutting v.seen ∷ []) (load m.seen ∷ cutting m.seen ∷ []));
       few = omega arith;
-      opens = begins_refl v.seen;
-      closes = subst (IsPrefix v.seen) (sym first_seen) first_saw;
+      opens = first_saw;
+      closes = subst (IsPrefix m.seen) (sym first_seen) (begins_refl m.seen);
       number = ap (λ (a : Hand). a.number) h;
       steady = steady_first;
     };
     kept = h ∙ ap (λ t. record (hand v) { trace = t }) (sym (ap (λ (a : Hand). a.trace) h));
-    step = (load v.seen, here, tt);
+    step = (load m.seen, there here, tt);
   }
 
   -- and for the second
   pub met_second : Acted l 3 w y
   met_second = let h = second_hand_is in record {
-    marks = load w.seen ∷ load m.seen ∷ [];
+    marks = cutting w.seen ∷ load m.seen ∷ [];
     walk = record {
-      traced = ap (λ (a : Hand). a.trace) h ∙ append_assoc (hand w).trace (load w.seen ∷ []) (load m.seen ∷ []);
+      traced = ap (λ (a : Hand). a.trace) h ∙ append_assoc (hand w).trace (cutting w.seen ∷ []) (load m.seen ∷ []);
       few = omega arith;
-      opens = begins_refl w.seen;
-      closes = subst (IsPrefix w.seen) (sym second_seen) second_saw;
+      opens = second_saw;
+      closes = subst (IsPrefix m.seen) (sym second_seen) (begins_refl m.seen);
       number = ap (λ (a : Hand). a.number) h;
       steady = steady_second;
     };
     kept = h ∙ ap (λ t. record (hand w) { trace = t }) (sym (ap (λ (a : Hand). a.trace) h));
-    step = (load w.seen, here, tt);
+    step = (load m.seen, there here, tt);
   }

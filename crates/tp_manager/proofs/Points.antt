@@ -3,7 +3,7 @@ use Rattle.std.proofs.Common.{◌≡◌, List, [], ◌∷◌, ◌++◌, length, 
 use mathlib.Core.List.{IsPrefix}
 use Rattle.tp_model.specs.declared.event.Event.{Event}
 use Rattle.tp_model.specs.declared.trace.StepKind.{StepKind}
-use Rattle.tp_model.specs.declared.trace.StepKind.TheVariants.{DraftStore, Publish, Load, UnitChoice, ClaimExchange, CommitExchange, AbortExchange, KillExchange}
+use Rattle.tp_model.specs.declared.trace.StepKind.TheVariants.{DraftStore, Publish, Load, SeatLoad, UnitChoice, ClaimExchange, CommitExchange, AbortExchange, KillExchange}
 use Rattle.tp_model.specs.declared.trace.TraceEntry.{TraceEntry}
 use Rattle.tp_model.specs.History.{In, here, there}
 use Rattle.tp_model.specs.Passes.{opening_of, unless_draft}
@@ -15,6 +15,7 @@ unless_cases : (kind : StepKind) (P : (List Event → List Event → List Event)
 unless_cases DraftStore P looks stores = stores (λ x. x)
 unless_cases Publish P looks stores = looks tt
 unless_cases Load P looks stores = looks tt
+unless_cases SeatLoad P looks stores = stores (λ x. x)
 unless_cases UnitChoice P looks stores = looks tt
 unless_cases ClaimExchange P looks stores = looks tt
 unless_cases CommitExchange P looks stores = looks tt

@@ -21,7 +21,7 @@ use Rattle.tp_model.specs.declared.types.Refusal.TheVariants as refusals
 use Rattle.tp_model.specs.declared.event.Event.{Event}
 use Rattle.tp_model.specs.declared.event.Event.TheVariants.{Enqueue, Claim, Commit, Abort, Kill}
 use Rattle.tp_model.specs.declared.trace.StepKind.{StepKind}
-use Rattle.tp_model.specs.declared.trace.StepKind.TheVariants.{DraftStore, Publish, Load, UnitChoice, ClaimExchange, CommitExchange, AbortExchange, KillExchange}
+use Rattle.tp_model.specs.declared.trace.StepKind.TheVariants.{DraftStore, Publish, Load, SeatLoad, UnitChoice, ClaimExchange, CommitExchange, AbortExchange, KillExchange}
 use Rattle.tp_model.specs.declared.trace.TraceEntry.{TraceEntry}
 use Rattle.tp_model.specs.History.{In, IsClaim, IsUnborn, UnitEnd, claim_of, element_of, end_of, first_id, status_of}
 use Rattle.tp_model.specs.OneThread.{outputs}
@@ -34,6 +34,7 @@ abbrev pub IsLookingStep : StepKind → Type 0
 IsLookingStep DraftStore = ⊥
 IsLookingStep Publish = Unit {0}
 IsLookingStep Load = Unit {0}
+IsLookingStep SeatLoad = ⊥
 IsLookingStep UnitChoice = Unit {0}
 IsLookingStep ClaimExchange = Unit {0}
 IsLookingStep CommitExchange = Unit {0}

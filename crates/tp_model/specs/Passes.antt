@@ -1,12 +1,13 @@
 -- What a pass shows to contracts, and the points of its calls.
-use Rattle.std.specs.Prelude.{◌≡◌, ℕ, ◌+◌, ◌*◌, ◌<◌, ◌≤◌, Option, List, [], ◌∷◌}
+use Rattle.std.specs.Prelude.{◌≡◌, ℕ, ◌+◌, ◌*◌, ◌<◌, ◌≤◌, Bool, true, false, if◌then◌else◌, Option, Some, List, [], ◌∷◌}
 use mathlib.Core.List.{IsPrefix}
 use Rattle.tp_model.specs.declared.types.Limits.{Limits}
 use Rattle.tp_model.specs.declared.event.Event.{Event}
+use Rattle.tp_model.specs.declared.event.Event.TheVariants.{Abort}
 use Rattle.tp_model.specs.declared.trace.StepKind.{StepKind}
-use Rattle.tp_model.specs.declared.trace.StepKind.TheVariants.{DraftStore, Publish, Load, UnitChoice, ClaimExchange, CommitExchange, AbortExchange, KillExchange}
+use Rattle.tp_model.specs.declared.trace.StepKind.TheVariants.{DraftStore, SeatLoad, UnitChoice}
 use Rattle.tp_model.specs.declared.trace.TraceEntry.{TraceEntry}
-use Rattle.tp_model.specs.History.{IsUnborn, events_by}
+use Rattle.tp_model.specs.History.{Committed, In, IsClaim, IsUnborn, end_of, events_by}
 use Rattle.tp_model.specs.Steps.{IsLegal}
 
 -- what a pass shows: its number, the history that it has seen, its own events, its open unit, how many of its rows are used, and its atomic steps
@@ -18,29 +19,40 @@ pub record PassView : Type 0 where
   pub drawn : ℕ
   pub trace : List TraceEntry
 
--- it has seen a legal history; its own events are those of that history with its number; and its rows that aren't used aren't born there
+-- pass c took unit u, and neither committed nor aborted it: another may have aborted it
+pub record IsOwnOpen (h : List Event) (c u : ℕ) : Type 0 where
+  pub item : ℕ
+  pub attempt : ℕ
+  pub claimed : IsClaim h c u item attempt
+  pub uncommitted : (first count : ℕ) → ¬ (end_of h u ≡ Some (Committed first count))
+  pub kept : ¬ In (Abort c u) h
+
+-- it has seen a legal history; its own events are those of that history with its number; its rows that aren't used
+-- aren't born there; and its open unit is there its own, not committed, and not aborted by itself
 pub record IsPassView (l : Limits) (v : PassView) : Type 0 where
   pub given : v.number < l.parts
   pub legal : IsLegal l v.seen
   pub own : v.mine ≡ events_by v.number v.seen
   pub within : v.drawn ≤ l.rows
   pub unborn : (i : ℕ) → v.number * l.rows + v.drawn ≤ i → i < v.number * l.rows + l.rows → IsUnborn v.seen i
+  pub open_own : (u : ℕ) → v.open_unit ≡ Some u → IsOwnOpen v.seen v.number u
 
--- what was seen after a step, unless it was a draft store
-abbrev pub unless_draft : StepKind → List Event → List Event → List Event
-unless_draft DraftStore seen later = later
-unless_draft Publish seen later = seen
-unless_draft Load seen later = seen
-unless_draft UnitChoice seen later = seen
-unless_draft ClaimExchange seen later = seen
-unless_draft CommitExchange seen later = seen
-unless_draft AbortExchange seen later = seen
-unless_draft KillExchange seen later = seen
+-- whether a step looks at the table: what it finds or changes there is tied to what is seen after it. A draft store
+-- sees nothing, the load that cuts or joins seats tells nothing, and the choice of a unit is told nothing of its word.
+abbrev pub looks : StepKind → Bool
+looks DraftStore = false
+looks SeatLoad = false
+looks UnitChoice = false
+looks other = true
 
--- the opening of a call that makes these steps: what is seen after the first that is no draft store, or at its entry where none is
+-- one of these steps looks
+abbrev pub HasLook : List TraceEntry → Type 0
+HasLook steps = (step : TraceEntry) × In step steps × (looks step.kind ≡ true)
+
+-- the opening of a call that makes these steps: what is seen after the first that looks, or at its entry where none does
 abbrev pub opening_of : List Event → List TraceEntry → List Event
 opening_of entry [] = entry
-opening_of entry (step ∷ steps) = unless_draft step.kind step.seen (opening_of entry steps)
+opening_of entry (step ∷ steps) = if looks step.kind then step.seen else opening_of entry steps
 
 -- a point of a call: a history that its opening begins, and that begins what is seen at its exit
 pub record IsPoint (opening exit point : List Event) : Type 0 where

@@ -1,37 +1,37 @@
 -- The commit exchange and the abort exchange keep the rule.
-use Rattle.std.proofs.Common.{◌≡◌, ℕ, ◌+◌, ◌*◌, ◌<◌, ◌≤◌, ◌≢◌, eqb, List, [], ◌∷◌, ◌++◌, length, set, get_or, sym, refl, ap, ◌∙◌, subst, ◌⊎◌, inr, ⊎_elim, arith, eq-eqb, ne_eqb, length-set, get_or-set_other, get_or-set_same, Option, Some, None}
-use mathlib.Core.Option.{none, some}
+use Rattle.std.proofs.Common.{◌≡◌, ℕ, ◌+◌, ◌*◌, ◌<◌, ◌≤◌, ◌≢◌, eqb, List, [], ◌∷◌, ◌++◌, length, set, get_or, sym, refl, ap, ◌∙◌, subst, ◌⊎◌, inr, ⊎_elim, arith, eq-eqb, ne_eqb, Option, Some, None}
+use Rattle.std.specs.Option.{option_or}
 use mathlib.Core.Logic.{dite}
 use native.Mathlib.Decide.{ℕ_discrete}
-use lib.ListN.{get_elem?}
 use prog.Atomic.{either}
-use Rattle.atomic_table.specs.Table.{step, keeps, stepped, Allows}
-use Rattle.tp_model.specs.declared.trace.StepKind.TheVariants as kinds
-use Rattle.tp_rule.specs.Rule.{AreFrom, HandHolds, Holds, RowsHold, Rule, UnitsHold, World}
-use Rattle.tp_rule.specs.Views.{IsOnePass, hand}
-use Rattle.tp_rule.specs.Steps.{IsOut, after, unchanged, with_end, with_lost, IsOwnWork, IsClaimed, committed, Loses}
-use Rattle.tp_rule.specs.Plays.{Mine, exchanges_commit, exchanges_abort}
-use Rattle.tp_rule.proofs.Seats.{S}
-use Rattle.tp_rule.proofs.Frames.{decide_undecided, rows_frame, one_in}
-use Rattle.tp_rule.proofs.Events.{world_event, acts}
-use Rattle.tp_rule.proofs.Watching.{watches, misses, rows_lost}
-use Rattle.std.specs.Option.{option_or}
-use Rattle.tp_model.proofs.Lists.{option_or-None, if_same, if_other}
-use Rattle.tp_model.proofs.Bridges.{born_either, found_later, is_born, taking_later, by_own, claim_either, in_none, unborn_before, unborn_still, unused_still}
-use Rattle.tp_model.proofs.WordProofs.{claim_word-snoc, end_of-snoc}
-use Rattle.tp_model.specs.History.{Aborted, Committed, UnitEnd, In, here, there, IsUnborn, births, end_of, first_id}
-use Rattle.tp_model.specs.Steps.{AreLimits, AreOutputs, Step, rows_of}
-use Rattle.tp_model.specs.Words.{ClaimWord, claim_word, claim_word_after}
 use Rattle.tp_model.specs.declared.event.Event.{Event}
 use Rattle.tp_model.specs.declared.event.Event.TheVariants.{Abort, Claim, Commit}
+use Rattle.tp_model.specs.declared.trace.StepKind.{StepKind}
+use Rattle.tp_model.specs.declared.trace.StepKind.TheVariants as kinds
 use Rattle.tp_model.specs.declared.types.Element.{Element}
 use Rattle.tp_model.specs.declared.types.Limits.{Limits}
-use Rattle.tp_rule.proofs.Parts.{fair_rows, fair_units, IsOf, Same3, holds_same, in_all, in_run, set3}
-use Rattle.tp_rule.proofs.Units.{decide}
+use Rattle.tp_model.specs.History.{Aborted, Committed, UnitEnd, In, here, there, IsUnborn, births, end_of, first_id, pass_of}
+use Rattle.tp_model.specs.Steps.{AreLimits, AreOutputs, Step, rows_of, units_of}
+use Rattle.tp_model.specs.Words.{claim_word, claim_word_after}
+use Rattle.tp_model.proofs.Bridges.{found_later, taking_later, by_own, claim_either, in_none, unborn_still, unused_still}
+use Rattle.tp_model.proofs.Lists.{option_or-None, if_same, if_other}
+use Rattle.tp_model.proofs.WordProofs.{end_of-snoc}
+use Rattle.tp_words.specs.Places.{Word, HeadWord, KeyWord, AmountWord, ClaimWord, UnitWord, IsThere, head_place, key_place, amount_place, claim_place, unit_place, place_of}
+use Rattle.tp_words.specs.Words.{IsFitHead, IsFitUnit, head_of, pack_by, pack_head, pack_unit}
+use Rattle.tp_rule.specs.Doors.{Permits}
+use Rattle.tp_rule.specs.Plays.{exchanges_commit, exchanges_abort}
+use Rattle.tp_rule.specs.Rule.{AreFrom, HandHolds, Holds, RowsHold, Rule, Told, UnitsHold, World}
+use Rattle.tp_rule.specs.Steps.{IsOut, after, unchanged, with_end, with_lost, IsOwnWork, IsClaimed, committed, Grew, Loses}
+use Rattle.tp_rule.specs.Views.{IsOnePass, hand}
 use Rattle.tp_rule.specs.declared.view.Hand.{Hand}
-use Rattle.tp_model.specs.declared.trace.StepKind.{StepKind}
 use Rattle.tp_rule.specs.declared.view.View.{View}
-use Rattle.tp_words.specs.Words.{IsFitClaim, IsFitHead, IsFitUnit, head_of, pack_by, pack_claim, pack_unit}
+use Rattle.tp_rule.proofs.Events.{acted, found_there, looking_after, watched}
+use Rattle.tp_rule.proofs.Frames.{Turn, decide_undecided, hand_holds, rows_frame, seat_holds}
+use Rattle.tp_rule.proofs.Parts.{fair_rows, fair_units, IsOf, in_all, in_run}
+use Rattle.tp_rule.proofs.Storing.{row_left}
+use Rattle.tp_rule.proofs.Tellings.{body_later, born_fit, claim_later, head_later, unit_later, unit_now}
+use Rattle.tp_rule.proofs.Units.{decide}
+use Rattle.tp_rule.proofs.Watching.{rows_lost}
 
 unit_undecided : (w : Option UnitEnd) → pack_unit w ≡ 0 → w ≡ None
 unit_undecided None e = refl
@@ -88,7 +88,7 @@ module _ (k : Limits) where
     used_below = r.used_below;
     unused = r.unused;
     spare_next = r.spare_next;
-    held_own = λ z is. absurd cc;
+    open_own = λ z is. absurd cc;
     closed = λ z j o p not un. dite (ℕ_discrete z u) (λ is. done (subst (λ y. end_of h y ≡ None) is un)) (λ ne. r.closed z j o p (holds_no_other held u z holding ne) un);
   }
 
@@ -98,40 +98,48 @@ module _ (k : Limits) where
     used_below = r.used_below;
     unused = λ z l m. unused_still h e z (r.unused z l m) (λ d i n is. other d z i n is);
     spare_next = r.spare_next;
-    held_own = λ z is. absurd cc;
+    open_own = λ z is. absurd cc;
     closed = λ z j o p not un. ⊎_elim (λ q. dite (ℕ_discrete z u) (λ is. done (subst (λ y. end_of (h ++ e ∷ []) y ≡ None) is un))
         (λ ne. r.closed z j o q (holds_no_other held u z holding ne) (decide_undecided z (end_of h z) e (sym (end_of-snoc h e z) ∙ un)))) (λ q. other c z j o q) (claim_either h e c z j o p);
   }
 
-  -- a store to a unit's word leaves the rows
-  beside_unit : (ws : List ℕ) (u p x : ℕ) → p ≡ 4 * rows_of k + u → (i : ℕ) → i < rows_of k → Same3 ws (set ws p x) i
-  beside_unit ws u p x at i l = set3 ws p x i (λ e. omega arith) (λ e. omega arith) (λ e. omega arith)
+  -- what the words tell after an event that decides unit u, where those of each row that is born hold its element
+  decided_told : (h : List Event) (ws : List ℕ) (e : Event) (u : ℕ) → ((i : ℕ) → claim_word_after i (claim_word h i) e ≡ claim_word h i) → ((z : ℕ) → z ≢ u → decide z (end_of h z) e ≡ end_of h z)
+      → ((y : Element) → In y (births e) → Holds ws y × IsFitHead (head_of y)) → (w : Word) → w ≢ UnitWord u → Told h w (get_or ws (place_of k w) 0) → Told (h ++ e ∷ []) w (get_or ws (place_of k w) 0)
+  decided_told h ws e u quiet else_is full (HeadWord i) other old = head_later h e i (get_or ws (head_place i) 0) (λ y q id. let f = full y q in (subst (λ z. get_or ws (head_place z) 0 ≡ pack_head (head_of y)) id f.0.0, f.1)) old
+  decided_told h ws e u quiet else_is full (KeyWord i) other old = body_later h e i (get_or ws (key_place i) 0) (λ y. y.key) (λ y q id. subst (λ z. get_or ws (key_place z) 0 ≡ y.key) id (full y q).0.1) old
+  decided_told h ws e u quiet else_is full (AmountWord i) other old = body_later h e i (get_or ws (amount_place i) 0) (λ y. y.amount) (λ y q id. subst (λ z. get_or ws (amount_place z) 0 ≡ y.amount) id (full y q).0.2) old
+  decided_told h ws e u quiet else_is full (ClaimWord i) other old = claim_later h e i (get_or ws (claim_place i) 0) (quiet i) old
+  decided_told h ws e u quiet else_is full (UnitWord z) other old = unit_later h e z (get_or ws (unit_place k z) 0) (else_is z (λ same. other (ap UnitWord same))) old
 
-  -- the world after an event that decides unit u
-  world_unit : (h : List Event) (ws : List ℕ) (e : Event) (u p x : ℕ) (w : Option UnitEnd) → World k h ws → Step k h e → u < k.parts * k.units → p ≡ 4 * rows_of k + u → x ≡ pack_unit w → IsFitUnit w
-      → ((i : ℕ) (z : ClaimWord) → claim_word_after i z e ≡ z) → decide u (end_of h u) e ≡ w → ((z : ℕ) → z ≢ u → decide z (end_of h z) e ≡ end_of h z) → ((y : Element) → In y (births e) → Holds ws y) → ((y : Element) → In y (births e) → IsFitHead (head_of y)) → World k (h ++ e ∷ []) (set ws p x)
-  world_unit h ws e u p x w old st room at is fit quiet here_is else_is full new_fits = let ws' : List ℕ = set ws p x in let wide : length ws ≡ 4 * (k.parts * k.rows) + k.parts * k.units = old.wide in
-      world_event k h ws ws' e old st new_fits (length-set ws p x)
-      (λ i l. let r = old.rows i l in let b = beside_unit ws u p x at in record {
-        head = r.head;
-        packed = (b i l).0 ∙ r.packed;
-        fit = r.fit;
-        full = λ z q id. holds_same ws ws' z (b z.id (omega arith)) (⊎_elim (λ o. r.full z o id) (λ n. full z n) (born_either z h e q));
-        draft = λ un. r.draft (unborn_before h e i un);
-        claim = get_or-set_other ws p (4 * i + 3) x 0 (λ z. omega arith) ∙ (r.claim ∙ ap pack_claim (sym (claim_word-snoc h e i ∙ quiet i (claim_word h i))));
-        claim_fit = subst IsFitClaim (sym (claim_word-snoc h e i ∙ quiet i (claim_word h i))) r.claim_fit;
-      })
-      (λ z l. dite (ℕ_discrete z u)
-      (λ is_u. let now : end_of (h ++ e ∷ []) z ≡ w = ap (λ y. end_of (h ++ e ∷ []) y) is_u ∙ (end_of-snoc h e u ∙ here_is) in
-      (ap (λ y. get_or ws' (4 * rows_of k + y) 0) is_u ∙ (ap (λ y. get_or ws' y 0) (sym at) ∙ (get_or-set_same ws p x 0 (omega arith) ∙ (is ∙ ap pack_unit (sym now)))), subst IsFitUnit (sym now) fit))
-      (λ not. let o = old.units z l in let now : end_of (h ++ e ∷ []) z ≡ end_of h z = end_of-snoc h e z ∙ else_is z not in
-      (get_or-set_other ws p (4 * rows_of k + z) x 0 (λ y. not (omega arith)) ∙ (o.0 ∙ ap pack_unit (sym now)), subst IsFitUnit (sym now) o.1)))
+  -- an event of the pass that decides unit u
+  unit_event : (t : Turn k) (e : Event) (u x : ℕ) (w : Option UnitEnd) (kind : StepKind) → u < units_of k → x ≡ pack_unit w → IsFitUnit w → pass_of e ≡ (hand t.view).number → Step k t.rule.history e
+      → ((i : ℕ) → claim_word_after i (claim_word t.rule.history i) e ≡ claim_word t.rule.history i) → decide u (end_of t.rule.history u) e ≡ w → ((z : ℕ) → z ≢ u → decide z (end_of t.rule.history z) e ≡ end_of t.rule.history z)
+      → ((y : Element) → In y (births e) → Holds t.state.words y × IsFitHead (head_of y)) → HandHolds k (t.rule.history ++ e ∷ []) (set t.state.words (unit_place k u) x) (with_end e (hand t.view))
+      → Rule k record { words = set t.state.words (unit_place k u) x; homes = t.state.homes; views = set t.state.views t.id (after kind (with_end e) (t.rule.history ++ e ∷ []) t.view.known t.view) }
+      × Grew kind (with_end e) (e ∷ []) t.view (after kind (with_end e) (t.rule.history ++ e ∷ []) t.view.known t.view)
+  unit_event t e u x w kind room is fit own st quiet here_is else_is full mine = let h = t.rule.history in acted k t record {
+    event = e;
+    word = UnitWord u;
+    number = x;
+    kind = kind;
+    f = with_end e;
+    stays = λ z. refl;
+    own = own;
+    step = st;
+    there = room;
+    told = unit_now h e u x w here_is is fit;
+    rest = λ v there other. decided_told h t.state.words e u quiet else_is full v other (t.rule.world.tells v there);
+    empty = λ i q. absurd cc;
+    apart = λ d i ne part q. cc;
+    mine = mine;
+  }
 
   -- the rows of the pass that decided a unit; its births are its drafts, or there are none
-  rows_end : (h : List Event) (ws : List ℕ) (e : Event) (u p x c first drawn : ℕ) (key amount : Option ℕ) (ds : List Element) → p ≡ 4 * rows_of k + u → c < k.parts → ((y : Element) → In y (births e) → In y ds)
-      → RowsHold k h ws c first drawn key amount ds → RowsHold k (h ++ e ∷ []) (set ws p x) c drawn drawn key amount []
-  rows_end h ws e u p x c first drawn key amount ds at below from r = let r2 = rows_lost k h ws c first drawn key amount ds r in let same_words = λ (i : ℕ) (part : IsOf k.parts k.rows c i). beside_unit ws u p x at i (in_all k.parts k.rows c i part) in
-      let count = r.counted in let r3 = rows_frame k h h ws (set ws p x) c drawn drawn key amount [] below same_words (λ i part un. un) r2 in record {
+  rows_end : (h : List Event) (ws : List ℕ) (e : Event) (u x c first drawn : ℕ) (key amount : Option ℕ) (ds : List Element) → u < units_of k → c < k.parts → ((y : Element) → In y (births e) → In y ds)
+      → RowsHold k h ws c first drawn key amount ds → RowsHold k (h ++ e ∷ []) (set ws (unit_place k u) x) c drawn drawn key amount []
+  rows_end h ws e u x c first drawn key amount ds at below from r = let r2 = rows_lost k h ws c first drawn key amount ds r in let same_words = λ (i : ℕ) (part : IsOf k.parts k.rows c i). row_left k ws (UnitWord u) x at i (in_all k.parts k.rows c i part) (λ q. cc) in
+      let count = r.counted in let r3 = rows_frame k h h ws (set ws (unit_place k u) x) c drawn drawn key amount [] below same_words (λ i part un. un) r2 in record {
         counted = r3.counted;
         drawn_below = r3.drawn_below;
         unborn = λ i l m. unborn_still h e i (r2.unborn i l m) (λ z n id. let t = in_run (c * k.rows + first) ds z r.run (from z n) in let b = t.1 in absurd (omega arith));
@@ -159,21 +167,21 @@ module _ (k : Limits) where
   }
 
   -- the seat found its unit decided
-  loses : (s : S) (r : Rule k s) (id : ℕ) (v : View) → get_elem? s.views id ≡ some v → IsOnePass v → (kind : StepKind) (p u : ℕ) → p ≡ 4 * rows_of k + u → u < k.parts * k.units → (hand v).open_unit ≡ Some u → ¬ (get_or s.words p 0 ≡ 0)
-      → Rule k record { words = set s.words p (get_or s.words p 0); homes = s.homes; views = set s.views id (after kind with_lost r.history v) } × Loses kind v u (after kind with_lost r.history v)
-  loses s r id v at one kind p u place room held miss = let mine = (r.seats id v at).hands (hand v) (one_in k v one) in
-      let gone = only_aborted (end_of r.history u) (λ z. miss (ap (λ y. get_or s.words y 0) place ∙ ((r.world.units u room).0 ∙ z))) (mine.units.held_own u held).1 in
-      let t = watches k s r id v at one p kind with_lost (λ a. refl) (λ x. lost_hand r.history s.words u (hand v) held gone x) in (t.0, (t.1, gone, (mine.units.held_own u held).2))
+  loses : (t : Turn k) (kind : StepKind) (p u : ℕ) → p ≡ unit_place k u → u < units_of k → (hand t.view).open_unit ≡ Some u → get_or t.state.words p 0 ≢ 0
+      → Rule k record { words = set t.state.words p (get_or t.state.words p 0); homes = t.state.homes; views = set t.state.views t.id (looking_after k t p kind with_lost) } × Loses kind t.view u (looking_after k t p kind with_lost)
+  loses t kind p u place room held miss = let mine = hand_holds k t in let own = mine.units.open_own u held in
+      let gone = only_aborted (end_of t.rule.history u) (λ z. miss (ap (λ y. get_or t.state.words y 0) place ∙ ((t.rule.world.tells (UnitWord u) room).0 ∙ z))) own.uncommitted in
+      let w = watched k t p kind with_lost (λ a. refl) (lost_hand t.rule.history t.state.words u (hand t.view) held gone mine) in (w.0, (w.1, gone, own.kept))
 
-  open_unit : (s : S) (r : Rule k s) (p u : ℕ) → p ≡ 4 * rows_of k + u → u < k.parts * k.units → get_or s.words p 0 ≡ 0 → end_of r.history u ≡ None
-  open_unit s r p u place room hit = unit_undecided (end_of r.history u) (sym (r.world.units u room).0 ∙ (ap (λ y. get_or s.words y 0) (sym place) ∙ hit))
+  open_unit : (t : Turn k) (p u : ℕ) → p ≡ unit_place k u → u < units_of k → get_or t.state.words p 0 ≡ 0 → end_of t.rule.history u ≡ None
+  open_unit t p u place room hit = unit_undecided (end_of t.rule.history u) (sym (t.rule.world.tells (UnitWord u) room).0 ∙ (ap (λ y. get_or t.state.words y 0) (sym place) ∙ hit))
 
-  pub commits_go : (slots id : ℕ) (me : Mine) (p new u first count : ℕ) → AreLimits k → IsOnePass me.0 → me.0.limits ≡ k → (hand me.0).open_unit ≡ Some u → IsOwnWork me.0 u → length (hand me.0).drafts ≤ 4
-      → first ≡ first_id (hand me.0).drafts → count ≡ length (hand me.0).drafts → u < k.parts * k.units → p ≡ 4 * rows_of k + u → new ≡ pack_unit (Some (Committed first count))
-      → Allows (Rule k) slots id me p (λ x. either (eqb x 0) new x) (exchanges_commit (step slots p 0 new none) me)
-  commits_go slots id me p new u first count fair one lim held work few f_is c_is room place to s r _ at _ = let v : View = me.0 in let a : Hand = hand v in let x : ℕ = get_or s.words p 0 in let h = r.history in
-      let seat = r.seats id v at in let mine = seat.hands a (one_in k v one) in let ds : List Element = a.drafts in let word : p ≡ 4 * rows_of v.limits + u = place ∙ ap (λ (l : Limits). 4 * rows_of l + u) (sym lim) in dite (ℕ_discrete x 0)
-      (λ hit. let e : Event = committed v u in let undecided = open_unit s r p u place room hit in let rows = mine.rows in let count_is = rows.counted in let top = rows.drawn_below in
+  pub commits_go : (v : View) (p new u first count : ℕ) → AreLimits k → IsOnePass v → v.limits ≡ k → (hand v).open_unit ≡ Some u → IsOwnWork v u → length (hand v).drafts ≤ 4
+      → first ≡ first_id (hand v).drafts → count ≡ length (hand v).drafts → u < k.parts * k.units → p ≡ unit_place k u → new ≡ pack_unit (Some (Committed first count))
+      → Permits k v p (λ x. either (eqb x 0) new x) (exchanges_commit p 0 new v)
+  commits_go v p new u first count fair one lim held work few f_is c_is room place to s r id at = let t : Turn k = record { state = s; rule = r; id = id; view = v; at = at; one = one } in let a : Hand = hand v in let x : ℕ = get_or s.words p 0 in let h = r.history in
+      let seat = seat_holds k t in let mine = hand_holds k t in let ds : List Element = a.drafts in let word : p ≡ unit_place v.limits u = place ∙ ap (λ (l : Limits). unit_place l u) (sym lim) in dite (ℕ_discrete x 0)
+      (λ hit. let e : Event = committed v u in let undecided = open_unit t p u place room hit in let rows = mine.rows in let count_is = rows.counted in let top = rows.drawn_below in
       let item = found_later v.seen h seat.seen work.taking.item work.item work.taken in
       let st : Step k h e = record {
         taking = work.taking;
@@ -183,64 +191,53 @@ module _ (k : Limits) where
         taken = item;
         few = few;
         outputs = are_outputs k h a.number u work.item.root (first_id ds) ds (run_first (a.number * k.rows + a.first_draft) ds rows.run)
-            (λ y q. let t = in_run (a.number * k.rows + a.first_draft) ds y rows.run q in let l = t.0 in let m = t.1 in ((mine.given, omega arith, omega arith), rows.unborn y.id (omega arith) (omega arith))) work.outputs;
+            (λ y q. let b = in_run (a.number * k.rows + a.first_draft) ds y rows.run q in let l = b.0 in let m = b.1 in ((mine.given, omega arith, omega arith), rows.unborn y.id (omega arith) (omega arith))) work.outputs;
       } in
       let now : decide u (end_of h u) e ≡ Some (Committed first count) = ap (λ z. decide u z e) undecided ∙ (commit_here a.number u ds ∙ (λ i. Some (Committed (sym f_is i) (sym c_is i)))) in
       let many = fair_units k fair in let none_first : count ≡ 0 → first ≡ 0 = λ z. f_is ∙ first_of_none ds (sym c_is ∙ z) in let small = first_fits h a.number a.first_draft a.drawn ds fair mine.given rows.counted rows.drawn_below rows.run in
-      let world = world_unit h s.words e u p new (Some (Committed first count)) r.world st room place to (omega arith, omega arith, none_first) (λ i z. refl) now (λ z ne. commit_else a.number u ds z (end_of h z) ne) (λ y q. rows.written y q) (λ y q. let o = work.outputs y q in let old = r.world.fits work.item (is_born h work.taking.item work.item item) in let low : work.item.root ≤ 65535 = old.2 in let same_root : y.root ≡ work.item.root = o.2 in
-      (o.0.0, o.0.1, omega arith, subst (λ z. pack_by z ≤ 65535) (sym o.1) (omega arith))) in
-      let t = acts k s r id v at one e (set s.words p new) kinds.CommitExchange (with_end e) (λ z. refl) refl st world (record {
+      let old = born_fit k h s.words r.world work.taking.item work.item item in let low : work.item.root ≤ 65535 = old.2 in
+      let done = unit_event t e u new (Some (Committed first count)) kinds.CommitExchange room to (omega arith, omega arith, none_first) refl st (λ i. refl) now (λ z ne. commit_else a.number u ds z (end_of h z) ne)
+      (λ y q. let o = work.outputs y q in let same_root : y.root ≡ work.item.root = o.2 in (rows.written y q, (o.0.0, o.0.1, omega arith, subst (λ z. pack_by z ≤ 65535) (sym o.1) (omega arith)))) record {
         given = mine.given;
         mine = ap (λ l. l ++ e ∷ []) mine.mine ∙ sym (by_own a.number h e refl);
-        rows = rows_end h s.words e u p new a.number a.first_draft a.drawn a.next_key a.next_amount ds place mine.given (λ y q. q) rows;
+        rows = rows_end h s.words e u new a.number a.first_draft a.drawn a.next_key a.next_amount ds room mine.given (λ y q. q) rows;
         units = units_end h e a.number a.claimed u a.spare_unit a.open_unit (inr held) (λ d z i n q. cc) (λ z. let q : Some (Committed first count) ≡ None = sym (end_of-snoc h e u ∙ now) ∙ z in absurd cc) mine.units;
-      }) (λ d ne i part. beside_unit s.words u p new place i (in_all k.parts k.rows d i part)) in (
-        after kinds.CommitExchange (with_end e) (h ++ e ∷ []) v,
-        keeps,
-        tt,
-        subst (λ b. Rule k (stepped s p (either b new x) id me.1 (after kinds.CommitExchange (with_end e) (h ++ e ∷ []) v) keeps)) (sym (eq-eqb x 0 hit)) t.0,
-        (refl, u, word, (λ _. t.1), (λ not. absurd (not hit))),
+      } in (
+        after kinds.CommitExchange (with_end e) (h ++ e ∷ []) v.known v,
+        subst (λ (z : ℕ × ℕ). Rule k record { words = set s.words z.0 z.1; homes = s.homes; views = set s.views id (after kinds.CommitExchange (with_end e) (h ++ e ∷ []) v.known v) }) (λ i. (sym place i, sym (ap (λ b. either b new x) (eq-eqb x 0 hit)) i)) done.0,
+        (u, word, (λ _. done.1), (λ not. absurd (not hit))),
       ))
-      (λ miss. let t = loses s r id v at one kinds.CommitExchange p u place room held miss in (
-        after kinds.CommitExchange with_lost h v,
-        keeps,
-        tt,
-        subst (λ b. Rule k (stepped s p (either b new x) id me.1 (after kinds.CommitExchange with_lost h v) keeps)) (sym (ne_eqb x 0 miss)) t.0,
-        (refl, u, word, (λ hit. absurd (miss hit)), (λ _. t.1)),
+      (λ miss. let m = loses t kinds.CommitExchange p u place room held miss in (
+        looking_after k t p kinds.CommitExchange with_lost,
+        subst (λ z. Rule k record { words = set s.words p z; homes = s.homes; views = set s.views id (looking_after k t p kinds.CommitExchange with_lost) }) (sym (ap (λ b. either b new x) (ne_eqb x 0 miss))) m.0,
+        (u, word, (λ hit. absurd (miss hit)), (λ _. m.1)),
       ))
 
-  pub aborts_go : (slots id : ℕ) (me : Mine) (p u : ℕ) → IsOnePass me.0 → me.0.limits ≡ k → Holding (hand me.0).open_unit u → IsClaimed me.0.seen u → u < k.parts * k.units → p ≡ 4 * rows_of k + u
-      → Allows (Rule k) slots id me p (λ x. either (eqb x 0) 2 x) (exchanges_abort (step slots p 0 2 none) me)
-  aborts_go slots id me p u one lim holding was room place s r _ at _ = let v : View = me.0 in let a : Hand = hand v in let x : ℕ = get_or s.words p 0 in let h = r.history in
-      let seat = r.seats id v at in let mine = seat.hands a (one_in k v one) in let word : p ≡ 4 * rows_of v.limits + u = place ∙ ap (λ (l : Limits). 4 * rows_of l + u) (sym lim) in dite (ℕ_discrete x 0)
-      (λ hit. let e : Event = Abort a.number u in let undecided = open_unit s r p u place room hit in
+  pub aborts_go : (v : View) (p u : ℕ) → IsOnePass v → v.limits ≡ k → Holding (hand v).open_unit u → IsClaimed v.seen u → u < k.parts * k.units → p ≡ unit_place k u
+      → Permits k v p (λ x. either (eqb x 0) 2 x) (exchanges_abort p 0 2 v)
+  aborts_go v p u one lim holding was room place s r id at = let t : Turn k = record { state = s; rule = r; id = id; view = v; at = at; one = one } in let a : Hand = hand v in let x : ℕ = get_or s.words p 0 in let h = r.history in
+      let seat = seat_holds k t in let mine = hand_holds k t in let word : p ≡ unit_place v.limits u = place ∙ ap (λ (l : Limits). unit_place l u) (sym lim) in dite (ℕ_discrete x 0)
+      (λ hit. let e : Event = Abort a.number u in let undecided = open_unit t p u place room hit in
       let st : Step k h e = record { pass = mine.given; taking = was.0; open_unit = record { claimed = taking_later v.seen h seat.seen u was.0 was.1; unfinished = undecided } } in
       let now : decide u (end_of h u) e ≡ (Some Aborted) = ap (λ z. decide u z e) undecided ∙ abort_here a.number u in
-      let world = world_unit h s.words e u p 2 (Some Aborted) r.world st room place refl tt (λ i z. refl) now (λ z ne. abort_else a.number u z (end_of h z) ne) (λ y q. absurd (in_none q)) (λ y q. absurd (in_none q)) in
-      let t = acts k s r id v at one e (set s.words p 2) kinds.AbortExchange (with_end e) (λ z. refl) refl st world (record {
+      let done = unit_event t e u 2 (Some Aborted) kinds.AbortExchange room refl tt refl st (λ i. refl) now (λ z ne. abort_else a.number u z (end_of h z) ne) (λ y q. absurd (in_none q)) record {
         given = mine.given;
         mine = ap (λ l. l ++ e ∷ []) mine.mine ∙ sym (by_own a.number h e refl);
-        rows = rows_end h s.words e u p 2 a.number a.first_draft a.drawn a.next_key a.next_amount a.drafts place mine.given (λ y q. absurd (in_none q)) mine.rows;
+        rows = rows_end h s.words e u 2 a.number a.first_draft a.drawn a.next_key a.next_amount a.drafts room mine.given (λ y q. absurd (in_none q)) mine.rows;
         units = units_end h e a.number a.claimed u a.spare_unit a.open_unit holding (λ d z i n q. cc) (λ z. let q : (Some Aborted) ≡ None = sym (end_of-snoc h e u ∙ now) ∙ z in absurd cc) mine.units;
-      }) (λ d ne i part. beside_unit s.words u p 2 place i (in_all k.parts k.rows d i part)) in (
-        after kinds.AbortExchange (with_end e) (h ++ e ∷ []) v,
-        keeps,
-        tt,
-        subst (λ b. Rule k (stepped s p (either b 2 x) id me.1 (after kinds.AbortExchange (with_end e) (h ++ e ∷ []) v) keeps)) (sym (eq-eqb x 0 hit)) t.0,
-        (refl, u, word, (λ _. t.1), (λ not. absurd (not hit)), (λ not. absurd (not hit))),
+      } in (
+        after kinds.AbortExchange (with_end e) (h ++ e ∷ []) v.known v,
+        subst (λ (z : ℕ × ℕ). Rule k record { words = set s.words z.0 z.1; homes = s.homes; views = set s.views id (after kinds.AbortExchange (with_end e) (h ++ e ∷ []) v.known v) }) (λ i. (sym place i, sym (ap (λ b. either b 2 x) (eq-eqb x 0 hit)) i)) done.0,
+        (u, word, (λ _. done.1), (λ not. absurd (not hit)), (λ not. absurd (not hit)), (λ not. absurd (not hit))),
       ))
       (λ miss. ⊎_elim
-      (λ none_held. let t = misses k s r id v at one p kinds.AbortExchange in (
-        after kinds.AbortExchange unchanged h v,
-        keeps,
-        tt,
-        subst (λ b. Rule k (stepped s p (either b 2 x) id me.1 (after kinds.AbortExchange unchanged h v) keeps)) (sym (ne_eqb x 0 miss)) t.0,
-        (refl, u, word, (λ hit. absurd (miss hit)), (λ _ is. let q : None ≡ Some u = sym none_held ∙ is in absurd cc), (λ _ _. t.1)),
+      (λ none_held. let m = watched k t p kinds.AbortExchange unchanged (λ z. refl) mine in (
+        looking_after k t p kinds.AbortExchange unchanged,
+        subst (λ z. Rule k record { words = set s.words p z; homes = s.homes; views = set s.views id (looking_after k t p kinds.AbortExchange unchanged) }) (sym (ap (λ b. either b 2 x) (ne_eqb x 0 miss))) m.0,
+        (u, word, (λ hit. absurd (miss hit)), (λ _ is. let q : None ≡ Some u = sym none_held ∙ is in absurd cc), (λ _ _. m.1), (λ _. found_there k t p kinds.AbortExchange unchanged)),
       ))
-      (λ held. let t = loses s r id v at one kinds.AbortExchange p u place room held miss in (
-        after kinds.AbortExchange with_lost h v,
-        keeps,
-        tt,
-        subst (λ b. Rule k (stepped s p (either b 2 x) id me.1 (after kinds.AbortExchange with_lost h v) keeps)) (sym (ne_eqb x 0 miss)) t.0,
-        (refl, u, word, (λ hit. absurd (miss hit)), (λ _ _. t.1), (λ _ is. let q : Some u ≡ None = sym held ∙ is in absurd cc)),
+      (λ held. let m = loses t kinds.AbortExchange p u place room held miss in (
+        looking_after k t p kinds.AbortExchange with_lost,
+        subst (λ z. Rule k record { words = set s.words p z; homes = s.homes; views = set s.views id (looking_after k t p kinds.AbortExchange with_lost) }) (sym (ap (λ b. either b 2 x) (ne_eqb x 0 miss))) m.0,
+        (u, word, (λ hit. absurd (miss hit)), (λ _ _. m.1), (λ _ is. let q : Some u ≡ None = sym held ∙ is in absurd cc), (λ _. found_there k t p kinds.AbortExchange with_lost)),
       )) holding)

@@ -1,195 +1,188 @@
 -- Draft stores keep the rule.
-use Rattle.std.proofs.Common.{◌≡◌, ℕ, ◌+◌, ◌*◌, ◌<◌, ◌≤◌, ◌≢◌, List, [], ◌∷◌, ◌++◌, length, set, get_or, sym, refl, ap, ◌∙◌, subst, ⊎_elim, arith, length-set, get_or-set_other, get_or-set_same, length-append, Option, Some, None}
+use Rattle.std.proofs.Common.{◌≡◌, ℕ, ◌+◌, ◌*◌, ◌<◌, ◌≤◌, ◌≢◌, List, [], ◌∷◌, ◌++◌, length, set, get_or, sym, refl, ap, ◌∙◌, subst, ⊎_elim, arith, length-append, Option, Some, None}
 use Rattle.std.specs.Prelude.{IsSome}
-use mathlib.Core.Option.{none, some}
-use mathlib.Core.Logic.{dite}
-use native.Mathlib.Decide.{ℕ_discrete}
-use lib.ListN.{get_elem?}
-use Rattle.atomic_table.specs.Table.{step, keeps, Allows}
-use Rattle.tp_model.specs.declared.trace.StepKind.TheVariants as kinds
-use Rattle.tp_rule.specs.Rule.{HandHolds, Holds, IsDraft, RowsHold, Rule, World}
-use Rattle.tp_rule.specs.Views.{IsOnePass, hand}
-use Rattle.tp_rule.specs.Steps.{drafted, with_key, with_amount, with_draft, next_element, or_zero, IsReady}
-use Rattle.tp_rule.specs.Plays.{Mine, stores_key, stores_amount, stores_head}
-use Rattle.tp_rule.proofs.Seats.{S}
-use Rattle.tp_rule.proofs.Frames.{Agree, hand_quiet, one_in, moves}
-use Rattle.tp_model.proofs.Bridges.{not_unborn, in_either, in_one}
-use Rattle.tp_model.specs.History.{In, IsUnborn}
-use Rattle.tp_model.specs.Steps.{rows_of}
 use Rattle.tp_model.specs.declared.event.Event.{Event}
+use Rattle.tp_model.specs.declared.trace.StepKind.TheVariants as kinds
 use Rattle.tp_model.specs.declared.types.Element.{Element}
 use Rattle.tp_model.specs.declared.types.Limits.{Limits}
-use Rattle.tp_rule.proofs.Parts.{IsOf, holds_same, in_all, in_run, one_part, run_snoc, set3}
-use Rattle.tp_rule.specs.declared.view.Hand.{Hand}
-use Rattle.tp_rule.specs.declared.view.View.{View}
-use Rattle.tp_words.specs.Words.{IsFitHead, head_of, pack_head}
+use Rattle.tp_model.specs.History.{In, IsUnborn, element_of}
+use Rattle.tp_model.specs.Steps.{rows_of}
+use Rattle.tp_model.proofs.Bridges.{begins_refl, in_either, in_one}
+use Rattle.tp_words.specs.Places.{Word, HeadWord, KeyWord, AmountWord, IsThere, head_place, key_place, amount_place, place_of, size_of}
+use Rattle.tp_words.specs.Words.{head_of, pack_head}
 use Rattle.tp_words.specs.declared.words.Head.{Head}
 use Rattle.tp_words.specs.declared.words.Head.TheVariants.{There}
+use Rattle.tp_rule.specs.Doors.{Permits}
+use Rattle.tp_rule.specs.Plays.{stores_key, stores_amount, stores_head}
+use Rattle.tp_rule.specs.Rule.{HandHolds, Holds, RowsHold, Rule, Told}
+use Rattle.tp_rule.specs.Steps.{drafted, with_key, with_amount, with_draft, next_element, or_zero, IsReady}
+use Rattle.tp_rule.specs.Views.{IsOnePass, hand}
+use Rattle.tp_rule.specs.declared.view.Hand.{Hand}
+use Rattle.tp_rule.specs.declared.view.View.{View}
+use Rattle.tp_rule.proofs.Frames.{Turn, hand_holds, hand_quiet, limits_are, me, moved, seat_holds}
+use Rattle.tp_rule.proofs.Parts.{IsOf, in_all, in_run, one_part, run_snoc}
+use Rattle.tp_rule.proofs.Storing.{body_row, holds_same, left, row_left, still_left, stored}
+use Rattle.tp_rule.proofs.Tellings.{world_stored}
 
 module _ (k : Limits) where
-  -- a store to row `row` of pass c changes no row of pass d
-  pub agree_else : (c d : ℕ) (ws : List ℕ) (row t p x : ℕ) → p ≡ 4 * row + t → t < 4 → IsOf k.parts k.rows c row → d ≢ c → Agree k d ws (set ws p x)
-  agree_else c d ws row t p x at small own ne i part = let apart : i ≢ row = λ (e : i ≡ row). one_part k.parts k.rows d c row (subst (λ z. IsOf k.parts k.rows d z) e part) own ne in
-      set3 ws p x i (λ e. apart (omega arith)) (λ e. apart (omega arith)) (λ e. apart (omega arith))
+  -- a word of row `row` of pass c is of no row of pass d
+  pub of_no_other : (c d row : ℕ) (w : Word) → body_row w ≡ Some row → IsOf k.parts k.rows c row → d ≢ c → (i : ℕ) → IsOf k.parts k.rows d i → body_row w ≢ Some i
+  of_no_other c d row w is own ne i part e = let same : i ≡ row = cc in one_part k.parts k.rows d c row (subst (IsOf k.parts k.rows d) same part) own ne
 
-  -- the words other than the head, key and amount of row `row` tell what they told
-  pub world_draft : (h : List Event) (ws : List ℕ) (row t p x : ℕ) → World k h ws → row < rows_of k → IsUnborn h row → p ≡ 4 * row + t → t < 3
-      → (t ≡ 0 → (hd : Head) × (x ≡ pack_head hd) × IsFitHead hd × IsDraft hd) → World k h (set ws p x)
-  world_draft h ws row t p x w room unborn at small new = let wide : length ws ≡ 4 * (k.parts * k.rows) + k.parts * k.units = w.wide in record {
-    legal = w.legal;
-    wide = length-set ws p x ∙ w.wide;
-    rows = λ i l. let old = w.rows i l in dite (ℕ_discrete i row)
-        (λ is. dite (ℕ_discrete t 0)
-        (λ z. let n = new z in let place : 4 * i ≡ p = omega arith in record {
-          head = n.0;
-          packed = ap (λ q. get_or (set ws p x) q 0) place ∙ (get_or-set_same ws p x 0 (omega arith) ∙ n.1);
-          fit = n.2;
-          full = λ e q same. absurd (not_unborn h row e unborn q (same ∙ is));
-          draft = λ _. n.3;
-          claim = get_or-set_other ws p (4 * i + 3) x 0 (λ e. omega arith) ∙ old.claim;
-          claim_fit = old.claim_fit;
-        })
-        (λ nz. record {
-          head = old.head;
-          packed = get_or-set_other ws p (4 * i) x 0 (λ e. nz (omega arith)) ∙ old.packed;
-          fit = old.fit;
-          full = λ e q same. absurd (not_unborn h row e unborn q (same ∙ is));
-          draft = old.draft;
-          claim = get_or-set_other ws p (4 * i + 3) x 0 (λ e. omega arith) ∙ old.claim;
-          claim_fit = old.claim_fit;
-        }))
-        (λ not. record {
-          head = old.head;
-          packed = get_or-set_other ws p (4 * i) x 0 (λ e. not (omega arith)) ∙ old.packed;
-          fit = old.fit;
-          full = λ e q same. holds_same ws (set ws p x) e (set3 ws p x e.id (λ z. not (omega arith)) (λ z. not (omega arith)) (λ z. not (omega arith))) (old.full e q same);
-          draft = old.draft;
-          claim = get_or-set_other ws p (4 * i + 3) x 0 (λ e. not (omega arith)) ∙ old.claim;
-          claim_fit = old.claim_fit;
-        });
-    units = λ u l. let o = w.units u l in (get_or-set_other ws p (4 * rows_of k + u) x 0 (λ e. omega arith) ∙ o.0, o.1);
-    fits = w.fits;
-  }
-
-  module _ (h : List Event) (ws : List ℕ) (c first drawn : ℕ) where
+  -- a store to a word of the row that pass c draws next
+  module _ (h : List Event) (ws : List ℕ) (c first drawn : ℕ) (w : Word) (x : ℕ) (at : IsThere k w) (below : c < k.parts) where
     abbrev row : ℕ
     row = c * k.rows + drawn
 
-    -- the drafts are behind the row that is drawn next
-    pub drafts_stay : (key amount : Option ℕ) (ds : List Element) (t p x : ℕ) → p ≡ 4 * row + t → t < 3 → RowsHold k h ws c first drawn key amount ds → (e : Element) → In e ds → Holds (set ws p x) e
-    drafts_stay key amount ds t p x at small r e q = let b = in_run (c * k.rows + first) ds e r.run q in let low = b.1 in let count = r.counted in
-        holds_same ws (set ws p x) e (set3 ws p x e.id (λ z. omega arith) (λ z. omega arith) (λ z. omega arith)) (r.written e q)
+    abbrev stored_words : List ℕ
+    stored_words = set ws (place_of k w) x
 
-    key_stored : (key amount : Option ℕ) (ds : List Element) (p x : ℕ) → drawn < k.rows → p ≡ 4 * row + 1 → p < length ws → RowsHold k h ws c first drawn key amount ds
-        → RowsHold k h (set ws p x) c first drawn (Some x) amount ds
-    key_stored key amount ds p x room at inside r = record {
+    -- leaves the drafts, which are behind it
+    pub drafts_stay : (key amount : Option ℕ) (ds : List Element) → body_row w ≡ Some row → drawn < k.rows → RowsHold k h ws c first drawn key amount ds → (e : Element) → In e ds → Holds stored_words e
+    drafts_stay key amount ds is room r e q = let b = in_run (c * k.rows + first) ds e r.run q in let low = b.0 in let high = b.1 in let count = r.counted in
+        let part : IsOf k.parts k.rows c e.id = (below, omega arith, omega arith) in
+        holds_same ws stored_words e (row_left k ws w x at e.id (in_all k.parts k.rows c e.id part) (λ z. let same : e.id ≡ row = cc in omega arith)) (r.written e q)
+
+    -- and the heads of the rows behind it, if it isn't theirs
+    heads_left : (i : ℕ) → w ≢ HeadWord i → IsOf k.parts k.rows c i → get_or ws (head_place i) 0 ≡ 0 → get_or stored_words (head_place i) 0 ≡ 0
+    heads_left i other part empty = left k ws w x at (HeadWord i) (in_all k.parts k.rows c i part) (λ e. other (sym e)) ∙ empty
+
+    key_stored : (key amount : Option ℕ) (ds : List Element) → w ≡ KeyWord row → drawn < k.rows → length ws ≡ size_of k → RowsHold k h ws c first drawn key amount ds → RowsHold k h stored_words c first drawn (Some x) amount ds
+    key_stored key amount ds is room wide r = let own : row < rows_of k = in_all k.parts k.rows c row (below, omega arith, omega arith) in record {
       counted = r.counted;
       drawn_below = r.drawn_below;
       unborn = r.unborn;
-      empty = λ i l m. get_or-set_other ws p (4 * i) x 0 (λ e. omega arith) ∙ r.empty i l m;
-      key_there = λ y is. (room, ap (λ z. get_or (set ws p x) z 0) (sym at) ∙ (get_or-set_same ws p x 0 inside ∙ cc is));
-      amount_there = λ y is. let t = r.amount_there y is in (room, get_or-set_other ws p (4 * row + 2) x 0 (λ e. omega arith) ∙ t.1);
+      empty = λ i l m. heads_left i (λ e. let q : KeyWord row ≡ HeadWord i = sym is ∙ e in absurd cc) (below, omega arith, m) (r.empty i l m);
+      key_there = λ y some. (room, ap (λ z. get_or stored_words (place_of k z) 0) (sym is) ∙ (stored k ws w x at wide ∙ cc some));
+      amount_there = λ y some. let t = r.amount_there y some in (room, left k ws w x at (AmountWord row) own (λ e. let q : AmountWord row ≡ KeyWord row = e ∙ is in absurd cc) ∙ t.1);
       run = r.run;
-      written = drafts_stay key amount ds 1 p x at (omega arith) r;
+      written = drafts_stay key amount ds (ap body_row is) room r;
     }
 
-    amount_stored : (key amount : Option ℕ) (ds : List Element) (p x : ℕ) → drawn < k.rows → p ≡ 4 * row + 2 → p < length ws → RowsHold k h ws c first drawn key amount ds
-        → RowsHold k h (set ws p x) c first drawn key (Some x) ds
-    amount_stored key amount ds p x room at inside r = record {
+    amount_stored : (key amount : Option ℕ) (ds : List Element) → w ≡ AmountWord row → drawn < k.rows → length ws ≡ size_of k → RowsHold k h ws c first drawn key amount ds → RowsHold k h stored_words c first drawn key (Some x) ds
+    amount_stored key amount ds is room wide r = let own : row < rows_of k = in_all k.parts k.rows c row (below, omega arith, omega arith) in record {
       counted = r.counted;
       drawn_below = r.drawn_below;
       unborn = r.unborn;
-      empty = λ i l m. get_or-set_other ws p (4 * i) x 0 (λ e. omega arith) ∙ r.empty i l m;
-      key_there = λ y is. let t = r.key_there y is in (room, get_or-set_other ws p (4 * row + 1) x 0 (λ e. omega arith) ∙ t.1);
-      amount_there = λ y is. (room, ap (λ z. get_or (set ws p x) z 0) (sym at) ∙ (get_or-set_same ws p x 0 inside ∙ cc is));
+      empty = λ i l m. heads_left i (λ e. let q : AmountWord row ≡ HeadWord i = sym is ∙ e in absurd cc) (below, omega arith, m) (r.empty i l m);
+      key_there = λ y some. let t = r.key_there y some in (room, left k ws w x at (KeyWord row) own (λ e. let q : KeyWord row ≡ AmountWord row = e ∙ is in absurd cc) ∙ t.1);
+      amount_there = λ y some. (room, ap (λ z. get_or stored_words (place_of k z) 0) (sym is) ∙ (stored k ws w x at wide ∙ cc some));
       run = r.run;
-      written = drafts_stay key amount ds 2 p x at (omega arith) r;
+      written = drafts_stay key amount ds (ap body_row is) room r;
     }
 
     -- the row that is drawn has its body and its head
-    pub row_full : (key amount : Option ℕ) (ds : List Element) (p x : ℕ) (e : Element) → e.id ≡ row → key ≡ Some e.key → amount ≡ Some e.amount → x ≡ pack_head (head_of e) → p ≡ 4 * row → p < length ws
-        → RowsHold k h ws c first drawn key amount ds → Holds (set ws p x) e
-    row_full key amount ds p x e id ke am head at inside r = let a = r.key_there e.key ke in let b = r.amount_there e.amount am in (
-      ap (λ z. get_or (set ws p x) z 0) (ap (λ z. 4 * z) id ∙ sym at) ∙ (get_or-set_same ws p x 0 inside ∙ head),
-      get_or-set_other ws p (4 * e.id + 1) x 0 (λ z. omega arith) ∙ (ap (λ z. get_or ws (4 * z + 1) 0) id ∙ a.1),
-      get_or-set_other ws p (4 * e.id + 2) x 0 (λ z. omega arith) ∙ (ap (λ z. get_or ws (4 * z + 2) 0) id ∙ b.1),
+    pub row_full : (key amount : Option ℕ) (ds : List Element) (e : Element) → w ≡ HeadWord row → e.id ≡ row → key ≡ Some e.key → amount ≡ Some e.amount → x ≡ pack_head (head_of e) → drawn < k.rows → length ws ≡ size_of k
+        → RowsHold k h ws c first drawn key amount ds → Holds stored_words e
+    row_full key amount ds e is id ke am head room wide r = let a = r.key_there e.key ke in let b = r.amount_there e.amount am in let own : row < rows_of k = in_all k.parts k.rows c row (below, omega arith, omega arith) in (
+      ap (λ z. get_or stored_words (head_place z) 0) id ∙ (ap (λ z. get_or stored_words (place_of k z) 0) (sym is) ∙ (stored k ws w x at wide ∙ head)),
+      ap (λ z. get_or stored_words (key_place z) 0) id ∙ (left k ws w x at (KeyWord row) own (λ e. let q : KeyWord row ≡ HeadWord row = e ∙ is in absurd cc) ∙ a.1),
+      ap (λ z. get_or stored_words (amount_place z) 0) id ∙ (left k ws w x at (AmountWord row) own (λ e. let q : AmountWord row ≡ HeadWord row = e ∙ is in absurd cc) ∙ b.1),
     )
 
-    draft_stored : (key amount : Option ℕ) (ds : List Element) (p x : ℕ) (e : Element) → e.id ≡ row → key ≡ Some e.key → amount ≡ Some e.amount → x ≡ pack_head (head_of e) → drawn < k.rows → p ≡ 4 * row → p < length ws
-        → RowsHold k h ws c first drawn key amount ds → RowsHold k h (set ws p x) c first (drawn + 1) None None (ds ++ e ∷ [])
-    draft_stored key amount ds p x e id ke am head room at inside r = let count = r.counted in record {
+    -- no head behind it is stored
+    pub empty_behind : w ≡ HeadWord row → (i : ℕ) → c * k.rows + (drawn + 1) ≤ i → i < c * k.rows + k.rows → ((j : ℕ) → row ≤ j → j < c * k.rows + k.rows → get_or ws (head_place j) 0 ≡ 0) → get_or stored_words (head_place i) 0 ≡ 0
+    empty_behind is i low high empty = heads_left i (λ e. let q : HeadWord row ≡ HeadWord i = sym is ∙ e in let same : row ≡ i = cc in omega arith) (below, omega arith, high) (empty i (omega arith) high)
+
+    draft_stored : (key amount : Option ℕ) (ds : List Element) (e : Element) → w ≡ HeadWord row → e.id ≡ row → key ≡ Some e.key → amount ≡ Some e.amount → x ≡ pack_head (head_of e) → drawn < k.rows → length ws ≡ size_of k
+        → RowsHold k h ws c first drawn key amount ds → RowsHold k h stored_words c first (drawn + 1) None None (ds ++ e ∷ [])
+    draft_stored key amount ds e is id ke am head room wide r = let count = r.counted in record {
       counted = omega (arith, length-append ds (e ∷ []));
       drawn_below = omega arith;
       unborn = r.unborn;
-      empty = λ i l m. get_or-set_other ws p (4 * i) x 0 (λ z. omega arith) ∙ r.empty i (omega arith) m;
-      key_there = λ y is. absurd cc;
-      amount_there = λ y is. absurd cc;
+      empty = λ i l m. empty_behind is i l m r.empty;
+      key_there = λ y some. absurd cc;
+      amount_there = λ y some. absurd cc;
       run = run_snoc (c * k.rows + first) ds e r.run (omega arith);
-      written = λ y q. ⊎_elim (λ o. drafts_stay key amount ds 0 p x (omega arith) (omega arith) r y o)
-          (λ n. subst (λ z. Holds (set ws p x) z) (sym (in_one n)) (row_full key amount ds p x e id ke am head at inside r)) (in_either ds (e ∷ []) q);
+      written = λ y q. ⊎_elim (λ o. drafts_stay key amount ds (ap body_row is) room r y o) (λ n. subst (Holds stored_words) (sym (in_one n)) (row_full key amount ds e is id ke am head room wide r)) (in_either ds (e ∷ []) q);
     }
 
-  -- a store to the row that the seat draws next
-  stores : (s : S) (r : Rule k s) (id : ℕ) (v : View) → get_elem? s.views id ≡ some v → IsOnePass v → (hand v).drawn < k.rows → (t p x : ℕ) → p ≡ 4 * ((hand v).number * k.rows + (hand v).drawn) + t → t < 3
-      → (f : Hand → Hand) → ((a : Hand) → (f a).number ≡ a.number) → (t ≡ 0 → (hd : Head) × (x ≡ pack_head hd) × IsFitHead hd × IsDraft hd)
-      → (p < length s.words → HandHolds k r.history s.words (hand v) → HandHolds k r.history (set s.words p x) (f (hand v)))
-      → Rule k record { words = set s.words p x; homes = s.homes; views = set s.views id (drafted f v) }
-  stores s r id v at one room t p x place small f stays new goes = let a : Hand = hand v in let row : ℕ = a.number * k.rows + a.drawn in let seat = r.seats id v at in
-      let mine = seat.hands a (one_in k v one) in let own : IsOf k.parts k.rows a.number row = (mine.given, omega arith, omega arith) in
-      let room2 : row < k.parts * k.rows = in_all k.parts k.rows a.number row own in let wide : length s.words ≡ 4 * (k.parts * k.rows) + k.parts * k.units = r.world.wide in
-      let count = mine.rows.counted in
-      moves k s r id v at one r.history (set s.words p x) kinds.DraftStore f v.seen stays seat.seen (λ m b. b)
-      (world_draft r.history s.words row t p x r.world room2 (mine.rows.unborn row (omega arith) (omega arith)) place small new)
-      (goes (omega arith) mine)
-      (λ b ne hold. hand_quiet k r.history s.words (set s.words p x) b (agree_else a.number b.number s.words row t p x place (omega arith) own ne) hold)
+  module _ (t : Turn k) (room : (me k t).drawn < k.rows) where
+    abbrev pub next : ℕ
+    next = (me k t).number * k.rows + (me k t).drawn
 
-  pub keys : (slots id : ℕ) (me : Mine) (p x : ℕ) → IsOnePass me.0 → (hand me.0).drawn < k.rows → p ≡ 4 * ((hand me.0).number * k.rows + (hand me.0).drawn) + 1
-      → Allows (Rule k) slots id me p (λ _. x) (λ _. stores_key (step slots p x 0 none) me x)
-  keys slots id me p x one room place s r _ at _ = let v : View = me.0 in (
+    pub next_own : IsOf k.parts k.rows (me k t).number next
+    next_own = ((hand_holds k t).given, omega arith, omega arith)
+
+    pub next_there : next < rows_of k
+    next_there = in_all k.parts k.rows (me k t).number next next_own
+
+    pub next_unborn : IsUnborn t.rule.history next
+    next_unborn = let count = (hand_holds k t).rows.counted in (hand_holds k t).rows.unborn next (omega arith) (omega arith)
+
+    pub next_empty : get_or t.state.words (head_place next) 0 ≡ 0
+    next_empty = (hand_holds k t).rows.empty next (omega arith) (omega arith)
+
+    -- a store to a word of the row that the pass draws next, of which the history tells nothing
+    stores : (w : Word) (x : ℕ) → IsThere k w → body_row w ≡ Some next → Told t.rule.history w x → (f : Hand → Hand) → ((a : Hand) → (f a).number ≡ a.number)
+        → HandHolds k t.rule.history (set t.state.words (place_of k w) x) (f (me k t))
+        → Rule k record { words = set t.state.words (place_of k w) x; homes = t.state.homes; views = set t.state.views t.id (drafted f t.view) }
+    stores w x at is told f stays mine = let h = t.rule.history in let ws = t.state.words in moved k t record {
+      kind = kinds.DraftStore;
+      f = f;
+      seen = t.view.seen;
+      history = h;
+      words = set ws (place_of k w) x;
+      stays = stays;
+      begins = (seat_holds k t).seen;
+      grows = begins_refl h;
+      world = world_stored k h h ws w x t.rule.world t.rule.world.legal at told (λ v there other. t.rule.world.tells v there);
+      mine = mine;
+      others = λ b ne hold. hand_quiet k h ws (set ws (place_of k w) x) b (λ i part. row_left k ws w x at i (in_all k.parts k.rows b.number i part) (of_no_other (me k t).number b.number next w is next_own ne i part)) hold;
+      still = still_left k ws w x at (λ i e. let same : i ≡ next = (let q : Some i ≡ Some next = sym (ap body_row e) ∙ is in cc) in ap (λ z. get_or ws (head_place z) 0) same ∙ next_empty);
+    }
+
+  unborn_told : (h : List Event) (row : ℕ) (x : ℕ) (part : Element → ℕ) → IsUnborn h row → (e : Element) → element_of h row ≡ Some e → x ≡ part e
+  unborn_told h row x part un e p = let q : None ≡ Some e = sym un ∙ p in absurd cc
+
+  pub keys : (v : View) (p x : ℕ) → IsOnePass v → (hand v).drawn < k.rows → p ≡ key_place ((hand v).number * k.rows + (hand v).drawn) → Permits k v p (λ _. x) (λ _ w. stores_key p x 0 v x w)
+  keys v p x one room place s r id at = let t : Turn k = record { state = s; rule = r; id = id; view = v; at = at; one = one } in let a : Hand = hand v in let b = hand_holds k t in let w : Word = KeyWord (next t room) in (
     drafted (with_key x) v,
-    keeps,
-    tt,
-    stores s r id v at one room 1 p x place (omega arith) (with_key x) (λ a. refl) (λ e. absurd (omega arith)) (λ inside a. record {
-      given = a.given;
-      mine = a.mine;
-      rows = key_stored r.history s.words (hand v).number (hand v).first_draft (hand v).drawn (hand v).next_key (hand v).next_amount (hand v).drafts p x room place inside a.rows;
-      units = a.units;
-    }),
-    (refl, refl),
+    subst (λ q. Rule k record { words = set s.words q x; homes = s.homes; views = set s.views id (drafted (with_key x) v) }) (sym place)
+        (stores t room w x (next_there t room) refl (unborn_told r.history (next t room) x (λ e. e.key) (next_unborn t room)) (with_key x) (λ z. refl) record {
+          given = b.given;
+          mine = b.mine;
+          rows = key_stored r.history s.words a.number a.first_draft a.drawn w x (next_there t room) b.given a.next_key a.next_amount a.drafts refl room r.world.wide b.rows;
+          units = b.units;
+        }),
+    refl,
   )
 
-  pub amounts : (slots id : ℕ) (me : Mine) (p x : ℕ) → IsOnePass me.0 → (hand me.0).drawn < k.rows → p ≡ 4 * ((hand me.0).number * k.rows + (hand me.0).drawn) + 2
-      → Allows (Rule k) slots id me p (λ _. x) (λ _. stores_amount (step slots p x 0 none) me x)
-  amounts slots id me p x one room place s r _ at _ = let v : View = me.0 in (
+  pub amounts : (v : View) (p x : ℕ) → IsOnePass v → (hand v).drawn < k.rows → p ≡ amount_place ((hand v).number * k.rows + (hand v).drawn) → Permits k v p (λ _. x) (λ _ w. stores_amount p x 0 v x w)
+  amounts v p x one room place s r id at = let t : Turn k = record { state = s; rule = r; id = id; view = v; at = at; one = one } in let a : Hand = hand v in let b = hand_holds k t in let w : Word = AmountWord (next t room) in (
     drafted (with_amount x) v,
-    keeps,
-    tt,
-    stores s r id v at one room 2 p x place (omega arith) (with_amount x) (λ a. refl) (λ e. absurd (omega arith)) (λ inside a. record {
-      given = a.given;
-      mine = a.mine;
-      rows = amount_stored r.history s.words (hand v).number (hand v).first_draft (hand v).drawn (hand v).next_key (hand v).next_amount (hand v).drafts p x room place inside a.rows;
-      units = a.units;
-    }),
-    (refl, refl),
+    subst (λ q. Rule k record { words = set s.words q x; homes = s.homes; views = set s.views id (drafted (with_amount x) v) }) (sym place)
+        (stores t room w x (next_there t room) refl (unborn_told r.history (next t room) x (λ e. e.amount) (next_unborn t room)) (with_amount x) (λ z. refl) record {
+          given = b.given;
+          mine = b.mine;
+          rows = amount_stored r.history s.words a.number a.first_draft a.drawn w x (next_there t room) b.given a.next_key a.next_amount a.drafts refl room r.world.wide b.rows;
+          units = b.units;
+        }),
+    refl,
   )
 
   pub stored_of : (o : Option ℕ) → IsSome o → o ≡ Some (or_zero o)
   stored_of None t = absurd cc
   stored_of (Some x) t = refl
 
-  pub heads : (slots id : ℕ) (me : Mine) (p x stage root u : ℕ) → IsReady me.0 → (hand me.0).drawn < k.rows → p ≡ 4 * ((hand me.0).number * k.rows + (hand me.0).drawn)
+  pub heads : (v : View) (p x stage root u : ℕ) → IsReady v → (hand v).drawn < k.rows → p ≡ head_place ((hand v).number * k.rows + (hand v).drawn)
       → x ≡ pack_head (There stage root (Some u)) → 1 ≤ stage → stage ≤ 15 → root < 65536 → u < 65535
-      → Allows (Rule k) slots id me p (λ _. x) (λ _. stores_head (step slots p x 0 none) me x)
-  heads slots id me p x stage root u ready room place is pos top low small s r _ at _ = let v : View = me.0 in let e : Element = next_element v stage root (Some u) in let lim = (r.seats id v at).limits (hand v) (one_in k v ready.0) in
-      let here : e.id ≡ (hand v).number * k.rows + (hand v).drawn = ap (λ (l : Limits). (hand v).number * l.rows + (hand v).drawn) lim in (
+      → Permits k v p (λ _. x) (λ _ w. stores_head p x 0 v x w)
+  heads v p x stage root u ready room place is pos top low small s r id at = let t : Turn k = record { state = s; rule = r; id = id; view = v; at = at; one = ready.0 } in let a : Hand = hand v in let b = hand_holds k t in let e : Element = next_element v stage root (Some u) in
+      let here : e.id ≡ next t room = ap (λ (l : Limits). a.number * l.rows + a.drawn) (limits_are k t) in let w : Word = HeadWord (next t room) in (
         drafted (with_draft e) v,
-        keeps,
-        tt,
-        stores s r id v at ready.0 room 0 p x (omega arith) (omega arith) (with_draft e) (λ a. refl) (λ _. (There stage root (Some u), is, (pos, top, omega arith, omega arith), (λ is_none. absurd cc))) (λ inside a. record {
-          given = a.given;
-          mine = a.mine;
-          rows = draft_stored r.history s.words (hand v).number (hand v).first_draft (hand v).drawn (hand v).next_key (hand v).next_amount (hand v).drafts p x e here (stored_of (hand v).next_key ready.1) (stored_of (hand v).next_amount ready.2) is room place inside a.rows;
-          units = a.units;
-        }),
-        (refl, stage, root, u, top, low, is, refl),
+        subst (λ q. Rule k record { words = set s.words q x; homes = s.homes; views = set s.views id (drafted (with_draft e) v) }) (sym place)
+            (stores t room w x (next_there t room) refl record {
+              head = There stage root (Some u);
+              packed = is;
+              fit = (pos, top, omega arith, omega arith);
+              born = λ y p. let q : None ≡ Some y = sym (next_unborn t room) ∙ p in absurd cc;
+              draft = λ _ none. absurd cc;
+            } (with_draft e) (λ z. refl) record {
+              given = b.given;
+              mine = b.mine;
+              rows = draft_stored r.history s.words a.number a.first_draft a.drawn w x (next_there t room) b.given a.next_key a.next_amount a.drafts e refl here (stored_of a.next_key ready.1) (stored_of a.next_amount ready.2) is room r.world.wide b.rows;
+              units = b.units;
+            }),
+        (stage, root, u, top, low, is, refl),
       )

@@ -1,64 +1,150 @@
--- A step that adds an event.
-use Rattle.std.proofs.Common.{◌≡◌, ℕ, ◌+◌, ◌*◌, ◌<◌, ◌≢◌, List, [], ◌∷◌, ◌++◌, length, set, get_or, sym, refl, ap, ◌∙◌, subst, ⊎_elim, Option}
+-- A step that adds an event, and one that adds none.
+use Rattle.std.proofs.Common.{◌≡◌, ℕ, ◌+◌, ◌*◌, ◌<◌, ◌≢◌, List, [], ◌∷◌, ◌++◌, length, set, get_or, sym, refl, ap, ◌∙◌, subst, ⊎_elim, Option, Some}
 use mathlib.Core.Option.{some}
-use lib.ListN.{get_elem?}
-use Rattle.tp_rule.specs.Rule.{HandHolds, RowHolds, Rule, UnitsHold, World}
-use Rattle.tp_rule.specs.Views.{IsOnePass, hand}
-use Rattle.tp_rule.specs.Steps.{after, noted, Grew}
-use Rattle.tp_rule.proofs.Seats.{S, in_map}
-use Rattle.tp_rule.proofs.Frames.{Agree, hand_frame, only_hand, one_in, moves}
-use Rattle.tp_model.proofs.Bridges.{claim_either, claim_kept, unused_still, begins_more, begins_refl, born_either, in_either, in_one}
-use Rattle.tp_model.proofs.Histories.{legal_more}
-use Rattle.tp_model.proofs.WordProofs.{end_of-snoc}
-use Rattle.tp_model.specs.History.{UnitEnd, In, births, end_of, events_by, pass_of}
-use Rattle.tp_model.specs.Steps.{IsLegal, Step, rows_of, units_of}
+use lib.Seq.{set-get_or}
 use Rattle.tp_model.specs.declared.event.Event.{Event}
 use Rattle.tp_model.specs.declared.event.Event.TheVariants.{Abort, Claim}
-use Rattle.tp_model.specs.declared.types.Element.{Element}
-use Rattle.tp_model.specs.declared.types.Limits.{Limits}
-use Rattle.tp_rule.proofs.Units.{decide}
-use Rattle.tp_rule.specs.declared.view.Hand.{Hand}
 use Rattle.tp_model.specs.declared.trace.StepKind.{StepKind}
+use Rattle.tp_model.specs.declared.types.Limits.{Limits}
+use Rattle.tp_model.specs.History.{In, UnitEnd, end_of, events_by, pass_of}
+use Rattle.tp_model.specs.Passes.{IsOwnOpen}
+use Rattle.tp_model.specs.Steps.{IsLegal, Step}
+use Rattle.tp_model.proofs.Bridges.{append_nil, begins_more, begins_refl, claim_either, claim_kept, in_either, in_one, unused_still}
+use Rattle.tp_model.proofs.Histories.{legal_more}
+use Rattle.tp_model.proofs.WordProofs.{end_of-snoc}
+use Rattle.tp_words.specs.Places.{Word, HeadWord, IsThere, head_place, place_of}
+use Rattle.tp_rule.specs.Rule.{HandHolds, Rule, Told, UnitsHold, World}
+use Rattle.tp_rule.specs.Steps.{after, noted, unchanged, Found, Grew, Misses}
+use Rattle.tp_rule.specs.declared.view.Hand.{Hand}
+use Rattle.tp_rule.specs.declared.view.Known.TheVariants.{RowHead}
 use Rattle.tp_rule.specs.declared.view.View.{View}
-use Rattle.tp_words.specs.Words.{IsFitHead, IsFitUnit, head_of, pack_unit}
+use Rattle.tp_rule.proofs.Frames.{Turn, hand_frame, hand_holds, limits_are, me, moved, only_hand, seat_holds}
+use Rattle.tp_rule.proofs.Parts.{IsOf, in_all}
+use Rattle.tp_rule.proofs.Seats.{hand_noted, in_map}
+use Rattle.tp_rule.proofs.Storing.{body_row, row_left, still_left}
+use Rattle.tp_rule.proofs.Tellings.{found, recall, world_stored}
+use Rattle.tp_rule.proofs.Units.{decide}
 
-module _ (k : Limits) where
-  pub world_event : (h : List Event) (ws ws' : List ℕ) (e : Event) → World k h ws → Step k h e → ((x : Element) → In x (births e) → IsFitHead (head_of x)) → length ws' ≡ length ws → ((i : ℕ) → i < rows_of k → RowHolds (h ++ e ∷ []) ws' i)
-      → ((u : ℕ) → u < units_of k → (get_or ws' (4 * rows_of k + u) 0 ≡ pack_unit (end_of (h ++ e ∷ []) u)) × IsFitUnit (end_of (h ++ e ∷ []) u)) → World k (h ++ e ∷ []) ws'
-  world_event h ws ws' e w st new_fits long rows units = record {
-    legal = legal_more k h e w.legal st;
-    wide = long ∙ w.wide;
-    rows = rows;
-    units = units;
-    fits = λ x p. ⊎_elim (w.fits x) (new_fits x) (born_either x h e p);
-  }
+-- the units of the pass that made an event which is no claim and decides nothing
+pub units_own : (k : Limits) (h : List Event) (e : Event) (c used : ℕ) (spare held : Option ℕ) → ((u : ℕ) (w : Option UnitEnd) → decide u w e ≡ w) → ((d u i n : ℕ) → ¬ (Claim d u i n ≡ e)) → ((d u : ℕ) → ¬ (Abort d u ≡ e))
+    → UnitsHold k h c used spare held → UnitsHold k (h ++ e ∷ []) c used spare held
+units_own k h e c used spare held quiet other never r = record {
+  used_below = r.used_below;
+  unused = λ u l m. unused_still h e u (r.unused u l m) (λ d i n is. other d u i n is);
+  spare_next = r.spare_next;
+  open_own = λ u is. let o = r.open_own u is in record {
+    item = o.item;
+    attempt = o.attempt;
+    claimed = claim_kept h (e ∷ []) c u o.item o.attempt o.claimed;
+    uncommitted = λ f m p. o.uncommitted f m (sym (end_of-snoc h e u ∙ quiet u (end_of h u)) ∙ p);
+    kept = λ p. ⊎_elim o.kept (λ q. never c u (in_one q)) (in_either h (e ∷ []) p);
+  };
+  closed = λ u i n p not z. ⊎_elim (λ q. r.closed u i n q not (sym (end_of-snoc h e u ∙ quiet u (end_of h u)) ∙ z)) (λ q. other c u i n q) (claim_either h e c u i n p);
+}
 
-  -- the units of the pass that made an event which is no claim and decides nothing
-  pub units_own : (h : List Event) (e : Event) (c used : ℕ) (spare held : Option ℕ) → ((u : ℕ) (w : Option UnitEnd) → decide u w e ≡ w) → ((d u i n : ℕ) → ¬ (Claim d u i n ≡ e)) → ((d u : ℕ) → ¬ (Abort d u ≡ e))
-      → UnitsHold k h c used spare held → UnitsHold k (h ++ e ∷ []) c used spare held
-  units_own h e c used spare held quiet other never r = record {
-    used_below = r.used_below;
-    unused = λ u l m. unused_still h e u (r.unused u l m) (λ d i n is. other d u i n is);
-    spare_next = r.spare_next;
-    held_own = λ u is. let o = r.held_own u is in ((o.0.0, o.0.1, claim_kept h (e ∷ []) c u o.0.0 o.0.1 o.0.2), λ f m p. o.1 f m (sym (end_of-snoc h e u ∙ quiet u (end_of h u)) ∙ p), λ p. ⊎_elim o.2 (λ q. never c u (in_one q)) (in_either h (e ∷ []) p));
-    closed = λ u i n p not z. ⊎_elim (λ q. r.closed u i n q not (sym (end_of-snoc h e u ∙ quiet u (end_of h u)) ∙ z)) (λ q. other c u i n q) (claim_either h e c u i n p);
-  }
+module _ (k : Limits) (t : Turn k) where
+  -- the one pass of the seat, after a step with one more entry in its trace
+  after_hand : (kind : StepKind) (f : Hand → Hand) (h : List Event) (ws : List ℕ) → HandHolds k h ws (f (me k t)) → (a : Hand) → In a (after kind f h t.view.known t.view).hands → HandHolds k h ws a
+  after_hand kind f h ws mine a p = let q = in_map (λ (z : Hand). noted kind h (f z)) a t.view.hands p in
+      subst (HandHolds k h ws) (sym (q.2 ∙ ap (λ (z : Hand). noted kind h (f z)) (only_hand t.view t.one q.0 q.1))) (hand_noted k h ws kind h (f (me k t)) mine)
 
-  -- a step of one pass that adds its event
-  pub acts : (s : S) (r : Rule k s) (id : ℕ) (v : View) → get_elem? s.views id ≡ some v → IsOnePass v → (e : Event) (ws : List ℕ) (kind : StepKind) (f : Hand → Hand) → ((a : Hand) → (f a).number ≡ a.number)
-      → pass_of e ≡ (hand v).number → Step k r.history e → World k (r.history ++ e ∷ []) ws → HandHolds k (r.history ++ e ∷ []) ws (f (hand v))
-      → ((d : ℕ) → d ≢ (hand v).number → Agree k d s.words ws)
-      → Rule k record { words = ws; homes = s.homes; views = set s.views id (after kind f (r.history ++ e ∷ []) v) } × Grew kind f (e ∷ []) v (after kind f (r.history ++ e ∷ []) v)
-  acts s r id v at one e ws kind f stays own st world mine agree = let h = r.history in let h' : List Event = h ++ e ∷ [] in let seat = r.seats id v at in let seen = seat.seen in (
-    moves k s r id v at one h' ws kind f h' stays (begins_refl h') (λ m b. begins_more m h e b) world mine
-        (λ a ne hold. hand_frame k h e s.words ws a st (λ is. ne (sym is ∙ own)) (agree a.number ne) hold),
-    record {
-      between = seen.0;
-      seen = ap (λ l. l ++ e ∷ []) (sym seen.1);
-      also_seen = begins_more v.also_seen h e seat.also_seen;
-      legal = subst (λ l. IsLegal l h') (sym (seat.limits (hand v) (one_in k v one))) world.legal;
-      view = refl;
-      mine = λ a p. let q = in_map (λ (z : Hand). noted kind h' (f z)) a v.hands p in subst (λ (z : Hand). z.mine ≡ events_by z.number h') (sym q.2)
-          (subst (λ (z : Hand). (f z).mine ≡ events_by (f z).number h') (sym (only_hand k v one q.0 q.1)) mine.mine);
-    },
-  )
+  -- a step that adds an event of the pass, and stores the number that now tells it
+  pub record Act : Type 0 where
+    pub event : Event
+    pub word : Word
+    pub number : ℕ
+    pub kind : StepKind
+    pub f : Hand → Hand
+    pub stays : (a : Hand) → (f a).number ≡ a.number
+    -- it is the pass's own, and may come next
+    pub own : pass_of event ≡ (me k t).number
+    pub step : Step k t.rule.history event
+    -- the word tells it, and every other word tells what it has to
+    pub there : IsThere k word
+    pub told : Told (t.rule.history ++ event ∷ []) word number
+    pub rest : (w : Word) → IsThere k w → w ≢ word → Told (t.rule.history ++ event ∷ []) w (get_or t.state.words (place_of k w) 0)
+    -- no head is stored but over an empty one, and in no row of another pass
+    pub empty : (i : ℕ) → word ≡ HeadWord i → get_or t.state.words (head_place i) 0 ≡ 0
+    pub apart : (d i : ℕ) → d ≢ (me k t).number → IsOf k.parts k.rows d i → body_row word ≢ Some i
+    -- the pass is as its seat knows it
+    pub mine : HandHolds k (t.rule.history ++ event ∷ []) (set t.state.words (place_of k word) number) (f (me k t))
+
+  -- the view after such a step
+  abbrev pub view_after : Act → View
+  view_after a = after a.kind a.f (t.rule.history ++ a.event ∷ []) t.view.known t.view
+
+  pub acted : (a : Act) → Rule k record { words = set t.state.words (place_of k a.word) a.number; homes = t.state.homes; views = set t.state.views t.id (view_after a) } × Grew a.kind a.f (a.event ∷ []) t.view (view_after a)
+  acted a = let h = t.rule.history in let e = a.event in let h' : List Event = h ++ e ∷ [] in let ws : List ℕ = set t.state.words (place_of k a.word) a.number in let seat = seat_holds k t in let seen = seat.seen in
+      let world : World k h' ws = world_stored k h h' t.state.words a.word a.number t.rule.world (legal_more k h e t.rule.world.legal a.step) a.there a.told a.rest in
+      let still = still_left k t.state.words a.word a.number a.there a.empty in (
+        moved k t record {
+          kind = a.kind;
+          f = a.f;
+          seen = h';
+          history = h';
+          words = ws;
+          stays = a.stays;
+          begins = begins_refl h';
+          grows = (e ∷ [], refl);
+          world = world;
+          mine = a.mine;
+          others = λ b ne hold. hand_frame k h e t.state.words ws b a.step (λ is. ne (sym is ∙ a.own)) (λ i part. row_left k t.state.words a.word a.number a.there i (in_all k.parts k.rows b.number i part) (a.apart b.number i ne part)) hold;
+          still = still;
+        },
+        record {
+          between = seen.0;
+          seen = ap (λ l. l ++ e ∷ []) (sym seen.1);
+          also_seen = begins_more t.view.also_seen h e seat.also_seen;
+          legal = subst (λ l. IsLegal l h') (sym (limits_are k t)) world.legal;
+          view = refl;
+          mine = λ b p. (after_hand a.kind a.f h' ws a.mine b p).mine;
+          open_own = λ b p. (after_hand a.kind a.f h' ws a.mine b p).units.open_own;
+          knows = λ x p. p;
+          heads = λ i head x p. recall k h' ws world i head x (still (RowHead i head) (seat.known (RowHead i head) p));
+        },
+      )
+
+  -- a step that stores nothing, and shows the seat the history so far
+  module _ (word : ℕ) (kind : StepKind) (f : Hand → Hand) where
+    abbrev pub looking_after : View
+    looking_after = after kind f t.rule.history t.view.known t.view
+
+    pub watched : ((a : Hand) → (f a).number ≡ a.number) → HandHolds k t.rule.history t.state.words (f (me k t))
+        → Rule k record { words = set t.state.words word (get_or t.state.words word 0); homes = t.state.homes; views = set t.state.views t.id looking_after } × Grew kind f [] t.view looking_after
+    watched stays mine = let h = t.rule.history in let seat = seat_holds k t in let seen = seat.seen in (
+      subst (λ (ws : List ℕ). Rule k record { words = ws; homes = t.state.homes; views = set t.state.views t.id looking_after }) (sym (set-get_or t.state.words word 0))
+          (moved k t record {
+            kind = kind;
+            f = f;
+            seen = h;
+            history = h;
+            words = t.state.words;
+            stays = stays;
+            begins = begins_refl h;
+            grows = begins_refl h;
+            world = t.rule.world;
+            mine = mine;
+            others = λ a ne hold. hold;
+            still = λ x so. so;
+          }),
+      record {
+        between = seen.0;
+        seen = sym (append_nil _ ∙ seen.1);
+        also_seen = seat.also_seen;
+        legal = subst (λ l. IsLegal l h) (sym (limits_are k t)) t.rule.world.legal;
+        view = refl;
+        mine = λ a p. (after_hand kind f h t.state.words mine a p).mine;
+        open_own = λ a p. (after_hand kind f h t.state.words mine a p).units.open_own;
+        knows = λ x p. p;
+        heads = λ i head x p. recall k h t.state.words t.rule.world i head x (seat.known (RowHead i head) p);
+      },
+    )
+
+    -- what was found there
+    pub found_there : Found t.view.limits t.rule.history word (get_or t.state.words word 0)
+    found_there = subst (λ l. Found l t.rule.history word (get_or t.state.words word 0)) (sym (limits_are k t)) (found k t.rule.history t.state.words t.rule.world word)
+
+  -- an exchange that failed
+  pub missed : (word : ℕ) (kind : StepKind) → Rule k record { words = set t.state.words word (get_or t.state.words word 0); homes = t.state.homes; views = set t.state.views t.id (looking_after word kind unchanged) }
+      × Misses kind t.view word (get_or t.state.words word 0) (looking_after word kind unchanged)
+  missed word kind = let w = watched word kind unchanged (λ a. refl) (hand_holds k t) in (w.0, (w.1, found_there word kind unchanged))

@@ -2,11 +2,11 @@
 use Rattle.std.proofs.Common.{◌≡◌, ℕ, ◌+◌, ◌*◌, ◌<◌, ◌≢◌, List, [], ◌∷◌, ◌++◌, set, sym, ap, ◌∙◌, subst, ⊎_elim, arith, Option, Some, None}
 use mathlib.Core.Option.{some}
 use lib.ListN.{get_elem?}
-use Rattle.tp_rule.specs.Rule.{HandHolds, RowsHold, Rule, SeatHolds, UnitsHold, World}
+use Rattle.tp_rule.specs.Rule.{HandHolds, RowsHold, Rule, SeatHolds, StillSo, UnitsHold, World}
 use Rattle.tp_rule.specs.Views.{IsOnePass, hand}
 use Rattle.tp_rule.specs.Steps.{after}
-use Rattle.tp_rule.proofs.Seats.{S, seats_after, seat_after}
-use Rattle.tp_model.proofs.Bridges.{births_of, by_other, claim_either, claim_kept, in_either, in_one, unborn_still, unused_still}
+use Rattle.tp_rule.proofs.Seats.{S, seated_after, seats_after, seat_after}
+use Rattle.tp_model.proofs.Bridges.{begins_trans, births_of, by_other, claim_either, claim_kept, in_either, in_one, unborn_still, unused_still}
 use Rattle.tp_model.proofs.WordProofs.{end_of-snoc}
 use Rattle.tp_model.specs.History.{Aborted, Committed, UnitEnd, In, IsClaim, IsUnborn, end_by, end_of, here, pass_of}
 use Rattle.tp_model.specs.Steps.{Step}
@@ -14,9 +14,11 @@ use Rattle.tp_model.specs.declared.event.Event.{Event}
 use Rattle.tp_model.specs.declared.event.Event.TheVariants.{Abort, Claim, Commit, Enqueue, Kill}
 use Rattle.tp_model.specs.declared.types.Element.{Element}
 use Rattle.tp_model.specs.declared.types.Limits.{Limits}
-use Rattle.tp_rule.proofs.Parts.{IsOf, Same3, holds_same, in_run, one_part}
+use Rattle.tp_rule.proofs.Parts.{IsOf, in_all, in_run, one_part}
+use Rattle.tp_rule.proofs.Storing.{SameRow, holds_same}
 use Rattle.tp_rule.proofs.Units.{decide}
 use Rattle.tp_rule.specs.declared.view.Hand.{Hand}
+use Rattle.tp_rule.specs.declared.view.Known.{Known}
 use Rattle.tp_model.specs.declared.trace.StepKind.{StepKind}
 use Rattle.tp_rule.specs.declared.view.View.{View}
 use mathlib.Core.List.{IsPrefix}
@@ -56,17 +58,19 @@ module _ (k : Limits) where
     unused = λ u l m. unused_still h e u (r.unused u l m) (λ d i n is. let t : Step k h (Claim d u i n) = subst (Step k h) (sym is) st in
         one_part k.parts k.units d c u t.unit (below, omega arith, m) (λ same. ne (sym (ap pass_of is) ∙ same)));
     spare_next = r.spare_next;
-    held_own = λ u is. let o = r.held_own u is in (
-      (o.0.0, o.0.1, claim_kept h (e ∷ []) c u o.0.0 o.0.1 o.0.2),
-      λ f m p. decide_not u (end_of h u) e (not_by_other h e c u o.0.0 o.0.1 st ne o.0.2) o.1 f m (sym (end_of-snoc h e u) ∙ p),
-      λ p. ⊎_elim o.2 (λ q. ne (sym (ap pass_of (in_one q)))) (in_either h (e ∷ []) p),
-    );
+    open_own = λ u is. let o = r.open_own u is in record {
+      item = o.item;
+      attempt = o.attempt;
+      claimed = claim_kept h (e ∷ []) c u o.item o.attempt o.claimed;
+      uncommitted = λ f m p. decide_not u (end_of h u) e (not_by_other h e c u o.item o.attempt st ne o.claimed) o.uncommitted f m (sym (end_of-snoc h e u) ∙ p);
+      kept = λ p. ⊎_elim o.kept (λ q. ne (sym (ap pass_of (in_one q)))) (in_either h (e ∷ []) p);
+    };
     closed = λ u i n p not z. ⊎_elim (λ q. r.closed u i n q not (decide_undecided u (end_of h u) e (sym (end_of-snoc h e u) ∙ z))) (λ q. ne (sym (ap pass_of q))) (claim_either h e c u i n p);
   }
 
   -- the rows of part c have the heads, keys and amounts that they had
   abbrev pub Agree : ℕ → List ℕ → List ℕ → Type 0
-  Agree c ws ws' = (i : ℕ) → IsOf k.parts k.rows c i → Same3 ws ws' i
+  Agree c ws ws' = (i : ℕ) → IsOf k.parts k.rows c i → SameRow ws ws' i
 
   pub rows_frame : (h h' : List Event) (ws ws' : List ℕ) (c first drawn : ℕ) (key amount : Option ℕ) (drafts : List Element) → c < k.parts → Agree c ws ws'
       → ((i : ℕ) → IsOf k.parts k.rows c i → IsUnborn h i → IsUnborn h' i) → RowsHold k h ws c first drawn key amount drafts → RowsHold k h' ws' c first drawn key amount drafts
@@ -99,34 +103,72 @@ module _ (k : Limits) where
     units = r.units;
   }
 
-  seat_frame : (h h' : List Event) (ws ws' : List ℕ) (owner : ℕ → ℕ) (j : ℕ) (v : View) → ((m : List Event) → IsPrefix m h → IsPrefix m h') → ((a : Hand) → In a v.hands → HandHolds k h ws a → HandHolds k h' ws' a)
+  seat_frame : (h h' : List Event) (ws ws' : List ℕ) (owner : ℕ → ℕ) (j : ℕ) (v : View) → IsPrefix h h' → ((x : Known) → StillSo k ws x → StillSo k ws' x) → ((a : Hand) → In a v.hands → HandHolds k h ws a → HandHolds k h' ws' a)
       → SeatHolds k h ws owner j v → SeatHolds k h' ws' owner j v
-  seat_frame h h' ws ws' owner j v more still r = record {
+  seat_frame h h' ws ws' owner j v more so still r = record {
     limits = r.limits;
-    seen = more v.seen r.seen;
-    also_seen = more v.also_seen r.also_seen;
+    seen = begins_trans v.seen h h' r.seen more;
+    also_seen = begins_trans v.also_seen h h' r.also_seen more;
+    known = λ x p. so x (r.known x p);
     apart = r.apart;
     owns = r.owns;
     hands = λ a p. still a p (r.hands a p);
   }
 
-  pub only_hand : (v : View) → IsOnePass v → (a : Hand) → In a v.hands → a ≡ hand v
-  only_hand v one a p = in_one (subst (λ l. In a l) one p)
+pub only_hand : (v : View) → IsOnePass v → (a : Hand) → In a v.hands → a ≡ hand v
+only_hand v one a p = in_one (subst (λ l. In a l) one p)
 
-  pub one_in : (v : View) → IsOnePass v → In (hand v) v.hands
-  one_in v one = subst (λ l. In (hand v) l) (sym one) here
+pub one_in : (v : View) → IsOnePass v → In (hand v) v.hands
+one_in v one = subst (λ l. In (hand v) l) (sym one) here
 
-  -- a step of the seat id, which stands for one pass
-  pub moves : (s : S) (r : Rule k s) (id : ℕ) (v : View) → get_elem? s.views id ≡ some v → IsOnePass v → (h : List Event) (ws : List ℕ) (kind : StepKind) (f : Hand → Hand) (seen : List Event)
-      → ((a : Hand) → (f a).number ≡ a.number) → IsPrefix seen h → ((m : List Event) → IsPrefix m r.history → IsPrefix m h) → World k h ws → HandHolds k h ws (f (hand v))
-      → ((a : Hand) → a.number ≢ (hand v).number → HandHolds k r.history s.words a → HandHolds k h ws a)
-      → Rule k record { words = ws; homes = s.homes; views = set s.views id (after kind f seen v) }
-  moves s r id v at one h ws kind f seen stays begins more world mine others = let old = r.seats id v at in record {
-    history = h;
+-- the turn of a seat that stands for one pass, in a state of the table that meets the rule
+pub record Turn (k : Limits) : Type 0 where
+  pub state : S
+  pub rule : Rule k state
+  pub id : ℕ
+  pub view : View
+  pub at : get_elem? state.views id ≡ some view
+  pub one : IsOnePass view
+
+module _ (k : Limits) (t : Turn k) where
+  abbrev pub me : Hand
+  me = hand t.view
+
+  pub seat_holds : SeatHolds k t.rule.history t.state.words t.rule.owner t.id t.view
+  seat_holds = t.rule.seats t.id t.view t.at
+
+  pub hand_holds : HandHolds k t.rule.history t.state.words me
+  hand_holds = seat_holds.hands me (one_in t.view t.one)
+
+  pub limits_are : t.view.limits ≡ k
+  limits_are = seat_holds.limits me (one_in t.view t.one)
+
+  -- what the seat's step makes of the history, the words and the view
+  pub record Move : Type 0 where
+    pub kind : StepKind
+    pub f : Hand → Hand
+    pub seen : List Event
+    pub history : List Event
+    pub words : List ℕ
+    -- f leaves the number, and the history grows
+    pub stays : (a : Hand) → (f a).number ≡ a.number
+    pub begins : IsPrefix seen history
+    pub grows : IsPrefix t.rule.history history
+    -- the words tell the history, the pass is as its seat knows it, the others are as they were, and words that stay stay
+    pub world : World k history words
+    pub mine : HandHolds k history words (f me)
+    pub others : (a : Hand) → a.number ≢ me.number → HandHolds k t.rule.history t.state.words a → HandHolds k history words a
+    pub still : (x : Known) → StillSo k t.state.words x → StillSo k words x
+
+  pub moved : (m : Move) → Rule k record { words = m.words; homes = t.state.homes; views = set t.state.views t.id (after m.kind m.f m.seen t.view.known t.view) }
+  moved m = let r = t.rule in let old = seat_holds in record {
+    history = m.history;
     owner = r.owner;
-    world = world;
-    seats = seats_after k h ws r.owner s.views id (after kind f seen v)
-        (seat_after k r.history h s.words ws r.owner id v kind f seen stays begins (λ a p _. subst (λ (z : Hand). HandHolds k h ws (f z)) (sym (only_hand v one a p)) mine) old)
-        (λ j u apart e. let there = r.seats j u e in seat_frame r.history h s.words ws r.owner j u more
-        (λ a p. others a (λ same. apart (sym (there.owns a p) ∙ (ap r.owner same ∙ old.owns (hand v) (one_in v one))))) there);
+    world = m.world;
+    seats = seats_after k m.history m.words r.owner t.state.views t.id (after m.kind m.f m.seen t.view.known t.view)
+        (seat_after k r.history m.history t.state.words m.words r.owner t.id t.view m.kind m.f m.seen t.view.known m.stays m.begins (λ x p. m.still x (old.known x p))
+        (λ a p _. subst (λ (z : Hand). HandHolds k m.history m.words (m.f z)) (sym (only_hand t.view t.one a p)) m.mine) old)
+        (λ j u apart e. let there = r.seats j u e in seat_frame k r.history m.history t.state.words m.words r.owner j u m.grows m.still
+        (λ a p. m.others a (λ same. apart (sym (there.owns a p) ∙ (ap r.owner same ∙ old.owns me (one_in t.view t.one))))) there);
+    complete = λ c below. seated_after t.state.views t.id t.view m.kind m.f m.seen t.view.known t.at m.stays c (r.complete c below);
   }

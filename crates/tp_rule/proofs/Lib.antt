@@ -1,4 +1,6 @@
 pub mod Units
+pub mod Storing
+pub mod Tellings
 pub mod Working
 pub mod Parts
 pub mod Seats
@@ -13,3 +15,4 @@ pub mod Sharing
 pub mod Claiming
 pub mod Deciding
 pub mod Killing
+pub mod Doors

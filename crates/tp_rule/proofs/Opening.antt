@@ -2,18 +2,19 @@
 use Rattle.std.proofs.Common.{◌≡◌, ℕ, zero, suc, ◌+◌, ◌*◌, ◌<◌, ◌≤◌, List, [], ◌∷◌, replicate, get_or, sym, refl, ap, ◌∙◌, subst, ⊎_elim, arith}
 use Rattle.std.proofs.lemmas.List.{length-replicate}
 use mathlib.Core.Option.{some, some-injective, some-ne-none}
+use mathlib.Core.Logic.{dite}
+use native.Mathlib.Decide.{ℕ_discrete}
 use lib.ListN.{get_elem?}
 use Rattle.atomic_table.specs.Table.{opening}
 use Rattle.tp_model.proofs.Histories.{legal_empty}
-use Rattle.tp_model.proofs.Bridges.{begins_refl, in_cons, in_none}
-use Rattle.tp_model.specs.History.{In}
-use Rattle.tp_model.specs.Steps.{rows_of}
+use Rattle.tp_model.proofs.Bridges.{begins_refl, in_cons, in_here, in_none}
+use Rattle.tp_model.specs.History.{In, there}
 use Rattle.tp_model.specs.declared.types.Limits.{Limits}
-use Rattle.tp_rule.specs.Rule.{HandHolds, IsApart, Rule, SeatHolds}
+use Rattle.tp_rule.specs.Rule.{HandHolds, IsApart, Rule, SeatHolds, Told}
 use Rattle.tp_rule.specs.Views.{first_view, fresh, fresh_from}
 use Rattle.tp_rule.specs.declared.view.Hand.{Hand}
 use Rattle.tp_rule.specs.declared.view.View.{View}
-use Rattle.tp_words.specs.Places.{size_of}
+use Rattle.tp_words.specs.Places.{Word, HeadWord, KeyWord, AmountWord, ClaimWord, UnitWord, IsThere, head_place, claim_place, unit_place, place_of, size_of}
 use Rattle.tp_words.specs.declared.words.Head.TheVariants.{Empty}
 
 zeros : (n i : ℕ) → ◌≡◌ {A = ℕ} (get_or (replicate n 0) i 0) 0
@@ -30,6 +31,11 @@ fresh_apart : (c n : ℕ) → IsApart (fresh_from c n)
 fresh_apart c zero = tt
 fresh_apart c (suc n) = (λ b p e. let t = fresh_in (c + 1) n b p in let x = t.0 in omega arith, fresh_apart (c + 1) n)
 
+-- each pass is one of the first ones
+fresh_seated : (c n d : ℕ) → c ≤ d → d < c + n → In (fresh d) (fresh_from c n)
+fresh_seated c zero d low high = absurd (omega arith)
+fresh_seated c (suc n) d low high = dite (ℕ_discrete d c) (λ e. in_here (fresh_from (c + 1) n) (ap fresh e)) (λ other. there (fresh_seated (c + 1) n d (omega arith) (omega arith)))
+
 module _ (k : Limits) where
   fresh_holds : (c : ℕ) → c < k.parts → HandHolds k [] (replicate (size_of k) 0) (fresh c)
   fresh_holds c below = record {
@@ -39,7 +45,7 @@ module _ (k : Limits) where
       counted = refl;
       drawn_below = omega arith;
       unborn = λ i l m. refl;
-      empty = λ i l m. zeros (size_of k) (4 * i);
+      empty = λ i l m. zeros (size_of k) (head_place i);
       key_there = λ x is. absurd cc;
       amount_there = λ x is. absurd cc;
       run = tt;
@@ -49,7 +55,7 @@ module _ (k : Limits) where
       used_below = omega arith;
       unused = λ u l m. refl;
       spare_next = λ u is. absurd cc;
-      held_own = λ u is. absurd cc;
+      open_own = λ u is. absurd cc;
       closed = λ u i n p. absurd cc;
     };
   }
@@ -61,26 +67,25 @@ module _ (k : Limits) where
     world = record {
       legal = legal_empty k;
       wide = length-replicate (size_of k) 0;
-      rows = λ i l. record {
-        head = Empty;
-        packed = zeros (size_of k) (4 * i);
-        fit = tt;
-        full = λ x p. absurd cc;
-        draft = λ un. tt;
-        claim = zeros (size_of k) (4 * i + 3);
-        claim_fit = tt;
-      };
-      units = λ u l. (zeros (size_of k) (4 * rows_of k + u), tt);
-      fits = λ x p. absurd cc;
+      tells = zero_told;
     };
     seats = first;
+    complete = λ c below. let p = fresh_seated 0 k.parts c (omega arith) (omega arith) in (0, first_view k, fresh c, refl, p, refl);
   }
     where
+      zero_told : (w : Word) → IsThere k w → Told [] w (get_or (replicate (size_of k) 0) (place_of k w) 0)
+      zero_told (HeadWord i) l = record { head = Empty; packed = zeros (size_of k) (head_place i); fit = tt; born = λ x p. absurd cc; draft = λ un. tt }
+      zero_told (KeyWord i) l = λ x p. absurd cc
+      zero_told (AmountWord i) l = λ x p. absurd cc
+      zero_told (ClaimWord i) l = (zeros (size_of k) (claim_place i), tt)
+      zero_told (UnitWord u) l = (zeros (size_of k) (unit_place k u), tt)
+
       first : (j : ℕ) (v : View) → get_elem? (first_view k ∷ []) j ≡ some v → SeatHolds k [] (replicate (size_of k) 0) (λ c. 0) j v
       first zero v e = subst (λ z. SeatHolds k [] (replicate (size_of k) 0) (λ c. 0) 0 z) (some-injective (first_view k) v e) record {
         limits = λ a p. refl;
         seen = begins_refl [];
         also_seen = begins_refl [];
+        known = λ x p. absurd (in_none p);
         apart = fresh_apart 0 k.parts;
         owns = λ a p. refl;
         hands = λ a p. let t = fresh_in 0 k.parts a p in let low = t.1 in subst (HandHolds k [] (replicate (size_of k) 0)) (sym t.2) (fresh_holds a.number (omega arith));

@@ -1,99 +1,98 @@
 -- Publish keeps the rule.
-use Rattle.std.proofs.Common.{◌≡◌, ℕ, ◌+◌, ◌*◌, ◌<◌, ◌≤◌, List, [], ◌∷◌, ◌++◌, length, set, get_or, sym, refl, ap, ◌∙◌, subst, ⊎_elim, arith, length-set, get_or-set_other, Option, None}
-use mathlib.Core.Option.{none}
-use mathlib.Core.Logic.{dite}
-use native.Mathlib.Decide.{ℕ_discrete}
-use Rattle.atomic_table.specs.Table.{step, keeps, Allows}
-use Rattle.tp_model.specs.declared.trace.StepKind.TheVariants as kinds
-use Rattle.tp_rule.specs.Rule.{Holds, RowsHold, Rule, World}
-use Rattle.tp_rule.specs.Views.{hand, next_row}
-use Rattle.tp_rule.specs.Steps.{after, with_birth, next_element, birth, IsReady}
-use Rattle.tp_rule.specs.Plays.{Mine, publishes}
-use Rattle.tp_rule.proofs.Frames.{one_in}
-use Rattle.tp_rule.proofs.Drafting.{agree_else, row_full, stored_of}
-use Rattle.tp_rule.proofs.Parts.{fair_rows}
-use Rattle.tp_model.proofs.Lists.{option_or-None}
-use Rattle.tp_rule.proofs.Events.{world_event, units_own, acts}
-use Rattle.tp_model.proofs.Bridges.{born_either, by_own, in_none, in_one, new_birth, not_unborn, unborn_before, unborn_still}
-use Rattle.tp_model.proofs.WordProofs.{claim_word-snoc, end_of-snoc}
-use Rattle.tp_model.specs.History.{UnitEnd, IsUnborn, end_of}
-use Rattle.tp_model.specs.Steps.{AreLimits, Step, rows_of}
+use Rattle.std.proofs.Common.{◌≡◌, ◌≢◌, ℕ, ◌+◌, ◌*◌, ◌<◌, ◌≤◌, List, [], ◌∷◌, ◌++◌, length, set, get_or, sym, refl, ap, ◌∙◌, subst, ⊎_elim, arith, Option, Some, None}
 use Rattle.tp_model.specs.declared.event.Event.{Event}
 use Rattle.tp_model.specs.declared.event.Event.TheVariants.{Enqueue}
+use Rattle.tp_model.specs.declared.trace.StepKind.TheVariants as kinds
 use Rattle.tp_model.specs.declared.types.Element.{Element}
 use Rattle.tp_model.specs.declared.types.Limits.{Limits}
-use Rattle.tp_rule.proofs.Parts.{IsOf, holds_same, in_all, set3}
-use Rattle.tp_rule.proofs.Units.{decide}
+use Rattle.tp_model.specs.History.{UnitEnd, IsUnborn, element_of}
+use Rattle.tp_model.specs.Steps.{AreLimits, Step}
+use Rattle.tp_model.proofs.Bridges.{born_at, by_own, in_none, in_one, new_birth, unborn_still}
+use Rattle.tp_model.proofs.Lists.{option_or-None}
+use Rattle.tp_words.specs.Places.{Word, HeadWord, KeyWord, AmountWord, ClaimWord, UnitWord, IsThere, head_place, place_of, size_of}
+use Rattle.tp_words.specs.Words.{IsFitHead, head_of, pack_by, pack_head}
+use Rattle.tp_words.specs.declared.words.Head.TheVariants.{There}
+use Rattle.tp_rule.specs.Doors.{Permits}
+use Rattle.tp_rule.specs.Plays.{publishes}
+use Rattle.tp_rule.specs.Rule.{RowsHold, Rule, Told}
+use Rattle.tp_rule.specs.Steps.{with_birth, next_element, birth, Grew, IsReady}
+use Rattle.tp_rule.specs.Views.{hand, next_row}
 use Rattle.tp_rule.specs.declared.view.Hand.{Hand}
 use Rattle.tp_rule.specs.declared.view.View.{View}
-use Rattle.tp_words.specs.Words.{IsFitClaim, IsFitHead, IsFitUnit, head_of, pack_by, pack_claim, pack_head, pack_unit}
-use Rattle.tp_words.specs.declared.words.Head.TheVariants.{There}
+use Rattle.tp_rule.proofs.Drafting.{empty_behind, next, next_empty, next_own, next_there, next_unborn, of_no_other, row_full, stored_of}
+use Rattle.tp_rule.proofs.Events.{Act, acted, units_own, view_after}
+use Rattle.tp_rule.proofs.Frames.{Turn, hand_holds, limits_are}
+use Rattle.tp_rule.proofs.Parts.{IsOf, fair_rows}
+use Rattle.tp_rule.proofs.Storing.{body_row}
+use Rattle.tp_rule.proofs.Tellings.{body_later, claim_later, head_later, unit_later}
+use Rattle.tp_rule.proofs.Units.{decide}
 
 enqueue_quiet : (c : ℕ) (y : Element) (u : ℕ) (w : Option UnitEnd) → decide u w (Enqueue c y) ≡ w
 enqueue_quiet c y u w = option_or-None w
 
-module _ (k : Limits) (fair : AreLimits k) where
-  world_publish : (h : List Event) (ws : List ℕ) (c p x : ℕ) (y : Element) → World k h ws → Step k h (Enqueue c y) → p ≡ 4 * y.id → x ≡ pack_head (head_of y) → Holds (set ws p x) y
-      → World k (h ++ Enqueue c y ∷ []) (set ws p x)
-  world_publish h ws c p x y w st at is holds = let e : Event = Enqueue c y in let row : ℕ = y.id in let ws' : List ℕ = set ws p x in let room : row < k.parts * k.rows = in_all k.parts k.rows c row st.row in
-      let all : k.parts * k.rows ≤ 8192 = fair_rows k fair in let pos : 1 ≤ y.stage = st.stage.0 in let top : y.stage ≤ 14 = st.stage.1 in let root : y.root ≡ y.id = st.root in
-      let fit : IsFitHead (head_of y) = (pos, omega arith, omega arith, subst (λ z. pack_by z ≤ 65535) (sym st.by) (omega arith)) in
-      world_event k h ws ws' e w st (λ z q. subst (λ t. IsFitHead (head_of t)) (sym (in_one q)) fit) (length-set ws p x) (λ i l. let old = w.rows i l in dite (ℕ_discrete i row)
-      (λ same. record {
-        head = head_of y;
-        packed = ap (λ z. get_or ws' (4 * z) 0) same ∙ holds.0;
-        fit = fit;
-        full = λ z q id. ⊎_elim (λ o. absurd (not_unborn h row z st.unborn o (id ∙ same))) (λ n. subst (Holds ws') (sym (in_one n)) holds) (born_either z h e q);
-        draft = λ un. absurd (not_unborn (h ++ e ∷ []) i y un (new_birth h c y st.unborn) (sym same));
-        claim = get_or-set_other ws p (4 * i + 3) x 0 (λ z. omega arith) ∙ (old.claim ∙ ap pack_claim (sym (claim_word-snoc h e i)));
-        claim_fit = subst IsFitClaim (sym (claim_word-snoc h e i)) old.claim_fit;
-      })
-      (λ not. record {
-        head = old.head;
-        packed = get_or-set_other ws p (4 * i) x 0 (λ z. not (omega arith)) ∙ old.packed;
-        fit = old.fit;
-        full = λ z q id. ⊎_elim (λ o. holds_same ws ws' z (set3 ws p x z.id (λ t. not (omega arith)) (λ t. not (omega arith)) (λ t. not (omega arith))) (old.full z o id))
-            (λ n. absurd (not (sym id ∙ ap (λ (t : Element). t.id) (in_one n)))) (born_either z h e q);
-        draft = λ un. old.draft (unborn_before h e i un);
-        claim = get_or-set_other ws p (4 * i + 3) x 0 (λ z. not (omega arith)) ∙ (old.claim ∙ ap pack_claim (sym (claim_word-snoc h e i)));
-        claim_fit = subst IsFitClaim (sym (claim_word-snoc h e i)) old.claim_fit;
-      }))
-      (λ u l. let o = w.units u l in let q = sym (end_of-snoc h e u ∙ enqueue_quiet c y u (end_of h u)) in
-      (get_or-set_other ws p (4 * rows_of k + u) x 0 (λ z. omega arith) ∙ (o.0 ∙ ap pack_unit q), subst IsFitUnit q o.1))
+-- what the words tell after the birth of a client's element whose key and amount stand in its row
+birth_told : (h : List Event) (c : ℕ) (y : Element) (w : Word) (n : ℕ) → w ≢ HeadWord y.id → (w ≡ KeyWord y.id → n ≡ y.key) → (w ≡ AmountWord y.id → n ≡ y.amount) → Told h w n → Told (h ++ Enqueue c y ∷ []) w n
+birth_told h c y (HeadWord i) n other key amount old = head_later h (Enqueue c y) i n (λ x q id. absurd (other (ap HeadWord (sym id ∙ ap (λ (e : Element). e.id) (in_one q))))) old
+birth_told h c y (KeyWord i) n other key amount old = body_later h (Enqueue c y) i n (λ e. e.key) (λ x q id. let same = in_one q in key (ap KeyWord (sym id ∙ ap (λ (e : Element). e.id) same)) ∙ ap (λ (e : Element). e.key) (sym same)) old
+birth_told h c y (AmountWord i) n other key amount old = body_later h (Enqueue c y) i n (λ e. e.amount) (λ x q id. let same = in_one q in amount (ap AmountWord (sym id ∙ ap (λ (e : Element). e.id) same)) ∙ ap (λ (e : Element). e.amount) (sym same)) old
+birth_told h c y (ClaimWord i) n other key amount old = claim_later h (Enqueue c y) i n refl old
+birth_told h c y (UnitWord u) n other key amount old = unit_later h (Enqueue c y) u n (enqueue_quiet c y u _) old
 
-  rows_publish : (h : List Event) (ws : List ℕ) (c first drawn p x : ℕ) (key amount : Option ℕ) (y : Element) → y.id ≡ c * k.rows + drawn → drawn < k.rows → p ≡ 4 * (c * k.rows + drawn)
-      → RowsHold k h ws c first drawn key amount [] → RowsHold k (h ++ Enqueue c y ∷ []) (set ws p x) c (drawn + 1) (drawn + 1) None None []
-  rows_publish h ws c first drawn p x key amount y id room at r = let count : first + 0 ≡ drawn = r.counted in record {
+module _ (k : Limits) (fair : AreLimits k) where
+  rows_publish : (h : List Event) (ws : List ℕ) (c first drawn x : ℕ) (key amount : Option ℕ) (y : Element) (at : IsThere k (HeadWord (c * k.rows + drawn))) → c < k.parts → y.id ≡ c * k.rows + drawn → drawn < k.rows
+      → RowsHold k h ws c first drawn key amount [] → RowsHold k (h ++ Enqueue c y ∷ []) (set ws (head_place (c * k.rows + drawn)) x) c (drawn + 1) (drawn + 1) None None []
+  rows_publish h ws c first drawn x key amount y at below id room r = let count : first + 0 ≡ drawn = r.counted in record {
     counted = omega arith;
     drawn_below = omega arith;
     unborn = λ i l m. unborn_still h (Enqueue c y) i (r.unborn i (omega arith) m) (λ z n same. let t : z.id ≡ y.id = ap (λ (t : Element). t.id) (in_one n) in absurd (omega arith));
-    empty = λ i l m. get_or-set_other ws p (4 * i) x 0 (λ z. omega arith) ∙ r.empty i (omega arith) m;
+    empty = λ i l m. empty_behind k h ws c first drawn (HeadWord (c * k.rows + drawn)) x at below refl i l m r.empty;
     key_there = λ z is. absurd cc;
     amount_there = λ z is. absurd cc;
     run = tt;
     written = λ z q. absurd (in_none q);
   }
 
-  pub births_go : (slots id : ℕ) (me : Mine) (p x stage : ℕ) → IsReady me.0 → (hand me.0).drafts ≡ [] → (hand me.0).drawn < k.rows → p ≡ 4 * ((hand me.0).number * k.rows + (hand me.0).drawn)
-      → x ≡ pack_head (There stage (next_row me.0) None) → 1 ≤ stage → stage ≤ 14
-      → Allows (Rule k) slots id me p (λ _. x) (λ _. publishes (step slots p x 0 none) me x)
-  births_go slots id me p x stage ready none_yet room place is pos top s r _ at _ = let v : View = me.0 in let a : Hand = hand v in let y : Element = next_element v stage (next_row v) None in let e : Event = birth v stage in let h = r.history in
-      let seat = r.seats id v at in let one = ready.0 in let mine = seat.hands a (one_in k v one) in let row : ℕ = a.number * k.rows + a.drawn in
-      let here : y.id ≡ row = ap (λ (l : Limits). a.number * l.rows + a.drawn) (seat.limits a (one_in k v one)) in let count = mine.rows.counted in
-      let own : IsOf k.parts k.rows a.number row = (mine.given, omega arith, omega arith) in let all : row < k.parts * k.rows = in_all k.parts k.rows a.number row own in
-      let wide : length s.words ≡ 4 * (k.parts * k.rows) + k.parts * k.units = r.world.wide in let ws : List ℕ = set s.words p x in
-      let st : Step k h e = record { row = subst (IsOf k.parts k.rows a.number) (sym here) own; unborn = subst (λ z. IsUnborn h z) (sym here) (mine.rows.unborn row (omega arith) (omega arith)); stage = (pos, top); root = refl; by = refl } in
-      let full = row_full k h s.words a.number a.first_draft a.drawn a.next_key a.next_amount a.drafts p x y here (stored_of k a.next_key ready.1) (stored_of k a.next_amount ready.2) is place (omega arith) mine.rows in
-      let w = world_publish h s.words a.number p x y r.world st (place ∙ ap (λ z. 4 * z) (sym here)) is full in
-      let t = acts k s r id v at one e ws kinds.Publish (with_birth e) (λ z. refl) refl st w (record {
-        given = mine.given;
-        mine = ap (λ l. l ++ e ∷ []) mine.mine ∙ sym (by_own a.number h e refl);
-        rows = rows_publish h s.words a.number a.first_draft a.drawn p x a.next_key a.next_amount y here room place (subst (λ l. RowsHold k h s.words a.number a.first_draft a.drawn a.next_key a.next_amount l) none_yet mine.rows);
-        units = units_own k h e a.number a.claimed a.spare_unit a.open_unit (enqueue_quiet a.number y) (λ d u i n z. cc) (λ d u z. cc) mine.units;
-      }) (λ d ne. agree_else k a.number d s.words row 0 p x (omega arith) (omega arith) own ne) in (
-        after kinds.Publish (with_birth e) (h ++ e ∷ []) v,
-        keeps,
-        tt,
-        t.0,
-        (refl, stage, omega arith, is, t.1),
+  pub births_go : (v : View) (p x stage : ℕ) → IsReady v → (hand v).drafts ≡ [] → (hand v).drawn < k.rows → p ≡ head_place ((hand v).number * k.rows + (hand v).drawn)
+      → x ≡ pack_head (There stage (next_row v) None) → 1 ≤ stage → stage ≤ 14
+      → Permits k v p (λ _. x) (λ _ w. publishes p x 0 v x w)
+  births_go v p x stage ready none_yet room place is pos top s r id at = let t : Turn k = record { state = s; rule = r; id = id; view = v; at = at; one = ready.0 } in let a : Hand = hand v in let y : Element = next_element v stage (next_row v) None in let e : Event = birth v stage in let h = r.history in
+      let mine = hand_holds k t in let row : ℕ = next k t room in let w : Word = HeadWord row in
+      let here : y.id ≡ row = ap (λ (l : Limits). a.number * l.rows + a.drawn) (limits_are k t) in
+      let all : row < k.parts * k.rows = next_there k t room in let few : k.parts * k.rows ≤ 8192 = fair_rows k fair in
+      let rows : RowsHold k h s.words a.number a.first_draft a.drawn a.next_key a.next_amount [] = subst (λ l. RowsHold k h s.words a.number a.first_draft a.drawn a.next_key a.next_amount l) none_yet mine.rows in
+      let st : Step k h e = record { row = subst (IsOf k.parts k.rows a.number) (sym here) (next_own k t room); unborn = subst (λ z. IsUnborn h z) (sym here) (next_unborn k t room); stage = (pos, omega arith); root = refl; by = refl } in
+      let key : get_or s.words (place_of k (KeyWord row)) 0 ≡ y.key = (mine.rows.key_there y.key (stored_of k a.next_key ready.1)).1 in
+      let amount : get_or s.words (place_of k (AmountWord row)) 0 ≡ y.amount = (mine.rows.amount_there y.amount (stored_of k a.next_amount ready.2)).1 in
+      let now = new_birth h a.number y st.unborn in
+      let act : Act k t = record {
+        event = e;
+        word = w;
+        number = x;
+        kind = kinds.Publish;
+        f = with_birth e;
+        stays = λ z. refl;
+        own = refl;
+        step = st;
+        there = next_there k t room;
+        told = record {
+          head = head_of y;
+          packed = is;
+          fit = (pos, omega arith, omega arith, omega arith);
+          born = λ z q. let b = born_at (h ++ e ∷ []) row y now here in let same : y ≡ z = cc in ap head_of same;
+          draft = λ un. let b = born_at (h ++ e ∷ []) row y now here in absurd cc;
+        };
+        rest = λ z there other. birth_told h a.number y z (get_or s.words (place_of k z) 0) (λ q. other (q ∙ ap HeadWord here))
+            (λ q. ap (λ b. get_or s.words (place_of k b) 0) (q ∙ ap KeyWord here) ∙ key) (λ q. ap (λ b. get_or s.words (place_of k b) 0) (q ∙ ap AmountWord here) ∙ amount) (r.world.tells z there);
+        empty = λ i q. let same : i ≡ row = cc in ap (λ z. get_or s.words (head_place z) 0) same ∙ next_empty k t room;
+        apart = λ d i ne part. of_no_other k a.number d row w refl (next_own k t room) ne i part;
+        mine = record {
+          given = mine.given;
+          mine = ap (λ l. l ++ e ∷ []) mine.mine ∙ sym (by_own a.number h e refl);
+          rows = rows_publish h s.words a.number a.first_draft a.drawn x a.next_key a.next_amount y all mine.given here room rows;
+          units = units_own k h e a.number a.claimed a.spare_unit a.open_unit (enqueue_quiet a.number y) (λ d u i n z. cc) (λ d u z. cc) mine.units;
+        };
+      } in let done = acted k t act in (
+        view_after k t act,
+        subst (λ q. Rule k record { words = set s.words q x; homes = s.homes; views = set s.views id (view_after k t act) }) (sym place) done.0,
+        (stage, omega arith, is, done.1),
       )

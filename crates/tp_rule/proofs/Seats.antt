@@ -1,25 +1,32 @@
 -- The seats after a step.
-use Rattle.std.proofs.Common.{◌≡◌, ℕ, ◌≢◌, List, [], ◌∷◌, map, set, get_or, sym, refl, ap, ◌∙◌, subst, ⊎_elim}
-use mathlib.Core.Option.{none, some}
+use Rattle.std.proofs.Common.{◌≡◌, ℕ, zero, suc, ◌<◌, ◌≢◌, List, [], ◌∷◌, map, length, set, get_or, sym, refl, ap, ◌∙◌, subst, ⊎_elim, arith}
+use mathlib.Core.Option.{some, some-injective, some-ne-none}
+use mathlib.Core.List.{IsPrefix}
+use mathlib.Core.Logic.{dite}
+use native.Mathlib.Decide.{ℕ_discrete}
 use lib.ListN.{get_elem?}
 use lib.Seq.{set-get_or}
-use Rattle.atomic_table.specs.Table.{State, step, keeps, Allows}
-use Rattle.atomic_table.proofs.Lists.{at_set}
-use Rattle.tp_model.specs.declared.trace.StepKind.TheVariants as kinds
-use Rattle.tp_rule.specs.Rule.{HandHolds, IsApart, Rule, SeatHolds, World}
-use Rattle.tp_rule.specs.Views.{HasPass, IsOnePass, hand}
-use Rattle.tp_rule.specs.Steps.{noted, after, unchanged, Found}
-use Rattle.tp_rule.specs.Plays.{Mine, loads}
-use Rattle.tp_model.proofs.Later.{births_inside}
-use Rattle.tp_model.proofs.Bridges.{append_nil, begins_refl, in_cons, in_none}
-use Rattle.tp_model.specs.History.{In, here, there}
-use Rattle.tp_model.specs.Steps.{IsLegal}
+use Rattle.atomic_table.specs.Table.{State}
+use Rattle.atomic_table.proofs.Lists.{at_set, set_else, set_here}
 use Rattle.tp_model.specs.declared.event.Event.{Event}
-use Rattle.tp_model.specs.declared.types.Limits.{Limits}
-use Rattle.tp_rule.specs.declared.view.Hand.{Hand}
 use Rattle.tp_model.specs.declared.trace.StepKind.{StepKind}
+use Rattle.tp_model.specs.declared.trace.StepKind.TheVariants as kinds
+use Rattle.tp_model.specs.declared.types.Limits.{Limits}
+use Rattle.tp_model.specs.History.{In, here, there}
+use Rattle.tp_model.specs.Steps.{IsLegal, rows_of}
+use Rattle.tp_model.proofs.Bridges.{append_nil, begins_refl, in_cons, in_none}
+use Rattle.tp_words.specs.Places.{HeadWord, head_place}
+use Rattle.tp_words.specs.declared.words.Head.{Head}
+use Rattle.tp_rule.specs.Doors.{Permits}
+use Rattle.tp_rule.specs.Plays.{loads, loads_head}
+use Rattle.tp_rule.specs.Rule.{HandHolds, IsApart, IsSeated, Rule, SeatHolds, StillSo, World}
+use Rattle.tp_rule.specs.Steps.{Found, Loads, noted, after, unchanged}
+use Rattle.tp_rule.specs.Views.{HasPass, IsOnePass, hand}
+use Rattle.tp_rule.specs.declared.view.Hand.{Hand}
+use Rattle.tp_rule.specs.declared.view.Known.{Known}
+use Rattle.tp_rule.specs.declared.view.Known.TheVariants.{RowHead}
 use Rattle.tp_rule.specs.declared.view.View.{View}
-use mathlib.Core.List.{IsPrefix}
+use Rattle.tp_rule.proofs.Tellings.{found, head_told, recall}
 
 abbrev pub S : Type 0
 S = State (Unit {0}) View
@@ -30,9 +37,30 @@ module _ {A B : Type 0} (f : A → B) where
   in_map b [] p = absurd (in_none p)
   in_map b (x ∷ xs) p = ⊎_elim (λ e. (x, here, e)) (λ q. let t = in_map b xs q in (t.0, there t.1, t.2)) (in_cons p)
 
+  pub in_map_to : {a : A} {xs : List A} → In a xs → In (f a) (map f xs)
+  in_map_to here = here
+  in_map_to (there p) = there (in_map_to p)
+
+pub at_below : {A : Type 0} (l : List A) (a : A) (j : ℕ) → get_elem? l j ≡ some a → j < length l
+at_below [] a j e = absurd (some-ne-none a (sym e))
+at_below (x ∷ xs) a zero e = omega arith
+at_below (x ∷ xs) a (suc j) e = let m = at_below xs a j e in omega arith
+
 pub apart_map : (f : Hand → Hand) → ((a : Hand) → (f a).number ≡ a.number) → (hs : List Hand) → IsApart hs → IsApart (map f hs)
 apart_map f stays [] t = tt
 apart_map f stays (a ∷ hs) t = (λ b p e. let q = in_map f b hs p in t.0 q.0 q.1 (sym (stays q.0) ∙ (ap (λ (x : Hand). x.number) (sym q.2) ∙ (e ∙ stays a))), apart_map f stays hs t.1)
+
+-- a seat whose view changes goes on to stand for its passes
+pub seated_still : (views : List View) (id : ℕ) (v w : View) → get_elem? views id ≡ some v → ((a : Hand) → In a v.hands → (b : Hand) × In b w.hands × (b.number ≡ a.number)) → (c : ℕ) → IsSeated views c → IsSeated (set views id w) c
+seated_still views id v w at kept c t = dite (ℕ_discrete t.0 id)
+    (λ same. let is : t.1 ≡ v = some-injective t.1 v (sym t.3 ∙ (ap (get_elem? views) same ∙ at)) in let b = kept t.2 (subst (λ (z : View). In t.2 z.hands) is t.4) in
+    (id, w, b.0, set_here views id w (at_below views v id at), b.1, b.2 ∙ t.5))
+    (λ other. (t.0, t.1, t.2, set_else views id t.0 w other ∙ t.3, t.4, t.5))
+
+-- and where each pass is noted, it does
+pub seated_after : (views : List View) (id : ℕ) (v : View) (kind : StepKind) (f : Hand → Hand) (seen : List Event) (known : List Known) → get_elem? views id ≡ some v → ((a : Hand) → (f a).number ≡ a.number)
+    → (c : ℕ) → IsSeated views c → IsSeated (set views id (after kind f seen known v)) c
+seated_after views id v kind f seen known at stays = let g : Hand → Hand = λ a. noted kind seen (f a) in seated_still views id v (after kind f seen known v) at (λ a p. (g a, in_map_to g p, stays a))
 
 module _ (k : Limits) where
   pub seats_after : (h : List Event) (ws : List ℕ) (owner : ℕ → ℕ) (views : List View) (id : ℕ) (w : View) → SeatHolds k h ws owner id w
@@ -45,53 +73,59 @@ module _ (k : Limits) where
   hand_noted h ws kind seen a r = record { given = r.given; mine = r.mine; rows = r.rows; units = r.units }
 
   -- the seat that makes a step, where f leaves the number
-  pub seat_after : (h h' : List Event) (ws ws' : List ℕ) (owner : ℕ → ℕ) (j : ℕ) (v : View) (kind : StepKind) (f : Hand → Hand) (seen : List Event) → ((a : Hand) → (f a).number ≡ a.number) → IsPrefix seen h'
-      → ((a : Hand) → In a v.hands → HandHolds k h ws a → HandHolds k h' ws' (f a)) → SeatHolds k h ws owner j v → SeatHolds k h' ws' owner j (after kind f seen v)
-  seat_after h h' ws ws' owner j v kind f seen stays begins goes r = let g : Hand → Hand = λ a. noted kind seen (f a) in record {
+  pub seat_after : (h h' : List Event) (ws ws' : List ℕ) (owner : ℕ → ℕ) (j : ℕ) (v : View) (kind : StepKind) (f : Hand → Hand) (seen : List Event) (known : List Known) → ((a : Hand) → (f a).number ≡ a.number) → IsPrefix seen h'
+      → ((x : Known) → In x known → StillSo k ws' x)
+      → ((a : Hand) → In a v.hands → HandHolds k h ws a → HandHolds k h' ws' (f a)) → SeatHolds k h ws owner j v → SeatHolds k h' ws' owner j (after kind f seen known v)
+  seat_after h h' ws ws' owner j v kind f seen known stays begins knows goes r = let g : Hand → Hand = λ a. noted kind seen (f a) in record {
     limits = λ b p. let q = in_map g b v.hands p in r.limits q.0 q.1;
     seen = begins;
     also_seen = (h', refl);
+    known = knows;
     apart = apart_map g stays v.hands r.apart;
     owns = λ b p. let q = in_map g b v.hands p in ap (λ (x : Hand). owner x.number) q.2 ∙ (ap owner (stays q.0) ∙ r.owns q.0 q.1);
     hands = λ b p. let q = in_map g b v.hands p in subst (λ (x : Hand). HandHolds k h' ws' x) (sym q.2) (hand_noted h' ws' kind seen (f q.0) (goes q.0 q.1 (r.hands q.0 q.1)));
   }
 
-  pub found : (h : List Event) (ws : List ℕ) → World k h ws → (word : ℕ) → Found k h word (get_or ws word 0)
-  found h ws w word = record {
-    head = λ i l is. let row = w.rows i l in (row.head, ap (λ z. get_or ws z 0) is ∙ row.packed, row.fit, row.draft);
-    head_born = λ e p is. (ap (λ z. get_or ws z 0) is ∙ ((w.rows e.id (births_inside k h w.legal e p)).full e p refl).0, w.fits e p);
-    key = λ e p is. ap (λ z. get_or ws z 0) is ∙ ((w.rows e.id (births_inside k h w.legal e p)).full e p refl).1;
-    amount = λ e p is. ap (λ z. get_or ws z 0) is ∙ ((w.rows e.id (births_inside k h w.legal e p)).full e p refl).2;
-    claim = λ i l is. (ap (λ z. get_or ws z 0) is ∙ (w.rows i l).claim, (w.rows i l).claim_fit);
-    unit = λ u l is. let t = w.units u l in (ap (λ z. get_or ws z 0) is ∙ t.0, t.1);
-  }
-
-  pub looks : (slots id : ℕ) (me : Mine) (i : ℕ) → HasPass me.0 → Allows (Rule k) slots id me i (λ n. n) (loads (step slots i 0 0 none) me)
-  looks slots id me i has s r _ at _ = let h = r.history in let v : View = me.0 in let w : View = after kinds.Load unchanged h v in let mine = r.seats id v at in let seen = mine.seen in let lim = mine.limits has.0 has.1 in
-      let there = seat_after h h s.words s.words r.owner id v kinds.Load unchanged h (λ a. refl) (begins_refl h) (λ a _ x. x) mine in (
-        w,
-        keeps,
-        tt,
-        subst (λ (ws : List ℕ). Rule k record { words = ws; homes = s.homes; views = set s.views id w }) (sym (set-get_or s.words i 0)) record {
+  -- a load by a seat, which may stand for several passes, and may know more of words that stay afterwards
+  looks_knowing : (v : View) (word : ℕ) → HasPass v → (s : S) (r : Rule k s) (id : ℕ) → get_elem? s.views id ≡ some v → (known : List Known) → ((x : Known) → In x known → StillSo k s.words x) → ((x : Known) → In x v.known → In x known)
+      → Rule k record { words = set s.words word (get_or s.words word 0); homes = s.homes; views = set s.views id (after kinds.Load unchanged r.history known v) } × Loads v word (get_or s.words word 0) (after kinds.Load unchanged r.history known v)
+  looks_knowing v word has s r id at known so more = let h = r.history in let w : View = after kinds.Load unchanged h known v in let mine = r.seats id v at in let seen = mine.seen in let lim = mine.limits has.0 has.1 in
+      let there = seat_after h h s.words s.words r.owner id v kinds.Load unchanged h known (λ a. refl) (begins_refl h) so (λ a _ x. x) mine in (
+        subst (λ (ws : List ℕ). Rule k record { words = ws; homes = s.homes; views = set s.views id w }) (sym (set-get_or s.words word 0)) record {
           history = h;
           owner = r.owner;
           world = r.world;
           seats = seats_after h s.words r.owner s.views id w there (λ j u _ e. r.seats j u e);
+          complete = λ c below. seated_after s.views id v kinds.Load unchanged h known at (λ a. refl) c (r.complete c below);
         },
         (
-          refl,
-          (
-            record {
-              between = seen.0;
-              seen = sym (append_nil _ ∙ seen.1);
-              also_seen = mine.also_seen;
-              legal = subst (λ l. IsLegal l h) (sym lim) r.world.legal;
-              view = refl;
-              mine = λ a p. (there.hands a p).mine;
-            },
-            subst (λ l. Found l h i (get_or s.words i 0)) (sym lim) (found h s.words r.world i),
-          ),
+          record {
+            between = seen.0;
+            seen = sym (append_nil _ ∙ seen.1);
+            also_seen = mine.also_seen;
+            legal = subst (λ l. IsLegal l h) (sym lim) r.world.legal;
+            view = refl;
+            mine = λ a p. (there.hands a p).mine;
+            open_own = λ a p. (there.hands a p).units.open_own;
+            knows = more;
+            heads = λ i head x p. recall k h s.words r.world i head x (mine.known (RowHead i head) p);
+          },
+          subst (λ l. Found l h word (get_or s.words word 0)) (sym lim) (found k h s.words r.world word),
         ),
+      )
+
+  pub looks : (v : View) (word : ℕ) → HasPass v → Permits k v word (λ n. n) (loads word 0 0 v)
+  looks v word has s r id at = let t = looks_knowing v word has s r id at v.known (r.seats id v at).known (λ x p. p) in (after kinds.Load unchanged r.history v.known v, t.0, t.1)
+
+  -- the load of a head, which the seat remembers
+  pub looks_head : (v : View) (row : ℕ) → HasPass v → row < rows_of k → Permits k v (head_place row) (λ n. n) (loads_head (head_place row) 0 0 v)
+  looks_head v row has room s r id at = let told = r.world.tells (HeadWord row) room in let known : List Known = RowHead row told.head ∷ v.known in
+      let so : (x : Known) → In x known → StillSo k s.words x = λ x p. ⊎_elim (λ e. subst (StillSo k s.words) (sym e) (room, told.fit, λ _. told.packed)) (λ q. (r.seats id v at).known x q) (in_cons p) in
+      let t = looks_knowing v (head_place row) has s r id at known so (λ x p. there p) in (
+        after kinds.Load unchanged r.history known v,
+        t.0,
+        (t.1, λ i head is packed fit. let same : row ≡ i = omega arith in let is_head : head ≡ told.head = head_told head told.head fit told.fit (sym packed ∙ told.packed) in
+            subst (λ (z : ℕ × Head). In (RowHead z.0 z.1) known) (λ j. (same j, sym is_head j)) here),
       )
 
 pub one_has : (v : View) → IsOnePass v → HasPass v

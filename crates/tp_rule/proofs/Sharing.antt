@@ -5,13 +5,13 @@ use mathlib.Core.Logic.{dite}
 use native.Mathlib.Decide.{ℕ_discrete}
 use lib.ListN.{get_elem?}
 use Rattle.atomic_table.specs.Table.{Splits, Joins}
-use Rattle.atomic_table.proofs.Lists.{at_set}
+use Rattle.atomic_table.proofs.Lists.{at_last, at_longer, at_set, set_else, set_here}
 use Rattle.tp_model.specs.declared.trace.StepKind.TheVariants as kinds
-use Rattle.tp_rule.specs.Rule.{HandHolds, IsApart, Rule, SeatHolds}
-use Rattle.tp_rule.specs.Views.{HasPass}
-use Rattle.tp_rule.specs.Steps.{noted, looked, with_hands, handed_on, handed_out, kept, parted, joined, spent, rest_of, front_of}
-use Rattle.tp_rule.proofs.Seats.{in_map, apart_map, seats_after, hand_noted}
-use Rattle.tp_model.proofs.Bridges.{in_cons, in_either, in_left, in_none, in_one}
+use Rattle.tp_rule.specs.Rule.{HandHolds, IsApart, IsSeated, Rule, SeatHolds}
+use Rattle.tp_rule.specs.Views.{HasPass, spent}
+use Rattle.tp_rule.specs.Steps.{noted, looked, with_hands, handed_on, handed_out, kept, parted, joined, rest_of, front_of}
+use Rattle.tp_rule.proofs.Seats.{at_below, in_map, in_map_to, apart_map, seats_after, hand_noted}
+use Rattle.tp_model.proofs.Bridges.{in_cons, in_either, in_here, in_left, in_none, in_one, in_right}
 use Rattle.tp_model.specs.History.{In, here, there}
 use Rattle.tp_model.specs.declared.event.Event.{Event}
 use Rattle.tp_model.specs.declared.types.Limits.{Limits}
@@ -23,11 +23,6 @@ at_end [] a b zero e = inr (refl, some-injective a b e)
 at_end [] a b (suc j) e = absurd (some-ne-none b (sym e))
 at_end (x ∷ xs) a b zero e = inl (e, omega arith)
 at_end (x ∷ xs) a b (suc j) e = ⊎_elim (λ t. let m = t.1 in inl (t.0, omega arith)) (λ t. let m = t.0 in inr (omega arith, t.1)) (at_end xs a b j e)
-
-at_below : {A : Type 0} (l : List A) (a : A) (j : ℕ) → get_elem? l j ≡ some a → j < length l
-at_below [] a j e = absurd (some-ne-none a (sym e))
-at_below (x ∷ xs) a zero e = omega arith
-at_below (x ∷ xs) a (suc j) e = let m = at_below xs a j e in omega arith
 
 -- the number c is that of one of the hands
 abbrev among : ℕ → List Hand → Bool
@@ -67,6 +62,10 @@ apart_front : (hs : List Hand) → IsApart hs → IsApart (front_of hs)
 apart_front [] t = tt
 apart_front (x ∷ hs) t = (λ b p. absurd (in_none p), tt)
 
+in_cut : (hs : List Hand) (a : Hand) → In a hs → In a (front_of hs) ⊎ In a (rest_of hs)
+in_cut [] a p = absurd (in_none p)
+in_cut (x ∷ hs) a p = ⊎_elim (λ e. inl (in_here [] e)) (λ q. inr q) (in_cons p)
+
 cross : (hs : List Hand) → IsApart hs → (a b : Hand) → In a (front_of hs) → In b (rest_of hs) → b.number ≢ a.number
 cross [] t a b p q e = absurd (in_none p)
 cross (x ∷ hs) t a b p q e = t.0 b q (e ∙ ap (λ (z : Hand). z.number) (in_one p))
@@ -79,6 +78,7 @@ module _ (k : Limits) where
     limits = λ a p. let t = from a p in r.limits t.0 t.1;
     seen = r.seen;
     also_seen = r.also_seen;
+    known = r.known;
     apart = apart;
     owns = owns;
     hands = λ a p. let t = from a p in t.2 (r.hands t.0 t.1);
@@ -89,6 +89,7 @@ module _ (k : Limits) where
     limits = r.limits;
     seen = r.seen;
     also_seen = r.also_seen;
+    known = r.known;
     apart = r.apart;
     owns = λ a p. same a p ∙ r.owns a p;
     hands = r.hands;
@@ -98,9 +99,21 @@ module _ (k : Limits) where
   abbrev From : List Hand → View → Type 0
   From hs v = (a : Hand) → In a hs → (b : Hand) × In b v.hands × (a.number ≡ b.number) × ((h : List Event) (ws : List ℕ) → HandHolds k h ws b → HandHolds k h ws a)
 
-  pub splits : (id : ℕ) (v : View) (L R : List Hand) → From L v → From R v → (IsApart v.hands → IsApart L) → (IsApart v.hands → IsApart R)
+  -- one of these hands is of pass c
+  abbrev HasHand : List Hand → ℕ → Type 0
+  HasHand hs c = (b : Hand) × In b hs × (b.number ≡ c)
+
+  -- each pass of a seat that is cut in two is of one of the two
+  split_complete : (views : List View) (id : ℕ) (v : View) (L R : List Hand) → get_elem? views id ≡ some v → ((a : Hand) → In a v.hands → HasHand L a.number ⊎ HasHand R a.number) → (c : ℕ) → IsSeated views c → IsSeated (set views id (with_hands L v) ++ with_hands R v ∷ []) c
+  split_complete views id v L R at cover c t = let first : List View = set views id (with_hands L v) in dite (ℕ_discrete t.0 id)
+      (λ same. let is : t.1 ≡ v = some-injective t.1 v (sym t.3 ∙ (ap (get_elem? views) same ∙ at)) in ⊎_elim
+      (λ b. (id, with_hands L v, b.0, at_longer first (with_hands R v ∷ []) id (with_hands L v) (set_here views id (with_hands L v) (at_below views v id at)), b.1, b.2 ∙ t.5))
+      (λ b. (length views, with_hands R v, b.0, at_last first (with_hands R v) (length views) (length-set views id (with_hands L v)), b.1, b.2 ∙ t.5)) (cover t.2 (subst (λ (z : View). In t.2 z.hands) is t.4)))
+      (λ other. (t.0, t.1, t.2, at_longer first (with_hands R v ∷ []) t.0 t.1 (set_else views id t.0 (with_hands L v) other ∙ t.3), t.4, t.5))
+
+  pub splits : (id : ℕ) (v : View) (L R : List Hand) → From L v → From R v → ((a : Hand) → In a v.hands → HasHand L a.number ⊎ HasHand R a.number) → (IsApart v.hands → IsApart L) → (IsApart v.hands → IsApart R)
       → (IsApart v.hands → (a b : Hand) → In a R → In b L → a.number ≢ b.number) → Splits (Rule k) id v (with_hands L v) (with_hands R v)
-  splits id v L R left right apart_l apart_r cross s r at = let n : ℕ = length s.views in let h = r.history in let mine = r.seats id v at in let room = at_below s.views v id at in
+  splits id v L R left right cover apart_l apart_r cross s r at = let n : ℕ = length s.views in let h = r.history in let mine = r.seats id v at in let room = at_below s.views v id at in
       let owner : ℕ → ℕ = λ c. cond (among c R) n (r.owner c) in
       let in_r : (a : Hand) → In a R → owner a.number ≡ n = λ a p. ap (λ t. cond t n (r.owner a.number)) (among_in a.number R a p refl) in
       let not_r : (c : ℕ) → ((a : Hand) → In a R → a.number ≢ c) → owner c ≡ r.owner c = λ c f. ap (λ t. cond t n (r.owner c)) (not_among c R f) in
@@ -114,12 +127,22 @@ module _ (k : Limits) where
         world = r.world;
         seats = λ j u e. ⊎_elim (λ t. old j u t.0) (λ t. subst (λ (z : ℕ × View). SeatHolds k h s.words owner z.0 z.1) (λ i. (sym (t.0 ∙ length-set s.views id (with_hands L v)) i, t.1 i)) new)
             (at_end (set s.views id (with_hands L v)) (with_hands R v) u j e);
+        complete = λ c below. split_complete s.views id v L R at cover c (r.complete c below);
       }
+
+  -- each pass of two seats that are joined is of the one that remains
+  join_complete : (views : List View) (id : ℕ) (v : View) (other : ℕ) (w : View) → get_elem? views id ≡ some v → other ≢ id → get_elem? views other ≡ some w → (c : ℕ) → IsSeated views c → IsSeated (set (set views id (joined v w)) other spent) c
+  join_complete views id v other w at ne their_at c t = let f : Hand → Hand = noted kinds.SeatLoad v.seen in
+      let here : get_elem? (set (set views id (joined v w)) other spent) id ≡ some (joined v w) = set_else (set views id (joined v w)) other id spent (λ e. ne (sym e)) ∙ set_here views id (joined v w) (at_below views v id at) in dite (ℕ_discrete t.0 id)
+      (λ same. let is : t.1 ≡ v = some-injective t.1 v (sym t.3 ∙ (ap (get_elem? views) same ∙ at)) in (id, joined v w, f t.2, here, in_left w.hands (in_map_to f (subst (λ (z : View). In t.2 z.hands) is t.4)), t.5))
+      (λ not_id. dite (ℕ_discrete t.0 other)
+      (λ same. let is : t.1 ≡ w = some-injective t.1 w (sym t.3 ∙ (ap (get_elem? views) same ∙ their_at)) in (id, joined v w, t.2, here, in_right (looked v v.hands) (subst (λ (z : View). In t.2 z.hands) is t.4), t.5))
+      (λ not_other. (t.0, t.1, t.2, set_else (set views id (joined v w)) other t.0 spent not_other ∙ (set_else views id t.0 (joined v w) not_id ∙ t.3), t.4, t.5)))
 
   pub joins : (id : ℕ) (v : View) (other : ℕ) (w : View) → HasPass v → Joins (Rule k) id v other w (joined v w) spent
   joins id v other w has s r at ne their_at = let h = r.history in let mine = r.seats id v at in
       let found : get_elem? s.views other ≡ some w = ⊎_elim (λ (t : (other ≡ id) × (joined v w ≡ w)). absurd (ne t.0)) (λ (t : (other ≢ id) × (get_elem? s.views other ≡ some w)). t.1) (at_set s.views id other (joined v w) w their_at) in
-      let theirs = r.seats other w found in let owner : ℕ → ℕ = λ c. cond (eqb (r.owner c) other) id (r.owner c) in let f : Hand → Hand = noted kinds.Load v.seen in
+      let theirs = r.seats other w found in let owner : ℕ → ℕ = λ c. cond (eqb (r.owner c) other) id (r.owner c) in let f : Hand → Hand = noted kinds.SeatLoad v.seen in
       let moved : (c : ℕ) → r.owner c ≡ other → owner c ≡ id = λ c e. ap (λ b. cond b id (r.owner c)) (eq-eqb (r.owner c) other e) in
       let stays : (c : ℕ) → r.owner c ≢ other → owner c ≡ r.owner c = λ c e. ap (λ b. cond b id (r.owner c)) (ne_eqb (r.owner c) other e) in
       let apart : (a b : Hand) → In a (map f v.hands) → In b w.hands → b.number ≢ a.number = λ a b p q same. let t = in_map f a v.hands p in
@@ -128,15 +151,17 @@ module _ (k : Limits) where
         limits = λ a p. mine.limits has.0 has.1;
         seen = mine.seen;
         also_seen = theirs.seen;
+        known = mine.known;
         apart = apart_append (map f v.hands) w.hands (apart_map f (λ a. refl) v.hands mine.apart) theirs.apart apart;
         owns = λ a p. ⊎_elim (λ q. let t = in_map f a v.hands q in let own : r.owner a.number ≡ id = ap (λ (z : Hand). r.owner z.number) t.2 ∙ mine.owns t.0 t.1 in stays a.number (λ e. ne (sym e ∙ own)) ∙ own)
             (λ q. moved a.number (theirs.owns a q)) (in_either (map f v.hands) w.hands p);
-        hands = λ a p. ⊎_elim (λ q. let t = in_map f a v.hands q in subst (HandHolds k h s.words) (sym t.2) (hand_noted k h s.words kinds.Load v.seen t.0 (mine.hands t.0 t.1))) (λ q. theirs.hands a q) (in_either (map f v.hands) w.hands p);
+        hands = λ a p. ⊎_elim (λ q. let t = in_map f a v.hands q in subst (HandHolds k h s.words) (sym t.2) (hand_noted k h s.words kinds.SeatLoad v.seen t.0 (mine.hands t.0 t.1))) (λ q. theirs.hands a q) (in_either (map f v.hands) w.hands p);
       } in
       let none_left : SeatHolds k h s.words owner other spent = record {
         limits = λ a p. absurd (in_none p);
         seen = (h, refl);
         also_seen = (h, refl);
+        known = λ x p. absurd (in_none p);
         apart = tt;
         owns = λ a p. absurd (in_none p);
         hands = λ a p. absurd (in_none p);
@@ -148,32 +173,32 @@ module _ (k : Limits) where
             (λ (t : (j ≡ id) × (joined v w ≡ u)). subst (λ (z : ℕ × View). SeatHolds k h s.words owner z.0 z.1) (λ i. (sym t.0 i, t.1 i)) whole)
             (λ (t : (j ≢ id) × (get_elem? s.views j ≡ some u)). let old = r.seats j u t.1 in owned_anew h s.words r.owner owner j u (λ a p. stays a.number (λ e. far (sym (old.owns a p) ∙ e))) old)
             (at_set s.views id j (joined v w) u e));
+        complete = λ c below. join_complete s.views id v other w at ne found c (r.complete c below);
       }
 
   from_rest : (v : View) → From (rest_of v.hands) v
   from_rest v a p = (a, in_rest v.hands a p, refl, λ h ws holds. holds)
 
   from_front : (v : View) → From (looked v (front_of v.hands)) v
-  from_front v a p = let f : Hand → Hand = noted kinds.Load v.seen in let t = in_map f a (front_of v.hands) p in
-      (t.0, in_front v.hands t.0 t.1, ap (λ (z : Hand). z.number) t.2, λ h ws holds. subst (HandHolds k h ws) (sym t.2) (hand_noted k h ws kinds.Load v.seen t.0 holds))
+  from_front v a p = let f : Hand → Hand = noted kinds.SeatLoad v.seen in let t = in_map f a (front_of v.hands) p in
+      (t.0, in_front v.hands t.0 t.1, ap (λ (z : Hand). z.number) t.2, λ h ws holds. subst (HandHolds k h ws) (sym t.2) (hand_noted k h ws kinds.SeatLoad v.seen t.0 holds))
 
   apart_looked : (v : View) → IsApart v.hands → IsApart (looked v (front_of v.hands))
-  apart_looked v t = apart_map (noted kinds.Load v.seen) (λ a. refl) (front_of v.hands) (apart_front v.hands t)
+  apart_looked v t = apart_map (noted kinds.SeatLoad v.seen) (λ a. refl) (front_of v.hands) (apart_front v.hands t)
 
   cross_looked : (v : View) → IsApart v.hands → (a b : Hand) → In a (looked v (front_of v.hands)) → In b (rest_of v.hands) → b.number ≢ a.number
-  cross_looked v apart a b p q e = let t = in_map (noted kinds.Load v.seen) a (front_of v.hands) p in cross v.hands apart t.0 b t.1 q (e ∙ ap (λ (z : Hand). z.number) t.2)
+  cross_looked v apart a b p q e = let t = in_map (noted kinds.SeatLoad v.seen) a (front_of v.hands) p in cross v.hands apart t.0 b t.1 q (e ∙ ap (λ (z : Hand). z.number) t.2)
+
+  front_has : (v : View) (a : Hand) → In a (front_of v.hands) → HasHand (looked v (front_of v.hands)) a.number
+  front_has v a p = (noted kinds.SeatLoad v.seen a, in_map_to (noted kinds.SeatLoad v.seen) p, refl)
 
   -- the first hand goes to a new seat
   pub gives_first : (id : ℕ) (v : View) → Splits (Rule k) id v (handed_on v) (handed_out v)
-  gives_first id v = splits id v (rest_of v.hands) (looked v (front_of v.hands)) (from_rest v) (from_front v) (apart_rest v.hands) (apart_looked v) (λ t a b p q e. cross_looked v t a b p q (sym e))
+  gives_first id v = splits id v (rest_of v.hands) (looked v (front_of v.hands)) (from_rest v) (from_front v) (λ a p. ⊎_elim (λ q. inr (front_has v a q)) (λ q. inl (a, q, refl)) (in_cut v.hands a p)) (apart_rest v.hands) (apart_looked v) (λ t a b p q e. cross_looked v t a b p q (sym e))
 
   -- the first hand stays, and the others go to a new seat
   pub keeps_first : (id : ℕ) (v : View) → Splits (Rule k) id v (kept v) (parted v)
-  keeps_first id v = splits id v (looked v (front_of v.hands)) (rest_of v.hands) (from_front v) (from_rest v) (apart_looked v) (apart_rest v.hands) (λ t a b p q. cross_looked v t b a q p)
-
-in_map_to : {A B : Type 0} (f : A → B) {a : A} {xs : List A} → In a xs → In (f a) (map f xs)
-in_map_to f here = here
-in_map_to f (there p) = there (in_map_to f p)
+  keeps_first id v = splits id v (looked v (front_of v.hands)) (rest_of v.hands) (from_front v) (from_rest v) (λ a p. ⊎_elim (λ q. inl (front_has v a q)) (λ q. inr (a, q, refl)) (in_cut v.hands a p)) (apart_looked v) (apart_rest v.hands) (λ t a b p q. cross_looked v t b a q p)
 
 pub joined_has : (v w : View) → HasPass v → HasPass (joined v w)
-joined_has v w t = (noted kinds.Load v.seen t.0, in_left w.hands (in_map_to (noted kinds.Load v.seen) t.1))
+joined_has v w t = (noted kinds.SeatLoad v.seen t.0, in_left w.hands (in_map_to (noted kinds.SeatLoad v.seen) t.1))

@@ -20,7 +20,7 @@ own_claim l h c u i n legal = new_claim h c u i n (legal_at l h (Claim c u i n) 
 
 -- after a claim exchange the unit is the pass's own work, on the element that it took
 pub claimed_work : (v w : View) (u i n : ℕ) (x : Element) → IsOnePass v → MakesClaim v u i n w → element_of v.seen i ≡ Some x → (hand v).drafts ≡ [] → (work : IsOwnWork w u) × (work.item ≡ x)
-claimed_work v w u i n x one g at none = let c : ℕ = (hand v).number in let t = one_after kinds.ClaimExchange (with_claim u (claimed v u i n)) w.seen v w one g.view in (
+claimed_work v w u i n x one g at none = let c : ℕ = (hand v).number in let t = one_after kinds.ClaimExchange (with_claim u (claimed v u i n)) w.seen w.known v w one g.view in (
   record {
     taking = record { pass = c; item = i; attempt = n };
     claimed = subst (λ h. IsClaim h c u i n) (sym g.seen) (own_claim v.limits (v.seen ++ g.between) c u i n (subst (IsLegal v.limits) g.seen g.legal));
@@ -48,7 +48,7 @@ work_stays v w u seen number drafts work = (
 
 -- and with one more draft for the root of that element
 pub drafted_work : (v w : View) (stage root u : ℕ) → IsOnePass v → (work : IsOwnWork v u) → Drafts v stage root u w → IsStage stage → root ≡ work.item.root → IsOwnWork w u
-drafted_work v w stage root u one work is fits same_root = let x : Element = next_element v stage root (Some u) in let t = one_after kinds.DraftStore (with_draft x) v.seen v w one is in let seen : w.seen ≡ v.seen = ap (λ (z : View). z.seen) is in
+drafted_work v w stage root u one work is fits same_root = let x : Element = next_element v stage root (Some u) in let t = one_after kinds.DraftStore (with_draft x) v.seen v.known v w one is in let seen : w.seen ≡ v.seen = ap (λ (z : View). z.seen) is in
     let drafts : (hand w).drafts ≡ (hand v).drafts ++ x ∷ [] = ap (λ (a : Hand). a.drafts) t.1 in let is_out : IsOut u work.item.root x = (fits, refl, same_root) in record {
       taking = work.taking;
       claimed = ap (λ h. claim_of h u) seen ∙ work.claimed;

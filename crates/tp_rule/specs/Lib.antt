@@ -1,3 +1,4 @@
+pub mod Doors
 pub mod Plays
 pub mod Rule
 pub mod Steps

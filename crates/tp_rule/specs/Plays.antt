@@ -1,51 +1,56 @@
--- What the steps tell, of the numbers that the table's steps take and give: a place, the operands, and what was found at the place.
-use Rattle.std.specs.Prelude.{◌≡◌, ℕ, ◌<◌, ◌≤◌, Some, None}
-use Rattle.atomic_table.specs.Table.{Step, Me}
+-- What the steps tell, of the numbers that the table's steps take and give: a place, one or two numbers, and the number that
+-- was found at the place. In each definition v is the view before the step, and w the view after it.
+use Rattle.std.specs.Prelude.{◌≡◌, ◌≢◌, ℕ, ◌<◌, ◌≤◌, [], Some, None}
 use Rattle.tp_model.specs.Words.{TakenWord}
 use Rattle.tp_model.specs.declared.trace.StepKind.TheVariants as kinds
+use Rattle.tp_words.specs.declared.words.Head.{Head}
 use Rattle.tp_words.specs.declared.words.Head.TheVariants.{There}
-use Rattle.tp_words.specs.Words.{pack_claim, pack_head}
-use Rattle.tp_words.specs.Places.{claim_place, unit_place}
+use Rattle.tp_words.specs.Words.{IsFitHead, pack_claim, pack_head}
+use Rattle.tp_words.specs.Places.{head_place, claim_place, unit_place}
 use Rattle.tp_rule.specs.Views.{hand, next_row}
-use Rattle.tp_rule.specs.Steps.{Loads, drafted, with_key, with_amount, Drafts, Publishes, Chooses, MakesClaim, MakesCommit, Loses, MakesAbort, MakesKill, Misses}
+use Rattle.tp_rule.specs.Steps.{Found, Grew, Knows, Loads, unchanged, drafted, with_key, with_amount, Drafts, Publishes, Chooses, MakesClaim, MakesCommit, Loses, MakesAbort, MakesKill, Misses}
+use Rattle.tp_rule.specs.declared.view.Known.TheVariants.{RowHead}
 use Rattle.tp_rule.specs.declared.view.View.{View}
 
--- a seat's view, and its slots, of which this table has none
-abbrev pub Mine : Type 0
-Mine = Me (Unit {0}) View
+abbrev pub Telling : Type 1
+Telling = ℕ → ℕ → ℕ → View → ℕ → View → Type 0
 
--- a step of the table, which leaves the slots alone
-abbrev pub Action : Type 0
-Action = Step (Unit {0})
+abbrev pub loads : Telling
+loads word first second v r w = Loads v word r w
 
-abbrev pub loads : Action → Mine → ℕ → Mine → Type 0
-loads step m r m' = (m'.1 ≡ m.1) × Loads m.0 step.word r m'.0
+-- a load of a head, which the seat remembers
+abbrev pub loads_head : Telling
+loads_head word first second v r w = Loads v word r w
+    × ((i : ℕ) (head : Head) → word ≡ head_place i → r ≡ pack_head head → IsFitHead head → Knows w (RowHead i head))
 
-abbrev pub stores_key : Action → Mine → ℕ → Mine → Type 0
-stores_key step m r m' = (m'.1 ≡ m.1) × m'.0 ≡ drafted (with_key step.first) m.0
+abbrev pub stores_key : Telling
+stores_key word key second v r w = w ≡ drafted (with_key key) v
 
-abbrev pub stores_amount : Action → Mine → ℕ → Mine → Type 0
-stores_amount step m r m' = (m'.1 ≡ m.1) × m'.0 ≡ drafted (with_amount step.first) m.0
+abbrev pub stores_amount : Telling
+stores_amount word amount second v r w = w ≡ drafted (with_amount amount) v
 
-abbrev pub stores_head : Action → Mine → ℕ → Mine → Type 0
-stores_head step m r m' = (m'.1 ≡ m.1) × (stage : ℕ) × (root : ℕ) × (u : ℕ) × (stage ≤ 15) × (root < 65536) × (step.first ≡ pack_head (There stage root (Some u))) × Drafts m.0 stage root u m'.0
+abbrev pub stores_head : Telling
+stores_head word packed second v r w = (stage : ℕ) × (root : ℕ) × (u : ℕ) × (stage ≤ 15) × (root < 65536)
+    × (packed ≡ pack_head (There stage root (Some u))) × Drafts v stage root u w
 
-abbrev pub publishes : Action → Mine → ℕ → Mine → Type 0
-publishes step m r m' = (m'.1 ≡ m.1) × (stage : ℕ) × (stage ≤ 15) × (step.first ≡ pack_head (There stage (next_row m.0) None)) × Publishes m.0 stage m'.0
+abbrev pub publishes : Telling
+publishes word packed second v r w = (stage : ℕ) × (stage ≤ 15) × (packed ≡ pack_head (There stage (next_row v) None)) × Publishes v stage w
 
-abbrev pub chooses : Action → Mine → ℕ → Mine → Type 0
-chooses step m r m' = (m'.1 ≡ m.1) × (u : ℕ) × (step.word ≡ unit_place m.0.limits u) × Chooses m.0 u m'.0
+abbrev pub chooses : Telling
+chooses word first second v r w = (u : ℕ) × (word ≡ unit_place v.limits u) × Chooses v u w
 
-abbrev pub exchanges_claim : Action → Mine → ℕ → Mine → Type 0
-exchanges_claim step m r m' = (m'.1 ≡ m.1) × (r ≡ step.first → (u : ℕ) × (i : ℕ) × (n : ℕ) × (step.word ≡ claim_place i) × (step.second ≡ pack_claim (TakenWord n u)) × (n ≤ 7) × MakesClaim m.0 u i n m'.0)
-    × (¬ (r ≡ step.first) → Misses kinds.ClaimExchange m.0 step.word r m'.0)
+abbrev pub exchanges_claim : Telling
+exchanges_claim word old new v r w = (r ≡ old → (u : ℕ) × (i : ℕ) × (n : ℕ) × (word ≡ claim_place i) × (new ≡ pack_claim (TakenWord n u)) × (n ≤ 7) × MakesClaim v u i n w)
+    × (r ≢ old → Misses kinds.ClaimExchange v word r w)
 
-abbrev pub exchanges_commit : Action → Mine → ℕ → Mine → Type 0
-exchanges_commit step m r m' = (m'.1 ≡ m.1) × (u : ℕ) × (step.word ≡ unit_place m.0.limits u) × (r ≡ 0 → MakesCommit m.0 u m'.0) × (¬ (r ≡ 0) → Loses kinds.CommitExchange m.0 u m'.0)
+abbrev pub exchanges_commit : Telling
+exchanges_commit word old new v r w = (u : ℕ) × (word ≡ unit_place v.limits u) × (r ≡ 0 → MakesCommit v u w) × (r ≢ 0 → Loses kinds.CommitExchange v u w)
 
-abbrev pub exchanges_abort : Action → Mine → ℕ → Mine → Type 0
-exchanges_abort step m r m' = (m'.1 ≡ m.1) × (u : ℕ) × (step.word ≡ unit_place m.0.limits u) × (r ≡ 0 → MakesAbort m.0 u m'.0)
-    × (¬ (r ≡ 0) → (hand m.0).open_unit ≡ Some u → Loses kinds.AbortExchange m.0 u m'.0) × (¬ (r ≡ 0) → (hand m.0).open_unit ≡ None → Misses kinds.AbortExchange m.0 step.word r m'.0)
+abbrev pub exchanges_abort : Telling
+exchanges_abort word old new v r w = (u : ℕ) × (word ≡ unit_place v.limits u) × (r ≡ 0 → MakesAbort v u w)
+    × (r ≢ 0 → (hand v).open_unit ≡ Some u → Loses kinds.AbortExchange v u w)
+    × (r ≢ 0 → (hand v).open_unit ≡ None → Grew kinds.AbortExchange unchanged [] v w)
+    × (r ≢ 0 → Found v.limits w.seen word r)
 
-abbrev pub exchanges_kill : Action → Mine → ℕ → Mine → Type 0
-exchanges_kill step m r m' = (m'.1 ≡ m.1) × (r ≡ step.first → (i : ℕ) × (step.word ≡ claim_place i) × MakesKill m.0 i m'.0) × (¬ (r ≡ step.first) → Misses kinds.KillExchange m.0 step.word r m'.0)
+abbrev pub exchanges_kill : Telling
+exchanges_kill word old new v r w = (r ≡ old → (i : ℕ) × (word ≡ claim_place i) × MakesKill v i w) × (r ≢ old → Misses kinds.KillExchange v word r w)

@@ -1,23 +1,25 @@
 -- The rule: at every moment there is one legal history behind the words.
 -- It is read from the bottom of this page up. In each record l are the table's limits, h is the history, and ws are the words.
-use Rattle.std.specs.Prelude.{◌≡◌, ℕ, ◌+◌, ◌*◌, ◌<◌, ◌≤◌, List, [], ◌∷◌, length, slice_index, Option, Some, None}
+use Rattle.std.specs.Prelude.{◌≡◌, ◌≢◌, ℕ, ◌+◌, ◌*◌, ◌<◌, ◌≤◌, List, [], ◌∷◌, length, slice_index, Option, Some, None}
 use mathlib.Core.Option.{some}
+use mathlib.Core.List.{IsPrefix}
 use lib.ListN.{get_elem?}
 use Rattle.atomic_table.specs.Table.{State}
-use Rattle.tp_model.specs.History.{Committed, In, IsBorn, IsClaim, IsUnborn, IsUnused, end_of, events_by}
-use Rattle.tp_model.specs.Steps.{IsLegal, rows_of, units_of}
+use Rattle.tp_model.specs.History.{In, IsClaim, IsUnborn, IsUnused, element_of, end_of, events_by}
+use Rattle.tp_model.specs.Passes.{IsOwnOpen}
+use Rattle.tp_model.specs.Steps.{IsLegal, rows_of}
 use Rattle.tp_model.specs.Words.{claim_word}
 use Rattle.tp_model.specs.declared.event.Event.{Event}
-use Rattle.tp_model.specs.declared.event.Event.TheVariants.{Abort}
 use Rattle.tp_model.specs.declared.types.Element.{Element}
 use Rattle.tp_model.specs.declared.types.Limits.{Limits}
 use Rattle.tp_rule.specs.declared.view.Hand.{Hand}
+use Rattle.tp_rule.specs.declared.view.Known.{Known}
+use Rattle.tp_rule.specs.declared.view.Known.TheVariants.{RowHead}
 use Rattle.tp_rule.specs.declared.view.View.{View}
-use Rattle.tp_words.specs.Places.{head_place, key_place, amount_place, claim_place, unit_place, size_of}
+use Rattle.tp_words.specs.Places.{Word, HeadWord, KeyWord, AmountWord, ClaimWord, UnitWord, IsThere, head_place, key_place, amount_place, place_of, size_of}
 use Rattle.tp_words.specs.Words.{IsFitHead, IsFitClaim, IsFitUnit, head_of, pack_claim, pack_head, pack_unit}
 use Rattle.tp_words.specs.declared.words.Head.{Head}
 use Rattle.tp_words.specs.declared.words.Head.TheVariants.{Empty, There}
-use mathlib.Core.List.{IsPrefix}
 
 -- the head, key and amount words of row x.id hold the element x
 abbrev pub Holds : List ℕ → Element → Type 0
@@ -61,7 +63,7 @@ pub record UnitsHold (l : Limits) (h : List Event) (c claimed : ℕ) (spare_unit
   -- a spare unit is the first of those behind
   pub spare_next : (u : ℕ) → spare_unit ≡ Some u → (u ≡ c * l.units + claimed) × (claimed < l.units)
   -- an open unit was claimed by this pass, is not committed, and was not aborted by this pass
-  pub held_own : (u : ℕ) → open_unit ≡ Some u → ((i : ℕ) × (n : ℕ) × IsClaim h c u i n) × ((f m : ℕ) → ¬ (end_of h u ≡ Some (Committed f m))) × ¬ (In (Abort c u) h)
+  pub open_own : (u : ℕ) → open_unit ≡ Some u → IsOwnOpen h c u
   -- every other unit that the pass has claimed is decided
   pub closed : (u i n : ℕ) → IsClaim h c u i n → ¬ (open_unit ≡ Some u) → ¬ (end_of h u ≡ None)
 
@@ -81,6 +83,10 @@ abbrev pub IsApart : List Hand → Type 0
 IsApart [] = Unit {0}
 IsApart (a ∷ hands) = ((b : Hand) → In b hands → ¬ (b.number ≡ a.number)) × IsApart hands
 
+-- what was found in a word that stays is still so
+abbrev pub StillSo : Limits → List ℕ → Known → Type 0
+StillSo l ws (RowHead i head) = (i < rows_of l) × IsFitHead head × (head ≢ Empty → slice_index ws (head_place i) ≡ pack_head head)
+
 -- what is so of seat j with the view v, where `owner` says which seat stands for a pass
 pub record SeatHolds (l : Limits) (h : List Event) (ws : List ℕ) (owner : ℕ → ℕ) (j : ℕ) (v : View) : Type 0 where
   -- a seat that stands for a pass knows the limits
@@ -89,6 +95,8 @@ pub record SeatHolds (l : Limits) (h : List Event) (ws : List ℕ) (owner : ℕ 
   pub seen : IsPrefix v.seen h
   -- so does what the seat that was joined to it had seen
   pub also_seen : IsPrefix v.also_seen h
+  -- what it knows of words that stay is still so
+  pub known : (x : Known) → In x v.known → StillSo l ws x
   -- it stands for no pass twice
   pub apart : IsApart v.hands
   -- it is the one seat that stands for its passes
@@ -96,22 +104,28 @@ pub record SeatHolds (l : Limits) (h : List Event) (ws : List ℕ) (owner : ℕ 
   -- each of its passes is as the seat knows it
   pub hands : (a : Hand) → In a v.hands → HandHolds l h ws a
 
--- what is so of row i
-pub record RowHolds (h : List Event) (ws : List ℕ) (i : ℕ) : Type 0 where
-  -- what its head word tells
+-- what the head of row i tells, where the number n stands there
+pub record HeadTold (h : List Event) (i n : ℕ) : Type 0 where
   pub head : Head
-  -- the head word is the packing of that
-  pub packed : slice_index ws (head_place i) ≡ pack_head head
-  -- which is a value that a head word can tell
+  -- the number is the packing of a value that a head can tell
+  pub packed : n ≡ pack_head head
   pub fit : IsFitHead head
-  -- where an element is born, the row's words hold it
-  pub full : (x : Element) → IsBorn h x → x.id ≡ i → Holds ws x
-  -- where none is born, the head is empty or names a unit
+  -- where an element is born in the row, it is that element's head
+  pub born : (x : Element) → element_of h i ≡ Some x → head ≡ head_of x
+  -- where none is born, it is empty or names a unit
   pub draft : IsUnborn h i → IsDraft head
-  -- the claim word is the packing of what the history says of the element's claims and kill
-  pub claim : slice_index ws (claim_place i) ≡ pack_claim (claim_word h i)
-  -- which is a value that a claim word can tell
-  pub claim_fit : IsFitClaim (claim_word h i)
+
+-- what each word tells of the history h, where the number n stands there
+abbrev pub Told : List Event → Word → ℕ → Type 0
+-- a head: what it says, which is that of the element where one is born
+Told h (HeadWord i) n = HeadTold h i n
+-- a key and an amount: those of the element, where one is born
+Told h (KeyWord i) n = (x : Element) → element_of h i ≡ Some x → n ≡ x.key
+Told h (AmountWord i) n = (x : Element) → element_of h i ≡ Some x → n ≡ x.amount
+-- a claim: the packing of what the history says of the element's claims and kill
+Told h (ClaimWord i) n = (n ≡ pack_claim (claim_word h i)) × IsFitClaim (claim_word h i)
+-- a unit's word: the packing of how the unit ended
+Told h (UnitWord u) n = (n ≡ pack_unit (end_of h u)) × IsFitUnit (end_of h u)
 
 -- what is so of the words after the history h
 pub record World (l : Limits) (h : List Event) (ws : List ℕ) : Type 0 where
@@ -119,12 +133,12 @@ pub record World (l : Limits) (h : List Event) (ws : List ℕ) : Type 0 where
   pub legal : IsLegal l h
   -- there are as many words as the limits say
   pub wide : length ws ≡ size_of l
-  -- the words of each row tell what the history says of it
-  pub rows : (i : ℕ) → i < rows_of l → RowHolds h ws i
-  -- the word of each unit is the packing of how the unit ended, which is a value that a unit's word can tell
-  pub units : (u : ℕ) → u < units_of l → (slice_index ws (unit_place l u) ≡ pack_unit (end_of h u)) × IsFitUnit (end_of h u)
-  -- each born element has a head that a word can tell
-  pub fits : (x : Element) → IsBorn h x → IsFitHead (head_of x)
+  -- each word tells what the history says
+  pub tells : (w : Word) → IsThere l w → Told h w (slice_index ws (place_of l w))
+
+-- pass c is one of a seat's
+abbrev pub IsSeated : List View → ℕ → Type 0
+IsSeated views c = (j : ℕ) × (v : View) × (a : Hand) × (get_elem? views j ≡ some v) × In a v.hands × (a.number ≡ c)
 
 -- the rule
 pub record Rule (l : Limits) (s : State (Unit {0}) View) : Type 0 where
@@ -136,3 +150,5 @@ pub record Rule (l : Limits) (s : State (Unit {0}) View) : Type 0 where
   pub world : World l history s.words
   -- each seat has seen a beginning of the history, and its passes are as it knows them
   pub seats : (j : ℕ) (v : View) → get_elem? s.views j ≡ some v → SeatHolds l history s.words owner j v
+  -- every pass is one of some seat's
+  pub complete : (c : ℕ) → c < l.parts → IsSeated s.views c

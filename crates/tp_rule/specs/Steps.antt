@@ -9,24 +9,32 @@ use Rattle.tp_model.specs.declared.event.Event.{Event}
 use Rattle.tp_model.specs.declared.event.Event.TheVariants.{Enqueue, Claim, Commit, Abort, Kill}
 use Rattle.tp_model.specs.declared.trace.StepKind.{StepKind}
 use Rattle.tp_model.specs.declared.trace.StepKind.TheVariants as kinds
-use Rattle.tp_model.specs.History.{Aborted, In, IsBorn, IsUnborn, UnitClaim, UnitEnd, claim_of, element_of, end_of, events_by}
+use Rattle.tp_model.specs.History.{Aborted, In, UnitClaim, UnitEnd, claim_of, element_of, end_of, events_by}
+use Rattle.tp_model.specs.Passes.{IsOwnOpen}
 use Rattle.tp_model.specs.Words.{ClaimWord, claim_word, word_status}
-use Rattle.tp_model.specs.Steps.{rows_of, units_of, IsStage, IsServerStage, IsKillable, IsLegal}
+use Rattle.tp_model.specs.Steps.{IsStage, IsServerStage, IsKillable, IsLegal}
 use Rattle.tp_words.specs.declared.words.Head.{Head}
-use Rattle.tp_words.specs.Words.{IsFitHead, IsFitClaim, IsFitUnit, head_of, pack_claim, pack_head, pack_unit}
-use Rattle.tp_words.specs.Places.{head_place, key_place, amount_place, claim_place, unit_place}
-use Rattle.tp_rule.specs.Rule.{IsDraft}
+use Rattle.tp_words.specs.declared.words.Head.TheVariants.{Empty}
+use Rattle.tp_words.specs.Words.{IsFitClaim, head_of}
+use Rattle.tp_words.specs.Places.{IsThere, Word, place_of}
+use Rattle.tp_rule.specs.Rule.{Told}
 use Rattle.tp_rule.specs.Views.{IsOnePass, hand, next_row}
 use Rattle.tp_rule.specs.declared.view.Hand.{Hand}
+use Rattle.tp_rule.specs.declared.view.Known.{Known}
+use Rattle.tp_rule.specs.declared.view.Known.TheVariants.{RowHead}
 use Rattle.tp_rule.specs.declared.view.View.{View}
 
 -- the pass with one more entry in its trace
 abbrev pub noted : StepKind → List Event → Hand → Hand
 noted kind seen a = record a { trace = a.trace ++ record { kind = kind; seen = seen } ∷ [] }
 
--- the view after a step that makes f of each pass of the seat, and after which the seat has seen `seen`
-abbrev pub after : StepKind → (Hand → Hand) → List Event → View → View
-after kind f seen v = record { limits = v.limits; seen = seen; also_seen = []; hands = map (λ a. noted kind seen (f a)) v.hands }
+-- the view after a step that makes f of each pass of the seat, and after which the seat has seen `seen` and knows `known`
+abbrev pub after : StepKind → (Hand → Hand) → List Event → List Known → View → View
+after kind f seen known v = record { limits = v.limits; seen = seen; also_seen = []; known = known; hands = map (λ a. noted kind seen (f a)) v.hands }
+
+-- what a seat knows of words that stay
+abbrev pub Knows : View → Known → Type 0
+Knows v x = In x v.known
 
 -- a step that looks at the table: the seat has then seen the history so far, which ends with the step's own events
 pub record Grew (kind : StepKind) (f : Hand → Hand) (events : List Event) (v w : View) : Type 0 where
@@ -38,28 +46,24 @@ pub record Grew (kind : StepKind) (f : Hand → Hand) (events : List Event) (v w
   pub also_seen : IsPrefix v.also_seen w.seen
   -- it is legal
   pub legal : IsLegal v.limits w.seen
-  -- the step has one entry in the trace of each pass of the seat, and changes nothing else but by f
-  pub view : w ≡ after kind f w.seen v
+  -- the step has one entry in the trace of each pass of the seat, and changes nothing else but by f, and what is known
+  pub view : w ≡ after kind f w.seen w.known v
   -- a pass's own events are all with its number
   pub mine : (a : Hand) → In a w.hands → a.mine ≡ events_by a.number w.seen
+  -- its open unit is its own
+  pub open_own : (a : Hand) → In a w.hands → (u : ℕ) → a.open_unit ≡ Some u → IsOwnOpen w.seen a.number u
+  -- what was known is known
+  pub knows : (x : Known) → Knows v x → Knows w x
+  -- a head that was found before, and wasn't empty, is that of the element that is born in the row by now
+  pub heads : (i : ℕ) (head : Head) (x : Element) → Knows v (RowHead i head) → head ≢ Empty → element_of w.seen i ≡ Some x → head ≡ head_of x
 
 -- a step that changes nothing in the pass but its trace
 abbrev pub unchanged : Hand → Hand
 unchanged a = a
 
 -- what the number r tells, which was found at the place `word` after h
-pub record Found (l : Limits) (h : List Event) (word r : ℕ) : Type 0 where
-  -- at a head: a head, which is empty or names a unit where no element is born
-  pub head : (i : ℕ) → i < rows_of l → word ≡ head_place i → (x : Head) × (r ≡ pack_head x) × IsFitHead x × (IsUnborn h i → IsDraft x)
-  -- and that of the element where one is
-  pub head_born : (e : Element) → IsBorn h e → word ≡ head_place e.id → (r ≡ pack_head (head_of e)) × IsFitHead (head_of e)
-  -- the key and the amount of a born element
-  pub key : (e : Element) → IsBorn h e → word ≡ key_place e.id → r ≡ e.key
-  pub amount : (e : Element) → IsBorn h e → word ≡ amount_place e.id → r ≡ e.amount
-  -- at a claim: what the history says of the element's claims and kill
-  pub claim : (i : ℕ) → i < rows_of l → word ≡ claim_place i → (r ≡ pack_claim (claim_word h i)) × IsFitClaim (claim_word h i)
-  -- at a unit's word: how it ended
-  pub unit : (u : ℕ) → u < units_of l → word ≡ unit_place l u → (r ≡ pack_unit (end_of h u)) × IsFitUnit (end_of h u)
+abbrev pub Found : Limits → List Event → ℕ → ℕ → Type 0
+Found l h word r = (w : Word) → IsThere l w → word ≡ place_of l w → Told h w r
 
 -- a load, which found r at the place `word`
 abbrev pub Loads : View → ℕ → ℕ → View → Type 0
@@ -69,7 +73,7 @@ Loads v word r w = Grew kinds.Load unchanged [] v w × Found v.limits w.seen wor
 
 -- the view after a draft store
 abbrev pub drafted : (Hand → Hand) → View → View
-drafted f v = after kinds.DraftStore f v.seen v
+drafted f v = after kinds.DraftStore f v.seen v.known v
 
 -- the key of the next row is stored
 abbrev pub with_key : ℕ → Hand → Hand
@@ -159,10 +163,6 @@ pub record IsOwnWork (v : View) (u : ℕ) : Type 0 where
 abbrev pub IsClaimed : List Event → ℕ → Type 0
 IsClaimed h u = (t : UnitClaim) × (claim_of h u ≡ Some t)
 
--- unit u was committed or aborted
-abbrev pub HasEnded : List Event → ℕ → Type 0
-HasEnded h u = (x : UnitEnd) × (end_of h u ≡ Some x)
-
 -- an exchange that failed and changed nothing; the number r was found
 abbrev pub Misses : StepKind → View → ℕ → ℕ → View → Type 0
 Misses kind v word r w = Grew kind unchanged [] v w × Found v.limits w.seen word r
@@ -182,9 +182,9 @@ with_claim u e a = record a { mine = a.mine ++ e ∷ []; claimed = a.claimed + 1
 abbrev pub MakesClaim : View → ℕ → ℕ → ℕ → View → Type 0
 MakesClaim v u i n w = Grew kinds.ClaimExchange (with_claim u (claimed v u i n)) (claimed v u i n ∷ []) v w
 
--- a claim or kill exchange that failed: the claim word is not the one that was found before
-abbrev pub FindsOther : StepKind → View → ℕ → ClaimWord → View → Type 0
-FindsOther kind v i found w = Grew kind unchanged [] v w × (claim_word w.seen i ≢ found)
+-- a claim or kill exchange that failed: the claim word is not the one that was found before, but this one
+abbrev pub FindsOther : StepKind → View → ℕ → ClaimWord → ClaimWord → View → Type 0
+FindsOther kind v i found now w = Grew kind unchanged [] v w × (now ≢ found) × (now ≡ claim_word w.seen i) × IsFitClaim now
 
 -- the event of a commit exchange: the drafts are born
 abbrev pub committed : View → ℕ → Event
@@ -203,14 +203,17 @@ MakesCommit v u w = Grew kinds.CommitExchange (with_end (committed v u)) (commit
 
 -- an exchange on the open unit that failed: another pass had aborted it
 abbrev pub Loses : StepKind → View → ℕ → View → Type 0
-Loses kind v u w = Grew kind with_lost [] v w × (end_of w.seen u ≡ Some Aborted) × ¬ (In (Abort (hand v).number u) w.seen)
+Loses kind v u w = Grew kind with_lost [] v w × (end_of w.seen u ≡ Some Aborted) × ¬ In (Abort (hand v).number u) w.seen
 
 abbrev pub MakesAbort : View → ℕ → View → Type 0
 MakesAbort v u w = Grew kinds.AbortExchange (with_end (Abort (hand v).number u)) (Abort (hand v).number u ∷ []) v w
 
--- an abort exchange on another's unit that failed: the unit had ended
-abbrev pub FindsEnded : View → ℕ → View → Type 0
-FindsEnded v u w = Grew kinds.AbortExchange unchanged [] v w × HasEnded w.seen u
+-- an abort exchange that failed: the unit had ended, in this way; where it is the pass's own, another had aborted it
+pub record FindsEnded (v : View) (u : ℕ) (found : Option UnitEnd) (w : View) : Type 0 where
+  pub ended : found ≢ None
+  pub found_is : found ≡ end_of w.seen u
+  pub own : (hand v).open_unit ≡ Some u → Loses kinds.AbortExchange v u w
+  pub other : (hand v).open_unit ≡ None → Grew kinds.AbortExchange unchanged [] v w
 
 abbrev pub MakesKill : View → ℕ → View → Type 0
 MakesKill v i w = Grew kinds.KillExchange (with_event (Kill (hand v).number i)) (Kill (hand v).number i ∷ []) v w
@@ -227,11 +230,11 @@ front_of (a ∷ hands) = a ∷ []
 
 -- the view of a seat that stands for these passes
 abbrev pub with_hands : List Hand → View → View
-with_hands hands v = record { limits = v.limits; seen = v.seen; also_seen = v.also_seen; hands = hands }
+with_hands hands v = record { limits = v.limits; seen = v.seen; also_seen = v.also_seen; known = v.known; hands = hands }
 
 -- these passes with one more load in their traces
 abbrev pub looked : View → List Hand → List Hand
-looked v hands = map (noted kinds.Load v.seen) hands
+looked v hands = map (noted kinds.SeatLoad v.seen) hands
 
 -- the new seat after the first pass is handed out; the load is the first entry of its trace
 abbrev pub handed_out : View → View
@@ -251,11 +254,7 @@ parted v = with_hands (rest_of v.hands) v
 
 -- the seat v after the seat w was joined to it; v's passes made the load
 abbrev pub joined : View → View → View
-joined v w = record { limits = v.limits; seen = v.seen; also_seen = w.seen; hands = looked v v.hands ++ w.hands }
-
--- the view of a seat that was joined to another: it stands for no pass
-abbrev pub spent : View
-spent = record { limits = record { parts = 0; rows = 0; units = 0; attempts = 0 }; seen = []; also_seen = []; hands = [] }
+joined v w = record { limits = v.limits; seen = v.seen; also_seen = w.seen; known = v.known; hands = looked v v.hands ++ w.hands }
 
 -- two seats that met, where each was v and w before: both have seen the same legal history, which begins with what either had seen
 pub record Meets (v w v' w' : View) : Type 0 where
@@ -265,7 +264,7 @@ pub record Meets (v w v' w' : View) : Type 0 where
   pub second_saw : IsPrefix w.seen v'.seen
   -- the first made the three loads, and the second was there at the one between; nothing else changed
   pub first_one : IsOnePass v'
-  pub first_is : hand v' ≡ noted kinds.Load v'.seen (noted kinds.Load v'.seen (noted kinds.Load v.seen (hand v)))
+  pub first_is : hand v' ≡ noted kinds.SeatLoad v'.seen (noted kinds.Load v'.seen (noted kinds.SeatLoad v.seen (hand v)))
   pub second_one : IsOnePass w'
   pub second_is : hand w' ≡ noted kinds.Load v'.seen (hand w)
   pub limits : (v'.limits ≡ v.limits) × (w'.limits ≡ v.limits)

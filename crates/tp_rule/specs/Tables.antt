@@ -2,7 +2,8 @@
 use Rattle.std.specs.Prelude.{◌≡◌}
 use Rattle.atomic_table.specs.Seated.{TableId}
 use Rattle.tp_model.specs.declared.types.Limits.{Limits}
-use Rattle.tp_rule.specs.Views.{Seated, IsOnePass, view_of}
+use Rattle.tp_rule.specs.Views.{SeatShown, IsOnePass, view_of}
+use Rattle.tp_rule.specs.Doors.{id_of}
 use Rattle.tp_rule.specs.declared.words.Words.{Words}
 
 -- what the words have room for
@@ -11,12 +12,12 @@ limits_of words = words.places.limits
 
 -- which table the words stand in
 abbrev pub table_of : Words → TableId
-table_of words = words.table.shared.table_id
+table_of words = id_of words.table
 
 -- the seat is one of this table's
-abbrev pub IsSeatOf : Words → Seated → Type 0
-IsSeatOf words seat = seat.table_id ≡ table_of words
+abbrev pub IsSeatOf : Words → SeatShown → Type 0
+IsSeatOf words seat = seat.table ≡ table_of words
 
 -- the seat stands for one pass, and knows the limits of the words
-abbrev pub IsPassOf : Words → Seated → Type 0
+abbrev pub IsPassOf : Words → SeatShown → Type 0
 IsPassOf words seat = IsOnePass (view_of seat) × ((view_of seat).limits ≡ limits_of words)

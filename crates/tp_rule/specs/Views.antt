@@ -1,6 +1,6 @@
 -- What a seat is, and what its view says.
 use Rattle.std.specs.Prelude.{◌≡◌, ℕ, zero, suc, ◌+◌, ◌*◌, ◌<◌, List, [], ◌∷◌, None}
-use Rattle.atomic_table.specs.declared.shared.Seat.{Seat}
+use Rattle.atomic_table.specs.Seated.{TableId}
 use Rattle.tp_model.specs.History.{In}
 use Rattle.tp_model.specs.Steps.{rows_of, units_of}
 use Rattle.tp_model.specs.declared.event.Event.{Event}
@@ -8,17 +8,18 @@ use Rattle.tp_model.specs.declared.types.Limits.{Limits}
 use Rattle.tp_rule.specs.declared.view.Hand.{Hand}
 use Rattle.tp_rule.specs.declared.view.View.{View}
 
--- a seat at a table that has words and no slots
-abbrev pub Seated : Type 0
-Seated = Seat (Unit {0}) View
+-- a seat shows at which table it is, and what it knows
+pub record SeatShown : Type 0 where
+  pub table : TableId
+  pub view : View
 
 -- what the seat knows
-abbrev pub view_of : Seated → View
-view_of seat = seat.me.0
+abbrev pub view_of : SeatShown → View
+view_of seat = seat.view
 
--- it is the same seat, at the same table, and holds the slots that it held: none, since the table has none
-abbrev pub IsSameSeat : Seated → Seated → Type 0
-IsSameSeat old new = (new.table_id ≡ old.table_id) × (new.id ≡ old.id) × (new.me.1 ≡ old.me.1)
+-- it is at the same table
+abbrev pub IsSameSeat : SeatShown → SeatShown → Type 0
+IsSameSeat old new = new.table ≡ old.table
 
 -- the pass c, which has done nothing
 abbrev pub fresh : ℕ → Hand
@@ -31,7 +32,19 @@ fresh_from c (suc n) = fresh c ∷ fresh_from (c + 1) n
 
 -- the keeper's view at the start: it stands for all passes
 abbrev pub first_view : Limits → View
-first_view l = record { limits = l; seen = []; also_seen = []; hands = fresh_from 0 l.parts }
+first_view l = record { limits = l; seen = []; also_seen = []; known = []; hands = fresh_from 0 l.parts }
+
+-- the view of an empty seat: it stands for no pass
+abbrev pub spent : View
+spent = record { limits = record { parts = 0; rows = 0; units = 0; attempts = 0 }; seen = []; also_seen = []; known = []; hands = [] }
+
+-- the name of no table
+abbrev pub no_table : TableId
+no_table = record { words = 0; slots = 0; views_name = 0; atom = 0; block = 0; offset = 0; slot_names = [] }
+
+-- an empty seat shows that it is at no table, and stands for no pass
+abbrev pub no_seat : SeatShown
+no_seat = record { table = no_table; view = spent }
 
 abbrev pub first_hand : List Hand → Hand
 first_hand [] = fresh 0
@@ -42,11 +55,11 @@ abbrev pub hand : View → Hand
 hand v = first_hand v.hands
 
 -- what a seat that stands for one pass knows as that pass
-abbrev pub hand_of : Seated → Hand
+abbrev pub hand_of : SeatShown → Hand
 hand_of seat = hand (view_of seat)
 
 -- the history as the seat saw it last
-abbrev pub seen_by : Seated → List Event
+abbrev pub seen_by : SeatShown → List Event
 seen_by seat = (view_of seat).seen
 
 -- the seat stands for one pass

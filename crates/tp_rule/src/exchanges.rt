@@ -1,15 +1,16 @@
 //! The choice of a unit, and the exchanges. An exchange compares a whole word with what was found there before, and
-//! changes it only if it is still the same; so it acts on the state that its caller read.
-ghost use Rattle.std.specs.Prelude.{◌≡◌, ◌<◌, ◌≤◌, ◌⊎◌, length, true, false, Some, None};
+//! changes it only if it is still the same; so it acts on the state that its caller read. One that fails changes no word,
+//! and tells the word that it found.
+ghost use Rattle.std.specs.Prelude.{◌≡◌, ◌<◌, ◌≤◌, ◌⊎◌, IfErr, IfOk, length, true, false, Some, None};
 ghost use Rattle.tp_model.specs.declared.trace.StepKind.TheVariants as kinds;
 ghost use Rattle.tp_model.specs.History.{first_id};
 ghost use Rattle.tp_model.specs.Steps.{rows_of, units_of};
-ghost use Rattle.tp_words.specs.Words.{claim_value, IsFitClaim};
+ghost use Rattle.tp_words.specs.Words.{claim_value, unit_value, IsFitClaim};
 ghost use Rattle.tp_rule.specs.Views.{hand_of, seen_by, view_of, IsNextUnit, IsSameSeat};
 ghost use Rattle.tp_rule.specs.Steps.{Chooses, MakesClaim, MakesCommit, MakesAbort, MakesKill, Loses, FindsOther, FindsEnded, AllowsClaim, AllowsKill, HasElement, HasWork, IsOwnWork, IsClaimed};
 
 use crate::plays::{AbortExchange, ClaimExchange, CommitExchange, KillExchange, UnitChoice};
-use crate::rule::Seat;
+use crate::seat::Seat;
 use crate::words::Words;
 use tp_words::bits::{UNIT_ABORTED, UNIT_UNDECIDED};
 use tp_words::{Claim, UnitWord};
@@ -27,13 +28,12 @@ impl Words {
         ensures chooses { Chooses (view_of seat.old) unit (view_of seat.new) }
     {
         let word = self.places.unit(unit);
-        self.table.shared.load::<UnitChoice>(seat, word);
+        self.table.load::<UnitChoice>(seat, word);
     }
 
     /// The spare unit takes the element of a row, for the `attempt`-th time that a unit does, if the element's claim
-    /// is still the one that was found: it was free, or its unit was aborted and the attempts are not used up. `true`
-    /// adds the claim to the history, and the unit is the pass's open one. `false` changes no word: the claim is
-    /// another by now.
+    /// is still the one that was found: it was free, or its unit was aborted and the attempts are not used up. `Ok`
+    /// adds the claim to the history, and the unit is the pass's open one. `Err` has the claim as it is by now.
     pub fn claim_exchange(
         &self,
         seat: &mut Seat,
@@ -41,7 +41,7 @@ impl Words {
         found: Claim,
         attempt: u8,
         unit: u16,
-    ) -> bool
+    ) -> Result<(), Claim>
         requires own { IsSeatOf self.now seat.old }
         requires one { IsPassOf self.now seat.old }
         requires row { (row < rows_of (limits_of self.now)) × HasWork (seen_by seat.old) row }
@@ -50,23 +50,28 @@ impl Words {
         requires fits { IsFitClaim (claim_value found) }
         requires found { AllowsClaim (limits_of self.now) (seen_by seat.old) (claim_value found) attempt }
         ensures same { IsSameSeat seat.old seat.new }
-        ensures hit { result ≡ true → MakesClaim (view_of seat.old) unit row attempt (view_of seat.new) }
-        ensures miss { result ≡ false
-            → FindsOther kinds.ClaimExchange (view_of seat.old) row (claim_value found) (view_of seat.new) }
+        ensures hit { IfOk result (λ done. MakesClaim (view_of seat.old) unit row attempt (view_of seat.new)) }
+        ensures miss { IfErr result (λ now. FindsOther kinds.ClaimExchange (view_of seat.old) row (claim_value found)
+            (claim_value now) (view_of seat.new)) }
     {
         let word = self.places.claim(row);
         let free = found.pack();
         let taken = Claim::Taken { attempt, unit }.pack();
         let was = self
             .table
-            .shared
             .compare_exchange::<ClaimExchange>(seat, word, free, taken);
-        was == free
+        if was == free {
+            return Ok(());
+        }
+        match Claim::unpack(was) {
+            Some(now) => Err(now),
+            None => unreachable!(),
+        }
     }
 
     /// The open unit is committed with its drafts, if it is undecided. `true` adds the commit to the history: in this
-    /// one step the element that the unit took is consumed and all drafts are born. `false` changes no word: another
-    /// pass had aborted the unit, and its drafts are never born.
+    /// one step the element that the unit took is consumed and all drafts are born. `false`: another pass had aborted the
+    /// unit, and its drafts are never born.
     pub fn commit_exchange(&self, seat: &mut Seat, unit: u16, first: u16, count: u8) -> bool
         requires own { IsSeatOf self.now seat.old }
         requires one { IsPassOf self.now seat.old }
@@ -82,56 +87,63 @@ impl Words {
         let committed = UnitWord::Committed { first, count }.pack();
         let was = self
             .table
-            .shared
             .compare_exchange::<CommitExchange>(seat, word, UNIT_UNDECIDED, committed);
         was == UNIT_UNDECIDED
     }
 
     /// A unit that was seen claimed is aborted, if it is undecided: the pass's own open unit, or any unit where the
-    /// pass has none open. `true` adds the abort to the history: the element waits again, or is parked. `false`
-    /// changes no word: the unit had ended, and one's own can only have been aborted by another pass. Either way an
-    /// own unit is open no more.
-    pub fn abort_exchange(&self, seat: &mut Seat, unit: u16) -> bool
+    /// pass has none open. `Ok` adds the abort to the history: the element waits again, or is parked. `Err`
+    /// has the word of the unit, which had ended; one's own can only have been aborted by another pass. Either way an own
+    /// unit is open no more.
+    pub fn abort_exchange(&self, seat: &mut Seat, unit: u16) -> Result<(), UnitWord>
         requires own { IsSeatOf self.now seat.old }
         requires one { IsPassOf self.now seat.old }
         requires unit { IsClaimed (seen_by seat.old) unit × (unit < units_of (limits_of self.now)) }
         requires open_unit { ((hand_of seat.old).open_unit ≡ None) ⊎ ((hand_of seat.old).open_unit ≡ Some unit) }
         ensures same { IsSameSeat seat.old seat.new }
-        ensures hit { result ≡ true → MakesAbort (view_of seat.old) unit (view_of seat.new) }
-        ensures own_miss { result ≡ false → (hand_of seat.old).open_unit ≡ Some unit
-            → Loses kinds.AbortExchange (view_of seat.old) unit (view_of seat.new) }
-        ensures miss { result ≡ false → (hand_of seat.old).open_unit ≡ None
-            → FindsEnded (view_of seat.old) unit (view_of seat.new) }
+        ensures hit { IfOk result (λ done. MakesAbort (view_of seat.old) unit (view_of seat.new)) }
+        ensures miss { IfErr result (λ found. FindsEnded (view_of seat.old) unit (unit_value found)
+            (view_of seat.new)) }
     {
         let word = self.places.unit(unit);
         let was = self
             .table
-            .shared
             .compare_exchange::<AbortExchange>(seat, word, UNIT_UNDECIDED, UNIT_ABORTED);
-        was == UNIT_UNDECIDED
+        if was == UNIT_UNDECIDED {
+            return Ok(());
+        }
+        match UnitWord::unpack(was) {
+            Some(found) => Err(found),
+            None => unreachable!(),
+        }
     }
 
     /// The element of a row is killed, if its claim is still the one that was found: it was free, or its unit was
-    /// aborted. `true` adds the kill to the history, and no unit takes the element any more. `false` changes no word:
-    /// the claim is another by now.
-    pub fn kill_exchange(&self, seat: &mut Seat, row: u32, found: Claim) -> bool
+    /// aborted. `Ok` adds the kill to the history, and no unit takes the element any more. `Err` has the claim as it
+    /// is by now.
+    pub fn kill_exchange(&self, seat: &mut Seat, row: u32, found: Claim) -> Result<(), Claim>
         requires own { IsSeatOf self.now seat.old }
         requires one { IsPassOf self.now seat.old }
         requires row { (row < rows_of (limits_of self.now)) × HasElement (seen_by seat.old) row }
         requires fits { IsFitClaim (claim_value found) }
         requires found { AllowsKill (limits_of self.now) (seen_by seat.old) (claim_value found) }
         ensures same { IsSameSeat seat.old seat.new }
-        ensures hit { result ≡ true → MakesKill (view_of seat.old) row (view_of seat.new) }
-        ensures miss { result ≡ false
-            → FindsOther kinds.KillExchange (view_of seat.old) row (claim_value found) (view_of seat.new) }
+        ensures hit { IfOk result (λ done. MakesKill (view_of seat.old) row (view_of seat.new)) }
+        ensures miss { IfErr result (λ now. FindsOther kinds.KillExchange (view_of seat.old) row (claim_value found)
+            (claim_value now) (view_of seat.new)) }
     {
         let word = self.places.claim(row);
         let alive = found.pack();
         let killed = found.killed().pack();
         let was = self
             .table
-            .shared
             .compare_exchange::<KillExchange>(seat, word, alive, killed);
-        was == alive
+        if was == alive {
+            return Ok(());
+        }
+        match Claim::unpack(was) {
+            Some(now) => Err(now),
+            None => unreachable!(),
+        }
     }
 }

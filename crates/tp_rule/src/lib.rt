@@ -10,12 +10,13 @@ mod exchanges;
 mod loads;
 mod plays;
 mod rule;
+mod seat;
 mod stores;
 #[cfg(test)]
 mod tests;
 mod view;
 mod words;
 
-pub use rule::Seat;
-pub use view::{Hand, View};
+pub use seat::Seat;
+pub use view::{Hand, Known, View};
 pub use words::Words;

@@ -9,10 +9,11 @@ ghost use Rattle.tp_words.specs.Words.{claim_value, unit_value, head_of, IsFitCl
 ghost use Rattle.tp_words.specs.Places.{size_of};
 ghost use Rattle.tp_rule.specs.Rule.{IsDraft};
 ghost use Rattle.tp_rule.specs.Views.{seen_by, view_of, HasPass, IsSameSeat};
-ghost use Rattle.tp_rule.specs.Steps.{Loads, Grew, unchanged};
+ghost use Rattle.tp_rule.specs.Steps.{Loads, Grew, Knows, unchanged};
+ghost use Rattle.tp_rule.specs.declared.view.Known.TheVariants.{RowHead};
 
-use crate::plays::Load;
-use crate::rule::Seat;
+use crate::plays::{Load, LoadHead};
+use crate::seat::Seat;
 use crate::words::Words;
 use tp_words::{Claim, Head, UnitWord};
 
@@ -27,11 +28,12 @@ impl Words {
         ensures same { IsSameSeat seat.old seat.new }
         ensures looks { Loads (view_of seat.old) word result (view_of seat.new) }
     {
-        self.table.shared.load::<Load>(seat, word)
+        self.table.load::<Load>(seat, word)
     }
 
     /// Reads the head of a row. Where an element is born in what is then seen, it is that element's head. Where none
-    /// is, it is empty or names a unit: a draft is no element before its unit commits.
+    /// is, it is empty or names a unit: a draft is no element before its unit commits. The seat remembers what it found:
+    /// a head that isn't empty stays.
     pub fn load_head(&self, seat: &mut Seat, row: u32) -> Head
         requires own { IsSeatOf self.now seat.old }
         requires one { IsPassOf self.now seat.old }
@@ -40,9 +42,10 @@ impl Words {
         ensures grew { Grew kinds.Load unchanged [] (view_of seat.old) (view_of seat.new) }
         ensures born { (e : Element) → element_of (seen_by seat.new) row ≡ Some e → result ≡ head_of e }
         ensures draft { IsUnborn (seen_by seat.new) row → IsDraft result }
+        ensures knows { Knows (view_of seat.new) (RowHead row result) }
     {
         let word = self.places.head(row);
-        let found = self.load(seat, word);
+        let found = self.table.load::<LoadHead>(seat, word);
         match Head::unpack(found) {
             Some(head) => head,
             None => unreachable!(),

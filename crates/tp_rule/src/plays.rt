@@ -1,68 +1,83 @@
-//! What each kind of step tells the functions of this crate, in the numbers of the table.
-ghost use Rattle.tp_rule.specs.Plays.{loads, stores_key, stores_amount, stores_head, publishes, chooses, exchanges_claim, exchanges_commit, exchanges_abort, exchanges_kill};
-ghost use Rattle.tp_rule.specs.Steps.{handed_on, handed_out, kept, parted, joined, spent};
+//! What each kind of step tells the functions of this crate, in the numbers of the table, and how seats are cut and joined.
+ghost use Rattle.tp_rule.specs.Plays.{Telling, loads, loads_head, stores_key, stores_amount, stores_head, publishes, chooses, exchanges_claim, exchanges_commit, exchanges_abort, exchanges_kill};
+ghost use Rattle.tp_rule.specs.Views.{spent};
+ghost use Rattle.tp_rule.specs.Steps.{handed_on, handed_out, kept, parted, joined};
 
 use crate::view::View;
-use atomic_table::{Join, Play, Split};
+use atomic_table::{Join, Split};
+
+/// What a step makes of the seat's view, and what it tells.
+pub(crate) trait Effect {
+    // Of the place, the one or two numbers that the step takes, the view before, the number found (at a store, the number
+    // stored) and the view after.
+    ghost told: { Telling };
+}
 
 pub(crate) struct Load;
 
-impl Play<(), View> for Load {
-    ghost then = { loads };
+impl Effect for Load {
+    ghost told = { loads };
+}
+
+/// The load of a head, which the seat remembers.
+pub(crate) struct LoadHead;
+
+impl Effect for LoadHead {
+    ghost told = { loads_head };
 }
 
 pub(crate) struct DraftKey;
 
-impl Play<(), View> for DraftKey {
-    ghost then = { stores_key };
+impl Effect for DraftKey {
+    ghost told = { stores_key };
 }
 
 pub(crate) struct DraftAmount;
 
-impl Play<(), View> for DraftAmount {
-    ghost then = { stores_amount };
+impl Effect for DraftAmount {
+    ghost told = { stores_amount };
 }
 
 pub(crate) struct DraftHead;
 
-impl Play<(), View> for DraftHead {
-    ghost then = { stores_head };
+impl Effect for DraftHead {
+    ghost told = { stores_head };
 }
 
 pub(crate) struct Publish;
 
-impl Play<(), View> for Publish {
-    ghost then = { publishes };
+impl Effect for Publish {
+    ghost told = { publishes };
 }
 
 pub(crate) struct UnitChoice;
 
-impl Play<(), View> for UnitChoice {
-    ghost then = { chooses };
+impl Effect for UnitChoice {
+    ghost told = { chooses };
 }
 
 pub(crate) struct ClaimExchange;
 
-impl Play<(), View> for ClaimExchange {
-    ghost then = { exchanges_claim };
+impl Effect for ClaimExchange {
+    ghost told = { exchanges_claim };
 }
 
 pub(crate) struct CommitExchange;
 
-impl Play<(), View> for CommitExchange {
-    ghost then = { exchanges_commit };
+impl Effect for CommitExchange {
+    ghost told = { exchanges_commit };
 }
 
 pub(crate) struct AbortExchange;
 
-impl Play<(), View> for AbortExchange {
-    ghost then = { exchanges_abort };
+impl Effect for AbortExchange {
+    ghost told = { exchanges_abort };
 }
 
 pub(crate) struct KillExchange;
 
-impl Play<(), View> for KillExchange {
-    ghost then = { exchanges_kill };
+impl Effect for KillExchange {
+    ghost told = { exchanges_kill };
 }
 
 /// The first pass goes to a new seat.

@@ -1,4 +1,4 @@
-//! The rule of the table, and the seats at it.
+//! The rule of the table.
 ghost use Rattle.tp_rule.specs.Rule.{Rule};
 ghost use Rattle.tp_rule.specs.Views.{first_view};
 
@@ -14,6 +14,3 @@ impl TableRule<(), View, Limits> for OneHistory {
 
     ghost first = { first_view };
 }
-
-/// What a thread acts with: it stands for one or more passes, and knows what its view says. It has no bytes.
-pub type Seat = atomic_table::Seat<(), View>;

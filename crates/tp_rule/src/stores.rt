@@ -5,7 +5,7 @@ ghost use Rattle.tp_rule.specs.Views.{hand_of, view_of, IsNextRow, IsOnePass, Is
 ghost use Rattle.tp_rule.specs.Steps.{drafted, with_key, with_amount, Drafts, Publishes, IsReady};
 
 use crate::plays::{DraftAmount, DraftHead, DraftKey, Publish};
-use crate::rule::Seat;
+use crate::seat::Seat;
 use crate::words::Words;
 use tp_words::Head;
 
@@ -22,7 +22,7 @@ impl Words {
         ensures view { view_of seat.new ≡ drafted (with_key key) (view_of seat.old) }
     {
         let word = self.places.key(row);
-        self.table.shared.store::<DraftKey>(seat, word, key);
+        self.table.store::<DraftKey>(seat, word, key);
     }
 
     /// Stores the amount of the row that the pass draws next, likewise.
@@ -34,7 +34,7 @@ impl Words {
         ensures view { view_of seat.new ≡ drafted (with_amount amount) (view_of seat.old) }
     {
         let word = self.places.amount(row);
-        self.table.shared.store::<DraftAmount>(seat, word, amount);
+        self.table.store::<DraftAmount>(seat, word, amount);
     }
 
     /// Stores the head of the row that the pass draws next, whose key and amount are stored. It names the pass's open
@@ -56,7 +56,7 @@ impl Words {
             by: Some(unit),
         }
         .pack();
-        self.table.shared.store::<DraftHead>(seat, word, head);
+        self.table.store::<DraftHead>(seat, word, head);
     }
 
     /// Stores the head of the row that the pass draws next, whose key and amount are stored. It names no unit, so the
@@ -78,6 +78,6 @@ impl Words {
             by: None,
         }
         .pack();
-        self.table.shared.store::<Publish>(seat, word, head);
+        self.table.store::<Publish>(seat, word, head);
     }
 }

@@ -40,7 +40,6 @@ fn pass(words: &Words, keeper: &mut Seat, number: u16) -> Seat
     ensures limits { (view_of keeper.new).limits ≡ limits_of words.now }
     ensures left { (view_of keeper.new).hands ≡ fresh_from (number + 1) (3 - (number + 1)) }
     ensures own { IsSeatOf words.now result }
-    ensures bare { result.me.1 ≡ [] }
     ensures one { IsPassOf words.now result }
     ensures number { (hand_of result).number ≡ number }
     ensures rows { ((hand_of result).drawn ≡ 0) × ((hand_of result).drafts ≡ []) }
@@ -105,7 +104,10 @@ fn claim(words: &Words, seat: &mut Seat, row: u32, unit: u16) -> bool
     if !shows_request(words, seat, row) {
         return false;
     }
-    words.claim_exchange(seat, row, Claim::Free, 1, unit)
+    match words.claim_exchange(seat, row, Claim::Free, 1, unit) {
+        Ok(()) => true,
+        Err(_) => false,
+    }
 }
 
 /// Drafts a reply for the open unit, in the next row of the pass.
@@ -226,7 +228,10 @@ fn claim_again(words: &Words, seat: &mut Seat, row: u32, aborted: u16, unit: u16
         attempt: 1,
         unit: aborted,
     };
-    words.claim_exchange(seat, row, found, 2, unit)
+    match words.claim_exchange(seat, row, found, 2, unit) {
+        Ok(()) => true,
+        Err(_) => false,
+    }
 }
 
 /// Aborts the unit that holds the element of the row, for the first time that one does.
@@ -244,14 +249,15 @@ fn abort_holder(words: &Words, seat: &mut Seat, row: u32, unit: u16) -> bool
     if words.load_claim(seat, row) != held {
         return false;
     }
-    if !words.abort_exchange(seat, unit) {
-        return false;
+    match words.abort_exchange(seat, unit) {
+        Ok(()) => shows_aborted(words, seat, row, unit),
+        Err(_) => false,
     }
-    shows_aborted(words, seat, row, unit)
 }
 
-/// Tries to kill the element of the row, as if the claim were still that of its first unit.
-fn kill_as_first_found(words: &Words, seat: &mut Seat, row: u32, unit: u16) -> bool
+/// Tries to kill the element of the row, as if the claim were still that of its first unit. `Some` has the claim that it
+/// found instead.
+fn kill_as_first_found(words: &Words, seat: &mut Seat, row: u32, unit: u16) -> Option<Claim>
     requires own { IsSeatOf words.now seat.old }
     requires one { IsPassOf words.now seat.old }
     requires limits { (limits_of words.now).attempts ≡ 2 }
@@ -260,10 +266,13 @@ fn kill_as_first_found(words: &Words, seat: &mut Seat, row: u32, unit: u16) -> b
     requires aborted { end_of (seen_by seat.old) unit ≡ Some Aborted }
     ensures same { IsSameSeat seat.old seat.new }
     ensures one { IsPassOf words.now seat.new }
-    ensures no_event { result ≡ false → (hand_of seat.new).mine ≡ (hand_of seat.old).mine }
+    ensures no_event { IfSome result (λ now. (hand_of seat.new).mine ≡ (hand_of seat.old).mine) }
 {
     let found = Claim::Taken { attempt: 1, unit };
-    words.kill_exchange(seat, row, found)
+    match words.kill_exchange(seat, row, found) {
+        Ok(()) => None,
+        Err(now) => Some(now),
+    }
 }
 
 /// A pass aborts the unit that holds an element, another claims the element again, and then the first pass's kill
@@ -281,14 +290,12 @@ fn stale_kill_exchange(rt: HostRuntime) {
     assert!(rt; claim(&words, &mut first, 0, 2));
     assert!(rt; abort_holder(&words, &mut killer, 0, 2));
     assert!(rt; claim_again(&words, &mut second, 0, 2, 4));
-    assert!(rt; !kill_as_first_found(&words, &mut killer, 0, 2));
-    assert!(rt;
-        words.load_claim(&mut killer, 0)
-            == Claim::Taken {
-                attempt: 2,
-                unit: 4
-            }
-    );
+    let second_claim = Claim::Taken {
+        attempt: 2,
+        unit: 4,
+    };
+    assert!(rt; kill_as_first_found(&words, &mut killer, 0, 2) == Some(second_claim));
+    assert!(rt; words.load_claim(&mut killer, 0) == second_claim);
 }
 
 /// After two passes met, each can act on what the other has seen.
@@ -299,9 +306,9 @@ fn two_passes_meet(rt: HostRuntime) {
         return;
     };
     let mut client = pass(&words, &mut keeper, 0);
-    let server = pass(&words, &mut keeper, 1);
+    let mut server = pass(&words, &mut keeper, 1);
     submit(&words, &mut client, 0, 9);
-    let mut server = words.meet(&mut client, server);
+    words.meet(&mut client, &mut server);
     assert!(rt; claim(&words, &mut server, 0, 2));
     assert!(rt;
         words.load_claim(&mut client, 0)

@@ -4,6 +4,7 @@ use std::collections::LinkedList;
 use tp_model::event::Event;
 use tp_model::trace::TraceEntry;
 use tp_model::types::{Element, Limits};
+use tp_words::Head;
 
 /// What a seat knows as one of the passes that it stands for.
 ///
@@ -35,6 +36,13 @@ pub struct Hand {
     pub open_unit: Option<u16>,
 }
 
+/// What a seat has found in a word that stays, or changes in one direction alone. So it tells something of the word at
+/// any later time too.
+pub enum Known {
+    /// The head of a row: once it isn't empty, it stays as it is.
+    RowHead(u32, Head),
+}
+
 /// What a seat knows.
 pub struct View {
     /// The limits of the table.
@@ -43,6 +51,8 @@ pub struct View {
     pub seen: LinkedList<Event>,
     /// What a seat that was joined to this one had seen, until the next load.
     pub also_seen: LinkedList<Event>,
+    /// What the seat has found in words that stay.
+    pub known: LinkedList<Known>,
     /// The passes that the seat stands for. The keeper's seat stands for all that were not handed out.
     pub hands: LinkedList<Hand>,
 }

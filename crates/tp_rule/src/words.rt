@@ -1,32 +1,30 @@
 //! The shared words: their making, and how seats are cut in two and joined.
-ghost use Rattle.std.specs.Prelude.{◌≡◌, [], IfOk};
+ghost use Rattle.std.specs.Prelude.{◌≡◌, IfOk};
 ghost use Rattle.tp_words.specs.Places.{size_of};
-ghost use Rattle.tp_rule.specs.Views.{first_view, view_of, HasPass, IsSameSeat};
+ghost use Rattle.tp_rule.specs.Views.{first_view, no_seat, view_of, HasPass, IsSameSeat};
+ghost use Rattle.tp_rule.specs.Doors.{id_of, key_of};
 ghost use Rattle.tp_rule.specs.Steps.{handed_on, handed_out, kept, parted, joined, Meets};
 
 use crate::plays::{HandOut, Part, Together};
-use crate::rule::{OneHistory, Seat};
-use crate::view::View;
-use atomic_table::Table;
+use crate::seat::{Seat, SharedTable};
 use std::alloc::{AllocError, Global};
-use tp_model::types::Limits;
 use tp_words::Places;
 
 /// The words that all passes share. Every step is a method that takes `&self` and the seat that makes it, so the words
 /// can lie behind a shared reference while many threads step.
 ///
 /// Each method that makes a step changes the view of that one seat, and adds one entry to its trace. A view can be
-/// changed in no other way, since the table is private.
+/// changed in no other way, since the table lies behind its one door.
 #[derive(Drop)]
 pub struct Words {
-    pub(crate) table: Table<(), View, Limits, OneHistory, Global>,
+    pub(crate) table: SharedTable,
     pub(crate) places: Places,
-    ghost keyed: { table.shared.key ≡ places.limits },
-    ghost wide: { table.shared.table_id.words ≡ size_of places.limits },
+    ghost keyed: { key_of table ≡ places.limits },
+    ghost wide: { (id_of table).words ≡ size_of places.limits },
 }
 
 impl Words {
-    ghost use Rattle.tp_rule.specs.Tables.{limits_of, IsSeatOf, IsPassOf};
+    ghost use Rattle.tp_rule.specs.Tables.{limits_of, table_of, IsSeatOf, IsPassOf};
 
     /// The words of a table in which nothing has happened, all 0, and the keeper's seat, which stands for all passes.
     /// The one error is want of memory.
@@ -34,11 +32,10 @@ impl Words {
         ensures limits { IfOk result (λ made. limits_of made.0 ≡ places.limits) }
         ensures seat { IfOk result (λ made. IsSeatOf made.0 made.1) }
         ensures view { IfOk result (λ made. view_of made.1 ≡ first_view places.limits) }
-        ensures bare { IfOk result (λ made. made.1.me.1 ≡ []) }
     {
         let limits = places.limits;
         let words = vec![in alloc; 0u64; places.size()]?;
-        let (table, seat) = Table::of_words(alloc, words.as_slice(), &limits)?;
+        let (table, seat) = SharedTable::new(alloc, words.as_slice(), &limits)?;
         Ok((Words { table, places }, seat))
     }
 
@@ -50,9 +47,8 @@ impl Words {
         ensures at_table { IsSeatOf self.now result }
         ensures keeps { view_of keeper.new ≡ handed_on (view_of keeper.old) }
         ensures hands_out { view_of result ≡ handed_out (view_of keeper.old) }
-        ensures bare { result.me.1 ≡ [] }
     {
-        self.table.shared.split_seat::<HandOut>(keeper)
+        self.table.split::<HandOut>(keeper)
     }
 
     /// Cuts a seat that stands for several passes: the first stays, and the others are in the new seat. This costs a
@@ -63,36 +59,33 @@ impl Words {
         ensures at_table { IsSeatOf self.now result }
         ensures keeps { view_of seat.new ≡ kept (view_of seat.old) }
         ensures parts { view_of result ≡ parted (view_of seat.old) }
-        ensures bare { result.me.1 ≡ [] }
     {
-        self.table.shared.split_seat::<Part>(seat)
+        self.table.split::<Part>(seat)
     }
 
-    /// One seat takes in the passes of another, which is used up. This costs a load by the one that remains. What the
-    /// other had seen is remembered apart: which of the two saw more comes out at the next load alone.
-    pub fn join(&self, seat: &mut Seat, other: Seat)
-        requires own { IsSeatOf self.now seat.old × IsSeatOf self.now other }
-        requires bare { other.me.1 ≡ [] }
+    /// One seat takes in the passes of another, which is empty afterwards. This costs a load by the one that remains.
+    /// What the other had seen is remembered apart: which of the two saw more comes out at the next load alone.
+    pub fn join(&self, seat: &mut Seat, other: &mut Seat)
+        requires own { IsSeatOf self.now seat.old × IsSeatOf self.now other.old }
         requires pass { HasPass (view_of seat.old) }
         ensures same { IsSameSeat seat.old seat.new }
-        ensures joins { view_of seat.new ≡ joined (view_of seat.old) (view_of other) }
+        ensures joins { view_of seat.new ≡ joined (view_of seat.old) (view_of other.old) }
+        ensures leaves { other.new ≡ no_seat }
     {
-        self.table.shared.join_seat::<Together>(seat, other);
+        self.table.join::<Together>(seat, other);
     }
 
     /// Two passes meet, by a join, a load and a split: both have then seen one legal history, which begins with what
-    /// each had seen. The second comes back in a new seat.
-    pub fn meet(&self, seat: &mut Seat, other: Seat) -> Seat
-        requires own { IsSeatOf self.now seat.old × IsSeatOf self.now other }
-        requires bare { other.me.1 ≡ [] }
-        requires one { IsPassOf self.now seat.old × IsPassOf self.now other }
+    /// each had seen.
+    pub fn meet(&self, seat: &mut Seat, other: &mut Seat)
+        requires own { IsSeatOf self.now seat.old × IsSeatOf self.now other.old }
+        requires one { IsPassOf self.now seat.old × IsPassOf self.now other.old }
         ensures same { IsSameSeat seat.old seat.new }
-        ensures at_table { IsSeatOf self.now result }
-        ensures meets { Meets (view_of seat.old) (view_of other) (view_of seat.new) (view_of result) }
-        ensures still_bare { result.me.1 ≡ [] }
+        ensures other_same { IsSameSeat other.old other.new }
+        ensures meets { Meets (view_of seat.old) (view_of other.old) (view_of seat.new) (view_of other.new) }
     {
         self.join(seat, other);
         self.load(seat, 0);
-        self.part(seat)
+        *other = self.part(seat);
     }
 }

@@ -2,30 +2,31 @@
 use Rattle.std.specs.Prelude.{◌≡◌, ℕ, ◌+◌, ◌*◌, ◌<◌}
 use Rattle.tp_model.specs.declared.types.Limits.{Limits}
 use Rattle.tp_model.specs.Steps.{rows_of, units_of}
+use Rattle.tp_words.specs.declared.places.TheConstants.{ROW_WORDS}
 
--- the place of the head of row i
+-- the place of the head of row i, the first of the row's words
 abbrev pub head_place : ℕ → ℕ
-head_place i = 4 * i
+head_place i = ROW_WORDS * i
 
 -- the place of the key of row i
 abbrev pub key_place : ℕ → ℕ
-key_place i = 4 * i + 1
+key_place i = head_place i + 1
 
 -- the place of the amount of row i
 abbrev pub amount_place : ℕ → ℕ
-amount_place i = 4 * i + 2
+amount_place i = head_place i + 2
 
 -- the place of the claim of row i
 abbrev pub claim_place : ℕ → ℕ
-claim_place i = 4 * i + 3
+claim_place i = head_place i + 3
 
 -- the place of the word of unit u, behind those of all rows
 abbrev pub unit_place : Limits → ℕ → ℕ
-unit_place l u = 4 * rows_of l + u
+unit_place l u = head_place (rows_of l) + u
 
 -- how many words there are
 abbrev pub size_of : Limits → ℕ
-size_of l = 4 * rows_of l + units_of l
+size_of l = head_place (rows_of l) + units_of l
 
 -- a word of the table
 pub data Word : Type 0 where

@@ -1,9 +1,12 @@
-//! Where the words stand in the table: four for each row, then one for each unit.
+//! Where the words stand in the table: those of each row, then one for each unit.
 ghost use Rattle.std.specs.Prelude.{◌≡◌, ◌<◌, ◌↔◌, IsOk, IfOk, Err};
 ghost use Rattle.tp_model.specs.Steps.{AreLimits};
 ghost use Rattle.tp_words.specs.Places.{PlacesDiffer, PlacesInside};
 
 use tp_model::types::{Limits, Refusal};
+
+/// How many words a row has: its head, its key, its amount and its claim, in this order.
+pub const ROW_WORDS: usize = 4;
 
 /// The places of the words of a table. It has at most 65,536 words.
 #[derive(Clone, Copy, Debug, PartialEq, Eq)]
@@ -42,7 +45,7 @@ impl Places {
     pub fn size(&self) -> usize
         ensures { result ≡ size_of self.now.limits }
     {
-        4 * self.rows() as usize + self.limits.parts as usize * self.limits.units as usize
+        ROW_WORDS * self.rows() as usize + self.limits.parts as usize * self.limits.units as usize
     }
 
     /// The place of the head of a row.
@@ -51,7 +54,7 @@ impl Places {
         ensures place { result ≡ head_place row }
         ensures inside { result < size_of self.now.limits }
     {
-        4 * row as usize
+        ROW_WORDS * row as usize
     }
 
     /// The place of the key of a row.
@@ -87,7 +90,7 @@ impl Places {
         ensures place { result ≡ unit_place self.now.limits unit }
         ensures inside { result < size_of self.now.limits }
     {
-        4 * self.rows() as usize + unit as usize
+        ROW_WORDS * self.rows() as usize + unit as usize
     }
 }
 

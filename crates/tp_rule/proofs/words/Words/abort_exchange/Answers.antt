@@ -1,16 +1,33 @@
-use Rattle.std.proofs.Common.{rules, ◌≡◌}
+use Rattle.std.proofs.Common.{◌≡◌, ◌≢◌, rules, sym, ◌∙◌, ap, subst, Some}
 use Rattle.tp_model.specs.declared.trace.StepKind.TheVariants as kinds
+use Rattle.tp_rule.specs.Steps.{Loses}
+use Rattle.tp_words.specs.Places.{UnitWord}
+use Rattle.tp_words.specs.Words.{pack_unit, unit_value}
+use Rattle.tp_rule.specs.Rule.{Told}
+use Rattle.tp_rule.specs.Views.{seen_by, view_of}
 use Rattle.tp_rule.proofs.Deciding.{aborts_go}
-use Rattle.tp_rule.proofs.Reading.{ended_read}
+use Rattle.tp_rule.proofs.Reading.{found_told, map_none, map_some}
 use Rattle.tp_rule.proofs.words.Words.abort_exchange.Goals as goal
+use Rattle.tp_rule.proofs.words.Words.abort_exchange.Goals.{Else-was-eq-UNIT_UNDECIDED}
 
-pub compare_exchange-was-requires : goal.compare_exchange-was-requires
-compare_exchange-was-requires c = (
-  search rules,
-  search rules,
-  aborts_go c.args.self.now.table.shared.key _ _ _ _ c.args.unit c.requires.one.0 (search rules) c.requires.open_unit c.requires.unit.0 (search rules) (search rules),
-)
+pub compare_exchange-was-requires-clause-permits : goal.compare_exchange-was-requires-clause-permits
+compare_exchange-was-requires-clause-permits c =
+    aborts_go _ _ _ c.args.unit c.requires.one.0 (search rules) c.requires.open_unit c.requires.unit.0 (search rules) (search rules)
+
+decided : (c : Else-was-eq-UNIT_UNDECIDED) → c.compare_exchange-was.result ≢ 0
+decided c = search rules
+
+says : (c : Else-was-eq-UNIT_UNDECIDED) → Told (seen_by c.compare_exchange-was.new.seat) (UnitWord c.args.unit) c.compare_exchange-was.result
+says c = found_told _ _ _ (UnitWord c.args.unit) _ _ c.requires.one.1 c.requires.unit.1 c.unit-word.ensures.place (c.compare_exchange-was.ensures.told.5 (decided c))
+
+pub unreachable-requires : goal.unreachable-requires
+unreachable-requires c = let t = says (goal.at.unreachable-requires c).Else-was-eq-UNIT_UNDECIDED in map_none unit_value _ _ c.in-None.is (c.unpack.ensures.of_pack _ t.1 t.0)
 
 pub returns-clause-miss : goal.returns-clause-miss
-returns-clause-miss c = λ failed none. let ended : ¬ (c.compare_exchange-was.result ≡ 0) = search rules in let t = c.compare_exchange-was.ensures.2.5 ended none in
-    (t.0, ended_read kinds.AbortExchange _ _ _ c.args.unit _ _ c.requires.one.1 c.requires.unit.1 c.unit-word.ensures.place t ended)
+returns-clause-miss c = let at = (goal.at.returns-clause-miss c).Else-was-eq-UNIT_UNDECIDED in let t = says at in let now = map_some unit_value _ _ _ c.in-Some.is (c.unpack.ensures.of_pack _ t.1 t.0) in let told = c.compare_exchange-was.ensures.told in
+    let same : c.compare_exchange-was.ensures.told.0 ≡ c.args.unit = search rules in record {
+  ended = λ none. decided at (t.0 ∙ ap pack_unit (sym now ∙ none));
+  found_is = now;
+  own = λ held. subst (λ u. Loses kinds.AbortExchange (view_of c.args.seat.now) u (view_of c.compare_exchange-was.new.seat)) same (told.3 (decided at) (held ∙ ap Some (sym same)));
+  other = λ none. told.4 (decided at) none;
+}

@@ -1,17 +1,24 @@
 use Rattle.std.proofs.Common.{sym, subst}
+use Rattle.tp_words.specs.Places.{ClaimWord}
 use Rattle.tp_words.specs.Words.{claim_value, IsFitClaim}
+use Rattle.tp_rule.specs.Rule.{Told}
+use Rattle.tp_rule.specs.Views.{seen_by}
 use Rattle.tp_rule.proofs.Seats.{one_has}
-use Rattle.tp_rule.proofs.Reading.{claim_read, map_some, map_none}
+use Rattle.tp_rule.proofs.Reading.{told, map_some, map_none}
 use Rattle.tp_rule.proofs.words.Words.load_claim.Goals as goal
+use Rattle.tp_rule.proofs.words.Words.load_claim.Goals.{After-load-found}
 
 pub load-found-requires-clause-pass : goal.load-found-requires-clause-pass
-load-found-requires-clause-pass c = one_has c.args.seat.now.me.0 c.requires.one.0
+load-found-requires-clause-pass c = one_has c.args.seat.now.view c.requires.one.0
+
+says : (c : After-load-found) → Told (seen_by c.load-found.new.seat) (ClaimWord c.args.row) c.load-found.result
+says c = told _ _ _ (ClaimWord c.args.row) _ _ c.requires.one.1 c.requires.row c.claim-word.ensures.place c.load-found.ensures.looks
 
 pub unreachable-requires : goal.unreachable-requires
-unreachable-requires c = let t = claim_read _ _ _ c.args.row _ _ c.requires.one.1 c.requires.row c.claim-word.ensures.place c.load-found.ensures.looks in map_none claim_value _ _ c.in-None.is (c.unpack.ensures.of_pack _ t.1 t.0)
+unreachable-requires c = let t = says (goal.at.unreachable-requires c).After-load-found in map_none claim_value _ _ c.in-None.is (c.unpack.ensures.of_pack _ t.1 t.0)
 
 pub returns-clause-claim : goal.returns-clause-claim
-returns-clause-claim c = let t = claim_read _ _ _ c.args.row _ _ c.requires.one.1 c.requires.row c.claim-word.ensures.place c.load-found.ensures.looks in map_some claim_value _ _ _ c.in-Some.is (c.unpack.ensures.of_pack _ t.1 t.0)
+returns-clause-claim c = let t = says (goal.at.returns-clause-claim c).After-load-found in map_some claim_value _ _ _ c.in-Some.is (c.unpack.ensures.of_pack _ t.1 t.0)
 
 pub returns-clause-fits : goal.returns-clause-fits
-returns-clause-fits c = let t = claim_read _ _ _ c.args.row _ _ c.requires.one.1 c.requires.row c.claim-word.ensures.place c.load-found.ensures.looks in subst IsFitClaim (sym (map_some claim_value _ _ _ c.in-Some.is (c.unpack.ensures.of_pack _ t.1 t.0))) t.1
+returns-clause-fits c = let t = says (goal.at.returns-clause-fits c).After-load-found in subst IsFitClaim (sym (map_some claim_value _ _ _ c.in-Some.is (c.unpack.ensures.of_pack _ t.1 t.0))) t.1

@@ -1,17 +1,28 @@
-use Rattle.std.proofs.Common.{sym, subst}
-use Rattle.tp_rule.specs.Rule.{IsDraft}
-use Rattle.tp_rule.proofs.Seats.{one_has}
-use Rattle.tp_rule.proofs.Reading.{head_read, born_read, of_some, not_none}
+use Rattle.std.proofs.Common.{◌≡◌, ◌<◌, rules, sym, ◌∙◌, subst}
+use Rattle.tp_model.specs.Steps.{rows_of}
+use Rattle.tp_rule.specs.Doors.{Permits, key_of}
+use Rattle.tp_rule.specs.Plays.{loads_head}
+use Rattle.tp_words.specs.Places.{HeadWord}
+use Rattle.tp_rule.specs.Rule.{HeadTold, IsDraft}
+use Rattle.tp_rule.specs.Views.{seen_by}
+use Rattle.tp_rule.proofs.Seats.{looks_head, one_has}
+use Rattle.tp_rule.proofs.Reading.{told, of_some, not_none}
 use Rattle.tp_rule.proofs.words.Words.load_head.Goals as goal
+use Rattle.tp_rule.proofs.words.Words.load_head.Goals.{After-load-found}
 
-pub load-found-requires-clause-pass : goal.load-found-requires-clause-pass
-load-found-requires-clause-pass c = one_has c.args.seat.now.me.0 c.requires.one.0
+pub load-found-requires-clause-permits : goal.load-found-requires-clause-permits
+load-found-requires-clause-permits c = let room : c.args.row < rows_of (key_of c.args.self.now.table) = search rules in
+    subst (λ word. Permits (key_of c.args.self.now.table) c.args.seat.now.view word (λ n. n) (loads_head word 0 0 c.args.seat.now.view)) (sym c.head-word.ensures.place)
+    (looks_head _ c.args.seat.now.view c.args.row (one_has c.args.seat.now.view c.requires.one.0) room)
+
+says : (c : After-load-found) → HeadTold (seen_by c.load-found.new.seat) c.args.row c.load-found.result
+says c = told _ _ _ (HeadWord c.args.row) _ _ c.requires.one.1 c.requires.row c.head-word.ensures.place c.load-found.ensures.told.0
 
 pub unreachable-requires : goal.unreachable-requires
-unreachable-requires c = let t = head_read _ _ _ c.args.row _ _ c.requires.one.1 c.requires.row c.head-word.ensures.place c.load-found.ensures.looks in not_none _ _ c.in-None.is (c.unpack.ensures.of_pack t.0 t.2 t.1)
+unreachable-requires c = let t = says (goal.at.unreachable-requires c).After-load-found in not_none _ _ c.in-None.is (c.unpack.ensures.of_pack t.head t.fit t.packed)
 
 pub returns-clause-born : goal.returns-clause-born
-returns-clause-born c = λ e p. let b = born_read _ _ c.args.row _ _ c.head-word.ensures.place c.load-found.ensures.looks e p in of_some _ _ _ c.in-Some.is (c.unpack.ensures.of_pack _ b.1 b.0)
+returns-clause-born c = let t = says (goal.at.returns-clause-born c).After-load-found in λ e p. of_some _ _ _ c.in-Some.is (c.unpack.ensures.of_pack t.head t.fit t.packed) ∙ t.born e p
 
 pub returns-clause-draft : goal.returns-clause-draft
-returns-clause-draft c = λ un. let t = head_read _ _ _ c.args.row _ _ c.requires.one.1 c.requires.row c.head-word.ensures.place c.load-found.ensures.looks in let same = of_some _ _ _ c.in-Some.is (c.unpack.ensures.of_pack t.0 t.2 t.1) in subst IsDraft (sym same) (t.3 un)
+returns-clause-draft c = let t = says (goal.at.returns-clause-draft c).After-load-found in λ un. subst IsDraft (sym (of_some _ _ _ c.in-Some.is (c.unpack.ensures.of_pack t.head t.fit t.packed))) (t.draft un)

@@ -5,7 +5,7 @@ use Rattle.tp_rule.proofs.Sharing.{joined_has}
 use Rattle.tp_rule.proofs.words.Words.meet.Goals as goal
 
 pub join-requires-clause-pass : goal.join-requires-clause-pass
-join-requires-clause-pass c = one_has c.args.seat.now.me.0 c.requires.one.0.0
+join-requires-clause-pass c = one_has c.args.seat.now.view c.requires.one.0.0
 
 pub load-requires-clause-pass : goal.load-requires-clause-pass
-load-requires-clause-pass c = subst HasPass (sym c.join.ensures.joins) (joined_has c.args.seat.now.me.0 c.args.other.me.0 (one_has c.args.seat.now.me.0 c.requires.one.0.0))
+load-requires-clause-pass c = subst HasPass (sym c.join.ensures.joins) (joined_has c.args.seat.now.view c.args.other.now.view (one_has c.args.seat.now.view c.requires.one.0.0))

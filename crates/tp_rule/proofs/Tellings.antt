@@ -1,0 +1,91 @@
+-- What the words tell of a history that goes on by one event.
+use Rattle.std.proofs.Common.{◌≡◌, ◌≢◌, ℕ, ◌+◌, ◌*◌, ◌<◌, ◌≤◌, List, [], ◌∷◌, ◌++◌, length, set, get_or, sym, refl, ap, ◌∙◌, subst, ⊎_elim, arith, length-set, Option, Some, None}
+use Rattle.tp_model.specs.declared.event.Event.{Event}
+use Rattle.tp_model.specs.declared.types.Element.{Element}
+use Rattle.tp_model.specs.declared.types.Limits.{Limits}
+use Rattle.tp_model.specs.History.{In, IsBorn, IsUnborn, UnitEnd, births, element_of, end_of}
+use Rattle.tp_model.specs.Steps.{IsLegal}
+use Rattle.tp_model.specs.Words.{ClaimWord, claim_word, claim_word_after}
+use Rattle.tp_model.proofs.Bridges.{born_at, born_either, element_of-id, in_none, is_born, unborn_before}
+use Rattle.tp_model.proofs.Later.{births_inside}
+use Rattle.tp_model.proofs.WordProofs.{claim_word-snoc, end_of-snoc}
+use Rattle.tp_words.specs.Places.{Word, HeadWord, KeyWord, AmountWord, ClaimWord as ClaimOf, UnitWord, IsThere, head_place, key_place, amount_place, place_of}
+use Rattle.tp_words.specs.Words.{IsFitClaim, IsFitHead, IsFitUnit, head_of, pack_claim, pack_head, pack_unit}
+use Rattle.tp_words.specs.declared.words.Head.{Head}
+use Rattle.tp_words.specs.declared.words.Head.TheVariants.{Empty, There}
+use Rattle.tp_rule.specs.Rule.{HeadTold, StillSo, Told, World}
+use Rattle.tp_rule.specs.Steps.{Found}
+use Rattle.tp_rule.specs.declared.view.Known.TheVariants.{RowHead}
+use Rattle.tp_rule.proofs.Storing.{left, same_or_other, stored}
+use Rattle.tp_rule.proofs.Units.{decide}
+
+-- a head's word tells the head
+pub head_told : (a b : Head) → IsFitHead a → IsFitHead b → pack_head a ≡ pack_head b → a ≡ b
+head_told Empty Empty f g e = refl
+head_told Empty (There s r b) f g e = absurd (omega arith)
+head_told (There s r b) Empty f g e = absurd (omega arith)
+head_told (There s r None) (There t q None) f g e = let a : s ≤ 15 = f.1 in let b : t ≤ 15 = g.1 in let c : r ≤ 65535 = f.2 in let d : q ≤ 65535 = g.2 in
+    let x : s ≡ t = omega arith in let y : r ≡ q = omega arith in (λ i. There (x i) (y i) None)
+head_told (There s r None) (There t q (Some v)) f g e = let a : s ≤ 15 = f.1 in let b : t ≤ 15 = g.1 in let c : r ≤ 65535 = f.2 in let d : q ≤ 65535 = g.2 in absurd (omega arith)
+head_told (There s r (Some u)) (There t q None) f g e = let a : s ≤ 15 = f.1 in let b : t ≤ 15 = g.1 in let c : r ≤ 65535 = f.2 in let d : q ≤ 65535 = g.2 in absurd (omega arith)
+head_told (There s r (Some u)) (There t q (Some v)) f g e = let a : s ≤ 15 = f.1 in let b : t ≤ 15 = g.1 in let c : r ≤ 65535 = f.2 in let d : q ≤ 65535 = g.2 in
+    let x : s ≡ t = omega arith in let y : r ≡ q = omega arith in let z : u ≡ v = omega arith in (λ i. There (x i) (y i) (Some (z i)))
+
+module _ (k : Limits) (h : List Event) (ws : List ℕ) (world : World k h ws) where
+  pub found : (word : ℕ) → Found k h word (get_or ws word 0)
+  found word = λ w there is. subst (λ z. Told h w (get_or ws z 0)) (sym is) (world.tells w there)
+
+  -- a head that was found before, and wasn't empty, is that of the element that is born in the row
+  pub recall : (i : ℕ) (head : Head) (x : Element) → StillSo k ws (RowHead i head) → head ≢ Empty → element_of h i ≡ Some x → head ≡ head_of x
+  recall i head x still some p = let t = world.tells (HeadWord i) still.0 in head_told head t.head still.1 t.fit (sym (still.2 some) ∙ t.packed) ∙ t.born x p
+
+  -- the head of a born element is one that a word can tell
+  pub born_fit : (i : ℕ) (x : Element) → element_of h i ≡ Some x → IsFitHead (head_of x)
+  born_fit i x p = let id = element_of-id h i x p in let t = world.tells (HeadWord x.id) (births_inside k h world.legal x (is_born h i x p)) in subst IsFitHead (t.born x (is_born h i x p)) t.fit
+
+module _ (h : List Event) (e : Event) where
+  -- an element that is born in row i is so already, or is born now
+  pub row_either : (i : ℕ) (x : Element) {P : Type 0} → element_of (h ++ e ∷ []) i ≡ Some x → (element_of h i ≡ Some x → P) → (In x (births e) → x.id ≡ i → P) → P
+  row_either i x p old new = let id = element_of-id (h ++ e ∷ []) i x p in ⊎_elim (λ b. old (born_at h i x b id)) (λ q. new q id) (born_either x h e (is_born (h ++ e ∷ []) i x p))
+
+  pub head_later : (i n : ℕ) → ((x : Element) → In x (births e) → x.id ≡ i → (n ≡ pack_head (head_of x)) × IsFitHead (head_of x)) → HeadTold h i n → HeadTold (h ++ e ∷ []) i n
+  head_later i n new old = record {
+    head = old.head;
+    packed = old.packed;
+    fit = old.fit;
+    born = λ x p. row_either i x p (old.born x) (λ q id. let t = new x q id in head_told old.head (head_of x) old.fit t.1 (sym old.packed ∙ t.0));
+    draft = λ un. old.draft (unborn_before h e i un);
+  }
+
+  pub body_later : (i n : ℕ) (part : Element → ℕ) → ((x : Element) → In x (births e) → x.id ≡ i → n ≡ part x) → ((x : Element) → element_of h i ≡ Some x → n ≡ part x) → (x : Element) → element_of (h ++ e ∷ []) i ≡ Some x → n ≡ part x
+  body_later i n part new old x p = row_either i x p (old x) (new x)
+
+  pub claim_later : (i n : ℕ) → claim_word_after i (claim_word h i) e ≡ claim_word h i → Told h (ClaimOf i) n → Told (h ++ e ∷ []) (ClaimOf i) n
+  claim_later i n same old = let now = sym (claim_word-snoc h e i ∙ same) in (old.0 ∙ ap pack_claim now, subst IsFitClaim now old.1)
+
+  pub claim_now : (i n : ℕ) (w : ClaimWord) → claim_word_after i (claim_word h i) e ≡ w → n ≡ pack_claim w → IsFitClaim w → Told (h ++ e ∷ []) (ClaimOf i) n
+  claim_now i n w is at fit = let now = sym (claim_word-snoc h e i ∙ is) in (at ∙ ap pack_claim now, subst IsFitClaim now fit)
+
+  pub unit_later : (u n : ℕ) → decide u (end_of h u) e ≡ end_of h u → Told h (UnitWord u) n → Told (h ++ e ∷ []) (UnitWord u) n
+  unit_later u n same old = let now = sym (end_of-snoc h e u ∙ same) in (old.0 ∙ ap pack_unit now, subst IsFitUnit now old.1)
+
+  pub unit_now : (u n : ℕ) (w : Option UnitEnd) → decide u (end_of h u) e ≡ w → n ≡ pack_unit w → IsFitUnit w → Told (h ++ e ∷ []) (UnitWord u) n
+  unit_now u n w is at fit = let now = sym (end_of-snoc h e u ∙ is) in (at ∙ ap pack_unit now, subst IsFitUnit now fit)
+
+  -- a word that tells nothing of what an event without births changes
+  pub told_later : births e ≡ [] → (w : Word) (n : ℕ) → ((i : ℕ) → w ≡ ClaimOf i → claim_word_after i (claim_word h i) e ≡ claim_word h i) → ((u : ℕ) → w ≡ UnitWord u → decide u (end_of h u) e ≡ end_of h u) → Told h w n → Told (h ++ e ∷ []) w n
+  told_later none (HeadWord i) n claims units old = head_later i n (λ x q. absurd (in_none (subst (In x) none q))) old
+  told_later none (KeyWord i) n claims units old = body_later i n (λ x. x.key) (λ x q. absurd (in_none (subst (In x) none q))) old
+  told_later none (AmountWord i) n claims units old = body_later i n (λ x. x.amount) (λ x q. absurd (in_none (subst (In x) none q))) old
+  told_later none (ClaimOf i) n claims units old = claim_later i n (claims i refl) old
+  told_later none (UnitWord u) n claims units old = unit_later u n (units u refl) old
+
+-- the words after a store to w: it tells what is now so, and so do the others
+pub world_stored : (k : Limits) (h h' : List Event) (ws : List ℕ) (w : Word) (x : ℕ) → World k h ws → IsLegal k h' → IsThere k w → Told h' w x → ((v : Word) → IsThere k v → v ≢ w → Told h' v (get_or ws (place_of k v) 0)) → World k h' (set ws (place_of k w) x)
+world_stored k h h' ws w x world legal at now rest = record {
+  legal = legal;
+  wide = length-set ws (place_of k w) x ∙ world.wide;
+  tells = λ v there. same_or_other k v w there at
+      (λ same. subst (λ z. Told h' z (get_or (set ws (place_of k w) x) (place_of k z) 0)) (sym same) (subst (Told h' w) (sym (stored k ws w x at world.wide)) now))
+      (λ other. subst (Told h' v) (sym (left k ws w x at v there other)) (rest v there other));
+}

@@ -1,0 +1,46 @@
+-- What the one door to the table shows of a seat, and what it asks of a step.
+use Rattle.std.specs.Prelude.{◌≡◌, ℕ, [], Option, Some, None, slice_index, slice_set}
+use mathlib.Core.Option.{some}
+use lib.ListN.{get_elem?}
+use Rattle.atomic_table.specs.Seated.{TableId}
+use Rattle.atomic_table.specs.Table.{State, Splits, Joins}
+use Rattle.atomic_table.specs.declared.shared.Seat.{Seat}
+use Rattle.tp_model.specs.declared.types.Limits.{Limits}
+use Rattle.tp_rule.specs.Rule.{Rule}
+use Rattle.tp_rule.specs.Views.{SeatShown, no_seat, spent}
+use Rattle.tp_rule.specs.declared.seat.SharedTable.{SharedTable}
+use Rattle.tp_rule.specs.declared.view.View.{View}
+
+-- which table the words stand in
+abbrev pub id_of : SharedTable → TableId
+id_of t = t.table.shared.table_id
+
+-- the limits that its rule is about
+abbrev pub key_of : SharedTable → Limits
+key_of t = t.table.shared.key
+
+-- what a seat shows, which has this place at a table
+abbrev pub shown_by : Option (Seat (Unit {0}) View) → SeatShown
+shown_by None = no_seat
+shown_by (Some at) = record { table = at.table_id; view = at.me.0 }
+
+-- a place at a table holds no slots, since the table has none
+abbrev pub IsBare : Option (Seat (Unit {0}) View) → Type 0
+IsBare None = Unit {0}
+IsBare (Some at) = at.me.1 ≡ []
+
+-- Whatever the table is when the word changes, there is a new view of the seat with which the rule holds again, and which
+-- tells so much of the number that was found.
+abbrev pub Permits : Limits → View → ℕ → (ℕ → ℕ) → (ℕ → View → Type 0) → Type 0
+Permits l v word change Told = (s : State (Unit {0}) View) → Rule l s → (id : ℕ) → get_elem? s.views id ≡ some v
+    → (w : View)
+    × Rule l (record { words = slice_set s.words word (change (slice_index s.words word)); homes = s.homes; views = slice_set s.views id w })
+    × Told (slice_index s.words word) w
+
+-- whichever seat it is, the rule allows that its view is cut in these two
+abbrev pub MayCut : Limits → View → View → View → Type 0
+MayCut l v left right = (id : ℕ) → Splits (Rule l) id v left right
+
+-- whichever seats they are, the rule allows that their views become this one
+abbrev pub MayJoin : Limits → View → View → View → Type 0
+MayJoin l v w both = (id other : ℕ) → Joins (Rule l) id v other w both spent
