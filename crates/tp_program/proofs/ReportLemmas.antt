@@ -3,9 +3,9 @@ use Rattle.std.proofs.Common.{◌≡◌, ℕ, ◌+◌, ◌<◌, ◌≤◌, List,
 use Rattle.std.proofs.Common.{Option, Some, map}
 use Rattle.std.specs.Prelude.{slice_get, option_map}
 use Rattle.std.proofs.lemmas.Option.{slice_get-map, slice_get_read}
-use Rattle.tp_model.specs.OneThread as thread
+use Rattle.tp_plain.specs.OneThread as thread
 use Rattle.tp_program.specs.declared.script.ScriptServer.{ScriptServer}
-use Rattle.tp_model.specs.Computed.{read_of}
+use Rattle.tp_plain.specs.Computed.{read_of}
 use Rattle.std.proofs.lemmas.List.{drop_more, drop_all}
 use Rattle.tp_program.specs.declared.script.Command.{Command}
 use Rattle.tp_program.specs.Script.{ServerView, server_view}

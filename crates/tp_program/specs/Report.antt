@@ -10,10 +10,10 @@ use Rattle.tp_model.specs.declared.types.Claimed.{Claimed}
 use Rattle.tp_model.specs.declared.types.Claimed.TheVariants as claimed
 use Rattle.tp_model.specs.declared.types.Outcome.{Outcome}
 use Rattle.tp_model.specs.declared.types.Outcome.TheVariants as outcome
-use Rattle.tp_model.specs.Computed.{submit_of, claim_of_stage, abort_of, commit_of, read_of}
+use Rattle.tp_plain.specs.Computed.{submit_of, claim_of_stage, abort_of, commit_of, read_of}
 use Rattle.tp_model.specs.Counts.{is_waiting}
-use Rattle.tp_model.specs.OneThread as thread
-use Rattle.tp_model.specs.OneThread.{start}
+use Rattle.tp_plain.specs.OneThread as thread
+use Rattle.tp_plain.specs.OneThread.{start}
 use Rattle.tp_model.specs.Steps.{rows_of}
 use Rattle.tp_server.specs.declared.recipe.Declined.{Declined}
 use Rattle.tp_server.specs.Effect.{Effect, effect_of}

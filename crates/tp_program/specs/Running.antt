@@ -1,7 +1,7 @@
 -- What holds of a script that runs.
 use Rattle.std.specs.Prelude.{◌≡◌, ◌+◌, None, List, length}
-use Rattle.tp_model.specs.OneThread as thread
-use Rattle.tp_model.specs.OneThread.{pass_at}
+use Rattle.tp_plain.specs.OneThread as thread
+use Rattle.tp_plain.specs.OneThread.{pass_at}
 use Rattle.tp_program.specs.declared.run.Run.{Run}
 use Rattle.tp_program.specs.Report.{State, worker}
 use Rattle.tp_program.specs.Script.{ServerView}

@@ -1,7 +1,7 @@
 //! A script over the manager of one thread.
 ghost use Rattle.std.specs.Prelude.{◌≡◌, ◌<◌, ◌≤◌, Ok, None, map, length, string_bytes, IfOk, OnOk, IsSome};
-ghost use Rattle.tp_model.specs.Computed.{read_of};
-ghost use Rattle.tp_model.specs.OneThread.{pass_at};
+ghost use Rattle.tp_plain.specs.Computed.{read_of};
+ghost use Rattle.tp_plain.specs.OneThread.{pass_at};
 ghost use Rattle.tp_model.specs.Steps.{rows_of};
 ghost use Rattle.tp_server.specs.Check.{check_of};
 ghost use Rattle.tp_server.specs.Effect.{effect_of};
@@ -15,8 +15,8 @@ use crate::script::{Command, Script, ScriptServer};
 use std::alloc::{AllocError, Global};
 use std::string::String;
 use tp_desk::Turned;
-use tp_model::plain::Plain;
 use tp_model::types::{Claimed, Element, Limits, Look, Outcome, Refusal, Status, Work};
+use tp_plain::plain::Plain;
 use tp_server::{Recipe, Registers};
 
 /// The pass of the script's own client.
