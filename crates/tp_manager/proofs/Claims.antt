@@ -10,21 +10,23 @@ use Rattle.tp_model.specs.declared.event.Event.{Event}
 use Rattle.tp_model.specs.declared.event.Event.TheVariants.{Claim}
 use Rattle.tp_model.specs.declared.trace.StepKind.TheVariants as kinds
 use Rattle.tp_model.specs.declared.trace.TraceEntry.{TraceEntry}
-use Rattle.tp_model.specs.History.{here, claim_by, claim_of, element_of, events_by, pass_of, status_of}
+use Rattle.tp_model.specs.Passes.{opening_of}
+use Rattle.tp_manager.proofs.Points.{opening_any}
+use Rattle.tp_model.specs.History.{there, claim_by, claim_of, element_of, events_by, pass_of}
 use Rattle.tp_model.specs.Steps.{IsLegal, Step, rows_of}
 use Rattle.tp_model.proofs.Lists.{option_or-none}
-use Rattle.tp_model.proofs.Histories.{legal_at}
-use Rattle.tp_model.proofs.Bridges.{begins_trans, new_claim}
+use Rattle.tp_model.proofs.Histories.{legal_at, legal_start}
+use Rattle.tp_model.proofs.Bridges.{begins_refl, begins_trans, new_claim}
 use Rattle.tp_model.proofs.Later.{births_inside}
-use Rattle.tp_rule.specs.Views.{Seated, hand, view_of}
+use Rattle.tp_rule.specs.Views.{SeatShown, hand, view_of}
 use Rattle.tp_rule.specs.Steps.{Chooses, noted, with_claim, with_spare}
 use Rattle.tp_rule.specs.declared.view.Hand.{Hand}
 use Rattle.tp_rule.specs.declared.view.View.{View}
 use Rattle.tp_manager.specs.declared.manager.Task.{Task}
 use Rattle.tp_manager.specs.Shown.{PassShown, shown}
-use Rattle.tp_manager.specs.Calls.{Claims, FoundNone, HasLooked, IsQuiet, IsWaiting, Takes, claims_in}
-use Rattle.tp_manager.specs.Walks.{Steady, Walked, Looked, Rests, Took, PassedBelow, with_trace}
-use Rattle.tp_manager.proofs.Walks.{at_point, grew_hand, grew_walked, has_looked, opening_is, steady_quiet, walked_begins, walked_then}
+use Rattle.tp_manager.specs.Calls.{Claims, FoundNone, HasLooked, IsQuiet, Takes, claims_in, opening}
+use Rattle.tp_manager.specs.Walks.{EachRow, Steady, Sought, Walked, Rests, Took, PassedBy, with_trace}
+use Rattle.tp_manager.proofs.Walks.{grew_hand, grew_seen, has_looked, opening_is, steady_quiet, walked_begins, walked_then}
 use Rattle.tp_manager.proofs.Passes.{claims_append, steady_at, task_later}
 
 -- a unit that nobody claimed isn't in a pass's own claims
@@ -54,10 +56,17 @@ module _ (l : Limits) (u : ℕ) (v w : View) (s : Steady l v) (g : Chooses v u w
   choice = record { kind = kinds.UnitChoice; seen = w.seen }
 
   chose_walked : Walked l 1 (choice ∷ []) v w
-  chose_walked = grew_walked l kinds.UnitChoice (with_spare u) [] v w s g tt refl refl chose_steady
+  chose_walked = record {
+    traced = ap (λ (a : Hand). a.trace) chose_hand;
+    few = omega arith;
+    opens = begins_refl v.seen;
+    closes = grew_seen l kinds.UnitChoice (with_spare u) [] v w s g;
+    number = ap (λ (a : Hand). a.number) chose_hand;
+    steady = chose_steady;
+  }
 
   -- nothing was found
-  module _ (n : ℕ) (y : View) (a : Looked l n w y) where
+  module _ (n stage : ℕ) (y : View) (a : Sought l n (EachRow (PassedBy l stage) 0 (rows_of l)) w y) where
     idle_hand : hand y ≡ with_trace (hand y).trace (with_spare u (hand v))
     idle_hand = a.kept ∙ ap (with_trace (hand y).trace) chose_hand
 
@@ -71,23 +80,29 @@ module _ (l : Limits) (u : ℕ) (v w : View) (s : Steady l v) (g : Chooses v u w
       drawn = ap (λ (z : Hand). z.drawn) idle_hand ∙ ap (λ (p : PassShown). p.drawn) is;
     }
 
-    pub idle_found : (stage : ℕ) (t t' : TableId) (old : PassShown) → shown t v ≡ old → PassedBelow l stage (rows_of l) w.seen y.seen → FoundNone l stage old (shown t' y)
-    idle_found stage t t' old is p = λ x q st.
-        let o = opening_is t t' v y old is l (1 + n) (choice ∷ a.marks) idle_walked in
-        let born : element_of w.seen x.id ≡ Some x = subst (λ z. element_of z x.id ≡ Some x) o q in
-        let r = p x.id (births_inside l w.seen chose_steady.shows.legal x born) x born st in
-        at_point t t' v y old is l (1 + n) (choice ∷ a.marks) idle_walked (λ h. ¬ IsWaiting (status_of l.attempts h x.id)) r.0 (record { opened = r.1; seen = r.2 }) r.3
+    abbrev first_look : List Event
+    first_look = opening_of w.seen a.marks
+
+    legal_look : IsLegal l first_look
+    legal_look = legal_start l first_look a.walk.closes.0 (subst (IsLegal l) (sym a.walk.closes.1) a.walk.steady.shows.legal)
+
+    pub idle_found : (t t' : TableId) (old : PassShown) → shown t v ≡ old → FoundNone l stage old (shown t' y)
+    idle_found t t' old is = λ x q st.
+        let o : opening old (shown t' y) ≡ first_look = opening_is t t' v y old is l (1 + n) (choice ∷ a.marks) idle_walked ∙ opening_any v.seen w.seen a.marks a.step in
+        let born : element_of first_look x.id ≡ Some x = subst (λ z. element_of z x.id ≡ Some x) o q in
+        let r = a.passed x.id (omega arith) (births_inside l first_look legal_look x born) x born st in
+        (r.0, record { opened = subst (λ z. IsPrefix z r.0) (sym o) r.1; seen = r.2 }, r.3)
 
     pub idle_looked : (t t' : TableId) (old : PassShown) → shown t v ≡ old → HasLooked old (shown t' y)
-    idle_looked t t' old is = has_looked t t' v y old is l (1 + n) (choice ∷ a.marks) idle_walked (choice, here, tt)
+    idle_looked t t' old is = has_looked t t' v y old is l (1 + n) (choice ∷ a.marks) idle_walked (a.step.0, there a.step.1, a.step.2)
 
-    pub idle_answer : (stage used number drawn : ℕ) (task : Option Task) (seat : Seated) (t t' : TableId) (old : PassShown) → view_of seat ≡ v → v.limits ≡ l → shown t v ≡ old → Rests seat number drawn used task → ¬ (used ≡ l.units) → PassedBelow l stage (rows_of l) w.seen y.seen
+    pub idle_answer : (used number drawn : ℕ) (task : Option Task) (seat : SeatShown) (t t' : TableId) (old : PassShown) → view_of seat ≡ v → v.limits ≡ l → shown t v ≡ old → Rests seat number drawn used task → ¬ (used ≡ l.units)
         → Claims l stage old (shown t' y) claimeds.Idle
-    idle_answer stage used number drawn task seat t t' old same lim is r not p =
+    idle_answer used number drawn task seat t t' old same lim is r not =
         let count : claims_in (hand v).mine ≡ used = subst (λ z. claims_in (hand z).mine ≡ used) same r.claims in
         let below : used ≤ l.units = subst (λ (z : Limits). used ≤ z.units) (ap (λ (z : View). z.limits) same ∙ lim) r.used_below in
         let room : claims_in (hand v).mine < l.units = omega arith in
-        (subst (λ (z : PassShown). claims_in z.mine < l.units) is room, idle_quiet t t' old is, idle_looked t t' old is, idle_found stage t t' old is p)
+        (subst (λ (z : PassShown). claims_in z.mine < l.units) is room, idle_quiet t t' old is, idle_looked t t' old is, idle_found t t' old is)
 
   -- an element was taken
   module _ (n stage attempt : ℕ) (y : View) (x : Element) (k : Took l n stage u w y x attempt) where
@@ -112,7 +127,7 @@ module _ (l : Limits) (u : ℕ) (v w : View) (s : Steady l v) (g : Chooses v u w
     took_fresh : claim_of (hand v).mine u ≡ None
     took_fresh = ap (λ z. claim_of z u) s.shows.own ∙ unused_mine (hand v).number u v.seen (unused_start u v.seen k.before took_begins took_step.unused)
 
-    pub took_answer : (used number drawn : ℕ) (task : Option Task) (seat : Seated) (t t' : TableId) (old : PassShown) → view_of seat ≡ v → v.limits ≡ l → shown t v ≡ old → Rests seat number drawn used task → ¬ (used ≡ l.units) → u ≡ number * l.units + used
+    pub took_answer : (used number drawn : ℕ) (task : Option Task) (seat : SeatShown) (t t' : TableId) (old : PassShown) → view_of seat ≡ v → v.limits ≡ l → shown t v ≡ old → Rests seat number drawn used task → ¬ (used ≡ l.units) → u ≡ number * l.units + used
         → Takes l stage (record { unit = u; element = x; attempt = attempt }) old (shown t' y)
     took_answer used number drawn task seat t t' old same lim is r not next =
         let count : claims_in (hand v).mine ≡ used = subst (λ z. claims_in (hand z).mine ≡ used) same r.claims in
@@ -129,11 +144,10 @@ module _ (l : Limits) (u : ℕ) (v w : View) (s : Steady l v) (g : Chooses v u w
           drawn = ap (λ (z : Hand). z.drawn) took_hand;
         }
 
-pub chose_rests : (l : Limits) (u n number drawn used : ℕ) (task : Option Task) (seat next : Seated) (w : View) → (s : Steady l (view_of seat)) → Chooses (view_of seat) u w → Looked l n w (view_of next) → (view_of seat).limits ≡ l → next.me.1 ≡ seat.me.1 → Rests seat number drawn used task → Rests next number drawn used task
-chose_rests l u n number drawn used task seat next w s g a same bare r =
-    let h = idle_hand l u (view_of seat) w s g n (view_of next) a in let lim : l ≡ (view_of next).limits = sym a.walk.steady.pass.1 in record {
+pub chose_rests : (l : Limits) (u n stage number drawn used : ℕ) (task : Option Task) (seat next : SeatShown) (w : View) → (s : Steady l (view_of seat)) → Chooses (view_of seat) u w → Sought l n (EachRow (PassedBy l stage) 0 (rows_of l)) w (view_of next) → (view_of seat).limits ≡ l → Rests seat number drawn used task → Rests next number drawn used task
+chose_rests l u n stage number drawn used task seat next w s g a same r =
+    let h = idle_hand l u (view_of seat) w s g n stage (view_of next) a in let lim : l ≡ (view_of next).limits = sym a.walk.steady.pass.1 in record {
       steady = steady_at l (view_of next).limits (view_of next) lim a.walk.steady;
-      bare = bare ∙ r.bare;
       number_is = ap (λ (z : Hand). z.number) h ∙ r.number_is;
       drawn_is = ap (λ (z : Hand). z.drawn) h ∙ r.drawn_is;
       used_is = ap (λ (z : Hand). z.claimed) h ∙ r.used_is;
@@ -141,19 +155,18 @@ chose_rests l u n number drawn used task seat next w s g a same bare r =
       claims = ap (λ (z : Hand). claims_in z.mine) h ∙ r.claims;
       no_drafts = ap (λ (z : Hand). z.drafts) h ∙ r.no_drafts;
       open_is = ap (λ (z : Hand). z.open_unit) h ∙ r.open_is;
-      work = task_later (view_of seat).seen (view_of next).seen number task (walked_begins l (1 + n) _ _ _ (idle_walked l u (view_of seat) w s g n (view_of next) a)) r.work;
+      work = task_later (view_of seat).seen (view_of next).seen number task (walked_begins l (1 + n) _ _ _ (idle_walked l u (view_of seat) w s g n stage (view_of next) a)) r.work;
     }
 
-pub took_rests : (l : Limits) (u n stage attempt root number drawn used : ℕ) (task : Option Task) (seat next : Seated) (w : View) (x : Element) → (s : Steady l (view_of seat)) → Chooses (view_of seat) u w → Took l n stage u w (view_of next) x attempt → (view_of seat).limits ≡ l
-    → next.me.1 ≡ seat.me.1 → x.root ≡ root → ¬ (used ≡ l.units) → Rests seat number drawn used task → Rests next number drawn (used + 1) (Some (record { unit = u; root = root }))
-took_rests l u n stage attempt root number drawn used task seat next w x s g k same bare root_is not r =
+pub took_rests : (l : Limits) (u n stage attempt root number drawn used : ℕ) (task : Option Task) (seat next : SeatShown) (w : View) (x : Element) → (s : Steady l (view_of seat)) → Chooses (view_of seat) u w → Took l n stage u w (view_of next) x attempt → (view_of seat).limits ≡ l
+    → x.root ≡ root → ¬ (used ≡ l.units) → Rests seat number drawn used task → Rests next number drawn (used + 1) (Some (record { unit = u; root = root }))
+took_rests l u n stage attempt root number drawn used task seat next w x s g k same root_is not r =
     let v : View = view_of seat in let y : View = view_of next in
     let h = took_hand l u v w s g n stage attempt y x k in let lim : l ≡ y.limits = sym k.walk.steady.pass.1 in
     let ends = took_ends l u v w s g n stage attempt y x k in let unused = (took_step l u v w s g n stage attempt y x k).unused in
     let below : used ≤ l.units = subst (λ (z : Limits). used ≤ z.units) same r.used_below in
     record {
       steady = steady_at l y.limits y lim k.walk.steady;
-      bare = bare ∙ r.bare;
       number_is = ap (λ (z : Hand). z.number) h ∙ r.number_is;
       drawn_is = ap (λ (z : Hand). z.drawn) h ∙ r.drawn_is;
       used_is = ap (λ (z : Hand). z.claimed) h ∙ ap (λ z. z + 1) r.used_is;

@@ -9,7 +9,8 @@ use Rattle.tp_model.specs.declared.types.Status.{Status}
 use Rattle.tp_model.specs.declared.types.Status.TheVariants.{Killed}
 use Rattle.tp_model.specs.declared.event.Event.{Event}
 use Rattle.tp_model.specs.declared.event.Event.TheVariants.{Enqueue, Claim, Commit, Abort, Kill}
-use Rattle.tp_model.specs.History.{element_of, status_of}
+use Rattle.tp_model.specs.declared.trace.TraceEntry.{TraceEntry}
+use Rattle.tp_model.specs.History.{IsUnborn, element_of, status_of}
 use Rattle.tp_model.specs.Passes.{opening_of}
 use Rattle.tp_model.specs.Words.{ClaimWord, FreeWord, TakenWord, KilledWord, kill_word, claim_word, claim_word_after}
 use Rattle.tp_model.specs.Steps.{IsLegal, IsServerStage, Step, rows_of}
@@ -19,6 +20,7 @@ use Rattle.tp_model.proofs.WordProofs.{claim_word-snoc}
 use Rattle.tp_model.proofs.Bridges.{begins_refl, begins_trans, found_later, status_free, status_killed}
 use Rattle.tp_model.proofs.Later.{births_inside}
 use Rattle.tp_words.specs.Words.{head_of}
+use Rattle.tp_words.specs.declared.words.Head.{Head}
 use Rattle.tp_words.specs.declared.words.Head.TheVariants.{There}
 use Rattle.tp_rule.specs.declared.view.View.{View}
 use Rattle.tp_manager.specs.declared.looking.Birth.{Birth}
@@ -27,11 +29,11 @@ use Rattle.tp_manager.specs.declared.listing.Wanted.TheVariants as wanteds
 use Rattle.tp_manager.specs.Calls.{AtPoint, IsWaiting, opening}
 use Rattle.tp_manager.specs.Looks.{IsThere}
 use Rattle.tp_manager.specs.Shown.{PassShown, shown}
-use Rattle.tp_manager.specs.Walks.{Acted, Looked, Steady}
+use Rattle.tp_manager.specs.Walks.{Acted, EachRow, Sought, Steady, Walked}
 use Rattle.tp_manager.specs.Lists.{AllKilled, IsParked, IsReply, NextError, NextReply, NoneParked}
-use Rattle.tp_manager.specs.Finds.{Hits, IsWanted, PassedFrom, PassedOver}
-use Rattle.tp_manager.proofs.Points.{opening_kept}
-use Rattle.tp_manager.proofs.Walks.{opening_is, walked_none, walked_then}
+use Rattle.tp_manager.specs.Finds.{Hits, IsWanted, PassedOver}
+use Rattle.tp_manager.proofs.Seeks.{Widens}
+use Rattle.tp_manager.proofs.Walks.{opening_is, sought_acted, walked_none}
 
 -- units take elements of the servers' stages alone
 module _ (l : Limits) where
@@ -80,6 +82,13 @@ module _ (l : Limits) where
       go (KilledWord n u) is = status_killed l h i n u legal is
 
 module _ (l : Limits) (wanted : Wanted) where
+  -- an element whose head is of no element that is looked for
+  pub over_head : (i : ℕ) (a h : List Event) (head : Head) → IsPrefix a h → ((x : Element) → element_of h i ≡ Some x → head ≡ head_of x) → ((x : Element) → head ≡ head_of x → (s : Status) → ¬ IsWanted wanted x.stage x.root s) → PassedOver l wanted i a h
+  over_head i a h head begins told not = λ x p. (h, begins, begins_refl h, not x (told x (found_later a h begins i x p)) (status_of l.attempts h i))
+
+  pub over_unborn : (i : ℕ) (a h : List Event) → IsPrefix a h → IsUnborn h i → PassedOver l wanted i a h
+  over_unborn i a h begins un = λ x p. let q = found_later a h begins i x p in let e : None ≡ Some x = sym un ∙ q in absurd cc
+
   -- what an element that was found tells of the one that was there before
   same_there : (i : ℕ) (a h : List Event) (birth : Birth) (x : Element) → IsPrefix a h → IsThere h i birth → element_of a i ≡ Some x → (x.stage ≡ birth.stage) × (x.root ≡ birth.root)
   same_there i a h birth x begins t p = let same : x ≡ t.0 = one x t.0 (found_later a h begins i x p) t.1 in (ap (λ (e : Element). e.stage) same ∙ staged t.0 t.2, ap (λ (e : Element). e.root) same ∙ rooted t.0 t.2)
@@ -97,62 +106,87 @@ module _ (l : Limits) (wanted : Wanted) where
   over_found i a b birth s begins t status not = λ x p. let same = same_there i a b birth x begins t p in
       (b, begins, begins_refl b, λ is. not (subst (λ z. IsWanted wanted birth.stage birth.root z) (sym status) (subst (λ z. IsWanted wanted birth.stage z (status_of l.attempts b i)) same.1 (subst (λ z. IsWanted wanted z x.root (status_of l.attempts b i)) same.0 is))))
 
-  pub from_later : (from n : ℕ) (a h b : List Event) → IsPrefix h b → PassedFrom l wanted from n a h → PassedFrom l wanted from n a b
-  from_later from n a h b after all i low high x p = let t = all i low high x p in (t.0, t.1, begins_trans t.0 h b t.2 after, t.3)
+-- the element of a row that was found, and is looked for
+pub hits_at : (l : Limits) (wanted : Wanted) (i : ℕ) (h : List Event) (birth : Birth) (s : Status) → IsThere h i birth → s ≡ status_of l.attempts h i → IsWanted wanted birth.stage birth.root s → Hits l wanted i h
+hits_at l wanted i h birth s t status is = let e = t.0 in
+    (e, t.1, subst (λ z. IsWanted wanted e.stage e.root z) status (subst (λ z. IsWanted wanted e.stage z s) (rooted e t.2) (subst (λ z. IsWanted wanted z birth.root s) (staged e t.2) is)))
+  where
+    staged : (e : Element) → head_of e ≡ There birth.stage birth.root birth.by → birth.stage ≡ e.stage
+    staged e q = cc
 
-  pub from_next : (from n : ℕ) (a h b : List Event) → IsPrefix a h → IsPrefix h b → PassedFrom l wanted from n a h → PassedOver l wanted n h b → PassedFrom l wanted from (n + 1) a b
-  from_next from n a h b before after all this i low high x p = elim (eqb_tells i n) [
-    | inl q ↦ (let at : element_of a n ≡ Some x = subst (λ z. element_of a z ≡ Some x) q.1 p in let t = this x (found_later a h before n x at) in
-        (t.0, begins_trans a h t.0 before t.1, t.2, subst (λ z. ¬ IsWanted wanted x.stage x.root (status_of l.attempts t.0 z)) (sym q.1) t.3))
-    | inr q ↦ (let not : i ≢ n = q.1 in from_later from n a h b after all i low (omega arith) x p)
-  ]
+    rooted : (e : Element) → head_of e ≡ There birth.stage birth.root birth.by → birth.root ≡ e.root
+    rooted e q = cc
 
--- a listing as a whole: a load opens it, and the rows from `from` on are looked at after that
-module _ (t t' : TableId) (v w y : View) (old : PassShown) (is : shown t v ≡ old) (l : Limits) (m from : ℕ) (a : Acted l 1 v w) (b : Looked l m w y) where
-  opened : opening old (shown t' y) ≡ opening_of v.seen a.marks
-  opened = opening_is t t' v y old is l (1 + m) (a.marks ++ b.marks) (walked_then l 1 m a.marks b.marks v w y a.walk b.walk) ∙ opening_kept v.seen a.marks b.marks a.step.0 a.step.1 a.step.2
+-- a row that was passed over is so from an earlier history on, and to a later one
+pub over_widens : (l : Limits) (wanted : Wanted) → Widens (PassedOver l wanted)
+over_widens l wanted i a a' b b' before after passed x p = let t = passed x (found_later a a' before i x p) in (t.0, begins_trans a a' t.0 before t.1, begins_trans t.0 b b' t.2 after, t.3)
 
-  born_there : (x : Element) → element_of (opening old (shown t' y)) x.id ≡ Some x → element_of w.seen x.id ≡ Some x
-  born_there x p = found_later (opening_of v.seen a.marks) w.seen a.walk.closes x.id x (subst (λ h. element_of h x.id ≡ Some x) opened p)
+-- a listing as a whole
+module _ (t t' : TableId) (v y : View) (old : PassShown) (is : shown t v ≡ old) (l : Limits) (m from : ℕ) (marks : List TraceEntry) (walk : Walked l m marks v y) where
+  abbrev O : List Event
+  O = opening_of v.seen marks
 
-  point : (Holds : List Event → Type 0) (p : List Event) → IsPrefix w.seen p → IsPrefix p y.seen → Holds p → AtPoint old (shown t' y) Holds
-  point Holds p begins ends h = (p, record { opened = subst (λ z. IsPrefix z p) (sym opened) (begins_trans (opening_of v.seen a.marks) w.seen p a.walk.closes begins); seen = ends }, h)
+  opened : opening old (shown t' y) ≡ O
+  opened = opening_is t t' v y old is l m marks walk
 
-  inside : (x : Element) → element_of w.seen x.id ≡ Some x → x.id < rows_of l
-  inside x p = births_inside l w.seen a.walk.steady.shows.legal x p
+  born_there : (x : Element) → element_of (opening old (shown t' y)) x.id ≡ Some x → element_of O x.id ≡ Some x
+  born_there x p = subst (λ h. element_of h x.id ≡ Some x) opened p
+
+  point : (Holds : List Event → Type 0) (p : List Event) → IsPrefix O p → IsPrefix p y.seen → Holds p → AtPoint old (shown t' y) Holds
+  point Holds p begins ends h = (p, record { opened = subst (λ z. IsPrefix z p) (sym opened) begins; seen = ends }, h)
 
   legal_within : (p : List Event) → IsPrefix p y.seen → IsLegal l p
-  legal_within p ends = legal_start l p ends.0 (subst (IsLegal l) (sym ends.1) b.walk.steady.shows.legal)
+  legal_within p ends = legal_start l p ends.0 (subst (IsLegal l) (sym ends.1) walk.steady.shows.legal)
 
-  none_parked : (end : ℕ) (Ids : ℕ → Type 0) → ((i : ℕ) → Ids i → i < rows_of l → (from ≤ i) × (i < end)) → PassedFrom l wanteds.Error from end w.seen y.seen → NoneParked l Ids old (shown t' y)
+  inside : (x : Element) → element_of O x.id ≡ Some x → x.id < rows_of l
+  inside x p = births_inside l O (legal_within O walk.closes) x p
+
+  none_parked : (end : ℕ) (Ids : ℕ → Type 0) → ((i : ℕ) → Ids i → i < rows_of l → (from ≤ i) × (i < end)) → EachRow (PassedOver l wanteds.Error) from end O y.seen → NoneParked l Ids old (shown t' y)
   none_parked end Ids range passed x p id = let born = born_there x p in let r = range x.id id (inside x born) in let q = passed x.id r.0 r.1 x born in
       point (λ h. ¬ IsParked (status_of l.attempts h x.id)) q.0 q.1 q.2 q.3
 
-  all_killed : (root end : ℕ) (Ids : ℕ → Type 0) → ((i : ℕ) → Ids i → i < rows_of l → (from ≤ i) × (i < end)) → PassedFrom l (wanteds.Reply root) from end w.seen y.seen → AllKilled l root Ids old (shown t' y)
+  all_killed : (root end : ℕ) (Ids : ℕ → Type 0) → ((i : ℕ) → Ids i → i < rows_of l → (from ≤ i) × (i < end)) → EachRow (PassedOver l (wanteds.Reply root)) from end O y.seen → AllKilled l root Ids old (shown t' y)
   all_killed root end Ids range passed x p reply id = let born = born_there x p in let r = range x.id id (inside x born) in let q = passed x.id r.0 r.1 x born in
       point (λ h. status_of l.attempts h x.id ≡ Killed) q.0 q.1 q.2
-      (reply_killed l q.0 x.id x (legal_within q.0 q.2) (found_later w.seen q.0 q.1 x.id x born) reply.0 (λ waits. q.3 (reply.0, reply.1, waits)))
+      (reply_killed l q.0 x.id x (legal_within q.0 q.2) (found_later O q.0 q.1 x.id x born) reply.0 (λ waits. q.3 (reply.0, reply.1, waits)))
 
-  last : IsPrefix w.seen y.seen
-  last = begins_trans w.seen (opening_of w.seen b.marks) y.seen b.walk.opens b.walk.closes
+  error_none : EachRow (PassedOver l wanteds.Error) from (rows_of l) O y.seen → NoneParked l (λ i. from ≤ i) old (shown t' y)
+  error_none passed = none_parked (rows_of l) (λ i. from ≤ i) (λ i low high. (low, high)) passed
 
-  pub error_answer : (r : Option ℕ) → MatchOption r (PassedFrom l wanteds.Error from (rows_of l) w.seen y.seen) (λ id. (from ≤ id) × Hits l wanteds.Error id y.seen × PassedFrom l wanteds.Error from id w.seen y.seen)
-      → MatchOption r (NoneParked l (λ i. from ≤ i) old (shown t' y)) (λ id. NextError l from id old (shown t' y))
-  error_answer None told = none_parked (rows_of l) (λ i. from ≤ i) (λ i low high. (low, high)) told
-  error_answer (Some id) told = record {
-    from_on = told.0;
-    parked = point (λ h. (x : Element) × (element_of h id ≡ Some x) × IsParked (status_of l.attempts h id)) y.seen last (begins_refl y.seen) told.1;
-    before = none_parked id (λ i. (from ≤ i) × (i < id)) (λ i range _. range) told.2;
+  error_some : (id : ℕ) → from ≤ id → Hits l wanteds.Error id y.seen → EachRow (PassedOver l wanteds.Error) from id O y.seen → NextError l from id old (shown t' y)
+  error_some id low hit passed = record {
+    from_on = low;
+    parked = point (λ h. (x : Element) × (element_of h id ≡ Some x) × IsParked (status_of l.attempts h id)) y.seen walk.closes (begins_refl y.seen) hit;
+    before = none_parked id (λ i. (from ≤ i) × (i < id)) (λ i range _. range) passed;
   }
 
-  pub reply_answer : (root : ℕ) (r : Option ℕ) → MatchOption r (PassedFrom l (wanteds.Reply root) from (rows_of l) w.seen y.seen) (λ id. (from ≤ id) × Hits l (wanteds.Reply root) id y.seen × PassedFrom l (wanteds.Reply root) from id w.seen y.seen)
-      → MatchOption r (AllKilled l root (λ i. from ≤ i) old (shown t' y)) (λ id. NextReply l root from id old (shown t' y))
-  reply_answer root None told = all_killed root (rows_of l) (λ i. from ≤ i) (λ i low high. (low, high)) told
-  reply_answer root (Some id) told = let h = told.1 in record {
-    from_on = told.0;
-    waits = point (λ z. (x : Element) × (element_of z id ≡ Some x) × IsReply root x × IsWaiting (status_of l.attempts z id)) y.seen last (begins_refl y.seen) (h.0, h.1, (h.2.0, h.2.1), h.2.2);
-    before = all_killed root id (λ i. (from ≤ i) × (i < id)) (λ i range _. range) told.2;
+  reply_none : (root : ℕ) → EachRow (PassedOver l (wanteds.Reply root)) from (rows_of l) O y.seen → AllKilled l root (λ i. from ≤ i) old (shown t' y)
+  reply_none root passed = all_killed root (rows_of l) (λ i. from ≤ i) (λ i low high. (low, high)) passed
+
+  reply_some : (root id : ℕ) → from ≤ id → Hits l (wanteds.Reply root) id y.seen → EachRow (PassedOver l (wanteds.Reply root)) from id O y.seen → NextReply l root from id old (shown t' y)
+  reply_some root id low h passed = record {
+    from_on = low;
+    waits = point (λ z. (x : Element) × (element_of z id ≡ Some x) × IsReply root x × IsWaiting (status_of l.attempts z id)) y.seen walk.closes (begins_refl y.seen) (h.0, h.1, (h.2.0, h.2.1), h.2.2);
+    before = all_killed root id (λ i. (from ≤ i) × (i < id)) (λ i range _. range) passed;
   }
+
+-- what was looked for from `from` on
+abbrev pub Listed : Limits → Wanted → ℕ → ℕ → View → View → Option ℕ → Type 0
+Listed l wanted n from v y r = MatchOption r (Sought l n (EachRow (PassedOver l wanted) from (rows_of l)) v y)
+    (λ id. (from ≤ id) × Hits l wanted id y.seen × Sought l n (EachRow (PassedOver l wanted) from id) v y)
+
+pub listed_acted : (l : Limits) (wanted : Wanted) (n from : ℕ) (v y : View) (r : Option ℕ) → Listed l wanted n from v y r → Acted l n v y
+listed_acted l wanted n from v y None s = sought_acted l n (EachRow (PassedOver l wanted) from (rows_of l)) v y s
+listed_acted l wanted n from v y (Some id) s = sought_acted l n (EachRow (PassedOver l wanted) from id) v y s.2
+
+module _ (t t' : TableId) (v y : View) (old : PassShown) (is : shown t v ≡ old) (l : Limits) (n from : ℕ) where
+  pub error_answer : (r : Option ℕ) → Listed l wanteds.Error n from v y r → MatchOption r (NoneParked l (λ i. from ≤ i) old (shown t' y)) (λ id. NextError l from id old (shown t' y))
+  error_answer None s = error_none t t' v y old is l n from s.marks s.walk s.passed
+  error_answer (Some id) s = error_some t t' v y old is l n from s.2.marks s.2.walk id s.0 s.1 s.2.passed
+
+  pub reply_answer : (root : ℕ) (r : Option ℕ) → Listed l (wanteds.Reply root) n from v y r → MatchOption r (AllKilled l root (λ i. from ≤ i) old (shown t' y)) (λ id. NextReply l root from id old (shown t' y))
+  reply_answer root None s = reply_none t t' v y old is l n from s.marks s.walk root s.passed
+  reply_answer root (Some id) s = reply_some t t' v y old is l n from s.2.marks s.2.walk root id s.0 s.1 s.2.passed
 
 -- from the capacity on there is nothing
 module _ (t : TableId) (v : View) (old : PassShown) (is : shown t v ≡ old) (l : Limits) (s : Steady l v) (from : ℕ) (out : rows_of l ≤ from) where
@@ -164,8 +198,3 @@ module _ (t : TableId) (v : View) (old : PassShown) (is : shown t v ≡ old) (l 
 
   pub killed_beyond : (root : ℕ) → AllKilled l root (λ i. from ≤ i) old (shown t v)
   killed_beyond root x p reply low = absurd (nothing x p low)
-
-pub few_rows : (n attempts from : ℕ) → from < n → 1 + n * (2 * attempts + 4) ≤ n * (2 * attempts + 8)
-few_rows n attempts from less = let s = 2 * attempts + 4 in
-    let more : n * (2 * attempts + 8) ≡ n * suc (suc (suc (suc s))) = ap (λ z. n * z) (let e : 2 * attempts + 8 ≡ suc (suc (suc (suc s))) = omega arith in e) in
-    omega (arith, mul-suc n (suc (suc (suc s))), mul-suc n (suc (suc s)), mul-suc n (suc s), mul-suc n s)

@@ -6,31 +6,30 @@ use Rattle.tp_model.specs.History.{IsUnborn, events_by}
 use Rattle.tp_model.specs.Steps.{IsLegal}
 use Rattle.tp_model.specs.Passes.{IsPassView}
 use Rattle.tp_model.proofs.Histories.{legal_empty}
-use Rattle.tp_rule.specs.Views.{Seated, first_hand, fresh, fresh_from, hand, view_of}
+use Rattle.tp_rule.specs.Views.{SeatShown, first_hand, fresh, fresh_from, hand, view_of}
 use Rattle.tp_rule.specs.Steps.{handed_out, handed_on, front_of, rest_of, looked, noted}
 use Rattle.tp_rule.specs.declared.view.Hand.{Hand}
 use Rattle.tp_rule.specs.declared.view.View.{View}
 use Rattle.tp_manager.specs.Walks.{Keeps, Rests, pass_in}
 use Rattle.tp_manager.specs.Calls.{claims_in}
 
-module _ (seat : Seated) (l : Limits) (given : ℕ) (k : Keeps seat l given) (left : ¬ (given ≡ l.parts)) where
+module _ (seat : SeatShown) (l : Limits) (given : ℕ) (k : Keeps seat l given) (left : ¬ (given ≡ l.parts)) where
   hands_are : (view_of seat).hands ≡ fresh given ∷ fresh_from (given + 1) (l.parts - (given + 1))
   hands_are = let below = k.below in let more : l.parts - given ≡ suc (l.parts - (given + 1)) = omega arith in k.rest ∙ ap (fresh_from given) more
 
   pub still_below : given + 1 ≤ l.parts
   still_below = let below = k.below in omega arith
 
-  pub keeps_on : (next : Seated) → view_of next ≡ handed_on (view_of seat) → next.me.1 ≡ seat.me.1 → Keeps next l (given + 1)
-  keeps_on next is same = record {
+  pub keeps_on : (next : SeatShown) → view_of next ≡ handed_on (view_of seat) → Keeps next l (given + 1)
+  keeps_on next is = record {
     valid = k.valid;
     limits_are = ap (λ (v : View). v.limits) is ∙ k.limits_are;
     below = still_below;
     rest = ap (λ (v : View). v.hands) is ∙ ap rest_of hands_are;
     unseen = ap (λ (v : View). v.seen) is ∙ k.unseen;
-    bare = same ∙ k.bare;
   }
 
-  module _ (next : Seated) (is : view_of next ≡ handed_out (view_of seat)) where
+  module _ (next : SeatShown) (is : view_of next ≡ handed_out (view_of seat)) where
     out : (view_of next).hands ≡ noted kinds.SeatLoad (view_of seat).seen (fresh given) ∷ []
     out = ap (λ (v : View). v.hands) is ∙ ap (λ hs. looked (view_of seat) (front_of hs)) hands_are
 
@@ -50,12 +49,12 @@ module _ (seat : Seated) (l : Limits) (given : ℕ) (k : Keeps seat l given) (le
       own = ap (λ (a : Hand). a.mine) h ∙ sym (ap (events_by (hand (view_of next)).number) fresh_seen);
       within = omega arith;
       unborn = λ i low high. subst (λ s. IsUnborn s i) (sym fresh_seen) refl;
+      open_own = λ u is. let none : (hand (view_of next)).open_unit ≡ None = ap (λ (a : Hand). a.open_unit) h in absurd cc;
     }
 
-    pub fresh_rests : next.me.1 ≡ [] → Rests next given 0 0 None
-    fresh_rests bare = let h = fresh_hand in record {
+    pub fresh_rests : Rests next given 0 0 None
+    fresh_rests = let h = fresh_hand in record {
       steady = record { pass = (out ∙ ap (λ (a : Hand). a ∷ []) (sym h), refl); shows = fresh_shows };
-      bare = bare;
       number_is = ap (λ (a : Hand). a.number) h;
       drawn_is = ap (λ (a : Hand). a.drawn) h;
       used_is = ap (λ (a : Hand). a.claimed) h;

@@ -25,11 +25,11 @@ use Rattle.tp_model.proofs.WordProofs.{end_of-snoc, words_rise}
 use Rattle.tp_model.proofs.Bridges.{append_nil, begins_refl, begins_trans, in_either, in_none, in_one, status_taken}
 use Rattle.tp_model.proofs.Later.{claim_stands}
 use Rattle.tp_rule.specs.Steps.{MakesAbort, MakesKill, HasElement, with_end, with_event}
-use Rattle.tp_rule.specs.Views.{Seated, hand, view_of}
+use Rattle.tp_rule.specs.Views.{SeatShown, hand, view_of}
 use Rattle.tp_rule.specs.declared.view.Hand.{Hand}
 use Rattle.tp_rule.specs.declared.view.View.{View}
 use Rattle.tp_manager.specs.Calls.{AreOfHolders, AtPoint, HasStatus, KillFails, Kills, OnlyAborts, claims_in, one_claim}
-use Rattle.tp_manager.specs.Kills.{FailsIn, Freed, KillsIn, Slain, IsEnoughToKill}
+use Rattle.tp_manager.specs.Kills.{FailsIn, Freed, KillsIn, Slain}
 use Rattle.tp_manager.specs.Walks.{Rests, Steady, Walked, Looked}
 use Rattle.tp_manager.proofs.Births.{attempt_range}
 use Rattle.tp_manager.proofs.Walks.{at_point, point_last, grew_hand, grew_walked, steady_own, walked_begins, walked_few, walked_then}
@@ -48,11 +48,11 @@ module _ (l : Limits) where
   }
 
   -- the Abort of the unit that holds the element
-  pub freed_abort : (i n u : ℕ) (v w : View) → Steady l v → claim_word v.seen i ≡ TakenWord n u → MakesAbort v u w → Freed l 2 i (Abort (hand v).number u ∷ []) v w × (end_of w.seen u ≡ Some Aborted)
+  pub freed_abort : (i n u : ℕ) (v w : View) → Steady l v → claim_word v.seen i ≡ TakenWord n u → MakesAbort v u w → Freed l 1 i (Abort (hand v).number u ∷ []) v w × (end_of w.seen u ≡ Some Aborted)
   freed_abort i n u v w s taken g =
       let e = Abort (hand v).number u in let f : Hand → Hand = with_end e in let x = grew_hand l kinds.AbortExchange f (e ∷ []) v w s g in
       let st = steady_own l kinds.AbortExchange f e v w s g refl (omega arith) s.shows.within refl refl (λ x p. absurd (in_none p)) in
-      let walk = grew_walked l kinds.AbortExchange f (e ∷ []) v w s g tt refl refl st in
+      let walk = grew_walked l kinds.AbortExchange f (e ∷ []) v w s g refl refl refl st in
       let p : List Event = v.seen ++ g.between in
       let legal : IsLegal l (p ++ e ∷ []) = subst (IsLegal l) g.seen st.shows.legal in
       let step : Step l p e = legal_at l p e [] legal in
@@ -62,7 +62,7 @@ module _ (l : Limits) where
       let held : status_of l.attempts p i ≡ Held u n = status_taken l p i n u before still ∙ ap (taken_status l.attempts n u) open_yet in (
         record {
           marks = record { kind = kinds.AbortExchange; seen = w.seen } ∷ [];
-          walk = walked_few l 1 2 _ v w (omega arith) walk;
+          walk = walk;
           drawn = ap (λ (a : Hand). a.drawn) x;
           claimed = ap (λ (a : Hand). a.claimed) x;
           mine = ap (λ (a : Hand). a.mine) x;
@@ -127,7 +127,7 @@ module _ (l : Limits) where
   slain_by n i es v w y a g =
       let e = Kill (hand w).number i in let f : Hand → Hand = with_event e in let s = a.walk.steady in let x = grew_hand l kinds.KillExchange f (e ∷ []) w y s g in
       let st = steady_own l kinds.KillExchange f e w y s g refl (omega arith) s.shows.within refl refl (λ x p. absurd (in_none p)) in
-      let walk = grew_walked l kinds.KillExchange f (e ∷ []) w y s g tt refl refl st in
+      let walk = grew_walked l kinds.KillExchange f (e ∷ []) w y s g refl refl refl st in
       let same : (hand w).number ≡ (hand v).number = a.walk.number in
       record {
         marks = a.marks ++ record { kind = kinds.KillExchange; seen = y.seen } ∷ [];
@@ -161,39 +161,11 @@ module _ (l : Limits) where
   pub slain_few : (n m i : ℕ) (es : List Event) (v w : View) → n ≤ m → Slain l n i es v w → Slain l m i es v w
   slain_few n m i es v w le a = record { marks = a.marks; walk = walked_few l n m a.marks v w le a.walk; drawn = a.drawn; claimed = a.claimed; mine = a.mine; drafts = a.drafts; open_unit = a.open_unit; before = a.before; begins = a.begins; ends = a.ends; aborts = a.aborts }
 
-  other_one : (n u : ℕ) (w z : ClaimWord) → Rises (TakenWord n u) w → w ≢ TakenWord n u → Rises w z → (z ≡ KilledWord n u) ⊎ ((n < attempt_in z) ⊎ ((m : ℕ) × (k : ℕ) × (z ≡ KilledWord m k)))
-  other_one n u FreeWord z r not s = ⊎_elim (λ p. absurd (not p)) (λ q. ⊎_elim (λ (less : n < 0). absurd (omega arith)) (λ p. absurd cc) q) r
-  other_one n u (TakenWord m k) z r not s = ⊎_elim (λ p. absurd (not p)) (λ q. ⊎_elim (λ (less : n < m). (⊎_elim (λ same. let e : attempt_in z ≡ m = ap attempt_in same in inr (inl (omega arith))) (λ t. ⊎_elim (λ (more : m < attempt_in z). inr (inl (omega arith))) (λ p. inr (inr (m, k, p))) t) s)) (λ p. absurd cc) q) r
-  other_one n u (KilledWord m k) z r not s = inr (inr (m, k, s))
-
-  enough_of : (n u left : ℕ) (z : ClaimWord) → (z ≡ KilledWord n u) ⊎ ((n < attempt_in z) ⊎ ((m : ℕ) × (k : ℕ) × (z ≡ KilledWord m k))) → l.attempts < n + left → IsEnoughToKill l (left - 1) z
-  enough_of n u left FreeWord r e = ⊎_elim (λ p. absurd cc) (λ q. ⊎_elim (λ (less : n < 0). absurd (omega arith)) (λ t. let p = t.2 in absurd cc) q) r
-  enough_of n u left (TakenWord m k) r e = ⊎_elim (λ p. absurd cc) (λ q. ⊎_elim (λ (less : n < m). (let x : l.attempts < m + (left - 1) = omega arith in x)) (λ t. let p = t.2 in absurd cc) q) r
-  enough_of n u left (KilledWord m k) r e = tt
-
-  -- the exchange missed, so a later attempt has begun since, or the element was killed
-  pub enough_again : (i n u left : ℕ) (v x y : List Event) → IsPrefix v x → IsPrefix x y → IsLegal l x → IsLegal l y → claim_word v i ≡ TakenWord n u → claim_word x i ≢ TakenWord n u → l.attempts < n + left → IsEnoughToKill l (left - 1) (claim_word y i)
-  enough_again i n u left v x y b c lx ly is not e = enough_of n u left (claim_word y i) (other_one n u (claim_word x i) (claim_word y i) (subst (λ z. Rises z (claim_word x i)) is (words_rise l v x i lx b)) not (words_rise l x y i ly c)) e
-
-  never_free : (w z : ClaimWord) → w ≢ FreeWord → Rises w z → z ≢ FreeWord
+  pub never_free : (w z : ClaimWord) → w ≢ FreeWord → Rises w z → z ≢ FreeWord
   never_free FreeWord z not r = absurd (not refl)
   never_free (TakenWord n u) z not r = λ p. ⊎_elim (λ q. absurd cc) (λ t. ⊎_elim (λ (less : n < attempt_in z). (let e : attempt_in z ≡ 0 = ap attempt_in p in absurd (omega arith))) (λ q. absurd cc) t) r
   never_free (KilledWord n u) z not r = λ p. absurd cc
 
-  -- every attempt is left for a claim that isn't free
-  pub enough_all : AreLimits l → (h : List Event) (i : ℕ) → IsLegal l h → claim_word h i ≢ FreeWord → IsEnoughToKill l l.attempts (claim_word h i)
-  enough_all fair h i legal not = go (claim_word h i) refl
-    where
-      go : (w : ClaimWord) → claim_word h i ≡ w → IsEnoughToKill l l.attempts w
-      go FreeWord e = not e
-      go (TakenWord n u) e = let a = (attempt_range l fair h legal i n u e).0 in omega arith
-      go (KilledWord n u) e = tt
-
-  pub enough_freed : AreLimits l → (x y : List Event) (i : ℕ) → IsLegal l y → IsPrefix x y → claim_word x i ≢ FreeWord → IsEnoughToKill l l.attempts (claim_word y i)
-  enough_freed fair x y i legal b not = enough_all fair y i legal (never_free (claim_word x i) (claim_word y i) not (words_rise l x y i legal b))
-
-  pub enough_left : AreLimits l → (h : List Event) (i n u left : ℕ) → IsLegal l h → claim_word h i ≡ TakenWord n u → l.attempts < n + left → 1 ≤ left
-  enough_left fair h i n u left legal is e = let a = (attempt_range l fair h legal i n u is).1 in omega arith
 
 -- a result whose parts tell more
 pub match_map : {A B : Type 0} (P P' : A → Type 0) (Q Q' : B → Type 0) (r : Result A B) → ((a : A) → P a → P' a) → ((b : B) → Q b → Q' b) → MatchResult r P Q → MatchResult r P' Q'
@@ -212,12 +184,11 @@ pub no_claims : (l : Limits) (c i : ℕ) (s t es : List Event) → AreOfHolders 
 no_claims l c i s t [] h = refl
 no_claims l c i s t (e ∷ es) h = let first : one_claim e ≡ 0 = ap one_claim (h e here).is_abort in let rest = no_claims l c i s t es (λ x p. h x (there p)) in omega arith
 
-module _ (l : Limits) (seat next : Seated) (number drawn used : ℕ) (same : (view_of seat).limits ≡ l) (bare : next.me.1 ≡ seat.me.1) (r : Rests seat number drawn used None) where
+module _ (l : Limits) (seat next : SeatShown) (number drawn used : ℕ) (same : (view_of seat).limits ≡ l) (r : Rests seat number drawn used None) where
   rests_kill : (n : ℕ) (ms : List TraceEntry) (es : List Event) → Walked l n ms (view_of seat) (view_of next) → (hand (view_of next)).drawn ≡ (hand (view_of seat)).drawn → (hand (view_of next)).claimed ≡ (hand (view_of seat)).claimed
       → (hand (view_of next)).mine ≡ (hand (view_of seat)).mine ++ es → claims_in es ≡ 0 → ((hand (view_of seat)).drafts ≡ [] → (hand (view_of next)).drafts ≡ []) → ((hand (view_of seat)).open_unit ≡ None → (hand (view_of next)).open_unit ≡ None) → Rests next number drawn used None
   rests_kill n ms es walk d c m none dr op = let lim : l ≡ (view_of next).limits = sym walk.steady.pass.1 in record {
     steady = steady_at l (view_of next).limits (view_of next) lim walk.steady;
-    bare = bare ∙ r.bare;
     number_is = walk.number ∙ r.number_is;
     drawn_is = d ∙ r.drawn_is;
     used_is = c ∙ r.used_is;

@@ -6,6 +6,7 @@ use Rattle.tp_model.specs.declared.types.Element.{Element}
 use Rattle.tp_model.specs.declared.types.Limits.{Limits}
 use Rattle.tp_model.specs.declared.types.Status.TheVariants.{Waiting, Held, Consumed, Parked}
 use Rattle.tp_model.specs.declared.event.Event.{Event}
+use Rattle.tp_model.specs.declared.trace.StepKind.{StepKind}
 use Rattle.tp_model.specs.History.{IsUnborn, element_of, UnitEnd, Committed, Aborted, end_of, status_of}
 use Rattle.tp_model.specs.Words.{ClaimWord, FreeWord, TakenWord, KilledWord, Rises, attempt_in, claim_word, taken_status}
 use Rattle.tp_model.specs.Steps.{AreLimits, units_of, IsLegal}
@@ -17,8 +18,11 @@ use Rattle.tp_words.specs.declared.words.Head.TheVariants.{Empty, There}
 use Rattle.tp_words.specs.declared.words.Claim.{Claim}
 use Rattle.tp_words.specs.declared.words.Claim.TheVariants as claims
 use Rattle.tp_words.specs.Words.{claim_value, head_of}
+use Rattle.tp_rule.specs.Steps.{Grew}
+use Rattle.tp_rule.specs.declared.view.Hand.{Hand}
+use Rattle.tp_rule.specs.declared.view.View.{View}
 use Rattle.tp_manager.specs.declared.looking.Birth.{Birth}
-use Rattle.tp_manager.specs.Looks.{HeadTold, IsThere, IsEnough}
+use Rattle.tp_manager.specs.Looks.{HeadFound, IsThere, IsEnough}
 use Rattle.tp_manager.proofs.Births.{by_unit, attempt_range}
 
 -- births
@@ -29,27 +33,28 @@ unborn_if h i not = ⊎_elim (λ t. absurd (not t.0 (born_at h i t.0 t.1 t.2))) 
 same_by : (x : Element) (s r u : ℕ) (b : Option ℕ) (head : Head) → head ≡ There s r b → head ≡ head_of x → b ≡ Some u → x.by ≡ Some u
 same_by x s r u b head is e q = cc
 
+-- a head that isn't empty is that of the element that is born by now
+pub head_now : (kind : StepKind) (f : Hand → Hand) (es : List Event) (v w : View) (i s r : ℕ) (b : Option ℕ) (head : Head) → HeadFound v i head → Grew kind f es v w → head ≡ There s r b → (x : Element) → element_of w.seen i ≡ Some x → head ≡ head_of x
+head_now kind f es v w i s r b head t g is x p = g.heads i head x t.knows (λ empty. let e : There s r b ≡ Empty = sym is ∙ empty in absurd cc) p
+
 module _ (l : Limits) where
-  pub none_outside : (h : List Event) (i s r u : ℕ) (b : Option ℕ) (head : Head) → head ≡ There s r b → b ≡ Some u → HeadTold h i head → IsLegal l h → ¬ (u < units_of l) → IsUnborn h i
-  none_outside h i s r u b head is q t legal out = unborn_if h i (λ x p. out (by_unit l h legal i x u p (same_by x s r u b head is (t.born x p) q)).inside)
+  -- the row of an empty head has no element
+  pub none_empty : (v : View) (i : ℕ) (head : Head) → HeadFound v i head → head ≡ Empty → IsUnborn v.seen i
+  none_empty v i head t is = unborn_if v.seen i (λ x p. let e = sym is ∙ t.born x p in absurd cc)
+
+  pub none_outside : (v : View) (i s r u : ℕ) (b : Option ℕ) (head : Head) → head ≡ There s r b → b ≡ Some u → HeadFound v i head → IsLegal l v.seen → ¬ (u < units_of l) → IsUnborn v.seen i
+  none_outside v i s r u b head is q t legal out = unborn_if v.seen i (λ x p. out (by_unit l v.seen legal i x u p (same_by x s r u b head is (t.born x p) q)).inside)
 
   -- the unit has made no element i
   abbrev pub MadeNot : List Event → ℕ → ℕ → Type 0
   MadeNot h i u = (f m : ℕ) → end_of h u ≡ Some (Committed f m) → f ≤ i → i < f + m → ⊥
 
-  pub none_unit : (h g : List Event) (i s r u : ℕ) (b : Option ℕ) (head : Head) → head ≡ There s r b → b ≡ Some u → HeadTold h i head → IsLegal l h → IsPrefix h g → MadeNot g i u → IsUnborn h i
-  none_unit h g i s r u b head is q t legal begins not =
-      unborn_if h i (λ x p. let m = by_unit l h legal i x u p (same_by x s r u b head is (t.born x p) q) in not m.from m.count (end_stays h g u (Committed m.from m.count) begins m.committed) m.low m.high)
+  pub none_unit : (h : List Event) (i s r u : ℕ) (b : Option ℕ) (head : Head) → head ≡ There s r b → b ≡ Some u → ((x : Element) → element_of h i ≡ Some x → head ≡ head_of x) → IsLegal l h → MadeNot h i u → IsUnborn h i
+  none_unit h i s r u b head is q told legal not = unborn_if h i (λ x p. let m = by_unit l h legal i x u p (same_by x s r u b head is (told x p) q) in not m.from m.count m.committed m.low m.high)
 
-  pub there_unit : (h g : List Event) (i u f m s r : ℕ) (b : Option ℕ) (head : Head) → IsLegal l h → IsPrefix h g → end_of h u ≡ Some (Committed f m) → f ≤ i → i < f + m → head ≡ There s r b
-      → ((e : Element) → element_of g i ≡ Some e → head ≡ head_of e) → (e : Element) × (element_of g i ≡ Some e) × (head_of e ≡ There s r b)
-  there_unit h g i u f m s r b head legal begins end_is low high is told =
-      let x = committed_born l h legal u f m i end_is low high in let p = found_later h g begins i x.0 x.1 in (x.0, p, sym (told x.0 p) ∙ is)
-
-  pub never_empty : (h g : List Event) (i u f m : ℕ) (head : Head) → IsLegal l h → IsPrefix h g → end_of h u ≡ Some (Committed f m) → f ≤ i → i < f + m → head ≡ Empty
-      → ((e : Element) → element_of g i ≡ Some e → head ≡ head_of e) → ⊥
-  never_empty h g i u f m head legal begins end_is low high is told =
-      let x = committed_born l h legal u f m i end_is low high in let e = told x.0 (found_later h g begins i x.0 x.1) in absurd cc
+  pub there_unit : (h : List Event) (i u f m s r : ℕ) (b : Option ℕ) (head : Head) → IsLegal l h → end_of h u ≡ Some (Committed f m) → f ≤ i → i < f + m → head ≡ There s r b
+      → ((e : Element) → element_of h i ≡ Some e → head ≡ head_of e) → (e : Element) × (element_of h i ≡ Some e) × (head_of e ≡ There s r b)
+  there_unit h i u f m s r b head legal end_is low high is told = let x = committed_born l h legal u f m i end_is low high in (x.0, x.1, sym (told x.0 x.1) ∙ is)
 
 pub there_later : (h g : List Event) (i : ℕ) (b : Birth) → IsPrefix h g → IsThere h i b → IsThere g i b
 there_later h g i b begins t = (t.0, found_later h g begins i t.0 t.1, t.2)

@@ -8,7 +8,7 @@ use Rattle.tp_model.specs.History.{IsUnborn}
 use Rattle.tp_model.specs.Steps.{rows_of, IsLegal}
 use Rattle.tp_model.proofs.Bridges.{begins_refl, claim_later, found_later, is_born, element_of-id}
 use Rattle.tp_model.proofs.Later.{births_inside}
-use Rattle.tp_rule.specs.Views.{Seated, view_of}
+use Rattle.tp_rule.specs.Views.{SeatShown, view_of}
 use Rattle.tp_rule.specs.declared.view.Hand.{Hand}
 use Rattle.tp_rule.specs.declared.view.View.{View}
 use Rattle.tp_manager.specs.declared.manager.Task.{Task}
@@ -30,12 +30,11 @@ claims_append (e ∷ h) m = let i = claims_append h m in omega arith
 pub steady_at : (k l : Limits) (v : View) → k ≡ l → Steady k v → Steady l v
 steady_at k l v same s = subst (λ (z : Limits). Steady z v) same s
 
-module _ (l : Limits) (seat next : Seated) (same : (view_of seat).limits ≡ l) (number drawn used : ℕ) (task : Option Task) (r : Rests seat number drawn used task) where
+module _ (l : Limits) (seat next : SeatShown) (same : (view_of seat).limits ≡ l) (number drawn used : ℕ) (task : Option Task) (r : Rests seat number drawn used task) where
   -- the pass has looked, and no more
-  pub rests_looked : (n : ℕ) → Looked l n (view_of seat) (view_of next) → next.me.1 ≡ seat.me.1 → Rests next number drawn used task
-  rests_looked n a bare = let k = a.kept in let lim : l ≡ (view_of next).limits = sym a.walk.steady.pass.1 in record {
+  pub rests_looked : (n : ℕ) → Looked l n (view_of seat) (view_of next) → Rests next number drawn used task
+  rests_looked n a = let k = a.kept in let lim : l ≡ (view_of next).limits = sym a.walk.steady.pass.1 in record {
     steady = steady_at l (view_of next).limits (view_of next) lim a.walk.steady;
-    bare = bare ∙ r.bare;
     number_is = ap (λ (z : Hand). z.number) k ∙ r.number_is;
     drawn_is = ap (λ (z : Hand). z.drawn) k ∙ r.drawn_is;
     used_is = ap (λ (z : Hand). z.claimed) k ∙ r.used_is;

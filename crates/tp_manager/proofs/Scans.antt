@@ -11,21 +11,18 @@ use Rattle.tp_model.specs.declared.event.Event.TheVariants.{Enqueue, Claim, Comm
 use Rattle.tp_model.specs.declared.trace.StepKind.TheVariants as kinds
 use Rattle.tp_model.specs.History.{IsUnborn, element_of, status_after, status_of}
 use Rattle.tp_model.specs.Words.{ClaimWord, TakenWord, kill_word, claim_word, claim_word_after, word_status}
-use Rattle.tp_model.specs.Steps.{AreLimits, IsLegal}
+use Rattle.tp_model.specs.Steps.{AreLimits, IsLegal, rows_of}
 use Rattle.tp_model.proofs.Lists.{if_same, if_other}
 use Rattle.tp_model.proofs.Histories.{along, status_of-snoc}
 use Rattle.tp_model.proofs.WordProofs.{claim_word-snoc, status_by_words}
 use Rattle.tp_model.proofs.Bridges.{in_none, begins_refl, begins_more, begins_trans, found_later, waits_below, waits_later}
-use Rattle.tp_words.specs.declared.words.Head.TheVariants.{There}
-use Rattle.tp_words.specs.Words.{head_of}
 use Rattle.tp_rule.specs.Steps.{AllowsClaim, MakesClaim, claimed, with_claim}
 use Rattle.tp_rule.specs.Views.{hand}
 use Rattle.tp_rule.specs.declared.view.Hand.{Hand}
 use Rattle.tp_rule.specs.declared.view.View.{View}
-use Rattle.tp_manager.specs.declared.looking.Birth.{Birth}
 use Rattle.tp_manager.specs.Calls.{IsWaiting}
-use Rattle.tp_manager.specs.Looks.{IsThere}
-use Rattle.tp_manager.specs.Walks.{Looked, PassedBy, PassedBelow, Took, with_trace}
+use Rattle.tp_manager.specs.Walks.{Looked, PassedBy, Took, with_trace}
+use Rattle.tp_manager.proofs.Seeks.{Widens}
 use Rattle.tp_manager.proofs.Walks.{steady_own, grew_hand, grew_walked, walked_then, walked_few, looked_begins, walked_begins}
 
 module _ (l : Limits) (stage i : ℕ) where
@@ -34,15 +31,6 @@ module _ (l : Limits) (stage i : ℕ) where
 
   pub pass_unborn : (a h b : List Event) → IsPrefix a h → IsUnborn h i → PassedBy l stage i a b
   pass_unborn a h b begins un = pass_other a h b begins (λ x p. absurd cc)
-
-  pub pass_birth : (a h b : List Event) (birth : Birth) → IsPrefix a h → IsThere h i birth → ¬ (birth.stage ≡ stage) → PassedBy l stage i a b
-  pass_birth a h b birth begins t not = pass_other a h b begins (λ x p st. let same : x ≡ t.0 = one x t.0 p t.1 in not (sym (staged t.0 t.2) ∙ (ap (λ (e : Element). e.stage) (sym same) ∙ st)))
-    where
-      one : (x y : Element) → element_of h i ≡ Some x → element_of h i ≡ Some y → x ≡ y
-      one x y p q = cc
-
-      staged : (e : Element) → head_of e ≡ There birth.stage birth.root birth.by → e.stage ≡ birth.stage
-      staged e q = cc
 
   pub pass_status : (a h b : List Event) → IsPrefix a h → IsPrefix h b → ¬ IsWaiting (status_of l.attempts h i) → PassedBy l stage i a b
   pass_status a h b before after not = λ x p st. (h, before, after, not)
@@ -93,14 +81,11 @@ module _ (l : Limits) (stage i : ℕ) where
   pub few_attempts : AreLimits l → (h : List Event) (n : ℕ) → IsLegal l h → status_of l.attempts h i ≡ Waiting n → n < 7
   few_attempts fair h n legal waits = let less = waits_below l.attempts h (claim_word h i) n fair.attempts.0 (sym (status_by_words l h i legal) ∙ waits) in let most = fair.attempts.1 in omega arith
 
-module _ (l : Limits) (stage : ℕ) where
-  pub below_next : (n : ℕ) (a h b : List Event) → IsPrefix a h → IsPrefix h b → PassedBelow l stage n a h → PassedBy l stage n h b → PassedBelow l stage (n + 1) a b
-  below_next n a h b before after all this i less x p st = elim (eqb_tells i n) [
-    | inl q ↦ (let at : element_of a n ≡ Some x = subst (λ z. element_of a z ≡ Some x) q.1 p in let t = this x (found_later a h before n x at) st in
-        (t.0, begins_trans a h t.0 before t.1, t.2, subst (λ z. ¬ IsWaiting (status_of l.attempts t.0 z)) (sym q.1) t.3))
-    | inr q ↦ (let not : i ≢ n = q.1 in let t = all i (omega arith) x p st in (t.0, t.1, begins_trans t.0 h b t.2 after, t.3))
-  ]
+-- a row that was passed by is so from an earlier history on, and to a later one
+pub passed_widens : (l : Limits) (stage : ℕ) → Widens (PassedBy l stage)
+passed_widens l stage i a a' b b' before after passed x p st = let t = passed x (found_later a a' before i x p) st in (t.0, begins_trans a a' t.0 before t.1, begins_trans t.0 b b' t.2 after, t.3)
 
+module _ (l : Limits) (stage : ℕ) where
   module _ (u attempt : ℕ) (e : Element) where
     pub took_by : (n i : ℕ) (v w y : View) → e.id ≡ i → Looked l n v w → element_of w.seen i ≡ Some e → e.stage ≡ stage → MakesClaim w u i attempt y → Took l (n + 1) stage u v y e attempt
     took_by n i v w y at a born staged made =
@@ -108,7 +93,7 @@ module _ (l : Limits) (stage : ℕ) where
         let E : Event = claimed w u e.id attempt in let f : Hand → Hand = with_claim u E in let s = a.walk.steady in
         let h = grew_hand l kinds.ClaimExchange f (E ∷ []) w y s g in
         let steady = steady_own l kinds.ClaimExchange f E w y s g refl (omega arith) s.shows.within refl refl (λ x p. absurd (in_none p)) in
-        let walk = grew_walked l kinds.ClaimExchange f (E ∷ []) w y s g tt refl refl steady in
+        let walk = grew_walked l kinds.ClaimExchange f (E ∷ []) w y s g refl refl refl steady in
         let same : (hand w).number ≡ (hand v).number = a.walk.number in
         record {
           marks = a.marks ++ record { kind = kinds.ClaimExchange; seen = y.seen } ∷ [];
@@ -139,3 +124,9 @@ module _ (l : Limits) (stage : ℕ) where
 
 pub rows_more : (row rows s : ℕ) → row < rows → row * s + s ≤ rows * s
 rows_more row rows s less = let all : suc row * s ≤ rows * s = mul-le-mul_right s less in omega (arith, suc-mul row s)
+
+pub next_most : (row rows s : ℕ) → row < rows → (row + 1) * s ≤ rows * s
+next_most row rows s less = let one : row + 1 ≡ suc row = omega arith in subst (λ n. n * s ≤ rows * s) (sym one) (mul-le-mul_right s less)
+
+pub rows_some : (l : Limits) → AreLimits l → 0 < rows_of l
+rows_some l fair = let a : 1 ≤ l.parts = fair.parts.0 in let b : 1 ≤ l.rows = fair.rows.0 in let m : 1 * l.rows ≤ l.parts * l.rows = mul-le-mul_right l.rows a in omega arith

@@ -1,5 +1,5 @@
 -- The drafts of a pass's own unit, and the unit's end.
-use Rattle.std.proofs.Common.{◌≡◌, ℕ, suc, ◌+◌, ◌*◌, ◌<◌, ◌≤◌, List, [], ◌∷◌, ◌++◌, length, slice_index_or, take, sym, refl, ap, ◌∙◌, subst, ⊎_elim, arith, append_assoc, length-append, mul-le-mul_right, Option, Some, None}
+use Rattle.std.proofs.Common.{◌≡◌, ℕ, suc, ◌+◌, ◌*◌, ◌<◌, ◌≤◌, List, [], ◌∷◌, ◌++◌, length, true, slice_index_or, take, sym, refl, ap, ◌∙◌, subst, ⊎_elim, arith, append_assoc, length-append, mul-le-mul_right, Option, Some, None}
 use Rattle.atomic_table.specs.Seated.{TableId}
 use Rattle.tp_model.specs.Drafts.{DraftView}
 use Rattle.std.specs.List.{All}
@@ -9,25 +9,29 @@ use Rattle.tp_model.specs.declared.types.Limits.{Limits}
 use Rattle.tp_model.specs.declared.event.Event.{Event}
 use Rattle.tp_model.specs.declared.event.Event.TheVariants.{Abort, Commit}
 use Rattle.tp_model.specs.declared.trace.StepKind.{StepKind}
-use Rattle.tp_model.specs.History.{Aborted, Committed, In, UnitEnd, end_by, births, end_of, first_id, pass_of, element_of, IsClaim, claim_of}
+use Rattle.tp_model.specs.History.{Aborted, Committed, In, UnitEnd, committed as committed_status, end_by, births, end_of, first_id, pass_of, element_of, IsClaim, claim_of, status_of}
 use Rattle.tp_model.specs.Births.{outputs, HasStage}
-use Rattle.tp_model.specs.Steps.{AreLimits, IsLegal, units_of}
-use Rattle.tp_model.proofs.Bridges.{append_nil, begins_trans, in_cons, in_none}
+use Rattle.tp_model.specs.Passes.{looks}
+use Rattle.tp_model.specs.Steps.{AreLimits, IsLegal, Step, units_of}
+use Rattle.tp_model.proofs.Bridges.{append_nil, begins_trans, claim_kept, in_cons, in_none}
 use Rattle.std.specs.Prelude.{IfSome}
 use Rattle.std.specs.Option.{option_or}
 use Rattle.tp_model.proofs.Lists.{if_same}
+use Rattle.tp_model.specs.declared.types.Status.TheVariants.{Consumed, Held}
+use Rattle.tp_model.proofs.Histories.{legal_at, legal_start, open_holds, status_of-snoc}
 use Rattle.tp_model.proofs.WordProofs.{end_of-snoc}
 use Rattle.tp_model.proofs.Outputs.{length-outputs, outputs_more}
 use Rattle.tp_model.proofs.Later.{aborted_by, abort_ends}
 use Rattle.tp_model.proofs.Bridges.{in_right}
 use Rattle.tp_model.specs.History.{here}
-use Rattle.tp_rule.specs.Views.{Seated, hand, view_of}
+use Rattle.tp_rule.specs.Views.{SeatShown, hand, view_of}
 use Rattle.tp_rule.specs.Steps.{Grew, IsOut, IsOwnWork, IsClaimed, committed, with_end, with_lost}
 use Rattle.tp_rule.specs.declared.view.Hand.{Hand}
 use Rattle.tp_rule.specs.declared.view.View.{View}
 use Rattle.tp_manager.specs.declared.manager.Task.{Task}
 use Rattle.tp_manager.specs.Shown.{PassShown, shown}
-use Rattle.tp_manager.specs.Calls.{Adds, Closes, Commits, EndedByOther, IsEnded, IsLookingStep, Loses, claims_in}
+use Rattle.tp_manager.specs.Calls.{Adds, Closes, Commits, EndedByOther, HasConsumed, HasEnded, Loses, claims_in}
+use Rattle.tp_manager.specs.Bounds.{commit_steps, draft_steps}
 use Rattle.tp_manager.specs.Walks.{Rests, Shut, Steady, Wrote, output, IsTask}
 use Rattle.tp_manager.proofs.Births.{claimed_inside}
 use Rattle.tp_manager.proofs.Passes.{claims_append, steady_at}
@@ -35,9 +39,9 @@ use Rattle.tp_manager.proofs.Walks.{grew_hand, grew_walked, steady_own, steady_q
 
 module _ (l : Limits) where
   pub wrote_then : (xs ys : List Element) (v w y : View) → Wrote l xs v w → Wrote l ys w y → Wrote l (xs ++ ys) v y
-  wrote_then xs ys v w y a b = let g = walked_then l (3 * length xs) (3 * length ys) a.marks b.marks v w y a.walk b.walk in record {
+  wrote_then xs ys v w y a b = let g = walked_then l (draft_steps (length xs)) (draft_steps (length ys)) a.marks b.marks v w y a.walk b.walk in record {
     marks = a.marks ++ b.marks;
-    walk = walked_few l (3 * length xs + 3 * length ys) (3 * length (xs ++ ys)) _ v y (omega (arith, length-append xs ys)) g;
+    walk = walked_few l (draft_steps (length xs) + draft_steps (length ys)) (draft_steps (length (xs ++ ys))) _ v y (omega (arith, length-append xs ys)) g;
     seen = b.seen ∙ a.seen;
     drawn = let p = a.drawn in let q = b.drawn in omega (arith, length-append xs ys);
     claimed = b.claimed ∙ a.claimed;
@@ -46,7 +50,7 @@ module _ (l : Limits) where
     open_unit = b.open_unit ∙ a.open_unit;
   }
 
-  shut_by : (kind : StepKind) (f : Hand → Hand) (es : List Event) (v w : View) → IsLookingStep kind → (s : Steady l v) → (g : Grew kind f es v w) → Steady l w → (f (hand v)).trace ≡ (hand v).trace → (f (hand v)).number ≡ (hand v).number → (f (hand v)).drawn ≡ (hand v).drawn
+  shut_by : (kind : StepKind) (f : Hand → Hand) (es : List Event) (v w : View) → looks kind ≡ true → (s : Steady l v) → (g : Grew kind f es v w) → Steady l w → (f (hand v)).trace ≡ (hand v).trace → (f (hand v)).number ≡ (hand v).number → (f (hand v)).drawn ≡ (hand v).drawn
       → (f (hand v)).claimed ≡ (hand v).claimed → (f (hand v)).mine ≡ (hand v).mine ++ es → (f (hand v)).drafts ≡ [] → (f (hand v)).open_unit ≡ None → Shut l 1 0 es v w
   shut_by kind f es v w d s g steady t number drawn claimed mine drafts held = let x = grew_hand l kind f es v w s g in record {
     marks = record { kind = kind; seen = w.seen } ∷ [];
@@ -61,10 +65,10 @@ module _ (l : Limits) where
     open_unit = ap (λ (a : Hand). a.open_unit) x ∙ held;
   }
 
-  pub shut_hit : (kind : StepKind) (e : Event) (v w : View) → IsLookingStep kind → (s : Steady l v) → pass_of e ≡ (hand v).number → ((x : Element) → In x (births e) → x.id < (hand v).number * l.rows + (hand v).drawn) → Grew kind (with_end e) (e ∷ []) v w → Shut l 1 0 (e ∷ []) v w
+  pub shut_hit : (kind : StepKind) (e : Event) (v w : View) → looks kind ≡ true → (s : Steady l v) → pass_of e ≡ (hand v).number → ((x : Element) → In x (births e) → x.id < (hand v).number * l.rows + (hand v).drawn) → Grew kind (with_end e) (e ∷ []) v w → Shut l 1 0 (e ∷ []) v w
   shut_hit kind e v w d s own below g = shut_by kind (with_end e) (e ∷ []) v w d s g (steady_own l kind (with_end e) e v w s g refl (omega arith) s.shows.within refl own below) refl refl refl refl refl refl refl
 
-  pub shut_miss : (kind : StepKind) (v w : View) → IsLookingStep kind → (s : Steady l v) → Grew kind with_lost [] v w → Shut l 1 0 [] v w
+  pub shut_miss : (kind : StepKind) (v w : View) → looks kind ≡ true → (s : Steady l v) → Grew kind with_lost [] v w → Shut l 1 0 [] v w
   shut_miss kind v w d s g = shut_by kind with_lost [] v w d s g (steady_quiet l kind with_lost v w s g refl refl refl) refl refl refl refl (sym (append_nil (hand v).mine)) refl refl
 
 pub other_abort : (c u : ℕ) (h : List Event) → end_of h u ≡ Some Aborted → ¬ (In (Abort c u) h) → EndedByOther c u h
@@ -83,10 +87,9 @@ abort_ended u c h before is = some (end_of h u) (abort_ends h c u (subst (λ (z 
     some (Some x) not = (x, refl)
 
 -- a pass whose unit is closed
-pub shut_rests : (l : Limits) (n k : ℕ) (es : List Event) (seat next : Seated) (number drawn used drawn' : ℕ) (task : Option Task) → (view_of seat).limits ≡ l → Shut l n k es (view_of seat) (view_of next) → claims_in es ≡ 0 → next.me.1 ≡ seat.me.1 → drawn + k ≡ drawn' → Rests seat number drawn used task → Rests next number drawn' used None
-shut_rests l n k es seat next number drawn used drawn' task same t none bare more r = let w : View = view_of next in let lim : l ≡ w.limits = sym t.walk.steady.pass.1 in record {
+pub shut_rests : (l : Limits) (n k : ℕ) (es : List Event) (seat next : SeatShown) (number drawn used drawn' : ℕ) (task : Option Task) → (view_of seat).limits ≡ l → Shut l n k es (view_of seat) (view_of next) → claims_in es ≡ 0 → drawn + k ≡ drawn' → Rests seat number drawn used task → Rests next number drawn' used None
+shut_rests l n k es seat next number drawn used drawn' task same t none more r = let w : View = view_of next in let lim : l ≡ w.limits = sym t.walk.steady.pass.1 in record {
   steady = steady_at l w.limits w lim t.walk.steady;
-  bare = bare ∙ r.bare;
   number_is = t.walk.number ∙ r.number_is;
   drawn_is = t.drawn ∙ (ap (λ z. z + k) r.drawn_is ∙ more);
   used_is = t.claimed ∙ r.used_is;
@@ -112,10 +115,10 @@ pub shut_loses : (t t' : TableId) (v w : View) (old : PassShown) → shown t v �
 shut_loses t t' v w old is l n k u sh lost not = subst (λ (p : PassShown). Loses u p (shown t' w)) is (sh.mine ∙ append_nil (hand v).mine, other_abort (hand v).number u w.seen lost not)
 
 -- the drafts, and then the end
-pub wrote_shut : (l : Limits) (xs : List Element) (es : List Event) (v w y : View) → Wrote l xs v w → Shut l 1 0 es w y → Shut l (3 * length xs + 1) (length xs) es v y
+pub wrote_shut : (l : Limits) (xs : List Element) (es : List Event) (v w y : View) → Wrote l xs v w → Shut l 1 0 es w y → Shut l (commit_steps (length xs)) (length xs) es v y
 wrote_shut l xs es v w y wr sh = record {
   marks = wr.marks ++ sh.marks;
-  walk = walked_then l (3 * length xs) 1 wr.marks sh.marks v w y wr.walk sh.walk;
+  walk = walked_then l (draft_steps (length xs)) 1 wr.marks sh.marks v w y wr.walk sh.walk;
   before = sh.before;
   begins = begins_trans v.seen w.seen sh.before (walked_begins l _ wr.marks v w wr.walk) sh.begins;
   ends = sh.ends;
@@ -141,7 +144,7 @@ outs_first u root i [] f a b = b refl
 outs_first u root i (d ∷ ds) f a b = a (omega arith)
 
 -- the unit with its drafts written
-module _ (l : Limits) (v w : View) (number drawn used row : ℕ) (t : Task) (ds : List DraftView) (seat : Seated) (same : view_of seat ≡ v) (r : Rests seat number drawn used (Some t)) (next : row ≡ number * l.rows + drawn) (wr : Wrote l (outputs t.unit t.root row ds) v w) where
+module _ (l : Limits) (v w : View) (number drawn used row : ℕ) (t : Task) (ds : List DraftView) (seat : SeatShown) (same : view_of seat ≡ v) (r : Rests seat number drawn used (Some t)) (next : row ≡ number * l.rows + drawn) (wr : Wrote l (outputs t.unit t.root row ds) v w) where
   outs_are : (hand w).drafts ≡ outputs t.unit t.root row ds
   outs_are = wr.drafts ∙ ap (λ z. z ++ outputs t.unit t.root row ds) (subst (λ (z : View). (hand z).drafts ≡ []) same r.no_drafts)
 
@@ -198,8 +201,20 @@ commit_ended c u h before outs is = go (end_of before u) refl
     go None e = (Committed (first_id outs) (length outs), last ∙ (ap (λ o. option_or o (end_by u (Commit c u outs))) e ∙ if_same u u (Some (Committed (first_id outs) (length outs))) None refl))
     go (Some x) e = (x, last ∙ ap (λ o. option_or o (end_by u (Commit c u outs))) e)
 
+-- a commit consumes the element that its unit took
+pub commit_consumes : (l : Limits) (c u : ℕ) (h before : List Event) (outs : List Element) → IsLegal l h → h ≡ before ++ Commit c u outs ∷ [] → HasConsumed l c u h
+commit_consumes l c u h before outs legal is = let whole = subst (IsLegal l) is legal in let step : Step l before (Commit c u outs) = legal_at l before (Commit c u outs) [] whole in
+    let start : IsLegal l before = legal_start l before (Commit c u outs ∷ []) whole in let t = step.taking in
+    let held = open_holds l before start u t step.open_unit in
+    let claim : IsClaim before c u t.item t.attempt = subst (λ z. IsClaim before z u t.item t.attempt) step.own step.open_unit.claimed in (
+      t.item,
+      t.attempt,
+      subst (λ z. IsClaim z c u t.item t.attempt) (sym is) (claim_kept before (Commit c u outs ∷ []) c u t.item t.attempt claim),
+      ap (λ z. status_of l.attempts z t.item) is ∙ (status_of-snoc l.attempts before (Commit c u outs) t.item ∙ (ap (committed_status u) held ∙ if_same u u (Consumed u) (Held u t.attempt) refl)),
+    )
+
 -- the answer of a commit that was made
-pub committed_answer : (t t' : TableId) (l : Limits) (v w y : View) (old : PassShown) → shown t v ≡ old → (number drawn used row : ℕ) (k : Task) (ds : List DraftView) (seat : Seated) → view_of seat ≡ v → Rests seat number drawn used (Some k) → row ≡ number * l.rows + drawn
+pub committed_answer : (t t' : TableId) (l : Limits) (v w y : View) (old : PassShown) → shown t v ≡ old → (number drawn used row : ℕ) (k : Task) (ds : List DraftView) (seat : SeatShown) → view_of seat ≡ v → Rests seat number drawn used (Some k) → row ≡ number * l.rows + drawn
     → Wrote l (outputs k.unit k.root row ds) v w → v.limits ≡ l → (hand v).open_unit ≡ Some k.unit → (f n : ℕ) → Shut l n (length ds) (committed w k.unit ∷ []) v y → (0 < length ds → f ≡ row) → (length ds ≡ 0 → f ≡ 0) → Commits f (length ds) ds old (shown t' y)
 committed_answer t t' l v w y old is number drawn used row k ds seat same r next wr lim held f n sh a b =
     let e = committed_is l v w number drawn used row k ds seat same r next wr lim in
@@ -211,10 +226,11 @@ committed_answer t t' l v w y old is number drawn used row k ds seat same r next
       root_is = (work.0, work.1, work.2, subst (λ c. IsClaim v.seen c k.unit work.0 work.1) (sym num) work.3, work.4, work.5);
       closes = record { was_open = held; open_unit = sh.open_unit; ended = commit_ended (hand w).number k.unit y.seen sh.before (hand w).drafts sh.ends; drawn_is = sh.drawn };
       adds = record { mine = sh.mine ∙ ap (λ z. (hand v).mine ++ z ∷ []) e; before = sh.before; seen = sh.ends ∙ ap (λ z. sh.before ++ z ∷ []) e; begins = sh.begins };
+      consumed = subst (λ (z : Limits). HasConsumed z (hand v).number k.unit y.seen) (sym lim) (subst (λ c. HasConsumed l c k.unit y.seen) wr.walk.number (commit_consumes l (hand w).number k.unit y.seen sh.before (hand w).drafts sh.walk.steady.shows.legal sh.ends));
       first_is = outs_first k.unit k.root row ds f a b ∙ ap (λ z. first_id (outputs k.unit k.root z ds)) (row_is l v w number drawn used row k ds seat same r next wr lim);
       count_is = refl;
     }
 
 -- what a closed unit leaves
-pub closed_ended : (u drawn : ℕ) (old new : PassShown) → Closes u drawn old new → IfSome old.open_unit (IsEnded new.seen)
-closed_ended u drawn old new k = subst (λ o. IfSome o (IsEnded new.seen)) (sym k.was_open) k.ended
+pub closed_ended : (u drawn : ℕ) (old new : PassShown) → Closes u drawn old new → IfSome old.open_unit (HasEnded new.seen)
+closed_ended u drawn old new k = subst (λ o. IfSome o (HasEnded new.seen)) (sym k.was_open) k.ended

@@ -1,16 +1,19 @@
 -- Draft stores, and the birth of a client's element.
-use Rattle.std.proofs.Common.{◌≡◌, ℕ, ◌+◌, ◌*◌, ◌<◌, ◌≤◌, List, [], ◌∷◌, ◌++◌, sym, refl, ap, ◌∙◌, subst, arith, Option}
+use Rattle.std.proofs.Common.{◌≡◌, ℕ, ◌+◌, ◌*◌, ◌<◌, ◌≤◌, List, [], ◌∷◌, ◌++◌, sym, refl, ap, ◌∙◌, subst, arith, Option, Some, None}
 use mathlib.Core.List.{IsPrefix}
 use Rattle.tp_model.specs.declared.types.Element.{Element}
 use Rattle.tp_model.specs.declared.types.Limits.{Limits}
 use Rattle.tp_model.specs.declared.event.Event.{Event}
 use Rattle.tp_model.specs.declared.trace.StepKind.TheVariants as kinds
 use Rattle.tp_model.specs.declared.trace.TraceEntry.{TraceEntry}
-use Rattle.tp_model.specs.History.{IsUnborn, events_by}
-use Rattle.tp_model.specs.Steps.{IsLegal}
-use Rattle.tp_model.proofs.Bridges.{begins_refl, in_one}
-use Rattle.tp_rule.specs.Views.{Seated, IsOnePass, hand, view_of}
-use Rattle.tp_rule.specs.Steps.{Publishes, birth, drafted, noted, with_amount, with_birth, with_key}
+use Rattle.tp_model.specs.History.{IsUnborn, element_of, events_by}
+use Rattle.tp_model.specs.Births.{request}
+use Rattle.tp_model.specs.Passes.{IsOwnOpen}
+use Rattle.tp_model.specs.Steps.{IsLegal, Step}
+use Rattle.tp_model.proofs.Histories.{legal_at}
+use Rattle.tp_model.proofs.Bridges.{begins_refl, in_one, new_birth}
+use Rattle.tp_rule.specs.Views.{SeatShown, IsOnePass, hand, next_row, view_of}
+use Rattle.tp_rule.specs.Steps.{Publishes, birth, drafted, next_element, noted, or_zero, with_amount, with_birth, with_key}
 use Rattle.tp_rule.specs.declared.view.Hand.{Hand}
 use Rattle.tp_rule.specs.declared.view.View.{View}
 use Rattle.tp_rule.proofs.Reading.{one_after}
@@ -22,7 +25,7 @@ use Rattle.tp_manager.proofs.Passes.{claims_append, steady_at, task_later}
 
 module _ (l : Limits) (f : Hand → Hand) (v w : View) (s : Steady l v) (is : w ≡ drafted f v) where
   stored_after : IsOnePass w × (hand w ≡ noted kinds.DraftStore v.seen (f (hand v))) × (w.limits ≡ v.limits)
-  stored_after = one_after kinds.DraftStore f v.seen v w s.pass.0 is
+  stored_after = one_after kinds.DraftStore f v.seen v.known v w s.pass.0 is
 
   pub stored_hand : hand w ≡ noted kinds.DraftStore v.seen (f (hand v))
   stored_hand = stored_after.1
@@ -30,8 +33,8 @@ module _ (l : Limits) (f : Hand → Hand) (v w : View) (s : Steady l v) (is : w 
   pub stored_seen : w.seen ≡ v.seen
   stored_seen = ap (λ (z : View). z.seen) is
 
-  pub stored_steady : (f (hand v)).number ≡ (hand v).number → (hand v).drawn ≤ (f (hand v)).drawn → (f (hand v)).drawn ≤ l.rows → (f (hand v)).mine ≡ (hand v).mine → Steady l w
-  stored_steady number more room mine =
+  pub stored_steady : (f (hand v)).number ≡ (hand v).number → (hand v).drawn ≤ (f (hand v)).drawn → (f (hand v)).drawn ≤ l.rows → (f (hand v)).mine ≡ (hand v).mine → (f (hand v)).open_unit ≡ (hand v).open_unit → Steady l w
+  stored_steady number more room mine open_unit =
       let h = stored_hand in
       let c : (hand w).number ≡ (hand v).number = ap (λ (a : Hand). a.number) h ∙ number in
       let d : (hand w).drawn ≡ (f (hand v)).drawn = ap (λ (a : Hand). a.drawn) h in
@@ -42,6 +45,8 @@ module _ (l : Limits) (f : Hand → Hand) (v w : View) (s : Steady l v) (is : w 
           legal = subst (IsLegal l) (sym stored_seen) s.shows.legal;
           own = ap (λ (a : Hand). a.mine) h ∙ (mine ∙ (s.shows.own ∙ (ap (events_by (hand v).number) (sym stored_seen) ∙ ap (λ n. events_by n w.seen) (sym c))));
           within = subst (λ n. n ≤ l.rows) (sym d) room;
+          open_own = λ u is. let same : (hand v).open_unit ≡ Some u = sym (ap (λ (a : Hand). a.open_unit) h ∙ open_unit) ∙ is in
+              subst (λ (z : List Event × ℕ). IsOwnOpen z.0 z.1 u) (λ i. (sym stored_seen i, sym c i)) (s.shows.open_own u same);
           unborn = λ i low high. let low' : (hand v).number * l.rows + (f (hand v)).drawn ≤ i = subst (λ n. n * l.rows + (f (hand v)).drawn ≤ i) c (subst (λ n. (hand w).number * l.rows + n ≤ i) d low) in
               subst (λ z. IsUnborn z i) (sym stored_seen) (s.shows.unborn i (omega arith) (subst (λ n. i < n * l.rows + l.rows) c high));
         };
@@ -60,10 +65,10 @@ module _ (l : Limits) (f : Hand → Hand) (v w : View) (s : Steady l v) (is : w 
 -- the stores of a row's key and amount
 module _ (l : Limits) (x y : ℕ) (v k a : View) (s : Steady l v) (key : k ≡ drafted (with_key x) v) (amount : a ≡ drafted (with_amount y) k) where
   key_steady : Steady l k
-  key_steady = stored_steady l (with_key x) v k s key refl (omega arith) s.shows.within refl
+  key_steady = stored_steady l (with_key x) v k s key refl (omega arith) s.shows.within refl refl
 
   pub body_steady : Steady l a
-  body_steady = stored_steady l (with_amount y) k a key_steady amount refl (omega arith) key_steady.shows.within refl
+  body_steady = stored_steady l (with_amount y) k a key_steady amount refl (omega arith) key_steady.shows.within refl refl
 
   pub body_hand : hand a ≡ noted kinds.DraftStore k.seen (with_amount y (noted kinds.DraftStore v.seen (with_key x (hand v))))
   body_hand = stored_hand l (with_amount y) k a key_steady amount ∙ ap (λ h. noted kinds.DraftStore k.seen (with_amount y h)) (stored_hand l (with_key x) v k s key)
@@ -92,14 +97,26 @@ module _ (l : Limits) (x y stage : ℕ) (v k a w : View) (s : Steady l v) (key :
       let rows : (hand a).number * a.limits.rows ≡ (hand a).number * l.rows = ap (λ (z : Limits). (hand a).number * z.rows) before_steady.pass.1 in omega arith)
 
   pub made_walked : Walked l 3 (body_marks l x y v k a s key amount ++ record { kind = kinds.Publish; seen = w.seen } ∷ []) v w
-  made_walked = walked_then l 2 1 _ _ v a w (body_walked l x y v k a s key amount) (grew_walked l kinds.Publish (with_birth E) (E ∷ []) a w before_steady g tt refl refl made_steady)
+  made_walked = walked_then l 2 1 _ _ v a w (body_walked l x y v k a s key amount) (grew_walked l kinds.Publish (with_birth E) (E ∷ []) a w before_steady g refl refl refl made_steady)
+
+  -- the element is born in what is seen afterwards
+  pub made_born : element_of w.seen (next_row a) ≡ Some (next_element a stage (next_row a) None)
+  made_born = let y : Element = next_element a stage (next_row a) None in let p : List Event = a.seen ++ g.between in let legal : IsLegal l (p ++ E ∷ []) = subst (IsLegal l) g.seen made_steady.shows.legal in
+      let step : Step l p E = legal_at l p E [] legal in subst (λ h. element_of h y.id ≡ Some y) (sym g.seen) (new_birth p (hand a).number y step.unborn)
+
+  -- it is the client's element with this body, in the pass's next row
+  pub made_request : (element_of w.seen (next_row a) ≡ Some (request (next_row a) stage x y)) × (next_row a ≡ (hand v).number * l.rows + (hand v).drawn)
+  made_request = let b = body_hand l x y v k a s key amount in (
+    made_born ∙ ap (λ (h : Hand). Some (record { id = next_row a; stage = stage; root = next_row a; key = or_zero h.next_key; amount = or_zero h.next_amount; by = None })) b,
+    (λ i. (b i).number * (before_steady.pass.1 i).rows + (b i).drawn),
+  )
 
   made_all : hand w ≡ noted kinds.Publish w.seen (with_birth E (noted kinds.DraftStore k.seen (with_amount y (noted kinds.DraftStore v.seen (with_key x (hand v))))))
   made_all = made_hand ∙ ap (λ h. noted kinds.Publish w.seen (with_birth E h)) (body_hand l x y v k a s key amount)
 
-pub made_rests : (l : Limits) (x y stage : ℕ) (seat next : Seated) (k a : View) → (same : (view_of seat).limits ≡ l) → (s : Steady l (view_of seat)) → (key : k ≡ drafted (with_key x) (view_of seat)) → (amount : a ≡ drafted (with_amount y) k) → Publishes a stage (view_of next)
-    → (hand (view_of seat)).drawn < l.rows → next.me.1 ≡ seat.me.1 → (number drawn used : ℕ) (task : Option Task) → Rests seat number drawn used task → Rests next number (drawn + 1) used task
-made_rests l x y stage seat next k a same s key amount g room bare number drawn used task r =
+pub made_rests : (l : Limits) (x y stage : ℕ) (seat next : SeatShown) (k a : View) → (same : (view_of seat).limits ≡ l) → (s : Steady l (view_of seat)) → (key : k ≡ drafted (with_key x) (view_of seat)) → (amount : a ≡ drafted (with_amount y) k) → Publishes a stage (view_of next)
+    → (hand (view_of seat)).drawn < l.rows → (number drawn used : ℕ) (task : Option Task) → Rests seat number drawn used task → Rests next number (drawn + 1) used task
+made_rests l x y stage seat next k a same s key amount g room number drawn used task r =
     let v : View = view_of seat in let w : View = view_of next in
     let h = made_all l x y stage v k a w s key amount g room in
     let steady : Steady l w = made_steady l x y stage v k a w s key amount g room in
@@ -107,7 +124,6 @@ made_rests l x y stage seat next k a same s key amount g room bare number drawn 
     let walk = made_walked l x y stage v k a w s key amount g room in
     record {
       steady = steady_at l w.limits w lim steady;
-      bare = bare ∙ r.bare;
       number_is = ap (λ (z : Hand). z.number) h ∙ r.number_is;
       drawn_is = ap (λ (z : Hand). z.drawn) h ∙ ap (λ n. n + 1) r.drawn_is;
       used_is = ap (λ (z : Hand). z.claimed) h ∙ r.used_is;

@@ -1,5 +1,5 @@
 -- What a step leaves of the view, and what the steps of two parts of a call leave.
-use Rattle.std.proofs.Common.{◌≡◌, ℕ, ◌+◌, ◌*◌, ◌<◌, ◌≤◌, List, [], ◌∷◌, ◌++◌, length, drop, sym, refl, ap, ◌∙◌, subst, arith, append_assoc, length-append}
+use Rattle.std.proofs.Common.{◌≡◌, ℕ, ◌+◌, ◌*◌, ◌<◌, ◌≤◌, Some, true, List, [], ◌∷◌, ◌++◌, length, drop, sym, refl, ap, ◌∙◌, subst, arith, append_assoc, length-append}
 use mathlib.Core.List.{IsPrefix}
 use Rattle.atomic_table.specs.Seated.{TableId}
 use Rattle.tp_model.specs.declared.types.Element.{Element}
@@ -9,7 +9,7 @@ use Rattle.tp_model.specs.declared.trace.StepKind.{StepKind}
 use Rattle.tp_model.specs.declared.trace.TraceEntry.{TraceEntry}
 use Rattle.tp_model.specs.History.{In, here, births, IsUnborn, pass_of, events_by}
 use Rattle.tp_model.specs.Steps.{IsLegal}
-use Rattle.tp_model.specs.Passes.{IsPassView, IsPoint, opening_of}
+use Rattle.tp_model.specs.Passes.{HasLook, IsOwnOpen, IsPassView, IsPoint, looks, opening_of}
 use Rattle.tp_model.proofs.Histories.{legal_start}
 use Rattle.tp_model.proofs.Bridges.{append_nil, begins_refl, begins_trans, by_own, unborn_still}
 use Rattle.tp_rule.specs.Views.{IsOnePass, hand}
@@ -17,15 +17,15 @@ use Rattle.tp_rule.specs.Steps.{Grew, noted, unchanged}
 use Rattle.tp_rule.specs.declared.view.Hand.{Hand}
 use Rattle.tp_rule.specs.declared.view.View.{View}
 use Rattle.tp_rule.proofs.Reading.{one_after, grew_begins}
-use Rattle.tp_manager.specs.Calls.{HasStep, IsLookingStep, Follows, AtPoint, HasLooked, steps_of, opening}
+use Rattle.tp_manager.specs.Calls.{Follows, AtPoint, HasLooked, steps_of, opening}
 use Rattle.tp_manager.specs.Shown.{PassShown, shown}
-use Rattle.tp_manager.specs.Walks.{Steady, Walked, Looked, Acted, pass_in, with_trace}
+use Rattle.tp_manager.specs.Walks.{Steady, Walked, Looked, Acted, Sought, pass_in, with_trace}
 use Rattle.tp_manager.proofs.Points.{opening_one, opening_later, opening_kept, opens_later, has_more, drop_steps}
 use Rattle.tp_manager.proofs.Rows.{unborn_quiet}
 
 module _ (l : Limits) (kind : StepKind) (f : Hand → Hand) (es : List Event) (v w : View) (s : Steady l v) (g : Grew kind f es v w) where
   pub grew_one : IsOnePass w × (hand w ≡ noted kind w.seen (f (hand v))) × (w.limits ≡ v.limits)
-  grew_one = one_after kind f w.seen v w s.pass.0 g.view
+  grew_one = one_after kind f w.seen w.known v w s.pass.0 g.view
 
   pub grew_hand : hand w ≡ noted kind w.seen (f (hand v))
   grew_hand = grew_one.1
@@ -39,6 +39,9 @@ module _ (l : Limits) (kind : StepKind) (f : Hand → Hand) (es : List Event) (v
   grew_own : (hand w).mine ≡ events_by (hand w).number w.seen
   grew_own = g.mine (hand w) (subst (λ (hs : List Hand). In (hand w) hs) (sym grew_one.0) here)
 
+  grew_open : (u : ℕ) → (hand w).open_unit ≡ Some u → IsOwnOpen w.seen (hand w).number u
+  grew_open = g.open_own (hand w) (subst (λ (hs : List Hand). In (hand w) hs) (sym grew_one.0) here)
+
   grew_steady : (f (hand v)).number ≡ (hand v).number → (f (hand v)).drawn ≤ l.rows
       → ((i : ℕ) → (hand w).number * l.rows + (hand w).drawn ≤ i → i < (hand w).number * l.rows + l.rows → IsUnborn w.seen i) → Steady l w
   grew_steady number room un = let h = grew_hand in record {
@@ -49,10 +52,11 @@ module _ (l : Limits) (kind : StepKind) (f : Hand → Hand) (es : List Event) (v
       own = grew_own;
       within = subst (λ n. n ≤ l.rows) (sym (ap (λ (a : Hand). a.drawn) h)) room;
       unborn = un;
+      open_own = grew_open;
     };
   }
 
-  pub grew_walked : IsLookingStep kind → (f (hand v)).trace ≡ (hand v).trace → (f (hand v)).number ≡ (hand v).number → Steady l w → Walked l 1 (record { kind = kind; seen = w.seen } ∷ []) v w
+  pub grew_walked : looks kind ≡ true → (f (hand v)).trace ≡ (hand v).trace → (f (hand v)).number ≡ (hand v).number → Steady l w → Walked l 1 (record { kind = kind; seen = w.seen } ∷ []) v w
   grew_walked d trace number steady = let o = opening_one v.seen (record { kind = kind; seen = w.seen }) d in record {
     traced = ap (λ (a : Hand). a.trace) grew_hand ∙ ap (λ t. t ++ record { kind = kind; seen = w.seen } ∷ []) trace;
     few = omega arith;
@@ -116,7 +120,7 @@ module _ (l : Limits) where
   walked_few n m ms v w le a = record { traced = a.traced; few = let p = a.few in omega arith; opens = a.opens; closes = a.closes; number = a.number; steady = a.steady }
 
   -- a point of a first part is one of both, where that part has a step that is no draft store
-  pub point_first : (m : ℕ) (ms ns : List TraceEntry) (v w x : View) → HasStep ms → Walked l m ns w x → (p : List Event) → IsPoint (opening_of v.seen ms) w.seen p → IsPoint (opening_of v.seen (ms ++ ns)) x.seen p
+  pub point_first : (m : ℕ) (ms ns : List TraceEntry) (v w x : View) → HasLook ms → Walked l m ns w x → (p : List Event) → IsPoint (opening_of v.seen ms) w.seen p → IsPoint (opening_of v.seen (ms ++ ns)) x.seen p
   point_first m ms ns v w x h b p q = record {
     opened = subst (λ z. IsPrefix z p) (sym (opening_kept v.seen ms ns h.0 h.1 h.2)) q.opened;
     seen = begins_trans _ _ _ q.seen (walked_begins m ns w x b);
@@ -125,7 +129,7 @@ module _ (l : Limits) where
   pub point_last : (n : ℕ) (ms : List TraceEntry) (v w : View) → Walked l n ms v w → IsPoint (opening_of v.seen ms) w.seen w.seen
   point_last n ms v w a = record { opened = a.closes; seen = begins_refl w.seen }
 
-  pub acted_by : (kind : StepKind) (v w : View) → Steady l v → IsLookingStep kind → Grew kind unchanged [] v w → Acted l 1 v w
+  pub acted_by : (kind : StepKind) (v w : View) → Steady l v → looks kind ≡ true → Grew kind unchanged [] v w → Acted l 1 v w
   acted_by kind v w s d g = record {
     marks = record { kind = kind; seen = w.seen } ∷ [];
     walk = grew_walked l kind unchanged [] v w s g d refl refl (steady_quiet l kind unchanged v w s g refl refl refl);
@@ -148,13 +152,29 @@ module _ (l : Limits) where
   pub looked_begins : (n : ℕ) (v w : View) → Looked l n v w → IsPrefix v.seen w.seen
   looked_begins n v w a = walked_begins n a.marks v w a.walk
 
-  pub acted_then : (n m : ℕ) (v w x : View) → Acted l n v w → Looked l m w x → Acted l (n + m) v x
+  abbrev pub acted_then : (n m : ℕ) (v w x : View) → Acted l n v w → Looked l m w x → Acted l (n + m) v x
   acted_then n m v w x a b = record {
     marks = a.marks ++ b.marks;
     walk = walked_then n m a.marks b.marks v w x a.walk b.walk;
     kept = b.kept ∙ ap (λ z. with_trace (hand x).trace z) a.kept;
     step = has_more a.marks b.marks a.step;
   }
+
+  pub sought_by : (n : ℕ) (Passed : List Event → List Event → Type 0) (v w : View) (a : Acted l n v w) → Passed (opening_of v.seen a.marks) w.seen → Sought l n Passed v w
+  sought_by n Passed v w a p = record { marks = a.marks; walk = a.walk; kept = a.kept; step = a.step; passed = p }
+
+  -- the opening of a part that looks is that of all that it begins
+  pub opening_first : (n m : ℕ) (v w x : View) (a : Acted l n v w) (b : Looked l m w x) → opening_of v.seen (a.marks ++ b.marks) ≡ opening_of v.seen a.marks
+  opening_first n m v w x a b = opening_kept v.seen a.marks b.marks a.step.0 a.step.1 a.step.2
+
+  pub sought_few : (n m : ℕ) (Passed : List Event → List Event → Type 0) (v w : View) → n ≤ m → Sought l n Passed v w → Sought l m Passed v w
+  sought_few n m Passed v w le a = record { marks = a.marks; walk = walked_few n m a.marks v w le a.walk; kept = a.kept; step = a.step; passed = a.passed }
+
+  pub acted_few : (n m : ℕ) (v w : View) → n ≤ m → Acted l n v w → Acted l m v w
+  acted_few n m v w le a = record { marks = a.marks; walk = walked_few n m a.marks v w le a.walk; kept = a.kept; step = a.step }
+
+  pub sought_acted : (n : ℕ) (Passed : List Event → List Event → Type 0) (v w : View) → Sought l n Passed v w → Acted l n v w
+  sought_acted n Passed v w a = record { marks = a.marks; walk = a.walk; kept = a.kept; step = a.step }
 
 -- what a caller sees of the steps of a call
 module _ (t t' : TableId) (v w : View) (old : PassShown) (is : shown t v ≡ old) (l : Limits) (n : ℕ) (ms : List TraceEntry) (a : Walked l n ms v w) where
@@ -177,5 +197,5 @@ module _ (t t' : TableId) (v w : View) (old : PassShown) (is : shown t v ≡ old
   pub at_point : (Holds : List Event → Type 0) (p : List Event) → IsPoint (opening_of v.seen ms) w.seen p → Holds p → AtPoint old (shown t' w) Holds
   at_point Holds p q h = (p, subst (λ z. IsPoint z w.seen p) (sym opening_is) q, h)
 
-  pub has_looked : HasStep ms → HasLooked old (shown t' w)
-  has_looked h = subst HasStep (sym steps_are) h
+  pub has_looked : HasLook ms → HasLooked old (shown t' w)
+  has_looked h = subst HasLook (sym steps_are) h

@@ -20,30 +20,12 @@ use Rattle.tp_model.specs.declared.types.Refusal.{Refusal}
 use Rattle.tp_model.specs.declared.types.Refusal.TheVariants as refusals
 use Rattle.tp_model.specs.declared.event.Event.{Event}
 use Rattle.tp_model.specs.declared.event.Event.TheVariants.{Enqueue, Claim, Commit, Abort, Kill}
-use Rattle.tp_model.specs.declared.trace.StepKind.{StepKind}
-use Rattle.tp_model.specs.declared.trace.StepKind.TheVariants.{DraftStore, Publish, Load, SeatLoad, UnitChoice, ClaimExchange, CommitExchange, AbortExchange, KillExchange}
 use Rattle.tp_model.specs.declared.trace.TraceEntry.{TraceEntry}
 use Rattle.tp_model.specs.History.{In, IsClaim, IsUnborn, UnitEnd, claim_of, element_of, end_of, first_id, status_of}
-use Rattle.tp_model.specs.Births.{outputs}
+use Rattle.tp_model.specs.Births.{outputs, request}
 use Rattle.tp_model.specs.Steps.{IsServerStage}
-use Rattle.tp_model.specs.Passes.{IsPassView, IsPoint, opening_of}
+use Rattle.tp_model.specs.Passes.{HasLook, IsPassView, IsPoint, opening_of}
 use Rattle.tp_manager.specs.Shown.{PassShown, view_in}
-
--- a step that is no draft store
-abbrev pub IsLookingStep : StepKind → Type 0
-IsLookingStep DraftStore = ⊥
-IsLookingStep Publish = Unit {0}
-IsLookingStep Load = Unit {0}
-IsLookingStep SeatLoad = ⊥
-IsLookingStep UnitChoice = Unit {0}
-IsLookingStep ClaimExchange = Unit {0}
-IsLookingStep CommitExchange = Unit {0}
-IsLookingStep AbortExchange = Unit {0}
-IsLookingStep KillExchange = Unit {0}
-
--- one of the steps is no draft store
-abbrev pub HasStep : List TraceEntry → Type 0
-HasStep steps = (step : TraceEntry) × In step steps × IsLookingStep step.kind
 
 -- the steps of a call
 abbrev pub steps_of : PassShown → PassShown → List TraceEntry
@@ -63,9 +45,9 @@ pub record Follows (n : ℕ) (old new : PassShown) : Type 0 where
   pub opened : IsPrefix old.seen (opening old new)
   pub closed : IsPrefix (opening old new) new.seen
 
--- one of the call's steps is no draft store
+-- one of the call's steps looks
 abbrev pub HasLooked : PassShown → PassShown → Type 0
-HasLooked old new = HasStep (steps_of old new)
+HasLooked old new = HasLook (steps_of old new)
 
 -- there is a point of the call at which this is so
 abbrev pub AtPoint : PassShown → PassShown → (List Event → Type 0) → Type 0
@@ -88,9 +70,9 @@ pub record Adds (e : Event) (old new : PassShown) : Type 0 where
 abbrev pub IsLook : Limits → ℕ → Look → List Event → Type 0
 IsLook l id look h = (element_of h id ≡ Some look.element) × (look.status ≡ status_of l.attempts h id)
 
--- the client's element that a submit makes
-abbrev pub request : ℕ → ℕ → ℕ → ℕ → Element
-request id stage key amount = record { id = id; stage = stage; root = id; key = key; amount = amount; by = None }
+-- what a read answers: a look at one point, at an element that is born in what is seen at its exit
+abbrev pub Reads : Limits → ℕ → PassShown → PassShown → Look → Type 0
+Reads l id old new look = AtPoint old new (IsLook l id look) × (element_of new.seen id ≡ Some look.element)
 
 -- the pass has used its next row for a client's element, which is born
 pub record Submits (id stage key amount : ℕ) (old new : PassShown) : Type 0 where
@@ -98,6 +80,7 @@ pub record Submits (id stage key amount : ℕ) (old new : PassShown) : Type 0 wh
   pub room : old.drawn < old.limits.rows
   pub id_is : id ≡ old.number * old.limits.rows + old.drawn
   pub adds : Adds (Enqueue old.number (request id stage key amount)) old new
+  pub is_born : element_of new.seen id ≡ Some (request id stage key amount)
   pub open_unit : new.open_unit ≡ old.open_unit
   pub drawn : new.drawn ≡ old.drawn + 1
 
@@ -151,14 +134,14 @@ abbrev pub EndedByOther : ℕ → ℕ → List Event → Type 0
 EndedByOther c u h = (d : ℕ) × In (Abort d u) h × ¬ (d ≡ c)
 
 -- unit u was committed or aborted
-abbrev pub IsEnded : List Event → ℕ → Type 0
-IsEnded h u = (how : UnitEnd) × (end_of h u ≡ Some how)
+abbrev pub HasEnded : List Event → ℕ → Type 0
+HasEnded h u = (how : UnitEnd) × (end_of h u ≡ Some how)
 
 -- the pass had unit u open, has none open now, has seen how u ended, and has used so many rows
 pub record Closes (u drawn : ℕ) (old new : PassShown) : Type 0 where
   pub was_open : old.open_unit ≡ Some u
   pub open_unit : new.open_unit ≡ None
-  pub ended : IsEnded new.seen u
+  pub ended : HasEnded new.seen u
   pub drawn_is : new.drawn ≡ drawn
 
 -- the pass made no event, since another had aborted its unit
@@ -179,6 +162,10 @@ IsRoot h c u root = (i : ℕ) × (n : ℕ) × (x : Element) × IsClaim h c u i n
 abbrev pub outputs_from : PassShown → ℕ → ℕ → List DraftView → List Element
 outputs_from old u root drafts = outputs u root (old.number * old.limits.rows + old.drawn) drafts
 
+-- the element that the unit took is consumed by it
+abbrev pub HasConsumed : Limits → ℕ → ℕ → List Event → Type 0
+HasConsumed l c u h = (i : ℕ) × (n : ℕ) × IsClaim h c u i n × (status_of l.attempts h i ≡ statuses.Consumed u)
+
 -- the unit is committed with the drafts, which are born
 pub record Commits (first count : ℕ) (drafts : List DraftView) (old new : PassShown) : Type 0 where
   pub unit : ℕ
@@ -186,6 +173,7 @@ pub record Commits (first count : ℕ) (drafts : List DraftView) (old new : Pass
   pub root_is : IsRoot old.seen old.number unit root
   pub closes : Closes unit (old.drawn + length drafts) old new
   pub adds : Adds (Commit old.number unit (outputs_from old unit root drafts)) old new
+  pub consumed : HasConsumed old.limits old.number unit new.seen
   pub first_is : first ≡ first_id (outputs_from old unit root drafts)
   pub count_is : count ≡ length drafts
 

@@ -1,6 +1,6 @@
 -- What a listing finds on its way. In each definition l are the table's limits, a is the history before, and b the
 -- history after.
-use Rattle.std.specs.Prelude.{◌≡◌, ℕ, ◌<◌, ◌≤◌, List, Some}
+use Rattle.std.specs.Prelude.{◌≡◌, ℕ, List, Some}
 use mathlib.Core.List.{IsPrefix}
 use Rattle.tp_model.specs.declared.types.Element.{Element}
 use Rattle.tp_model.specs.declared.types.Limits.{Limits}
@@ -26,7 +26,3 @@ Hits l wanted i h = (x : Element) × (element_of h i ≡ Some x)
 abbrev pub PassedOver : Limits → Wanted → ℕ → List Event → List Event → Type 0
 PassedOver l wanted i a b = (x : Element) → element_of a i ≡ Some x
     → (p : List Event) × IsPrefix a p × IsPrefix p b × ¬ IsWanted wanted x.stage x.root (status_of l.attempts p i)
-
--- the same of each row from `from` on and below `end`
-abbrev pub PassedFrom : Limits → Wanted → ℕ → ℕ → List Event → List Event → Type 0
-PassedFrom l wanted from end a b = (i : ℕ) → from ≤ i → i < end → PassedOver l wanted i a b

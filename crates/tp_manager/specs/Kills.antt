@@ -10,7 +10,6 @@ use Rattle.tp_model.specs.declared.event.Event.{Event}
 use Rattle.tp_model.specs.declared.event.Event.TheVariants.{Kill}
 use Rattle.tp_model.specs.declared.trace.TraceEntry.{TraceEntry}
 use Rattle.tp_model.specs.History.{Aborted, end_of, status_of}
-use Rattle.tp_model.specs.Words.{ClaimWord, FreeWord, TakenWord, KilledWord}
 use Rattle.tp_rule.specs.Views.{hand}
 use Rattle.tp_rule.specs.declared.view.View.{View}
 use Rattle.tp_manager.specs.Calls.{AreOfHolders}
@@ -51,16 +50,10 @@ IsPastKill l h i (refusals.Consumed u) = status_of l.attempts h i ≡ statuses.C
 IsPastKill l h i refusals.AlreadyKilled = status_of l.attempts h i ≡ statuses.Killed
 IsPastKill l h i refusals.Full = ⊥
 
--- unit u, which had taken the element, is aborted, in at most two steps and by so many own Aborts, none or one
+-- unit u, which had taken the element, is aborted, in one step and by so many own Aborts, none or one
 abbrev pub Loosened : Limits → ℕ → ℕ → ℕ → View → View → Type 0
-Loosened l i u count v w = (es : List Event) × (length es ≡ count) × (count ≤ 1) × Freed l 2 i es v w
+Loosened l i u count v w = (es : List Event) × (length es ≡ count) × (count ≤ 1) × Freed l 1 i es v w
     × (end_of w.seen u ≡ Some Aborted)
-
--- there are at most so many attempts from this claim on
-abbrev pub IsEnoughToKill : Limits → ℕ → ClaimWord → Type 0
-IsEnoughToKill l left FreeWord = ⊥
-IsEnoughToKill l left (TakenWord n u) = l.attempts < n + left
-IsEnoughToKill l left (KilledWord n u) = Unit {0}
 
 -- the element was killed, in at most n steps, after so many own Aborts, at most `left`
 abbrev pub KillsIn : Limits → ℕ → ℕ → ℕ → ℕ → View → View → Type 0

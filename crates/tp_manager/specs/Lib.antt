@@ -1,4 +1,5 @@
 pub mod Shown
+pub mod Bounds
 pub mod Calls
 pub mod Walks
 pub mod Looks

@@ -9,12 +9,17 @@ use Rattle.tp_words.specs.declared.words.Head.{Head}
 use Rattle.tp_words.specs.declared.words.Head.TheVariants.{There}
 use Rattle.tp_words.specs.Words.{head_of}
 use Rattle.tp_rule.specs.Rule.{IsDraft}
+use Rattle.tp_rule.specs.Steps.{Knows}
+use Rattle.tp_rule.specs.declared.view.Known.TheVariants.{RowHead}
+use Rattle.tp_rule.specs.declared.view.View.{View}
 use Rattle.tp_manager.specs.declared.looking.Birth.{Birth}
 
--- what the head of row i tells: it is that of the born element, or empty or naming a unit where none is born
-pub record HeadTold (h : List Event) (i : ℕ) (head : Head) : Type 0 where
-  pub born : (e : Element) → element_of h i ≡ Some e → head ≡ head_of e
-  pub draft : IsUnborn h i → IsDraft head
+-- what the head tells that the pass found in row i: it is that of the born element, or empty or naming a unit where none
+-- is born; and the pass remembers it
+pub record HeadFound (v : View) (i : ℕ) (head : Head) : Type 0 where
+  pub born : (e : Element) → element_of v.seen i ≡ Some e → head ≡ head_of e
+  pub draft : IsUnborn v.seen i → IsDraft head
+  pub knows : Knows v (RowHead i head)
 
 -- an element with this head is born in row i
 abbrev pub IsThere : List Event → ℕ → Birth → Type 0

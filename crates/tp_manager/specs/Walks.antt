@@ -1,6 +1,6 @@
 -- What the view of a pass keeps over some of a call's steps. In each definition l are the table's limits, v is the
 -- view before, and w the view after.
-use Rattle.std.specs.Prelude.{◌≡◌, ℕ, ◌+◌, ◌-◌, ◌*◌, ◌<◌, ◌≤◌, List, [], ◌∷◌, ◌++◌, length, Option, Some, None}
+use Rattle.std.specs.Prelude.{◌≡◌, ◌⊎◌, ℕ, ◌+◌, ◌-◌, ◌*◌, ◌<◌, ◌≤◌, List, [], ◌∷◌, ◌++◌, length, Option, Some, None}
 use mathlib.Core.List.{IsPrefix}
 use Rattle.tp_model.specs.declared.types.Element.{Element}
 use Rattle.tp_model.specs.declared.types.Limits.{Limits}
@@ -8,14 +8,15 @@ use Rattle.tp_model.specs.declared.event.Event.{Event}
 use Rattle.tp_model.specs.declared.trace.TraceEntry.{TraceEntry}
 use Rattle.tp_model.specs.History.{IsClaim, element_of, status_of}
 use Rattle.tp_model.specs.Drafts.{DraftView}
-use Rattle.tp_model.specs.Passes.{PassView, IsPassView, opening_of}
+use Rattle.tp_model.specs.Passes.{HasLook, PassView, IsPassView, opening_of}
 use Rattle.tp_model.specs.Steps.{AreLimits}
-use Rattle.tp_rule.specs.Views.{Seated, IsOnePass, fresh_from, hand, view_of}
+use Rattle.tp_rule.specs.Views.{SeatShown, IsOnePass, fresh_from, hand, view_of}
 use Rattle.tp_rule.specs.declared.view.Hand.{Hand}
 use Rattle.tp_rule.specs.declared.view.View.{View}
 use Rattle.tp_manager.specs.declared.manager.Task.{Task}
 use Rattle.tp_rule.specs.Steps.{claimed, with_claim}
-use Rattle.tp_manager.specs.Calls.{HasStep, IsWaiting, claims_in}
+use Rattle.tp_manager.specs.Bounds.{draft_steps}
+use Rattle.tp_manager.specs.Calls.{IsWaiting, claims_in}
 
 -- what a seat that stands for one pass shows of it
 abbrev pub pass_in : View → PassView
@@ -52,12 +53,12 @@ pub record Looked (l : Limits) (n : ℕ) (v w : View) : Type 0 where
   pub walk : Walked l n marks v w
   pub kept : hand w ≡ with_trace (hand w).trace (hand v)
 
--- the same, and one of the steps is no draft store
+-- the same, and one of the steps looks
 pub record Acted (l : Limits) (n : ℕ) (v w : View) : Type 0 where
   pub marks : List TraceEntry
   pub walk : Walked l n marks v w
   pub kept : hand w ≡ with_trace (hand w).trace (hand v)
-  pub step : HasStep marks
+  pub step : HasLook marks
 
 -- the number of the open unit
 abbrev pub unit_in : Option Task → Option ℕ
@@ -71,10 +72,8 @@ IsTask h c (Some t) = (i : ℕ) × (n : ℕ) × (x : Element) × IsClaim h c t.u
     × (element_of h i ≡ Some x) × (x.root ≡ t.root)
 
 -- what is so of every pass between two calls
-pub record Rests (seat : Seated) (number drawn used : ℕ) (task : Option Task) : Type 0 where
+pub record Rests (seat : SeatShown) (number drawn used : ℕ) (task : Option Task) : Type 0 where
   pub steady : Steady (view_of seat).limits (view_of seat)
-  -- the seat has no slots
-  pub bare : seat.me.1 ≡ []
   pub number_is : (hand (view_of seat)).number ≡ number
   pub drawn_is : (hand (view_of seat)).drawn ≡ drawn
   pub used_is : (hand (view_of seat)).claimed ≡ used
@@ -86,22 +85,33 @@ pub record Rests (seat : Seated) (number drawn used : ℕ) (task : Option Task) 
   pub work : IsTask (view_of seat).seen number task
 
 -- what is so of every keeper: its seat stands for the passes that are not given out, and has seen nothing
-pub record Keeps (seat : Seated) (limits : Limits) (given : ℕ) : Type 0 where
+pub record Keeps (seat : SeatShown) (limits : Limits) (given : ℕ) : Type 0 where
   pub valid : AreLimits limits
   pub limits_are : (view_of seat).limits ≡ limits
   pub below : given ≤ limits.parts
   pub rest : (view_of seat).hands ≡ fresh_from given (limits.parts - given)
   pub unseen : (view_of seat).seen ≡ []
-  pub bare : seat.me.1 ≡ []
 
 -- an element of the stage that was born in row i in history a wasn't waiting in some history from a to b
 abbrev pub PassedBy : Limits → ℕ → ℕ → List Event → List Event → Type 0
 PassedBy l stage i a b = (x : Element) → element_of a i ≡ Some x → x.stage ≡ stage
     → (p : List Event) × IsPrefix a p × IsPrefix p b × ¬ IsWaiting (status_of l.attempts p i)
 
--- the same of each row below n
-abbrev pub PassedBelow : Limits → ℕ → ℕ → List Event → List Event → Type 0
-PassedBelow l stage n a b = (i : ℕ) → i < n → PassedBy l stage i a b
+-- this is so of each row from `from` on and below `end`
+abbrev pub EachRow : (ℕ → List Event → List Event → Type 0) → ℕ → ℕ → List Event → List Event → Type 0
+EachRow Passed from end a b = (i : ℕ) → from ≤ i → i < end → Passed i a b
+
+-- at most n steps have changed nothing in the pass but its trace, one of them looks, and since that was made this is so
+pub record Sought (l : Limits) (n : ℕ) (Passed : List Event → List Event → Type 0) (v w : View) : Type 0 where
+  pub marks : List TraceEntry
+  pub walk : Walked l n marks v w
+  pub kept : hand w ≡ with_trace (hand w).trace (hand v)
+  pub step : HasLook marks
+  pub passed : Passed (opening_of v.seen marks) w.seen
+
+-- no row from `from` on was looked at yet, or all below n were, in at most so many steps each, and were passed since the first of these looked
+abbrev pub Begun : Limits → (ℕ → List Event → List Event → Type 0) → ℕ → ℕ → ℕ → View → View → Type 0
+Begun l Passed steps from n v w = ((n ≡ from) × (w ≡ v)) ⊎ Sought l (n * steps) (EachRow Passed from n) v w
 
 -- the pass has unit u chosen for the next claim, and none open
 abbrev pub IsSpare : ℕ → View → Type 0
@@ -138,7 +148,7 @@ output u root i d = record { id = i; stage = d.stage; root = root; key = d.key; 
 -- the pass has stored the drafts xs, and has seen nothing more
 pub record Wrote (l : Limits) (xs : List Element) (v w : View) : Type 0 where
   pub marks : List TraceEntry
-  pub walk : Walked l (3 * length xs) marks v w
+  pub walk : Walked l (draft_steps (length xs)) marks v w
   pub seen : w.seen ≡ v.seen
   pub drawn : (hand w).drawn ≡ (hand v).drawn + length xs
   pub claimed : (hand w).claimed ≡ (hand v).claimed

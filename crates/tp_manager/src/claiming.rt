@@ -1,7 +1,8 @@
 //! A server's call for work.
-ghost use Rattle.std.specs.Prelude.{◌≡◌, ◌+◌, ◌*◌, None};
-ghost use Rattle.tp_model.specs.Steps.{rows_of, AreLimits, IsServerStage};
+ghost use Rattle.std.specs.Prelude.{◌≡◌, None};
+ghost use Rattle.tp_model.specs.Steps.{AreLimits, IsServerStage};
 ghost use Rattle.tp_manager.specs.Shown.{IsOf};
+ghost use Rattle.tp_manager.specs.Bounds.{claim_steps};
 ghost use Rattle.tp_manager.specs.Calls.{Claims, Follows};
 
 use crate::manager::{Manager, Pass, Task};
@@ -16,8 +17,7 @@ impl Manager {
         requires free { pass.old.open_unit ≡ None }
         ensures own { IsOf self.now pass.new }
         ensures limits { AreLimits self.now.limits }
-        ensures follows { let l = self.now.limits in
-            Follows (rows_of l * (2 * l.attempts + 9) + 1) pass.old pass.new }
+        ensures follows { Follows (claim_steps self.now.limits) pass.old pass.new }
         ensures answer { Claims self.now.limits stage pass.old pass.new result }
     {
         let seat = &mut pass.seat;

@@ -1,7 +1,8 @@
 //! The end of a server's unit of work.
-ghost use Rattle.std.specs.Prelude.{◌≡◌, ◌+◌, ◌*◌, ◌≤◌, None, IfSome, IsSome, length};
+ghost use Rattle.std.specs.Prelude.{◌≡◌, ◌≤◌, None, IfSome, IsSome, length};
 ghost use Rattle.tp_manager.specs.Shown.{IsOf};
-ghost use Rattle.tp_manager.specs.Calls.{Ends, Follows, IsEnded, Settles};
+ghost use Rattle.tp_manager.specs.Bounds.{abort_steps, commit_steps};
+ghost use Rattle.tp_manager.specs.Calls.{Ends, Follows, HasEnded, Settles};
 
 use crate::manager::{Manager, Pass};
 use tp_model::types::{Draft, Ended, Outcome};
@@ -13,9 +14,9 @@ impl Manager {
         requires own { IsOf self.now pass.old }
         requires busy { IsSome pass.old.open_unit }
         ensures own { IsOf self.now pass.new }
-        ensures follows { Follows 2 pass.old pass.new }
+        ensures follows { Follows abort_steps pass.old pass.new }
         ensures free { pass.new.open_unit ≡ None }
-        ensures ended { IfSome pass.old.open_unit (IsEnded pass.new.seen) }
+        ensures ended { IfSome pass.old.open_unit (HasEnded pass.new.seen) }
         ensures answer { Ends pass.old pass.new result }
     {
         let shared = &self.shared;
@@ -23,12 +24,15 @@ impl Manager {
         let Some(task) = pass.task else {
             unreachable!();
         };
-        if shared.words.abort_exchange(seat, task.unit) {
-            pass.task = None;
-            Ended::Aborted
-        } else {
-            pass.task = None;
-            Ended::Already
+        match shared.words.abort_exchange(seat, task.unit) {
+            Ok(()) => {
+                pass.task = None;
+                Ended::Aborted
+            }
+            Err(_) => {
+                pass.task = None;
+                Ended::Already
+            }
         }
     }
 
@@ -41,9 +45,9 @@ impl Manager {
         requires busy { IsSome pass.old.open_unit }
         requires few { length drafts.now ≤ 4 }
         ensures own { IsOf self.now pass.new }
-        ensures follows { Follows (4 * length drafts.now + 3) pass.old pass.new }
+        ensures follows { Follows (commit_steps (length drafts.now)) pass.old pass.new }
         ensures free { pass.new.open_unit ≡ None }
-        ensures ended { IfSome pass.old.open_unit (IsEnded pass.new.seen) }
+        ensures ended { IfSome pass.old.open_unit (HasEnded pass.new.seen) }
         ensures answer { Settles drafts.now pass.old pass.new result }
     {
         let shared = &self.shared;
@@ -54,12 +58,16 @@ impl Manager {
         let rows = shared.places.limits.rows;
         let count = drafts.len() as u16;
         if count > rows - pass.drawn {
-            if shared.words.abort_exchange(seat, task.unit) {
-                pass.task = None;
-                return Outcome::Full;
+            match shared.words.abort_exchange(seat, task.unit) {
+                Ok(()) => {
+                    pass.task = None;
+                    return Outcome::Full;
+                }
+                Err(_) => {
+                    pass.task = None;
+                    return Outcome::Full;
+                }
             }
-            pass.task = None;
-            return Outcome::Full;
         }
         let row = pass.number * rows + pass.drawn;
         shared.write_all(seat, row as u32, drafts, task.root, task.unit);

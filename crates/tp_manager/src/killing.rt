@@ -1,7 +1,7 @@
 //! The kill of an element.
-ghost use Rattle.std.specs.Prelude.{◌≡◌, ◌+◌, ◌*◌, ◌<◌, MatchResult, None};
+ghost use Rattle.std.specs.Prelude.{◌≡◌, ◌≢◌, ◌<◌, MatchResult, None};
 ghost use Rattle.tp_model.specs.Steps.{rows_of};
-ghost use Rattle.tp_model.specs.Words.{claim_word, TakenWord};
+ghost use Rattle.tp_model.specs.Words.{claim_word, FreeWord, TakenWord};
 ghost use Rattle.tp_words.specs.Words.{claim_value, IsFitClaim};
 ghost use Rattle.tp_rule.specs.Steps.{HasElement};
 ghost use Rattle.tp_rule.specs.Views.{hand_of, seen_by, view_of, IsSameSeat};
@@ -9,7 +9,9 @@ ghost use Rattle.tp_rule.specs.Tables.{limits_of, IsSeatOf};
 ghost use Rattle.tp_manager.specs.Shown.{IsOf};
 ghost use Rattle.tp_manager.specs.Calls.{Follows, HasLooked, Kills, KillFails};
 ghost use Rattle.tp_manager.specs.Walks.{Steady, Looked};
-ghost use Rattle.tp_manager.specs.Kills.{IsPastKill, Loosened, IsEnoughToKill, KillsIn, FailsIn};
+ghost use Rattle.tp_manager.specs.Bounds.{kill_steps, retry_steps, slay_steps};
+ghost use Rattle.tp_manager.specs.Looks.{IsEnough};
+ghost use Rattle.tp_manager.specs.Kills.{IsPastKill, Loosened, KillsIn, FailsIn};
 
 use crate::manager::{Manager, Pass, Shared};
 use tp_model::types::{Killed, Refusal};
@@ -18,7 +20,7 @@ use tp_words::{Claim, UnitWord};
 
 impl Shared {
     /// Aborts the unit that was found to have taken the element of the row, if it is open. How many units it aborted,
-    /// none or one; `Consumed` where the unit was committed. At most two steps.
+    /// none or one; `Consumed` where the unit was committed. One step.
     fn loosen(&self, seat: &mut Seat, row: u32, attempt: u8, unit: u16) -> Result<u8, Refusal>
         requires own { IsSeatOf self.now.words seat.old }
         requires steady { Steady (limits_of self.now.words) (view_of seat.old) }
@@ -28,21 +30,21 @@ impl Shared {
         ensures same { IsSameSeat seat.old seat.new }
         ensures told { let l = limits_of self.now.words in MatchResult result
             (λ count. Loosened l row unit count (view_of seat.old) (view_of seat.new))
-            (λ refusal. Looked l 2 (view_of seat.old) (view_of seat.new)
+            (λ refusal. Looked l 1 (view_of seat.old) (view_of seat.new)
             × IsPastKill l (seen_by seat.new) row refusal) }
     {
-        if self.words.abort_exchange(seat, unit) {
-            return Ok(1);
-        }
-        match self.words.load_unit(seat, unit) {
-            UnitWord::Undecided => unreachable!(),
-            UnitWord::Committed { first: _, count: _ } => Err(Refusal::Consumed { unit }),
-            UnitWord::Aborted => Ok(0),
+        match self.words.abort_exchange(seat, unit) {
+            Ok(()) => Ok(1),
+            Err(found) => match found {
+                UnitWord::Undecided => unreachable!(),
+                UnitWord::Committed { first: _, count: _ } => Err(Refusal::Consumed { unit }),
+                UnitWord::Aborted => Ok(0),
+            },
         }
     }
 
     /// Kills the element of the row, whose claim was just found and isn't free; there are at most so many attempts from
-    /// it on. How many units it aborted. At most four steps for each attempt.
+    /// it on. How many units it aborted. At most two steps for each attempt.
     fn kill_from(&self, seat: &mut Seat, row: u32, claim: Claim, left: u8) -> Result<u8, Refusal>
         requires own { IsSeatOf self.now.words seat.old }
         requires steady { Steady (limits_of self.now.words) (view_of seat.old) }
@@ -50,11 +52,12 @@ impl Shared {
         requires found { (claim_value claim ≡ claim_word (seen_by seat.old) row)
             × IsFitClaim (claim_value claim) }
         requires free { (hand_of seat.old).open_unit ≡ None }
-        requires enough { IsEnoughToKill (limits_of self.now.words) left (claim_value claim) }
+        requires enough { IsEnough (limits_of self.now.words) left (claim_value claim)
+            × (claim_value claim ≢ FreeWord) }
         ensures same { IsSameSeat seat.old seat.new }
         ensures told { let l = limits_of self.now.words in MatchResult result
-            (λ count. KillsIn l (4 * left) row left count (view_of seat.old) (view_of seat.new))
-            (λ refusal. FailsIn l (4 * left) row left refusal (view_of seat.old) (view_of seat.new)) }
+            (λ count. KillsIn l (retry_steps left) row left count (view_of seat.old) (view_of seat.new))
+            (λ refusal. FailsIn l (retry_steps left) row left refusal (view_of seat.old) (view_of seat.new)) }
     {
         match claim {
             Claim::Free => unreachable!(),
@@ -64,42 +67,35 @@ impl Shared {
             } => Err(Refusal::AlreadyKilled),
             Claim::Taken { attempt, unit } => match self.loosen(seat, row, attempt, unit) {
                 Err(refusal) => Err(refusal),
-                Ok(count) => {
-                    if self.words.kill_exchange(seat, row, claim) {
-                        return Ok(count);
-                    }
-                    let again = self.words.load_claim(seat, row);
-                    match self.kill_from(seat, row, again, left - 1) {
+                Ok(count) => match self.words.kill_exchange(seat, row, claim) {
+                    Ok(()) => Ok(count),
+                    Err(now) => match self.kill_from(seat, row, now, left - 1) {
                         Ok(more) => Ok(count + more),
                         Err(refusal) => Err(refusal),
-                    }
-                }
+                    },
+                },
             },
         }
     }
 
-    /// Kills the element that is born in the row. How many units it aborted, at most as many as attempts are allowed. At
-    /// most three steps, and four for each attempt that is allowed.
+    /// Kills the element that is born in the row. How many units it aborted, at most as many as attempts are allowed.
     fn kill_row(&self, seat: &mut Seat, row: u32) -> Result<u8, Refusal>
         requires own { IsSeatOf self.now.words seat.old }
         requires steady { Steady (limits_of self.now.words) (view_of seat.old) }
         requires row { (row < rows_of (limits_of self.now.words)) × HasElement (seen_by seat.old) row }
         requires free { (hand_of seat.old).open_unit ≡ None }
         ensures same { IsSameSeat seat.old seat.new }
-        ensures told { let l = limits_of self.now.words in let n = 4 * l.attempts + 3 in MatchResult result
+        ensures told { let l = limits_of self.now.words in let n = slay_steps l in MatchResult result
             (λ count. KillsIn l n row l.attempts count (view_of seat.old) (view_of seat.new))
             (λ refusal. FailsIn l n row l.attempts refusal (view_of seat.old) (view_of seat.new)) }
     {
         let left = self.places.limits.attempts;
         let claim = self.words.load_claim(seat, row);
         match claim {
-            Claim::Free => {
-                if self.words.kill_exchange(seat, row, claim) {
-                    return Ok(0);
-                }
-                let again = self.words.load_claim(seat, row);
-                return self.kill_from(seat, row, again, left);
-            }
+            Claim::Free => match self.words.kill_exchange(seat, row, claim) {
+                Ok(()) => return Ok(0),
+                Err(now) => return self.kill_from(seat, row, now, left),
+            },
             Claim::Taken {
                 attempt: _,
                 unit: _,
@@ -119,7 +115,7 @@ impl Manager {
         requires own { IsOf self.now pass.old }
         requires free { pass.old.open_unit ≡ None }
         ensures own { IsOf self.now pass.new }
-        ensures follows { Follows (4 * self.now.limits.attempts + 8) pass.old pass.new }
+        ensures follows { Follows (kill_steps self.now.limits) pass.old pass.new }
         ensures open_unit { pass.new.open_unit ≡ None }
         ensures looks { id < rows_of self.now.limits → HasLooked pass.old pass.new }
         ensures answer { MatchResult result

@@ -1,6 +1,7 @@
 //! The manager of queued requests: every call answers at a point of one history.
 #![tactic(auto)]
 
+mod bounds;
 mod claiming;
 mod drafting;
 mod ending;
@@ -15,4 +16,5 @@ mod submitting;
 #[cfg(test)]
 mod tests;
 
+pub use bounds::round_bounds;
 pub use manager::{Keeper, MakeFault, Manager, Pass};

@@ -1,20 +1,23 @@
 //! The next reply to a request, and the next element of the error queue.
-ghost use Rattle.std.specs.Prelude.{◌≡◌, ◌+◌, ◌*◌, ◌<◌, ◌≤◌, IfSome, MatchOption, true, false};
-ghost use Rattle.tp_model.specs.History.{IsUnborn, status_of};
+ghost use Rattle.std.specs.Prelude.{◌≡◌, ◌*◌, ◌<◌, ◌≤◌, IfSome, MatchOption, true, false};
+ghost use Rattle.tp_model.specs.declared.types.Element.{Element as element};
+ghost use Rattle.tp_model.specs.declared.types.Status.{Status as status};
 ghost use Rattle.tp_model.specs.Steps.{rows_of};
 ghost use Rattle.tp_rule.specs.Views.{seen_by, view_of, IsSameSeat};
 ghost use Rattle.tp_rule.specs.Tables.{limits_of, IsSeatOf};
+ghost use Rattle.tp_words.specs.Words.{head_of};
 ghost use Rattle.tp_manager.specs.Shown.{IsOf};
+ghost use Rattle.tp_manager.specs.Bounds.{look_steps, reply_steps, next_error_steps};
 ghost use Rattle.tp_manager.specs.Calls.{Follows, HasLooked, IsQuiet};
 ghost use Rattle.tp_manager.specs.Lists.{AllKilled, NoneParked, NextReply, NextError};
-ghost use Rattle.tp_manager.specs.Looks.{IsThere};
-ghost use Rattle.tp_manager.specs.Walks.{Steady, Looked};
-ghost use Rattle.tp_manager.specs.Finds.{IsWanted, Hits, PassedOver, PassedFrom};
+ghost use Rattle.tp_manager.specs.Walks.{Acted, EachRow, Sought, Steady};
+ghost use Rattle.tp_manager.specs.Finds.{IsWanted, Hits, PassedOver};
 
 use crate::looking::Birth;
 use crate::manager::{Manager, Pass, Shared};
 use tp_model::types::Status;
 use tp_rule::Seat;
+use tp_words::Head;
 
 /// What a listing looks for.
 #[derive(Clone, Copy)]
@@ -39,44 +42,41 @@ fn is_wanted(wanted: Wanted, birth: Birth, status: Status) -> bool
     }
 }
 
-impl Shared {
-    /// What the head of the element of a row says, if one is born, and its status. At most four steps, and two for each
-    /// attempt that is allowed.
-    fn standing_at(&self, seat: &mut Seat, row: u32) -> Option<(Birth, Status)>
-        requires own { IsSeatOf self.now.words seat.old }
-        requires steady { Steady (limits_of self.now.words) (view_of seat.old) }
-        requires row { row < rows_of (limits_of self.now.words) }
-        ensures same { IsSameSeat seat.old seat.new }
-        ensures looked { let l = limits_of self.now.words in
-            Looked l (2 * l.attempts + 4) (view_of seat.old) (view_of seat.new) }
-        ensures told { MatchOption result
-            (IsUnborn (seen_by seat.old) row)
-            (λ found. IsThere (seen_by seat.new) row found.0
-            × (found.1 ≡ status_of (limits_of self.now.words).attempts (seen_by seat.new) row)) }
-    {
-        let head = self.head_at(seat, row);
-        let Some(birth) = self.birth_from(seat, row, head) else {
-            return None;
-        };
-        let (_, status) = self.status_at(seat, row);
-        Some((birth, status))
+/// Whether an element with this head may be looked for.
+fn may_be_wanted(wanted: Wanted, head: Head) -> bool
+    ensures no { result ≡ false → (e : element) → head ≡ head_of e → (s : status)
+        → ¬ IsWanted wanted e.stage e.root s }
+{
+    match head {
+        Head::Empty => false,
+        Head::There { stage, root, by: _ } => match wanted {
+            Wanted::Reply { root: asked } => stage == 15 && root as u32 == asked,
+            Wanted::Error => true,
+        },
     }
+}
 
-    /// Whether the element of a row is looked for. As many steps.
+impl Shared {
+    /// Whether the element of a row is looked for. One step where its head says that it isn't.
     fn is_wanted_at(&self, seat: &mut Seat, row: u32, wanted: Wanted) -> bool
         requires own { IsSeatOf self.now.words seat.old }
         requires steady { Steady (limits_of self.now.words) (view_of seat.old) }
         requires row { row < rows_of (limits_of self.now.words) }
         ensures same { IsSameSeat seat.old seat.new }
-        ensures looked { let l = limits_of self.now.words in
-            Looked l (2 * l.attempts + 4) (view_of seat.old) (view_of seat.new) }
+        ensures acted { let l = limits_of self.now.words in
+            Acted l (look_steps l) (view_of seat.old) (view_of seat.new) }
         ensures yes { result ≡ true → Hits (limits_of self.now.words) wanted row (seen_by seat.new) }
-        ensures no { result ≡ false
-            → PassedOver (limits_of self.now.words) wanted row (seen_by seat.old) (seen_by seat.new) }
+        ensures no { result ≡ false → let l = limits_of self.now.words in
+            Sought l (look_steps l) (PassedOver l wanted row) (view_of seat.old) (view_of seat.new) }
     {
-        let Some((birth, status)) = self.standing_at(seat, row) else {
+        let head = self.head_at(seat, row);
+        if !may_be_wanted(wanted, head) {
+            return false;
+        }
+        let Some(birth) = self.birth_from(seat, row, head) else {
             return false;
         };
+        let (_, status) = self.status_at(seat, row);
         is_wanted(wanted, birth, status)
     }
 
@@ -86,13 +86,11 @@ impl Shared {
         requires steady { Steady (limits_of self.now.words) (view_of seat.old) }
         requires from { from < rows_of (limits_of self.now.words) }
         ensures same { IsSameSeat seat.old seat.new }
-        ensures looked { let l = limits_of self.now.words in
-            Looked l (rows_of l * (2 * l.attempts + 4)) (view_of seat.old) (view_of seat.new) }
         ensures inside { IfSome result (λ id. id < rows_of (limits_of self.now.words)) }
-        ensures told { let l = limits_of self.now.words in MatchOption result
-            (PassedFrom l wanted from (rows_of l) (seen_by seat.old) (seen_by seat.new))
+        ensures told { let l = limits_of self.now.words in let n = rows_of l * look_steps l in MatchOption result
+            (Sought l n (EachRow (PassedOver l wanted) from (rows_of l)) (view_of seat.old) (view_of seat.new))
             (λ id. (from ≤ id) × Hits l wanted id (seen_by seat.new)
-            × PassedFrom l wanted from id (seen_by seat.old) (seen_by seat.new)) }
+            × Sought l n (EachRow (PassedOver l wanted) from id) (view_of seat.old) (view_of seat.new)) }
     {
         let rows = self.places.rows();
         for row in from..rows {
@@ -109,8 +107,7 @@ impl Manager {
     pub fn reply(&self, pass: &mut Pass, root: u32, from: u32) -> Option<u32>
         requires own { IsOf self.now pass.old }
         ensures own { IsOf self.now pass.new }
-        ensures follows { let l = self.now.limits in
-            Follows (rows_of l * (2 * l.attempts + 8)) pass.old pass.new }
+        ensures follows { Follows (reply_steps self.now.limits) pass.old pass.new }
         ensures quiet { IsQuiet pass.old pass.new }
         ensures looks { from < rows_of self.now.limits → HasLooked pass.old pass.new }
         ensures inside { IfSome result (λ id. id < rows_of self.now.limits) }
@@ -122,7 +119,6 @@ impl Manager {
         if from >= self.shared.places.rows() {
             return None;
         }
-        self.shared.head_at(seat, from);
         self.shared.find(seat, from, Wanted::Reply { root })
     }
 
@@ -130,8 +126,7 @@ impl Manager {
     pub fn next_error(&self, pass: &mut Pass, from: u32) -> Option<u32>
         requires own { IsOf self.now pass.old }
         ensures own { IsOf self.now pass.new }
-        ensures follows { let l = self.now.limits in
-            Follows (rows_of l * (2 * l.attempts + 8)) pass.old pass.new }
+        ensures follows { Follows (next_error_steps self.now.limits) pass.old pass.new }
         ensures quiet { IsQuiet pass.old pass.new }
         ensures looks { from < rows_of self.now.limits → HasLooked pass.old pass.new }
         ensures inside { IfSome result (λ id. id < rows_of self.now.limits) }
@@ -143,7 +138,6 @@ impl Manager {
         if from >= self.shared.places.rows() {
             return None;
         }
-        self.shared.head_at(seat, from);
         self.shared.find(seat, from, Wanted::Error)
     }
 }

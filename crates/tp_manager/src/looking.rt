@@ -1,5 +1,6 @@
 //! What a pass finds at a row.
-ghost use Rattle.std.specs.Prelude.{◌≡◌, ◌+◌, ◌*◌, ◌<◌, Some, MatchOption, true, false};
+ghost use Rattle.std.specs.Prelude.{◌≡◌, ◌<◌, Some, MatchOption, true, false};
+ghost use Rattle.tp_words.specs.declared.words.Head.TheVariants.{There};
 ghost use Rattle.tp_model.specs.History.{IsUnborn, element_of, status_of};
 ghost use Rattle.tp_model.specs.Steps.{rows_of, units_of};
 ghost use Rattle.tp_model.specs.Words.{claim_word};
@@ -7,7 +8,8 @@ ghost use Rattle.tp_words.specs.Words.{claim_value, IsFitClaim};
 ghost use Rattle.tp_rule.specs.Views.{seen_by, view_of, IsSameSeat};
 ghost use Rattle.tp_rule.specs.Tables.{limits_of, IsSeatOf};
 ghost use Rattle.tp_manager.specs.Walks.{Steady, Looked, Acted};
-ghost use Rattle.tp_manager.specs.Looks.{HeadTold, IsThere, IsEnough};
+ghost use Rattle.tp_manager.specs.Bounds.{body_steps, retry_steps, status_steps};
+ghost use Rattle.tp_manager.specs.Looks.{HeadFound, IsThere, IsEnough};
 
 use crate::manager::Shared;
 use tp_model::types::{Element, Status};
@@ -30,28 +32,29 @@ impl Shared {
         requires row { row < rows_of (limits_of self.now.words) }
         ensures same { IsSameSeat seat.old seat.new }
         ensures acted { Acted (limits_of self.now.words) 1 (view_of seat.old) (view_of seat.new) }
-        ensures told { HeadTold (seen_by seat.new) row result }
+        ensures told { HeadFound (view_of seat.new) row result }
     {
         self.words.load_head(seat, row)
     }
 
-    /// Whether the row whose head was just found has a born element, and what its head says. At most two steps.
+    /// Whether the row whose head was just found has a born element, and what its head says. At most one more step.
     pub(crate) fn birth_from(&self, seat: &mut Seat, row: u32, head: Head) -> Option<Birth>
         requires own { IsSeatOf self.now.words seat.old }
         requires steady { Steady (limits_of self.now.words) (view_of seat.old) }
         requires row { row < rows_of (limits_of self.now.words) }
-        requires told { HeadTold (seen_by seat.old) row head }
+        requires told { HeadFound (view_of seat.old) row head }
         ensures same { IsSameSeat seat.old seat.new }
-        ensures looked { Looked (limits_of self.now.words) 2 (view_of seat.old) (view_of seat.new) }
+        ensures looked { Looked (limits_of self.now.words) 1 (view_of seat.old) (view_of seat.new) }
         ensures told { MatchOption result
-            (IsUnborn (seen_by seat.old) row)
-            (λ birth. IsThere (seen_by seat.new) row birth) }
+            (IsUnborn (seen_by seat.new) row)
+            (λ birth. IsThere (seen_by seat.new) row birth × (head ≡ There birth.stage birth.root birth.by)) }
     {
         let Head::There { stage, root, by } = head else {
             return None;
         };
+        let birth = Birth { stage, root, by };
         let Some(unit) = by else {
-            return Some(Birth { stage, root, by });
+            return Some(birth);
         };
         if !self.is_unit(unit) {
             return None;
@@ -63,10 +66,7 @@ impl Shared {
                 if row < first as u32 || row - first as u32 >= count as u32 {
                     return None;
                 }
-                match self.words.load_head(seat, row) {
-                    Head::Empty => unreachable!(),
-                    Head::There { stage, root, by } => Some(Birth { stage, root, by }),
-                }
+                Some(birth)
             }
         }
     }
@@ -80,14 +80,14 @@ impl Shared {
         (unit as u32) < limits.parts as u32 * limits.units as u32
     }
 
-    /// The element that is born in the row with this head. Two steps.
+    /// The element that is born in the row with this head: its body, in two steps.
     pub(crate) fn element_at(&self, seat: &mut Seat, row: u32, birth: Birth) -> Element
         requires own { IsSeatOf self.now.words seat.old }
         requires steady { Steady (limits_of self.now.words) (view_of seat.old) }
         requires row { row < rows_of (limits_of self.now.words) }
         requires there { IsThere (seen_by seat.old) row birth }
         ensures same { IsSameSeat seat.old seat.new }
-        ensures looked { Looked (limits_of self.now.words) 2 (view_of seat.old) (view_of seat.new) }
+        ensures looked { Looked (limits_of self.now.words) body_steps (view_of seat.old) (view_of seat.new) }
         ensures born { element_of (seen_by seat.new) row ≡ Some result }
         ensures head { (result.stage ≡ birth.stage) × (result.root ≡ birth.root) × (result.id ≡ row) }
     {
@@ -119,7 +119,7 @@ impl Shared {
             × IsFitClaim (claim_value claim) }
         requires enough { IsEnough (limits_of self.now.words) left (claim_value claim) }
         ensures same { IsSameSeat seat.old seat.new }
-        ensures looked { Looked (limits_of self.now.words) (2 * left) (view_of seat.old) (view_of seat.new) }
+        ensures looked { Looked (limits_of self.now.words) (retry_steps left) (view_of seat.old) (view_of seat.new) }
         ensures claim { (claim_value result.0 ≡ claim_word (seen_by seat.new) row)
             × IsFitClaim (claim_value result.0) }
         ensures status { result.1 ≡ status_of (limits_of self.now.words).attempts (seen_by seat.new) row }
@@ -155,7 +155,7 @@ impl Shared {
         requires row { row < rows_of (limits_of self.now.words) }
         ensures same { IsSameSeat seat.old seat.new }
         ensures acted { let l = limits_of self.now.words in
-            Acted l (1 + 2 * l.attempts) (view_of seat.old) (view_of seat.new) }
+            Acted l (status_steps l) (view_of seat.old) (view_of seat.new) }
         ensures claim { (claim_value result.0 ≡ claim_word (seen_by seat.new) row)
             × IsFitClaim (claim_value result.0) }
         ensures status { result.1 ≡ status_of (limits_of self.now.words).attempts (seen_by seat.new) row }

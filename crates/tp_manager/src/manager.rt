@@ -60,7 +60,7 @@ impl Model for Keeper {
 
     ghost Value = { KeeperShown };
 
-    ghost view = { λ k. record { table = k.seat.table_id; limits = k.limits; given = k.given } };
+    ghost view = { λ k. record { table = k.seat.table; limits = k.limits; given = k.given } };
 
     ghost use Rattle.tp_manager.specs.Walks.{Keeps};
 
@@ -92,7 +92,7 @@ impl Model for Pass {
 
     ghost use Rattle.tp_manager.specs.Walks.{Rests};
 
-    ghost view = { λ p. shown p.seat.table_id p.seat.me.0 };
+    ghost view = { λ p. shown p.seat.table p.seat.view };
 
     ghost invariant = { λ p. Rests p.seat p.number p.drawn p.used p.task };
 }

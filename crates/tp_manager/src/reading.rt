@@ -1,10 +1,11 @@
 //! The look at one element.
-ghost use Rattle.std.specs.Prelude.{◌≡◌, ◌+◌, ◌*◌, ◌<◌, MatchResult};
+ghost use Rattle.std.specs.Prelude.{◌≡◌, ◌<◌, MatchResult};
 ghost use Rattle.tp_model.specs.History.{IsUnborn};
 ghost use Rattle.tp_model.specs.Steps.{rows_of};
 ghost use Rattle.tp_model.specs.declared.types.Refusal.TheVariants as refusals;
 ghost use Rattle.tp_manager.specs.Shown.{IsOf};
-ghost use Rattle.tp_manager.specs.Calls.{AtPoint, Follows, HasLooked, IsLook, IsQuiet};
+ghost use Rattle.tp_manager.specs.Bounds.{read_steps};
+ghost use Rattle.tp_manager.specs.Calls.{AtPoint, Follows, HasLooked, IsQuiet, Reads};
 
 use crate::manager::{Manager, Pass};
 use tp_model::types::{Look, Refusal};
@@ -15,11 +16,11 @@ impl Manager {
     pub fn read(&self, pass: &mut Pass, id: u32) -> Result<Look, Refusal>
         requires own { IsOf self.now pass.old }
         ensures own { IsOf self.now pass.new }
-        ensures follows { Follows (2 * self.now.limits.attempts + 8) pass.old pass.new }
+        ensures follows { Follows (read_steps self.now.limits) pass.old pass.new }
         ensures quiet { IsQuiet pass.old pass.new }
         ensures looks { id < rows_of self.now.limits → HasLooked pass.old pass.new }
         ensures answer { MatchResult result
-            (λ look. AtPoint pass.old pass.new (IsLook self.now.limits id look))
+            (λ look. Reads self.now.limits id pass.old pass.new look)
             (λ refusal. (refusal ≡ refusals.NotThere) × AtPoint pass.old pass.new (λ h. IsUnborn h id)) }
     {
         let seat = &mut pass.seat;

@@ -1,11 +1,12 @@
 //! A server's look for work.
-ghost use Rattle.std.specs.Prelude.{◌≡◌, ◌+◌, ◌*◌, ◌<◌, MatchOption, true, false};
+ghost use Rattle.std.specs.Prelude.{◌≡◌, ◌*◌, ◌<◌, MatchOption, true, false};
 ghost use Rattle.tp_model.specs.declared.types.Element.{Element as element};
 ghost use Rattle.tp_model.specs.Steps.{rows_of, IsServerStage};
 ghost use Rattle.tp_words.specs.Words.{head_of};
-ghost use Rattle.tp_rule.specs.Views.{seen_by, view_of, IsSameSeat};
+ghost use Rattle.tp_rule.specs.Views.{view_of, IsSameSeat};
 ghost use Rattle.tp_rule.specs.Tables.{limits_of, IsSeatOf};
-ghost use Rattle.tp_manager.specs.Walks.{Steady, Looked, PassedBy, PassedBelow, IsSpare, Took};
+ghost use Rattle.tp_manager.specs.Bounds.{try_steps};
+ghost use Rattle.tp_manager.specs.Walks.{Steady, Sought, EachRow, PassedBy, IsSpare, Took};
 
 use crate::manager::Shared;
 use tp_model::types::{Element, Status};
@@ -21,6 +22,7 @@ pub(crate) struct Taken {
 }
 
 fn is_of_stage(head: Head, stage: u8) -> bool
+    ensures yes { result ≡ true → (e : element) → head ≡ head_of e → e.stage ≡ stage }
     ensures no { result ≡ false → (e : element) → head ≡ head_of e → ¬ (e.stage ≡ stage) }
 {
     match head {
@@ -34,8 +36,7 @@ fn is_of_stage(head: Head, stage: u8) -> bool
 }
 
 impl Shared {
-    /// The unit takes the element of a row, if that waits in the stage. At most eight steps, and two for each attempt
-    /// that is allowed; one where the head is not of the stage.
+    /// The unit takes the element of a row, if that waits in the stage. One step where the head is not of the stage.
     fn try_row(&self, seat: &mut Seat, row: u32, stage: u8, unit: u16) -> Option<Taken>
         requires own { IsSeatOf self.now.words seat.old }
         requires steady { Steady (limits_of self.now.words) (view_of seat.old) }
@@ -43,9 +44,8 @@ impl Shared {
         requires stage { IsServerStage stage }
         requires spare { IsSpare unit (view_of seat.old) × (unit < 65535) }
         ensures same { IsSameSeat seat.old seat.new }
-        ensures told { let l = limits_of self.now.words in let n = 2 * l.attempts + 9 in MatchOption result
-            (Looked l n (view_of seat.old) (view_of seat.new)
-            × PassedBy l stage row (seen_by seat.old) (seen_by seat.new))
+        ensures told { let l = limits_of self.now.words in let n = try_steps l in MatchOption result
+            (Sought l n (PassedBy l stage row) (view_of seat.old) (view_of seat.new))
             (λ t. Took l n stage unit (view_of seat.old) (view_of seat.new) t.element t.attempt
             × (t.element.root ≡ t.root)) }
     {
@@ -56,23 +56,20 @@ impl Shared {
         let Some(birth) = self.birth_from(seat, row, head) else {
             return None;
         };
-        if birth.stage != stage {
-            return None;
-        }
         let (claim, status) = self.status_at(seat, row);
         let Status::Waiting { attempts } = status else {
             return None;
         };
         let element = self.element_at(seat, row, birth);
         let attempt = attempts + 1;
-        if !self.words.claim_exchange(seat, row, claim, attempt, unit) {
-            return None;
+        match self.words.claim_exchange(seat, row, claim, attempt, unit) {
+            Ok(()) => Some(Taken {
+                element,
+                root: birth.root,
+                attempt,
+            }),
+            Err(_) => None,
         }
-        Some(Taken {
-            element,
-            root: birth.root,
-            attempt,
-        })
     }
 
     /// The unit takes the first element that waits in the stage.
@@ -83,9 +80,8 @@ impl Shared {
         requires spare { IsSpare unit (view_of seat.old) × (unit < 65535) }
         ensures same { IsSameSeat seat.old seat.new }
         ensures told { let l = limits_of self.now.words in
-            let n = rows_of l * (2 * l.attempts + 9) in MatchOption result
-            (Looked l n (view_of seat.old) (view_of seat.new)
-            × PassedBelow l stage (rows_of l) (seen_by seat.old) (seen_by seat.new))
+            let n = rows_of l * try_steps l in MatchOption result
+            (Sought l n (EachRow (PassedBy l stage) 0 (rows_of l)) (view_of seat.old) (view_of seat.new))
             (λ t. Took l n stage unit (view_of seat.old) (view_of seat.new) t.element t.attempt
             × (t.element.root ≡ t.root)) }
     {

@@ -1,6 +1,7 @@
 //! The client's call.
 ghost use Rattle.std.specs.Prelude.{◌≡◌, MatchResult};
 ghost use Rattle.tp_manager.specs.Shown.{IsOf};
+ghost use Rattle.tp_manager.specs.Bounds.{submit_steps};
 ghost use Rattle.tp_manager.specs.Calls.{Follows, Submits, SubmitRefused};
 
 use crate::manager::{Manager, Pass};
@@ -12,7 +13,7 @@ impl Manager {
     pub fn submit(&self, pass: &mut Pass, stage: u8, key: u64, amount: u64) -> Result<u32, Refusal>
         requires own { IsOf self.now pass.old }
         ensures own { IsOf self.now pass.new }
-        ensures follows { Follows 4 pass.old pass.new }
+        ensures follows { Follows submit_steps pass.old pass.new }
         ensures open_unit { pass.new.open_unit ≡ pass.old.open_unit }
         ensures answer { MatchResult result
             (λ id. Submits id stage key amount pass.old pass.new)

@@ -16,3 +16,4 @@ pub mod Claiming
 pub mod Deciding
 pub mod Killing
 pub mod Doors
+pub mod Meetings

@@ -262,9 +262,12 @@ pub record Meets (v w v' w' : View) : Type 0 where
   pub legal : IsLegal v.limits v'.seen
   pub first_saw : IsPrefix v.seen v'.seen
   pub second_saw : IsPrefix w.seen v'.seen
-  -- the first made the three loads, and the second was there at the one between; nothing else changed
+  -- the first made the three steps, and the second was there at the one between; nothing else changed
   pub first_one : IsOnePass v'
   pub first_is : hand v' ≡ noted kinds.SeatLoad v'.seen (noted kinds.Load v'.seen (noted kinds.SeatLoad v.seen (hand v)))
   pub second_one : IsOnePass w'
   pub second_is : hand w' ≡ noted kinds.Load v'.seen (hand w)
   pub limits : (v'.limits ≡ v.limits) × (w'.limits ≡ v.limits)
+  -- the events of each are all with its number, and its open unit is its own
+  pub mine : ((hand v').mine ≡ events_by (hand v').number v'.seen) × ((hand w').mine ≡ events_by (hand w').number w'.seen)
+  pub open_own : ((u : ℕ) → (hand v').open_unit ≡ Some u → IsOwnOpen v'.seen (hand v').number u) × ((u : ℕ) → (hand w').open_unit ≡ Some u → IsOwnOpen w'.seen (hand w').number u)

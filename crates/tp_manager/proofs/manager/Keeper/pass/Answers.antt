@@ -4,10 +4,10 @@ use Rattle.tp_manager.proofs.Fresh.{keeps_on, fresh_rests, fresh_shows, fresh_li
 use Rattle.tp_manager.proofs.manager.Keeper.pass.Goals as goal
 
 pub invariant_of-result : goal.invariant_of-result
-invariant_of-result c = fresh_rests c.self.inside.seat c.self.inside.limits c.self.inside.given c.self.invariant c.if-self.false c.hand_out-seat.result c.hand_out-seat.ensures.hands_out c.hand_out-seat.ensures.bare
+invariant_of-result c = fresh_rests c.self.inside.seat c.self.inside.limits c.self.inside.given c.self.invariant c.if-self.false c.hand_out-seat.result c.hand_out-seat.ensures.hands_out
 
 pub invariant_of-self : goal.invariant_of-self
-invariant_of-self c = keeps_on c.self.inside.seat c.self.inside.limits c.self.inside.given c.self.invariant c.if-self.false c.hand_out-seat.new.keeper c.hand_out-seat.ensures.keeps c.hand_out-seat.ensures.same.2
+invariant_of-self c = keeps_on c.self.inside.seat c.self.inside.limits c.self.inside.given c.self.invariant c.if-self.false c.hand_out-seat.new.keeper c.hand_out-seat.ensures.keeps
 
 pub returns-clause-own : goal.returns-clause-own
 returns-clause-own c = let k = c.self.invariant in let seat = c.hand_out-seat.result in (

@@ -7,6 +7,7 @@ use Rattle.tp_model.proofs.Bridges.{in_none}
 use Rattle.tp_rule.specs.Tables.{limits_of}
 use Rattle.tp_rule.specs.Views.{hand, view_of}
 use Rattle.tp_manager.specs.Shown.{ManagerShown, PassShown}
+use Rattle.tp_manager.specs.Bounds.{abort_steps}
 use Rattle.tp_manager.specs.Walks.{Steady, Shut, IsTask, unit_in}
 use Rattle.tp_manager.proofs.Walks.{follows}
 use Rattle.tp_manager.proofs.Passes.{steady_at}
@@ -29,49 +30,49 @@ abort_exchange-requires-clause-unit c = let i = (goal.at.abort_exchange-requires
 
 pub invariant_of-pass : goal.invariant_of-pass
 invariant_of-pass c = let i = (goal.at.invariant_of-pass c).In-Some in let l : Limits = limits_of c.self.inside.shared.words in
-    shut_rests l 1 0 _ c.pass.inside.seat c.abort_exchange.new.seat _ _ _ _ _ (lim i) (shut_hit l kinds.AbortExchange _ _ _ tt (steady i) refl (λ x p. absurd (in_none p)) (c.abort_exchange.ensures.hit c.if-abort_exchange.true)) refl (search rules) (omega arith) c.pass.invariant
+    shut_rests l 1 0 _ c.pass.inside.seat c.abort_exchange.new.seat _ _ _ _ _ (lim i) (shut_hit l kinds.AbortExchange _ _ _ refl (steady i) refl (λ x p. absurd (in_none p)) c.in-Ok.ensures.hit) refl (omega arith) c.pass.invariant
 
-pub invariant_of-pass-else-abort_exchange : goal.invariant_of-pass-else-abort_exchange
-invariant_of-pass-else-abort_exchange c = let i = (goal.at.invariant_of-pass-else-abort_exchange c).In-Some in let l : Limits = limits_of c.self.inside.shared.words in
-    shut_rests l 1 0 _ c.pass.inside.seat c.abort_exchange.new.seat _ _ _ _ _ (lim i) (shut_miss l kinds.AbortExchange _ _ tt (steady i) (c.abort_exchange.ensures.own_miss c.if-abort_exchange.false (held i)).0) refl (search rules) (omega arith) c.pass.invariant
+pub invariant_of-pass-in-Err : goal.invariant_of-pass-in-Err
+invariant_of-pass-in-Err c = let i = (goal.at.invariant_of-pass-in-Err c).In-Some in let l : Limits = limits_of c.self.inside.shared.words in
+    shut_rests l 1 0 _ c.pass.inside.seat c.abort_exchange.new.seat _ _ _ _ _ (lim i) (shut_miss l kinds.AbortExchange _ _ refl (steady i) (c.in-Err.ensures.miss.own (held i)).0) refl (omega arith) c.pass.invariant
 
-pub returns-then-abort_exchange-clause-follows : goal.returns-then-abort_exchange-clause-follows
-returns-then-abort_exchange-clause-follows c = let i = (goal.at.returns-then-abort_exchange-clause-follows c).In-Some in let l : Limits = limits_of c.self.inside.shared.words in
-    let sh = shut_hit l kinds.AbortExchange _ _ _ tt (steady i) refl (λ x p. absurd (in_none p)) (c.abort_exchange.ensures.hit c.if-abort_exchange.true) in
-    follows c.pass.inside.seat.table_id c.abort_exchange.new.seat.table_id (view_of c.pass.inside.seat) (view_of c.abort_exchange.new.seat) c.args.pass.now c.pass.view_is l 1 _ sh.walk 2 (omega arith)
+pub returns-in-Ok-clause-follows : goal.returns-in-Ok-clause-follows
+returns-in-Ok-clause-follows c = let i = (goal.at.returns-in-Ok-clause-follows c).In-Some in let l : Limits = limits_of c.self.inside.shared.words in
+    let sh = shut_hit l kinds.AbortExchange _ _ _ refl (steady i) refl (λ x p. absurd (in_none p)) c.in-Ok.ensures.hit in
+    follows c.pass.inside.seat.table c.abort_exchange.new.seat.table (view_of c.pass.inside.seat) (view_of c.abort_exchange.new.seat) c.args.pass.now c.pass.view_is l 1 _ sh.walk abort_steps (omega arith)
 
-pub returns-else-abort_exchange-clause-follows : goal.returns-else-abort_exchange-clause-follows
-returns-else-abort_exchange-clause-follows c = let i = (goal.at.returns-else-abort_exchange-clause-follows c).In-Some in let l : Limits = limits_of c.self.inside.shared.words in
-    let sh = shut_miss l kinds.AbortExchange _ _ tt (steady i) (c.abort_exchange.ensures.own_miss c.if-abort_exchange.false (held i)).0 in
-    follows c.pass.inside.seat.table_id c.abort_exchange.new.seat.table_id (view_of c.pass.inside.seat) (view_of c.abort_exchange.new.seat) c.args.pass.now c.pass.view_is l 1 _ sh.walk 2 (omega arith)
+pub returns-in-Err-clause-follows : goal.returns-in-Err-clause-follows
+returns-in-Err-clause-follows c = let i = (goal.at.returns-in-Err-clause-follows c).In-Some in let l : Limits = limits_of c.self.inside.shared.words in
+    let sh = shut_miss l kinds.AbortExchange _ _ refl (steady i) (c.in-Err.ensures.miss.own (held i)).0 in
+    follows c.pass.inside.seat.table c.abort_exchange.new.seat.table (view_of c.pass.inside.seat) (view_of c.abort_exchange.new.seat) c.args.pass.now c.pass.view_is l 1 _ sh.walk abort_steps (omega arith)
 
-pub returns-then-abort_exchange-clause-answer : goal.returns-then-abort_exchange-clause-answer
-returns-then-abort_exchange-clause-answer c = let i = (goal.at.returns-then-abort_exchange-clause-answer c).In-Some in let l : Limits = limits_of c.self.inside.shared.words in let u = c.in-Some.task.unit in
+pub returns-in-Ok-clause-answer : goal.returns-in-Ok-clause-answer
+returns-in-Ok-clause-answer c = let i = (goal.at.returns-in-Ok-clause-answer c).In-Some in let l : Limits = limits_of c.self.inside.shared.words in let u = c.in-Some.task.unit in
     let v = view_of c.pass.inside.seat in let w = view_of c.abort_exchange.new.seat in
-    let sh : Shut l 1 0 (Abort (hand v).number u ∷ []) v w = shut_hit l kinds.AbortExchange _ _ _ tt (steady i) refl (λ x p. absurd (in_none p)) (c.abort_exchange.ensures.hit c.if-abort_exchange.true) in (
+    let sh : Shut l 1 0 (Abort (hand v).number u ∷ []) v w = shut_hit l kinds.AbortExchange _ _ _ refl (steady i) refl (λ x p. absurd (in_none p)) c.in-Ok.ensures.hit in (
       u,
-      shut_closes c.pass.inside.seat.table_id c.abort_exchange.new.seat.table_id v w c.args.pass.now c.pass.view_is l 1 0 u _ _ sh (held i) (abort_ended u (hand v).number w.seen sh.before sh.ends) (omega arith),
-      shut_adds c.pass.inside.seat.table_id c.abort_exchange.new.seat.table_id v w c.args.pass.now c.pass.view_is l 1 0 u sh,
+      shut_closes c.pass.inside.seat.table c.abort_exchange.new.seat.table v w c.args.pass.now c.pass.view_is l 1 0 u _ _ sh (held i) (abort_ended u (hand v).number w.seen sh.before sh.ends) (omega arith),
+      shut_adds c.pass.inside.seat.table c.abort_exchange.new.seat.table v w c.args.pass.now c.pass.view_is l 1 0 u sh,
     )
 
-pub returns-else-abort_exchange-clause-answer : goal.returns-else-abort_exchange-clause-answer
-returns-else-abort_exchange-clause-answer c = let i = (goal.at.returns-else-abort_exchange-clause-answer c).In-Some in let l : Limits = limits_of c.self.inside.shared.words in let u = c.in-Some.task.unit in
+pub returns-in-Err-clause-answer : goal.returns-in-Err-clause-answer
+returns-in-Err-clause-answer c = let i = (goal.at.returns-in-Err-clause-answer c).In-Some in let l : Limits = limits_of c.self.inside.shared.words in let u = c.in-Some.task.unit in
     let v = view_of c.pass.inside.seat in let w = view_of c.abort_exchange.new.seat in
-    let miss = c.abort_exchange.ensures.own_miss c.if-abort_exchange.false (held i) in
-    let sh : Shut l 1 0 [] v w = shut_miss l kinds.AbortExchange _ _ tt (steady i) miss.0 in (
+    let miss = c.in-Err.ensures.miss.own (held i) in
+    let sh : Shut l 1 0 [] v w = shut_miss l kinds.AbortExchange _ _ refl (steady i) miss.0 in (
       u,
-      shut_closes c.pass.inside.seat.table_id c.abort_exchange.new.seat.table_id v w c.args.pass.now c.pass.view_is l 1 0 u _ _ sh (held i) (Aborted, miss.1) (omega arith),
-      shut_loses c.pass.inside.seat.table_id c.abort_exchange.new.seat.table_id v w c.args.pass.now c.pass.view_is l 1 0 u sh miss.1 miss.2,
+      shut_closes c.pass.inside.seat.table c.abort_exchange.new.seat.table v w c.args.pass.now c.pass.view_is l 1 0 u _ _ sh (held i) (Aborted, miss.1) (omega arith),
+      shut_loses c.pass.inside.seat.table c.abort_exchange.new.seat.table v w c.args.pass.now c.pass.view_is l 1 0 u sh miss.1 miss.2,
     )
 
-pub returns-then-abort_exchange-clause-free : goal.returns-then-abort_exchange-clause-free
-returns-then-abort_exchange-clause-free c = (returns-then-abort_exchange-clause-answer c).1.open_unit
+pub returns-in-Ok-clause-free : goal.returns-in-Ok-clause-free
+returns-in-Ok-clause-free c = (returns-in-Ok-clause-answer c).1.open_unit
 
-pub returns-then-abort_exchange-clause-ended : goal.returns-then-abort_exchange-clause-ended
-returns-then-abort_exchange-clause-ended c = closed_ended _ _ _ _ (returns-then-abort_exchange-clause-answer c).1
+pub returns-in-Ok-clause-ended : goal.returns-in-Ok-clause-ended
+returns-in-Ok-clause-ended c = closed_ended _ _ _ _ (returns-in-Ok-clause-answer c).1
 
-pub returns-else-abort_exchange-clause-free : goal.returns-else-abort_exchange-clause-free
-returns-else-abort_exchange-clause-free c = (returns-else-abort_exchange-clause-answer c).1.open_unit
+pub returns-in-Err-clause-free : goal.returns-in-Err-clause-free
+returns-in-Err-clause-free c = (returns-in-Err-clause-answer c).1.open_unit
 
-pub returns-else-abort_exchange-clause-ended : goal.returns-else-abort_exchange-clause-ended
-returns-else-abort_exchange-clause-ended c = closed_ended _ _ _ _ (returns-else-abort_exchange-clause-answer c).1
+pub returns-in-Err-clause-ended : goal.returns-in-Err-clause-ended
+returns-in-Err-clause-ended c = closed_ended _ _ _ _ (returns-in-Err-clause-answer c).1

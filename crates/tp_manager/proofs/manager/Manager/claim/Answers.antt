@@ -5,6 +5,7 @@ use Rattle.tp_model.specs.Steps.{rows_of}
 use Rattle.tp_rule.specs.Tables.{limits_of}
 use Rattle.tp_rule.specs.Views.{view_of}
 use Rattle.tp_manager.specs.Shown.{ManagerShown, PassShown, shown}
+use Rattle.tp_manager.specs.Bounds.{claim_steps, try_steps}
 use Rattle.tp_manager.specs.Calls.{Claims, Takes}
 use Rattle.tp_manager.specs.Walks.{Steady}
 use Rattle.tp_manager.proofs.Walks.{follows}
@@ -25,38 +26,38 @@ steady c = steady_at _ _ _ (lim c) c.pass.invariant.steady
 not : (c : After-choose_unit) → ¬ (c.pass.inside.used ≡ (limits_of c.self.inside.shared.words).units)
 not c = subst (λ (z : Limits). ¬ (c.pass.inside.used ≡ z.units)) (sym c.self.inside.shared.same) c.if-pass-units.false
 
-few : (l k : Limits) → l ≡ k → 1 + rows_of l * (2 * l.attempts + 9) ≤ rows_of k * (2 * k.attempts + 9) + 1
-few l k same = subst (λ (z : Limits). 1 + rows_of l * (2 * l.attempts + 9) ≤ rows_of z * (2 * z.attempts + 9) + 1) same (omega arith)
+few : (l k : Limits) → l ≡ k → 1 + rows_of l * try_steps l ≤ claim_steps k
+few l k same = subst (λ (z : Limits). 1 + rows_of l * try_steps l ≤ claim_steps z) same (omega arith)
 
 pub scan-requires-clause-steady : goal.scan-requires-clause-steady
 scan-requires-clause-steady c = chose_steady _ _ _ _ (steady (goal.at.scan-requires-clause-steady c).After-choose_unit) c.choose_unit.ensures.chooses
 
 pub returns-in_default-clause-follows : goal.returns-in_default-clause-follows
 returns-in_default-clause-follows c = let at = (goal.at.returns-in_default-clause-follows c).After-choose_unit in let l : Limits = limits_of c.self.inside.shared.words in let told = c.in_default.ensures.told in
-    follows c.pass.inside.seat.table_id c.scan.new.seat.table_id (view_of c.pass.inside.seat) (view_of c.scan.new.seat) c.args.pass.now c.pass.view_is l _ _
-    (idle_walked l _ _ (view_of c.choose_unit.new.seat) (steady at) c.choose_unit.ensures.chooses _ _ told.0) (rows_of c.args.self.now.limits * (2 * c.args.self.now.limits.attempts + 9) + 1) (few l c.args.self.now.limits (limits at))
+    follows c.pass.inside.seat.table c.scan.new.seat.table (view_of c.pass.inside.seat) (view_of c.scan.new.seat) c.args.pass.now c.pass.view_is l _ _
+    (idle_walked l _ _ (view_of c.choose_unit.new.seat) (steady at) c.choose_unit.ensures.chooses _ c.args.stage _ told) (claim_steps c.args.self.now.limits) (few l c.args.self.now.limits (limits at))
 
 pub returns-in_default-clause-answer : goal.returns-in_default-clause-answer
 returns-in_default-clause-answer c = let at = (goal.at.returns-in_default-clause-answer c).After-choose_unit in let l : Limits = limits_of c.self.inside.shared.words in let told = c.in_default.ensures.told in
-    subst (λ (z : Limits). Claims z c.args.stage c.args.pass.now (shown c.scan.new.seat.table_id (view_of c.scan.new.seat)) claimeds.Idle) (limits at)
-    (idle_answer l _ _ (view_of c.choose_unit.new.seat) (steady at) c.choose_unit.ensures.chooses _ _ told.0 c.args.stage _ _ _ _ c.pass.inside.seat c.pass.inside.seat.table_id c.scan.new.seat.table_id c.args.pass.now refl (lim at) c.pass.view_is c.pass.invariant (not at) told.1)
+    subst (λ (z : Limits). Claims z c.args.stage c.args.pass.now (shown c.scan.new.seat.table (view_of c.scan.new.seat)) claimeds.Idle) (limits at)
+    (idle_answer l _ _ (view_of c.choose_unit.new.seat) (steady at) c.choose_unit.ensures.chooses _ c.args.stage _ told _ _ _ _ c.pass.inside.seat c.pass.inside.seat.table c.scan.new.seat.table c.args.pass.now refl (lim at) c.pass.view_is c.pass.invariant (not at))
 
 pub invariant_of-pass-in_default : goal.invariant_of-pass-in_default
 invariant_of-pass-in_default c = let at = (goal.at.invariant_of-pass-in_default c).After-choose_unit in let l : Limits = limits_of c.self.inside.shared.words in
-    chose_rests l _ _ _ _ _ _ c.pass.inside.seat c.scan.new.seat (view_of c.choose_unit.new.seat) (steady at) c.choose_unit.ensures.chooses c.in_default.ensures.told.0 (lim at) (search rules) c.pass.invariant
+    chose_rests l _ _ c.args.stage _ _ _ _ c.pass.inside.seat c.scan.new.seat (view_of c.choose_unit.new.seat) (steady at) c.choose_unit.ensures.chooses c.in_default.ensures.told (lim at) c.pass.invariant
 
 pub invariant_of-pass-2 : goal.invariant_of-pass-2
 invariant_of-pass-2 c = let at = (goal.at.invariant_of-pass-2 c).After-choose_unit in let l : Limits = limits_of c.self.inside.shared.words in let told = c.in-Some.ensures.told in
-    took_rests l _ _ c.args.stage c.in-Some.taken.attempt c.in-Some.taken.root _ _ _ _ c.pass.inside.seat c.scan.new.seat (view_of c.choose_unit.new.seat) c.in-Some.taken.element (steady at) c.choose_unit.ensures.chooses told.0 (lim at) (search rules) told.1 (not at) c.pass.invariant
+    took_rests l _ _ c.args.stage c.in-Some.taken.attempt c.in-Some.taken.root _ _ _ _ c.pass.inside.seat c.scan.new.seat (view_of c.choose_unit.new.seat) c.in-Some.taken.element (steady at) c.choose_unit.ensures.chooses told.0 (lim at) told.1 (not at) c.pass.invariant
 
 pub returns-clause-follows : goal.returns-clause-follows
 returns-clause-follows c = let at = (goal.at.returns-clause-follows c).After-choose_unit in let l : Limits = limits_of c.self.inside.shared.words in let told = c.in-Some.ensures.told in
-    follows c.pass.inside.seat.table_id c.scan.new.seat.table_id (view_of c.pass.inside.seat) (view_of c.scan.new.seat) c.args.pass.now c.pass.view_is l _ _
-    (took_walked l _ _ (view_of c.choose_unit.new.seat) (steady at) c.choose_unit.ensures.chooses _ _ _ _ _ told.0) (rows_of c.args.self.now.limits * (2 * c.args.self.now.limits.attempts + 9) + 1) (few l c.args.self.now.limits (limits at))
+    follows c.pass.inside.seat.table c.scan.new.seat.table (view_of c.pass.inside.seat) (view_of c.scan.new.seat) c.args.pass.now c.pass.view_is l _ _
+    (took_walked l _ _ (view_of c.choose_unit.new.seat) (steady at) c.choose_unit.ensures.chooses _ _ _ _ _ told.0) (claim_steps c.args.self.now.limits) (few l c.args.self.now.limits (limits at))
 
 pub returns-clause-answer : goal.returns-clause-answer
 returns-clause-answer c = let at = (goal.at.returns-clause-answer c).After-choose_unit in let l : Limits = limits_of c.self.inside.shared.words in let told = c.in-Some.ensures.told in
     let u : ℕ = c.pass.inside.number * c.self.inside.shared.places.limits.units + c.pass.inside.used in
-    subst (λ (z : Limits). Takes z c.args.stage (record { unit = u; element = c.in-Some.taken.element; attempt = c.in-Some.taken.attempt }) c.args.pass.now (shown c.scan.new.seat.table_id (view_of c.scan.new.seat))) (limits at)
-    (took_answer l u _ (view_of c.choose_unit.new.seat) (steady at) c.choose_unit.ensures.chooses _ c.args.stage c.in-Some.taken.attempt _ c.in-Some.taken.element told.0 _ _ _ _ c.pass.inside.seat c.pass.inside.seat.table_id c.scan.new.seat.table_id c.args.pass.now refl (lim at) c.pass.view_is
+    subst (λ (z : Limits). Takes z c.args.stage (record { unit = u; element = c.in-Some.taken.element; attempt = c.in-Some.taken.attempt }) c.args.pass.now (shown c.scan.new.seat.table (view_of c.scan.new.seat))) (limits at)
+    (took_answer l u _ (view_of c.choose_unit.new.seat) (steady at) c.choose_unit.ensures.chooses _ c.args.stage c.in-Some.taken.attempt _ c.in-Some.taken.element told.0 _ _ _ _ c.pass.inside.seat c.pass.inside.seat.table c.scan.new.seat.table c.args.pass.now refl (lim at) c.pass.view_is
     c.pass.invariant (not at) (ap (λ (z : Limits). c.pass.inside.number * z.units + c.pass.inside.used) (sym c.self.inside.shared.same)))

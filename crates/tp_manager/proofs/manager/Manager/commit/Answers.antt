@@ -13,6 +13,7 @@ use Rattle.tp_model.proofs.Bridges.{in_none}
 use Rattle.tp_rule.specs.Tables.{limits_of}
 use Rattle.tp_rule.specs.Views.{hand, view_of}
 use Rattle.tp_manager.specs.Shown.{ManagerShown, PassShown}
+use Rattle.tp_manager.specs.Bounds.{commit_steps}
 use Rattle.tp_manager.specs.Walks.{Rests, Steady, Shut, IsTask, unit_in}
 use Rattle.tp_manager.proofs.Walks.{follows}
 use Rattle.tp_manager.proofs.Passes.{steady_at}
@@ -41,44 +42,44 @@ abort_exchange-requires-clause-unit c = let i = (goal.at.abort_exchange-requires
 
 pub invariant_of-pass : goal.invariant_of-pass
 invariant_of-pass c = let i = (goal.at.invariant_of-pass c).In-Some in let l : Limits = limits_of c.self.inside.shared.words in
-    shut_rests l 1 0 _ c.pass.inside.seat c.abort_exchange.new.seat _ _ _ _ _ (lim i) (shut_hit l kinds.AbortExchange _ _ _ tt (steady i) refl (λ x p. absurd (in_none p)) (c.abort_exchange.ensures.hit c.if-abort_exchange.true)) refl (search rules) (omega arith) c.pass.invariant
+    shut_rests l 1 0 _ c.pass.inside.seat c.abort_exchange.new.seat _ _ _ _ _ (lim i) (shut_hit l kinds.AbortExchange _ _ _ refl (steady i) refl (λ x p. absurd (in_none p)) c.in-Ok.ensures.hit) refl (omega arith) c.pass.invariant
 
-pub invariant_of-pass-then-count-rows : goal.invariant_of-pass-then-count-rows
-invariant_of-pass-then-count-rows c = let i = (goal.at.invariant_of-pass-then-count-rows c).In-Some in let l : Limits = limits_of c.self.inside.shared.words in
-    shut_rests l 1 0 _ c.pass.inside.seat c.abort_exchange.new.seat _ _ _ _ _ (lim i) (shut_miss l kinds.AbortExchange _ _ tt (steady i) (c.abort_exchange.ensures.own_miss c.if-abort_exchange.false (held i)).0) refl (search rules) (omega arith) c.pass.invariant
+pub invariant_of-pass-in-Err : goal.invariant_of-pass-in-Err
+invariant_of-pass-in-Err c = let i = (goal.at.invariant_of-pass-in-Err c).In-Some in let l : Limits = limits_of c.self.inside.shared.words in
+    shut_rests l 1 0 _ c.pass.inside.seat c.abort_exchange.new.seat _ _ _ _ _ (lim i) (shut_miss l kinds.AbortExchange _ _ refl (steady i) (c.in-Err.ensures.miss.own (held i)).0) refl (omega arith) c.pass.invariant
 
-pub returns-then-abort_exchange-clause-follows : goal.returns-then-abort_exchange-clause-follows
-returns-then-abort_exchange-clause-follows c = let i = (goal.at.returns-then-abort_exchange-clause-follows c).In-Some in let l : Limits = limits_of c.self.inside.shared.words in
-    let sh = shut_hit l kinds.AbortExchange _ _ _ tt (steady i) refl (λ x p. absurd (in_none p)) (c.abort_exchange.ensures.hit c.if-abort_exchange.true) in
-    follows c.pass.inside.seat.table_id c.abort_exchange.new.seat.table_id (view_of c.pass.inside.seat) (view_of c.abort_exchange.new.seat) c.args.pass.now c.pass.view_is l 1 _ sh.walk (4 * length c.args.drafts.now + 3) (omega arith)
+pub returns-in-Ok-clause-follows : goal.returns-in-Ok-clause-follows
+returns-in-Ok-clause-follows c = let i = (goal.at.returns-in-Ok-clause-follows c).In-Some in let l : Limits = limits_of c.self.inside.shared.words in
+    let sh = shut_hit l kinds.AbortExchange _ _ _ refl (steady i) refl (λ x p. absurd (in_none p)) c.in-Ok.ensures.hit in
+    follows c.pass.inside.seat.table c.abort_exchange.new.seat.table (view_of c.pass.inside.seat) (view_of c.abort_exchange.new.seat) c.args.pass.now c.pass.view_is l 1 _ sh.walk (commit_steps (length c.args.drafts.now)) (omega arith)
 
-pub returns-then-count-rows-clause-follows : goal.returns-then-count-rows-clause-follows
-returns-then-count-rows-clause-follows c = let i = (goal.at.returns-then-count-rows-clause-follows c).In-Some in let l : Limits = limits_of c.self.inside.shared.words in
-    let sh = shut_miss l kinds.AbortExchange _ _ tt (steady i) (c.abort_exchange.ensures.own_miss c.if-abort_exchange.false (held i)).0 in
-    follows c.pass.inside.seat.table_id c.abort_exchange.new.seat.table_id (view_of c.pass.inside.seat) (view_of c.abort_exchange.new.seat) c.args.pass.now c.pass.view_is l 1 _ sh.walk (4 * length c.args.drafts.now + 3) (omega arith)
+pub returns-in-Err-clause-follows : goal.returns-in-Err-clause-follows
+returns-in-Err-clause-follows c = let i = (goal.at.returns-in-Err-clause-follows c).In-Some in let l : Limits = limits_of c.self.inside.shared.words in
+    let sh = shut_miss l kinds.AbortExchange _ _ refl (steady i) (c.in-Err.ensures.miss.own (held i)).0 in
+    follows c.pass.inside.seat.table c.abort_exchange.new.seat.table (view_of c.pass.inside.seat) (view_of c.abort_exchange.new.seat) c.args.pass.now c.pass.view_is l 1 _ sh.walk (commit_steps (length c.args.drafts.now)) (omega arith)
 
-pub returns-then-abort_exchange-clause-answer : goal.returns-then-abort_exchange-clause-answer
-returns-then-abort_exchange-clause-answer c = let i = (goal.at.returns-then-abort_exchange-clause-answer c).In-Some in let l : Limits = limits_of c.self.inside.shared.words in let u = c.in-Some.task.unit in
+pub returns-in-Ok-clause-answer : goal.returns-in-Ok-clause-answer
+returns-in-Ok-clause-answer c = let i = (goal.at.returns-in-Ok-clause-answer c).In-Some in let l : Limits = limits_of c.self.inside.shared.words in let u = c.in-Some.task.unit in
     let v = view_of c.pass.inside.seat in let w = view_of c.abort_exchange.new.seat in
-    let sh : Shut l 1 0 (Abort (hand v).number u ∷ []) v w = shut_hit l kinds.AbortExchange _ _ _ tt (steady i) refl (λ x p. absurd (in_none p)) (c.abort_exchange.ensures.hit c.if-abort_exchange.true) in (
+    let sh : Shut l 1 0 (Abort (hand v).number u ∷ []) v w = shut_hit l kinds.AbortExchange _ _ _ refl (steady i) refl (λ x p. absurd (in_none p)) c.in-Ok.ensures.hit in (
       full i c.if-count-rows.true,
       (
         u,
-        shut_closes c.pass.inside.seat.table_id c.abort_exchange.new.seat.table_id v w c.args.pass.now c.pass.view_is l 1 0 u _ _ sh (held i) (abort_ended u (hand v).number w.seen sh.before sh.ends) (omega arith),
-        inl (shut_adds c.pass.inside.seat.table_id c.abort_exchange.new.seat.table_id v w c.args.pass.now c.pass.view_is l 1 0 u sh),
+        shut_closes c.pass.inside.seat.table c.abort_exchange.new.seat.table v w c.args.pass.now c.pass.view_is l 1 0 u _ _ sh (held i) (abort_ended u (hand v).number w.seen sh.before sh.ends) (omega arith),
+        inl (shut_adds c.pass.inside.seat.table c.abort_exchange.new.seat.table v w c.args.pass.now c.pass.view_is l 1 0 u sh),
       ),
     )
 
-pub returns-then-count-rows-clause-answer : goal.returns-then-count-rows-clause-answer
-returns-then-count-rows-clause-answer c = let i = (goal.at.returns-then-count-rows-clause-answer c).In-Some in let l : Limits = limits_of c.self.inside.shared.words in let u = c.in-Some.task.unit in
+pub returns-in-Err-clause-answer : goal.returns-in-Err-clause-answer
+returns-in-Err-clause-answer c = let i = (goal.at.returns-in-Err-clause-answer c).In-Some in let l : Limits = limits_of c.self.inside.shared.words in let u = c.in-Some.task.unit in
     let v = view_of c.pass.inside.seat in let w = view_of c.abort_exchange.new.seat in
-    let miss = c.abort_exchange.ensures.own_miss c.if-abort_exchange.false (held i) in
-    let sh : Shut l 1 0 [] v w = shut_miss l kinds.AbortExchange _ _ tt (steady i) miss.0 in (
+    let miss = c.in-Err.ensures.miss.own (held i) in
+    let sh : Shut l 1 0 [] v w = shut_miss l kinds.AbortExchange _ _ refl (steady i) miss.0 in (
       full i c.if-count-rows.true,
       (
         u,
-        shut_closes c.pass.inside.seat.table_id c.abort_exchange.new.seat.table_id v w c.args.pass.now c.pass.view_is l 1 0 u _ _ sh (held i) (Aborted, miss.1) (omega arith),
-        inr (shut_loses c.pass.inside.seat.table_id c.abort_exchange.new.seat.table_id v w c.args.pass.now c.pass.view_is l 1 0 u sh miss.1 miss.2),
+        shut_closes c.pass.inside.seat.table c.abort_exchange.new.seat.table v w c.args.pass.now c.pass.view_is l 1 0 u _ _ sh (held i) (Aborted, miss.1) (omega arith),
+        inr (shut_loses c.pass.inside.seat.table c.abort_exchange.new.seat.table v w c.args.pass.now c.pass.view_is l 1 0 u sh miss.1 miss.2),
       ),
     )
 
@@ -114,14 +115,14 @@ commit_exchange-requires-clause-first c = let i = (goal.at.commit_exchange-requi
 hit : (c : After-write_all) (i : In-Some) → (y : View) → MakesCommit (view_of c.write_all.new.seat) c.in-Some.task.unit y
     → Shut (limits_of c.self.inside.shared.words) 1 0 (committed (view_of c.write_all.new.seat) c.in-Some.task.unit ∷ []) (view_of c.write_all.new.seat) y
 hit c i y made = let l : Limits = limits_of c.self.inside.shared.words in
-    shut_hit l kinds.CommitExchange _ _ _ tt c.write_all.ensures.wrote.walk.steady refl
+    shut_hit l kinds.CommitExchange _ _ _ refl c.write_all.ensures.wrote.walk.steady refl
     (own_below l (view_of c.pass.inside.seat) (view_of c.write_all.new.seat) c.pass.inside.number c.pass.inside.drawn c.pass.inside.used (c.pass.inside.number * c.self.inside.shared.places.limits.rows + c.pass.inside.drawn) c.in-Some.task c.args.drafts.now c.pass.inside.seat refl
     (subst (λ t. Rests c.pass.inside.seat c.pass.inside.number c.pass.inside.drawn c.pass.inside.used t) c.in-Some.is c.pass.invariant) (ap (λ (z : Limits). c.pass.inside.number * z.rows + c.pass.inside.drawn) (sym c.self.inside.shared.same)) c.write_all.ensures.wrote) made
 
 both : (c : After-write_all) → (es : List Event) (y : View) → Shut (limits_of c.self.inside.shared.words) 1 0 es (view_of c.write_all.new.seat) y
-    → Shut (limits_of c.self.inside.shared.words) (3 * length c.args.drafts.now + 1) (length c.args.drafts.now) es (view_of c.pass.inside.seat) y
+    → Shut (limits_of c.self.inside.shared.words) (commit_steps (length c.args.drafts.now)) (length c.args.drafts.now) es (view_of c.pass.inside.seat) y
 both c es y sh = let row : ℕ = c.pass.inside.number * c.self.inside.shared.places.limits.rows + c.pass.inside.drawn in
-    subst (λ n. Shut (limits_of c.self.inside.shared.words) (3 * n + 1) n es (view_of c.pass.inside.seat) y) (length-outputs c.in-Some.task.unit c.in-Some.task.root row c.args.drafts.now)
+    subst (λ n. Shut (limits_of c.self.inside.shared.words) (commit_steps n) n es (view_of c.pass.inside.seat) y) (length-outputs c.in-Some.task.unit c.in-Some.task.root row c.args.drafts.now)
     (wrote_shut (limits_of c.self.inside.shared.words) (outputs c.in-Some.task.unit c.in-Some.task.root row c.args.drafts.now) es (view_of c.pass.inside.seat) (view_of c.write_all.new.seat) y c.write_all.ensures.wrote sh)
 
 room : (c : In-Some) → length c.args.drafts.now ≤ c.self.inside.shared.places.limits.rows - c.pass.inside.drawn → c.pass.inside.drawn ≤ c.self.inside.shared.places.limits.rows → c.args.pass.now.drawn + length c.args.drafts.now ≤ c.args.pass.now.limits.rows
@@ -135,28 +136,28 @@ below c = subst (λ (z : Limits). c.pass.inside.drawn ≤ z.rows) (lim c ∙ c.s
 
 pub invariant_of-pass-then-commit_exchange : goal.invariant_of-pass-then-commit_exchange
 invariant_of-pass-then-commit_exchange c = let at = goal.at.invariant_of-pass-then-commit_exchange c in
-    shut_rests _ _ _ _ c.pass.inside.seat c.commit_exchange.new.seat _ _ _ _ _ (lim at.In-Some) (both at.After-write_all _ _ (hit at.After-write_all at.In-Some _ (c.commit_exchange.ensures.hit c.if-commit_exchange.true))) refl (search rules) refl c.pass.invariant
+    shut_rests _ _ _ _ c.pass.inside.seat c.commit_exchange.new.seat _ _ _ _ _ (lim at.In-Some) (both at.After-write_all _ _ (hit at.After-write_all at.In-Some _ (c.commit_exchange.ensures.hit c.if-commit_exchange.true))) refl refl c.pass.invariant
 
 pub invariant_of-pass-else-commit_exchange : goal.invariant_of-pass-else-commit_exchange
 invariant_of-pass-else-commit_exchange c = let at = goal.at.invariant_of-pass-else-commit_exchange c in
-    shut_rests _ _ _ _ c.pass.inside.seat c.commit_exchange.new.seat _ _ _ _ _ (lim at.In-Some) (both at.After-write_all _ _ (shut_miss _ kinds.CommitExchange _ _ tt c.write_all.ensures.wrote.walk.steady (c.commit_exchange.ensures.miss c.if-commit_exchange.false).0)) refl (search rules) refl c.pass.invariant
+    shut_rests _ _ _ _ c.pass.inside.seat c.commit_exchange.new.seat _ _ _ _ _ (lim at.In-Some) (both at.After-write_all _ _ (shut_miss _ kinds.CommitExchange _ _ refl c.write_all.ensures.wrote.walk.steady (c.commit_exchange.ensures.miss c.if-commit_exchange.false).0)) refl refl c.pass.invariant
 
 pub returns-then-commit_exchange-clause-follows : goal.returns-then-commit_exchange-clause-follows
 returns-then-commit_exchange-clause-follows c = let at = goal.at.returns-then-commit_exchange-clause-follows c in let k : ℕ = length c.args.drafts.now in
     let sh = both at.After-write_all _ _ (hit at.After-write_all at.In-Some _ (c.commit_exchange.ensures.hit c.if-commit_exchange.true)) in
-    follows c.pass.inside.seat.table_id c.commit_exchange.new.seat.table_id (view_of c.pass.inside.seat) (view_of c.commit_exchange.new.seat) c.args.pass.now c.pass.view_is _ (3 * k + 1) _ sh.walk (4 * k + 3) (omega arith)
+    follows c.pass.inside.seat.table c.commit_exchange.new.seat.table (view_of c.pass.inside.seat) (view_of c.commit_exchange.new.seat) c.args.pass.now c.pass.view_is _ (commit_steps k) _ sh.walk (commit_steps k) (omega arith)
 
 pub returns-else-commit_exchange-clause-follows : goal.returns-else-commit_exchange-clause-follows
 returns-else-commit_exchange-clause-follows c = let at = goal.at.returns-else-commit_exchange-clause-follows c in let k : ℕ = length c.args.drafts.now in
-    let sh = both at.After-write_all _ _ (shut_miss _ kinds.CommitExchange _ _ tt c.write_all.ensures.wrote.walk.steady (c.commit_exchange.ensures.miss c.if-commit_exchange.false).0) in
-    follows c.pass.inside.seat.table_id c.commit_exchange.new.seat.table_id (view_of c.pass.inside.seat) (view_of c.commit_exchange.new.seat) c.args.pass.now c.pass.view_is _ (3 * k + 1) _ sh.walk (4 * k + 3) (omega arith)
+    let sh = both at.After-write_all _ _ (shut_miss _ kinds.CommitExchange _ _ refl c.write_all.ensures.wrote.walk.steady (c.commit_exchange.ensures.miss c.if-commit_exchange.false).0) in
+    follows c.pass.inside.seat.table c.commit_exchange.new.seat.table (view_of c.pass.inside.seat) (view_of c.commit_exchange.new.seat) c.args.pass.now c.pass.view_is _ (commit_steps k) _ sh.walk (commit_steps k) (omega arith)
 
 pub returns-then-commit_exchange-clause-answer : goal.returns-then-commit_exchange-clause-answer
 returns-then-commit_exchange-clause-answer c = let at = goal.at.returns-then-commit_exchange-clause-answer c in let i = at.In-Some in let u = c.in-Some.task.unit in let l : Limits = limits_of c.self.inside.shared.words in
     let v = view_of c.pass.inside.seat in let w = view_of c.write_all.new.seat in let y = view_of c.commit_exchange.new.seat in
     let sh : Shut l _ _ (committed w u ∷ []) v y = both at.After-write_all _ _ (hit at.After-write_all i y (c.commit_exchange.ensures.hit c.if-commit_exchange.true)) in (
       room i c.if-count-rows.false (below i),
-      committed_answer c.pass.inside.seat.table_id c.commit_exchange.new.seat.table_id l v w y c.args.pass.now c.pass.view_is _ _ _ _ c.in-Some.task c.args.drafts.now c.pass.inside.seat refl (rests i) (next i) c.write_all.ensures.wrote (lim i) (held i) c.if-count-eq0.first _ sh
+      committed_answer c.pass.inside.seat.table c.commit_exchange.new.seat.table l v w y c.args.pass.now c.pass.view_is _ _ _ _ c.in-Some.task c.args.drafts.now c.pass.inside.seat refl (rests i) (next i) c.write_all.ensures.wrote (lim i) (held i) c.if-count-eq0.first _ sh
           (λ some. elim c.if-count-eq0.branch [ then-count-eq0 w ↦ let z = w.if-count-eq0.true in absurd (omega arith) | else-count-eq0 w ↦ w.first-is ])
           (λ none. elim c.if-count-eq0.branch [ then-count-eq0 w ↦ w.first-is | else-count-eq0 w ↦ absurd (w.if-count-eq0.false none) ]),
     )
@@ -165,26 +166,26 @@ pub returns-else-commit_exchange-clause-answer : goal.returns-else-commit_exchan
 returns-else-commit_exchange-clause-answer c = let at = goal.at.returns-else-commit_exchange-clause-answer c in let i = at.In-Some in let u = c.in-Some.task.unit in let l : Limits = limits_of c.self.inside.shared.words in
     let v = view_of c.pass.inside.seat in let w = view_of c.write_all.new.seat in let y = view_of c.commit_exchange.new.seat in
     let miss = c.commit_exchange.ensures.miss c.if-commit_exchange.false in
-    let sh : Shut l _ _ [] v y = both at.After-write_all _ _ (shut_miss l kinds.CommitExchange w y tt c.write_all.ensures.wrote.walk.steady miss.0) in (
+    let sh : Shut l _ _ [] v y = both at.After-write_all _ _ (shut_miss l kinds.CommitExchange w y refl c.write_all.ensures.wrote.walk.steady miss.0) in (
       room i c.if-count-rows.false (below i),
       (
         u,
-        shut_closes c.pass.inside.seat.table_id c.commit_exchange.new.seat.table_id v y c.args.pass.now c.pass.view_is l _ _ u _ _ sh (held i) (Aborted, miss.1) refl,
-        shut_loses c.pass.inside.seat.table_id c.commit_exchange.new.seat.table_id v y c.args.pass.now c.pass.view_is l _ _ u sh miss.1 (subst (λ k. ¬ (In (Abort k u) y.seen)) c.write_all.ensures.wrote.walk.number miss.2),
+        shut_closes c.pass.inside.seat.table c.commit_exchange.new.seat.table v y c.args.pass.now c.pass.view_is l _ _ u _ _ sh (held i) (Aborted, miss.1) refl,
+        shut_loses c.pass.inside.seat.table c.commit_exchange.new.seat.table v y c.args.pass.now c.pass.view_is l _ _ u sh miss.1 (subst (λ k. ¬ (In (Abort k u) y.seen)) c.write_all.ensures.wrote.walk.number miss.2),
       ),
     )
 
-pub returns-then-abort_exchange-clause-free : goal.returns-then-abort_exchange-clause-free
-returns-then-abort_exchange-clause-free c = (returns-then-abort_exchange-clause-answer c).1.1.open_unit
+pub returns-in-Ok-clause-free : goal.returns-in-Ok-clause-free
+returns-in-Ok-clause-free c = (returns-in-Ok-clause-answer c).1.1.open_unit
 
-pub returns-then-abort_exchange-clause-ended : goal.returns-then-abort_exchange-clause-ended
-returns-then-abort_exchange-clause-ended c = closed_ended _ _ _ _ (returns-then-abort_exchange-clause-answer c).1.1
+pub returns-in-Ok-clause-ended : goal.returns-in-Ok-clause-ended
+returns-in-Ok-clause-ended c = closed_ended _ _ _ _ (returns-in-Ok-clause-answer c).1.1
 
-pub returns-then-count-rows-clause-free : goal.returns-then-count-rows-clause-free
-returns-then-count-rows-clause-free c = (returns-then-count-rows-clause-answer c).1.1.open_unit
+pub returns-in-Err-clause-free : goal.returns-in-Err-clause-free
+returns-in-Err-clause-free c = (returns-in-Err-clause-answer c).1.1.open_unit
 
-pub returns-then-count-rows-clause-ended : goal.returns-then-count-rows-clause-ended
-returns-then-count-rows-clause-ended c = closed_ended _ _ _ _ (returns-then-count-rows-clause-answer c).1.1
+pub returns-in-Err-clause-ended : goal.returns-in-Err-clause-ended
+returns-in-Err-clause-ended c = closed_ended _ _ _ _ (returns-in-Err-clause-answer c).1.1
 
 pub returns-then-commit_exchange-clause-free : goal.returns-then-commit_exchange-clause-free
 returns-then-commit_exchange-clause-free c = (returns-then-commit_exchange-clause-answer c).1.closes.open_unit

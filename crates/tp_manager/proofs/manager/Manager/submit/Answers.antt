@@ -1,12 +1,15 @@
-use Rattle.std.proofs.Common.{◌≡◌, ◌<◌, ◌≤◌, sym, ◌∙◌, ap, arith, rules, subst}
+use Rattle.std.proofs.Common.{◌≡◌, ◌<◌, ◌≤◌, sym, ◌∙◌, ap, arith, rules, subst, Some}
 use Rattle.tp_model.specs.declared.types.Limits.{Limits}
 use Rattle.tp_rule.specs.Tables.{limits_of}
-use Rattle.tp_rule.specs.Views.{hand, view_of}
+use Rattle.tp_model.specs.Births.{request}
+use Rattle.tp_model.specs.History.{element_of}
+use Rattle.tp_rule.specs.Views.{hand, seen_by, view_of}
 use Rattle.tp_manager.specs.Shown.{ManagerShown, PassShown}
+use Rattle.tp_manager.specs.Bounds.{submit_steps}
 use Rattle.tp_manager.specs.Walks.{Steady}
 use Rattle.tp_manager.proofs.Walks.{follows}
 use Rattle.tp_manager.proofs.Passes.{steady_at}
-use Rattle.tp_manager.proofs.Submits.{made_rests, made_walked}
+use Rattle.tp_manager.proofs.Submits.{made_request, made_rests, made_walked}
 use Rattle.tp_manager.proofs.manager.Manager.submit.Goals as goal
 use Rattle.tp_manager.proofs.manager.Manager.submit.Goals.{After-publish}
 
@@ -22,9 +25,21 @@ steady c = steady_at _ _ _ (lim c) c.pass.invariant.steady
 
 pub invariant_of-pass-2 : goal.invariant_of-pass-2
 invariant_of-pass-2 c = let at = (goal.at.invariant_of-pass-2 c).After-publish in
-    made_rests (limits_of c.self.inside.shared.words) c.args.key c.args.amount c.args.stage c.pass.inside.seat c.publish.new.seat _ _ (lim at) (steady at) c.store_draft_key.ensures.view c.store_draft_amount.ensures.view c.publish.ensures.grew (room at) (search rules) _ _ _ _ c.pass.invariant
+    made_rests (limits_of c.self.inside.shared.words) c.args.key c.args.amount c.args.stage c.pass.inside.seat c.publish.new.seat _ _ (lim at) (steady at) c.store_draft_key.ensures.view c.store_draft_amount.ensures.view c.publish.ensures.grew (room at) _ _ _ _ c.pass.invariant
 
 pub returns-clause-follows : goal.returns-clause-follows
 returns-clause-follows c = let at = (goal.at.returns-clause-follows c).After-publish in
-    follows c.pass.inside.seat.table_id c.publish.new.seat.table_id (view_of c.pass.inside.seat) (view_of c.publish.new.seat) c.args.pass.now c.pass.view_is (limits_of c.self.inside.shared.words) 3 _
-    (made_walked (limits_of c.self.inside.shared.words) c.args.key c.args.amount c.args.stage _ _ _ _ (steady at) c.store_draft_key.ensures.view c.store_draft_amount.ensures.view c.publish.ensures.grew (room at)) 4 (omega arith)
+    follows c.pass.inside.seat.table c.publish.new.seat.table (view_of c.pass.inside.seat) (view_of c.publish.new.seat) c.args.pass.now c.pass.view_is (limits_of c.self.inside.shared.words) 3 _
+    (made_walked (limits_of c.self.inside.shared.words) c.args.key c.args.amount c.args.stage _ _ _ _ (steady at) c.store_draft_key.ensures.view c.store_draft_amount.ensures.view c.publish.ensures.grew (room at)) submit_steps (omega arith)
+
+pub returns-clause-answer : goal.returns-clause-answer
+returns-clause-answer c = let at = (goal.at.returns-clause-answer c).After-publish in let l : Limits = limits_of c.self.inside.shared.words in record {
+  stage_is = search rules;
+  room = search rules;
+  id_is = search rules;
+  adds = search rules;
+  is_born = let t = made_request l c.args.key c.args.amount c.args.stage _ _ _ (view_of c.publish.new.seat) (steady at) c.store_draft_key.ensures.view c.store_draft_amount.ensures.view c.publish.ensures.grew (room at) in
+      subst (λ n. element_of (seen_by c.publish.new.seat) n ≡ Some (request n c.args.stage c.args.key c.args.amount)) (t.1 ∙ (search rules)) t.0;
+  open_unit = search rules;
+  drawn = search rules;
+}

@@ -1,5 +1,6 @@
-use Rattle.std.proofs.Common.{◌≡◌, ◌≢◌, ◌+◌, ◌-◌, ◌*◌, ◌<◌, ◌≤◌, ℕ, sym, ◌∙◌, ap, arith, rules, subst}
+use Rattle.std.proofs.Common.{◌≡◌, ◌≢◌, ◌+◌, ◌-◌, ◌*◌, ◌<◌, ◌≤◌, ℕ, sym, ◌∙◌, ap, arith, rules, subst, refl}
 use Rattle.tp_model.specs.declared.types.Limits.{Limits}
+use Rattle.tp_model.specs.declared.trace.StepKind.TheVariants as kinds
 use Rattle.tp_model.specs.Words.{TakenWord, claim_word}
 use Rattle.tp_model.proofs.Bridges.{status_free, status_killed}
 use Rattle.tp_model.proofs.Later.{unit_inside}
@@ -7,6 +8,7 @@ use Rattle.tp_words.specs.Words.{claim_value, unit_value}
 use Rattle.tp_rule.specs.Tables.{limits_of}
 use Rattle.tp_rule.specs.Views.{seen_by, view_of}
 use Rattle.tp_rule.proofs.Reading.{grew_begins}
+use Rattle.tp_manager.specs.Bounds.{retry_steps}
 use Rattle.tp_manager.specs.Looks.{IsEnough}
 use Rattle.tp_manager.specs.Walks.{Looked}
 use Rattle.tp_manager.proofs.Walks.{acted_by, looked, looked_none, looked_few, looked_then, looked_begins}
@@ -24,10 +26,10 @@ some : (t : ℕ) (c : In-Taken t) → 1 ≤ c.args.left
 some t c = enough_some (limits_of c.args.self.now.words) c.args.self.now.words.places.valid (seen_by c.args.seat.now) c.args.row c.in-Taken.attempt c.in-Taken.unit c.args.left c.requires.steady.shows.legal (taken t c) (less t c)
 
 one : (t : ℕ) (c : After-load_unit t) → Looked (limits_of c.args.self.now.words) 1 (view_of c.args.seat.now) (view_of c.load_unit.new.seat)
-one t c = looked _ 1 _ _ (acted_by _ _ _ _ c.requires.steady tt c.load_unit.ensures.grew)
+one t c = looked _ 1 _ _ (acted_by _ kinds.Load _ _ c.requires.steady refl c.load_unit.ensures.grew)
 
 two : (t : ℕ) (c : After-load_claim-again t) → Looked (limits_of c.args.self.now.words) 1 (view_of c.args.seat.now) (view_of c.load_unit.new.seat) → Looked (limits_of c.args.self.now.words) 2 (view_of c.args.seat.now) (view_of c.load_claim-again.new.seat)
-two t c o = looked_then _ 1 1 _ _ _ o (looked _ 1 _ _ (acted_by _ _ _ _ o.walk.steady tt c.load_claim-again.ensures.grew))
+two t c o = looked_then _ 1 1 _ _ _ o (looked _ 1 _ _ (acted_by _ kinds.Load _ _ o.walk.steady refl c.load_claim-again.ensures.grew))
 
 pub load_unit-requires-clause-unit : goal.load_unit-requires-clause-unit
 load_unit-requires-clause-unit t c = unit_inside (limits_of c.args.self.now.words) (seen_by c.args.seat.now) c.args.row c.in-Taken.attempt c.in-Taken.unit c.requires.steady.shows.legal (taken t (goal.at.load_unit-requires-clause-unit t c).In-Taken)
@@ -58,7 +60,7 @@ status_from-requires t c = let at = goal.at.status_from-requires t c in let i = 
 
 pub returns-then-ne-clause-looked : goal.returns-then-ne-clause-looked
 returns-then-ne-clause-looked t c = let at = goal.at.returns-then-ne-clause-looked t c in let s = some t at.In-Taken in
-    looked_few _ (2 + 2 * (c.args.left - 1)) (2 * c.args.left) _ _ (omega arith) (looked_then _ 2 (2 * (c.args.left - 1)) _ _ _ (two t at.After-load_claim-again (one t at.After-load_unit)) c.status_from.ensures.looked)
+    looked_few _ (2 + retry_steps (c.args.left - 1)) (retry_steps c.args.left) _ _ (omega arith) (looked_then _ 2 (retry_steps (c.args.left - 1)) _ _ _ (two t at.After-load_claim-again (one t at.After-load_unit)) c.status_from.ensures.looked)
 
 pub returns-in-Free-clause-status : goal.returns-in-Free-clause-status
 returns-in-Free-clause-status t c = sym (status_free (limits_of c.args.self.now.words) _ c.args.row c.requires.steady.shows.legal (sym c.requires.found.0 ∙ ap claim_value c.in-Free.is))
@@ -67,16 +69,16 @@ pub returns-in-Killed-clause-status : goal.returns-in-Killed-clause-status
 returns-in-Killed-clause-status t c = sym (status_killed (limits_of c.args.self.now.words) _ c.args.row _ _ c.requires.steady.shows.legal (sym c.requires.found.0 ∙ ap claim_value c.in-Killed.is))
 
 pub returns-in-Free-clause-looked : goal.returns-in-Free-clause-looked
-returns-in-Free-clause-looked t c = looked_few _ 0 (2 * c.args.left) _ _ (omega arith) (looked_none _ _ c.requires.steady)
+returns-in-Free-clause-looked t c = looked_few _ 0 (retry_steps c.args.left) _ _ (omega arith) (looked_none _ _ c.requires.steady)
 
 pub returns-in-Killed-clause-looked : goal.returns-in-Killed-clause-looked
-returns-in-Killed-clause-looked t c = looked_few _ 0 (2 * c.args.left) _ _ (omega arith) (looked_none _ _ c.requires.steady)
+returns-in-Killed-clause-looked t c = looked_few _ 0 (retry_steps c.args.left) _ _ (omega arith) (looked_none _ _ c.requires.steady)
 
 pub returns-in-Undecided-clause-looked : goal.returns-in-Undecided-clause-looked
-returns-in-Undecided-clause-looked t c = let at = goal.at.returns-in-Undecided-clause-looked t c in let s = some t at.In-Taken in looked_few _ 1 (2 * c.args.left) _ _ (omega arith) (one t at.After-load_unit)
+returns-in-Undecided-clause-looked t c = let at = goal.at.returns-in-Undecided-clause-looked t c in let s = some t at.In-Taken in looked_few _ 1 (retry_steps c.args.left) _ _ (omega arith) (one t at.After-load_unit)
 
 pub returns-in-Committed-clause-looked : goal.returns-in-Committed-clause-looked
-returns-in-Committed-clause-looked t c = let at = goal.at.returns-in-Committed-clause-looked t c in let s = some t at.In-Taken in looked_few _ 1 (2 * c.args.left) _ _ (omega arith) (one t at.After-load_unit)
+returns-in-Committed-clause-looked t c = let at = goal.at.returns-in-Committed-clause-looked t c in let s = some t at.In-Taken in looked_few _ 1 (retry_steps c.args.left) _ _ (omega arith) (one t at.After-load_unit)
 
 pub returns-in-Undecided-clause-claim : goal.returns-in-Undecided-clause-claim
 returns-in-Undecided-clause-claim t c = let at = goal.at.returns-in-Undecided-clause-claim t c in let o = one t at.After-load_unit in
@@ -95,7 +97,7 @@ returns-in-Committed-clause-status t c = let at = goal.at.returns-in-Committed-c
     consumed_now (limits_of c.args.self.now.words) _ _ o.walk.steady.shows.legal (looked_begins _ 1 _ _ o) c.args.row _ _ _ _ (taken t at.In-Taken) (sym (ap unit_value c.in-Committed.is) ∙ c.load_unit.ensures.end)
 
 pub returns-then-attempt-self-clause-looked : goal.returns-then-attempt-self-clause-looked
-returns-then-attempt-self-clause-looked t c = let at = goal.at.returns-then-attempt-self-clause-looked t c in let s = some t at.In-Taken in looked_few _ 2 (2 * c.args.left) _ _ (omega arith) (two t at.After-load_claim-again (one t at.After-load_unit))
+returns-then-attempt-self-clause-looked t c = let at = goal.at.returns-then-attempt-self-clause-looked t c in let s = some t at.In-Taken in looked_few _ 2 (retry_steps c.args.left) _ _ (omega arith) (two t at.After-load_claim-again (one t at.After-load_unit))
 
 pub returns-then-attempt-self-clause-status : goal.returns-then-attempt-self-clause-status
 returns-then-attempt-self-clause-status t c = let at = goal.at.returns-then-attempt-self-clause-status t c in let o = one t at.After-load_unit in let b = two t at.After-load_claim-again o in let l : Limits = limits_of c.args.self.now.words in
@@ -105,7 +107,7 @@ returns-then-attempt-self-clause-status t c = let at = goal.at.returns-then-atte
     (subst (λ (z : Limits). c.in-Taken.attempt < z.attempts) (sym c.args.self.now.same) c.if-attempt-self.true)
 
 pub returns-else-attempt-self-clause-looked : goal.returns-else-attempt-self-clause-looked
-returns-else-attempt-self-clause-looked t c = let at = goal.at.returns-else-attempt-self-clause-looked t c in let s = some t at.In-Taken in looked_few _ 2 (2 * c.args.left) _ _ (omega arith) (two t at.After-load_claim-again (one t at.After-load_unit))
+returns-else-attempt-self-clause-looked t c = let at = goal.at.returns-else-attempt-self-clause-looked t c in let s = some t at.In-Taken in looked_few _ 2 (retry_steps c.args.left) _ _ (omega arith) (two t at.After-load_claim-again (one t at.After-load_unit))
 
 pub returns-else-attempt-self-clause-status : goal.returns-else-attempt-self-clause-status
 returns-else-attempt-self-clause-status t c = let at = goal.at.returns-else-attempt-self-clause-status t c in let o = one t at.After-load_unit in let b = two t at.After-load_claim-again o in let l : Limits = limits_of c.args.self.now.words in

@@ -1,14 +1,14 @@
-use Rattle.std.proofs.Common.{◌+◌, ◌*◌, ◌≤◌}
+use Rattle.std.proofs.Common.{◌≤◌}
 use Rattle.tp_rule.specs.Tables.{limits_of}
-use Rattle.tp_rule.specs.Views.{IsSameSeat, seen_by, view_of}
-use Rattle.tp_manager.specs.Walks.{Looked}
-use Rattle.tp_manager.specs.Finds.{PassedFrom}
+use Rattle.tp_rule.specs.Views.{IsSameSeat, view_of}
+use Rattle.tp_manager.specs.Bounds.{look_steps}
+use Rattle.tp_manager.specs.Finds.{PassedOver}
+use Rattle.tp_manager.specs.Walks.{Begun}
 use Rattle.tp_manager.proofs.manager.Shared.find.Given as goal
 
 abbrev pub invariant-loop-row : goal.invariant-loop-row
 invariant-loop-row l = record {
   from : l.from ≤ l.row;
   same : IsSameSeat l.initial.seat l.seat;
-  looked : Looked (limits_of l.self.words) (l.row * (2 * (limits_of l.self.words).attempts + 4)) (view_of l.initial.seat) (view_of l.seat);
-  passed : PassedFrom (limits_of l.self.words) l.wanted l.from l.row (seen_by l.initial.seat) (seen_by l.seat);
+  begun : Begun (limits_of l.self.words) (PassedOver (limits_of l.self.words) l.wanted) (look_steps (limits_of l.self.words)) l.from l.row (view_of l.initial.seat) (view_of l.seat);
 }

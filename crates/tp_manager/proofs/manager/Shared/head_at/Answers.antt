@@ -1,5 +1,6 @@
+use Rattle.std.proofs.Common.{refl}
 use Rattle.tp_manager.proofs.Walks.{acted_by}
 use Rattle.tp_manager.proofs.manager.Shared.head_at.Goals as goal
 
 pub returns-clause-acted : goal.returns-clause-acted
-returns-clause-acted c = acted_by _ _ _ _ c.requires.steady tt c.load_head.ensures.grew
+returns-clause-acted c = acted_by _ _ _ _ c.requires.steady refl c.load_head.ensures.grew

@@ -1,8 +1,10 @@
-use Rattle.std.proofs.Common.{◌*◌, sym, subst}
+use Rattle.std.proofs.Common.{◌*◌, sym, subst, refl}
 use Rattle.tp_model.specs.declared.types.Limits.{Limits}
+use Rattle.tp_model.specs.declared.trace.StepKind.TheVariants as kinds
 use Rattle.tp_words.specs.Words.{claim_value}
 use Rattle.tp_rule.specs.Tables.{limits_of}
 use Rattle.tp_rule.specs.Views.{seen_by, view_of}
+use Rattle.tp_manager.specs.Bounds.{retry_steps}
 use Rattle.tp_manager.specs.Looks.{IsEnough}
 use Rattle.tp_manager.specs.Walks.{Acted, Looked}
 use Rattle.tp_manager.proofs.Walks.{acted_by, acted_then}
@@ -11,7 +13,7 @@ use Rattle.tp_manager.proofs.manager.Shared.status_at.Goals as goal
 use Rattle.tp_manager.proofs.manager.Shared.status_at.Goals.{After-load_claim-claim}
 
 one : (c : After-load_claim-claim) → Acted (limits_of c.args.self.now.words) 1 (view_of c.args.seat.now) (view_of c.load_claim-claim.new.seat)
-one c = acted_by _ _ _ _ c.requires.steady tt c.load_claim-claim.ensures.grew
+one c = acted_by _ kinds.Load _ _ c.requires.steady refl c.load_claim-claim.ensures.grew
 
 pub status_from-requires-clause-steady : goal.status_from-requires-clause-steady
 status_from-requires-clause-steady c = (one (goal.at.status_from-requires-clause-steady c).After-load_claim-claim).walk.steady
@@ -22,4 +24,4 @@ status_from-requires-clause-enough c = let l : Limits = limits_of c.args.self.no
 
 pub returns-clause-acted : goal.returns-clause-acted
 returns-clause-acted c = let l : Limits = limits_of c.args.self.now.words in let o = one (goal.at.returns-clause-acted c).After-load_claim-claim in
-    acted_then l 1 (2 * l.attempts) _ _ _ o (subst (λ (z : Limits). Looked l (2 * z.attempts) (view_of c.load_claim-claim.new.seat) (view_of c.status_from.new.seat)) (sym c.args.self.now.same) c.status_from.ensures.looked)
+    acted_then l 1 (retry_steps l.attempts) _ _ _ o (subst (λ (z : Limits). Looked l (retry_steps z.attempts) (view_of c.load_claim-claim.new.seat) (view_of c.status_from.new.seat)) (sym c.args.self.now.same) c.status_from.ensures.looked)

@@ -1,0 +1,83 @@
+-- How many atomic steps the calls make at most. Each is what the call can need, and no more.
+use Rattle.std.specs.Prelude.{ℕ, ◌+◌, ◌*◌, ◌≤◌}
+use Rattle.tp_model.specs.declared.types.Limits.{Limits}
+use Rattle.tp_model.specs.Steps.{rows_of}
+
+-- the key and the amount of an element
+abbrev pub body_steps : ℕ
+body_steps = 2
+
+-- a client's element: its body, and its head
+abbrev pub submit_steps : ℕ
+submit_steps = body_steps + 1
+
+-- the drafts of k outputs, each a body and a head
+abbrev pub draft_steps : ℕ → ℕ
+draft_steps k = (body_steps + 1) * k
+
+-- those, and the unit's word
+abbrev pub commit_steps : ℕ → ℕ
+commit_steps k = draft_steps k + 1
+
+-- the unit's word
+abbrev pub abort_steps : ℕ
+abort_steps = 1
+
+-- whether an element is born in a row: its head, and the word of the unit that the head names
+abbrev pub birth_steps : ℕ
+birth_steps = 2
+
+-- while an element was found taken by units that were aborted since, their words and its claim: for so many attempts
+abbrev pub retry_steps : ℕ → ℕ
+retry_steps attempts = 2 * attempts
+
+-- the status of an element: its claim, and for each attempt the word of the unit and the claim again
+abbrev pub status_steps : Limits → ℕ
+status_steps l = 1 + retry_steps l.attempts
+
+abbrev pub read_steps : Limits → ℕ
+read_steps l = birth_steps + body_steps + status_steps l
+
+-- the kill of an element that is born: its claim, the exchange of one that was free, and for each attempt the unit's word and the claim
+abbrev pub slay_steps : Limits → ℕ
+slay_steps l = 2 + retry_steps l.attempts
+
+abbrev pub kill_steps : Limits → ℕ
+kill_steps l = birth_steps + slay_steps l
+
+-- what a listing makes at a row
+abbrev pub look_steps : Limits → ℕ
+look_steps l = birth_steps + status_steps l
+
+abbrev pub reply_steps : Limits → ℕ
+reply_steps l = rows_of l * look_steps l
+
+abbrev pub next_error_steps : Limits → ℕ
+next_error_steps l = rows_of l * look_steps l
+
+-- what a claim makes at a row: the same look, the body, and the exchange
+abbrev pub try_steps : Limits → ℕ
+try_steps l = look_steps l + body_steps + 1
+
+-- the choice of a unit, and those at every row
+abbrev pub claim_steps : Limits → ℕ
+claim_steps l = 1 + rows_of l * try_steps l
+
+-- a meeting: the first joins, looks and parts, and the second is there at the look
+abbrev pub meet_steps : ℕ
+meet_steps = 3
+
+abbrev pub met_steps : ℕ
+met_steps = 1
+
+-- the bounds as round numbers over the limits
+pub record RoundBounds (l : Limits) : Type 0 where
+  pub submit : submit_steps ≤ 4
+  pub claim : claim_steps l ≤ rows_of l * (2 * l.attempts + 9) + 1
+  pub commit : (k : ℕ) → commit_steps k ≤ 4 * k + 3
+  pub abort : abort_steps ≤ 2
+  pub kill : kill_steps l ≤ 4 * l.attempts + 8
+  pub read : read_steps l ≤ 2 * l.attempts + 8
+  pub reply : reply_steps l ≤ rows_of l * (2 * l.attempts + 8)
+  pub next_error : next_error_steps l ≤ rows_of l * (2 * l.attempts + 8)
+  pub meet : meet_steps ≤ 3

@@ -1,0 +1,74 @@
+-- Two passes meet, by a join, a load and a split.
+use Rattle.std.proofs.Common.{◌≡◌, ℕ, List, [], ◌∷◌, ◌++◌, map, sym, ap, ◌∙◌, subst, Some}
+use mathlib.Core.List.{IsPrefix}
+use Rattle.tp_model.specs.declared.trace.StepKind.TheVariants as kinds
+use Rattle.tp_model.specs.declared.types.Limits.{Limits}
+use Rattle.tp_model.specs.History.{In, here, there, events_by}
+use Rattle.tp_model.specs.Passes.{IsOwnOpen}
+use Rattle.tp_model.specs.Steps.{IsLegal}
+use Rattle.tp_rule.specs.Steps.{Grew, Meets, front_of, joined, kept, looked, noted, parted, rest_of, unchanged}
+use Rattle.tp_rule.specs.Views.{IsOnePass, first_hand, hand}
+use Rattle.tp_rule.specs.declared.view.Hand.{Hand}
+use Rattle.tp_rule.specs.declared.view.View.{View}
+use Rattle.tp_rule.proofs.Reading.{grew_begins}
+
+module _ (v w j m x y : View) (one : IsOnePass v) (other : IsOnePass w) (join : j ≡ joined v w) (g : Grew kinds.Load unchanged [] j m) (first : x ≡ kept m) (second : y ≡ parted m) where
+  abbrev A : Hand
+  A = noted kinds.Load m.seen (noted kinds.SeatLoad v.seen (hand v))
+
+  abbrev B : Hand
+  B = noted kinds.Load m.seen (hand w)
+
+  join_hands : j.hands ≡ noted kinds.SeatLoad v.seen (hand v) ∷ hand w ∷ []
+  join_hands = ap (λ (z : View). z.hands) join ∙ (ap (λ hs. looked v hs ++ w.hands) one ∙ ap (λ hs. noted kinds.SeatLoad v.seen (hand v) ∷ hs) other)
+
+  met_hands : m.hands ≡ A ∷ B ∷ []
+  met_hands = ap (λ (z : View). z.hands) g.view ∙ ap (map (λ a. noted kinds.Load m.seen a)) join_hands
+
+  limits_met : m.limits ≡ v.limits
+  limits_met = ap (λ (z : View). z.limits) g.view ∙ ap (λ (z : View). z.limits) join
+
+  first_seen : x.seen ≡ m.seen
+  first_seen = ap (λ (z : View). z.seen) first
+
+  second_seen : y.seen ≡ m.seen
+  second_seen = ap (λ (z : View). z.seen) second
+
+  first_hands : x.hands ≡ noted kinds.SeatLoad m.seen A ∷ []
+  first_hands = ap (λ (z : View). z.hands) first ∙ ap (λ hs. looked m (front_of hs)) met_hands
+
+  second_hands : y.hands ≡ B ∷ []
+  second_hands = ap (λ (z : View). z.hands) second ∙ ap rest_of met_hands
+
+  first_is : hand x ≡ noted kinds.SeatLoad m.seen A
+  first_is = ap first_hand first_hands
+
+  second_is : hand y ≡ B
+  second_is = ap first_hand second_hands
+
+  first_in : In A m.hands
+  first_in = subst (In A) (sym met_hands) here
+
+  second_in : In B m.hands
+  second_in = subst (In B) (sym met_hands) (there here)
+
+  pub meets : Meets v w x y
+  meets = record {
+    same = first_seen ∙ sym second_seen;
+    legal = subst (λ (z : Limits). IsLegal z x.seen) (ap (λ (z : View). z.limits) join) (subst (IsLegal j.limits) (sym first_seen) g.legal);
+    first_saw = subst (IsPrefix v.seen) (sym first_seen) (subst (λ h. IsPrefix h m.seen) (ap (λ (z : View). z.seen) join) (grew_begins kinds.Load unchanged [] j m g));
+    second_saw = subst (IsPrefix w.seen) (sym first_seen) (subst (λ h. IsPrefix h m.seen) (ap (λ (z : View). z.also_seen) join) g.also_seen);
+    first_one = first_hands ∙ ap (λ (a : Hand). a ∷ []) (sym first_is);
+    first_is = first_is ∙ ap (λ h. noted kinds.SeatLoad h (noted kinds.Load h (noted kinds.SeatLoad v.seen (hand v)))) (sym first_seen);
+    second_one = second_hands ∙ ap (λ (a : Hand). a ∷ []) (sym second_is);
+    second_is = second_is ∙ ap (λ h. noted kinds.Load h (hand w)) (sym first_seen);
+    limits = (ap (λ (z : View). z.limits) first ∙ limits_met, ap (λ (z : View). z.limits) second ∙ limits_met);
+    mine = (
+      ap (λ (a : Hand). a.mine) first_is ∙ (g.mine A first_in ∙ (ap (events_by A.number) (sym first_seen) ∙ ap (λ (a : Hand). events_by a.number x.seen) (sym first_is))),
+      ap (λ (a : Hand). a.mine) second_is ∙ (g.mine B second_in ∙ (ap (events_by B.number) (sym second_seen) ∙ ap (λ (a : Hand). events_by a.number y.seen) (sym second_is))),
+    );
+    open_own = (
+      (λ u is. subst (λ (a : Hand). IsOwnOpen x.seen a.number u) (sym first_is) (subst (λ h. IsOwnOpen h A.number u) (sym first_seen) (g.open_own A first_in u (sym (ap (λ (a : Hand). a.open_unit) first_is) ∙ is)))),
+      (λ u is. subst (λ (a : Hand). IsOwnOpen y.seen a.number u) (sym second_is) (subst (λ h. IsOwnOpen h B.number u) (sym second_seen) (g.open_own B second_in u (sym (ap (λ (a : Hand). a.open_unit) second_is) ∙ is)))),
+    );
+  }
