@@ -17,6 +17,7 @@ use Rattle.tp_model.proofs.Lists.{first-kept, first-snoc, if_same, option_or-som
 use Rattle.tp_server.specs.declared.recipe.Recipe.{Recipe}
 use Rattle.tp_server.specs.declared.recipe.Declined.{Declined}
 use Rattle.tp_server.specs.Effect.{Effect, effect_of, fold_from, registers_after}
+use Rattle.tp_manager.specs.Bounds.{abort_steps}
 use Rattle.tp_manager.specs.Calls.{Adds, Closes, Commits, Ends, Follows, IsQuiet, Loses, Takes}
 use Rattle.tp_manager.specs.Shown.{PassShown}
 use Rattle.tp_desk.specs.InHand.{InHand, IsFree, IsSteady}
@@ -176,15 +177,15 @@ declined pending e why is err = is ∙ ap registers_after err
 -- what a desk that ends leaves, whether a unit was open or not
 pub left : (recipe recipe' : Recipe) (r r' : List ℕ) (pending : Option (List ℕ)) (start : List ℕ) (f p : PassShown) (work : Option Work) (drafts : List DraftView)
     → IsSteady recipe r pending start f p work drafts → recipe' ≡ recipe → r' ≡ r
-    → (q : PassShown) → EndsOpen p.open_unit p q → IfSome p.open_unit (λ _. Follows 2 p q) → Leaves recipe' start r' f q
+    → (q : PassShown) → EndsOpen p.open_unit p q → IfSome p.open_unit (λ _. Follows abort_steps p q) → Leaves recipe' start r' f q
 left recipe recipe' r r' pending start f p work drafts s same_recipe same_r q adds follows =
     rw (same_recipe, same_r) (go p.open_unit refl adds follows)
   where
-    go : (o : Option ℕ) → p.open_unit ≡ o → EndsOpen o p q → IfSome o (λ _. Follows 2 p q) → Leaves recipe start r f q
+    go : (o : Option ℕ) → p.open_unit ≡ o → EndsOpen o p q → IfSome o (λ _. Follows abort_steps p q) → Leaves recipe start r f q
     go None is same follows = subst (Leaves recipe start r f) (sym same) (record {
       serves = s.serves;
       ended = subst (λ (o : Option ℕ). AreEnded o (gained f.mine p.mine) p.seen) is s.ended;
     })
     go (Some u) is up follows =
         let gives = gives_up p q up.0 up.1 in
-        leaves recipe r pending start f p work drafts s 2 gives.0 gives.1 q follows gives.2 gives.3
+        leaves recipe r pending start f p work drafts s abort_steps gives.0 gives.1 q follows gives.2 gives.3

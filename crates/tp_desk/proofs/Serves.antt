@@ -14,7 +14,7 @@ use Rattle.tp_model.proofs.Histories.{element_of-kept}
 use Rattle.tp_model.proofs.Lists.{first-kept, option_or-some, first-snoc, first-append, option_or-none}
 use Rattle.tp_server.specs.declared.recipe.Recipe.{Recipe}
 use Rattle.tp_server.specs.Effect.{effect_of, fold_from, fold_of, registers_after}
-use Rattle.tp_manager.specs.Calls.{IsEnded}
+use Rattle.tp_manager.specs.Calls.{HasEnded}
 use Rattle.tp_manager.specs.Shown.{PassShown}
 use Rattle.tp_desk.specs.Serving.{AreEnded, AreTaken, Serves, gained}
 
@@ -92,13 +92,13 @@ serves_more recipe start r r' f p q more es number seen adds took all folds s =
     }
 
 -- a unit that ended has ended in a longer history
-pub ended_later : (h k : List Event) (u : ℕ) → IsPrefix h k → IsEnded h u → IsEnded k u
-ended_later h k u b e = subst (λ (l : List Event). IsEnded l u) b.1 (e.0, first-kept _ h b.0 e.0 e.1)
+pub ended_later : (h k : List Event) (u : ℕ) → IsPrefix h k → HasEnded h u → HasEnded k u
+ended_later h k u b e = subst (λ (l : List Event). HasEnded l u) b.1 (e.0, first-kept _ h b.0 e.0 e.1)
 
 -- all units have ended, where the open one has
-pub all_ended : (g h k : List Event) (o : Option ℕ) (u : ℕ) → IsPrefix h k → o ≡ Some u → IsEnded k u → AreEnded o g h → AreEnded None g k
+pub all_ended : (g h k : List Event) (o : Option ℕ) (u : ℕ) → IsPrefix h k → o ≡ Some u → HasEnded k u → AreEnded o g h → AreEnded None g k
 all_ended g h k o u b is e all = λ v t claimed.
-    ⊎_elim (λ same. inr (subst (IsEnded k) (some_same u v (sym is ∙ same)) e)) (λ old. inr (ended_later h k v b old)) (all v t claimed)
+    ⊎_elim (λ same. inr (subst (HasEnded k) (some_same u v (sym is ∙ same)) e)) (λ old. inr (ended_later h k v b old)) (all v t claimed)
   where
     some_same : (x y : ℕ) → Some x ≡ Some y → x ≡ y
     some_same x y e = cc

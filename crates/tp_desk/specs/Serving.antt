@@ -9,7 +9,7 @@ use Rattle.tp_model.specs.History.{In, UnitClaim, claim_of}
 use Rattle.tp_server.specs.declared.recipe.Recipe.{Recipe}
 use Rattle.tp_server.specs.Effect.{fold_of}
 use Rattle.tp_manager.specs.Shown.{PassShown}
-use Rattle.tp_manager.specs.Calls.{IsEnded}
+use Rattle.tp_manager.specs.Calls.{HasEnded}
 
 -- what the second list has behind the first
 abbrev pub gained : List Event → List Event → List Event
@@ -30,7 +30,7 @@ pub record Serves (recipe : Recipe) (start registers : List ℕ) (old new : Pass
 
 -- each unit that was claimed among the events has ended, or is the one that may be open
 abbrev pub AreEnded : Option ℕ → List Event → List Event → Type 0
-AreEnded but events h = (u : ℕ) (t : UnitClaim) → claim_of events u ≡ Some t → (but ≡ Some u) ⊎ IsEnded h u
+AreEnded but events h = (u : ℕ) (t : UnitClaim) → claim_of events u ≡ Some t → (but ≡ Some u) ⊎ HasEnded h u
 
 -- what the lenders of a pass and a server find when the desk has ended
 pub record Leaves (recipe : Recipe) (start registers : List ℕ) (old new : PassShown) : Type 0 where

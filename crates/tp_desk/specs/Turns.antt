@@ -11,6 +11,7 @@ use Rattle.tp_model.specs.declared.types.Work.{Work}
 use Rattle.tp_server.specs.declared.recipe.Declined.{Declined}
 use Rattle.tp_server.specs.declared.recipe.Recipe.{Recipe}
 use Rattle.tp_server.specs.Effect.{drafts_after, effect_of}
+use Rattle.tp_manager.specs.Bounds.{claim_steps, commit_steps}
 use Rattle.tp_manager.specs.Calls.{Claims, Ends, Settles, Takes}
 use Rattle.tp_manager.specs.Shown.{PassShown}
 use Rattle.tp_desk.specs.declared.turned.Turned.{Turned}
@@ -53,12 +54,9 @@ Turns l recipe registers old new (turneds.Refused element why) = Works l recipe 
 Turns l recipe registers old new (turneds.Lost element) = Works l recipe registers old new (turneds.Lost element)
 Turns l recipe registers old new (turneds.Full element) = Works l recipe registers old new (turneds.Full element)
 
--- how many atomic steps a claim makes at most, and a turn: those of a claim, and of a commit of four drafts
-abbrev pub claim_steps : Limits → ℕ
-claim_steps l = rows_of l * (2 * l.attempts + 9) + 1
-
+-- how many atomic steps a turn makes at most: those of a claim, and of a commit of four drafts
 abbrev pub turn_steps : Limits → ℕ
-turn_steps l = claim_steps l + 19
+turn_steps l = claim_steps l + commit_steps 4
 
 -- the registers of committed work after a commit with this answer
 abbrev pub registers_left : Outcome → List ℕ → Option (List ℕ) → Option (List ℕ)

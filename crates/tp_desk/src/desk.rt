@@ -1,5 +1,6 @@
 //! The desk, and what it shows.
 ghost use Rattle.std.specs.Prelude.{◌≡◌, None, IfSome, is_some, slice_get};
+ghost use Rattle.tp_manager.specs.Bounds.{abort_steps};
 ghost use Rattle.tp_manager.specs.Calls.{Follows};
 ghost use Rattle.tp_manager.specs.Shown.{IsOf};
 ghost use Rattle.tp_desk.specs.InHand.{IsSteady};
@@ -71,7 +72,7 @@ impl Drop for Desk<'_, '_, '_> {
         ensures recipe { recipe self.exit.1.1.0.now ≡ recipe self.entry.server.now }
         ensures registers { registers self.exit.1.1.0.now ≡ registers self.entry.server.now }
         ensures adds { EndsOpen self.entry.pass.now.open_unit self.entry.pass.now self.exit.1.0.now }
-        ensures follows { IfSome self.entry.pass.now.open_unit (λ _. Follows 2 self.entry.pass.now self.exit.1.0.now) }
+        ensures follows { IfSome self.entry.pass.now.open_unit (λ _. Follows abort_steps self.entry.pass.now self.exit.1.0.now) }
         ensures leaves { IsSteady (recipe self.entry.server.now) (registers self.entry.server.now) (pending self.entry.server.now) (registers self.entry.first_server.value) self.entry.first_pass.value self.entry.pass.now self.entry.work self.entry.drafts.items
             → Leaves (recipe self.exit.1.1.0.now) (registers self.entry.first_server.value) (registers self.exit.1.1.0.now) self.entry.first_pass.value self.exit.1.0.now }
     {

@@ -1,6 +1,7 @@
 //! A turn of a desk.
 ghost use Rattle.std.specs.Prelude.{◌≡◌, None, Some};
 ghost use Rattle.tp_model.specs.Steps.{AreLimits};
+ghost use Rattle.tp_manager.specs.Bounds.{commit_steps};
 ghost use Rattle.tp_manager.specs.Calls.{Follows};
 ghost use Rattle.tp_desk.specs.Steady.{Steady};
 ghost use Rattle.tp_desk.specs.Turns.{Turns, WorksOff, turn_steps};
@@ -44,7 +45,7 @@ impl Desk<'_, '_, '_> {
         ensures same_first { (self.new.first_pass ≡ self.old.first_pass) × (self.new.first_server ≡ self.old.first_server) }
         ensures recipe { recipe self.new.server.now ≡ recipe self.old.server.now }
         ensures free { self.new.work ≡ None }
-        ensures follows { Follows 19 self.old.pass.now self.new.pass.now }
+        ensures follows { Follows (commit_steps 4) self.old.pass.now self.new.pass.now }
         ensures answer { WorksOff (recipe self.old.server.now) (registers self.old.server.now) work self.old.pass.now self.new.pass.now result }
         ensures steady { Steady recipe registers pending self.new }
     {

@@ -6,7 +6,8 @@ ghost use Rattle.tp_manager.specs.Calls.{Claims, Ends, Follows};
 ghost use Rattle.tp_desk.specs.InHand.{work_of};
 ghost use Rattle.tp_desk.specs.Serving.{Leaves};
 ghost use Rattle.tp_desk.specs.Steady.{Steady};
-ghost use Rattle.tp_desk.specs.Turns.{Declines, EndsOpen, Finishes, claim_steps, registers_left};
+ghost use Rattle.tp_manager.specs.Bounds.{abort_steps, claim_steps, commit_steps};
+ghost use Rattle.tp_desk.specs.Turns.{Declines, EndsOpen, Finishes, registers_left};
 
 use crate::boxed;
 use crate::desk::Desk;
@@ -89,7 +90,7 @@ impl<'m, 'p, 's> Desk<'m, 'p, 's> {
         ensures ready { OnOk result ((self.new.pass.now ≡ self.old.pass.now) × (self.new.work ≡ self.old.work) × IsSome (pending self.new.server.now)) }
         ensures free { OnErr result (self.new.work ≡ None) }
         ensures clear { OnErr result (pending self.new.server.now ≡ None) }
-        ensures follows { OnErr result (Follows 2 self.old.pass.now self.new.pass.now) }
+        ensures follows { OnErr result (Follows abort_steps self.old.pass.now self.new.pass.now) }
         ensures answer { IfErr result (λ why. IfSome self.old.work (λ work.
             Declines (recipe self.old.server.now) (registers self.old.server.now) work why self.old.pass.now self.new.pass.now)) }
         ensures steady { Steady recipe registers pending self.new }
@@ -123,7 +124,7 @@ impl<'m, 'p, 's> Desk<'m, 'p, 's> {
         ensures registers { Some (registers self.new.server.now) ≡ registers_left result (registers self.old.server.now) (pending self.old.server.now) }
         ensures clear { pending self.new.server.now ≡ None }
         ensures free { self.new.work ≡ None }
-        ensures follows { Follows 19 self.old.pass.now self.new.pass.now }
+        ensures follows { Follows (commit_steps 4) self.old.pass.now self.new.pass.now }
         ensures answer { IfSome self.old.work (λ work.
             Finishes (recipe self.old.server.now) (registers self.old.server.now) work self.old.pass.now self.new.pass.now result) }
         ensures steady { Steady recipe registers pending self.new }
@@ -150,7 +151,7 @@ impl<'m, 'p, 's> Desk<'m, 'p, 's> {
         ensures registers { registers self.new.server.now ≡ registers self.old.server.now }
         ensures clear { pending self.new.server.now ≡ None }
         ensures free { self.new.work ≡ None }
-        ensures follows { Follows 2 self.old.pass.now self.new.pass.now }
+        ensures follows { Follows abort_steps self.old.pass.now self.new.pass.now }
         ensures answer { Ends self.old.pass.now self.new.pass.now result }
         ensures steady { Steady recipe registers pending self.new }
     {
@@ -168,7 +169,7 @@ impl<'m, 'p, 's> Desk<'m, 'p, 's> {
         ensures recipe { recipe self.exit.1.1.0.now ≡ recipe self.entry.server.now }
         ensures registers { registers self.exit.1.1.0.now ≡ registers self.entry.server.now }
         ensures adds { EndsOpen self.entry.pass.now.open_unit self.entry.pass.now self.exit.1.0.now }
-        ensures follows { IfSome self.entry.pass.now.open_unit (λ _. Follows 2 self.entry.pass.now self.exit.1.0.now) }
+        ensures follows { IfSome self.entry.pass.now.open_unit (λ _. Follows abort_steps self.entry.pass.now self.exit.1.0.now) }
         ensures leaves { Steady recipe registers pending self.entry
             → Leaves (recipe self.exit.1.1.0.now) (registers self.entry.first_server.value) (registers self.exit.1.1.0.now) self.entry.first_pass.value self.exit.1.0.now }
     {

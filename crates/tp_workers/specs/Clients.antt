@@ -4,7 +4,8 @@ use Rattle.tp_model.specs.declared.event.Event.{Event}
 use Rattle.tp_model.specs.declared.event.Event.TheVariants.{Enqueue}
 use Rattle.tp_model.specs.declared.types.Refusal.{Refusal}
 use Rattle.tp_model.specs.Steps.{IsServerStage}
-use Rattle.tp_manager.specs.Calls.{Follows, Submits, SubmitRefused, request}
+use Rattle.tp_model.specs.Births.{request}
+use Rattle.tp_manager.specs.Calls.{Follows, Submits, SubmitRefused}
 use Rattle.tp_manager.specs.Shown.{IsOf, ManagerShown, PassShown}
 use Rattle.tp_workers.specs.declared.client.ClientJob.{ClientJob}
 use Rattle.tp_workers.specs.declared.tally.Shift.{Shift}

@@ -5,6 +5,7 @@ use Rattle.tp_model.specs.declared.event.Event.TheVariants.{Kill}
 use Rattle.tp_model.specs.declared.types.Killed.{Killed}
 use Rattle.tp_model.specs.declared.types.Limits.{Limits}
 use Rattle.tp_model.specs.declared.types.Refusal.{Refusal}
+use Rattle.tp_manager.specs.Bounds.{kill_steps}
 use Rattle.tp_manager.specs.Calls.{Follows, IsOfHolder, KillFails, Kills}
 use Rattle.tp_manager.specs.Shown.{IsOf, ManagerShown, PassShown}
 use Rattle.tp_workers.specs.declared.killer.KillJob.{KillJob}
@@ -21,7 +22,7 @@ pub record IsKillerOf (m : ManagerShown) (j : KillJob) : Type 0 where
 
 -- a call killed the element with this id or was refused, as the manager's call answers
 pub record KillsOnce (l : Limits) (id : ℕ) (old : PassShown) (answer : Result Killed Refusal) (new : PassShown) : Type 0 where
-  pub follows : Follows (4 * l.attempts + 8) old new
+  pub follows : Follows (kill_steps l) old new
   pub free : new.open_unit ≡ None
   pub told : MatchResult answer (λ killed. Kills l id killed.units_aborted old new) (λ why. KillFails l id old new why)
 

@@ -1,6 +1,7 @@
 //! The turns of a desk in a shift.
 ghost use Rattle.std.specs.Prelude.{◌≡◌, ◌≤◌, None, Some, IsSome};
 ghost use Rattle.tp_model.specs.Steps.{AreLimits};
+ghost use Rattle.tp_manager.specs.Bounds.{commit_steps};
 ghost use Rattle.tp_manager.specs.Calls.{Follows};
 ghost use Rattle.tp_desk.specs.Turns.{Turns, WorksOff, turn_steps};
 ghost use Rattle.tp_desk.specs.Steady.{shown, IsSteadyDesk, IsReady};
@@ -64,7 +65,7 @@ fn work_at<G: Gate>(desk: &mut Desk, work: Work, worker: u32, gate: &G) -> Turne
     requires unprepared { shown pending desk.old.server.now ≡ None }
     ensures same { IsSameDesk recipe registers pending desk.old desk.new }
     ensures free { desk.new.work ≡ None }
-    ensures follows { Follows 19 desk.old.pass.now desk.new.pass.now }
+    ensures follows { Follows (commit_steps 4) desk.old.pass.now desk.new.pass.now }
     ensures answer { WorksOff (shown recipe desk.old.server.now) (shown registers desk.old.server.now) work
         desk.old.pass.now desk.new.pass.now result }
     ensures steady { IsSteadyDesk recipe registers pending desk.new }
