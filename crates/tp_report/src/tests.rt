@@ -1,3 +1,0 @@
-//! The lines of answers.
-
-mod answers;

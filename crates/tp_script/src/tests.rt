@@ -1,4 +1,0 @@
-//! What scripts are read as, and how they are refused.
-
-mod hostile;
-mod read;
