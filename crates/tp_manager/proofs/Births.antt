@@ -15,7 +15,7 @@ use Rattle.tp_model.proofs.Histories.{by_steps, element_of-snoc}
 use Rattle.tp_model.proofs.WordProofs.{claim_word-snoc, end_of-snoc}
 use Rattle.tp_model.proofs.Bridges.{in_one, find_in, outputs_place, end_stays}
 use Rattle.tp_model.proofs.Later.{claims_inside}
-use Rattle.tp_model.proofs.Claims.{waiting_below}
+use Rattle.tp_model.proofs.Attempts.{waiting_below}
 
 module _ (l : Limits) where
   pub in_units : (c u : ℕ) → IsUnitOf l c u → u < units_of l

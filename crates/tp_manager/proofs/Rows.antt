@@ -11,7 +11,7 @@ use Rattle.tp_model.specs.History.{births, IsUnborn, pass_of, events_by}
 use Rattle.tp_model.specs.Steps.{IsRowOf, Step, IsLegal}
 use Rattle.tp_model.proofs.Histories.{along, element_of-snoc}
 use Rattle.tp_model.proofs.Bridges.{by_own, by_other}
-use Rattle.tp_model.proofs.PassStates.{blocks_apart, no_birth}
+use Rattle.tp_model.proofs.Blocks.{blocks_apart, no_birth}
 
 module _ (l : Limits) (c i : ℕ) (row : IsRowOf l c i) (h : List Event) where
   abbrev StillUnborn : List Event → Type 0

@@ -10,14 +10,14 @@ use Rattle.tp_model.specs.declared.event.Event.{Event}
 use Rattle.tp_model.specs.declared.event.Event.TheVariants.{Abort, Commit}
 use Rattle.tp_model.specs.declared.trace.StepKind.{StepKind}
 use Rattle.tp_model.specs.History.{Aborted, Committed, In, UnitEnd, end_by, births, end_of, first_id, pass_of, element_of, IsClaim, claim_of}
-use Rattle.tp_model.specs.OneThread.{outputs, HasStage}
+use Rattle.tp_model.specs.Births.{outputs, HasStage}
 use Rattle.tp_model.specs.Steps.{AreLimits, IsLegal, units_of}
 use Rattle.tp_model.proofs.Bridges.{append_nil, begins_trans, in_cons, in_none}
 use Rattle.std.specs.Prelude.{IfSome}
 use Rattle.std.specs.Option.{option_or}
 use Rattle.tp_model.proofs.Lists.{if_same}
 use Rattle.tp_model.proofs.WordProofs.{end_of-snoc}
-use Rattle.tp_model.proofs.Commits.{length-outputs, outputs_more}
+use Rattle.tp_model.proofs.Outputs.{length-outputs, outputs_more}
 use Rattle.tp_model.proofs.Later.{aborted_by, abort_ends}
 use Rattle.tp_model.proofs.Bridges.{in_right}
 use Rattle.tp_model.specs.History.{here}

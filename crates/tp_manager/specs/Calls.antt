@@ -24,7 +24,7 @@ use Rattle.tp_model.specs.declared.trace.StepKind.{StepKind}
 use Rattle.tp_model.specs.declared.trace.StepKind.TheVariants.{DraftStore, Publish, Load, UnitChoice, ClaimExchange, CommitExchange, AbortExchange, KillExchange}
 use Rattle.tp_model.specs.declared.trace.TraceEntry.{TraceEntry}
 use Rattle.tp_model.specs.History.{In, IsClaim, IsUnborn, UnitEnd, claim_of, element_of, end_of, first_id, status_of}
-use Rattle.tp_model.specs.OneThread.{outputs}
+use Rattle.tp_model.specs.Births.{outputs}
 use Rattle.tp_model.specs.Steps.{IsServerStage}
 use Rattle.tp_model.specs.Passes.{IsPassView, IsPoint, opening_of}
 use Rattle.tp_manager.specs.Shown.{PassShown, view_in}

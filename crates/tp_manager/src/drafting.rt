@@ -1,7 +1,7 @@
 //! The drafts of a unit of work.
 ghost use Rattle.std.specs.Prelude.{◌≡◌, ◌+◌, ◌*◌, ◌<◌, ◌≤◌, Some, [], ◌∷◌, length};
 ghost use Rattle.std.specs.List.{All};
-ghost use Rattle.tp_model.specs.OneThread.{HasStage, outputs};
+ghost use Rattle.tp_model.specs.Births.{HasStage, outputs};
 ghost use Rattle.tp_model.specs.Steps.{rows_of};
 ghost use Rattle.tp_rule.specs.Views.{hand_of, view_of, IsNextRow, IsSameSeat};
 ghost use Rattle.tp_rule.specs.Tables.{limits_of, IsSeatOf};

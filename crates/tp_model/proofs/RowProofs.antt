@@ -3,7 +3,7 @@ use Rattle.std.proofs.Common.{Some, [], ◌∷◌, refl, lit<, lit≤}
 use Rattle.tp_model.specs.declared.event.Event.TheVariants.{Enqueue, Claim, Commit}
 use Rattle.tp_model.specs.Steps.{Step}
 use Rattle.tp_model.specs.Rows.{WorkedRows, row_limits}
-use Rattle.tp_model.specs.OneThread.{request}
+use Rattle.tp_model.specs.Births.{request}
 use Rattle.tp_model.proofs.Histories.{legal_empty, legal_more}
 
 first_step : Step row_limits [] (Enqueue 0 (request 0 1 0 10))

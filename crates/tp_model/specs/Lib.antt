@@ -1,13 +1,9 @@
 pub mod Drafts
 pub mod History
 pub mod Steps
+pub mod Births
 pub mod Laws
 pub mod Words
 pub mod Passes
 pub mod Counts
-pub mod Noted
-pub mod OneThread
-pub mod Looks
-pub mod Reached
-pub mod Computed
 pub mod Rows

@@ -9,7 +9,7 @@ use Rattle.tp_model.specs.History.{born, Committed, end_of, status_of, events_by
 use Rattle.tp_model.specs.Words.{TakenWord, KilledWord, claim_word}
 use Rattle.tp_model.specs.Counts.{taken, counts, counts_in}
 use Rattle.tp_model.specs.Steps.{IsLegal}
-use Rattle.tp_model.specs.OneThread.{request}
+use Rattle.tp_model.specs.Births.{request}
 
 -- the limits of the worked histories
 abbrev pub row_limits : Limits

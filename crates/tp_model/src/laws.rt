@@ -1,8 +1,6 @@
 //! The laws of legal histories. These functions do nothing: their contracts are the laws.
 
 ghost use Rattle.tp_model.specs.Rows.{WorkedRows};
-ghost use Rattle.tp_model.specs.Computed.{ComputedAreAllowed};
-ghost use Rattle.tp_model.specs.OneThread.{RunsAreLegal, RunsGrow};
 ghost use Rattle.tp_model.specs.Laws.{ConsumedOnce, NeverClaimedAfterKill, NeverCommittedAfterKill, StatusSteps, BornStays, BornOnce, StatusByWords, WordsRise, SettledStays, UnitsStay};
 
 /// No element is consumed by two committed units.
@@ -43,15 +41,4 @@ pub fn status_by_words()
 /// Worked histories have the statuses, ends and counts that they are said to have.
 pub fn worked_rows()
     ensures { WorkedRows }
-{}
-
-/// Runs of a manager of one thread leave legal histories, which only grow.
-pub fn runs()
-    ensures legal { RunsAreLegal }
-    ensures grow { RunsGrow }
-{}
-
-/// What is computed as the answer of a call is an answer that a manager of one thread may give.
-pub fn computed_answers()
-    ensures { ComputedAreAllowed }
 {}

@@ -1,13 +1,8 @@
-//! The request manager as its callers see it: types, definitions over histories, their laws, and the manager of one
-//! thread.
+//! The request manager as its callers see it: types, definitions over histories, and their laws.
 #![tactic(auto)]
 
 pub mod event;
-pub mod history;
 pub mod laws;
-mod looks;
-pub mod pass_state;
-pub mod plain;
 pub mod remembered;
 #[cfg(test)]
 mod tests;

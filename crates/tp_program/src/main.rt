@@ -4,37 +4,11 @@
 //! that says so.
 #![tactic(auto)]
 
-mod answer;
-mod client;
-mod commands;
-mod desks;
-mod display;
-mod fault;
-mod finals;
-mod grammar;
-mod keyword;
-mod parse;
-mod perform;
-mod plain;
-mod program;
-mod racing;
-mod reach;
-mod report;
-mod run;
-mod script;
-mod serve;
-mod servers;
-mod sink;
-mod source;
-mod terms;
-mod text;
-
-use fault::Exit;
-use program::run;
-use sink::StdSink;
-use source::StdSource;
 use std::io;
 use std::process::ExitCode;
+use tp_perform::run;
+use tp_report::{Exit, StdSink};
+use tp_script::StdSource;
 
 fn main(rt: HostRuntime) -> ExitCode {
     let mut source = StdSource::new(rt.reader());
@@ -48,6 +22,3 @@ fn main(rt: HostRuntime) -> ExitCode {
         }
     }
 }
-
-#[cfg(test)]
-mod tests;

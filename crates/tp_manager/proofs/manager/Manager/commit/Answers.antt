@@ -3,9 +3,9 @@ use Rattle.tp_model.specs.declared.types.Limits.{Limits}
 use Rattle.tp_model.specs.declared.event.Event.TheVariants.{Abort}
 use Rattle.tp_model.specs.declared.trace.StepKind.TheVariants as kinds
 use Rattle.tp_model.specs.declared.event.Event.{Event}
-use Rattle.tp_model.specs.OneThread.{outputs}
+use Rattle.tp_model.specs.Births.{outputs}
 use Rattle.tp_model.specs.Steps.{units_of}
-use Rattle.tp_model.proofs.Commits.{length-outputs}
+use Rattle.tp_model.proofs.Outputs.{length-outputs}
 use Rattle.tp_rule.specs.Steps.{IsClaimed, MakesCommit, committed}
 use Rattle.tp_rule.specs.declared.view.View.{View}
 use Rattle.tp_model.specs.History.{Aborted, In}

@@ -2,8 +2,8 @@ use Rattle.std.proofs.Common.{◌≡◌, List, length, take, rules, arith, sym, 
 use Rattle.tp_model.specs.declared.types.Element.{Element}
 use Rattle.tp_model.specs.declared.types.Limits.{Limits}
 use Rattle.std.proofs.lemmas.List.Elements.{All-more}
-use Rattle.tp_model.specs.OneThread.{HasStage, outputs}
-use Rattle.tp_model.proofs.Commits.{length-outputs}
+use Rattle.tp_model.specs.Births.{HasStage, outputs}
+use Rattle.tp_model.proofs.Outputs.{length-outputs}
 use Rattle.tp_rule.specs.Tables.{limits_of}
 use Rattle.tp_rule.specs.Views.{view_of}
 use Rattle.tp_manager.specs.Walks.{Wrote}

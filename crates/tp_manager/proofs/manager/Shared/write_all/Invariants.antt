@@ -1,6 +1,6 @@
 use Rattle.std.proofs.Common.{take}
 use Rattle.std.specs.List.{All}
-use Rattle.tp_model.specs.OneThread.{HasStage, outputs}
+use Rattle.tp_model.specs.Births.{HasStage, outputs}
 use Rattle.tp_rule.specs.Tables.{limits_of}
 use Rattle.tp_rule.specs.Views.{IsSameSeat, view_of}
 use Rattle.tp_manager.specs.Walks.{Wrote}

@@ -1,8 +1,0 @@
-use Rattle.tp_model.specs.Noted.{event_of}
-use Rattle.tp_model.specs.Looks.{look_after}
-use Rattle.tp_model.proofs.PlainLemmas.{map_step}
-use Rattle.tp_model.proofs.looks.apply.Goals as goal
-
-pub loop-look-preserved : goal.loop-look-preserved
-loop-look-preserved c =
-    rw c.after.ensures (map_step (look_after c.args.limit (event_of c.args.note.now)) c.args.looks.now c.loop-look.looks c.loop-look.look-index _ c.loop-look-test.true c.loop-look.auto.looks c.loop-look.invariant)

@@ -1,8 +1,0 @@
-use Rattle.std.proofs.Common.{◌≡◌, map, take, drop, ◌++◌}
-use Rattle.tp_model.specs.Noted.{event_of}
-use Rattle.tp_model.specs.Looks.{look_after}
-use Rattle.tp_model.proofs.looks.apply.Given as goal
-
--- those so far are changed, and the others are as they were
-abbrev pub invariant-loop-look : goal.invariant-loop-look
-invariant-loop-look l = l.looks ≡ map (look_after l.limit (event_of l.note)) (take l.look-index l.initial.looks) ++ drop l.look-index l.initial.looks

@@ -1,7 +1,0 @@
-use Rattle.std.proofs.Common.{◌≡◌, take, None}
-use Rattle.std.specs.List.{fold}
-use Rattle.tp_model.specs.Looks.{sooner}
-use Rattle.tp_model.proofs.looks.next_waiting.Given as goal
-
-abbrev pub invariant-loop-look : goal.invariant-loop-look
-invariant-loop-look l = l.best ≡ fold (sooner l.stage) None (take l.look-index l.looks)

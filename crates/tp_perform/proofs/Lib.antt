@@ -1,0 +1,3 @@
+pub mod Alls
+pub mod RegisterLemmas
+pub mod Endings

@@ -1,0 +1,13 @@
+use Rattle.std.proofs.Common.{◌≤◌}
+use Rattle.tp_perform.specs.Performing.{IsFreeOf}
+use Rattle.tp_perform.proofs.client.count.Given as goal
+
+abbrev pub invariant-loop-id : goal.invariant-loop-id
+invariant-loop-id l = record {
+  free : IsFreeOf l.manager l.client;
+  waiting : l.waiting ≤ l.id;
+  held : l.held ≤ l.id;
+  consumed : l.consumed ≤ l.id;
+  parked : l.parked ≤ l.id;
+  killed : l.killed ≤ l.id;
+}

@@ -1,0 +1,16 @@
+use Rattle.std.proofs.Common.{◌≡◌, ◌<◌, All, length}
+use Rattle.tp_desk.specs.Steady.{IsReady}
+use Rattle.tp_perform.specs.Performing.{IsPlace}
+use Rattle.tp_perform.proofs.racing.put_back.Given as goal
+
+abbrev pub invariant-loop-number : goal.invariant-loop-number
+invariant-loop-number g l = record {
+  places : All (IsPlace (λ z. (goal.Server-dyn g z).recipe z.1) (λ z. (goal.Server-dyn g z).registers z.1) (λ z. (goal.Server-dyn g z).pending z.1) l.manager) l.places;
+  as_many : length l.places ≡ length l.fn.places;
+  numbers : All (λ number. number < length l.fn.places) l.numbers.items;
+  ready : All (IsReady (λ z. (goal.Server-dyn g z).recipe z.1) (λ z. (goal.Server-dyn g z).registers z.1) (λ z. (goal.Server-dyn g z).pending z.1)) l.desks.items;
+  manager : All (λ desk. desk.manager.now ≡ l.manager) l.desks.items;
+}
+
+abbrev pub decreases-loop-number : goal.decreases-loop-number
+decreases-loop-number g l = length l.numbers.items

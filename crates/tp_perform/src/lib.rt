@@ -1,0 +1,12 @@
+//! Scripts performed over the shared manager: from a reader's bytes to the lines of a report.
+#![tactic(auto)]
+
+mod client;
+mod desks;
+pub mod finals;
+pub mod perform;
+mod program;
+mod racing;
+pub mod serve;
+
+pub use program::run;

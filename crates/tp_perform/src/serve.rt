@@ -1,0 +1,130 @@
+//! A script from its first command to its final lines: what it needs is made, performed and let go.
+ghost use Rattle.std.specs.Prelude.{◌≡◌, ◌+◌, None, IfOk, OnErr, OnOk, IsErrOf, IsTrue, All, length};
+ghost use Rattle.tp_manager.specs.Shown.{IsKeptBy};
+ghost use Rattle.tp_report.specs.Lines.{Writes, WritesFront};
+ghost use Rattle.tp_perform.specs.Performing.{IsFreeOf, final_count};
+ghost use Rattle.tp_script.specs.Script.{passes as passes_of, script_view};
+
+use crate::finals::finals;
+use crate::perform::perform;
+use std::alloc::{AllocError, Global};
+use std::thread::Threads;
+use tp_manager::{Keeper, MakeFault, Manager, Pass};
+use tp_model::types::Limits;
+use tp_report::{RunFault, Sink};
+use tp_script::{Kind, Script, ScriptServer};
+use tp_server::{EagerServer, LazyServer, Server};
+
+/// Makes a manager, its passes and boxed servers as a script asks for, performs its commands, and writes its report: a
+/// line for each command, and then the final lines.
+#[tactic(auto, using(tp_report::proofs::LineProofs::nothing_written, tp_report::proofs::LineProofs::front_fewer))]
+pub fn serve<R: Threads + Sync, W: Sink>(
+    rt: &R,
+    alloc: Global,
+    script: &Script,
+    writer: &mut W,
+) -> Result<(), RunFault>
+    ensures done { OnOk result (Writes (length script.now.commands.items + final_count (script_view script.now)) (W.contents writer.old) (W.contents writer.new)) }
+    ensures front { OnErr result (WritesFront (length script.now.commands.items + final_count (script_view script.now)) (W.contents writer.old) (W.contents writer.new)) }
+    ensures write { IsErrOf result RunFault.Write → IsTrue (W.has_failed writer.new) }
+{
+    let limits = Limits {
+        parts: script.passes(),
+        rows: script.settings.rows,
+        units: script.settings.units,
+        attempts: script.settings.attempts,
+    };
+    match Keeper::new(alloc, limits) {
+        Ok((manager, mut keeper)) => {
+            let mut passes = all_passes(alloc, &manager, &mut keeper)?;
+            serve_by(rt, alloc, script, &manager, passes.as_mut_slice(), writer)
+        }
+        Err(MakeFault::NoMemory) => Err(RunFault::NoMemory),
+        Err(MakeFault::BadLimits) => unreachable!(),
+        Err(MakeFault::NoPart) => unreachable!(),
+    }
+}
+
+/// All passes of a new keeper.
+fn all_passes(
+    alloc: Global,
+    manager: &Manager,
+    keeper: &mut Keeper,
+) -> Result<Vec<Pass>, AllocError>
+    requires keeper { IsKeptBy manager.now keeper.old }
+    requires fresh { keeper.old.given ≡ 0 }
+    ensures free { IfOk result (λ passes. All (IsFreeOf manager.now) passes.items) }
+    ensures all { IfOk result (λ passes. length passes.items ≡ manager.now.limits.parts) }
+{
+    let mut passes = Vec::new(alloc);
+    while let Ok(pass) = keeper.pass(manager) {
+        passes.push(pass)?;
+    }
+    Ok(passes)
+}
+
+/// Makes the boxed servers, performs the commands, and writes the final lines.
+#[tactic(auto, using(tp_report::proofs::LineProofs::nothing_written, tp_report::proofs::LineProofs::front_fewer))]
+fn serve_by<R: Threads + Sync, W: Sink>(
+    rt: &R,
+    alloc: Global,
+    script: &Script,
+    manager: &Manager,
+    passes: &mut [Pass],
+    writer: &mut W,
+) -> Result<(), RunFault>
+    requires passes { All (IsFreeOf manager.now) passes.old }
+    requires enough { length passes.old ≡ passes_of (script_view script.now) }
+    ensures done { OnOk result (Writes (length script.now.commands.items + final_count (script_view script.now)) (W.contents writer.old) (W.contents writer.new)) }
+    ensures front { OnErr result (WritesFront (length script.now.commands.items + final_count (script_view script.now)) (W.contents writer.old) (W.contents writer.new)) }
+    ensures write { IsErrOf result RunFault.Write → IsTrue (W.has_failed writer.new) }
+{
+    let mut servers: Vec<Box<dyn Server + Send>> = Vec::new(alloc);
+    for server in &script.servers {
+        match server.kind {
+            Kind::Eager => servers.push(Box::new(alloc, eager(server)?)?)?,
+            Kind::Lazy => servers.push(Box::new(alloc, lazy(server)?)?)?,
+        }
+    }
+    let boxes = servers.as_mut_slice();
+    settle(boxes);
+    perform(rt, alloc, script, manager, passes, boxes, writer)?;
+    finals(alloc, script, boxes, writer)
+}
+
+/// Calls off prepared work. New servers have none; but what a box shows isn't known to contracts behind the loop that made
+/// it.
+fn settle(servers: &mut [Box<dyn Server + Send>])
+    ensures unprepared { All (λ server. pending server ≡ None) servers.new }
+    ensures all { length servers.new ≡ length servers.old }
+{
+    for i in 0..servers.len() {
+        if servers[i].is_prepared() {
+            servers[i].undo();
+        }
+    }
+}
+
+/// A server of a script that changes its registers as it prepares.
+fn eager(server: &ScriptServer) -> Result<EagerServer, AllocError>
+    ensures recipe { IfOk result (λ made. ⟦<EagerServer as Server>⟧.recipe made ≡ server.now.recipe) }
+    ensures registers { IfOk result (λ made. ⟦<EagerServer as Server>⟧.registers made ≡ server.now.registers) }
+    ensures unprepared { IfOk result (λ made. ⟦<EagerServer as Server>⟧.pending made ≡ None) }
+{
+    match EagerServer::new(server.registers.clone()?, server.recipe.clone()?) {
+        Ok(made) => Ok(made),
+        Err(_) => unreachable!(),
+    }
+}
+
+/// A server of a script that keeps what it will write.
+fn lazy(server: &ScriptServer) -> Result<LazyServer, AllocError>
+    ensures recipe { IfOk result (λ made. ⟦<LazyServer as Server>⟧.recipe made ≡ server.now.recipe) }
+    ensures registers { IfOk result (λ made. ⟦<LazyServer as Server>⟧.registers made ≡ server.now.registers) }
+    ensures unprepared { IfOk result (λ made. ⟦<LazyServer as Server>⟧.pending made ≡ None) }
+{
+    match LazyServer::new(server.registers.clone()?, server.recipe.clone()?) {
+        Ok(made) => Ok(made),
+        Err(_) => unreachable!(),
+    }
+}

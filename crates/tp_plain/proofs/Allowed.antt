@@ -1,0 +1,160 @@
+-- The computed answers are allowed ones.
+use Rattle.std.proofs.Common.{◌≡◌, ◌≢◌, ℕ, suc, ◌+◌, ◌<◌, ◌≤◌, nat_le, nat_lt, ◌&&◌, Bool, true, false, cond, if◌then◌else◌, Option, Some, None, Result, Ok, Err, subst, List, length, refl, sym, ◌∙◌, ap, inl, inr, arith}
+use Rattle.std.proofs.lemmas.Bool.{leb-true, ltb-false, and_from, le-leb}
+use Rattle.std.proofs.lemmas.Bool.Decides.{nat_tests}
+use Rattle.std.specs.List.{find, All}
+use Rattle.tp_model.specs.declared.types.Element.{Element}
+use Rattle.tp_model.specs.declared.types.Look.{Look}
+use Rattle.tp_model.specs.declared.types.Status.{Status}
+use Rattle.tp_model.specs.declared.types.Status.TheVariants.{Waiting, Held, Consumed, Parked, Killed}
+use Rattle.tp_model.specs.declared.types.Refusal.{Refusal}
+use Rattle.tp_model.specs.declared.types.Refusal.TheVariants as refusal
+use Rattle.tp_model.specs.declared.types.Claimed.{Claimed}
+use Rattle.tp_model.specs.declared.types.Outcome.{Outcome}
+use Rattle.tp_model.specs.declared.types.Claimed.TheVariants as claimed
+use Rattle.tp_model.specs.declared.types.Outcome.TheVariants as outcome
+use Rattle.tp_model.specs.declared.event.Event.TheVariants.{Abort}
+use Rattle.tp_model.specs.Drafts.{DraftView}
+use Rattle.tp_model.specs.History.{element_of, UnitClaim, UnitEnd, Committed, Aborted, end_of, status_of}
+use Rattle.tp_model.specs.Steps.{IsServerStage, IsOpen, Step}
+use Rattle.tp_model.specs.Births.{HasStage}
+use Rattle.tp_plain.specs.OneThread.{Answers, CallSubmit, CallClaim, CallCommit, CallAbort, CallKill, CallRead, Leaves, State, pass_at, next_row}
+use Rattle.tp_plain.specs.Looks.{is_held_by, looks_after_all}
+use Rattle.tp_plain.specs.Reached.{IsReached}
+use Rattle.tp_plain.specs.Computed.{is_server_stage, submit_of, with_request, next_waiting, claim_found, claim_of_stage, abort_at, abort_of, commit_at, commit_of, unit_in_hand, kill_at, kill_found, read_found, ComputedAreAllowed}
+use Rattle.tp_model.proofs.Bridges.{element_of-id}
+use Rattle.tp_plain.proofs.PassStates.{may_submit}
+use Rattle.tp_plain.proofs.Claims.{idle, left_by_claim}
+use Rattle.tp_plain.proofs.UnitEnds.{aborted_of}
+use Rattle.tp_plain.proofs.Commits.{left_by_commit}
+use Rattle.tp_plain.proofs.Kills.{may_abort, may_kill_after}
+
+and_parts : (a b : Bool) → (a && b) ≡ true → (a ≡ true) × (b ≡ true)
+and_parts true b is = (refl, is)
+and_parts false b is = absurd (cc (is))
+
+stage_is : (stage : ℕ) → is_server_stage stage ≡ true → IsServerStage stage
+stage_is stage is = let p = and_parts (nat_le 1 stage) (nat_le stage 14) is in (leb-true 1 stage p.0, leb-true stage 14 p.1)
+
+is_stage : (stage : ℕ) → IsServerStage stage → is_server_stage stage ≡ true
+is_stage stage good = and_from (nat_le 1 stage) (nat_le stage 14) (le-leb 1 stage good.0) (le-leb stage 14 good.1)
+
+module _ (s : State) (c : ℕ) (reached : IsReached s) (is_pass : c < s.limits.parts) where
+  submit_allowed : (stage key amount : ℕ) → Answers s (CallSubmit c stage key amount (submit_of s c stage key amount).0) (submit_of s c stage key amount).1
+  submit_allowed stage key amount = go (is_server_stage stage) (nat_lt (pass_at s c).drawn s.limits.rows) refl refl
+    where
+      go : (staged room : Bool) → is_server_stage stage ≡ staged → nat_lt (pass_at s c).drawn s.limits.rows ≡ room
+          → let computed : Result ℕ Refusal × State = cond {A = Result ℕ Refusal × State} staged (cond {A = Result ℕ Refusal × State} room (Ok (next_row s c), with_request s c stage key amount) (Err refusal.Full, s)) (Err refusal.BadStage, s) in
+          Answers s (CallSubmit c stage key amount computed.0) computed.1
+      go true true staged room =
+          let below : (pass_at s c).drawn < s.limits.rows = leb-true (suc (pass_at s c).drawn) s.limits.rows room in
+          record { room = below; next = refl; step = may_submit s c stage key amount reached is_pass (stage_is stage staged) below; after = refl }
+      go true false staged room = ((stage_is stage staged, ltb-false (pass_at s c).drawn s.limits.rows room), refl)
+      go false room staged _ = ((λ good. let clash : false ≡ true = sym staged ∙ is_stage stage good in cc), refl)
+
+  claim_allowed : (stage : ℕ) → IsServerStage stage → (pass_at s c).holding ≡ None → Answers s (CallClaim c stage (Ok (claim_of_stage s c stage).0)) (claim_of_stage s c stage).1
+  claim_allowed stage good free = go (nat_lt (pass_at s c).claimed s.limits.units) (next_waiting s stage) refl refl
+    where
+      go : (room : Bool) (found : Option Look) → nat_lt (pass_at s c).claimed s.limits.units ≡ room → next_waiting s stage ≡ found
+          → let computed : Claimed × State = cond {A = Claimed × State} room (claim_found s c found) (claimed.NoUnit, s) in Answers s (CallClaim c stage (Ok computed.0)) computed.1
+      go true None room is =
+          (refl, leb-true (suc (pass_at s c).claimed) s.limits.units room, idle s (looks_after_all s.limits.attempts s.history) stage reached refl is)
+      go true (Some look) room is =
+          (left_by_claim s.limits s.history s.passes (looks_after_all s.limits.attempts s.history) c stage reached refl is_pass good look is
+          (leb-true (suc (pass_at s c).claimed) s.limits.units room) free).2
+      go false found room is = (refl, ltb-false (pass_at s c).claimed s.limits.units room)
+
+  module _ (u : ℕ) (hand : (pass_at s c).holding ≡ Some u) where
+    in_hand : unit_in_hand s c ≡ u
+    in_hand = rw hand refl
+
+    -- the unit in the hand, unless it was aborted, is open
+    open_unit : end_of s.history u ≢ Some Aborted → (t : UnitClaim) × IsOpen s.history u t × (t.pass ≡ c)
+    open_unit whole = (reached.fits c is_pass).held u hand whole
+
+    not_committed : (first count : ℕ) → end_of s.history u ≡ Some (Committed first count) → ⊥
+    not_committed first count is =
+        let o = open_unit (λ gone. let clash : Some (Committed first count) ≡ Some Aborted = sym is ∙ gone in cc) in
+        let clash : None ≡ Some (Committed first count) = sym o.1.unfinished ∙ is in cc
+
+    may_abort_own : end_of s.history u ≡ None → Step s.limits s.history (Abort c u)
+    may_abort_own undecided =
+        let o = open_unit (λ gone. let clash : None ≡ Some Aborted = sym undecided ∙ gone in cc) in
+        record { pass = is_pass; taking = o.0; open_unit = o.1 }
+
+    abort_leaves_it : (x : Option UnitEnd) → end_of s.history u ≡ x → Leaves s c u (abort_at s c u x).1
+    abort_leaves_it None is = inl (may_abort_own is, refl)
+    abort_leaves_it (Some (Committed first count)) is = absurd (not_committed first count is)
+    abort_leaves_it (Some Aborted) is = inr (is, refl)
+
+    abort_allowed : Answers s (CallAbort c (abort_of s c).0) (abort_of s c).1
+    abort_allowed =
+        subst (λ v. Answers s (CallAbort c (abort_at s c v (end_of s.history v)).0) (abort_at s c v (end_of s.history v)).1) (sym in_hand) (go (end_of s.history u) refl)
+      where
+        go : (x : Option UnitEnd) → end_of s.history u ≡ x → Answers s (CallAbort c (abort_at s c u x).0) (abort_at s c u x).1
+        go None is = (u, hand, (may_abort_own is, refl))
+        go (Some (Committed first count)) is = absurd (not_committed first count is)
+        go (Some Aborted) is = (u, hand, (is, refl))
+
+    commit_allowed : (drafts : List DraftView) → length drafts ≤ 4 → All HasStage drafts → Answers s (CallCommit c drafts (Ok (commit_of s c drafts).0)) (commit_of s c drafts).1
+    commit_allowed drafts few staged =
+        subst P (sym in_hand) (go (nat_le ((pass_at s c).drawn + length drafts) s.limits.rows) (end_of s.history u) refl refl)
+      where
+        computed : ℕ → Outcome × State
+        computed v =
+            if nat_le ((pass_at s c).drawn + length drafts) s.limits.rows then commit_at s c v drafts (end_of s.history v) else (outcome.Full, (abort_at s c v (end_of s.history v)).1)
+
+        P : ℕ → Type 0
+        P v = Answers s (CallCommit c drafts (Ok (computed v).0)) (computed v).1
+
+        held : (found : Option Look) → find (λ (l : Look). is_held_by u l.status) (looks_after_all s.limits.attempts s.history) ≡ found → end_of s.history u ≡ None
+            → (pass_at s c).drawn + length drafts ≤ s.limits.rows → Answers s (CallCommit c drafts (Ok (commit_at s c u drafts None).0)) (commit_at s c u drafts None).1
+        held None is undecided room =
+            let gone = aborted_of s (looks_after_all s.limits.attempts s.history) reached refl c u is_pass hand is in
+            let clash : None ≡ Some Aborted = sym undecided ∙ gone in cc
+        held (Some look) is undecided room =
+            let left = left_by_commit s.limits s.history s.passes (looks_after_all s.limits.attempts s.history) c reached refl is_pass u look is drafts staged few hand room in
+            (u, hand, record { room = room; count_is = refl; first_is = refl; step = left.3.step; after = refl })
+
+        go : (room : Bool) (x : Option UnitEnd) → nat_le ((pass_at s c).drawn + length drafts) s.limits.rows ≡ room → end_of s.history u ≡ x
+            → let computed : Outcome × State = cond {A = Outcome × State} room (commit_at s c u drafts x) (outcome.Full, (abort_at s c u x).1) in Answers s (CallCommit c drafts (Ok computed.0)) computed.1
+        go true None room is =
+            held (find (λ (l : Look). is_held_by u l.status) (looks_after_all s.limits.attempts s.history)) refl is (leb-true ((pass_at s c).drawn + length drafts) s.limits.rows room)
+        go true (Some (Committed first count)) room is = absurd (not_committed first count is)
+        go true (Some Aborted) room is = (u, hand, (leb-true ((pass_at s c).drawn + length drafts) s.limits.rows room, is, refl))
+        go false x room is =
+            let over : s.limits.rows < (pass_at s c).drawn + length drafts = grind (arith, nat_tests) in
+            (u, hand, (over, abort_leaves_it x is))
+
+  kill_allowed : (i : ℕ) → Answers s (CallKill c i (kill_found s c i (element_of s.history i)).0) (kill_found s c i (element_of s.history i)).1
+  kill_allowed i = found (element_of s.history i) refl
+    where
+      at : (e : Element) → element_of s.history i ≡ Some e → (st : Status) → status_of s.limits.attempts s.history i ≡ st → Answers s (CallKill c i (kill_at s c i st).0) (kill_at s c i st).1
+      at e born (Waiting n) is = (record { pass = is_pass; item = e; born = born; free = rw is tt }, refl)
+      at e born (Held u n) is =
+          (u, n, is, may_abort s.limits s.history c i u n is_pass reached.legal is, may_kill_after s.limits s.history c i u n e is_pass born is, refl)
+      at e born (Consumed u) is = ((e, born, is), refl)
+      at e born (Parked n) is = (record { pass = is_pass; item = e; born = born; free = rw is tt }, refl)
+      at e born Killed is = ((e, born, is), refl)
+
+      found : (o : Option Element) → element_of s.history i ≡ o → Answers s (CallKill c i (kill_found s c i o).0) (kill_found s c i o).1
+      found None is = (is, refl)
+      found (Some e) is = at e is (status_of s.limits.attempts s.history i) refl
+
+  read_allowed : (id : ℕ) → Answers s (CallRead id (read_found s (element_of s.history id))) s
+  read_allowed id = go (element_of s.history id) refl
+    where
+      go : (o : Option Element) → element_of s.history id ≡ o → Answers s (CallRead id (read_found s o)) s
+      go None is = (is, refl)
+      go (Some e) is = (record { element = is; status = ap (status_of s.limits.attempts s.history) (element_of-id s.history id e is) }, refl)
+
+pub computed_are_allowed : ComputedAreAllowed
+computed_are_allowed s c reached is_pass =
+    record {
+      submit = submit_allowed s c reached is_pass;
+      claim = claim_allowed s c reached is_pass;
+      commit = λ u drafts hand few staged. commit_allowed s c reached is_pass u hand drafts few staged;
+      abort = λ u hand. abort_allowed s c reached is_pass u hand;
+      kill = kill_allowed s c reached is_pass;
+      read = read_allowed s c reached is_pass;
+    }

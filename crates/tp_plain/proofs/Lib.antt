@@ -1,0 +1,9 @@
+pub mod Computations
+pub mod PassStates
+pub mod PlainLemmas
+pub mod Claims
+pub mod UnitEnds
+pub mod Commits
+pub mod RunProofs
+pub mod Kills
+pub mod Allowed

@@ -1,0 +1,112 @@
+-- Runs keep the history legal, and only lengthen it.
+use Rattle.std.proofs.Common.{◌≡◌, ℕ, zero, suc, Ok, Err, List, [], ◌∷◌, ◌++◌, refl, sym, ◌∙◌, ap, subst, inl, inr, append_assoc}
+use Rattle.std.proofs.lemmas.List.{append-nil}
+use mathlib.Core.List.{IsPrefix}
+use Rattle.tp_model.specs.Drafts.{DraftView}
+use Rattle.tp_plain.specs.declared.pass_state.PassState.{PassState}
+use Rattle.tp_model.specs.declared.types.Claimed.{Claimed}
+use Rattle.tp_model.specs.declared.types.Claimed.TheVariants as claimed
+use Rattle.tp_model.specs.declared.types.Outcome.{Outcome}
+use Rattle.tp_model.specs.declared.types.Outcome.TheVariants as outcome
+use Rattle.tp_model.specs.declared.types.Ended.{Ended}
+use Rattle.tp_model.specs.declared.types.Ended.TheVariants as ended
+use Rattle.tp_model.specs.declared.event.Event.{Event}
+use Rattle.tp_model.specs.declared.event.Event.TheVariants.{Claim, Abort, Kill}
+use Rattle.tp_model.specs.Steps.{Step, IsLegal}
+use Rattle.tp_plain.specs.OneThread.{State, start, Call, CallSubmit, CallClaim, CallCommit, CallAbort, CallKill, CallRead, extended, Kills, moved, with_pass, Answers, Ends, GivesUp, Claims, Run, RunsAreLegal, RunsGrow}
+use Rattle.tp_model.proofs.Histories.{legal_empty, legal_more}
+
+-- t has the same limits, and the history of s with steps after it
+record Goes (s t : State) : Type 0 where
+  limits : t.limits ≡ s.limits
+  more : IsPrefix s.history t.history
+  legal : IsLegal s.limits s.history → IsLegal s.limits t.history
+
+stays : (s t : State) → t ≡ s → Goes s t
+stays s t same =
+    record {
+      limits = ap (λ (x : State). x.limits) same;
+      more = ([], append-nil s.history ∙ sym (ap (λ (x : State). x.history) same));
+      legal = λ legal. subst (IsLegal s.limits) (sym (ap (λ (x : State). x.history) same)) legal;
+    }
+
+moves : (s t : State) (e : Event) (c : ℕ) (used : PassState) → Step s.limits s.history e → t ≡ moved s e c used → Goes s t
+moves s t e c used step same =
+    record {
+      limits = ap (λ (x : State). x.limits) same;
+      more = (e ∷ [], sym (ap (λ (x : State). x.history) same));
+      legal = λ legal. subst (IsLegal s.limits) (sym (ap (λ (x : State). x.history) same)) (legal_more s.limits s.history e legal step);
+    }
+
+passes_alone : (s t : State) (c : ℕ) (used : PassState) → t ≡ with_pass s c used → Goes s t
+passes_alone s t c used same =
+    record {
+      limits = ap (λ (x : State). x.limits) same;
+      more = ([], append-nil s.history ∙ sym (ap (λ (x : State). x.history) same));
+      legal = λ legal. subst (IsLegal s.limits) (sym (ap (λ (x : State). x.history) same)) legal;
+    }
+
+goes_claim : (s : State) (c stage : ℕ) (a : Claimed) (t : State) → Claims s c stage a t → Goes s t
+goes_claim s c stage (claimed.Work w) t is = moves s t (Claim c w.unit w.element.id w.attempt) c _ is.step is.after
+goes_claim s c stage claimed.Idle t is = stays s t is.0
+goes_claim s c stage claimed.NoUnit t is = stays s t is.0
+
+goes_commit : (s : State) (c u : ℕ) (drafts : List DraftView) (a : Outcome) (t : State) → Ends s c u drafts a t → Goes s t
+goes_commit s c u drafts (outcome.Committed id count) t is = moves s t _ c _ is.step is.after
+goes_commit s c u drafts outcome.Lost t is = passes_alone s t c _ is.2
+goes_commit s c u drafts outcome.Full t is = elim is.1 [ inl p ↦ moves s t (Abort c u) c _ p.0 p.1 | inr p ↦ passes_alone s t c _ p.1 ]
+
+goes_abort : (s : State) (c u : ℕ) (a : Ended) (t : State) → GivesUp s c u a t → Goes s t
+goes_abort s c u ended.Aborted t is = moves s t (Abort c u) c _ is.0 is.1
+goes_abort s c u ended.Already t is = passes_alone s t c _ is.1
+
+extends : (s t : State) (e : Event) → Step s.limits s.history e → t ≡ extended s e → Goes s t
+extends s t e step same =
+    record {
+      limits = ap (λ (x : State). x.limits) same;
+      more = (e ∷ [], sym (ap (λ (x : State). x.history) same));
+      legal = λ legal. subst (IsLegal s.limits) (sym (ap (λ (x : State). x.history) same)) (legal_more s.limits s.history e legal step);
+    }
+
+goes_on : (s m t : State) → Goes s m → Goes m t → Goes s t
+goes_on s m t one rest =
+    record {
+      limits = rest.limits ∙ one.limits;
+      more = (one.more.0 ++ rest.more.0, sym (append_assoc s.history one.more.0 rest.more.0) ∙ (ap (λ x. x ++ rest.more.0) one.more.1 ∙ rest.more.1));
+      legal = λ legal. subst (λ l. IsLegal l t.history) one.limits (rest.legal (subst (λ l. IsLegal l m.history) (sym one.limits) (one.legal legal)));
+    }
+
+goes_kill : (s : State) (c i k : ℕ) (t : State) → Kills s c i k t → Goes s t
+goes_kill s c i zero t is = extends s t (Kill c i) is.0 is.1
+goes_kill s c i (suc zero) t is =
+    goes_on s (extended s (Abort c is.0)) t (extends s (extended s (Abort c is.0)) (Abort c is.0) is.3 refl) (extends (extended s (Abort c is.0)) t (Kill c i) is.4 is.5)
+goes_kill s c i (suc (suc k)) t is = absurd is
+
+goes : (s : State) (call : Call) (t : State) → Answers s call t → Goes s t
+goes s (CallSubmit c stage key amount (Ok id)) t is = moves s t _ c _ is.step is.after
+goes s (CallSubmit c stage key amount (Err why)) t is = stays s t is.1
+goes s (CallClaim c stage (Ok a)) t is = goes_claim s c stage a t is
+goes s (CallClaim c stage (Err why)) t is = absurd is
+goes s (CallCommit c drafts (Ok a)) t is = goes_commit s c is.0 drafts a t is.2
+goes s (CallCommit c drafts (Err why)) t is = stays s t is.2.1
+goes s (CallAbort c a) t is = goes_abort s c is.0 a t is.2
+goes s (CallKill c i (Ok k)) t is = goes_kill s c i k.units_aborted t is
+goes s (CallKill c i (Err why)) t is = stays s t is.1
+goes s (CallRead id r) t is = stays s t is.1
+
+goes_all : (s : State) (calls : List Call) (t : State) → Run s calls t → Goes s t
+goes_all s [] t is = stays s t is
+goes_all s (call ∷ calls) t is =
+    let one = goes s call is.0 is.1 in
+    let rest = goes_all is.0 calls t is.2 in
+    record {
+      limits = rest.limits ∙ one.limits;
+      more = (one.more.0 ++ rest.more.0, sym (append_assoc s.history one.more.0 rest.more.0) ∙ (ap (λ x. x ++ rest.more.0) one.more.1 ∙ rest.more.1));
+      legal = λ legal. subst (λ l. IsLegal l t.history) one.limits (rest.legal (subst (λ l. IsLegal l is.0.history) (sym one.limits) (one.legal legal)));
+    }
+
+pub runs_are_legal : RunsAreLegal
+runs_are_legal l calls t is = let all = goes_all (start l) calls t is in (all.limits, all.legal (legal_empty l))
+
+pub runs_grow : RunsGrow
+runs_grow s calls t is = (goes_all s calls t is).more

@@ -1,0 +1,148 @@
+-- The answers of a manager of one thread, computed: what each call answers, and the state that it leaves.
+use Rattle.std.specs.Prelude.{◌≡◌, ℕ, ◌+◌, ◌<◌, ◌≤◌, nat_le, nat_lt, ◌&&◌, ◌==◌, Bool, if◌then◌else◌, Option, Some, None, Result, Ok, Err, List, length, unwrap_or}
+use Rattle.std.specs.List.{fold, All}
+use Rattle.tp_model.specs.Steps.{IsServerStage}
+use Rattle.tp_plain.specs.Reached.{IsReached}
+use Rattle.tp_model.specs.declared.types.Element.{Element}
+use Rattle.tp_model.specs.declared.types.Look.{Look}
+use Rattle.tp_model.specs.declared.types.Work.{Work}
+use Rattle.tp_model.specs.declared.types.Status.{Status}
+use Rattle.tp_model.specs.declared.types.Status.TheVariants.{Waiting, Held, Consumed, Parked, Killed}
+use Rattle.tp_model.specs.declared.types.Killed.{Killed as KilledAnswer}
+use Rattle.tp_model.specs.declared.types.Claimed.{Claimed}
+use Rattle.tp_model.specs.declared.types.Claimed.TheVariants as claimed
+use Rattle.tp_model.specs.declared.types.Outcome.{Outcome}
+use Rattle.tp_model.specs.declared.types.Outcome.TheVariants as outcome
+use Rattle.tp_model.specs.declared.types.Ended.{Ended}
+use Rattle.tp_model.specs.declared.types.Ended.TheVariants as ended
+use Rattle.tp_model.specs.declared.types.Refusal.{Refusal}
+use Rattle.tp_model.specs.declared.types.Refusal.TheVariants as refusal
+use Rattle.tp_model.specs.declared.event.Event.TheVariants.{Enqueue, Claim, Commit, Abort, Kill}
+use Rattle.tp_model.specs.Drafts.{DraftView}
+use Rattle.tp_model.specs.History.{element_of, UnitEnd, Committed, Aborted, end_of, status_of}
+use Rattle.tp_plain.specs.Looks.{look_at, sooner, attempts_in, looks_after_all}
+use Rattle.tp_model.specs.Births.{HasStage, request}
+use Rattle.tp_plain.specs.OneThread.{Answers, CallSubmit, CallClaim, CallCommit, CallAbort, CallKill, CallRead, State, pass_at, next_row, next_unit, moved, with_pass, extended, free_pass, made_of}
+
+-- whether clients may submit to this stage
+abbrev pub is_server_stage : ℕ → Bool
+is_server_stage stage = nat_le 1 stage && nat_le stage 14
+
+-- the state after a submit that goes through
+abbrev pub with_request : State → ℕ → ℕ → ℕ → ℕ → State
+with_request s c stage key amount =
+    let used = pass_at s c in
+    moved s (Enqueue c (request (next_row s c) stage key amount)) c (record { drawn = used.drawn + 1; claimed = used.claimed; holding = used.holding })
+
+-- a submit
+abbrev pub submit_of : State → ℕ → ℕ → ℕ → ℕ → Result ℕ Refusal × State
+submit_of s c stage key amount =
+    if is_server_stage stage
+    then (if nat_lt (pass_at s c).drawn s.limits.rows then (Ok (next_row s c), with_request s c stage key amount) else (Err refusal.Full, s))
+    else (Err refusal.BadStage, s)
+
+-- of the waiting elements of a stage, the look at the one with the least id
+abbrev pub next_waiting : State → ℕ → Option Look
+next_waiting s stage = fold (sooner stage) None (looks_after_all s.limits.attempts s.history)
+
+-- the work that a claim of a waiting element hands out
+abbrev pub work_on : State → ℕ → Look → Work
+work_on s c look = record { unit = next_unit s c; element = look.element; attempt = attempts_in look.status + 1 }
+
+-- the state after a claim of a waiting element
+abbrev pub with_claim : State → ℕ → Look → State
+with_claim s c look =
+    let used = pass_at s c in
+    moved s (Claim c (next_unit s c) look.element.id (attempts_in look.status + 1)) c (record { drawn = used.drawn; claimed = used.claimed + 1; holding = Some (next_unit s c) })
+
+-- a claim of what was found to wait
+abbrev pub claim_found : State → ℕ → Option Look → Claimed × State
+claim_found s c None = (claimed.Idle, s)
+claim_found s c (Some look) = (claimed.Work (work_on s c look), with_claim s c look)
+
+-- a claim
+abbrev pub claim_of_stage : State → ℕ → ℕ → Claimed × State
+claim_of_stage s c stage = if nat_lt (pass_at s c).claimed s.limits.units then claim_found s c (next_waiting s stage) else (claimed.NoUnit, s)
+
+-- the unit in the hand of pass c
+abbrev pub unit_in_hand : State → ℕ → ℕ
+unit_in_hand s c = unwrap_or (pass_at s c).holding 0
+
+-- an abort of a unit that ended so, or is undecided
+abbrev pub abort_at : State → ℕ → ℕ → Option UnitEnd → Ended × State
+abort_at s c u None = (ended.Aborted, moved s (Abort c u) c (free_pass s c (pass_at s c).drawn))
+abort_at s c u (Some (Committed first count)) = (ended.Aborted, moved s (Abort c u) c (free_pass s c (pass_at s c).drawn))
+abort_at s c u (Some Aborted) = (ended.Already, with_pass s c (free_pass s c (pass_at s c).drawn))
+
+-- an abort
+abbrev pub abort_of : State → ℕ → Ended × State
+abort_of s c = abort_at s c (unit_in_hand s c) (end_of s.history (unit_in_hand s c))
+
+-- a commit, where the rows suffice, of a unit that ended so, or is undecided
+abbrev pub commit_at : State → ℕ → ℕ → List DraftView → Option UnitEnd → Outcome × State
+commit_at s c u drafts None = (outcome.Committed (if length drafts == 0 then 0 else next_row s c) (length drafts), moved s (Commit c u (made_of s c u drafts)) c (free_pass s c ((pass_at s c).drawn + length drafts)))
+commit_at s c u drafts (Some (Committed first count)) = (outcome.Committed (if length drafts == 0 then 0 else next_row s c) (length drafts), moved s (Commit c u (made_of s c u drafts)) c (free_pass s c ((pass_at s c).drawn + length drafts)))
+commit_at s c u drafts (Some Aborted) = (outcome.Lost, with_pass s c (free_pass s c ((pass_at s c).drawn + length drafts)))
+
+-- a commit
+abbrev pub commit_of : State → ℕ → List DraftView → Outcome × State
+commit_of s c drafts =
+    if nat_le ((pass_at s c).drawn + length drafts) s.limits.rows
+    then commit_at s c (unit_in_hand s c) drafts (end_of s.history (unit_in_hand s c))
+    else (outcome.Full, (abort_of s c).1)
+
+-- a read of what was found
+abbrev pub read_found : State → Option Element → Result Look Refusal
+read_found s None = Err refusal.NotThere
+read_found s (Some e) = Ok (look_at s.limits.attempts s.history e)
+
+-- a read
+abbrev pub read_of : State → ℕ → Result Look Refusal
+read_of s id = read_found s (element_of s.history id)
+
+-- a kill of an element that stands so
+abbrev pub kill_at : State → ℕ → ℕ → Status → Result KilledAnswer Refusal × State
+kill_at s c i (Waiting n) = (Ok (record { units_aborted = 0 }), extended s (Kill c i))
+kill_at s c i (Held u n) = (Ok (record { units_aborted = 1 }), extended (extended s (Abort c u)) (Kill c i))
+kill_at s c i (Consumed u) = (Err (refusal.Consumed u), s)
+kill_at s c i (Parked n) = (Ok (record { units_aborted = 0 }), extended s (Kill c i))
+kill_at s c i Killed = (Err refusal.AlreadyKilled, s)
+
+-- a kill of what was found
+abbrev pub kill_found : State → ℕ → ℕ → Option Element → Result KilledAnswer Refusal × State
+kill_found s c i None = (Err refusal.NotThere, s)
+kill_found s c i (Some e) = kill_at s c i (status_of s.limits.attempts s.history i)
+
+-- a kill
+abbrev pub kill_of : State → ℕ → ℕ → Result KilledAnswer Refusal × State
+kill_of s c i = kill_found s c i (element_of s.history i)
+
+-- this answer and this state are the computed ones, unless memory was wanting, which changed nothing
+abbrev pub IsComputed : {A : Type 0} → State → State → Result A Refusal → Result A Refusal × State → Type 0
+IsComputed old new (Ok x) computed = (computed.0 ≡ Ok x) × (new ≡ computed.1)
+IsComputed old new (Err refusal.NoMemory) computed = new ≡ old
+IsComputed old new (Err refusal.BadLimits) computed = (computed.0 ≡ Err refusal.BadLimits) × (new ≡ computed.1)
+IsComputed old new (Err refusal.BadStage) computed = (computed.0 ≡ Err refusal.BadStage) × (new ≡ computed.1)
+IsComputed old new (Err refusal.NotThere) computed = (computed.0 ≡ Err refusal.NotThere) × (new ≡ computed.1)
+IsComputed old new (Err (refusal.Consumed u)) computed = (computed.0 ≡ Err (refusal.Consumed u)) × (new ≡ computed.1)
+IsComputed old new (Err refusal.AlreadyKilled) computed = (computed.0 ≡ Err refusal.AlreadyKilled) × (new ≡ computed.1)
+IsComputed old new (Err refusal.Full) computed = (computed.0 ≡ Err refusal.Full) × (new ≡ computed.1)
+
+-- the same for a call whose computed answer is never a refusal
+abbrev pub IsComputedOk : {A : Type 0} → State → State → Result A Refusal → A × State → Type 0
+IsComputedOk old new (Ok x) computed = (computed.0 ≡ x) × (new ≡ computed.1)
+IsComputedOk old new (Err why) computed = (why ≡ refusal.NoMemory) × (new ≡ old)
+
+-- the computed answers to the calls of pass c are those that a manager of one thread may give
+pub record AreAllowed (s : State) (c : ℕ) : Type 0 where
+  pub submit : (stage key amount : ℕ) → Answers s (CallSubmit c stage key amount (submit_of s c stage key amount).0) (submit_of s c stage key amount).1
+  pub claim : (stage : ℕ) → IsServerStage stage → (pass_at s c).holding ≡ None → Answers s (CallClaim c stage (Ok (claim_of_stage s c stage).0)) (claim_of_stage s c stage).1
+  pub commit : (u : ℕ) (drafts : List DraftView) → (pass_at s c).holding ≡ Some u → length drafts ≤ 4 → All HasStage drafts
+      → Answers s (CallCommit c drafts (Ok (commit_of s c drafts).0)) (commit_of s c drafts).1
+  pub abort : (u : ℕ) → (pass_at s c).holding ≡ Some u → Answers s (CallAbort c (abort_of s c).0) (abort_of s c).1
+  pub kill : (i : ℕ) → Answers s (CallKill c i (kill_of s c i).0) (kill_of s c i).1
+  pub read : (id : ℕ) → Answers s (CallRead id (read_of s id)) s
+
+-- so it is in every state that a manager of one thread reaches
+abbrev pub ComputedAreAllowed : Type 0
+ComputedAreAllowed = (s : State) (c : ℕ) → IsReached s → c < s.limits.parts → AreAllowed s c

@@ -1,0 +1,5 @@
+pub mod Noted
+pub mod OneThread
+pub mod Looks
+pub mod Reached
+pub mod Computed

@@ -1,0 +1,219 @@
+-- Runs of a manager of one thread: which answers its calls may give, and what state they leave.
+use Rattle.std.specs.Prelude.{◌≡◌, ◌≢◌, ◌⊎◌, ℕ, zero, suc, ◌+◌, ◌-◌, ◌*◌, ◌<◌, ◌≤◌, ◌==◌, if◌then◌else◌, Option, Some, None, Result, List, [], ◌∷◌, ◌++◌, length, replicate, slice_index_or, slice_set, MatchResult}
+use Rattle.std.specs.Option.{option_and_then, option_map_or}
+use mathlib.Core.List.{IsPrefix}
+use Rattle.tp_model.specs.declared.types.Element.{Element}
+use Rattle.tp_model.specs.declared.types.Limits.{Limits}
+use Rattle.tp_model.specs.Drafts.{DraftView}
+use Rattle.tp_model.specs.declared.types.Look.{Look}
+use Rattle.tp_model.specs.declared.types.Work.{Work}
+use Rattle.tp_model.specs.declared.types.Status.TheVariants.{Waiting, Held, Consumed, Killed}
+use Rattle.tp_model.specs.declared.types.Killed.{Killed as KilledAnswer}
+use Rattle.tp_model.specs.declared.types.Claimed.{Claimed}
+use Rattle.tp_model.specs.declared.types.Claimed.TheVariants as claimed
+use Rattle.tp_model.specs.declared.types.Outcome.{Outcome}
+use Rattle.tp_model.specs.declared.types.Outcome.TheVariants as outcome
+use Rattle.tp_model.specs.declared.types.Ended.{Ended}
+use Rattle.tp_model.specs.declared.types.Ended.TheVariants as ended
+use Rattle.tp_model.specs.declared.types.Refusal.{Refusal}
+use Rattle.tp_model.specs.declared.types.Refusal.TheVariants as refusal
+use Rattle.tp_plain.specs.declared.pass_state.PassState.{PassState}
+use Rattle.tp_model.specs.declared.event.Event.{Event}
+use Rattle.tp_model.specs.declared.event.Event.TheVariants.{Enqueue, Claim, Commit, Abort, Kill}
+use Rattle.tp_model.specs.History.{element_of, status_of, UnitClaim, claim_of, Aborted, end_of}
+use Rattle.tp_model.specs.Births.{request, outputs}
+use Rattle.tp_model.specs.Steps.{IsServerStage, Step, IsLegal}
+
+-- what a manager of one thread is between two calls: its limits, its history, and what each of its passes has used
+pub record State : Type 0 where
+  pub limits : Limits
+  pub history : List Event
+  pub passes : List PassState
+
+-- a pass that has done nothing
+abbrev pub fresh_pass : PassState
+fresh_pass = record { drawn = 0; claimed = 0; holding = None }
+
+-- a manager to which nothing happened
+abbrev pub start : Limits → State
+start l = record { limits = l; history = []; passes = replicate l.parts fresh_pass }
+
+-- what pass c has used
+abbrev pub pass_at : State → ℕ → PassState
+pass_at s c = slice_index_or s.passes c fresh_pass
+
+-- the id of the row that pass c uses next
+abbrev pub next_row : State → ℕ → ℕ
+next_row s c = c * s.limits.rows + (pass_at s c).drawn
+
+-- the unit that pass c uses next
+abbrev pub next_unit : State → ℕ → ℕ
+next_unit s c = c * s.limits.units + (pass_at s c).claimed
+
+-- what a pass holds after a claim with this answer
+abbrev pub held_after : Claimed → Option ℕ
+held_after (claimed.Work w) = Some w.unit
+held_after claimed.Idle = None
+held_after claimed.NoUnit = None
+
+-- one call, with its answer
+pub data Call : Type 0 where
+  CallSubmit : ℕ → ℕ → ℕ → ℕ → Result ℕ Refusal → Call
+  CallClaim : ℕ → ℕ → Result Claimed Refusal → Call
+  CallCommit : ℕ → List DraftView → Result Outcome Refusal → Call
+  CallAbort : ℕ → Ended → Call
+  CallKill : ℕ → ℕ → Result KilledAnswer Refusal → Call
+  CallRead : ℕ → Result Look Refusal → Call
+
+-- the state after an event of pass c, which has then used this
+abbrev pub moved : State → Event → ℕ → PassState → State
+moved s e c used = record { limits = s.limits; history = s.history ++ e ∷ []; passes = slice_set s.passes c used }
+
+-- the state after a call of pass c without an event, which has then used this
+abbrev pub with_pass : State → ℕ → PassState → State
+with_pass s c used = record { limits = s.limits; history = s.history; passes = slice_set s.passes c used }
+
+-- a submit went through: the pass's next row is a new request
+pub record Submits (s : State) (c stage key amount id : ℕ) (t : State) : Type 0 where
+  pub room : (pass_at s c).drawn < s.limits.rows
+  pub next : id ≡ next_row s c
+  pub step : Step s.limits s.history (Enqueue c (request id stage key amount))
+  pub after : t ≡ moved s (Enqueue c (request id stage key amount)) c (record { drawn = (pass_at s c).drawn + 1; claimed = (pass_at s c).claimed; holding = (pass_at s c).holding })
+
+-- a submit is refused for its stage, then for want of a row, then for want of memory
+abbrev pub RefusesSubmit : State → ℕ → ℕ → Refusal → Type 0
+RefusesSubmit s c stage refusal.NoMemory = IsServerStage stage × ((pass_at s c).drawn < s.limits.rows)
+RefusesSubmit s c stage refusal.BadLimits = ⊥
+RefusesSubmit s c stage refusal.BadStage = ¬ IsServerStage stage
+RefusesSubmit s c stage refusal.NotThere = ⊥
+RefusesSubmit s c stage (refusal.Consumed u) = ⊥
+RefusesSubmit s c stage refusal.AlreadyKilled = ⊥
+RefusesSubmit s c stage refusal.Full = IsServerStage stage × (s.limits.rows ≤ (pass_at s c).drawn)
+
+-- element e of this stage waits, with this many attempts so far
+pub record Waits (s : State) (stage : ℕ) (e : Element) (attempts : ℕ) : Type 0 where
+  pub born : element_of s.history e.id ≡ Some e
+  pub stage_is : e.stage ≡ stage
+  pub waits : status_of s.limits.attempts s.history e.id ≡ Waiting attempts
+
+-- a claim took work: of the waiting elements of the stage the one with the least id, by the pass's next unit
+pub record Takes (s : State) (c stage : ℕ) (w : Work) (t : State) : Type 0 where
+  pub room : (pass_at s c).claimed < s.limits.units
+  pub next : w.unit ≡ next_unit s c
+  pub waiting : Waits s stage w.element (w.attempt - 1)
+  pub least : (e : Element) (n : ℕ) → Waits s stage e n → w.element.id ≤ e.id
+  pub step : Step s.limits s.history (Claim c w.unit w.element.id w.attempt)
+  pub after : t ≡ moved s (Claim c w.unit w.element.id w.attempt) c (record { drawn = (pass_at s c).drawn; claimed = (pass_at s c).claimed + 1; holding = Some w.unit })
+
+-- a claim takes work, or is idle where nothing waits, or finds the pass's units used up
+abbrev pub Claims : State → ℕ → ℕ → Claimed → State → Type 0
+Claims s c stage (claimed.Work w) t = Takes s c stage w t
+Claims s c stage claimed.Idle t = (t ≡ s) × ((pass_at s c).claimed < s.limits.units) × ((e : Element) (n : ℕ) → ¬ Waits s stage e n)
+Claims s c stage claimed.NoUnit t = (t ≡ s) × (s.limits.units ≤ (pass_at s c).claimed)
+
+-- what pass c has used when it has no unit in hand any more, and so many rows drawn
+abbrev pub free_pass : State → ℕ → ℕ → PassState
+free_pass s c drawn = record { drawn = drawn; claimed = (pass_at s c).claimed; holding = None }
+
+-- the root of the element that unit u claimed
+abbrev pub root_of : List Event → ℕ → ℕ
+root_of h u = option_map_or (λ (e : Element). e.root) (option_and_then (λ (t : UnitClaim). element_of h t.item) (claim_of h u)) 0
+
+-- the outputs that a commit of unit u by pass c makes of these drafts
+abbrev pub made_of : State → ℕ → ℕ → List DraftView → List Element
+made_of s c u drafts = outputs u (root_of s.history u) (next_row s c) drafts
+
+-- a commit went through: the drafts are born in the pass's next rows, with the root of the element that the unit claimed
+pub record Commits (s : State) (c u : ℕ) (drafts : List DraftView) (first count : ℕ) (t : State) : Type 0 where
+  pub room : (pass_at s c).drawn + length drafts ≤ s.limits.rows
+  pub count_is : count ≡ length drafts
+  pub first_is : first ≡ (if length drafts == 0 then 0 else next_row s c)
+  pub step : Step s.limits s.history (Commit c u (made_of s c u drafts))
+  pub after : t ≡ moved s (Commit c u (made_of s c u drafts)) c (free_pass s c ((pass_at s c).drawn + length drafts))
+
+-- the unit in hand ends by an Abort, unless another pass has aborted it
+abbrev pub Leaves : State → ℕ → ℕ → State → Type 0
+Leaves s c u t =
+    (Step s.limits s.history (Abort c u) × (t ≡ moved s (Abort c u) c (free_pass s c (pass_at s c).drawn)))
+    ⊎ ((end_of s.history u ≡ Some Aborted) × (t ≡ with_pass s c (free_pass s c (pass_at s c).drawn)))
+
+-- a commit is full where too few rows are left, then lost where another pass has aborted the unit, and else goes through
+abbrev pub Ends : State → ℕ → ℕ → List DraftView → Outcome → State → Type 0
+Ends s c u drafts (outcome.Committed first count) t = Commits s c u drafts first count t
+Ends s c u drafts outcome.Lost t =
+    ((pass_at s c).drawn + length drafts ≤ s.limits.rows) × (end_of s.history u ≡ Some Aborted) × (t ≡ with_pass s c (free_pass s c ((pass_at s c).drawn + length drafts)))
+Ends s c u drafts outcome.Full t = (s.limits.rows < (pass_at s c).drawn + length drafts) × Leaves s c u t
+
+-- a commit that is neither full nor lost is refused for want of memory alone
+abbrev pub RefusesCommit : State → ℕ → ℕ → List DraftView → Refusal → Type 0
+RefusesCommit s c u drafts refusal.NoMemory = ((pass_at s c).drawn + length drafts ≤ s.limits.rows) × (end_of s.history u ≢ Some Aborted)
+RefusesCommit s c u drafts refusal.BadLimits = ⊥
+RefusesCommit s c u drafts refusal.BadStage = ⊥
+RefusesCommit s c u drafts refusal.NotThere = ⊥
+RefusesCommit s c u drafts (refusal.Consumed v) = ⊥
+RefusesCommit s c u drafts refusal.AlreadyKilled = ⊥
+RefusesCommit s c u drafts refusal.Full = ⊥
+
+-- an abort goes through, unless another pass has aborted the unit
+abbrev pub GivesUp : State → ℕ → ℕ → Ended → State → Type 0
+GivesUp s c u ended.Aborted t = Step s.limits s.history (Abort c u) × (t ≡ moved s (Abort c u) c (free_pass s c (pass_at s c).drawn))
+GivesUp s c u ended.Already t = (end_of s.history u ≡ Some Aborted) × (t ≡ with_pass s c (free_pass s c (pass_at s c).drawn))
+
+-- a look shows the born element with this id, and its status
+pub record Shows (s : State) (id : ℕ) (look : Look) : Type 0 where
+  pub element : element_of s.history id ≡ Some look.element
+  pub status : look.status ≡ status_of s.limits.attempts s.history id
+
+-- a read is refused where no such element is born
+abbrev pub RefusesRead : State → ℕ → Refusal → Type 0
+RefusesRead s id refusal.NoMemory = ⊥
+RefusesRead s id refusal.BadLimits = ⊥
+RefusesRead s id refusal.BadStage = ⊥
+RefusesRead s id refusal.NotThere = element_of s.history id ≡ None
+RefusesRead s id (refusal.Consumed u) = ⊥
+RefusesRead s id refusal.AlreadyKilled = ⊥
+RefusesRead s id refusal.Full = ⊥
+
+-- the state with an event more, and the passes as they were
+abbrev pub extended : State → Event → State
+extended s e = record { limits = s.limits; history = s.history ++ e ∷ []; passes = s.passes }
+
+-- a kill by pass c went through, after so many Aborts of its own: none where nobody held the element, and else one, of the unit that held it
+abbrev pub Kills : State → ℕ → ℕ → ℕ → State → Type 0
+Kills s c i zero t = Step s.limits s.history (Kill c i) × (t ≡ extended s (Kill c i))
+Kills s c i (suc zero) t =
+    (u : ℕ) × (n : ℕ) × (status_of s.limits.attempts s.history i ≡ Held u n) × Step s.limits s.history (Abort c u)
+    × Step s.limits (s.history ++ Abort c u ∷ []) (Kill c i) × (t ≡ extended (extended s (Abort c u)) (Kill c i))
+Kills s c i (suc (suc k)) t = ⊥
+
+-- a kill is refused where no such element is born, or it is consumed or killed
+abbrev pub RefusesKill : State → ℕ → Refusal → Type 0
+RefusesKill s i refusal.NoMemory = ⊥
+RefusesKill s i refusal.BadLimits = ⊥
+RefusesKill s i refusal.BadStage = ⊥
+RefusesKill s i refusal.NotThere = element_of s.history i ≡ None
+RefusesKill s i (refusal.Consumed u) = (e : Element) × (element_of s.history i ≡ Some e) × (status_of s.limits.attempts s.history i ≡ Consumed u)
+RefusesKill s i refusal.AlreadyKilled = (e : Element) × (element_of s.history i ≡ Some e) × (status_of s.limits.attempts s.history i ≡ Killed)
+RefusesKill s i refusal.Full = ⊥
+
+-- the call, asked of a manager in state s, may have this answer and leave it in state t
+abbrev pub Answers : State → Call → State → Type 0
+Answers s (CallSubmit c stage key amount r) t = MatchResult r (λ id. Submits s c stage key amount id t) (λ why. RefusesSubmit s c stage why × (t ≡ s))
+Answers s (CallClaim c stage r) t = MatchResult r (λ a. Claims s c stage a t) (λ why. ⊥)
+Answers s (CallCommit c drafts r) t = (u : ℕ) × ((pass_at s c).holding ≡ Some u) × MatchResult r (λ a. Ends s c u drafts a t) (λ why. RefusesCommit s c u drafts why × (t ≡ s))
+Answers s (CallAbort c a) t = (u : ℕ) × ((pass_at s c).holding ≡ Some u) × GivesUp s c u a t
+Answers s (CallKill c i r) t = MatchResult r (λ k. Kills s c i k.units_aborted t) (λ why. RefusesKill s i why × (t ≡ s))
+Answers s (CallRead id r) t = MatchResult r (Shows s id) (RefusesRead s id) × (t ≡ s)
+
+-- these calls were asked one after another, from state s to state t
+abbrev pub Run : State → List Call → State → Type 0
+Run s [] t = t ≡ s
+Run s (call ∷ calls) t = (mid : State) × Answers s call mid × Run mid calls t
+
+-- a run of calls from the start leaves a legal history
+abbrev pub RunsAreLegal : Type 0
+RunsAreLegal = (l : Limits) (calls : List Call) (t : State) → Run (start l) calls t → (t.limits ≡ l) × IsLegal l t.history
+
+-- a run only adds events
+abbrev pub RunsGrow : Type 0
+RunsGrow = (s : State) (calls : List Call) (t : State) → Run s calls t → IsPrefix s.history t.history

@@ -1,0 +1,10 @@
+//! The manager of one thread: what its calls may answer, the same computed, and the manager itself.
+#![tactic(auto)]
+
+pub mod history;
+pub mod laws;
+mod looks;
+pub mod pass_state;
+pub mod plain;
+#[cfg(test)]
+mod tests;

@@ -1,0 +1,298 @@
+//! The manager of one thread.
+ghost use Rattle.std.specs.Prelude.{◌≡◌, ℕ, ◌<◌, ◌≤◌, ◌↔◌, ◌⊎◌, length, IfOk, IfErr, IsSome, replicate};
+ghost use Rattle.tp_plain.specs.Noted.{event_of};
+ghost use Rattle.tp_plain.specs.Computed.{IsComputed, IsComputedOk, submit_of, claim_of_stage, commit_of, abort_of, kill_of, read_of};
+ghost use Rattle.tp_plain.specs.OneThread.{Answers, CallSubmit, CallAbort, CallClaim, CallCommit, CallKill, CallRead, extended, start, fresh_pass, held_after, pass_at};
+ghost use Rattle.tp_plain.specs.Reached.{IsQuiet, IsReached};
+ghost use Rattle.tp_model.specs.Steps.{AreLimits, IsServerStage, Step, rows_of};
+
+use crate::history::{History, Note};
+use crate::looks::{
+    apply, attempts_of, first_of, fresh_looks, held_by, look_of, next_waiting, outputs_of,
+};
+use crate::pass_state::PassState;
+use std::alloc::{AllocError, Global};
+use std::marker::Model;
+use tp_model::types::{
+    Claimed, Draft, Element, Ended, Killed, Limits, Look, Outcome, Refusal, Status, Work,
+};
+
+/// The manager of one thread. Contracts see it as its limits, its history and what its passes have used.
+#[derive(Drop)]
+pub struct Plain {
+    alloc: Global,
+    limits: Limits,
+    looks: Vec<Look>,
+    passes: Vec<PassState>,
+    history: History,
+}
+
+impl Model for Plain {
+    ghost use Rattle.std.specs.Prelude.{◌≡◌, map};
+    ghost use Rattle.tp_plain.specs.OneThread.{State};
+    ghost use Rattle.tp_plain.specs.Reached.{IsReached};
+    ghost use Rattle.tp_plain.specs.Looks.{look_at};
+    ghost use Rattle.tp_model.specs.History.{born};
+
+    ghost Value = { State };
+
+    ghost view = { λ p. record { limits = p.limits; history = p.history.events; passes = p.passes.items } };
+
+    ghost invariant = { λ p. IsReached (record { limits = p.limits; history = p.history.events; passes = p.passes.items }) × (p.looks.items ≡ map (look_at p.limits.attempts p.history.events) (born p.history.events)) };
+}
+
+impl Plain {
+    /// A manager with these limits, in which nothing happened.
+    pub fn new(alloc: Global, limits: Limits) -> Result<Plain, Refusal>
+        ensures ok { IfOk result (λ p. p ≡ start limits) }
+        ensures valid { IfOk result (λ _. AreLimits limits) }
+        ensures bad { (result ≡ Err Refusal.BadLimits) ↔ (¬ AreLimits limits) }
+        ensures only { IfErr result (λ why. (why ≡ Refusal.BadLimits) ⊎ (why ≡ Refusal.NoMemory)) }
+    {
+        if !limits.is_valid() {
+            return Err(Refusal::BadLimits);
+        }
+        let Ok(passes) = fresh_passes(alloc, limits.parts) else {
+            return Err(Refusal::NoMemory);
+        };
+        Ok(Plain {
+            alloc,
+            limits,
+            looks: Vec::new(alloc),
+            passes,
+            history: History::new(),
+        })
+    }
+
+    /// How many elements there can be: the ids are below this.
+    pub fn capacity(&self) -> u32
+        ensures { result ≡ rows_of self.now.limits }
+    {
+        u32::from(self.limits.parts) * u32::from(self.limits.rows)
+    }
+
+    /// A client puts a new request into a stage.
+    pub fn submit(&mut self, caller: u16, stage: u8, key: u64, amount: u64) -> Result<u32, Refusal>
+        requires { caller < self.old.limits.parts }
+        ensures answer { Answers self.old (CallSubmit caller stage key amount result) self.new }
+        ensures computed { IsComputed self.old self.new result (submit_of self.old caller stage key amount) }
+        ensures hands { (c : ℕ) → (pass_at self.new c).holding ≡ (pass_at self.old c).holding }
+        ensures limits { self.new.limits ≡ self.old.limits }
+    {
+        if stage < 1 || stage > 14 {
+            return Err(Refusal::BadStage);
+        }
+        let used = self.passes[caller as usize];
+        if used.drawn >= self.limits.rows {
+            return Err(Refusal::Full);
+        }
+        let id = caller as u32 * self.limits.rows as u32 + used.drawn as u32;
+        let element = Element {
+            id,
+            stage,
+            root: id,
+            key,
+            amount,
+            by: None,
+        };
+        let look = Look {
+            element,
+            status: Status::Waiting { attempts: 0 },
+        };
+        let Ok(()) = self.looks.push(look) else {
+            return Err(Refusal::NoMemory);
+        };
+        self.passes[caller as usize] = PassState {
+            drawn: used.drawn + 1,
+            claimed: used.claimed,
+            holding: used.holding,
+        };
+        self.history = self.history.then(&Note::Enqueue(caller, element));
+        Ok(id)
+    }
+
+    /// A pass takes the waiting element of a stage that has the least id, by its next unit.
+    pub fn claim(&mut self, caller: u16, stage: u8) -> Result<Claimed, Refusal>
+        requires pass { caller < self.old.limits.parts }
+        requires server { IsServerStage stage }
+        requires free { (pass_at self.old caller).holding ≡ None }
+        ensures answer { Answers self.old (CallClaim caller stage result) self.new }
+        ensures computed { IsComputedOk self.old self.new result (claim_of_stage self.old caller stage) }
+        ensures hand { IfOk result (λ a. (pass_at self.new caller).holding ≡ held_after a) }
+        ensures limits { self.new.limits ≡ self.old.limits }
+    {
+        let used = self.passes[caller as usize];
+        if used.claimed >= self.limits.units {
+            return Ok(Claimed::NoUnit);
+        }
+        let Some(look) = next_waiting(&self.looks, stage) else {
+            return Ok(Claimed::Idle);
+        };
+        let unit = caller * self.limits.units + used.claimed;
+        let attempt = attempts_of(look.status) + 1;
+        let note = Note::Claim(caller, unit, look.element.id, attempt);
+        apply(self.limits.attempts, &mut self.looks, &note);
+        self.passes[caller as usize] = PassState {
+            drawn: used.drawn,
+            claimed: used.claimed + 1,
+            holding: Some(unit),
+        };
+        self.history = self.history.then(&note);
+        Ok(Claimed::Work(Work {
+            unit,
+            element: look.element,
+            attempt,
+        }))
+    }
+
+    /// A pass ends the unit in its hand, and its drafts become elements.
+    pub fn commit(&mut self, caller: u16, drafts: &[Draft]) -> Result<Outcome, Refusal>
+        requires pass { caller < self.old.limits.parts }
+        requires holding { IsSome (pass_at self.old caller).holding }
+        requires few { length drafts.now ≤ 4 }
+        ensures answer { Answers self.old (CallCommit caller drafts.now result) self.new }
+        ensures computed { IsComputedOk self.old self.new result (commit_of self.old caller drafts.now) }
+        ensures free { IfOk result (λ _. (pass_at self.new caller).holding ≡ None) }
+        ensures limits { self.new.limits ≡ self.old.limits }
+    {
+        let used = self.passes[caller as usize];
+        if used.drawn as usize + drafts.len() > self.limits.rows as usize {
+            let _ended = self.abort(caller);
+            return Ok(Outcome::Full);
+        }
+        let drawn = used.drawn + drafts.len() as u16;
+        let Some(unit) = used.holding else {
+            return Ok(Outcome::Lost);
+        };
+        let Some(look) = held_by(&self.looks, unit) else {
+            self.passes[caller as usize] = PassState {
+                drawn,
+                claimed: used.claimed,
+                holding: None,
+            };
+            return Ok(Outcome::Lost);
+        };
+        let first = caller as u32 * self.limits.rows as u32 + used.drawn as u32;
+        let Ok(outs) = outputs_of(self.alloc, unit, look.element.root, first, drafts) else {
+            return Err(Refusal::NoMemory);
+        };
+        let Ok(fresh) = fresh_looks(self.alloc, &outs) else {
+            return Err(Refusal::NoMemory);
+        };
+        let Ok(()) = self.looks.extend_from_slice(&fresh) else {
+            return Err(Refusal::NoMemory);
+        };
+        let note = Note::Commit(caller, unit, &outs);
+        apply(self.limits.attempts, &mut self.looks, &note);
+        self.passes[caller as usize] = PassState {
+            drawn,
+            claimed: used.claimed,
+            holding: None,
+        };
+        self.history = self.history.then(&note);
+        Ok(Outcome::Committed {
+            first: first_of(drafts.len(), first),
+            count: drafts.len() as u8,
+        })
+    }
+
+    /// A pass gives up the unit in its hand.
+    pub fn abort(&mut self, caller: u16) -> Ended
+        requires pass { caller < self.old.limits.parts }
+        requires holding { IsSome (pass_at self.old caller).holding }
+        ensures answer { Answers self.old (CallAbort caller result) self.new }
+        ensures computed { (result ≡ (abort_of self.old caller).0) × (self.new ≡ (abort_of self.old caller).1) }
+        ensures free { (pass_at self.new caller).holding ≡ None }
+        ensures limits { self.new.limits ≡ self.old.limits }
+    {
+        let used = self.passes[caller as usize];
+        let Some(unit) = used.holding else {
+            return Ended::Already;
+        };
+        let held = held_by(&self.looks, unit);
+        self.passes[caller as usize] = PassState {
+            drawn: used.drawn,
+            claimed: used.claimed,
+            holding: None,
+        };
+        match held {
+            None => Ended::Already,
+            Some(_) => {
+                let note = Note::Abort(caller, unit);
+                apply(self.limits.attempts, &mut self.looks, &note);
+                self.history = self.history.then(&note);
+                Ended::Aborted
+            }
+        }
+    }
+
+    /// A pass kills an element that waits or is parked. A unit that holds it is aborted first.
+    pub fn kill(&mut self, caller: u16, id: u32) -> Result<Killed, Refusal>
+        requires pass { caller < self.old.limits.parts }
+        requires free { (pass_at self.old caller).holding ≡ None }
+        ensures answer { Answers self.old (CallKill caller id result) self.new }
+        ensures computed { (result ≡ (kill_of self.old caller id).0) × (self.new ≡ (kill_of self.old caller id).1) }
+        ensures limits { self.new.limits ≡ self.old.limits }
+    {
+        self.show_reached();
+        let Ok(look) = self.read(id) else {
+            return Err(Refusal::NotThere);
+        };
+        match look.status {
+            Status::Consumed { unit } => Err(Refusal::Consumed { unit }),
+            Status::Killed => Err(Refusal::AlreadyKilled),
+            Status::Held { unit, attempt: _ } => {
+                self.mark(&Note::Abort(caller, unit));
+                self.mark(&Note::Kill(caller, id));
+                Ok(Killed { units_aborted: 1 })
+            }
+            _ => {
+                self.mark(&Note::Kill(caller, id));
+                Ok(Killed { units_aborted: 0 })
+            }
+        }
+    }
+
+    // What holds of each manager.
+    fn show_reached(&self)
+        ensures { IsReached self.now }
+    {
+        let _limits = &self.limits;
+    }
+
+    // An Abort or a Kill by a pass with nothing in its hand.
+    fn mark(&mut self, note: &Note<'_>)
+        requires step { Step self.old.limits self.old.history (event_of note.now) }
+        requires quiet { IsQuiet self.old (event_of note.now) }
+        ensures { self.new ≡ extended self.old (event_of note.now) }
+    {
+        apply(self.limits.attempts, &mut self.looks, note);
+        self.history = self.history.then(note);
+    }
+
+    /// The element with this id, and how it stands.
+    pub fn read(&self, id: u32) -> Result<Look, Refusal>
+        ensures answer { Answers self.now (CallRead id result) self.now }
+        ensures computed { result ≡ read_of self.now id }
+    {
+        match look_of(&self.looks, id) {
+            Some(look) => Ok(look),
+            None => Err(Refusal::NotThere),
+        }
+    }
+}
+
+// So many passes that have done nothing.
+fn fresh_passes(alloc: Global, parts: u16) -> Result<Vec<PassState>, AllocError>
+    ensures { IfOk result (λ v. v.items ≡ replicate parts fresh_pass) }
+{
+    let mut passes = Vec::with_capacity(alloc, parts as usize)?;
+    for _ in 0..parts {
+        passes.push(PassState {
+            drawn: 0,
+            claimed: 0,
+            holding: None,
+        })?;
+    }
+    Ok(passes)
+}

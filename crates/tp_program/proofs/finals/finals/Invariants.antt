@@ -1,5 +1,0 @@
-use Rattle.tp_program.specs.Performing.{Writes}
-use Rattle.tp_program.proofs.finals.finals.Given as goal
-
-abbrev pub invariant-loop-i : goal.invariant-loop-i
-invariant-loop-i g l = Writes l.i (g.W.Sink.contents l.fn.writer) (g.W.Sink.contents l.writer)

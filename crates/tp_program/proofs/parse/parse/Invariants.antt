@@ -1,8 +1,0 @@
-use Rattle.std.proofs.Common.{◌≡◌, ◌+◌, drop, map}
-use Rattle.tp_program.specs.Text.{lines}
-use Rattle.tp_program.specs.Grammar.{lines_from, no_lines}
-use Rattle.tp_program.specs.Script.{script_view}
-use Rattle.tp_program.proofs.parse.parse.Given as goal
-
-abbrev pub invariant-loop-text : goal.invariant-loop-text
-invariant-loop-text l = (lines_from l.reach l.line (map (λ x. x.now) (drop l.text-index l.text-items)) (script_view l.script) ≡ lines_from l.reach 1 (lines l.bytes) no_lines) × (l.line ≡ l.text-index + 1)

@@ -1,9 +1,0 @@
-use Rattle.std.proofs.Common.{◌≡◌, take, map}
-use Rattle.std.specs.Prelude.{string_bytes}
-use Rattle.tp_program.specs.Script.{server_view}
-use Rattle.tp_program.specs.Running.{state}
-use Rattle.tp_program.specs.Report.{final_lines}
-use Rattle.tp_program.proofs.run.Run.finals.Given as goal
-
-abbrev pub invariant-loop-server : goal.invariant-loop-server
-invariant-loop-server l = string_bytes l.text ≡ final_lines (map server_view (take l.server-index l.servers)) (state l.self)

@@ -1,0 +1,3 @@
+pub mod PlainReport
+pub mod PlainRunning
+pub mod Whole

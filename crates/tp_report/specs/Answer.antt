@@ -1,0 +1,124 @@
+-- The texts of answers, and the lines of a report.
+use Rattle.std.specs.Prelude.{ℕ, List, Option, Some, None, codes, decimal}
+use Rattle.std.specs.List.{flat_map}
+use Rattle.tp_model.specs.declared.types.Element.{Element}
+use Rattle.tp_model.specs.declared.types.Look.{Look}
+use Rattle.tp_model.specs.declared.types.Refusal.{Refusal}
+use Rattle.tp_model.specs.declared.types.Refusal.TheVariants as refusal
+use Rattle.tp_model.specs.declared.types.Status.{Status}
+use Rattle.tp_model.specs.declared.types.Status.TheVariants as status
+use Rattle.tp_server.specs.Names.{declined_name}
+use Rattle.tp_report.specs.declared.answer.Answer.{Answer}
+use Rattle.tp_report.specs.declared.answer.Answer.TheVariants as answer
+use Rattle.tp_report.specs.declared.answer.ServerAnswer.{ServerAnswer}
+use Rattle.tp_report.specs.declared.answer.ServerAnswer.TheVariants as server
+use Rattle.tp_desk.specs.declared.turned.Turned.{Turned}
+use Rattle.tp_desk.specs.declared.turned.Turned.TheVariants as turned
+use Rattle.tp_script.specs.Fault.{◌<>◌}
+
+-- a text as a line
+abbrev pub line : List ℕ → List ℕ
+line text = text <> codes "\n"
+
+-- ---- servers
+
+-- what a turn came to
+abbrev pub turned_text : Turned → List ℕ
+turned_text turned.Idle = codes "idle"
+turned_text turned.NoUnit = codes "nounit"
+turned_text (turned.Done unit element first count) = codes "done " <> decimal element <> codes " unit " <> decimal unit <> codes " outputs " <> decimal first <> codes " " <> decimal count
+turned_text (turned.Refused element why) = codes "refused " <> decimal element <> codes " " <> declined_name why
+turned_text (turned.Lost element) = codes "lost " <> decimal element
+turned_text (turned.Full element) = codes "full " <> decimal element
+
+-- what a command on a server came to
+abbrev pub server_text : ServerAnswer → List ℕ
+server_text (server.Turned turned) = turned_text turned
+server_text (server.Work element unit attempt) = codes "work " <> decimal element <> codes " unit " <> decimal unit <> codes " attempt " <> decimal attempt
+server_text server.Busy = codes "busy"
+server_text server.NoneOpen = codes "none"
+server_text server.Ready = codes "ready"
+server_text (server.Aborted element) = codes "aborted " <> decimal element
+server_text (server.Already element) = codes "already " <> decimal element
+server_text server.Dropped = codes "dropped"
+server_text server.Ended = codes "ended"
+
+-- the same, with the server's name
+abbrev pub named_text : List ℕ → ServerAnswer → List ℕ
+named_text name answer = name <> codes " " <> server_text answer
+
+-- ---- elements
+
+-- a refused call
+abbrev pub refusal_text : Refusal → List ℕ
+refusal_text refusal.NoMemory = codes "refused 1 NoMemory"
+refusal_text refusal.BadLimits = codes "refused 2 BadLimits"
+refusal_text refusal.BadStage = codes "refused 3 BadStage"
+refusal_text refusal.NotThere = codes "refused 4 NotThere"
+refusal_text (refusal.Consumed unit) = codes "refused 5 Consumed " <> decimal unit
+refusal_text refusal.AlreadyKilled = codes "refused 6 AlreadyKilled"
+refusal_text refusal.Full = codes "refused 7 Full"
+
+-- a submitted element
+abbrev pub submitted_text : ℕ → List ℕ
+submitted_text id = codes "submitted " <> decimal id
+
+-- who made an element
+abbrev pub maker_text : Option ℕ → List ℕ
+maker_text None = codes "client"
+maker_text (Some unit) = decimal unit
+
+-- how an element stands
+abbrev pub status_text : Status → List ℕ
+status_text (status.Waiting attempts) = codes "waiting " <> decimal attempts
+status_text (status.Held unit attempt) = codes "held " <> decimal unit <> codes " " <> decimal attempt
+status_text (status.Consumed unit) = codes "consumed " <> decimal unit
+status_text (status.Parked attempts) = codes "parked " <> decimal attempts
+status_text status.Killed = codes "killed"
+
+-- an element as it was read
+abbrev pub element_text : Element → List ℕ
+element_text e = decimal e.id <> codes " stage " <> decimal e.stage <> codes " root " <> decimal e.root <> codes " key " <> decimal e.key <> codes " amount " <> decimal e.amount <> codes " by "
+
+abbrev pub look_text : Look → List ℕ
+look_text look = element_text look.element <> maker_text look.element.by <> codes " " <> status_text look.status
+
+-- the replies to a request
+abbrev pub reply_text : Element → List ℕ
+reply_text e = codes " " <> decimal e.id <> codes ":" <> decimal e.key <> codes ":" <> decimal e.amount
+
+abbrev pub replies_text : ℕ → List Element → List ℕ
+replies_text root replies = (codes "replies " <> decimal root) <> flat_map reply_text replies
+
+-- the parked elements
+abbrev pub errors_text : List ℕ → List ℕ
+errors_text ids = codes "errors" <> flat_map (λ id. codes " " <> decimal id) ids
+
+-- ---- registers
+
+-- a register of a server
+abbrev pub balance_text : List ℕ → ℕ → Option ℕ → List ℕ
+balance_text name k (Some value) = codes "balance " <> name <> codes " " <> decimal k <> codes " " <> decimal value
+balance_text name k None = codes "balance " <> name <> codes " " <> decimal k <> codes " none"
+
+-- the registers of a server at the end
+abbrev pub final_text : List ℕ → List ℕ → List ℕ
+final_text name registers = (codes "final " <> name) <> flat_map (λ v. codes " " <> decimal v) registers
+
+-- ---- all of them
+
+-- the text of an answer
+abbrev pub answer_text : Answer → List ℕ
+answer_text (answer.Submitted id) = submitted_text id
+answer_text (answer.Refused why) = refusal_text why
+answer_text (answer.Server name told) = named_text name.now told
+answer_text (answer.Replies root replies) = replies_text root replies.now
+answer_text (answer.Killed id aborted) = codes "killed " <> decimal id <> codes " aborted " <> decimal aborted
+answer_text (answer.Read look) = look_text look
+answer_text (answer.Errors ids) = errors_text ids.now
+answer_text (answer.Balance name k value) = balance_text name.now k value
+answer_text (answer.Sum k sum) = codes "sum " <> decimal k <> codes " " <> decimal sum
+answer_text (answer.Count waiting held consumed parked killed) = codes "waiting " <> decimal waiting <> codes " held " <> decimal held <> codes " consumed " <> decimal consumed <> codes " parked " <> decimal parked <> codes " killed " <> decimal killed
+answer_text (answer.Raced submitted) = codes "race submitted " <> decimal submitted
+answer_text answer.Drained = codes "drained"
+answer_text (answer.Final name registers) = final_text name.now registers.now

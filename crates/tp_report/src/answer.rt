@@ -1,0 +1,117 @@
+//! The answers that commands come to. Each is one line of the report; `display.rt` says how they are told.
+ghost use Rattle.std.specs.Prelude.{◌≡◌, IfOk, string_bytes};
+ghost use Rattle.tp_script.specs.Fault.{refused_text};
+ghost use Rattle.tp_report.specs.Answer.{answer_text, line};
+ghost use Rattle.tp_report.specs.Lines.{IsLine};
+
+use std::alloc::{AllocError, Global};
+use std::string::String;
+use tp_desk::Turned;
+use tp_model::types::{Element, Look, Refusal};
+use tp_script::Refused;
+
+/// What a command on a server came to. Elements are given by their ids.
+#[derive(Clone, Copy, Debug, PartialEq, Eq)]
+pub enum ServerAnswer {
+    /// A turn, or the part of it that was asked for, came to this.
+    Turned(Turned),
+    /// A new unit of work took the element, as the `attempt`-th to do so.
+    Work {
+        element: u32,
+        unit: u16,
+        attempt: u8,
+    },
+    /// A unit of work is open, or is prepared already.
+    Busy,
+    /// No unit of work is open.
+    NoneOpen,
+    /// The work is prepared.
+    Ready,
+    /// The unit that held the element is aborted.
+    Aborted {
+        element: u32,
+    },
+    /// Another caller had aborted the unit that held the element.
+    Already {
+        element: u32,
+    },
+    /// The desk is dropped.
+    Dropped,
+    /// The desk had been dropped before, and nothing was done.
+    Ended,
+}
+
+/// What a command came to.
+#[derive(Clone, Copy, Debug, PartialEq, Eq)]
+pub enum Answer<'a> {
+    /// The submitted element has this id.
+    Submitted {
+        id: u32,
+    },
+    /// The manager refused the call.
+    Refused(Refusal),
+    /// The answer of the server of this name.
+    Server {
+        name: &'a str,
+        answer: ServerAnswer,
+    },
+    /// The replies to the request of this root.
+    Replies {
+        root: u32,
+        replies: &'a [Element],
+    },
+    /// The element is killed, and so many units that held it were aborted.
+    Killed {
+        id: u32,
+        aborted: u8,
+    },
+    /// An element as it was read.
+    Read(Look),
+    /// The ids of the parked elements.
+    Errors(&'a [u32]),
+    /// Register `k` of the server of this name, if it has one.
+    Balance {
+        name: &'a str,
+        k: u64,
+        value: Option<u64>,
+    },
+    /// The sum of register `k` over the servers.
+    Sum {
+        k: u64,
+        sum: u128,
+    },
+    /// How many elements stand in each way.
+    Count {
+        waiting: u32,
+        held: u32,
+        consumed: u32,
+        parked: u32,
+        killed: u32,
+    },
+    /// How many submits of a race's clients were accepted.
+    Raced {
+        submitted: u32,
+    },
+    /// Nothing is left for the servers.
+    Drained,
+    /// What the registers of the server of this name hold at the end.
+    Final {
+        name: &'a str,
+        registers: &'a [u64],
+    },
+}
+
+/// The line of an answer.
+pub fn line(alloc: Global, answer: Answer<'_>) -> Result<String, AllocError>
+    ensures text { IfOk result (λ s. string_bytes s ≡ line (answer_text answer.entry)) }
+    ensures line { IfOk result (λ s. IsLine (string_bytes s)) }
+{
+    format!(in alloc; "{answer}\n")
+}
+
+/// The line of a refused script.
+pub fn refused_line(alloc: Global, refused: Refused) -> Result<String, AllocError>
+    ensures { IfOk result (λ s. string_bytes s ≡ line (refused_text refused)) }
+{
+    format!(in alloc; "{refused}\n")
+}

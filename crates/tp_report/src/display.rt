@@ -1,0 +1,194 @@
+//! How answers are told: the one place where the texts of a report's lines stand.
+ghost use Rattle.std.specs.Prelude.{◌≡◌, Some};
+ghost use Rattle.std.specs.Fmt.{WritesOnOk};
+ghost use Rattle.tp_report.specs.Answer.{turned_text, server_text, refusal_text, maker_text, status_text, look_text, replies_text, errors_text, balance_text, final_text, answer_text};
+
+use crate::answer::{Answer, ServerAnswer};
+use std::fmt;
+use tp_desk::Turned;
+use tp_model::types::{Element, Look, Refusal, Status};
+
+// What a turn came to.
+fn turned<W: fmt::Write>(f: &mut fmt::Formatter<W>, turned: Turned) -> fmt::Result
+    ensures { WritesOnOk W.write_str_gives f.old result (turned_text turned) f.new }
+{
+    match turned {
+        Turned::Idle => write!(f, "idle"),
+        Turned::NoUnit => write!(f, "nounit"),
+        Turned::Done {
+            unit,
+            element,
+            first,
+            count,
+        } => write!(f, "done {element} unit {unit} outputs {first} {count}"),
+        Turned::Refused { element, why } => write!(f, "refused {element} {why}"),
+        Turned::Lost { element } => write!(f, "lost {element}"),
+        Turned::Full { element } => write!(f, "full {element}"),
+    }
+}
+
+impl fmt::Display for ServerAnswer {
+    ghost output = { λ answer. Some (server_text answer) };
+
+    fn fmt<W: fmt::Write>(&self, f: &mut fmt::Formatter<W>) -> fmt::Result {
+        match *self {
+            ServerAnswer::Turned(answer) => turned(f, answer),
+            ServerAnswer::Work {
+                element,
+                unit,
+                attempt,
+            } => write!(f, "work {element} unit {unit} attempt {attempt}"),
+            ServerAnswer::Busy => write!(f, "busy"),
+            ServerAnswer::NoneOpen => write!(f, "none"),
+            ServerAnswer::Ready => write!(f, "ready"),
+            ServerAnswer::Aborted { element } => write!(f, "aborted {element}"),
+            ServerAnswer::Already { element } => write!(f, "already {element}"),
+            ServerAnswer::Dropped => write!(f, "dropped"),
+            ServerAnswer::Ended => write!(f, "ended"),
+        }
+    }
+}
+
+// A refused call.
+fn refusal<W: fmt::Write>(f: &mut fmt::Formatter<W>, refusal: Refusal) -> fmt::Result
+    ensures { WritesOnOk W.write_str_gives f.old result (refusal_text refusal) f.new }
+{
+    match refusal {
+        Refusal::NoMemory => write!(f, "refused 1 NoMemory"),
+        Refusal::BadLimits => write!(f, "refused 2 BadLimits"),
+        Refusal::BadStage => write!(f, "refused 3 BadStage"),
+        Refusal::NotThere => write!(f, "refused 4 NotThere"),
+        Refusal::Consumed { unit } => write!(f, "refused 5 Consumed {unit}"),
+        Refusal::AlreadyKilled => write!(f, "refused 6 AlreadyKilled"),
+        Refusal::Full => write!(f, "refused 7 Full"),
+    }
+}
+
+// Who made an element.
+fn maker<W: fmt::Write>(f: &mut fmt::Formatter<W>, by: Option<u16>) -> fmt::Result
+    ensures { WritesOnOk W.write_str_gives f.old result (maker_text by) f.new }
+{
+    match by {
+        None => write!(f, "client"),
+        Some(unit) => write!(f, "{unit}"),
+    }
+}
+
+// How an element stands.
+fn status<W: fmt::Write>(f: &mut fmt::Formatter<W>, status: Status) -> fmt::Result
+    ensures { WritesOnOk W.write_str_gives f.old result (status_text status) f.new }
+{
+    match status {
+        Status::Waiting { attempts } => write!(f, "waiting {attempts}"),
+        Status::Held { unit, attempt } => write!(f, "held {unit} {attempt}"),
+        Status::Consumed { unit } => write!(f, "consumed {unit}"),
+        Status::Parked { attempts } => write!(f, "parked {attempts}"),
+        Status::Killed => write!(f, "killed"),
+    }
+}
+
+// An element as it was read.
+fn look<W: fmt::Write>(f: &mut fmt::Formatter<W>, look: Look) -> fmt::Result
+    ensures { WritesOnOk W.write_str_gives f.old result (look_text look) f.new }
+{
+    let Element {
+        id,
+        stage,
+        root,
+        key,
+        amount,
+        by,
+    } = look.element;
+    write!(
+        f,
+        "{id} stage {stage} root {root} key {key} amount {amount} by "
+    )?;
+    maker(f, by)?;
+    write!(f, " ")?;
+    status(f, look.status)
+}
+
+// The replies to a request.
+fn replies<W: fmt::Write>(f: &mut fmt::Formatter<W>, root: u32, replies: &[Element]) -> fmt::Result
+    ensures { WritesOnOk W.write_str_gives f.old result (replies_text root replies.now) f.new }
+{
+    write!(f, "replies {root}")?;
+    for reply in replies {
+        let Element {
+            id,
+            key,
+            amount,
+            ..
+        } = *reply;
+        write!(f, " {id}:{key}:{amount}")?;
+    }
+    Ok(())
+}
+
+// The parked elements.
+fn errors<W: fmt::Write>(f: &mut fmt::Formatter<W>, ids: &[u32]) -> fmt::Result
+    ensures { WritesOnOk W.write_str_gives f.old result (errors_text ids.now) f.new }
+{
+    write!(f, "errors")?;
+    for id in ids {
+        write!(f, " {id}")?;
+    }
+    Ok(())
+}
+
+// A register of a server.
+fn balance<W: fmt::Write>(
+    f: &mut fmt::Formatter<W>,
+    name: &str,
+    k: u64,
+    value: Option<u64>,
+) -> fmt::Result
+    ensures { WritesOnOk W.write_str_gives f.old result (balance_text name.now k value) f.new }
+{
+    match value {
+        Some(value) => write!(f, "balance {name} {k} {value}"),
+        None => write!(f, "balance {name} {k} none"),
+    }
+}
+
+// The registers of a server at the end.
+fn last<W: fmt::Write>(f: &mut fmt::Formatter<W>, name: &str, registers: &[u64]) -> fmt::Result
+    ensures { WritesOnOk W.write_str_gives f.old result (final_text name.now registers.now) f.new }
+{
+    write!(f, "final {name}")?;
+    for value in registers {
+        write!(f, " {value}")?;
+    }
+    Ok(())
+}
+
+impl fmt::Display for Answer<'_> {
+    ghost output = { λ answer. Some (answer_text answer) };
+
+    fn fmt<W: fmt::Write>(&self, f: &mut fmt::Formatter<W>) -> fmt::Result {
+        match *self {
+            Answer::Submitted { id } => write!(f, "submitted {id}"),
+            Answer::Refused(why) => refusal(f, why),
+            Answer::Server { name, answer } => write!(f, "{name} {answer}"),
+            Answer::Replies { root, replies: all } => replies(f, root, all),
+            Answer::Killed { id, aborted } => write!(f, "killed {id} aborted {aborted}"),
+            Answer::Read(shown) => look(f, shown),
+            Answer::Errors(ids) => errors(f, ids),
+            Answer::Balance { name, k, value } => balance(f, name, k, value),
+            Answer::Sum { k, sum } => write!(f, "sum {k} {sum}"),
+            Answer::Count {
+                waiting,
+                held,
+                consumed,
+                parked,
+                killed,
+            } => write!(
+                f,
+                "waiting {waiting} held {held} consumed {consumed} parked {parked} killed {killed}"
+            ),
+            Answer::Raced { submitted } => write!(f, "race submitted {submitted}"),
+            Answer::Drained => write!(f, "drained"),
+            Answer::Final { name, registers } => last(f, name, registers),
+        }
+    }
+}

@@ -1,0 +1,15 @@
+//! Reports: the answers that commands come to, their texts, and the writers that take their lines.
+#![tactic(auto)]
+
+mod answer;
+mod display;
+mod fault;
+mod refusal;
+mod sink;
+#[cfg(test)]
+mod tests;
+
+pub use answer::{Answer, ServerAnswer, line, refused_line};
+pub use fault::{Exit, Fault, RunFault, fault_of};
+pub use refusal::write_refusal;
+pub use sink::{Sink, StdSink, write_all};

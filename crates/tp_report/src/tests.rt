@@ -1,0 +1,3 @@
+//! The lines of answers.
+
+mod answers;

@@ -1,0 +1,190 @@
+//! The line of each answer.
+
+use crate::answer::{Answer, ServerAnswer, line, refused_line};
+use std::test::Fail;
+use tp_desk::Turned;
+use tp_model::types::{Element, Look, Refusal, Status};
+use tp_script::Refused;
+use tp_server::Declined;
+
+const REPLY: Element = Element {
+    id: 8,
+    stage: 15,
+    root: 0,
+    key: 7,
+    amount: 18446744073709551615,
+    by: Some(256),
+};
+
+const REQUEST: Element = Element {
+    id: 0,
+    stage: 1,
+    root: 0,
+    key: 0,
+    amount: 11,
+    by: None,
+};
+
+/// The answer of server `a`.
+fn of_a(answer: ServerAnswer) -> Answer<'static> {
+    Answer::Server { name: "a", answer }
+}
+
+/// A turn of server `a`.
+fn turn(turned: Turned) -> Answer<'static> {
+    of_a(ServerAnswer::Turned(turned))
+}
+
+#[test]
+fn lines_of_servers(rt: HostRuntime) -> Result<(), Fail> {
+    let done = Turned::Done {
+        unit: 256,
+        element: 0,
+        first: 8,
+        count: 1,
+    };
+    let work = ServerAnswer::Work {
+        element: 4,
+        unit: 512,
+        attempt: 2,
+    };
+    let short = Turned::Refused {
+        element: 0,
+        why: Declined::Short,
+    };
+    for (answer, want) in [
+        (turn(Turned::Idle), "a idle\n"),
+        (turn(Turned::NoUnit), "a nounit\n"),
+        (turn(done), "a done 0 unit 256 outputs 8 1\n"),
+        (turn(short), "a refused 0 Short\n"),
+        (turn(Turned::Lost { element: 4 }), "a lost 4\n"),
+        (turn(Turned::Full { element: 3 }), "a full 3\n"),
+        (of_a(ServerAnswer::Busy), "a busy\n"),
+        (of_a(work), "a work 4 unit 512 attempt 2\n"),
+        (of_a(ServerAnswer::Ready), "a ready\n"),
+        (of_a(ServerAnswer::NoneOpen), "a none\n"),
+        (of_a(ServerAnswer::Aborted { element: 9 }), "a aborted 9\n"),
+        (of_a(ServerAnswer::Already { element: 9 }), "a already 9\n"),
+        (of_a(ServerAnswer::Dropped), "a dropped\n"),
+        (of_a(ServerAnswer::Ended), "a ended\n"),
+    ] {
+        let text = line(rt.alloc(), answer)?;
+        assert_eq!(rt; text.as_str(), want);
+    }
+    Ok(())
+}
+
+#[test]
+fn lines_of_elements(rt: HostRuntime) -> Result<(), Fail> {
+    for (element, status, want) in [
+        (
+            REQUEST,
+            Status::Parked { attempts: 3 },
+            "0 stage 1 root 0 key 0 amount 11 by client parked 3\n",
+        ),
+        (
+            REQUEST,
+            Status::Waiting { attempts: 1 },
+            "0 stage 1 root 0 key 0 amount 11 by client waiting 1\n",
+        ),
+        (
+            REQUEST,
+            Status::Held {
+                unit: 257,
+                attempt: 2,
+            },
+            "0 stage 1 root 0 key 0 amount 11 by client held 257 2\n",
+        ),
+        (
+            REQUEST,
+            Status::Consumed { unit: 256 },
+            "0 stage 1 root 0 key 0 amount 11 by client consumed 256\n",
+        ),
+        (
+            REPLY,
+            Status::Killed,
+            "8 stage 15 root 0 key 7 amount 18446744073709551615 by 256 killed\n",
+        ),
+    ] {
+        let text = line(rt.alloc(), Answer::Read(Look { element, status }))?;
+        assert_eq!(rt; text.as_str(), want);
+    }
+    for (refusal, want) in [
+        (Refusal::BadStage, "refused 3 BadStage\n"),
+        (Refusal::NotThere, "refused 4 NotThere\n"),
+        (Refusal::Consumed { unit: 256 }, "refused 5 Consumed 256\n"),
+        (Refusal::AlreadyKilled, "refused 6 AlreadyKilled\n"),
+        (Refusal::Full, "refused 7 Full\n"),
+    ] {
+        let text = line(rt.alloc(), Answer::Refused(refusal))?;
+        assert_eq!(rt; text.as_str(), want);
+    }
+    Ok(())
+}
+
+#[test]
+fn other_lines(rt: HostRuntime) -> Result<(), Fail> {
+    let replies = [REPLY, REQUEST];
+    let ids = [0, 5, 4294967295];
+    let registers = [1, 18446744073709551615];
+    let count = Answer::Count {
+        waiting: 1,
+        held: 2,
+        consumed: 3,
+        parked: 4,
+        killed: 5,
+    };
+    let balance = |value| {
+        Answer::Balance {
+            name: "a",
+            k: 1,
+            value,
+        }
+    };
+    for (answer, want) in [
+        (Answer::Submitted { id: 3 }, "submitted 3\n"),
+        (
+            Answer::Replies {
+                root: 0,
+                replies: &[],
+            },
+            "replies 0\n",
+        ),
+        (
+            Answer::Replies {
+                root: 0,
+                replies: &replies,
+            },
+            "replies 0 8:7:18446744073709551615 0:0:11\n",
+        ),
+        (Answer::Killed { id: 0, aborted: 1 }, "killed 0 aborted 1\n"),
+        (Answer::Errors(&[]), "errors\n"),
+        (Answer::Errors(&ids), "errors 0 5 4294967295\n"),
+        (balance(Some(5)), "balance a 1 5\n"),
+        (balance(None), "balance a 1 none\n"),
+        (
+            Answer::Sum {
+                k: 0,
+                sum: 147573952589676412920,
+            },
+            "sum 0 147573952589676412920\n",
+        ),
+        (count, "waiting 1 held 2 consumed 3 parked 4 killed 5\n"),
+        (Answer::Raced { submitted: 200 }, "race submitted 200\n"),
+        (Answer::Drained, "drained\n"),
+        (
+            Answer::Final {
+                name: "a",
+                registers: &registers,
+            },
+            "final a 1 18446744073709551615\n",
+        ),
+    ] {
+        let text = line(rt.alloc(), answer)?;
+        assert_eq!(rt; text.as_str(), want);
+    }
+    let refused = Refused { line: 2, number: 1 };
+    let text = refused_line(rt.alloc(), refused)?;
+    assert_eq!(rt; text.as_str(), "refused line 2: 1 Syntax\n");
+    Ok(())
+}

@@ -1,0 +1,5 @@
+pub mod Devices
+pub mod ScriptLemmas
+pub mod TextLemmas
+pub mod GrammarLemmas
+pub mod LinesLemmas

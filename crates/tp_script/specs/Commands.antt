@@ -1,0 +1,102 @@
+-- The command lines of a script.
+use Rattle.std.specs.Prelude.{ℕ, ◌+◌, ◌-◌, ◌^◌, List, [], ◌∷◌, ◌++◌, Result, Ok, Err, nat_le}
+use Rattle.tp_script.specs.declared.fault.LineFault.{LineFault}
+use Rattle.tp_script.specs.declared.fault.LineFault.TheVariants.{Syntax, BadNumber, BadLimits, BadName}
+use Rattle.tp_script.specs.declared.keyword.Verb.{Verb}
+use Rattle.tp_script.specs.declared.keyword.Verb.TheVariants as verb
+use Rattle.tp_script.specs.declared.script.Command.{Command}
+use Rattle.tp_script.specs.declared.script.Command.TheVariants.{Submit, Turn, Reply, Claim, Prepare, Commit, Abort, Drop, Kill, Read, Errors, Balance, Sum, Count, Race, Drain}
+use Rattle.tp_script.specs.declared.script.TheConstants.{MOST_PASSES}
+use Rattle.tp_script.specs.Passes.{racers}
+use Rattle.tp_script.specs.Script.{ScriptView, passes}
+use Rattle.tp_script.specs.ServerLines.{server_at}
+use Rattle.tp_script.specs.Terms.{◌>>=◌, require, none, one, two, three, number_at, is_name}
+
+-- the server of this name
+unfoldable pub named : List ℕ → ScriptView → Result ℕ LineFault
+named name s = do
+  _ ← require (is_name name) BadName
+  server_at name s
+
+-- a server as the one word
+unfoldable pub one_server : List (List ℕ) → ScriptView → Result ℕ LineFault
+one_server ws s = one ws >>= λ name. named name s
+
+-- an id as the one word
+unfoldable pub one_id : List (List ℕ) → Result ℕ LineFault
+one_id ws = one ws >>= λ id. number_at (2 ^ 32 - 1) id
+
+-- `submit STAGE KEY AMOUNT`
+unfoldable pub submit_at : List ℕ × List ℕ × List ℕ → Result Command LineFault
+submit_at (stage, key, amount) = do
+  stage ← number_at 255 stage
+  key ← number_at (2 ^ 64 - 1) key
+  amount ← number_at (2 ^ 64 - 1) amount
+  Ok (Submit stage key amount)
+
+-- `balance NAME K`
+unfoldable pub balance_at : List ℕ × List ℕ → ScriptView → Result Command LineFault
+balance_at (name, k) s = do
+  server ← named name s
+  k ← number_at (2 ^ 64 - 1) k
+  Ok (Balance server k)
+
+-- the words of a race line, each in its place
+pub record RaceWords : Type 0 where
+  pub clients : List ℕ
+  pub submits : List ℕ
+  pub stage : List ℕ
+  pub key : List ℕ
+  pub amount : List ℕ
+  pub cancellers : List ℕ
+  pub turns : List ℕ
+
+-- CLIENTS SUBMITS STAGE KEY AMOUNT CANCELLERS TURNS
+abbrev pub race_words : List (List ℕ) → Result RaceWords LineFault
+race_words (clients ∷ submits ∷ stage ∷ key ∷ amount ∷ cancellers ∷ turns ∷ []) =
+    Ok (record { clients = clients; submits = submits; stage = stage; key = key; amount = amount; cancellers = cancellers; turns = turns })
+race_words ws = Err Syntax
+
+-- a stage that clients may submit to
+unfoldable pub stage_at : List ℕ → Result ℕ LineFault
+stage_at w = do
+  stage ← number_at 14 w
+  _ ← require (nat_le 1 stage) BadNumber
+  Ok stage
+
+-- `race CLIENTS SUBMITS STAGE KEY AMOUNT CANCELLERS TURNS`
+unfoldable pub race_at : RaceWords → Result Command LineFault
+race_at w = do
+  clients ← number_at 31 w.clients
+  submits ← number_at 256 w.submits
+  stage ← stage_at w.stage
+  key ← number_at (2 ^ 64 - 1) w.key
+  amount ← number_at (2 ^ 64 - 1) w.amount
+  cancellers ← number_at 31 w.cancellers
+  turns ← number_at 10000 w.turns
+  Ok (Race clients submits stage key amount cancellers turns)
+
+-- a command of this first word, with the words behind it
+unfoldable pub command_at : Verb → List (List ℕ) → ScriptView → Result Command LineFault
+command_at verb.Submit ws s = three ws >>= λ w. submit_at w
+command_at verb.Turn ws s = one_server ws s >>= λ server. Ok (Turn server)
+command_at verb.Reply ws s = one_id ws >>= λ id. Ok (Reply id)
+command_at verb.Claim ws s = one_server ws s >>= λ server. Ok (Claim server)
+command_at verb.Prepare ws s = one_server ws s >>= λ server. Ok (Prepare server)
+command_at verb.Commit ws s = one_server ws s >>= λ server. Ok (Commit server)
+command_at verb.Abort ws s = one_server ws s >>= λ server. Ok (Abort server)
+command_at verb.Drop ws s = one_server ws s >>= λ server. Ok (Drop server)
+command_at verb.Kill ws s = one_id ws >>= λ id. Ok (Kill id)
+command_at verb.Read ws s = one_id ws >>= λ id. Ok (Read id)
+command_at verb.Errors ws s = none ws >>= λ _. Ok Errors
+command_at verb.Balance ws s = two ws >>= λ w. balance_at w s
+command_at verb.Sum ws s = one ws >>= λ w. number_at (2 ^ 64 - 1) w >>= λ k. Ok (Sum k)
+command_at verb.Count ws s = none ws >>= λ _. Ok Count
+command_at verb.Race ws s = race_words ws >>= λ w. race_at w
+command_at verb.Drain ws s = none ws >>= λ _. Ok Drain
+
+-- the script with one command more, unless it needs more passes then than there can be
+unfoldable pub with_command : Command → ScriptView → Result ScriptView LineFault
+with_command c s = do
+  _ ← require (nat_le (passes s + racers c) MOST_PASSES) BadLimits
+  Ok (record s { commands = s.commands ++ c ∷ [] })

@@ -1,0 +1,99 @@
+-- What a script says, line by line, or its first fault.
+use Rattle.std.specs.Prelude.{ℕ, ◌+◌, ◌-◌, ◌^◌, List, [], ◌∷◌, length, Bool, false, not, ◌&&◌, Result, Ok, Err, nat_lt, nat_le, ◌==◌, if◌then◌else◌}
+use Rattle.std.specs.List.{list_all}
+use Rattle.tp_script.specs.declared.source.TheConstants.{MOST_BYTES}
+use Rattle.tp_script.specs.declared.fault.LineFault.{LineFault}
+use Rattle.tp_script.specs.declared.fault.LineFault.TheVariants.{Syntax, BadLimits, TooLong, Order}
+use Rattle.tp_script.specs.declared.fault.Refused.{Refused}
+use Rattle.tp_script.specs.declared.keyword.Keyword.{Keyword}
+use Rattle.tp_script.specs.declared.keyword.Keyword.TheVariants as first
+use Rattle.tp_script.specs.declared.reach.Reach.{Reach}
+use Rattle.tp_script.specs.Fault.{number_of}
+use Rattle.tp_script.specs.Text.{lines, words}
+use Rattle.tp_script.specs.Commands.{command_at, with_command}
+use Rattle.tp_script.specs.Keyword.{keyword, first_reach}
+use Rattle.tp_script.specs.Reach.{has}
+use Rattle.tp_script.specs.Script.{ScriptView}
+use Rattle.tp_script.specs.ServerLines.{has_commands, server_line, start_line}
+use Rattle.tp_script.specs.Terms.{◌>>=◌, require, known, one, three, number_at}
+
+-- ---- settings
+
+-- a setting comes before servers and commands, and is 1 to `most`
+unfoldable pub setting_at : ℕ → List ℕ → ScriptView → Result ℕ LineFault
+setting_at most w s = do
+  _ ← require ((length s.servers == 0) && not (has_commands s)) Order
+  n ← number_at (2 ^ 64 - 1) w
+  _ ← require (nat_le 1 n && nat_le n most) BadLimits
+  Ok n
+
+-- `rows N`
+unfoldable pub rows_line : List ℕ → ScriptView → Result ScriptView LineFault
+rows_line w s = do
+  n ← setting_at 256 w s
+  Ok (record s { settings = record s.settings { rows = n } })
+
+-- `units N`
+unfoldable pub units_line : List ℕ → ScriptView → Result ScriptView LineFault
+units_line w s = do
+  n ← setting_at 1024 w s
+  Ok (record s { settings = record s.settings { units = n } })
+
+-- `limit N`
+unfoldable pub limit_line : List ℕ → ScriptView → Result ScriptView LineFault
+limit_line w s = do
+  n ← setting_at 7 w s
+  Ok (record s { settings = record s.settings { attempts = n } })
+
+-- ---- a whole line, and all lines
+
+-- a line of this first word, with the words behind it
+unfoldable pub keyword_line : Reach → Keyword → List (List ℕ) → ScriptView → Result ScriptView LineFault
+keyword_line reach first.Rows ws s = one ws >>= λ w. rows_line w s
+keyword_line reach first.Units ws s = one ws >>= λ w. units_line w s
+keyword_line reach first.Limit ws s = one ws >>= λ w. limit_line w s
+keyword_line reach first.Server ws s = server_line reach ws s
+keyword_line reach first.Start ws s = three ws >>= λ w. start_line w s
+keyword_line reach (first.Do verb) ws s = command_at verb ws s >>= λ c. with_command c s
+
+-- the keyword that a word is, where the script may have such a line
+unfoldable pub first_word : Reach → List ℕ → Result Keyword LineFault
+first_word reach w = do
+  k ← known (keyword w) Syntax
+  _ ← require (has reach (first_reach k)) Syntax
+  Ok k
+
+-- a line of these words says nothing where there are none
+unfoldable pub words_line : Reach → List (List ℕ) → ScriptView → Result ScriptView LineFault
+words_line reach [] s = Ok s
+words_line reach (w ∷ ws) s = first_word reach w >>= λ k. keyword_line reach k ws s
+
+-- a line that begins with `#`
+abbrev pub is_comment : List ℕ → Bool
+is_comment [] = false
+is_comment (b ∷ bs) = b == 35
+
+-- a line of at most 200 bytes, each a space or visible
+unfoldable pub line_at : Reach → List ℕ → ScriptView → Result ScriptView LineFault
+line_at reach line s = do
+  _ ← require (nat_le (length line) 200) TooLong
+  _ ← require (list_all (λ b. nat_le 32 b && nat_le b 126) line) Syntax
+  if is_comment line then Ok s else words_line reach (words line) s
+
+-- what the others say, unless line n has a fault
+abbrev pub at_line : ℕ → Result ScriptView LineFault → (ScriptView → Result ScriptView Refused) → Result ScriptView Refused
+at_line n (Ok s) others = others s
+at_line n (Err fault) others = Err (record { line = n; number = number_of fault })
+
+-- the lines from number n on
+unfoldable pub lines_from : Reach → ℕ → List (List ℕ) → ScriptView → Result ScriptView Refused
+lines_from reach n [] s = Ok s
+lines_from reach n (line ∷ others) s = at_line n (line_at reach line s) (λ t. lines_from reach (n + 1) others t)
+
+-- a script without lines
+abbrev pub no_lines : ScriptView
+no_lines = record { settings = record { rows = 64; units = 256; attempts = 3 }; servers = []; commands = [] }
+
+-- what the bytes of a script say that may go so far, or the line and number of its first fault
+unfoldable pub script : Reach → List ℕ → Result ScriptView Refused
+script reach bytes = if nat_lt MOST_BYTES (length bytes) then Err (record { line = 0; number = number_of TooLong }) else lines_from reach 1 (lines bytes) no_lines

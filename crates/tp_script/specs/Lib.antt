@@ -1,0 +1,13 @@
+pub mod Fault
+pub mod Text
+pub mod Devices
+pub mod Reach
+pub mod Keyword
+pub mod Passes
+pub mod Ranges
+pub mod Script
+pub mod Terms
+pub mod ServerLines
+pub mod Commands
+pub mod Grammar
+pub mod Reading

@@ -1,0 +1,23 @@
+-- How many passes commands need, and whether they race.
+use Rattle.std.specs.Prelude.{ℕ, ◌+◌, List, Bool, true, false}
+use Rattle.std.specs.List.{list_any, sum_by}
+use Rattle.tp_script.specs.declared.script.Command.{Command}
+use Rattle.tp_script.specs.declared.script.Command.TheVariants.{Race}
+
+-- what a command needs for itself: a race's clients and cancellers
+abbrev pub racers : Command → ℕ
+racers (Race clients submits stage key amount cancellers turns) = clients + cancellers
+racers other = 0
+
+-- what all of them need
+abbrev pub racing : List Command → ℕ
+racing commands = sum_by racers commands
+
+-- a race
+abbrev pub is_race : Command → Bool
+is_race (Race clients submits stage key amount cancellers turns) = true
+is_race other = false
+
+-- whether there is a race among the commands
+abbrev pub has_race : List Command → Bool
+has_race commands = list_any is_race commands

@@ -1,0 +1,21 @@
+-- Which lines a script may have.
+use Rattle.std.specs.Prelude.{ℕ, Bool, nat_le}
+use Rattle.tp_script.specs.declared.reach.Reach.{Reach}
+use Rattle.tp_script.specs.declared.reach.Reach.TheVariants.{Plain, Desks, Workers}
+use Rattle.tp_script.specs.declared.script.TheConstants.{MOST_SERVERS}
+
+-- the place of a reach among all
+abbrev pub rank : Reach → ℕ
+rank Plain = 0
+rank Desks = 1
+rank Workers = 2
+
+-- whether a reach has the lines of another one
+abbrev pub has : Reach → Reach → Bool
+has reach other = nat_le (rank other) (rank reach)
+
+-- how many servers a script may have
+abbrev pub most_servers : Reach → ℕ
+most_servers Plain = 1
+most_servers Desks = MOST_SERVERS
+most_servers Workers = MOST_SERVERS

@@ -1,0 +1,184 @@
+//! The command lines of a script.
+ghost use Rattle.std.specs.Prelude.{◌<◌, ◌≤◌, ℕ, map, vec_len, IfOk};
+ghost use Rattle.tp_script.specs.Commands.{named, one_server, one_id, submit_at, balance_at, race_words, stage_at, race_at, command_at};
+ghost use Rattle.tp_script.specs.Ranges.{IsInRange};
+ghost use Rattle.tp_script.specs.Reading.{Gives, race_view};
+ghost use Rattle.tp_script.specs.Script.{script_view};
+
+use crate::fault::{LineError, LineFault};
+use crate::keyword::Verb;
+use crate::script::{Command, Script};
+use crate::terms::{is_name, none, number_at, one, three, two};
+
+// The one word, an id.
+#[tactic(auto, unfolding(crate::specs::Commands::one_id))]
+fn one_id(words: &[&[u8]]) -> Result<u32, LineError>
+    ensures { Gives (λ n. n) result (one_id (map (λ x. x.now) words.now)) }
+{
+    let id = number_at(one(words)?, u64::from(u32::MAX))?;
+    Ok(id as u32)
+}
+
+// `submit STAGE KEY AMOUNT`
+#[tactic(auto, unfolding(crate::specs::Commands::submit_at))]
+fn submit_at(words: (&[u8], &[u8], &[u8])) -> Result<Command, LineError>
+    ensures gives { Gives (λ c. c) result (submit_at (words.entry.0.now, words.entry.1.now, words.entry.2.now)) }
+    ensures in_range { IfOk result (λ c. (servers : ℕ) → IsInRange servers c) }
+{
+    let stage = number_at(words.0, 255)? as u8;
+    let key = number_at(words.1, u64::MAX)?;
+    let amount = number_at(words.2, u64::MAX)?;
+    Ok(Command::Submit { stage, key, amount })
+}
+
+// The words of a race line, each in its place.
+#[derive(Clone, Copy)]
+struct RaceWords<'a> {
+    clients: &'a [u8],
+    submits: &'a [u8],
+    stage: &'a [u8],
+    key: &'a [u8],
+    amount: &'a [u8],
+    cancellers: &'a [u8],
+    turns: &'a [u8],
+}
+
+// CLIENTS SUBMITS STAGE KEY AMOUNT CANCELLERS TURNS
+fn race_words<'a>(words: &[&'a [u8]]) -> Result<RaceWords<'a>, LineError>
+    ensures { Gives race_view result (race_words (map (λ x. x.now) words.now)) }
+{
+    let [clients, submits, stage, key, amount, cancellers, turns] = words else {
+        return Err(LineError::Fault(LineFault::Syntax));
+    };
+    Ok(RaceWords {
+        clients,
+        submits,
+        stage,
+        key,
+        amount,
+        cancellers,
+        turns,
+    })
+}
+
+// A stage that clients may submit to.
+#[tactic(auto, unfolding(crate::specs::Commands::stage_at))]
+fn stage_at(word: &[u8]) -> Result<u8, LineError>
+    ensures gives { Gives (λ n. n) result (stage_at word.now) }
+    ensures bounds { IfOk result (λ n. (1 ≤ n) × (n ≤ 14)) }
+{
+    let stage = number_at(word, 14)?;
+    if stage < 1 {
+        return Err(LineError::Fault(LineFault::BadNumber));
+    }
+    Ok(stage as u8)
+}
+
+// `race CLIENTS SUBMITS STAGE KEY AMOUNT CANCELLERS TURNS`
+#[tactic(auto, unfolding(crate::specs::Commands::race_at))]
+fn race_at(words: RaceWords<'_>) -> Result<Command, LineError>
+    ensures gives { Gives (λ c. c) result (race_at (race_view words.entry)) }
+    ensures in_range { IfOk result (λ c. (servers : ℕ) → IsInRange servers c) }
+{
+    let clients = number_at(words.clients, 31)? as u8;
+    let submits = number_at(words.submits, 256)? as u16;
+    let stage = stage_at(words.stage)?;
+    let key = number_at(words.key, u64::MAX)?;
+    let amount = number_at(words.amount, u64::MAX)?;
+    let cancellers = number_at(words.cancellers, 31)? as u8;
+    let turns = number_at(words.turns, 10_000)? as u16;
+    Ok(Command::Race {
+        clients,
+        submits,
+        stage,
+        key,
+        amount,
+        cancellers,
+        turns,
+    })
+}
+
+impl Script {
+    // The server of this name.
+    #[tactic(auto, unfolding(crate::specs::Commands::named))]
+    fn named(&self, name: &[u8]) -> Result<usize, LineError>
+        ensures gives { Gives (λ n. n) result (named name.now (script_view self.now)) }
+        ensures within { IfOk result (λ n. n < vec_len self.now.servers) }
+    {
+        if !is_name(name) {
+            return Err(LineError::Fault(LineFault::BadName));
+        }
+        self.server_at(name)
+    }
+
+    // The one word, a server.
+    #[tactic(auto, unfolding(crate::specs::Commands::one_server))]
+    fn one_server(&self, words: &[&[u8]]) -> Result<usize, LineError>
+        ensures gives { Gives (λ n. n) result (one_server (map (λ x. x.now) words.now) (script_view self.now)) }
+        ensures within { IfOk result (λ n. n < vec_len self.now.servers) }
+    {
+        self.named(one(words)?)
+    }
+
+    // `balance NAME K`
+    #[tactic(auto, unfolding(crate::specs::Commands::balance_at))]
+    fn balance_at(&self, words: (&[u8], &[u8])) -> Result<Command, LineError>
+        ensures gives { Gives (λ c. c) result (balance_at (words.entry.0.now, words.entry.1.now) (script_view self.now)) }
+        ensures in_range { IfOk result (λ c. IsInRange (vec_len self.now.servers) c) }
+    {
+        let server = self.named(words.0)?;
+        let k = number_at(words.1, u64::MAX)?;
+        Ok(Command::Balance { server, k })
+    }
+
+    /// The command of this first word, with the words behind it.
+    #[tactic(auto, unfolding(crate::specs::Commands::command_at))]
+    pub(crate) fn command_at(&self, verb: Verb, words: &[&[u8]]) -> Result<Command, LineError>
+        ensures gives { Gives (λ c. c) result (command_at verb (map (λ x. x.now) words.now) (script_view self.now)) }
+        ensures in_range { IfOk result (λ c. IsInRange (vec_len self.now.servers) c) }
+    {
+        match verb {
+            Verb::Submit => submit_at(three(words)?),
+            Verb::Turn => Ok(Command::Turn {
+                server: self.one_server(words)?,
+            }),
+            Verb::Reply => Ok(Command::Reply {
+                root: one_id(words)?,
+            }),
+            Verb::Claim => Ok(Command::Claim {
+                server: self.one_server(words)?,
+            }),
+            Verb::Prepare => Ok(Command::Prepare {
+                server: self.one_server(words)?,
+            }),
+            Verb::Commit => Ok(Command::Commit {
+                server: self.one_server(words)?,
+            }),
+            Verb::Abort => Ok(Command::Abort {
+                server: self.one_server(words)?,
+            }),
+            Verb::Drop => Ok(Command::Drop {
+                server: self.one_server(words)?,
+            }),
+            Verb::Kill => Ok(Command::Kill { id: one_id(words)? }),
+            Verb::Read => Ok(Command::Read { id: one_id(words)? }),
+            Verb::Errors => {
+                none(words)?;
+                Ok(Command::Errors)
+            }
+            Verb::Balance => self.balance_at(two(words)?),
+            Verb::Sum => Ok(Command::Sum {
+                k: number_at(one(words)?, u64::MAX)?,
+            }),
+            Verb::Count => {
+                none(words)?;
+                Ok(Command::Count)
+            }
+            Verb::Race => race_at(race_words(words)?),
+            Verb::Drain => {
+                none(words)?;
+                Ok(Command::Drain)
+            }
+        }
+    }
+}

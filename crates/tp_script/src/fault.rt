@@ -1,0 +1,144 @@
+//! What can go wrong with a script, and with reading it.
+ghost use Rattle.std.specs.Prelude.{◌≡◌, Some};
+ghost use Rattle.tp_script.specs.Fault.{number_of, fault_name, refused_text};
+
+use crate::source::Failed;
+use std::alloc::{AllocError, AllocFailed};
+use std::fmt;
+use thiserror::Error;
+
+/// Why there is no script.
+#[derive(Clone, Copy, Debug, PartialEq, Eq, Error)]
+pub enum ReadFault {
+    /// Memory could not be had.
+    #[error("out of memory")]
+    NoMemory,
+    /// The reader failed, or had not ended after all the requests that it may be asked.
+    #[error("the script could not be read")]
+    Read,
+    /// The script is refused: the number of its first faulty line, from 1 on (0 where it is too long as a whole), and the
+    /// number of that line's first fault, 1 to 7.
+    #[error("refused line {line}: fault {number}")]
+    Script { line: u32, number: u8 },
+}
+
+/// What is wrong with a line. Of several faults the first in this order counts: 6, 1, 7, 5, 2, 3, 4.
+#[derive(Clone, Copy, Debug, PartialEq, Eq)]
+pub enum LineFault {
+    /// 1: an unknown first word, kind or act, a wrong number of words, a byte that isn't allowed, or an output without
+    /// exactly two colons.
+    Syntax,
+    /// 2: a number word that isn't 1 to 20 digits, or above its bound.
+    BadNumber,
+    /// 3: a setting outside its range, or too many servers.
+    BadLimits,
+    /// 4: a recipe that is refused, or a `start` of a register that the server doesn't have.
+    BadRecipe,
+    /// 5: a name that isn't 1 to 8 small letters, that another server has, or that no server has.
+    BadName,
+    /// 6: a line above 200 bytes, or a script above 65,536 bytes.
+    TooLong,
+    /// 7: a setting behind a server, or one of these behind a command.
+    Order,
+}
+
+impl LineFault {
+    /// The number of the fault, 1 to 7.
+    pub fn number(self) -> u8
+        ensures { result ≡ number_of self }
+    {
+        match self {
+            LineFault::Syntax => 1,
+            LineFault::BadNumber => 2,
+            LineFault::BadLimits => 3,
+            LineFault::BadRecipe => 4,
+            LineFault::BadName => 5,
+            LineFault::TooLong => 6,
+            LineFault::Order => 7,
+        }
+    }
+}
+
+/// Where a script is refused, and the number of the fault.
+#[derive(Clone, Copy, Debug, PartialEq, Eq)]
+pub struct Refused {
+    /// The line's number, from 1 on; 0 where the script is too long as a whole.
+    pub line: u32,
+    /// The number of the fault, 1 to 7.
+    pub number: u8,
+}
+
+// The name of the fault with a number, 1 to 7.
+fn fault_name(number: u8) -> &'static str
+    ensures { result.now ≡ fault_name number }
+{
+    match number {
+        1 => "Syntax",
+        2 => "BadNumber",
+        3 => "BadLimits",
+        4 => "BadRecipe",
+        5 => "BadName",
+        6 => "TooLong",
+        _ => "Order",
+    }
+}
+
+impl fmt::Display for Refused {
+    ghost output = { λ refused. Some (refused_text refused) };
+
+    fn fmt<W: fmt::Write>(&self, f: &mut fmt::Formatter<W>) -> fmt::Result {
+        let line = self.line;
+        let number = self.number;
+        let name = fault_name(number);
+        write!(f, "refused line {line}: {number} {name}")
+    }
+}
+
+/// Why a line isn't read.
+#[derive(Clone, Copy, Debug, PartialEq, Eq)]
+pub enum LineError {
+    /// Memory could not be had.
+    NoMemory,
+    /// The line has this fault.
+    Fault(LineFault),
+}
+
+impl From<AllocError> for LineError {
+    ghost use Rattle.tp_script.specs.declared.fault.LineError.TheVariants.{NoMemory};
+
+    ghost from_gives = { λ _ e. e ≡ NoMemory };
+
+    fn from(_: AllocError) -> LineError {
+        LineError::NoMemory
+    }
+}
+
+impl<T: Drop> From<AllocFailed<T>> for LineError {
+    ghost use Rattle.tp_script.specs.declared.fault.LineError.TheVariants.{NoMemory};
+
+    ghost from_gives = { λ _ e. e ≡ NoMemory };
+
+    fn from(_: AllocFailed<T>) -> LineError {
+        LineError::NoMemory
+    }
+}
+
+impl From<AllocError> for ReadFault {
+    ghost use Rattle.tp_script.specs.declared.fault.ReadFault.TheVariants.{NoMemory};
+
+    ghost from_gives = { λ _ e. e ≡ NoMemory };
+
+    fn from(_: AllocError) -> ReadFault {
+        ReadFault::NoMemory
+    }
+}
+
+impl From<Failed> for ReadFault {
+    ghost use Rattle.tp_script.specs.declared.fault.ReadFault.TheVariants.{Read};
+
+    ghost from_gives = { λ _ e. e ≡ Read };
+
+    fn from(_: Failed) -> ReadFault {
+        ReadFault::Read
+    }
+}

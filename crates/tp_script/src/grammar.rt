@@ -1,0 +1,144 @@
+//! The lines of a script, and its settings.
+ghost use Rattle.std.specs.Prelude.{◌≡◌, ◌≤◌, ◌&&◌, map, IfOk, nat_le};
+ghost use Rattle.std.specs.List.{list_all};
+ghost use Rattle.tp_script.specs.Grammar.{setting_at, rows_line, units_line, limit_line, keyword_line, first_word, words_line, is_comment, line_at};
+ghost use Rattle.tp_script.specs.Reading.{Gives, GivesScript};
+ghost use Rattle.tp_script.specs.Script.{script_view};
+
+use crate::fault::{LineError, LineFault};
+use crate::keyword::Keyword;
+use crate::reach::Reach;
+use crate::script::Script;
+use crate::terms::{number_at, one, three};
+use crate::text::words;
+use std::alloc::Global;
+
+impl Script {
+    // A setting comes before servers and commands, and is 1 to `most`.
+    #[tactic(auto, unfolding(crate::specs::Grammar::setting_at))]
+    fn setting_at(&self, word: &[u8], most: u16) -> Result<u16, LineError>
+        ensures gives { Gives (λ n. n) result (setting_at most word.now (script_view self.now)) }
+        ensures bounds { IfOk result (λ n. (1 ≤ n) × (n ≤ most)) }
+    {
+        if !self.servers.is_empty() || !self.commands.is_empty() {
+            return Err(LineError::Fault(LineFault::Order));
+        }
+        let n = number_at(word, u64::MAX)?;
+        if !(1..=u64::from(most)).contains(&n) {
+            return Err(LineError::Fault(LineFault::BadLimits));
+        }
+        Ok(n as u16)
+    }
+
+    // `rows N`
+    #[tactic(auto, unfolding(crate::specs::Grammar::rows_line))]
+    fn rows_line(&mut self, word: &[u8]) -> Result<(), LineError>
+        ensures { GivesScript self.new result (rows_line word.now (script_view self.old)) }
+    {
+        self.settings.rows = self.setting_at(word, 256)?;
+        Ok(())
+    }
+
+    // `units N`
+    #[tactic(auto, unfolding(crate::specs::Grammar::units_line))]
+    fn units_line(&mut self, word: &[u8]) -> Result<(), LineError>
+        ensures { GivesScript self.new result (units_line word.now (script_view self.old)) }
+    {
+        self.settings.units = self.setting_at(word, 1024)?;
+        Ok(())
+    }
+
+    // `limit N`
+    #[tactic(auto, unfolding(crate::specs::Grammar::limit_line))]
+    fn limit_line(&mut self, word: &[u8]) -> Result<(), LineError>
+        ensures { GivesScript self.new result (limit_line word.now (script_view self.old)) }
+    {
+        self.settings.attempts = self.setting_at(word, 7)? as u8;
+        Ok(())
+    }
+
+    // What a line says behind its first word.
+    #[tactic(auto, unfolding(crate::specs::Grammar::keyword_line))]
+    fn keyword_line(
+        &mut self,
+        alloc: Global,
+        reach: Reach,
+        keyword: Keyword,
+        words: &[&[u8]],
+    ) -> Result<(), LineError>
+        ensures { GivesScript self.new result (keyword_line reach keyword (map (λ x. x.now) words.now) (script_view self.old)) }
+    {
+        match keyword {
+            Keyword::Rows => self.rows_line(one(words)?),
+            Keyword::Units => self.units_line(one(words)?),
+            Keyword::Limit => self.limit_line(one(words)?),
+            Keyword::Server => self.server_line(alloc, reach, words),
+            Keyword::Start => self.start_line(three(words)?),
+            Keyword::Do(verb) => {
+                let command = self.command_at(verb, words)?;
+                self.add(command)
+            }
+        }
+    }
+
+    // What the words of a line say.
+    #[tactic(auto, unfolding(crate::specs::Grammar::words_line))]
+    fn words_line(&mut self, alloc: Global, reach: Reach, words: &[&[u8]]) -> Result<(), LineError>
+        ensures { GivesScript self.new result (words_line reach (map (λ x. x.now) words.now) (script_view self.old)) }
+    {
+        let Some((first, others)) = words.split_first() else {
+            return Ok(());
+        };
+        let keyword = first_word(reach, first)?;
+        self.keyword_line(alloc, reach, keyword, others)
+    }
+
+    /// Adds what a line says, in a script that may go so far.
+    #[tactic(auto, unfolding(crate::specs::Grammar::line_at))]
+    pub(crate) fn line(&mut self, alloc: Global, reach: Reach, line: &[u8]) -> Result<(), LineError>
+        ensures { GivesScript self.new result (line_at reach line.now (script_view self.old)) }
+    {
+        if line.len() > 200 {
+            return Err(LineError::Fault(LineFault::TooLong));
+        }
+        if !all_allowed(line) {
+            return Err(LineError::Fault(LineFault::Syntax));
+        }
+        if is_comment(line) {
+            return Ok(());
+        }
+        let words = words(alloc, line)?;
+        self.words_line(alloc, reach, words.as_slice())
+    }
+}
+
+// The keyword that a word is, where the script may have such a line.
+#[tactic(auto, unfolding(crate::specs::Grammar::first_word))]
+fn first_word(reach: Reach, word: &[u8]) -> Result<Keyword, LineError>
+    ensures { Gives (λ k. k) result (first_word reach word.now) }
+{
+    match Keyword::of(word) {
+        Some(keyword) => {
+            if reach.has(keyword.reach()) {
+                Ok(keyword)
+            } else {
+                Err(LineError::Fault(LineFault::Syntax))
+            }
+        }
+        None => Err(LineError::Fault(LineFault::Syntax)),
+    }
+}
+
+// Whether a line begins with `#`.
+fn is_comment(line: &[u8]) -> bool
+    ensures { result ≡ is_comment line.now }
+{
+    line.first() == Some(&b'#')
+}
+
+// Whether each byte of a line is a space or visible.
+fn all_allowed(line: &[u8]) -> bool
+    ensures { result ≡ list_all (λ b. nat_le 32 b && nat_le b 126) line.now }
+{
+    line.iter().all(|byte| (32..=126).contains(byte))
+}

@@ -1,0 +1,22 @@
+//! Scripts: what their bytes say, or the line and the number of their first fault.
+#![tactic(auto)]
+
+mod commands;
+mod fault;
+mod grammar;
+mod keyword;
+mod parse;
+mod reach;
+mod script;
+mod servers;
+mod source;
+mod terms;
+#[cfg(test)]
+mod tests;
+mod text;
+
+pub use fault::{LineFault, ReadFault, Refused};
+pub use parse::{read_script, read_script_at};
+pub use reach::{REACH, Reach};
+pub use script::{Command, Kind, MOST_PASSES, MOST_SERVERS, Script, ScriptServer, Settings};
+pub use source::{Failed, MOST_BYTES, MOST_REQUESTS, Source, StdSource};

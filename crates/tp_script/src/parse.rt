@@ -1,0 +1,70 @@
+//! A script from its bytes.
+ghost use Rattle.std.specs.Prelude.{◌≡◌, ◌+◌, ◌^◌, ◌<◌, ◌≤◌, IfSome, IsErrOf};
+ghost use Rattle.tp_script.specs.Devices.{StopsReading};
+ghost use Rattle.tp_script.specs.Grammar.{script};
+ghost use Rattle.tp_script.specs.Reading.{Answers, fault_at};
+
+use crate::fault::{LineError, LineFault, ReadFault};
+use crate::reach::{REACH, Reach};
+use crate::script::Script;
+use crate::source::{MOST_BYTES, MOST_REQUESTS, Source, read_all};
+use crate::text::lines;
+use std::alloc::Global;
+
+// The fault of a line.
+fn at_line(line: u32, error: LineError) -> ReadFault
+    ensures { result ≡ fault_at line error }
+{
+    match error {
+        LineError::NoMemory => ReadFault::NoMemory,
+        LineError::Fault(fault) => ReadFault::Script {
+            line,
+            number: fault.number(),
+        },
+    }
+}
+
+/// The script that bytes say, where scripts may go so far.
+pub fn parse(alloc: Global, reach: Reach, bytes: &[u8]) -> Result<Script, ReadFault>
+    ensures script { Answers result (script reach bytes.now) }
+    ensures no_read { ¬ (IsErrOf result ReadFault.Read) }
+{
+    if bytes.len() > MOST_BYTES {
+        return Err(at_line(0, LineError::Fault(LineFault::TooLong)));
+    }
+    let lines = lines(alloc, bytes)?;
+    let mut script = Script::new(alloc);
+    let mut line = 1;
+    for text in &lines {
+        match script.line(alloc, reach, text) {
+            Ok(()) => line += 1,
+            Err(error) => return Err(at_line(line, error)),
+        }
+    }
+    Ok(script)
+}
+
+/// The script that a source gives, where scripts may go so far.
+pub fn read_script_at<S: Source>(
+    alloc: Global,
+    reach: Reach,
+    source: &mut S,
+) -> Result<Script, ReadFault>
+    requires { S.asked source.old + MOST_REQUESTS < 2 ^ 64 }
+    ensures script { IfSome (S.rest source.old) (λ bytes. Answers result (script reach bytes)) }
+    ensures asked { S.asked source.new ≤ S.asked source.old + MOST_REQUESTS }
+    ensures fault { IsErrOf result ReadFault.Read → StopsReading (S.has_failed source.new) (S.asked source.old) (S.asked source.new) }
+{
+    let bytes = read_all(alloc, source)?;
+    parse(alloc, reach, bytes.as_slice())
+}
+
+/// The script that a source gives.
+pub fn read_script<S: Source>(alloc: Global, source: &mut S) -> Result<Script, ReadFault>
+    requires { S.asked source.old + MOST_REQUESTS < 2 ^ 64 }
+    ensures script { IfSome (S.rest source.old) (λ bytes. Answers result (script REACH bytes)) }
+    ensures asked { S.asked source.new ≤ S.asked source.old + MOST_REQUESTS }
+    ensures fault { IsErrOf result ReadFault.Read → StopsReading (S.has_failed source.new) (S.asked source.old) (S.asked source.new) }
+{
+    read_script_at(alloc, REACH, source)
+}

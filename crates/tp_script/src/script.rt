@@ -1,0 +1,242 @@
+//! A script that was read: settings, servers and commands.
+ghost use Rattle.std.specs.Prelude.{◌≡◌, ◌≤◌, ◌<◌, ◌+◌, Ok, length, vec_len};
+ghost use Rattle.tp_server.specs.Check.{check_of};
+ghost use Rattle.std.specs.List.{All};
+ghost use Rattle.tp_script.specs.Passes.{racing};
+ghost use Rattle.tp_script.specs.Ranges.{IsInRange, IsInRange-prop};
+ghost use Rattle.tp_script.specs.declared.script.TheConstants.{MOST_SERVERS, MOST_PASSES};
+
+use crate::fault::{LineError, LineFault};
+use std::alloc::Global;
+use std::string::String;
+use tp_server::{Recipe, Registers};
+
+/// How many servers a script may have.
+pub const MOST_SERVERS: usize = 8;
+
+/// How many passes a script may need.
+pub const MOST_PASSES: u16 = 32;
+
+/// The limits that a script sets.
+#[derive(Clone, Copy, Debug, PartialEq, Eq)]
+pub struct Settings {
+    /// Rows of each pass, 1 to 256.
+    pub rows: u16,
+    /// Units of work of each pass, 1 to 1024.
+    pub units: u16,
+    /// Attempts of each element, 1 to 7.
+    pub attempts: u8,
+    ghost rows_in_range: { (1 ≤ rows) × (rows ≤ 256) },
+    ghost units_in_range: { (1 ≤ units) × (units ≤ 1024) },
+    ghost attempts_in_range: { (1 ≤ attempts) × (attempts ≤ 7) },
+}
+
+/// How a server keeps prepared work: by changing its registers at once, or by keeping what it will write.
+#[derive(Clone, Copy, Debug, PartialEq, Eq)]
+pub enum Kind {
+    /// It changes its registers as it prepares.
+    Eager,
+    /// It keeps what it will write until it commits.
+    Lazy,
+}
+
+/// A server line, with the start lines of that server.
+#[derive(Drop)]
+pub struct ScriptServer {
+    /// 1 to 8 small letters, which no other server of the script has.
+    pub name: String,
+    /// How it keeps prepared work.
+    pub kind: Kind,
+    /// What it does; a recipe without a fault.
+    pub recipe: Recipe,
+    /// What its registers begin with.
+    pub registers: Registers,
+    ghost checked: { check_of recipe ≡ Ok tt },
+    ghost counted: { length registers ≡ recipe.registers },
+}
+
+/// A command. A server is given by its place among the script's servers.
+#[derive(Clone, Copy, Debug, PartialEq, Eq)]
+pub enum Command {
+    /// The client submits an element.
+    Submit {
+        stage: u8,
+        key: u64,
+        amount: u64,
+    },
+    /// The server takes a turn.
+    Turn {
+        server: usize,
+    },
+    /// The replies to a request are listed.
+    Reply {
+        root: u32,
+    },
+    /// The server takes an element.
+    Claim {
+        server: usize,
+    },
+    /// The server prepares its work on the element that it took.
+    Prepare {
+        server: usize,
+    },
+    /// The server commits its unit of work.
+    Commit {
+        server: usize,
+    },
+    /// The server aborts its unit of work.
+    Abort {
+        server: usize,
+    },
+    /// The server's desk is dropped.
+    Drop {
+        server: usize,
+    },
+    /// An element is killed.
+    Kill {
+        id: u32,
+    },
+    /// An element is read.
+    Read {
+        id: u32,
+    },
+    /// The parked elements are listed.
+    Errors,
+    /// A register of a server is told.
+    Balance {
+        server: usize,
+        k: u64,
+    },
+    /// The sum of a register over all servers is told.
+    Sum {
+        k: u64,
+    },
+    /// The elements are counted by how they stand.
+    Count,
+    /// The servers take turns while clients submit and cancellers kill, each on a thread of its own.
+    Race {
+        /// How many clients there are, 0 to 31.
+        clients: u8,
+        /// How often each of them submits, 0 to 256.
+        submits: u16,
+        /// What each of them submits; the stage is 1 to 14.
+        stage: u8,
+        key: u64,
+        amount: u64,
+        /// How many cancellers there are, 0 to 31.
+        cancellers: u8,
+        /// The most turns of each server, 0 to 10,000.
+        turns: u16,
+    },
+    /// The servers take turns until a whole round of them finds nothing.
+    Drain,
+}
+
+impl Command {
+    ghost use Rattle.tp_script.specs.Passes.{is_race, racers};
+
+    /// Whether it is a race.
+    fn is_race(self) -> bool
+        ensures { result ≡ is_race self }
+    {
+        matches!(self, Command::Race { .. })
+    }
+
+    /// How many passes it needs for itself: those of a race's clients and cancellers.
+    pub fn racers(self) -> u16
+        ensures { result ≡ racers self }
+    {
+        match self {
+            Command::Race {
+                clients,
+                cancellers,
+                ..
+            } => u16::from(clients) + u16::from(cancellers),
+            _ => 0,
+        }
+    }
+}
+
+/// A whole script.
+#[derive(Drop)]
+pub struct Script {
+    /// The limits that it sets.
+    pub settings: Settings,
+    /// Its servers, in the order of their lines.
+    pub servers: Vec<ScriptServer>,
+    /// Its commands, in their order.
+    pub commands: Vec<Command>,
+    // How many passes it needs.
+    pass_count: u16,
+    ghost few_servers: { vec_len servers ≤ MOST_SERVERS },
+    ghost passes_counted: { pass_count ≡ 1 + vec_len servers + racing commands.items },
+    ghost few_passes: { pass_count ≤ MOST_PASSES },
+    ghost commands_in_range: { All (IsInRange (vec_len servers)) commands.items } by { Prim.hlevel IsInRange-prop },
+}
+
+impl Script {
+    ghost use Rattle.tp_script.specs.Grammar.{no_lines};
+    ghost use Rattle.tp_script.specs.Passes.{has_race};
+    ghost use Rattle.tp_script.specs.Script.{script_view, server_view, passes};
+    ghost use Rattle.tp_script.specs.ServerLines.{with_server};
+    ghost use Rattle.tp_script.specs.Commands.{with_command};
+    ghost use Rattle.tp_script.specs.Reading.{GivesScript};
+
+    /// A script without lines.
+    pub(crate) fn new(alloc: Global) -> Script
+        ensures { script_view result ≡ no_lines }
+    {
+        Script {
+            settings: Settings {
+                rows: 64,
+                units: 256,
+                attempts: 3,
+            },
+            servers: Vec::new(alloc),
+            commands: Vec::new(alloc),
+            pass_count: 1,
+        }
+    }
+
+    /// How many passes it needs: the client's, one for each server, and those of its races.
+    pub fn passes(&self) -> u16
+        ensures value { result ≡ passes (script_view self.now) }
+        ensures bound { result ≤ MOST_PASSES }
+    {
+        self.pass_count
+    }
+
+    /// Whether there is a race among its commands.
+    pub fn has_race(&self) -> bool
+        ensures { result ≡ has_race self.now.commands.items }
+    {
+        self.commands.iter().any(|command| command.is_race())
+    }
+
+    /// Adds a server.
+    #[tactic(auto, using(crate::proofs::ScriptLemmas::racing_none, crate::proofs::ScriptLemmas::all_in_range_none))]
+    pub(crate) fn add_server(&mut self, server: ScriptServer) -> Result<(), LineError>
+        requires few { vec_len self.old.servers < MOST_SERVERS }
+        requires first { vec_len self.old.commands ≡ 0 }
+        ensures { GivesScript self.new result (Ok (with_server (server_view server) (script_view self.old))) }
+    {
+        self.servers.push(server)?;
+        self.pass_count += 1;
+        Ok(())
+    }
+
+    /// Adds a command, unless the script needs more passes then than there can be.
+    #[tactic(auto, unfolding(crate::specs::Commands::with_command), using(std::proofs::lemmas::List::Sums::sum_by_push, crate::proofs::ScriptLemmas::all_in_range_push))]
+    pub(crate) fn add(&mut self, command: Command) -> Result<(), LineError>
+        requires { IsInRange (vec_len self.old.servers) command }
+        ensures { GivesScript self.new result (with_command command (script_view self.old)) }
+    {
+        let racers = command.racers();
+        if racers > MOST_PASSES - self.pass_count {
+            return Err(LineError::Fault(LineFault::BadLimits));
+        }
+        self.commands.push(command)?;
+        self.pass_count += racers;
+        Ok(())
+    }
+}

@@ -1,0 +1,194 @@
+//! The lines that make servers.
+ghost use Rattle.std.specs.Prelude.{◌≡◌, ◌≤◌, ◌<◌, map, length, IfOk, IfSome, OnOk, position, vec_len, string_bytes, replicate, Ok, is_ok};
+ghost use Rattle.std.specs.Str.{bytes_eq};
+ghost use Rattle.tp_server.specs.Check.{check_of};
+ghost use Rattle.tp_script.specs.Reading.{Gives, GivesScript, shape_view};
+ghost use Rattle.tp_script.specs.Script.{script_view, server_view};
+ghost use Rattle.tp_script.specs.ServerLines.{server_at, shape_at, new_name, recipe_at, registers_for, server_line, begun, begin_at, start_line};
+
+use crate::fault::{LineError, LineFault};
+use crate::reach::Reach;
+use crate::script::{Kind, Script, ScriptServer};
+use crate::terms::{act_at, all_outputs, is_name, kind_at, name_text, number_at, outputs_at};
+use std::alloc::Global;
+use std::string::String;
+use tp_server::{Act, Recipe, Registers};
+
+// The words of a server line, each in its place.
+#[derive(Clone, Copy)]
+struct Shape<'a> {
+    name: &'a [u8],
+    kind: Kind,
+    stage: &'a [u8],
+    registers: &'a [u8],
+    act: Act,
+    outputs: &'a [&'a [u8]],
+}
+
+// NAME KIND STAGE REGISTERS ACT OUT..
+#[tactic(auto, unfolding(crate::specs::ServerLines::shape_at))]
+fn shape_at<'a>(words: &'a [&'a [u8]]) -> Result<Shape<'a>, LineError>
+    ensures gives { Gives shape_view result (shape_at (map (λ x. x.now) words.now)) }
+    ensures few { IfOk result (λ shape. length shape.outputs.now ≤ 4) }
+{
+    let [name, kind, stage, registers, act, outputs @ ..] = words else {
+        return Err(LineError::Fault(LineFault::Syntax));
+    };
+    let kind = kind_at(kind)?;
+    let act = act_at(act)?;
+    if outputs.len() > 4 || !all_outputs(outputs) {
+        return Err(LineError::Fault(LineFault::Syntax));
+    }
+    Ok(Shape {
+        name,
+        kind,
+        stage,
+        registers,
+        act,
+        outputs,
+    })
+}
+
+// The numbers of a server line.
+#[tactic(auto, unfolding(crate::specs::ServerLines::recipe_at))]
+fn recipe_at(alloc: Global, shape: &Shape<'_>) -> Result<Recipe, LineError>
+    requires { length shape.now.outputs.now ≤ 4 }
+    ensures { Gives (λ r. r) result (recipe_at (shape_view shape.now)) }
+{
+    let stage = number_at(shape.stage, 255)? as u8;
+    let registers = number_at(shape.registers, 255)? as u8;
+    let outputs = outputs_at(alloc, shape.outputs)?;
+    let act = shape.act;
+    Ok(Recipe {
+        stage,
+        registers,
+        act,
+        outputs,
+    })
+}
+
+// The registers of a good recipe, all zero.
+#[tactic(auto, unfolding(crate::specs::ServerLines::registers_for))]
+fn registers_for(recipe: &Recipe) -> Result<Registers, LineError>
+    ensures gives { Gives (λ r. r) result (registers_for recipe.now) }
+    ensures checked { OnOk result (check_of recipe.now ≡ Ok tt) }
+    ensures counted { IfOk result (λ r. length r ≡ recipe.now.registers) }
+{
+    match recipe.check() {
+        Ok(()) => match Registers::new(recipe.registers) {
+            Some(registers) => Ok(registers),
+            None => unreachable!(),
+        },
+        Err(_) => Err(LineError::Fault(LineFault::BadRecipe)),
+    }
+}
+
+impl Script {
+    // The place of the server of this name in memory.
+    fn find(&self, name: &[u8]) -> Option<usize>
+        ensures found { result ≡ position (λ server. bytes_eq (string_bytes server.name) name.now) self.now.servers.items }
+        ensures within { IfSome result (λ i. i < vec_len self.now.servers) }
+    {
+        self.servers
+            .iter()
+            .position(|server| server.name.as_bytes() == name)
+    }
+
+    // The place of the server of this name, if there is one.
+    fn place(&self, name: &[u8]) -> Option<usize>
+        ensures found { result ≡ position (λ server. bytes_eq server.name name.now) (script_view self.now).servers }
+        ensures within { IfSome result (λ i. i < vec_len self.now.servers) }
+    {
+        self.find(name)
+    }
+
+    /// The place of the server of this name.
+    pub(crate) fn server_at(&self, name: &[u8]) -> Result<usize, LineError>
+        ensures gives { Gives (λ x. x) result (server_at name.now (script_view self.now)) }
+        ensures within { IfOk result (λ i. i < vec_len self.now.servers) }
+    {
+        match self.place(name) {
+            Some(i) => Ok(i),
+            None => Err(LineError::Fault(LineFault::BadName)),
+        }
+    }
+
+    // A name that no server has yet.
+    #[tactic(auto, unfolding(crate::specs::ServerLines::new_name))]
+    fn new_name(&self, alloc: Global, name: &[u8]) -> Result<String, LineError>
+        ensures { Gives (λ x. string_bytes x) result (new_name name.now (script_view self.now)) }
+    {
+        if !is_name(name) || self.place(name).is_some() {
+            return Err(LineError::Fault(LineFault::BadName));
+        }
+        Ok(String::from_str(alloc, name_text(name))?)
+    }
+
+    /// `server NAME KIND STAGE REGISTERS ACT OUT..`
+    #[tactic(auto, unfolding(crate::specs::ServerLines::server_line))]
+    pub(crate) fn server_line(
+        &mut self,
+        alloc: Global,
+        reach: Reach,
+        words: &[&[u8]],
+    ) -> Result<(), LineError>
+        ensures { GivesScript self.new result (server_line reach (map (λ x. x.now) words.now) (script_view self.old)) }
+    {
+        let shape = shape_at(words)?;
+        if !self.commands.is_empty() {
+            return Err(LineError::Fault(LineFault::Order));
+        }
+        let name = self.new_name(alloc, shape.name)?;
+        let recipe = recipe_at(alloc, &shape)?;
+        if self.servers.len() >= reach.most_servers() {
+            return Err(LineError::Fault(LineFault::BadLimits));
+        }
+        let registers = registers_for(&recipe)?;
+        let kind = shape.kind;
+        self.add_server(ScriptServer {
+            name,
+            kind,
+            recipe,
+            registers,
+        })
+    }
+
+    /// `start NAME K V`
+    #[tactic(auto, unfolding(crate::specs::ServerLines::start_line))]
+    pub(crate) fn start_line(&mut self, words: (&[u8], &[u8], &[u8])) -> Result<(), LineError>
+        ensures { GivesScript self.new result (start_line (words.entry.0.now, words.entry.1.now, words.entry.2.now) (script_view self.old)) }
+    {
+        if !self.commands.is_empty() {
+            return Err(LineError::Fault(LineFault::Order));
+        }
+        if !is_name(words.0) {
+            return Err(LineError::Fault(LineFault::BadName));
+        }
+        let server = self.server_at(words.0)?;
+        let k = number_at(words.1, u64::MAX)?;
+        let v = number_at(words.2, u64::MAX)?;
+        self.begin_at(server, k, v)
+    }
+
+    // Register k of the server at a place begins with v.
+    fn begin_at(&mut self, place: usize, k: u64, v: u64) -> Result<(), LineError>
+        requires { place < vec_len self.old.servers }
+        ensures { GivesScript self.new result (begin_at place k v (script_view self.old)) }
+    {
+        self.servers[place].begin(k, v)
+    }
+}
+
+impl ScriptServer {
+    // Register k begins with v.
+    #[tactic(auto, unfolding(crate::specs::ServerLines::begun))]
+    fn begin(&mut self, k: u64, v: u64) -> Result<(), LineError>
+        ensures { Gives (λ _. server_view self.new) result (begun k v (server_view self.old)) }
+    {
+        if k >= u64::from(self.registers.len()) {
+            return Err(LineError::Fault(LineFault::BadRecipe));
+        }
+        self.registers.set(k, v);
+        Ok(())
+    }
+}

@@ -1,0 +1,103 @@
+//! Where a script comes from.
+ghost use Rattle.std.specs.Prelude.{◌≡◌, false, ◌+◌, ◌^◌, ◌<◌, ◌≤◌, ℕ, List, Bool, Option, length, take, min, vec_len, IfOk, IfSome, OnErr, IsTrue, IsErrOf};
+ghost use Rattle.std.specs.Io.KnownBytes.{ReadConsumes};
+ghost use Rattle.tp_script.specs.Devices.{StopsReading, HasNoScript};
+
+use crate::fault::ReadFault;
+use std::alloc::{AllocError, Global};
+use std::io::Read;
+
+/// A reader or a writer has failed.
+#[derive(Clone, Copy, Debug, PartialEq, Eq)]
+pub struct Failed;
+
+/// A reader of bytes. Contracts see the bytes that it has left, where these are known, how often it was asked, and
+/// whether it has failed.
+pub trait Source {
+    ghost rest: { Self → Option (List ℕ) };
+
+    ghost asked: { Self → ℕ };
+
+    ghost has_failed: { Self → Bool };
+
+    /// Puts the next bytes into the front of the buffer, and answers how many: 0 at the end of the bytes, or where the
+    /// buffer is empty. `Failed` where the reader failed.
+    fn read(&mut self, buffer: &mut [u8]) -> Result<usize, Failed>
+        requires { asked self.old + 1 < 2 ^ 64 }
+        ensures count { IfOk result (λ n. n ≤ length buffer.new) }
+        ensures bytes { ReadConsumes (rest self.old) (rest self.new) result buffer.new }
+        ensures once { asked self.new ≡ asked self.old + 1 }
+        ensures failed { OnErr result (IsTrue (has_failed self.new)) };
+}
+
+/// A reader of std as a source.
+#[derive(Drop)]
+pub struct StdSource<R: Read> {
+    reader: R,
+    asked: u64,
+    failed: bool,
+}
+
+impl<R: Read> StdSource<R> {
+    /// The reader as a source that wasn't asked yet, and hasn't failed.
+    pub fn new(reader: R) -> Self
+        ensures reader { result.reader ≡ reader }
+        ensures asked { result.asked ≡ 0 }
+        ensures failed { result.failed ≡ false }
+    {
+        StdSource {
+            reader,
+            asked: 0,
+            failed: false,
+        }
+    }
+}
+
+impl<R: Read> Source for StdSource<R> {
+    ghost rest = { λ s. R.remaining s.reader };
+
+    ghost asked = { λ s. s.asked };
+
+    ghost has_failed = { λ s. s.failed };
+
+    fn read(&mut self, buffer: &mut [u8]) -> Result<usize, Failed> {
+        self.asked += 1;
+        match self.reader.read(buffer) {
+            Ok(n) => Ok(n),
+            Err(_) => {
+                self.failed = true;
+                Err(Failed)
+            }
+        }
+    }
+}
+
+/// The longest script.
+pub const MOST_BYTES: usize = 65_536;
+
+/// How often a reader is asked at most.
+pub const MOST_REQUESTS: u32 = 100_000;
+
+/// What the source gives up to its end, or the bytes past which a script is too long.
+pub fn read_all<S: Source>(alloc: Global, source: &mut S) -> Result<Vec<u8>, ReadFault>
+    requires { S.asked source.old + MOST_REQUESTS < 2 ^ 64 }
+    ensures bytes { IfOk result (λ read. IfSome (S.rest source.old) (λ all. read.items ≡ take (MOST_BYTES + 1) all)) }
+    ensures no_script { HasNoScript result }
+    ensures asked { S.asked source.new ≤ S.asked source.old + MOST_REQUESTS }
+    ensures fault { IsErrOf result ReadFault.Read → StopsReading (S.has_failed source.new) (S.asked source.old) (S.asked source.new) }
+{
+    let mut read = Vec::new(alloc);
+    for _ in 0..MOST_REQUESTS {
+        let mut buffer = [0; 4096];
+        let room = buffer.len().min(MOST_BYTES + 1 - read.len());
+        let n = source.read(&mut buffer[..room])?;
+        if n == 0 {
+            return Ok(read);
+        }
+        read.extend_from_slice(&buffer[..n])?;
+        if read.len() > MOST_BYTES {
+            return Ok(read);
+        }
+    }
+    Err(ReadFault::Read)
+}

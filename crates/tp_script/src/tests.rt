@@ -1,0 +1,4 @@
+//! What scripts are read as, and how they are refused.
+
+mod hostile;
+mod read;
