@@ -1,3 +1,4 @@
 //! The lines of answers.
 
 mod answers;
+mod interrupted;
