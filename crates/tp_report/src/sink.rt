@@ -3,7 +3,7 @@ ghost use Rattle.std.specs.Prelude.{◌≡◌, false, ◌<◌, ◌≤◌, ℕ, L
 ghost use Rattle.std.specs.Io.KnownBytes.{WriteAppends, Appends};
 ghost use Rattle.tp_report.specs.Written.{AppendsFront};
 
-use std::io::Write;
+use std::io::{ErrorKind, Write};
 use tp_script::Failed;
 
 /// A writer of bytes. Contracts see the bytes that it holds, where these are known, and whether it has failed. To take
@@ -48,19 +48,40 @@ impl<W: Write> Sink for StdSink<W> {
     ghost has_failed = { λ s. s.failed };
 
     fn write(&mut self, bytes: &[u8]) -> Result<usize, Failed> {
-        match self.writer.write(bytes) {
+        match write_again(&mut self.writer, bytes) {
             Ok(n) => {
                 if n == 0 && !bytes.is_empty() {
                     self.failed = true;
                 }
                 Ok(n)
             }
-            Err(_) => {
+            Err(Failed) => {
                 self.failed = true;
                 Err(Failed)
             }
         }
     }
+}
+
+/// How often at most a write is tried that a signal interrupts each time.
+const TRIES: u32 = 1_000;
+
+/// One write, which is tried again where a signal interrupts it.
+fn write_again<W: Write>(writer: &mut W, bytes: &[u8]) -> Result<usize, Failed>
+    ensures count { IfOk result (λ n. n ≤ length bytes.now) }
+    ensures bytes { WriteAppends (W.contents writer.old) (W.contents writer.new) result bytes.now }
+{
+    for _try in 0..TRIES {
+        match writer.write(bytes) {
+            Ok(n) => return Ok(n),
+            Err(fault) => {
+                if fault.kind() != ErrorKind::Interrupted {
+                    return Err(Failed);
+                }
+            }
+        }
+    }
+    Err(Failed)
 }
 
 /// Writes all the bytes, or a front of them.

@@ -5,7 +5,7 @@ ghost use Rattle.tp_script.specs.Devices.{StopsReading, HasNoScript};
 
 use crate::fault::ReadFault;
 use std::alloc::{AllocError, Global};
-use std::io::Read;
+use std::io::{ErrorKind, Read};
 
 /// A reader or a writer has failed.
 #[derive(Clone, Copy, Debug, PartialEq, Eq)]
@@ -62,14 +62,35 @@ impl<R: Read> Source for StdSource<R> {
 
     fn read(&mut self, buffer: &mut [u8]) -> Result<usize, Failed> {
         self.asked += 1;
-        match self.reader.read(buffer) {
+        match read_again(&mut self.reader, buffer) {
             Ok(n) => Ok(n),
-            Err(_) => {
+            Err(Failed) => {
                 self.failed = true;
                 Err(Failed)
             }
         }
     }
+}
+
+/// How often at most a read is tried that a signal interrupts each time.
+const TRIES: u32 = 1_000;
+
+/// One read, which is tried again where a signal interrupts it.
+fn read_again<R: Read>(reader: &mut R, buffer: &mut [u8]) -> Result<usize, Failed>
+    ensures count { IfOk result (λ n. n ≤ length buffer.new) }
+    ensures bytes { ReadConsumes (R.remaining reader.old) (R.remaining reader.new) result buffer.new }
+{
+    for _try in 0..TRIES {
+        match reader.read(buffer) {
+            Ok(n) => return Ok(n),
+            Err(fault) => {
+                if fault.kind() != ErrorKind::Interrupted {
+                    return Err(Failed);
+                }
+            }
+        }
+    }
+    Err(Failed)
 }
 
 /// The longest script.

@@ -6,7 +6,9 @@ mod faults;
 mod hostile;
 mod plain;
 mod read;
+mod reads;
 mod rows;
+mod writes;
 
 use std::process::Abort;
 use std::thread::Threads;

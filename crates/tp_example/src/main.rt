@@ -1,0 +1,88 @@
+//! A small shop on the manager of requests: orders are submitted, a server of the shop's own takes them from its stock, and
+//! replies tell what was left.
+#![tactic(auto)]
+
+ghost use Rattle.std.specs.Prelude.{◌≡◌, None};
+ghost use Rattle.tp_manager.specs.Shown.{IsOf};
+
+mod sales;
+mod stock;
+mod trouble;
+
+use sales::sell;
+use std::process::ExitCode;
+use stock::Stock;
+use tp_manager::{Keeper, Manager, Pass};
+use tp_model::types::Limits;
+use tp_server::Server;
+use trouble::Trouble;
+
+fn main(rt: HostRuntime) -> ExitCode {
+    match trade(&rt) {
+        Ok(()) => ExitCode::SUCCESS,
+        Err(trouble) => {
+            let _ = eprintln!(&rt; "{trouble:?}");
+            ExitCode::FAILURE
+        }
+    }
+}
+
+/// Three orders, of which the second asks for more than there is.
+fn trade(rt: &HostRuntime) -> Result<(), Trouble> {
+    let limits = Limits {
+        parts: 2,
+        rows: 8,
+        units: 8,
+        attempts: 3,
+    };
+    let (manager, mut keeper) = Keeper::new(rt.alloc(), limits)?;
+    let mut client = keeper.pass(&manager)?;
+    let mut shop = keeper.pass(&manager)?;
+
+    let first = manager.submit(&mut client, 1, 0, 5)?;
+    let second = manager.submit(&mut client, 1, 0, 9)?;
+    let third = manager.submit(&mut client, 1, 0, 4)?;
+    open_shop(rt, &manager, &mut shop, 12)?;
+    tell(rt, &manager, &mut client, first)?;
+    tell(rt, &manager, &mut client, second)?;
+    tell(rt, &manager, &mut client, third)?;
+    if let Some(id) = manager.next_error(&mut client, 0) {
+        println!(rt; "order {id} is parked")?;
+    }
+    Ok(())
+}
+
+/// Sells from a stock of so many goods.
+fn open_shop(
+    rt: &HostRuntime,
+    manager: &Manager,
+    pass: &mut Pass,
+    goods: u64,
+) -> Result<(), Trouble>
+    requires own { IsOf manager.now pass.old }
+    requires free { pass.old.open_unit ≡ None }
+    ensures own { IsOf manager.now pass.new }
+{
+    let mut stock: Box<dyn Server + Send> = Box::new(rt.alloc(), Stock::new(goods))?;
+    let sales = sell(manager, pass, &mut stock, 8);
+    println!(rt; "sold {}, short {}", sales.sold, sales.short)?;
+    if let Some(left) = stock.balance(0) {
+        println!(rt; "{left} of {goods} in stock")?;
+    }
+    Ok(())
+}
+
+/// What became of an order.
+fn tell(rt: &HostRuntime, manager: &Manager, client: &mut Pass, order: u32) -> Result<(), Trouble>
+    requires own { IsOf manager.now client.old }
+    ensures own { IsOf manager.now client.new }
+{
+    match manager.reply(client, order, 0) {
+        Some(id) => {
+            let reply = manager.read(client, id)?;
+            println!(rt; "order {order}: {} left", reply.element.amount)?;
+        }
+        None => println!(rt; "order {order}: no reply")?,
+    }
+    Ok(())
+}

@@ -1,0 +1,72 @@
+//! The orders of a day, worked off.
+ghost use Rattle.std.specs.Prelude.{◌≡◌, None};
+ghost use Rattle.tp_model.specs.Counts.{taken};
+ghost use Rattle.tp_manager.specs.Shown.{IsOf};
+ghost use Rattle.tp_server.specs.declared.recipe.Act.TheVariants.{Take};
+ghost use Rattle.tp_desk.specs.Serving.{Leaves, gained};
+ghost use Rattle.tp_example.specs.Sales.{AddsUp};
+
+use tp_desk::{Desk, Turned};
+use tp_manager::{Manager, Pass};
+use tp_server::Server;
+
+/// How many turns sold something, and how many found too little in stock.
+#[derive(Clone, Copy, Debug, PartialEq, Eq)]
+pub struct Sales {
+    pub sold: u32,
+    pub short: u32,
+}
+
+/// Sells in at most so many turns, or until no order waits. What is left in stock and what the orders took that were
+/// committed meanwhile make what there was before, whatever other threads did.
+pub fn sell(
+    manager: &Manager,
+    pass: &mut Pass,
+    stock: &mut Box<dyn Server + Send>,
+    turns: u32,
+) -> Sales
+    requires own { IsOf manager.now pass.old }
+    requires free { pass.old.open_unit ≡ None }
+    requires unprepared { pending stock.old ≡ None }
+    requires takes { (recipe stock.old).act ≡ Take }
+    ensures own { IsOf manager.now pass.new }
+    ensures free { pass.new.open_unit ≡ None }
+    ensures unprepared { pending stock.new ≡ None }
+    ensures recipe { recipe stock.new ≡ recipe stock.old }
+    ensures adds_up { AddsUp (registers stock.old) (registers stock.new)
+        (taken (gained pass.old.mine pass.new.mine) pass.new.seen) }
+{
+    work_off(manager, pass, stock, turns)
+}
+
+/// Has a desk take the turns. What it leaves is what every lender of a pass and a server can count on.
+fn work_off(
+    manager: &Manager,
+    pass: &mut Pass,
+    stock: &mut Box<dyn Server + Send>,
+    turns: u32,
+) -> Sales
+    requires own { IsOf manager.now pass.old }
+    requires free { pass.old.open_unit ≡ None }
+    requires unprepared { pending stock.old ≡ None }
+    ensures own { IsOf manager.now pass.new }
+    ensures free { pass.new.open_unit ≡ None }
+    ensures unprepared { pending stock.new ≡ None }
+    ensures recipe { recipe stock.new ≡ recipe stock.old }
+    ensures leaves { Leaves (recipe stock.new) (registers stock.old) (registers stock.new) pass.old pass.new }
+{
+    let mut sales = Sales { sold: 0, short: 0 };
+    let mut desk = Desk::new(manager, pass, stock);
+    for _turn in 0..turns {
+        match desk.turn() {
+            Turned::Idle => break,
+            Turned::NoUnit => break,
+            Turned::Done { .. } => sales.sold += 1,
+            Turned::Refused { .. } => sales.short += 1,
+            Turned::Lost { .. } => {}
+            Turned::Full { .. } => {}
+        }
+    }
+    desk.end();
+    sales
+}

@@ -1,0 +1,102 @@
+//! A server of one's own: a stock of goods, from which orders take.
+ghost use Rattle.std.specs.Prelude.{◌≡◌, ℕ, List, Option, [], ◌∷◌, Ok, Some, None};
+ghost use Rattle.std.specs.Option.{option_map};
+ghost use Rattle.tp_server.specs.Check.{check_of};
+ghost use Rattle.tp_server.specs.declared.recipe.Act.TheVariants.{Take};
+ghost use Rattle.tp_server.specs.declared.recipe.KeyFrom.TheVariants.{Same};
+ghost use Rattle.tp_server.specs.declared.recipe.AmountFrom.TheVariants.{After};
+
+use arrayvec::ArrayVec;
+use tp_model::types::{Draft, Element};
+use tp_server::{Act, AmountFrom, Declined, KeyFrom, Output, Recipe, Server};
+
+/// Takes each order of stage 1 from the stock, and replies with what is left. An order for more than that is declined.
+#[derive(Debug, Drop)]
+pub struct Stock {
+    recipe: Recipe,
+    left: u64,
+    /// What will be left, while an order is prepared.
+    after: Option<u64>,
+    ghost checked: { check_of recipe ≡ Ok tt },
+    ghost one: { recipe.registers ≡ 1 },
+    ghost takes: { recipe.act ≡ Take },
+    ghost replies: { recipe.outputs.items ≡ record { stage = 15; key = Same; amount = After } ∷ [] },
+}
+
+impl Stock {
+    pub fn new(left: u64) -> Stock
+        ensures takes { (⟦<Stock as Server>⟧.recipe result).act ≡ Take }
+        ensures registers { ⟦<Stock as Server>⟧.registers result ≡ left ∷ [] }
+        ensures unprepared { ⟦<Stock as Server>⟧.pending result ≡ None }
+    {
+        let mut outputs = ArrayVec::new();
+        outputs.push(Output {
+            stage: 15,
+            key: KeyFrom::Same,
+            amount: AmountFrom::After,
+        });
+        let recipe = Recipe {
+            stage: 1,
+            registers: 1,
+            act: Act::Take,
+            outputs,
+        };
+        Stock {
+            recipe,
+            left,
+            after: None,
+        }
+    }
+}
+
+impl Server for Stock {
+    ghost recipe = { λ s. s.recipe };
+
+    ghost registers = { λ s. s.left ∷ [] };
+
+    ghost pending = { λ s. option_map (λ after. after ∷ []) s.after };
+
+    fn stage(&self) -> u8 {
+        self.recipe.stage
+    }
+
+    fn recipe(&self) -> &Recipe {
+        &self.recipe
+    }
+
+    fn balance(&self, k: u64) -> Option<u64> {
+        if k == 0 { Some(self.left) } else { None }
+    }
+
+    fn is_prepared(&self) -> bool {
+        self.after.is_some()
+    }
+
+    fn prepare(&mut self, order: &Element) -> Result<ArrayVec<Draft, 4>, Declined> {
+        if order.key != 0 {
+            return Err(Declined::NoRegister);
+        }
+        if order.amount > self.left {
+            return Err(Declined::Short);
+        }
+        let after = self.left - order.amount;
+        let mut replies = ArrayVec::new();
+        match Draft::new(15, order.key, after) {
+            Some(reply) => replies.push(reply),
+            None => unreachable!(),
+        }
+        self.after = Some(after);
+        Ok(replies)
+    }
+
+    fn commit(&mut self) {
+        if let Some(after) = self.after {
+            self.left = after;
+        }
+        self.after = None;
+    }
+
+    fn undo(&mut self) {
+        self.after = None;
+    }
+}

@@ -1,0 +1,38 @@
+//! Why the shop could not go on.
+
+use std::alloc::AllocFailed;
+use std::io;
+use tp_manager::MakeFault;
+use tp_model::types::Refusal;
+
+#[derive(Debug, Drop)]
+pub enum Trouble {
+    NoManager(MakeFault),
+    NoMemory,
+    NoOutput,
+    Refused(Refusal),
+}
+
+impl From<MakeFault> for Trouble {
+    fn from(fault: MakeFault) -> Trouble {
+        Trouble::NoManager(fault)
+    }
+}
+
+impl<T: Drop> From<AllocFailed<T>> for Trouble {
+    fn from(_: AllocFailed<T>) -> Trouble {
+        Trouble::NoMemory
+    }
+}
+
+impl From<io::Error> for Trouble {
+    fn from(_: io::Error) -> Trouble {
+        Trouble::NoOutput
+    }
+}
+
+impl From<Refusal> for Trouble {
+    fn from(refusal: Refusal) -> Trouble {
+        Trouble::Refused(refusal)
+    }
+}
