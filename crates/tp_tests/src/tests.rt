@@ -4,11 +4,10 @@ mod answers;
 mod devices;
 mod faults;
 mod hostile;
+mod interrupted;
 mod plain;
 mod read;
-mod reads;
 mod rows;
-mod writes;
 
 use std::process::Abort;
 use std::thread::Threads;
