@@ -166,7 +166,6 @@ module _ (l : Limits) where
   never_free (TakenWord n u) z not r = λ p. ⊎_elim (λ q. absurd cc) (λ t. ⊎_elim (λ (less : n < attempt_in z). (let e : attempt_in z ≡ 0 = ap attempt_in p in absurd (omega arith))) (λ q. absurd cc) t) r
   never_free (KilledWord n u) z not r = λ p. absurd cc
 
-
 -- a result whose parts tell more
 pub match_map : {A B : Type 0} (P P' : A → Type 0) (Q Q' : B → Type 0) (r : Result A B) → ((a : A) → P a → P' a) → ((b : B) → Q b → Q' b) → MatchResult r P Q → MatchResult r P' Q'
 match_map P P' Q Q' (Ok a) f g m = f a m

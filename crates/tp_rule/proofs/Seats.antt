@@ -124,8 +124,11 @@ module _ (k : Limits) where
       let t = looks_knowing v (head_place row) has s r id at known so (λ x p. there p) in (
         after kinds.Load unchanged r.history known v,
         t.0,
-        (t.1, λ i head is packed fit. let same : row ≡ i = omega arith in let is_head : head ≡ told.head = head_told head told.head fit told.fit (sym packed ∙ told.packed) in
-            subst (λ (z : ℕ × Head). In (RowHead z.0 z.1) known) (λ j. (same j, sym is_head j)) here),
+        (
+          t.1,
+          λ i head is packed fit. let same : row ≡ i = omega arith in let is_head : head ≡ told.head = head_told head told.head fit told.fit (sym packed ∙ told.packed) in
+              subst (λ (z : ℕ × Head). In (RowHead z.0 z.1) known) (λ j. (same j, sym is_head j)) here,
+        ),
       )
 
 pub one_has : (v : View) → IsOnePass v → HasPass v

@@ -58,5 +58,9 @@ module _ (l : Limits) where
 
     -- what was found in words that stay is still so, if no head is stored but over an empty one
     pub still_left : ((i : ℕ) → w ≡ HeadWord i → get_or ws (head_place i) 0 ≡ 0) → (known : Known) → StillSo l ws known → StillSo l (set ws (place_of l w) x) known
-    still_left empty (RowHead i head) t = (t.0, t.1, λ some. same_or_other (HeadWord i) w t.0 at
-        (λ e. absurd (full_head head some (sym (t.2 some) ∙ empty i (sym e)))) (λ other. left (HeadWord i) t.0 other ∙ t.2 some))
+    still_left empty (RowHead i head) t = (
+      t.0,
+      t.1,
+      λ some. same_or_other (HeadWord i) w t.0 at
+          (λ e. absurd (full_head head some (sym (t.2 some) ∙ empty i (sym e)))) (λ other. left (HeadWord i) t.0 other ∙ t.2 some),
+    )

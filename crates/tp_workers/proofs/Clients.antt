@@ -4,7 +4,6 @@ use Rattle.tp_model.specs.declared.event.Event.TheVariants.{Enqueue}
 use Rattle.tp_model.specs.declared.types.Refusal.{Refusal}
 use Rattle.tp_manager.specs.Shown.{PassShown}
 use Rattle.tp_model.specs.Births.{request}
-
 use Rattle.tp_workers.specs.declared.tally.Shift.{Shift}
 use Rattle.tp_workers.specs.Calling.{Called}
 use Rattle.tp_workers.specs.Clients.{IsRequest, SubmitsOnce}

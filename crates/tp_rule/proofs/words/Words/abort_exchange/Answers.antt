@@ -26,8 +26,8 @@ unreachable-requires c = let t = says (goal.at.unreachable-requires c).Else-was-
 pub returns-clause-miss : goal.returns-clause-miss
 returns-clause-miss c = let at = (goal.at.returns-clause-miss c).Else-was-eq-UNIT_UNDECIDED in let t = says at in let now = map_some unit_value _ _ _ c.in-Some.is (c.unpack.ensures.of_pack _ t.1 t.0) in let told = c.compare_exchange-was.ensures.told in
     let same : c.compare_exchange-was.ensures.told.0 ≡ c.args.unit = search rules in record {
-  ended = λ none. decided at (t.0 ∙ ap pack_unit (sym now ∙ none));
-  found_is = now;
-  own = λ held. subst (λ u. Loses kinds.AbortExchange (view_of c.args.seat.now) u (view_of c.compare_exchange-was.new.seat)) same (told.3 (decided at) (held ∙ ap Some (sym same)));
-  other = λ none. told.4 (decided at) none;
-}
+      ended = λ none. decided at (t.0 ∙ ap pack_unit (sym now ∙ none));
+      found_is = now;
+      own = λ held. subst (λ u. Loses kinds.AbortExchange (view_of c.args.seat.now) u (view_of c.compare_exchange-was.new.seat)) same (told.3 (decided at) (held ∙ ap Some (sym same)));
+      other = λ none. told.4 (decided at) none;
+    }
