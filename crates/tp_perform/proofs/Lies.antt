@@ -17,7 +17,7 @@ use Rattle.tp_desk.proofs.Keeping.{still_steady}
 use Rattle.tp_workers.specs.declared.tally.Shift.{Shift}
 use Rattle.tp_workers.specs.Desks.{IsDeskOf}
 use Rattle.tp_workers.specs.Free.{IsFreePass}
-use Rattle.tp_workers.specs.Ran.{RanAll, RanEach}
+use Rattle.tp_workers.specs.Ran.{RanAll}
 use Rattle.tp_perform.specs.declared.place.Place.{Place}
 use Rattle.tp_perform.specs.Places.{AllLie, IsFreeAt, Lies}
 

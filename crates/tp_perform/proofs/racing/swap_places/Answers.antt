@@ -1,4 +1,4 @@
-use Rattle.std.proofs.Common.{arith, ap, length, ◌≡◌, ◌<◌}
+use Rattle.std.proofs.Common.{arith}
 use Rattle.tp_manager.specs.Shown.{IsOf}
 use Rattle.tp_perform.proofs.Alls.{all_swap}
 use Rattle.tp_perform.proofs.Lies.{lie_passes, lie_servers, lie_swap}
