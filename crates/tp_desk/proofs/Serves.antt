@@ -9,14 +9,14 @@ use Rattle.tp_model.specs.declared.event.Event.{Event}
 use Rattle.tp_model.specs.declared.event.Event.TheVariants.{Enqueue, Claim, Commit, Abort, Kill}
 use Rattle.tp_model.specs.Counts.{taken, taken_by}
 use Rattle.tp_model.specs.History.{In, here, there, UnitClaim, claim_by, claim_of, element_of}
-use Rattle.tp_model.proofs.Bridges.{begins_trans, in_either}
+use Rattle.tp_model.proofs.Bridges.{begins_trans, in_either, in_none}
 use Rattle.tp_model.proofs.Histories.{element_of-kept}
 use Rattle.tp_model.proofs.Lists.{first-kept, option_or-some, first-snoc, first-append, option_or-none}
 use Rattle.tp_server.specs.declared.recipe.Recipe.{Recipe}
 use Rattle.tp_server.specs.Effect.{effect_of, fold_from, fold_of, registers_after}
 use Rattle.tp_manager.specs.Calls.{HasEnded}
 use Rattle.tp_manager.specs.Shown.{PassShown}
-use Rattle.tp_desk.specs.Serving.{AreEnded, AreTaken, Serves, gained}
+use Rattle.tp_desk.specs.Serving.{AreEnded, AreFresh, AreTaken, Leaves, Serves, gained}
 
 dropped : (a more : List Event) → drop (length a) (a ++ more) ≡ more
 dropped [] more = refl
@@ -63,14 +63,20 @@ fold_from-append recipe None xs ys = refl
 fold_from-append recipe (Some s) [] ys = refl
 fold_from-append recipe (Some s) (x ∷ xs) ys = fold_from-append recipe (registers_after (effect_of recipe s x)) xs ys
 
+-- no claim among all is none among the first
+unclaimed_before : (a b : List Event) (u : ℕ) → IsPrefix a b → claim_of b u ≡ None → claim_of a u ≡ None
+unclaimed_before a b u p none =
+    (option_or-none (claim_of a u) (claim_of (gained a b) u) (sym (first-append (claim_by u) a (gained a b)) ∙ (sym (ap (λ (l : List Event). claim_of l u) (whole a b p)) ∙ none))).0
+
 -- the pass made these events more, which consumed these elements
 pub serves_more : (recipe : Recipe) (start r r' : List ℕ) (f p q : PassShown) (more : List Event) (es : List Element)
     → q.number ≡ p.number → IsPrefix p.seen q.seen → q.mine ≡ p.mine ++ more
     → filter_map (taken_by (gained f.mine p.mine ++ more) q.seen) more ≡ es
     → ((c u : ℕ) (outs : List Element) → In (Commit c u outs) more → (x : Element) × (taken_by (gained f.mine p.mine ++ more) q.seen (Commit c u outs) ≡ Some x))
     → fold_from recipe (Some r) es ≡ Some r'
+    → AreFresh p.mine more
     → Serves recipe start r f p → Serves recipe start r' f q
-serves_more recipe start r r' f p q more es number seen adds took all folds s =
+serves_more recipe start r r' f p q more es number seen adds took all folds fresh_more s =
     let g : List Event = gained f.mine p.mine in
     let now : gained f.mine q.mine ≡ g ++ more = ap (gained f.mine) adds ∙ gained_more f.mine p.mine more s.mine in
     let same : filter_map (taken_by (g ++ more) q.seen) g ≡ taken g p.seen =
@@ -83,11 +89,15 @@ serves_more recipe start r r' f p q more es number seen adds took all folds s =
     ⊎_elim (λ before. let one = s.claimed c u outs before in
     (one.0, subst (λ (h : List Event). taken_by (g ++ more) h (Commit c u outs) ≡ Some one.0) seen.1 (kept g more p.seen seen.0 (Commit c u outs) one.0 one.1)))
     (λ after. all c u outs after) (in_either g more at) in
+    let fresh : AreFresh f.mine (g ++ more) = λ u t claimed.
+    ⊎_elim (λ before. s.fresh u t before) (λ after. unclaimed_before f.mine p.mine u s.mine (fresh_more u t after.1))
+    (option_or-some (claim_of g u) (claim_of more u) t (sym (first-append (claim_by u) g more) ∙ claimed)) in
     record {
       number = number ∙ s.number;
       seen = begins_trans f.seen p.seen q.seen s.seen seen;
       mine = subst (IsPrefix f.mine) (sym adds) (begun_more f.mine p.mine more s.mine);
       claimed = subst (λ (l : List Event). AreTaken l q.seen) (sym now) claimed;
+      fresh = subst (AreFresh f.mine) (sym now) fresh;
       folded = subst (λ (l : List Event). fold_of recipe start (taken l q.seen) ≡ Some r') (sym now) folded;
     }
 
@@ -119,3 +129,80 @@ ended_other g h o e other all = λ v t claimed.
 pub fresh_gained : (a b : List Event) (u : ℕ) → IsPrefix a b → claim_of b u ≡ None → claim_of (gained a b) u ≡ None
 fresh_gained a b u p none =
     (option_or-none (claim_of a u) (claim_of (gained a b) u) (sym (first-append (claim_by u) a (gained a b)) ∙ (sym (ap (λ (l : List Event). claim_of l u) (whole a b p)) ∙ none))).1
+
+-- ---- one desk after another
+
+-- a unit of later events took the same element, where none of them was claimed before
+taken_later : (g more h : List Event) → AreFresh g more → (c u : ℕ) (outs : List Element) (x : Element) → taken_by more h (Commit c u outs) ≡ Some x → taken_by (g ++ more) h (Commit c u outs) ≡ Some x
+taken_later g more h fresh c u outs x is =
+    option_and_then_some (λ (t : UnitClaim). element_of h t.item) (claim_of more u) x is (λ t claimed found.
+    let none : claim_of g u ≡ None = fresh u t claimed in
+    let both : claim_of (g ++ more) u ≡ Some t = first-append (claim_by u) g more ∙ rw (none) claimed in
+    rw (both) found)
+
+all_later : (g more h es : List Event) → AreFresh g more → ((c u : ℕ) (outs : List Element) → In (Commit c u outs) es → (x : Element) × (taken_by more h (Commit c u outs) ≡ Some x)) → filter_map (taken_by (g ++ more) h) es ≡ filter_map (taken_by more h) es
+all_later g more h [] fresh all = refl
+all_later g more h (Enqueue c y ∷ es) fresh all = all_later g more h es fresh (λ c u outs p. all c u outs (there p))
+all_later g more h (Claim c u i n ∷ es) fresh all = all_later g more h es fresh (λ c u outs p. all c u outs (there p))
+all_later g more h (Commit c u outs ∷ es) fresh all =
+    let one = all c u outs here in
+    let after : taken_by (g ++ more) h (Commit c u outs) ≡ Some one.0 = taken_later g more h fresh c u outs one.0 one.1 in
+    rw (after, one.1) (ap (λ (xs : List Element). one.0 ∷ xs) (all_later g more h es fresh (λ c u outs p. all c u outs (there p))))
+all_later g more h (Abort c u ∷ es) fresh all = all_later g more h es fresh (λ c u outs p. all c u outs (there p))
+all_later g more h (Kill c i ∷ es) fresh all = all_later g more h es fresh (λ c u outs p. all c u outs (there p))
+
+-- what was served goes on from what was served before
+pub serves_then : (recipe : Recipe) (start r r' : List ℕ) (f p q : PassShown) → Serves recipe start r f p → Serves recipe r r' p q → Serves recipe start r' f q
+serves_then recipe start r r' f p q a b =
+    let g : List Event = gained f.mine p.mine in
+    let more : List Event = gained p.mine q.mine in
+    let fresh : AreFresh g more = λ u t claimed. fresh_gained f.mine p.mine u a.mine (b.fresh u t claimed) in
+    serves_more recipe start r r' f p q more (taken more q.seen) b.number b.seen (whole p.mine q.mine b.mine) (all_later g more q.seen more fresh b.claimed)
+    (λ c u outs at. let one = b.claimed c u outs at in (one.0, taken_later g more q.seen fresh c u outs one.0 one.1)) b.folded b.fresh a
+
+-- and the units of both have ended
+pub ended_then : (f p q : PassShown) → IsPrefix f.mine p.mine → IsPrefix p.mine q.mine → IsPrefix p.seen q.seen
+    → AreEnded None (gained f.mine p.mine) p.seen → AreEnded None (gained p.mine q.mine) q.seen → AreEnded None (gained f.mine q.mine) q.seen
+ended_then f p q first mine seen a b =
+    let g : List Event = gained f.mine p.mine in
+    let more : List Event = gained p.mine q.mine in
+    let both : gained f.mine q.mine ≡ g ++ more = ap (gained f.mine) (whole p.mine q.mine mine) ∙ gained_more f.mine p.mine more first in
+    subst (λ (l : List Event). AreEnded None l q.seen) (sym both) (λ u t claimed.
+    ⊎_elim (λ before. still_ended g p.seen q.seen None seen a u t before) (λ after. b u t after.1)
+    (option_or-some (claim_of g u) (claim_of more u) t (sym (first-append (claim_by u) g more) ∙ claimed)))
+
+-- what a desk leaves goes on from what another left before
+pub leaves_then : (recipe : Recipe) (start r r' : List ℕ) (f p q : PassShown) → Serves recipe start r f p
+    → AreEnded None (gained f.mine p.mine) p.seen → Leaves recipe r r' p q → Leaves recipe start r' f q
+leaves_then recipe start r r' f p q serves ended b = record {
+  shows = b.shows;
+  serves = serves_then recipe start r r' f p q serves b.serves;
+  ended = ended_then f p q serves.mine b.serves.mine b.serves.seen ended b.ended;
+}
+
+-- ---- nothing was done yet
+
+gained_none : (a : List Event) → gained a a ≡ []
+gained_none [] = refl
+gained_none (x ∷ a) = gained_none a
+
+append_none : (l : List Event) → l ++ [] ≡ l
+append_none [] = refl
+append_none (x ∷ l) = ap (λ (m : List Event). x ∷ m) (append_none l)
+
+none_is : (u : ℕ) (t : UnitClaim) → claim_of [] u ≡ Some t → ⊥
+none_is u t e = cc
+
+pub serves_none : (recipe : Recipe) (start : List ℕ) (p : PassShown) → Serves recipe start start p p
+serves_none recipe start p = record {
+  number = refl;
+  seen = ([], append_none p.seen);
+  mine = ([], append_none p.mine);
+  claimed = subst (λ (l : List Event). AreTaken l p.seen) (sym (gained_none p.mine)) (λ c u outs at. absurd (in_none at));
+  fresh = subst (AreFresh p.mine) (sym (gained_none p.mine)) (λ u t claimed. absurd (none_is u t claimed));
+  folded = subst (λ (l : List Event). fold_of recipe start (taken l p.seen) ≡ Some start) (sym (gained_none p.mine)) refl;
+}
+
+pub ended_none : (p : PassShown) → AreEnded None (gained p.mine p.mine) p.seen
+ended_none p =
+    subst (λ (l : List Event). AreEnded None l p.seen) (sym (gained_none p.mine)) (λ u t claimed. absurd (none_is u t claimed))

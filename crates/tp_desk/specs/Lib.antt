@@ -1,3 +1,4 @@
+pub mod Aside
 pub mod InHand
 pub mod Serving
 pub mod Steady

@@ -6,9 +6,10 @@ use Rattle.tp_model.specs.declared.event.Event.TheVariants.{Commit}
 use Rattle.tp_model.specs.declared.types.Element.{Element}
 use Rattle.tp_model.specs.Counts.{taken, taken_by}
 use Rattle.tp_model.specs.History.{In, UnitClaim, claim_of}
+use Rattle.tp_model.specs.Passes.{IsPassView}
 use Rattle.tp_server.specs.declared.recipe.Recipe.{Recipe}
 use Rattle.tp_server.specs.Effect.{fold_of}
-use Rattle.tp_manager.specs.Shown.{PassShown}
+use Rattle.tp_manager.specs.Shown.{PassShown, view_in}
 use Rattle.tp_manager.specs.Calls.{HasEnded}
 
 -- what the second list has behind the first
@@ -19,6 +20,10 @@ gained first mine = drop (length first) mine
 abbrev pub AreTaken : List Event → List Event → Type 0
 AreTaken events h = (c u : ℕ) (outs : List Element) → In (Commit c u outs) events → (x : Element) × (taken_by events h (Commit c u outs) ≡ Some x)
 
+-- each unit that was claimed among the events was claimed by none before them
+abbrev pub AreFresh : List Event → List Event → Type 0
+AreFresh before events = (u : ℕ) (t : UnitClaim) → claim_of events u ≡ Some t → claim_of before u ≡ None
+
 -- The pass has made events of its own and seen more, and the server's registers of committed work are the fold of its recipe
 -- over the elements that those events consumed, from the registers with which it began.
 pub record Serves (recipe : Recipe) (start registers : List ℕ) (old new : PassShown) : Type 0 where
@@ -26,13 +31,15 @@ pub record Serves (recipe : Recipe) (start registers : List ℕ) (old new : Pass
   pub seen : IsPrefix old.seen new.seen
   pub mine : IsPrefix old.mine new.mine
   pub claimed : AreTaken (gained old.mine new.mine) new.seen
+  pub fresh : AreFresh old.mine (gained old.mine new.mine)
   pub folded : fold_of recipe start (taken (gained old.mine new.mine) new.seen) ≡ Some registers
 
 -- each unit that was claimed among the events has ended, or is the one that may be open
 abbrev pub AreEnded : Option ℕ → List Event → List Event → Type 0
 AreEnded but events h = (u : ℕ) (t : UnitClaim) → claim_of events u ≡ Some t → (but ≡ Some u) ⊎ HasEnded h u
 
--- what the lenders of a pass and a server find when the desk has ended
+-- what the lenders of a pass and a server find when the desk has ended; the pass shows what every pass shows between calls
 pub record Leaves (recipe : Recipe) (start registers : List ℕ) (old new : PassShown) : Type 0 where
+  pub shows : IsPassView new.limits (view_in new)
   pub serves : Serves recipe start registers old new
   pub ended : AreEnded None (gained old.mine new.mine) new.seen

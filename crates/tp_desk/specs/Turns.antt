@@ -11,6 +11,7 @@ use Rattle.tp_model.specs.declared.types.Work.{Work}
 use Rattle.tp_server.specs.declared.recipe.Declined.{Declined}
 use Rattle.tp_server.specs.declared.recipe.Recipe.{Recipe}
 use Rattle.tp_server.specs.Effect.{drafts_after, effect_of}
+use Rattle.tp_server.specs.Pending.{Pending, registers_of}
 use Rattle.tp_manager.specs.Bounds.{claim_steps, commit_steps}
 use Rattle.tp_manager.specs.Calls.{Claims, Ends, Settles, Takes}
 use Rattle.tp_manager.specs.Shown.{PassShown}
@@ -28,6 +29,12 @@ GivesUp old new = (ended : Ended) × Ends old new ended
 -- the recipe declines the work, and the unit was given up
 abbrev pub Declines : Recipe → List ℕ → Work → Declined → PassShown → PassShown → Type 0
 Declines recipe registers work why old new = (effect_of recipe registers work.element ≡ Err why) × GivesUp old new
+
+-- the answer of a turn whose commit had this answer
+abbrev pub settled : Work → Outcome → Turned
+settled work (outcomes.Committed first count) = turneds.Done work.unit work.element.id first count
+settled work outcomes.Lost = turneds.Lost work.element.id
+settled work outcomes.Full = turneds.Full work.element.id
 
 -- what becomes of work that was claimed
 abbrev pub WorksOff : Recipe → List ℕ → Work → PassShown → PassShown → Turned → Type 0
@@ -59,8 +66,8 @@ abbrev pub turn_steps : Limits → ℕ
 turn_steps l = claim_steps l + commit_steps 4
 
 -- the registers of committed work after a commit with this answer
-abbrev pub registers_left : Outcome → List ℕ → Option (List ℕ) → Option (List ℕ)
-registers_left (outcomes.Committed first count) registers pending = pending
+abbrev pub registers_left : Outcome → List ℕ → Option Pending → Option (List ℕ)
+registers_left (outcomes.Committed first count) registers pending = registers_of pending
 registers_left outcomes.Lost registers pending = Some registers
 registers_left outcomes.Full registers pending = Some registers
 

@@ -3,10 +3,11 @@ ghost use Rattle.std.specs.Prelude.{◌≡◌, None, IfSome, is_some, slice_get}
 ghost use Rattle.tp_manager.specs.Bounds.{abort_steps};
 ghost use Rattle.tp_manager.specs.Calls.{Follows};
 ghost use Rattle.tp_manager.specs.Shown.{IsOf};
-ghost use Rattle.tp_desk.specs.InHand.{IsSteady};
 ghost use Rattle.tp_desk.specs.Serving.{Leaves};
 ghost use Rattle.tp_desk.specs.Turns.{EndsOpen};
+ghost use Rattle.tp_desk.specs.Aside.{SteadyAside};
 
+use crate::aside::Aside;
 use crate::{boxed, closing};
 use arrayvec::ArrayVec;
 use tp_manager::{Manager, Pass};
@@ -64,7 +65,42 @@ impl Desk<'_, '_, '_> {
     }
 }
 
+impl Desk<'_, '_, '_> {
+    ghost use Rattle.tp_desk.specs.Steady.{SteadyDesk};
+
+    /// Lays aside what is in hand, so that the lenders have their pass and their server for a while. The unit of work stays
+    /// open and the server stays prepared, and the desk goes on by `resume`.
+    pub fn lay_aside(self) -> Aside
+        ensures own { IsOf self.entry.manager.now self.exit.1.0.now }
+        ensures pass { self.exit.1.0.now ≡ self.entry.pass.now }
+        ensures server { self.exit.1.1.0.now ≡ self.entry.server.now }
+        ensures work { result.work ≡ self.entry.work }
+        ensures drafts { result.drafts.items ≡ self.entry.drafts.items }
+        ensures same_first { (result.first_pass ≡ self.entry.first_pass) × (result.first_server ≡ self.entry.first_server) }
+        ensures steady { SteadyDesk recipe registers pending self.entry
+            → SteadyAside recipe registers pending result self.exit.1.0.now self.exit.1.1.0.now }
+    {
+        let Desk {
+            manager: _,
+            pass: _,
+            server: _,
+            work,
+            drafts,
+            first_pass,
+            first_server,
+        } = self;
+        Aside {
+            work,
+            drafts,
+            first_pass,
+            first_server,
+        }
+    }
+}
+
 impl Drop for Desk<'_, '_, '_> {
+    ghost use Rattle.tp_desk.specs.Steady.{SteadyDesk};
+
     fn drop(self)
         ensures free { self.exit.1.0.now.open_unit ≡ None }
         ensures clear { pending self.exit.1.1.0.now ≡ None }
@@ -73,8 +109,9 @@ impl Drop for Desk<'_, '_, '_> {
         ensures registers { registers self.exit.1.1.0.now ≡ registers self.entry.server.now }
         ensures adds { EndsOpen self.entry.pass.now.open_unit self.entry.pass.now self.exit.1.0.now }
         ensures follows { IfSome self.entry.pass.now.open_unit (λ _. Follows abort_steps self.entry.pass.now self.exit.1.0.now) }
-        ensures leaves { IsSteady (recipe self.entry.server.now) (registers self.entry.server.now) (pending self.entry.server.now) (registers self.entry.first_server.value) self.entry.first_pass.value self.entry.pass.now self.entry.work self.entry.drafts.items
-            → Leaves (recipe self.exit.1.1.0.now) (registers self.entry.first_server.value) (registers self.exit.1.1.0.now) self.entry.first_pass.value self.exit.1.0.now }
+        ensures leaves { SteadyDesk recipe registers pending self.entry
+            → Leaves (recipe self.exit.1.1.0.now) (registers self.entry.first_server.value)
+            (registers self.exit.1.1.0.now) self.entry.first_pass.value self.exit.1.0.now }
     {
         let Desk {
             manager,

@@ -2,6 +2,7 @@
 //! unit of work was committed.
 #![tactic(auto)]
 
+mod aside;
 mod boxed;
 mod closing;
 mod desk;
@@ -11,5 +12,6 @@ mod turned;
 mod turning;
 mod working;
 
+pub use aside::Aside;
 pub use desk::Desk;
 pub use turned::Turned;

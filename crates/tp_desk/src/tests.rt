@@ -2,6 +2,7 @@
 ghost use Rattle.std.specs.Prelude.{◌≡◌, None, IfOk, IfSome};
 ghost use Rattle.tp_manager.specs.Shown.{IsOf};
 
+mod asides;
 mod drops;
 mod lender;
 mod router;

@@ -1,5 +1,7 @@
 //! The answer of a turn.
+ghost use Rattle.std.specs.Prelude.{◌≡◌};
 
+use tp_model::types::{Outcome, Work};
 use tp_server::Declined;
 
 /// What a turn of a server came to. Elements are given by their ids.
@@ -29,4 +31,25 @@ pub enum Turned {
     Full {
         element: u32,
     },
+}
+
+impl Turned {
+    ghost use Rattle.tp_desk.specs.Turns.{settled};
+
+    /// The answer of a turn whose work was committed with this answer.
+    pub fn settled(work: &Work, outcome: Outcome) -> Turned
+        ensures { result ≡ settled work.now outcome }
+    {
+        let element = work.element.id;
+        match outcome {
+            Outcome::Committed { first, count } => Turned::Done {
+                unit: work.unit,
+                element,
+                first,
+                count,
+            },
+            Outcome::Lost => Turned::Lost { element },
+            Outcome::Full => Turned::Full { element },
+        }
+    }
 }

@@ -3,29 +3,27 @@ ghost use Rattle.std.specs.Prelude.{◌≡◌, None, Some};
 ghost use Rattle.tp_model.specs.Steps.{AreLimits};
 ghost use Rattle.tp_manager.specs.Bounds.{commit_steps};
 ghost use Rattle.tp_manager.specs.Calls.{Follows};
-ghost use Rattle.tp_desk.specs.Steady.{Steady};
+ghost use Rattle.tp_desk.specs.Steady.{IsSameDesk, SteadyDesk};
 ghost use Rattle.tp_desk.specs.Turns.{Turns, WorksOff, turn_steps};
 
 use crate::desk::Desk;
 use crate::turned::Turned;
-use tp_model::types::{Claimed, Outcome, Work};
+use tp_model::types::{Claimed, Work};
 
 impl Desk<'_, '_, '_> {
     /// Takes an element in hand, does its work and commits it: one claim, and where it took an element, one commit, or
     /// one abort where the recipe declines it.
     pub fn turn(&mut self) -> Turned
-        requires steady { Steady recipe registers pending self.old }
+        requires steady { SteadyDesk recipe registers pending self.old }
         requires free { self.old.work ≡ None }
-        ensures same_manager { self.new.manager ≡ self.old.manager }
-        ensures same_pass { self.new.pass.ghost_name ≡ self.old.pass.ghost_name }
-        ensures same_server { self.new.server.ghost_name ≡ self.old.server.ghost_name }
-        ensures same_first { (self.new.first_pass ≡ self.old.first_pass) × (self.new.first_server ≡ self.old.first_server) }
+        ensures same { IsSameDesk self.old self.new }
         ensures recipe { recipe self.new.server.now ≡ recipe self.old.server.now }
         ensures free { self.new.work ≡ None }
         ensures limits { AreLimits self.old.manager.now.limits }
         ensures follows { Follows (turn_steps self.old.manager.now.limits) self.old.pass.now self.new.pass.now }
-        ensures answer { Turns self.old.manager.now.limits (recipe self.old.server.now) (registers self.old.server.now) self.old.pass.now self.new.pass.now result }
-        ensures steady { Steady recipe registers pending self.new }
+        ensures answer { Turns self.old.manager.now.limits (recipe self.old.server.now) (registers self.old.server.now)
+            self.old.pass.now self.new.pass.now result }
+        ensures steady { SteadyDesk recipe registers pending self.new }
     {
         match self.claim() {
             Claimed::Idle => Turned::Idle,
@@ -36,32 +34,23 @@ impl Desk<'_, '_, '_> {
 
     /// Does the work in hand and commits it.
     fn work_off(&mut self, work: Work) -> Turned
-        requires steady { Steady recipe registers pending self.old }
+        requires steady { SteadyDesk recipe registers pending self.old }
         requires taken { self.old.work ≡ Some work }
         requires unprepared { pending self.old.server.now ≡ None }
-        ensures same_manager { self.new.manager ≡ self.old.manager }
-        ensures same_pass { self.new.pass.ghost_name ≡ self.old.pass.ghost_name }
-        ensures same_server { self.new.server.ghost_name ≡ self.old.server.ghost_name }
-        ensures same_first { (self.new.first_pass ≡ self.old.first_pass) × (self.new.first_server ≡ self.old.first_server) }
+        ensures same { IsSameDesk self.old self.new }
         ensures recipe { recipe self.new.server.now ≡ recipe self.old.server.now }
         ensures free { self.new.work ≡ None }
         ensures follows { Follows (commit_steps 4) self.old.pass.now self.new.pass.now }
-        ensures answer { WorksOff (recipe self.old.server.now) (registers self.old.server.now) work self.old.pass.now self.new.pass.now result }
-        ensures steady { Steady recipe registers pending self.new }
+        ensures answer { WorksOff (recipe self.old.server.now) (registers self.old.server.now) work
+            self.old.pass.now self.new.pass.now result }
+        ensures steady { SteadyDesk recipe registers pending self.new }
     {
-        let element = work.element.id;
         match self.prepare() {
-            Err(why) => Turned::Refused { element, why },
-            Ok(()) => match self.commit() {
-                Outcome::Committed { first, count } => Turned::Done {
-                    unit: work.unit,
-                    element,
-                    first,
-                    count,
-                },
-                Outcome::Lost => Turned::Lost { element },
-                Outcome::Full => Turned::Full { element },
+            Err(why) => Turned::Refused {
+                element: work.element.id,
+                why,
             },
+            Ok(()) => Turned::settled(&work, self.commit()),
         }
     }
 }

@@ -3,18 +3,20 @@ ghost use Rattle.std.specs.Prelude.{◌≡◌, None, Some, IsSome, IfErr, IfSome
 ghost use Rattle.tp_model.specs.Steps.{AreLimits};
 ghost use Rattle.tp_manager.specs.Shown.{IsOf};
 ghost use Rattle.tp_manager.specs.Calls.{Claims, Ends, Follows};
+ghost use Rattle.tp_server.specs.Effect.{effect_of};
+ghost use Rattle.tp_server.specs.Pending.{pending_after};
 ghost use Rattle.tp_desk.specs.InHand.{work_of};
 ghost use Rattle.tp_desk.specs.Serving.{Leaves};
-ghost use Rattle.tp_desk.specs.Steady.{Steady};
-ghost use Rattle.tp_manager.specs.Bounds.{abort_steps, claim_steps, commit_steps};
+ghost use Rattle.tp_desk.specs.Aside.{SteadyAside};
+ghost use Rattle.tp_desk.specs.Steady.{IsSameDesk, SteadyDesk};
 ghost use Rattle.tp_desk.specs.Turns.{Declines, EndsOpen, Finishes, registers_left};
+ghost use Rattle.tp_manager.specs.Bounds.{abort_steps, claim_steps, commit_steps};
 
+use crate::aside::Aside;
 use crate::boxed;
 use crate::desk::Desk;
-use arrayvec::ArrayVec;
 use tp_manager::{Manager, Pass};
-use tp_model::remembered::Remembered;
-use tp_model::types::{Claimed, Ended, Outcome};
+use tp_model::types::{Claimed, Ended, Outcome, Work};
 use tp_server::{Declined, Server};
 
 impl<'m, 'p, 's> Desk<'m, 'p, 's> {
@@ -35,65 +37,79 @@ impl<'m, 'p, 's> Desk<'m, 'p, 's> {
         ensures first_pass { result.first_pass.value ≡ pass.old }
         ensures first_server { result.first_server.value ≡ server.old }
         ensures free { result.work ≡ None }
-        ensures steady { Steady recipe registers pending result }
+        ensures steady { SteadyDesk recipe registers pending result }
     {
-        let first_pass = Remembered::of(pass);
-        let first_server = Remembered::of(server);
+        let nothing = Aside::nothing(pass, server);
+        Desk::resume(manager, pass, server, nothing)
+    }
+
+    /// The desk of this pass and this server goes on with what it had laid aside. Its fold begins where it did before.
+    pub fn resume(
+        manager: &'m Manager,
+        pass: &'p mut Pass,
+        server: &'s mut Box<dyn Server + Send>,
+        aside: Aside,
+    ) -> Desk<'m, 'p, 's>
+        requires own { IsOf manager.now pass.old }
+        requires steady { SteadyAside recipe registers pending aside pass.old server.old }
+        ensures manager { result.manager.now ≡ manager.now }
+        ensures same_pass { result.pass.ghost_name ≡ pass.entry.ghost_name }
+        ensures same_server { result.server.ghost_name ≡ server.entry.ghost_name }
+        ensures pass { result.pass.now ≡ pass.old }
+        ensures server { result.server.now ≡ server.old }
+        ensures work { result.work ≡ aside.work }
+        ensures drafts { result.drafts.items ≡ aside.drafts.items }
+        ensures same_first { (result.first_pass ≡ aside.first_pass) × (result.first_server ≡ aside.first_server) }
+        ensures steady { SteadyDesk recipe registers pending result }
+    {
         Desk {
             manager,
             pass,
             server,
-            work: None,
-            drafts: ArrayVec::new(),
-            first_pass,
-            first_server,
+            work: aside.work,
+            drafts: aside.drafts,
+            first_pass: aside.first_pass,
+            first_server: aside.first_server,
         }
     }
 
     /// Takes an element that waits in the recipe's stage in hand. Nothing is in hand yet.
     pub fn claim(&mut self) -> Claimed
-        requires steady { Steady recipe registers pending self.old }
+        requires steady { SteadyDesk recipe registers pending self.old }
         requires free { self.old.work ≡ None }
-        ensures same_manager { self.new.manager ≡ self.old.manager }
-        ensures same_pass { self.new.pass.ghost_name ≡ self.old.pass.ghost_name }
-        ensures same_server { self.new.server.ghost_name ≡ self.old.server.ghost_name }
-        ensures same_first { (self.new.first_pass ≡ self.old.first_pass) × (self.new.first_server ≡ self.old.first_server) }
+        ensures same { IsSameDesk self.old self.new }
         ensures server { self.new.server.now ≡ self.old.server.now }
         ensures limits { AreLimits self.old.manager.now.limits }
         ensures follows { Follows (claim_steps self.old.manager.now.limits) self.old.pass.now self.new.pass.now }
         ensures answer { Claims self.old.manager.now.limits (recipe self.old.server.now).stage self.old.pass.now self.new.pass.now result }
         ensures work { self.new.work ≡ work_of result }
-        ensures steady { Steady recipe registers pending self.new }
+        ensures steady { SteadyDesk recipe registers pending self.new }
     {
         let stage = self.server.stage();
         let answer = self.manager.claim(self.pass, stage);
-        match answer {
-            Claimed::Work(work) => self.work = Some(work),
-            Claimed::Idle => {}
-            Claimed::NoUnit => {}
-        }
+        self.work = work_of(answer);
         answer
     }
 
     /// Has the server prepare the element in hand. Where its recipe declines the element, the unit of work is aborted and
     /// nothing is in hand any more.
     pub fn prepare(&mut self) -> Result<(), Declined>
-        requires steady { Steady recipe registers pending self.old }
+        requires steady { SteadyDesk recipe registers pending self.old }
         requires busy { IsSome self.old.work }
         requires unprepared { pending self.old.server.now ≡ None }
-        ensures same_manager { self.new.manager ≡ self.old.manager }
-        ensures same_pass { self.new.pass.ghost_name ≡ self.old.pass.ghost_name }
-        ensures same_server { self.new.server.ghost_name ≡ self.old.server.ghost_name }
-        ensures same_first { (self.new.first_pass ≡ self.old.first_pass) × (self.new.first_server ≡ self.old.first_server) }
+        ensures same { IsSameDesk self.old self.new }
         ensures recipe { recipe self.new.server.now ≡ recipe self.old.server.now }
         ensures registers { registers self.new.server.now ≡ registers self.old.server.now }
-        ensures ready { OnOk result ((self.new.pass.now ≡ self.old.pass.now) × (self.new.work ≡ self.old.work) × IsSome (pending self.new.server.now)) }
+        ensures pending { IfSome self.old.work (λ work. pending self.new.server.now ≡ pending_after work.element
+            (effect_of (recipe self.old.server.now) (registers self.old.server.now) work.element)) }
+        ensures ready { OnOk result ((self.new.pass.now ≡ self.old.pass.now) × (self.new.work ≡ self.old.work)
+            × IsSome (pending self.new.server.now)) }
         ensures free { OnErr result (self.new.work ≡ None) }
         ensures clear { OnErr result (pending self.new.server.now ≡ None) }
         ensures follows { OnErr result (Follows abort_steps self.old.pass.now self.new.pass.now) }
         ensures answer { IfErr result (λ why. IfSome self.old.work (λ work.
             Declines (recipe self.old.server.now) (registers self.old.server.now) work why self.old.pass.now self.new.pass.now)) }
-        ensures steady { Steady recipe registers pending self.new }
+        ensures steady { SteadyDesk recipe registers pending self.new }
     {
         let Some(work) = self.work else {
             unreachable!();
@@ -114,46 +130,37 @@ impl<'m, 'p, 's> Desk<'m, 'p, 's> {
     /// Commits the prepared work: the server keeps it exactly where the manager has committed its unit, and else calls it
     /// off. Nothing is in hand any more.
     pub fn commit(&mut self) -> Outcome
-        requires steady { Steady recipe registers pending self.old }
+        requires steady { SteadyDesk recipe registers pending self.old }
         requires prepared { IsSome (pending self.old.server.now) }
-        ensures same_manager { self.new.manager ≡ self.old.manager }
-        ensures same_pass { self.new.pass.ghost_name ≡ self.old.pass.ghost_name }
-        ensures same_server { self.new.server.ghost_name ≡ self.old.server.ghost_name }
-        ensures same_first { (self.new.first_pass ≡ self.old.first_pass) × (self.new.first_server ≡ self.old.first_server) }
+        ensures same { IsSameDesk self.old self.new }
         ensures recipe { recipe self.new.server.now ≡ recipe self.old.server.now }
-        ensures registers { Some (registers self.new.server.now) ≡ registers_left result (registers self.old.server.now) (pending self.old.server.now) }
+        ensures registers { Some (registers self.new.server.now)
+            ≡ registers_left result (registers self.old.server.now) (pending self.old.server.now) }
         ensures clear { pending self.new.server.now ≡ None }
         ensures free { self.new.work ≡ None }
         ensures follows { Follows (commit_steps 4) self.old.pass.now self.new.pass.now }
         ensures answer { IfSome self.old.work (λ work.
             Finishes (recipe self.old.server.now) (registers self.old.server.now) work self.old.pass.now self.new.pass.now result) }
-        ensures steady { Steady recipe registers pending self.new }
+        ensures steady { SteadyDesk recipe registers pending self.new }
     {
         let outcome = self.manager.commit(self.pass, self.drafts.as_slice());
         self.work = None;
-        match outcome {
-            Outcome::Committed { .. } => boxed::commit(self.server),
-            Outcome::Lost => boxed::clear(self.server),
-            Outcome::Full => boxed::clear(self.server),
-        }
+        boxed::settle(self.server, outcome);
         outcome
     }
 
     /// Gives up the element in hand: prepared work is called off, and the unit of work is aborted.
     pub fn abort(&mut self) -> Ended
-        requires steady { Steady recipe registers pending self.old }
+        requires steady { SteadyDesk recipe registers pending self.old }
         requires busy { IsSome self.old.work }
-        ensures same_manager { self.new.manager ≡ self.old.manager }
-        ensures same_pass { self.new.pass.ghost_name ≡ self.old.pass.ghost_name }
-        ensures same_server { self.new.server.ghost_name ≡ self.old.server.ghost_name }
-        ensures same_first { (self.new.first_pass ≡ self.old.first_pass) × (self.new.first_server ≡ self.old.first_server) }
+        ensures same { IsSameDesk self.old self.new }
         ensures recipe { recipe self.new.server.now ≡ recipe self.old.server.now }
         ensures registers { registers self.new.server.now ≡ registers self.old.server.now }
         ensures clear { pending self.new.server.now ≡ None }
         ensures free { self.new.work ≡ None }
         ensures follows { Follows abort_steps self.old.pass.now self.new.pass.now }
         ensures answer { Ends self.old.pass.now self.new.pass.now result }
-        ensures steady { Steady recipe registers pending self.new }
+        ensures steady { SteadyDesk recipe registers pending self.new }
     {
         boxed::clear(self.server);
         self.work = None;
@@ -170,9 +177,21 @@ impl<'m, 'p, 's> Desk<'m, 'p, 's> {
         ensures registers { registers self.exit.1.1.0.now ≡ registers self.entry.server.now }
         ensures adds { EndsOpen self.entry.pass.now.open_unit self.entry.pass.now self.exit.1.0.now }
         ensures follows { IfSome self.entry.pass.now.open_unit (λ _. Follows abort_steps self.entry.pass.now self.exit.1.0.now) }
-        ensures leaves { Steady recipe registers pending self.entry
-            → Leaves (recipe self.exit.1.1.0.now) (registers self.entry.first_server.value) (registers self.exit.1.1.0.now) self.entry.first_pass.value self.exit.1.0.now }
+        ensures leaves { SteadyDesk recipe registers pending self.entry
+            → Leaves (recipe self.exit.1.1.0.now) (registers self.entry.first_server.value)
+            (registers self.exit.1.1.0.now) self.entry.first_pass.value self.exit.1.0.now }
     {
         drop(self);
+    }
+}
+
+/// The work that a claim puts in hand.
+fn work_of(answer: Claimed) -> Option<Work>
+    ensures { result ≡ work_of answer }
+{
+    match answer {
+        Claimed::Work(work) => Some(work),
+        Claimed::Idle => None,
+        Claimed::NoUnit => None,
     }
 }

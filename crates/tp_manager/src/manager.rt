@@ -163,7 +163,8 @@ impl Pass {
 
     /// Whether the pass has a unit of work open: claimed, and neither committed nor aborted by its own calls.
     pub fn has_open(&self) -> bool
-        ensures { result ≡ is_some self.now.open_unit }
+        ensures answer { result ≡ is_some self.now.open_unit }
+        ensures shows { IsPassView self.now.limits (view_in self.now) }
     {
         self.task.is_some()
     }

@@ -1,24 +1,11 @@
 -- What holds of all of a list, and of its parts.
-use Rattle.std.proofs.Common.{◌≡◌, ℕ, ◌+◌, ◌<◌, List, [], ◌∷◌, ◌++◌, length, take, drop, get_or, Option, Some, None, IfSome, All, ap, sym, ◌∙◌, subst}
-use Rattle.std.proofs.lemmas.List.Elements.{All-append, All-cons, All-head, All-nil, All-tail}
+use Rattle.std.proofs.Common.{◌≡◌, ℕ, ◌+◌, ◌<◌, List, [], ◌∷◌, ◌++◌, length, drop, get_or, slice_set, All, ap, ◌∙◌, subst}
+use Rattle.std.specs.List.{swap}
+use Rattle.std.proofs.lemmas.List.Elements.{All-cons, All-head, All-nil, All-set, All-tail}
 use Rattle.std.proofs.lemmas.List.{drop_more}
 use Rattle.std.proofs.lemmas.List.Sums.{sum_by-cons}
-use Rattle.tp_model.proofs.Lists.{whole_write}
-use Rattle.tp_server.specs.declared.recipe.Recipe.{Recipe}
-use Rattle.tp_manager.specs.Shown.{ManagerShown}
-use Rattle.tp_desk.specs.declared.desk.Desk.{Desk}
-use Rattle.tp_desk.specs.Steady.{IsSteadyDesk}
 use Rattle.tp_script.specs.declared.script.Command.{Command}
 use Rattle.tp_script.specs.Passes.{racers, racing}
-use Rattle.tp_perform.specs.Performing.{IsPlace}
-
--- a whole list was written
-pub all_written : {A : Type 0} (P : A → Type 0) (xs ys : List A) (n : ℕ) → n ≡ length xs → length ys ≡ length xs → All P ys → All P (take n (ys ++ drop (length ys) xs))
-all_written P xs ys n len same all = subst (All P) (sym (whole_write xs ys n len same)) all
-
--- one was added
-pub all_added : {A : Type 0} (P : A → Type 0) (xs ys : List A) (x : A) → ys ≡ xs ++ x ∷ [] → All P xs → P x → All P ys
-all_added P xs ys x is all one = subst (All P) (sym is) (All-append P xs (x ∷ []) all (All-cons P x [] one (All-nil P)))
 
 -- the first of a list, and those behind it in two parts
 pub all_parts : {A : Type 0} (P : A → Type 0) (xs : List A) (x : A) (rest front back : List A) → xs ≡ x ∷ rest → rest ≡ front ++ back → All P xs → P x × All P front × All P back
@@ -39,11 +26,12 @@ all_parts P xs x rest front back is parts all =
 pub racing_next : (commands : List Command) (i : ℕ) (d : Command) → i < length commands → racing (drop i commands) ≡ racers (get_or commands i d) + racing (drop (i + 1) commands)
 racing_next commands i d inside = ap racing (drop_more commands i d inside) ∙ sum_by-cons racers (get_or commands i d) (drop (i + 1) commands)
 
-module _ {X : Type 0} {F : X → Type 0} (recipe : (x : X) × F x → Recipe) (registers : (x : X) × F x → List ℕ) (pending : (x : X) × F x → Option (List ℕ)) (m : ManagerShown) where
-  is_place : (p : Option (Desk X F)) → IfSome p (IsSteadyDesk recipe registers pending) → IfSome p (λ d. d.manager.now ≡ m) → IsPlace recipe registers pending m p
-  is_place None steady manager = tt
-  is_place (Some d) steady manager = (steady, manager)
+-- two elements in each other's place
+pub all_swap : {A : Type 0} (P : A → Type 0) (xs : List A) (a b : ℕ) → a < length xs → b < length xs → All P xs → All P (swap xs a b)
+all_swap P [] a b within also all = all
+all_swap P (x ∷ xs) a b within also all =
+    All-set P (slice_set (x ∷ xs) a (get_or (x ∷ xs) b x)) b (get_or (x ∷ xs) a x) (all a x within) (All-set P (x ∷ xs) a (get_or (x ∷ xs) b x) (all b x also) all)
 
-  -- desks that are steady and of this manager
-  pub all_places : (xs : List (Option (Desk X F))) → All (λ p. IfSome p (IsSteadyDesk recipe registers pending)) xs → All (λ p. IfSome p (λ d. d.manager.now ≡ m)) xs → All (IsPlace recipe registers pending m) xs
-  all_places xs steady manager = λ k d lt. is_place (get_or xs k d) (steady k d lt) (manager k d lt)
+-- all but the first
+pub all_rest : {A : Type 0} (P : A → Type 0) (xs : List A) (x : A) (rest : List A) → xs ≡ x ∷ rest → All P xs → All P rest
+all_rest P xs x rest is all = All-tail P x rest (subst (All P) is all)

@@ -1,3 +1,4 @@
 pub mod Alls
+pub mod Lies
 pub mod RegisterLemmas
 pub mod Endings

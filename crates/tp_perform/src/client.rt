@@ -1,7 +1,7 @@
 //! What the script's own client asks of the manager, through its pass.
 ghost use Rattle.std.specs.Prelude.{IfOk, string_bytes};
 ghost use Rattle.tp_report.specs.Lines.{IsLine};
-ghost use Rattle.tp_perform.specs.Performing.{IsFreeOf};
+ghost use Rattle.tp_workers.specs.Free.{IsFreePass};
 
 use std::alloc::{AllocError, Global};
 use std::string::String;
@@ -17,8 +17,8 @@ pub(crate) fn submit(
     key: u64,
     amount: u64,
 ) -> Answer<'static>
-    requires { IsFreeOf manager.now client.old }
-    ensures { IsFreeOf manager.now client.new }
+    requires { IsFreePass manager.now client.old }
+    ensures { IsFreePass manager.now client.new }
 {
     match manager.submit(client, stage, key, amount) {
         Ok(id) => Answer::Submitted { id },
@@ -28,8 +28,8 @@ pub(crate) fn submit(
 
 /// `kill ID`
 pub(crate) fn kill(manager: &Manager, client: &mut Pass, id: u32) -> Answer<'static>
-    requires { IsFreeOf manager.now client.old }
-    ensures { IsFreeOf manager.now client.new }
+    requires { IsFreePass manager.now client.old }
+    ensures { IsFreePass manager.now client.new }
 {
     match manager.kill(client, id) {
         Ok(killed) => Answer::Killed {
@@ -42,8 +42,8 @@ pub(crate) fn kill(manager: &Manager, client: &mut Pass, id: u32) -> Answer<'sta
 
 /// `read ID`
 pub(crate) fn read(manager: &Manager, client: &mut Pass, id: u32) -> Answer<'static>
-    requires { IsFreeOf manager.now client.old }
-    ensures { IsFreeOf manager.now client.new }
+    requires { IsFreePass manager.now client.old }
+    ensures { IsFreePass manager.now client.new }
 {
     match manager.read(client, id) {
         Ok(look) => Answer::Read(look),
@@ -58,8 +58,8 @@ pub(crate) fn replies(
     client: &mut Pass,
     root: u32,
 ) -> Result<String, AllocError>
-    requires { IsFreeOf manager.now client.old }
-    ensures free { IsFreeOf manager.now client.new }
+    requires { IsFreePass manager.now client.old }
+    ensures free { IsFreePass manager.now client.new }
     ensures line { IfOk result (λ text. IsLine (string_bytes text)) }
 {
     let mut found = Vec::new(alloc);
@@ -84,8 +84,8 @@ pub(crate) fn errors(
     manager: &Manager,
     client: &mut Pass,
 ) -> Result<String, AllocError>
-    requires { IsFreeOf manager.now client.old }
-    ensures free { IsFreeOf manager.now client.new }
+    requires { IsFreePass manager.now client.old }
+    ensures free { IsFreePass manager.now client.new }
     ensures line { IfOk result (λ text. IsLine (string_bytes text)) }
 {
     let mut parked = Vec::new(alloc);
@@ -103,8 +103,8 @@ pub(crate) fn errors(
 
 /// `count`: how many elements stand in each way, over all ids below the capacity.
 pub(crate) fn count(manager: &Manager, client: &mut Pass) -> Answer<'static>
-    requires { IsFreeOf manager.now client.old }
-    ensures { IsFreeOf manager.now client.new }
+    requires { IsFreePass manager.now client.old }
+    ensures { IsFreePass manager.now client.new }
 {
     let mut waiting = 0;
     let mut held = 0;

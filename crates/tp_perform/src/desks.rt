@@ -1,21 +1,78 @@
 //! Commands on one server, at its desk, which is there until it is dropped.
-ghost use Rattle.std.specs.Prelude.{IfSome};
-ghost use Rattle.tp_manager.specs.Shown.{ManagerShown};
-ghost use Rattle.tp_desk.specs.Steady.{IsSteadyDesk};
-ghost use Rattle.tp_perform.specs.Performing.{IsPlace};
+ghost use Rattle.std.specs.Prelude.{◌≡◌};
+ghost use Rattle.tp_manager.specs.Shown.{IsOf};
+ghost use Rattle.tp_desk.specs.Steady.{IsSameDesk, SteadyDesk, shown};
+ghost use Rattle.tp_perform.specs.Places.{Lies};
 
+use crate::place::Place;
 use tp_desk::{Desk, Turned};
-use tp_model::types::{Claimed, Ended, Outcome, Work};
+use tp_manager::{Manager, Pass};
+use tp_model::types::{Claimed, Ended};
 use tp_report::ServerAnswer;
+use tp_server::Server;
+
+/// What a desk is asked to do.
+#[derive(Clone, Copy, Debug, PartialEq, Eq)]
+pub(crate) enum Act {
+    Turn,
+    Claim,
+    Prepare,
+    Commit,
+    Abort,
+    Drop,
+}
+
+/// Has the desk at a place do what is asked, unless it was dropped: it goes on with what it laid aside, and lays aside what
+/// it has in hand then.
+pub(crate) fn act_at(
+    manager: &Manager,
+    pass: &mut Pass,
+    server: &mut Box<dyn Server + Send>,
+    place: &mut Place,
+    act: Act,
+) -> ServerAnswer
+    requires own { IsOf manager.now pass.old }
+    requires lies { Lies recipe registers pending pass.old server.old place.old.aside }
+    ensures own { IsOf manager.now pass.new }
+    ensures lies { Lies recipe registers pending pass.new server.new place.new.aside }
+{
+    if place.is_dropped {
+        return ServerAnswer::Ended;
+    }
+    if act == Act::Drop {
+        place.is_dropped = true;
+    }
+    let Some(aside) = place.aside.take() else {
+        unreachable!();
+    };
+    let mut desk = Desk::resume(manager, pass, server, aside);
+    let answer = act_by(&mut desk, act);
+    place.aside = Some(desk.lay_aside());
+    answer
+}
+
+/// Has the desk do what is asked.
+fn act_by(desk: &mut Desk, act: Act) -> ServerAnswer
+    requires steady { SteadyDesk (shown recipe) (shown registers) (shown pending) desk.old }
+    ensures same { IsSameDesk desk.old desk.new }
+    ensures steady { SteadyDesk (shown recipe) (shown registers) (shown pending) desk.new }
+{
+    match act {
+        Act::Turn => turn(desk),
+        Act::Claim => claim(desk),
+        Act::Prepare => prepare(desk),
+        Act::Commit => commit(desk),
+        Act::Abort => abort(desk),
+        Act::Drop => give_up(desk),
+    }
+}
 
 /// `turn NAME`
-pub(crate) fn turn(place: &mut Option<Desk<'_, '_, '_>>) -> ServerAnswer
-    requires { IfSome place.old (IsSteadyDesk recipe registers pending) }
-    ensures { (m : ManagerShown) → IsPlace recipe registers pending m place.old → IsPlace recipe registers pending m place.new }
+fn turn(desk: &mut Desk) -> ServerAnswer
+    requires steady { SteadyDesk (shown recipe) (shown registers) (shown pending) desk.old }
+    ensures same { IsSameDesk desk.old desk.new }
+    ensures steady { SteadyDesk (shown recipe) (shown registers) (shown pending) desk.new }
 {
-    let Some(desk) = place else {
-        return ServerAnswer::Ended;
-    };
     if desk.has_open() {
         return ServerAnswer::Busy;
     }
@@ -23,13 +80,11 @@ pub(crate) fn turn(place: &mut Option<Desk<'_, '_, '_>>) -> ServerAnswer
 }
 
 /// `claim NAME`
-pub(crate) fn claim(place: &mut Option<Desk<'_, '_, '_>>) -> ServerAnswer
-    requires { IfSome place.old (IsSteadyDesk recipe registers pending) }
-    ensures { (m : ManagerShown) → IsPlace recipe registers pending m place.old → IsPlace recipe registers pending m place.new }
+fn claim(desk: &mut Desk) -> ServerAnswer
+    requires steady { SteadyDesk (shown recipe) (shown registers) (shown pending) desk.old }
+    ensures same { IsSameDesk desk.old desk.new }
+    ensures steady { SteadyDesk (shown recipe) (shown registers) (shown pending) desk.new }
 {
-    let Some(desk) = place else {
-        return ServerAnswer::Ended;
-    };
     if desk.has_open() {
         return ServerAnswer::Busy;
     }
@@ -45,13 +100,11 @@ pub(crate) fn claim(place: &mut Option<Desk<'_, '_, '_>>) -> ServerAnswer
 }
 
 /// `prepare NAME`
-pub(crate) fn prepare(place: &mut Option<Desk<'_, '_, '_>>) -> ServerAnswer
-    requires { IfSome place.old (IsSteadyDesk recipe registers pending) }
-    ensures { (m : ManagerShown) → IsPlace recipe registers pending m place.old → IsPlace recipe registers pending m place.new }
+fn prepare(desk: &mut Desk) -> ServerAnswer
+    requires steady { SteadyDesk (shown recipe) (shown registers) (shown pending) desk.old }
+    ensures same { IsSameDesk desk.old desk.new }
+    ensures steady { SteadyDesk (shown recipe) (shown registers) (shown pending) desk.new }
 {
-    let Some(desk) = place else {
-        return ServerAnswer::Ended;
-    };
     let Some(work) = desk.in_hand() else {
         return ServerAnswer::NoneOpen;
     };
@@ -68,43 +121,34 @@ pub(crate) fn prepare(place: &mut Option<Desk<'_, '_, '_>>) -> ServerAnswer
 }
 
 /// `commit NAME`: work that isn't prepared is prepared first.
-pub(crate) fn commit(place: &mut Option<Desk<'_, '_, '_>>) -> ServerAnswer
-    requires { IfSome place.old (IsSteadyDesk recipe registers pending) }
-    ensures { (m : ManagerShown) → IsPlace recipe registers pending m place.old → IsPlace recipe registers pending m place.new }
+fn commit(desk: &mut Desk) -> ServerAnswer
+    requires steady { SteadyDesk (shown recipe) (shown registers) (shown pending) desk.old }
+    ensures same { IsSameDesk desk.old desk.new }
+    ensures steady { SteadyDesk (shown recipe) (shown registers) (shown pending) desk.new }
 {
-    let Some(desk) = place else {
-        return ServerAnswer::Ended;
-    };
     let Some(work) = desk.in_hand() else {
         return ServerAnswer::NoneOpen;
     };
-    let element = work.element.id;
     if !desk.is_prepared() {
         match desk.prepare() {
             Ok(()) => {}
-            Err(why) => return ServerAnswer::Turned(Turned::Refused { element, why }),
+            Err(why) => {
+                return ServerAnswer::Turned(Turned::Refused {
+                    element: work.element.id,
+                    why,
+                });
+            }
         }
     }
-    ServerAnswer::Turned(match desk.commit() {
-        Outcome::Committed { first, count } => Turned::Done {
-            unit: work.unit,
-            element,
-            first,
-            count,
-        },
-        Outcome::Lost => Turned::Lost { element },
-        Outcome::Full => Turned::Full { element },
-    })
+    ServerAnswer::Turned(Turned::settled(&work, desk.commit()))
 }
 
 /// `abort NAME`
-pub(crate) fn abort(place: &mut Option<Desk<'_, '_, '_>>) -> ServerAnswer
-    requires { IfSome place.old (IsSteadyDesk recipe registers pending) }
-    ensures { (m : ManagerShown) → IsPlace recipe registers pending m place.old → IsPlace recipe registers pending m place.new }
+fn abort(desk: &mut Desk) -> ServerAnswer
+    requires steady { SteadyDesk (shown recipe) (shown registers) (shown pending) desk.old }
+    ensures same { IsSameDesk desk.old desk.new }
+    ensures steady { SteadyDesk (shown recipe) (shown registers) (shown pending) desk.new }
 {
-    let Some(desk) = place else {
-        return ServerAnswer::Ended;
-    };
     let Some(work) = desk.in_hand() else {
         return ServerAnswer::NoneOpen;
     };
@@ -115,16 +159,14 @@ pub(crate) fn abort(place: &mut Option<Desk<'_, '_, '_>>) -> ServerAnswer
     }
 }
 
-/// `drop NAME`
-pub(crate) fn dismiss(place: &mut Option<Desk<'_, '_, '_>>) -> ServerAnswer
-    requires { IfSome place.old (IsSteadyDesk recipe registers pending) }
-    ensures { (m : ManagerShown) → IsPlace recipe registers pending m place.old → IsPlace recipe registers pending m place.new }
+/// `drop NAME`: what is in hand is given up, as by a drop of the desk.
+fn give_up(desk: &mut Desk) -> ServerAnswer
+    requires steady { SteadyDesk (shown recipe) (shown registers) (shown pending) desk.old }
+    ensures same { IsSameDesk desk.old desk.new }
+    ensures steady { SteadyDesk (shown recipe) (shown registers) (shown pending) desk.new }
 {
-    match place.take() {
-        Some(desk) => {
-            desk.end();
-            ServerAnswer::Dropped
-        }
-        None => ServerAnswer::Ended,
+    if desk.has_open() {
+        let _ = desk.abort();
     }
+    ServerAnswer::Dropped
 }

@@ -5,6 +5,7 @@ mod client;
 mod desks;
 pub mod finals;
 pub mod perform;
+mod place;
 mod program;
 mod racing;
 pub mod serve;

@@ -1,53 +1,100 @@
 //! A script performed over the shared manager: each server at a desk of its own, each command one line of the report.
-ghost use Rattle.std.specs.Prelude.{◌≡◌, ◌+◌, ◌<◌, ◌≤◌, None, All, IfOk, IfSome, IsErrOf, IsTrue, OnErr, OnOk, length, slice_get, string_bytes};
+ghost use Rattle.std.specs.Prelude.{◌≡◌, ◌<◌, None, All, IfOk, IfSome, IsErrOf, IsTrue, OnErr, OnOk, length, slice_get, string_bytes};
 ghost use Rattle.tp_manager.specs.Shown.{IsOf};
-ghost use Rattle.tp_desk.specs.Steady.{IsSteadyDesk, Steady};
+ghost use Rattle.tp_workers.specs.Free.{IsFreePass};
 ghost use Rattle.tp_report.specs.Answer.{line, named_text};
-ghost use Rattle.tp_script.specs.Ranges.{IsInRange};
 ghost use Rattle.tp_report.specs.Lines.{IsLine, Writes, WritesFront};
-ghost use Rattle.tp_perform.specs.Performing.{IsFreeOf, IsPlace, TellsBalance};
-ghost use Rattle.tp_script.specs.Passes.{racers as racers_of};
+ghost use Rattle.tp_perform.specs.Performing.{TellsBalance};
+ghost use Rattle.tp_perform.specs.Places.{AllLie, Lies};
+ghost use Rattle.tp_script.specs.Passes.{racers as racers_of, racing};
+ghost use Rattle.tp_script.specs.Ranges.{IsInRange};
 ghost use Rattle.tp_script.specs.Script.{passes as passes_of, script_view};
 
+use crate::client;
+use crate::desks::{Act, act_at};
+use crate::place::Place;
 use crate::racing::{RacePlan, drain_all, run_race};
-use crate::{client, desks};
 use std::alloc::{AllocError, Global};
-use std::mem;
 use std::string::String;
 use std::thread::Threads;
-use tp_desk::Desk;
+use tp_desk::{Aside, Desk};
 use tp_manager::{Manager, Pass};
 use tp_report::{Answer, RunFault, ServerAnswer, Sink, line, write_all};
 use tp_script::{Command, Script, ScriptServer};
 use tp_server::Server;
 
-/// A desk for each server and its pass.
-fn desks_for<'m, 'p, 's>(
+/// A place for each server, whose desk has nothing in hand.
+fn places_for(
     alloc: Global,
-    manager: &'m Manager,
-    passes: &'p mut [Pass],
-    servers: &'s mut [Box<dyn Server + Send>],
-) -> Result<Vec<Option<Desk<'m, 'p, 's>>>, AllocError>
-    requires passes { All (IsFreeOf manager.now) passes.old }
-    requires servers { All (λ server. pending server ≡ None) servers.old }
-    requires enough { length servers.old ≤ length passes.old }
-    ensures steady { IfOk result (λ places. All (λ place. IfSome place (Steady recipe registers pending)) places.items) }
-    ensures manager { IfOk result (λ places. All (λ place. IfSome place (λ desk. desk.manager.now ≡ manager.now)) places.items) }
-    ensures places { IfOk result (λ places. length places.items ≡ length servers.old) }
+    passes: &[Pass],
+    servers: &[Box<dyn Server + Send>],
+) -> Result<Vec<Place>, AllocError>
+    requires free { All (λ pass. pass.open_unit ≡ None) passes.now }
+    requires clear { All (λ server. pending server ≡ None) servers.now }
+    requires paired { length passes.now ≡ length servers.now }
+    ensures lie { IfOk result (λ places. AllLie recipe registers pending passes.now servers.now places.items) }
 {
     let mut places = Vec::new(alloc);
-    for (pass, server) in passes.iter_mut().zip(servers.iter_mut()) {
-        places.push(Some(Desk::new(manager, pass, server)))?;
+    for i in 0..servers.len() {
+        places.push(Place {
+            aside: Some(Aside::nothing(&passes[i], &servers[i])),
+            is_dropped: false,
+        })?;
     }
     Ok(places)
 }
 
-/// The sum of a register over the desks that have it.
-fn sum(places: &[Option<Desk<'_, '_, '_>>], k: u64) -> u128 {
+/// Ends all desks: what they have in hand is given up.
+fn end_all(
+    manager: &Manager,
+    passes: &mut [Pass],
+    servers: &mut [Box<dyn Server + Send>],
+    places: &mut [Place],
+)
+    requires own { All (IsOf manager.now) passes.old }
+    requires lie { AllLie recipe registers pending passes.old servers.old places.old }
+    ensures free { All (IsFreePass manager.now) passes.new }
+    ensures clear { All (λ server. pending server ≡ None) servers.new }
+{
+    let Some((pass, passes)) = passes.split_first_mut() else {
+        return;
+    };
+    let Some((server, servers)) = servers.split_first_mut() else {
+        return;
+    };
+    let Some((place, places)) = places.split_first_mut() else {
+        return;
+    };
+    end_at(manager, pass, server, place);
+    end_all(manager, passes, servers, places);
+}
+
+/// Ends the desk at a place.
+fn end_at(
+    manager: &Manager,
+    pass: &mut Pass,
+    server: &mut Box<dyn Server + Send>,
+    place: &mut Place,
+)
+    requires own { IsOf manager.now pass.old }
+    requires lies { Lies recipe registers pending pass.old server.old place.old.aside }
+    ensures free { IsFreePass manager.now pass.new }
+    ensures clear { pending server.new ≡ None }
+{
+    let Some(aside) = place.aside.take() else {
+        unreachable!();
+    };
+    Desk::resume(manager, pass, server, aside).end();
+}
+
+/// The sum of a register over the servers that have it and whose desks weren't dropped.
+fn sum(servers: &[Box<dyn Server + Send>], places: &[Place], k: u64) -> u128
+    requires { length servers.now ≡ length places.now }
+{
     let mut sum = 0;
-    for place in places {
-        if let Some(desk) = place {
-            if let Some(value) = desk.balance(k) {
+    for i in 0..places.len() {
+        if !places[i].is_dropped {
+            if let Some(value) = servers[i].balance(k) {
                 sum += u128::from(value);
             }
         }
@@ -73,49 +120,101 @@ fn server_line(
 /// The line of `balance NAME K`.
 fn balance_line(
     alloc: Global,
-    server: &ScriptServer,
-    place: &Option<Desk<'_, '_, '_>>,
+    named: &ScriptServer,
+    server: &Box<dyn Server + Send>,
+    is_dropped: bool,
     k: u64,
 ) -> Result<String, AllocError>
-    ensures text { IfOk result (λ text. TellsBalance (string_bytes server.now.name) k place.now (string_bytes text)) }
+    ensures text { IfOk result (λ text.
+        TellsBalance (string_bytes named.now.name) k (registers server.now) is_dropped (string_bytes text)) }
     ensures line { IfOk result (λ text. IsLine (string_bytes text)) }
 {
-    let name = server.name.as_str();
-    match place {
-        Some(desk) => {
-            let value = desk.balance(k);
-            line(alloc, Answer::Balance { name, k, value })
-        }
-        None => {
-            let answer = ServerAnswer::Ended;
-            line(alloc, Answer::Server { name, answer })
-        }
+    let name = named.name.as_str();
+    if is_dropped {
+        let answer = ServerAnswer::Ended;
+        return line(alloc, Answer::Server { name, answer });
     }
+    let value = server.balance(k);
+    line(alloc, Answer::Balance { name, k, value })
 }
 
-/// Performs a command, and answers its line. The passes are those of its race, if it is one.
+/// Has the desk of a server do what is asked, and answers the line of its answer.
+fn desk_line(
+    alloc: Global,
+    named: &[ScriptServer],
+    manager: &Manager,
+    passes: &mut [Pass],
+    servers: &mut [Box<dyn Server + Send>],
+    places: &mut [Place],
+    server: usize,
+    act: Act,
+) -> Result<String, AllocError>
+    requires own { All (IsOf manager.now) passes.old }
+    requires lie { AllLie recipe registers pending passes.old servers.old places.old }
+    requires as_many { length places.old ≡ length named.now }
+    requires in_range { server < length named.now }
+    ensures own { All (IsOf manager.now) passes.new }
+    ensures lie { AllLie recipe registers pending passes.new servers.new places.new }
+    ensures as_many { length places.new ≡ length places.old }
+    ensures line { IfOk result (λ text. IsLine (string_bytes text)) }
+{
+    let answer = act_in(manager, passes, servers, places, server, act);
+    server_line(alloc, named, server, answer)
+}
+
+/// Has the desk at one of the places do what is asked.
+fn act_in(
+    manager: &Manager,
+    passes: &mut [Pass],
+    servers: &mut [Box<dyn Server + Send>],
+    places: &mut [Place],
+    at: usize,
+    act: Act,
+) -> ServerAnswer
+    requires own { All (IsOf manager.now) passes.old }
+    requires lie { AllLie recipe registers pending passes.old servers.old places.old }
+    requires within { at < length places.old }
+    ensures own { All (IsOf manager.now) passes.new }
+    ensures lie { AllLie recipe registers pending passes.new servers.new places.new }
+    ensures as_many { length places.new ≡ length places.old }
+{
+    act_at(
+        manager,
+        &mut passes[at],
+        &mut servers[at],
+        &mut places[at],
+        act,
+    )
+}
+
+/// Performs a command, and answers its line. The racers are the passes of its race, if it is one.
 fn command_line<R: Threads + Sync>(
     rt: &R,
     alloc: Global,
     script: &Script,
     manager: &Manager,
     client: &mut Pass,
-    places: &mut [Option<Desk<'_, '_, '_>>],
+    passes: &mut [Pass],
+    servers: &mut [Box<dyn Server + Send>],
+    places: &mut [Place],
     racers: &mut [Pass],
     command: Command,
 ) -> Result<String, AllocError>
-    requires client { IsFreeOf manager.now client.old }
-    requires places { All (IsPlace recipe registers pending manager.now) places.old }
+    requires client { IsFreePass manager.now client.old }
+    requires own { All (IsOf manager.now) passes.old }
+    requires lie { AllLie recipe registers pending passes.old servers.old places.old }
     requires as_many { length places.old ≡ length script.now.servers.items }
-    requires racers { All (IsFreeOf manager.now) racers.old }
+    requires racers { All (IsFreePass manager.now) racers.old }
     requires enough { length racers.old ≡ racers_of command }
     requires in_range { IsInRange (length script.now.servers.items) command }
-    ensures client { IsFreeOf manager.now client.new }
-    ensures places { All (IsPlace recipe registers pending manager.now) places.new }
+    ensures client { IsFreePass manager.now client.new }
+    ensures own { All (IsOf manager.now) passes.new }
+    ensures lie { AllLie recipe registers pending passes.new servers.new places.new }
     ensures as_many { length places.new ≡ length places.old }
+    ensures racers { All (IsFreePass manager.now) racers.new }
     ensures line { IfOk result (λ text. IsLine (string_bytes text)) }
 {
-    let servers = script.servers.as_slice();
+    let named = script.servers.as_slice();
     match command {
         Command::Submit { stage, key, amount } => {
             line(alloc, client::submit(manager, client, stage, key, amount))
@@ -125,35 +224,75 @@ fn command_line<R: Threads + Sync>(
         Command::Reply { root } => client::replies(alloc, manager, client, root),
         Command::Errors => client::errors(alloc, manager, client),
         Command::Count => line(alloc, client::count(manager, client)),
-        Command::Turn { server } => {
-            let answer = desks::turn(&mut places[server]);
-            server_line(alloc, servers, server, answer)
-        }
-        Command::Claim { server } => {
-            let answer = desks::claim(&mut places[server]);
-            server_line(alloc, servers, server, answer)
-        }
-        Command::Prepare { server } => {
-            let answer = desks::prepare(&mut places[server]);
-            server_line(alloc, servers, server, answer)
-        }
-        Command::Commit { server } => {
-            let answer = desks::commit(&mut places[server]);
-            server_line(alloc, servers, server, answer)
-        }
-        Command::Abort { server } => {
-            let answer = desks::abort(&mut places[server]);
-            server_line(alloc, servers, server, answer)
-        }
-        Command::Drop { server } => {
-            let answer = desks::dismiss(&mut places[server]);
-            server_line(alloc, servers, server, answer)
-        }
-        Command::Balance { server, k } => {
-            balance_line(alloc, &servers[server], &places[server], k)
-        }
+        Command::Turn { server } => desk_line(
+            alloc,
+            named,
+            manager,
+            passes,
+            servers,
+            places,
+            server,
+            Act::Turn,
+        ),
+        Command::Claim { server } => desk_line(
+            alloc,
+            named,
+            manager,
+            passes,
+            servers,
+            places,
+            server,
+            Act::Claim,
+        ),
+        Command::Prepare { server } => desk_line(
+            alloc,
+            named,
+            manager,
+            passes,
+            servers,
+            places,
+            server,
+            Act::Prepare,
+        ),
+        Command::Commit { server } => desk_line(
+            alloc,
+            named,
+            manager,
+            passes,
+            servers,
+            places,
+            server,
+            Act::Commit,
+        ),
+        Command::Abort { server } => desk_line(
+            alloc,
+            named,
+            manager,
+            passes,
+            servers,
+            places,
+            server,
+            Act::Abort,
+        ),
+        Command::Drop { server } => desk_line(
+            alloc,
+            named,
+            manager,
+            passes,
+            servers,
+            places,
+            server,
+            Act::Drop,
+        ),
+        Command::Balance { server, k } => balance_line(
+            alloc,
+            &named[server],
+            &servers[server],
+            places[server].is_dropped,
+            k,
+        ),
         Command::Sum { k } => {
-            let sum = sum(places, k);
+            let sum = sum(servers, places, k);
             line(alloc, Answer::Sum { k, sum })
         }
         Command::Race {
@@ -174,19 +313,66 @@ fn command_line<R: Threads + Sync>(
                 turns,
             };
             let rows = script.settings.rows;
-            let submitted = run_race(rt, alloc, manager, places, racers, rows, plan)?;
+            let submitted = run_race(
+                rt, alloc, manager, passes, servers, places, racers, rows, plan,
+            )?;
             line(alloc, Answer::Raced { submitted })
         }
         Command::Drain => {
-            drain_all(alloc, manager, places)?;
+            drain_all(manager, passes, servers, places);
             line(alloc, Answer::Drained)
         }
     }
 }
 
+/// Performs commands one after another, and writes the line of each as it comes. The racers are the passes of all races, in
+/// their order.
+fn perform_all<R: Threads + Sync, W: Sink>(
+    rt: &R,
+    alloc: Global,
+    script: &Script,
+    manager: &Manager,
+    client: &mut Pass,
+    passes: &mut [Pass],
+    servers: &mut [Box<dyn Server + Send>],
+    places: &mut [Place],
+    racers: &mut [Pass],
+    writer: &mut W,
+) -> Result<(), RunFault>
+    requires client { IsFreePass manager.now client.old }
+    requires own { All (IsOf manager.now) passes.old }
+    requires lie { AllLie recipe registers pending passes.old servers.old places.old }
+    requires as_many { length places.old ≡ length script.now.servers.items }
+    requires racers { All (IsFreePass manager.now) racers.old }
+    requires enough { length racers.old ≡ racing script.now.commands.items }
+    ensures client { IsFreePass manager.now client.new }
+    ensures own { All (IsOf manager.now) passes.new }
+    ensures lie { AllLie recipe registers pending passes.new servers.new places.new }
+    ensures racers { All (IsFreePass manager.now) racers.new }
+    ensures done { OnOk result (Writes (length script.now.commands.items)
+        (W.contents writer.old) (W.contents writer.new)) }
+    ensures front { OnErr result (WritesFront (length script.now.commands.items)
+        (W.contents writer.old) (W.contents writer.new)) }
+    ensures write { IsErrOf result RunFault.Write → IsTrue (W.has_failed writer.new) }
+{
+    let mut raced = 0usize;
+    for command in &script.commands {
+        let needed = usize::from(command.racers());
+        let (_before, rest) = racers.split_at_mut(raced);
+        let (here, _after) = rest.split_at_mut(needed);
+        raced += needed;
+        let line = command_line(
+            rt, alloc, script, manager, client, passes, servers, places, here, *command,
+        )?;
+        write_all(writer, line.as_bytes())?;
+    }
+    Ok(())
+}
+
 /// Performs the commands of a script over the manager, each server at a desk of its own, and writes a line for each as it
-/// comes. The passes are the manager's: the client's, then one for each server, then those of each race. The servers are the script's, in their
-/// order. When the commands are done, and after a fault, all desks are dropped. What was done before a fault stands.
+/// comes. The passes are the manager's: the client's, then one for each server, then those of each race. The servers are the
+/// script's, in their order. When the commands are done, and after a fault, all desks are ended. What was done before a
+/// fault stands.
 pub fn perform<R: Threads + Sync, W: Sink>(
     rt: &R,
     alloc: Global,
@@ -196,27 +382,27 @@ pub fn perform<R: Threads + Sync, W: Sink>(
     servers: &mut [Box<dyn Server + Send>],
     writer: &mut W,
 ) -> Result<(), RunFault>
-    requires passes { All (IsFreeOf manager.now) passes.old }
+    requires passes { All (IsFreePass manager.now) passes.old }
     requires enough { length passes.old ≡ passes_of (script_view script.now) }
     requires servers { All (λ server. pending server ≡ None) servers.old }
     requires all { length servers.old ≡ length script.now.servers.items }
-    ensures done { OnOk result (Writes (length script.now.commands.items) (W.contents writer.old) (W.contents writer.new)) }
-    ensures front { OnErr result (WritesFront (length script.now.commands.items) (W.contents writer.old) (W.contents writer.new)) }
+    ensures passes { All (IsFreePass manager.now) passes.new }
+    ensures servers { All (λ server. pending server ≡ None) servers.new }
+    ensures done { OnOk result (Writes (length script.now.commands.items)
+        (W.contents writer.old) (W.contents writer.new)) }
+    ensures front { OnErr result (WritesFront (length script.now.commands.items)
+        (W.contents writer.old) (W.contents writer.new)) }
     ensures write { IsErrOf result RunFault.Write → IsTrue (W.has_failed writer.new) }
 {
     let Some((client, others)) = passes.split_first_mut() else {
         unreachable!();
     };
     let (workers, racers) = others.split_at_mut(servers.len());
-    let mut racers = racers;
-    let mut desks = desks_for(alloc, manager, workers, servers)?;
-    let places = desks.as_mut_slice();
-    for command in &script.commands {
-        let needed = usize::from(command.racers());
-        let (here, rest) = mem::take(&mut racers).split_at_mut(needed);
-        racers = rest;
-        let line = command_line(rt, alloc, script, manager, client, places, here, *command)?;
-        write_all(writer, line.as_bytes())?;
-    }
-    Ok(())
+    let mut places = places_for(alloc, workers, servers)?;
+    let places = places.as_mut_slice();
+    let done = perform_all(
+        rt, alloc, script, manager, client, workers, servers, places, racers, writer,
+    );
+    end_all(manager, workers, servers, places);
+    done
 }

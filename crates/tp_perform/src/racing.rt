@@ -1,18 +1,21 @@
 //! Commands that have all free servers work: `race`, on threads of their own with clients and cancellers, and `drain`.
-ghost use Rattle.std.specs.Prelude.{◌≡◌, ◌+◌, ◌-◌, ◌*◌, ◌≤◌, ◌<◌, ◌^◌, All, IfOk, ℕ, length, sum_by};
+ghost use Rattle.std.specs.List.{swap};
+ghost use Rattle.std.specs.Prelude.{◌≡◌, ◌+◌, ◌-◌, ◌*◌, ◌≤◌, ◌<◌, ◌^◌, None, All, IfOk, length, sum_by, take};
 ghost use Rattle.tp_model.specs.Steps.{IsServerStage};
-ghost use Rattle.tp_desk.specs.Steady.{IsReady};
-ghost use Rattle.tp_workers.specs.Clients.{IsClientOf};
-ghost use Rattle.tp_workers.specs.Killers.{IsKillerOf};
+ghost use Rattle.tp_manager.specs.Shown.{IsOf};
+ghost use Rattle.tp_workers.specs.Clients.{IsClientJob};
+ghost use Rattle.tp_workers.specs.Free.{IsFreePass};
+ghost use Rattle.tp_workers.specs.Killers.{IsKillJob};
 ghost use Rattle.tp_workers.specs.Sums.{calls_of, size_of_range};
-ghost use Rattle.tp_perform.specs.Performing.{IsFreeOf, IsPlace};
+ghost use Rattle.tp_perform.specs.Places.{AllLie, IsFreeAt};
 ghost use Rattle.tp_script.specs.declared.script.TheConstants.{MOST_SERVERS};
 
+use crate::place::Place;
 use std::alloc::{AllocError, Global};
 use std::thread::Threads;
-use tp_desk::Desk;
 use tp_manager::{Manager, Pass};
 use tp_script::MOST_SERVERS;
+use tp_server::Server;
 use tp_workers::{ClientJob, KillJob, NoGate, drain, shift};
 
 /// What the clients and cancellers of a race do.
@@ -29,183 +32,32 @@ pub(crate) struct RacePlan {
     pub turns: u16,
 }
 
-/// Desks with nothing in hand, and the numbers of the places that they were taken from.
-#[derive(Drop)]
-struct Free<'m, 'p, 's> {
-    numbers: Vec<usize>,
-    desks: Vec<Desk<'m, 'p, 's>>,
-}
-
-/// Takes the desk at a place to the free ones, if it has nothing in hand.
-fn take_if_free<'m, 'p, 's>(
-    manager: &Manager,
-    place: &mut Option<Desk<'m, 'p, 's>>,
-    number: usize,
-    free: &mut Free<'m, 'p, 's>,
-) -> Result<(), AllocError>
-    requires place { IsPlace recipe registers pending manager.now place.old }
-    requires ready { All (IsReady recipe registers pending) free.old.desks.items }
-    requires manager { All (λ desk. desk.manager.now ≡ manager.now) free.old.desks.items }
-    ensures place { IsPlace recipe registers pending manager.now place.new }
-    ensures ready { All (IsReady recipe registers pending) free.new.desks.items }
-    ensures manager { All (λ desk. desk.manager.now ≡ manager.now) free.new.desks.items }
-    ensures few { length free.new.desks.items ≤ length free.old.desks.items + 1 }
-    ensures numbers { (most : ℕ) → number < most → All (λ n. n < most) free.old.numbers.items → All (λ n. n < most) free.new.numbers.items }
-{
-    let Some(desk) = place.take() else {
-        return Ok(());
-    };
-    if desk.has_open() {
-        let _ = place.replace(desk);
-        return Ok(());
-    }
-    add(manager, free, number, desk)
-}
-
-/// Adds a desk to the free ones.
-fn add<'m, 'p, 's>(
-    manager: &Manager,
-    free: &mut Free<'m, 'p, 's>,
-    number: usize,
-    desk: Desk<'m, 'p, 's>,
-) -> Result<(), AllocError>
-    requires ready { All (IsReady recipe registers pending) free.old.desks.items }
-    requires manager { All (λ desk. desk.manager.now ≡ manager.now) free.old.desks.items }
-    requires is_ready { IsReady recipe registers pending desk }
-    requires of_manager { desk.manager.now ≡ manager.now }
-    ensures ready { All (IsReady recipe registers pending) free.new.desks.items }
-    ensures manager { All (λ desk. desk.manager.now ≡ manager.now) free.new.desks.items }
-    ensures few { length free.new.desks.items ≤ length free.old.desks.items + 1 }
-    ensures numbers { (most : ℕ) → number < most → All (λ n. n < most) free.old.numbers.items → All (λ n. n < most) free.new.numbers.items }
-{
-    free.numbers.push(number)?;
-    free.desks.push(desk)?;
-    Ok(())
-}
-
-/// Takes the desks with nothing in hand from their places.
-fn take_free<'m, 'p, 's>(
-    alloc: Global,
-    manager: &Manager,
-    places: &mut [Option<Desk<'m, 'p, 's>>],
-) -> Result<Free<'m, 'p, 's>, AllocError>
-    requires places { All (IsPlace recipe registers pending manager.now) places.old }
-    ensures places { All (IsPlace recipe registers pending manager.now) places.new }
-    ensures as_many { length places.new ≡ length places.old }
-    ensures numbers { IfOk result (λ free. All (λ number. number < length places.old) free.numbers.items) }
-    ensures ready { IfOk result (λ free. All (IsReady recipe registers pending) free.desks.items) }
-    ensures manager { IfOk result (λ free. All (λ desk. desk.manager.now ≡ manager.now) free.desks.items) }
-    ensures few { IfOk result (λ free. length free.desks.items ≤ length places.old) }
-{
-    let mut free = Free {
-        numbers: Vec::new(alloc),
-        desks: Vec::new(alloc),
-    };
-    for number in 0..places.len() {
-        take_if_free(manager, &mut places[number], number, &mut free)?;
-    }
-    Ok(free)
-}
-
-/// Puts desks back at the places with these numbers.
-fn put_back<'m, 'p, 's>(
-    manager: &Manager,
-    places: &mut [Option<Desk<'m, 'p, 's>>],
-    numbers: Vec<usize>,
-    desks: Vec<Desk<'m, 'p, 's>>,
-)
-    requires places { All (IsPlace recipe registers pending manager.now) places.old }
-    requires numbers { All (λ number. number < length places.old) numbers.items }
-    requires ready { All (IsReady recipe registers pending) desks.items }
-    requires manager { All (λ desk. desk.manager.now ≡ manager.now) desks.items }
-    ensures places { All (IsPlace recipe registers pending manager.now) places.new }
-    ensures as_many { length places.new ≡ length places.old }
-{
-    let mut numbers = numbers;
-    let mut desks = desks;
-    while let (Some(number), Some(desk)) = (numbers.pop(), desks.pop()) {
-        let _ = places[number].replace(desk);
-    }
-}
-
-/// A job for each client's pass.
-fn client_jobs<'p>(
-    alloc: Global,
-    manager: &Manager,
-    passes: &'p mut [Pass],
-    plan: RacePlan,
-) -> Result<Vec<ClientJob<'p>>, AllocError>
-    requires passes { All (IsFreeOf manager.now) passes.old }
-    requires stage { IsServerStage plan.stage }
-    ensures ready { IfOk result (λ jobs. All (IsClientOf manager.now) jobs.items) }
-    ensures calls { IfOk result (λ jobs. sum_by calls_of jobs.items ≤ length passes.old * plan.submits) }
+/// A list of so many jobs, all alike.
+fn client_jobs(alloc: Global, many: usize, job: ClientJob) -> Result<Vec<ClientJob>, AllocError>
+    requires { IsClientJob job }
+    ensures jobs { IfOk result (λ jobs. All IsClientJob jobs.items) }
+    ensures many { IfOk result (λ jobs. length jobs.items ≡ many) }
+    ensures calls { IfOk result (λ jobs. sum_by calls_of jobs.items ≡ many * job.count) }
 {
     let mut jobs = Vec::new(alloc);
-    for pass in passes.iter_mut() {
-        jobs.push(ClientJob {
-            pass,
-            stage: plan.stage,
-            key: plan.key,
-            amount: plan.amount,
-            count: u32::from(plan.submits),
-        })?;
+    for _i in 0..many {
+        jobs.push(job)?;
     }
     Ok(jobs)
 }
 
-/// A job for each canceller's pass: the ids from `first` up to and without `end`.
-fn kill_jobs<'p>(
-    alloc: Global,
-    manager: &Manager,
-    passes: &'p mut [Pass],
-    first: u32,
-    end: u32,
-) -> Result<Vec<KillJob<'p>>, AllocError>
-    requires passes { All (IsFreeOf manager.now) passes.old }
-    requires range { first ≤ end }
-    ensures ready { IfOk result (λ jobs. All (IsKillerOf manager.now) jobs.items) }
-    ensures ids { IfOk result (λ jobs. sum_by size_of_range jobs.items ≤ length passes.old * (end - first)) }
+/// A list of so many jobs, all alike.
+fn kill_jobs(alloc: Global, many: usize, job: KillJob) -> Result<Vec<KillJob>, AllocError>
+    requires { IsKillJob job }
+    ensures jobs { IfOk result (λ jobs. All IsKillJob jobs.items) }
+    ensures many { IfOk result (λ jobs. length jobs.items ≡ many) }
+    ensures ids { IfOk result (λ jobs. sum_by size_of_range jobs.items ≡ many * (job.end - job.first)) }
 {
     let mut jobs = Vec::new(alloc);
-    for pass in passes.iter_mut() {
-        jobs.push(KillJob { pass, first, end })?;
+    for _i in 0..many {
+        jobs.push(job)?;
     }
     Ok(jobs)
-}
-
-/// Has the free desks work with clients and killers, each on a thread of its own, and answers how many submits were
-/// accepted.
-fn race_free<R: Threads + Sync>(
-    rt: &R,
-    alloc: Global,
-    manager: &Manager,
-    places: &mut [Option<Desk<'_, '_, '_>>],
-    clients: &mut [ClientJob<'_>],
-    killers: &mut [KillJob<'_>],
-    turns: u16,
-) -> Result<u32, AllocError>
-    requires places { All (IsPlace recipe registers pending manager.now) places.old }
-    requires few { length places.old ≤ MOST_SERVERS }
-    requires clients { All (IsClientOf manager.now) clients.old }
-    requires killers { All (IsKillerOf manager.now) killers.old }
-    requires calls { sum_by calls_of clients.old < 2 ^ 32 }
-    requires ids { sum_by size_of_range killers.old < 2 ^ 32 }
-    ensures places { All (IsPlace recipe registers pending manager.now) places.new }
-    ensures as_many { length places.new ≡ length places.old }
-{
-    let Free { numbers, mut desks } = take_free(alloc, manager, places)?;
-    let list = desks.as_mut_slice();
-    let counts = shift(
-        rt,
-        manager,
-        list,
-        clients,
-        killers,
-        u32::from(turns),
-        &NoGate,
-    );
-    put_back(manager, places, numbers, desks);
-    Ok(counts.submitted)
 }
 
 /// Has each free server take at most so many turns, while clients submit and cancellers kill, each on a thread of its own;
@@ -215,65 +67,262 @@ pub(crate) fn run_race<R: Threads + Sync>(
     rt: &R,
     alloc: Global,
     manager: &Manager,
-    places: &mut [Option<Desk<'_, '_, '_>>],
     passes: &mut [Pass],
+    servers: &mut [Box<dyn Server + Send>],
+    places: &mut [Place],
+    racers: &mut [Pass],
     rows: u16,
     plan: RacePlan,
 ) -> Result<u32, AllocError>
-    requires places { All (IsPlace recipe registers pending manager.now) places.old }
+    requires own { All (IsOf manager.now) passes.old }
+    requires lie { AllLie recipe registers pending passes.old servers.old places.old }
     requires few { length places.old ≤ MOST_SERVERS }
-    requires passes { All (IsFreeOf manager.now) passes.old }
-    requires enough { plan.clients ≤ length passes.old }
-    requires most { length passes.old ≤ 510 }
+    requires racers { All (IsFreePass manager.now) racers.old }
+    requires enough { plan.clients ≤ length racers.old }
+    requires most { length racers.old ≤ 510 }
     requires rows { rows ≤ 256 }
     requires stage { IsServerStage plan.stage }
-    ensures places { All (IsPlace recipe registers pending manager.now) places.new }
-    ensures as_many { length places.new ≡ length places.old }
+    ensures own { All (IsOf manager.now) passes.new }
+    ensures lie { AllLie recipe registers pending passes.new servers.new places.new }
+    ensures racers { All (IsFreePass manager.now) racers.new }
+    ensures as_many { (length places.new ≡ length places.old) × (length racers.new ≡ length racers.old) }
 {
-    let (clients, cancellers) = passes.split_at_mut(usize::from(plan.clients));
+    let (clients, cancellers) = racers.split_at_mut(usize::from(plan.clients));
     let first = match clients.first() {
         Some(pass) => u32::from(pass.number()) * u32::from(rows),
         None => 0,
     };
     let end = first + u32::from(plan.clients) * u32::from(rows);
-    let mut clients = client_jobs(alloc, manager, clients, plan)?;
-    let mut killers = kill_jobs(alloc, manager, cancellers, first, end)?;
-    race_free(
+    let job = ClientJob {
+        stage: plan.stage,
+        key: plan.key,
+        amount: plan.amount,
+        count: u32::from(plan.submits),
+    };
+    let mut jobs = client_jobs(alloc, clients.len(), job)?;
+    let mut kills = kill_jobs(alloc, cancellers.len(), KillJob { first, end })?;
+    Ok(race_free(
         rt,
-        alloc,
         manager,
+        passes,
+        servers,
         places,
-        clients.as_mut_slice(),
-        killers.as_mut_slice(),
-        plan.turns,
-    )
+        clients,
+        jobs.as_mut_slice(),
+        cancellers,
+        kills.as_mut_slice(),
+        u32::from(plan.turns),
+        0,
+        0,
+    ))
 }
 
-/// Has desks of this manager take turns until a whole round of them claims nothing.
-fn drain_desks(manager: &Manager, desks: &mut [Desk<'_, '_, '_>])
-    requires ready { All (IsReady recipe registers pending) desks.old }
-    requires manager { All (λ desk. desk.manager.now ≡ manager.now) desks.old }
-    requires few { length desks.old ≤ MOST_SERVERS }
-    ensures ready { All (IsReady recipe registers pending) desks.new }
-    ensures manager { All (λ desk. desk.manager.now ≡ manager.now) desks.new }
-    ensures as_many { length desks.new ≡ length desks.old }
+/// Races the free servers among those from `at` on, and the ones before `front`, which are free: for that time the free ones
+/// stand in front, each with its pass.
+fn race_free<R: Threads + Sync>(
+    rt: &R,
+    manager: &Manager,
+    passes: &mut [Pass],
+    servers: &mut [Box<dyn Server + Send>],
+    places: &mut [Place],
+    clients: &mut [Pass],
+    jobs: &mut [ClientJob],
+    cancellers: &mut [Pass],
+    kills: &mut [KillJob],
+    turns: u32,
+    front: usize,
+    at: usize,
+) -> u32
+    requires own { All (IsOf manager.now) passes.old }
+    requires lie { AllLie recipe registers pending passes.old servers.old places.old }
+    requires few { length places.old ≤ MOST_SERVERS }
+    requires free { All IsFreeAt (take front places.old) }
+    requires within { (front ≤ at) × (at ≤ length places.old) }
+    requires clients { All (IsFreePass manager.now) clients.old }
+    requires clients_paired { length clients.old ≡ length jobs.old }
+    requires jobs { All IsClientJob jobs.old }
+    requires calls { sum_by calls_of jobs.old < 2 ^ 32 }
+    requires cancellers { All (IsFreePass manager.now) cancellers.old }
+    requires cancellers_paired { length cancellers.old ≡ length kills.old }
+    requires kills { All IsKillJob kills.old }
+    requires ids { sum_by size_of_range kills.old < 2 ^ 32 }
+    requires turns { turns < 2 ^ 16 }
+    ensures own { All (IsOf manager.now) passes.new }
+    ensures lie { AllLie recipe registers pending passes.new servers.new places.new }
+    ensures clients { All (IsFreePass manager.now) clients.new }
+    ensures cancellers { All (IsFreePass manager.now) cancellers.new }
+    ensures as_many { (length places.new ≡ length places.old) × (length clients.new ≡ length clients.old)
+        × (length cancellers.new ≡ length cancellers.old) }
 {
-    let _ = drain(desks);
+    if at == places.len() {
+        return race_front(
+            rt, manager, passes, servers, places, clients, jobs, cancellers, kills, turns, front,
+        );
+    }
+    if !places[at].is_free() {
+        return race_free(
+            rt,
+            manager,
+            passes,
+            servers,
+            places,
+            clients,
+            jobs,
+            cancellers,
+            kills,
+            turns,
+            front,
+            at + 1,
+        );
+    }
+    swap_places(manager, passes, servers, places, front, at);
+    let submitted = race_free(
+        rt,
+        manager,
+        passes,
+        servers,
+        places,
+        clients,
+        jobs,
+        cancellers,
+        kills,
+        turns,
+        front + 1,
+        at + 1,
+    );
+    swap_places(manager, passes, servers, places, front, at);
+    submitted
+}
+
+/// Races the servers in front, which are free.
+fn race_front<R: Threads + Sync>(
+    rt: &R,
+    manager: &Manager,
+    passes: &mut [Pass],
+    servers: &mut [Box<dyn Server + Send>],
+    places: &[Place],
+    clients: &mut [Pass],
+    jobs: &mut [ClientJob],
+    cancellers: &mut [Pass],
+    kills: &mut [KillJob],
+    turns: u32,
+    front: usize,
+) -> u32
+    requires own { All (IsOf manager.now) passes.old }
+    requires lie { AllLie recipe registers pending passes.old servers.old places.now }
+    requires few { length places.now ≤ MOST_SERVERS }
+    requires free { All IsFreeAt (take front places.now) }
+    requires within { front ≤ length places.now }
+    requires clients { All (IsFreePass manager.now) clients.old }
+    requires clients_paired { length clients.old ≡ length jobs.old }
+    requires jobs { All IsClientJob jobs.old }
+    requires calls { sum_by calls_of jobs.old < 2 ^ 32 }
+    requires cancellers { All (IsFreePass manager.now) cancellers.old }
+    requires cancellers_paired { length cancellers.old ≡ length kills.old }
+    requires kills { All IsKillJob kills.old }
+    requires ids { sum_by size_of_range kills.old < 2 ^ 32 }
+    requires turns { turns < 2 ^ 16 }
+    ensures own { All (IsOf manager.now) passes.new }
+    ensures lie { AllLie recipe registers pending passes.new servers.new places.now }
+    ensures clients { All (IsFreePass manager.now) clients.new }
+    ensures cancellers { All (IsFreePass manager.now) cancellers.new }
+    ensures as_many { (length clients.new ≡ length clients.old) × (length cancellers.new ≡ length cancellers.old) }
+{
+    let (desks, _others) = passes.split_at_mut(front);
+    let (boxes, _rest) = servers.split_at_mut(front);
+    let counts = shift(
+        rt, manager, desks, boxes, clients, jobs, cancellers, kills, turns, &NoGate,
+    );
+    counts.submitted
+}
+
+/// Puts one server, with its pass and its desk, in another's place, and that one in its own.
+fn swap_places(
+    manager: &Manager,
+    passes: &mut [Pass],
+    servers: &mut [Box<dyn Server + Send>],
+    places: &mut [Place],
+    a: usize,
+    b: usize,
+)
+    requires own { All (IsOf manager.now) passes.old }
+    requires lie { AllLie recipe registers pending passes.old servers.old places.old }
+    requires within { (a ≤ b) × (b < length places.old) }
+    ensures own { All (IsOf manager.now) passes.new }
+    ensures lie { AllLie recipe registers pending passes.new servers.new places.new }
+    ensures swapped { places.new ≡ swap places.old a b }
+    ensures as_many { length places.new ≡ length places.old }
+{
+    passes.swap(a, b);
+    servers.swap(a, b);
+    places.swap(a, b);
 }
 
 /// Has the free servers take turns until a whole round of them claims nothing.
 pub(crate) fn drain_all(
-    alloc: Global,
     manager: &Manager,
-    places: &mut [Option<Desk<'_, '_, '_>>],
-) -> Result<(), AllocError>
-    requires places { All (IsPlace recipe registers pending manager.now) places.old }
+    passes: &mut [Pass],
+    servers: &mut [Box<dyn Server + Send>],
+    places: &mut [Place],
+)
+    requires own { All (IsOf manager.now) passes.old }
+    requires lie { AllLie recipe registers pending passes.old servers.old places.old }
     requires few { length places.old ≤ MOST_SERVERS }
-    ensures places { All (IsPlace recipe registers pending manager.now) places.new }
+    ensures own { All (IsOf manager.now) passes.new }
+    ensures lie { AllLie recipe registers pending passes.new servers.new places.new }
     ensures as_many { length places.new ≡ length places.old }
 {
-    let Free { numbers, mut desks } = take_free(alloc, manager, places)?;
-    drain_desks(manager, desks.as_mut_slice());
-    put_back(manager, places, numbers, desks);
-    Ok(())
+    drain_free(manager, passes, servers, places, 0, 0);
+}
+
+/// Drains as `race_free` races.
+fn drain_free(
+    manager: &Manager,
+    passes: &mut [Pass],
+    servers: &mut [Box<dyn Server + Send>],
+    places: &mut [Place],
+    front: usize,
+    at: usize,
+)
+    requires own { All (IsOf manager.now) passes.old }
+    requires lie { AllLie recipe registers pending passes.old servers.old places.old }
+    requires few { length places.old ≤ MOST_SERVERS }
+    requires free { All IsFreeAt (take front places.old) }
+    requires within { (front ≤ at) × (at ≤ length places.old) }
+    ensures own { All (IsOf manager.now) passes.new }
+    ensures lie { AllLie recipe registers pending passes.new servers.new places.new }
+    ensures as_many { length places.new ≡ length places.old }
+{
+    if at == places.len() {
+        drain_front(manager, passes, servers, places, front);
+        return;
+    }
+    if !places[at].is_free() {
+        drain_free(manager, passes, servers, places, front, at + 1);
+        return;
+    }
+    swap_places(manager, passes, servers, places, front, at);
+    drain_free(manager, passes, servers, places, front + 1, at + 1);
+    swap_places(manager, passes, servers, places, front, at);
+}
+
+/// Drains the servers in front, which are free.
+fn drain_front(
+    manager: &Manager,
+    passes: &mut [Pass],
+    servers: &mut [Box<dyn Server + Send>],
+    places: &[Place],
+    front: usize,
+)
+    requires own { All (IsOf manager.now) passes.old }
+    requires lie { AllLie recipe registers pending passes.old servers.old places.now }
+    requires few { length places.now ≤ MOST_SERVERS }
+    requires free { All IsFreeAt (take front places.now) }
+    requires within { front ≤ length places.now }
+    ensures own { All (IsOf manager.now) passes.new }
+    ensures lie { AllLie recipe registers pending passes.new servers.new places.now }
+{
+    let (desks, _others) = passes.split_at_mut(front);
+    let (boxes, _rest) = servers.split_at_mut(front);
+    let _ = drain(manager, desks, boxes);
 }

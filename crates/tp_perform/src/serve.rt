@@ -2,7 +2,8 @@
 ghost use Rattle.std.specs.Prelude.{◌≡◌, ◌+◌, None, IfOk, OnErr, OnOk, IsErrOf, IsTrue, All, length};
 ghost use Rattle.tp_manager.specs.Shown.{IsKeptBy};
 ghost use Rattle.tp_report.specs.Lines.{Writes, WritesFront};
-ghost use Rattle.tp_perform.specs.Performing.{IsFreeOf, final_count};
+ghost use Rattle.tp_workers.specs.Free.{IsFreePass};
+ghost use Rattle.tp_perform.specs.Performing.{final_count};
 ghost use Rattle.tp_script.specs.Script.{passes as passes_of, script_view};
 
 use crate::finals::finals;
@@ -53,7 +54,7 @@ fn all_passes(
 ) -> Result<Vec<Pass>, AllocError>
     requires keeper { IsKeptBy manager.now keeper.old }
     requires fresh { keeper.old.given ≡ 0 }
-    ensures free { IfOk result (λ passes. All (IsFreeOf manager.now) passes.items) }
+    ensures free { IfOk result (λ passes. All (IsFreePass manager.now) passes.items) }
     ensures all { IfOk result (λ passes. length passes.items ≡ manager.now.limits.parts) }
 {
     let mut passes = Vec::new(alloc);
@@ -73,7 +74,7 @@ fn serve_by<R: Threads + Sync, W: Sink>(
     passes: &mut [Pass],
     writer: &mut W,
 ) -> Result<(), RunFault>
-    requires passes { All (IsFreeOf manager.now) passes.old }
+    requires passes { All (IsFreePass manager.now) passes.old }
     requires enough { length passes.old ≡ passes_of (script_view script.now) }
     ensures done { OnOk result (Writes (length script.now.commands.items + final_count (script_view script.now)) (W.contents writer.old) (W.contents writer.new)) }
     ensures front { OnErr result (WritesFront (length script.now.commands.items + final_count (script_view script.now)) (W.contents writer.old) (W.contents writer.new)) }

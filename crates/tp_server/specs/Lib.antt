@@ -2,3 +2,4 @@ pub mod Check
 pub mod Effect
 pub mod Entries
 pub mod Names
+pub mod Pending

@@ -4,6 +4,7 @@ ghost use Rattle.std.specs.Option.{ForSome};
 ghost use Rattle.tp_server.specs.Check.{check_of};
 
 use crate::effect;
+use crate::entry::Entry;
 use crate::recipe::{BadRecipe, Declined, Recipe};
 use crate::registers::Registers;
 use crate::server::Server;
@@ -15,11 +16,11 @@ use tp_model::types::{Draft, Element};
 pub struct EagerServer {
     registers: Registers,
     recipe: Recipe,
-    /// The changed register and its value before, while work is prepared.
-    undo: Option<(u64, u64)>,
+    /// What the register of the prepared element was before, while work is prepared.
+    undo: Option<Entry>,
     ghost checked: { check_of recipe ≡ Ok tt },
     ghost counted: { length registers ≡ recipe.registers },
-    ghost in_range: { ForSome undo (λ entry. entry.0 < length registers) },
+    ghost in_range: { ForSome undo (λ entry. entry.element.key < length registers) },
 }
 
 impl EagerServer {
@@ -64,7 +65,7 @@ impl Server for EagerServer {
 
     fn balance(&self, k: u64) -> Option<u64> {
         match self.undo {
-            Some((key, value)) if key == k => Some(value),
+            Some(entry) if entry.element.key == k => Some(entry.value),
             _ => self.registers.get(k),
         }
     }
@@ -75,8 +76,11 @@ impl Server for EagerServer {
 
     fn prepare(&mut self, element: &Element) -> Result<ArrayVec<Draft, 4>, Declined> {
         let after = effect::register_after(&self.recipe, &self.registers, element)?;
-        if let Some(before) = self.registers.get(element.key) {
-            self.undo = Some((element.key, before));
+        if let Some(value) = self.registers.get(element.key) {
+            self.undo = Some(Entry {
+                element: *element,
+                value,
+            });
         }
         self.registers.set(element.key, after);
         Ok(effect::drafts(&self.recipe.outputs, element, after))
@@ -87,8 +91,8 @@ impl Server for EagerServer {
     }
 
     fn undo(&mut self) {
-        if let Some((key, value)) = self.undo {
-            self.registers.set(key, value);
+        if let Some(entry) = self.undo {
+            self.registers.set(entry.element.key, entry.value);
         }
         self.undo = None;
     }

@@ -4,6 +4,7 @@ ghost use Rattle.std.specs.Option.{ForSome};
 ghost use Rattle.tp_server.specs.Check.{check_of};
 
 use crate::effect;
+use crate::entry::Entry;
 use crate::recipe::{BadRecipe, Declined, Recipe};
 use crate::registers::Registers;
 use crate::server::Server;
@@ -15,11 +16,11 @@ use tp_model::types::{Draft, Element};
 pub struct LazyServer {
     registers: Registers,
     recipe: Recipe,
-    /// The register to write and its new value, while work is prepared.
-    write: Option<(u64, u64)>,
+    /// What the register of the prepared element becomes, while work is prepared.
+    write: Option<Entry>,
     ghost checked: { check_of recipe ≡ Ok tt },
     ghost counted: { length registers ≡ recipe.registers },
-    ghost in_range: { ForSome write (λ entry. entry.0 < length registers) },
+    ghost in_range: { ForSome write (λ entry. entry.element.key < length registers) },
 }
 
 impl LazyServer {
@@ -71,14 +72,17 @@ impl Server for LazyServer {
     }
 
     fn prepare(&mut self, element: &Element) -> Result<ArrayVec<Draft, 4>, Declined> {
-        let after = effect::register_after(&self.recipe, &self.registers, element)?;
-        self.write = Some((element.key, after));
-        Ok(effect::drafts(&self.recipe.outputs, element, after))
+        let value = effect::register_after(&self.recipe, &self.registers, element)?;
+        self.write = Some(Entry {
+            element: *element,
+            value,
+        });
+        Ok(effect::drafts(&self.recipe.outputs, element, value))
     }
 
     fn commit(&mut self) {
-        if let Some((key, value)) = self.write {
-            self.registers.set(key, value);
+        if let Some(entry) = self.write {
+            self.registers.set(entry.element.key, entry.value);
         }
         self.write = None;
     }

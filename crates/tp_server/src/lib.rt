@@ -4,6 +4,7 @@
 
 mod eager;
 mod effect;
+mod entry;
 mod lazy;
 mod prepared;
 mod recipe;

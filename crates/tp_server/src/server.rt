@@ -9,8 +9,9 @@ use tp_model::types::{Draft, Element};
 /// undoes it.
 ///
 /// You may write servers of your own. By the three ghost members a server says what it shows: its recipe, the registers
-/// of its committed work, and the registers that a commit would leave, if there is prepared work. They may be read off
-/// its fields in any way, so it is free to change its registers early or late. What it owes is this:
+/// of its committed work, and its prepared work, if there is any: the element that it was prepared for, and the registers
+/// that a commit would leave. They may be read off its fields in any way, so it is free to change its registers early or
+/// late. What it owes is this:
 ///
 /// - Its recipe has no fault that `Recipe::check` finds, its registers are as many as the recipe asks for, and no call
 ///   changes the recipe.
@@ -25,7 +26,8 @@ use tp_model::types::{Draft, Element};
 pub trait Server: Drop {
     ghost use Rattle.tp_server.specs.declared.recipe.Recipe.{Recipe};
     ghost use Rattle.tp_server.specs.Check.{check_of};
-    ghost use Rattle.tp_server.specs.Effect.{effect_of, registers_after, drafts_after};
+    ghost use Rattle.tp_server.specs.Effect.{effect_of, drafts_after};
+    ghost use Rattle.tp_server.specs.Pending.{Pending, pending_after, registers_of};
 
     /// What it does with an element.
     ghost recipe: { Self → Recipe };
@@ -33,8 +35,8 @@ pub trait Server: Drop {
     /// The registers of committed work.
     ghost registers: { Self → List ℕ };
 
-    /// The registers that a commit would leave, if there is prepared work.
-    ghost pending: { Self → Option (List ℕ) };
+    /// The prepared work, if there is any: the element that it is for, and the registers that a commit would leave.
+    ghost pending: { Self → Option Pending };
 
     /// The stage whose elements it takes, 1 to 14.
     fn stage(&self) -> u8
@@ -67,7 +69,7 @@ pub trait Server: Drop {
         ensures recipe { recipe self.new ≡ recipe self.old }
         ensures registers { registers self.new ≡ registers self.old }
         ensures pending { pending self.new
-            ≡ registers_after (effect_of (recipe self.old) (registers self.old) element.now) }
+            ≡ pending_after element.now (effect_of (recipe self.old) (registers self.old) element.now) }
         ensures ok { IfOk result (λ drafts.
             drafts_after (effect_of (recipe self.old) (registers self.old) element.now) ≡ Ok drafts.items) }
         ensures err { IfErr result (λ why.
@@ -79,7 +81,7 @@ pub trait Server: Drop {
     fn commit(&mut self)
         requires { IsSome (pending self.old) }
         ensures recipe { recipe self.new ≡ recipe self.old }
-        ensures registers { Some (registers self.new) ≡ pending self.old }
+        ensures registers { Some (registers self.new) ≡ registers_of (pending self.old) }
         ensures pending { pending self.new ≡ None };
 
     /// Calls the prepared work off.

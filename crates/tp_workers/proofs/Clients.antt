@@ -33,6 +33,10 @@ module _ (stage key amount : ℕ) where
   submits_counted n p q s h =
       called_gains (SubmitsOnce stage key amount) submit_count (λ (c : Shift). c.submitted) enqueues_in refl (λ a b. refl) submitted_once n p q s h
 
+  pub submits_number : (n : ℕ) (p q : PassShown) (s : Shift) → Called (SubmitsOnce stage key amount) submit_count n p s q → q.number ≡ p.number
+  submits_number n p q s h =
+      called_keeps (SubmitsOnce stage key amount) submit_count (λ x y. y.number ≡ x.number) (λ x. refl) (λ x y z a b. b ∙ a) (λ x r y one. one.follows.number) n p q s h
+
   pub submits_gained : (n : ℕ) (p q : PassShown) (s : Shift) → Called (SubmitsOnce stage key amount) submit_count n p s q → GainsOnly (IsRequest stage key amount) p q
   submits_gained n p q s h =
       called_keeps (SubmitsOnce stage key amount) submit_count (GainsOnly (IsRequest stage key amount)) (λ x. gains_none (IsRequest stage key amount) x x refl) (gains_then (IsRequest stage key amount)) gained_once n p q s h

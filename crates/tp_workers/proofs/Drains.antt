@@ -1,18 +1,24 @@
 -- Rounds of turns.
-use Rattle.std.proofs.Common.{◌≡◌, ℕ, ◌+◌, ◌-◌, ◌*◌, ◌≤◌, ◌<◌, List, [], ◌∷◌, Option, All, refl, sym, ◌∙◌, ap, ap₂, arith, length, sum_by}
+use Rattle.std.proofs.Common.{◌≡◌, ℕ, ◌+◌, ◌-◌, ◌*◌, ◌≤◌, ◌<◌, List, [], ◌∷◌, Option, All, refl, sym, ◌∙◌, ap, ap₂, subst, arith, length, sum_by, zip, None}
 use Rattle.std.proofs.lemmas.List.Elements.{All-head, All-tail}
 use Rattle.std.proofs.lemmas.List.Sums.{sum_by-cons}
 use Rattle.tp_server.specs.declared.recipe.Recipe.{Recipe}
+use Rattle.tp_server.specs.Pending.{Pending}
 use Rattle.tp_manager.specs.Calls.{claims_in}
-use Rattle.tp_desk.specs.declared.desk.Desk.{Desk}
+use Rattle.tp_manager.specs.Shown.{ManagerShown, PassShown}
+use Rattle.tp_desk.specs.Serving.{AreEnded, Leaves, Serves, gained}
+use Rattle.tp_desk.proofs.Serves.{ended_none, leaves_then, serves_none}
 use Rattle.tp_workers.specs.declared.tally.Shift.{Shift}
-use Rattle.tp_desk.specs.Steady.{IsReady}
-use Rattle.tp_workers.specs.Desks.{DeskDrained, TookTurn}
-use Rattle.tp_workers.specs.Ran.{RanAll}
-use Rattle.tp_workers.specs.Sums.{commits_of}
+use Rattle.tp_workers.specs.Calling.{Called}
+use Rattle.tp_workers.specs.Desks.{IsDeskOf, Place, TakesTurn, place}
+use Rattle.tp_workers.specs.Drained.{DeskDrained, TookTurn}
+use Rattle.tp_workers.specs.Free.{IsFreePass, numbers}
+use Rattle.tp_workers.specs.Gains.{commits_in}
+use Rattle.tp_workers.specs.Ran.{RanAll, RanEach}
 use Rattle.tp_workers.specs.Tally.{claimed, none, plus, turn_count}
-use Rattle.tp_workers.proofs.Sums.{ran_all, ran_gains}
-use Rattle.tp_workers.proofs.Turns.{SoFar, done_so_far, none_so_far, one_more, taken_so_far, turn_claims, turn_room}
+use Rattle.tp_workers.proofs.Calling.{called_more, called_none}
+use Rattle.tp_workers.proofs.Shifts.{desks_ready, each_gains, each_paired, passes_free, same_numbers, servers_clear, sum_first, zip_length}
+use Rattle.tp_workers.proofs.Turns.{turn_claims, turn_room, turns_claim, turns_commit}
 
 four : (n m k l : ℕ) → (n + m) + (k + l) ≡ (n + k) + (m + l)
 four n m k l = omega arith
@@ -33,35 +39,56 @@ plus_swap a b c d =
     let e11 = four a.missing b.missing c.missing d.missing in
     cc
 
--- the units that are left to the desk
-abbrev pub left_of : {X : Type 0} {F : X → Type 0} → Desk X F → ℕ
-left_of d = d.manager.now.limits.units - claims_in d.pass.now.mine
+module _ {B : Type 0} (recipe : B → Recipe) (registers : B → List ℕ) (pending : B → Option Pending) (m : ManagerShown) where
+  abbrev Ready : PassShown × B → Type 0
+  Ready x = IsDeskOf recipe registers pending m x
 
-module _ {X : Type 0} {F : X → Type 0} (recipe : (x : X) × F x → Recipe) (registers : (x : X) × F x → List ℕ) (pending : (x : X) × F x → Option (List ℕ)) where
-  -- the desk took turns so far
-  pub record Going (old : Desk X F) (counts : Shift) (new : Desk X F) : Type 0 where
+  abbrev Took : PassShown × B → Shift → PassShown × B → Type 0
+  Took x s y = TookTurn recipe registers pending m x s y
+
+  abbrev at : PassShown × B → Place
+  at x = place recipe registers pending x
+
+  -- the units that are left to the pass
+  abbrev pub left_of : PassShown → ℕ
+  left_of p = m.limits.units - claims_in p.mine
+
+  -- turns were taken so far
+  pub record Going (old : PassShown × B) (counts : Shift) (new : PassShown × B) : Type 0 where
     pub taken : ℕ
-    pub so_far : SoFar recipe registers pending taken old counts new
+    pub calls : Called (TakesTurn m.limits) turn_count taken (at old) counts (at new)
     pub few : counts.done ≤ 1024
+    pub serves : Serves (recipe old.1) (registers old.1) (registers new.1) old.0 new.0
+    pub ended : AreEnded None (gained old.0.mine new.0.mine) new.0.seen
+    pub recipe_is : recipe new.1 ≡ recipe old.1
+    pub ready : IsDeskOf recipe registers pending m new
 
-  pub going_none : (xs : List (Desk X F)) → All (IsReady recipe registers pending) xs → RanAll Going xs none xs
-  going_none [] ready = refl
-  going_none (x ∷ xs) ready =
-      (none, none, record { taken = 0; so_far = none_so_far recipe registers pending x (All-head (IsReady recipe registers pending) x xs ready); few = omega arith }, going_none xs (All-tail (IsReady recipe registers pending) x xs ready), refl)
+  going_all : (xs : List (PassShown × B)) → All Ready xs → RanAll Going xs none xs
+  going_all [] ready = refl
+  going_all (x ∷ xs) ready =
+      (none, none, record { taken = 0; calls = called_none (TakesTurn m.limits) turn_count (at x); few = omega arith; serves = serves_none (recipe x.1) (registers x.1) x.0; ended = ended_none x.0; recipe_is = refl; ready = All-head Ready x xs ready }, going_all xs (All-tail Ready x xs ready), refl)
 
-  few_more : (x y z : Desk X F) (s t : Shift) → Going x s y → TookTurn recipe registers pending y t z → s.done + t.done ≤ 1024
+  few_more : (x y z : PassShown × B) (s t : Shift) → Going x s y → Took y t z → s.done + t.done ≤ 1024
   few_more x y z s t h k =
-      let same : t.done ≡ (turn_count k.0).done = ap (λ (u : Shift). u.done) k.2 in
-      omega (arith, same, taken_so_far recipe registers pending h.taken x y s h.so_far.calls, turn_room y.manager.now.limits _ _ y.pass.now z.pass.now k.0 k.1.answer, k.1.limits.units.1)
+      let same : t.done ≡ (turn_count k.turned).done = ap (λ (u : Shift). u.done) k.counted in
+      omega (arith, same, turns_claim m.limits h.taken (at x) (at y) s h.calls, turn_room m.limits (recipe y.1) (registers y.1) y.0 z.0 k.turned k.turn.answer, k.limits.units.1)
 
-  one_round : (x y z : Desk X F) (s t : Shift) → Going x s y → TookTurn recipe registers pending y t z → Going x (plus s t) z
+  leaves_on : (x y z : PassShown × B) (s t : Shift) → Going x s y → Took y t z → Leaves (recipe x.1) (registers x.1) (registers z.1) x.0 z.0
+  leaves_on x y z s t h k =
+      leaves_then (recipe x.1) (registers x.1) (registers y.1) (registers z.1) x.0 y.0 z.0 h.serves h.ended (subst (λ r. Leaves r (registers y.1) (registers z.1) y.0 z.0) h.recipe_is k.leaves)
+
+  one_round : (x y z : PassShown × B) (s t : Shift) → Going x s y → Took y t z → Going x (plus s t) z
   one_round x y z s t h k = record {
     taken = h.taken + 1;
-    so_far = one_more recipe registers pending h.taken k.0 x y z s t (plus s t) h.so_far k.1 k.2 refl;
+    calls = called_more (TakesTurn m.limits) turn_count h.taken k.turned (at x) (at y) (at z) s t (plus s t) h.calls k.turn k.counted refl;
     few = few_more x y z s t h k;
+    serves = (leaves_on x y z s t h k).serves;
+    ended = (leaves_on x y z s t h k).ended;
+    recipe_is = k.turn.recipe_is ∙ h.recipe_is;
+    ready = k.ready;
   }
 
-  pub going_round : (xs ys zs : List (Desk X F)) (s t : Shift) → RanAll Going xs s ys → RanAll (TookTurn recipe registers pending) ys t zs → RanAll Going xs (plus s t) zs
+  going_round : (xs ys zs : List (PassShown × B)) (s t : Shift) → RanAll Going xs s ys → RanAll Took ys t zs → RanAll Going xs (plus s t) zs
   going_round [] [] [] s t h k = ap₂ plus h k
   going_round [] [] (z ∷ zs) s t h k = absurd k
   going_round [] (y ∷ ys) zs s t h k = absurd h
@@ -70,58 +97,84 @@ module _ {X : Type 0} {F : X → Type 0} (recipe : (x : X) × F x → Recipe) (r
   going_round (x ∷ xs) (y ∷ ys) (z ∷ zs) s t h k =
       (plus h.0 k.0, plus h.1 k.1, one_round x y z h.0 k.0 h.2 k.2, going_round xs ys zs h.1 k.1 h.3 k.3, ap₂ plus h.4 k.4 ∙ plus_swap h.0 h.1 k.0 k.1)
 
-  pub going_ready : (xs : List (Desk X F)) (s : Shift) (ys : List (Desk X F)) → All (IsReady recipe registers pending) xs → RanAll Going xs s ys → All (IsReady recipe registers pending) ys
-  going_ready xs s ys ready h = ran_all Going (IsReady recipe registers pending) (IsReady recipe registers pending) (λ x t y r is. r.so_far.ready) xs s ys h ready
-
-  pub going_few : (xs : List (Desk X F)) (s : Shift) (ys : List (Desk X F)) → RanAll Going xs s ys → s.done ≤ length xs * 1024
-  going_few [] s [] h = omega (arith, ap (λ (u : Shift). u.done) h)
-  going_few [] s (y ∷ ys) h = absurd h
-  going_few (x ∷ xs) s [] h = absurd h
-  going_few (x ∷ xs) s (y ∷ ys) h = omega (arith, ap (λ (u : Shift). u.done) h.4, h.2.few, going_few xs h.1 ys h.3)
+  few_all : (xs : List (PassShown × B)) (s : Shift) (ys : List (PassShown × B)) → RanAll Going xs s ys → s.done ≤ length xs * 1024
+  few_all [] s [] h = omega (arith, ap (λ (u : Shift). u.done) h)
+  few_all [] s (y ∷ ys) h = absurd h
+  few_all (x ∷ xs) s [] h = absurd h
+  few_all (x ∷ xs) s (y ∷ ys) h = omega (arith, ap (λ (u : Shift). u.done) h.4, h.2.few, few_all xs h.1 ys h.3)
 
   claimed_plus : (a b : Shift) → claimed (plus a b) ≡ claimed a + claimed b
   claimed_plus a b = omega arith
 
-  turn_left : (x : Desk X F) (s : Shift) (y : Desk X F) → TookTurn recipe registers pending x s y → claimed s + left_of y ≡ left_of x
+  turn_left : (x : PassShown × B) (s : Shift) (y : PassShown × B) → Took x s y → claimed s + left_of y.0 ≡ left_of x.0
   turn_left x s y k =
-      let same : claimed s ≡ claimed (turn_count k.0) = ap claimed k.2 in
-      let units : y.manager.now.limits.units ≡ x.manager.now.limits.units = ap (λ m. m.now.limits.units) k.1.same.manager in
-      omega (arith, same, units, turn_claims x.manager.now.limits _ _ x.pass.now y.pass.now k.0 k.1.answer, turn_room x.manager.now.limits _ _ x.pass.now y.pass.now k.0 k.1.answer)
+      let same : claimed s ≡ claimed (turn_count k.turned) = ap claimed k.counted in
+      omega (arith, same, turn_claims m.limits (recipe x.1) (registers x.1) x.0 y.0 k.turned k.turn.answer, turn_room m.limits (recipe x.1) (registers x.1) x.0 y.0 k.turned k.turn.answer)
 
-  -- what a round claims is left no more
-  round_left : (xs : List (Desk X F)) (s : Shift) (ys : List (Desk X F)) → RanAll (TookTurn recipe registers pending) xs s ys → claimed s + sum_by left_of ys ≡ sum_by left_of xs
+  round_left : (xs : List (PassShown × B)) (s : Shift) (ys : List (PassShown × B)) → RanAll Took xs s ys → claimed s + sum_by (λ (x : PassShown × B). left_of x.0) ys ≡ sum_by (λ (x : PassShown × B). left_of x.0) xs
   round_left [] s [] h = omega (arith, ap claimed h)
   round_left [] s (y ∷ ys) h = absurd h
   round_left (x ∷ xs) s [] h = absurd h
   round_left (x ∷ xs) s (y ∷ ys) h =
-      omega (arith, ap claimed h.4, claimed_plus h.0 h.1, turn_left x h.0 y h.2, round_left xs h.1 ys h.3, sum_by-cons left_of x xs, sum_by-cons left_of y ys)
+      let f : PassShown × B → ℕ = λ z. left_of z.0 in
+      omega (arith, ap claimed h.4, claimed_plus h.0 h.1, turn_left x h.0 y h.2, round_left xs h.1 ys h.3, sum_by-cons f x xs, sum_by-cons f y ys)
 
-  pub round_smaller : (xs : List (Desk X F)) (s : Shift) (ys : List (Desk X F)) → RanAll (TookTurn recipe registers pending) xs s ys → 0 < claimed s → sum_by left_of ys < sum_by left_of xs
-  round_smaller xs s ys h some = omega (arith, round_left xs s ys h, some)
-
-  ends : (x y z : Desk X F) (s t : Shift) → Going x s y → TookTurn recipe registers pending y t z → claimed t ≡ 0 → DeskDrained recipe registers pending x (plus s t) z
+  ends : (x y z : PassShown × B) (s t : Shift) → Going x s y → Took y t z → claimed t ≡ 0 → DeskDrained recipe registers pending m x (plus s t) z
   ends x y z s t h k idle =
       let now : Going x (plus s t) z = one_round x y z s t h k in
       record {
         taken = now.taken;
-        calls = now.so_far.calls;
-        done = done_so_far recipe registers pending now.taken x z (plus s t) now.so_far.calls;
+        calls = now.calls;
+        done = turns_commit m.limits now.taken (at x) (at z) (plus s t) now.calls;
         few = now.few;
-        idle = record { taken = h.taken; counts = s; before = y; calls = h.so_far.calls; last = k.0; turn = k.1; idle = sym (ap claimed k.2) ∙ idle };
-        same = now.so_far.same;
-        ready = now.so_far.ready;
+        idle = record { taken = h.taken; counts = s; before = at y; calls = h.calls; last = k.turned; turn = k.turn; idle = sym (ap claimed k.counted) ∙ idle };
+        leaves = leaves_on x y z s t h k;
+        recipe_is = now.recipe_is;
+        ready = now.ready;
       }
 
-  -- the last round claimed nothing
-  pub all_end : (xs ys zs : List (Desk X F)) (s t : Shift) → RanAll Going xs s ys → RanAll (TookTurn recipe registers pending) ys t zs → claimed t ≡ 0 → RanAll (DeskDrained recipe registers pending) xs (plus s t) zs
-  all_end [] [] [] s t h k idle = ap₂ plus h k
-  all_end [] [] (z ∷ zs) s t h k idle = absurd k
-  all_end [] (y ∷ ys) zs s t h k idle = absurd h
-  all_end (x ∷ xs) [] zs s t h k idle = absurd h
-  all_end (x ∷ xs) (y ∷ ys) [] s t h k idle = absurd k
-  all_end (x ∷ xs) (y ∷ ys) (z ∷ zs) s t h k idle =
+  ends_all : (xs ys zs : List (PassShown × B)) (s t : Shift) → RanAll Going xs s ys → RanAll Took ys t zs → claimed t ≡ 0 → RanAll (DeskDrained recipe registers pending m) xs (plus s t) zs
+  ends_all [] [] [] s t h k idle = ap₂ plus h k
+  ends_all [] [] (z ∷ zs) s t h k idle = absurd k
+  ends_all [] (y ∷ ys) zs s t h k idle = absurd h
+  ends_all (x ∷ xs) [] zs s t h k idle = absurd h
+  ends_all (x ∷ xs) (y ∷ ys) [] s t h k idle = absurd k
+  ends_all (x ∷ xs) (y ∷ ys) (z ∷ zs) s t h k idle =
       let both : claimed t ≡ claimed k.0 + claimed k.1 = ap claimed k.4 ∙ claimed_plus k.0 k.1 in
-      (plus h.0 k.0, plus h.1 k.1, ends x y z h.0 k.0 h.2 k.2 (omega (arith, both)), all_end xs ys zs h.1 k.1 h.3 k.3 (omega (arith, both)), ap₂ plus h.4 k.4 ∙ plus_swap h.0 h.1 k.0 k.1)
+      (plus h.0 k.0, plus h.1 k.1, ends x y z h.0 k.0 h.2 k.2 (omega (arith, both)), ends_all xs ys zs h.1 k.1 h.3 k.3 (omega (arith, both)), ap₂ plus h.4 k.4 ∙ plus_swap h.0 h.1 k.0 k.1)
 
-  pub drained_sum : (xs : List (Desk X F)) (s : Shift) (ys : List (Desk X F)) → RanAll (DeskDrained recipe registers pending) xs s ys → s.done + sum_by commits_of xs ≡ sum_by commits_of ys
-  drained_sum xs s ys h = ran_gains (DeskDrained recipe registers pending) (λ t. t.done) commits_of refl (λ a b. refl) (λ x t y r. r.done) xs s ys h
+  module _ (xs : List PassShown) (us : List B) (s : Shift) (ys : List PassShown) (vs : List B) where
+    pub going_few : length xs ≡ length us → RanEach Going xs us s ys vs → s.done ≤ length xs * 1024
+    going_few e h = let one = few_all (zip xs us) s (zip ys vs) h.ran in let same = zip_length xs us e in omega (arith, one, ap (λ (n : ℕ). n * 1024) same)
+
+    pub going_free : length xs ≡ length us → RanEach Going xs us s ys vs → All (IsFreePass m) ys
+    going_free e h = passes_free m Going (λ x t y r. r.ready.pass) xs us s ys vs e h
+
+    pub going_clear : length xs ≡ length us → RanEach Going xs us s ys vs → All (λ b. pending b ≡ None) vs
+    going_clear e h = servers_clear m recipe registers pending Going (λ x t y r. r.ready) xs us s ys vs e h
+
+    pub round_smaller : length xs ≡ length us → RanEach Took xs us s ys vs → 0 < claimed s → sum_by left_of ys < sum_by left_of xs
+    round_smaller e h some =
+        omega (arith, round_left (zip xs us) s (zip ys vs) h.ran, some, sum_first left_of xs us e, sum_first left_of ys vs (each_paired Took xs us s ys vs e h))
+
+    pub drained_sum : length xs ≡ length us → RanEach (DeskDrained recipe registers pending m) xs us s ys vs → s.done + sum_by commits_in xs ≡ sum_by commits_in ys
+    drained_sum e h = each_gains (DeskDrained recipe registers pending m) xs us s ys vs (λ c. c.done) commits_in refl (λ a b. refl) (λ x t y r. r.done) e h
+
+    pub drained_free : length xs ≡ length us → RanEach (DeskDrained recipe registers pending m) xs us s ys vs → All (IsFreePass m) ys
+    drained_free e h = passes_free m (DeskDrained recipe registers pending m) (λ x t y r. r.ready.pass) xs us s ys vs e h
+
+    pub drained_numbers : length xs ≡ length us → RanEach (DeskDrained recipe registers pending m) xs us s ys vs → numbers ys ≡ numbers xs
+    drained_numbers e h = same_numbers m (DeskDrained recipe registers pending m) (λ x t y r. r.leaves.serves.number) xs us s ys vs e h
+
+    pub drained_clear : length xs ≡ length us → RanEach (DeskDrained recipe registers pending m) xs us s ys vs → All (λ b. pending b ≡ None) vs
+    drained_clear e h = servers_clear m recipe registers pending (DeskDrained recipe registers pending m) (λ x t y r. r.ready) xs us s ys vs e h
+
+  pub going_none : (xs : List PassShown) (us : List B) → length xs ≡ length us → All (IsFreePass m) xs → All (λ b. pending b ≡ None) us → RanEach Going xs us none xs us
+  going_none xs us e free clear = record { ran = going_all (zip xs us) (desks_ready m recipe registers pending xs us e free clear); on_kept = refl; by_kept = refl }
+
+  pub going_on : (xs : List PassShown) (us : List B) (ys : List PassShown) (vs : List B) (zs : List PassShown) (ws : List B) (s t : Shift) → RanEach Going xs us s ys vs → RanEach Took ys vs t zs ws → RanEach Going xs us (plus s t) zs ws
+  going_on xs us ys vs zs ws s t h k = record { ran = going_round (zip xs us) (zip ys vs) (zip zs ws) s t h.ran k.ran; on_kept = k.on_kept ∙ h.on_kept; by_kept = k.by_kept ∙ h.by_kept }
+
+  -- the last round claimed nothing
+  pub all_end : (xs : List PassShown) (us : List B) (ys : List PassShown) (vs : List B) (zs : List PassShown) (ws : List B) (s t : Shift) → RanEach Going xs us s ys vs → RanEach Took ys vs t zs ws → claimed t ≡ 0 → RanEach (DeskDrained recipe registers pending m) xs us (plus s t) zs ws
+  all_end xs us ys vs zs ws s t h k idle = record { ran = ends_all (zip xs us) (zip ys vs) (zip zs ws) s t h.ran k.ran idle; on_kept = k.on_kept ∙ h.on_kept; by_kept = k.by_kept ∙ h.by_kept }

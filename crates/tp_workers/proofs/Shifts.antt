@@ -1,27 +1,30 @@
 -- What the lists of a shift counted.
-use Rattle.std.proofs.Common.{◌≡◌, ℕ, ◌+◌, ◌-◌, ◌*◌, suc, List, [], ◌∷◌, Option, Result, Ok, Err, refl, ◌∙◌, ap, ap₂, subst, arith, length, sum_by}
+use Rattle.std.proofs.Common.{◌≡◌, ℕ, ◌+◌, ◌-◌, ◌*◌, suc, List, [], ◌∷◌, Option, Result, Ok, Err, refl, sym, ◌∙◌, ap, ap₂, subst, arith, length, sum_by, All, zip, None, map}
+use Rattle.std.proofs.lemmas.List.Elements.{All-cons, All-head, All-nil, All-tail}
+use Rattle.std.proofs.lemmas.List.Sums.{sum_by-cons}
 use Rattle.tp_model.specs.declared.types.Killed.{Killed}
 use Rattle.tp_model.specs.declared.types.Refusal.{Refusal}
 use Rattle.tp_model.specs.declared.types.Refusal.TheVariants as refusals
 use Rattle.tp_server.specs.declared.recipe.Recipe.{Recipe}
-use Rattle.tp_manager.specs.Shown.{ManagerShown}
-use Rattle.tp_desk.specs.declared.desk.Desk.{Desk}
+use Rattle.tp_server.specs.Pending.{Pending}
+use Rattle.tp_manager.specs.Shown.{ManagerShown, PassShown}
 use Rattle.tp_desk.specs.declared.turned.Turned.{Turned}
 use Rattle.tp_desk.specs.declared.turned.Turned.TheVariants as turneds
 use Rattle.tp_workers.specs.declared.client.ClientJob.{ClientJob}
 use Rattle.tp_workers.specs.declared.killer.KillJob.{KillJob}
 use Rattle.tp_workers.specs.declared.tally.Shift.{Shift}
-use Rattle.tp_workers.specs.Clients.{ClientRan}
-use Rattle.tp_workers.specs.Desks.{DeskRan}
-use Rattle.tp_workers.specs.Killers.{KillerRan}
-use Rattle.tp_workers.specs.Ran.{RanAll}
-use Rattle.tp_workers.specs.Sums.{calls_of, client_part, commits_of, desk_part, enqueues_of, killer_part, kills_of, size_of_range}
-use Rattle.tp_workers.specs.Tally.{kill_count, plus, refusal_count, submit_count, total, turn_count}
+use Rattle.tp_workers.specs.Clients.{ClientRan, IsClientJob, IsClientOf}
+use Rattle.tp_workers.specs.Desks.{DeskRan, IsDeskOf}
+use Rattle.tp_workers.specs.Killers.{IsKillJob, IsKillerOf, KillerRan}
+use Rattle.tp_workers.specs.Free.{IsFreePass, numbers}
+use Rattle.tp_workers.specs.Ran.{RanAll, RanEach}
+use Rattle.tp_workers.specs.Sums.{calls_of, client_part, desk_part, killer_part, size_of_range}
+use Rattle.tp_workers.specs.Tally.{kill_count, none, plus, refusal_count, submit_count, total, turn_count}
 use Rattle.tp_workers.proofs.Calling.{called_counts, called_total}
 use Rattle.tp_workers.proofs.Clients.{one_submit}
 use Rattle.tp_workers.proofs.Counts.{total_plus}
 use Rattle.tp_workers.proofs.Killers.{one_kill}
-use Rattle.tp_workers.proofs.Sums.{ran_asked, ran_gains, ran_keeps}
+use Rattle.tp_workers.proofs.Sums.{ran_asked, ran_gains, ran_keeps, ran_weaker, sum_by-const}
 use Rattle.tp_workers.proofs.Turns.{one_turn}
 
 turn_part : (t : Turned) → turn_count t ≡ desk_part (turn_count t)
@@ -52,63 +55,120 @@ kill_part (Err why) = refusal_part why
 one_more : (n k : ℕ) → n + n * k ≡ n * suc k
 one_more n k = grind arith
 
+pub zip_length : {T U : Type 0} (xs : List T) (ys : List U) → length xs ≡ length ys → length (zip xs ys) ≡ length xs
+zip_length [] ys e = refl
+zip_length (x ∷ xs) [] e = absurd (omega (arith, e))
+zip_length (x ∷ xs) (y ∷ ys) e = ap suc (zip_length xs ys (omega (arith, e)))
+
+pub const_fits : {T U : Type 0} (n : ℕ) (xs : List T) (ys : List U) → length xs ≡ length ys → sum_by (λ (x : T × U). n) (zip xs ys) ≡ n * length xs
+const_fits n xs ys e = sum_by-const n (zip xs ys) ∙ ap (λ (k : ℕ). n * k) (zip_length xs ys e)
+
+pub sum_second : {T U : Type 0} (f : U → ℕ) (xs : List T) (ys : List U) → length xs ≡ length ys → sum_by (λ (x : T × U). f x.1) (zip xs ys) ≡ sum_by f ys
+sum_second f [] [] e = refl
+sum_second f [] (y ∷ ys) e = absurd (omega (arith, e))
+sum_second f (x ∷ xs) [] e = absurd (omega (arith, e))
+sum_second {T = T} {U = U} f (x ∷ xs) (y ∷ ys) e =
+    let g : T × U → ℕ = λ z. f z.1 in
+    omega (arith, sum_by-cons f y ys, sum_by-cons g (x, y) (zip xs ys), sum_second f xs ys (omega (arith, e)))
+
+-- what holds of each element of two lists holds of each place
+pub all_both : {T U : Type 0} (P : T → Type 0) (Q : U → Type 0) (R : T × U → Type 0) → ((x : T) (y : U) → P x → Q y → R (x, y)) → (xs : List T) (ys : List U) → length xs ≡ length ys → All P xs → All Q ys → All R (zip xs ys)
+all_both P Q R both [] ys e all also = All-nil R
+all_both P Q R both (x ∷ xs) [] e all also = absurd (omega (arith, e))
+all_both P Q R both (x ∷ xs) (y ∷ ys) e all also =
+    All-cons R (x, y) (zip xs ys) (both x y (All-head P x xs all) (All-head Q y ys also)) (all_both P Q R both xs ys (omega (arith, e)) (All-tail P x xs all) (All-tail Q y ys also))
+
+pub all_second : {T U : Type 0} (P : U → Type 0) (xs : List T) (ys : List U) → length xs ≡ length ys → All (λ (x : T × U). P x.1) (zip xs ys) → All P ys
+all_second P [] [] e all = All-nil P
+all_second P [] (y ∷ ys) e all = absurd (omega (arith, e))
+all_second P (x ∷ xs) [] e all = absurd (omega (arith, e))
+all_second {T = T} {U = U} P (x ∷ xs) (y ∷ ys) e all =
+    let Q : T × U → Type 0 = λ z. P z.1 in
+    All-cons P y ys (All-head Q (x, y) (zip xs ys) all) (all_second P xs ys (omega (arith, e)) (All-tail Q (x, y) (zip xs ys) all))
+
+-- where each run leaves the second as it is, the list stays as it is
+pub same_second : {T U : Type 0} (R : T × U → Shift → T × U → Type 0) → ((x : T × U) (s : Shift) (y : T × U) → R x s y → y.1 ≡ x.1) → (xs : List T) (us : List U) (s : Shift) (ys : List T) (vs : List U)
+    → length xs ≡ length us → length ys ≡ length vs → RanAll R (zip xs us) s (zip ys vs) → vs ≡ us
+same_second R same [] [] s [] [] e k h = refl
+same_second R same [] [] s [] (v ∷ vs) e k h = absurd (omega (arith, k))
+same_second R same [] [] s (y ∷ ys) [] e k h = absurd (omega (arith, k))
+same_second R same [] [] s (y ∷ ys) (v ∷ vs) e k h = absurd h
+same_second R same [] (u ∷ us) s ys vs e k h = absurd (omega (arith, e))
+same_second R same (x ∷ xs) [] s ys vs e k h = absurd (omega (arith, e))
+same_second R same (x ∷ xs) (u ∷ us) s [] [] e k h = absurd h
+same_second R same (x ∷ xs) (u ∷ us) s [] (v ∷ vs) e k h = absurd (omega (arith, k))
+same_second R same (x ∷ xs) (u ∷ us) s (y ∷ ys) [] e k h = absurd (omega (arith, k))
+same_second R same (x ∷ xs) (u ∷ us) s (y ∷ ys) (v ∷ vs) e k h =
+    ap₂ ◌∷◌ (same (x, u) h.0 (y, v) h.2) (same_second R same xs us h.1 ys vs (omega (arith, e)) (omega (arith, k)) h.3)
+
+-- what each run leaves of its pass as it is, all leave so
+same_first : {T U A : Type 0} (f : T → A) (R : T × U → Shift → T × U → Type 0) → ((x : T × U) (s : Shift) (y : T × U) → R x s y → f y.0 ≡ f x.0) → (xs : List T) (us : List U) (s : Shift) (ys : List T) (vs : List U)
+    → length xs ≡ length us → length ys ≡ length vs → RanAll R (zip xs us) s (zip ys vs) → map f ys ≡ map f xs
+same_first f R same [] us s [] vs e k h = refl
+same_first f R same [] us s (y ∷ ys) [] e k h = absurd (omega (arith, k))
+same_first f R same [] us s (y ∷ ys) (v ∷ vs) e k h = absurd h
+same_first f R same (x ∷ xs) [] s ys vs e k h = absurd (omega (arith, e))
+same_first f R same (x ∷ xs) (u ∷ us) s [] vs e k h = absurd h
+same_first f R same (x ∷ xs) (u ∷ us) s (y ∷ ys) [] e k h = absurd (omega (arith, k))
+same_first f R same (x ∷ xs) (u ∷ us) s (y ∷ ys) (v ∷ vs) e k h =
+    ap₂ ◌∷◌ (same (x, u) h.0 (y, v) h.2) (same_first f R same xs us h.1 ys vs (omega (arith, e)) (omega (arith, k)) h.3)
+
+-- a weaker relation
+pub each_as : {T U : Type 0} {R Q : T × U → Shift → T × U → Type 0} → ((x : T × U) (s : Shift) (y : T × U) → R x s y → Q x s y) → (xs : List T) (us : List U) (s : Shift) (ys : List T) (vs : List U) → RanEach R xs us s ys vs → RanEach Q xs us s ys vs
+each_as {R = R} {Q = Q} weaker xs us s ys vs h = record { ran = ran_weaker R Q weaker (zip xs us) s (zip ys vs) h.ran; on_kept = h.on_kept; by_kept = h.by_kept }
+
+-- the same counts in other words
+pub each_counted : {T U : Type 0} (R : T × U → Shift → T × U → Type 0) (xs : List T) (us : List U) (s t : Shift) (ys : List T) (vs : List U) → t ≡ s → RanEach R xs us s ys vs → RanEach R xs us t ys vs
+each_counted R xs us s t ys vs e h = subst (λ (u : Shift). RanEach R xs us u ys vs) (sym e) h
+
 module _ (m : ManagerShown) where
-  client_counts : (x : ClientJob) (s : Shift) (y : ClientJob) → ClientRan m x s y → s ≡ client_part s
-  client_counts x s y r = called_counts _ submit_count (λ t. t ≡ client_part t) refl (λ a b p q. ap₂ plus p q) submit_part x.count x.pass.now y.pass.now s r.calls
+  client_counts : (x : PassShown × ClientJob) (s : Shift) (y : PassShown × ClientJob) → ClientRan m x s y → s ≡ client_part s
+  client_counts x s y r = called_counts _ submit_count (λ t. t ≡ client_part t) refl (λ a b p q. ap₂ plus p q) submit_part x.1.count x.0 y.0 s r.calls
 
   -- the counts of clients stand in the clients' part
-  pub clients_part : (xs : List ClientJob) (s : Shift) (ys : List ClientJob) → RanAll (ClientRan m) xs s ys → RanAll (ClientRan m) xs (client_part s) ys
-  clients_part xs s ys h =
-      subst (λ (t : Shift). RanAll (ClientRan m) xs t ys) (ran_keeps (ClientRan m) (λ t. t ≡ client_part t) refl (λ a b p q. ap₂ plus p q) client_counts xs s ys h) h
+  pub clients_part : (xs : List PassShown) (us : List ClientJob) (s : Shift) (ys : List PassShown) (vs : List ClientJob) → RanEach (ClientRan m) xs us s ys vs → RanEach (ClientRan m) xs us (client_part s) ys vs
+  clients_part xs us s ys vs h =
+      subst (λ (t : Shift). RanEach (ClientRan m) xs us t ys vs) (ran_keeps (ClientRan m) (λ t. t ≡ client_part t) refl (λ a b p q. ap₂ plus p q) client_counts (zip xs us) s (zip ys vs) h.ran) h
 
-  pub submitted_sum : (xs : List ClientJob) (s : Shift) (ys : List ClientJob) → RanAll (ClientRan m) xs s ys → s.submitted + sum_by enqueues_of xs ≡ sum_by enqueues_of ys
-  submitted_sum xs s ys h = ran_gains (ClientRan m) (λ t. t.submitted) enqueues_of refl (λ a b. refl) (λ x t y r. r.submitted) xs s ys h
-
-  client_calls : (x : ClientJob) (s : Shift) (y : ClientJob) → ClientRan m x s y → s.submitted + s.submit_full ≡ calls_of x
+  client_calls : (x : PassShown × ClientJob) (s : Shift) (y : PassShown × ClientJob) → ClientRan m x s y → s.submitted + s.submit_full ≡ calls_of x.1
   client_calls x s y r =
-      let all : total s ≡ x.count = called_total _ submit_count one_submit x.count x.pass.now y.pass.now s r.calls in
+      let all : total s ≡ x.1.count = called_total _ submit_count one_submit x.1.count x.0 y.0 s r.calls in
       let part : total s ≡ total (client_part s) = ap total (client_counts x s y r) in
       omega arith
 
-  pub calls_sum : (xs : List ClientJob) (s : Shift) (ys : List ClientJob) → RanAll (ClientRan m) xs s ys → s.submitted + s.submit_full ≡ sum_by calls_of xs
-  calls_sum xs s ys h = ran_asked (ClientRan m) (λ t. t.submitted + t.submit_full) calls_of refl (λ a b. omega arith) client_calls xs s ys h
+  pub calls_sum : (xs : List PassShown) (us : List ClientJob) (s : Shift) (ys : List PassShown) (vs : List ClientJob) → length xs ≡ length us → RanEach (ClientRan m) xs us s ys vs → s.submitted + s.submit_full ≡ sum_by calls_of us
+  calls_sum xs us s ys vs e h = ran_asked (ClientRan m) (λ t. t.submitted + t.submit_full) (λ x. calls_of x.1) refl (λ a b. omega arith) client_calls (zip xs us) s (zip ys vs) h.ran ∙ sum_second calls_of xs us e
 
-  killer_counts : (x : KillJob) (s : Shift) (y : KillJob) → KillerRan m x s y → s ≡ killer_part s
+  killer_counts : (x : PassShown × KillJob) (s : Shift) (y : PassShown × KillJob) → KillerRan m x s y → s ≡ killer_part s
   killer_counts x s y r = called_counts _ kill_count (λ t. t ≡ killer_part t) refl (λ a b p q. ap₂ plus p q) kill_part _ _ _ s r.calls
 
   -- the counts of killers stand in the killers' part
-  pub killers_part : (xs : List KillJob) (s : Shift) (ys : List KillJob) → RanAll (KillerRan m) xs s ys → RanAll (KillerRan m) xs (killer_part s) ys
-  killers_part xs s ys h =
-      subst (λ (t : Shift). RanAll (KillerRan m) xs t ys) (ran_keeps (KillerRan m) (λ t. t ≡ killer_part t) refl (λ a b p q. ap₂ plus p q) killer_counts xs s ys h) h
+  pub killers_part : (xs : List PassShown) (us : List KillJob) (s : Shift) (ys : List PassShown) (vs : List KillJob) → RanEach (KillerRan m) xs us s ys vs → RanEach (KillerRan m) xs us (killer_part s) ys vs
+  killers_part xs us s ys vs h =
+      subst (λ (t : Shift). RanEach (KillerRan m) xs us t ys vs) (ran_keeps (KillerRan m) (λ t. t ≡ killer_part t) refl (λ a b p q. ap₂ plus p q) killer_counts (zip xs us) s (zip ys vs) h.ran) h
 
-  pub killed_sum : (xs : List KillJob) (s : Shift) (ys : List KillJob) → RanAll (KillerRan m) xs s ys → s.killed + sum_by kills_of xs ≡ sum_by kills_of ys
-  killed_sum xs s ys h = ran_gains (KillerRan m) (λ t. t.killed) kills_of refl (λ a b. refl) (λ x t y r. r.killed) xs s ys h
-
-  killer_calls : (x : KillJob) (s : Shift) (y : KillJob) → KillerRan m x s y → s.killed + s.late + s.already + s.missing ≡ size_of_range x
+  killer_calls : (x : PassShown × KillJob) (s : Shift) (y : PassShown × KillJob) → KillerRan m x s y → s.killed + s.late + s.already + s.missing ≡ size_of_range x.1
   killer_calls x s y r =
-      let all : total s ≡ x.end - x.first = called_total _ kill_count one_kill (x.end - x.first) _ _ s r.calls in
+      let all : total s ≡ x.1.end - x.1.first = called_total _ kill_count one_kill (x.1.end - x.1.first) _ _ s r.calls in
       let part : total s ≡ total (killer_part s) = ap total (killer_counts x s y r) in
       omega arith
 
-  pub ids_sum : (xs : List KillJob) (s : Shift) (ys : List KillJob) → RanAll (KillerRan m) xs s ys → s.killed + s.late + s.already + s.missing ≡ sum_by size_of_range xs
-  ids_sum xs s ys h = ran_asked (KillerRan m) (λ t. t.killed + t.late + t.already + t.missing) size_of_range refl (λ a b. omega arith) killer_calls xs s ys h
+  pub ids_sum : (xs : List PassShown) (us : List KillJob) (s : Shift) (ys : List PassShown) (vs : List KillJob) → length xs ≡ length us → RanEach (KillerRan m) xs us s ys vs → s.killed + s.late + s.already + s.missing ≡ sum_by size_of_range us
+  ids_sum xs us s ys vs e h = ran_asked (KillerRan m) (λ t. t.killed + t.late + t.already + t.missing) (λ x. size_of_range x.1) refl (λ a b. omega arith) killer_calls (zip xs us) s (zip ys vs) h.ran ∙ sum_second size_of_range xs us e
 
-module _ {X : Type 0} {F : X → Type 0} (recipe : (x : X) × F x → Recipe) (registers : (x : X) × F x → List ℕ) (pending : (x : X) × F x → Option (List ℕ)) (turns : ℕ) where
-  desk_counts : (x : Desk X F) (s : Shift) (y : Desk X F) → DeskRan recipe registers pending turns x s y → s ≡ desk_part s
-  desk_counts x s y r = called_counts _ turn_count (λ t. t ≡ desk_part t) refl (λ a b p q. ap₂ plus p q) turn_part r.taken x y s r.calls
+module _ {B : Type 0} (recipe : B → Recipe) (registers : B → List ℕ) (pending : B → Option Pending) (m : ManagerShown) (turns : ℕ) where
+  desk_counts : (x : PassShown × B) (s : Shift) (y : PassShown × B) → DeskRan recipe registers pending m turns x s y → s ≡ desk_part s
+  desk_counts x s y r = called_counts _ turn_count (λ t. t ≡ desk_part t) refl (λ a b p q. ap₂ plus p q) turn_part r.turns_taken.taken _ _ s r.turns_taken.calls
 
   -- the counts of desks stand in the desks' part
-  pub desks_part : (xs : List (Desk X F)) (s : Shift) (ys : List (Desk X F)) → RanAll (DeskRan recipe registers pending turns) xs s ys → RanAll (DeskRan recipe registers pending turns) xs (desk_part s) ys
-  desks_part xs s ys h =
-      subst (λ (t : Shift). RanAll (DeskRan recipe registers pending turns) xs t ys) (ran_keeps (DeskRan recipe registers pending turns) (λ t. t ≡ desk_part t) refl (λ a b p q. ap₂ plus p q) desk_counts xs s ys h) h
+  pub desks_part : (xs : List PassShown) (us : List B) (s : Shift) (ys : List PassShown) (vs : List B) → RanEach (DeskRan recipe registers pending m turns) xs us s ys vs → RanEach (DeskRan recipe registers pending m turns) xs us (desk_part s) ys vs
+  desks_part xs us s ys vs h =
+      subst (λ (t : Shift). RanEach (DeskRan recipe registers pending m turns) xs us t ys vs) (ran_keeps (DeskRan recipe registers pending m turns) (λ t. t ≡ desk_part t) refl (λ a b p q. ap₂ plus p q) desk_counts (zip xs us) s (zip ys vs) h.ran) h
 
-  pub done_sum : (xs : List (Desk X F)) (s : Shift) (ys : List (Desk X F)) → RanAll (DeskRan recipe registers pending turns) xs s ys → s.done + sum_by commits_of xs ≡ sum_by commits_of ys
-  done_sum xs s ys h = ran_gains (DeskRan recipe registers pending turns) (λ t. t.done) commits_of refl (λ a b. refl) (λ x t y r. r.done) xs s ys h
+  desk_turns : (x : PassShown × B) (s : Shift) (y : PassShown × B) → DeskRan recipe registers pending m turns x s y → s.nounit ≡ 0 → total s ≡ turns
+  desk_turns x s y r e = called_total _ turn_count one_turn r.turns_taken.taken _ _ s r.turns_taken.calls ∙ r.turns_taken.all_taken e
 
-  desk_turns : (x : Desk X F) (s : Shift) (y : Desk X F) → DeskRan recipe registers pending turns x s y → s.nounit ≡ 0 → total s ≡ turns
-  desk_turns x s y r e = called_total _ turn_count one_turn r.taken x y s r.calls ∙ r.all_taken e
-
-  turns_taken : (xs : List (Desk X F)) (s : Shift) (ys : List (Desk X F)) → RanAll (DeskRan recipe registers pending turns) xs s ys → s.nounit ≡ 0 → total s ≡ turns * length xs
+  turns_taken : (xs : List (PassShown × B)) (s : Shift) (ys : List (PassShown × B)) → RanAll (DeskRan recipe registers pending m turns) xs s ys → s.nounit ≡ 0 → total s ≡ turns * length xs
   turns_taken [] s [] h e = ap total h ∙ omega arith
   turns_taken [] s (y ∷ ys) h e = absurd h
   turns_taken (x ∷ xs) s [] h e = absurd h
@@ -120,8 +180,78 @@ module _ {X : Type 0} {F : X → Type 0} (recipe : (x : X) × F x → Recipe) (r
       all ∙ ap₂ ◌+◌ one rest ∙ one_more turns (length xs)
 
   -- all turns were taken, where no desk was out of units
-  pub turns_sum : (xs : List (Desk X F)) (s : Shift) (ys : List (Desk X F)) → RanAll (DeskRan recipe registers pending turns) xs s ys → s.nounit ≡ 0 → s.done + s.refused + s.lost + s.full + s.idle ≡ turns * length xs
+  pub turns_sum : (xs : List (PassShown × B)) (s : Shift) (ys : List (PassShown × B)) → RanAll (DeskRan recipe registers pending m turns) xs s ys → s.nounit ≡ 0 → s.done + s.refused + s.lost + s.full + s.idle ≡ turns * length xs
   turns_sum xs s ys h e =
       let t : total s ≡ turns * length xs = turns_taken xs s ys h e in
-      let part : total s ≡ total (desk_part s) = ap total (ran_keeps (DeskRan recipe registers pending turns) (λ u. u ≡ desk_part u) refl (λ a b p q. ap₂ plus p q) desk_counts xs s ys h) in
+      let part : total s ≡ total (desk_part s) = ap total (ran_keeps (DeskRan recipe registers pending m turns) (λ u. u ≡ desk_part u) refl (λ a b p q. ap₂ plus p q) desk_counts xs s ys h) in
       omega arith
+
+  pub turns_all : (xs : List PassShown) (us : List B) (s : Shift) (ys : List PassShown) (vs : List B) → length xs ≡ length us → RanEach (DeskRan recipe registers pending m turns) xs us s ys vs → s.nounit ≡ 0 → s.done + s.refused + s.lost + s.full + s.idle ≡ turns * length xs
+  turns_all xs us s ys vs e h none =
+      turns_sum (zip xs us) s (zip ys vs) h.ran none ∙ ap (λ (n : ℕ). turns * n) (zip_length xs us e)
+
+-- of lists side by side, what holds of each place holds of each element of the first
+pub all_first : {T U : Type 0} (P : T → Type 0) (xs : List T) (ys : List U) → length xs ≡ length ys → All (λ (x : T × U). P x.0) (zip xs ys) → All P xs
+all_first P [] ys e all = All-nil P
+all_first P (x ∷ xs) [] e all = absurd (omega (arith, e))
+all_first {T = T} {U = U} P (x ∷ xs) (y ∷ ys) e all =
+    let Q : T × U → Type 0 = λ z. P z.0 in
+    All-cons P x xs (All-head Q (x, y) (zip xs ys) all) (all_first P xs ys (omega (arith, e)) (All-tail Q (x, y) (zip xs ys) all))
+
+-- and so are sums
+pub sum_first : {T U : Type 0} (f : T → ℕ) (xs : List T) (ys : List U) → length xs ≡ length ys → sum_by (λ (x : T × U). f x.0) (zip xs ys) ≡ sum_by f xs
+sum_first f [] ys e = refl
+sum_first f (x ∷ xs) [] e = absurd (omega (arith, e))
+sum_first {T = T} {U = U} f (x ∷ xs) (y ∷ ys) e =
+    let g : T × U → ℕ = λ z. f z.0 in
+    omega (arith, sum_by-cons f x xs, sum_by-cons g (x, y) (zip xs ys), sum_first f xs ys (omega (arith, e)))
+
+module _ {T U : Type 0} (R : T × U → Shift → T × U → Type 0) (xs : List T) (us : List U) (s : Shift) (ys : List T) (vs : List U) where
+  pub each_paired : length xs ≡ length us → RanEach R xs us s ys vs → length ys ≡ length vs
+  each_paired e r = r.on_kept ∙ (e ∙ sym r.by_kept)
+
+  -- what a run makes so of each place is so of all, and of the first of each
+  pub each_all : (P : T × U → Type 0) → ((x : T × U) (t : Shift) (y : T × U) → R x t y → P y) → RanEach R xs us s ys vs → All P (zip ys vs)
+  each_all P each r = ran_left R P each (zip xs us) s (zip ys vs) r.ran
+    where
+      ran_left : {A : Type 0} (Q : A → Shift → A → Type 0) (P : A → Type 0) → ((x : A) (t : Shift) (y : A) → Q x t y → P y) → (ws : List A) (t : Shift) (bs : List A) → RanAll Q ws t bs → All P bs
+      ran_left Q P each [] t [] h = All-nil P
+      ran_left Q P each [] t (b ∷ bs) h = absurd h
+      ran_left Q P each (a ∷ ws) t [] h = absurd h
+      ran_left Q P each (a ∷ ws) t (b ∷ bs) h = All-cons P b bs (each a h.0 b h.2) (ran_left Q P each ws h.1 bs h.3)
+
+  -- what each counts of its pass, all count
+  pub each_gains : (f : Shift → ℕ) (g : T → ℕ) → f none ≡ 0 → ((a b : Shift) → f (plus a b) ≡ f a + f b) → ((x : T × U) (t : Shift) (y : T × U) → R x t y → f t + g x.0 ≡ g y.0)
+      → length xs ≡ length us → RanEach R xs us s ys vs → f s + sum_by g xs ≡ sum_by g ys
+  each_gains f g zero sums each e r =
+      omega (arith, ran_gains R f (λ (x : T × U). g x.0) zero sums each (zip xs us) s (zip ys vs) r.ran, sum_first g xs us e, sum_first g ys vs (each_paired e r))
+
+-- the lists of a shift, place by place
+module _ (m : ManagerShown) where
+  pub clients_ready : (xs : List PassShown) (us : List ClientJob) → length xs ≡ length us → All (IsFreePass m) xs → All IsClientJob us → All (IsClientOf m) (zip xs us)
+  clients_ready xs us e free jobs = all_both (IsFreePass m) IsClientJob (IsClientOf m) (λ x y a b. record { pass = a; job = b }) xs us e free jobs
+
+  pub killers_ready : (xs : List PassShown) (us : List KillJob) → length xs ≡ length us → All (IsFreePass m) xs → All IsKillJob us → All (IsKillerOf m) (zip xs us)
+  killers_ready xs us e free jobs = all_both (IsFreePass m) IsKillJob (IsKillerOf m) (λ x y a b. record { pass = a; job = b }) xs us e free jobs
+
+  -- passes that a run leaves free
+  pub passes_free : {U : Type 0} (R : PassShown × U → Shift → PassShown × U → Type 0) → ((x : PassShown × U) (t : Shift) (y : PassShown × U) → R x t y → IsFreePass m y.0)
+      → (xs : List PassShown) (us : List U) (s : Shift) (ys : List PassShown) (vs : List U) → length xs ≡ length us → RanEach R xs us s ys vs → All (IsFreePass m) ys
+  passes_free R each xs us s ys vs e r =
+      all_first (IsFreePass m) ys vs (each_paired R xs us s ys vs e r) (each_all R xs us s ys vs (λ y. IsFreePass m y.0) each r)
+
+  -- passes that a run leaves with their numbers
+  pub same_numbers : {U : Type 0} (R : PassShown × U → Shift → PassShown × U → Type 0) → ((x : PassShown × U) (t : Shift) (y : PassShown × U) → R x t y → y.0.number ≡ x.0.number)
+      → (xs : List PassShown) (us : List U) (s : Shift) (ys : List PassShown) (vs : List U) → length xs ≡ length us → RanEach R xs us s ys vs → numbers ys ≡ numbers xs
+  same_numbers R each xs us s ys vs e r = same_first (λ (p : PassShown). p.number) R each xs us s ys vs e (each_paired R xs us s ys vs e r) r.ran
+
+  module _ {B : Type 0} (recipe : B → Recipe) (registers : B → List ℕ) (pending : B → Option Pending) where
+    pub desks_ready : (xs : List PassShown) (us : List B) → length xs ≡ length us → All (IsFreePass m) xs → All (λ b. pending b ≡ None) us → All (IsDeskOf recipe registers pending m) (zip xs us)
+    desks_ready xs us e free clear = all_both (IsFreePass m) (λ b. pending b ≡ None) (IsDeskOf recipe registers pending m) (λ x y a b. record { pass = a; unprepared = b }) xs us e free clear
+
+    -- servers that a run leaves with nothing prepared
+    pub servers_clear : (R : PassShown × B → Shift → PassShown × B → Type 0) → ((x : PassShown × B) (t : Shift) (y : PassShown × B) → R x t y → IsDeskOf recipe registers pending m y)
+        → (xs : List PassShown) (us : List B) (s : Shift) (ys : List PassShown) (vs : List B) → length xs ≡ length us → RanEach R xs us s ys vs → All (λ b. pending b ≡ None) vs
+    servers_clear R each xs us s ys vs e r =
+        all_second (λ b. pending b ≡ None) ys vs (each_paired R xs us s ys vs e r)
+        (each_all R xs us s ys vs (λ y. pending y.1 ≡ None) (λ x t y h. (each x t y h).unprepared) r)

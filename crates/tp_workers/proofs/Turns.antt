@@ -1,5 +1,9 @@
--- What a turn adds to a pass.
-use Rattle.std.proofs.Common.{◌≡◌, ℕ, ◌+◌, ◌≤◌, List, [], ◌∷◌, ◌++◌, Option, refl, sym, ◌∙◌, ap, ⊎_elim, arith, cond, count_by, zero-add}
+-- What turns add to a pass, and what a desk that took them leaves of it.
+use Rattle.std.proofs.Common.{◌≡◌, ℕ, ◌+◌, ◌≤◌, List, [], ◌∷◌, ◌++◌, Option, Some, None, refl, sym, ◌∙◌, ap, ap₂, subst, ⊎_elim, arith, cond, count_by, zero-add}
+use Rattle.std.specs.declared.alloc.Global.{Global}
+use Rattle.std.specs.declared.dyn_box.DynBox.{DynBox}
+use Rattle.tp_model.specs.Drafts.{DraftView}
+use Rattle.tp_model.specs.Steps.{AreLimits}
 use Rattle.tp_model.specs.declared.event.Event.{Event}
 use Rattle.tp_model.specs.declared.event.Event.TheVariants.{Abort}
 use Rattle.tp_model.specs.declared.types.Ended.{Ended}
@@ -7,16 +11,20 @@ use Rattle.tp_model.specs.declared.types.Ended.TheVariants as endeds
 use Rattle.tp_model.specs.declared.types.Limits.{Limits}
 use Rattle.tp_model.specs.declared.types.Work.{Work}
 use Rattle.tp_server.specs.declared.recipe.Recipe.{Recipe}
+use Rattle.tp_server.specs.Pending.{Pending}
 use Rattle.tp_manager.specs.Calls.{Ends, claims_in, one_claim}
-use Rattle.tp_manager.specs.Shown.{PassShown}
+use Rattle.tp_manager.specs.Shown.{ManagerShown, PassShown}
+use Rattle.tp_desk.specs.InHand.{InHand}
+use Rattle.tp_desk.specs.Serving.{Leaves}
 use Rattle.tp_desk.specs.declared.desk.Desk.{Desk}
 use Rattle.tp_desk.specs.declared.turned.Turned.{Turned}
 use Rattle.tp_desk.specs.declared.turned.Turned.TheVariants as turneds
-use Rattle.tp_desk.specs.Turns.{Turns, Works, WorksOff}
+use Rattle.tp_desk.specs.Steady.{IsSameDesk, shown}
+use Rattle.tp_desk.specs.Turns.{EndsOpen, Turns, Works, WorksOff}
 use Rattle.tp_workers.specs.declared.tally.Shift.{Shift}
-use Rattle.tp_workers.specs.Calling.{Called}
-use Rattle.tp_desk.specs.Steady.{IsReady}
-use Rattle.tp_workers.specs.Desks.{IsSameDesk, TakesTurn}
+use Rattle.tp_workers.specs.Calling.{Called, Chain}
+use Rattle.tp_workers.specs.Desks.{DeskRan, IsDeskOf, IsResting, Place, TakesTurn, TakesTurns, place, place_of}
+use Rattle.tp_workers.specs.Drained.{TookTurn}
 use Rattle.tp_workers.specs.Gains.{commits_in, is_commit}
 use Rattle.tp_workers.specs.Tally.{claimed, none, plus, total, turn_count}
 use Rattle.tp_workers.proofs.Calling.{called_gains, called_more, called_none, called_total}
@@ -83,47 +91,133 @@ one_turn (turneds.Refused element why) = refl
 one_turn (turneds.Lost element) = refl
 one_turn (turneds.Full element) = refl
 
-module _ {X : Type 0} {F : X → Type 0} (recipe : (x : X) × F x → Recipe) (registers : (x : X) × F x → List ℕ) (pending : (x : X) × F x → Option (List ℕ)) where
-  pub same_desk : (d : Desk X F) → IsSameDesk recipe registers pending d d
-  same_desk d = record { manager = refl; pass = refl; server = refl; first_pass = refl; first_server = refl; recipe_is = refl }
+-- turns one after another count their commits, and their claims
+module _ (l : Limits) (n : ℕ) (x y : Place) (s : Shift) (h : Called (TakesTurn l) turn_count n x s y) where
+  pub turns_commit : s.done + commits_in x.pass ≡ commits_in y.pass
+  turns_commit =
+      called_gains (TakesTurn l) turn_count (λ (c : Shift). c.done) (λ (p : Place). commits_in p.pass) refl (λ a b. refl)
+      (λ p t q r. (turn_adds l p.recipe p.registers p.pass q.pass t r.answer).done_is) n x y s h
 
-  pub same_then : (x y z : Desk X F) → IsSameDesk recipe registers pending x y → IsSameDesk recipe registers pending y z → IsSameDesk recipe registers pending x z
-  same_then x y z a b = record {
-    manager = b.manager ∙ a.manager;
-    pass = b.pass ∙ a.pass;
-    server = b.server ∙ a.server;
-    first_pass = b.first_pass ∙ a.first_pass;
-    first_server = b.first_server ∙ a.first_server;
-    recipe_is = b.recipe_is ∙ a.recipe_is;
-  }
+  pub turns_claim : claimed s + claims_in x.pass.mine ≡ claims_in y.pass.mine
+  turns_claim =
+      called_gains (TakesTurn l) turn_count claimed (λ (p : Place). claims_in p.pass.mine) refl (λ a b. omega arith)
+      (λ p t q r. turn_claims l p.recipe p.registers p.pass q.pass t r.answer) n x y s h
+
+  pub turns_total : total s ≡ n
+  turns_total = called_total (TakesTurn l) turn_count one_turn n x y s h
+
+module _ {X : Type 0} {F : X → Type 0} (recipe : (x : X) × F x → Recipe) (registers : (x : X) × F x → List ℕ) (pending : (x : X) × F x → Option Pending) where
+  abbrev Lent : Type 0
+  Lent = PassShown × DynBox X Global F
+
+  abbrev at : Lent → Place
+  at x = place (shown recipe) (shown registers) (shown pending) x
+
+  abbrev of_desk : Desk X F → Place
+  of_desk d = place_of recipe registers pending d
 
   -- the desk took n turns so far
   pub record SoFar (n : ℕ) (old : Desk X F) (counts : Shift) (new : Desk X F) : Type 0 where
-    pub calls : Called (TakesTurn recipe registers pending) turn_count n old counts new
-    pub same : IsSameDesk recipe registers pending old new
-    pub ready : IsReady recipe registers pending new
+    pub calls : Called (TakesTurn old.manager.now.limits) turn_count n (of_desk old) counts (of_desk new)
+    pub same : IsSameDesk old new
+    pub resting : IsResting recipe registers pending new
 
-  pub none_so_far : (d : Desk X F) → IsReady recipe registers pending d → SoFar 0 d none d
-  none_so_far d ready = record { calls = called_none (TakesTurn recipe registers pending) turn_count d; same = same_desk d; ready = ready }
-
-  pub one_more : (n : ℕ) (t : Turned) (x y z : Desk X F) (s u v : Shift) → SoFar n x s y → TakesTurn recipe registers pending y t z → u ≡ turn_count t → v ≡ plus s u → SoFar (n + 1) x v z
-  one_more n t x y z s u v h k is both = record {
-    calls = called_more (TakesTurn recipe registers pending) turn_count n t x y z s u v h.calls k is both;
-    same = same_then x y z h.same k.same;
-    ready = k.ready;
+  pub none_so_far : (d : Desk X F) → IsResting recipe registers pending d → SoFar 0 d none d
+  none_so_far d resting = record {
+    calls = called_none (TakesTurn d.manager.now.limits) turn_count (of_desk d);
+    same = record { manager = refl; pass = refl; server = refl; first_pass = refl; first_server = refl };
+    resting = resting;
   }
 
-  pub total_so_far : (n : ℕ) (x y : Desk X F) (s : Shift) → SoFar n x s y → total s ≡ n
-  total_so_far n x y s h = called_total (TakesTurn recipe registers pending) turn_count one_turn n x y s h.calls
+  pub one_more : (n : ℕ) (t : Turned) (x y z : Desk X F) (s u v : Shift) → SoFar n x s y → IsSameDesk y z → TakesTurn y.manager.now.limits (of_desk y) t (of_desk z)
+      → IsResting recipe registers pending z → u ≡ turn_count t → v ≡ plus s u → SoFar (n + 1) x v z
+  one_more n t x y z s u v h same turn resting is both = record {
+    calls = called_more (TakesTurn x.manager.now.limits) turn_count n t (of_desk x) (of_desk y) (of_desk z) s u v h.calls
+        (subst (λ k. TakesTurn k.now.limits (of_desk y) t (of_desk z)) h.same.manager turn) is both;
+    same = record {
+      manager = same.manager ∙ h.same.manager;
+      pass = same.pass ∙ h.same.pass;
+      server = same.server ∙ h.same.server;
+      first_pass = same.first_pass ∙ h.same.first_pass;
+      first_server = same.first_server ∙ h.same.first_server;
+    };
+    resting = resting;
+  }
 
-  -- the turns count the commits
-  pub done_so_far : (n : ℕ) (x y : Desk X F) (s : Shift) → Called (TakesTurn recipe registers pending) turn_count n x s y → s.done + commits_in x.pass.now ≡ commits_in y.pass.now
-  done_so_far n x y s h =
-      called_gains (TakesTurn recipe registers pending) turn_count (λ (c : Shift). c.done) (λ (d : Desk X F). commits_in d.pass.now) refl (λ a b. refl)
-      (λ x t y r. (turn_adds _ _ _ x.pass.now y.pass.now t r.answer).done_is) n x y s h
+  -- a desk of this pass and this server was made as d, became e by its turns, and left them as y
+  pub record Lending (m : ManagerShown) (x : Lent) (d e : Desk X F) (y : Lent) : Type 0 where
+    pub manager : d.manager.now ≡ m
+    pub pass : d.pass.now ≡ x.0
+    pub server : d.server.now ≡ x.1
+    pub first_pass : d.first_pass.value ≡ x.0
+    pub first_server : d.first_server.value ≡ x.1
+    pub same : IsSameDesk d e
+    pub resting : IsResting recipe registers pending e
+    pub ends : EndsOpen e.pass.now.open_unit e.pass.now y.0
+    pub recipe_is : shown recipe y.1 ≡ shown recipe e.server.now
+    pub registers_are : shown registers y.1 ≡ shown registers e.server.now
+    pub left : Leaves (shown recipe y.1) (shown registers e.first_server.value) (shown registers y.1) e.first_pass.value y.0
+    pub ready : IsDeskOf (shown recipe) (shown registers) (shown pending) m y
 
-  -- and the claims
-  pub taken_so_far : (n : ℕ) (x y : Desk X F) (s : Shift) → Called (TakesTurn recipe registers pending) turn_count n x s y → claimed s + claims_in x.pass.now.mine ≡ claims_in y.pass.now.mine
-  taken_so_far n x y s h =
-      called_gains (TakesTurn recipe registers pending) turn_count claimed (λ (d : Desk X F). claims_in d.pass.now.mine) refl (λ a b. omega arith)
-      (λ x t y r. (turn_adds _ _ _ x.pass.now y.pass.now t r.answer).taken_is) n x y s h
+  module _ (m : ManagerShown) (x : Lent) (d e : Desk X F) (y : Lent) (lending : Lending m x d e y) where
+    begun : of_desk d ≡ at x
+    begun = ap₂ (λ p s. record { pass = p; recipe = shown recipe s; registers = shown registers s }) lending.pass lending.server
+
+    ended : of_desk e ≡ at y
+    ended =
+        let same : y.0 ≡ e.pass.now = same_when_free e.pass.now.open_unit e.pass.now y.0 (free_of _ e.work _ _ _ _ _ lending.resting.free lending.resting.steady.in_hand) lending.ends in
+        sym (rw (same, lending.recipe_is, lending.registers_are) refl)
+      where
+        same_when_free : (o : Option ℕ) (p q : PassShown) → o ≡ None → EndsOpen o p q → q ≡ p
+        same_when_free None p q none adds = adds
+        same_when_free (Some u) p q none adds = absurd (no u none)
+          where
+            no : (u : ℕ) → Some u ≡ None → ⊥
+            no u e = cc
+
+        free_of : (pend : Option Pending) (w : Option Work) (drafts : List DraftView) (f p : PassShown) (r : Recipe) (rs : List ℕ) → w ≡ None → InHand r rs pend w drafts f p → p.open_unit ≡ None
+        free_of pend w drafts f p r rs none h = (subst (λ (o : Option Work). InHand r rs pend o drafts f p) none h).open_unit
+
+    -- what the turns made of the pass and the server
+    lent_as : (R : Place → Place → Type 0) → R (of_desk d) (of_desk e) → R (at x) (at y)
+    lent_as R h = subst (λ a. R a (at y)) begun (subst (R (of_desk d)) ended h)
+
+    lent_leaves : shown recipe y.1 ≡ shown recipe x.1 → Leaves (shown recipe x.1) (shown registers x.1) (shown registers y.1) x.0 y.0
+    lent_leaves whole =
+        let first : e.first_pass.value ≡ x.0 = ap (λ f. f.value) lending.same.first_pass ∙ lending.first_pass in
+        let start : e.first_server.value ≡ x.1 = ap (λ f. f.value) lending.same.first_server ∙ lending.first_server in
+        subst (λ r. Leaves r (shown registers x.1) (shown registers y.1) x.0 y.0) whole
+        (subst (λ (s : DynBox X Global F). Leaves (shown recipe y.1) (shown registers s) (shown registers y.1) x.0 y.0) start
+        (subst (λ (p : PassShown). Leaves (shown recipe y.1) (shown registers e.first_server.value) (shown registers y.1) p y.0) first lending.left))
+
+    same_recipe : (ts : List Turned) (l : Limits) (p q : Place) → Chain (TakesTurn l) p ts q → q.recipe ≡ p.recipe
+    same_recipe [] l p q h = ap (λ (r : Place). r.recipe) h
+    same_recipe (t ∷ ts) l p q h = same_recipe ts l h.0 q h.2 ∙ h.1.recipe_is
+
+    pub desk_ran : (turns : ℕ) (counts : Shift) → TakesTurns d.manager.now.limits turns (of_desk d) counts (of_desk e)
+        → DeskRan (shown recipe) (shown registers) (shown pending) m turns x counts y
+    desk_ran turns counts taken =
+        let now : TakesTurns m.limits turns (at x) counts (at y) =
+        subst (λ (k : ManagerShown). TakesTurns k.limits turns (at x) counts (at y)) lending.manager (lent_as (λ a b. TakesTurns d.manager.now.limits turns a counts b) taken) in
+        let whole : shown recipe y.1 ≡ shown recipe x.1 = same_recipe now.calls.answers m.limits (at x) (at y) now.calls.each in
+        record {
+          turns_taken = now;
+          done = turns_commit m.limits now.taken (at x) (at y) counts now.calls;
+          leaves = lent_leaves whole;
+          recipe_is = whole;
+          ready = lending.ready;
+        }
+
+    pub desk_took : (t : Turned) (counts : Shift) → TakesTurn d.manager.now.limits (of_desk d) t (of_desk e) → AreLimits d.manager.now.limits → counts ≡ turn_count t
+        → TookTurn (shown recipe) (shown registers) (shown pending) m x counts y
+    desk_took t counts turn limits counted =
+        let now : TakesTurn m.limits (at x) t (at y) =
+        subst (λ (k : ManagerShown). TakesTurn k.limits (at x) t (at y)) lending.manager (lent_as (λ a b. TakesTurn d.manager.now.limits a t b) turn) in
+        record {
+          turned = t;
+          turn = now;
+          limits = subst (λ (k : ManagerShown). AreLimits k.limits) lending.manager limits;
+          counted = counted;
+          leaves = lent_leaves now.recipe_is;
+          ready = lending.ready;
+        }

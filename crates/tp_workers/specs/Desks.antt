@@ -1,66 +1,68 @@
--- What desks do in a shift. The first three arguments say of a box what its server shows, as those of `Steady`.
-use Rattle.std.specs.Prelude.{◌≡◌, ℕ, ◌+◌, ◌≤◌, List, Option}
-use Rattle.tp_model.specs.Steps.{AreLimits}
+-- What desks do in a shift.
+use Rattle.std.specs.Prelude.{◌≡◌, ℕ, ◌+◌, ◌≤◌, List, Option, None}
+use Rattle.tp_model.specs.declared.types.Limits.{Limits}
 use Rattle.tp_server.specs.declared.recipe.Recipe.{Recipe}
+use Rattle.tp_server.specs.Pending.{Pending}
 use Rattle.tp_manager.specs.Calls.{Follows}
+use Rattle.tp_manager.specs.Shown.{ManagerShown, PassShown}
 use Rattle.tp_desk.specs.declared.desk.Desk.{Desk}
 use Rattle.tp_desk.specs.declared.turned.Turned.{Turned}
-use Rattle.tp_desk.specs.Steady.{IsReady, shown}
+use Rattle.tp_desk.specs.Serving.{Leaves}
+use Rattle.tp_desk.specs.Steady.{SteadyDesk, shown}
 use Rattle.tp_desk.specs.Turns.{Turns, turn_steps}
 use Rattle.tp_workers.specs.declared.tally.Shift.{Shift}
 use Rattle.tp_workers.specs.Calling.{Called}
+use Rattle.tp_workers.specs.Free.{IsFreePass}
 use Rattle.tp_workers.specs.Gains.{commits_in}
-use Rattle.tp_workers.specs.Tally.{claimed, turn_count}
+use Rattle.tp_workers.specs.Tally.{turn_count}
 
-module _ {X : Type 0} {F : X → Type 0} (recipe : (x : X) × F x → Recipe) (registers : (x : X) × F x → List ℕ) (pending : (x : X) × F x → Option (List ℕ)) where
-  -- the desk has the same manager and lenders, began alike, and its server has the same recipe
-  pub record IsSameDesk (old new : Desk X F) : Type 0 where
-    pub manager : new.manager ≡ old.manager
-    pub pass : new.pass.ghost_name ≡ old.pass.ghost_name
-    pub server : new.server.ghost_name ≡ old.server.ghost_name
-    pub first_pass : new.first_pass ≡ old.first_pass
-    pub first_server : new.first_server ≡ old.first_server
-    pub recipe_is : shown recipe new.server.now ≡ shown recipe old.server.now
+-- what a pass and its server show
+pub record Place : Type 0 where
+  pub pass : PassShown
+  pub recipe : Recipe
+  pub registers : List ℕ
 
-  -- the desk took a turn with this answer
-  pub record TakesTurn (old : Desk X F) (turned : Turned) (new : Desk X F) : Type 0 where
-    pub answer : Turns old.manager.now.limits (shown recipe old.server.now) (shown registers old.server.now)
-        old.pass.now new.pass.now turned
-    pub follows : Follows (turn_steps old.manager.now.limits) old.pass.now new.pass.now
-    pub limits : AreLimits old.manager.now.limits
-    pub same : IsSameDesk old new
-    pub ready : IsReady recipe registers pending new
+-- a turn was taken there, with this answer
+pub record TakesTurn (l : Limits) (old : Place) (turned : Turned) (new : Place) : Type 0 where
+  pub answer : Turns l old.recipe old.registers old.pass new.pass turned
+  pub follows : Follows (turn_steps l) old.pass new.pass
+  pub recipe_is : new.recipe ≡ old.recipe
 
-  -- the desk took at most so many turns, and fewer only after one that found no unit left
-  pub record DeskRan (turns : ℕ) (old : Desk X F) (counts : Shift) (new : Desk X F) : Type 0 where
-    pub taken : ℕ
-    pub calls : Called TakesTurn turn_count taken old counts new
-    pub at_most : taken ≤ turns
-    pub all_taken : counts.nounit ≡ 0 → taken ≡ turns
-    pub done : counts.done + commits_in old.pass.now ≡ commits_in new.pass.now
-    pub same : IsSameDesk old new
-    pub ready : IsReady recipe registers pending new
+-- at most so many turns were taken there, and fewer only after one that found no unit left
+pub record TakesTurns (l : Limits) (turns : ℕ) (old : Place) (counts : Shift) (new : Place) : Type 0 where
+  pub taken : ℕ
+  pub calls : Called (TakesTurn l) turn_count taken old counts new
+  pub at_most : taken ≤ turns
+  pub all_taken : counts.nounit ≡ 0 → taken ≡ turns
 
-  -- the desk took one turn, which is counted
-  abbrev pub TookTurn : Desk X F → Shift → Desk X F → Type 0
-  TookTurn old counts new = (turned : Turned) × TakesTurn old turned new × (counts ≡ turn_count turned)
+-- The first three arguments say of a box what its server shows: its recipe, the registers of its committed work, and its
+-- prepared work.
+module _ {B : Type 0} (recipe : B → Recipe) (registers : B → List ℕ) (pending : B → Option Pending) where
+  abbrev pub place : PassShown × B → Place
+  place x = record { pass = x.0; recipe = recipe x.1; registers = registers x.1 }
 
-  -- the desk took turns, of which the last found nothing to claim
-  pub record EndsIdle (old new : Desk X F) : Type 0 where
-    pub taken : ℕ
-    pub counts : Shift
-    pub before : Desk X F
-    pub calls : Called TakesTurn turn_count taken old counts before
-    pub last : Turned
-    pub turn : TakesTurn before last new
-    pub idle : claimed (turn_count last) ≡ 0
+  -- a desk can be made of this pass and this server: the pass is free, and nothing is prepared
+  pub record IsDeskOf (m : ManagerShown) (x : PassShown × B) : Type 0 where
+    pub pass : IsFreePass m x.0
+    pub unprepared : pending x.1 ≡ None
 
-  -- the desk took turns until one found nothing to claim, and committed at most as many units as a pass can have
-  pub record DeskDrained (old : Desk X F) (counts : Shift) (new : Desk X F) : Type 0 where
-    pub taken : ℕ
-    pub calls : Called TakesTurn turn_count taken old counts new
-    pub done : counts.done + commits_in old.pass.now ≡ commits_in new.pass.now
-    pub few : counts.done ≤ 1024
-    pub idle : EndsIdle old new
-    pub same : IsSameDesk old new
-    pub ready : IsReady recipe registers pending new
+  -- A desk of this pass and this server took its turns, and they left them so. The registers of committed work are the fold
+  -- of the server's recipe over what the pass has consumed since.
+  pub record DeskRan (m : ManagerShown) (turns : ℕ) (old : PassShown × B) (counts : Shift) (new : PassShown × B) : Type 0 where
+    pub turns_taken : TakesTurns m.limits turns (place old) counts (place new)
+    pub done : counts.done + commits_in old.0 ≡ commits_in new.0
+    pub leaves : Leaves (recipe old.1) (registers old.1) (registers new.1) old.0 new.0
+    pub recipe_is : recipe new.1 ≡ recipe old.1
+    pub ready : IsDeskOf m new
+
+-- The same of a desk itself. Where no box is in sight, a server's members are told of a pair.
+module _ {X : Type 0} {F : X → Type 0} (recipe : (x : X) × F x → Recipe) (registers : (x : X) × F x → List ℕ)
+    (pending : (x : X) × F x → Option Pending) where
+  -- what the pass and the server of a desk show
+  abbrev pub place_of : Desk X F → Place
+  place_of d = place (shown recipe) (shown registers) (shown pending) (d.pass.now, d.server.now)
+
+  -- the desk is steady, and has no work in hand
+  pub record IsResting (d : Desk X F) : Type 0 where
+    pub steady : SteadyDesk (shown recipe) (shown registers) (shown pending) d
+    pub free : d.work ≡ None

@@ -7,18 +7,22 @@ use Rattle.tp_model.specs.declared.types.Limits.{Limits}
 use Rattle.tp_model.specs.declared.types.Refusal.{Refusal}
 use Rattle.tp_manager.specs.Bounds.{kill_steps}
 use Rattle.tp_manager.specs.Calls.{Follows, IsOfHolder, KillFails, Kills}
-use Rattle.tp_manager.specs.Shown.{IsOf, ManagerShown, PassShown}
+use Rattle.tp_manager.specs.Shown.{ManagerShown, PassShown}
 use Rattle.tp_workers.specs.declared.killer.KillJob.{KillJob}
 use Rattle.tp_workers.specs.declared.tally.Shift.{Shift}
 use Rattle.tp_workers.specs.Calling.{Called}
+use Rattle.tp_workers.specs.Free.{IsFreePass}
 use Rattle.tp_workers.specs.Gains.{GainsOnly, kills_in}
 use Rattle.tp_workers.specs.Tally.{kill_count}
 
--- the job's pass is of this manager and has no unit open, and its range is one
-pub record IsKillerOf (m : ManagerShown) (j : KillJob) : Type 0 where
-  pub own : IsOf m j.pass.now
-  pub range : j.first ≤ j.end
-  pub free : j.pass.now.open_unit ≡ None
+-- the job's ids are a range
+abbrev pub IsKillJob : KillJob → Type 0
+IsKillJob job = job.first ≤ job.end
+
+-- the pass can be put to work for this manager, on this job
+pub record IsKillerOf (m : ManagerShown) (x : PassShown × KillJob) : Type 0 where
+  pub pass : IsFreePass m x.0
+  pub job : IsKillJob x.1
 
 -- a call killed the element with this id or was refused, as the manager's call answers
 pub record KillsOnce (l : Limits) (id : ℕ) (old : PassShown) (answer : Result Killed Refusal) (new : PassShown) : Type 0 where
@@ -39,24 +43,19 @@ pub record KillsNext (l : Limits) (old : Killing) (answer : Result Killed Refusa
   pub next : new.id ≡ old.id + 1
   pub call : KillsOnce l old.id old.pass answer new.pass
 
--- The event is pass c's Kill of an id from `first` up to and without `end`, or, between two histories, its Abort of a unit that
--- held such an id where the Abort stands.
+-- The event is pass c's Kill of an id from `first` up to and without `end`, or, between two histories, its Abort of a unit
+-- that held such an id where the Abort stands.
 abbrev pub IsKillWork : Limits → ℕ → ℕ → ℕ → List Event → List Event → Event → Type 0
 IsKillWork l c first end from to e = (id : ℕ) × (first ≤ id) × (id < end)
     × ((e ≡ Kill c id) ⊎ IsOfHolder l c id from to e)
 
--- it is the same job, with the same pass
-pub record IsSameKiller (old new : KillJob) : Type 0 where
-  pub pass : new.pass.ghost_name ≡ old.pass.ghost_name
-  pub first : new.first ≡ old.first
-  pub end_is : new.end ≡ old.end
-
--- the killer took each id of its range once, and this left its job so
-pub record KillerRan (m : ManagerShown) (old : KillJob) (counts : Shift) (new : KillJob) : Type 0 where
-  pub calls : Called (KillsNext m.limits) kill_count (old.end - old.first)
-      (killing old.first old.pass.now) counts (killing old.end new.pass.now)
-  pub gains : GainsOnly (IsKillWork m.limits old.pass.now.number old.first old.end old.pass.now.seen new.pass.now.seen)
-      old.pass.now new.pass.now
-  pub killed : counts.killed + kills_in old.pass.now ≡ kills_in new.pass.now
-  pub same : IsSameKiller old new
+-- a killer of this pass and this job took each id of its range once, and this left the pass so
+pub record KillerRan (m : ManagerShown) (old : PassShown × KillJob) (counts : Shift) (new : PassShown × KillJob)
+    : Type 0 where
+  pub calls : Called (KillsNext m.limits) kill_count (old.1.end - old.1.first)
+      (killing old.1.first old.0) counts (killing old.1.end new.0)
+  pub gains : GainsOnly (IsKillWork m.limits old.0.number old.1.first old.1.end old.0.seen new.0.seen) old.0 new.0
+  pub killed : counts.killed + kills_in old.0 ≡ kills_in new.0
+  pub number : new.0.number ≡ old.0.number
+  pub same_job : new.1 ≡ old.1
   pub ready : IsKillerOf m new

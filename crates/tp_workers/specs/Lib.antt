@@ -1,8 +1,10 @@
 pub mod Tally
 pub mod Ran
 pub mod Calling
+pub mod Free
 pub mod Gains
 pub mod Desks
+pub mod Drained
 pub mod Clients
 pub mod Killers
 pub mod Sums

@@ -1,21 +1,9 @@
 -- Sums over lists of workers.
 use Rattle.std.specs.Prelude.{ℕ, ◌-◌}
-use Rattle.tp_desk.specs.declared.desk.Desk.{Desk}
 use Rattle.tp_workers.specs.declared.client.ClientJob.{ClientJob}
 use Rattle.tp_workers.specs.declared.killer.KillJob.{KillJob}
 use Rattle.tp_workers.specs.declared.tally.Shift.{Shift}
-use Rattle.tp_workers.specs.Gains.{commits_in, enqueues_in, kills_in}
 use Rattle.tp_workers.specs.Tally.{none}
-
--- how many Commits the desk's pass has made, how many Enqueues the client's, and how many Kills the killer's
-abbrev pub commits_of : {X : Type 0} {F : X → Type 0} → Desk X F → ℕ
-commits_of d = commits_in d.pass.now
-
-abbrev pub enqueues_of : ClientJob → ℕ
-enqueues_of j = enqueues_in j.pass.now
-
-abbrev pub kills_of : KillJob → ℕ
-kills_of j = kills_in j.pass.now
 
 -- how many calls the client is to make, and how many ids the killer is to take
 abbrev pub calls_of : ClientJob → ℕ
@@ -26,7 +14,14 @@ size_of_range j = j.end - j.first
 
 -- the counts of desks, of clients and of killers
 abbrev pub desk_part : Shift → Shift
-desk_part s = record none { done = s.done; refused = s.refused; lost = s.lost; full = s.full; idle = s.idle; nounit = s.nounit }
+desk_part s = record none {
+  done = s.done;
+  refused = s.refused;
+  lost = s.lost;
+  full = s.full;
+  idle = s.idle;
+  nounit = s.nounit;
+}
 
 abbrev pub client_part : Shift → Shift
 client_part s = record none { submitted = s.submitted; submit_full = s.submit_full }

@@ -1,22 +1,60 @@
-//! The turns of a desk in a shift.
-ghost use Rattle.std.specs.Prelude.{◌≡◌, ◌≤◌, None, Some, IsSome};
-ghost use Rattle.tp_model.specs.Steps.{AreLimits};
+//! Desks in a shift: each is made on its worker's own stack, of a pass and a server that are lent to it.
+ghost use Rattle.std.specs.Prelude.{◌≡◌, ◌≤◌, None, Some};
 ghost use Rattle.tp_manager.specs.Bounds.{commit_steps};
 ghost use Rattle.tp_manager.specs.Calls.{Follows};
+ghost use Rattle.tp_desk.specs.Steady.{IsSameDesk, SteadyDesk, shown};
 ghost use Rattle.tp_desk.specs.Turns.{Turns, WorksOff, turn_steps};
-ghost use Rattle.tp_desk.specs.Steady.{shown, IsSteadyDesk, IsReady};
-ghost use Rattle.tp_workers.specs.Desks.{IsSameDesk, TakesTurn, DeskRan};
+ghost use Rattle.tp_workers.specs.Desks.{DeskRan, IsDeskOf, IsResting, TakesTurn, TakesTurns, place_of};
+ghost use Rattle.tp_workers.specs.Drained.{TookTurn};
 ghost use Rattle.tp_workers.specs.Tally.{total};
 
 use crate::gate::{Gate, Point};
 use crate::tally::Shift;
 use tp_desk::{Desk, Turned};
-use tp_model::types::{Claimed, Outcome, Work};
+use tp_manager::{Manager, Pass};
+use tp_model::types::{Claimed, Work};
+use tp_server::Server;
 
-/// Takes so many turns, or fewer where one finds that the pass has no unit left.
-pub(crate) fn take_turns<G: Gate>(desk: &mut Desk, turns: u32, worker: u32, gate: &G) -> Shift
-    requires ready { IsReady recipe registers pending desk.old }
-    ensures ran { DeskRan recipe registers pending turns desk.old result desk.new }
+/// Has a desk take so many turns, or fewer where its pass has no unit left.
+pub(crate) fn run_desk<G: Gate>(
+    manager: &Manager,
+    pass: &mut Pass,
+    server: &mut Box<dyn Server + Send>,
+    turns: u32,
+    worker: u32,
+    gate: &G,
+) -> Shift
+    requires ready { IsDeskOf recipe registers pending manager.now (pass.old, server.old) }
+    ensures ran { DeskRan recipe registers pending manager.now turns (pass.old, server.old) result (pass.new, server.new) }
+    ensures bound { total result ≤ turns }
+{
+    let mut desk = Desk::new(manager, pass, server);
+    let counts = take_turns(&mut desk, turns, worker, gate);
+    desk.end();
+    counts
+}
+
+/// Has a desk take one turn.
+pub(crate) fn take_turn(
+    manager: &Manager,
+    pass: &mut Pass,
+    server: &mut Box<dyn Server + Send>,
+) -> Shift
+    requires ready { IsDeskOf recipe registers pending manager.now (pass.old, server.old) }
+    ensures took { TookTurn recipe registers pending manager.now (pass.old, server.old) result (pass.new, server.new) }
+{
+    let mut desk = Desk::new(manager, pass, server);
+    let turned = desk.turn();
+    desk.end();
+    Shift::of_turn(turned)
+}
+
+fn take_turns<G: Gate>(desk: &mut Desk, turns: u32, worker: u32, gate: &G) -> Shift
+    requires resting { IsResting recipe registers pending desk.old }
+    ensures same { IsSameDesk desk.old desk.new }
+    ensures turns { TakesTurns desk.old.manager.now.limits turns
+        (place_of recipe registers pending desk.old) result (place_of recipe registers pending desk.new) }
+    ensures resting { IsResting recipe registers pending desk.new }
     ensures bound { total result ≤ turns }
 {
     let mut counts = Shift::none();
@@ -32,8 +70,11 @@ pub(crate) fn take_turns<G: Gate>(desk: &mut Desk, turns: u32, worker: u32, gate
 
 /// A turn with a pause at each of its points.
 fn turn_at<G: Gate>(desk: &mut Desk, worker: u32, gate: &G) -> Turned
-    requires ready { IsReady recipe registers pending desk.old }
-    ensures turn { TakesTurn recipe registers pending desk.old result desk.new }
+    requires resting { IsResting recipe registers pending desk.old }
+    ensures same { IsSameDesk desk.old desk.new }
+    ensures turn { TakesTurn desk.old.manager.now.limits
+        (place_of recipe registers pending desk.old) result (place_of recipe registers pending desk.new) }
+    ensures resting { IsResting recipe registers pending desk.new }
 {
     gate.pause(worker, Point::Start);
     let turned = claim_at(desk, worker, gate);
@@ -42,15 +83,15 @@ fn turn_at<G: Gate>(desk: &mut Desk, worker: u32, gate: &G) -> Turned
 }
 
 fn claim_at<G: Gate>(desk: &mut Desk, worker: u32, gate: &G) -> Turned
-    requires steady { IsSteadyDesk recipe registers pending desk.old }
+    requires steady { SteadyDesk (shown recipe) (shown registers) (shown pending) desk.old }
     requires free { desk.old.work ≡ None }
-    ensures same { IsSameDesk recipe registers pending desk.old desk.new }
+    ensures same { IsSameDesk desk.old desk.new }
+    ensures recipe { shown recipe desk.new.server.now ≡ shown recipe desk.old.server.now }
     ensures free { desk.new.work ≡ None }
-    ensures limits { AreLimits desk.old.manager.now.limits }
     ensures follows { Follows (turn_steps desk.old.manager.now.limits) desk.old.pass.now desk.new.pass.now }
-    ensures answer { Turns desk.old.manager.now.limits (shown recipe desk.old.server.now) (shown registers desk.old.server.now)
-        desk.old.pass.now desk.new.pass.now result }
-    ensures steady { IsSteadyDesk recipe registers pending desk.new }
+    ensures answer { Turns desk.old.manager.now.limits (shown recipe desk.old.server.now)
+        (shown registers desk.old.server.now) desk.old.pass.now desk.new.pass.now result }
+    ensures steady { SteadyDesk (shown recipe) (shown registers) (shown pending) desk.new }
 {
     match desk.claim() {
         Claimed::Idle => Turned::Idle,
@@ -60,30 +101,24 @@ fn claim_at<G: Gate>(desk: &mut Desk, worker: u32, gate: &G) -> Turned
 }
 
 fn work_at<G: Gate>(desk: &mut Desk, work: Work, worker: u32, gate: &G) -> Turned
-    requires steady { IsSteadyDesk recipe registers pending desk.old }
+    requires steady { SteadyDesk (shown recipe) (shown registers) (shown pending) desk.old }
     requires taken { desk.old.work ≡ Some work }
     requires unprepared { shown pending desk.old.server.now ≡ None }
-    ensures same { IsSameDesk recipe registers pending desk.old desk.new }
+    ensures same { IsSameDesk desk.old desk.new }
+    ensures recipe { shown recipe desk.new.server.now ≡ shown recipe desk.old.server.now }
     ensures free { desk.new.work ≡ None }
     ensures follows { Follows (commit_steps 4) desk.old.pass.now desk.new.pass.now }
     ensures answer { WorksOff (shown recipe desk.old.server.now) (shown registers desk.old.server.now) work
         desk.old.pass.now desk.new.pass.now result }
-    ensures steady { IsSteadyDesk recipe registers pending desk.new }
+    ensures steady { SteadyDesk (shown recipe) (shown registers) (shown pending) desk.new }
 {
-    let element = work.element.id;
     gate.pause(worker, Point::Claimed);
     if let Err(why) = desk.prepare() {
-        return Turned::Refused { element, why };
+        return Turned::Refused {
+            element: work.element.id,
+            why,
+        };
     }
     gate.pause(worker, Point::Prepared);
-    match desk.commit() {
-        Outcome::Committed { first, count } => Turned::Done {
-            unit: work.unit,
-            element,
-            first,
-            count,
-        },
-        Outcome::Lost => Turned::Lost { element },
-        Outcome::Full => Turned::Full { element },
-    }
+    Turned::settled(&work, desk.commit())
 }

@@ -1,103 +1,138 @@
-//! Workers of one kind or three, each on a thread of its own.
-//!
-//! The workers' types stay open here: a join over lists whose elements are known to hold `&mut` is one that the borrow
-//! checker doesn't cover.
-ghost use Rattle.std.specs.Prelude.{◌≡◌, ℕ, ◌+◌, ◌<◌, ◌≤◌, ◌^◌, All, sum_by, length};
+//! Workers of one kind or three, each on a thread of its own. A worker is a place in two slices side by side: a pass, and the
+//! server or the job that it works with.
+ghost use Rattle.std.specs.Prelude.{◌≡◌, ◌+◌, ◌<◌, ◌^◌};
 ghost use denote.Param.Send.{IsSync, IsSend};
-ghost use Rattle.tp_workers.specs.Ran.{Accepts, MayRun, RanAll, Runs};
+ghost use Rattle.tp_workers.specs.Ran.{Accepts, MayRun, RanEach, Runs};
 
 use crate::tally::Shift;
 use std::thread::{Threads, join_mut};
 
 /// Runs each worker on a thread of its own, numbered from `first` on.
 #[cycle(fork)]
-pub(crate) fn fork<R: Threads + Sync, T: Send, F: Fn(&mut T, u32) -> Shift + Sync>(
+pub(crate) fn fork<R: Threads + Sync, T: Send, U: Send, F: Fn(&mut T, &mut U, u32) -> Shift + Sync>(
     rt: &R,
     run: &F,
     first: u32,
-    workers: &mut [T],
+    on: &mut [T],
+    by: &mut [U],
 ) -> Shift
-    requires may_run { MayRun F.Fn run.now workers.old }
-    ensures ran { RanAll (Runs F.Fn run.now) workers.old result workers.new }
+    requires may_run { MayRun F.Fn run.now on.old by.old }
+    ensures ran { RanEach (Runs F.Fn run.now) on.old by.old result on.new by.new }
 {
-    if workers.is_empty() {
+    if on.is_empty() {
         return Shift::none();
     }
-    if workers.len() == 1 {
-        return run_one(run, &mut workers[0], first);
+    if on.len() == 1 {
+        return run_one(run, &mut on[0], &mut by[0], first);
     }
-    let half = workers.len() / 2;
-    let (front, back) = workers.split_at_mut(half);
-    let (a, b) = halves(rt, run, first, front, number_after(first, half), back);
+    let half = on.len() / 2;
+    let (front, back) = on.split_at_mut(half);
+    let (front_by, back_by) = by.split_at_mut(half);
+    let (a, b) = halves(
+        rt,
+        run,
+        first,
+        front,
+        front_by,
+        number_after(first, half),
+        back,
+        back_by,
+    );
     a.plus(b)
 }
 
 // A function of its own, so that what the closures require is what this function is given.
 #[cycle(fork)]
-fn halves<R: Threads + Sync, T: Send, F: Fn(&mut T, u32) -> Shift + Sync>(
+fn halves<R: Threads + Sync, T: Send, U: Send, F: Fn(&mut T, &mut U, u32) -> Shift + Sync>(
     rt: &R,
     run: &F,
     low: u32,
     front: &mut [T],
+    front_by: &mut [U],
     high: u32,
     back: &mut [T],
+    back_by: &mut [U],
 ) -> (Shift, Shift)
-    requires front_may { MayRun F.Fn run.now front.old }
-    requires back_may { MayRun F.Fn run.now back.old }
-    ensures front_ran { RanAll (Runs F.Fn run.now) front.old result.0 front.new }
-    ensures back_ran { RanAll (Runs F.Fn run.now) back.old result.1 back.new }
+    requires front_may { MayRun F.Fn run.now front.old front_by.old }
+    requires back_may { MayRun F.Fn run.now back.old back_by.old }
+    ensures front_ran { RanEach (Runs F.Fn run.now) front.old front_by.old result.0 front.new front_by.new }
+    ensures back_ran { RanEach (Runs F.Fn run.now) back.old back_by.old result.1 back.new back_by.new }
 {
     let mut one = || -> Shift
-        requires { IsSync R.row × IsSync F.row × IsSend T.row × MayRun F.Fn run.now front.now }
-        ensures { RanAll (Runs F.Fn run.entry.now) front.entry.now result front.exit.now }
-    { fork(rt, run, low, front) };
+        requires { IsSync R.row × IsSync F.row × IsSend T.row × IsSend U.row
+            × MayRun F.Fn run.now front.now front_by.now }
+        ensures { RanEach (Runs F.Fn run.entry.now) front.entry.now front_by.entry.now result
+            front.exit.now front_by.exit.now }
+    { fork(rt, run, low, front, front_by) };
     let mut other = || -> Shift
-        requires { IsSync R.row × IsSync F.row × IsSend T.row × MayRun F.Fn run.now back.now }
-        ensures { RanAll (Runs F.Fn run.entry.now) back.entry.now result back.exit.now }
-    { fork(rt, run, high, back) };
+        requires { IsSync R.row × IsSync F.row × IsSend T.row × IsSend U.row
+            × MayRun F.Fn run.now back.now back_by.now }
+        ensures { RanEach (Runs F.Fn run.entry.now) back.entry.now back_by.entry.now result
+            back.exit.now back_by.exit.now }
+    { fork(rt, run, high, back, back_by) };
     join_mut(rt, &mut one, &mut other)
 }
 
-fn run_one<T, F: Fn(&mut T, u32) -> Shift>(run: &F, worker: &mut T, number: u32) -> Shift
-    requires accepts { Accepts F.Fn run.now worker.old }
-    ensures ran { Runs F.Fn run.now worker.old result worker.new }
+fn run_one<T, U, F: Fn(&mut T, &mut U, u32) -> Shift>(
+    run: &F,
+    on: &mut T,
+    by: &mut U,
+    number: u32,
+) -> Shift
+    requires accepts { Accepts F.Fn run.now (on.old, by.old) }
+    ensures ran { Runs F.Fn run.now (on.old, by.old) result (on.new, by.new) }
 {
-    run(worker, number)
+    run(on, by, number)
 }
 
-/// Runs the workers of two lists.
+/// Runs the workers of two kinds.
 fn fork_two<
     R: Threads + Sync,
     T: Send,
+    A: Send,
     U: Send,
-    F: Fn(&mut T, u32) -> Shift + Sync,
-    H: Fn(&mut U, u32) -> Shift + Sync,
->(rt: &R, run_x: &F, run_y: &H, low: u32, high: u32, xs: &mut [T], ys: &mut [U]) -> (Shift, Shift)
-    requires xs_may { MayRun F.Fn run_x.now xs.old }
-    requires ys_may { MayRun H.Fn run_y.now ys.old }
-    ensures xs_ran { RanAll (Runs F.Fn run_x.now) xs.old result.0 xs.new }
-    ensures ys_ran { RanAll (Runs H.Fn run_y.now) ys.old result.1 ys.new }
+    B: Send,
+    F: Fn(&mut T, &mut A, u32) -> Shift + Sync,
+    H: Fn(&mut U, &mut B, u32) -> Shift + Sync,
+>(
+    rt: &R,
+    run_x: &F,
+    run_y: &H,
+    low: u32,
+    high: u32,
+    xs: &mut [T],
+    xs_by: &mut [A],
+    ys: &mut [U],
+    ys_by: &mut [B],
+) -> (Shift, Shift)
+    requires xs_may { MayRun F.Fn run_x.now xs.old xs_by.old }
+    requires ys_may { MayRun H.Fn run_y.now ys.old ys_by.old }
+    ensures xs_ran { RanEach (Runs F.Fn run_x.now) xs.old xs_by.old result.0 xs.new xs_by.new }
+    ensures ys_ran { RanEach (Runs H.Fn run_y.now) ys.old ys_by.old result.1 ys.new ys_by.new }
 {
     let mut one = || -> Shift
-        requires { MayRun F.Fn run_x.now xs.now }
-        ensures { RanAll (Runs F.Fn run_x.entry.now) xs.entry.now result xs.exit.now }
-    { fork(rt, run_x, low, xs) };
+        requires { MayRun F.Fn run_x.now xs.now xs_by.now }
+        ensures { RanEach (Runs F.Fn run_x.entry.now) xs.entry.now xs_by.entry.now result xs.exit.now xs_by.exit.now }
+    { fork(rt, run_x, low, xs, xs_by) };
     let mut other = || -> Shift
-        requires { MayRun H.Fn run_y.now ys.now }
-        ensures { RanAll (Runs H.Fn run_y.entry.now) ys.entry.now result ys.exit.now }
-    { fork(rt, run_y, high, ys) };
+        requires { MayRun H.Fn run_y.now ys.now ys_by.now }
+        ensures { RanEach (Runs H.Fn run_y.entry.now) ys.entry.now ys_by.entry.now result ys.exit.now ys_by.exit.now }
+    { fork(rt, run_y, high, ys, ys_by) };
     join_mut(rt, &mut one, &mut other)
 }
 
-/// Runs the workers of three lists, numbered from `first`, `second` and `third` on.
+/// Runs the workers of three kinds, numbered from `first`, `second` and `third` on.
 pub(crate) fn fork_three<
     R: Threads + Sync,
     T: Send,
+    A: Send,
     U: Send,
+    B: Send,
     V: Send,
-    F: Fn(&mut T, u32) -> Shift + Sync,
-    H: Fn(&mut U, u32) -> Shift + Sync,
-    K: Fn(&mut V, u32) -> Shift + Sync,
+    C: Send,
+    F: Fn(&mut T, &mut A, u32) -> Shift + Sync,
+    H: Fn(&mut U, &mut B, u32) -> Shift + Sync,
+    K: Fn(&mut V, &mut C, u32) -> Shift + Sync,
 >(
     rt: &R,
     run_x: &F,
@@ -107,46 +142,51 @@ pub(crate) fn fork_three<
     second: u32,
     third: u32,
     xs: &mut [T],
+    xs_by: &mut [A],
     ys: &mut [U],
+    ys_by: &mut [B],
     zs: &mut [V],
+    zs_by: &mut [C],
 ) -> (Shift, (Shift, Shift))
-    requires xs_may { MayRun F.Fn run_x.now xs.old }
-    requires ys_may { MayRun H.Fn run_y.now ys.old }
-    requires zs_may { MayRun K.Fn run_z.now zs.old }
-    ensures xs_ran { RanAll (Runs F.Fn run_x.now) xs.old result.0 xs.new }
-    ensures ys_ran { RanAll (Runs H.Fn run_y.now) ys.old result.1.0 ys.new }
-    ensures zs_ran { RanAll (Runs K.Fn run_z.now) zs.old result.1.1 zs.new }
+    requires xs_may { MayRun F.Fn run_x.now xs.old xs_by.old }
+    requires ys_may { MayRun H.Fn run_y.now ys.old ys_by.old }
+    requires zs_may { MayRun K.Fn run_z.now zs.old zs_by.old }
+    ensures xs_ran { RanEach (Runs F.Fn run_x.now) xs.old xs_by.old result.0 xs.new xs_by.new }
+    ensures ys_ran { RanEach (Runs H.Fn run_y.now) ys.old ys_by.old result.1.0 ys.new ys_by.new }
+    ensures zs_ran { RanEach (Runs K.Fn run_z.now) zs.old zs_by.old result.1.1 zs.new zs_by.new }
 {
     let mut one = || -> Shift
-        requires { MayRun F.Fn run_x.now xs.now }
-        ensures { RanAll (Runs F.Fn run_x.entry.now) xs.entry.now result xs.exit.now }
-    { fork(rt, run_x, first, xs) };
+        requires { MayRun F.Fn run_x.now xs.now xs_by.now }
+        ensures { RanEach (Runs F.Fn run_x.entry.now) xs.entry.now xs_by.entry.now result xs.exit.now xs_by.exit.now }
+    { fork(rt, run_x, first, xs, xs_by) };
     let mut other = || -> (Shift, Shift)
-        requires { MayRun H.Fn run_y.now ys.now × MayRun K.Fn run_z.now zs.now }
-        ensures { RanAll (Runs H.Fn run_y.entry.now) ys.entry.now result.0 ys.exit.now
-            × RanAll (Runs K.Fn run_z.entry.now) zs.entry.now result.1 zs.exit.now }
-    { fork_two(rt, run_y, run_z, second, third, ys, zs) };
+        requires { MayRun H.Fn run_y.now ys.now ys_by.now × MayRun K.Fn run_z.now zs.now zs_by.now }
+        ensures { RanEach (Runs H.Fn run_y.entry.now) ys.entry.now ys_by.entry.now result.0 ys.exit.now ys_by.exit.now
+            × RanEach (Runs K.Fn run_z.entry.now) zs.entry.now zs_by.entry.now result.1 zs.exit.now zs_by.exit.now }
+    { fork_two(rt, run_y, run_z, second, third, ys, ys_by, zs, zs_by) };
     join_mut(rt, &mut one, &mut other)
 }
 
 /// Runs each worker on the caller's thread, one after another.
-pub(crate) fn in_turn<T, F: Fn(&mut T, u32) -> Shift>(
+pub(crate) fn in_turn<T, U, F: Fn(&mut T, &mut U, u32) -> Shift>(
     run: &F,
     first: u32,
-    workers: &mut [T],
+    on: &mut [T],
+    by: &mut [U],
 ) -> Shift
-    requires may_run { MayRun F.Fn run.now workers.old }
-    ensures ran { RanAll (Runs F.Fn run.now) workers.old result workers.new }
+    requires may_run { MayRun F.Fn run.now on.old by.old }
+    ensures ran { RanEach (Runs F.Fn run.now) on.old by.old result on.new by.new }
 {
-    if workers.is_empty() {
+    if on.is_empty() {
         return Shift::none();
     }
-    if workers.len() == 1 {
-        return run_one(run, &mut workers[0], first);
+    if on.len() == 1 {
+        return run_one(run, &mut on[0], &mut by[0], first);
     }
-    let (front, back) = workers.split_at_mut(1);
-    let a = in_turn(run, first, front);
-    let b = in_turn(run, number_after(first, 1), back);
+    let (front, back) = on.split_at_mut(1);
+    let (front_by, back_by) = by.split_at_mut(1);
+    let a = in_turn(run, first, front, front_by);
+    let b = in_turn(run, number_after(first, 1), back, back_by);
     a.plus(b)
 }
 

@@ -1,15 +1,17 @@
 //! Rounds of turns until nothing is left.
-ghost use Rattle.std.specs.Prelude.{◌≡◌, ◌+◌, ◌*◌, ◌<◌, ◌≤◌, ◌^◌, All, sum_by, length};
+ghost use Rattle.std.specs.Prelude.{◌≡◌, ◌+◌, ◌*◌, ◌<◌, ◌^◌, None, All, sum_by, length};
+ghost use Rattle.tp_workers.specs.Desks.{IsDeskOf};
+ghost use Rattle.tp_workers.specs.Drained.{DeskDrained, TookTurn};
+ghost use Rattle.tp_workers.specs.Free.{IsFreePass, numbers};
+ghost use Rattle.tp_workers.specs.Gains.{commits_in};
 ghost use Rattle.tp_workers.specs.declared.tally.Shift.{Shift};
-ghost use Rattle.tp_manager.specs.Shown.{ManagerShown};
-ghost use Rattle.tp_desk.specs.Steady.{IsReady};
-ghost use Rattle.tp_workers.specs.Desks.{DeskDrained, TookTurn};
-ghost use Rattle.tp_workers.specs.Ran.{RanAll};
-ghost use Rattle.tp_workers.specs.Sums.{commits_of};
+ghost use Rattle.tp_workers.specs.Ran.{RanEach};
 
+use crate::desks::take_turn;
 use crate::fork::in_turn;
 use crate::tally::Shift;
-use tp_desk::Desk;
+use tp_manager::{Manager, Pass};
+use tp_server::Server;
 
 /// What a drain did.
 #[derive(Clone, Copy, Debug, PartialEq, Eq)]
@@ -18,21 +20,29 @@ pub struct Drained {
     pub done: u32,
 }
 
-/// Has the desks take turns on the caller's thread, one turn of each desk in a round, until a whole round claims nothing.
-pub fn drain(desks: &mut [Desk]) -> Drained
-    requires ready { All (IsReady recipe registers pending) desks.old }
-    requires fit { length desks.old * 1024 < 2 ^ 32 }
-    ensures desks { (counts : Shift) × RanAll (DeskDrained recipe registers pending) desks.old counts desks.new
-        × (result.done ≡ counts.done) }
-    ensures ready { All (IsReady recipe registers pending) desks.new }
-    ensures kept { length desks.new ≡ length desks.old }
-    ensures managers { (m : ManagerShown) → All (λ d. d.manager.now ≡ m) desks.old
-        → All (λ d. d.manager.now ≡ m) desks.new }
-    ensures done { result.done + sum_by commits_of desks.old ≡ sum_by commits_of desks.new }
+/// Has a desk of each pass with the server at its place take turns on the caller's thread, one turn each in a round, until a
+/// whole round claims nothing. All passes come from this manager's keeper and have no unit open, and the servers have nothing
+/// prepared; so it is afterwards.
+pub fn drain(
+    manager: &Manager,
+    passes: &mut [Pass],
+    servers: &mut [Box<dyn Server + Send>],
+) -> Drained
+    requires paired { length passes.old ≡ length servers.old }
+    requires free { All (IsFreePass manager.now) passes.old }
+    requires clear { All (λ server. pending server ≡ None) servers.old }
+    requires fit { length passes.old * 1024 < 2 ^ 32 }
+    ensures desks { (counts : Shift) × (result.done ≡ counts.done)
+        × RanEach (DeskDrained recipe registers pending manager.now) passes.old servers.old counts passes.new servers.new }
+    ensures free { All (IsFreePass manager.now) passes.new }
+    ensures clear { All (λ server. pending server ≡ None) servers.new }
+    ensures numbered { numbers passes.new ≡ numbers passes.old }
+    ensures kept { (length passes.new ≡ length passes.old) × (length servers.new ≡ length servers.old) }
+    ensures done { result.done + sum_by commits_in passes.old ≡ sum_by commits_in passes.new }
 {
     let mut done = 0u32;
     'rounds: loop {
-        let counts = round(desks);
+        let counts = round(manager, passes, servers);
         done += counts.done;
         if !counts.has_claimed() {
             return Drained { done };
@@ -41,21 +51,18 @@ pub fn drain(desks: &mut [Desk]) -> Drained
 }
 
 /// One turn of each desk.
-fn round(desks: &mut [Desk]) -> Shift
-    requires ready { All (IsReady recipe registers pending) desks.old }
-    requires fit { length desks.old < 2 ^ 32 }
-    ensures ran { RanAll (TookTurn recipe registers pending) desks.old result desks.new }
+fn round(manager: &Manager, passes: &mut [Pass], servers: &mut [Box<dyn Server + Send>]) -> Shift
+    requires paired { length passes.old ≡ length servers.old }
+    requires free { All (IsFreePass manager.now) passes.old }
+    requires clear { All (λ server. pending server ≡ None) servers.old }
+    requires fit { length passes.old < 2 ^ 32 }
+    ensures ran { RanEach (TookTurn recipe registers pending manager.now)
+        passes.old servers.old result passes.new servers.new }
 {
-    let run = |it: &mut Desk, _worker: u32| -> Shift
-        requires { IsReady recipe registers pending it.now }
-        ensures { TookTurn recipe registers pending it.entry.now result it.exit.now }
-    { take_turn(it) };
-    in_turn(&run, 0, desks)
-}
-
-fn take_turn(desk: &mut Desk) -> Shift
-    requires ready { IsReady recipe registers pending desk.old }
-    ensures took { TookTurn recipe registers pending desk.old result desk.new }
-{
-    Shift::of_turn(desk.turn())
+    let run = |pass: &mut Pass, server: &mut Box<dyn Server + Send>, _worker: u32| -> Shift
+        requires { IsDeskOf recipe registers pending manager.now (pass.now, server.now) }
+        ensures { TookTurn recipe registers pending manager.entry.now
+            (pass.entry.now, server.entry.now) result (pass.exit.now, server.exit.now) }
+    { take_turn(manager, pass, server) };
+    in_turn(&run, 0, passes, servers)
 }

@@ -1,6 +1,7 @@
 //! What workers count.
 ghost use Rattle.std.specs.Prelude.{◌≡◌, ◌+◌, ◌<◌, ◌^◌, true, false};
 ghost use Rattle.std.specs.Bool.{OnTrue, OnFalse};
+ghost use Rattle.tp_workers.specs.Sums.{client_part, desk_part, killer_part};
 ghost use Rattle.tp_workers.specs.Tally.{claimed, kill_count, none, plus, submit_count, total, turn_count};
 
 use tp_desk::Turned;
@@ -74,6 +75,28 @@ impl Shift {
             late: self.late + other.late,
             already: self.already + other.already,
             missing: self.missing + other.missing,
+        }
+    }
+
+    /// What desks, clients and killers did together, where each counts its own.
+    pub(crate) fn of_kinds(desks: Shift, clients: Shift, killers: Shift) -> Shift
+        ensures desks { desk_part result ≡ desk_part desks }
+        ensures clients { client_part result ≡ client_part clients }
+        ensures killers { killer_part result ≡ killer_part killers }
+    {
+        Shift {
+            done: desks.done,
+            refused: desks.refused,
+            lost: desks.lost,
+            full: desks.full,
+            idle: desks.idle,
+            nounit: desks.nounit,
+            submitted: clients.submitted,
+            submit_full: clients.submit_full,
+            killed: killers.killed,
+            late: killers.late,
+            already: killers.already,
+            missing: killers.missing,
         }
     }
 

@@ -1,10 +1,8 @@
-//! Workers side by side. Jobs and desks are held in a `Vec`, since the borrow checker doesn't cover arrays of them.
-ghost use Rattle.std.specs.Prelude.{◌≡◌, ◌≤◌, None, IfOk, All, length, sum_by, ◌+◌};
+//! Workers side by side.
+ghost use Rattle.std.specs.Prelude.{◌≡◌, None, IfOk, All};
 ghost use Rattle.tp_manager.specs.Shown.{IsKeptBy, IsOf};
-ghost use Rattle.tp_desk.specs.Steady.{IsReady};
-ghost use Rattle.tp_workers.specs.Clients.{IsClientOf};
-ghost use Rattle.tp_workers.specs.Killers.{IsKillerOf};
-ghost use Rattle.tp_workers.specs.Sums.{calls_of, size_of_range};
+ghost use Rattle.tp_workers.specs.Clients.{IsClientJob};
+ghost use Rattle.tp_workers.specs.Free.{IsFreePass};
 
 mod counts;
 mod full;
@@ -13,13 +11,12 @@ mod race;
 mod together;
 mod tree;
 
-use crate::{ClientJob, KillJob};
+use crate::ClientJob;
 use arrayvec::ArrayVec;
 use std::alloc::Global;
 use std::sync::atomic::{AtomicU64, Ordering};
 use std::test::Fail;
 use std::thread;
-use tp_desk::Desk;
 use tp_manager::{Keeper, Manager, Pass};
 use tp_model::types::{Limits, Look, Status};
 use tp_server::{
@@ -43,111 +40,26 @@ fn pass(keeper: &mut Keeper, manager: &Manager) -> Result<Pass, Fail>
     Ok(keeper.pass(manager).ok().ok_or("no pass")?)
 }
 
+/// The next two passes.
+fn two(keeper: &mut Keeper, manager: &Manager) -> Result<[Pass; 2], Fail>
+    requires { IsKeptBy manager.now keeper.old }
+    ensures kept { IsKeptBy manager.now keeper.new }
+    ensures free { IfOk result (λ made. All (IsFreePass manager.now) made) }
+{
+    Ok([pass(keeper, manager)?, pass(keeper, manager)?])
+}
+
 /// A client of stage 1 and key 0.
-fn client<'p>(manager: &Manager, pass: &'p mut Pass, amount: u64, count: u32) -> ClientJob<'p>
-    requires { IsOf manager.now pass.old × (pass.old.open_unit ≡ None) }
-    ensures ready { IsClientOf manager.now result }
+fn client(amount: u64, count: u32) -> ClientJob
+    ensures job { IsClientJob result }
     ensures count { result.count ≡ count }
 {
     ClientJob {
-        pass,
         stage: 1,
         key: 0,
         amount,
         count,
     }
-}
-
-fn killer<'p>(manager: &Manager, pass: &'p mut Pass, first: u32, end: u32) -> KillJob<'p>
-    requires { IsOf manager.now pass.old × (pass.old.open_unit ≡ None) × (first ≤ end) }
-    ensures ready { IsKillerOf manager.now result }
-    ensures first { result.first ≡ first }
-    ensures end { result.end ≡ end }
-{
-    KillJob { pass, first, end }
-}
-
-/// A list of two clients with the same number of calls, of these amounts.
-fn clients<'p>(
-    alloc: Global,
-    manager: &Manager,
-    first: &'p mut Pass,
-    second: &'p mut Pass,
-    amounts: (u64, u64),
-    count: u32,
-) -> Result<Vec<ClientJob<'p>>, Fail>
-    requires own { IsOf manager.now first.old × IsOf manager.now second.old }
-    requires free { (first.old.open_unit ≡ None) × (second.old.open_unit ≡ None) }
-    ensures ready { IfOk result (λ made. All (IsClientOf manager.now) made.items) }
-    ensures calls { IfOk result (λ made. sum_by calls_of made.items ≡ count + count) }
-{
-    let mut made = Vec::new(alloc);
-    made.push(client(manager, first, amounts.0, count))?;
-    made.push(client(manager, second, amounts.1, count))?;
-    Ok(made)
-}
-
-/// A list of two killers, the second of which begins where the first ends.
-fn killers<'p>(
-    alloc: Global,
-    manager: &Manager,
-    first: &'p mut Pass,
-    second: &'p mut Pass,
-    middle: u32,
-    end: u32,
-) -> Result<Vec<KillJob<'p>>, Fail>
-    requires own { IsOf manager.now first.old × IsOf manager.now second.old }
-    requires free { (first.old.open_unit ≡ None) × (second.old.open_unit ≡ None) }
-    requires range { middle ≤ end }
-    ensures ready { IfOk result (λ made. All (IsKillerOf manager.now) made.items) }
-    ensures ids { IfOk result (λ made. sum_by size_of_range made.items ≡ end) }
-{
-    let mut made = Vec::new(alloc);
-    made.push(killer(manager, first, 0, middle))?;
-    made.push(killer(manager, second, middle, end))?;
-    Ok(made)
-}
-
-/// A list of two desks of this manager.
-fn both<'m, 'p, 's>(
-    alloc: Global,
-    manager: &Manager,
-    one: Desk<'m, 'p, 's>,
-    other: Desk<'m, 'p, 's>,
-) -> Result<Vec<Desk<'m, 'p, 's>>, Fail>
-    requires managers { (one.manager.now ≡ manager.now) × (other.manager.now ≡ manager.now) }
-    requires ready { IsReady recipe registers pending one × IsReady recipe registers pending other }
-    ensures managers { IfOk result (λ made. All (λ d. d.manager.now ≡ manager.now) made.items) }
-    ensures ready { IfOk result (λ made. All (IsReady recipe registers pending) made.items) }
-    ensures count { IfOk result (λ made. length made.items ≡ 2) }
-{
-    let mut desks = Vec::new(alloc);
-    desks.push(one)?;
-    desks.push(other)?;
-    Ok(desks)
-}
-
-/// A list of three desks of this manager.
-fn three<'m, 'p, 's>(
-    alloc: Global,
-    manager: &Manager,
-    one: Desk<'m, 'p, 's>,
-    other: Desk<'m, 'p, 's>,
-    third: Desk<'m, 'p, 's>,
-) -> Result<Vec<Desk<'m, 'p, 's>>, Fail>
-    requires managers { (one.manager.now ≡ manager.now) × (other.manager.now ≡ manager.now)
-        × (third.manager.now ≡ manager.now) }
-    requires ready { IsReady recipe registers pending one × IsReady recipe registers pending other
-        × IsReady recipe registers pending third }
-    ensures managers { IfOk result (λ made. All (λ d. d.manager.now ≡ manager.now) made.items) }
-    ensures ready { IfOk result (λ made. All (IsReady recipe registers pending) made.items) }
-    ensures count { IfOk result (λ made. length made.items ≡ 3) }
-{
-    let mut desks = Vec::new(alloc);
-    desks.push(one)?;
-    desks.push(other)?;
-    desks.push(third)?;
-    Ok(desks)
 }
 
 /// An output with the element's own key and amount.
@@ -191,6 +103,26 @@ fn lazy(alloc: Global, recipe: Recipe) -> Result<Box<LazyServer>, Fail>
     let registers = Registers::new(1).ok_or("registers")?;
     let server = LazyServer::new(registers, recipe)?;
     Ok(Box::new(alloc, server)?)
+}
+
+/// Two servers with nothing prepared, side by side.
+fn pair(one: Box<dyn Server + Send>, other: Box<dyn Server + Send>) -> [Box<dyn Server + Send>; 2]
+    requires { (pending one ≡ None) × (pending other ≡ None) }
+    ensures { All (λ server. pending server ≡ None) result }
+{
+    [one, other]
+}
+
+/// Three servers with nothing prepared, side by side.
+fn three(
+    one: Box<dyn Server + Send>,
+    other: Box<dyn Server + Send>,
+    third: Box<dyn Server + Send>,
+) -> [Box<dyn Server + Send>; 3]
+    requires { (pending one ≡ None) × (pending other ≡ None) × (pending third ≡ None) }
+    ensures { All (λ server. pending server ≡ None) result }
+{
+    [one, other, third]
 }
 
 /// How the elements of a stage stand.

@@ -1,78 +1,103 @@
 //! A shift of desks, clients and killers.
-ghost use Rattle.std.specs.Prelude.{◌≡◌, ◌+◌, ◌-◌, ◌*◌, ◌<◌, ◌≤◌, ◌^◌, All, sum_by, length};
-ghost use Rattle.tp_workers.specs.Clients.{ClientRan, IsClientOf};
-ghost use Rattle.tp_desk.specs.Steady.{IsReady};
-ghost use Rattle.tp_workers.specs.Desks.{DeskRan};
-ghost use Rattle.tp_workers.specs.Killers.{IsKillerOf, KillerRan};
-ghost use Rattle.tp_workers.specs.Ran.{RanAll};
-ghost use Rattle.tp_workers.specs.Sums.{calls_of, client_part, commits_of, desk_part, enqueues_of, killer_part, kills_of, size_of_range};
+ghost use Rattle.std.specs.Prelude.{◌≡◌, ◌+◌, ◌-◌, ◌*◌, ◌<◌, ◌≤◌, ◌^◌, None, All, sum_by, length, zip};
+ghost use Rattle.tp_workers.specs.Clients.{ClientRan, IsClientJob, IsClientOf};
+ghost use Rattle.tp_workers.specs.Desks.{DeskRan, IsDeskOf};
+ghost use Rattle.tp_workers.specs.Free.{IsFreePass, numbers};
+ghost use Rattle.tp_workers.specs.Gains.{commits_in, enqueues_in, kills_in};
+ghost use Rattle.tp_workers.specs.Killers.{IsKillJob, IsKillerOf, KillerRan};
+ghost use Rattle.tp_workers.specs.Ran.{RanEach};
+ghost use Rattle.tp_workers.specs.Sums.{calls_of, client_part, desk_part, killer_part, size_of_range};
 ghost use Rattle.tp_workers.specs.Tally.{total};
 
 use crate::client::{ClientJob, run_client};
-use crate::desks::take_turns;
+use crate::desks::run_desk;
 use crate::fork::{fork_three, number_after};
 use crate::gate::Gate;
 use crate::killer::{KillJob, run_killer};
 use crate::tally::Shift;
 use std::thread::Threads;
-use tp_desk::Desk;
-use tp_manager::Manager;
+use tp_manager::{Manager, Pass};
+use tp_server::Server;
 
-/// Runs each desk, each client and each killer on a thread of its own, until all are through. A desk takes so many turns,
-/// or fewer where its pass has no unit left.
+/// Runs a desk of each of the first passes with the server at its place, a client of each of the second with the job at its
+/// place, and a killer of each of the third with the job at its place, each on a thread of its own, until all are through. A
+/// desk takes so many turns, or fewer where its pass has no unit left.
+///
+/// All passes come from this manager's keeper and have no unit open, and the servers have nothing prepared; so it is
+/// afterwards. The jobs stay as they are.
 pub fn shift<R: Threads + Sync, G: Gate>(
     rt: &R,
     manager: &Manager,
-    desks: &mut [Desk],
+    desk_passes: &mut [Pass],
+    servers: &mut [Box<dyn Server + Send>],
+    client_passes: &mut [Pass],
     clients: &mut [ClientJob],
+    killer_passes: &mut [Pass],
     killers: &mut [KillJob],
     turns: u32,
     gate: &G,
 ) -> Shift
-    requires desks_of { All (λ d. d.manager.now ≡ manager.now) desks.old }
-    requires desks_ready { All (IsReady recipe registers pending) desks.old }
-    requires clients_ready { All (IsClientOf manager.now) clients.old }
-    requires killers_ready { All (IsKillerOf manager.now) killers.old }
-    requires turns_fit { turns * length desks.old < 2 ^ 32 }
+    requires servers_paired { length desk_passes.old ≡ length servers.old }
+    requires clients_paired { length client_passes.old ≡ length clients.old }
+    requires killers_paired { length killer_passes.old ≡ length killers.old }
+    requires desks_free { All (IsFreePass manager.now) desk_passes.old }
+    requires servers_clear { All (λ server. pending server ≡ None) servers.old }
+    requires clients_free { All (IsFreePass manager.now) client_passes.old }
+    requires client_jobs { All IsClientJob clients.old }
+    requires killers_free { All (IsFreePass manager.now) killer_passes.old }
+    requires kill_jobs { All IsKillJob killers.old }
+    requires turns_fit { turns * length desk_passes.old < 2 ^ 32 }
     requires counts_fit { sum_by calls_of clients.old < 2 ^ 32 }
     requires ranges_fit { sum_by size_of_range killers.old < 2 ^ 32 }
 
     // Each worker did what its own counts say, and the answer adds them up.
-    ensures desks { RanAll (DeskRan recipe registers pending turns) desks.old (desk_part result) desks.new }
-    ensures clients { RanAll (ClientRan manager.now) clients.old (client_part result) clients.new }
-    ensures killers { RanAll (KillerRan manager.now) killers.old (killer_part result) killers.new }
+    ensures desks { RanEach (DeskRan recipe registers pending manager.now turns)
+        desk_passes.old servers.old (desk_part result) desk_passes.new servers.new }
+    ensures clients { RanEach (ClientRan manager.now)
+        client_passes.old clients.old (client_part result) client_passes.new clients.new }
+    ensures killers { RanEach (KillerRan manager.now)
+        killer_passes.old killers.old (killer_part result) killer_passes.new killers.new }
 
-    // All of them can be at work again.
-    ensures desks_of { All (λ d. d.manager.now ≡ manager.now) desks.new }
-    ensures desks_ready { All (IsReady recipe registers pending) desks.new }
-    ensures desks_kept { length desks.new ≡ length desks.old }
-    ensures clients_ready { All (IsClientOf manager.now) clients.new }
-    ensures killers_ready { All (IsKillerOf manager.now) killers.new }
+    // All of them can be put to work again.
+    ensures desks_free { All (IsFreePass manager.now) desk_passes.new }
+    ensures servers_clear { All (λ server. pending server ≡ None) servers.new }
+    ensures clients_free { All (IsFreePass manager.now) client_passes.new }
+    ensures killers_free { All (IsFreePass manager.now) killer_passes.new }
+    ensures desks_numbered { numbers desk_passes.new ≡ numbers desk_passes.old }
+    ensures clients_numbered { numbers client_passes.new ≡ numbers client_passes.old }
+    ensures killers_numbered { numbers killer_passes.new ≡ numbers killer_passes.old }
+    ensures clients_same { clients.new ≡ clients.old }
+    ensures killers_same { killers.new ≡ killers.old }
+    ensures desks_kept { (length desk_passes.new ≡ length desk_passes.old) × (length servers.new ≡ length servers.old) }
+    ensures clients_kept { length client_passes.new ≡ length client_passes.old }
+    ensures killers_kept { length killer_passes.new ≡ length killer_passes.old }
 
     // The counts are sums of what the passes gained, and of what was asked.
-    ensures done { result.done + sum_by commits_of desks.old ≡ sum_by commits_of desks.new }
-    ensures submitted { result.submitted + sum_by enqueues_of clients.old ≡ sum_by enqueues_of clients.new }
-    ensures killed { result.killed + sum_by kills_of killers.old ≡ sum_by kills_of killers.new }
+    ensures done { result.done + sum_by commits_in desk_passes.old ≡ sum_by commits_in desk_passes.new }
+    ensures submitted { result.submitted + sum_by enqueues_in client_passes.old ≡ sum_by enqueues_in client_passes.new }
+    ensures killed { result.killed + sum_by kills_in killer_passes.old ≡ sum_by kills_in killer_passes.new }
     ensures all_turns { result.nounit ≡ 0
-        → result.done + result.refused + result.lost + result.full + result.idle ≡ turns * length desks.old }
+        → result.done + result.refused + result.lost + result.full + result.idle ≡ turns * length desk_passes.old }
     ensures all_calls { result.submitted + result.submit_full ≡ sum_by calls_of clients.old }
     ensures all_ids { result.killed + result.late + result.already + result.missing ≡ sum_by size_of_range killers.old }
 {
-    let desk = |it: &mut Desk, worker: u32| -> Shift
-        requires { IsReady recipe registers pending it.now }
-        ensures { DeskRan recipe registers pending turns it.entry.now result it.exit.now × (total result ≤ turns) }
-    { take_turns(it, turns, worker, gate) };
-    let client = |it: &mut ClientJob, worker: u32| -> Shift
-        requires { IsClientOf manager.now it.now }
-        ensures { ClientRan manager.entry.now it.entry.now result it.exit.now × (total result ≤ it.entry.now.count) }
-    { run_client(manager, it, worker, gate) };
-    let killer = |it: &mut KillJob, worker: u32| -> Shift
-        requires { IsKillerOf manager.now it.now }
-        ensures { KillerRan manager.entry.now it.entry.now result it.exit.now
-            × (total result ≤ it.entry.now.end - it.entry.now.first) }
-    { run_killer(manager, it, worker, gate) };
-    let first_client = number_after(0, desks.len());
-    let first_killer = number_after(first_client, clients.len());
+    let desk = |pass: &mut Pass, server: &mut Box<dyn Server + Send>, worker: u32| -> Shift
+        requires { IsDeskOf recipe registers pending manager.now (pass.now, server.now) }
+        ensures { DeskRan recipe registers pending manager.entry.now turns
+            (pass.entry.now, server.entry.now) result (pass.exit.now, server.exit.now) × (total result ≤ turns) }
+    { run_desk(manager, pass, server, turns, worker, gate) };
+    let client = |pass: &mut Pass, job: &mut ClientJob, worker: u32| -> Shift
+        requires { IsClientOf manager.now (pass.now, job.now) }
+        ensures { ClientRan manager.entry.now (pass.entry.now, job.entry.now) result (pass.exit.now, job.exit.now)
+            × (total result ≤ job.entry.now.count) }
+    { run_client(manager, pass, job, worker, gate) };
+    let killer = |pass: &mut Pass, job: &mut KillJob, worker: u32| -> Shift
+        requires { IsKillerOf manager.now (pass.now, job.now) }
+        ensures { KillerRan manager.entry.now (pass.entry.now, job.entry.now) result (pass.exit.now, job.exit.now)
+            × (total result ≤ job.entry.now.end - job.entry.now.first) }
+    { run_killer(manager, pass, job, worker, gate) };
+    let first_client = number_after(0, desk_passes.len());
+    let first_killer = number_after(first_client, client_passes.len());
     let (d, (c, k)) = fork_three(
         rt,
         &desk,
@@ -81,22 +106,12 @@ pub fn shift<R: Threads + Sync, G: Gate>(
         0,
         first_client,
         first_killer,
-        desks,
+        desk_passes,
+        servers,
+        client_passes,
         clients,
+        killer_passes,
         killers,
     );
-    Shift {
-        done: d.done,
-        refused: d.refused,
-        lost: d.lost,
-        full: d.full,
-        idle: d.idle,
-        nounit: d.nounit,
-        submitted: c.submitted,
-        submit_full: c.submit_full,
-        killed: k.killed,
-        late: k.late,
-        already: k.already,
-        missing: k.missing,
-    }
+    Shift::of_kinds(d, c, k)
 }

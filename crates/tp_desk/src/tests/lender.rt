@@ -1,10 +1,11 @@
 //! What a lender can prove of its pass and its server from the contracts of a desk alone.
 ghost use Rattle.std.specs.Prelude.{◌≡◌, None};
 ghost use Rattle.tp_manager.specs.Shown.{IsOf};
+ghost use Rattle.tp_desk.specs.Aside.{SteadyAside};
 ghost use Rattle.tp_desk.specs.Serving.{Leaves};
 
 use crate::tests::{eager, lazy, two};
-use crate::{Desk, Turned};
+use crate::{Aside, Desk, Turned};
 use std::test::Fail;
 use tp_manager::{Manager, Pass};
 use tp_server::{Act, Server};
@@ -23,6 +24,48 @@ fn serve(manager: &Manager, pass: &mut Pass, server: &mut Box<dyn Server + Send>
     let turned = desk.turn();
     desk.end();
     turned
+}
+
+/// The same by three desks, one after another: what each has in hand lies aside until the next.
+fn serve_by_parts(manager: &Manager, pass: &mut Pass, server: &mut Box<dyn Server + Send>)
+    requires own { IsOf manager.now pass.old }
+    requires free { pass.old.open_unit ≡ None }
+    requires unprepared { pending server.old ≡ None }
+    ensures own { IsOf manager.now pass.new }
+    ensures free { pass.new.open_unit ≡ None }
+    ensures clear { pending server.new ≡ None }
+    ensures leaves { Leaves (recipe server.new) (registers server.old) (registers server.new) pass.old pass.new }
+{
+    let aside = claim_aside(manager, pass, server);
+    if !aside.has_open() {
+        Desk::resume(manager, pass, server, aside).end();
+        return;
+    }
+    let mut desk = Desk::resume(manager, pass, server, aside);
+    let prepared = desk.prepare();
+    let aside = desk.lay_aside();
+    let mut desk = Desk::resume(manager, pass, server, aside);
+    if prepared.is_ok() {
+        let _ = desk.commit();
+    }
+    desk.end();
+}
+
+/// Claims, and lays aside what it took in hand.
+fn claim_aside(manager: &Manager, pass: &mut Pass, server: &mut Box<dyn Server + Send>) -> Aside
+    requires own { IsOf manager.now pass.old }
+    requires free { pass.old.open_unit ≡ None }
+    requires unprepared { pending server.old ≡ None }
+    ensures own { IsOf manager.now pass.new }
+    ensures unprepared { pending server.new ≡ None }
+    ensures steady { SteadyAside recipe registers pending result pass.new server.new }
+    ensures first_pass { result.first_pass.value ≡ pass.old }
+    ensures first_server { result.first_server.value ≡ server.old }
+    ensures recipe { recipe server.new ≡ recipe server.old }
+{
+    let mut desk = Desk::new(manager, pass, server);
+    let _ = desk.claim();
+    desk.lay_aside()
 }
 
 /// The same, where the desk is dropped with an element in hand.
@@ -59,5 +102,8 @@ fn lent_twice(rt: HostRuntime) -> Result<(), Fail> {
     assert!(rt; later.balance(0) == Some(5));
     assert!(rt; serve(&manager, &mut worker, &mut adding) == Turned::Idle);
     assert!(rt; adding.balance(0) == Some(0));
+    assert!(rt; manager.submit(&mut client, 1, 0, 7) == Ok(1));
+    serve_by_parts(&manager, &mut worker, &mut adding);
+    assert!(rt; adding.balance(0) == Some(7));
     Ok(())
 }

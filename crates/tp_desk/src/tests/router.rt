@@ -1,5 +1,5 @@
 //! A server of the user's own at a desk: a router, which keeps nothing and passes what comes in on to another stage.
-ghost use Rattle.std.specs.Prelude.{◌≡◌, ℕ, List, Option, Bool, [], ◌∷◌, Ok, Some, None, if◌then◌else◌, IfOk};
+ghost use Rattle.std.specs.Prelude.{◌≡◌, [], ◌∷◌, Ok, None};
 ghost use Rattle.tp_server.specs.Check.{check_of};
 ghost use Rattle.tp_server.specs.declared.recipe.Act.TheVariants.{Pass};
 ghost use Rattle.tp_server.specs.declared.recipe.KeyFrom.TheVariants.{Same};
@@ -16,8 +16,8 @@ use tp_server::{Act, AmountFrom, Declined, KeyFrom, Output, Recipe, Server};
 #[derive(Debug, Drop)]
 struct Router {
     recipe: Recipe,
-    /// Whether an element is prepared.
-    busy: bool,
+    /// The element whose work is prepared.
+    prepared: Option<Element>,
     ghost checked: { check_of recipe ≡ Ok tt },
     ghost one: { recipe.registers ≡ 1 },
     ghost passes: { recipe.act ≡ Pass },
@@ -42,17 +42,19 @@ impl Router {
         };
         Router {
             recipe,
-            busy: false,
+            prepared: None,
         }
     }
 }
 
 impl Server for Router {
+    ghost use Rattle.std.specs.Option.{option_map};
+
     ghost recipe = { λ r. r.recipe };
 
     ghost registers = { λ r. 0 ∷ [] };
 
-    ghost pending = { λ r. if r.busy then Some (0 ∷ []) else None };
+    ghost pending = { λ r. option_map (λ e. record { prepared_for = e; registers = 0 ∷ [] }) r.prepared };
 
     fn stage(&self) -> u8 {
         self.recipe.stage
@@ -67,7 +69,7 @@ impl Server for Router {
     }
 
     fn is_prepared(&self) -> bool {
-        self.busy
+        self.prepared.is_some()
     }
 
     fn prepare(&mut self, element: &Element) -> Result<ArrayVec<Draft, 4>, Declined> {
@@ -79,16 +81,16 @@ impl Server for Router {
             Some(draft) => drafts.push(draft),
             None => unreachable!(),
         }
-        self.busy = true;
+        self.prepared = Some(*element);
         Ok(drafts)
     }
 
     fn commit(&mut self) {
-        self.busy = false;
+        self.prepared = None;
     }
 
     fn undo(&mut self) {
-        self.busy = false;
+        self.prepared = None;
     }
 }
 

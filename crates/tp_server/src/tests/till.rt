@@ -14,8 +14,8 @@ pub struct Till {
     recipe: Recipe,
     /// What is in it by committed work.
     sum: u64,
-    /// What will be in it once the prepared work is committed.
-    next: Option<u64>,
+    /// The element whose work is prepared, and what will be in it once that is committed.
+    next: Option<(Element, u64)>,
     ghost checked: { check_of recipe ≡ Ok tt },
     ghost one: { recipe.registers ≡ 1 },
     ghost adds: { recipe.act ≡ Add },
@@ -57,7 +57,7 @@ impl Server for Till {
 
     ghost registers = { λ t. t.sum ∷ [] };
 
-    ghost pending = { λ t. option_map (λ sum. sum ∷ []) t.next };
+    ghost pending = { λ t. option_map (λ next. record { prepared_for = next.0; registers = next.1 ∷ [] }) t.next };
 
     fn stage(&self) -> u8 {
         self.recipe.stage
@@ -88,12 +88,12 @@ impl Server for Till {
             Some(reply) => drafts.push(reply),
             None => unreachable!(),
         }
-        self.next = Some(sum);
+        self.next = Some((*element, sum));
         Ok(drafts)
     }
 
     fn commit(&mut self) {
-        if let Some(sum) = self.next {
+        if let Some((_, sum)) = self.next {
             self.sum = sum;
         }
         self.next = None;

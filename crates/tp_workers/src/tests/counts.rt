@@ -1,7 +1,7 @@
 //! What a client and killers count, one after another. All counts that aren't named are 0.
 
-use crate::tests::{client, killer, manager, pass};
-use crate::{NoGate, Shift, shift};
+use crate::tests::{client, manager, pass};
+use crate::{KillJob, NoGate, Shift, shift};
 use std::test::Fail;
 use tp_model::types::{Limits, Refusal, Status};
 
@@ -14,19 +14,18 @@ fn client_and_killer_counts(rt: HostRuntime) -> Result<(), Fail> {
         attempts: 3,
     };
     let (manager, mut keeper) = manager(rt.alloc(), limits)?;
-    let mut first = pass(&mut keeper, &manager)?;
-    let mut second = pass(&mut keeper, &manager)?;
-    let mut third = pass(&mut keeper, &manager)?;
+    let mut clients = [pass(&mut keeper, &manager)?];
+    let mut killers = [pass(&mut keeper, &manager)?];
     let mut reader = pass(&mut keeper, &manager)?;
-    let mut desks = Vec::new(rt.alloc());
-    let (mut clients, mut none) = (Vec::new(rt.alloc()), Vec::new(rt.alloc()));
-    clients.push(client(&manager, &mut first, 1, 3))?;
     let counts = shift(
         &rt,
         &manager,
-        desks.as_mut_slice(),
-        clients.as_mut_slice(),
-        none.as_mut_slice(),
+        &mut [],
+        &mut [],
+        &mut clients,
+        &mut [client(1, 3)],
+        &mut [],
+        &mut [],
         0,
         &NoGate,
     );
@@ -40,14 +39,16 @@ fn client_and_killer_counts(rt: HostRuntime) -> Result<(), Fail> {
     };
     assert!(rt; look.status == Status::Waiting { attempts: 0 });
     assert!(rt; manager.read(&mut reader, 3) == Err(Refusal::NotThere));
-    let (mut killers, mut none) = (Vec::new(rt.alloc()), Vec::new(rt.alloc()));
-    killers.push(killer(&manager, &mut second, 0, 4))?;
+    let mut jobs = [KillJob { first: 0, end: 4 }];
     let counts = shift(
         &rt,
         &manager,
-        desks.as_mut_slice(),
-        none.as_mut_slice(),
-        killers.as_mut_slice(),
+        &mut [],
+        &mut [],
+        &mut [],
+        &mut [],
+        &mut killers,
+        &mut jobs,
         0,
         &NoGate,
     );
@@ -57,14 +58,17 @@ fn client_and_killer_counts(rt: HostRuntime) -> Result<(), Fail> {
         ..Shift::default()
     };
     assert_eq!(rt; counts, wanted);
-    let (mut again, mut none) = (Vec::new(rt.alloc()), Vec::new(rt.alloc()));
-    again.push(killer(&manager, &mut third, 0, 4))?;
+
+    // The same job once more, by the same pass.
     let counts = shift(
         &rt,
         &manager,
-        desks.as_mut_slice(),
-        none.as_mut_slice(),
-        again.as_mut_slice(),
+        &mut [],
+        &mut [],
+        &mut [],
+        &mut [],
+        &mut killers,
+        &mut jobs,
         0,
         &NoGate,
     );

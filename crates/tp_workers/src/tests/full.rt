@@ -1,9 +1,12 @@
 //! Passes that have used up their one row and their one unit. All counts that aren't named are 0.
+ghost use Rattle.std.specs.Prelude.{◌≡◌, None};
+ghost use Rattle.tp_workers.specs.Free.{IsFreePass};
 
 use crate::tests::{client, eager, lazy, manager, output, pass, recipe};
 use crate::{NoGate, Shift, shift};
 use std::test::Fail;
-use tp_desk::Desk;
+use std::thread::Threads;
+use tp_manager::{Manager, Pass};
 use tp_model::types::Limits;
 use tp_server::{Act, Server};
 
@@ -14,20 +17,43 @@ const LIMITS: Limits = Limits {
     attempts: 1,
 };
 
+/// Two turns of one desk.
+fn two_turns<R: Threads + Sync>(
+    rt: &R,
+    manager: &Manager,
+    pass: Pass,
+    server: Box<dyn Server + Send>,
+) -> Shift
+    requires free { IsFreePass manager.now pass }
+    requires clear { pending server ≡ None }
+{
+    shift(
+        rt,
+        manager,
+        &mut [pass],
+        &mut [server],
+        &mut [],
+        &mut [],
+        &mut [],
+        &mut [],
+        2,
+        &NoGate,
+    )
+}
+
 #[test]
 fn full_then_no_unit(rt: HostRuntime) -> Result<(), Fail> {
     let (manager, mut keeper) = manager(rt.alloc(), LIMITS)?;
-    let mut first = pass(&mut keeper, &manager)?;
-    let mut second = pass(&mut keeper, &manager)?;
-    let mut desks = Vec::new(rt.alloc());
-    let (mut clients, mut killers) = (Vec::new(rt.alloc()), Vec::new(rt.alloc()));
-    clients.push(client(&manager, &mut first, 1, 3))?;
+    let mut clients = [pass(&mut keeper, &manager)?];
     let counts = shift(
         &rt,
         &manager,
-        desks.as_mut_slice(),
-        clients.as_mut_slice(),
-        killers.as_mut_slice(),
+        &mut [],
+        &mut [],
+        &mut clients,
+        &mut [client(1, 3)],
+        &mut [],
+        &mut [],
         0,
         &NoGate,
     );
@@ -38,18 +64,8 @@ fn full_then_no_unit(rt: HostRuntime) -> Result<(), Fail> {
     };
     assert_eq!(rt; counts, wanted);
     let twice = recipe(1, Act::Add, &[output(15), output(15)]);
-    let mut server: Box<dyn Server + Send> = eager(rt.alloc(), twice)?;
-    let (mut desks, mut clients) = (Vec::new(rt.alloc()), Vec::new(rt.alloc()));
-    desks.push(Desk::new(&manager, &mut second, &mut server))?;
-    let counts = shift(
-        &rt,
-        &manager,
-        desks.as_mut_slice(),
-        clients.as_mut_slice(),
-        killers.as_mut_slice(),
-        2,
-        &NoGate,
-    );
+    let server: Box<dyn Server + Send> = eager(rt.alloc(), twice)?;
+    let counts = two_turns(&rt, &manager, pass(&mut keeper, &manager)?, server);
     let wanted = Shift {
         full: 1,
         nounit: 1,
@@ -62,22 +78,10 @@ fn full_then_no_unit(rt: HostRuntime) -> Result<(), Fail> {
 #[test]
 fn refused_then_no_unit(rt: HostRuntime) -> Result<(), Fail> {
     let (manager, mut keeper) = manager(rt.alloc(), LIMITS)?;
-    let mut first = pass(&mut keeper, &manager)?;
-    let mut second = pass(&mut keeper, &manager)?;
-    assert!(rt; manager.submit(&mut first, 1, 0, 1) == Ok(0));
-    let mut server: Box<dyn Server + Send> = lazy(rt.alloc(), recipe(1, Act::Take, &[]))?;
-    let mut desks = Vec::new(rt.alloc());
-    desks.push(Desk::new(&manager, &mut second, &mut server))?;
-    let (mut clients, mut killers) = (Vec::new(rt.alloc()), Vec::new(rt.alloc()));
-    let counts = shift(
-        &rt,
-        &manager,
-        desks.as_mut_slice(),
-        clients.as_mut_slice(),
-        killers.as_mut_slice(),
-        2,
-        &NoGate,
-    );
+    let mut client = pass(&mut keeper, &manager)?;
+    assert!(rt; manager.submit(&mut client, 1, 0, 1) == Ok(0));
+    let server: Box<dyn Server + Send> = lazy(rt.alloc(), recipe(1, Act::Take, &[]))?;
+    let counts = two_turns(&rt, &manager, pass(&mut keeper, &manager)?, server);
     let wanted = Shift {
         refused: 1,
         nounit: 1,

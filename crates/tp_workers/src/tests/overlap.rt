@@ -1,10 +1,9 @@
 //! Two desks whose turns overlap: in neither order could one take its turn after the other.
 
-use crate::tests::{eager, hold, lazy, manager, pass, recipe};
+use crate::tests::{eager, hold, lazy, manager, pair, pass, recipe, two};
 use crate::{Gate, Point, shift};
 use std::sync::atomic::{AtomicU64, Ordering};
 use std::test::Fail;
-use tp_desk::Desk;
 use tp_model::types::Limits;
 use tp_server::{Act, Server};
 
@@ -38,27 +37,25 @@ fn two_desks_overlap(rt: HostRuntime) -> Result<(), Fail> {
     };
     let (manager, mut keeper) = manager(rt.alloc(), limits)?;
     let mut client = pass(&mut keeper, &manager)?;
-    let mut first = pass(&mut keeper, &manager)?;
-    let mut second = pass(&mut keeper, &manager)?;
+    let mut passes = two(&mut keeper, &manager)?;
     assert!(rt; manager.submit(&mut client, 1, 0, 5) == Ok(0));
     assert!(rt; manager.submit(&mut client, 1, 0, 7) == Ok(1));
-    let mut a: Box<dyn Server + Send> = eager(rt.alloc(), recipe(1, Act::Add, &[]))?;
-    let mut b: Box<dyn Server + Send> = lazy(rt.alloc(), recipe(1, Act::Add, &[]))?;
+    let a: Box<dyn Server + Send> = eager(rt.alloc(), recipe(1, Act::Add, &[]))?;
+    let b: Box<dyn Server + Send> = lazy(rt.alloc(), recipe(1, Act::Add, &[]))?;
     let gate = Overlap {
         claimed: AtomicU64::new(0),
         settled: AtomicU64::new(0),
         failed: AtomicU64::new(0),
     };
-    let mut desks = Vec::new(rt.alloc());
-    desks.push(Desk::new(&manager, &mut first, &mut a))?;
-    desks.push(Desk::new(&manager, &mut second, &mut b))?;
-    let (mut clients, mut killers) = (Vec::new(rt.alloc()), Vec::new(rt.alloc()));
     let counts = shift(
         &rt,
         &manager,
-        desks.as_mut_slice(),
-        clients.as_mut_slice(),
-        killers.as_mut_slice(),
+        &mut passes,
+        &mut pair(a, b),
+        &mut [],
+        &mut [],
+        &mut [],
+        &mut [],
         1,
         &gate,
     );

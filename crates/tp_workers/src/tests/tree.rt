@@ -1,9 +1,8 @@
 //! Three servers in a tree of outputs, two clients and two killers at once, with many turns.
 
-use crate::tests::{clients, eager, killers, lazy, manager, output, pass, recipe, survey, three};
-use crate::{NoGate, shift};
+use crate::tests::{client, eager, lazy, manager, output, pass, recipe, survey, three, two};
+use crate::{KillJob, NoGate, shift};
 use std::test::Fail;
-use tp_desk::Desk;
 use tp_model::types::Limits;
 use tp_server::{Act, Server};
 
@@ -18,34 +17,36 @@ fn tree_with_killers(rt: HostRuntime) -> Result<(), Fail> {
         attempts: 7,
     };
     let (manager, mut keeper) = manager(rt.alloc(), limits)?;
-    let mut first = pass(&mut keeper, &manager)?;
-    let mut second = pass(&mut keeper, &manager)?;
-    let mut third = pass(&mut keeper, &manager)?;
-    let mut fourth = pass(&mut keeper, &manager)?;
-    let mut fifth = pass(&mut keeper, &manager)?;
-    let mut sixth = pass(&mut keeper, &manager)?;
-    let mut seventh = pass(&mut keeper, &manager)?;
+    let mut clients = two(&mut keeper, &manager)?;
+    let mut killers = two(&mut keeper, &manager)?;
+    let mut desks = [
+        pass(&mut keeper, &manager)?,
+        pass(&mut keeper, &manager)?,
+        pass(&mut keeper, &manager)?,
+    ];
     let mut reader = pass(&mut keeper, &manager)?;
     let root = recipe(1, Act::Add, &[output(2), output(3)]);
-    let mut a: Box<dyn Server + Send> = eager(rt.alloc(), root)?;
-    let mut b: Box<dyn Server + Send> = lazy(rt.alloc(), recipe(2, Act::Add, &[output(15)]))?;
-    let mut c: Box<dyn Server + Send> = eager(rt.alloc(), recipe(3, Act::Add, &[output(15)]))?;
-    let one = Desk::new(&manager, &mut third, &mut a);
-    let other = Desk::new(&manager, &mut fourth, &mut b);
-    let last = Desk::new(&manager, &mut fifth, &mut c);
-    let mut desks = three(rt.alloc(), &manager, one, other, last)?;
-    let mut clients = clients(rt.alloc(), &manager, &mut first, &mut second, (1, 3), 40)?;
-    let mut killers = killers(rt.alloc(), &manager, &mut sixth, &mut seventh, 512, 768)?;
+    let a: Box<dyn Server + Send> = eager(rt.alloc(), root)?;
+    let b: Box<dyn Server + Send> = lazy(rt.alloc(), recipe(2, Act::Add, &[output(15)]))?;
+    let c: Box<dyn Server + Send> = eager(rt.alloc(), recipe(3, Act::Add, &[output(15)]))?;
+    let mut servers = three(a, b, c);
+    let low = KillJob { first: 0, end: 512 };
+    let high = KillJob {
+        first: 512,
+        end: 768,
+    };
     let counts = shift(
         &rt,
         &manager,
-        desks.as_mut_slice(),
-        clients.as_mut_slice(),
-        killers.as_mut_slice(),
+        &mut desks,
+        &mut servers,
+        &mut clients,
+        &mut [client(1, 40), client(3, 40)],
+        &mut killers,
+        &mut [low, high],
         200,
         &NoGate,
     );
-    drop(desks);
     let requests = survey(&manager, &mut reader, 1, 2048);
     let left = survey(&manager, &mut reader, 2, 2048);
     let right = survey(&manager, &mut reader, 3, 2048);
@@ -70,8 +71,8 @@ fn tree_with_killers(rt: HostRuntime) -> Result<(), Fail> {
     assert_eq!(rt; counts.killed, killed);
 
     // Each register is the sum of what its server consumed.
-    assert!(rt; a.balance(0) == Some(requests.amount));
-    assert!(rt; b.balance(0) == Some(left.amount));
-    assert!(rt; c.balance(0) == Some(right.amount));
+    assert!(rt; servers[0].balance(0) == Some(requests.amount));
+    assert!(rt; servers[1].balance(0) == Some(left.amount));
+    assert!(rt; servers[2].balance(0) == Some(right.amount));
     Ok(())
 }

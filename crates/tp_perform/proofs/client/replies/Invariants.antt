@@ -1,11 +1,11 @@
 use Rattle.std.proofs.Common.{◌≡◌, ◌-◌}
 use Rattle.tp_model.specs.Steps.{rows_of}
-use Rattle.tp_perform.specs.Performing.{IsFreeOf}
+use Rattle.tp_workers.specs.Free.{IsFreePass}
 use Rattle.tp_perform.proofs.client.replies.Given as goal
 
 abbrev pub invariant-loop-from : goal.invariant-loop-from
 invariant-loop-from l = record {
-  free : IsFreeOf l.manager l.client;
+  free : IsFreePass l.manager l.client;
   capacity : l.capacity ≡ rows_of l.manager.limits;
 }
 

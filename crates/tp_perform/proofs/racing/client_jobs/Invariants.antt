@@ -1,11 +1,11 @@
-use Rattle.std.proofs.Common.{◌*◌, ◌≤◌, All}
-use Rattle.std.specs.Prelude.{sum_by}
-use Rattle.tp_workers.specs.Clients.{IsClientOf}
+use Rattle.std.proofs.Common.{◌≡◌, ◌*◌, All, length, sum_by}
+use Rattle.tp_workers.specs.Clients.{IsClientJob}
 use Rattle.tp_workers.specs.Sums.{calls_of}
 use Rattle.tp_perform.proofs.racing.client_jobs.Given as goal
 
-abbrev pub invariant-loop-pass : goal.invariant-loop-pass
-invariant-loop-pass l = record {
-  ready : All (IsClientOf l.manager) l.jobs.items;
-  calls : sum_by calls_of l.jobs.items ≤ l.pass-index * l.plan.submits;
+abbrev pub invariant-loop-i : goal.invariant-loop-i
+invariant-loop-i l = record {
+  jobs : All IsClientJob l.jobs.items;
+  many : length l.jobs.items ≡ l._i;
+  calls : sum_by calls_of l.jobs.items ≡ l._i * l.job.count;
 }

@@ -1,11 +1,11 @@
-use Rattle.std.proofs.Common.{◌-◌, ◌*◌, ◌≤◌, All}
-use Rattle.std.specs.Prelude.{sum_by}
-use Rattle.tp_workers.specs.Killers.{IsKillerOf}
+use Rattle.std.proofs.Common.{◌≡◌, ◌*◌, ◌-◌, All, length, sum_by}
+use Rattle.tp_workers.specs.Killers.{IsKillJob}
 use Rattle.tp_workers.specs.Sums.{size_of_range}
 use Rattle.tp_perform.proofs.racing.kill_jobs.Given as goal
 
-abbrev pub invariant-loop-pass : goal.invariant-loop-pass
-invariant-loop-pass l = record {
-  ready : All (IsKillerOf l.manager) l.jobs.items;
-  ids : sum_by size_of_range l.jobs.items ≤ l.pass-index * (l.end - l.first);
+abbrev pub invariant-loop-i : goal.invariant-loop-i
+invariant-loop-i l = record {
+  jobs : All IsKillJob l.jobs.items;
+  many : length l.jobs.items ≡ l._i;
+  ids : sum_by size_of_range l.jobs.items ≡ l._i * (l.job.end - l.job.first);
 }

@@ -1,12 +1,12 @@
 use Rattle.std.proofs.Common.{◌≡◌, ◌-◌, All, length}
 use Rattle.tp_manager.specs.Shown.{IsKeptBy}
-use Rattle.tp_perform.specs.Performing.{IsFreeOf}
+use Rattle.tp_workers.specs.Free.{IsFreePass}
 use Rattle.tp_perform.proofs.serve.all_passes.Given as goal
 
 abbrev pub invariant-loop-pass : goal.invariant-loop-pass
 invariant-loop-pass l = record {
   keeper : IsKeptBy l.manager l.keeper;
-  free : All (IsFreeOf l.manager) l.passes.items;
+  free : All (IsFreePass l.manager) l.passes.items;
   given : length l.passes.items ≡ l.keeper.given;
 }
 

@@ -1,28 +1,39 @@
-use Rattle.std.proofs.Common.{rules, ◌++◌, sym, subst}
-use Rattle.tp_workers.specs.Ran.{MayRun, RanAll, Runs}
-use Rattle.tp_workers.proofs.Ran.{RanAll-append, RanAll-single, both_fit, may_back, may_front}
+use Rattle.std.proofs.Common.{rules, ◌≡◌, ◌∙◌, ◌++◌, length, sym, subst}
+use Rattle.tp_workers.specs.Ran.{RanEach, Runs}
+use Rattle.tp_workers.proofs.Ran.{both_fit, each_append, each_single, first_accepts, may_first, may_second}
 use Rattle.tp_workers.proofs.fork.+fork.Goals as goal
 
-pub fork-returns-then-workers-eq1 : goal.fork-returns-then-workers-eq1
-fork-returns-then-workers-eq1 g t c = record {
-  ran = RanAll-single (Runs g.F.Fn c.args.run.now) c.args.workers.now c.index-workers-0.result c.run_one.new.worker c.run_one.result (search rules) c.run_one.ensures.ran;
+pub fork-run_one-requires : goal.fork-run_one-requires
+fork-run_one-requires g t c =
+    record { accepts = first_accepts g.F.Fn c.args.run.now c.args.on.now c.args.by.now c.index-on-0.result c.index-by-0.result (search rules) c.requires.may_run }
+
+pub fork-returns-then-on-eq1 : goal.fork-returns-then-on-eq1
+fork-returns-then-on-eq1 g t c = record {
+  ran = each_single (Runs g.F.Fn c.args.run.now) c.args.on.now c.args.by.now c.run_one.new.on c.index-on-0.result c.run_one.new.by c.index-by-0.result c.run_one.result (search rules) c.requires.may_run.paired c.run_one.ensures.ran;
 }
 
 pub fork-halves-requires-clause-front_may : goal.fork-halves-requires-clause-front_may
 fork-halves-requires-clause-front_may g t c κs within =
-    may_front g.F.Fn c.args.run.now _ c.split_at_mut-front.result.1.now (subst (MayRun g.F.Fn c.args.run.now) c.split_at_mut-front.ensures.value c.requires.may_run)
+    let same : length c.split_at_mut-front.result.0.now ≡ length c.split_at_mut-front_by.result.0.now = c.split_at_mut-front.ensures.front_len ∙ sym c.split_at_mut-front_by.ensures.front_len in
+    may_first g.F.Fn c.args.run.now _ _ _ _ _ _ c.split_at_mut-front.ensures.value c.split_at_mut-front_by.ensures.value same c.requires.may_run
 
 pub fork-halves-requires-clause-back_may : goal.fork-halves-requires-clause-back_may
 fork-halves-requires-clause-back_may g t c κs within =
-    may_back g.F.Fn c.args.run.now c.split_at_mut-front.result.0.now _ (subst (MayRun g.F.Fn c.args.run.now) c.split_at_mut-front.ensures.value c.requires.may_run)
+    let same : length c.split_at_mut-front.result.0.now ≡ length c.split_at_mut-front_by.result.0.now = c.split_at_mut-front.ensures.front_len ∙ sym c.split_at_mut-front_by.ensures.front_len in
+    may_second g.F.Fn c.args.run.now _ _ _ _ _ _ c.split_at_mut-front.ensures.value c.split_at_mut-front_by.ensures.value same c.requires.may_run
 
 pub fork-plus-requires : goal.fork-plus-requires
 fork-plus-requires g t c =
-    both_fit g.F.Fn c.args.run.now _ _ _ _ _ _ (subst (MayRun g.F.Fn c.args.run.now) c.split_at_mut-front.ensures.value c.requires.may_run) c.halves.ensures.front_ran c.halves.ensures.back_ran
+    let same : length c.split_at_mut-front.result.0.now ≡ length c.split_at_mut-front_by.result.0.now = c.split_at_mut-front.ensures.front_len ∙ sym c.split_at_mut-front_by.ensures.front_len in
+    both_fit g.F.Fn c.args.run.now _ _ _ _ _ _ c.split_at_mut-front.ensures.value c.split_at_mut-front_by.ensures.value same c.requires.may_run _ _ _ _ _ _ c.halves.ensures.front_ran c.halves.ensures.back_ran
 
 pub fork-returns : goal.fork-returns
 fork-returns g t c =
     let R = Runs g.F.Fn c.args.run.now in
-    let joined = RanAll-append R _ _ _ _ _ _ c.halves.ensures.front_ran c.halves.ensures.back_ran in
-    let counted = subst (λ s. RanAll R (c.split_at_mut-front.result.0.now ++ c.split_at_mut-front.result.1.now) s (c.halves.new.front ++ c.halves.new.back)) (sym c.plus.ensures) joined in
-    record { ran = subst (λ xs. RanAll R xs c.plus.result (c.halves.new.front ++ c.halves.new.back)) (sym c.split_at_mut-front.ensures.value) counted }
+    let same : length c.split_at_mut-front.result.0.now ≡ length c.split_at_mut-front_by.result.0.now = c.split_at_mut-front.ensures.front_len ∙ sym c.split_at_mut-front_by.ensures.front_len in
+    let on_new = c.halves.new.front ++ c.halves.new.back in
+    let by_new = c.halves.new.front_by ++ c.halves.new.back_by in
+    let joined = each_append R _ _ _ _ _ _ _ _ _ _ same c.halves.ensures.front_ran c.halves.ensures.back_ran in
+    let counted = subst (λ s. RanEach R (c.split_at_mut-front.result.0.now ++ c.split_at_mut-front.result.1.now) (c.split_at_mut-front_by.result.0.now ++ c.split_at_mut-front_by.result.1.now) s on_new by_new) (sym c.plus.ensures) joined in
+    let known = subst (λ xs. RanEach R xs (c.split_at_mut-front_by.result.0.now ++ c.split_at_mut-front_by.result.1.now) c.plus.result on_new by_new) (sym c.split_at_mut-front.ensures.value) counted in
+    record { ran = subst (λ ys. RanEach R c.args.on.now ys c.plus.result on_new by_new) (sym c.split_at_mut-front_by.ensures.value) known }

@@ -8,7 +8,7 @@ abbrev pub decreases-halves-other : goal.decreases-halves-other
 decreases-halves-other g l = 3 * length l.back.now + 1
 
 abbrev pub decreases-fork : goal.decreases-fork
-decreases-fork g l = 3 * length l.workers.now
+decreases-fork g l = 3 * length l.on.now
 
 abbrev pub decreases-halves : goal.decreases-halves
 decreases-halves g l = 3 * max (length l.front.now) (length l.back.now) + 2

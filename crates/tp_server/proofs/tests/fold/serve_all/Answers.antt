@@ -2,6 +2,8 @@ use Rattle.std.proofs.Common.{◌≡◌, ℕ, ◌+◌, ◌<◌, List, ◌∷◌,
 use Rattle.tp_model.specs.declared.types.Element.{Element}
 use Rattle.tp_server.specs.declared.recipe.Recipe.{Recipe}
 use Rattle.tp_server.specs.Effect.{effect_of, registers_after, fold_from}
+use Rattle.tp_server.specs.Pending.{registers_of}
+use Rattle.tp_server.proofs.Pending.{pending_registers}
 use Rattle.tp_server.proofs.tests.fold.serve_all.Goals as goal
 
 -- a committed element is taken off what is left to fold
@@ -22,6 +24,6 @@ loop-element-preserved g c = record {
   unprepared = c.commit.ensures.pending;
   same_recipe = c.commit.ensures.recipe ∙ (c.prepare.ensures.recipe ∙ c.loop-element.invariant.same_recipe);
   left = fold_from-committed _ _ _ _ _ _ _ _ c.loop-element.invariant.same_recipe c.loop-element-test.true
-      (c.commit.ensures.registers ∙ c.prepare.ensures.pending)
+      (c.commit.ensures.registers ∙ (ap registers_of c.prepare.ensures.pending ∙ pending_registers _ _))
       c.loop-element.invariant.left;
 }

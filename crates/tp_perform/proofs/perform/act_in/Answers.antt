@@ -1,0 +1,18 @@
+use Rattle.std.proofs.Common.{arith}
+use Rattle.tp_perform.proofs.Lies.{lie_at, lie_passes, lie_servers, lie_set}
+use Rattle.tp_perform.proofs.perform.act_in.Goals as goal
+
+pub bounds-passes-at : goal.bounds-passes-at
+bounds-passes-at g c = let e = lie_passes (λ b. (goal.Server-dyn g (b.vtable, b.value)).recipe b.value) (λ b. (goal.Server-dyn g (b.vtable, b.value)).registers b.value) (λ b. (goal.Server-dyn g (b.vtable, b.value)).pending b.value) c.args.passes.now c.args.servers.now c.args.places.now c.requires.lie in omega (arith, e, c.requires.within)
+
+pub bounds-servers-at : goal.bounds-servers-at
+bounds-servers-at g c = let e = lie_servers (λ b. (goal.Server-dyn g (b.vtable, b.value)).recipe b.value) (λ b. (goal.Server-dyn g (b.vtable, b.value)).registers b.value) (λ b. (goal.Server-dyn g (b.vtable, b.value)).pending b.value) c.args.passes.now c.args.servers.now c.args.places.now c.requires.lie in omega (arith, e, c.requires.within)
+
+pub act_at-requires-clause-lies : goal.act_at-requires-clause-lies
+act_at-requires-clause-lies g c = lie_at (λ b. (goal.Server-dyn g (b.vtable, b.value)).recipe b.value) (λ b. (goal.Server-dyn g (b.vtable, b.value)).registers b.value) (λ b. (goal.Server-dyn g (b.vtable, b.value)).pending b.value) c.args.passes.now c.args.servers.now c.args.places.now c.args.at _ _ _ c.requires.within c.requires.lie
+
+pub returns-clause-lie : goal.returns-clause-lie
+returns-clause-lie g c = lie_set (λ b. (goal.Server-dyn g (b.vtable, b.value)).recipe b.value) (λ b. (goal.Server-dyn g (b.vtable, b.value)).registers b.value) (λ b. (goal.Server-dyn g (b.vtable, b.value)).pending b.value) c.args.passes.now c.args.servers.now c.args.places.now c.args.at _ _ _ c.act_at.ensures.lies c.requires.lie
+
+pub act_at-requires-clause-own : goal.act_at-requires-clause-own
+act_at-requires-clause-own g c = let e = lie_passes (λ b. (goal.Server-dyn g (b.vtable, b.value)).recipe b.value) (λ b. (goal.Server-dyn g (b.vtable, b.value)).registers b.value) (λ b. (goal.Server-dyn g (b.vtable, b.value)).pending b.value) c.args.passes.now c.args.servers.now c.args.places.now c.requires.lie in c.requires.own c.args.at c.index-passes-at.result (omega (arith, e, c.requires.within))

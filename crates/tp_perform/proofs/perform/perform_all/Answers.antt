@@ -1,0 +1,54 @@
+use Rattle.std.proofs.Common.{arith, ap, rules, length, length-append, ◌++◌, All}
+use Rattle.std.specs.Prelude.{string_bytes}
+use Rattle.std.proofs.lemmas.List.Elements.{All-append, All-drop, All-take}
+use Rattle.tp_report.proofs.Devices.{always_err}
+use Rattle.tp_report.proofs.LineProofs.{line_front, line_more}
+use Rattle.tp_script.specs.declared.script.Command.TheVariants.{Submit}
+use Rattle.tp_workers.specs.Free.{IsFreePass}
+use Rattle.tp_perform.proofs.Alls.{racing_next}
+use Rattle.tp_perform.proofs.perform.perform_all.Goals as goal
+
+pub returns-in_err-line-clause-racers : goal.returns-in_err-line-clause-racers
+returns-in_err-line-clause-racers g c =
+    let Free = IsFreePass c.args.manager.now in
+    let front : All Free c.split_at_mut-before.result.0.now = rw c.split_at_mut-before.ensures.front (All-take Free c.loop-command.raced c.loop-command.racers c.loop-command.invariant.racers) in
+    let rest : All Free c.split_at_mut-before.result.1.now = rw c.split_at_mut-before.ensures.back (All-drop Free c.loop-command.raced c.loop-command.racers c.loop-command.invariant.racers) in
+    let after : All Free c.split_at_mut-here.result.1.now = rw c.split_at_mut-here.ensures.back (All-drop Free _ c.split_at_mut-before.result.1.now rest) in
+    All-append Free c.split_at_mut-before.result.0.now (c.command_line.new.racers ++ c.split_at_mut-here.result.1.now) front
+    (All-append Free c.command_line.new.racers c.split_at_mut-here.result.1.now c.in_err-line.ensures.racers after)
+
+pub returns-in_err-write_all-clause-racers : goal.returns-in_err-write_all-clause-racers
+returns-in_err-write_all-clause-racers g c =
+    let Free = IsFreePass c.args.manager.now in
+    let front : All Free c.split_at_mut-before.result.0.now = rw c.split_at_mut-before.ensures.front (All-take Free c.loop-command.raced c.loop-command.racers c.loop-command.invariant.racers) in
+    let rest : All Free c.split_at_mut-before.result.1.now = rw c.split_at_mut-before.ensures.back (All-drop Free c.loop-command.raced c.loop-command.racers c.loop-command.invariant.racers) in
+    let after : All Free c.split_at_mut-here.result.1.now = rw c.split_at_mut-here.ensures.back (All-drop Free _ c.split_at_mut-before.result.1.now rest) in
+    All-append Free c.split_at_mut-before.result.0.now (c.command_line.new.racers ++ c.split_at_mut-here.result.1.now) front
+    (All-append Free c.command_line.new.racers c.split_at_mut-here.result.1.now c.in_ok-line.ensures.racers after)
+
+pub returns-in_err-write_all-clause-front : goal.returns-in_err-write_all-clause-front
+returns-in_err-write_all-clause-front g c =
+    always_err c.from_residual-in_err-write_all.result (line_front c.loop-command.command-index _ _ (g.W.Sink.contents c.loop-command.writer) _ (string_bytes c.in_ok-line.line)
+    (omega (arith, ap length c.deref-command-items.ensures.value)) c.loop-command.invariant.written c.in_ok-line.ensures.line (rw c.as_bytes.ensures.value at c.in_err-write_all.ensures.err))
+
+pub loop-command-preserved : goal.loop-command-preserved
+loop-command-preserved g c =
+    let Free = IsFreePass c.args.manager.now in
+    let front : All Free c.split_at_mut-before.result.0.now = rw c.split_at_mut-before.ensures.front (All-take Free c.loop-command.raced c.loop-command.racers c.loop-command.invariant.racers) in
+    let rest : All Free c.split_at_mut-before.result.1.now = rw c.split_at_mut-before.ensures.back (All-drop Free c.loop-command.raced c.loop-command.racers c.loop-command.invariant.racers) in
+    let after : All Free c.split_at_mut-here.result.1.now = rw c.split_at_mut-here.ensures.back (All-drop Free _ c.split_at_mut-before.result.1.now rest) in
+    let whole = length-append c.split_at_mut-before.result.0.now (c.command_line.new.racers ++ c.split_at_mut-here.result.1.now) in
+    let both = length-append c.command_line.new.racers c.split_at_mut-here.result.1.now in
+    record {
+      client = c.in_ok-line.ensures.client;
+      own = c.in_ok-line.ensures.own;
+      lie = c.in_ok-line.ensures.lie;
+      as_many = search rules;
+      racers = All-append Free c.split_at_mut-before.result.0.now (c.command_line.new.racers ++ c.split_at_mut-here.result.1.now) front
+          (All-append Free c.command_line.new.racers c.split_at_mut-here.result.1.now c.in_ok-line.ensures.racers after);
+      enough =
+          let next = racing_next c.args.script.now.commands.items c.loop-command.command-index (Submit 0 0 0) (omega (arith, ap length c.deref-command-items.ensures.value)) in
+          let needed = rw c.deref-command-items.ensures.value at c.racers.ensures in
+          omega (arith, c.loop-command.invariant.enough, next, needed, whole, both, c.from-needed.ensures, c.command_line.auto.racers, c.split_at_mut-before.ensures.front_len, c.split_at_mut-before.ensures.back_len, c.split_at_mut-here.ensures.front_len, c.split_at_mut-here.ensures.back_len);
+      written = line_more c.loop-command.command-index _ (g.W.Sink.contents c.loop-command.writer) _ (string_bytes c.in_ok-line.line) c.loop-command.invariant.written c.in_ok-line.ensures.line (rw c.as_bytes.ensures.value at c.in_ok-write_all.ensures.ok);
+    }

@@ -1,0 +1,19 @@
+use Rattle.std.proofs.Common.{◌≡◌, ◌+◌, All, drop, length}
+use Rattle.tp_manager.specs.Shown.{IsOf}
+use Rattle.tp_desk.specs.Steady.{shown}
+use Rattle.tp_script.specs.Passes.{racing}
+use Rattle.tp_report.specs.Lines.{Writes}
+use Rattle.tp_workers.specs.Free.{IsFreePass}
+use Rattle.tp_perform.specs.Places.{AllLie}
+use Rattle.tp_perform.proofs.perform.perform_all.Given as goal
+
+abbrev pub invariant-loop-command : goal.invariant-loop-command
+invariant-loop-command g l = record {
+  client : IsFreePass l.manager l.client;
+  own : All (IsOf l.manager) l.passes;
+  lie : AllLie (shown (λ z. (goal.Server-dyn g z).recipe z.1)) (shown (λ z. (goal.Server-dyn g z).registers z.1)) (shown (λ z. (goal.Server-dyn g z).pending z.1)) l.passes l.servers l.places;
+  as_many : length l.places ≡ length l.script.servers.items;
+  racers : All (IsFreePass l.manager) l.racers;
+  enough : length l.racers ≡ l.raced + racing (drop l.command-index l.script.commands.items);
+  written : Writes l.command-index (g.W.Sink.contents l.fn.writer) (g.W.Sink.contents l.writer);
+}
