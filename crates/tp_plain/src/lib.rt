@@ -6,5 +6,3 @@ pub mod laws;
 mod looks;
 pub mod pass_state;
 pub mod plain;
-#[cfg(test)]
-mod tests;

@@ -6,8 +6,6 @@ mod display;
 mod fault;
 mod refusal;
 mod sink;
-#[cfg(test)]
-mod tests;
 
 pub use answer::{Answer, ServerAnswer, line, refused_line};
 pub use fault::{Exit, Fault, RunFault, fault_of};

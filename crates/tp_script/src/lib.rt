@@ -11,8 +11,6 @@ mod script;
 mod servers;
 mod source;
 mod terms;
-#[cfg(test)]
-mod tests;
 mod text;
 
 pub use fault::{LineFault, ReadFault, Refused};

@@ -1,4 +1,4 @@
-//! The tests that hold the program to the reference, and both to their worked reports.
+//! The tests of scripts, of reports and of the manager of one thread, and those that hold the program to the reference.
 #![tactic(auto)]
 
 #[cfg(test)]

@@ -1,7 +1,12 @@
-//! Scripts and their reports, from bytes to bytes.
+//! Scripts and their reports, from bytes to bytes, and what they are made of.
 
+mod answers;
 mod devices;
 mod faults;
+mod hostile;
+mod interrupted;
+mod plain;
+mod read;
 mod rows;
 
 use std::process::Abort;

@@ -1,9 +1,6 @@
 //! What a script says, as it is read.
 
-use crate::parse::read_script_at;
-use crate::reach::Reach;
-use crate::script::{Command, Kind};
-use crate::source::StdSource;
+use tp_script::{Command, Kind, Reach, StdSource, read_script_at};
 
 const SCRIPT: &str =
     "units 3\nserver a eager 1 2 add\nserver b lazy 2 1 take 15:7:after\nstart a 1 5\nsubmit 9 8 7\nturn b\nreply 6\nclaim a\nprepare b\ncommit a\nabort b\ndrop a\nkill 5\nread 4\nerrors\nbalance b 3\nsum 2\ncount\nrace 4 256 14 3 2 1 10000\ndrain\n";

@@ -1,9 +1,9 @@
 //! The line of each answer.
 
-use crate::answer::{Answer, ServerAnswer, line, refused_line};
 use std::test::Fail;
 use tp_desk::Turned;
 use tp_model::types::{Element, Look, Refusal, Status};
+use tp_report::{Answer, ServerAnswer, line, refused_line};
 use tp_script::Refused;
 use tp_server::Declined;
 

@@ -1,12 +1,12 @@
 //! Worked rows through the manager of one thread, and each of its calls once.
 ghost use Rattle.std.specs.Prelude.{◌≡◌};
 
-use crate::laws;
-use crate::plain::Plain;
 use std::test::Fail;
 use tp_model::types::{
     Claimed, Draft, Element, Ended, Killed, Limits, Look, Outcome, Refusal, Status, Work,
 };
+use tp_plain::laws;
+use tp_plain::plain::Plain;
 
 fn limits(rows: u16, units: u16, attempts: u8) -> Limits
     ensures { result ≡ record { parts = 2; rows = rows; units = units; attempts = attempts } }

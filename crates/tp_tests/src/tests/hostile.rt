@@ -1,10 +1,7 @@
 //! Hostile scripts: each refusal at its edges, with the line and the number that it is told with.
 
-use crate::fault::ReadFault;
-use crate::parse::{read_script, read_script_at};
-use crate::reach::Reach;
-use crate::source::StdSource;
 use std::test::Fail;
+use tp_script::{Reach, ReadFault, StdSource, read_script, read_script_at};
 
 const EIGHT_SERVERS: &str =
     "server a eager 1 1 add\nserver b eager 1 1 add\nserver c eager 1 1 add\nserver d eager 1 1 add\nserver e eager 1 1 add\nserver f eager 1 1 add\nserver g eager 1 1 add\nserver h eager 1 1 add\n";

@@ -1,4 +1,0 @@
-//! The lines of answers.
-
-mod answers;
-mod interrupted;
