@@ -15,8 +15,8 @@ use tp_server::{Act, AmountFrom, Declined, KeyFrom, Output, Recipe, Server};
 pub struct Stock {
     recipe: Recipe,
     left: u64,
-    /// What will be left, while an order is prepared.
-    after: Option<u64>,
+    /// The order whose work is prepared, and what it will leave.
+    prepared: Option<(Element, u64)>,
     ghost checked: { check_of recipe ≡ Ok tt },
     ghost one: { recipe.registers ≡ 1 },
     ghost takes: { recipe.act ≡ Take },
@@ -44,7 +44,7 @@ impl Stock {
         Stock {
             recipe,
             left,
-            after: None,
+            prepared: None,
         }
     }
 }
@@ -54,7 +54,7 @@ impl Server for Stock {
 
     ghost registers = { λ s. s.left ∷ [] };
 
-    ghost pending = { λ s. option_map (λ after. after ∷ []) s.after };
+    ghost pending = { λ s. option_map (λ p. record { prepared_for = p.0; registers = p.1 ∷ [] }) s.prepared };
 
     fn stage(&self) -> u8 {
         self.recipe.stage
@@ -69,7 +69,7 @@ impl Server for Stock {
     }
 
     fn is_prepared(&self) -> bool {
-        self.after.is_some()
+        self.prepared.is_some()
     }
 
     fn prepare(&mut self, order: &Element) -> Result<ArrayVec<Draft, 4>, Declined> {
@@ -85,18 +85,18 @@ impl Server for Stock {
             Some(reply) => replies.push(reply),
             None => unreachable!(),
         }
-        self.after = Some(after);
+        self.prepared = Some((*order, after));
         Ok(replies)
     }
 
     fn commit(&mut self) {
-        if let Some(after) = self.after {
+        if let Some((_, after)) = self.prepared {
             self.left = after;
         }
-        self.after = None;
+        self.prepared = None;
     }
 
     fn undo(&mut self) {
-        self.after = None;
+        self.prepared = None;
     }
 }

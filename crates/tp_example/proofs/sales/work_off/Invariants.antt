@@ -1,10 +1,11 @@
-use Rattle.std.proofs.Common.{◌≡◌, ◌≤◌}
-use Rattle.tp_desk.specs.Steady.{IsReady, shown}
+use Rattle.std.proofs.Common.{◌≡◌, ◌≤◌, None}
+use Rattle.tp_desk.specs.Steady.{SteadyDesk, shown}
 use Rattle.tp_example.proofs.sales.work_off.Given as goal
 
 abbrev pub invariant-loop-turn : goal.invariant-loop-turn
 invariant-loop-turn g l = record {
-  ready : IsReady (λ v. (goal.Server-dyn g v).recipe v.1) (λ v. (goal.Server-dyn g v).registers v.1) (λ v. (goal.Server-dyn g v).pending v.1) l.desk;
+  steady : SteadyDesk (shown (λ v. (goal.Server-dyn g v).recipe v.1)) (shown (λ v. (goal.Server-dyn g v).registers v.1)) (shown (λ v. (goal.Server-dyn g v).pending v.1)) l.desk;
+  free : l.desk.work ≡ None;
   same_manager : l.desk.manager.now ≡ l.manager;
   same_pass : l.desk.pass.ghost_name ≡ l.initial.desk.pass.ghost_name;
   same_server : l.desk.server.ghost_name ≡ l.initial.desk.server.ghost_name;
