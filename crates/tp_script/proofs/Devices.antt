@@ -25,17 +25,17 @@ pub read_more : (a b c : Option (List ℕ)) (read more : List ℕ) → Consumes 
 read_more a b c read more p q = Consumes-then a b c read more p q
 
 -- all is read
-pub read_ended : (a b c : Option (List ℕ)) (read piece : List ℕ) → Consumes a b read → Consumes b c piece → length piece ≡ 0 → IsAtEnd c → length read ≤ MOST_BYTES → IfSome a (λ all. read ≡ take (MOST_BYTES + 1) all)
-read_ended None b c read piece p q none ended short = tt
-read_ended (Some all) None c read piece p q none ended short = absurd p
-read_ended (Some all) (Some left) None read piece p q none ended short = absurd q
-read_ended (Some all) (Some left) (Some after) read piece p q none ended short =
+pub read_ended : (most : ℕ) (a b c : Option (List ℕ)) (read piece : List ℕ) → Consumes a b read → Consumes b c piece → length piece ≡ 0 → IsAtEnd c → length read ≤ most → IfSome a (λ all. read ≡ take (most + 1) all)
+read_ended most None b c read piece p q none ended short = tt
+read_ended most (Some all) None c read piece p q none ended short = absurd p
+read_ended most (Some all) (Some left) None read piece p q none ended short = absurd q
+read_ended most (Some all) (Some left) (Some after) read piece p q none ended short =
     let nothing : piece ≡ [] = nil_from_length piece none in
     let whole : all ≡ read = p ∙ ap (λ (w : List ℕ). read ++ w) (q ∙ rw (nothing, ended) refl) ∙ append-nil read in
-    rw whole (sym (take_all (MOST_BYTES + 1) read (omega arith)))
+    rw whole (sym (take_all (most + 1) read (omega arith)))
 
 -- more is read than a script may have
-pub read_past : (a b : Option (List ℕ)) (read : List ℕ) → Consumes a b read → length read ≡ MOST_BYTES + 1 → IfSome a (λ all. read ≡ take (MOST_BYTES + 1) all)
-read_past None b read p long = tt
-read_past (Some all) None read p long = absurd p
-read_past (Some all) (Some left) read p long = rw p (sym (take_at read left (MOST_BYTES + 1) long))
+pub read_past : (most : ℕ) (a b : Option (List ℕ)) (read : List ℕ) → Consumes a b read → length read ≡ most + 1 → IfSome a (λ all. read ≡ take (most + 1) all)
+read_past most None b read p long = tt
+read_past most (Some all) None read p long = absurd p
+read_past most (Some all) (Some left) read p long = rw p (sym (take_at read left (most + 1) long))
