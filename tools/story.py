@@ -81,7 +81,7 @@ class Story:
                 self.servers.append(Server(words[1], words[2], int(words[3]), words[5], words[6:]))
             elif words[0] == "limit":
                 self.attempts = int(words[1])
-            elif words[0] not in SETTINGS and words[0] != "start":
+            elif words[0] not in SETTINGS and words[0] not in ("start", "account"):
                 commands.append((" ".join(words), gap))
                 gap = False
         self.title = " ".join(before)
@@ -99,6 +99,10 @@ class Story:
             self.elements[number] = Element(number, number, int(command[1]), 0, row, text)
         elif verb == "kill" and line[0] == "killed":
             self.kill(row, int(command[1]))
+        elif verb == "cancel" and line[0] == "cancelled":
+            for it in self.elements.values():
+                if it.root == int(command[1]) and it.stage != 15 and it.how not in ("consumed", "killed"):
+                    self.kill(row, it.number)
         elif verb in ("race", "drain"):
             self.crowd(row)
         elif verb in ("turn", "claim", "prepare", "commit", "abort", "drop"):
@@ -164,6 +168,8 @@ class Story:
             self.wait_again(row, element)
         for line in finals:
             words = line.split()
+            if words[0] == "account":
+                continue
             self.servers[self.lane(words[1]) - 1].final = " ".join(words[2:])
 
     def words(self, element):

@@ -3,6 +3,7 @@ ghost use Rattle.std.specs.Prelude.{◌≡◌, None, IfOk, IfSome};
 ghost use Rattle.tp_manager.specs.Shown.{IsOf};
 
 mod asides;
+mod calls;
 mod drops;
 mod lender;
 mod router;
@@ -30,6 +31,41 @@ fn two(alloc: Global, rows: u16, units: u16) -> Option<(Manager, Pass, Pass)>
     let client = keeper.pass(&manager).ok()?;
     let worker = keeper.pass(&manager).ok()?;
     Some((manager, client, worker))
+}
+
+/// A manager with a client's pass, and a server with its pass. A test borrows the parts, and lets the whole go at its end.
+#[derive(Drop)]
+struct Parts {
+    manager: Manager,
+    client: Pass,
+    worker: Pass,
+    server: Box<dyn Server + Send>,
+}
+
+/// A bench for this server, whose passes have so many rows and units.
+fn bench(
+    alloc: Global,
+    rows: u16,
+    units: u16,
+    server: Box<dyn Server + Send>,
+) -> Result<Parts, Fail>
+    requires { pending server ≡ None }
+    ensures own { IfOk result (λ b. IsOf b.manager b.client × IsOf b.manager b.worker) }
+    ensures free { IfOk result (λ b. (b.client.open_unit ≡ None) × (b.worker.open_unit ≡ None)) }
+    ensures clear { IfOk result (λ b. pending b.server ≡ None) }
+{
+    let (manager, client, worker) = two(alloc, rows, units).ok_or("no manager")?;
+    Ok(Parts {
+        manager,
+        client,
+        worker,
+        server,
+    })
+}
+
+/// Lets the parts go.
+fn clear(parts: Parts) {
+    drop(parts);
 }
 
 /// A recipe of stage 1 with one register.

@@ -1,60 +1,109 @@
 -- A pass that was just given out.
-use Rattle.std.proofs.Common.{◌≡◌, ℕ, suc, ◌+◌, ◌-◌, ◌<◌, ◌≤◌, [], ◌∷◌, sym, refl, ap, ◌∙◌, subst, arith, None}
+use Rattle.std.proofs.Common.{◌≡◌, ℕ, zero, suc, ◌+◌, ◌-◌, ◌*◌, ◌<◌, ◌≤◌, List, [], ◌∷◌, length, sym, refl, ap, ◌∙◌, subst, arith, None}
 use Rattle.tp_model.specs.declared.types.Limits.{Limits}
 use Rattle.tp_model.specs.declared.trace.StepKind.TheVariants as kinds
 use Rattle.tp_model.specs.History.{IsUnborn, events_by}
-use Rattle.tp_model.specs.Steps.{IsLegal}
+use Rattle.tp_model.specs.Steps.{AreLimits, IsLegal}
 use Rattle.tp_model.specs.Passes.{IsPassView}
 use Rattle.tp_model.proofs.Histories.{legal_empty}
-use Rattle.tp_rule.specs.Views.{SeatShown, first_hand, fresh, fresh_from, hand, view_of}
+use Rattle.tp_rule.specs.Views.{SeatShown, first_hand, first_view, fresh, fresh_from, hand, view_of}
 use Rattle.tp_rule.specs.Steps.{handed_out, handed_on, front_of, rest_of, looked, noted}
 use Rattle.tp_rule.specs.declared.view.Hand.{Hand}
 use Rattle.tp_rule.specs.declared.view.View.{View}
-use Rattle.tp_manager.specs.Walks.{Keeps, Rests, pass_in}
+use Rattle.tp_manager.specs.Shown.{steps_in}
+use Rattle.tp_manager.specs.Walks.{Keeps, Rests, pass_in, untraced, with_trace}
 use Rattle.tp_manager.specs.Calls.{claims_in}
+use Rattle.tp_manager.proofs.Rows.{unborn_quiet}
+
+-- the first of some passes that are known but for their traces
+pub front_of_untraced : (hs : List Hand) (b : Hand) (bs : List Hand) → untraced hs ≡ b ∷ bs → (hs ≡ first_hand hs ∷ rest_of hs) × (with_trace [] (first_hand hs) ≡ b) × (untraced (rest_of hs) ≡ bs)
+front_of_untraced [] b bs e = absurd cc
+front_of_untraced (a ∷ hs) b bs e = (refl, ap first_hand e, ap rest_of e)
+
+fresh_untraced : (c n : ℕ) → untraced (fresh_from c n) ≡ fresh_from c n
+fresh_untraced c zero = refl
+fresh_untraced c (suc n) = ap (λ hs. fresh c ∷ hs) (fresh_untraced (c + 1) n)
+
+-- passes that have done nothing have made no step
+fresh_steps : (c n : ℕ) → steps_in (fresh_from c n) ≡ 0
+fresh_steps c zero = refl
+fresh_steps c (suc n) = let rest = fresh_steps (c + 1) n in omega arith
+
+pub first_none : (v : View) (l : Limits) → v ≡ first_view l → steps_in v.hands ≡ 0
+first_none v l is = ap (λ (z : View). steps_in z.hands) is ∙ fresh_steps 0 l.parts
+
+-- the keeper of a table in which nothing has happened
+pub first_keeps : (seat : SeatShown) (l : Limits) → AreLimits l → view_of seat ≡ first_view l → Keeps seat l 0
+first_keeps seat l valid is = let none : (view_of seat).seen ≡ [] = ap (λ (v : View). v.seen) is in record {
+  valid = valid;
+  limits_are = ap (λ (v : View). v.limits) is;
+  below = omega arith;
+  rest = let all : l.parts ≡ l.parts - 0 = omega arith in ap (λ (v : View). untraced v.hands) is ∙ (fresh_untraced 0 l.parts ∙ ap (fresh_from 0) all);
+  legal = subst (IsLegal l) (sym none) (legal_empty l);
+  none = λ c low. ap (events_by c) none;
+}
 
 module _ (seat : SeatShown) (l : Limits) (given : ℕ) (k : Keeps seat l given) (left : ¬ (given ≡ l.parts)) where
-  hands_are : (view_of seat).hands ≡ fresh given ∷ fresh_from (given + 1) (l.parts - (given + 1))
-  hands_are = let below = k.below in let more : l.parts - given ≡ suc (l.parts - (given + 1)) = omega arith in k.rest ∙ ap (fresh_from given) more
+  abbrev next_pass : Hand
+  next_pass = first_hand (view_of seat).hands
+
+  hands_are : ((view_of seat).hands ≡ next_pass ∷ rest_of (view_of seat).hands) × (with_trace [] next_pass ≡ fresh given) × (untraced (rest_of (view_of seat).hands) ≡ fresh_from (given + 1) (l.parts - (given + 1)))
+  hands_are = let below = k.below in let more : l.parts - given ≡ suc (l.parts - (given + 1)) = omega arith in front_of_untraced (view_of seat).hands (fresh given) _ (k.rest ∙ ap (fresh_from given) more)
 
   pub still_below : given + 1 ≤ l.parts
   still_below = let below = k.below in omega arith
 
   pub keeps_on : (next : SeatShown) → view_of next ≡ handed_on (view_of seat) → Keeps next l (given + 1)
-  keeps_on next is = record {
+  keeps_on next is = let same : (view_of next).seen ≡ (view_of seat).seen = ap (λ (v : View). v.seen) is in record {
     valid = k.valid;
     limits_are = ap (λ (v : View). v.limits) is ∙ k.limits_are;
     below = still_below;
-    rest = ap (λ (v : View). v.hands) is ∙ ap rest_of hands_are;
-    unseen = ap (λ (v : View). v.seen) is ∙ k.unseen;
+    rest = ap (λ (v : View). untraced v.hands) is ∙ hands_are.2;
+    legal = subst (IsLegal l) (sym same) k.legal;
+    none = λ c low. ap (events_by c) same ∙ k.none c (omega arith);
   }
 
   module _ (next : SeatShown) (is : view_of next ≡ handed_out (view_of seat)) where
-    out : (view_of next).hands ≡ noted kinds.SeatLoad (view_of seat).seen (fresh given) ∷ []
-    out = ap (λ (v : View). v.hands) is ∙ ap (λ hs. looked (view_of seat) (front_of hs)) hands_are
+    out : (view_of next).hands ≡ noted kinds.SeatLoad (view_of seat).seen next_pass ∷ []
+    out = ap (λ (v : View). v.hands) is ∙ ap (λ hs. looked (view_of seat) (front_of hs)) hands_are.0
 
-    pub fresh_hand : hand (view_of next) ≡ noted kinds.SeatLoad (view_of seat).seen (fresh given)
-    fresh_hand = ap first_hand out
+    out_hand : hand (view_of next) ≡ noted kinds.SeatLoad (view_of seat).seen next_pass
+    out_hand = ap first_hand out
 
-    pub fresh_seen : (view_of next).seen ≡ []
-    fresh_seen = ap (λ (v : View). v.seen) is ∙ k.unseen
+    pub fresh_hand : with_trace [] (hand (view_of next)) ≡ fresh given
+    fresh_hand = ap (with_trace []) out_hand ∙ hands_are.1
+
+    pub fresh_seen : (view_of next).seen ≡ (view_of seat).seen
+    fresh_seen = ap (λ (v : View). v.seen) is
 
     pub fresh_limits : (view_of next).limits ≡ l
     fresh_limits = ap (λ (v : View). v.limits) is ∙ k.limits_are
 
+    fresh_none : events_by given (view_of next).seen ≡ []
+    fresh_none = ap (events_by given) fresh_seen ∙ k.none given (omega arith)
+
+    fresh_legal : IsLegal l (view_of next).seen
+    fresh_legal = subst (IsLegal l) (sym fresh_seen) k.legal
+
+    -- none of its rows is born
+    fresh_unborn : (i : ℕ) → given * l.rows ≤ i → i < given * l.rows + l.rows → IsUnborn (view_of next).seen i
+    fresh_unborn i low high = let more = still_below in let few : length (events_by given (view_of next).seen) ≤ 0 = let e = ap length fresh_none in omega arith in
+        unborn_quiet l given i (omega arith, low, high) [] refl (view_of next).seen fresh_legal ((view_of next).seen, refl) few
+
     pub fresh_shows : IsPassView (view_of next).limits (pass_in (view_of next))
-    fresh_shows = let h = fresh_hand in let lim = fresh_limits in let drawn : (hand (view_of next)).drawn ≡ 0 = ap (λ (a : Hand). a.drawn) h in record {
-      given = let more = still_below in let number : (hand (view_of next)).number ≡ given = ap (λ (a : Hand). a.number) h in subst (λ (z : Limits). (hand (view_of next)).number < z.parts) (sym lim) (omega arith);
-      legal = subst (λ s. IsLegal (view_of next).limits s) (sym fresh_seen) (legal_empty (view_of next).limits);
-      own = ap (λ (a : Hand). a.mine) h ∙ sym (ap (events_by (hand (view_of next)).number) fresh_seen);
-      within = omega arith;
-      unborn = λ i low high. subst (λ s. IsUnborn s i) (sym fresh_seen) refl;
-      open_own = λ u is. let none : (hand (view_of next)).open_unit ≡ None = ap (λ (a : Hand). a.open_unit) h in absurd cc;
-    }
+    fresh_shows = let h = fresh_hand in let number : (hand (view_of next)).number ≡ given = ap (λ (a : Hand). a.number) h in let drawn : (hand (view_of next)).drawn ≡ 0 = ap (λ (a : Hand). a.drawn) h in
+        subst (λ (z : Limits). IsPassView z (pass_in (view_of next))) (sym fresh_limits) record {
+          given = let more = still_below in omega arith;
+          legal = fresh_legal;
+          own = ap (λ (a : Hand). a.mine) h ∙ (sym fresh_none ∙ ap (λ n. events_by n (view_of next).seen) (sym number));
+          within = omega arith;
+          unborn = λ i low high. fresh_unborn i (subst (λ n. n * l.rows ≤ i) number (omega arith)) (subst (λ n. i < n * l.rows + l.rows) number high);
+          open_own = λ u is. let none : (hand (view_of next)).open_unit ≡ None = ap (λ (a : Hand). a.open_unit) h in absurd cc;
+        }
 
     pub fresh_rests : Rests next given 0 0 None
     fresh_rests = let h = fresh_hand in record {
-      steady = record { pass = (out ∙ ap (λ (a : Hand). a ∷ []) (sym h), refl); shows = fresh_shows };
+      steady = record { pass = (out ∙ ap (λ (a : Hand). a ∷ []) (sym out_hand), refl); shows = fresh_shows };
       number_is = ap (λ (a : Hand). a.number) h;
       drawn_is = ap (λ (a : Hand). a.drawn) h;
       used_is = ap (λ (a : Hand). a.claimed) h;

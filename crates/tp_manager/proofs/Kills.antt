@@ -1,5 +1,5 @@
 -- A kill, on its way.
-use Rattle.std.proofs.Common.{◌≡◌, ◌≢◌, ◌⊎◌, ℕ, ◌+◌, ◌-◌, ◌<◌, ◌≤◌, List, [], ◌∷◌, ◌++◌, length, Result, Ok, Err, sym, refl, ap, ◌∙◌, subst, inl, inr, ⊎_elim, arith, append_assoc, Some, None}
+use Rattle.std.proofs.Common.{◌≡◌, ◌≢◌, ℕ, ◌+◌, ◌<◌, ◌≤◌, List, [], ◌∷◌, ◌++◌, length, Result, Ok, Err, sym, refl, ap, ◌∙◌, subst, ⊎_elim, arith, append_assoc, Some, None}
 use Rattle.std.specs.Prelude.{MatchResult}
 use Rattle.std.specs.Option.{option_or}
 use Rattle.atomic_table.specs.Seated.{TableId}
@@ -18,10 +18,10 @@ use Rattle.tp_model.specs.declared.event.Event.TheVariants.{Abort, Kill}
 use Rattle.tp_model.specs.declared.trace.StepKind.TheVariants as kinds
 use Rattle.tp_model.specs.History.{Aborted, here, there, end_by, end_of, status_of}
 use Rattle.tp_model.specs.Words.{ClaimWord, FreeWord, TakenWord, KilledWord, Rises, attempt_in, claim_word, taken_status}
-use Rattle.tp_model.specs.Steps.{AreLimits, IsLegal, Step}
+use Rattle.tp_model.specs.Steps.{IsLegal, Step}
 use Rattle.tp_model.proofs.Lists.{if_same}
 use Rattle.tp_model.proofs.Histories.{legal_at, legal_start}
-use Rattle.tp_model.proofs.WordProofs.{end_of-snoc, words_rise}
+use Rattle.tp_model.proofs.WordProofs.{end_of-snoc}
 use Rattle.tp_model.proofs.Bridges.{append_nil, begins_refl, begins_trans, in_either, in_none, in_one, status_taken}
 use Rattle.tp_model.proofs.Later.{claim_stands}
 use Rattle.tp_rule.specs.Steps.{MakesAbort, MakesKill, HasElement, with_end, with_event}
@@ -31,7 +31,6 @@ use Rattle.tp_rule.specs.declared.view.View.{View}
 use Rattle.tp_manager.specs.Calls.{AreOfHolders, AtPoint, HasStatus, KillFails, Kills, OnlyAborts, claims_in, one_claim}
 use Rattle.tp_manager.specs.Kills.{FailsIn, Freed, KillsIn, Slain}
 use Rattle.tp_manager.specs.Walks.{Rests, Steady, Walked, Looked}
-use Rattle.tp_manager.proofs.Births.{attempt_range}
 use Rattle.tp_manager.proofs.Walks.{at_point, point_last, grew_hand, grew_walked, steady_own, walked_begins, walked_few, walked_then}
 
 module _ (l : Limits) where
@@ -184,7 +183,7 @@ no_claims l c i s t [] h = refl
 no_claims l c i s t (e ∷ es) h = let first : one_claim e ≡ 0 = ap one_claim (h e here).is_abort in let rest = no_claims l c i s t es (λ x p. h x (there p)) in omega arith
 
 module _ (l : Limits) (seat next : SeatShown) (number drawn used : ℕ) (same : (view_of seat).limits ≡ l) (r : Rests seat number drawn used None) where
-  rests_kill : (n : ℕ) (ms : List TraceEntry) (es : List Event) → Walked l n ms (view_of seat) (view_of next) → (hand (view_of next)).drawn ≡ (hand (view_of seat)).drawn → (hand (view_of next)).claimed ≡ (hand (view_of seat)).claimed
+  pub rests_kill : (n : ℕ) (ms : List TraceEntry) (es : List Event) → Walked l n ms (view_of seat) (view_of next) → (hand (view_of next)).drawn ≡ (hand (view_of seat)).drawn → (hand (view_of next)).claimed ≡ (hand (view_of seat)).claimed
       → (hand (view_of next)).mine ≡ (hand (view_of seat)).mine ++ es → claims_in es ≡ 0 → ((hand (view_of seat)).drafts ≡ [] → (hand (view_of next)).drafts ≡ []) → ((hand (view_of seat)).open_unit ≡ None → (hand (view_of next)).open_unit ≡ None) → Rests next number drawn used None
   rests_kill n ms es walk d c m none dr op = let lim : l ≡ (view_of next).limits = sym walk.steady.pass.1 in record {
     steady = steady_at l (view_of next).limits (view_of next) lim walk.steady;

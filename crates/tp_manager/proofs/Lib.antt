@@ -13,3 +13,12 @@ pub mod Shuts
 pub mod Kills
 pub mod Meetings
 pub mod Finds
+pub mod Counts
+pub mod Cancels
+pub mod Together
+pub mod RoundAccounts
+pub mod RowCounts
+pub mod Follows
+pub mod Stills
+pub mod Closing
+pub mod Accounted

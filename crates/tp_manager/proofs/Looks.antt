@@ -11,7 +11,7 @@ use Rattle.tp_model.specs.History.{IsUnborn, element_of, UnitEnd, Committed, Abo
 use Rattle.tp_model.specs.Words.{ClaimWord, FreeWord, TakenWord, KilledWord, Rises, attempt_in, claim_word, taken_status}
 use Rattle.tp_model.specs.Steps.{AreLimits, units_of, IsLegal}
 use Rattle.tp_model.proofs.WordProofs.{words_rise}
-use Rattle.tp_model.proofs.Bridges.{born_or_not, born_at, found_later, end_stays}
+use Rattle.tp_model.proofs.Bridges.{born_or_not, born_at, found_later}
 use Rattle.tp_model.proofs.Later.{committed_born, claim_stands, status_found, status_aborted}
 use Rattle.tp_words.specs.declared.words.Head.{Head}
 use Rattle.tp_words.specs.declared.words.Head.TheVariants.{Empty, There}

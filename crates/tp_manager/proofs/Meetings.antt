@@ -1,7 +1,6 @@
 -- Two passes that met.
-use Rattle.std.proofs.Common.{◌≡◌, ◌+◌, ◌*◌, ◌<◌, ◌≤◌, ℕ, Some, List, [], ◌∷◌, ◌++◌, length, refl, sym, ap, ◌∙◌, subst, arith, append_assoc}
+use Rattle.std.proofs.Common.{◌≡◌, ◌+◌, ◌*◌, ◌<◌, ◌≤◌, ℕ, Some, [], ◌∷◌, ◌++◌, length, refl, sym, ap, ◌∙◌, subst, arith, append_assoc}
 use mathlib.Core.List.{IsPrefix}
-use Rattle.tp_model.specs.declared.event.Event.{Event}
 use Rattle.tp_model.specs.declared.types.Limits.{Limits}
 use Rattle.tp_model.specs.History.{here, there, events_by}
 use Rattle.tp_model.specs.Passes.{IsOwnOpen}
@@ -23,7 +22,7 @@ use Rattle.tp_manager.proofs.Rows.{unborn_quiet}
 module _ (l : Limits) (v w : View) (s : Steady l v) (one : IsOnePass w) (lim : w.limits ≡ l) (legal : IsLegal l w.seen) (begins : IsPrefix v.seen w.seen) (own : (hand w).mine ≡ events_by (hand w).number w.seen)
     (open_own : (u : ℕ) → (hand w).open_unit ≡ Some u → IsOwnOpen w.seen (hand w).number u)
     (number : (hand w).number ≡ (hand v).number) (drawn : (hand w).drawn ≡ (hand v).drawn) (mine : (hand w).mine ≡ (hand v).mine) where
-  steady_seen : Steady l w
+  pub steady_seen : Steady l w
   steady_seen = record {
     pass = (one, lim);
     shows = record {

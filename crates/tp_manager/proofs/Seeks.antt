@@ -1,5 +1,5 @@
 -- A look at one row after another.
-use Rattle.std.proofs.Common.{◌≡◌, ◌≢◌, ◌⊎◌, ℕ, ◌+◌, ◌*◌, ◌<◌, ◌≤◌, List, ◌++◌, sym, refl, ap, ◌∙◌, subst, inl, inr, ⊎_elim, arith}
+use Rattle.std.proofs.Common.{◌≡◌, ◌≢◌, ℕ, ◌+◌, ◌*◌, ◌<◌, ◌≤◌, List, ◌++◌, sym, ap, ◌∙◌, subst, inl, inr, ⊎_elim, arith}
 use Rattle.std.proofs.lemmas.Bool.Decides.{eqb_tells}
 use mathlib.Core.List.{IsPrefix}
 use Rattle.tp_model.specs.declared.event.Event.{Event}
@@ -7,7 +7,6 @@ use Rattle.tp_model.specs.declared.types.Limits.{Limits}
 use Rattle.tp_model.specs.Passes.{opening_of}
 use Rattle.tp_model.proofs.Bridges.{begins_refl, begins_trans}
 use Rattle.tp_rule.specs.Views.{hand}
-use Rattle.tp_rule.specs.declared.view.Hand.{Hand}
 use Rattle.tp_rule.specs.declared.view.View.{View}
 use Rattle.tp_manager.specs.Walks.{Acted, Begun, EachRow, Looked, Sought, Steady, with_trace}
 use Rattle.tp_manager.proofs.Points.{has_more, opening_kept}

@@ -1,7 +1,7 @@
 -- How many atomic steps the calls make at most. Each is what the call can need, and no more.
-use Rattle.std.specs.Prelude.{ℕ, ◌+◌, ◌*◌, ◌≤◌}
+use Rattle.std.specs.Prelude.{ℕ, ◌+◌, ◌-◌, ◌*◌, ◌≤◌}
 use Rattle.tp_model.specs.declared.types.Limits.{Limits}
-use Rattle.tp_model.specs.Steps.{rows_of}
+use Rattle.tp_model.specs.Steps.{AreLimits, rows_of}
 
 -- the key and the amount of an element
 abbrev pub body_steps : ℕ
@@ -45,6 +45,14 @@ slay_steps l = 2 + retry_steps l.attempts
 abbrev pub kill_steps : Limits → ℕ
 kill_steps l = birth_steps + slay_steps l
 
+-- a round of a cancel: a kill at every row
+abbrev pub round_steps : Limits → ℕ
+round_steps l = rows_of l * kill_steps l
+
+-- whether the root is born; then each round but the last finds more rows of the family than the one before it
+abbrev pub cancel_steps : Limits → ℕ
+cancel_steps l = birth_steps + (rows_of l + 1) * round_steps l
+
 -- what a listing makes at a row
 abbrev pub look_steps : Limits → ℕ
 look_steps l = birth_steps + status_steps l
@@ -70,6 +78,27 @@ meet_steps = 3
 abbrev pub met_steps : ℕ
 met_steps = 1
 
+-- n passes look together: the first meets each other one, and then all others at once
+abbrev pub lead_steps : ℕ → ℕ
+lead_steps n = meet_steps * n
+
+-- each other one is met, joins those before it, looks with all, and parts from them
+abbrev pub led_steps : ℕ
+led_steps = 4
+
+-- the first of n passes in an account: it meets the keeper's seat, looks together with all, looks at every row, and
+-- looks together with all again
+abbrev pub first_steps : Limits → ℕ → ℕ
+first_steps l n = meet_steps + 2 * lead_steps n + rows_of l * look_steps l
+
+-- a pass that isn't given out is met with the keeper's seat, and is there as all look together
+abbrev pub kept_steps : ℕ
+kept_steps = 3
+
+-- an account by n passes: the steps of these, and of those that aren't given out
+abbrev pub account_steps : Limits → ℕ → ℕ
+account_steps l n = first_steps l n + 2 * led_steps * (n - 1) + kept_steps * (l.parts - n)
+
 -- the bounds as round numbers over the limits
 pub record RoundBounds (l : Limits) : Type 0 where
   pub submit : submit_steps ≤ 4
@@ -77,7 +106,10 @@ pub record RoundBounds (l : Limits) : Type 0 where
   pub commit : (k : ℕ) → commit_steps k ≤ 4 * k + 3
   pub abort : abort_steps ≤ 2
   pub kill : kill_steps l ≤ 4 * l.attempts + 8
+  pub cancel : 1 ≤ rows_of l → cancel_steps l ≤ (rows_of l + 2) * (rows_of l * (4 * l.attempts + 12))
   pub read : read_steps l ≤ 2 * l.attempts + 8
   pub reply : reply_steps l ≤ rows_of l * (2 * l.attempts + 8)
   pub next_error : next_error_steps l ≤ rows_of l * (2 * l.attempts + 8)
   pub meet : meet_steps ≤ 3
+  pub account : AreLimits l → (n : ℕ) → n ≤ l.parts
+      → account_steps l n ≤ rows_of l * (2 * (4 * l.attempts + 3) + 10) + 2 * l.parts

@@ -91,11 +91,8 @@ SubmitRefused stage old e = ((e ≡ refusals.BadStage) × ¬ IsServerStage stage
 
 -- how many claims there are among the events
 abbrev pub one_claim : Event → ℕ
-one_claim (Enqueue c x) = 0
 one_claim (Claim c u i n) = 1
-one_claim (Commit c u outs) = 0
-one_claim (Abort c u) = 0
-one_claim (Kill c i) = 0
+one_claim other = 0
 
 abbrev pub claims_in : List Event → ℕ
 claims_in [] = 0
@@ -228,12 +225,9 @@ HasStatus l id s h = (x : Element) × (element_of h id ≡ Some x) × (status_of
 
 -- why a kill was refused
 abbrev pub KillFails : Limits → ℕ → PassShown → PassShown → Refusal → Type 0
-KillFails l id old new refusals.NoMemory = ⊥
-KillFails l id old new refusals.BadLimits = ⊥
-KillFails l id old new refusals.BadStage = ⊥
 KillFails l id old new refusals.NotThere = IsQuiet old new × AtPoint old new (λ h. IsUnborn h id)
 KillFails l id old new (refusals.Consumed u) = OnlyAborts l id old new
     × AtPoint old new (HasStatus l id (statuses.Consumed u))
 KillFails l id old new refusals.AlreadyKilled = OnlyAborts l id old new
     × AtPoint old new (HasStatus l id statuses.Killed)
-KillFails l id old new refusals.Full = ⊥
+KillFails l id old new other = ⊥

@@ -1,6 +1,6 @@
 -- What a kill does on its way. In each definition l are the table's limits, i is the row, v is the view before, and w
 -- the view after.
-use Rattle.std.specs.Prelude.{◌≡◌, ℕ, ◌+◌, ◌<◌, ◌≤◌, List, [], ◌∷◌, ◌++◌, length, Some, None}
+use Rattle.std.specs.Prelude.{◌≡◌, ℕ, ◌≤◌, List, [], ◌∷◌, ◌++◌, length, Some, None}
 use mathlib.Core.List.{IsPrefix}
 use Rattle.tp_model.specs.declared.types.Limits.{Limits}
 use Rattle.tp_model.specs.declared.types.Refusal.{Refusal}
@@ -42,13 +42,9 @@ pub record Slain (l : Limits) (n i : ℕ) (es : List Event) (v w : View) : Type 
 
 -- the element can't be killed any more
 abbrev pub IsPastKill : Limits → List Event → ℕ → Refusal → Type 0
-IsPastKill l h i refusals.NoMemory = ⊥
-IsPastKill l h i refusals.BadLimits = ⊥
-IsPastKill l h i refusals.BadStage = ⊥
-IsPastKill l h i refusals.NotThere = ⊥
 IsPastKill l h i (refusals.Consumed u) = status_of l.attempts h i ≡ statuses.Consumed u
 IsPastKill l h i refusals.AlreadyKilled = status_of l.attempts h i ≡ statuses.Killed
-IsPastKill l h i refusals.Full = ⊥
+IsPastKill l h i other = ⊥
 
 -- unit u, which had taken the element, is aborted, in one step and by so many own Aborts, none or one
 abbrev pub Loosened : Limits → ℕ → ℕ → ℕ → View → View → Type 0

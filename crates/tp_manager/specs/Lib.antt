@@ -7,3 +7,7 @@ pub mod Kills
 pub mod Meetings
 pub mod Lists
 pub mod Finds
+pub mod Cancels
+pub mod Rounds
+pub mod Accounts
+pub mod Together

@@ -1,11 +1,12 @@
 -- What contracts see of a manager, of its keeper, and of a pass.
-use Rattle.std.specs.Prelude.{◌≡◌, ℕ, Option, List}
+use Rattle.std.specs.Prelude.{◌≡◌, ℕ, ◌+◌, Option, List, [], ◌∷◌, length}
 use Rattle.atomic_table.specs.Seated.{TableId}
 use Rattle.tp_model.specs.declared.types.Limits.{Limits}
 use Rattle.tp_model.specs.declared.event.Event.{Event}
 use Rattle.tp_model.specs.declared.trace.TraceEntry.{TraceEntry}
 use Rattle.tp_model.specs.Passes.{PassView}
 use Rattle.tp_rule.specs.Views.{hand}
+use Rattle.tp_rule.specs.declared.view.Hand.{Hand}
 use Rattle.tp_rule.specs.declared.view.View.{View}
 
 -- a manager shows which table it has, and the limits that it was made with
@@ -13,11 +14,14 @@ pub record ManagerShown : Type 0 where
   pub table : TableId
   pub limits : Limits
 
--- a keeper shows these, and how many passes it has given out
+-- a keeper shows these, how many passes it has given out, what those to come will have seen, and how many steps they
+-- have made, all together
 pub record KeeperShown : Type 0 where
   pub table : TableId
   pub limits : Limits
   pub given : ℕ
+  pub seen : List Event
+  pub steps : ℕ
 
 -- a pass shows these, and what the definitions say that a pass shows
 pub record PassShown : Type 0 where
@@ -29,6 +33,11 @@ pub record PassShown : Type 0 where
   pub open_unit : Option ℕ
   pub drawn : ℕ
   pub trace : List TraceEntry
+
+-- the steps of these passes, all together
+abbrev pub steps_in : List Hand → ℕ
+steps_in [] = 0
+steps_in (a ∷ hands) = length a.trace + steps_in hands
 
 -- what the definitions say that a pass shows
 abbrev pub view_in : PassShown → PassView

@@ -1,15 +1,15 @@
 -- What the view of a pass keeps over some of a call's steps. In each definition l are the table's limits, v is the
 -- view before, and w the view after.
-use Rattle.std.specs.Prelude.{◌≡◌, ◌⊎◌, ℕ, ◌+◌, ◌-◌, ◌*◌, ◌<◌, ◌≤◌, List, [], ◌∷◌, ◌++◌, length, Option, Some, None}
+use Rattle.std.specs.Prelude.{◌≡◌, ◌⊎◌, ℕ, ◌+◌, ◌-◌, ◌*◌, ◌<◌, ◌≤◌, List, [], ◌∷◌, ◌++◌, length, map, Option, Some, None}
 use mathlib.Core.List.{IsPrefix}
 use Rattle.tp_model.specs.declared.types.Element.{Element}
 use Rattle.tp_model.specs.declared.types.Limits.{Limits}
 use Rattle.tp_model.specs.declared.event.Event.{Event}
 use Rattle.tp_model.specs.declared.trace.TraceEntry.{TraceEntry}
-use Rattle.tp_model.specs.History.{IsClaim, element_of, status_of}
+use Rattle.tp_model.specs.History.{IsClaim, element_of, events_by, status_of}
 use Rattle.tp_model.specs.Drafts.{DraftView}
 use Rattle.tp_model.specs.Passes.{HasLook, PassView, IsPassView, opening_of}
-use Rattle.tp_model.specs.Steps.{AreLimits}
+use Rattle.tp_model.specs.Steps.{AreLimits, IsLegal}
 use Rattle.tp_rule.specs.Views.{SeatShown, IsOnePass, fresh_from, hand, view_of}
 use Rattle.tp_rule.specs.declared.view.Hand.{Hand}
 use Rattle.tp_rule.specs.declared.view.View.{View}
@@ -84,13 +84,19 @@ pub record Rests (seat : SeatShown) (number drawn used : ℕ) (task : Option Tas
   pub open_is : (hand (view_of seat)).open_unit ≡ unit_in task
   pub work : IsTask (view_of seat).seen number task
 
--- what is so of every keeper: its seat stands for the passes that are not given out, and has seen nothing
+-- the passes without their traces
+abbrev pub untraced : List Hand → List Hand
+untraced hands = map (with_trace []) hands
+
+-- what is so of every keeper: its seat stands for the passes that are not given out. They have done nothing but look, and
+-- what they have seen is a legal history without an event of theirs
 pub record Keeps (seat : SeatShown) (limits : Limits) (given : ℕ) : Type 0 where
   pub valid : AreLimits limits
   pub limits_are : (view_of seat).limits ≡ limits
   pub below : given ≤ limits.parts
-  pub rest : (view_of seat).hands ≡ fresh_from given (limits.parts - given)
-  pub unseen : (view_of seat).seen ≡ []
+  pub rest : untraced (view_of seat).hands ≡ fresh_from given (limits.parts - given)
+  pub legal : IsLegal limits (view_of seat).seen
+  pub none : (c : ℕ) → given ≤ c → events_by c (view_of seat).seen ≡ []
 
 -- an element of the stage that was born in row i in history a wasn't waiting in some history from a to b
 abbrev pub PassedBy : Limits → ℕ → ℕ → List Event → List Event → Type 0

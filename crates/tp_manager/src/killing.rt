@@ -79,7 +79,7 @@ impl Shared {
     }
 
     /// Kills the element that is born in the row. How many units it aborted, at most as many as attempts are allowed.
-    fn kill_row(&self, seat: &mut Seat, row: u32) -> Result<u8, Refusal>
+    pub(crate) fn kill_row(&self, seat: &mut Seat, row: u32) -> Result<u8, Refusal>
         requires own { IsSeatOf self.now.words seat.old }
         requires steady { Steady (limits_of self.now.words) (view_of seat.old) }
         requires row { (row < rows_of (limits_of self.now.words)) × HasElement (seen_by seat.old) row }

@@ -1,7 +1,9 @@
 //! The manager of queued requests: every call answers at a point of one history.
 #![tactic(auto)]
 
+mod accounting;
 mod bounds;
+mod cancelling;
 mod claiming;
 mod drafting;
 mod ending;

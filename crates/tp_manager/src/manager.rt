@@ -1,5 +1,5 @@
 //! The manager, the keeper that hands out its passes, and the passes.
-ghost use Rattle.std.specs.Prelude.{◌≡◌, ◌↔◌, ◌+◌, ◌-◌, ◌≤◌, [], true, false, None, IfOk, IfErr, is_some, Err};
+ghost use Rattle.std.specs.Prelude.{◌≡◌, ◌↔◌, ◌+◌, ◌-◌, ◌≤◌, [], length, true, false, None, IfOk, IfErr, is_some, Err};
 ghost use Rattle.tp_model.specs.Steps.{AreLimits, rows_of};
 ghost use Rattle.tp_model.specs.Passes.{IsPassView};
 ghost use Rattle.tp_rule.specs.Views.{fresh_from, view_of};
@@ -50,17 +50,23 @@ impl Model for Manager {
 /// What gives out the passes of a manager.
 #[derive(Drop)]
 pub struct Keeper {
-    seat: Seat,
+    pub(crate) seat: Seat,
     limits: Limits,
-    given: u16,
+    pub(crate) given: u16,
 }
 
 impl Model for Keeper {
-    ghost use Rattle.tp_manager.specs.Shown.{KeeperShown};
+    ghost use Rattle.tp_manager.specs.Shown.{KeeperShown, steps_in};
 
     ghost Value = { KeeperShown };
 
-    ghost view = { λ k. record { table = k.seat.table; limits = k.limits; given = k.given } };
+    ghost view = { λ k. record {
+      table = k.seat.table;
+      limits = k.limits;
+      given = k.given;
+      seen = k.seat.view.seen;
+      steps = steps_in k.seat.view.hands;
+    } };
 
     ghost use Rattle.tp_manager.specs.Walks.{Keeps};
 
@@ -102,6 +108,7 @@ impl Keeper {
     /// `NoMemory` only where the allocator refused.
     pub fn new(alloc: Global, limits: Limits) -> Result<(Manager, Keeper), MakeFault>
         ensures keeper { IfOk result (λ made. IsKeptBy made.0 made.1 × (made.1.given ≡ 0)) }
+        ensures fresh { IfOk result (λ made. (made.1.seen ≡ []) × (made.1.steps ≡ 0)) }
         ensures limits { IfOk result (λ made. (made.0.limits ≡ limits) × AreLimits limits) }
         ensures bad { (result ≡ Err faults.BadLimits) ↔ (¬ AreLimits limits) }
         ensures part { ¬ (result ≡ Err faults.NoPart) }
@@ -132,8 +139,10 @@ impl Keeper {
         ensures own { IfOk result (λ pass. IsOf manager.now pass
             × IsPassView pass.limits (view_in pass)) }
         ensures fresh { IfOk result (λ pass. (pass.number ≡ self.old.given) × (pass.mine ≡ [])
-            × (pass.seen ≡ []) × (pass.open_unit ≡ None) × (pass.drawn ≡ 0)) }
-        ensures given { IfOk result (λ pass. self.new.given ≡ self.old.given + 1) }
+            × (pass.seen ≡ self.old.seen) × (pass.open_unit ≡ None) × (pass.drawn ≡ 0)) }
+        ensures given { IfOk result (λ pass. (self.new.given ≡ self.old.given + 1)
+            × (self.new.seen ≡ self.old.seen)) }
+        ensures steps { IfOk result (λ pass. length pass.trace + self.new.steps ≡ self.old.steps + 1) }
         ensures none { IfErr result (λ fault. (fault ≡ faults.NoPart)
             × (self.old.given ≡ self.old.limits.parts) × (self.new ≡ self.old)) }
     {

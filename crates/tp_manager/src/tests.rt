@@ -2,6 +2,9 @@
 ghost use Rattle.std.specs.Prelude.{◌≡◌, None, IfSome};
 ghost use Rattle.tp_manager.specs.Shown.{IsKeptBy, IsOf};
 
+mod accounts;
+mod asking;
+mod cancels;
 mod examples;
 mod kills;
 mod refusals;
@@ -9,7 +12,7 @@ mod threads;
 
 use crate::{Keeper, Manager, Pass};
 use std::alloc::Global;
-use tp_model::types::{Element, Limits, Look, Refusal, Status};
+use tp_model::types::{Element, Limits};
 
 /// Two passes with four rows and two units each, and two attempts for each element.
 const SMALL: Limits = Limits {
@@ -50,9 +53,4 @@ fn request(id: u32, stage: u8, key: u64, amount: u64) -> Element {
         amount,
         by: None,
     }
-}
-
-/// What a read answers that finds this.
-fn found(element: Element, status: Status) -> Result<Look, Refusal> {
-    Ok(Look { element, status })
 }

@@ -9,3 +9,8 @@ pub mod Walks
 pub mod RowProofs
 pub mod Bridges
 pub mod Later
+pub mod Families
+pub mod Tallies
+pub mod Stages
+pub mod RowTallies
+pub mod Takings

@@ -1,81 +1,48 @@
 -- What is counted and listed over a history.
-use Rattle.std.specs.Prelude.{◌≢◌, ℕ, ◌==◌, Bool, true, false, Option, None, List, filter, count_by, All}
+use Rattle.std.specs.Prelude.{ℕ, ◌==◌, Bool, true, false, Option, None, List, filter, count_by}
 use Rattle.std.specs.List.{filter_map}
 use Rattle.std.specs.Option.{option_and_then}
+use Rattle.tp_model.specs.declared.types.Counts.{Counts}
 use Rattle.tp_model.specs.declared.types.Element.{Element}
 use Rattle.tp_model.specs.declared.types.Status.{Status}
 use Rattle.tp_model.specs.declared.types.Status.TheVariants.{Waiting, Held, Consumed, Parked, Killed}
 use Rattle.tp_model.specs.declared.event.Event.{Event}
-use Rattle.tp_model.specs.declared.event.Event.TheVariants.{Enqueue, Claim, Commit, Abort, Kill}
-use Rattle.tp_model.specs.History.{born, element_of, UnitClaim, claim_of, status_of, IsSettled}
+use Rattle.tp_model.specs.declared.event.Event.TheVariants.{Commit}
+use Rattle.tp_model.specs.History.{born, element_of, UnitClaim, claim_of, status_of}
 
 -- the born element that the unit of a Commit among `events` claimed there
 abbrev pub taken_by : List Event → List Event → Event → Option Element
-taken_by events h (Enqueue c e) = None
-taken_by events h (Claim c u i n) = None
 taken_by events h (Commit c u outs) = option_and_then (λ (t : UnitClaim). element_of h t.item) (claim_of events u)
-taken_by events h (Abort c u) = None
-taken_by events h (Kill c i) = None
+taken_by events h other = None
 
 -- the elements that these events consumed, in the order of their Commits
 abbrev pub taken : List Event → List Event → List Element
 taken events h = filter_map (taken_by events h) events
 
--- the born elements with this root
-abbrev pub family : List Event → ℕ → List Element
-family h root = filter (λ e. e.root == root) (born h)
-
--- each element of this family that is no reply is consumed or killed
-abbrev pub IsSettledFamily : ℕ → List Event → ℕ → Type 0
-IsSettledFamily limit h root = All (λ e. e.stage ≢ 15 → IsSettled (status_of limit h e.id)) (family h root)
-
 -- it waits
 abbrev pub is_waiting : Status → Bool
 is_waiting (Waiting n) = true
-is_waiting (Held u n) = false
-is_waiting (Consumed u) = false
-is_waiting (Parked n) = false
-is_waiting Killed = false
+is_waiting other = false
 
 -- an undecided unit holds it
 abbrev pub is_held : Status → Bool
-is_held (Waiting n) = false
 is_held (Held u n) = true
-is_held (Consumed u) = false
-is_held (Parked n) = false
-is_held Killed = false
+is_held other = false
 
 -- a committed unit took it
 abbrev pub is_consumed : Status → Bool
-is_consumed (Waiting n) = false
-is_consumed (Held u n) = false
 is_consumed (Consumed u) = true
-is_consumed (Parked n) = false
-is_consumed Killed = false
+is_consumed other = false
 
 -- it is parked
 abbrev pub is_parked : Status → Bool
-is_parked (Waiting n) = false
-is_parked (Held u n) = false
-is_parked (Consumed u) = false
 is_parked (Parked n) = true
-is_parked Killed = false
+is_parked other = false
 
 -- it was killed
 abbrev pub is_killed : Status → Bool
-is_killed (Waiting n) = false
-is_killed (Held u n) = false
-is_killed (Consumed u) = false
-is_killed (Parked n) = false
 is_killed Killed = true
-
--- how many elements there are of each kind of status
-pub record Counts : Type 0 where
-  pub waiting : ℕ
-  pub held : ℕ
-  pub consumed : ℕ
-  pub parked : ℕ
-  pub killed : ℕ
+is_killed other = false
 
 -- how many of these elements have such a status after a history
 abbrev pub count_of : ℕ → List Event → List Element → (Status → Bool) → ℕ
@@ -96,6 +63,10 @@ counts_among limit h elements =
 abbrev pub counts : ℕ → List Event → Counts
 counts limit h = counts_among limit h (born h)
 
+-- those of these elements that are of one stage
+abbrev pub in_stage : ℕ → List Element → List Element
+in_stage stage elements = filter (λ e. e.stage == stage) elements
+
 -- the counts of the born elements of one stage
 abbrev pub counts_in : ℕ → List Event → ℕ → Counts
-counts_in limit h stage = counts_among limit h (filter (λ e. e.stage == stage) (born h))
+counts_in limit h stage = counts_among limit h (in_stage stage (born h))

@@ -11,10 +11,8 @@ use Rattle.tp_model.specs.declared.event.Event.TheVariants.{Enqueue, Claim, Comm
 -- the elements that an event makes
 abbrev pub births : Event → List Element
 births (Enqueue c e) = e ∷ []
-births (Claim c u i n) = []
 births (Commit c u outs) = outs
-births (Abort c u) = []
-births (Kill c i) = []
+births other = []
 
 -- the elements that were born, in order
 abbrev pub born : List Event → List Element
@@ -38,11 +36,8 @@ pub record UnitClaim : Type 0 where
 
 -- the claim of unit u that an event is
 abbrev pub claim_by : ℕ → Event → Option UnitClaim
-claim_by u (Enqueue c e) = None
 claim_by u (Claim c v i n) = if v == u then Some (record { pass = c; item = i; attempt = n }) else None
-claim_by u (Commit c v outs) = None
-claim_by u (Abort c v) = None
-claim_by u (Kill c i) = None
+claim_by u other = None
 
 -- the claim of unit u
 abbrev pub claim_of : List Event → ℕ → Option UnitClaim
@@ -60,11 +55,9 @@ first_id (e ∷ es) = e.id
 
 -- the end of unit u that an event is
 abbrev pub end_by : ℕ → Event → Option UnitEnd
-end_by u (Enqueue c e) = None
-end_by u (Claim c v i n) = None
 end_by u (Commit c v outs) = if v == u then Some (Committed (first_id outs) (length outs)) else None
 end_by u (Abort c v) = if v == u then Some Aborted else None
-end_by u (Kill c i) = None
+end_by u other = None
 
 -- how unit u ended: `None` is undecided
 abbrev pub end_of : List Event → ℕ → Option UnitEnd
@@ -73,26 +66,20 @@ end_of h u = first (end_by u) h
 -- the status after unit u has committed
 abbrev pub committed : ℕ → Status → Status
 committed u (Held v n) = if u == v then Consumed v else Held v n
-committed u (Waiting n) = Waiting n
-committed u (Consumed v) = Consumed v
-committed u (Parked n) = Parked n
-committed u Killed = Killed
+committed u other = other
 
 -- the status after unit u was aborted, where `limit` attempts are allowed
 abbrev pub aborted : ℕ → ℕ → Status → Status
 aborted limit u (Held v n) = if u == v then (if nat_lt n limit then Waiting n else Parked n) else Held v n
-aborted limit u (Waiting n) = Waiting n
-aborted limit u (Consumed v) = Consumed v
-aborted limit u (Parked n) = Parked n
-aborted limit u Killed = Killed
+aborted limit u other = other
 
 -- the status of element i after one more event
 abbrev pub status_after : ℕ → ℕ → Status → Event → Status
-status_after limit i s (Enqueue c e) = s
 status_after limit i s (Claim c u j n) = if j == i then Held u n else s
 status_after limit i s (Commit c u outs) = committed u s
 status_after limit i s (Abort c u) = aborted limit u s
 status_after limit i s (Kill c j) = if j == i then Killed else s
+status_after limit i s other = s
 
 -- the status of element i: at its birth it waits, with no attempt so far
 abbrev pub status_of : ℕ → List Event → ℕ → Status
@@ -133,8 +120,6 @@ events_by c h = filter (λ e. pass_of e == c) h
 
 -- a consumed or killed element is settled
 abbrev pub IsSettled : Status → Type 0
-IsSettled (Waiting n) = ⊥
-IsSettled (Held u n) = ⊥
 IsSettled (Consumed u) = Unit {0}
-IsSettled (Parked n) = ⊥
 IsSettled Killed = Unit {0}
+IsSettled other = ⊥

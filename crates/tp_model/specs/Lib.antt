@@ -6,4 +6,6 @@ pub mod Laws
 pub mod Words
 pub mod Passes
 pub mod Counts
+pub mod Accounts
+pub mod Families
 pub mod Rows

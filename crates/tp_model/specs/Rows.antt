@@ -1,5 +1,6 @@
 -- Worked histories, with two passes (the second is the server's) of 8 rows and 256 units, and three attempts.
-use Rattle.std.specs.Prelude.{◌≡◌, ℕ, Some, List, [], ◌∷◌, map}
+use Rattle.std.specs.Prelude.{◌≡◌, ℕ, Some, List, [], ◌∷◌, ◌++◌, map, replicate}
+use Rattle.tp_model.specs.declared.types.Counts.{Counts}
 use Rattle.tp_model.specs.declared.types.Element.{Element}
 use Rattle.tp_model.specs.declared.types.Limits.{Limits}
 use Rattle.tp_model.specs.declared.types.Status.TheVariants.{Waiting, Consumed, Parked, Killed}
@@ -8,7 +9,9 @@ use Rattle.tp_model.specs.declared.event.Event.TheVariants.{Enqueue, Claim, Comm
 use Rattle.tp_model.specs.History.{born, Committed, end_of, status_of, events_by}
 use Rattle.tp_model.specs.Words.{TakenWord, KilledWord, claim_word}
 use Rattle.tp_model.specs.Counts.{taken, counts, counts_in}
-use Rattle.tp_model.specs.Steps.{IsLegal}
+use Rattle.tp_model.specs.Accounts.{account_of, elements_below, taken_of}
+use Rattle.tp_model.specs.Families.{family, IsSettledFamily}
+use Rattle.tp_model.specs.Steps.{IsLegal, rows_of}
 use Rattle.tp_model.specs.Births.{request}
 
 -- the limits of the worked histories
@@ -31,6 +34,10 @@ given_up = Enqueue 0 (request 0 1 0 11) ∷ Claim 1 256 0 1 ∷ Abort 1 256 ∷ 
 abbrev pub killed_in_hand : List Event
 killed_in_hand = Enqueue 0 (request 0 1 0 5) ∷ Claim 1 256 0 1 ∷ Abort 0 256 ∷ Kill 0 0 ∷ []
 
+-- so many wait and so many are consumed
+abbrev pub so_many : ℕ → ℕ → Counts
+so_many waiting consumed = record { waiting = waiting; held = 0; consumed = consumed; parked = 0; killed = 0 }
+
 -- what these histories come to
 pub record WorkedRows : Type 0 where
   pub reply_is : map (λ (e : Element). e.id) (born with_reply) ≡ 0 ∷ 8 ∷ []
@@ -38,10 +45,17 @@ pub record WorkedRows : Type 0 where
   pub reply_status : status_of 3 with_reply 0 ≡ Consumed 256
   pub reply_waits : status_of 3 with_reply 8 ≡ Waiting 0
   pub reply_taken : map (λ (e : Element). e.amount) (taken (events_by 1 with_reply) with_reply) ≡ 10 ∷ []
-  pub reply_counts : counts 3 with_reply ≡ record { waiting = 1; held = 0; consumed = 1; parked = 0; killed = 0 }
-  pub reply_stage_counts : counts_in 3 with_reply 15 ≡ record { waiting = 1; held = 0; consumed = 0; parked = 0; killed = 0 }
+  pub client_took_none : taken_of with_reply 0 ≡ []
+  pub reply_counts : counts 3 with_reply ≡ so_many 1 1
+  pub reply_stage_counts : counts_in 3 with_reply 15 ≡ so_many 1 0
+  pub reply_account : account_of 3 with_reply ≡ record { total = so_many 1 1; stages = so_many 0 1 ∷ replicate 13 (so_many 0 0) ++ so_many 1 0 ∷ [] }
+  pub reply_rows : map (λ (e : Element). e.id) (elements_below with_reply (rows_of row_limits)) ≡ 0 ∷ 8 ∷ []
   pub parked : status_of 3 given_up 0 ≡ Parked 3
   pub parked_word : claim_word given_up 0 ≡ TakenWord 3 258
   pub killed : status_of 3 killed_in_hand 0 ≡ Killed
   pub killed_word : claim_word killed_in_hand 0 ≡ KilledWord 1 256
+  pub reply_family : map (λ (e : Element). e.id) (family with_reply 0) ≡ 0 ∷ 8 ∷ []
+  pub reply_settled : IsSettledFamily 3 with_reply 0
+  pub parked_unsettled : ¬ IsSettledFamily 3 given_up 0
+  pub killed_settled : IsSettledFamily 3 killed_in_hand 0
   pub legal : IsLegal row_limits with_reply

@@ -4,7 +4,7 @@ use Rattle.std.specs.List.{fold}
 use Rattle.tp_model.specs.declared.types.Status.{Status}
 use Rattle.tp_model.specs.declared.types.Status.TheVariants.{Waiting, Held, Consumed, Parked, Killed}
 use Rattle.tp_model.specs.declared.event.Event.{Event}
-use Rattle.tp_model.specs.declared.event.Event.TheVariants.{Enqueue, Claim, Commit, Abort, Kill}
+use Rattle.tp_model.specs.declared.event.Event.TheVariants.{Claim, Kill}
 use Rattle.tp_model.specs.History.{UnitEnd, Committed, Aborted, end_of}
 
 -- never taken; taken for the n-th time, by unit u; or killed after that, with 0 and 0 if it was never taken
@@ -21,11 +21,9 @@ kill_word (KilledWord n u) = KilledWord n u
 
 -- the claim word of element i after one more event
 abbrev pub claim_word_after : ℕ → ClaimWord → Event → ClaimWord
-claim_word_after i w (Enqueue c e) = w
 claim_word_after i w (Claim c u j n) = if j == i then TakenWord n u else w
-claim_word_after i w (Commit c u outs) = w
-claim_word_after i w (Abort c u) = w
 claim_word_after i w (Kill c j) = if j == i then kill_word w else w
+claim_word_after i w other = w
 
 -- the claim word of element i
 abbrev pub claim_word : List Event → ℕ → ClaimWord

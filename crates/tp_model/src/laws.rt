@@ -1,6 +1,8 @@
 //! The laws of legal histories. These functions do nothing: their contracts are the laws.
 
 ghost use Rattle.tp_model.specs.Rows.{WorkedRows};
+ghost use Rattle.tp_model.specs.Accounts.{CountsAddUp, StagesAddUp, StagesInPlace, CountsByRows, ConsumedIsTaken, TakenIsConsumed};
+ghost use Rattle.tp_model.specs.Families.{NeverWorkedOn, SettledFamilyStays};
 ghost use Rattle.tp_model.specs.Laws.{ConsumedOnce, NeverClaimedAfterKill, NeverCommittedAfterKill, StatusSteps, BornStays, BornOnce, StatusByWords, WordsRise, SettledStays, UnitsStay};
 
 /// No element is consumed by two committed units.
@@ -33,9 +35,35 @@ pub fn later_histories()
     ensures words { WordsRise }
 {}
 
+/// Once the family of a client's element is settled, it stays so and nothing is born in it; no element of it is
+/// claimed any more, and no unit that claimed one commits.
+pub fn settled_for_good()
+    ensures never { NeverWorkedOn }
+    ensures stays { SettledFamilyStays }
+{}
+
 /// A status is read off two words.
 pub fn status_by_words()
     ensures { StatusByWords }
+{}
+
+/// In all and in each stage the five counts add up to the born elements. An account tells the counts of each stage, and
+/// these add up to the total.
+pub fn counts_add_up()
+    ensures kinds { CountsAddUp }
+    ensures stages { StagesAddUp }
+    ensures places { StagesInPlace }
+{}
+
+/// Who goes through the rows, one after another, counts each born element, and each once.
+pub fn counts_by_rows()
+    ensures { CountsByRows }
+{}
+
+/// The consumed elements are those that the passes consumed, each of them by one pass alone and once.
+pub fn consumed_by_passes()
+    ensures once { ConsumedIsTaken }
+    ensures only { TakenIsConsumed }
 {}
 
 /// Worked histories have the statuses, ends and counts that they are said to have.

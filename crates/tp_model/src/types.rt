@@ -127,6 +127,31 @@ pub struct Killed {
     pub units_aborted: u8,
 }
 
+/// The answer of a cancel.
+#[derive(Clone, Copy, Debug, PartialEq, Eq)]
+pub struct Cancelled {
+    /// How many elements this call killed.
+    pub killed: u32,
+}
+
+/// How many elements there are of each kind of status.
+#[derive(Clone, Copy, Debug, PartialEq, Eq)]
+pub struct Counts {
+    pub waiting: u32,
+    pub held: u32,
+    pub consumed: u32,
+    pub parked: u32,
+    pub killed: u32,
+}
+
+/// The closing account: how many elements there are of each kind of status, in all and by stage.
+#[derive(Clone, Copy, Debug, PartialEq, Eq)]
+pub struct Account {
+    pub total: Counts,
+    /// Those of stage s are at index s - 1.
+    pub stages: [Counts; 15],
+}
+
 /// Why a call was refused. A refused call changes nothing, but that a refused kill may have aborted units of work.
 #[derive(Clone, Copy, Debug, PartialEq, Eq)]
 pub enum Refusal {

@@ -1,5 +1,5 @@
 -- What a performed script writes.
-use Rattle.std.specs.Prelude.{◌≡◌, ℕ, List, length, Bool, true, false, slice_get, if◌then◌else◌}
+use Rattle.std.specs.Prelude.{◌≡◌, ℕ, ◌+◌, List, length, Bool, true, false, slice_get, if◌then◌else◌}
 use Rattle.tp_report.specs.declared.answer.ServerAnswer.TheVariants as told
 use Rattle.tp_report.specs.Answer.{balance_text, line, named_text}
 use Rattle.tp_script.specs.Passes.{has_race}
@@ -13,3 +13,11 @@ TellsBalance name k registers true text = text ≡ line (named_text name told.En
 -- how many final lines there are: one for each server, and none where there is a race
 abbrev pub final_count : ScriptView → ℕ
 final_count s = if has_race s.commands then 0 else length s.servers
+
+-- how many lines the closing account takes
+abbrev pub account_count : ScriptView → ℕ
+account_count s = if s.account then 1 else 0
+
+-- how many lines a script's report has: one for each command, the final lines, and the account
+abbrev pub line_count : ScriptView → ℕ
+line_count s = length s.commands + final_count s + account_count s

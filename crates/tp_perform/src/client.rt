@@ -1,12 +1,12 @@
 //! What the script's own client asks of the manager, through its pass.
-ghost use Rattle.std.specs.Prelude.{IfOk, string_bytes};
+ghost use Rattle.std.specs.Prelude.{◌≡◌, IfOk, string_bytes};
 ghost use Rattle.tp_report.specs.Lines.{IsLine};
 ghost use Rattle.tp_workers.specs.Free.{IsFreePass};
 
 use std::alloc::{AllocError, Global};
 use std::string::String;
 use tp_manager::{Manager, Pass};
-use tp_model::types::Status;
+use tp_model::types::{Counts, Status};
 use tp_report::{Answer, line};
 
 /// `submit STAGE KEY AMOUNT`
@@ -18,7 +18,8 @@ pub(crate) fn submit(
     amount: u64,
 ) -> Answer<'static>
     requires { IsFreePass manager.now client.old }
-    ensures { IsFreePass manager.now client.new }
+    ensures free { IsFreePass manager.now client.new }
+    ensures number { client.new.number ≡ client.old.number }
 {
     match manager.submit(client, stage, key, amount) {
         Ok(id) => Answer::Submitted { id },
@@ -29,7 +30,8 @@ pub(crate) fn submit(
 /// `kill ID`
 pub(crate) fn kill(manager: &Manager, client: &mut Pass, id: u32) -> Answer<'static>
     requires { IsFreePass manager.now client.old }
-    ensures { IsFreePass manager.now client.new }
+    ensures free { IsFreePass manager.now client.new }
+    ensures number { client.new.number ≡ client.old.number }
 {
     match manager.kill(client, id) {
         Ok(killed) => Answer::Killed {
@@ -40,10 +42,26 @@ pub(crate) fn kill(manager: &Manager, client: &mut Pass, id: u32) -> Answer<'sta
     }
 }
 
+/// `cancel ROOT`
+pub(crate) fn cancel(manager: &Manager, client: &mut Pass, root: u32) -> Answer<'static>
+    requires { IsFreePass manager.now client.old }
+    ensures free { IsFreePass manager.now client.new }
+    ensures number { client.new.number ≡ client.old.number }
+{
+    match manager.cancel(client, root) {
+        Ok(cancelled) => Answer::Cancelled {
+            root,
+            killed: cancelled.killed,
+        },
+        Err(why) => Answer::Refused(why),
+    }
+}
+
 /// `read ID`
 pub(crate) fn read(manager: &Manager, client: &mut Pass, id: u32) -> Answer<'static>
     requires { IsFreePass manager.now client.old }
-    ensures { IsFreePass manager.now client.new }
+    ensures free { IsFreePass manager.now client.new }
+    ensures number { client.new.number ≡ client.old.number }
 {
     match manager.read(client, id) {
         Ok(look) => Answer::Read(look),
@@ -60,6 +78,7 @@ pub(crate) fn replies(
 ) -> Result<String, AllocError>
     requires { IsFreePass manager.now client.old }
     ensures free { IsFreePass manager.now client.new }
+    ensures number { client.new.number ≡ client.old.number }
     ensures line { IfOk result (λ text. IsLine (string_bytes text)) }
 {
     let mut found = Vec::new(alloc);
@@ -86,6 +105,7 @@ pub(crate) fn errors(
 ) -> Result<String, AllocError>
     requires { IsFreePass manager.now client.old }
     ensures free { IsFreePass manager.now client.new }
+    ensures number { client.new.number ≡ client.old.number }
     ensures line { IfOk result (λ text. IsLine (string_bytes text)) }
 {
     let mut parked = Vec::new(alloc);
@@ -104,7 +124,8 @@ pub(crate) fn errors(
 /// `count`: how many elements stand in each way, over all ids below the capacity.
 pub(crate) fn count(manager: &Manager, client: &mut Pass) -> Answer<'static>
     requires { IsFreePass manager.now client.old }
-    ensures { IsFreePass manager.now client.new }
+    ensures free { IsFreePass manager.now client.new }
+    ensures number { client.new.number ≡ client.old.number }
 {
     let mut waiting = 0;
     let mut held = 0;
@@ -123,11 +144,11 @@ pub(crate) fn count(manager: &Manager, client: &mut Pass) -> Answer<'static>
             Status::Killed => killed += 1,
         }
     }
-    Answer::Count {
+    Answer::Count(Counts {
         waiting,
         held,
         consumed,
         parked,
         killed,
-    }
+    })
 }

@@ -2,7 +2,7 @@
 ghost use Rattle.std.specs.Prelude.{◌≡◌};
 ghost use Rattle.tp_manager.specs.Shown.{IsOf};
 ghost use Rattle.tp_desk.specs.Steady.{IsSameDesk, SteadyDesk, shown};
-ghost use Rattle.tp_perform.specs.Places.{Lies};
+ghost use Rattle.tp_perform.specs.Places.{Lies, first_of};
 
 use crate::place::Place;
 use tp_desk::{Desk, Turned};
@@ -35,6 +35,7 @@ pub(crate) fn act_at(
     requires lies { Lies recipe registers pending pass.old server.old place.old.aside }
     ensures own { IsOf manager.now pass.new }
     ensures lies { Lies recipe registers pending pass.new server.new place.new.aside }
+    ensures began { first_of place.new ≡ first_of place.old }
 {
     if place.is_dropped {
         return ServerAnswer::Ended;

@@ -1,6 +1,7 @@
 //! Scripts performed over the shared manager: from a reader's bytes to the lines of a report.
 #![tactic(auto)]
 
+pub mod account;
 mod client;
 mod desks;
 pub mod finals;

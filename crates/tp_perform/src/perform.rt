@@ -1,47 +1,47 @@
 //! A script performed over the shared manager: each server at a desk of its own, each command one line of the report.
-ghost use Rattle.std.specs.Prelude.{◌≡◌, ◌<◌, None, All, IfOk, IfSome, IsErrOf, IsTrue, OnErr, OnOk, length, slice_get, string_bytes};
+ghost use Rattle.std.specs.Prelude.{◌≡◌, ◌<◌, ◌≤◌, None, All, IfOk, IfSome, IsErrOf, IsTrue, OnErr, OnOk, length, slice_get, string_bytes};
 ghost use Rattle.tp_manager.specs.Shown.{IsOf};
-ghost use Rattle.tp_workers.specs.Free.{IsFreePass};
+ghost use Rattle.tp_workers.specs.Free.{IsFreePass, numbers};
 ghost use Rattle.tp_report.specs.Answer.{line, named_text};
 ghost use Rattle.tp_report.specs.Lines.{IsLine, Writes, WritesFront};
 ghost use Rattle.tp_perform.specs.Performing.{TellsBalance};
-ghost use Rattle.tp_perform.specs.Places.{AllLie, Lies};
+ghost use Rattle.tp_perform.specs.Places.{AllLeft, AllLie, IsLeft, Lies, all_firsts, first_of, firsts, workers};
 ghost use Rattle.tp_script.specs.Passes.{racers as racers_of, racing};
 ghost use Rattle.tp_script.specs.Ranges.{IsInRange};
 ghost use Rattle.tp_script.specs.Script.{passes as passes_of, script_view};
+ghost use Rattle.tp_script.specs.declared.script.TheConstants.{MOST_SERVERS};
 
 use crate::client;
 use crate::desks::{Act, act_at};
 use crate::place::Place;
 use crate::racing::{RacePlan, drain_all, run_race};
+use arrayvec::ArrayVec;
 use std::alloc::{AllocError, Global};
 use std::string::String;
 use std::thread::Threads;
 use tp_desk::{Aside, Desk};
 use tp_manager::{Manager, Pass};
 use tp_report::{Answer, RunFault, ServerAnswer, Sink, line, write_all};
-use tp_script::{Command, Script, ScriptServer};
+use tp_script::{Command, MOST_SERVERS, Script, ScriptServer};
 use tp_server::Server;
 
 /// A place for each server, whose desk has nothing in hand.
-fn places_for(
-    alloc: Global,
-    passes: &[Pass],
-    servers: &[Box<dyn Server + Send>],
-) -> Result<Vec<Place>, AllocError>
+fn places_for(passes: &[Pass], servers: &[Box<dyn Server + Send>]) -> ArrayVec<Place, MOST_SERVERS>
     requires free { All (λ pass. pass.open_unit ≡ None) passes.now }
     requires clear { All (λ server. pending server ≡ None) servers.now }
     requires paired { length passes.now ≡ length servers.now }
-    ensures lie { IfOk result (λ places. AllLie recipe registers pending passes.now servers.now places.items) }
+    requires few { length servers.now ≤ MOST_SERVERS }
+    ensures lie { AllLie recipe registers pending passes.now servers.now result.items }
+    ensures began { firsts result.items ≡ all_firsts passes.now servers.now }
 {
-    let mut places = Vec::new(alloc);
+    let mut places = ArrayVec::new();
     for i in 0..servers.len() {
         places.push(Place {
             aside: Some(Aside::nothing(&passes[i], &servers[i])),
             is_dropped: false,
-        })?;
+        });
     }
-    Ok(places)
+    places
 }
 
 /// Ends all desks: what they have in hand is given up.
@@ -55,6 +55,7 @@ fn end_all(
     requires lie { AllLie recipe registers pending passes.old servers.old places.old }
     ensures free { All (IsFreePass manager.now) passes.new }
     ensures clear { All (λ server. pending server ≡ None) servers.new }
+    ensures left { AllLeft recipe registers (firsts places.old) passes.new servers.new }
 {
     let Some((pass, passes)) = passes.split_first_mut() else {
         return;
@@ -80,6 +81,7 @@ fn end_at(
     requires lies { Lies recipe registers pending pass.old server.old place.old.aside }
     ensures free { IsFreePass manager.now pass.new }
     ensures clear { pending server.new ≡ None }
+    ensures left { IsLeft recipe registers (first_of place.old) pass.new server.new }
 {
     let Some(aside) = place.aside.take() else {
         unreachable!();
@@ -156,6 +158,7 @@ fn desk_line(
     ensures own { All (IsOf manager.now) passes.new }
     ensures lie { AllLie recipe registers pending passes.new servers.new places.new }
     ensures as_many { length places.new ≡ length places.old }
+    ensures began { firsts places.new ≡ firsts places.old }
     ensures line { IfOk result (λ text. IsLine (string_bytes text)) }
 {
     let answer = act_in(manager, passes, servers, places, server, act);
@@ -177,6 +180,7 @@ fn act_in(
     ensures own { All (IsOf manager.now) passes.new }
     ensures lie { AllLie recipe registers pending passes.new servers.new places.new }
     ensures as_many { length places.new ≡ length places.old }
+    ensures began { firsts places.new ≡ firsts places.old }
 {
     act_at(
         manager,
@@ -208,10 +212,13 @@ fn command_line<R: Threads + Sync>(
     requires enough { length racers.old ≡ racers_of command }
     requires in_range { IsInRange (length script.now.servers.items) command }
     ensures client { IsFreePass manager.now client.new }
+    ensures client_number { client.new.number ≡ client.old.number }
     ensures own { All (IsOf manager.now) passes.new }
     ensures lie { AllLie recipe registers pending passes.new servers.new places.new }
     ensures as_many { length places.new ≡ length places.old }
+    ensures began { firsts places.new ≡ firsts places.old }
     ensures racers { All (IsFreePass manager.now) racers.new }
+    ensures racers_numbered { numbers racers.new ≡ numbers racers.old }
     ensures line { IfOk result (λ text. IsLine (string_bytes text)) }
 {
     let named = script.servers.as_slice();
@@ -220,6 +227,7 @@ fn command_line<R: Threads + Sync>(
             line(alloc, client::submit(manager, client, stage, key, amount))
         }
         Command::Kill { id } => line(alloc, client::kill(manager, client, id)),
+        Command::Cancel { root } => line(alloc, client::cancel(manager, client, root)),
         Command::Read { id } => line(alloc, client::read(manager, client, id)),
         Command::Reply { root } => client::replies(alloc, manager, client, root),
         Command::Errors => client::errors(alloc, manager, client),
@@ -346,9 +354,12 @@ fn perform_all<R: Threads + Sync, W: Sink>(
     requires racers { All (IsFreePass manager.now) racers.old }
     requires enough { length racers.old ≡ racing script.now.commands.items }
     ensures client { IsFreePass manager.now client.new }
+    ensures client_number { client.new.number ≡ client.old.number }
     ensures own { All (IsOf manager.now) passes.new }
     ensures lie { AllLie recipe registers pending passes.new servers.new places.new }
+    ensures began { firsts places.new ≡ firsts places.old }
     ensures racers { All (IsFreePass manager.now) racers.new }
+    ensures racers_numbered { numbers racers.new ≡ numbers racers.old }
     ensures done { OnOk result (Writes (length script.now.commands.items)
         (W.contents writer.old) (W.contents writer.new)) }
     ensures front { OnErr result (WritesFront (length script.now.commands.items)
@@ -371,8 +382,8 @@ fn perform_all<R: Threads + Sync, W: Sink>(
 
 /// Performs the commands of a script over the manager, each server at a desk of its own, and writes a line for each as it
 /// comes. The passes are the manager's: the client's, then one for each server, then those of each race. The servers are the
-/// script's, in their order. When the commands are done, and after a fault, all desks are ended. What was done before a
-/// fault stands.
+/// script's, in their order. When the commands are done, and after a fault, all desks are ended: each server's registers are
+/// then what its recipe makes of what its pass has committed. What was done before a fault stands.
 pub fn perform<R: Threads + Sync, W: Sink>(
     rt: &R,
     alloc: Global,
@@ -387,7 +398,10 @@ pub fn perform<R: Threads + Sync, W: Sink>(
     requires servers { All (λ server. pending server ≡ None) servers.old }
     requires all { length servers.old ≡ length script.now.servers.items }
     ensures passes { All (IsFreePass manager.now) passes.new }
+    ensures numbered { numbers passes.new ≡ numbers passes.old }
     ensures servers { All (λ server. pending server ≡ None) servers.new }
+    ensures left { let many = length servers.old in AllLeft recipe registers
+        (all_firsts (workers many passes.old) servers.old) (workers many passes.new) servers.new }
     ensures done { OnOk result (Writes (length script.now.commands.items)
         (W.contents writer.old) (W.contents writer.new)) }
     ensures front { OnErr result (WritesFront (length script.now.commands.items)
@@ -398,7 +412,7 @@ pub fn perform<R: Threads + Sync, W: Sink>(
         unreachable!();
     };
     let (workers, racers) = others.split_at_mut(servers.len());
-    let mut places = places_for(alloc, workers, servers)?;
+    let mut places = places_for(workers, servers);
     let places = places.as_mut_slice();
     let done = perform_all(
         rt, alloc, script, manager, client, workers, servers, places, racers, writer,

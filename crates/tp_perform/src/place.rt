@@ -4,7 +4,7 @@ ghost use Rattle.std.specs.Bool.{OnTrue};
 use tp_desk::Aside;
 
 /// What is kept of a server's desk between commands, while its pass and its server lie with the others.
-#[derive(Drop)]
+#[derive(Default, Drop)]
 pub struct Place {
     /// What the desk laid aside. It is gone only while a command is at work.
     pub aside: Option<Aside>,

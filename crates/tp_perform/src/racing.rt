@@ -4,10 +4,10 @@ ghost use Rattle.std.specs.Prelude.{◌≡◌, ◌+◌, ◌-◌, ◌*◌, ◌≤
 ghost use Rattle.tp_model.specs.Steps.{IsServerStage};
 ghost use Rattle.tp_manager.specs.Shown.{IsOf};
 ghost use Rattle.tp_workers.specs.Clients.{IsClientJob};
-ghost use Rattle.tp_workers.specs.Free.{IsFreePass};
+ghost use Rattle.tp_workers.specs.Free.{IsFreePass, numbers};
 ghost use Rattle.tp_workers.specs.Killers.{IsKillJob};
 ghost use Rattle.tp_workers.specs.Sums.{calls_of, size_of_range};
-ghost use Rattle.tp_perform.specs.Places.{AllLie, IsFreeAt};
+ghost use Rattle.tp_perform.specs.Places.{AllLie, IsFreeAt, firsts};
 ghost use Rattle.tp_script.specs.declared.script.TheConstants.{MOST_SERVERS};
 
 use crate::place::Place;
@@ -85,6 +85,8 @@ pub(crate) fn run_race<R: Threads + Sync>(
     ensures own { All (IsOf manager.now) passes.new }
     ensures lie { AllLie recipe registers pending passes.new servers.new places.new }
     ensures racers { All (IsFreePass manager.now) racers.new }
+    ensures began { firsts places.new ≡ firsts places.old }
+    ensures racers_numbered { numbers racers.new ≡ numbers racers.old }
     ensures as_many { (length places.new ≡ length places.old) × (length racers.new ≡ length racers.old) }
 {
     let (clients, cancellers) = racers.split_at_mut(usize::from(plan.clients));
@@ -151,6 +153,9 @@ fn race_free<R: Threads + Sync>(
     ensures lie { AllLie recipe registers pending passes.new servers.new places.new }
     ensures clients { All (IsFreePass manager.now) clients.new }
     ensures cancellers { All (IsFreePass manager.now) cancellers.new }
+    ensures began { firsts places.new ≡ firsts places.old }
+    ensures clients_numbered { numbers clients.new ≡ numbers clients.old }
+    ensures cancellers_numbered { numbers cancellers.new ≡ numbers cancellers.old }
     ensures as_many { (length places.new ≡ length places.old) × (length clients.new ≡ length clients.old)
         × (length cancellers.new ≡ length cancellers.old) }
 {
@@ -226,6 +231,8 @@ fn race_front<R: Threads + Sync>(
     ensures lie { AllLie recipe registers pending passes.new servers.new places.now }
     ensures clients { All (IsFreePass manager.now) clients.new }
     ensures cancellers { All (IsFreePass manager.now) cancellers.new }
+    ensures clients_numbered { numbers clients.new ≡ numbers clients.old }
+    ensures cancellers_numbered { numbers cancellers.new ≡ numbers cancellers.old }
     ensures as_many { (length clients.new ≡ length clients.old) × (length cancellers.new ≡ length cancellers.old) }
 {
     let (desks, _others) = passes.split_at_mut(front);
@@ -270,6 +277,7 @@ pub(crate) fn drain_all(
     requires few { length places.old ≤ MOST_SERVERS }
     ensures own { All (IsOf manager.now) passes.new }
     ensures lie { AllLie recipe registers pending passes.new servers.new places.new }
+    ensures began { firsts places.new ≡ firsts places.old }
     ensures as_many { length places.new ≡ length places.old }
 {
     drain_free(manager, passes, servers, places, 0, 0);
@@ -291,6 +299,7 @@ fn drain_free(
     requires within { (front ≤ at) × (at ≤ length places.old) }
     ensures own { All (IsOf manager.now) passes.new }
     ensures lie { AllLie recipe registers pending passes.new servers.new places.new }
+    ensures began { firsts places.new ≡ firsts places.old }
     ensures as_many { length places.new ≡ length places.old }
 {
     if at == places.len() {

@@ -1,11 +1,13 @@
 //! A script from its first command to its final lines: what it needs is made, performed and let go.
 ghost use Rattle.std.specs.Prelude.{◌≡◌, ◌+◌, None, IfOk, OnErr, OnOk, IsErrOf, IsTrue, All, length};
+ghost use Rattle.tp_manager.specs.Accounts.{AreAll};
 ghost use Rattle.tp_manager.specs.Shown.{IsKeptBy};
 ghost use Rattle.tp_report.specs.Lines.{Writes, WritesFront};
 ghost use Rattle.tp_workers.specs.Free.{IsFreePass};
-ghost use Rattle.tp_perform.specs.Performing.{final_count};
+ghost use Rattle.tp_perform.specs.Performing.{line_count};
 ghost use Rattle.tp_script.specs.Script.{passes as passes_of, script_view};
 
+use crate::account::close;
 use crate::finals::finals;
 use crate::perform::perform;
 use std::alloc::{AllocError, Global};
@@ -17,7 +19,7 @@ use tp_script::{Kind, Script, ScriptServer};
 use tp_server::{EagerServer, LazyServer, Server};
 
 /// Makes a manager, its passes and boxed servers as a script asks for, performs its commands, and writes its report: a
-/// line for each command, and then the final lines.
+/// line for each command, then the final lines, and then the closing account, if it asks for it.
 #[tactic(auto, using(tp_report::proofs::LineProofs::nothing_written, tp_report::proofs::LineProofs::front_fewer))]
 pub fn serve<R: Threads + Sync, W: Sink>(
     rt: &R,
@@ -25,8 +27,8 @@ pub fn serve<R: Threads + Sync, W: Sink>(
     script: &Script,
     writer: &mut W,
 ) -> Result<(), RunFault>
-    ensures done { OnOk result (Writes (length script.now.commands.items + final_count (script_view script.now)) (W.contents writer.old) (W.contents writer.new)) }
-    ensures front { OnErr result (WritesFront (length script.now.commands.items + final_count (script_view script.now)) (W.contents writer.old) (W.contents writer.new)) }
+    ensures done { OnOk result (Writes (line_count (script_view script.now)) (W.contents writer.old) (W.contents writer.new)) }
+    ensures front { OnErr result (WritesFront (line_count (script_view script.now)) (W.contents writer.old) (W.contents writer.new)) }
     ensures write { IsErrOf result RunFault.Write → IsTrue (W.has_failed writer.new) }
 {
     let limits = Limits {
@@ -38,7 +40,15 @@ pub fn serve<R: Threads + Sync, W: Sink>(
     match Keeper::new(alloc, limits) {
         Ok((manager, mut keeper)) => {
             let mut passes = all_passes(alloc, &manager, &mut keeper)?;
-            serve_by(rt, alloc, script, &manager, passes.as_mut_slice(), writer)
+            serve_by(
+                rt,
+                alloc,
+                script,
+                &manager,
+                &mut keeper,
+                passes.as_mut_slice(),
+                writer,
+            )
         }
         Err(MakeFault::NoMemory) => Err(RunFault::NoMemory),
         Err(MakeFault::BadLimits) => unreachable!(),
@@ -54,7 +64,9 @@ fn all_passes(
 ) -> Result<Vec<Pass>, AllocError>
     requires keeper { IsKeptBy manager.now keeper.old }
     requires fresh { keeper.old.given ≡ 0 }
+    ensures keeper { IsKeptBy manager.now keeper.new }
     ensures free { IfOk result (λ passes. All (IsFreePass manager.now) passes.items) }
+    ensures given { IfOk result (λ passes. AreAll keeper.new passes.items) }
     ensures all { IfOk result (λ passes. length passes.items ≡ manager.now.limits.parts) }
 {
     let mut passes = Vec::new(alloc);
@@ -64,20 +76,23 @@ fn all_passes(
     Ok(passes)
 }
 
-/// Makes the boxed servers, performs the commands, and writes the final lines.
+/// Makes the boxed servers, performs the commands, and writes the final lines and the account.
 #[tactic(auto, using(tp_report::proofs::LineProofs::nothing_written, tp_report::proofs::LineProofs::front_fewer))]
 fn serve_by<R: Threads + Sync, W: Sink>(
     rt: &R,
     alloc: Global,
     script: &Script,
     manager: &Manager,
+    keeper: &mut Keeper,
     passes: &mut [Pass],
     writer: &mut W,
 ) -> Result<(), RunFault>
+    requires keeper { IsKeptBy manager.now keeper.old }
+    requires given { AreAll keeper.old passes.old }
     requires passes { All (IsFreePass manager.now) passes.old }
     requires enough { length passes.old ≡ passes_of (script_view script.now) }
-    ensures done { OnOk result (Writes (length script.now.commands.items + final_count (script_view script.now)) (W.contents writer.old) (W.contents writer.new)) }
-    ensures front { OnErr result (WritesFront (length script.now.commands.items + final_count (script_view script.now)) (W.contents writer.old) (W.contents writer.new)) }
+    ensures done { OnOk result (Writes (line_count (script_view script.now)) (W.contents writer.old) (W.contents writer.new)) }
+    ensures front { OnErr result (WritesFront (line_count (script_view script.now)) (W.contents writer.old) (W.contents writer.new)) }
     ensures write { IsErrOf result RunFault.Write → IsTrue (W.has_failed writer.new) }
 {
     let mut servers: Vec<Box<dyn Server + Send>> = Vec::new(alloc);
@@ -90,7 +105,8 @@ fn serve_by<R: Threads + Sync, W: Sink>(
     let boxes = servers.as_mut_slice();
     settle(boxes);
     perform(rt, alloc, script, manager, passes, boxes, writer)?;
-    finals(alloc, script, boxes, writer)
+    finals(alloc, script, boxes, writer)?;
+    close(alloc, script, manager, keeper, passes, writer)
 }
 
 /// Calls off prepared work. New servers have none; but what a box shows isn't known to contracts behind the loop that made

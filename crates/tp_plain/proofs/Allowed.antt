@@ -28,6 +28,7 @@ use Rattle.tp_plain.proofs.Claims.{idle, left_by_claim}
 use Rattle.tp_plain.proofs.UnitEnds.{aborted_of}
 use Rattle.tp_plain.proofs.Commits.{left_by_commit}
 use Rattle.tp_plain.proofs.Kills.{may_abort, may_kill_after}
+use Rattle.tp_plain.proofs.Cancels.{cancel_allowed}
 
 and_parts : (a b : Bool) → (a && b) ≡ true → (a ≡ true) × (b ≡ true)
 and_parts true b is = (refl, is)
@@ -156,5 +157,6 @@ computed_are_allowed s c reached is_pass =
       commit = λ u drafts hand few staged. commit_allowed s c reached is_pass u hand drafts few staged;
       abort = λ u hand. abort_allowed s c reached is_pass u hand;
       kill = kill_allowed s c reached is_pass;
+      cancel = λ root. cancel_allowed s c root is_pass reached.legal;
       read = read_allowed s c reached is_pass;
     }

@@ -7,3 +7,4 @@ pub mod Commits
 pub mod RunProofs
 pub mod Kills
 pub mod Allowed
+pub mod Cancels

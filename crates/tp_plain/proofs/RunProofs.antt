@@ -3,6 +3,7 @@ use Rattle.std.proofs.Common.{◌≡◌, ℕ, zero, suc, Ok, Err, List, [], ◌�
 use Rattle.std.proofs.lemmas.List.{append-nil}
 use mathlib.Core.List.{IsPrefix}
 use Rattle.tp_model.specs.Drafts.{DraftView}
+use Rattle.tp_model.specs.declared.types.Limits.{Limits}
 use Rattle.tp_plain.specs.declared.pass_state.PassState.{PassState}
 use Rattle.tp_model.specs.declared.types.Claimed.{Claimed}
 use Rattle.tp_model.specs.declared.types.Claimed.TheVariants as claimed
@@ -12,8 +13,12 @@ use Rattle.tp_model.specs.declared.types.Ended.{Ended}
 use Rattle.tp_model.specs.declared.types.Ended.TheVariants as ended
 use Rattle.tp_model.specs.declared.event.Event.{Event}
 use Rattle.tp_model.specs.declared.event.Event.TheVariants.{Claim, Abort, Kill}
+use Rattle.tp_model.specs.Families.{IsRequest, IsSettledFamily, WorksOn}
 use Rattle.tp_model.specs.Steps.{Step, IsLegal}
-use Rattle.tp_plain.specs.OneThread.{State, start, Call, CallSubmit, CallClaim, CallCommit, CallAbort, CallKill, CallRead, extended, Kills, moved, with_pass, Answers, Ends, GivesUp, Claims, Run, RunsAreLegal, RunsGrow}
+use Rattle.tp_plain.specs.OneThread.{State, start, Call, CallSubmit, CallClaim, CallCommit, CallAbort, CallKill, CallCancel, CallRead, extended, Kills, KillsEach, moved, with_pass, Answers, Ends, GivesUp, Claims, Run, RunsAreLegal, RunsGrow}
+use Rattle.tp_plain.specs.Cancelled.{CancelledForGood}
+use Rattle.tp_model.proofs.Bridges.{found_later}
+use Rattle.tp_model.proofs.Families.{settled_family_stays, never_worked_on}
 use Rattle.tp_model.proofs.Histories.{legal_empty, legal_more}
 
 -- t has the same limits, and the history of s with steps after it
@@ -82,6 +87,10 @@ goes_kill s c i (suc zero) t is =
     goes_on s (extended s (Abort c is.0)) t (extends s (extended s (Abort c is.0)) (Abort c is.0) is.3 refl) (extends (extended s (Abort c is.0)) t (Kill c i) is.4 is.5)
 goes_kill s c i (suc (suc k)) t is = absurd is
 
+goes_each : (s : State) (c : ℕ) (ids : List ℕ) (t : State) → KillsEach s c ids t → Goes s t
+goes_each s c [] t is = stays s t is
+goes_each s c (i ∷ ids) t is = goes_on s is.1 t (goes_kill s c i is.0 is.1 is.2) (goes_each is.1 c ids t is.3)
+
 goes : (s : State) (call : Call) (t : State) → Answers s call t → Goes s t
 goes s (CallSubmit c stage key amount (Ok id)) t is = moves s t _ c _ is.step is.after
 goes s (CallSubmit c stage key amount (Err why)) t is = stays s t is.1
@@ -92,21 +101,35 @@ goes s (CallCommit c drafts (Err why)) t is = stays s t is.2.1
 goes s (CallAbort c a) t is = goes_abort s c is.0 a t is.2
 goes s (CallKill c i (Ok k)) t is = goes_kill s c i k.units_aborted t is
 goes s (CallKill c i (Err why)) t is = stays s t is.1
+goes s (CallCancel c root (Ok k)) t is = goes_each s c is.ids t is.kills
+goes s (CallCancel c root (Err why)) t is = stays s t is.1
 goes s (CallRead id r) t is = stays s t is.1
 
 goes_all : (s : State) (calls : List Call) (t : State) → Run s calls t → Goes s t
 goes_all s [] t is = stays s t is
 goes_all s (call ∷ calls) t is =
-    let one = goes s call is.0 is.1 in
-    let rest = goes_all is.0 calls t is.2 in
-    record {
-      limits = rest.limits ∙ one.limits;
-      more = (one.more.0 ++ rest.more.0, sym (append_assoc s.history one.more.0 rest.more.0) ∙ (ap (λ x. x ++ rest.more.0) one.more.1 ∙ rest.more.1));
-      legal = λ legal. subst (λ l. IsLegal l t.history) one.limits (rest.legal (subst (λ l. IsLegal l is.0.history) (sym one.limits) (one.legal legal)));
-    }
+    goes_on s is.0 t (goes s call is.0 is.1) (goes_all is.0 calls t is.2)
 
 pub runs_are_legal : RunsAreLegal
 runs_are_legal l calls t is = let all = goes_all (start l) calls t is in (all.limits, all.legal (legal_empty l))
 
 pub runs_grow : RunsGrow
 runs_grow s calls t is = (goes_all s calls t is).more
+
+pub cancelled_for_good : CancelledForGood
+cancelled_for_good l before s c root answer t after u run is on =
+    let start_on = goes_all (start l) before s run in
+    let one = goes s (CallCancel c root (Ok answer)) t is in
+    let rest = goes_all t after u on in
+    let same : t.limits ≡ l = one.limits ∙ start_on.limits in
+    let before_it : IsLegal s.limits s.history = rw start_on.limits (start_on.legal (legal_empty l)) in
+    let legal : IsLegal l u.history = subst (λ x. IsLegal x u.history) same (rest.legal (rw one.limits (one.legal before_it))) in
+    let settled : IsSettledFamily l.attempts t.history root = subst (λ (x : Limits). IsSettledFamily x.attempts t.history root) same is.settled in
+    let request : IsRequest t.history root = (is.request.0, found_later s.history t.history one.more root is.request.0 is.request.1, is.request.2) in
+    let stays = settled_family_stays l t.history u.history root legal rest.more request settled in
+    record {
+      settled = stays.0;
+      same = stays.1;
+      never = λ between later e cut.
+          (subst (λ k. ¬ WorksOn k root e) cut (never_worked_on l t.history between later e root (rw cut legal) request settled));
+    }

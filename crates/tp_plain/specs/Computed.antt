@@ -1,7 +1,7 @@
 -- The answers of a manager of one thread, computed: what each call answers, and the state that it leaves.
-use Rattle.std.specs.Prelude.{◌≡◌, ℕ, ◌+◌, ◌<◌, ◌≤◌, nat_le, nat_lt, ◌&&◌, ◌==◌, Bool, if◌then◌else◌, Option, Some, None, Result, Ok, Err, List, length, unwrap_or}
-use Rattle.std.specs.List.{fold, All}
-use Rattle.tp_model.specs.Steps.{IsServerStage}
+use Rattle.std.specs.Prelude.{◌≡◌, ℕ, ◌+◌, ◌<◌, ◌≤◌, nat_le, nat_lt, ◌&&◌, ◌==◌, Bool, false, if◌then◌else◌, Option, Some, None, Result, Ok, Err, List, length, filter, is_some, unwrap_or}
+use Rattle.std.specs.List.{fold, range_with_len, All}
+use Rattle.tp_model.specs.Steps.{rows_of, IsServerStage}
 use Rattle.tp_plain.specs.Reached.{IsReached}
 use Rattle.tp_model.specs.declared.types.Element.{Element}
 use Rattle.tp_model.specs.declared.types.Look.{Look}
@@ -9,6 +9,7 @@ use Rattle.tp_model.specs.declared.types.Work.{Work}
 use Rattle.tp_model.specs.declared.types.Status.{Status}
 use Rattle.tp_model.specs.declared.types.Status.TheVariants.{Waiting, Held, Consumed, Parked, Killed}
 use Rattle.tp_model.specs.declared.types.Killed.{Killed as KilledAnswer}
+use Rattle.tp_model.specs.declared.types.Cancelled.{Cancelled}
 use Rattle.tp_model.specs.declared.types.Claimed.{Claimed}
 use Rattle.tp_model.specs.declared.types.Claimed.TheVariants as claimed
 use Rattle.tp_model.specs.declared.types.Outcome.{Outcome}
@@ -20,9 +21,9 @@ use Rattle.tp_model.specs.declared.types.Refusal.TheVariants as refusal
 use Rattle.tp_model.specs.declared.event.Event.TheVariants.{Enqueue, Claim, Commit, Abort, Kill}
 use Rattle.tp_model.specs.Drafts.{DraftView}
 use Rattle.tp_model.specs.History.{element_of, UnitEnd, Committed, Aborted, end_of, status_of}
-use Rattle.tp_plain.specs.Looks.{look_at, sooner, attempts_in, looks_after_all}
+use Rattle.tp_plain.specs.Looks.{look_at, sooner, attempts_in, is_unsettled_of, looks_after_all}
 use Rattle.tp_model.specs.Births.{HasStage, request}
-use Rattle.tp_plain.specs.OneThread.{Answers, CallSubmit, CallClaim, CallCommit, CallAbort, CallKill, CallRead, State, pass_at, next_row, next_unit, moved, with_pass, extended, free_pass, made_of}
+use Rattle.tp_plain.specs.OneThread.{Answers, CallSubmit, CallClaim, CallCommit, CallAbort, CallKill, CallCancel, CallRead, State, pass_at, next_row, next_unit, moved, with_pass, extended, free_pass, made_of}
 
 -- whether clients may submit to this stage
 abbrev pub is_server_stage : ℕ → Bool
@@ -117,6 +118,35 @@ kill_found s c i (Some e) = kill_at s c i (status_of s.limits.attempts s.history
 abbrev pub kill_of : State → ℕ → ℕ → Result KilledAnswer Refusal × State
 kill_of s c i = kill_found s c i (element_of s.history i)
 
+-- whether what was found under an id is of the family, no reply, and not settled
+abbrev pub unsettled_found : ℕ → Status → Option Element → Bool
+unsettled_found root st None = false
+unsettled_found root st (Some e) = is_unsettled_of root st e
+
+-- whether an element with this id is
+abbrev pub is_unsettled : State → ℕ → ℕ → Bool
+is_unsettled s root i = unsettled_found root (status_of s.limits.attempts s.history i) (element_of s.history i)
+
+-- the ids of all those, ascending
+abbrev pub unsettled_ids : State → ℕ → List ℕ
+unsettled_ids s root = filter (is_unsettled s root) (range_with_len 0 (rows_of s.limits))
+
+-- the state after kills by pass c of the elements with these ids, one after another
+abbrev pub with_kills : State → ℕ → List ℕ → State
+with_kills s c ids = fold (λ t i. (kill_of t c i).1) s ids
+
+-- a cancel of what was found
+abbrev pub cancel_found : State → ℕ → ℕ → Option Element → Result Cancelled Refusal × State
+cancel_found s c root None = (Err refusal.NotThere, s)
+cancel_found s c root (Some e) =
+    if is_some e.by
+    then (Err refusal.NotThere, s)
+    else (Ok (record { killed = length (unsettled_ids s root) }), with_kills s c (unsettled_ids s root))
+
+-- a cancel
+abbrev pub cancel_of : State → ℕ → ℕ → Result Cancelled Refusal × State
+cancel_of s c root = cancel_found s c root (element_of s.history root)
+
 -- this answer and this state are the computed ones, unless memory was wanting, which changed nothing
 abbrev pub IsComputed : {A : Type 0} → State → State → Result A Refusal → Result A Refusal × State → Type 0
 IsComputed old new (Ok x) computed = (computed.0 ≡ Ok x) × (new ≡ computed.1)
@@ -141,6 +171,7 @@ pub record AreAllowed (s : State) (c : ℕ) : Type 0 where
       → Answers s (CallCommit c drafts (Ok (commit_of s c drafts).0)) (commit_of s c drafts).1
   pub abort : (u : ℕ) → (pass_at s c).holding ≡ Some u → Answers s (CallAbort c (abort_of s c).0) (abort_of s c).1
   pub kill : (i : ℕ) → Answers s (CallKill c i (kill_of s c i).0) (kill_of s c i).1
+  pub cancel : (root : ℕ) → Answers s (CallCancel c root (cancel_of s c root).0) (cancel_of s c root).1
   pub read : (id : ℕ) → Answers s (CallRead id (read_of s id)) s
 
 -- so it is in every state that a manager of one thread reaches

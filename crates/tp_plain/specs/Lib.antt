@@ -3,3 +3,4 @@ pub mod OneThread
 pub mod Looks
 pub mod Reached
 pub mod Computed
+pub mod Cancelled

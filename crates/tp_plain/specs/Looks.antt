@@ -1,5 +1,5 @@
 -- The looks of a manager of one thread: how each born element stands.
-use Rattle.std.specs.Prelude.{ℕ, ◌==◌, nat_lt, Bool, false, ◌&&◌, if◌then◌else◌, Option, Some, None, List, map}
+use Rattle.std.specs.Prelude.{ℕ, ◌==◌, nat_lt, Bool, true, false, not, ◌&&◌, if◌then◌else◌, Option, Some, None, List, map}
 use Rattle.tp_model.specs.declared.types.Element.{Element}
 use Rattle.tp_model.specs.declared.types.Look.{Look}
 use Rattle.tp_model.specs.declared.types.Status.{Status}
@@ -44,6 +44,18 @@ is_held_by u (Held v n) = u == v
 is_held_by u (Consumed v) = false
 is_held_by u (Parked n) = false
 is_held_by u Killed = false
+
+-- whether an element with this status is consumed or killed
+abbrev pub is_settled : Status → Bool
+is_settled (Waiting n) = false
+is_settled (Held u n) = false
+is_settled (Consumed u) = true
+is_settled (Parked n) = false
+is_settled Killed = true
+
+-- whether an element with this status is of the family, no reply, and not settled
+abbrev pub is_unsettled_of : ℕ → Status → Element → Bool
+is_unsettled_of root st e = (e.root == root) && (not (e.stage == 15) && not (is_settled st))
 
 -- the looks at all born elements
 abbrev pub looks_after_all : ℕ → List Event → List Look

@@ -1,5 +1,5 @@
 -- Runs of a manager of one thread: which answers its calls may give, and what state they leave.
-use Rattle.std.specs.Prelude.{◌≡◌, ◌≢◌, ◌⊎◌, ℕ, zero, suc, ◌+◌, ◌-◌, ◌*◌, ◌<◌, ◌≤◌, ◌==◌, if◌then◌else◌, Option, Some, None, Result, List, [], ◌∷◌, ◌++◌, length, replicate, slice_index_or, slice_set, MatchResult}
+use Rattle.std.specs.Prelude.{◌≡◌, ◌≢◌, ◌⊎◌, ◌↔◌, ℕ, zero, suc, ◌+◌, ◌-◌, ◌*◌, ◌<◌, ◌≤◌, ◌==◌, if◌then◌else◌, Option, Some, None, Result, List, [], ◌∷◌, ◌++◌, length, replicate, slice_index_or, slice_set, AllPairs, MatchResult}
 use Rattle.std.specs.Option.{option_and_then, option_map_or}
 use mathlib.Core.List.{IsPrefix}
 use Rattle.tp_model.specs.declared.types.Element.{Element}
@@ -9,6 +9,7 @@ use Rattle.tp_model.specs.declared.types.Look.{Look}
 use Rattle.tp_model.specs.declared.types.Work.{Work}
 use Rattle.tp_model.specs.declared.types.Status.TheVariants.{Waiting, Held, Consumed, Killed}
 use Rattle.tp_model.specs.declared.types.Killed.{Killed as KilledAnswer}
+use Rattle.tp_model.specs.declared.types.Cancelled.{Cancelled}
 use Rattle.tp_model.specs.declared.types.Claimed.{Claimed}
 use Rattle.tp_model.specs.declared.types.Claimed.TheVariants as claimed
 use Rattle.tp_model.specs.declared.types.Outcome.{Outcome}
@@ -20,7 +21,8 @@ use Rattle.tp_model.specs.declared.types.Refusal.TheVariants as refusal
 use Rattle.tp_plain.specs.declared.pass_state.PassState.{PassState}
 use Rattle.tp_model.specs.declared.event.Event.{Event}
 use Rattle.tp_model.specs.declared.event.Event.TheVariants.{Enqueue, Claim, Commit, Abort, Kill}
-use Rattle.tp_model.specs.History.{element_of, status_of, UnitClaim, claim_of, Aborted, end_of}
+use Rattle.tp_model.specs.History.{In, element_of, status_of, IsSettled, UnitClaim, claim_of, Aborted, end_of}
+use Rattle.tp_model.specs.Families.{IsRequest, IsSettledFamily}
 use Rattle.tp_model.specs.Births.{request, outputs}
 use Rattle.tp_model.specs.Steps.{IsServerStage, Step, IsLegal}
 
@@ -63,6 +65,7 @@ pub data Call : Type 0 where
   CallCommit : ℕ → List DraftView → Result Outcome Refusal → Call
   CallAbort : ℕ → Ended → Call
   CallKill : ℕ → ℕ → Result KilledAnswer Refusal → Call
+  CallCancel : ℕ → ℕ → Result Cancelled Refusal → Call
   CallRead : ℕ → Result Look Refusal → Call
 
 -- the state after an event of pass c, which has then used this
@@ -83,12 +86,9 @@ pub record Submits (s : State) (c stage key amount id : ℕ) (t : State) : Type 
 -- a submit is refused for its stage, then for want of a row, then for want of memory
 abbrev pub RefusesSubmit : State → ℕ → ℕ → Refusal → Type 0
 RefusesSubmit s c stage refusal.NoMemory = IsServerStage stage × ((pass_at s c).drawn < s.limits.rows)
-RefusesSubmit s c stage refusal.BadLimits = ⊥
 RefusesSubmit s c stage refusal.BadStage = ¬ IsServerStage stage
-RefusesSubmit s c stage refusal.NotThere = ⊥
-RefusesSubmit s c stage (refusal.Consumed u) = ⊥
-RefusesSubmit s c stage refusal.AlreadyKilled = ⊥
 RefusesSubmit s c stage refusal.Full = IsServerStage stage × (s.limits.rows ≤ (pass_at s c).drawn)
+RefusesSubmit s c stage other = ⊥
 
 -- element e of this stage waits, with this many attempts so far
 pub record Waits (s : State) (stage : ℕ) (e : Element) (attempts : ℕ) : Type 0 where
@@ -147,12 +147,7 @@ Ends s c u drafts outcome.Full t = (s.limits.rows < (pass_at s c).drawn + length
 -- a commit that is neither full nor lost is refused for want of memory alone
 abbrev pub RefusesCommit : State → ℕ → ℕ → List DraftView → Refusal → Type 0
 RefusesCommit s c u drafts refusal.NoMemory = ((pass_at s c).drawn + length drafts ≤ s.limits.rows) × (end_of s.history u ≢ Some Aborted)
-RefusesCommit s c u drafts refusal.BadLimits = ⊥
-RefusesCommit s c u drafts refusal.BadStage = ⊥
-RefusesCommit s c u drafts refusal.NotThere = ⊥
-RefusesCommit s c u drafts (refusal.Consumed v) = ⊥
-RefusesCommit s c u drafts refusal.AlreadyKilled = ⊥
-RefusesCommit s c u drafts refusal.Full = ⊥
+RefusesCommit s c u drafts other = ⊥
 
 -- an abort goes through, unless another pass has aborted the unit
 abbrev pub GivesUp : State → ℕ → ℕ → Ended → State → Type 0
@@ -166,13 +161,8 @@ pub record Shows (s : State) (id : ℕ) (look : Look) : Type 0 where
 
 -- a read is refused where no such element is born
 abbrev pub RefusesRead : State → ℕ → Refusal → Type 0
-RefusesRead s id refusal.NoMemory = ⊥
-RefusesRead s id refusal.BadLimits = ⊥
-RefusesRead s id refusal.BadStage = ⊥
 RefusesRead s id refusal.NotThere = element_of s.history id ≡ None
-RefusesRead s id (refusal.Consumed u) = ⊥
-RefusesRead s id refusal.AlreadyKilled = ⊥
-RefusesRead s id refusal.Full = ⊥
+RefusesRead s id other = ⊥
 
 -- the state with an event more, and the passes as they were
 abbrev pub extended : State → Event → State
@@ -188,13 +178,39 @@ Kills s c i (suc (suc k)) t = ⊥
 
 -- a kill is refused where no such element is born, or it is consumed or killed
 abbrev pub RefusesKill : State → ℕ → Refusal → Type 0
-RefusesKill s i refusal.NoMemory = ⊥
-RefusesKill s i refusal.BadLimits = ⊥
-RefusesKill s i refusal.BadStage = ⊥
 RefusesKill s i refusal.NotThere = element_of s.history i ≡ None
 RefusesKill s i (refusal.Consumed u) = (e : Element) × (element_of s.history i ≡ Some e) × (status_of s.limits.attempts s.history i ≡ Consumed u)
 RefusesKill s i refusal.AlreadyKilled = (e : Element) × (element_of s.history i ≡ Some e) × (status_of s.limits.attempts s.history i ≡ Killed)
-RefusesKill s i refusal.Full = ⊥
+RefusesKill s i other = ⊥
+
+-- element i is born, of this family, no reply, and neither consumed nor killed
+pub record IsUnsettled (s : State) (root i : ℕ) : Type 0 where
+  pub item : Element
+  pub born : element_of s.history i ≡ Some item
+  pub family : item.root ≡ root
+  pub no_reply : item.stage ≢ 15
+  pub unsettled : ¬ IsSettled (status_of s.limits.attempts s.history i)
+
+-- kills by pass c of these elements went through, one after another
+abbrev pub KillsEach : State → ℕ → List ℕ → State → Type 0
+KillsEach s c [] t = t ≡ s
+KillsEach s c (i ∷ ids) t = (aborts : ℕ) × (mid : State) × Kills s c i aborts mid × KillsEach mid c ids t
+
+-- a cancel by pass c went through: root is a client's element; what was unsettled of its family, and no reply, is killed,
+-- in ascending order of ids; and so the family is settled
+pub record Cancels (s : State) (c root killed : ℕ) (t : State) : Type 0 where
+  pub request : IsRequest s.history root
+  pub ids : List ℕ
+  pub ascend : AllPairs (λ i j. i < j) ids
+  pub exactly : (i : ℕ) → In i ids ↔ IsUnsettled s root i
+  pub counted : killed ≡ length ids
+  pub kills : KillsEach s c ids t
+  pub settled : IsSettledFamily t.limits.attempts t.history root
+
+-- a cancel is refused where root is no client's element
+abbrev pub RefusesCancel : State → ℕ → Refusal → Type 0
+RefusesCancel s root refusal.NotThere = ¬ IsRequest s.history root
+RefusesCancel s root other = ⊥
 
 -- the call, asked of a manager in state s, may have this answer and leave it in state t
 abbrev pub Answers : State → Call → State → Type 0
@@ -203,6 +219,7 @@ Answers s (CallClaim c stage r) t = MatchResult r (λ a. Claims s c stage a t) (
 Answers s (CallCommit c drafts r) t = (u : ℕ) × ((pass_at s c).holding ≡ Some u) × MatchResult r (λ a. Ends s c u drafts a t) (λ why. RefusesCommit s c u drafts why × (t ≡ s))
 Answers s (CallAbort c a) t = (u : ℕ) × ((pass_at s c).holding ≡ Some u) × GivesUp s c u a t
 Answers s (CallKill c i r) t = MatchResult r (λ k. Kills s c i k.units_aborted t) (λ why. RefusesKill s i why × (t ≡ s))
+Answers s (CallCancel c root r) t = MatchResult r (λ k. Cancels s c root k.killed t) (λ why. RefusesCancel s root why × (t ≡ s))
 Answers s (CallRead id r) t = MatchResult r (Shows s id) (RefusesRead s id) × (t ≡ s)
 
 -- these calls were asked one after another, from state s to state t

@@ -1,5 +1,6 @@
 //! The laws of runs. These functions do nothing: their contracts are the laws.
 
+ghost use Rattle.tp_plain.specs.Cancelled.{CancelledForGood};
 ghost use Rattle.tp_plain.specs.Computed.{ComputedAreAllowed};
 ghost use Rattle.tp_plain.specs.OneThread.{RunsAreLegal, RunsGrow};
 
@@ -12,4 +13,10 @@ pub fn runs()
 /// What is computed as the answer of a call is an answer that a manager of one thread may give.
 pub fn computed_answers()
     ensures { ComputedAreAllowed }
+{}
+
+/// Once a cancel went through, its family stays settled whatever calls come next: no element of it is claimed or
+/// committed any more, and none is born.
+pub fn cancelled_for_good()
+    ensures { CancelledForGood }
 {}

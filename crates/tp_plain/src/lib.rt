@@ -1,6 +1,7 @@
 //! The manager of one thread: what its calls may answer, the same computed, and the manager itself.
 #![tactic(auto)]
 
+pub mod cancelling;
 pub mod history;
 pub mod laws;
 mod looks;

@@ -2,7 +2,7 @@
 ghost use Rattle.std.specs.Prelude.{◌≡◌, ◌==◌, if◌then◌else◌, ◌<◌, ◌+◌, ◌^◌, length, IfOk, map};
 ghost use Rattle.std.specs.List.{find, fold, All};
 ghost use Rattle.tp_plain.specs.Noted.{event_of};
-ghost use Rattle.tp_plain.specs.Looks.{look_after, sooner, attempts_in, is_held_by, fresh_look};
+ghost use Rattle.tp_plain.specs.Looks.{look_after, sooner, attempts_in, is_held_by, is_unsettled_of, fresh_look};
 ghost use Rattle.tp_model.specs.Births.{HasStage, outputs};
 
 use crate::history::Note;
@@ -164,4 +164,12 @@ pub(crate) fn first_of(count: usize, first: u32) -> u32
     ensures { result ≡ (if count == 0 then 0 else first) }
 {
     if count == 0 { 0 } else { first }
+}
+
+/// Whether an element is of the family, no reply, and neither consumed nor killed.
+pub(crate) fn is_unsettled_in(root: u32, look: Look) -> bool
+    ensures { result ≡ is_unsettled_of root look.status look.element }
+{
+    let settled = matches!(look.status, Status::Consumed { unit: _ } | Status::Killed);
+    look.element.root == root && look.element.stage != 15 && !settled
 }

@@ -254,7 +254,7 @@ impl Plain {
     }
 
     // What holds of each manager.
-    fn show_reached(&self)
+    pub(crate) fn show_reached(&self)
         ensures { IsReached self.now }
     {
         let _limits = &self.limits;

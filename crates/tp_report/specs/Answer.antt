@@ -1,12 +1,14 @@
 -- The texts of answers, and the lines of a report.
 use Rattle.std.specs.Prelude.{ℕ, List, Option, Some, None, codes, decimal}
 use Rattle.std.specs.List.{flat_map}
+use Rattle.tp_model.specs.declared.types.Counts.{Counts}
 use Rattle.tp_model.specs.declared.types.Element.{Element}
 use Rattle.tp_model.specs.declared.types.Look.{Look}
 use Rattle.tp_model.specs.declared.types.Refusal.{Refusal}
 use Rattle.tp_model.specs.declared.types.Refusal.TheVariants as refusal
 use Rattle.tp_model.specs.declared.types.Status.{Status}
 use Rattle.tp_model.specs.declared.types.Status.TheVariants as status
+use Rattle.tp_model.specs.Accounts.{all_in}
 use Rattle.tp_server.specs.Names.{declined_name}
 use Rattle.tp_report.specs.declared.answer.Answer.{Answer}
 use Rattle.tp_report.specs.declared.answer.Answer.TheVariants as answer
@@ -94,6 +96,14 @@ replies_text root replies = (codes "replies " <> decimal root) <> flat_map reply
 abbrev pub errors_text : List ℕ → List ℕ
 errors_text ids = codes "errors" <> flat_map (λ id. codes " " <> decimal id) ids
 
+-- how many elements stand in each way
+abbrev pub counts_text : Counts → List ℕ
+counts_text c = codes "waiting " <> decimal c.waiting <> codes " held " <> decimal c.held <> codes " consumed " <> decimal c.consumed <> codes " parked " <> decimal c.parked <> codes " killed " <> decimal c.killed
+
+-- how many are born, and how they stand
+abbrev pub account_text : Counts → List ℕ
+account_text c = codes "account born " <> decimal (all_in c) <> codes " " <> counts_text c
+
 -- ---- registers
 
 -- a register of a server
@@ -114,11 +124,13 @@ answer_text (answer.Refused why) = refusal_text why
 answer_text (answer.Server name told) = named_text name.now told
 answer_text (answer.Replies root replies) = replies_text root replies.now
 answer_text (answer.Killed id aborted) = codes "killed " <> decimal id <> codes " aborted " <> decimal aborted
+answer_text (answer.Cancelled root killed) = codes "cancelled " <> decimal root <> codes " killed " <> decimal killed
 answer_text (answer.Read look) = look_text look
 answer_text (answer.Errors ids) = errors_text ids.now
 answer_text (answer.Balance name k value) = balance_text name.now k value
 answer_text (answer.Sum k sum) = codes "sum " <> decimal k <> codes " " <> decimal sum
-answer_text (answer.Count waiting held consumed parked killed) = codes "waiting " <> decimal waiting <> codes " held " <> decimal held <> codes " consumed " <> decimal consumed <> codes " parked " <> decimal parked <> codes " killed " <> decimal killed
+answer_text (answer.Count all) = counts_text all
+answer_text (answer.Account all) = account_text all
 answer_text (answer.Raced submitted) = codes "race submitted " <> decimal submitted
 answer_text answer.Drained = codes "drained"
 answer_text (answer.Final name registers) = final_text name.now registers.now

@@ -7,7 +7,7 @@ ghost use Rattle.tp_report.specs.Lines.{IsLine};
 use std::alloc::{AllocError, Global};
 use std::string::String;
 use tp_desk::Turned;
-use tp_model::types::{Element, Look, Refusal};
+use tp_model::types::{Counts, Element, Look, Refusal};
 use tp_script::Refused;
 
 /// What a command on a server came to. Elements are given by their ids.
@@ -65,6 +65,11 @@ pub enum Answer<'a> {
         id: u32,
         aborted: u8,
     },
+    /// The request of this root is cancelled, and so many elements were killed.
+    Cancelled {
+        root: u32,
+        killed: u32,
+    },
     /// An element as it was read.
     Read(Look),
     /// The ids of the parked elements.
@@ -81,13 +86,9 @@ pub enum Answer<'a> {
         sum: u128,
     },
     /// How many elements stand in each way.
-    Count {
-        waiting: u32,
-        held: u32,
-        consumed: u32,
-        parked: u32,
-        killed: u32,
-    },
+    Count(Counts),
+    /// How many elements are born at the end, and how they stand.
+    Account(Counts),
     /// How many submits of a race's clients were accepted.
     Raced {
         submitted: u32,

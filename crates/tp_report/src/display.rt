@@ -1,12 +1,12 @@
 //! How answers are told: the one place where the texts of a report's lines stand.
 ghost use Rattle.std.specs.Prelude.{◌≡◌, Some};
 ghost use Rattle.std.specs.Fmt.{WritesOnOk};
-ghost use Rattle.tp_report.specs.Answer.{turned_text, server_text, refusal_text, maker_text, status_text, look_text, replies_text, errors_text, balance_text, final_text, answer_text};
+ghost use Rattle.tp_report.specs.Answer.{turned_text, server_text, refusal_text, maker_text, status_text, look_text, replies_text, errors_text, counts_text, account_text, balance_text, final_text, answer_text};
 
 use crate::answer::{Answer, ServerAnswer};
 use std::fmt;
 use tp_desk::Turned;
-use tp_model::types::{Element, Look, Refusal, Status};
+use tp_model::types::{Counts, Element, Look, Refusal, Status};
 
 // What a turn came to.
 fn turned<W: fmt::Write>(f: &mut fmt::Formatter<W>, turned: Turned) -> fmt::Result
@@ -162,6 +162,34 @@ fn last<W: fmt::Write>(f: &mut fmt::Formatter<W>, name: &str, registers: &[u64])
     Ok(())
 }
 
+// How many elements stand in each way.
+fn counts<W: fmt::Write>(f: &mut fmt::Formatter<W>, all: Counts) -> fmt::Result
+    ensures { WritesOnOk W.write_str_gives f.old result (counts_text all) f.new }
+{
+    let Counts {
+        waiting,
+        held,
+        consumed,
+        parked,
+        killed,
+    } = all;
+    write!(
+        f,
+        "waiting {waiting} held {held} consumed {consumed} parked {parked} killed {killed}"
+    )
+}
+
+// The closing account.
+fn account<W: fmt::Write>(f: &mut fmt::Formatter<W>, all: Counts) -> fmt::Result
+    ensures { WritesOnOk W.write_str_gives f.old result (account_text all) f.new }
+{
+    let unsettled = u64::from(all.waiting) + u64::from(all.held);
+    let others = u64::from(all.consumed) + u64::from(all.parked) + u64::from(all.killed);
+    let born = unsettled + others;
+    write!(f, "account born {born} ")?;
+    counts(f, all)
+}
+
 impl fmt::Display for Answer<'_> {
     ghost output = { λ answer. Some (answer_text answer) };
 
@@ -172,20 +200,13 @@ impl fmt::Display for Answer<'_> {
             Answer::Server { name, answer } => write!(f, "{name} {answer}"),
             Answer::Replies { root, replies: all } => replies(f, root, all),
             Answer::Killed { id, aborted } => write!(f, "killed {id} aborted {aborted}"),
+            Answer::Cancelled { root, killed } => write!(f, "cancelled {root} killed {killed}"),
             Answer::Read(shown) => look(f, shown),
             Answer::Errors(ids) => errors(f, ids),
             Answer::Balance { name, k, value } => balance(f, name, k, value),
             Answer::Sum { k, sum } => write!(f, "sum {k} {sum}"),
-            Answer::Count {
-                waiting,
-                held,
-                consumed,
-                parked,
-                killed,
-            } => write!(
-                f,
-                "waiting {waiting} held {held} consumed {consumed} parked {parked} killed {killed}"
-            ),
+            Answer::Count(all) => counts(f, all),
+            Answer::Account(all) => account(f, all),
             Answer::Raced { submitted } => write!(f, "race submitted {submitted}"),
             Answer::Drained => write!(f, "drained"),
             Answer::Final { name, registers } => last(f, name, registers),

@@ -78,14 +78,14 @@ text_is_ok w (Err e) h text = absurd (h text)
 
 -- ---- a register that begins with a value
 
-pub begins_at : (settings : SettingsView) (items : List ScriptServer) (commands : List Command) (place k v : ℕ) (old new : ScriptServer) (r : Result (Unit {0}) LineError) → place < length items → old ≡ get_or items place old
+pub begins_at : (settings : SettingsView) (items : List ScriptServer) (commands : List Command) (account : Bool) (place k v : ℕ) (old new : ScriptServer) (r : Result (Unit {0}) LineError) → place < length items → old ≡ get_or items place old
     → Gives (λ _. server_view new) r (begun k v (server_view old))
-    → Gives {X = Unit {0}} {Y = ScriptView} (λ _. record { settings = settings; servers = map server_view (set items place new); commands = commands }) r (begin_at place k v (record { settings = settings; servers = map server_view items; commands = commands }))
+    → Gives {X = Unit {0}} {Y = ScriptView} (λ _. record { settings = settings; servers = map server_view (set items place new); commands = commands; account = account }) r (begin_at place k v (record { settings = settings; servers = map server_view items; commands = commands; account = account }))
 unfolding begin_at
-begins_at settings items commands place k v old new (Ok u) lt at given =
+begins_at settings items commands account place k v old new (Ok u) lt at given =
     let look : slice_get (map server_view items) place ≡ Some (server_view old) = slice_get-map server_view items place ∙ ap (λ (o : Option ScriptServer). option_map server_view o) (slice_get_read items (length items) place old refl lt at) in
     rw (look, given, map-set) refl
-begins_at settings items commands place k v old new (Err errors.NoMemory) lt at given = tt
-begins_at settings items commands place k v old new (Err (errors.Fault f)) lt at given =
+begins_at settings items commands account place k v old new (Err errors.NoMemory) lt at given = tt
+begins_at settings items commands account place k v old new (Err (errors.Fault f)) lt at given =
     let look : slice_get (map server_view items) place ≡ Some (server_view old) = slice_get-map server_view items place ∙ ap (λ (o : Option ScriptServer). option_map server_view o) (slice_get_read items (length items) place old refl lt at) in
     rw (look, given) refl

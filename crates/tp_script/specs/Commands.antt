@@ -5,7 +5,7 @@ use Rattle.tp_script.specs.declared.fault.LineFault.TheVariants.{Syntax, BadNumb
 use Rattle.tp_script.specs.declared.keyword.Verb.{Verb}
 use Rattle.tp_script.specs.declared.keyword.Verb.TheVariants as verb
 use Rattle.tp_script.specs.declared.script.Command.{Command}
-use Rattle.tp_script.specs.declared.script.Command.TheVariants.{Submit, Turn, Reply, Claim, Prepare, Commit, Abort, Drop, Kill, Read, Errors, Balance, Sum, Count, Race, Drain}
+use Rattle.tp_script.specs.declared.script.Command.TheVariants.{Submit, Turn, Reply, Claim, Prepare, Commit, Abort, Drop, Kill, Cancel, Read, Errors, Balance, Sum, Count, Race, Drain}
 use Rattle.tp_script.specs.declared.script.TheConstants.{MOST_PASSES}
 use Rattle.tp_script.specs.Passes.{racers}
 use Rattle.tp_script.specs.Script.{ScriptView, passes}
@@ -87,6 +87,7 @@ command_at verb.Commit ws s = one_server ws s >>= λ server. Ok (Commit server)
 command_at verb.Abort ws s = one_server ws s >>= λ server. Ok (Abort server)
 command_at verb.Drop ws s = one_server ws s >>= λ server. Ok (Drop server)
 command_at verb.Kill ws s = one_id ws >>= λ id. Ok (Kill id)
+command_at verb.Cancel ws s = one_id ws >>= λ root. Ok (Cancel root)
 command_at verb.Read ws s = one_id ws >>= λ id. Ok (Read id)
 command_at verb.Errors ws s = none ws >>= λ _. Ok Errors
 command_at verb.Balance ws s = two ws >>= λ w. balance_at w s

@@ -1,5 +1,5 @@
 -- What a script says, line by line, or its first fault.
-use Rattle.std.specs.Prelude.{ℕ, ◌+◌, ◌-◌, ◌^◌, List, [], ◌∷◌, length, Bool, false, not, ◌&&◌, Result, Ok, Err, nat_lt, nat_le, ◌==◌, if◌then◌else◌}
+use Rattle.std.specs.Prelude.{ℕ, ◌+◌, ◌-◌, ◌^◌, List, [], ◌∷◌, length, Bool, true, false, not, ◌&&◌, Result, Ok, Err, nat_lt, nat_le, ◌==◌, if◌then◌else◌}
 use Rattle.std.specs.List.{list_all}
 use Rattle.tp_script.specs.declared.source.TheConstants.{MOST_BYTES}
 use Rattle.tp_script.specs.declared.fault.LineFault.{LineFault}
@@ -15,7 +15,7 @@ use Rattle.tp_script.specs.Keyword.{keyword, first_reach}
 use Rattle.tp_script.specs.Reach.{has}
 use Rattle.tp_script.specs.Script.{ScriptView}
 use Rattle.tp_script.specs.ServerLines.{has_commands, server_line, start_line}
-use Rattle.tp_script.specs.Terms.{◌>>=◌, require, known, one, three, number_at}
+use Rattle.tp_script.specs.Terms.{◌>>=◌, require, known, none, one, three, number_at}
 
 -- ---- settings
 
@@ -45,6 +45,17 @@ limit_line w s = do
   n ← setting_at 7 w s
   Ok (record s { settings = record s.settings { attempts = n } })
 
+-- ---- the closing account
+
+-- `account`
+unfoldable pub account_line : List (List ℕ) → ScriptView → Result ScriptView LineFault
+account_line ws s = none ws >>= λ _. Ok (record s { account = true })
+
+-- a line behind `account` is out of order, whatever it says, unless it says nothing that a line could
+abbrev pub behind_account : Result ScriptView LineFault → Result ScriptView LineFault
+behind_account (Err Syntax) = Err Syntax
+behind_account read = Err Order
+
 -- ---- a whole line, and all lines
 
 -- a line of this first word, with the words behind it
@@ -55,6 +66,7 @@ keyword_line reach first.Limit ws s = one ws >>= λ w. limit_line w s
 keyword_line reach first.Server ws s = server_line reach ws s
 keyword_line reach first.Start ws s = three ws >>= λ w. start_line w s
 keyword_line reach (first.Do verb) ws s = command_at verb ws s >>= λ c. with_command c s
+keyword_line reach first.Account ws s = account_line ws s
 
 -- the keyword that a word is, where the script may have such a line
 unfoldable pub first_word : Reach → List ℕ → Result Keyword LineFault
@@ -66,7 +78,7 @@ first_word reach w = do
 -- a line of these words says nothing where there are none
 unfoldable pub words_line : Reach → List (List ℕ) → ScriptView → Result ScriptView LineFault
 words_line reach [] s = Ok s
-words_line reach (w ∷ ws) s = first_word reach w >>= λ k. keyword_line reach k ws s
+words_line reach (w ∷ ws) s = first_word reach w >>= λ k. if s.account then behind_account (keyword_line reach k ws s) else keyword_line reach k ws s
 
 -- a line that begins with `#`
 abbrev pub is_comment : List ℕ → Bool
@@ -92,7 +104,7 @@ lines_from reach n (line ∷ others) s = at_line n (line_at reach line s) (λ t.
 
 -- a script without lines
 abbrev pub no_lines : ScriptView
-no_lines = record { settings = record { rows = 64; units = 256; attempts = 3 }; servers = []; commands = [] }
+no_lines = record { settings = record { rows = 64; units = 256; attempts = 3 }; servers = []; commands = []; account = false }
 
 -- what the bytes of a script say that may go so far, or the line and number of its first fault
 unfoldable pub script : Reach → List ℕ → Result ScriptView Refused

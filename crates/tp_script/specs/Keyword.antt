@@ -2,9 +2,9 @@
 use Rattle.std.specs.Prelude.{ℕ, List, [], ◌∷◌, Option, find, codes}
 use Rattle.std.specs.Str.{bytes_eq}
 use Rattle.tp_script.specs.declared.keyword.Keyword.{Keyword}
-use Rattle.tp_script.specs.declared.keyword.Keyword.TheVariants.{Rows, Units, Limit, Server, Start, Do}
+use Rattle.tp_script.specs.declared.keyword.Keyword.TheVariants.{Rows, Units, Limit, Server, Start, Do, Account}
 use Rattle.tp_script.specs.declared.keyword.Verb.{Verb}
-use Rattle.tp_script.specs.declared.keyword.Verb.TheVariants.{Submit, Turn, Reply, Claim, Prepare, Commit, Abort, Drop, Kill, Read, Errors, Balance, Sum, Count, Race, Drain}
+use Rattle.tp_script.specs.declared.keyword.Verb.TheVariants.{Submit, Turn, Reply, Claim, Prepare, Commit, Abort, Drop, Kill, Cancel, Read, Errors, Balance, Sum, Count, Race, Drain}
 use Rattle.tp_script.specs.declared.reach.Reach.{Reach}
 use Rattle.tp_script.specs.declared.reach.Reach.TheVariants.{Plain, Desks, Workers}
 
@@ -19,6 +19,7 @@ verb_text Commit = codes "commit"
 verb_text Abort = codes "abort"
 verb_text Drop = codes "drop"
 verb_text Kill = codes "kill"
+verb_text Cancel = codes "cancel"
 verb_text Read = codes "read"
 verb_text Errors = codes "errors"
 verb_text Balance = codes "balance"
@@ -44,17 +45,19 @@ text Limit = codes "limit"
 text Server = codes "server"
 text Start = codes "start"
 text (Do verb) = verb_text verb
+text Account = codes "account"
 
 -- the first reach that knows it
 abbrev pub first_reach : Keyword → Reach
 first_reach (Do verb) = verb_reach verb
+first_reach Account = Desks
 first_reach other = Plain
 
 -- all keywords
 abbrev pub keywords : List Keyword
 keywords =
-    Rows ∷ Units ∷ Limit ∷ Server ∷ Start ∷ Do Submit ∷ Do Turn ∷ Do Reply ∷ Do Claim ∷ Do Prepare ∷ Do Commit ∷ Do Abort ∷ Do Drop ∷ Do Kill ∷ Do Read ∷ Do Errors ∷ Do Balance ∷ Do Sum
-    ∷ Do Count ∷ Do Race ∷ Do Drain ∷ []
+    Rows ∷ Units ∷ Limit ∷ Server ∷ Start ∷ Do Submit ∷ Do Turn ∷ Do Reply ∷ Do Claim ∷ Do Prepare ∷ Do Commit ∷ Do Abort ∷ Do Drop ∷ Do Kill ∷ Do Cancel ∷ Do Read ∷ Do Errors ∷ Do Balance ∷ Do Sum
+    ∷ Do Count ∷ Do Race ∷ Do Drain ∷ Account ∷ []
 
 -- the keyword that a word is
 abbrev pub keyword : List ℕ → Option Keyword

@@ -1,5 +1,5 @@
 -- A script as contracts see it, without where it lies in memory.
-use Rattle.std.specs.Prelude.{ℕ, ◌+◌, List, length, map, string_bytes}
+use Rattle.std.specs.Prelude.{ℕ, ◌+◌, Bool, List, length, map, string_bytes}
 use Rattle.tp_server.specs.declared.recipe.Recipe.{Recipe}
 use Rattle.tp_script.specs.declared.script.Kind.{Kind}
 use Rattle.tp_script.specs.declared.script.Settings.{Settings}
@@ -26,6 +26,7 @@ pub record ScriptView : Type 0 where
   pub settings : SettingsView
   pub servers : List ServerView
   pub commands : List Command
+  pub account : Bool
 
 -- how many passes a script needs: the client's, one for each server, and those of its races
 abbrev pub passes : ScriptView → ℕ
@@ -41,4 +42,4 @@ server_view s = record { name = string_bytes s.name; kind = s.kind; recipe = s.r
 
 -- what a script shows
 abbrev pub script_view : Script → ScriptView
-script_view s = record { settings = settings_view s.settings; servers = map server_view s.servers.items; commands = s.commands.items }
+script_view s = record { settings = settings_view s.settings; servers = map server_view s.servers.items; commands = s.commands.items; account = s.account }

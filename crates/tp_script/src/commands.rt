@@ -161,6 +161,9 @@ impl Script {
                 server: self.one_server(words)?,
             }),
             Verb::Kill => Ok(Command::Kill { id: one_id(words)? }),
+            Verb::Cancel => Ok(Command::Cancel {
+                root: one_id(words)?,
+            }),
             Verb::Read => Ok(Command::Read { id: one_id(words)? }),
             Verb::Errors => {
                 none(words)?;

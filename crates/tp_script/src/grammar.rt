@@ -1,7 +1,7 @@
 //! The lines of a script, and its settings.
 ghost use Rattle.std.specs.Prelude.{◌≡◌, ◌≤◌, ◌&&◌, map, IfOk, nat_le};
 ghost use Rattle.std.specs.List.{list_all};
-ghost use Rattle.tp_script.specs.Grammar.{setting_at, rows_line, units_line, limit_line, keyword_line, first_word, words_line, is_comment, line_at};
+ghost use Rattle.tp_script.specs.Grammar.{setting_at, rows_line, units_line, limit_line, account_line, keyword_line, first_word, words_line, is_comment, line_at};
 ghost use Rattle.tp_script.specs.Reading.{Gives, GivesScript};
 ghost use Rattle.tp_script.specs.Script.{script_view};
 
@@ -9,7 +9,7 @@ use crate::fault::{LineError, LineFault};
 use crate::keyword::Keyword;
 use crate::reach::Reach;
 use crate::script::Script;
-use crate::terms::{number_at, one, three};
+use crate::terms::{none, number_at, one, three};
 use crate::text::words;
 use std::alloc::Global;
 
@@ -57,6 +57,16 @@ impl Script {
         Ok(())
     }
 
+    // `account`
+    #[tactic(auto, unfolding(crate::specs::Grammar::account_line))]
+    fn account_line(&mut self, words: &[&[u8]]) -> Result<(), LineError>
+        ensures { GivesScript self.new result (account_line (map (λ x. x.now) words.now) (script_view self.old)) }
+    {
+        none(words)?;
+        self.account = true;
+        Ok(())
+    }
+
     // What a line says behind its first word.
     #[tactic(auto, unfolding(crate::specs::Grammar::keyword_line))]
     fn keyword_line(
@@ -78,6 +88,7 @@ impl Script {
                 let command = self.command_at(verb, words)?;
                 self.add(command)
             }
+            Keyword::Account => self.account_line(words),
         }
     }
 
@@ -90,7 +101,16 @@ impl Script {
             return Ok(());
         };
         let keyword = first_word(reach, first)?;
-        self.keyword_line(alloc, reach, keyword, others)
+        let is_behind = self.account;
+        let read = self.keyword_line(alloc, reach, keyword, others);
+        if !is_behind {
+            return read;
+        }
+        match read {
+            Err(LineError::NoMemory) => Err(LineError::NoMemory),
+            Err(LineError::Fault(LineFault::Syntax)) => Err(LineError::Fault(LineFault::Syntax)),
+            _ => Err(LineError::Fault(LineFault::Order)),
+        }
     }
 
     /// Adds what a line says, in a script that may go so far.

@@ -14,6 +14,8 @@ pub enum Keyword {
     Start,
     /// The line is a command.
     Do(Verb),
+    /// The line asks for the closing account.
+    Account,
 }
 
 /// The first words of commands.
@@ -28,6 +30,7 @@ pub enum Verb {
     Abort,
     Drop,
     Kill,
+    Cancel,
     Read,
     Errors,
     Balance,
@@ -51,6 +54,7 @@ impl Verb {
             Verb::Abort => "abort",
             Verb::Drop => "drop",
             Verb::Kill => "kill",
+            Verb::Cancel => "cancel",
             Verb::Read => "read",
             Verb::Errors => "errors",
             Verb::Balance => "balance",
@@ -77,7 +81,7 @@ impl Verb {
 }
 
 impl Keyword {
-    const ALL: [Keyword; 21] = [
+    const ALL: [Keyword; 23] = [
         Keyword::Rows,
         Keyword::Units,
         Keyword::Limit,
@@ -92,6 +96,7 @@ impl Keyword {
         Keyword::Do(Verb::Abort),
         Keyword::Do(Verb::Drop),
         Keyword::Do(Verb::Kill),
+        Keyword::Do(Verb::Cancel),
         Keyword::Do(Verb::Read),
         Keyword::Do(Verb::Errors),
         Keyword::Do(Verb::Balance),
@@ -99,6 +104,7 @@ impl Keyword {
         Keyword::Do(Verb::Count),
         Keyword::Do(Verb::Race),
         Keyword::Do(Verb::Drain),
+        Keyword::Account,
     ];
 
     fn text(self) -> &'static str
@@ -111,6 +117,7 @@ impl Keyword {
             Keyword::Server => "server",
             Keyword::Start => "start",
             Keyword::Do(verb) => verb.text(),
+            Keyword::Account => "account",
         }
     }
 
@@ -120,6 +127,7 @@ impl Keyword {
     {
         match self {
             Keyword::Do(verb) => verb.reach(),
+            Keyword::Account => Reach::Desks,
             _ => Reach::Plain,
         }
     }

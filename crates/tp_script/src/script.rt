@@ -96,6 +96,10 @@ pub enum Command {
     Kill {
         id: u32,
     },
+    /// A whole request is cancelled.
+    Cancel {
+        root: u32,
+    },
     /// An element is read.
     Read {
         id: u32,
@@ -166,6 +170,8 @@ pub struct Script {
     pub servers: Vec<ScriptServer>,
     /// Its commands, in their order.
     pub commands: Vec<Command>,
+    /// Whether it asks for the closing account, behind all commands.
+    pub account: bool,
     // How many passes it needs.
     pass_count: u16,
     ghost few_servers: { vec_len servers ≤ MOST_SERVERS },
@@ -194,6 +200,7 @@ impl Script {
             },
             servers: Vec::new(alloc),
             commands: Vec::new(alloc),
+            account: false,
             pass_count: 1,
         }
     }

@@ -6,6 +6,7 @@ mod faults;
 mod hostile;
 mod interrupted;
 mod plain;
+mod plain_cancels;
 mod read;
 mod rows;
 

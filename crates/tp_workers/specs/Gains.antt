@@ -11,24 +11,15 @@ GainsOnly Is old new = (more : List Event) × (new.mine ≡ old.mine ++ more) ×
 -- the events are told apart
 abbrev pub is_enqueue : Event → Bool
 is_enqueue (Enqueue c e) = true
-is_enqueue (Claim c u i n) = false
-is_enqueue (Commit c u outs) = false
-is_enqueue (Abort c u) = false
-is_enqueue (Kill c i) = false
+is_enqueue other = false
 
 abbrev pub is_commit : Event → Bool
-is_commit (Enqueue c e) = false
-is_commit (Claim c u i n) = false
 is_commit (Commit c u outs) = true
-is_commit (Abort c u) = false
-is_commit (Kill c i) = false
+is_commit other = false
 
 abbrev pub is_kill : Event → Bool
-is_kill (Enqueue c e) = false
-is_kill (Claim c u i n) = false
-is_kill (Commit c u outs) = false
-is_kill (Abort c u) = false
 is_kill (Kill c i) = true
+is_kill other = false
 
 -- how many Enqueues, Commits and Kills the pass has made
 abbrev pub enqueues_in : PassShown → ℕ

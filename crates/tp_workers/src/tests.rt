@@ -1,13 +1,16 @@
 //! Workers side by side.
-ghost use Rattle.std.specs.Prelude.{◌≡◌, None, IfOk, All};
+ghost use Rattle.std.specs.Prelude.{◌≡◌, None, IfSome, All};
 ghost use Rattle.tp_manager.specs.Shown.{IsKeptBy, IsOf};
 ghost use Rattle.tp_workers.specs.Clients.{IsClientJob};
 ghost use Rattle.tp_workers.specs.Free.{IsFreePass};
 
+mod account;
+mod cancels;
 mod counts;
 mod full;
 mod overlap;
 mod race;
+mod storm;
 mod together;
 mod tree;
 
@@ -15,7 +18,6 @@ use crate::ClientJob;
 use arrayvec::ArrayVec;
 use std::alloc::Global;
 use std::sync::atomic::{AtomicU64, Ordering};
-use std::test::Fail;
 use std::thread;
 use tp_manager::{Keeper, Manager, Pass};
 use tp_model::types::{Limits, Look, Status};
@@ -24,29 +26,30 @@ use tp_server::{
 };
 
 /// A manager with these limits, and the keeper of its passes.
-fn manager(alloc: Global, limits: Limits) -> Result<(Manager, Keeper), Fail>
-    ensures { IfOk result (λ made. IsKeptBy made.0 made.1) }
+fn manager(alloc: Global, limits: Limits) -> Option<(Manager, Keeper)>
+    ensures { IfSome result (λ made. IsKeptBy made.0 made.1) }
 {
-    Ok(Keeper::new(alloc, limits).ok().ok_or("no manager")?)
+    Keeper::new(alloc, limits).ok()
 }
 
 /// The next pass of the manager.
-fn pass(keeper: &mut Keeper, manager: &Manager) -> Result<Pass, Fail>
+fn pass(keeper: &mut Keeper, manager: &Manager) -> Option<Pass>
     requires { IsKeptBy manager.now keeper.old }
     ensures kept { IsKeptBy manager.now keeper.new }
-    ensures own { IfOk result (λ made. IsOf manager.now made) }
-    ensures free { IfOk result (λ made. made.open_unit ≡ None) }
+    ensures free { IfSome result (IsFreePass manager.now) }
 {
-    Ok(keeper.pass(manager).ok().ok_or("no pass")?)
+    keeper.pass(manager).ok()
 }
 
 /// The next two passes.
-fn two(keeper: &mut Keeper, manager: &Manager) -> Result<[Pass; 2], Fail>
+fn two(keeper: &mut Keeper, manager: &Manager) -> Option<[Pass; 2]>
     requires { IsKeptBy manager.now keeper.old }
     ensures kept { IsKeptBy manager.now keeper.new }
-    ensures free { IfOk result (λ made. All (IsFreePass manager.now) made) }
+    ensures free { IfSome result (λ made. All (IsFreePass manager.now) made) }
 {
-    Ok([pass(keeper, manager)?, pass(keeper, manager)?])
+    let first = keeper.pass(manager).ok()?;
+    let second = keeper.pass(manager).ok()?;
+    Some([first, second])
 }
 
 /// A client of stage 1 and key 0.
@@ -88,21 +91,23 @@ fn recipe(stage: u8, act: Act, outputs: &[Output]) -> Recipe {
 }
 
 /// A boxed server that changes its register as it prepares.
-fn eager(alloc: Global, recipe: Recipe) -> Result<Box<EagerServer>, Fail>
-    ensures { IfOk result (λ server. ⟦<EagerServer as Server>⟧.pending server.value ≡ None) }
+fn eager(alloc: Global, recipe: Recipe) -> Option<Box<dyn Server + Send>>
+    ensures { IfSome result (λ server. pending server ≡ None) }
 {
-    let registers = Registers::new(1).ok_or("registers")?;
-    let server = EagerServer::new(registers, recipe)?;
-    Ok(Box::new(alloc, server)?)
+    let registers = Registers::new(1)?;
+    let server = EagerServer::new(registers, recipe).ok()?;
+    let boxed = Box::new(alloc, server).ok()?;
+    Some(boxed)
 }
 
 /// A boxed server that keeps what it will write.
-fn lazy(alloc: Global, recipe: Recipe) -> Result<Box<LazyServer>, Fail>
-    ensures { IfOk result (λ server. ⟦<LazyServer as Server>⟧.pending server.value ≡ None) }
+fn lazy(alloc: Global, recipe: Recipe) -> Option<Box<dyn Server + Send>>
+    ensures { IfSome result (λ server. pending server ≡ None) }
 {
-    let registers = Registers::new(1).ok_or("registers")?;
-    let server = LazyServer::new(registers, recipe)?;
-    Ok(Box::new(alloc, server)?)
+    let registers = Registers::new(1)?;
+    let server = LazyServer::new(registers, recipe).ok()?;
+    let boxed = Box::new(alloc, server).ok()?;
+    Some(boxed)
 }
 
 /// Two servers with nothing prepared, side by side.

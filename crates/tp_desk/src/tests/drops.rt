@@ -1,96 +1,95 @@
 //! Desks that are dropped at each point of their work.
 
-use crate::Desk;
-use crate::tests::{eager, lazy, two};
+use crate::tests::calls::{claims, commits, kills, let_go, prepares, shows, sit, stands, submits};
+use crate::tests::{bench, clear, eager, lazy};
 use std::test::Fail;
-use tp_model::types::{Claimed, Killed, Outcome, Status};
+use tp_model::types::{Outcome, Status};
 use tp_server::{Act, Server};
 
 #[test]
 fn after_claim(rt: HostRuntime) -> Result<(), Fail> {
-    let Some((manager, mut client, mut worker)) = two(rt.alloc(), 4, 8) else {
-        panic!(rt; "no manager")
-    };
-    let mut server = eager(rt.alloc(), Act::Add, &[])?;
-    assert!(rt; manager.submit(&mut client, 1, 0, 6) == Ok(0));
-    let mut desk = Desk::new(&manager, &mut worker, &mut server);
-    let Claimed::Work(_) = desk.claim() else {
-        panic!(rt; "no work")
-    };
-    drop(desk);
-    assert!(rt; !worker.has_open());
-    assert!(rt; server.balance(0) == Some(0));
-    let Ok(look) = manager.read(&mut client, 0) else {
-        panic!(rt; "no element")
-    };
-    assert!(rt; look.status == Status::Waiting { attempts: 1 });
+    let server = eager(rt.alloc(), Act::Add, &[])?;
+    let mut at = bench(rt.alloc(), 4, 8, server)?;
+    assert!(rt; submits(&at.manager, &mut at.client, 6, 0));
+    let mut desk = sit(&at.manager, &mut at.worker, &mut at.server);
+    assert!(rt; claims(&mut desk).is_some());
+    let_go(desk);
+    assert!(rt; !at.worker.has_open());
+    assert!(rt; shows(&at.server, 0));
+    assert!(rt;
+        stands(
+            &at.manager,
+            &mut at.client,
+            0,
+            Status::Waiting { attempts: 1 }
+        )
+    );
+    clear(at);
     Ok(())
 }
 
 #[test]
 fn after_prepare(rt: HostRuntime) -> Result<(), Fail> {
-    let Some((manager, mut client, mut worker)) = two(rt.alloc(), 4, 8) else {
-        panic!(rt; "no manager")
-    };
-    let mut server = eager(rt.alloc(), Act::Add, &[])?;
-    assert!(rt; manager.submit(&mut client, 1, 0, 6) == Ok(0));
-    let mut desk = Desk::new(&manager, &mut worker, &mut server);
-    let Claimed::Work(_) = desk.claim() else {
-        panic!(rt; "no work")
-    };
-    assert!(rt; desk.prepare() == Ok(()));
+    let server = eager(rt.alloc(), Act::Add, &[])?;
+    let mut at = bench(rt.alloc(), 4, 8, server)?;
+    assert!(rt; submits(&at.manager, &mut at.client, 6, 0));
+    let mut desk = sit(&at.manager, &mut at.worker, &mut at.server);
+    assert!(rt; claims(&mut desk).is_some());
+    assert!(rt; prepares(&mut desk));
     assert!(rt; desk.is_prepared() && desk.balance(0) == Some(0));
-    drop(desk);
-    assert!(rt; !worker.has_open() && !server.is_prepared());
-    assert!(rt; server.balance(0) == Some(0));
-    let Ok(look) = manager.read(&mut client, 0) else {
-        panic!(rt; "no element")
-    };
-    assert!(rt; look.status == Status::Waiting { attempts: 1 });
+    let_go(desk);
+    assert!(rt; !at.worker.has_open() && !at.server.is_prepared());
+    assert!(rt; shows(&at.server, 0));
+    assert!(rt;
+        stands(
+            &at.manager,
+            &mut at.client,
+            0,
+            Status::Waiting { attempts: 1 }
+        )
+    );
+    clear(at);
     Ok(())
 }
 
 #[test]
 fn after_a_kill(rt: HostRuntime) -> Result<(), Fail> {
-    let Some((manager, mut client, mut worker)) = two(rt.alloc(), 4, 8) else {
-        panic!(rt; "no manager")
-    };
-    let mut server = lazy(rt.alloc(), Act::Add, &[])?;
-    assert!(rt; manager.submit(&mut client, 1, 0, 6) == Ok(0));
-    let mut desk = Desk::new(&manager, &mut worker, &mut server);
-    let Claimed::Work(_) = desk.claim() else {
-        panic!(rt; "no work")
-    };
-    assert!(rt; manager.kill(&mut client, 0) == Ok(Killed { units_aborted: 1 }));
+    let server = lazy(rt.alloc(), Act::Add, &[])?;
+    let mut at = bench(rt.alloc(), 4, 8, server)?;
+    assert!(rt; submits(&at.manager, &mut at.client, 6, 0));
+    let mut desk = sit(&at.manager, &mut at.worker, &mut at.server);
+    assert!(rt; claims(&mut desk).is_some());
+    assert!(rt; kills(&at.manager, &mut at.client, 0, 1));
     assert!(rt; desk.has_open());
-    drop(desk);
-    assert!(rt; !worker.has_open());
-    assert!(rt; server.balance(0) == Some(0));
-    let Ok(look) = manager.read(&mut client, 0) else {
-        panic!(rt; "no element")
-    };
-    assert!(rt; look.status == Status::Killed);
+    let_go(desk);
+    assert!(rt; !at.worker.has_open());
+    assert!(rt; shows(&at.server, 0));
+    assert!(rt; stands(&at.manager, &mut at.client, 0, Status::Killed));
+    clear(at);
     Ok(())
 }
 
 #[test]
 fn after_commit(rt: HostRuntime) -> Result<(), Fail> {
-    let Some((manager, mut client, mut worker)) = two(rt.alloc(), 4, 8) else {
-        panic!(rt; "no manager")
-    };
-    let mut server = eager(rt.alloc(), Act::Add, &[])?;
-    assert!(rt; manager.submit(&mut client, 1, 0, 6) == Ok(0));
-    let mut desk = Desk::new(&manager, &mut worker, &mut server);
-    let Claimed::Work(work) = desk.claim() else {
+    let server = eager(rt.alloc(), Act::Add, &[])?;
+    let mut at = bench(rt.alloc(), 4, 8, server)?;
+    assert!(rt; submits(&at.manager, &mut at.client, 6, 0));
+    let mut desk = sit(&at.manager, &mut at.worker, &mut at.server);
+    let Some(work) = claims(&mut desk) else {
         panic!(rt; "no work")
     };
-    assert!(rt; desk.prepare() == Ok(()));
-    assert!(rt; desk.commit() == Outcome::Committed { first: 0, count: 0 });
-    drop(desk);
-    assert!(rt; server.balance(0) == Some(6));
-    let Ok(look) = manager.read(&mut client, 0) else {
-        panic!(rt; "no element")
-    };
-    assert!(rt; look.status == Status::Consumed { unit: work.unit });
+    assert!(rt; prepares(&mut desk));
+    assert!(rt; commits(&mut desk, Outcome::Committed { first: 0, count: 0 }));
+    let_go(desk);
+    assert!(rt; shows(&at.server, 6));
+    assert!(rt;
+        stands(
+            &at.manager,
+            &mut at.client,
+            0,
+            Status::Consumed { unit: work.unit }
+        )
+    );
+    clear(at);
     Ok(())
 }

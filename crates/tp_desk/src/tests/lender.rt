@@ -4,7 +4,8 @@ ghost use Rattle.tp_manager.specs.Shown.{IsOf};
 ghost use Rattle.tp_desk.specs.Aside.{SteadyAside};
 ghost use Rattle.tp_desk.specs.Serving.{Leaves};
 
-use crate::tests::{eager, lazy, two};
+use crate::tests::calls::{shows, submits};
+use crate::tests::{bench, clear, eager, lazy};
 use crate::{Aside, Desk, Turned};
 use std::test::Fail;
 use tp_manager::{Manager, Pass};
@@ -84,26 +85,25 @@ fn claim_and_drop(manager: &Manager, pass: &mut Pass, server: &mut Box<dyn Serve
 
 #[test]
 fn lent_twice(rt: HostRuntime) -> Result<(), Fail> {
-    let Some((manager, mut client, mut worker)) = two(rt.alloc(), 4, 8) else {
-        panic!(rt; "no manager")
-    };
-    let mut adding = eager(rt.alloc(), Act::Add, &[])?;
+    let adding = eager(rt.alloc(), Act::Add, &[])?;
     let mut later = lazy(rt.alloc(), Act::Add, &[])?;
-    assert!(rt; manager.submit(&mut client, 1, 0, 5) == Ok(0));
-    claim_and_drop(&manager, &mut worker, &mut adding);
-    assert!(rt; adding.balance(0) == Some(0));
+    let mut at = bench(rt.alloc(), 4, 8, adding)?;
+    assert!(rt; submits(&at.manager, &mut at.client, 5, 0));
+    claim_and_drop(&at.manager, &mut at.worker, &mut at.server);
+    assert!(rt; shows(&at.server, 0));
     let done = Turned::Done {
         unit: 9,
         element: 0,
         first: 0,
         count: 0,
     };
-    assert!(rt; serve(&manager, &mut worker, &mut later) == done);
-    assert!(rt; later.balance(0) == Some(5));
-    assert!(rt; serve(&manager, &mut worker, &mut adding) == Turned::Idle);
-    assert!(rt; adding.balance(0) == Some(0));
-    assert!(rt; manager.submit(&mut client, 1, 0, 7) == Ok(1));
-    serve_by_parts(&manager, &mut worker, &mut adding);
-    assert!(rt; adding.balance(0) == Some(7));
+    assert!(rt; serve(&at.manager, &mut at.worker, &mut later) == done);
+    assert!(rt; shows(&later, 5));
+    assert!(rt; serve(&at.manager, &mut at.worker, &mut at.server) == Turned::Idle);
+    assert!(rt; shows(&at.server, 0));
+    assert!(rt; submits(&at.manager, &mut at.client, 7, 1));
+    serve_by_parts(&at.manager, &mut at.worker, &mut at.server);
+    assert!(rt; shows(&at.server, 7));
+    clear(at);
     Ok(())
 }

@@ -5,8 +5,9 @@ ghost use Rattle.tp_server.specs.declared.recipe.Act.TheVariants.{Pass};
 ghost use Rattle.tp_server.specs.declared.recipe.KeyFrom.TheVariants.{Same};
 ghost use Rattle.tp_server.specs.declared.recipe.AmountFrom.TheVariants.{Same as SameAmount};
 
-use crate::tests::two;
-use crate::{Desk, Turned};
+use crate::Turned;
+use crate::tests::calls::{end, sit, submits};
+use crate::tests::{bench, clear};
 use arrayvec::ArrayVec;
 use std::test::Fail;
 use tp_model::types::{Draft, Element, Status};
@@ -96,12 +97,10 @@ impl Server for Router {
 
 #[test]
 fn routed(rt: HostRuntime) -> Result<(), Fail> {
-    let Some((manager, mut client, mut worker)) = two(rt.alloc(), 4, 8) else {
-        panic!(rt; "no manager")
-    };
-    let mut router: Box<dyn Server + Send> = Box::new(rt.alloc(), Router::new())?;
-    assert!(rt; manager.submit(&mut client, 1, 0, 7) == Ok(0));
-    let mut desk = Desk::new(&manager, &mut worker, &mut router);
+    let router: Box<dyn Server + Send> = Box::new(rt.alloc(), Router::new())?;
+    let mut at = bench(rt.alloc(), 4, 8, router)?;
+    assert!(rt; submits(&at.manager, &mut at.client, 7, 0));
+    let mut desk = sit(&at.manager, &mut at.worker, &mut at.server);
     let done = Turned::Done {
         unit: 8,
         element: 0,
@@ -109,12 +108,13 @@ fn routed(rt: HostRuntime) -> Result<(), Fail> {
         count: 1,
     };
     assert!(rt; desk.turn() == done);
-    desk.end();
-    let Ok(look) = manager.read(&mut client, 4) else {
+    end(desk);
+    let Ok(look) = at.manager.read(&mut at.client, 4) else {
         panic!(rt; "no output")
     };
     assert!(rt; look.element.stage == 2 && look.element.amount == 7);
     assert!(rt; look.element.root == 0 && look.element.by == Some(8));
     assert!(rt; look.status == Status::Waiting { attempts: 0 });
+    clear(at);
     Ok(())
 }

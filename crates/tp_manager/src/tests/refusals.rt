@@ -1,8 +1,9 @@
 //! Calls that find a limit reached: no row, no unit, no attempt, no pass left.
 
-use super::{SMALL, found, kept, request, two};
+use super::asking::{aborts, claims, commits, finds, reads, submits};
+use super::{SMALL, kept, request, two};
 use crate::MakeFault;
-use tp_model::types::{Claimed, Draft, Element, Ended, Limits, Outcome, Refusal, Status};
+use tp_model::types::{Claimed, Draft, Element, Limits, Outcome, Refusal, Status};
 
 #[test]
 fn rows_used_up(rt: HostRuntime) {
@@ -11,18 +12,22 @@ fn rows_used_up(rt: HostRuntime) {
         panic!(rt; "no manager")
     };
     assert!(rt; matches!(keeper.pass(&manager), Err(MakeFault::NoPart)));
-    assert!(rt; manager.submit(&mut first, 1, 0, 9) == Ok(0));
-    assert!(rt; manager.submit(&mut first, 15, 0, 9) == Err(Refusal::BadStage));
-    assert!(rt; manager.submit(&mut first, 14, 3, 4) == Ok(1));
-    assert!(rt; manager.submit(&mut first, 1, 0, 1) == Err(Refusal::Full));
-    assert!(rt; manager.submit(&mut first, 0, 0, 1) == Err(Refusal::BadStage));
-    assert!(rt; manager.submit(&mut first, 15, 0, 1) == Err(Refusal::BadStage));
+    assert!(rt; submits(&manager, &mut first, 1, 0, 9, Ok(0)));
+    assert!(rt; submits(&manager, &mut first, 15, 0, 9, Err(Refusal::BadStage)));
+    assert!(rt; submits(&manager, &mut first, 14, 3, 4, Ok(1)));
+    assert!(rt; submits(&manager, &mut first, 1, 0, 1, Err(Refusal::Full)));
+    assert!(rt; submits(&manager, &mut first, 0, 0, 1, Err(Refusal::BadStage)));
+    assert!(rt; submits(&manager, &mut first, 15, 0, 1, Err(Refusal::BadStage)));
     let waiting = Status::Waiting { attempts: 0 };
-    assert!(rt; manager.read(&mut first, 0) == found(request(0, 1, 0, 9), waiting));
-    assert!(rt; manager.read(&mut first, 1) == found(request(1, 14, 3, 4), waiting));
-    assert!(rt; manager.read(&mut first, 2) == Err(Refusal::NotThere));
+    assert!(rt; finds(&manager, &mut first, request(0, 1, 0, 9), waiting));
+    assert!(rt; finds(&manager, &mut first, request(1, 14, 3, 4), waiting));
+    assert!(rt; reads(&manager, &mut first, 2, Err(Refusal::NotThere)));
     // The rows of another pass are its own.
-    assert!(rt; manager.submit(&mut second, 1, 0, 1) == Ok(2));
+    assert!(rt; submits(&manager, &mut second, 1, 0, 1, Ok(2)));
+    drop(second);
+    drop(first);
+    drop(keeper);
+    drop(manager);
 }
 
 #[test]
@@ -31,25 +36,40 @@ fn attempts_and_units(rt: HostRuntime) {
         panic!(rt; "no manager")
     };
     let element = request(0, 1, 0, 9);
-    assert!(rt; manager.submit(&mut first, 1, 0, 9) == Ok(0));
-    let Claimed::Work(work) = manager.claim(&mut second, 1) else {
+    assert!(rt; submits(&manager, &mut first, 1, 0, 9, Ok(0)));
+    let Some(work) = claims(&manager, &mut second, 1) else {
         panic!(rt; "no work");
     };
     assert!(rt; work.unit == 2 && work.attempt == 1 && work.element == element);
-    assert!(rt; manager.abort(&mut second) == Ended::Aborted);
-    let look = manager.read(&mut second, 0);
-    assert!(rt; look == found(element, Status::Waiting { attempts: 1 }));
-    let Claimed::Work(again) = manager.claim(&mut second, 1) else {
+    assert!(rt; aborts(&manager, &mut second));
+    assert!(rt;
+        finds(
+            &manager,
+            &mut second,
+            element,
+            Status::Waiting { attempts: 1 }
+        )
+    );
+    let Some(again) = claims(&manager, &mut second, 1) else {
         panic!(rt; "no work");
     };
     assert!(rt; again.unit == 3 && again.attempt == 2 && again.element == element);
-    assert!(rt; manager.abort(&mut second) == Ended::Aborted);
-    let look = manager.read(&mut second, 0);
-    assert!(rt; look == found(element, Status::Parked { attempts: 2 }));
+    assert!(rt; aborts(&manager, &mut second));
+    assert!(rt;
+        finds(
+            &manager,
+            &mut second,
+            element,
+            Status::Parked { attempts: 2 }
+        )
+    );
     assert!(rt; matches!(manager.claim(&mut second, 1), Claimed::NoUnit));
     assert!(rt; matches!(manager.claim(&mut first, 1), Claimed::Idle));
     assert!(rt; manager.next_error(&mut first, 0) == Some(0));
     assert!(rt; manager.next_error(&mut first, 1).is_none());
+    drop(second);
+    drop(first);
+    drop(manager);
 }
 
 #[test]
@@ -59,27 +79,38 @@ fn full_then_committed(rt: HostRuntime) {
         panic!(rt; "no manager")
     };
     let element = request(0, 1, 0, 9);
-    assert!(rt; manager.submit(&mut first, 1, 0, 9) == Ok(0));
-    let Claimed::Work(work) = manager.claim(&mut second, 1) else {
+    assert!(rt; submits(&manager, &mut first, 1, 0, 9, Ok(0)));
+    let Some(work) = claims(&manager, &mut second, 1) else {
         panic!(rt; "no work");
     };
     assert!(rt; work.unit == 2 && work.attempt == 1);
     let Some(reply) = Draft::new(15, 0, 9) else {
         panic!(rt; "no draft");
     };
-    assert!(rt; manager.commit(&mut second, &[reply, reply]) == Outcome::Full);
+    assert!(rt; commits(&manager, &mut second, &[reply, reply], Outcome::Full));
     assert!(rt; !second.has_open());
-    let look = manager.read(&mut first, 0);
-    assert!(rt; look == found(element, Status::Waiting { attempts: 1 }));
-    assert!(rt; manager.read(&mut first, 1) == Err(Refusal::NotThere));
-    let Claimed::Work(again) = manager.claim(&mut second, 1) else {
+    assert!(rt;
+        finds(
+            &manager,
+            &mut first,
+            element,
+            Status::Waiting { attempts: 1 }
+        )
+    );
+    assert!(rt; reads(&manager, &mut first, 1, Err(Refusal::NotThere)));
+    let Some(again) = claims(&manager, &mut second, 1) else {
         panic!(rt; "no work");
     };
     assert!(rt; again.unit == 3 && again.attempt == 2);
-    let outcome = manager.commit(&mut second, &[reply]);
-    assert!(rt; outcome == Outcome::Committed { first: 1, count: 1 });
-    let look = manager.read(&mut first, 0);
-    assert!(rt; look == found(element, Status::Consumed { unit: 3 }));
+    assert!(rt;
+        commits(
+            &manager,
+            &mut second,
+            &[reply],
+            Outcome::Committed { first: 1, count: 1 }
+        )
+    );
+    assert!(rt; finds(&manager, &mut first, element, Status::Consumed { unit: 3 }));
     let output = Element {
         id: 1,
         stage: 15,
@@ -88,6 +119,15 @@ fn full_then_committed(rt: HostRuntime) {
         amount: 9,
         by: Some(3),
     };
-    let look = manager.read(&mut first, 1);
-    assert!(rt; look == found(output, Status::Waiting { attempts: 0 }));
+    assert!(rt;
+        finds(
+            &manager,
+            &mut first,
+            output,
+            Status::Waiting { attempts: 0 }
+        )
+    );
+    drop(second);
+    drop(first);
+    drop(manager);
 }

@@ -2,7 +2,7 @@
 
 use std::test::Fail;
 use tp_desk::Turned;
-use tp_model::types::{Element, Look, Refusal, Status};
+use tp_model::types::{Counts, Element, Look, Refusal, Status};
 use tp_report::{Answer, ServerAnswer, line, refused_line};
 use tp_script::Refused;
 use tp_server::Declined;
@@ -127,7 +127,7 @@ fn other_lines(rt: HostRuntime) -> Result<(), Fail> {
     let replies = [REPLY, REQUEST];
     let ids = [0, 5, 4294967295];
     let registers = [1, 18446744073709551615];
-    let count = Answer::Count {
+    let counts = Counts {
         waiting: 1,
         held: 2,
         consumed: 3,
@@ -158,6 +158,10 @@ fn other_lines(rt: HostRuntime) -> Result<(), Fail> {
             "replies 0 8:7:18446744073709551615 0:0:11\n",
         ),
         (Answer::Killed { id: 0, aborted: 1 }, "killed 0 aborted 1\n"),
+        (
+            Answer::Cancelled { root: 0, killed: 2 },
+            "cancelled 0 killed 2\n",
+        ),
         (Answer::Errors(&[]), "errors\n"),
         (Answer::Errors(&ids), "errors 0 5 4294967295\n"),
         (balance(Some(5)), "balance a 1 5\n"),
@@ -169,7 +173,14 @@ fn other_lines(rt: HostRuntime) -> Result<(), Fail> {
             },
             "sum 0 147573952589676412920\n",
         ),
-        (count, "waiting 1 held 2 consumed 3 parked 4 killed 5\n"),
+        (
+            Answer::Count(counts),
+            "waiting 1 held 2 consumed 3 parked 4 killed 5\n",
+        ),
+        (
+            Answer::Account(counts),
+            "account born 15 waiting 1 held 2 consumed 3 parked 4 killed 5\n",
+        ),
         (Answer::Raced { submitted: 200 }, "race submitted 200\n"),
         (Answer::Drained, "drained\n"),
         (

@@ -27,8 +27,8 @@ fn joined(rt: &HostRuntime, front: &str, back: &str) -> Result<Vec<u8>, Fail> {
 fn what_is_no_line(rt: HostRuntime) {
     for (script, line) in [
         // First words.
-        ("cancel 0", 1),
-        ("account", 1),
+        ("requeue 0", 1),
+        ("accounts", 1),
         ("Errors", 1),
         ("error", 1),
         ("errorss", 1),
@@ -43,6 +43,12 @@ fn what_is_no_line(rt: HostRuntime) {
         ("sum 0 0", 1),
         ("kill", 1),
         ("kill 0 0", 1),
+        ("cancel", 1),
+        ("cancel 0 0", 1),
+        ("account 0", 1),
+        ("account\naccount 0", 2),
+        ("account\nfinal a", 2),
+        ("account\nserver a slow 1 1 add", 2),
         ("read", 1),
         ("reply", 1),
         ("server a eager 1 1 add\nclaim", 2),
@@ -92,6 +98,7 @@ fn numbers(rt: HostRuntime) {
         "submit 1 18446744073709551616 1",
         "submit 1 0 18446744073709551616",
         "kill 4294967296",
+        "cancel 4294967296",
         "read 4294967296",
         "reply 4294967296",
         "rows 18446744073709551616",
@@ -193,6 +200,11 @@ fn names_and_order(rt: HostRuntime) {
         ("server a eager 1 1 add\nrows 1", 2, 7),
         ("server a eager 1 1 add\nstart a 0 0\nunits 1", 3, 7),
         ("errors\nlimit 1", 2, 7),
+        ("account\ncount", 2, 7),
+        ("account\n\n# the end\naccount", 4, 7),
+        ("account\nrows 1", 2, 7),
+        ("account\nkill 4294967296", 2, 7),
+        ("account\nturn nobody", 2, 7),
         ("drain\n\nserver a eager 1 1 add", 3, 7),
         ("server a eager 1 1 add\nclaim a\nstart a 0 0", 3, 7),
         // Of several faults in a line the first in the order 6, 1, 7, 5, 2, 3, 4.

@@ -8,7 +8,7 @@ use tp_model::types::{
 use tp_plain::laws;
 use tp_plain::plain::Plain;
 
-fn limits(rows: u16, units: u16, attempts: u8) -> Limits
+pub(crate) fn limits(rows: u16, units: u16, attempts: u8) -> Limits
     ensures { result ≡ record { parts = 2; rows = rows; units = units; attempts = attempts } }
 {
     Limits {

@@ -3,7 +3,7 @@
 use tp_script::{Command, Kind, Reach, StdSource, read_script_at};
 
 const SCRIPT: &str =
-    "units 3\nserver a eager 1 2 add\nserver b lazy 2 1 take 15:7:after\nstart a 1 5\nsubmit 9 8 7\nturn b\nreply 6\nclaim a\nprepare b\ncommit a\nabort b\ndrop a\nkill 5\nread 4\nerrors\nbalance b 3\nsum 2\ncount\nrace 4 256 14 3 2 1 10000\ndrain\n";
+    "units 3\nserver a eager 1 2 add\nserver b lazy 2 1 take 15:7:after\nstart a 1 5\nsubmit 9 8 7\nturn b\nreply 6\nclaim a\nprepare b\ncommit a\nabort b\ndrop a\nkill 5\ncancel 6\nread 4\nerrors\nbalance b 3\nsum 2\ncount\nrace 4 256 14 3 2 1 10000\ndrain\naccount\n";
 
 #[test]
 fn each_command(rt: HostRuntime) {
@@ -35,6 +35,7 @@ fn each_command(rt: HostRuntime) {
                 Command::Abort { server: 1 },
                 Command::Drop { server: 0 },
                 Command::Kill { id: 5 },
+                Command::Cancel { root: 6 },
                 Command::Read { id: 4 },
                 Command::Errors,
                 Command::Balance { server: 1, k: 3 },
@@ -52,6 +53,7 @@ fn each_command(rt: HostRuntime) {
                 Command::Drain,
             ];
             assert_eq!(rt; script.commands.as_slice(), commands.as_slice());
+            assert!(rt; script.account);
         }
         Err(fault) => assert!(rt; false, "{fault}"),
     }

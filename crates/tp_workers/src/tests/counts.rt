@@ -2,21 +2,20 @@
 
 use crate::tests::{client, manager, pass};
 use crate::{KillJob, NoGate, Shift, shift};
-use std::test::Fail;
 use tp_model::types::{Limits, Refusal, Status};
 
 #[test]
-fn client_and_killer_counts(rt: HostRuntime) -> Result<(), Fail> {
+fn client_and_killer_counts(rt: HostRuntime) {
     let limits = Limits {
         parts: 4,
         rows: 64,
         units: 256,
         attempts: 3,
     };
-    let (manager, mut keeper) = manager(rt.alloc(), limits)?;
-    let mut clients = [pass(&mut keeper, &manager)?];
-    let mut killers = [pass(&mut keeper, &manager)?];
-    let mut reader = pass(&mut keeper, &manager)?;
+    let (manager, mut keeper) = manager(rt.alloc(), limits).expect(&rt, "no manager");
+    let mut clients = [pass(&mut keeper, &manager).expect(&rt, "no pass")];
+    let mut killers = [pass(&mut keeper, &manager).expect(&rt, "no pass")];
+    let mut reader = pass(&mut keeper, &manager).expect(&rt, "no pass");
     let counts = shift(
         &rt,
         &manager,
@@ -78,5 +77,9 @@ fn client_and_killer_counts(rt: HostRuntime) -> Result<(), Fail> {
         ..Shift::default()
     };
     assert_eq!(rt; counts, wanted);
-    Ok(())
+    drop(reader);
+    drop(killers);
+    drop(clients);
+    drop(keeper);
+    drop(manager);
 }

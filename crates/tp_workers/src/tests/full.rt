@@ -4,7 +4,6 @@ ghost use Rattle.tp_workers.specs.Free.{IsFreePass};
 
 use crate::tests::{client, eager, lazy, manager, output, pass, recipe};
 use crate::{NoGate, Shift, shift};
-use std::test::Fail;
 use std::thread::Threads;
 use tp_manager::{Manager, Pass};
 use tp_model::types::Limits;
@@ -42,9 +41,9 @@ fn two_turns<R: Threads + Sync>(
 }
 
 #[test]
-fn full_then_no_unit(rt: HostRuntime) -> Result<(), Fail> {
-    let (manager, mut keeper) = manager(rt.alloc(), LIMITS)?;
-    let mut clients = [pass(&mut keeper, &manager)?];
+fn full_then_no_unit(rt: HostRuntime) {
+    let (manager, mut keeper) = manager(rt.alloc(), LIMITS).expect(&rt, "no manager");
+    let mut clients = [pass(&mut keeper, &manager).expect(&rt, "no pass")];
     let counts = shift(
         &rt,
         &manager,
@@ -64,29 +63,43 @@ fn full_then_no_unit(rt: HostRuntime) -> Result<(), Fail> {
     };
     assert_eq!(rt; counts, wanted);
     let twice = recipe(1, Act::Add, &[output(15), output(15)]);
-    let server: Box<dyn Server + Send> = eager(rt.alloc(), twice)?;
-    let counts = two_turns(&rt, &manager, pass(&mut keeper, &manager)?, server);
+    let server = eager(rt.alloc(), twice).expect(&rt, "no server");
+    let counts = two_turns(
+        &rt,
+        &manager,
+        pass(&mut keeper, &manager).expect(&rt, "no pass"),
+        server,
+    );
     let wanted = Shift {
         full: 1,
         nounit: 1,
         ..Shift::default()
     };
     assert_eq!(rt; counts, wanted);
-    Ok(())
+    drop(clients);
+    drop(keeper);
+    drop(manager);
 }
 
 #[test]
-fn refused_then_no_unit(rt: HostRuntime) -> Result<(), Fail> {
-    let (manager, mut keeper) = manager(rt.alloc(), LIMITS)?;
-    let mut client = pass(&mut keeper, &manager)?;
+fn refused_then_no_unit(rt: HostRuntime) {
+    let (manager, mut keeper) = manager(rt.alloc(), LIMITS).expect(&rt, "no manager");
+    let mut client = pass(&mut keeper, &manager).expect(&rt, "no pass");
     assert!(rt; manager.submit(&mut client, 1, 0, 1) == Ok(0));
-    let server: Box<dyn Server + Send> = lazy(rt.alloc(), recipe(1, Act::Take, &[]))?;
-    let counts = two_turns(&rt, &manager, pass(&mut keeper, &manager)?, server);
+    let server = lazy(rt.alloc(), recipe(1, Act::Take, &[])).expect(&rt, "no server");
+    let counts = two_turns(
+        &rt,
+        &manager,
+        pass(&mut keeper, &manager).expect(&rt, "no pass"),
+        server,
+    );
     let wanted = Shift {
         refused: 1,
         nounit: 1,
         ..Shift::default()
     };
     assert_eq!(rt; counts, wanted);
-    Ok(())
+    drop(client);
+    drop(keeper);
+    drop(manager);
 }

@@ -3,7 +3,6 @@
 use crate::tests::{eager, hold, lazy, manager, pair, pass, recipe, two};
 use crate::{Gate, Point, shift};
 use std::sync::atomic::{AtomicU64, Ordering};
-use std::test::Fail;
 use tp_model::types::Limits;
 use tp_server::{Act, Server};
 
@@ -28,30 +27,31 @@ impl Gate for Overlap {
 }
 
 #[test]
-fn two_desks_overlap(rt: HostRuntime) -> Result<(), Fail> {
+fn two_desks_overlap(rt: HostRuntime) {
     let limits = Limits {
         parts: 3,
         rows: 4,
         units: 4,
         attempts: 3,
     };
-    let (manager, mut keeper) = manager(rt.alloc(), limits)?;
-    let mut client = pass(&mut keeper, &manager)?;
-    let mut passes = two(&mut keeper, &manager)?;
+    let (manager, mut keeper) = manager(rt.alloc(), limits).expect(&rt, "no manager");
+    let mut client = pass(&mut keeper, &manager).expect(&rt, "no pass");
+    let mut passes = two(&mut keeper, &manager).expect(&rt, "no passes");
     assert!(rt; manager.submit(&mut client, 1, 0, 5) == Ok(0));
     assert!(rt; manager.submit(&mut client, 1, 0, 7) == Ok(1));
-    let a: Box<dyn Server + Send> = eager(rt.alloc(), recipe(1, Act::Add, &[]))?;
-    let b: Box<dyn Server + Send> = lazy(rt.alloc(), recipe(1, Act::Add, &[]))?;
+    let a = eager(rt.alloc(), recipe(1, Act::Add, &[])).expect(&rt, "no server");
+    let b = lazy(rt.alloc(), recipe(1, Act::Add, &[])).expect(&rt, "no server");
     let gate = Overlap {
         claimed: AtomicU64::new(0),
         settled: AtomicU64::new(0),
         failed: AtomicU64::new(0),
     };
+    let mut servers = pair(a, b);
     let counts = shift(
         &rt,
         &manager,
         &mut passes,
-        &mut pair(a, b),
+        &mut servers,
         &mut [],
         &mut [],
         &mut [],
@@ -61,5 +61,10 @@ fn two_desks_overlap(rt: HostRuntime) -> Result<(), Fail> {
     );
     assert_eq!(rt; gate.failed.load(Ordering::SeqCst), 0);
     assert_eq!(rt; counts.done, 2);
-    Ok(())
+    drop(servers);
+    drop(gate);
+    drop(passes);
+    drop(client);
+    drop(keeper);
+    drop(manager);
 }

@@ -1,27 +1,26 @@
 //! A race of clients, servers and a killer, then rounds until nothing waits.
 
-use crate::tests::{client, eager, lazy, manager, pass, recipe, survey, two};
+use crate::tests::{client, eager, lazy, manager, pair, pass, recipe, survey, two};
 use crate::{KillJob, NoGate, drain, shift};
-use std::test::Fail;
 use tp_model::types::Limits;
 use tp_server::{Act, Server};
 
 #[test]
-fn race_with_killer(rt: HostRuntime) -> Result<(), Fail> {
+fn race_with_killer(rt: HostRuntime) {
     let limits = Limits {
         parts: 6,
         rows: 64,
         units: 256,
         attempts: 3,
     };
-    let (manager, mut keeper) = manager(rt.alloc(), limits)?;
-    let mut clients = two(&mut keeper, &manager)?;
-    let mut desks = two(&mut keeper, &manager)?;
-    let mut killers = [pass(&mut keeper, &manager)?];
-    let mut reader = pass(&mut keeper, &manager)?;
-    let a: Box<dyn Server + Send> = eager(rt.alloc(), recipe(1, Act::Add, &[]))?;
-    let b: Box<dyn Server + Send> = lazy(rt.alloc(), recipe(1, Act::Add, &[]))?;
-    let mut servers = [a, b];
+    let (manager, mut keeper) = manager(rt.alloc(), limits).expect(&rt, "no manager");
+    let mut clients = two(&mut keeper, &manager).expect(&rt, "no passes");
+    let mut desks = two(&mut keeper, &manager).expect(&rt, "no passes");
+    let mut killers = [pass(&mut keeper, &manager).expect(&rt, "no pass")];
+    let mut reader = pass(&mut keeper, &manager).expect(&rt, "no pass");
+    let a = eager(rt.alloc(), recipe(1, Act::Add, &[])).expect(&rt, "no server");
+    let b = lazy(rt.alloc(), recipe(1, Act::Add, &[])).expect(&rt, "no server");
+    let mut servers = pair(a, b);
     let counts = shift(
         &rt,
         &manager,
@@ -44,5 +43,11 @@ fn race_with_killer(rt: HostRuntime) -> Result<(), Fail> {
         panic!(rt; "no register")
     };
     assert_eq!(rt; x.wrapping_add(y), all.consumed as u64);
-    Ok(())
+    drop(servers);
+    drop(reader);
+    drop(killers);
+    drop(desks);
+    drop(clients);
+    drop(keeper);
+    drop(manager);
 }

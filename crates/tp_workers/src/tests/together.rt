@@ -1,9 +1,8 @@
 //! Six workers that are all under way at once.
 
-use crate::tests::{client, eager, hold, lazy, manager, recipe, two};
+use crate::tests::{client, eager, hold, lazy, manager, pair, recipe, two};
 use crate::{Gate, KillJob, Point, shift};
 use std::sync::atomic::{AtomicU64, Ordering};
-use std::test::Fail;
 use tp_model::types::Limits;
 use tp_server::{Act, Server};
 
@@ -25,29 +24,30 @@ impl Gate for Together {
 }
 
 #[test]
-fn six_start_together(rt: HostRuntime) -> Result<(), Fail> {
+fn six_start_together(rt: HostRuntime) {
     let limits = Limits {
         parts: 6,
         rows: 4,
         units: 4,
         attempts: 3,
     };
-    let (manager, mut keeper) = manager(rt.alloc(), limits)?;
-    let mut desks = two(&mut keeper, &manager)?;
-    let mut clients = two(&mut keeper, &manager)?;
-    let mut killers = two(&mut keeper, &manager)?;
-    let a: Box<dyn Server + Send> = eager(rt.alloc(), recipe(1, Act::Add, &[]))?;
-    let b: Box<dyn Server + Send> = lazy(rt.alloc(), recipe(1, Act::Add, &[]))?;
+    let (manager, mut keeper) = manager(rt.alloc(), limits).expect(&rt, "no manager");
+    let mut desks = two(&mut keeper, &manager).expect(&rt, "no passes");
+    let mut clients = two(&mut keeper, &manager).expect(&rt, "no passes");
+    let mut killers = two(&mut keeper, &manager).expect(&rt, "no passes");
+    let a = eager(rt.alloc(), recipe(1, Act::Add, &[])).expect(&rt, "no server");
+    let b = lazy(rt.alloc(), recipe(1, Act::Add, &[])).expect(&rt, "no server");
     let gate = Together {
         workers: 6,
         came: AtomicU64::new(0),
         failed: AtomicU64::new(0),
     };
+    let mut servers = pair(a, b);
     let counts = shift(
         &rt,
         &manager,
         &mut desks,
-        &mut [a, b],
+        &mut servers,
         &mut clients,
         &mut [client(1, 1), client(1, 1)],
         &mut killers,
@@ -57,5 +57,11 @@ fn six_start_together(rt: HostRuntime) -> Result<(), Fail> {
     );
     assert_eq!(rt; gate.failed.load(Ordering::SeqCst), 0);
     assert_eq!(rt; counts.submitted, 2);
-    Ok(())
+    drop(servers);
+    drop(gate);
+    drop(killers);
+    drop(clients);
+    drop(desks);
+    drop(keeper);
+    drop(manager);
 }

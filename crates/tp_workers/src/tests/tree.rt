@@ -2,33 +2,32 @@
 
 use crate::tests::{client, eager, lazy, manager, output, pass, recipe, survey, three, two};
 use crate::{KillJob, NoGate, shift};
-use std::test::Fail;
 use tp_model::types::Limits;
 use tp_server::{Act, Server};
 
 /// The root makes two outputs of each element, for the two branches, and each branch makes a reply. The passes have twice
 /// as many rows as units, so that no turn of the root lacks rows.
 #[test]
-fn tree_with_killers(rt: HostRuntime) -> Result<(), Fail> {
+fn tree_with_killers(rt: HostRuntime) {
     let limits = Limits {
         parts: 8,
         rows: 256,
         units: 128,
         attempts: 7,
     };
-    let (manager, mut keeper) = manager(rt.alloc(), limits)?;
-    let mut clients = two(&mut keeper, &manager)?;
-    let mut killers = two(&mut keeper, &manager)?;
+    let (manager, mut keeper) = manager(rt.alloc(), limits).expect(&rt, "no manager");
+    let mut clients = two(&mut keeper, &manager).expect(&rt, "no passes");
+    let mut killers = two(&mut keeper, &manager).expect(&rt, "no passes");
     let mut desks = [
-        pass(&mut keeper, &manager)?,
-        pass(&mut keeper, &manager)?,
-        pass(&mut keeper, &manager)?,
+        pass(&mut keeper, &manager).expect(&rt, "no pass"),
+        pass(&mut keeper, &manager).expect(&rt, "no pass"),
+        pass(&mut keeper, &manager).expect(&rt, "no pass"),
     ];
-    let mut reader = pass(&mut keeper, &manager)?;
+    let mut reader = pass(&mut keeper, &manager).expect(&rt, "no pass");
     let root = recipe(1, Act::Add, &[output(2), output(3)]);
-    let a: Box<dyn Server + Send> = eager(rt.alloc(), root)?;
-    let b: Box<dyn Server + Send> = lazy(rt.alloc(), recipe(2, Act::Add, &[output(15)]))?;
-    let c: Box<dyn Server + Send> = eager(rt.alloc(), recipe(3, Act::Add, &[output(15)]))?;
+    let a = eager(rt.alloc(), root).expect(&rt, "no server");
+    let b = lazy(rt.alloc(), recipe(2, Act::Add, &[output(15)])).expect(&rt, "no server");
+    let c = eager(rt.alloc(), recipe(3, Act::Add, &[output(15)])).expect(&rt, "no server");
     let mut servers = three(a, b, c);
     let low = KillJob { first: 0, end: 512 };
     let high = KillJob {
@@ -74,5 +73,11 @@ fn tree_with_killers(rt: HostRuntime) -> Result<(), Fail> {
     assert!(rt; servers[0].balance(0) == Some(requests.amount));
     assert!(rt; servers[1].balance(0) == Some(left.amount));
     assert!(rt; servers[2].balance(0) == Some(right.amount));
-    Ok(())
+    drop(servers);
+    drop(reader);
+    drop(desks);
+    drop(killers);
+    drop(clients);
+    drop(keeper);
+    drop(manager);
 }

@@ -6,6 +6,7 @@ use Rattle.tp_perform.proofs.client.errors.Given as goal
 abbrev pub invariant-loop-from : goal.invariant-loop-from
 invariant-loop-from l = record {
   free : IsFreePass l.manager l.client;
+  number : l.client.number ≡ l.initial.client.number;
   capacity : l.capacity ≡ rows_of l.manager.limits;
 }
 

@@ -1,11 +1,13 @@
-use Rattle.std.proofs.Common.{arith, ap, rules, length, length-append, ◌++◌, All}
+use Rattle.std.proofs.Common.{arith, ap, ◌∙◌, rules, length, length-append, ◌++◌, All}
 use Rattle.std.specs.Prelude.{string_bytes}
 use Rattle.std.proofs.lemmas.List.Elements.{All-append, All-drop, All-take}
 use Rattle.tp_report.proofs.Devices.{always_err}
 use Rattle.tp_report.proofs.LineProofs.{line_front, line_more}
 use Rattle.tp_script.specs.declared.script.Command.TheVariants.{Submit}
+use Rattle.tp_manager.specs.Shown.{PassShown}
 use Rattle.tp_workers.specs.Free.{IsFreePass}
 use Rattle.tp_perform.proofs.Alls.{racing_next}
+use Rattle.tp_perform.proofs.Lefts.{same_within}
 use Rattle.tp_perform.proofs.perform.perform_all.Goals as goal
 
 pub returns-in_err-line-clause-racers : goal.returns-in_err-line-clause-racers
@@ -44,6 +46,10 @@ loop-command-preserved g c =
       own = c.in_ok-line.ensures.own;
       lie = c.in_ok-line.ensures.lie;
       as_many = search rules;
+      client_number = c.in_ok-line.ensures.client_number ∙ c.loop-command.invariant.client_number;
+      began = c.in_ok-line.ensures.began ∙ c.loop-command.invariant.began;
+      racers_numbered = same_within (λ (p : PassShown). p.number) c.loop-command.racers c.split_at_mut-before.result.0.now c.split_at_mut-before.result.1.now c.split_at_mut-here.result.0.now c.split_at_mut-here.result.1.now c.command_line.new.racers
+          c.split_at_mut-before.ensures.value c.split_at_mut-here.ensures.value c.in_ok-line.ensures.racers_numbered ∙ c.loop-command.invariant.racers_numbered;
       racers = All-append Free c.split_at_mut-before.result.0.now (c.command_line.new.racers ++ c.split_at_mut-here.result.1.now) front
           (All-append Free c.command_line.new.racers c.split_at_mut-here.result.1.now c.in_ok-line.ensures.racers after);
       enough =
@@ -52,3 +58,25 @@ loop-command-preserved g c =
           omega (arith, c.loop-command.invariant.enough, next, needed, whole, both, c.from-needed.ensures, c.command_line.auto.racers, c.split_at_mut-before.ensures.front_len, c.split_at_mut-before.ensures.back_len, c.split_at_mut-here.ensures.front_len, c.split_at_mut-here.ensures.back_len);
       written = line_more c.loop-command.command-index _ (g.W.Sink.contents c.loop-command.writer) _ (string_bytes c.in_ok-line.line) c.loop-command.invariant.written c.in_ok-line.ensures.line (rw c.as_bytes.ensures.value at c.in_ok-write_all.ensures.ok);
     }
+
+pub returns-in_err-line-clause-client_number : goal.returns-in_err-line-clause-client_number
+returns-in_err-line-clause-client_number g c = c.in_err-line.ensures.client_number ∙ c.loop-command.invariant.client_number
+
+pub returns-in_err-line-clause-began : goal.returns-in_err-line-clause-began
+returns-in_err-line-clause-began g c = c.in_err-line.ensures.began ∙ c.loop-command.invariant.began
+
+pub returns-in_err-line-clause-racers_numbered : goal.returns-in_err-line-clause-racers_numbered
+returns-in_err-line-clause-racers_numbered g c =
+    same_within (λ (p : PassShown). p.number) c.loop-command.racers c.split_at_mut-before.result.0.now c.split_at_mut-before.result.1.now c.split_at_mut-here.result.0.now c.split_at_mut-here.result.1.now c.command_line.new.racers
+    c.split_at_mut-before.ensures.value c.split_at_mut-here.ensures.value c.in_err-line.ensures.racers_numbered ∙ c.loop-command.invariant.racers_numbered
+
+pub returns-in_err-write_all-clause-client_number : goal.returns-in_err-write_all-clause-client_number
+returns-in_err-write_all-clause-client_number g c = c.in_ok-line.ensures.client_number ∙ c.loop-command.invariant.client_number
+
+pub returns-in_err-write_all-clause-began : goal.returns-in_err-write_all-clause-began
+returns-in_err-write_all-clause-began g c = c.in_ok-line.ensures.began ∙ c.loop-command.invariant.began
+
+pub returns-in_err-write_all-clause-racers_numbered : goal.returns-in_err-write_all-clause-racers_numbered
+returns-in_err-write_all-clause-racers_numbered g c =
+    same_within (λ (p : PassShown). p.number) c.loop-command.racers c.split_at_mut-before.result.0.now c.split_at_mut-before.result.1.now c.split_at_mut-here.result.0.now c.split_at_mut-here.result.1.now c.command_line.new.racers
+    c.split_at_mut-before.ensures.value c.split_at_mut-here.ensures.value c.in_ok-line.ensures.racers_numbered ∙ c.loop-command.invariant.racers_numbered

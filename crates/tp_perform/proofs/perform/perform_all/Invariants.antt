@@ -3,8 +3,8 @@ use Rattle.tp_manager.specs.Shown.{IsOf}
 use Rattle.tp_desk.specs.Steady.{shown}
 use Rattle.tp_script.specs.Passes.{racing}
 use Rattle.tp_report.specs.Lines.{Writes}
-use Rattle.tp_workers.specs.Free.{IsFreePass}
-use Rattle.tp_perform.specs.Places.{AllLie}
+use Rattle.tp_workers.specs.Free.{IsFreePass, numbers}
+use Rattle.tp_perform.specs.Places.{AllLie, firsts}
 use Rattle.tp_perform.proofs.perform.perform_all.Given as goal
 
 abbrev pub invariant-loop-command : goal.invariant-loop-command
@@ -13,7 +13,10 @@ invariant-loop-command g l = record {
   own : All (IsOf l.manager) l.passes;
   lie : AllLie (shown (λ z. (goal.Server-dyn g z).recipe z.1)) (shown (λ z. (goal.Server-dyn g z).registers z.1)) (shown (λ z. (goal.Server-dyn g z).pending z.1)) l.passes l.servers l.places;
   as_many : length l.places ≡ length l.script.servers.items;
+  client_number : l.client.number ≡ l.fn.client.number;
+  began : firsts l.places ≡ firsts l.fn.places;
   racers : All (IsFreePass l.manager) l.racers;
+  racers_numbered : numbers l.racers ≡ numbers l.fn.racers;
   enough : length l.racers ≡ l.raced + racing (drop l.command-index l.script.commands.items);
   written : Writes l.command-index (g.W.Sink.contents l.fn.writer) (g.W.Sink.contents l.writer);
 }

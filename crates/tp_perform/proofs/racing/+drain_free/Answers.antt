@@ -1,4 +1,6 @@
-use Rattle.std.proofs.Common.{rules, arith}
+use Rattle.std.proofs.Common.{◌<◌, length, rules, arith}
+use Rattle.tp_perform.specs.Places.{first_of}
+use Rattle.tp_perform.proofs.Lefts.{kept_between}
 use Rattle.tp_perform.proofs.Lies.{free_more}
 use Rattle.tp_perform.proofs.racing.+drain_free.Goals as goal
 
@@ -19,3 +21,10 @@ drain_free-requires-2 g t c = (
     ),
   ),
 )
+
+pub returns-clause-began : goal.returns-clause-began
+returns-clause-began g t c =
+    let os = c.args.places.now in
+    let inside : c.args.at < length os = omega (arith, c.requires.within.1, c.if-at-places.false) in
+    rw c.swap_places-2.ensures.swapped (kept_between first_of os c.swap_places.new.places c.drain_free-2.new.places c.args.front c.args.at (omega (arith, c.requires.within.0, inside)) inside c.swap_places.ensures.swapped
+    c.drain_free-2.ensures.as_many c.drain_free-2.ensures.began)

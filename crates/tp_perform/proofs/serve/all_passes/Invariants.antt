@@ -1,4 +1,5 @@
 use Rattle.std.proofs.Common.{◌≡◌, ◌-◌, All, length}
+use Rattle.tp_manager.specs.Accounts.{AreAll}
 use Rattle.tp_manager.specs.Shown.{IsKeptBy}
 use Rattle.tp_workers.specs.Free.{IsFreePass}
 use Rattle.tp_perform.proofs.serve.all_passes.Given as goal
@@ -7,7 +8,7 @@ abbrev pub invariant-loop-pass : goal.invariant-loop-pass
 invariant-loop-pass l = record {
   keeper : IsKeptBy l.manager l.keeper;
   free : All (IsFreePass l.manager) l.passes.items;
-  given : length l.passes.items ≡ l.keeper.given;
+  given : AreAll l.keeper l.passes.items;
 }
 
 abbrev pub decreases-loop-pass : goal.decreases-loop-pass

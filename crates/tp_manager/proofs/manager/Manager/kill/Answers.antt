@@ -1,4 +1,4 @@
-use Rattle.std.proofs.Common.{◌≡◌, ◌+◌, ◌*◌, ◌≤◌, ◌++◌, sym, ◌∙◌, ap, refl, arith, rules, subst, None}
+use Rattle.std.proofs.Common.{◌≡◌, ◌+◌, ◌≤◌, ◌++◌, sym, ◌∙◌, ap, refl, arith, subst, None}
 use Rattle.tp_model.specs.declared.types.Limits.{Limits}
 use Rattle.tp_model.specs.History.{IsUnborn}
 use Rattle.tp_model.specs.Steps.{rows_of}

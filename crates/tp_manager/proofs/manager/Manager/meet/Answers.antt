@@ -1,10 +1,8 @@
-use Rattle.std.proofs.Common.{◌≡◌, ◌≤◌, sym, ◌∙◌, ap, arith, subst}
-use Rattle.tp_model.specs.declared.types.Limits.{Limits}
+use Rattle.std.proofs.Common.{sym, ◌∙◌, ap, arith}
 use Rattle.tp_rule.specs.Tables.{limits_of}
 use Rattle.tp_rule.specs.Views.{view_of}
 use Rattle.tp_manager.specs.Bounds.{meet_steps, met_steps}
-use Rattle.tp_manager.specs.Shown.{ManagerShown, PassShown, shown}
-use Rattle.tp_manager.specs.Meetings.{Meets}
+use Rattle.tp_manager.specs.Shown.{ManagerShown, PassShown}
 use Rattle.tp_manager.specs.Walks.{Acted, Steady}
 use Rattle.tp_manager.proofs.Meetings.{met_first, met_second, met_shown}
 use Rattle.tp_manager.proofs.Walks.{follows, has_looked, looked}

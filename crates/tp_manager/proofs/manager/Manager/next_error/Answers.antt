@@ -1,4 +1,4 @@
-use Rattle.std.proofs.Common.{◌≡◌, ◌+◌, ◌*◌, ◌<◌, ◌≤◌, MatchOption, sym, ◌∙◌, ap, rules, arith, subst}
+use Rattle.std.proofs.Common.{◌≡◌, ◌≤◌, MatchOption, sym, ◌∙◌, ap, arith, subst}
 use Rattle.tp_model.specs.declared.types.Limits.{Limits}
 use Rattle.tp_model.specs.Steps.{rows_of}
 use Rattle.tp_rule.specs.Tables.{limits_of}

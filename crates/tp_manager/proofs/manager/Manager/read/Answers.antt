@@ -1,4 +1,4 @@
-use Rattle.std.proofs.Common.{◌≡◌, ◌+◌, ◌*◌, ◌≤◌, ◌++◌, sym, ◌∙◌, ap, refl, arith, rules, subst}
+use Rattle.std.proofs.Common.{◌≡◌, ◌+◌, ◌≤◌, sym, ◌∙◌, ap, refl, arith, subst}
 use Rattle.tp_model.specs.declared.types.Limits.{Limits}
 use Rattle.tp_model.specs.History.{IsUnborn, status_of}
 use Rattle.tp_model.specs.Steps.{rows_of}

@@ -1,13 +1,12 @@
-use Rattle.std.proofs.Common.{◌≡◌, ◌≢◌, ◌+◌, ◌-◌, ◌*◌, ◌<◌, ◌≤◌, ℕ, [], ◌++◌, sym, ◌∙◌, ap, arith, refl, rules, subst, length-append}
+use Rattle.std.proofs.Common.{◌≡◌, ◌≢◌, ◌+◌, ◌-◌, ◌<◌, ◌≤◌, ℕ, [], ◌++◌, sym, ◌∙◌, ap, arith, refl, rules, subst, length-append}
 use Rattle.tp_model.specs.declared.trace.StepKind.TheVariants as kinds
 use Rattle.tp_model.specs.declared.types.Limits.{Limits}
-use Rattle.tp_model.specs.Words.{FreeWord, TakenWord, claim_word}
-use Rattle.tp_model.proofs.Bridges.{found_later, status_killed, begins_trans}
+use Rattle.tp_model.specs.Words.{TakenWord, claim_word}
+use Rattle.tp_model.proofs.Bridges.{found_later, status_killed}
 use Rattle.tp_model.proofs.WordProofs.{words_rise}
 use Rattle.tp_words.specs.Words.{claim_value}
 use Rattle.tp_rule.specs.Tables.{limits_of}
 use Rattle.tp_rule.specs.Views.{seen_by, view_of}
-use Rattle.tp_rule.proofs.Reading.{grew_begins}
 use Rattle.tp_manager.specs.Bounds.{retry_steps}
 use Rattle.tp_manager.specs.Kills.{Freed}
 use Rattle.tp_manager.specs.Looks.{IsEnough}

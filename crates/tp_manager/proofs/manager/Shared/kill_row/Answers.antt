@@ -1,7 +1,6 @@
-use Rattle.std.proofs.Common.{◌≡◌, ◌≢◌, ◌+◌, ◌*◌, ℕ, [], sym, ◌∙◌, ap, refl, arith, rules, subst}
+use Rattle.std.proofs.Common.{◌≡◌, ◌+◌, ℕ, [], sym, ◌∙◌, ap, refl, arith, subst}
 use Rattle.tp_model.specs.declared.trace.StepKind.TheVariants as kinds
 use Rattle.tp_model.specs.declared.types.Limits.{Limits}
-use Rattle.tp_model.specs.Words.{FreeWord, claim_word}
 use Rattle.tp_model.proofs.Bridges.{found_later, status_killed}
 use Rattle.tp_words.specs.Words.{claim_value}
 use Rattle.tp_rule.specs.Tables.{limits_of}

@@ -1,4 +1,4 @@
-use Rattle.std.proofs.Common.{◌≡◌, ◌+◌, ◌*◌, ℕ, sym, ◌∙◌, refl, arith, rules, subst}
+use Rattle.std.proofs.Common.{◌≡◌, ◌+◌, sym, ◌∙◌, refl, arith, rules, subst}
 use mathlib.Core.List.{IsPrefix}
 use Rattle.tp_model.specs.declared.trace.StepKind.TheVariants as kinds
 use Rattle.tp_model.specs.declared.types.Limits.{Limits}
@@ -10,9 +10,9 @@ use Rattle.tp_words.specs.declared.words.Head.TheVariants.{There}
 use Rattle.tp_manager.specs.declared.looking.Birth.{Birth}
 use Rattle.tp_rule.specs.Tables.{limits_of}
 use Rattle.tp_rule.specs.Views.{seen_by, view_of}
-use Rattle.tp_manager.specs.Bounds.{birth_steps, body_steps, look_steps, status_steps, try_steps}
+use Rattle.tp_manager.specs.Bounds.{birth_steps, body_steps, look_steps, try_steps}
 use Rattle.tp_manager.specs.Walks.{Acted, PassedBy}
-use Rattle.tp_manager.proofs.Walks.{acted_by, acted_few, acted_then, looked, looked_begins, opening_first, sought_by, sought_few}
+use Rattle.tp_manager.proofs.Walks.{acted_by, acted_then, looked, looked_begins, opening_first, sought_by, sought_few}
 use Rattle.tp_manager.proofs.Looks.{there_later}
 use Rattle.tp_manager.proofs.Scans.{pass_other, pass_unborn, pass_status, pass_missed, allows, few_attempts, took_by, took_few}
 use Rattle.tp_manager.proofs.manager.Shared.try_row.Goals as goal

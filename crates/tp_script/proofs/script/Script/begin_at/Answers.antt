@@ -4,4 +4,4 @@ use Rattle.tp_script.proofs.GrammarLemmas.{begins_at}
 use Rattle.tp_script.proofs.script.Script.begin_at.Goals as goal
 
 pub returns : goal.returns
-returns c = begins_at (settings_view c.args.self.now.settings) c.args.self.now.servers.items c.args.self.now.commands.items c.args.place c.args.k c.args.v c.index_mut.result.now c.begin.new.self c.begin.result (omega arith) (search rules) c.begin.ensures
+returns c = begins_at (settings_view c.args.self.now.settings) c.args.self.now.servers.items c.args.self.now.commands.items c.args.self.now.account c.args.place c.args.k c.args.v c.index_mut.result.now c.begin.new.self c.begin.result (omega arith) (search rules) c.begin.ensures

@@ -1,0 +1,20 @@
+use Rattle.std.proofs.Common.{rules}
+use Rattle.tp_manager.proofs.RoundAccounts.{account_round}
+use Rattle.tp_manager.proofs.bounds.round_bounds.Goals as goal
+
+pub returns : goal.returns
+returns c = record {
+  round = λ l. record {
+    submit = search rules;
+    claim = search rules;
+    commit = search rules;
+    abort = search rules;
+    kill = search rules;
+    cancel = search rules;
+    read = search rules;
+    reply = search rules;
+    next_error = search rules;
+    meet = search rules;
+    account = account_round l;
+  };
+}

@@ -1,0 +1,104 @@
+use Rattle.std.proofs.Common.{◌≡◌, ◌+◌, ◌*◌, ◌≤◌, ◌++◌, sym, ◌∙◌, ap, refl, arith, subst, None}
+use Rattle.tp_model.specs.declared.types.Limits.{Limits}
+use Rattle.tp_model.specs.Families.{IsRequest}
+use Rattle.tp_model.specs.Steps.{rows_of}
+use Rattle.tp_rule.specs.Tables.{limits_of}
+use Rattle.tp_rule.specs.Views.{hand, seen_by, view_of}
+use Rattle.tp_manager.specs.Shown.{ManagerShown, PassShown, shown}
+use Rattle.tp_manager.specs.Bounds.{birth_steps, cancel_steps, round_steps}
+use Rattle.tp_manager.specs.Cancels.{Cancels}
+use Rattle.tp_manager.specs.Walks.{Rests, Acted}
+use Rattle.tp_manager.proofs.Points.{has_more}
+use Rattle.tp_manager.proofs.Walks.{acted_then, looked, looked_none, follows, at_point, has_looked, point_last, walked_then}
+use Rattle.tp_manager.proofs.Passes.{quiet_looked, point_none, unborn_beyond, task_none}
+use Rattle.tp_manager.proofs.Cancels.{rests_swept, cancels_after, cancels_shown, few_steps, unborn_no_request, made_no_request, client_request, request_later, swept_begins, some_not, none_if_not}
+use Rattle.tp_manager.proofs.manager.Manager.cancel.Goals as goal
+use Rattle.tp_manager.proofs.manager.Manager.cancel.Goals.{After-rows, After-birth_from}
+
+lim : (c : After-rows) → (view_of c.pass.inside.seat).limits ≡ limits_of c.self.inside.shared.words
+lim c = ap (λ (p : PassShown). p.limits) c.pass.view_is ∙ (c.requires.own.1 ∙ (sym (ap (λ (m : ManagerShown). m.limits) c.self.view_is) ∙ sym c.self.inside.shared.same))
+
+limits : (c : After-rows) → limits_of c.self.inside.shared.words ≡ c.args.self.now.limits
+limits c = c.self.inside.shared.same ∙ ap (λ (m : ManagerShown). m.limits) c.self.view_is
+
+free : (c : After-rows) → (hand (view_of c.pass.inside.seat)).open_unit ≡ None
+free c = ap (λ (p : PassShown). p.open_unit) c.pass.view_is ∙ c.requires.free
+
+no_task : (c : After-rows) → c.pass.inside.task ≡ None
+no_task c = task_none c.pass.inside.task (sym c.pass.invariant.open_is ∙ free c)
+
+rests : (c : After-rows) → Rests c.pass.inside.seat c.pass.inside.number c.pass.inside.drawn c.pass.inside.used None
+rests c = subst (λ t. Rests c.pass.inside.seat c.pass.inside.number c.pass.inside.drawn c.pass.inside.used t) (no_task c) c.pass.invariant
+
+born : (c : After-birth_from) → Acted (limits_of c.self.inside.shared.words) birth_steps (view_of c.pass.inside.seat) (view_of c.birth_from.new.seat)
+born c = acted_then _ 1 1 _ _ _ c.head_at-head.ensures.acted c.birth_from.ensures.looked
+
+pub returns-then-root-rows-clause-answer : goal.returns-then-root-rows-clause-answer
+returns-then-root-rows-clause-answer c = let r = c.pass.invariant in let at = (goal.at.returns-then-root-rows-clause-answer c).After-rows in
+    let out : rows_of (view_of c.pass.inside.seat).limits ≤ c.args.root = subst (λ (z : Limits). rows_of z ≤ c.args.root) (sym (lim at ∙ c.self.inside.shared.same)) (subst (λ n. n ≤ c.args.root) c.rows.ensures c.if-root-rows.true) in (
+      refl,
+      quiet_looked c.pass.inside.seat.table c.pass.inside.seat.table (view_of c.pass.inside.seat) (view_of c.pass.inside.seat) c.args.pass.now c.pass.view_is _ 0 (looked_none _ _ r.steady),
+      point_none c.pass.inside.seat.table (view_of c.pass.inside.seat) c.args.pass.now c.pass.view_is _ r.steady (λ h. ¬ IsRequest h c.args.root)
+          (unborn_no_request (seen_by c.pass.inside.seat) c.args.root (unborn_beyond _ _ c.args.root r.steady.shows.legal out)),
+    )
+
+pub returns-in_default-clause-follows : goal.returns-in_default-clause-follows
+returns-in_default-clause-follows c = let at = goal.at.returns-in_default-clause-follows c in let l : Limits = limits_of c.self.inside.shared.words in
+    follows c.pass.inside.seat.table c.birth_from.new.seat.table (view_of c.pass.inside.seat) (view_of c.birth_from.new.seat) c.args.pass.now c.pass.view_is _ birth_steps _ (born at.After-birth_from).walk
+    (cancel_steps c.args.self.now.limits) (omega arith)
+
+pub returns-in_default-clause-looks : goal.returns-in_default-clause-looks
+returns-in_default-clause-looks c = λ _. let at = goal.at.returns-in_default-clause-looks c in let a = born at.After-birth_from in
+    has_looked c.pass.inside.seat.table c.birth_from.new.seat.table (view_of c.pass.inside.seat) (view_of c.birth_from.new.seat) c.args.pass.now c.pass.view_is _ birth_steps _ a.walk a.step
+
+pub returns-in_default-clause-answer : goal.returns-in_default-clause-answer
+returns-in_default-clause-answer c = let at = goal.at.returns-in_default-clause-answer c in let l : Limits = limits_of c.self.inside.shared.words in let a = born at.After-birth_from in
+    let v = view_of c.pass.inside.seat in let x = view_of c.birth_from.new.seat in (
+      refl,
+      quiet_looked c.pass.inside.seat.table c.birth_from.new.seat.table v x c.args.pass.now c.pass.view_is l birth_steps (looked l birth_steps v x a),
+      at_point c.pass.inside.seat.table c.birth_from.new.seat.table v x c.args.pass.now c.pass.view_is l birth_steps a.marks a.walk (λ z. ¬ IsRequest z c.args.root) (seen_by c.birth_from.new.seat) (point_last l birth_steps a.marks v x a.walk)
+          (unborn_no_request (seen_by c.birth_from.new.seat) c.args.root c.in_default.ensures.told),
+    )
+
+pub returns-then-is_some-clause-follows : goal.returns-then-is_some-clause-follows
+returns-then-is_some-clause-follows c = let at = goal.at.returns-then-is_some-clause-follows c in let l : Limits = limits_of c.self.inside.shared.words in
+    follows c.pass.inside.seat.table c.birth_from.new.seat.table (view_of c.pass.inside.seat) (view_of c.birth_from.new.seat) c.args.pass.now c.pass.view_is _ birth_steps _ (born at.After-birth_from).walk
+    (cancel_steps c.args.self.now.limits) (omega arith)
+
+pub returns-then-is_some-clause-looks : goal.returns-then-is_some-clause-looks
+returns-then-is_some-clause-looks c = λ _. let at = goal.at.returns-then-is_some-clause-looks c in let a = born at.After-birth_from in
+    has_looked c.pass.inside.seat.table c.birth_from.new.seat.table (view_of c.pass.inside.seat) (view_of c.birth_from.new.seat) c.args.pass.now c.pass.view_is _ birth_steps _ a.walk a.step
+
+pub returns-then-is_some-clause-answer : goal.returns-then-is_some-clause-answer
+returns-then-is_some-clause-answer c = let at = goal.at.returns-then-is_some-clause-answer c in let l : Limits = limits_of c.self.inside.shared.words in let a = born at.After-birth_from in
+    let v = view_of c.pass.inside.seat in let x = view_of c.birth_from.new.seat in (
+      refl,
+      quiet_looked c.pass.inside.seat.table c.birth_from.new.seat.table v x c.args.pass.now c.pass.view_is l birth_steps (looked l birth_steps v x a),
+      at_point c.pass.inside.seat.table c.birth_from.new.seat.table v x c.args.pass.now c.pass.view_is l birth_steps a.marks a.walk (λ z. ¬ IsRequest z c.args.root) (seen_by c.birth_from.new.seat) (point_last l birth_steps a.marks v x a.walk)
+          (made_no_request (seen_by c.birth_from.new.seat) c.args.root c.in-Some.birth c.in-Some.ensures.told.0 (some_not c.in-Some.birth.by c.is_some.result c.is_some.ensures c.if-is_some.true)),
+    )
+
+pub invariant_of-pass-2 : goal.invariant_of-pass-2
+invariant_of-pass-2 c = let at = goal.at.invariant_of-pass-2 c in let l : Limits = limits_of c.self.inside.shared.words in let told = c.cancel_family-killed.ensures.told in
+    let k = cancels_after l c.args.root birth_steps ((rows_of l + 1) * round_steps l) (birth_steps + (rows_of l + 1) * round_steps l) c.cancel_family-killed.result (view_of c.pass.inside.seat) (view_of c.birth_from.new.seat) (view_of c.cancel_family-killed.new.seat) (omega arith) (looked l birth_steps _ _ (born at.After-birth_from)) told in
+    subst (λ t. Rests c.cancel_family-killed.new.seat c.pass.inside.number c.pass.inside.drawn c.pass.inside.used t) (sym (no_task at.After-rows))
+    (rests_swept l c.pass.inside.seat c.cancel_family-killed.new.seat _ _ _ (lim at.After-rows) (rests at.After-rows) _ c.args.root k.events k.swept)
+
+pub returns-clause-follows : goal.returns-clause-follows
+returns-clause-follows c = let at = goal.at.returns-clause-follows c in let l : Limits = limits_of c.self.inside.shared.words in let n = born at.After-birth_from in let k = c.cancel_family-killed.ensures.told.swept in
+    follows c.pass.inside.seat.table c.cancel_family-killed.new.seat.table (view_of c.pass.inside.seat) (view_of c.cancel_family-killed.new.seat) c.args.pass.now c.pass.view_is l (birth_steps + (rows_of l + 1) * round_steps l) (n.marks ++ k.marks)
+    (walked_then l birth_steps ((rows_of l + 1) * round_steps l) n.marks k.marks _ _ _ n.walk k.walk)
+    (cancel_steps c.args.self.now.limits) (few_steps l c.args.self.now.limits (limits at.After-rows))
+
+pub returns-clause-looks : goal.returns-clause-looks
+returns-clause-looks c = λ _. let at = goal.at.returns-clause-looks c in let l : Limits = limits_of c.self.inside.shared.words in let n = born at.After-birth_from in let k = c.cancel_family-killed.ensures.told.swept in
+    has_looked c.pass.inside.seat.table c.cancel_family-killed.new.seat.table (view_of c.pass.inside.seat) (view_of c.cancel_family-killed.new.seat) c.args.pass.now c.pass.view_is l (birth_steps + (rows_of l + 1) * round_steps l) (n.marks ++ k.marks)
+    (walked_then l birth_steps ((rows_of l + 1) * round_steps l) n.marks k.marks _ _ _ n.walk k.walk) (has_more n.marks k.marks n.step)
+
+pub returns-clause-answer : goal.returns-clause-answer
+returns-clause-answer c = let at = goal.at.returns-clause-answer c in let l : Limits = limits_of c.self.inside.shared.words in let told = c.cancel_family-killed.ensures.told in
+    let k = cancels_after l c.args.root birth_steps ((rows_of l + 1) * round_steps l) (birth_steps + (rows_of l + 1) * round_steps l) c.cancel_family-killed.result (view_of c.pass.inside.seat) (view_of c.birth_from.new.seat) (view_of c.cancel_family-killed.new.seat) (omega arith) (looked l birth_steps _ _ (born at.After-birth_from)) told in
+    let request : IsRequest (seen_by c.birth_from.new.seat) c.args.root = client_request (seen_by c.birth_from.new.seat) c.args.root c.in-Some.birth c.in-Some.ensures.told.0 (none_if_not c.in-Some.birth.by c.is_some.result c.is_some.ensures c.if-is_some.false) in
+    subst (λ (z : Limits). Cancels z c.args.root c.cancel_family-killed.result c.args.pass.now (shown c.cancel_family-killed.new.seat.table (view_of c.cancel_family-killed.new.seat))) (limits at.After-rows)
+    (cancels_shown c.pass.inside.seat.table c.cancel_family-killed.new.seat.table (view_of c.pass.inside.seat) (view_of c.cancel_family-killed.new.seat) c.args.pass.now c.pass.view_is l (free at.After-rows) (birth_steps + (rows_of l + 1) * round_steps l) c.args.root c.cancel_family-killed.result
+    (request_later (seen_by c.birth_from.new.seat) (seen_by c.cancel_family-killed.new.seat) c.args.root (swept_begins l c.args.root ((rows_of l + 1) * round_steps l) told.events (view_of c.birth_from.new.seat) (view_of c.cancel_family-killed.new.seat) told.swept) request) k)

@@ -1,0 +1,12 @@
+use Rattle.std.proofs.Common.{◌*◌}
+use Rattle.tp_rule.specs.Tables.{limits_of}
+use Rattle.tp_rule.specs.Views.{IsSameSeat, view_of}
+use Rattle.tp_manager.specs.Bounds.{kill_steps}
+use Rattle.tp_manager.specs.Rounds.{Tallied}
+use Rattle.tp_manager.proofs.manager.Shared.cancel_round.Given as goal
+
+abbrev pub invariant-loop-row : goal.invariant-loop-row
+invariant-loop-row l = record {
+  same : IsSameSeat l.initial.seat l.seat;
+  tallied : Tallied (limits_of l.self.words) (l.row * kill_steps (limits_of l.self.words)) l.root l.row l.found l.killed (view_of l.initial.seat) (view_of l.seat);
+}

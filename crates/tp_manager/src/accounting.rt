@@ -1,0 +1,208 @@
+//! The closing account: all passes look together, and the first counts.
+ghost use Rattle.std.specs.Prelude.{◌≡◌, ◌+◌, ◌*◌, ◌<◌, ◌≤◌, ℕ, All, List, [], length, true, false};
+ghost use mathlib.Core.List.{IsPrefix};
+ghost use Rattle.tp_model.specs.declared.event.Event.{Event};
+ghost use Rattle.tp_model.specs.Accounts.{account_among, all_in, one_more};
+ghost use Rattle.tp_model.specs.Steps.{IsStage, rows_of};
+ghost use Rattle.tp_rule.specs.Tables.{limits_of, table_of, IsSeatOf};
+ghost use Rattle.tp_rule.specs.Views.{seen_by, view_of, IsSameSeat};
+ghost use Rattle.tp_manager.specs.Bounds.{account_steps, look_steps, meet_steps};
+ghost use Rattle.tp_manager.specs.Accounts.{Accounts, AreAll, steps_together};
+ghost use Rattle.tp_manager.specs.Shown.{IsKeptBy, IsOf};
+ghost use Rattle.tp_manager.specs.Together.{IsAt, LooksOn, LooksWith, AreAllPasses, CountsWith};
+ghost use Rattle.tp_manager.specs.Together.{IsWithin, HasCounted, account_below, with_one};
+ghost use Rattle.tp_manager.specs.Walks.{Acted, Looked, Steady};
+
+use crate::manager::{Keeper, Manager, Pass, Shared};
+use tp_model::types::{Account, Counts, Status};
+use tp_rule::Seat;
+
+/// The account of no element.
+fn no_account() -> Account
+    ensures none { (limit : ℕ) (h : List Event) → result ≡ account_among limit h [] }
+    ensures within { IsWithin 0 result }
+{
+    let none = Counts {
+        waiting: 0,
+        held: 0,
+        consumed: 0,
+        parked: 0,
+        killed: 0,
+    };
+    Account {
+        total: none,
+        stages: [none; 15],
+    }
+}
+
+/// These counts with one more element, which stands so.
+fn counts_with(counts: Counts, status: Status) -> Counts
+    requires few { all_in counts ≤ 8192 }
+    ensures { result ≡ one_more status counts }
+{
+    let mut counts = counts;
+    match status {
+        Status::Waiting { attempts: _ } => counts.waiting += 1,
+        Status::Held {
+            unit: _,
+            attempt: _,
+        } => counts.held += 1,
+        Status::Consumed { unit: _ } => counts.consumed += 1,
+        Status::Parked { attempts: _ } => counts.parked += 1,
+        Status::Killed => counts.killed += 1,
+    }
+    counts
+}
+
+/// Counts one more element of this stage, which stands so.
+fn count_one(account: &mut Account, stage: u8, status: Status)
+    requires stage { IsStage stage }
+    requires few { IsWithin 8192 account.old }
+    ensures counted { account.new ≡ with_one stage status account.old }
+    ensures within { (n : ℕ) → IsWithin n account.old → IsWithin (n + 1) account.new }
+{
+    let place = stage as usize - 1;
+    account.total = counts_with(account.total, status);
+    account.stages[place] = counts_with(account.stages[place], status);
+}
+
+impl Shared {
+    /// A pass meets the passes of another seat, however many: all have then seen the same, which begins with what
+    /// either seat had seen.
+    fn meet_seat(&self, first: &mut Seat, others: &mut Seat)
+        requires own { IsSeatOf self.now.words first.old × IsSeatOf self.now.words others.old }
+        requires steady { Steady (limits_of self.now.words) (view_of first.old) }
+        ensures same { IsSameSeat first.old first.new × IsSameSeat others.old others.new }
+        ensures acted { Acted (limits_of self.now.words) meet_steps (view_of first.old) (view_of first.new) }
+        ensures others { LooksOn (limits_of self.now.words) (seen_by first.new)
+            (view_of others.old) (view_of others.new) }
+        ensures saw { IsPrefix (seen_by others.old) (seen_by first.new) }
+    {
+        let words = &self.words;
+        words.join(first, others);
+        words.load(first, 0);
+        *others = words.part(first);
+    }
+
+    /// A pass looks together with the passes of another seat and with all of these. It meets one after another, so
+    /// that it has seen what each has; each that it met joins the other seat, and at last the pass meets that.
+    fn look_together(&self, first: &mut Seat, others: &mut Seat, passes: &mut [Pass])
+        requires own { IsSeatOf self.now.words first.old × IsSeatOf self.now.words others.old }
+        requires steady { Steady (limits_of self.now.words) (view_of first.old) }
+        requires passes { All (IsAt (table_of self.now.words) (limits_of self.now.words)) passes.old }
+        ensures same { IsSameSeat first.old first.new × IsSameSeat others.old others.new }
+        ensures look { LooksWith (table_of self.now.words) (limits_of self.now.words) (length passes.old + 1)
+            (view_of first.old) (view_of first.new) (view_of others.old) (view_of others.new)
+            passes.old passes.new }
+    {
+        let Some((pass, rest)) = passes.split_first_mut() else {
+            self.meet_seat(first, others);
+            return;
+        };
+        self.meet_seat(first, &mut pass.seat);
+        self.words.join(&mut pass.seat, others);
+        self.look_together(first, &mut pass.seat, rest);
+        *others = self.words.part(&mut pass.seat);
+    }
+
+    /// Counts the element of one more row, if one is born.
+    fn count_row(&self, seat: &mut Seat, row: u32, account: &mut Account)
+        requires own { IsSeatOf self.now.words seat.old }
+        requires steady { Steady (limits_of self.now.words) (view_of seat.old) }
+        requires row { row < rows_of (limits_of self.now.words) }
+        requires few { IsWithin row account.old }
+        ensures same { IsSameSeat seat.old seat.new }
+        ensures looked { let l = limits_of self.now.words in
+            Looked l (look_steps l) (view_of seat.old) (view_of seat.new) }
+        ensures few { IsWithin (row + 1) account.new }
+        ensures counted { let l = limits_of self.now.words in
+            account.old ≡ account_below l (seen_by seat.old) row
+            → HasCounted l (row + 1) (view_of seat.old) (view_of seat.new) account.new }
+    {
+        let head = self.head_at(seat, row);
+        let Some(birth) = self.birth_from(seat, row, head) else {
+            return;
+        };
+        let (_, status) = self.status_at(seat, row);
+        count_one(account, birth.stage, status);
+    }
+
+    /// The account that one pass finds as it looks at every row: that of what it has seen, if nothing has happened
+    /// meanwhile.
+    fn count_rows(&self, seat: &mut Seat) -> Account
+        requires own { IsSeatOf self.now.words seat.old }
+        requires steady { Steady (limits_of self.now.words) (view_of seat.old) }
+        ensures same { IsSameSeat seat.old seat.new }
+        ensures looked { let l = limits_of self.now.words in
+            Looked l (rows_of l * look_steps l) (view_of seat.old) (view_of seat.new) }
+        ensures counted { let l = limits_of self.now.words in
+            HasCounted l (rows_of l) (view_of seat.old) (view_of seat.new) result }
+    {
+        let rows = self.places.rows();
+        let mut account = no_account();
+        for row in 0..rows {
+            self.count_row(seat, row, &mut account);
+        }
+        account
+    }
+
+    /// The account that a pass finds between two looks together with the passes of the keeper's seat and with these,
+    /// which are all others.
+    fn count_with(&self, first: &mut Seat, keeper: &mut Seat, passes: &mut [Pass]) -> Account
+        requires own { IsSeatOf self.now.words first.old × IsSeatOf self.now.words keeper.old }
+        requires steady { Steady (limits_of self.now.words) (view_of first.old) }
+        requires passes { All (IsAt (table_of self.now.words) (limits_of self.now.words)) passes.old }
+        requires all { AreAllPasses (limits_of self.now.words)
+            (view_of first.old) (view_of keeper.old) passes.old }
+        ensures same { IsSameSeat first.old first.new × IsSameSeat keeper.old keeper.new }
+        ensures counts { CountsWith (table_of self.now.words) (limits_of self.now.words) (length passes.old + 1)
+            (view_of first.old) (view_of first.new) (view_of keeper.old) (view_of keeper.new)
+            passes.old passes.new result }
+    {
+        self.meet_seat(first, keeper);
+        self.look_together(first, keeper, passes);
+        let account = self.count_rows(first);
+        self.look_together(first, keeper, passes);
+        account
+    }
+}
+
+impl Keeper {
+    /// Whether the slice holds every pass that was given out, in order of number.
+    pub fn has_all(&self, passes: &[Pass]) -> bool
+        ensures yes { result ≡ true → AreAll self.now passes.now }
+        ensures no { result ≡ false → ¬ AreAll self.now passes.now }
+    {
+        if passes.len() != usize::from(self.given) {
+            return false;
+        }
+        for place in 0..passes.len() {
+            if usize::from(passes[place].number()) != place {
+                return false;
+            }
+        }
+        true
+    }
+
+    /// How many elements there are of each kind of status, in all and by stage: the account of one history, which all
+    /// passes have seen then. The slice holds every pass that was given out, in order of number (`has_all` tests
+    /// this), and the keeper stands for the others. It takes no memory.
+    pub fn account(&mut self, manager: &Manager, passes: &mut [Pass]) -> Account
+        requires keeper { IsKeptBy manager.now self.old }
+        requires own { All (IsOf manager.now) passes.old }
+        requires all { AreAll self.old passes.old }
+        ensures keeper { IsKeptBy manager.now self.new × (self.new.given ≡ self.old.given) }
+        ensures own { All (IsOf manager.now) passes.new }
+        ensures all { AreAll self.new passes.new }
+        ensures steps { steps_together passes.old passes.new + self.new.steps
+            ≤ self.old.steps + account_steps manager.now.limits self.old.given }
+        ensures account { Accounts manager.now.limits self.old self.new passes.old passes.new result }
+    {
+        let shared = &manager.shared;
+        let others = &mut self.seat;
+        let Some((first, rest)) = passes.split_first_mut() else {
+            return no_account();
+        };
+        shared.count_with(&mut first.seat, others, rest)
+    }
+}

@@ -1,0 +1,166 @@
+//! The cancel of a whole request.
+//!
+//! A round goes through all rows once, kills what it finds of the request's family, and counts what it found. Where two
+//! rounds in a row find the same number, the family was settled between them, and stays so: see docs/CANCEL.md.
+ghost use Rattle.std.specs.Prelude.{◌≡◌, ◌≢◌, ◌+◌, ◌*◌, ◌<◌, MatchResult, None, true, false};
+ghost use Rattle.tp_model.specs.declared.types.Element.{Element as element};
+ghost use Rattle.tp_model.specs.Steps.{rows_of};
+ghost use Rattle.tp_words.specs.Words.{head_of};
+ghost use Rattle.tp_rule.specs.Steps.{HasElement};
+ghost use Rattle.tp_rule.specs.Views.{hand_of, seen_by, view_of, IsSameSeat};
+ghost use Rattle.tp_rule.specs.Tables.{limits_of, IsSeatOf};
+ghost use Rattle.tp_manager.specs.Shown.{IsOf};
+ghost use Rattle.tp_manager.specs.Bounds.{cancel_steps, kill_steps, round_steps};
+ghost use Rattle.tp_manager.specs.Calls.{Follows, HasLooked};
+ghost use Rattle.tp_manager.specs.Cancels.{Cancels, CancelFails};
+ghost use Rattle.tp_manager.specs.Rounds.{CancelsIn, Tallied, TalliedAt};
+ghost use Rattle.tp_manager.specs.Walks.{Steady};
+
+use crate::manager::{Manager, Pass, Shared};
+use tp_model::types::{Cancelled, Refusal};
+use tp_rule::Seat;
+use tp_words::Head;
+
+/// What a look at rows came to: how many elements of the family were found in them, and how many of these were killed.
+#[derive(Clone, Copy, Debug, PartialEq, Eq)]
+pub(crate) struct Tally {
+    pub found: u32,
+    pub killed: u32,
+}
+
+/// Whether an element with this head is of the family.
+fn is_of_family(root: u32, head: Head) -> bool
+    ensures yes { result ≡ true → (e : element) → head ≡ head_of e → e.root ≡ root }
+    ensures no { result ≡ false → (e : element) → head ≡ head_of e → e.root ≢ root }
+{
+    match head {
+        Head::Empty => false,
+        Head::There {
+            stage: _,
+            root: named,
+            by: _,
+        } => named as u32 == root,
+    }
+}
+
+impl Shared {
+    /// Kills the element of a row, if it is of the family, no reply, and neither consumed nor killed. One step where the
+    /// head says that it is of another family.
+    fn cancel_row(&self, seat: &mut Seat, row: u32, root: u32) -> Tally
+        requires own { IsSeatOf self.now.words seat.old }
+        requires steady { Steady (limits_of self.now.words) (view_of seat.old) }
+        requires row { row < rows_of (limits_of self.now.words) }
+        requires free { (hand_of seat.old).open_unit ≡ None }
+        ensures same { IsSameSeat seat.old seat.new }
+        ensures told { let l = limits_of self.now.words in
+            TalliedAt l (kill_steps l) root row result.found result.killed (view_of seat.old) (view_of seat.new) }
+    {
+        let head = self.head_at(seat, row);
+        if !is_of_family(root, head) {
+            return Tally {
+                found: 0,
+                killed: 0,
+            };
+        }
+        let Some(birth) = self.birth_from(seat, row, head) else {
+            return Tally {
+                found: 0,
+                killed: 0,
+            };
+        };
+        if birth.stage == 15 {
+            return Tally {
+                found: 1,
+                killed: 0,
+            };
+        }
+        match self.kill_row(seat, row) {
+            Ok(_) => Tally {
+                found: 1,
+                killed: 1,
+            },
+            Err(_) => Tally {
+                found: 1,
+                killed: 0,
+            },
+        }
+    }
+
+    /// Goes through all rows once.
+    fn cancel_round(&self, seat: &mut Seat, root: u32) -> Tally
+        requires own { IsSeatOf self.now.words seat.old }
+        requires steady { Steady (limits_of self.now.words) (view_of seat.old) }
+        requires free { (hand_of seat.old).open_unit ≡ None }
+        ensures same { IsSameSeat seat.old seat.new }
+        ensures told { let l = limits_of self.now.words in
+            Tallied l (round_steps l) root (rows_of l) result.found result.killed (view_of seat.old) (view_of seat.new) }
+    {
+        let mut found = 0;
+        let mut killed = 0;
+        for row in 0..self.places.rows() {
+            let tally = self.cancel_row(seat, row, root);
+            found += tally.found;
+            killed += tally.killed;
+        }
+        Tally { found, killed }
+    }
+
+    /// Goes through all rows, until a round finds as many elements of the family as the one before it. How many elements
+    /// it killed.
+    fn cancel_family(&self, seat: &mut Seat, root: u32) -> u32
+        requires own { IsSeatOf self.now.words seat.old }
+        requires steady { Steady (limits_of self.now.words) (view_of seat.old) }
+        requires request { HasElement (seen_by seat.old) root }
+        requires free { (hand_of seat.old).open_unit ≡ None }
+        ensures same { IsSameSeat seat.old seat.new }
+        ensures told { let l = limits_of self.now.words in
+            CancelsIn l ((rows_of l + 1) * round_steps l) root result (view_of seat.old) (view_of seat.new) }
+    {
+        let rows = self.places.rows();
+        let mut found = 0;
+        let mut killed = 0;
+        for _past in 0..rows + 1 {
+            let tally = self.cancel_round(seat, root);
+            killed += tally.killed;
+            if tally.found == found {
+                return killed;
+            }
+            found = tally.found;
+        }
+        unreachable!()
+    }
+}
+
+impl Manager {
+    /// Cancels the request of a client whose element has this id: kills each element of its family that is no reply and
+    /// not consumed, and aborts the units of work that hold them on the way. When it returns, each of them is consumed or
+    /// killed, and none is born, claimed or committed any more. Replies are left alone. The pass has no unit open.
+    ///
+    /// `NotThere` where no client's element with this id is born.
+    pub fn cancel(&self, pass: &mut Pass, root: u32) -> Result<Cancelled, Refusal>
+        requires own { IsOf self.now pass.old }
+        requires free { pass.old.open_unit ≡ None }
+        ensures own { IsOf self.now pass.new }
+        ensures follows { Follows (cancel_steps self.now.limits) pass.old pass.new }
+        ensures open_unit { pass.new.open_unit ≡ None }
+        ensures looks { root < rows_of self.now.limits → HasLooked pass.old pass.new }
+        ensures answer { MatchResult result
+            (λ cancelled. Cancels self.now.limits root cancelled.killed pass.old pass.new)
+            (λ refusal. CancelFails root pass.old pass.new refusal) }
+    {
+        let shared = &self.shared;
+        let seat = &mut pass.seat;
+        if root >= shared.places.rows() {
+            return Err(Refusal::NotThere);
+        }
+        let head = shared.head_at(seat, root);
+        let Some(birth) = shared.birth_from(seat, root, head) else {
+            return Err(Refusal::NotThere);
+        };
+        if birth.by.is_some() {
+            return Err(Refusal::NotThere);
+        }
+        let killed = shared.cancel_family(seat, root);
+        Ok(Cancelled { killed })
+    }
+}

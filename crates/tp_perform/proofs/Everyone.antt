@@ -1,0 +1,40 @@
+-- All passes that a keeper gave out, and the account that ends a report.
+use Rattle.std.proofs.Common.{◌≡◌, ℕ, suc, ◌+◌, List, [], ◌∷◌, ◌++◌, Bool, true, refl, sym, ◌∙◌, ap, subst, arith, length}
+use Rattle.std.proofs.lemmas.List.{length-map, length-append}
+use Rattle.tp_manager.specs.Accounts.{AreAll, AreFrom}
+use Rattle.tp_manager.specs.Shown.{KeeperShown, PassShown}
+use Rattle.tp_script.specs.declared.script.Script.{Script}
+use Rattle.tp_script.specs.Script.{script_view}
+use Rattle.tp_workers.specs.Free.{numbers}
+use Rattle.tp_perform.specs.Performing.{account_count}
+
+-- one pass more, with the next number
+from_more : (c : ℕ) (ps : List PassShown) (p : PassShown) → p.number ≡ c + length ps → AreFrom c ps → AreFrom c (ps ++ p ∷ [])
+from_more c [] p next all = (omega (arith, next), tt)
+from_more c (q ∷ ps) p next all = (all.0, from_more (c + 1) ps p (omega (arith, next)) all.1)
+
+pub all_more : (old new : KeeperShown) (ps : List PassShown) (p : PassShown) → p.number ≡ old.given → new.given ≡ old.given + 1 → AreAll old ps → AreAll new (ps ++ p ∷ [])
+all_more old new ps p next given all =
+    let long = length-append ps (p ∷ []) in
+    (omega (arith, long, all.0, given), from_more 0 ps p (omega (arith, next, all.0)) all.1)
+
+-- others with the same numbers
+from_same : (c : ℕ) (ps qs : List PassShown) → numbers qs ≡ numbers ps → AreFrom c ps → AreFrom c qs
+from_same c [] [] same all = tt
+from_same c [] (q ∷ qs) same all = absurd cc
+from_same c (p ∷ ps) [] same all = absurd cc
+from_same c (p ∷ ps) (q ∷ qs) same all = (first (numbers qs) (numbers ps) same ∙ all.0, from_same (c + 1) ps qs (rest (numbers qs) (numbers ps) same) all.1)
+  where
+    first : (xs ys : List ℕ) → q.number ∷ xs ≡ p.number ∷ ys → q.number ≡ p.number
+    first xs ys e = cc
+
+    rest : (xs ys : List ℕ) → q.number ∷ xs ≡ p.number ∷ ys → xs ≡ ys
+    rest xs ys e = cc
+
+pub all_same : (keeper : KeeperShown) (ps qs : List PassShown) → numbers qs ≡ numbers ps → AreAll keeper ps → AreAll keeper qs
+all_same keeper ps qs same all =
+    (sym (length-map qs (λ (p : PassShown). p.number)) ∙ (ap length same ∙ (length-map ps (λ (p : PassShown). p.number) ∙ all.0)), from_same 0 ps qs same all.1)
+
+-- an account that is asked for is one line
+pub account_asked : (script : Script) → script.account ≡ true → account_count (script_view script) ≡ 1
+account_asked script asked = rw asked refl
