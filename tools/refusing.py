@@ -20,7 +20,9 @@ OPTIONS = 0x1 | 0x8 | 0x100000
 ANY_THREAD = 0x40000000
 RAX, RDX, RDI, ORIG_RAX, RIP, RSP = 10, 12, 14, 15, 16, 19
 READ, WRITE, CLONE, CLONE3 = 0, 1, 56, 435
-EAGAIN, EINTR, EIO, ENOMEM = 11, 4, 5, 12
+EAGAIN, EINTR, EIO = 11, 4, 5
+# The seconds that a run may take.
+LIMIT = 60
 
 
 def ptrace(what, thread, data=None):
@@ -71,10 +73,13 @@ class Run:
             how = {"stdin": given, "stdout": out, "stderr": said, "env": {"LD_BIND_NOW": "1"}}
             child = subprocess.Popen([program], preexec_fn=lambda: LIBC.ptrace(TRACEME, 0, None, None), **how)
             self.main = child.pid
+            signal.signal(signal.SIGALRM, lambda *_: child.kill())
+            signal.alarm(LIMIT)
             try:
                 self.memory = os.open(f"/proc/{child.pid}/mem", os.O_RDWR)
                 self.status = child.returncode = self.follow()
             finally:
+                signal.alarm(0)
                 if child.returncode is None:
                     child.kill()
                 os.close(self.memory)
