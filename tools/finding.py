@@ -20,7 +20,7 @@ class Log:
 
     def __init__(self, limits, calls):
         self.limits, self.points = limits, []
-        self.births, self.roots, self.claims, self.ends = {}, {}, {}, {}
+        self.births, self.roots, self.stages, self.claims, self.ends = {}, {}, {}, {}, {}
         self.kills, self.cancels, self.looks, self.nones = {}, [], [], []
         # Of which call an abort or a kill may have been, and how many each call says that it made.
         self.choices, self.needs = [], {}
@@ -30,7 +30,7 @@ class Log:
             for call in calls:
                 if call.thread == thread:
                     getattr(self, "take_" + call.kind.lower())(call, call.told)
-        self.spread_roots()
+        self.find_roots()
         self.stands = {id: self.lifetime(id) for id in self.births}
         if not set(self.claims) | set(self.kills) <= set(self.births):
             raise Wrong("what was never born was taken or killed")
@@ -57,7 +57,7 @@ class Log:
             return self.must(self.drawn == self.limits["rows"], call, "there was room")
         self.must(call.answer == ("Ok", self.next_id(call)), call, "not the next id")
         id, self.drawn = call.answer[1], self.drawn + 1
-        self.births[id], self.roots[id] = self.point(call, "submit", call.thread, id, *(told[it] for it in ("stage", "key", "amount"))), id
+        self.births[id] = self.point(call, "submit", call.thread, id, told["stage"], told["key"], told["amount"])
 
     def take_claim(self, call, told):
         if call.answer == "NoUnit":
@@ -89,12 +89,14 @@ class Log:
             made = self.point(call, "commit", call.thread, self.open, first, drafts)
             self.ends[self.open] = ("committed", made)
             for it in range(len(drafts)):
-                self.births[first + it], self.roots[first + it] = made, self.open
+                self.births[first + it] = made
         self.drawn += told["drafts"]
 
     def take_abort(self, call, told):
-        own = ("aborted", self.point(call, "abort", self.open)) if call.answer == "Aborted" else ("aborted by another", call)
-        self.ends[self.open] = own
+        if call.answer == "Aborted":
+            self.ends[self.open] = ("aborted", self.point(call, "abort", self.open))
+        else:
+            self.ends[self.open] = ("aborted by another", call)
 
     def take_kill(self, call, told):
         if call.answer[0] == "Ok":
@@ -130,8 +132,8 @@ class Log:
     def take_nexterror(self, call, told):
         self.take_reply(call, told, "parked", None)
 
-    def spread_roots(self):
-        """Gives each output the root of what its unit took, instead of the unit."""
+    def find_roots(self):
+        """Finds each element's root and stage: an output's are that of what its unit took, and its draft's."""
         taken = {unit: id for id, claims in self.claims.items() for _, unit, _ in claims}
         for id, made in self.births.items():
             root = id
@@ -142,7 +144,8 @@ class Log:
                 if root not in self.births:
                     raise Wrong(f"{root} was taken, and not born")
             self.roots[id] = root
-        self.stages = {id: made.what[2] if made.does == "submit" else made.what[3][0][0] for id, made in self.births.items()}
+            made = made.what
+            self.stages[id] = made[2] if root == id else made[3][0][0]
 
     # How each element stood, one status after another, each from a point on.
 

@@ -1,6 +1,7 @@
 //! Scripts and their reports, from bytes to bytes, and what they are made of.
 
 mod answers;
+mod boxes;
 mod devices;
 mod faults;
 mod hostile;

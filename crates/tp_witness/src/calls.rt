@@ -142,6 +142,9 @@ pub fn read(manager: &Manager, pass: &mut Pass, diary: &mut Diary, id: u32) -> R
 {
     let before = diary.now();
     let answer = manager.read(pass, id);
+    if let Ok(look) = answer {
+        diary.see(id, look.status);
+    }
     diary.note(before, Made::Read { id, answer })
 }
 
@@ -151,14 +154,15 @@ pub fn reply(
     diary: &mut Diary,
     root: u32,
     from: u32,
-) -> Result<(), Trouble>
+) -> Result<Option<u32>, Trouble>
     requires own { IsOf manager.now pass.old }
     ensures own { IsOf manager.now pass.new }
     ensures open_unit { pass.new.open_unit ≡ pass.old.open_unit }
 {
     let before = diary.now();
     let answer = manager.reply(pass, root, from);
-    diary.note(before, Made::Reply { root, from, answer })
+    diary.note(before, Made::Reply { root, from, answer })?;
+    Ok(answer)
 }
 
 pub fn next_error(
@@ -166,12 +170,13 @@ pub fn next_error(
     pass: &mut Pass,
     diary: &mut Diary,
     from: u32,
-) -> Result<(), Trouble>
+) -> Result<Option<u32>, Trouble>
     requires own { IsOf manager.now pass.old }
     ensures own { IsOf manager.now pass.new }
     ensures open_unit { pass.new.open_unit ≡ pass.old.open_unit }
 {
     let before = diary.now();
     let answer = manager.next_error(pass, from);
-    diary.note(before, Made::NextError { from, answer })
+    diary.note(before, Made::NextError { from, answer })?;
+    Ok(answer)
 }

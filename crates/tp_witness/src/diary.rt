@@ -4,7 +4,7 @@ use crate::dice::Dice;
 use crate::trouble::Trouble;
 use std::alloc::Global;
 use std::sync::atomic::{AtomicU64, Ordering};
-use tp_model::types::{Cancelled, Claimed, Ended, Killed, Look, Outcome, Refusal};
+use tp_model::types::{Cancelled, Claimed, Ended, Killed, Look, Outcome, Refusal, Status};
 
 /// A call, with all that it was given, and its answer.
 #[derive(Clone, Copy, Debug)]
@@ -69,7 +69,7 @@ pub struct Diary<'a> {
     pub dice: Dice,
     /// About how many rows its pass has used.
     pub newest: u32,
-    /// The last element that it has claimed.
+    /// The last element that it has claimed, or read as held.
     pub last: u32,
 }
 
@@ -92,6 +92,13 @@ impl<'a> Diary<'a> {
     /// Whether the counter was read so often, by whatever thread.
     pub fn is_past(&self, count: u64) -> bool {
         self.clock.load(Ordering::SeqCst) >= count
+    }
+
+    /// Remembers an element that was read as held.
+    pub fn see(&mut self, id: u32, status: Status) {
+        if let Status::Held { .. } = status {
+            self.last = id;
+        }
     }
 
     /// Writes down a call that has just come back.

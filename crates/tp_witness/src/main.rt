@@ -1,8 +1,9 @@
-//! Four threads of clients, servers, killers and cancellers at one manager. Each writes down its calls and their answers, and
-//! what a shared counter said before and after each; all is printed, with how each element stands at the end. What the logs
-//! say is for another to judge, who trusts nothing here: `tools/witness`.
+//! Four threads of clients, servers, killers and cancellers at one manager. Each writes down its calls and
+//! their answers, and what a shared counter said before and after each; all is printed, with how each element
+//! stands at the end. What the logs say is for another to judge, who trusts nothing here: `tools/witness`.
 //!
-//! `tp_witness SEED ROUNDS TURNS` makes so many managers, one after another, and each thread takes so many turns at each.
+//! `tp_witness SEED ROUNDS TURNS` makes so many managers, one after another, and each thread takes so many
+//! turns at each.
 #![tactic(auto)]
 
 ghost use Rattle.std.specs.Prelude.{◌≡◌, All, None, IfOk};

@@ -116,12 +116,45 @@ fn take_turn(manager: &Manager, pass: &mut Pass, diary: &mut Diary) -> Result<()
     match diary.dice.below(16) {
         0..=3 => send(manager, pass, diary),
         4..=8 => serve(manager, pass, diary),
-        9 => kill(manager, pass, diary, id),
+        9 => hunt(manager, pass, diary),
         10 => cancel(manager, pass, diary, id),
-        11 => reply(manager, pass, diary, id, 0),
-        12 => next_error(manager, pass, diary, 0),
+        11 => list_replies(manager, pass, diary, id),
+        12 => list_errors(manager, pass, diary),
         _ => read(manager, pass, diary, id),
     }
+}
+
+/// A client's calls: the first reply to a request, the first from that one on, and the first behind it.
+fn list_replies(
+    manager: &Manager,
+    pass: &mut Pass,
+    diary: &mut Diary,
+    root: u32,
+) -> Result<(), Trouble>
+    requires own { IsOf manager.now pass.old }
+    requires free { pass.old.open_unit ≡ None }
+    ensures own { IsOf manager.now pass.new }
+    ensures free { pass.new.open_unit ≡ None }
+{
+    if let Some(id) = reply(manager, pass, diary, root, 0)? {
+        reply(manager, pass, diary, root, id)?;
+        reply(manager, pass, diary, root, id.saturating_add(1))?;
+    }
+    Ok(())
+}
+
+/// The same of parked elements.
+fn list_errors(manager: &Manager, pass: &mut Pass, diary: &mut Diary) -> Result<(), Trouble>
+    requires own { IsOf manager.now pass.old }
+    requires free { pass.old.open_unit ≡ None }
+    ensures own { IsOf manager.now pass.new }
+    ensures free { pass.new.open_unit ≡ None }
+{
+    if let Some(id) = next_error(manager, pass, diary, 0)? {
+        next_error(manager, pass, diary, id)?;
+        next_error(manager, pass, diary, id.saturating_add(1))?;
+    }
+    Ok(())
 }
 
 /// A client's call.
@@ -164,6 +197,7 @@ fn work(manager: &Manager, pass: &mut Pass, diary: &mut Diary) -> Result<(), Tro
     ensures free { OnOk result (pass.new.open_unit ≡ None) }
 {
     look_around(manager, pass, diary)?;
+    linger(diary);
     if diary.dice.below(4) == 0 {
         return abort(manager, pass, diary);
     }
@@ -183,6 +217,29 @@ fn work(manager: &Manager, pass: &mut Pass, diary: &mut Diary) -> Result<(), Tro
     commit(manager, pass, diary, drafts, stage, key, amount)
 }
 
+/// Waits until others have made a few calls, or for a little while.
+fn linger(diary: &mut Diary) {
+    let wanted = diary.now().saturating_add(u64::from(diary.dice.below(24)));
+    for _past in 0..50u32 {
+        if diary.is_past(wanted) {
+            return;
+        }
+        thread::yield_now();
+    }
+}
+
+/// A killer's calls: a few reads, and a kill of what they may have told is held.
+fn hunt(manager: &Manager, pass: &mut Pass, diary: &mut Diary) -> Result<(), Trouble>
+    requires own { IsOf manager.now pass.old }
+    requires free { pass.old.open_unit ≡ None }
+    ensures own { IsOf manager.now pass.new }
+    ensures free { OnOk result (pass.new.open_unit ≡ None) }
+{
+    look_around(manager, pass, diary)?;
+    let id = diary.last;
+    kill(manager, pass, diary, id)
+}
+
 /// A few reads.
 fn look_around(manager: &Manager, pass: &mut Pass, diary: &mut Diary) -> Result<(), Trouble>
     requires own { IsOf manager.now pass.old }
@@ -197,8 +254,8 @@ fn look_around(manager: &Manager, pass: &mut Pass, diary: &mut Diary) -> Result<
     Ok(())
 }
 
-/// An id that others are likely to be at: one behind the last that the thread has claimed, where they claim next, or one near
-/// the newest of some pass.
+/// An id that others are likely to be at: one behind the last that the thread has claimed, where they claim
+/// next, or one near the newest of some pass.
 fn some_id(diary: &mut Diary) -> u32 {
     let pass = diary.dice.below(4);
     let back = diary.dice.below(NEAR);
