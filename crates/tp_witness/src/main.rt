@@ -32,7 +32,7 @@ use trouble::Trouble;
 const LIMITS: Limits = Limits {
     parts: 4,
     rows: 64,
-    units: 32,
+    units: 48,
     attempts: 3,
 };
 

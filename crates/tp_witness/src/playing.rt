@@ -76,7 +76,7 @@ fn pair<R: Threads + Sync>(
     a.and(b)
 }
 
-/// One thread's turns, once all four threads are there.
+/// One thread's turns, once all four threads are there, and a claim that nothing ends.
 fn take_turns(
     manager: &Manager,
     pass: &mut Pass,
@@ -91,6 +91,7 @@ fn take_turns(
     for _past in 0..turns {
         take_turn(manager, pass, diary)?;
     }
+    let _is_held = claim(manager, pass, diary, 1)?;
     Ok(())
 }
 
