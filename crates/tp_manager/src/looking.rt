@@ -1,15 +1,16 @@
 //! What a pass finds at a row.
 ghost use Rattle.std.specs.Prelude.{◌≡◌, ◌<◌, Some, MatchOption, true, false};
-ghost use Rattle.tp_words.specs.declared.words.Head.TheVariants.{There};
+ghost use Rattle.tp_words.specs.declared.words.Head.TheVariants.{Empty, There};
 ghost use Rattle.tp_model.specs.History.{IsUnborn, element_of, status_of};
 ghost use Rattle.tp_model.specs.Steps.{rows_of, units_of};
 ghost use Rattle.tp_model.specs.Words.{claim_word};
 ghost use Rattle.tp_words.specs.Words.{claim_value, IsFitClaim};
 ghost use Rattle.tp_rule.specs.Views.{seen_by, view_of, IsSameSeat};
 ghost use Rattle.tp_rule.specs.Tables.{limits_of, IsSeatOf};
+ghost use Rattle.tp_rule.specs.Steps.{NoneFrom};
 ghost use Rattle.tp_manager.specs.Walks.{Steady, Looked, Acted};
 ghost use Rattle.tp_manager.specs.Bounds.{body_steps, retry_steps, status_steps};
-ghost use Rattle.tp_manager.specs.Looks.{HeadFound, IsThere, IsEnough};
+ghost use Rattle.tp_manager.specs.Looks.{GoesOn, HeadFound, IsThere, IsEnough};
 
 use crate::manager::Shared;
 use tp_model::types::{Element, Status};
@@ -33,8 +34,30 @@ impl Shared {
         ensures same { IsSameSeat seat.old seat.new }
         ensures acted { Acted (limits_of self.now.words) 1 (view_of seat.old) (view_of seat.new) }
         ensures told { HeadFound (view_of seat.new) row result }
+        ensures none { result ≡ Empty → NoneFrom (limits_of self.now.words) (seen_by seat.new) row }
     {
         self.words.load_head(seat, row)
+    }
+
+    /// What the head of a row says, as a scan goes through the rows: `row` goes on to the next row, or where the
+    /// head is empty to the next part, since nothing is born in between. One step.
+    pub(crate) fn head_on(&self, seat: &mut Seat, row: &mut u32) -> Head
+        requires own { IsSeatOf self.now.words seat.old }
+        requires steady { Steady (limits_of self.now.words) (view_of seat.old) }
+        requires row { row.old < rows_of (limits_of self.now.words) }
+        ensures same { IsSameSeat seat.old seat.new }
+        ensures acted { Acted (limits_of self.now.words) 1 (view_of seat.old) (view_of seat.new) }
+        ensures told { HeadFound (view_of seat.new) row.old result }
+        ensures on { GoesOn (rows_of (limits_of self.now.words)) (seen_by seat.new) row.old row.new }
+    {
+        let here = *row;
+        let head = self.head_at(seat, here);
+        *row = if head == Head::Empty {
+            self.places.part_end(here)
+        } else {
+            here + 1
+        };
+        head
     }
 
     /// Whether the row whose head was just found has a born element, and what its head says. At most one more step.

@@ -1,5 +1,5 @@
 //! Where the words stand in the table: those of each row, then one for each unit.
-ghost use Rattle.std.specs.Prelude.{◌≡◌, ◌<◌, ◌↔◌, IsOk, IfOk, Err};
+ghost use Rattle.std.specs.Prelude.{◌≡◌, ◌+◌, ◌*◌, ◌<◌, ◌≤◌, ◌↔◌, ℕ, IsOk, IfOk, Err};
 ghost use Rattle.tp_model.specs.Steps.{AreLimits};
 ghost use Rattle.tp_words.specs.Places.{PlacesDiffer, PlacesInside};
 
@@ -17,7 +17,7 @@ pub struct Places {
 }
 
 impl Places {
-    ghost use Rattle.tp_model.specs.Steps.{rows_of, units_of};
+    ghost use Rattle.tp_model.specs.Steps.{rows_of, units_of, IsRowOf};
     ghost use Rattle.tp_words.specs.Places.{head_place, key_place, amount_place, claim_place, unit_place, size_of};
     ghost use Rattle.tp_model.specs.declared.types.Refusal.TheVariants as Refusal;
 
@@ -39,6 +39,16 @@ impl Places {
         ensures { result ≡ rows_of self.now.limits }
     {
         self.limits.parts as u32 * self.limits.rows as u32
+    }
+
+    /// The row behind the last one of this row's part.
+    pub fn part_end(&self, row: u32) -> u32
+        requires { row < rows_of self.now.limits }
+        ensures part { let l = self.now.limits in (c : ℕ) × IsRowOf l c row × (result ≡ c * l.rows + l.rows) }
+        ensures inside { result ≤ rows_of self.now.limits }
+    {
+        let rows = self.limits.rows as u32;
+        (row / rows + 1) * rows
     }
 
     /// How many words there are.
