@@ -30,6 +30,7 @@ pub(crate) struct Tally {
 }
 
 /// Whether an element with this head is of the family.
+#[inline(always)]
 fn is_of_family(root: u32, head: Head) -> bool
     ensures yes { result ≡ true → (e : element) → head ≡ head_of e → e.root ≡ root }
     ensures no { result ≡ false → (e : element) → head ≡ head_of e → e.root ≢ root }

@@ -28,6 +28,7 @@ pub(crate) enum Wanted {
     Error,
 }
 
+#[inline(always)]
 fn is_wanted(wanted: Wanted, birth: Birth, status: Status) -> bool
     ensures yes { result ≡ true → IsWanted wanted birth.stage birth.root status }
     ensures no { result ≡ false → ¬ IsWanted wanted birth.stage birth.root status }
@@ -43,6 +44,7 @@ fn is_wanted(wanted: Wanted, birth: Birth, status: Status) -> bool
 }
 
 /// Whether an element with this head may be looked for.
+#[inline(always)]
 fn may_be_wanted(wanted: Wanted, head: Head) -> bool
     ensures no { result ≡ false → (e : element) → head ≡ head_of e → (s : status)
         → ¬ IsWanted wanted e.stage e.root s }
@@ -58,6 +60,7 @@ fn may_be_wanted(wanted: Wanted, head: Head) -> bool
 
 impl Shared {
     /// Whether the element of a row is looked for; `row` goes on. One step where its head says that it isn't.
+    #[inline(always)]
     fn is_wanted_at(&self, seat: &mut Seat, row: &mut u32, wanted: Wanted) -> bool
         requires own { IsSeatOf self.now.words seat.old }
         requires steady { Steady (limits_of self.now.words) (view_of seat.old) }

@@ -27,6 +27,7 @@ pub(crate) struct Birth {
 
 impl Shared {
     /// What the head of a row says. One step.
+    #[inline(always)]
     pub(crate) fn head_at(&self, seat: &mut Seat, row: u32) -> Head
         requires own { IsSeatOf self.now.words seat.old }
         requires steady { Steady (limits_of self.now.words) (view_of seat.old) }
@@ -41,6 +42,7 @@ impl Shared {
 
     /// What the head of a row says, as a scan goes through the rows: `row` goes on to the next row, or where the
     /// head is empty to the next part, since nothing is born in between. One step.
+    #[inline(always)]
     pub(crate) fn head_on(&self, seat: &mut Seat, row: &mut u32) -> Head
         requires own { IsSeatOf self.now.words seat.old }
         requires steady { Steady (limits_of self.now.words) (view_of seat.old) }
@@ -61,6 +63,7 @@ impl Shared {
     }
 
     /// Whether the row whose head was just found has a born element, and what its head says. At most one more step.
+    #[inline(always)]
     pub(crate) fn birth_from(&self, seat: &mut Seat, row: u32, head: Head) -> Option<Birth>
         requires own { IsSeatOf self.now.words seat.old }
         requires steady { Steady (limits_of self.now.words) (view_of seat.old) }
@@ -95,6 +98,7 @@ impl Shared {
     }
 
     /// Whether there is a unit with this number.
+    #[inline(always)]
     fn is_unit(&self, unit: u16) -> bool
         ensures yes { result ≡ true → unit < units_of (limits_of self.now.words) }
         ensures no { result ≡ false → ¬ (unit < units_of (limits_of self.now.words)) }
@@ -104,6 +108,7 @@ impl Shared {
     }
 
     /// The element that is born in the row with this head: its body, in two steps.
+    #[inline(always)]
     pub(crate) fn element_at(&self, seat: &mut Seat, row: u32, birth: Birth) -> Element
         requires own { IsSeatOf self.now.words seat.old }
         requires steady { Steady (limits_of self.now.words) (view_of seat.old) }
@@ -128,6 +133,8 @@ impl Shared {
 
     /// The claim and the status of the element of a row, whose claim was just found; there are at most so many further
     /// attempts. At most twice as many steps.
+    #[cycle(status)]
+    #[inline(always)]
     pub(crate) fn status_from(
         &self,
         seat: &mut Seat,
@@ -159,7 +166,7 @@ impl Shared {
                 UnitWord::Aborted => {
                     let again = self.words.load_claim(seat, row);
                     if again != claim {
-                        return self.status_from(seat, row, again, left - 1);
+                        return self.status_again(seat, row, again, left - 1);
                     }
                     if attempt < self.places.limits.attempts {
                         (again, Status::Waiting { attempts: attempt })
@@ -171,7 +178,27 @@ impl Shared {
         }
     }
 
+    /// The same, where the claim had changed: apart from `status_from`, which then has no recursion of its own.
+    #[cycle(status)]
+    #[cold]
+    fn status_again(&self, seat: &mut Seat, row: u32, claim: Claim, left: u8) -> (Claim, Status)
+        requires own { IsSeatOf self.now.words seat.old }
+        requires steady { Steady (limits_of self.now.words) (view_of seat.old) }
+        requires row { row < rows_of (limits_of self.now.words) }
+        requires found { (claim_value claim ≡ claim_word (seen_by seat.old) row)
+            × IsFitClaim (claim_value claim) }
+        requires enough { IsEnough (limits_of self.now.words) left (claim_value claim) }
+        ensures same { IsSameSeat seat.old seat.new }
+        ensures looked { Looked (limits_of self.now.words) (retry_steps left) (view_of seat.old) (view_of seat.new) }
+        ensures claim { (claim_value result.0 ≡ claim_word (seen_by seat.new) row)
+            × IsFitClaim (claim_value result.0) }
+        ensures status { result.1 ≡ status_of (limits_of self.now.words).attempts (seen_by seat.new) row }
+    {
+        self.status_from(seat, row, claim, left)
+    }
+
     /// The claim and the status of the element of a row. At most one step, and two for each attempt that is allowed.
+    #[inline(always)]
     pub(crate) fn status_at(&self, seat: &mut Seat, row: u32) -> (Claim, Status)
         requires own { IsSeatOf self.now.words seat.old }
         requires steady { Steady (limits_of self.now.words) (view_of seat.old) }

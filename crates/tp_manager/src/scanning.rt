@@ -21,6 +21,7 @@ pub(crate) struct Taken {
     pub attempt: u8,
 }
 
+#[inline(always)]
 fn is_of_stage(head: Head, stage: u8) -> bool
     ensures yes { result ≡ true → (e : element) → head ≡ head_of e → e.stage ≡ stage }
     ensures no { result ≡ false → (e : element) → head ≡ head_of e → ¬ (e.stage ≡ stage) }
@@ -38,6 +39,7 @@ fn is_of_stage(head: Head, stage: u8) -> bool
 impl Shared {
     /// The unit takes the element of a row, if that waits in the stage; `row` goes on. One step where the head is not
     /// of the stage.
+    #[inline(always)]
     fn try_row(&self, seat: &mut Seat, row: &mut u32, stage: u8, unit: u16) -> Option<Taken>
         requires own { IsSeatOf self.now.words seat.old }
         requires steady { Steady (limits_of self.now.words) (view_of seat.old) }

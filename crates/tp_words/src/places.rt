@@ -35,6 +35,7 @@ impl Places {
     }
 
     /// How many rows there are, at most 8192.
+    #[inline(always)]
     pub fn rows(&self) -> u32
         ensures { result ≡ rows_of self.now.limits }
     {
@@ -59,6 +60,7 @@ impl Places {
     }
 
     /// The place of the head of a row.
+    #[inline(always)]
     pub fn head(&self, row: u32) -> usize
         requires { row < rows_of self.now.limits }
         ensures place { result ≡ head_place row }
@@ -68,6 +70,7 @@ impl Places {
     }
 
     /// The place of the key of a row.
+    #[inline(always)]
     pub fn key(&self, row: u32) -> usize
         requires { row < rows_of self.now.limits }
         ensures place { result ≡ key_place row }
@@ -77,6 +80,7 @@ impl Places {
     }
 
     /// The place of the amount of a row.
+    #[inline(always)]
     pub fn amount(&self, row: u32) -> usize
         requires { row < rows_of self.now.limits }
         ensures place { result ≡ amount_place row }
@@ -86,6 +90,7 @@ impl Places {
     }
 
     /// The place of the claim of a row.
+    #[inline(always)]
     pub fn claim(&self, row: u32) -> usize
         requires { row < rows_of self.now.limits }
         ensures place { result ≡ claim_place row }
@@ -95,6 +100,7 @@ impl Places {
     }
 
     /// The place of the word of a unit.
+    #[inline(always)]
     pub fn unit(&self, unit: u16) -> usize
         requires { unit < units_of self.now.limits }
         ensures place { result ≡ unit_place self.now.limits unit }
