@@ -2,6 +2,7 @@
 
 mod answers;
 mod asking;
+mod boxes;
 mod devices;
 mod faults;
 mod interrupted;

@@ -1,0 +1,182 @@
+//! Each call of the manager, made and written down.
+ghost use Rattle.std.specs.Prelude.{◌≡◌, ◌≤◌, None, IfOk, IsSome, is_some};
+ghost use Rattle.tp_manager.specs.Shown.{IsOf};
+
+use crate::diary::{Diary, Made};
+use crate::trouble::Trouble;
+use tp_manager::{Manager, Pass};
+use tp_model::types::{Claimed, Draft};
+
+pub fn submit(
+    manager: &Manager,
+    pass: &mut Pass,
+    diary: &mut Diary,
+    stage: u8,
+    key: u64,
+    amount: u64,
+) -> Result<(), Trouble>
+    requires own { IsOf manager.now pass.old }
+    ensures own { IsOf manager.now pass.new }
+    ensures open_unit { pass.new.open_unit ≡ pass.old.open_unit }
+{
+    let before = diary.now();
+    let answer = manager.submit(pass, stage, key, amount);
+    diary.note(
+        before,
+        Made::Submit {
+            stage,
+            key,
+            amount,
+            answer,
+        },
+    )
+}
+
+/// Whether the pass has a unit open now.
+pub fn claim(
+    manager: &Manager,
+    pass: &mut Pass,
+    diary: &mut Diary,
+    stage: u8,
+) -> Result<bool, Trouble>
+    requires own { IsOf manager.now pass.old }
+    requires free { pass.old.open_unit ≡ None }
+    requires stage { (1 ≤ stage) × (stage ≤ 14) }
+    ensures own { IsOf manager.now pass.new }
+    ensures open_unit { IfOk result (λ has. has ≡ is_some pass.new.open_unit) }
+{
+    let before = diary.now();
+    let answer = manager.claim(pass, stage);
+    if let Claimed::Work(work) = answer {
+        diary.last = work.element.id;
+    }
+    diary.note(before, Made::Claim { stage, answer })?;
+    Ok(pass.has_open())
+}
+
+/// Commits with so many drafts, at most four.
+pub fn commit(
+    manager: &Manager,
+    pass: &mut Pass,
+    diary: &mut Diary,
+    drafts: u8,
+    stage: u8,
+    key: u64,
+    amount: u64,
+) -> Result<(), Trouble>
+    requires own { IsOf manager.now pass.old }
+    requires busy { IsSome pass.old.open_unit }
+    ensures own { IsOf manager.now pass.new }
+    ensures free { pass.new.open_unit ≡ None }
+{
+    let drafts = drafts.min(4);
+    let all = [
+        draft(stage, key, amount),
+        draft(stage, key, amount.wrapping_add(1)),
+        draft(stage, key, amount.wrapping_add(2)),
+        draft(stage, key, amount.wrapping_add(3)),
+    ];
+    let before = diary.now();
+    let answer = manager.commit(pass, &all[..usize::from(drafts)]);
+    diary.note(
+        before,
+        Made::Commit {
+            drafts,
+            stage,
+            key,
+            amount,
+            answer,
+        },
+    )
+}
+
+fn draft(stage: u8, key: u64, amount: u64) -> Draft {
+    match Draft::new(stage, key, amount) {
+        Some(draft) => draft,
+        None => Draft::default(),
+    }
+}
+
+pub fn abort(manager: &Manager, pass: &mut Pass, diary: &mut Diary) -> Result<(), Trouble>
+    requires own { IsOf manager.now pass.old }
+    requires busy { IsSome pass.old.open_unit }
+    ensures own { IsOf manager.now pass.new }
+    ensures free { pass.new.open_unit ≡ None }
+{
+    let before = diary.now();
+    let answer = manager.abort(pass);
+    diary.note(before, Made::Abort { answer })
+}
+
+pub fn kill(manager: &Manager, pass: &mut Pass, diary: &mut Diary, id: u32) -> Result<(), Trouble>
+    requires own { IsOf manager.now pass.old }
+    requires free { pass.old.open_unit ≡ None }
+    ensures own { IsOf manager.now pass.new }
+    ensures free { pass.new.open_unit ≡ None }
+{
+    let before = diary.now();
+    let answer = manager.kill(pass, id);
+    diary.note(before, Made::Kill { id, answer })
+}
+
+pub fn cancel(
+    manager: &Manager,
+    pass: &mut Pass,
+    diary: &mut Diary,
+    root: u32,
+) -> Result<(), Trouble>
+    requires own { IsOf manager.now pass.old }
+    requires free { pass.old.open_unit ≡ None }
+    ensures own { IsOf manager.now pass.new }
+    ensures free { pass.new.open_unit ≡ None }
+{
+    let before = diary.now();
+    let answer = manager.cancel(pass, root);
+    diary.note(before, Made::Cancel { root, answer })
+}
+
+pub fn read(manager: &Manager, pass: &mut Pass, diary: &mut Diary, id: u32) -> Result<(), Trouble>
+    requires own { IsOf manager.now pass.old }
+    ensures own { IsOf manager.now pass.new }
+    ensures open_unit { pass.new.open_unit ≡ pass.old.open_unit }
+{
+    let before = diary.now();
+    let answer = manager.read(pass, id);
+    if let Ok(look) = answer {
+        diary.see(id, look.status);
+    }
+    diary.note(before, Made::Read { id, answer })
+}
+
+pub fn reply(
+    manager: &Manager,
+    pass: &mut Pass,
+    diary: &mut Diary,
+    root: u32,
+    from: u32,
+) -> Result<Option<u32>, Trouble>
+    requires own { IsOf manager.now pass.old }
+    ensures own { IsOf manager.now pass.new }
+    ensures open_unit { pass.new.open_unit ≡ pass.old.open_unit }
+{
+    let before = diary.now();
+    let answer = manager.reply(pass, root, from);
+    diary.note(before, Made::Reply { root, from, answer })?;
+    Ok(answer)
+}
+
+pub fn next_error(
+    manager: &Manager,
+    pass: &mut Pass,
+    diary: &mut Diary,
+    from: u32,
+) -> Result<Option<u32>, Trouble>
+    requires own { IsOf manager.now pass.old }
+    ensures own { IsOf manager.now pass.new }
+    ensures open_unit { pass.new.open_unit ≡ pass.old.open_unit }
+{
+    let before = diary.now();
+    let answer = manager.next_error(pass, from);
+    diary.note(before, Made::NextError { from, answer })?;
+    Ok(answer)
+}

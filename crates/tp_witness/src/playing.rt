@@ -1,0 +1,267 @@
+//! The turns of the threads.
+ghost use denote.Param.Send.{IsSync};
+ghost use Rattle.std.specs.Prelude.{◌≡◌, None, IsSome, OnOk};
+ghost use Rattle.tp_manager.specs.Shown.{IsOf};
+
+use crate::calls::{abort, cancel, claim, commit, kill, next_error, read, reply, submit};
+use crate::diary::Diary;
+use crate::trouble::Trouble;
+use std::thread::{self, Threads, join_mut};
+use tp_manager::{Manager, Pass};
+
+/// The ids of each pass.
+const ROWS: u32 = 64;
+
+/// How far from an id of its own a thread looks for an element of another's.
+const NEAR: u32 = 6;
+
+/// Four threads, each with a pass and a diary of its own.
+pub fn four<R: Threads + Sync>(
+    rt: &R,
+    manager: &Manager,
+    first: &mut Pass,
+    second: &mut Pass,
+    third: &mut Pass,
+    fourth: &mut Pass,
+    first_diary: &mut Diary,
+    second_diary: &mut Diary,
+    third_diary: &mut Diary,
+    fourth_diary: &mut Diary,
+    turns: u32,
+) -> Result<(), Trouble>
+    requires own { IsOf manager.now first.old × IsOf manager.now second.old
+        × IsOf manager.now third.old × IsOf manager.now fourth.old }
+    requires free { (first.old.open_unit ≡ None) × (second.old.open_unit ≡ None)
+        × (third.old.open_unit ≡ None) × (fourth.old.open_unit ≡ None) }
+    ensures own { IsOf manager.now first.new × IsOf manager.now second.new
+        × IsOf manager.now third.new × IsOf manager.now fourth.new }
+{
+    let mut one = || -> Result<(), Trouble>
+        requires { IsSync R.row × IsOf manager.now first.now × IsOf manager.now second.now
+            × (first.now.open_unit ≡ None) × (second.now.open_unit ≡ None) }
+        ensures { IsOf manager.entry.now first.exit.now × IsOf manager.entry.now second.exit.now }
+    { pair(rt, manager, first, second, first_diary, second_diary, turns) };
+    let mut other = || -> Result<(), Trouble>
+        requires { IsSync R.row × IsOf manager.now third.now × IsOf manager.now fourth.now
+            × (third.now.open_unit ≡ None) × (fourth.now.open_unit ≡ None) }
+        ensures { IsOf manager.entry.now third.exit.now × IsOf manager.entry.now fourth.exit.now }
+    { pair(rt, manager, third, fourth, third_diary, fourth_diary, turns) };
+    let (left, right) = join_mut(rt, &mut one, &mut other);
+    left.and(right)
+}
+
+/// Two threads, each with a pass and a diary of its own.
+fn pair<R: Threads + Sync>(
+    rt: &R,
+    manager: &Manager,
+    first: &mut Pass,
+    second: &mut Pass,
+    first_diary: &mut Diary,
+    second_diary: &mut Diary,
+    turns: u32,
+) -> Result<(), Trouble>
+    requires own { IsOf manager.now first.old × IsOf manager.now second.old }
+    requires free { (first.old.open_unit ≡ None) × (second.old.open_unit ≡ None) }
+    ensures own { IsOf manager.now first.new × IsOf manager.now second.new }
+{
+    let mut one = || -> Result<(), Trouble>
+        requires { IsOf manager.now first.now × (first.now.open_unit ≡ None) }
+        ensures { IsOf manager.entry.now first.exit.now }
+    { take_turns(manager, first, first_diary, turns) };
+    let mut other = || -> Result<(), Trouble>
+        requires { IsOf manager.now second.now × (second.now.open_unit ≡ None) }
+        ensures { IsOf manager.entry.now second.exit.now }
+    { take_turns(manager, second, second_diary, turns) };
+    let (a, b) = join_mut(rt, &mut one, &mut other);
+    a.and(b)
+}
+
+/// One thread's turns, once all four threads are there.
+fn take_turns(
+    manager: &Manager,
+    pass: &mut Pass,
+    diary: &mut Diary,
+    turns: u32,
+) -> Result<(), Trouble>
+    requires own { IsOf manager.now pass.old }
+    requires free { pass.old.open_unit ≡ None }
+    ensures own { IsOf manager.now pass.new }
+{
+    meet(diary);
+    for _past in 0..turns {
+        take_turn(manager, pass, diary)?;
+    }
+    Ok(())
+}
+
+/// Waits a while for the others.
+fn meet(diary: &Diary) {
+    let _here = diary.now();
+    for _past in 0..100_000u32 {
+        if diary.is_past(4) {
+            return;
+        }
+        thread::yield_now();
+    }
+}
+
+/// One or a few calls.
+fn take_turn(manager: &Manager, pass: &mut Pass, diary: &mut Diary) -> Result<(), Trouble>
+    requires own { IsOf manager.now pass.old }
+    requires free { pass.old.open_unit ≡ None }
+    ensures own { IsOf manager.now pass.new }
+    ensures free { OnOk result (pass.new.open_unit ≡ None) }
+{
+    let id = some_id(diary);
+    match diary.dice.below(16) {
+        0..=3 => send(manager, pass, diary),
+        4..=8 => serve(manager, pass, diary),
+        9 => hunt(manager, pass, diary),
+        10 => cancel(manager, pass, diary, id),
+        11 => list_replies(manager, pass, diary, id),
+        12 => list_errors(manager, pass, diary),
+        _ => read(manager, pass, diary, id),
+    }
+}
+
+/// A client's calls: the first reply to a request, the first from that one on, and the first behind it.
+fn list_replies(
+    manager: &Manager,
+    pass: &mut Pass,
+    diary: &mut Diary,
+    root: u32,
+) -> Result<(), Trouble>
+    requires own { IsOf manager.now pass.old }
+    requires free { pass.old.open_unit ≡ None }
+    ensures own { IsOf manager.now pass.new }
+    ensures free { pass.new.open_unit ≡ None }
+{
+    if let Some(id) = reply(manager, pass, diary, root, 0)? {
+        reply(manager, pass, diary, root, id)?;
+        reply(manager, pass, diary, root, id.saturating_add(1))?;
+    }
+    Ok(())
+}
+
+/// The same of parked elements.
+fn list_errors(manager: &Manager, pass: &mut Pass, diary: &mut Diary) -> Result<(), Trouble>
+    requires own { IsOf manager.now pass.old }
+    requires free { pass.old.open_unit ≡ None }
+    ensures own { IsOf manager.now pass.new }
+    ensures free { pass.new.open_unit ≡ None }
+{
+    if let Some(id) = next_error(manager, pass, diary, 0)? {
+        next_error(manager, pass, diary, id)?;
+        next_error(manager, pass, diary, id.saturating_add(1))?;
+    }
+    Ok(())
+}
+
+/// A client's call.
+fn send(manager: &Manager, pass: &mut Pass, diary: &mut Diary) -> Result<(), Trouble>
+    requires own { IsOf manager.now pass.old }
+    requires free { pass.old.open_unit ≡ None }
+    ensures own { IsOf manager.now pass.new }
+    ensures free { pass.new.open_unit ≡ None }
+{
+    let stage = if diary.dice.below(2) == 0 { 1 } else { 2 };
+    let key = u64::from(diary.dice.below(100));
+    let amount = u64::from(diary.dice.below(1000));
+    diary.newest = diary.newest.saturating_add(1);
+    submit(manager, pass, diary, stage, key, amount)
+}
+
+/// A server's calls: a claim, a few reads while it holds what it claimed, and an end.
+fn serve(manager: &Manager, pass: &mut Pass, diary: &mut Diary) -> Result<(), Trouble>
+    requires own { IsOf manager.now pass.old }
+    requires free { pass.old.open_unit ≡ None }
+    ensures own { IsOf manager.now pass.new }
+    ensures free { OnOk result (pass.new.open_unit ≡ None) }
+{
+    let stage = match diary.dice.below(3) {
+        0 => 1,
+        1 => 2,
+        _ => 3,
+    };
+    if claim(manager, pass, diary, stage)? {
+        work(manager, pass, diary)
+    } else {
+        Ok(())
+    }
+}
+
+fn work(manager: &Manager, pass: &mut Pass, diary: &mut Diary) -> Result<(), Trouble>
+    requires own { IsOf manager.now pass.old }
+    requires busy { IsSome pass.old.open_unit }
+    ensures own { IsOf manager.now pass.new }
+    ensures free { OnOk result (pass.new.open_unit ≡ None) }
+{
+    look_around(manager, pass, diary)?;
+    linger(diary);
+    if diary.dice.below(4) == 0 {
+        return abort(manager, pass, diary);
+    }
+    let stage = match diary.dice.below(4) {
+        0 => 2,
+        1 => 3,
+        _ => 15,
+    };
+    let drafts = match diary.dice.below(4) {
+        0 => 0,
+        1 => 2,
+        _ => 1,
+    };
+    let key = u64::from(diary.dice.below(100));
+    let amount = u64::from(diary.dice.below(1000));
+    diary.newest = diary.newest.saturating_add(u32::from(drafts));
+    commit(manager, pass, diary, drafts, stage, key, amount)
+}
+
+/// Waits until others have made a few calls, or for a little while.
+fn linger(diary: &mut Diary) {
+    let wanted = diary.now().saturating_add(u64::from(diary.dice.below(24)));
+    for _past in 0..50u32 {
+        if diary.is_past(wanted) {
+            return;
+        }
+        thread::yield_now();
+    }
+}
+
+/// A killer's calls: a few reads, and a kill of what they may have told is held.
+fn hunt(manager: &Manager, pass: &mut Pass, diary: &mut Diary) -> Result<(), Trouble>
+    requires own { IsOf manager.now pass.old }
+    requires free { pass.old.open_unit ≡ None }
+    ensures own { IsOf manager.now pass.new }
+    ensures free { OnOk result (pass.new.open_unit ≡ None) }
+{
+    look_around(manager, pass, diary)?;
+    let id = diary.last;
+    kill(manager, pass, diary, id)
+}
+
+/// A few reads.
+fn look_around(manager: &Manager, pass: &mut Pass, diary: &mut Diary) -> Result<(), Trouble>
+    requires own { IsOf manager.now pass.old }
+    ensures own { IsOf manager.now pass.new }
+    ensures open_unit { pass.new.open_unit ≡ pass.old.open_unit }
+{
+    let times = diary.dice.below(6);
+    for _past in 0..times {
+        let id = some_id(diary);
+        read(manager, pass, diary, id)?;
+    }
+    Ok(())
+}
+
+/// An id that others are likely to be at: one behind the last that the thread has claimed, where they claim
+/// next, or one near the newest of some pass.
+fn some_id(diary: &mut Diary) -> u32 {
+    let pass = diary.dice.below(4);
+    let back = diary.dice.below(NEAR);
+    if diary.dice.below(2) == 0 {
+        return diary.last.saturating_add(back);
+    }
+    let row = diary.newest.saturating_add(1).saturating_sub(back);
+    pass.wrapping_mul(ROWS).wrapping_add(row.min(ROWS))
+}
