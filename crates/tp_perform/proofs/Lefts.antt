@@ -1,5 +1,5 @@
 -- What desks leave, and whose they were.
-use Rattle.std.proofs.Common.{◌≡◌, ℕ, zero, suc, ◌<◌, ◌≤◌, List, [], ◌∷◌, ◌++◌, Option, Some, inl, inr, refl, sym, ◌∙◌, ap, subst, arith, length, map, get_or, set, slice_set}
+use Rattle.std.proofs.Common.{◌≡◌, ℕ, zero, suc, ◌<◌, List, [], ◌∷◌, ◌++◌, Option, Some, inl, inr, refl, sym, ◌∙◌, ap, subst, arith, length, map, get_or, set, slice_set}
 use Rattle.std.specs.List.{swap}
 use Rattle.std.specs.declared.alloc.Global.{Global}
 use Rattle.std.specs.declared.dyn_box.DynBox.{DynBox}

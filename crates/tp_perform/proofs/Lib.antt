@@ -4,3 +4,4 @@ pub mod RegisterLemmas
 pub mod Endings
 pub mod Lefts
 pub mod Everyone
+pub mod Listings

@@ -1,3 +1,4 @@
+pub mod Asked
 pub mod Performing
 pub mod Places
 pub mod Whole

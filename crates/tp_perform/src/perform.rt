@@ -231,7 +231,7 @@ fn command_line<R: Threads + Sync>(
         Command::Read { id } => line(alloc, client::read(manager, client, id)),
         Command::Reply { root } => client::replies(alloc, manager, client, root),
         Command::Errors => client::errors(alloc, manager, client),
-        Command::Count => line(alloc, client::count(manager, client)),
+        Command::Count => line(alloc, Answer::Count(client::count(manager, client))),
         Command::Turn { server } => desk_line(
             alloc,
             named,

@@ -1,4 +1,4 @@
-use Rattle.std.proofs.Common.{rules, ◌≡◌}
+use Rattle.std.proofs.Common.{rules}
 use Rattle.tp_perform.proofs.Everyone.{all_more}
 use Rattle.tp_perform.proofs.serve.all_passes.Goals as goal
 

@@ -1,4 +1,4 @@
-use Rattle.std.proofs.Common.{◌≡◌, ◌-◌, All, length}
+use Rattle.std.proofs.Common.{◌-◌, All}
 use Rattle.tp_manager.specs.Accounts.{AreAll}
 use Rattle.tp_manager.specs.Shown.{IsKeptBy}
 use Rattle.tp_workers.specs.Free.{IsFreePass}
