@@ -1,3 +1,4 @@
+pub mod Acting
 pub mod Asked
 pub mod Performing
 pub mod Places
