@@ -5,3 +5,5 @@ pub mod Endings
 pub mod Lefts
 pub mod Everyone
 pub mod Listings
+pub mod Shows
+pub mod Tellings

@@ -2,4 +2,5 @@ pub mod Acting
 pub mod Asked
 pub mod Performing
 pub mod Places
+pub mod Told
 pub mod Whole

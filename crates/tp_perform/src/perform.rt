@@ -1,14 +1,18 @@
 //! A script performed over the shared manager: each server at a desk of its own, each command one line of the report.
-ghost use Rattle.std.specs.Prelude.{◌≡◌, ◌<◌, ◌≤◌, None, All, IfOk, IfSome, IsErrOf, IsTrue, OnErr, OnOk, length, slice_get, string_bytes};
+ghost use Rattle.std.specs.List.{zip};
+ghost use Rattle.std.specs.Prelude.{◌≡◌, ◌<◌, ◌≤◌, None, All, IfOk, IfSome, IsErrOf, IsTrue, OnErr, OnOk, length, map, slice_get, string_bytes, sum_by};
 ghost use Rattle.tp_manager.specs.Shown.{IsOf};
 ghost use Rattle.tp_workers.specs.Free.{IsFreePass, numbers};
 ghost use Rattle.tp_report.specs.Answer.{line, named_text};
 ghost use Rattle.tp_report.specs.Lines.{IsLine, Writes, WritesFront};
+ghost use Rattle.tp_report.specs.declared.answer.ServerAnswer.{ServerAnswer};
+ghost use Rattle.tp_perform.specs.Acting.{DoesIn, places_shown};
 ghost use Rattle.tp_perform.specs.Performing.{TellsBalance};
+ghost use Rattle.tp_perform.specs.Told.{TellsCommand, counted_value, scene, value_at};
 ghost use Rattle.tp_perform.specs.Places.{AllLeft, AllLie, IsLeft, Lies, all_firsts, first_of, firsts, workers};
 ghost use Rattle.tp_script.specs.Passes.{racers as racers_of, racing};
 ghost use Rattle.tp_script.specs.Ranges.{IsInRange};
-ghost use Rattle.tp_script.specs.Script.{passes as passes_of, script_view};
+ghost use Rattle.tp_script.specs.Script.{passes as passes_of, script_view, server_view};
 ghost use Rattle.tp_script.specs.declared.script.TheConstants.{MOST_SERVERS};
 
 use crate::client;
@@ -92,16 +96,26 @@ fn end_at(
 /// The sum of a register over the servers that have it and whose desks weren't dropped.
 fn sum(servers: &[Box<dyn Server + Send>], places: &[Place], k: u64) -> u128
     requires { length servers.now ≡ length places.now }
+    ensures { result ≡ sum_by (value_at registers k) (zip servers.now places.now) }
 {
     let mut sum = 0;
     for i in 0..places.len() {
-        if !places[i].is_dropped {
-            if let Some(value) = servers[i].balance(k) {
-                sum += u128::from(value);
-            }
-        }
+        sum += u128::from(counted_value(&servers[i], places[i].is_dropped, k));
     }
     sum
+}
+
+/// What a server adds to the sum of a register.
+fn counted_value(server: &Box<dyn Server + Send>, is_dropped: bool, k: u64) -> u64
+    ensures { result ≡ counted_value is_dropped (slice_get (registers server.now) k) }
+{
+    if is_dropped {
+        return 0;
+    }
+    match server.balance(k) {
+        Some(value) => value,
+        None => 0,
+    }
 }
 
 /// The line of an answer of the server at a place.
@@ -159,6 +173,11 @@ fn desk_line(
     ensures lie { AllLie recipe registers pending passes.new servers.new places.new }
     ensures as_many { length places.new ≡ length places.old }
     ensures began { firsts places.new ≡ firsts places.old }
+    ensures tells { IfOk result (λ text. (answer : ServerAnswer)
+        × DoesIn manager.now.limits act server
+            (places_shown recipe registers pending passes.old servers.old places.old) answer
+            (places_shown recipe registers pending passes.new servers.new places.new)
+        × IfSome (slice_get named.now server) (λ it. string_bytes text ≡ line (named_text (string_bytes it.name) answer))) }
     ensures line { IfOk result (λ text. IsLine (string_bytes text)) }
 {
     let answer = act_in(manager, passes, servers, places, server, act);
@@ -181,6 +200,9 @@ fn act_in(
     ensures lie { AllLie recipe registers pending passes.new servers.new places.new }
     ensures as_many { length places.new ≡ length places.old }
     ensures began { firsts places.new ≡ firsts places.old }
+    ensures tells { DoesIn manager.now.limits act at
+        (places_shown recipe registers pending passes.old servers.old places.old) result
+        (places_shown recipe registers pending passes.new servers.new places.new) }
 {
     act_at(
         manager,
@@ -219,6 +241,10 @@ fn command_line<R: Threads + Sync>(
     ensures began { firsts places.new ≡ firsts places.old }
     ensures racers { All (IsFreePass manager.now) racers.new }
     ensures racers_numbered { numbers racers.new ≡ numbers racers.old }
+    ensures tells { IfOk result (λ text.
+        TellsCommand manager.now (map server_view script.now.servers.items) command
+        (scene recipe registers pending client.old passes.old servers.old places.old racers.old) (string_bytes text)
+        (scene recipe registers pending client.new passes.new servers.new places.new racers.new)) }
     ensures line { IfOk result (λ text. IsLine (string_bytes text)) }
 {
     let named = script.servers.as_slice();

@@ -1,0 +1,116 @@
+-- What the commands of a script are told, one after another: the line of each is that of its call's answer.
+use Rattle.std.specs.Prelude.{◌≡◌, ℕ, zero, suc, Bool, true, false, List, [], ◌++◌, Option, Some, None, length, slice_get, sum_by}
+use Rattle.std.specs.declared.alloc.Global.{Global}
+use Rattle.std.specs.declared.dyn_box.DynBox.{DynBox}
+use Rattle.tp_model.specs.Steps.{rows_of}
+use Rattle.tp_server.specs.declared.recipe.Recipe.{Recipe}
+use Rattle.tp_server.specs.Pending.{Pending}
+use Rattle.tp_manager.specs.Shown.{ManagerShown, PassShown}
+use Rattle.tp_report.specs.Answer.{answer_text, counts_text, errors_text, line, named_text, replies_text}
+use Rattle.tp_report.specs.Lines.{IsLine}
+use Rattle.tp_report.specs.declared.answer.Answer.{Answer}
+use Rattle.tp_report.specs.declared.answer.Answer.TheVariants as answer
+use Rattle.tp_report.specs.declared.answer.ServerAnswer.{ServerAnswer}
+use Rattle.tp_script.specs.Passes.{racers, racing}
+use Rattle.tp_script.specs.Script.{ScriptView, ServerView}
+use Rattle.tp_script.specs.declared.script.Command.{Command}
+use Rattle.tp_script.specs.declared.script.Command.TheVariants as command
+use Rattle.tp_perform.specs.declared.place.Place.{Place}
+use Rattle.tp_perform.specs.declared.desks.Act.{Act}
+use Rattle.tp_perform.specs.declared.desks.Act.TheVariants as acts
+use Rattle.tp_perform.specs.Acting.{DoesIn, PlaceShown, places_shown}
+use Rattle.tp_perform.specs.Asked.{TellsCancel, TellsCount, TellsErrors, TellsKill, TellsRead, TellsReplies, TellsSubmit}
+use Rattle.tp_perform.specs.Performing.{TellsBalance}
+
+-- what is there while a script is performed: the client's pass, the places of the desks, and the passes of races
+pub record Scene : Type 0 where
+  pub client : PassShown
+  pub places : List PlaceShown
+  pub racers : List PassShown
+
+module _ {X : Type 0} {F : X → Type 0} (recipe : DynBox X Global F → Recipe) (registers : DynBox X Global F → List ℕ)
+    (pending : DynBox X Global F → Option Pending) where
+  abbrev pub scene : PassShown → List PassShown → List (DynBox X Global F) → List (Place X F) → List PassShown → Scene
+  scene client passes servers places racers = record {
+    client = client;
+    places = places_shown recipe registers pending passes servers places;
+    racers = racers;
+  }
+
+-- nothing but the client's pass has changed
+pub record OnlyClient (old new : Scene) : Type 0 where
+  pub places : new.places ≡ old.places
+  pub racers : new.racers ≡ old.racers
+
+-- nothing but the places have changed
+pub record OnlyPlaces (old new : Scene) : Type 0 where
+  pub client : new.client ≡ old.client
+  pub racers : new.racers ≡ old.racers
+
+-- the line tells the answer of such a call of the client
+pub record ClientLine (Tells : PassShown → PassShown → Answer → Type 0) (old : Scene) (text : List ℕ) (new : Scene) : Type 0 where
+  pub answer : Answer
+  pub tells : Tells old.client new.client answer
+  pub text_is : text ≡ line (answer_text answer)
+  pub others : OnlyClient old new
+
+-- the line tells what such calls of the client found
+pub record FoundLine {A : Type 0} (Tells : PassShown → A → PassShown → Type 0) (told : A → List ℕ)
+    (old : Scene) (text : List ℕ) (new : Scene) : Type 0 where
+  pub found : A
+  pub tells : Tells old.client found new.client
+  pub text_is : text ≡ line (told found)
+  pub others : OnlyClient old new
+
+-- the line tells, with the server's name, what the desk at its place answered
+pub record ServerLine (m : ManagerShown) (servers : List ServerView) (act : Act) (at : ℕ)
+    (old : Scene) (text : List ℕ) (new : Scene) : Type 0 where
+  pub answer : ServerAnswer
+  pub does : DoesIn m.limits act at old.places answer new.places
+  pub server : ServerView
+  pub named : slice_get servers at ≡ Some server
+  pub text_is : text ≡ line (named_text server.name answer)
+  pub others : OnlyPlaces old new
+
+-- the line tells a register of the server, or that its desk was dropped, and nothing has changed
+pub record BalanceLine (servers : List ServerView) (at k : ℕ) (old : Scene) (text : List ℕ) (new : Scene) : Type 0 where
+  pub place : PlaceShown
+  pub there : slice_get old.places at ≡ Some place
+  pub server : ServerView
+  pub named : slice_get servers at ≡ Some server
+  pub tells : TellsBalance server.name k place.desk.registers place.is_dropped text
+  pub same : new ≡ old
+
+-- what a place adds to the sum of a register: its value, unless the desk was dropped or has no such register
+abbrev pub counted_value : Bool → Option ℕ → ℕ
+counted_value true value = 0
+counted_value false None = 0
+counted_value false (Some value) = value
+
+-- the same of a server and its place
+abbrev pub value_at : {X : Type 0} {F : X → Type 0} → (DynBox X Global F → List ℕ) → ℕ → DynBox X Global F × Place X F → ℕ
+value_at registers k (server, place) = counted_value place.is_dropped (slice_get (registers server) k)
+
+-- the sum of a register over all places
+abbrev pub register_sum : ℕ → List PlaceShown → ℕ
+register_sum k places = sum_by (λ p. counted_value p.is_dropped (slice_get p.desk.registers k)) places
+
+-- the line of a command
+abbrev pub TellsCommand : ManagerShown → List ServerView → Command → Scene → List ℕ → Scene → Type 0
+TellsCommand m servers (command.Submit stage key amount) = ClientLine (TellsSubmit stage key amount)
+TellsCommand m servers (command.Kill id) = ClientLine (TellsKill m.limits id)
+TellsCommand m servers (command.Cancel root) = ClientLine (TellsCancel m.limits root)
+TellsCommand m servers (command.Read id) = ClientLine (TellsRead m.limits id)
+TellsCommand m servers (command.Reply root) = FoundLine (TellsReplies m.limits root 0) (replies_text root)
+TellsCommand m servers command.Errors = FoundLine (TellsErrors m.limits 0) errors_text
+TellsCommand m servers command.Count = FoundLine (TellsCount m.limits (rows_of m.limits)) counts_text
+TellsCommand m servers (command.Turn at) = ServerLine m servers acts.Turn at
+TellsCommand m servers (command.Claim at) = ServerLine m servers acts.Claim at
+TellsCommand m servers (command.Prepare at) = ServerLine m servers acts.Prepare at
+TellsCommand m servers (command.Commit at) = ServerLine m servers acts.Commit at
+TellsCommand m servers (command.Abort at) = ServerLine m servers acts.Abort at
+TellsCommand m servers (command.Drop at) = ServerLine m servers acts.Drop at
+TellsCommand m servers (command.Balance at k) = BalanceLine servers at k
+TellsCommand m servers (command.Sum k) = λ old text new.
+    (text ≡ line (answer_text (answer.Sum k (register_sum k old.places)))) × (new ≡ old)
+TellsCommand m servers other = λ old text new. IsLine text
