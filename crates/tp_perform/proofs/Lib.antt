@@ -7,3 +7,4 @@ pub mod Everyone
 pub mod Listings
 pub mod Shows
 pub mod Tellings
+pub mod Chains

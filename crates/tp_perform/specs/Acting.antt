@@ -33,14 +33,13 @@ use Rattle.tp_perform.specs.declared.place.Place.{Place}
 
 -- ---- what is shown
 
--- a desk shows what its pass and its server show, and the work that it has in hand with the drafts that were prepared
+-- a desk shows what its pass and its server show, and the work that it has in hand
 pub record DeskShown : Type 0 where
   pub pass : PassShown
   pub recipe : Recipe
   pub registers : List ℕ
   pub pending : Option Pending
   pub work : Option Work
-  pub drafts : List DraftView
 
 -- a place shows its desk, what its pass and its registers were when the desk began, and whether it was dropped
 pub record PlaceShown : Type 0 where
@@ -51,19 +50,34 @@ pub record PlaceShown : Type 0 where
 -- the desk is steady: its registers are the fold of what it has committed since it began
 abbrev pub IsSteadyPlace : PlaceShown → Type 0
 IsSteadyPlace p = IfSome p.began (λ began. let d = p.desk in
-    IsSteady d.recipe d.registers d.pending began.1 began.0 d.pass d.work d.drafts)
+    (drafts : List DraftView) × IsSteady d.recipe d.registers d.pending began.1 began.0 d.pass d.work drafts)
 
 -- what was laid aside
 abbrev pub work_in : {X : Type 0} {F : X → Type 0} → Option (Aside X F) → Option Work
 work_in None = None
 work_in (Some aside) = aside.work
 
-abbrev pub drafts_in : {X : Type 0} {F : X → Type 0} → Option (Aside X F) → List DraftView
-drafts_in None = []
-drafts_in (Some aside) = aside.drafts.items
-
 module _ {X : Type 0} {F : X → Type 0} (recipe : DynBox X Global F → Recipe) (registers : DynBox X Global F → List ℕ)
     (pending : DynBox X Global F → Option Pending) where
+  -- a desk that begins
+  abbrev pub new_place : PassShown → DynBox X Global F → PlaceShown
+  new_place pass server = record {
+    desk = record {
+      pass = pass;
+      recipe = recipe server;
+      registers = registers server;
+      pending = pending server;
+      work = None;
+    };
+    began = Some (pass, registers server);
+    is_dropped = false;
+  }
+
+  -- one for each pass and its server
+  abbrev pub new_places : List PassShown → List (DynBox X Global F) → List PlaceShown
+  new_places (p ∷ ps) (s ∷ ss) = new_place p s ∷ new_places ps ss
+  new_places ps ss = []
+
   -- a desk that lies aside
   abbrev pub place_shown : PassShown → DynBox X Global F → Place X F → PlaceShown
   place_shown pass server place = record {
@@ -73,7 +87,6 @@ module _ {X : Type 0} {F : X → Type 0} (recipe : DynBox X Global F → Recipe)
       registers = registers server;
       pending = pending server;
       work = work_in place.aside;
-      drafts = drafts_in place.aside;
     };
     began = option_map (λ a. (a.first_pass.value, registers a.first_server.value)) place.aside;
     is_dropped = place.is_dropped;
@@ -94,7 +107,6 @@ module _ {X : Type 0} {F : X → Type 0} (recipe : (x : X) × F x → Recipe) (r
     registers = shown registers d.server.now;
     pending = shown pending d.server.now;
     work = d.work;
-    drafts = d.drafts.items;
   }
 
 -- ---- what is done

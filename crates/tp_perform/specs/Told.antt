@@ -1,5 +1,6 @@
 -- What the commands of a script are told, one after another: the line of each is that of its call's answer.
-use Rattle.std.specs.Prelude.{◌≡◌, ℕ, zero, suc, Bool, true, false, List, [], ◌++◌, Option, Some, None, length, slice_get, sum_by}
+use Rattle.std.specs.Prelude.{◌≡◌, ◌≤◌, ℕ, zero, suc, Bool, true, false, List, [], ◌∷◌, ◌++◌, All, Option, Some, None, drop, length, slice_get, sum_by, take}
+use Rattle.std.specs.Io.KnownBytes.{Appends}
 use Rattle.std.specs.declared.alloc.Global.{Global}
 use Rattle.std.specs.declared.dyn_box.DynBox.{DynBox}
 use Rattle.tp_model.specs.Steps.{rows_of}
@@ -8,6 +9,7 @@ use Rattle.tp_server.specs.Pending.{Pending}
 use Rattle.tp_manager.specs.Shown.{ManagerShown, PassShown}
 use Rattle.tp_report.specs.Answer.{answer_text, counts_text, errors_text, line, named_text, replies_text}
 use Rattle.tp_report.specs.Lines.{IsLine}
+use Rattle.tp_report.specs.Written.{AppendsFront}
 use Rattle.tp_report.specs.declared.answer.Answer.{Answer}
 use Rattle.tp_report.specs.declared.answer.Answer.TheVariants as answer
 use Rattle.tp_report.specs.declared.answer.ServerAnswer.{ServerAnswer}
@@ -18,9 +20,10 @@ use Rattle.tp_script.specs.declared.script.Command.TheVariants as command
 use Rattle.tp_perform.specs.declared.place.Place.{Place}
 use Rattle.tp_perform.specs.declared.desks.Act.{Act}
 use Rattle.tp_perform.specs.declared.desks.Act.TheVariants as acts
-use Rattle.tp_perform.specs.Acting.{DoesIn, PlaceShown, places_shown}
+use Rattle.tp_perform.specs.Acting.{DoesIn, IsSteadyPlace, PlaceShown, new_places, places_shown}
 use Rattle.tp_perform.specs.Asked.{TellsCancel, TellsCount, TellsErrors, TellsKill, TellsRead, TellsReplies, TellsSubmit}
 use Rattle.tp_perform.specs.Performing.{TellsBalance}
+use Rattle.tp_perform.specs.Places.{workers}
 
 -- what is there while a script is performed: the client's pass, the places of the desks, and the passes of races
 pub record Scene : Type 0 where
@@ -114,3 +117,43 @@ TellsCommand m servers (command.Balance at k) = BalanceLine servers at k
 TellsCommand m servers (command.Sum k) = λ old text new.
     (text ≡ line (answer_text (answer.Sum k (register_sum k old.places)))) × (new ≡ old)
 TellsCommand m servers other = λ old text new. IsLine text
+
+-- A command leads from one scene to another, and this is its line. A race takes the passes behind those of the races
+-- before it; the other ones are as they were.
+pub record Performs (m : ManagerShown) (servers : List ServerView) (c : Command) (raced : ℕ)
+    (old : Scene) (text : List ℕ) (new : Scene) : Type 0 where
+  pub front : List PassShown
+  pub here : List PassShown
+  pub after : List PassShown
+  pub back : List PassShown
+  pub parts : old.racers ≡ front ++ (here ++ back)
+  pub kept : new.racers ≡ front ++ (after ++ back)
+  pub behind : length front ≡ raced
+  pub needed : length here ≡ racers c
+  pub tells : TellsCommand m servers c (record old { racers = here }) text (record new { racers = after })
+  -- at each place the registers are the fold of what the desk has committed since it began
+  pub steady : All IsSteadyPlace new.places
+
+-- the first n of these commands lead from one scene to another, and their lines are this text
+abbrev pub Told : ManagerShown → List ServerView → List Command → Scene → ℕ → List ℕ → Scene → Type 0
+Told m servers commands old zero text new = (text ≡ []) × (new ≡ old)
+Told m servers commands old (suc n) text new = (front : List ℕ) × (between : Scene) × (c : Command) × (last : List ℕ)
+    × Told m servers commands old n front between × (slice_get commands n ≡ Some c)
+    × Performs m servers c (racing (take n commands)) between last new × (text ≡ front ++ last)
+
+-- all of them were performed, and their lines written
+abbrev pub ToldAll : ManagerShown → List ServerView → List Command → Scene → Scene → Option (List ℕ) → Option (List ℕ) → Type 0
+ToldAll m servers commands old new before after = (text : List ℕ)
+    × Told m servers commands old (length commands) text new × Appends before after text
+
+-- some of them were performed, and a front of their lines written
+abbrev pub ToldFront : ManagerShown → List ServerView → List Command → Scene → Option (List ℕ) → Option (List ℕ) → Type 0
+ToldFront m servers commands old before after = (n : ℕ) × (text : List ℕ) × (new : Scene) × (n ≤ length commands)
+    × Told m servers commands old n text new × AppendsFront before after text
+
+module _ {X : Type 0} {F : X → Type 0} (recipe : DynBox X Global F → Recipe) (registers : DynBox X Global F → List ℕ)
+    (pending : DynBox X Global F → Option Pending) where
+  -- the scene before the first command: of the client's pass, desks of the servers' passes, and the passes of races
+  abbrev pub IsFirstScene : List PassShown → List (DynBox X Global F) → Scene → Type 0
+  IsFirstScene passes servers s = (passes ≡ s.client ∷ (workers (length servers) passes ++ s.racers))
+      × (s.places ≡ new_places recipe registers pending (workers (length servers) passes) servers)

@@ -8,7 +8,7 @@ ghost use Rattle.tp_report.specs.Lines.{IsLine, Writes, WritesFront};
 ghost use Rattle.tp_report.specs.declared.answer.ServerAnswer.{ServerAnswer};
 ghost use Rattle.tp_perform.specs.Acting.{DoesIn, places_shown};
 ghost use Rattle.tp_perform.specs.Performing.{TellsBalance};
-ghost use Rattle.tp_perform.specs.Told.{TellsCommand, counted_value, scene, value_at};
+ghost use Rattle.tp_perform.specs.Told.{TellsCommand, ToldAll, ToldFront, counted_value, scene, value_at};
 ghost use Rattle.tp_perform.specs.Places.{AllLeft, AllLie, IsLeft, Lies, all_firsts, first_of, firsts, workers};
 ghost use Rattle.tp_script.specs.Passes.{racers as racers_of, racing};
 ghost use Rattle.tp_script.specs.Ranges.{IsInRange};
@@ -386,6 +386,14 @@ fn perform_all<R: Threads + Sync, W: Sink>(
     ensures began { firsts places.new ≡ firsts places.old }
     ensures racers { All (IsFreePass manager.now) racers.new }
     ensures racers_numbered { numbers racers.new ≡ numbers racers.old }
+    ensures told { OnOk result (ToldAll manager.now (map server_view script.now.servers.items) script.now.commands.items
+        (scene recipe registers pending client.old passes.old servers.old places.old racers.old)
+        (scene recipe registers pending client.new passes.new servers.new places.new racers.new)
+        (W.contents writer.old) (W.contents writer.new)) }
+    ensures told_front { OnErr result (ToldFront manager.now (map server_view script.now.servers.items)
+        script.now.commands.items
+        (scene recipe registers pending client.old passes.old servers.old places.old racers.old)
+        (W.contents writer.old) (W.contents writer.new)) }
     ensures done { OnOk result (Writes (length script.now.commands.items)
         (W.contents writer.old) (W.contents writer.new)) }
     ensures front { OnErr result (WritesFront (length script.now.commands.items)
