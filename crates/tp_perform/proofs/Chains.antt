@@ -1,5 +1,5 @@
 -- Commands performed one after another.
-use Rattle.std.proofs.Common.{◌≡◌, ℕ, suc, ◌+◌, ◌<◌, ◌≤◌, List, [], ◌∷◌, ◌++◌, All, Option, Some, None, refl, sym, ◌∙◌, ap, subst, arith, length, slice_get, take, sum_by, get_or}
+use Rattle.std.proofs.Common.{◌≡◌, ℕ, suc, ◌+◌, ◌<◌, List, [], ◌∷◌, ◌++◌, All, Option, Some, None, refl, sym, ◌∙◌, ap, subst, arith, length, slice_get, take, get_or}
 use Rattle.std.proofs.lemmas.Option.{slice_get-get_or}
 use Rattle.std.specs.declared.alloc.Global.{Global}
 use Rattle.std.specs.declared.dyn_box.DynBox.{DynBox}
@@ -12,9 +12,10 @@ use Rattle.tp_script.specs.Passes.{racers as racers_of, racing}
 use Rattle.tp_script.specs.Script.{ServerView}
 use Rattle.tp_script.specs.declared.script.Command.{Command}
 use Rattle.tp_perform.specs.declared.place.Place.{Place}
-use Rattle.tp_perform.specs.Acting.{IsSteadyPlace, PlaceShown, place_shown, places_shown}
-use Rattle.tp_perform.specs.Places.{AllLie, Lies}
-use Rattle.tp_perform.specs.Told.{Performs, Scene, TellsCommand, Told}
+use Rattle.tp_perform.specs.Acting.{IsSteadyPlace, PlaceShown, new_places, place_shown, places_shown}
+use Rattle.tp_perform.specs.Places.{AllLie, Lies, workers}
+use Rattle.tp_perform.specs.Told.{AllEnded, IsFirstScene, Performs, Scene, TellsCommand, Told, scene}
+use Rattle.tp_perform.proofs.Lefts.{workers_are}
 use Rattle.tp_perform.proofs.Shows.{sum_next}
 
 -- what races the first n commands and one more need
@@ -67,3 +68,15 @@ module _ {X : Type 0} {F : X → Type 0} (recipe : DynBox X Global F → Recipe)
   all_steady (p ∷ ps) [] os all = absurd all
   all_steady (p ∷ ps) (s ∷ ss) [] all = absurd all
   all_steady (p ∷ ps) (s ∷ ss) (o ∷ os) all = All-cons IsSteadyPlace (place_shown recipe registers pending p s o) (places_shown recipe registers pending ps ss os) (steady_at p s o o.aside refl all.0) (all_steady ps ss os all.1)
+
+  -- the scene before the first command
+  pub is_first : (olds : List PassShown) (client : PassShown) (others ws rs : List PassShown) (ss : List Box) (os : List (Place X F)) → olds ≡ client ∷ others → others ≡ ws ++ rs → length ws ≡ length ss
+      → places_shown recipe registers pending ws ss os ≡ new_places recipe registers pending ws ss → IsFirstScene recipe registers pending olds ss (scene recipe registers pending client ws ss os rs)
+  is_first olds client others ws rs ss os all parts long shown =
+      let these : workers (length ss) olds ≡ ws = ap (workers (length ss)) (all ∙ ap (λ zs. client ∷ zs) parts) ∙ workers_are recipe registers pending (length ss) client ws rs long in
+      (all ∙ (ap (λ zs. client ∷ zs) parts ∙ ap (λ zs. client ∷ (zs ++ rs)) (sym these)), shown ∙ ap (λ zs. new_places recipe registers pending zs ss) (sym these))
+
+  -- what its servers' passes are among all at the end
+  pub ended_in : (n : ℕ) (places : List PlaceShown) (client : PassShown) (qs rs : List PassShown) (registers_left : List (List ℕ)) → length qs ≡ n → AllEnded places qs registers_left
+      → AllEnded places (workers n (client ∷ (qs ++ rs))) registers_left
+  ended_in n places client qs rs left long all = subst (λ zs. AllEnded places zs left) (sym (workers_are recipe registers pending n client qs rs long)) all

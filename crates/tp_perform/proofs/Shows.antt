@@ -1,5 +1,5 @@
 -- What places show, one by one and together.
-use Rattle.std.proofs.Common.{◌≡◌, ℕ, zero, suc, ◌+◌, ◌<◌, ◌≤◌, List, [], ◌∷◌, ◌++◌, Option, Some, refl, sym, ◌∙◌, ap, subst, arith, length, get_or, slice_get, slice_set, sum_by, take, zip}
+use Rattle.std.proofs.Common.{◌≡◌, ℕ, zero, suc, ◌+◌, ◌<◌, List, [], ◌∷◌, ◌++◌, Option, Some, refl, sym, ◌∙◌, ap, arith, length, get_or, slice_get, slice_set, sum_by, take, zip}
 use Rattle.std.specs.declared.alloc.Global.{Global}
 use Rattle.std.specs.declared.dyn_box.DynBox.{DynBox}
 use Rattle.std.proofs.lemmas.List.{take_more}
@@ -10,7 +10,7 @@ use Rattle.tp_server.specs.declared.recipe.Recipe.{Recipe}
 use Rattle.tp_server.specs.Pending.{Pending}
 use Rattle.tp_manager.specs.Shown.{PassShown}
 use Rattle.tp_perform.specs.declared.place.Place.{Place}
-use Rattle.tp_perform.specs.Acting.{place_shown, places_shown}
+use Rattle.tp_perform.specs.Acting.{new_place, new_places, place_shown, places_shown}
 use Rattle.tp_perform.specs.Places.{AllLie}
 use Rattle.tp_perform.specs.Told.{counted_value, register_sum, value_at}
 
@@ -67,3 +67,28 @@ module _ {X : Type 0} {F : X → Type 0} (recipe : DynBox X Global F → Recipe)
       sum_by-cons (value_at registers k) (y, z) (zip ss os)
       ∙ (ap (λ n. value_at registers k (y, z) + n) (shown_sum k ps ss os all.1)
       ∙ sym (sum_by-cons (λ p. counted_value p.is_dropped (slice_get p.desk.registers k)) (place_shown recipe registers pending x y z) (places_shown recipe registers pending ps ss os)))
+
+  -- those in front, and the others
+  pub shown_append : (ps : List PassShown) (ss : List Box) (os : List (Place X F)) (qs : List PassShown) (ts : List Box) (ns : List (Place X F)) → AllLie recipe registers pending ps ss os
+      → places_shown recipe registers pending (ps ++ qs) (ss ++ ts) (os ++ ns) ≡ places_shown recipe registers pending ps ss os ++ places_shown recipe registers pending qs ts ns
+  shown_append [] [] [] qs ts ns all = refl
+  shown_append [] [] (z ∷ os) qs ts ns all = absurd all
+  shown_append [] (y ∷ ss) os qs ts ns all = absurd all
+  shown_append (x ∷ ps) [] os qs ts ns all = absurd all
+  shown_append (x ∷ ps) (y ∷ ss) [] qs ts ns all = absurd all
+  shown_append (x ∷ ps) (y ∷ ss) (z ∷ os) qs ts ns all = ap (λ zs. place_shown recipe registers pending x y z ∷ zs) (shown_append ps ss os qs ts ns all.1)
+
+  -- desks that begin, and one more
+  new_more : (ps : List PassShown) (ss : List Box) (p : PassShown) (s : Box) → length ps ≡ length ss
+      → new_places recipe registers pending (ps ++ p ∷ []) (ss ++ s ∷ []) ≡ new_places recipe registers pending ps ss ++ new_place recipe registers pending p s ∷ []
+  new_more [] [] p s long = refl
+  new_more [] (y ∷ ss) p s long = absurd (omega (arith, long))
+  new_more (x ∷ ps) [] p s long = absurd (omega (arith, long))
+  new_more (x ∷ ps) (y ∷ ss) p s long = ap (λ zs. new_place recipe registers pending x y ∷ zs) (new_more ps ss p s (omega (arith, long)))
+
+  pub shown_more : (ps : List PassShown) (ss : List Box) (os : List (Place X F)) (p : PassShown) (s : Box) (o : Place X F) → AllLie recipe registers pending ps ss os → length ps ≡ length ss
+      → places_shown recipe registers pending ps ss os ≡ new_places recipe registers pending ps ss → place_shown recipe registers pending p s o ≡ new_place recipe registers pending p s
+      → places_shown recipe registers pending (ps ++ p ∷ []) (ss ++ s ∷ []) (os ++ o ∷ []) ≡ new_places recipe registers pending (ps ++ p ∷ []) (ss ++ s ∷ [])
+  shown_more ps ss os p s o all long same one =
+      shown_append ps ss os (p ∷ []) (s ∷ []) (o ∷ []) all ∙ (ap (λ zs. zs ++ place_shown recipe registers pending p s o ∷ []) same
+      ∙ (ap (λ z. new_places recipe registers pending ps ss ++ z ∷ []) one ∙ sym (new_more ps ss p s long)))

@@ -10,7 +10,7 @@ use Rattle.tp_manager.specs.Shown.{ManagerShown, PassShown}
 use Rattle.tp_report.specs.Answer.{answer_text, line, named_text}
 use Rattle.tp_report.specs.declared.answer.Answer.{Answer}
 use Rattle.tp_report.specs.declared.answer.ServerAnswer.{ServerAnswer}
-use Rattle.tp_script.specs.Script.{ServerView, server_view}
+use Rattle.tp_script.specs.Script.{server_view}
 use Rattle.tp_script.specs.declared.script.ScriptServer.{ScriptServer}
 use Rattle.tp_perform.specs.declared.desks.Act.{Act}
 use Rattle.tp_perform.specs.declared.place.Place.{Place}

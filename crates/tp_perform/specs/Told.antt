@@ -1,5 +1,5 @@
 -- What the commands of a script are told, one after another: the line of each is that of its call's answer.
-use Rattle.std.specs.Prelude.{◌≡◌, ◌≤◌, ℕ, zero, suc, Bool, true, false, List, [], ◌∷◌, ◌++◌, All, Option, Some, None, drop, length, slice_get, sum_by, take}
+use Rattle.std.specs.Prelude.{◌≡◌, ◌≤◌, ℕ, zero, suc, Bool, true, false, List, [], ◌∷◌, ◌++◌, All, Option, Some, None, length, slice_get, sum_by, take}
 use Rattle.std.specs.Io.KnownBytes.{Appends}
 use Rattle.std.specs.declared.alloc.Global.{Global}
 use Rattle.std.specs.declared.dyn_box.DynBox.{DynBox}
@@ -7,6 +7,7 @@ use Rattle.tp_model.specs.Steps.{rows_of}
 use Rattle.tp_server.specs.declared.recipe.Recipe.{Recipe}
 use Rattle.tp_server.specs.Pending.{Pending}
 use Rattle.tp_manager.specs.Shown.{ManagerShown, PassShown}
+use Rattle.tp_desk.specs.Turns.{EndsOpen}
 use Rattle.tp_report.specs.Answer.{answer_text, counts_text, errors_text, line, named_text, replies_text}
 use Rattle.tp_report.specs.Lines.{IsLine}
 use Rattle.tp_report.specs.Written.{AppendsFront}
@@ -14,7 +15,7 @@ use Rattle.tp_report.specs.declared.answer.Answer.{Answer}
 use Rattle.tp_report.specs.declared.answer.Answer.TheVariants as answer
 use Rattle.tp_report.specs.declared.answer.ServerAnswer.{ServerAnswer}
 use Rattle.tp_script.specs.Passes.{racers, racing}
-use Rattle.tp_script.specs.Script.{ScriptView, ServerView}
+use Rattle.tp_script.specs.Script.{ServerView}
 use Rattle.tp_script.specs.declared.script.Command.{Command}
 use Rattle.tp_script.specs.declared.script.Command.TheVariants as command
 use Rattle.tp_perform.specs.declared.place.Place.{Place}
@@ -157,3 +158,14 @@ module _ {X : Type 0} {F : X → Type 0} (recipe : DynBox X Global F → Recipe)
   abbrev pub IsFirstScene : List PassShown → List (DynBox X Global F) → Scene → Type 0
   IsFirstScene passes servers s = (passes ≡ s.client ∷ (workers (length servers) passes ++ s.racers))
       × (s.places ≡ new_places recipe registers pending (workers (length servers) passes) servers)
+
+-- a desk is ended: what it had in hand is given up, and its registers stay
+pub record EndsAt (old : PlaceShown) (pass : PassShown) (registers : List ℕ) : Type 0 where
+  pub gives_up : EndsOpen old.desk.pass.open_unit old.desk.pass pass
+  pub same : registers ≡ old.desk.registers
+
+-- so it is of each, for lists that are as long as each other
+abbrev pub AllEnded : List PlaceShown → List PassShown → List (List ℕ) → Type 0
+AllEnded [] [] [] = Unit {0}
+AllEnded (o ∷ os) (p ∷ ps) (r ∷ rs) = EndsAt o p r × AllEnded os ps rs
+AllEnded os ps rs = ⊥

@@ -6,9 +6,9 @@ ghost use Rattle.tp_workers.specs.Free.{IsFreePass, numbers};
 ghost use Rattle.tp_report.specs.Answer.{line, named_text};
 ghost use Rattle.tp_report.specs.Lines.{IsLine, Writes, WritesFront};
 ghost use Rattle.tp_report.specs.declared.answer.ServerAnswer.{ServerAnswer};
-ghost use Rattle.tp_perform.specs.Acting.{DoesIn, places_shown};
+ghost use Rattle.tp_perform.specs.Acting.{DoesIn, new_places, place_shown, places_shown};
 ghost use Rattle.tp_perform.specs.Performing.{TellsBalance};
-ghost use Rattle.tp_perform.specs.Told.{TellsCommand, ToldAll, ToldFront, counted_value, scene, value_at};
+ghost use Rattle.tp_perform.specs.Told.{AllEnded, EndsAt, IsFirstScene, Scene, TellsCommand, ToldAll, ToldFront, counted_value, scene, value_at};
 ghost use Rattle.tp_perform.specs.Places.{AllLeft, AllLie, IsLeft, Lies, all_firsts, first_of, firsts, workers};
 ghost use Rattle.tp_script.specs.Passes.{racers as racers_of, racing};
 ghost use Rattle.tp_script.specs.Ranges.{IsInRange};
@@ -37,6 +37,8 @@ fn places_for(passes: &[Pass], servers: &[Box<dyn Server + Send>]) -> ArrayVec<P
     requires few { length servers.now ≤ MOST_SERVERS }
     ensures lie { AllLie recipe registers pending passes.now servers.now result.items }
     ensures began { firsts result.items ≡ all_firsts passes.now servers.now }
+    ensures shown { places_shown recipe registers pending passes.now servers.now result.items
+        ≡ new_places recipe registers pending passes.now servers.now }
 {
     let mut places = ArrayVec::new();
     for i in 0..servers.len() {
@@ -60,6 +62,8 @@ fn end_all(
     ensures free { All (IsFreePass manager.now) passes.new }
     ensures clear { All (λ server. pending server ≡ None) servers.new }
     ensures left { AllLeft recipe registers (firsts places.old) passes.new servers.new }
+    ensures ended { AllEnded (places_shown recipe registers pending passes.old servers.old places.old)
+        passes.new (map (λ server. registers server) servers.new) }
 {
     let Some((pass, passes)) = passes.split_first_mut() else {
         return;
@@ -86,6 +90,8 @@ fn end_at(
     ensures free { IsFreePass manager.now pass.new }
     ensures clear { pending server.new ≡ None }
     ensures left { IsLeft recipe registers (first_of place.old) pass.new server.new }
+    ensures ended { EndsAt (place_shown recipe registers pending pass.old server.old place.old)
+        pass.new (registers server.new) }
 {
     let Some(aside) = place.aside.take() else {
         unreachable!();
@@ -436,6 +442,15 @@ pub fn perform<R: Threads + Sync, W: Sink>(
     ensures servers { All (λ server. pending server ≡ None) servers.new }
     ensures left { let many = length servers.old in AllLeft recipe registers
         (all_firsts (workers many passes.old) servers.old) (workers many passes.new) servers.new }
+    ensures told { OnOk result ((first : Scene) × (last : Scene)
+        × IsFirstScene recipe registers pending passes.old servers.old first
+        × ToldAll manager.now (map server_view script.now.servers.items) script.now.commands.items first last
+            (W.contents writer.old) (W.contents writer.new)
+        × AllEnded last.places (workers (length servers.old) passes.new) (map (λ server. registers server) servers.new)) }
+    ensures told_front { OnErr result ((first : Scene)
+        × IsFirstScene recipe registers pending passes.old servers.old first
+        × ToldFront manager.now (map server_view script.now.servers.items) script.now.commands.items first
+            (W.contents writer.old) (W.contents writer.new)) }
     ensures done { OnOk result (Writes (length script.now.commands.items)
         (W.contents writer.old) (W.contents writer.new)) }
     ensures front { OnErr result (WritesFront (length script.now.commands.items)

@@ -1,4 +1,4 @@
-use Rattle.std.proofs.Common.{arith, refl, ap, ◌∙◌, rules}
+use Rattle.std.proofs.Common.{arith, refl, ap, ◌∙◌}
 use Rattle.std.proofs.lemmas.Result.{IfOk-weaker}
 use Rattle.tp_report.specs.Answer.{answer_text, line}
 use Rattle.tp_report.specs.declared.answer.Answer.TheVariants as answer

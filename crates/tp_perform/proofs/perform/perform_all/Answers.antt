@@ -1,4 +1,4 @@
-use Rattle.std.proofs.Common.{◌≡◌, ◌+◌, [], arith, ap, subst, sym, ◌∙◌, rules, length, length-append, ◌++◌, All}
+use Rattle.std.proofs.Common.{◌≡◌, ◌+◌, [], arith, ap, subst, ◌∙◌, rules, length, length-append, ◌++◌, All}
 use Rattle.std.specs.Prelude.{string_bytes}
 use Rattle.std.proofs.lemmas.List.Elements.{All-append, All-drop, All-take}
 use Rattle.tp_model.proofs.Bridges.{append_nil}

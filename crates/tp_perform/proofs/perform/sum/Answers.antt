@@ -1,4 +1,4 @@
-use Rattle.std.proofs.Common.{◌≡◌, ◌+◌, arith, ap, sym, ◌∙◌, rules, get_or, sum_by, take, zip}
+use Rattle.std.proofs.Common.{◌+◌, arith, ap, sym, ◌∙◌, rules, get_or, sum_by, take, zip}
 use Rattle.std.proofs.lemmas.List.{take_all}
 use Rattle.tp_workers.proofs.Shifts.{zip_length}
 use Rattle.tp_perform.specs.Told.{value_at}
