@@ -8,3 +8,4 @@ pub mod Listings
 pub mod Shows
 pub mod Tellings
 pub mod Chains
+pub mod Parts

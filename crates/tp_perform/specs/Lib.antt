@@ -2,5 +2,6 @@ pub mod Acting
 pub mod Asked
 pub mod Performing
 pub mod Places
+pub mod Together
 pub mod Told
 pub mod Whole

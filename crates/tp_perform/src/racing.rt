@@ -1,13 +1,16 @@
 //! Commands that have all free servers work: `race`, on threads of their own with clients and cancellers, and `drain`.
 ghost use Rattle.std.specs.List.{swap};
-ghost use Rattle.std.specs.Prelude.{◌≡◌, ◌+◌, ◌-◌, ◌*◌, ◌≤◌, ◌<◌, ◌^◌, None, All, IfOk, length, sum_by, take};
+ghost use Rattle.std.specs.Prelude.{◌≡◌, ◌+◌, ◌-◌, ◌*◌, ◌≤◌, ◌<◌, ◌^◌, None, All, IfOk, length, replicate, sum_by, take, true};
 ghost use Rattle.tp_model.specs.Steps.{IsServerStage};
 ghost use Rattle.tp_manager.specs.Shown.{IsOf};
 ghost use Rattle.tp_workers.specs.Clients.{IsClientJob};
 ghost use Rattle.tp_workers.specs.Free.{IsFreePass, numbers};
 ghost use Rattle.tp_workers.specs.Killers.{IsKillJob};
 ghost use Rattle.tp_workers.specs.Sums.{calls_of, size_of_range};
-ghost use Rattle.tp_perform.specs.Places.{AllLie, IsFreeAt, firsts};
+ghost use Rattle.tp_workers.specs.Drained.{EndsIdle};
+ghost use Rattle.tp_perform.specs.Acting.{places_shown};
+ghost use Rattle.tp_perform.specs.Places.{AllLie, firsts};
+ghost use Rattle.tp_perform.specs.Together.{AllTakePart, ArePassed, Races, RacersRan, TookTurns, client_job, is_free_at, kill_job};
 ghost use Rattle.tp_script.specs.declared.script.TheConstants.{MOST_SERVERS};
 
 use crate::place::Place;
@@ -36,6 +39,7 @@ pub(crate) struct RacePlan {
 fn client_jobs(alloc: Global, many: usize, job: ClientJob) -> Result<Vec<ClientJob>, AllocError>
     requires { IsClientJob job }
     ensures jobs { IfOk result (λ jobs. All IsClientJob jobs.items) }
+    ensures all { IfOk result (λ jobs. jobs.items ≡ replicate many job) }
     ensures many { IfOk result (λ jobs. length jobs.items ≡ many) }
     ensures calls { IfOk result (λ jobs. sum_by calls_of jobs.items ≡ many * job.count) }
 {
@@ -50,6 +54,7 @@ fn client_jobs(alloc: Global, many: usize, job: ClientJob) -> Result<Vec<ClientJ
 fn kill_jobs(alloc: Global, many: usize, job: KillJob) -> Result<Vec<KillJob>, AllocError>
     requires { IsKillJob job }
     ensures jobs { IfOk result (λ jobs. All IsKillJob jobs.items) }
+    ensures all { IfOk result (λ jobs. jobs.items ≡ replicate many job) }
     ensures many { IfOk result (λ jobs. length jobs.items ≡ many) }
     ensures ids { IfOk result (λ jobs. sum_by size_of_range jobs.items ≡ many * (job.end - job.first)) }
 {
@@ -88,6 +93,9 @@ pub(crate) fn run_race<R: Threads + Sync>(
     ensures began { firsts places.new ≡ firsts places.old }
     ensures racers_numbered { numbers racers.new ≡ numbers racers.old }
     ensures as_many { (length places.new ≡ length places.old) × (length racers.new ≡ length racers.old) }
+    ensures raced { IfOk result (λ submitted. Races manager.now rows plan racers.old submitted racers.new
+        (places_shown recipe registers pending passes.old servers.old places.old)
+        (places_shown recipe registers pending passes.new servers.new places.new)) }
 {
     let (clients, cancellers) = racers.split_at_mut(usize::from(plan.clients));
     let first = match clients.first() {
@@ -138,8 +146,9 @@ fn race_free<R: Threads + Sync>(
     requires own { All (IsOf manager.now) passes.old }
     requires lie { AllLie recipe registers pending passes.old servers.old places.old }
     requires few { length places.old ≤ MOST_SERVERS }
-    requires free { All IsFreeAt (take front places.old) }
+    requires free { All (λ place. is_free_at place ≡ true) (take front places.old) }
     requires within { (front ≤ at) × (at ≤ length places.old) }
+    requires passed { ArePassed front at places.old }
     requires clients { All (IsFreePass manager.now) clients.old }
     requires clients_paired { length clients.old ≡ length jobs.old }
     requires jobs { All IsClientJob jobs.old }
@@ -151,6 +160,10 @@ fn race_free<R: Threads + Sync>(
     requires turns { turns < 2 ^ 16 }
     ensures own { All (IsOf manager.now) passes.new }
     ensures lie { AllLie recipe registers pending passes.new servers.new places.new }
+    ensures desks { AllTakePart (TookTurns manager.now.limits turns)
+        (places_shown recipe registers pending passes.old servers.old places.old)
+        (places_shown recipe registers pending passes.new servers.new places.new) }
+    ensures ran { RacersRan manager.now jobs.old kills.old clients.old cancellers.old result clients.new cancellers.new }
     ensures clients { All (IsFreePass manager.now) clients.new }
     ensures cancellers { All (IsFreePass manager.now) cancellers.new }
     ensures began { firsts places.new ≡ firsts places.old }
@@ -216,8 +229,9 @@ fn race_front<R: Threads + Sync>(
     requires own { All (IsOf manager.now) passes.old }
     requires lie { AllLie recipe registers pending passes.old servers.old places.now }
     requires few { length places.now ≤ MOST_SERVERS }
-    requires free { All IsFreeAt (take front places.now) }
+    requires free { All (λ place. is_free_at place ≡ true) (take front places.now) }
     requires within { front ≤ length places.now }
+    requires passed { ArePassed front (length places.now) places.now }
     requires clients { All (IsFreePass manager.now) clients.old }
     requires clients_paired { length clients.old ≡ length jobs.old }
     requires jobs { All IsClientJob jobs.old }
@@ -229,6 +243,10 @@ fn race_front<R: Threads + Sync>(
     requires turns { turns < 2 ^ 16 }
     ensures own { All (IsOf manager.now) passes.new }
     ensures lie { AllLie recipe registers pending passes.new servers.new places.now }
+    ensures desks { AllTakePart (TookTurns manager.now.limits turns)
+        (places_shown recipe registers pending passes.old servers.old places.now)
+        (places_shown recipe registers pending passes.new servers.new places.now) }
+    ensures ran { RacersRan manager.now jobs.old kills.old clients.old cancellers.old result clients.new cancellers.new }
     ensures clients { All (IsFreePass manager.now) clients.new }
     ensures cancellers { All (IsFreePass manager.now) cancellers.new }
     ensures clients_numbered { numbers clients.new ≡ numbers clients.old }
@@ -258,6 +276,8 @@ fn swap_places(
     ensures own { All (IsOf manager.now) passes.new }
     ensures lie { AllLie recipe registers pending passes.new servers.new places.new }
     ensures swapped { places.new ≡ swap places.old a b }
+    ensures shown { places_shown recipe registers pending passes.new servers.new places.new
+        ≡ swap (places_shown recipe registers pending passes.old servers.old places.old) a b }
     ensures as_many { length places.new ≡ length places.old }
 {
     passes.swap(a, b);
@@ -277,6 +297,9 @@ pub(crate) fn drain_all(
     requires few { length places.old ≤ MOST_SERVERS }
     ensures own { All (IsOf manager.now) passes.new }
     ensures lie { AllLie recipe registers pending passes.new servers.new places.new }
+    ensures desks { AllTakePart (EndsIdle manager.now.limits)
+        (places_shown recipe registers pending passes.old servers.old places.old)
+        (places_shown recipe registers pending passes.new servers.new places.new) }
     ensures began { firsts places.new ≡ firsts places.old }
     ensures as_many { length places.new ≡ length places.old }
 {
@@ -295,10 +318,14 @@ fn drain_free(
     requires own { All (IsOf manager.now) passes.old }
     requires lie { AllLie recipe registers pending passes.old servers.old places.old }
     requires few { length places.old ≤ MOST_SERVERS }
-    requires free { All IsFreeAt (take front places.old) }
+    requires free { All (λ place. is_free_at place ≡ true) (take front places.old) }
     requires within { (front ≤ at) × (at ≤ length places.old) }
+    requires passed { ArePassed front at places.old }
     ensures own { All (IsOf manager.now) passes.new }
     ensures lie { AllLie recipe registers pending passes.new servers.new places.new }
+    ensures desks { AllTakePart (EndsIdle manager.now.limits)
+        (places_shown recipe registers pending passes.old servers.old places.old)
+        (places_shown recipe registers pending passes.new servers.new places.new) }
     ensures began { firsts places.new ≡ firsts places.old }
     ensures as_many { length places.new ≡ length places.old }
 {
@@ -326,10 +353,14 @@ fn drain_front(
     requires own { All (IsOf manager.now) passes.old }
     requires lie { AllLie recipe registers pending passes.old servers.old places.now }
     requires few { length places.now ≤ MOST_SERVERS }
-    requires free { All IsFreeAt (take front places.now) }
+    requires free { All (λ place. is_free_at place ≡ true) (take front places.now) }
     requires within { front ≤ length places.now }
+    requires passed { ArePassed front (length places.now) places.now }
     ensures own { All (IsOf manager.now) passes.new }
     ensures lie { AllLie recipe registers pending passes.new servers.new places.now }
+    ensures desks { AllTakePart (EndsIdle manager.now.limits)
+        (places_shown recipe registers pending passes.old servers.old places.now)
+        (places_shown recipe registers pending passes.new servers.new places.now) }
 {
     let (desks, _others) = passes.split_at_mut(front);
     let (boxes, _rest) = servers.split_at_mut(front);
