@@ -9,7 +9,7 @@ use Rattle.tp_server.specs.Pending.{Pending}
 use Rattle.tp_desk.specs.declared.aside.Aside.{Aside}
 use Rattle.tp_manager.specs.Shown.{ManagerShown, PassShown}
 use Rattle.tp_script.specs.Passes.{racers as racers_of, racing}
-use Rattle.tp_script.specs.Script.{ServerView}
+use Rattle.tp_script.specs.Script.{ScriptView}
 use Rattle.tp_script.specs.declared.script.Command.{Command}
 use Rattle.tp_perform.specs.declared.place.Place.{Place}
 use Rattle.tp_perform.specs.Acting.{IsSteadyPlace, PlaceShown, new_places, place_shown, places_shown}
@@ -22,24 +22,24 @@ use Rattle.tp_perform.proofs.Shows.{sum_next}
 pub racing_more : (commands : List Command) (n : ℕ) (c : Command) → n < length commands → racing (take (n + 1) commands) ≡ racing (take n commands) + racers_of (get_or commands n c)
 racing_more commands n c within = sum_next racers_of commands n c within
 
-module _ (m : ManagerShown) (servers : List ServerView) (commands : List Command) (old : Scene) where
+module _ (m : ManagerShown) (s : ScriptView) (old : Scene) where
   -- one command more
-  pub told_more : (n : ℕ) (text last : List ℕ) (between new : Scene) (c : Command) → Told m servers commands old n text between → slice_get commands n ≡ Some c
-      → Performs m servers c (racing (take n commands)) between last new → Told m servers commands old (n + 1) (text ++ last) new
+  pub told_more : (n : ℕ) (text last : List ℕ) (between new : Scene) (c : Command) → Told m s old n text between → slice_get s.commands n ≡ Some c
+      → Performs m s c (racing (take n s.commands)) between last new → Told m s old (n + 1) (text ++ last) new
   told_more n text last between new c before there one =
-      let more : Told m servers commands old (suc n) (text ++ last) new = (text, between, c, last, before, there, one, refl) in
+      let more : Told m s old (suc n) (text ++ last) new = (text, between, c, last, before, there, one, refl) in
       let same : suc n ≡ n + 1 = omega arith in
-      subst (λ (k : ℕ). Told m servers commands old k (text ++ last) new) same more
+      subst (λ (k : ℕ). Told m s old k (text ++ last) new) same more
 
   -- a command with the passes of its race among all
-  module _ (n raced : ℕ) (d : Command) (within : n < length commands) (raced_is : raced ≡ racing (take n commands))
+  module _ (n raced : ℕ) (d : Command) (within : n < length s.commands) (raced_is : raced ≡ racing (take n s.commands))
       (client client' : PassShown) (places places' : List PlaceShown) (racers front rest here back after : List PassShown) (text last : List ℕ)
-      (parts : racers ≡ front ++ rest) (others : rest ≡ here ++ back) (behind : length front ≡ raced) (needed : length here ≡ racers_of (get_or commands n d))
-      (tells : TellsCommand m servers (get_or commands n d) (record { client = client; places = places; racers = here }) last (record { client = client'; places = places'; racers = after }))
+      (parts : racers ≡ front ++ rest) (others : rest ≡ here ++ back) (behind : length front ≡ raced) (needed : length here ≡ racers_of (get_or s.commands n d))
+      (tells : TellsCommand m s (get_or s.commands n d) (record { client = client; places = places; racers = here }) last (record { client = client'; places = places'; racers = after }))
       (steady : All IsSteadyPlace places')
-      (told : Told m servers commands old n text (record { client = client; places = places; racers = racers })) where
-    pub told_next : Told m servers commands old (n + 1) (text ++ last) (record { client = client'; places = places'; racers = front ++ (after ++ back) })
-    told_next = told_more n text last _ _ (get_or commands n d) told (slice_get-get_or commands n d within) (record {
+      (told : Told m s old n text (record { client = client; places = places; racers = racers })) where
+    pub told_next : Told m s old (n + 1) (text ++ last) (record { client = client'; places = places'; racers = front ++ (after ++ back) })
+    told_next = told_more n text last _ _ (get_or s.commands n d) told (slice_get-get_or s.commands n d within) (record {
       front = front;
       here = here;
       after = after;

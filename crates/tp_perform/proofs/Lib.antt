@@ -9,3 +9,4 @@ pub mod Shows
 pub mod Tellings
 pub mod Chains
 pub mod Parts
+pub mod Races

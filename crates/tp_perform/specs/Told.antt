@@ -8,14 +8,14 @@ use Rattle.tp_server.specs.declared.recipe.Recipe.{Recipe}
 use Rattle.tp_server.specs.Pending.{Pending}
 use Rattle.tp_manager.specs.Shown.{ManagerShown, PassShown}
 use Rattle.tp_desk.specs.Turns.{EndsOpen}
+use Rattle.tp_workers.specs.Drained.{EndsIdle}
 use Rattle.tp_report.specs.Answer.{answer_text, counts_text, errors_text, line, named_text, replies_text}
-use Rattle.tp_report.specs.Lines.{IsLine}
 use Rattle.tp_report.specs.Written.{AppendsFront}
 use Rattle.tp_report.specs.declared.answer.Answer.{Answer}
 use Rattle.tp_report.specs.declared.answer.Answer.TheVariants as answer
 use Rattle.tp_report.specs.declared.answer.ServerAnswer.{ServerAnswer}
 use Rattle.tp_script.specs.Passes.{racers, racing}
-use Rattle.tp_script.specs.Script.{ServerView}
+use Rattle.tp_script.specs.Script.{ScriptView, ServerView}
 use Rattle.tp_script.specs.declared.script.Command.{Command}
 use Rattle.tp_script.specs.declared.script.Command.TheVariants as command
 use Rattle.tp_perform.specs.declared.place.Place.{Place}
@@ -23,8 +23,10 @@ use Rattle.tp_perform.specs.declared.desks.Act.{Act}
 use Rattle.tp_perform.specs.declared.desks.Act.TheVariants as acts
 use Rattle.tp_perform.specs.Acting.{DoesIn, IsSteadyPlace, PlaceShown, new_places, places_shown}
 use Rattle.tp_perform.specs.Asked.{TellsCancel, TellsCount, TellsErrors, TellsKill, TellsRead, TellsReplies, TellsSubmit}
+use Rattle.tp_perform.specs.declared.racing.RacePlan.{RacePlan}
 use Rattle.tp_perform.specs.Performing.{TellsBalance}
 use Rattle.tp_perform.specs.Places.{workers}
+use Rattle.tp_perform.specs.Together.{AllTakePart, Races}
 
 -- what is there while a script is performed: the client's pass, the places of the desks, and the passes of races
 pub record Scene : Type 0 where
@@ -99,29 +101,44 @@ value_at registers k (server, place) = counted_value place.is_dropped (slice_get
 abbrev pub register_sum : ℕ → List PlaceShown → ℕ
 register_sum k places = sum_by (λ p. counted_value p.is_dropped (slice_get p.desk.registers k)) places
 
--- the line of a command
-abbrev pub TellsCommand : ManagerShown → List ServerView → Command → Scene → List ℕ → Scene → Type 0
-TellsCommand m servers (command.Submit stage key amount) = ClientLine (TellsSubmit stage key amount)
-TellsCommand m servers (command.Kill id) = ClientLine (TellsKill m.limits id)
-TellsCommand m servers (command.Cancel root) = ClientLine (TellsCancel m.limits root)
-TellsCommand m servers (command.Read id) = ClientLine (TellsRead m.limits id)
-TellsCommand m servers (command.Reply root) = FoundLine (TellsReplies m.limits root 0) (replies_text root)
-TellsCommand m servers command.Errors = FoundLine (TellsErrors m.limits 0) errors_text
-TellsCommand m servers command.Count = FoundLine (TellsCount m.limits (rows_of m.limits)) counts_text
-TellsCommand m servers (command.Turn at) = ServerLine m servers acts.Turn at
-TellsCommand m servers (command.Claim at) = ServerLine m servers acts.Claim at
-TellsCommand m servers (command.Prepare at) = ServerLine m servers acts.Prepare at
-TellsCommand m servers (command.Commit at) = ServerLine m servers acts.Commit at
-TellsCommand m servers (command.Abort at) = ServerLine m servers acts.Abort at
-TellsCommand m servers (command.Drop at) = ServerLine m servers acts.Drop at
-TellsCommand m servers (command.Balance at k) = BalanceLine servers at k
-TellsCommand m servers (command.Sum k) = λ old text new.
+-- the line tells how many submits of a race were accepted
+pub record RaceLine (m : ManagerShown) (rows : ℕ) (plan : RacePlan) (old : Scene) (text : List ℕ) (new : Scene) : Type 0 where
+  pub submitted : ℕ
+  pub races : Races m rows plan old.racers submitted new.racers old.places new.places
+  pub text_is : text ≡ line (answer_text (answer.Raced submitted))
+  pub client : new.client ≡ old.client
+
+-- the line tells that all free desks took turns until their last ones found nothing to claim
+pub record DrainLine (m : ManagerShown) (old : Scene) (text : List ℕ) (new : Scene) : Type 0 where
+  pub desks : AllTakePart (EndsIdle m.limits) old.places new.places
+  pub text_is : text ≡ line (answer_text answer.Drained)
+  pub others : OnlyPlaces old new
+
+-- the line of a script's command
+abbrev pub TellsCommand : ManagerShown → ScriptView → Command → Scene → List ℕ → Scene → Type 0
+TellsCommand m s (command.Submit stage key amount) = ClientLine (TellsSubmit stage key amount)
+TellsCommand m s (command.Kill id) = ClientLine (TellsKill m.limits id)
+TellsCommand m s (command.Cancel root) = ClientLine (TellsCancel m.limits root)
+TellsCommand m s (command.Read id) = ClientLine (TellsRead m.limits id)
+TellsCommand m s (command.Reply root) = FoundLine (TellsReplies m.limits root 0) (replies_text root)
+TellsCommand m s command.Errors = FoundLine (TellsErrors m.limits 0) errors_text
+TellsCommand m s command.Count = FoundLine (TellsCount m.limits (rows_of m.limits)) counts_text
+TellsCommand m s (command.Turn at) = ServerLine m s.servers acts.Turn at
+TellsCommand m s (command.Claim at) = ServerLine m s.servers acts.Claim at
+TellsCommand m s (command.Prepare at) = ServerLine m s.servers acts.Prepare at
+TellsCommand m s (command.Commit at) = ServerLine m s.servers acts.Commit at
+TellsCommand m s (command.Abort at) = ServerLine m s.servers acts.Abort at
+TellsCommand m s (command.Drop at) = ServerLine m s.servers acts.Drop at
+TellsCommand m s (command.Balance at k) = BalanceLine s.servers at k
+TellsCommand m s (command.Sum k) = λ old text new.
     (text ≡ line (answer_text (answer.Sum k (register_sum k old.places)))) × (new ≡ old)
-TellsCommand m servers other = λ old text new. IsLine text
+TellsCommand m s (command.Race clients submits stage key amount cancellers turns) = RaceLine m s.settings.rows
+    (record { clients = clients; submits = submits; stage = stage; key = key; amount = amount; turns = turns })
+TellsCommand m s command.Drain = DrainLine m
 
 -- A command leads from one scene to another, and this is its line. A race takes the passes behind those of the races
 -- before it; the other ones are as they were.
-pub record Performs (m : ManagerShown) (servers : List ServerView) (c : Command) (raced : ℕ)
+pub record Performs (m : ManagerShown) (s : ScriptView) (c : Command) (raced : ℕ)
     (old : Scene) (text : List ℕ) (new : Scene) : Type 0 where
   pub front : List PassShown
   pub here : List PassShown
@@ -131,26 +148,26 @@ pub record Performs (m : ManagerShown) (servers : List ServerView) (c : Command)
   pub kept : new.racers ≡ front ++ (after ++ back)
   pub behind : length front ≡ raced
   pub needed : length here ≡ racers c
-  pub tells : TellsCommand m servers c (record old { racers = here }) text (record new { racers = after })
+  pub tells : TellsCommand m s c (record old { racers = here }) text (record new { racers = after })
   -- at each place the registers are the fold of what the desk has committed since it began
   pub steady : All IsSteadyPlace new.places
 
--- the first n of these commands lead from one scene to another, and their lines are this text
-abbrev pub Told : ManagerShown → List ServerView → List Command → Scene → ℕ → List ℕ → Scene → Type 0
-Told m servers commands old zero text new = (text ≡ []) × (new ≡ old)
-Told m servers commands old (suc n) text new = (front : List ℕ) × (between : Scene) × (c : Command) × (last : List ℕ)
-    × Told m servers commands old n front between × (slice_get commands n ≡ Some c)
-    × Performs m servers c (racing (take n commands)) between last new × (text ≡ front ++ last)
+-- the first n commands of a script lead from one scene to another, and their lines are this text
+abbrev pub Told : ManagerShown → ScriptView → Scene → ℕ → List ℕ → Scene → Type 0
+Told m s old zero text new = (text ≡ []) × (new ≡ old)
+Told m s old (suc n) text new = (front : List ℕ) × (between : Scene) × (c : Command) × (last : List ℕ)
+    × Told m s old n front between × (slice_get s.commands n ≡ Some c)
+    × Performs m s c (racing (take n s.commands)) between last new × (text ≡ front ++ last)
 
 -- all of them were performed, and their lines written
-abbrev pub ToldAll : ManagerShown → List ServerView → List Command → Scene → Scene → Option (List ℕ) → Option (List ℕ) → Type 0
-ToldAll m servers commands old new before after = (text : List ℕ)
-    × Told m servers commands old (length commands) text new × Appends before after text
+abbrev pub ToldAll : ManagerShown → ScriptView → Scene → Scene → Option (List ℕ) → Option (List ℕ) → Type 0
+ToldAll m s old new before after = (text : List ℕ)
+    × Told m s old (length s.commands) text new × Appends before after text
 
 -- some of them were performed, and a front of their lines written
-abbrev pub ToldFront : ManagerShown → List ServerView → List Command → Scene → Option (List ℕ) → Option (List ℕ) → Type 0
-ToldFront m servers commands old before after = (n : ℕ) × (text : List ℕ) × (new : Scene) × (n ≤ length commands)
-    × Told m servers commands old n text new × AppendsFront before after text
+abbrev pub ToldFront : ManagerShown → ScriptView → Scene → Option (List ℕ) → Option (List ℕ) → Type 0
+ToldFront m s old before after = (n : ℕ) × (text : List ℕ) × (new : Scene) × (n ≤ length s.commands)
+    × Told m s old n text new × AppendsFront before after text
 
 module _ {X : Type 0} {F : X → Type 0} (recipe : DynBox X Global F → Recipe) (registers : DynBox X Global F → List ℕ)
     (pending : DynBox X Global F → Option Pending) where

@@ -248,7 +248,7 @@ fn command_line<R: Threads + Sync>(
     ensures racers { All (IsFreePass manager.now) racers.new }
     ensures racers_numbered { numbers racers.new ≡ numbers racers.old }
     ensures tells { IfOk result (λ text.
-        TellsCommand manager.now (map server_view script.now.servers.items) command
+        TellsCommand manager.now (script_view script.now) command
         (scene recipe registers pending client.old passes.old servers.old places.old racers.old) (string_bytes text)
         (scene recipe registers pending client.new passes.new servers.new places.new racers.new)) }
     ensures line { IfOk result (λ text. IsLine (string_bytes text)) }
@@ -392,12 +392,11 @@ fn perform_all<R: Threads + Sync, W: Sink>(
     ensures began { firsts places.new ≡ firsts places.old }
     ensures racers { All (IsFreePass manager.now) racers.new }
     ensures racers_numbered { numbers racers.new ≡ numbers racers.old }
-    ensures told { OnOk result (ToldAll manager.now (map server_view script.now.servers.items) script.now.commands.items
+    ensures told { OnOk result (ToldAll manager.now (script_view script.now)
         (scene recipe registers pending client.old passes.old servers.old places.old racers.old)
         (scene recipe registers pending client.new passes.new servers.new places.new racers.new)
         (W.contents writer.old) (W.contents writer.new)) }
-    ensures told_front { OnErr result (ToldFront manager.now (map server_view script.now.servers.items)
-        script.now.commands.items
+    ensures told_front { OnErr result (ToldFront manager.now (script_view script.now)
         (scene recipe registers pending client.old passes.old servers.old places.old racers.old)
         (W.contents writer.old) (W.contents writer.new)) }
     ensures done { OnOk result (Writes (length script.now.commands.items)
@@ -444,12 +443,12 @@ pub fn perform<R: Threads + Sync, W: Sink>(
         (all_firsts (workers many passes.old) servers.old) (workers many passes.new) servers.new }
     ensures told { OnOk result ((first : Scene) × (last : Scene)
         × IsFirstScene recipe registers pending passes.old servers.old first
-        × ToldAll manager.now (map server_view script.now.servers.items) script.now.commands.items first last
+        × ToldAll manager.now (script_view script.now) first last
             (W.contents writer.old) (W.contents writer.new)
         × AllEnded last.places (workers (length servers.old) passes.new) (map (λ server. registers server) servers.new)) }
     ensures told_front { OnErr result ((first : Scene)
         × IsFirstScene recipe registers pending passes.old servers.old first
-        × ToldFront manager.now (map server_view script.now.servers.items) script.now.commands.items first
+        × ToldFront manager.now (script_view script.now) first
             (W.contents writer.old) (W.contents writer.new)) }
     ensures done { OnOk result (Writes (length script.now.commands.items)
         (W.contents writer.old) (W.contents writer.new)) }

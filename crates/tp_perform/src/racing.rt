@@ -10,7 +10,7 @@ ghost use Rattle.tp_workers.specs.Sums.{calls_of, size_of_range};
 ghost use Rattle.tp_workers.specs.Drained.{EndsIdle};
 ghost use Rattle.tp_perform.specs.Acting.{places_shown};
 ghost use Rattle.tp_perform.specs.Places.{AllLie, firsts};
-ghost use Rattle.tp_perform.specs.Together.{AllTakePart, ArePassed, Races, RacersRan, TookTurns, client_job, is_free_at, kill_job};
+ghost use Rattle.tp_perform.specs.Together.{AllTakePart, ArePassed, Races, RacersRan, TookTurns, first_number, is_free_at};
 ghost use Rattle.tp_script.specs.declared.script.TheConstants.{MOST_SERVERS};
 
 use crate::place::Place;
@@ -65,6 +65,18 @@ fn kill_jobs(alloc: Global, many: usize, job: KillJob) -> Result<Vec<KillJob>, A
     Ok(jobs)
 }
 
+/// The first id of the rows of these passes.
+fn first_row(passes: &[Pass], rows: u16) -> u32
+    requires { rows ≤ 256 }
+    ensures first { result ≡ first_number passes.now * rows }
+    ensures few { result < 2 ^ 24 }
+{
+    match passes.split_first() {
+        Some((first, _others)) => u32::from(first.number()) * u32::from(rows),
+        None => 0,
+    }
+}
+
 /// Has each free server take at most so many turns, while clients submit and cancellers kill, each on a thread of its own;
 /// answers how many submits were accepted. The passes are the clients' and then the cancellers'. Each canceller kills each
 /// id of the clients' rows once.
@@ -98,10 +110,7 @@ pub(crate) fn run_race<R: Threads + Sync>(
         (places_shown recipe registers pending passes.new servers.new places.new)) }
 {
     let (clients, cancellers) = racers.split_at_mut(usize::from(plan.clients));
-    let first = match clients.first() {
-        Some(pass) => u32::from(pass.number()) * u32::from(rows),
-        None => 0,
-    };
+    let first = first_row(clients, rows);
     let end = first + u32::from(plan.clients) * u32::from(rows);
     let job = ClientJob {
         stage: plan.stage,

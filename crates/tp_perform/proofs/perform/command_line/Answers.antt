@@ -73,3 +73,11 @@ pub returns-in-Sum-clause-tells : goal.returns-in-Sum-clause-tells
 returns-in-Sum-clause-tells g c =
     let is = c.sum-sum.ensures ∙ shown_sum (λ b. (goal.Server-dyn g (b.vtable, b.value)).recipe b.value) (λ b. (goal.Server-dyn g (b.vtable, b.value)).registers b.value) (λ b. (goal.Server-dyn g (b.vtable, b.value)).pending b.value) c.in-Sum.k c.args.passes.now c.args.servers.now c.args.places.now c.requires.lie in
     rw c.in-Sum.is (IfOk-weaker c.line-in-Sum.result _ _ (λ s told. (told ∙ ap (λ n. line (answer_text (answer.Sum c.in-Sum.k n))) is, refl)) c.line-in-Sum.ensures.text)
+
+pub returns-in_ok-submitted-in-Race-clause-tells : goal.returns-in_ok-submitted-in-Race-clause-tells
+returns-in_ok-submitted-in-Race-clause-tells g c =
+    rw c.in-Race.is (IfOk-weaker c.line-in-Race.result _ _ (λ s told. record { submitted = c.in_ok-submitted-in-Race.submitted; races = c.in_ok-submitted-in-Race.ensures.raced; text_is = told; client = refl }) c.line-in-Race.ensures.text)
+
+pub returns-in-Drain-clause-tells : goal.returns-in-Drain-clause-tells
+returns-in-Drain-clause-tells g c =
+    rw c.in-Drain.is (IfOk-weaker c.line-in-Drain.result _ _ (λ s told. record { desks = c.drain_all.ensures.desks; text_is = told; others = record { client = refl; racers = refl } }) c.line-in-Drain.ensures.text)

@@ -5,6 +5,7 @@ use Rattle.tp_model.proofs.Bridges.{append_nil}
 use Rattle.tp_report.specs.Written.{AppendsFront}
 use Rattle.tp_report.proofs.Devices.{Appends-then, always_err, front_none, front_then}
 use Rattle.tp_report.proofs.LineProofs.{line_front, line_more}
+use Rattle.tp_script.specs.Script.{script_view}
 use Rattle.tp_script.specs.declared.script.Command.TheVariants.{Submit}
 use Rattle.tp_manager.specs.Shown.{PassShown}
 use Rattle.tp_workers.specs.Free.{IsFreePass}
@@ -66,7 +67,7 @@ loop-command-preserved g c =
       told =
           let needed = c.split_at_mut-here.ensures.front_len ∙ (c.from-needed.ensures ∙ rw c.deref-command-items.ensures.value at c.racers.ensures) in
           let t = c.loop-command.invariant.told in
-          (t.0 ++ string_bytes c.in_ok-line.line, told_next c.args.manager.now _ c.args.script.now.commands.items _ c.loop-command.command-index c.loop-command.raced (Submit 0 0 0) (omega (arith, ap length c.deref-command-items.ensures.value)) c.loop-command.invariant.raced
+          (t.0 ++ string_bytes c.in_ok-line.line, told_next c.args.manager.now (script_view c.args.script.now) _ c.loop-command.command-index c.loop-command.raced (Submit 0 0 0) (omega (arith, ap length c.deref-command-items.ensures.value)) c.loop-command.invariant.raced
           _ _ _ _ c.loop-command.racers c.split_at_mut-before.result.0.now c.split_at_mut-before.result.1.now c.split_at_mut-here.result.0.now c.split_at_mut-here.result.1.now c.command_line.new.racers t.0 (string_bytes c.in_ok-line.line)
           c.split_at_mut-before.ensures.value c.split_at_mut-here.ensures.value c.split_at_mut-before.ensures.front_len needed (rw c.deref-command-items.ensures.value at c.in_ok-line.ensures.tells)
           (all_steady (λ b. (goal.Server-dyn g (b.vtable, b.value)).recipe b.value) (λ b. (goal.Server-dyn g (b.vtable, b.value)).registers b.value) (λ b. (goal.Server-dyn g (b.vtable, b.value)).pending b.value) _ _ _ c.in_ok-line.ensures.lie) t.1,
@@ -106,7 +107,7 @@ pub returns-in_err-write_all-clause-told_front : goal.returns-in_err-write_all-c
 returns-in_err-write_all-clause-told_front g c =
     let needed = c.split_at_mut-here.ensures.front_len ∙ (c.from-needed.ensures ∙ rw c.deref-command-items.ensures.value at c.racers.ensures) in
     let t = c.loop-command.invariant.told in
-    always_err c.from_residual-in_err-write_all.result (c.loop-command.command-index + 1, t.0 ++ string_bytes c.in_ok-line.line, _, omega (arith, ap length c.deref-command-items.ensures.value), told_next c.args.manager.now _ c.args.script.now.commands.items _ c.loop-command.command-index c.loop-command.raced (Submit 0 0 0) (omega (arith, ap length c.deref-command-items.ensures.value)) c.loop-command.invariant.raced
+    always_err c.from_residual-in_err-write_all.result (c.loop-command.command-index + 1, t.0 ++ string_bytes c.in_ok-line.line, _, omega (arith, ap length c.deref-command-items.ensures.value), told_next c.args.manager.now (script_view c.args.script.now) _ c.loop-command.command-index c.loop-command.raced (Submit 0 0 0) (omega (arith, ap length c.deref-command-items.ensures.value)) c.loop-command.invariant.raced
           _ _ _ _ c.loop-command.racers c.split_at_mut-before.result.0.now c.split_at_mut-before.result.1.now c.split_at_mut-here.result.0.now c.split_at_mut-here.result.1.now c.command_line.new.racers t.0 (string_bytes c.in_ok-line.line)
           c.split_at_mut-before.ensures.value c.split_at_mut-here.ensures.value c.split_at_mut-before.ensures.front_len needed (rw c.deref-command-items.ensures.value at c.in_ok-line.ensures.tells)
           (all_steady (λ b. (goal.Server-dyn g (b.vtable, b.value)).recipe b.value) (λ b. (goal.Server-dyn g (b.vtable, b.value)).registers b.value) (λ b. (goal.Server-dyn g (b.vtable, b.value)).pending b.value) _ _ _ c.in_ok-line.ensures.lie) t.1,
