@@ -1,13 +1,12 @@
 -- Desks that take part in a race or a drain, brought to the front and put back.
-use Rattle.std.proofs.Common.{◌≡◌, ◌⊎◌, inl, inr, ℕ, zero, suc, ◌+◌, ◌<◌, ◌≤◌, Bool, true, false, ◌&&◌, not, is_some, List, [], ◌∷◌, ◌++◌, Option, Some, None, IfSome, All, refl, sym, ◌∙◌, ap, subst, arith, length, get_or, slice_set, zip, drop, take}
+use Rattle.std.proofs.Common.{◌≡◌, inl, inr, ℕ, zero, suc, ◌+◌, ◌<◌, ◌≤◌, Bool, true, false, ◌&&◌, not, is_some, List, [], ◌∷◌, ◌++◌, Option, Some, None, IfSome, All, refl, sym, ◌∙◌, ap, subst, arith, length, get_or, slice_set, zip, drop, take}
 use Rattle.std.specs.List.{AllZip, swap}
 use Rattle.std.specs.declared.alloc.Global.{Global}
 use Rattle.std.specs.declared.dyn_box.DynBox.{DynBox}
 use Rattle.std.proofs.lemmas.Bool.Decides.{eqb_tells}
 use Rattle.std.proofs.lemmas.List.{get_or-drop, get_or_default, length-drop, take-append-drop}
 use Rattle.std.proofs.lemmas.List.Edits.{length-swap, swapped_from_swap}
-use Rattle.std.proofs.lemmas.List.Elements.{All-head, All-tail, AllZip-get_or, length_all_zip}
-use Rattle.tp_model.specs.declared.types.Work.{Work}
+use Rattle.std.proofs.lemmas.List.Elements.{All-head, All-tail, AllZip-get_or}
 use Rattle.tp_server.specs.declared.recipe.Recipe.{Recipe}
 use Rattle.tp_server.specs.Pending.{Pending}
 use Rattle.tp_manager.specs.Shown.{PassShown}
@@ -16,7 +15,7 @@ use Rattle.tp_workers.specs.declared.tally.Shift.{Shift}
 use Rattle.tp_workers.specs.Desks as workers
 use Rattle.tp_workers.specs.Ran.{RanAll}
 use Rattle.tp_perform.specs.declared.place.Place.{Place}
-use Rattle.tp_perform.specs.Acting.{PlaceShown, place_of, place_shown, places_shown, work_in}
+use Rattle.tp_perform.specs.Acting.{PlaceShown, place_shown, places_shown, work_in}
 use Rattle.tp_perform.specs.Places.{AllLie, IsFreeAt, Lies}
 use Rattle.tp_perform.specs.Together.{AllTakePart, ArePassed, TakesPart, has_none, is_free, is_free_at}
 use Rattle.tp_perform.proofs.Lefts.{swap_back}

@@ -1,5 +1,6 @@
 pub mod Acting
 pub mod Asked
+pub mod Ending
 pub mod Performing
 pub mod Places
 pub mod Together

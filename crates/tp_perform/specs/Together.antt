@@ -10,7 +10,6 @@ use Rattle.tp_workers.specs.declared.tally.Shift.{Shift}
 use Rattle.tp_workers.specs.Clients.{ClientRan}
 use Rattle.tp_workers.specs.Desks.{TakesTurns}
 use Rattle.tp_workers.specs.Desks as workers
-use Rattle.tp_workers.specs.Drained.{EndsIdle}
 use Rattle.tp_workers.specs.Killers.{KillerRan}
 use Rattle.tp_workers.specs.Ran.{RanEach}
 use Rattle.tp_perform.specs.declared.place.Place.{Place}

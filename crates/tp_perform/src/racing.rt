@@ -10,7 +10,7 @@ ghost use Rattle.tp_workers.specs.Sums.{calls_of, size_of_range};
 ghost use Rattle.tp_workers.specs.Drained.{EndsIdle};
 ghost use Rattle.tp_perform.specs.Acting.{places_shown};
 ghost use Rattle.tp_perform.specs.Places.{AllLie, firsts};
-ghost use Rattle.tp_perform.specs.Together.{AllTakePart, ArePassed, Races, RacersRan, TookTurns, first_number, is_free_at};
+ghost use Rattle.tp_perform.specs.Together.{AllTakePart, ArePassed, Races, RacersRan, TookTurns, is_free_at};
 ghost use Rattle.tp_script.specs.declared.script.TheConstants.{MOST_SERVERS};
 
 use crate::place::Place;
@@ -33,6 +33,36 @@ pub(crate) struct RacePlan {
     pub amount: u64,
     /// The most turns of each server.
     pub turns: u16,
+}
+
+impl RacePlan {
+    ghost use Rattle.tp_perform.specs.Together.{client_job, first_number, kill_job};
+
+    /// What each client is to do.
+    fn client_job(self) -> ClientJob
+        ensures { result ≡ client_job self }
+    {
+        ClientJob {
+            stage: self.stage,
+            key: self.key,
+            amount: self.amount,
+            count: u32::from(self.submits),
+        }
+    }
+
+    /// What each canceller is to do: to kill the elements of all rows of these clients.
+    fn kill_job(self, clients: &[Pass], rows: u16) -> KillJob
+        requires { rows ≤ 256 }
+        ensures job { result ≡ kill_job rows self clients.now }
+        ensures few { result.first + self.clients * rows < 2 ^ 25 }
+    {
+        let first = match clients.split_first() {
+            Some((pass, _others)) => u32::from(pass.number()) * u32::from(rows),
+            None => 0,
+        };
+        let end = first + u32::from(self.clients) * u32::from(rows);
+        KillJob { first, end }
+    }
 }
 
 /// A list of so many jobs, all alike.
@@ -63,18 +93,6 @@ fn kill_jobs(alloc: Global, many: usize, job: KillJob) -> Result<Vec<KillJob>, A
         jobs.push(job)?;
     }
     Ok(jobs)
-}
-
-/// The first id of the rows of these passes.
-fn first_row(passes: &[Pass], rows: u16) -> u32
-    requires { rows ≤ 256 }
-    ensures first { result ≡ first_number passes.now * rows }
-    ensures few { result < 2 ^ 24 }
-{
-    match passes.split_first() {
-        Some((first, _others)) => u32::from(first.number()) * u32::from(rows),
-        None => 0,
-    }
 }
 
 /// Has each free server take at most so many turns, while clients submit and cancellers kill, each on a thread of its own;
@@ -110,16 +128,10 @@ pub(crate) fn run_race<R: Threads + Sync>(
         (places_shown recipe registers pending passes.new servers.new places.new)) }
 {
     let (clients, cancellers) = racers.split_at_mut(usize::from(plan.clients));
-    let first = first_row(clients, rows);
-    let end = first + u32::from(plan.clients) * u32::from(rows);
-    let job = ClientJob {
-        stage: plan.stage,
-        key: plan.key,
-        amount: plan.amount,
-        count: u32::from(plan.submits),
-    };
+    let job = plan.client_job();
     let mut jobs = client_jobs(alloc, clients.len(), job)?;
-    let mut kills = kill_jobs(alloc, cancellers.len(), KillJob { first, end })?;
+    let kill = plan.kill_job(clients, rows);
+    let mut kills = kill_jobs(alloc, cancellers.len(), kill)?;
     Ok(race_free(
         rt,
         manager,

@@ -1,4 +1,4 @@
-use Rattle.std.proofs.Common.{◌≡◌, ◌+◌, ℕ, List, All, drop, length, map, take}
+use Rattle.std.proofs.Common.{◌≡◌, ◌+◌, ℕ, List, All, drop, length, take}
 use Rattle.std.specs.Io.KnownBytes.{Appends}
 use Rattle.tp_manager.specs.Shown.{IsOf}
 use Rattle.tp_desk.specs.Steady.{shown}

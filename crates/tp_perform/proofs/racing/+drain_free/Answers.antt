@@ -1,7 +1,7 @@
 use Rattle.std.proofs.Common.{◌≡◌, ◌<◌, length, sym, true, rules, arith}
 use Rattle.tp_workers.specs.Drained.{EndsIdle}
 use Rattle.tp_perform.specs.Places.{first_of}
-use Rattle.tp_perform.specs.Together.{TakesPart, TookTurns, is_free, is_free_at}
+use Rattle.tp_perform.specs.Together.{TakesPart, is_free, is_free_at}
 use Rattle.tp_perform.proofs.Parts.{parts_back, passed_swapped, shown_length}
 use Rattle.tp_perform.proofs.Lefts.{kept_between}
 use Rattle.tp_perform.proofs.Lies.{free_more}

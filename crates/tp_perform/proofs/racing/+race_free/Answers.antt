@@ -1,5 +1,4 @@
 use Rattle.std.proofs.Common.{◌≡◌, ◌<◌, length, sym, true, arith}
-use Rattle.tp_workers.specs.Drained.{EndsIdle}
 use Rattle.tp_perform.specs.Places.{first_of}
 use Rattle.tp_perform.specs.Together.{TakesPart, TookTurns, is_free, is_free_at}
 use Rattle.tp_perform.proofs.Parts.{parts_back, passed_swapped, shown_length}

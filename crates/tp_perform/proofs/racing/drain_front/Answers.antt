@@ -1,4 +1,4 @@
-use Rattle.std.proofs.Common.{arith, take, drop, length, ◌++◌, refl, subst}
+use Rattle.std.proofs.Common.{arith, take, drop, length, ◌++◌, subst}
 use Rattle.std.proofs.lemmas.List.{take-append-drop}
 use Rattle.std.proofs.lemmas.List.Elements.{All-append, All-drop, All-take, All-weaker}
 use Rattle.tp_manager.specs.Shown.{IsOf}
