@@ -10,3 +10,4 @@ pub mod Tellings
 pub mod Chains
 pub mod Parts
 pub mod Races
+pub mod Beginnings
