@@ -6,8 +6,6 @@ mod aside;
 mod boxed;
 mod closing;
 mod desk;
-#[cfg(test)]
-mod tests;
 mod turned;
 mod turning;
 mod working;

@@ -27,7 +27,7 @@ fn main(rt: HostRuntime) -> ExitCode {
     }
 }
 
-/// Three orders, of which the second asks for more than there is.
+/// A day of the shop, with a client's pass and one for the shop's server.
 fn trade(rt: &HostRuntime) -> Result<(), Trouble> {
     let limits = Limits {
         parts: 2,
@@ -38,15 +38,28 @@ fn trade(rt: &HostRuntime) -> Result<(), Trouble> {
     let (manager, mut keeper) = Keeper::new(rt.alloc(), limits)?;
     let mut client = keeper.pass(&manager)?;
     let mut shop = keeper.pass(&manager)?;
+    orders(rt, &manager, &mut client, &mut shop)
+}
 
-    let first = manager.submit(&mut client, 1, 0, 5)?;
-    let second = manager.submit(&mut client, 1, 0, 9)?;
-    let third = manager.submit(&mut client, 1, 0, 4)?;
-    open_shop(rt, &manager, &mut shop, 12)?;
-    tell(rt, &manager, &mut client, first)?;
-    tell(rt, &manager, &mut client, second)?;
-    tell(rt, &manager, &mut client, third)?;
-    if let Some(id) = manager.next_error(&mut client, 0) {
+/// Three orders, of which the second asks for more than there is.
+fn orders(
+    rt: &HostRuntime,
+    manager: &Manager,
+    client: &mut Pass,
+    shop: &mut Pass,
+) -> Result<(), Trouble>
+    requires client { IsOf manager.now client.old }
+    requires shop { IsOf manager.now shop.old }
+    requires free { (client.old.open_unit ≡ None) × (shop.old.open_unit ≡ None) }
+{
+    let first = manager.submit(client, 1, 0, 5)?;
+    let second = manager.submit(client, 1, 0, 9)?;
+    let third = manager.submit(client, 1, 0, 4)?;
+    open_shop(rt, manager, shop, 12)?;
+    tell(rt, manager, client, first)?;
+    tell(rt, manager, client, second)?;
+    tell(rt, manager, client, third)?;
+    if let Some(id) = manager.next_error(client, 0) {
         println!(rt; "order {id} is parked")?;
     }
     Ok(())

@@ -37,7 +37,7 @@ use Rattle.tp_manager.specs.Rounds.{Swept, is_member, in_family, is_over, is_don
 use Rattle.tp_manager.specs.Kills.{FailsIn, Freed, IsPastKill, KillsIn, Slain}
 use Rattle.tp_manager.specs.Looks.{IsThere}
 use Rattle.tp_manager.specs.Walks.{Rests, Steady, Looked}
-use Rattle.tp_manager.proofs.Counts.{bit_le, bit_most, count_le, count_all, and_left, and_right, and_both, or_second, or_not, or_right, or_left}
+use Rattle.tp_manager.proofs.Counts.{count_rises, count_still, bit_le, bit_most, count_le, count_all, and_left, and_right, and_both, or_second, or_not, or_right, or_left}
 use Rattle.tp_manager.proofs.Kills.{rests_kill}
 use Rattle.tp_manager.proofs.Walks.{looked_begins, looked_none, walked_begins, walked_few, walked_then}
 
@@ -346,6 +346,23 @@ module _ (l : Limits) (root : ℕ) where
         least = subst (λ z. count_below (in_family root v.seen) z ≤ f + g) next (let q : count_below (in_family root v.seen) i + cond (in_family root v.seen i) 1 0 ≤ f + g = omega arith in q);
         most = subst (λ z. f + g ≤ count_below (is_done l root y.seen) z) next (let q : f + g ≤ count_below (is_done l root y.seen) i + cond (is_done l root y.seen i) 1 0 = omega arith in q);
       }
+
+  -- rows in which nothing is born add nothing
+  pub tallied_on : (n i m f k : ℕ) (v w y : View) → i < m → ((j : ℕ) → i < j → j < m → IsUnborn w.seen j) → IsPrefix v.seen w.seen → Tallied l n root (i + 1) f k v y → Tallied l n root m f k v y
+  tallied_on n i m f k v w y less none begins a =
+      let a_few = a.few in let a_least = a.least in let a_most = a.most in
+      let same = count_still (in_family root v.seen) (i + 1) m (omega arith) (λ j low high. unfamiliar j (none j (omega arith) high)) in
+      let more = count_rises (is_done l root y.seen) (i + 1) m (omega arith) in record {
+        events = a.events;
+        swept = a.swept;
+        counted = a.counted;
+        few = omega arith;
+        least = omega arith;
+        most = omega arith;
+      }
+    where
+      unfamiliar : (j : ℕ) → IsUnborn w.seen j → in_family root v.seen j ≡ true → ⊥
+      unfamiliar j un is = let q = member_later root j v.seen w.seen begins is in let e = unborn_no_member w.seen j un in absurd cc
 
   -- rounds
 

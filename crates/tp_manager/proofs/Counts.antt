@@ -1,6 +1,8 @@
 -- How many numbers pass a test, and when two tests are passed by the same.
 use Rattle.std.proofs.Common.{◌≡◌, ◌≢◌, ℕ, zero, suc, ◌+◌, ◌<◌, ◌≤◌, ◌&&◌, ◌||◌, cond, Bool, true, false, sym, refl, subst, inl, inr, arith}
 use Rattle.std.proofs.lemmas.Bool.Decides.{eqb_tells}
+use mathlib.Core.Logic.{dite}
+use native.Mathlib.Decide.{dec_le}
 use Rattle.tp_manager.specs.Rounds.{count_below}
 
 pub bit_le : (b c : Bool) → (b ≡ true → c ≡ true) → cond b 1 0 ≤ cond c 1 0
@@ -18,6 +20,10 @@ pub bit_most : (b : Bool) → cond b 1 0 ≤ 1
 bit_most true = omega arith
 bit_most false = omega arith
 
+bit_none : (b : Bool) → (b ≡ true → ⊥) → cond b 1 0 ≤ 0
+bit_none true not = absurd (not refl)
+bit_none false not = omega arith
+
 pub count_le : (f g : ℕ → Bool) (n : ℕ) → ((i : ℕ) → i < n → f i ≡ true → g i ≡ true) → count_below f n ≤ count_below g n
 count_le f g zero sub = omega arith
 count_le f g (suc n) sub =
@@ -28,6 +34,18 @@ count_le f g (suc n) sub =
 pub count_most : (f : ℕ → Bool) (n : ℕ) → count_below f n ≤ n
 count_most f zero = omega arith
 count_most f (suc n) = let rest = count_most f n in let one = bit_most (f n) in omega arith
+
+pub count_rises : (f : ℕ → Bool) (n m : ℕ) → n ≤ m → count_below f n ≤ count_below f m
+count_rises f n zero le = let same : n ≡ zero = omega arith in subst (λ z. count_below f z ≤ 0) (sym same) (omega arith)
+count_rises f n (suc m) le = dite (dec_le n m) (λ less. let rest = count_rises f n m less in omega arith)
+    (λ not. let same : n ≡ suc m = omega arith in subst (λ z. count_below f z ≤ count_below f (suc m)) (sym same) (omega arith))
+
+-- numbers that don't pass aren't counted
+pub count_still : (f : ℕ → Bool) (n m : ℕ) → n ≤ m → ((i : ℕ) → n ≤ i → i < m → f i ≡ true → ⊥) → count_below f m ≤ count_below f n
+count_still f n zero le none = omega arith
+count_still f n (suc m) le none = dite (dec_le n m)
+    (λ less. let rest = count_still f n m less (λ i low high. none i low (omega arith)) in let one = bit_none (f m) (none m less (omega arith)) in omega arith)
+    (λ not. let same : n ≡ suc m = omega arith in subst (λ z. count_below f (suc m) ≤ count_below f z) (sym same) (omega arith))
 
 -- where one test is passed wherever another is, and as often, they are passed at the same numbers
 pub count_all : (f g : ℕ → Bool) (n : ℕ) → ((i : ℕ) → i < n → f i ≡ true → g i ≡ true) → count_below g n ≤ count_below f n → (i : ℕ) → i < n → g i ≡ true → f i ≡ true

@@ -117,6 +117,10 @@ hits_at l wanted i h birth s t status is = let e = t.0 in
     rooted : (e : Element) → head_of e ≡ There birth.stage birth.root birth.by → birth.root ≡ e.root
     rooted e q = cc
 
+-- nothing was passed over in a row in which nothing is born
+pub none_over : (l : Limits) (wanted : Wanted) (j : ℕ) (h : List Event) → IsUnborn h j → PassedOver l wanted j h h
+none_over l wanted j h un = over_unborn l wanted j h h (begins_refl h) un
+
 -- a row that was passed over is so from an earlier history on, and to a later one
 pub over_widens : (l : Limits) (wanted : Wanted) → Widens (PassedOver l wanted)
 over_widens l wanted i a a' b b' before after passed x p = let t = passed x (found_later a a' before i x p) in (t.0, begins_trans a a' t.0 before t.1, begins_trans t.0 b b' t.2 after, t.3)

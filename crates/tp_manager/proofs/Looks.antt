@@ -37,6 +37,10 @@ same_by x s r u b head is e q = cc
 pub head_now : (kind : StepKind) (f : Hand → Hand) (es : List Event) (v w : View) (i s r : ℕ) (b : Option ℕ) (head : Head) → HeadFound v i head → Grew kind f es v w → head ≡ There s r b → (x : Element) → element_of w.seen i ≡ Some x → head ≡ head_of x
 head_now kind f es v w i s r b head t g is x p = g.heads i head x t.knows (λ empty. let e : There s r b ≡ Empty = sym is ∙ empty in absurd cc) p
 
+-- what isn't born wasn't before
+pub unborn_before : (a b : List Event) (i : ℕ) → IsPrefix a b → IsUnborn b i → IsUnborn a i
+unborn_before a b i begins un = unborn_if a i (λ x p. let e : None ≡ Some x = sym un ∙ found_later a b begins i x p in absurd cc)
+
 module _ (l : Limits) where
   -- the row of an empty head has no element
   pub none_empty : (v : View) (i : ℕ) (head : Head) → HeadFound v i head → head ≡ Empty → IsUnborn v.seen i

@@ -1,6 +1,8 @@
 -- Counting the elements row by row.
-use Rattle.std.proofs.Common.{◌≡◌, ℕ, ◌+◌, List, [], ◌∷◌, ◌++◌, length, sym, refl, ap, ◌∙◌, subst, arith, Some, length-append}
+use Rattle.std.proofs.Common.{◌≡◌, ℕ, zero, suc, ◌+◌, ◌<◌, ◌≤◌, List, [], ◌∷◌, ◌++◌, length, sym, refl, ap, ◌∙◌, subst, arith, Some, length-append}
 use mathlib.Core.List.{IsPrefix}
+use mathlib.Core.Logic.{dite}
+use native.Mathlib.Decide.{dec_le}
 use Rattle.tp_model.specs.declared.types.Account.{Account}
 use Rattle.tp_model.specs.declared.types.Limits.{Limits}
 use Rattle.tp_model.specs.declared.types.Element.{Element}
@@ -31,6 +33,12 @@ stage_there l h i b legal t = subst IsStage (same_stage t.0 b t.2) (stage_of l h
 -- a row without an element adds nothing
 pub none_counted : (l : Limits) (h : List Event) (n : ℕ) → IsUnborn h n → account_below l h n ≡ account_below l h (n + 1)
 none_counted l h n none = ap (account_among l.attempts h) (sym (row_empty h n none))
+
+pub none_more : (l : Limits) (h : List Event) (n m : ℕ) → n ≤ m → ((i : ℕ) → n ≤ i → i < m → IsUnborn h i) → account_below l h n ≡ account_below l h m
+none_more l h n zero le none = let same : n ≡ zero = omega arith in ap (account_below l h) same
+none_more l h n (suc m) le none = dite (dec_le n m)
+    (λ less. none_more l h n m less (λ i low high. none i low (omega arith)) ∙ (none_counted l h m (none m less (omega arith)) ∙ ap (account_below l h) (let e : m + 1 ≡ suc m = omega arith in e)))
+    (λ not. let same : n ≡ suc m = omega arith in ap (account_below l h) same)
 
 -- and one with an element adds that
 pub one_counted : (l : Limits) (h : List Event) (n : ℕ) (b : Birth) (s : Status) (a : Account) → IsLegal l h → IsThere h n b → s ≡ status_of l.attempts h n → a ≡ account_below l h n → with_one b.stage s a ≡ account_below l h (n + 1)

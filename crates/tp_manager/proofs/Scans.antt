@@ -1,5 +1,5 @@
 -- A row that was passed by, and a row whose element was taken.
-use Rattle.std.proofs.Common.{◌≡◌, ◌≢◌, ◌⊎◌, ℕ, suc, ◌+◌, ◌-◌, ◌*◌, ◌<◌, ◌≤◌, Some, List, [], ◌∷◌, ◌++◌, sym, refl, ap, ◌∙◌, subst, inl, inr, ⊎_elim, arith, suc-mul, mul-le-mul_right}
+use Rattle.std.proofs.Common.{◌≡◌, ◌≢◌, ◌⊎◌, ℕ, ◌+◌, ◌-◌, ◌*◌, ◌<◌, ◌≤◌, Some, List, [], ◌∷◌, ◌++◌, sym, refl, ap, ◌∙◌, subst, inl, inr, ⊎_elim, arith, mul-le-mul_right}
 use Rattle.std.proofs.lemmas.Bool.Decides.{eqb_tells}
 use mathlib.Core.List.{IsPrefix}
 use Rattle.tp_model.specs.declared.types.Element.{Element}
@@ -81,6 +81,10 @@ module _ (l : Limits) (stage i : ℕ) where
   pub few_attempts : AreLimits l → (h : List Event) (n : ℕ) → IsLegal l h → status_of l.attempts h i ≡ Waiting n → n < 7
   few_attempts fair h n legal waits = let less = waits_below l.attempts h (claim_word h i) n fair.attempts.0 (sym (status_by_words l h i legal) ∙ waits) in let most = fair.attempts.1 in omega arith
 
+-- nothing was passed by in a row in which nothing is born
+pub none_passed : (l : Limits) (stage j : ℕ) (h : List Event) → IsUnborn h j → PassedBy l stage j h h
+none_passed l stage j h un = pass_unborn l stage j h h h (begins_refl h) un
+
 -- a row that was passed by is so from an earlier history on, and to a later one
 pub passed_widens : (l : Limits) (stage : ℕ) → Widens (PassedBy l stage)
 passed_widens l stage i a a' b b' before after passed x p st = let t = passed x (found_later a a' before i x p) st in (t.0, begins_trans a a' t.0 before t.1, begins_trans t.0 b b' t.2 after, t.3)
@@ -121,12 +125,6 @@ module _ (l : Limits) (stage : ℕ) where
 
     pub took_few : (n m : ℕ) (v w : View) → n ≤ m → Took l n stage u v w e attempt → Took l m stage u v w e attempt
     took_few n m v w le t = record { marks = t.marks; walk = walked_few l n m t.marks v w le t.walk; kept = t.kept; before = t.before; begins = t.begins; ends = t.ends; born = t.born; of_stage = t.of_stage }
-
-pub rows_more : (row rows s : ℕ) → row < rows → row * s + s ≤ rows * s
-rows_more row rows s less = let all : suc row * s ≤ rows * s = mul-le-mul_right s less in omega (arith, suc-mul row s)
-
-pub next_most : (row rows s : ℕ) → row < rows → (row + 1) * s ≤ rows * s
-next_most row rows s less = let one : row + 1 ≡ suc row = omega arith in subst (λ n. n * s ≤ rows * s) (sym one) (mul-le-mul_right s less)
 
 pub rows_some : (l : Limits) → AreLimits l → 0 < rows_of l
 rows_some l fair = let a : 1 ≤ l.parts = fair.parts.0 in let b : 1 ≤ l.rows = fair.rows.0 in let m : 1 * l.rows ≤ l.parts * l.rows = mul-le-mul_right l.rows a in omega arith

@@ -1,5 +1,5 @@
 -- What the words of a row tell.
-use Rattle.std.specs.Prelude.{◌≡◌, ℕ, ◌+◌, ◌<◌, List, Some}
+use Rattle.std.specs.Prelude.{◌≡◌, ℕ, ◌+◌, ◌<◌, ◌≤◌, List, Some}
 use Rattle.tp_model.specs.declared.types.Element.{Element}
 use Rattle.tp_model.specs.declared.types.Limits.{Limits}
 use Rattle.tp_model.specs.declared.event.Event.{Event}
@@ -20,6 +20,12 @@ pub record HeadFound (v : View) (i : ℕ) (head : Head) : Type 0 where
   pub born : (e : Element) → element_of v.seen i ≡ Some e → head ≡ head_of e
   pub draft : IsUnborn v.seen i → IsDraft head
   pub knows : Knows v (RowHead i head)
+
+-- a scan may go on from row i to row `next`: no element is born between them
+pub record GoesOn (rows : ℕ) (h : List Event) (i next : ℕ) : Type 0 where
+  pub on : i < next
+  pub inside : next ≤ rows
+  pub none : (j : ℕ) → i < j → j < next → IsUnborn h j
 
 -- an element with this head is born in row i
 abbrev pub IsThere : List Event → ℕ → Birth → Type 0

@@ -105,25 +105,27 @@ impl Shared {
         *others = self.words.part(&mut pass.seat);
     }
 
-    /// Counts the element of one more row, if one is born.
-    fn count_row(&self, seat: &mut Seat, row: u32, account: &mut Account)
+    /// Counts the element of one more row, if one is born; `row` goes on.
+    fn count_row(&self, seat: &mut Seat, row: &mut u32, account: &mut Account)
         requires own { IsSeatOf self.now.words seat.old }
         requires steady { Steady (limits_of self.now.words) (view_of seat.old) }
-        requires row { row < rows_of (limits_of self.now.words) }
-        requires few { IsWithin row account.old }
+        requires row { row.old < rows_of (limits_of self.now.words) }
+        requires few { IsWithin row.old account.old }
         ensures same { IsSameSeat seat.old seat.new }
+        ensures on { (row.old < row.new) × (row.new ≤ rows_of (limits_of self.now.words)) }
         ensures looked { let l = limits_of self.now.words in
             Looked l (look_steps l) (view_of seat.old) (view_of seat.new) }
-        ensures few { IsWithin (row + 1) account.new }
+        ensures few { IsWithin row.new account.new }
         ensures counted { let l = limits_of self.now.words in
-            account.old ≡ account_below l (seen_by seat.old) row
-            → HasCounted l (row + 1) (view_of seat.old) (view_of seat.new) account.new }
+            account.old ≡ account_below l (seen_by seat.old) row.old
+            → HasCounted l row.new (view_of seat.old) (view_of seat.new) account.new }
     {
-        let head = self.head_at(seat, row);
-        let Some(birth) = self.birth_from(seat, row, head) else {
+        let here = *row;
+        let head = self.head_on(seat, row);
+        let Some(birth) = self.birth_from(seat, here, head) else {
             return;
         };
-        let (_, status) = self.status_at(seat, row);
+        let (_, status) = self.status_at(seat, here);
         count_one(account, birth.stage, status);
     }
 
@@ -140,8 +142,9 @@ impl Shared {
     {
         let rows = self.places.rows();
         let mut account = no_account();
-        for row in 0..rows {
-            self.count_row(seat, row, &mut account);
+        let mut row = 0;
+        while row < rows {
+            self.count_row(seat, &mut row, &mut account);
         }
         account
     }

@@ -2,8 +2,9 @@
 //!
 //! A round goes through all rows once, kills what it finds of the request's family, and counts what it found. Where two
 //! rounds in a row find the same number, the family was settled between them, and stays so: see docs/CANCEL.md.
-ghost use Rattle.std.specs.Prelude.{◌≡◌, ◌≢◌, ◌+◌, ◌*◌, ◌<◌, MatchResult, None, true, false};
+ghost use Rattle.std.specs.Prelude.{◌≡◌, ◌≢◌, ◌+◌, ◌*◌, ◌<◌, ◌≤◌, ℕ, MatchResult, None, true, false};
 ghost use Rattle.tp_model.specs.declared.types.Element.{Element as element};
+ghost use Rattle.tp_model.specs.History.{IsUnborn};
 ghost use Rattle.tp_model.specs.Steps.{rows_of};
 ghost use Rattle.tp_words.specs.Words.{head_of};
 ghost use Rattle.tp_rule.specs.Steps.{HasElement};
@@ -29,6 +30,7 @@ pub(crate) struct Tally {
 }
 
 /// Whether an element with this head is of the family.
+#[inline(always)]
 fn is_of_family(root: u32, head: Head) -> bool
     ensures yes { result ≡ true → (e : element) → head ≡ head_of e → e.root ≡ root }
     ensures no { result ≡ false → (e : element) → head ≡ head_of e → e.root ≢ root }
@@ -44,25 +46,28 @@ fn is_of_family(root: u32, head: Head) -> bool
 }
 
 impl Shared {
-    /// Kills the element of a row, if it is of the family, no reply, and neither consumed nor killed. One step where the
-    /// head says that it is of another family.
-    fn cancel_row(&self, seat: &mut Seat, row: u32, root: u32) -> Tally
+    /// Kills the element of a row, if it is of the family, no reply, and neither consumed nor killed; `row` goes on. One
+    /// step where the head says that it is of another family.
+    fn cancel_row(&self, seat: &mut Seat, row: &mut u32, root: u32) -> Tally
         requires own { IsSeatOf self.now.words seat.old }
         requires steady { Steady (limits_of self.now.words) (view_of seat.old) }
-        requires row { row < rows_of (limits_of self.now.words) }
+        requires row { row.old < rows_of (limits_of self.now.words) }
         requires free { (hand_of seat.old).open_unit ≡ None }
         ensures same { IsSameSeat seat.old seat.new }
+        ensures on { (row.old < row.new) × (row.new ≤ rows_of (limits_of self.now.words)) }
         ensures told { let l = limits_of self.now.words in
-            TalliedAt l (kill_steps l) root row result.found result.killed (view_of seat.old) (view_of seat.new) }
+            TalliedAt l (kill_steps l) root row.old result.found result.killed (view_of seat.old) (view_of seat.new) }
+        ensures none { (i : ℕ) → row.old < i → i < row.new → IsUnborn (seen_by seat.old) i }
     {
-        let head = self.head_at(seat, row);
+        let here = *row;
+        let head = self.head_on(seat, row);
         if !is_of_family(root, head) {
             return Tally {
                 found: 0,
                 killed: 0,
             };
         }
-        let Some(birth) = self.birth_from(seat, row, head) else {
+        let Some(birth) = self.birth_from(seat, here, head) else {
             return Tally {
                 found: 0,
                 killed: 0,
@@ -74,7 +79,7 @@ impl Shared {
                 killed: 0,
             };
         }
-        match self.kill_row(seat, row) {
+        match self.kill_row(seat, here) {
             Ok(_) => Tally {
                 found: 1,
                 killed: 1,
@@ -97,8 +102,10 @@ impl Shared {
     {
         let mut found = 0;
         let mut killed = 0;
-        for row in 0..self.places.rows() {
-            let tally = self.cancel_row(seat, row, root);
+        let rows = self.places.rows();
+        let mut row = 0;
+        while row < rows {
+            let tally = self.cancel_row(seat, &mut row, root);
             found += tally.found;
             killed += tally.killed;
         }

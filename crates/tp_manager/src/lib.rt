@@ -15,8 +15,6 @@ mod meeting;
 mod reading;
 mod scanning;
 mod submitting;
-#[cfg(test)]
-mod tests;
 
 pub use bounds::round_bounds;
 pub use manager::{Keeper, MakeFault, Manager, Pass};

@@ -28,6 +28,7 @@ pub(crate) enum Wanted {
     Error,
 }
 
+#[inline(always)]
 fn is_wanted(wanted: Wanted, birth: Birth, status: Status) -> bool
     ensures yes { result ≡ true → IsWanted wanted birth.stage birth.root status }
     ensures no { result ≡ false → ¬ IsWanted wanted birth.stage birth.root status }
@@ -43,6 +44,7 @@ fn is_wanted(wanted: Wanted, birth: Birth, status: Status) -> bool
 }
 
 /// Whether an element with this head may be looked for.
+#[inline(always)]
 fn may_be_wanted(wanted: Wanted, head: Head) -> bool
     ensures no { result ≡ false → (e : element) → head ≡ head_of e → (s : status)
         → ¬ IsWanted wanted e.stage e.root s }
@@ -57,26 +59,30 @@ fn may_be_wanted(wanted: Wanted, head: Head) -> bool
 }
 
 impl Shared {
-    /// Whether the element of a row is looked for. One step where its head says that it isn't.
-    fn is_wanted_at(&self, seat: &mut Seat, row: u32, wanted: Wanted) -> bool
+    /// Whether the element of a row is looked for; `row` goes on. One step where its head says that it isn't.
+    #[inline(always)]
+    fn is_wanted_at(&self, seat: &mut Seat, row: &mut u32, wanted: Wanted) -> bool
         requires own { IsSeatOf self.now.words seat.old }
         requires steady { Steady (limits_of self.now.words) (view_of seat.old) }
-        requires row { row < rows_of (limits_of self.now.words) }
+        requires row { row.old < rows_of (limits_of self.now.words) }
         ensures same { IsSameSeat seat.old seat.new }
+        ensures on { (row.old < row.new) × (row.new ≤ rows_of (limits_of self.now.words)) }
         ensures acted { let l = limits_of self.now.words in
             Acted l (look_steps l) (view_of seat.old) (view_of seat.new) }
-        ensures yes { result ≡ true → Hits (limits_of self.now.words) wanted row (seen_by seat.new) }
+        ensures yes { result ≡ true → Hits (limits_of self.now.words) wanted row.old (seen_by seat.new) }
         ensures no { result ≡ false → let l = limits_of self.now.words in
-            Sought l (look_steps l) (PassedOver l wanted row) (view_of seat.old) (view_of seat.new) }
+            Sought l (look_steps l) (EachRow (PassedOver l wanted) row.old row.new)
+            (view_of seat.old) (view_of seat.new) }
     {
-        let head = self.head_at(seat, row);
+        let here = *row;
+        let head = self.head_on(seat, row);
         if !may_be_wanted(wanted, head) {
             return false;
         }
-        let Some(birth) = self.birth_from(seat, row, head) else {
+        let Some(birth) = self.birth_from(seat, here, head) else {
             return false;
         };
-        let (_, status) = self.status_at(seat, row);
+        let (_, status) = self.status_at(seat, here);
         is_wanted(wanted, birth, status)
     }
 
@@ -93,9 +99,11 @@ impl Shared {
             × Sought l n (EachRow (PassedOver l wanted) from id) (view_of seat.old) (view_of seat.new)) }
     {
         let rows = self.places.rows();
-        for row in from..rows {
-            if self.is_wanted_at(seat, row, wanted) {
-                return Some(row);
+        let mut row = from;
+        while row < rows {
+            let here = row;
+            if self.is_wanted_at(seat, &mut row, wanted) {
+                return Some(here);
             }
         }
         None

@@ -1,15 +1,16 @@
 //! What a pass finds at a row.
 ghost use Rattle.std.specs.Prelude.{◌≡◌, ◌<◌, Some, MatchOption, true, false};
-ghost use Rattle.tp_words.specs.declared.words.Head.TheVariants.{There};
+ghost use Rattle.tp_words.specs.declared.words.Head.TheVariants.{Empty, There};
 ghost use Rattle.tp_model.specs.History.{IsUnborn, element_of, status_of};
 ghost use Rattle.tp_model.specs.Steps.{rows_of, units_of};
 ghost use Rattle.tp_model.specs.Words.{claim_word};
 ghost use Rattle.tp_words.specs.Words.{claim_value, IsFitClaim};
 ghost use Rattle.tp_rule.specs.Views.{seen_by, view_of, IsSameSeat};
 ghost use Rattle.tp_rule.specs.Tables.{limits_of, IsSeatOf};
+ghost use Rattle.tp_rule.specs.Steps.{NoneFrom};
 ghost use Rattle.tp_manager.specs.Walks.{Steady, Looked, Acted};
 ghost use Rattle.tp_manager.specs.Bounds.{body_steps, retry_steps, status_steps};
-ghost use Rattle.tp_manager.specs.Looks.{HeadFound, IsThere, IsEnough};
+ghost use Rattle.tp_manager.specs.Looks.{GoesOn, HeadFound, IsThere, IsEnough};
 
 use crate::manager::Shared;
 use tp_model::types::{Element, Status};
@@ -26,6 +27,7 @@ pub(crate) struct Birth {
 
 impl Shared {
     /// What the head of a row says. One step.
+    #[inline(always)]
     pub(crate) fn head_at(&self, seat: &mut Seat, row: u32) -> Head
         requires own { IsSeatOf self.now.words seat.old }
         requires steady { Steady (limits_of self.now.words) (view_of seat.old) }
@@ -33,11 +35,35 @@ impl Shared {
         ensures same { IsSameSeat seat.old seat.new }
         ensures acted { Acted (limits_of self.now.words) 1 (view_of seat.old) (view_of seat.new) }
         ensures told { HeadFound (view_of seat.new) row result }
+        ensures none { result ≡ Empty → NoneFrom (limits_of self.now.words) (seen_by seat.new) row }
     {
         self.words.load_head(seat, row)
     }
 
+    /// What the head of a row says, as a scan goes through the rows: `row` goes on to the next row, or where the
+    /// head is empty to the next part, since nothing is born in between. One step.
+    #[inline(always)]
+    pub(crate) fn head_on(&self, seat: &mut Seat, row: &mut u32) -> Head
+        requires own { IsSeatOf self.now.words seat.old }
+        requires steady { Steady (limits_of self.now.words) (view_of seat.old) }
+        requires row { row.old < rows_of (limits_of self.now.words) }
+        ensures same { IsSameSeat seat.old seat.new }
+        ensures acted { Acted (limits_of self.now.words) 1 (view_of seat.old) (view_of seat.new) }
+        ensures told { HeadFound (view_of seat.new) row.old result }
+        ensures on { GoesOn (rows_of (limits_of self.now.words)) (seen_by seat.new) row.old row.new }
+    {
+        let here = *row;
+        let head = self.head_at(seat, here);
+        *row = if head == Head::Empty {
+            self.places.part_end(here)
+        } else {
+            here + 1
+        };
+        head
+    }
+
     /// Whether the row whose head was just found has a born element, and what its head says. At most one more step.
+    #[inline(always)]
     pub(crate) fn birth_from(&self, seat: &mut Seat, row: u32, head: Head) -> Option<Birth>
         requires own { IsSeatOf self.now.words seat.old }
         requires steady { Steady (limits_of self.now.words) (view_of seat.old) }
@@ -72,6 +98,7 @@ impl Shared {
     }
 
     /// Whether there is a unit with this number.
+    #[inline(always)]
     fn is_unit(&self, unit: u16) -> bool
         ensures yes { result ≡ true → unit < units_of (limits_of self.now.words) }
         ensures no { result ≡ false → ¬ (unit < units_of (limits_of self.now.words)) }
@@ -81,6 +108,7 @@ impl Shared {
     }
 
     /// The element that is born in the row with this head: its body, in two steps.
+    #[inline(always)]
     pub(crate) fn element_at(&self, seat: &mut Seat, row: u32, birth: Birth) -> Element
         requires own { IsSeatOf self.now.words seat.old }
         requires steady { Steady (limits_of self.now.words) (view_of seat.old) }
@@ -105,6 +133,8 @@ impl Shared {
 
     /// The claim and the status of the element of a row, whose claim was just found; there are at most so many further
     /// attempts. At most twice as many steps.
+    #[cycle(status)]
+    #[inline(always)]
     pub(crate) fn status_from(
         &self,
         seat: &mut Seat,
@@ -136,7 +166,7 @@ impl Shared {
                 UnitWord::Aborted => {
                     let again = self.words.load_claim(seat, row);
                     if again != claim {
-                        return self.status_from(seat, row, again, left - 1);
+                        return self.status_again(seat, row, again, left - 1);
                     }
                     if attempt < self.places.limits.attempts {
                         (again, Status::Waiting { attempts: attempt })
@@ -148,7 +178,27 @@ impl Shared {
         }
     }
 
+    /// The same, where the claim had changed: apart from `status_from`, which then has no recursion of its own.
+    #[cycle(status)]
+    #[cold]
+    fn status_again(&self, seat: &mut Seat, row: u32, claim: Claim, left: u8) -> (Claim, Status)
+        requires own { IsSeatOf self.now.words seat.old }
+        requires steady { Steady (limits_of self.now.words) (view_of seat.old) }
+        requires row { row < rows_of (limits_of self.now.words) }
+        requires found { (claim_value claim ≡ claim_word (seen_by seat.old) row)
+            × IsFitClaim (claim_value claim) }
+        requires enough { IsEnough (limits_of self.now.words) left (claim_value claim) }
+        ensures same { IsSameSeat seat.old seat.new }
+        ensures looked { Looked (limits_of self.now.words) (retry_steps left) (view_of seat.old) (view_of seat.new) }
+        ensures claim { (claim_value result.0 ≡ claim_word (seen_by seat.new) row)
+            × IsFitClaim (claim_value result.0) }
+        ensures status { result.1 ≡ status_of (limits_of self.now.words).attempts (seen_by seat.new) row }
+    {
+        self.status_from(seat, row, claim, left)
+    }
+
     /// The claim and the status of the element of a row. At most one step, and two for each attempt that is allowed.
+    #[inline(always)]
     pub(crate) fn status_at(&self, seat: &mut Seat, row: u32) -> (Claim, Status)
         requires own { IsSeatOf self.now.words seat.old }
         requires steady { Steady (limits_of self.now.words) (view_of seat.old) }

@@ -1,5 +1,5 @@
 //! A server's look for work.
-ghost use Rattle.std.specs.Prelude.{◌≡◌, ◌*◌, ◌<◌, MatchOption, true, false};
+ghost use Rattle.std.specs.Prelude.{◌≡◌, ◌*◌, ◌<◌, ◌≤◌, MatchOption, true, false};
 ghost use Rattle.tp_model.specs.declared.types.Element.{Element as element};
 ghost use Rattle.tp_model.specs.Steps.{rows_of, IsServerStage};
 ghost use Rattle.tp_words.specs.Words.{head_of};
@@ -21,6 +21,7 @@ pub(crate) struct Taken {
     pub attempt: u8,
 }
 
+#[inline(always)]
 fn is_of_stage(head: Head, stage: u8) -> bool
     ensures yes { result ≡ true → (e : element) → head ≡ head_of e → e.stage ≡ stage }
     ensures no { result ≡ false → (e : element) → head ≡ head_of e → ¬ (e.stage ≡ stage) }
@@ -36,33 +37,37 @@ fn is_of_stage(head: Head, stage: u8) -> bool
 }
 
 impl Shared {
-    /// The unit takes the element of a row, if that waits in the stage. One step where the head is not of the stage.
-    fn try_row(&self, seat: &mut Seat, row: u32, stage: u8, unit: u16) -> Option<Taken>
+    /// The unit takes the element of a row, if that waits in the stage; `row` goes on. One step where the head is not
+    /// of the stage.
+    #[inline(always)]
+    fn try_row(&self, seat: &mut Seat, row: &mut u32, stage: u8, unit: u16) -> Option<Taken>
         requires own { IsSeatOf self.now.words seat.old }
         requires steady { Steady (limits_of self.now.words) (view_of seat.old) }
-        requires row { row < rows_of (limits_of self.now.words) }
+        requires row { row.old < rows_of (limits_of self.now.words) }
         requires stage { IsServerStage stage }
         requires spare { IsSpare unit (view_of seat.old) × (unit < 65535) }
         ensures same { IsSameSeat seat.old seat.new }
+        ensures on { (row.old < row.new) × (row.new ≤ rows_of (limits_of self.now.words)) }
         ensures told { let l = limits_of self.now.words in let n = try_steps l in MatchOption result
-            (Sought l n (PassedBy l stage row) (view_of seat.old) (view_of seat.new))
+            (Sought l n (EachRow (PassedBy l stage) row.old row.new) (view_of seat.old) (view_of seat.new))
             (λ t. Took l n stage unit (view_of seat.old) (view_of seat.new) t.element t.attempt
             × (t.element.root ≡ t.root)) }
     {
-        let head = self.head_at(seat, row);
+        let here = *row;
+        let head = self.head_on(seat, row);
         if !is_of_stage(head, stage) {
             return None;
         }
-        let Some(birth) = self.birth_from(seat, row, head) else {
+        let Some(birth) = self.birth_from(seat, here, head) else {
             return None;
         };
-        let (claim, status) = self.status_at(seat, row);
+        let (claim, status) = self.status_at(seat, here);
         let Status::Waiting { attempts } = status else {
             return None;
         };
-        let element = self.element_at(seat, row, birth);
+        let element = self.element_at(seat, here, birth);
         let attempt = attempts + 1;
-        match self.words.claim_exchange(seat, row, claim, attempt, unit) {
+        match self.words.claim_exchange(seat, here, claim, attempt, unit) {
             Ok(()) => Some(Taken {
                 element,
                 root: birth.root,
@@ -86,8 +91,9 @@ impl Shared {
             × (t.element.root ≡ t.root)) }
     {
         let rows = self.places.rows();
-        for row in 0..rows {
-            if let Some(taken) = self.try_row(seat, row, stage, unit) {
+        let mut row = 0;
+        while row < rows {
+            if let Some(taken) = self.try_row(seat, &mut row, stage, unit) {
                 return Some(taken);
             }
         }

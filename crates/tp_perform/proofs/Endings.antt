@@ -1,18 +1,26 @@
 -- How a run ends: with its final lines, or before its first.
-use Rattle.std.proofs.Common.{◌≡◌, ℕ, List, Option, false, length, sym}
+use Rattle.std.proofs.Common.{◌≡◌, ◌∙◌, ◌+◌, ℕ, suc, List, [], ◌++◌, Option, false, ap, arith, length, slice_get, subst, sym}
+use Rattle.std.specs.Io.KnownBytes.{Appends}
 use Rattle.std.proofs.lemmas.List.{length-map}
 use Rattle.std.specs.Prelude.{Result, Ok, Err}
 use Rattle.tp_script.specs.declared.script.Script.{Script}
 use Rattle.tp_script.specs.Passes.{has_race}
 use Rattle.tp_perform.specs.Performing.{final_count}
-use Rattle.tp_script.specs.Script.{ScriptView, script_view, server_view}
+use Rattle.tp_script.specs.Script.{ScriptView, ServerView, script_view, server_view}
 use Rattle.tp_report.specs.declared.fault.Fault.TheVariants as faults
 use Rattle.tp_script.specs.declared.fault.Refused.{Refused}
 use Rattle.tp_script.specs.Fault.{refused_text}
 use Rattle.tp_report.specs.Answer.{line}
 use Rattle.tp_perform.specs.Whole.{Answered}
-use Rattle.tp_report.proofs.Devices.{front_none}
+use Rattle.tp_model.proofs.Bridges.{append_nil}
+use Rattle.tp_report.specs.Written.{AppendsFront}
+use Rattle.tp_report.proofs.Devices.{Appends-then, front_none, front_then}
+use Rattle.tp_perform.specs.Ending.{final_line, final_lines}
 use Rattle.tp_report.proofs.LineProofs.{nothing_written}
+
+-- the whole is a front of itself
+pub whole_front : (a b : Option (List ℕ)) (text : List ℕ) → Appends a b text → AppendsFront a b text
+whole_front a b text all = ([], (text, sym (append_nil text), all))
 
 -- without a race there are as many final lines as servers
 pub final_all : (script : Script) → false ≡ has_race script.commands.items → final_count (script_view script) ≡ length script.servers.items
@@ -22,3 +30,19 @@ final_all script none = rw (sym none) (length-map script.servers.items server_vi
 pub answered_none : (script : Result ScriptView Refused) (a : Option (List ℕ)) → Answered (Err faults.NoMemory) script a a
 answered_none (Ok script) a = nothing_written _ a
 answered_none (Err refused) a = front_none a (line (refused_text refused))
+
+-- final lines, one behind the other
+module _ (servers : List ServerView) (registers : List (List ℕ)) (n : ℕ) (a b : Option (List ℕ)) where
+  next_lines : (text : List ℕ) → text ≡ final_line (slice_get servers n) (slice_get registers n) → final_lines servers registers n ++ text ≡ final_lines servers registers (n + 1)
+  next_lines text is =
+      let same : suc n ≡ n + 1 = omega arith in
+      ap (λ t. final_lines servers registers n ++ t) is ∙ ap (final_lines servers registers) same
+
+  pub final_more : (c : Option (List ℕ)) (text : List ℕ) → text ≡ final_line (slice_get servers n) (slice_get registers n) → Appends a b (final_lines servers registers n) → Appends b c text → Appends a c (final_lines servers registers (n + 1))
+  final_more c text is before more = subst (Appends a c) (next_lines text is) (Appends-then a b c (final_lines servers registers n) text before more)
+
+  pub final_front_more : (c : Option (List ℕ)) (text : List ℕ) → text ≡ final_line (slice_get servers n) (slice_get registers n) → Appends a b (final_lines servers registers n) → AppendsFront b c text → AppendsFront a c (final_lines servers registers (n + 1))
+  final_front_more c text is before more = subst (AppendsFront a c) (next_lines text is) (front_then a b c (final_lines servers registers n) text before more)
+
+  pub finals_front : Appends a b (final_lines servers registers n) → AppendsFront a b (final_lines servers registers n)
+  finals_front before = whole_front a b (final_lines servers registers n) before

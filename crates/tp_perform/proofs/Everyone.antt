@@ -1,5 +1,5 @@
 -- All passes that a keeper gave out, and the account that ends a report.
-use Rattle.std.proofs.Common.{◌≡◌, ℕ, suc, ◌+◌, List, [], ◌∷◌, ◌++◌, Bool, true, refl, sym, ◌∙◌, ap, subst, arith, length}
+use Rattle.std.proofs.Common.{◌≡◌, ℕ, ◌+◌, List, [], ◌∷◌, ◌++◌, true, refl, sym, ◌∙◌, ap, arith, length}
 use Rattle.std.proofs.lemmas.List.{length-map, length-append}
 use Rattle.tp_manager.specs.Accounts.{AreAll, AreFrom}
 use Rattle.tp_manager.specs.Shown.{KeeperShown, PassShown}

@@ -1,5 +1,5 @@
 -- What desks leave, and whose they were.
-use Rattle.std.proofs.Common.{◌≡◌, ℕ, zero, suc, ◌<◌, ◌≤◌, List, [], ◌∷◌, ◌++◌, Option, Some, inl, inr, refl, sym, ◌∙◌, ap, subst, arith, length, map, get_or, set, slice_set}
+use Rattle.std.proofs.Common.{◌≡◌, ℕ, zero, suc, ◌<◌, List, [], ◌∷◌, ◌++◌, Option, Some, inl, inr, refl, sym, ◌∙◌, ap, subst, arith, length, map, get_or, set, slice_set}
 use Rattle.std.specs.List.{swap}
 use Rattle.std.specs.declared.alloc.Global.{Global}
 use Rattle.std.specs.declared.dyn_box.DynBox.{DynBox}
@@ -122,7 +122,7 @@ module _ {X : Type 0} {F : X → Type 0} (recipe : DynBox X Global F → Recipe)
   left_length ps ss qs ts long all = sym (length-map qs (λ p. p.number)) ∙ (ap length (left_numbers ps ss qs ts long all) ∙ length-map ps (λ p. p.number))
 
   -- the servers' passes among all
-  workers_are : (n : ℕ) (client : PassShown) (ws rs : List PassShown) → length ws ≡ n → workers n (client ∷ (ws ++ rs)) ≡ ws
+  pub workers_are : (n : ℕ) (client : PassShown) (ws rs : List PassShown) → length ws ≡ n → workers n (client ∷ (ws ++ rs)) ≡ ws
   workers_are zero client [] rs long = refl
   workers_are zero client (w ∷ ws) rs long = absurd (omega (arith, long))
   workers_are (suc n) client [] rs long = absurd (omega (arith, long))

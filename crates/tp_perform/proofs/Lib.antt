@@ -4,3 +4,10 @@ pub mod RegisterLemmas
 pub mod Endings
 pub mod Lefts
 pub mod Everyone
+pub mod Listings
+pub mod Shows
+pub mod Tellings
+pub mod Chains
+pub mod Parts
+pub mod Races
+pub mod Beginnings

@@ -166,13 +166,13 @@ module _ {X : Type 0} {F : X → Type 0} (recipe : DynBox X Global F → Recipe)
     lie_worked m R worked ps ss os h.1 qs ts all.1 (All-tail IsFreeAt o os free) (omega (arith, e)) (omega (arith, k)) h.3,
   )
 
--- a free place comes behind those in front
-pub free_more : {X : Type 0} {F : X → Type 0} (os : List (Place X F)) (f a : ℕ) (d : Place X F) → f ≤ a → a < length os → All IsFreeAt (take f os) → IsFreeAt (get_or os a d) → All IsFreeAt (take (f + 1) (swap os f a))
-free_more os f a d low within front one =
+-- one more comes behind those in front
+pub free_more : {A : Type 0} (Is : A → Type 0) (os : List A) (f a : ℕ) (d : A) → f ≤ a → a < length os → All Is (take f os) → Is (get_or os a d) → All Is (take (f + 1) (swap os f a))
+free_more Is os f a d low within front one =
     let inside : f < length os = omega (arith, low, within) in
     let came : get_or (swap os f a) f d ≡ get_or os a d = (swapped_from_swap os (swap os f a) f a d inside within refl).0 in
     let stayed : take f (swap os f a) ≡ take f os = ap (take f) (sym (swap_is os f a d inside within)) ∙ (take-set-le f _ a _ low ∙ take-set os f (get_or os a d)) in
     let more : take (f + 1) (swap os f a) ≡ take f (swap os f a) ++ get_or (swap os f a) f d ∷ [] = take_more (swap os f a) f d (omega (arith, inside, length-swap os f a)) in
-    subst (All IsFreeAt) (sym more)
-    (All-append IsFreeAt (take f (swap os f a)) (get_or (swap os f a) f d ∷ []) (subst (All IsFreeAt) (sym stayed) front)
-    (All-cons IsFreeAt (get_or (swap os f a) f d) [] (subst IsFreeAt (sym came) one) (All-nil IsFreeAt)))
+    subst (All Is) (sym more)
+    (All-append Is (take f (swap os f a)) (get_or (swap os f a) f d ∷ []) (subst (All Is) (sym stayed) front)
+    (All-cons Is (get_or (swap os f a) f d) [] (subst Is (sym came) one) (All-nil Is)))

@@ -1,3 +1,9 @@
+pub mod Acting
+pub mod Asked
+pub mod Ending
 pub mod Performing
 pub mod Places
+pub mod Reported
+pub mod Together
+pub mod Told
 pub mod Whole

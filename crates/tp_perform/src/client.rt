@@ -1,12 +1,18 @@
 //! What the script's own client asks of the manager, through its pass.
-ghost use Rattle.std.specs.Prelude.{◌≡◌, IfOk, string_bytes};
+ghost use Rattle.std.specs.Prelude.{◌≡◌, ◌+◌, ◌-◌, ◌<◌, ◌≤◌, ◌^◌, ℕ, List, IfOk, IfSome, MatchOption, string_bytes};
+ghost use Rattle.tp_model.specs.declared.types.Element.{Element};
+ghost use Rattle.tp_model.specs.Accounts.{all_in, one_more};
+ghost use Rattle.tp_model.specs.Steps.{rows_of};
+ghost use Rattle.tp_report.specs.Answer.{errors_text, line, replies_text};
 ghost use Rattle.tp_report.specs.Lines.{IsLine};
+ghost use Rattle.tp_report.specs.declared.answer.Answer.TheVariants as answer;
 ghost use Rattle.tp_workers.specs.Free.{IsFreePass};
+ghost use Rattle.tp_perform.specs.Asked.{FindsNoReply, FindsReply, TellsCancel, TellsCount, TellsErrors, TellsKill, TellsRead, TellsReplies, TellsSubmit};
 
 use std::alloc::{AllocError, Global};
 use std::string::String;
 use tp_manager::{Manager, Pass};
-use tp_model::types::{Counts, Status};
+use tp_model::types::{Counts, Element, Status};
 use tp_report::{Answer, line};
 
 /// `submit STAGE KEY AMOUNT`
@@ -20,6 +26,7 @@ pub(crate) fn submit(
     requires { IsFreePass manager.now client.old }
     ensures free { IsFreePass manager.now client.new }
     ensures number { client.new.number ≡ client.old.number }
+    ensures tells { TellsSubmit stage key amount client.old client.new result }
 {
     match manager.submit(client, stage, key, amount) {
         Ok(id) => Answer::Submitted { id },
@@ -32,6 +39,7 @@ pub(crate) fn kill(manager: &Manager, client: &mut Pass, id: u32) -> Answer<'sta
     requires { IsFreePass manager.now client.old }
     ensures free { IsFreePass manager.now client.new }
     ensures number { client.new.number ≡ client.old.number }
+    ensures tells { TellsKill manager.now.limits id client.old client.new result }
 {
     match manager.kill(client, id) {
         Ok(killed) => Answer::Killed {
@@ -47,6 +55,7 @@ pub(crate) fn cancel(manager: &Manager, client: &mut Pass, root: u32) -> Answer<
     requires { IsFreePass manager.now client.old }
     ensures free { IsFreePass manager.now client.new }
     ensures number { client.new.number ≡ client.old.number }
+    ensures tells { TellsCancel manager.now.limits root client.old client.new result }
 {
     match manager.cancel(client, root) {
         Ok(cancelled) => Answer::Cancelled {
@@ -62,10 +71,30 @@ pub(crate) fn read(manager: &Manager, client: &mut Pass, id: u32) -> Answer<'sta
     requires { IsFreePass manager.now client.old }
     ensures free { IsFreePass manager.now client.new }
     ensures number { client.new.number ≡ client.old.number }
+    ensures tells { TellsRead manager.now.limits id client.old client.new result }
 {
     match manager.read(client, id) {
         Ok(look) => Answer::Read(look),
         Err(why) => Answer::Refused(why),
+    }
+}
+
+/// The next reply to the request from this id on, as it is read.
+fn next_reply(manager: &Manager, client: &mut Pass, root: u32, from: u32) -> Option<Element>
+    requires { IsFreePass manager.now client.old }
+    ensures free { IsFreePass manager.now client.new }
+    ensures number { client.new.number ≡ client.old.number }
+    ensures inside { IfSome result (λ reply. (from ≤ reply.id) × (reply.id < rows_of manager.now.limits)) }
+    ensures finds { MatchOption result
+        (FindsNoReply manager.now.limits root from client.old client.new)
+        (λ reply. FindsReply manager.now.limits root from reply client.old client.new) }
+{
+    let Some(id) = manager.reply(client, root, from) else {
+        return None;
+    };
+    match manager.read(client, id) {
+        Ok(look) => Some(look.element),
+        Err(_) => unreachable!(),
     }
 }
 
@@ -79,19 +108,20 @@ pub(crate) fn replies(
     requires { IsFreePass manager.now client.old }
     ensures free { IsFreePass manager.now client.new }
     ensures number { client.new.number ≡ client.old.number }
+    ensures tells { IfOk result (λ text. (found : List Element)
+        × TellsReplies manager.now.limits root 0 client.old found client.new
+        × (string_bytes text ≡ line (replies_text root found))) }
     ensures line { IfOk result (λ text. IsLine (string_bytes text)) }
 {
     let mut found = Vec::new(alloc);
     let capacity = manager.capacity();
     let mut from = 0;
     while from < capacity {
-        let Some(id) = manager.reply(client, root, from) else {
+        let Some(reply) = next_reply(manager, client, root, from) else {
             break;
         };
-        if let Ok(look) = manager.read(client, id) {
-            found.push(look.element)?;
-        }
-        from = id + 1;
+        found.push(reply)?;
+        from = reply.id + 1;
     }
     let replies = found.as_slice();
     line(alloc, Answer::Replies { root, replies })
@@ -106,6 +136,9 @@ pub(crate) fn errors(
     requires { IsFreePass manager.now client.old }
     ensures free { IsFreePass manager.now client.new }
     ensures number { client.new.number ≡ client.old.number }
+    ensures tells { IfOk result (λ text. (parked : List ℕ)
+        × TellsErrors manager.now.limits 0 client.old parked client.new
+        × (string_bytes text ≡ line (errors_text parked))) }
     ensures line { IfOk result (λ text. IsLine (string_bytes text)) }
 {
     let mut parked = Vec::new(alloc);
@@ -122,33 +155,39 @@ pub(crate) fn errors(
 }
 
 /// `count`: how many elements stand in each way, over all ids below the capacity.
-pub(crate) fn count(manager: &Manager, client: &mut Pass) -> Answer<'static>
+pub(crate) fn count(manager: &Manager, client: &mut Pass) -> Counts
     requires { IsFreePass manager.now client.old }
     ensures free { IsFreePass manager.now client.new }
     ensures number { client.new.number ≡ client.old.number }
+    ensures tells { TellsCount manager.now.limits (rows_of manager.now.limits) client.old result client.new }
 {
-    let mut waiting = 0;
-    let mut held = 0;
-    let mut consumed = 0;
-    let mut parked = 0;
-    let mut killed = 0;
+    let mut counts = Counts {
+        waiting: 0,
+        held: 0,
+        consumed: 0,
+        parked: 0,
+        killed: 0,
+    };
     for id in 0..manager.capacity() {
-        let Ok(look) = manager.read(client, id) else {
-            continue;
-        };
-        match look.status {
-            Status::Waiting { .. } => waiting += 1,
-            Status::Held { .. } => held += 1,
-            Status::Consumed { .. } => consumed += 1,
-            Status::Parked { .. } => parked += 1,
-            Status::Killed => killed += 1,
+        if let Ok(look) = manager.read(client, id) {
+            counts = one_more(counts, look.status);
         }
     }
-    Answer::Count(Counts {
-        waiting,
-        held,
-        consumed,
-        parked,
-        killed,
-    })
+    counts
+}
+
+/// These counts, and one element more, which stands so.
+fn one_more(counts: Counts, status: Status) -> Counts
+    requires { all_in counts < 2 ^ 32 - 1 }
+    ensures { result ≡ one_more status counts }
+{
+    let mut counts = counts;
+    match status {
+        Status::Waiting { .. } => counts.waiting += 1,
+        Status::Held { .. } => counts.held += 1,
+        Status::Consumed { .. } => counts.consumed += 1,
+        Status::Parked { .. } => counts.parked += 1,
+        Status::Killed => counts.killed += 1,
+    }
+    counts
 }

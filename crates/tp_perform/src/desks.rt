@@ -2,6 +2,7 @@
 ghost use Rattle.std.specs.Prelude.{◌≡◌};
 ghost use Rattle.tp_manager.specs.Shown.{IsOf};
 ghost use Rattle.tp_desk.specs.Steady.{IsSameDesk, SteadyDesk, shown};
+ghost use Rattle.tp_perform.specs.Acting.{Does, DoesAt, TellsAbort, TellsClaim, TellsCommit, TellsDrop, TellsPrepare, TellsTurn, desk_shown, place_shown};
 ghost use Rattle.tp_perform.specs.Places.{Lies, first_of};
 
 use crate::place::Place;
@@ -36,6 +37,8 @@ pub(crate) fn act_at(
     ensures own { IsOf manager.now pass.new }
     ensures lies { Lies recipe registers pending pass.new server.new place.new.aside }
     ensures began { first_of place.new ≡ first_of place.old }
+    ensures tells { DoesAt manager.now.limits act (place_shown recipe registers pending pass.old server.old place.old) result
+        (place_shown recipe registers pending pass.new server.new place.new) }
 {
     if place.is_dropped {
         return ServerAnswer::Ended;
@@ -57,6 +60,8 @@ fn act_by(desk: &mut Desk, act: Act) -> ServerAnswer
     requires steady { SteadyDesk (shown recipe) (shown registers) (shown pending) desk.old }
     ensures same { IsSameDesk desk.old desk.new }
     ensures steady { SteadyDesk (shown recipe) (shown registers) (shown pending) desk.new }
+    ensures tells { Does desk.old.manager.now.limits act (desk_shown recipe registers pending desk.old) result
+        (desk_shown recipe registers pending desk.new) }
 {
     match act {
         Act::Turn => turn(desk),
@@ -73,6 +78,8 @@ fn turn(desk: &mut Desk) -> ServerAnswer
     requires steady { SteadyDesk (shown recipe) (shown registers) (shown pending) desk.old }
     ensures same { IsSameDesk desk.old desk.new }
     ensures steady { SteadyDesk (shown recipe) (shown registers) (shown pending) desk.new }
+    ensures tells { TellsTurn desk.old.manager.now.limits (desk_shown recipe registers pending desk.old) result
+        (desk_shown recipe registers pending desk.new) }
 {
     if desk.has_open() {
         return ServerAnswer::Busy;
@@ -85,6 +92,8 @@ fn claim(desk: &mut Desk) -> ServerAnswer
     requires steady { SteadyDesk (shown recipe) (shown registers) (shown pending) desk.old }
     ensures same { IsSameDesk desk.old desk.new }
     ensures steady { SteadyDesk (shown recipe) (shown registers) (shown pending) desk.new }
+    ensures tells { TellsClaim desk.old.manager.now.limits (desk_shown recipe registers pending desk.old) result
+        (desk_shown recipe registers pending desk.new) }
 {
     if desk.has_open() {
         return ServerAnswer::Busy;
@@ -105,6 +114,8 @@ fn prepare(desk: &mut Desk) -> ServerAnswer
     requires steady { SteadyDesk (shown recipe) (shown registers) (shown pending) desk.old }
     ensures same { IsSameDesk desk.old desk.new }
     ensures steady { SteadyDesk (shown recipe) (shown registers) (shown pending) desk.new }
+    ensures tells { TellsPrepare (desk_shown recipe registers pending desk.old) result
+        (desk_shown recipe registers pending desk.new) }
 {
     let Some(work) = desk.in_hand() else {
         return ServerAnswer::NoneOpen;
@@ -126,6 +137,8 @@ fn commit(desk: &mut Desk) -> ServerAnswer
     requires steady { SteadyDesk (shown recipe) (shown registers) (shown pending) desk.old }
     ensures same { IsSameDesk desk.old desk.new }
     ensures steady { SteadyDesk (shown recipe) (shown registers) (shown pending) desk.new }
+    ensures tells { TellsCommit (desk_shown recipe registers pending desk.old) result
+        (desk_shown recipe registers pending desk.new) }
 {
     let Some(work) = desk.in_hand() else {
         return ServerAnswer::NoneOpen;
@@ -149,6 +162,8 @@ fn abort(desk: &mut Desk) -> ServerAnswer
     requires steady { SteadyDesk (shown recipe) (shown registers) (shown pending) desk.old }
     ensures same { IsSameDesk desk.old desk.new }
     ensures steady { SteadyDesk (shown recipe) (shown registers) (shown pending) desk.new }
+    ensures tells { TellsAbort (desk_shown recipe registers pending desk.old) result
+        (desk_shown recipe registers pending desk.new) }
 {
     let Some(work) = desk.in_hand() else {
         return ServerAnswer::NoneOpen;
@@ -165,6 +180,8 @@ fn give_up(desk: &mut Desk) -> ServerAnswer
     requires steady { SteadyDesk (shown recipe) (shown registers) (shown pending) desk.old }
     ensures same { IsSameDesk desk.old desk.new }
     ensures steady { SteadyDesk (shown recipe) (shown registers) (shown pending) desk.new }
+    ensures tells { TellsDrop (desk_shown recipe registers pending desk.old) result
+        (desk_shown recipe registers pending desk.new) }
 {
     if desk.has_open() {
         let _ = desk.abort();

@@ -1,14 +1,18 @@
 //! A script performed over the shared manager: each server at a desk of its own, each command one line of the report.
-ghost use Rattle.std.specs.Prelude.{◌≡◌, ◌<◌, ◌≤◌, None, All, IfOk, IfSome, IsErrOf, IsTrue, OnErr, OnOk, length, slice_get, string_bytes};
+ghost use Rattle.std.specs.List.{zip};
+ghost use Rattle.std.specs.Prelude.{◌≡◌, ◌<◌, ◌≤◌, None, All, IfOk, IfSome, IsErrOf, IsTrue, OnErr, OnOk, length, map, slice_get, string_bytes, sum_by};
 ghost use Rattle.tp_manager.specs.Shown.{IsOf};
 ghost use Rattle.tp_workers.specs.Free.{IsFreePass, numbers};
 ghost use Rattle.tp_report.specs.Answer.{line, named_text};
 ghost use Rattle.tp_report.specs.Lines.{IsLine, Writes, WritesFront};
+ghost use Rattle.tp_report.specs.declared.answer.ServerAnswer.{ServerAnswer};
+ghost use Rattle.tp_perform.specs.Acting.{DoesIn, new_places, place_shown, places_shown};
 ghost use Rattle.tp_perform.specs.Performing.{TellsBalance};
+ghost use Rattle.tp_perform.specs.Told.{AllEnded, EndsAt, IsFirstScene, Scene, TellsCommand, ToldAll, ToldFront, counted_value, scene, value_at};
 ghost use Rattle.tp_perform.specs.Places.{AllLeft, AllLie, IsLeft, Lies, all_firsts, first_of, firsts, workers};
 ghost use Rattle.tp_script.specs.Passes.{racers as racers_of, racing};
 ghost use Rattle.tp_script.specs.Ranges.{IsInRange};
-ghost use Rattle.tp_script.specs.Script.{passes as passes_of, script_view};
+ghost use Rattle.tp_script.specs.Script.{passes as passes_of, script_view, server_view};
 ghost use Rattle.tp_script.specs.declared.script.TheConstants.{MOST_SERVERS};
 
 use crate::client;
@@ -33,6 +37,8 @@ fn places_for(passes: &[Pass], servers: &[Box<dyn Server + Send>]) -> ArrayVec<P
     requires few { length servers.now ≤ MOST_SERVERS }
     ensures lie { AllLie recipe registers pending passes.now servers.now result.items }
     ensures began { firsts result.items ≡ all_firsts passes.now servers.now }
+    ensures shown { places_shown recipe registers pending passes.now servers.now result.items
+        ≡ new_places recipe registers pending passes.now servers.now }
 {
     let mut places = ArrayVec::new();
     for i in 0..servers.len() {
@@ -56,6 +62,8 @@ fn end_all(
     ensures free { All (IsFreePass manager.now) passes.new }
     ensures clear { All (λ server. pending server ≡ None) servers.new }
     ensures left { AllLeft recipe registers (firsts places.old) passes.new servers.new }
+    ensures ended { AllEnded (places_shown recipe registers pending passes.old servers.old places.old)
+        passes.new (map (λ server. registers server) servers.new) }
 {
     let Some((pass, passes)) = passes.split_first_mut() else {
         return;
@@ -82,6 +90,8 @@ fn end_at(
     ensures free { IsFreePass manager.now pass.new }
     ensures clear { pending server.new ≡ None }
     ensures left { IsLeft recipe registers (first_of place.old) pass.new server.new }
+    ensures ended { EndsAt (place_shown recipe registers pending pass.old server.old place.old)
+        pass.new (registers server.new) }
 {
     let Some(aside) = place.aside.take() else {
         unreachable!();
@@ -92,16 +102,26 @@ fn end_at(
 /// The sum of a register over the servers that have it and whose desks weren't dropped.
 fn sum(servers: &[Box<dyn Server + Send>], places: &[Place], k: u64) -> u128
     requires { length servers.now ≡ length places.now }
+    ensures { result ≡ sum_by (value_at registers k) (zip servers.now places.now) }
 {
     let mut sum = 0;
     for i in 0..places.len() {
-        if !places[i].is_dropped {
-            if let Some(value) = servers[i].balance(k) {
-                sum += u128::from(value);
-            }
-        }
+        sum += u128::from(counted_value(&servers[i], places[i].is_dropped, k));
     }
     sum
+}
+
+/// What a server adds to the sum of a register.
+fn counted_value(server: &Box<dyn Server + Send>, is_dropped: bool, k: u64) -> u64
+    ensures { result ≡ counted_value is_dropped (slice_get (registers server.now) k) }
+{
+    if is_dropped {
+        return 0;
+    }
+    match server.balance(k) {
+        Some(value) => value,
+        None => 0,
+    }
 }
 
 /// The line of an answer of the server at a place.
@@ -159,6 +179,11 @@ fn desk_line(
     ensures lie { AllLie recipe registers pending passes.new servers.new places.new }
     ensures as_many { length places.new ≡ length places.old }
     ensures began { firsts places.new ≡ firsts places.old }
+    ensures tells { IfOk result (λ text. (answer : ServerAnswer)
+        × DoesIn manager.now.limits act server
+            (places_shown recipe registers pending passes.old servers.old places.old) answer
+            (places_shown recipe registers pending passes.new servers.new places.new)
+        × IfSome (slice_get named.now server) (λ it. string_bytes text ≡ line (named_text (string_bytes it.name) answer))) }
     ensures line { IfOk result (λ text. IsLine (string_bytes text)) }
 {
     let answer = act_in(manager, passes, servers, places, server, act);
@@ -181,6 +206,9 @@ fn act_in(
     ensures lie { AllLie recipe registers pending passes.new servers.new places.new }
     ensures as_many { length places.new ≡ length places.old }
     ensures began { firsts places.new ≡ firsts places.old }
+    ensures tells { DoesIn manager.now.limits act at
+        (places_shown recipe registers pending passes.old servers.old places.old) result
+        (places_shown recipe registers pending passes.new servers.new places.new) }
 {
     act_at(
         manager,
@@ -219,6 +247,10 @@ fn command_line<R: Threads + Sync>(
     ensures began { firsts places.new ≡ firsts places.old }
     ensures racers { All (IsFreePass manager.now) racers.new }
     ensures racers_numbered { numbers racers.new ≡ numbers racers.old }
+    ensures tells { IfOk result (λ text.
+        TellsCommand manager.now (script_view script.now) command
+        (scene recipe registers pending client.old passes.old servers.old places.old racers.old) (string_bytes text)
+        (scene recipe registers pending client.new passes.new servers.new places.new racers.new)) }
     ensures line { IfOk result (λ text. IsLine (string_bytes text)) }
 {
     let named = script.servers.as_slice();
@@ -231,7 +263,7 @@ fn command_line<R: Threads + Sync>(
         Command::Read { id } => line(alloc, client::read(manager, client, id)),
         Command::Reply { root } => client::replies(alloc, manager, client, root),
         Command::Errors => client::errors(alloc, manager, client),
-        Command::Count => line(alloc, client::count(manager, client)),
+        Command::Count => line(alloc, Answer::Count(client::count(manager, client))),
         Command::Turn { server } => desk_line(
             alloc,
             named,
@@ -360,6 +392,13 @@ fn perform_all<R: Threads + Sync, W: Sink>(
     ensures began { firsts places.new ≡ firsts places.old }
     ensures racers { All (IsFreePass manager.now) racers.new }
     ensures racers_numbered { numbers racers.new ≡ numbers racers.old }
+    ensures told { OnOk result (ToldAll manager.now (script_view script.now)
+        (scene recipe registers pending client.old passes.old servers.old places.old racers.old)
+        (scene recipe registers pending client.new passes.new servers.new places.new racers.new)
+        (W.contents writer.old) (W.contents writer.new)) }
+    ensures told_front { OnErr result (ToldFront manager.now (script_view script.now)
+        (scene recipe registers pending client.old passes.old servers.old places.old racers.old)
+        (W.contents writer.old) (W.contents writer.new)) }
     ensures done { OnOk result (Writes (length script.now.commands.items)
         (W.contents writer.old) (W.contents writer.new)) }
     ensures front { OnErr result (WritesFront (length script.now.commands.items)
@@ -402,6 +441,15 @@ pub fn perform<R: Threads + Sync, W: Sink>(
     ensures servers { All (λ server. pending server ≡ None) servers.new }
     ensures left { let many = length servers.old in AllLeft recipe registers
         (all_firsts (workers many passes.old) servers.old) (workers many passes.new) servers.new }
+    ensures told { OnOk result ((first : Scene) × (last : Scene)
+        × IsFirstScene recipe registers pending passes.old servers.old first
+        × ToldAll manager.now (script_view script.now) first last
+            (W.contents writer.old) (W.contents writer.new)
+        × AllEnded last.places (workers (length servers.old) passes.new) (map (λ server. registers server) servers.new)) }
+    ensures told_front { OnErr result ((first : Scene)
+        × IsFirstScene recipe registers pending passes.old servers.old first
+        × ToldFront manager.now (script_view script.now) first
+            (W.contents writer.old) (W.contents writer.new)) }
     ensures done { OnOk result (Writes (length script.now.commands.items)
         (W.contents writer.old) (W.contents writer.new)) }
     ensures front { OnErr result (WritesFront (length script.now.commands.items)

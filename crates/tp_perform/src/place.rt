@@ -1,5 +1,5 @@
 //! Where a server's desk is between commands.
-ghost use Rattle.std.specs.Bool.{OnTrue};
+ghost use Rattle.std.specs.Prelude.{◌≡◌};
 
 use tp_desk::Aside;
 
@@ -13,11 +13,11 @@ pub struct Place {
 }
 
 impl Place {
-    ghost use Rattle.tp_perform.specs.Places.{IsFreeAt};
+    ghost use Rattle.tp_perform.specs.Together.{is_free_at};
 
     /// Whether the desk joins a race or a drain: it wasn't dropped, and has nothing in hand.
     pub(crate) fn is_free(&self) -> bool
-        ensures { OnTrue result (IsFreeAt self.now) }
+        ensures { result ≡ is_free_at self.now }
     {
         match &self.aside {
             Some(aside) => !self.is_dropped && !aside.has_open(),

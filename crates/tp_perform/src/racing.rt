@@ -1,13 +1,16 @@
 //! Commands that have all free servers work: `race`, on threads of their own with clients and cancellers, and `drain`.
 ghost use Rattle.std.specs.List.{swap};
-ghost use Rattle.std.specs.Prelude.{◌≡◌, ◌+◌, ◌-◌, ◌*◌, ◌≤◌, ◌<◌, ◌^◌, None, All, IfOk, length, sum_by, take};
+ghost use Rattle.std.specs.Prelude.{◌≡◌, ◌+◌, ◌-◌, ◌*◌, ◌≤◌, ◌<◌, ◌^◌, None, All, IfOk, length, replicate, sum_by, take, true};
 ghost use Rattle.tp_model.specs.Steps.{IsServerStage};
 ghost use Rattle.tp_manager.specs.Shown.{IsOf};
 ghost use Rattle.tp_workers.specs.Clients.{IsClientJob};
 ghost use Rattle.tp_workers.specs.Free.{IsFreePass, numbers};
 ghost use Rattle.tp_workers.specs.Killers.{IsKillJob};
 ghost use Rattle.tp_workers.specs.Sums.{calls_of, size_of_range};
-ghost use Rattle.tp_perform.specs.Places.{AllLie, IsFreeAt, firsts};
+ghost use Rattle.tp_workers.specs.Drained.{EndsIdle};
+ghost use Rattle.tp_perform.specs.Acting.{places_shown};
+ghost use Rattle.tp_perform.specs.Places.{AllLie, firsts};
+ghost use Rattle.tp_perform.specs.Together.{AllTakePart, ArePassed, Races, RacersRan, TookTurns, is_free_at};
 ghost use Rattle.tp_script.specs.declared.script.TheConstants.{MOST_SERVERS};
 
 use crate::place::Place;
@@ -32,10 +35,41 @@ pub(crate) struct RacePlan {
     pub turns: u16,
 }
 
+impl RacePlan {
+    ghost use Rattle.tp_perform.specs.Together.{client_job, first_number, kill_job};
+
+    /// What each client is to do.
+    fn client_job(self) -> ClientJob
+        ensures { result ≡ client_job self }
+    {
+        ClientJob {
+            stage: self.stage,
+            key: self.key,
+            amount: self.amount,
+            count: u32::from(self.submits),
+        }
+    }
+
+    /// What each canceller is to do: to kill the elements of all rows of these clients.
+    fn kill_job(self, clients: &[Pass], rows: u16) -> KillJob
+        requires { rows ≤ 256 }
+        ensures job { result ≡ kill_job rows self clients.now }
+        ensures few { result.first + self.clients * rows < 2 ^ 25 }
+    {
+        let first = match clients.split_first() {
+            Some((pass, _others)) => u32::from(pass.number()) * u32::from(rows),
+            None => 0,
+        };
+        let end = first + u32::from(self.clients) * u32::from(rows);
+        KillJob { first, end }
+    }
+}
+
 /// A list of so many jobs, all alike.
 fn client_jobs(alloc: Global, many: usize, job: ClientJob) -> Result<Vec<ClientJob>, AllocError>
     requires { IsClientJob job }
     ensures jobs { IfOk result (λ jobs. All IsClientJob jobs.items) }
+    ensures all { IfOk result (λ jobs. jobs.items ≡ replicate many job) }
     ensures many { IfOk result (λ jobs. length jobs.items ≡ many) }
     ensures calls { IfOk result (λ jobs. sum_by calls_of jobs.items ≡ many * job.count) }
 {
@@ -50,6 +84,7 @@ fn client_jobs(alloc: Global, many: usize, job: ClientJob) -> Result<Vec<ClientJ
 fn kill_jobs(alloc: Global, many: usize, job: KillJob) -> Result<Vec<KillJob>, AllocError>
     requires { IsKillJob job }
     ensures jobs { IfOk result (λ jobs. All IsKillJob jobs.items) }
+    ensures all { IfOk result (λ jobs. jobs.items ≡ replicate many job) }
     ensures many { IfOk result (λ jobs. length jobs.items ≡ many) }
     ensures ids { IfOk result (λ jobs. sum_by size_of_range jobs.items ≡ many * (job.end - job.first)) }
 {
@@ -88,21 +123,15 @@ pub(crate) fn run_race<R: Threads + Sync>(
     ensures began { firsts places.new ≡ firsts places.old }
     ensures racers_numbered { numbers racers.new ≡ numbers racers.old }
     ensures as_many { (length places.new ≡ length places.old) × (length racers.new ≡ length racers.old) }
+    ensures raced { IfOk result (λ submitted. Races manager.now rows plan racers.old submitted racers.new
+        (places_shown recipe registers pending passes.old servers.old places.old)
+        (places_shown recipe registers pending passes.new servers.new places.new)) }
 {
     let (clients, cancellers) = racers.split_at_mut(usize::from(plan.clients));
-    let first = match clients.first() {
-        Some(pass) => u32::from(pass.number()) * u32::from(rows),
-        None => 0,
-    };
-    let end = first + u32::from(plan.clients) * u32::from(rows);
-    let job = ClientJob {
-        stage: plan.stage,
-        key: plan.key,
-        amount: plan.amount,
-        count: u32::from(plan.submits),
-    };
+    let job = plan.client_job();
     let mut jobs = client_jobs(alloc, clients.len(), job)?;
-    let mut kills = kill_jobs(alloc, cancellers.len(), KillJob { first, end })?;
+    let kill = plan.kill_job(clients, rows);
+    let mut kills = kill_jobs(alloc, cancellers.len(), kill)?;
     Ok(race_free(
         rt,
         manager,
@@ -138,8 +167,9 @@ fn race_free<R: Threads + Sync>(
     requires own { All (IsOf manager.now) passes.old }
     requires lie { AllLie recipe registers pending passes.old servers.old places.old }
     requires few { length places.old ≤ MOST_SERVERS }
-    requires free { All IsFreeAt (take front places.old) }
+    requires free { All (λ place. is_free_at place ≡ true) (take front places.old) }
     requires within { (front ≤ at) × (at ≤ length places.old) }
+    requires passed { ArePassed front at places.old }
     requires clients { All (IsFreePass manager.now) clients.old }
     requires clients_paired { length clients.old ≡ length jobs.old }
     requires jobs { All IsClientJob jobs.old }
@@ -151,6 +181,10 @@ fn race_free<R: Threads + Sync>(
     requires turns { turns < 2 ^ 16 }
     ensures own { All (IsOf manager.now) passes.new }
     ensures lie { AllLie recipe registers pending passes.new servers.new places.new }
+    ensures desks { AllTakePart (TookTurns manager.now.limits turns)
+        (places_shown recipe registers pending passes.old servers.old places.old)
+        (places_shown recipe registers pending passes.new servers.new places.new) }
+    ensures ran { RacersRan manager.now jobs.old kills.old clients.old cancellers.old result clients.new cancellers.new }
     ensures clients { All (IsFreePass manager.now) clients.new }
     ensures cancellers { All (IsFreePass manager.now) cancellers.new }
     ensures began { firsts places.new ≡ firsts places.old }
@@ -216,8 +250,9 @@ fn race_front<R: Threads + Sync>(
     requires own { All (IsOf manager.now) passes.old }
     requires lie { AllLie recipe registers pending passes.old servers.old places.now }
     requires few { length places.now ≤ MOST_SERVERS }
-    requires free { All IsFreeAt (take front places.now) }
+    requires free { All (λ place. is_free_at place ≡ true) (take front places.now) }
     requires within { front ≤ length places.now }
+    requires passed { ArePassed front (length places.now) places.now }
     requires clients { All (IsFreePass manager.now) clients.old }
     requires clients_paired { length clients.old ≡ length jobs.old }
     requires jobs { All IsClientJob jobs.old }
@@ -229,6 +264,10 @@ fn race_front<R: Threads + Sync>(
     requires turns { turns < 2 ^ 16 }
     ensures own { All (IsOf manager.now) passes.new }
     ensures lie { AllLie recipe registers pending passes.new servers.new places.now }
+    ensures desks { AllTakePart (TookTurns manager.now.limits turns)
+        (places_shown recipe registers pending passes.old servers.old places.now)
+        (places_shown recipe registers pending passes.new servers.new places.now) }
+    ensures ran { RacersRan manager.now jobs.old kills.old clients.old cancellers.old result clients.new cancellers.new }
     ensures clients { All (IsFreePass manager.now) clients.new }
     ensures cancellers { All (IsFreePass manager.now) cancellers.new }
     ensures clients_numbered { numbers clients.new ≡ numbers clients.old }
@@ -258,6 +297,8 @@ fn swap_places(
     ensures own { All (IsOf manager.now) passes.new }
     ensures lie { AllLie recipe registers pending passes.new servers.new places.new }
     ensures swapped { places.new ≡ swap places.old a b }
+    ensures shown { places_shown recipe registers pending passes.new servers.new places.new
+        ≡ swap (places_shown recipe registers pending passes.old servers.old places.old) a b }
     ensures as_many { length places.new ≡ length places.old }
 {
     passes.swap(a, b);
@@ -277,6 +318,9 @@ pub(crate) fn drain_all(
     requires few { length places.old ≤ MOST_SERVERS }
     ensures own { All (IsOf manager.now) passes.new }
     ensures lie { AllLie recipe registers pending passes.new servers.new places.new }
+    ensures desks { AllTakePart (EndsIdle manager.now.limits)
+        (places_shown recipe registers pending passes.old servers.old places.old)
+        (places_shown recipe registers pending passes.new servers.new places.new) }
     ensures began { firsts places.new ≡ firsts places.old }
     ensures as_many { length places.new ≡ length places.old }
 {
@@ -295,10 +339,14 @@ fn drain_free(
     requires own { All (IsOf manager.now) passes.old }
     requires lie { AllLie recipe registers pending passes.old servers.old places.old }
     requires few { length places.old ≤ MOST_SERVERS }
-    requires free { All IsFreeAt (take front places.old) }
+    requires free { All (λ place. is_free_at place ≡ true) (take front places.old) }
     requires within { (front ≤ at) × (at ≤ length places.old) }
+    requires passed { ArePassed front at places.old }
     ensures own { All (IsOf manager.now) passes.new }
     ensures lie { AllLie recipe registers pending passes.new servers.new places.new }
+    ensures desks { AllTakePart (EndsIdle manager.now.limits)
+        (places_shown recipe registers pending passes.old servers.old places.old)
+        (places_shown recipe registers pending passes.new servers.new places.new) }
     ensures began { firsts places.new ≡ firsts places.old }
     ensures as_many { length places.new ≡ length places.old }
 {
@@ -326,10 +374,14 @@ fn drain_front(
     requires own { All (IsOf manager.now) passes.old }
     requires lie { AllLie recipe registers pending passes.old servers.old places.now }
     requires few { length places.now ≤ MOST_SERVERS }
-    requires free { All IsFreeAt (take front places.now) }
+    requires free { All (λ place. is_free_at place ≡ true) (take front places.now) }
     requires within { front ≤ length places.now }
+    requires passed { ArePassed front (length places.now) places.now }
     ensures own { All (IsOf manager.now) passes.new }
     ensures lie { AllLie recipe registers pending passes.new servers.new places.now }
+    ensures desks { AllTakePart (EndsIdle manager.now.limits)
+        (places_shown recipe registers pending passes.old servers.old places.now)
+        (places_shown recipe registers pending passes.new servers.new places.now) }
 {
     let (desks, _others) = passes.split_at_mut(front);
     let (boxes, _rest) = servers.split_at_mut(front);

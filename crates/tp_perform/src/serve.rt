@@ -1,10 +1,11 @@
 //! A script from its first command to its final lines: what it needs is made, performed and let go.
-ghost use Rattle.std.specs.Prelude.{◌≡◌, ◌+◌, None, IfOk, OnErr, OnOk, IsErrOf, IsTrue, All, length};
+ghost use Rattle.std.specs.Prelude.{◌≡◌, ◌+◌, [], None, IfOk, OnErr, OnOk, IsErrOf, IsTrue, All, length};
 ghost use Rattle.tp_manager.specs.Accounts.{AreAll};
-ghost use Rattle.tp_manager.specs.Shown.{IsKeptBy};
+ghost use Rattle.tp_manager.specs.Shown.{IsKeptBy, ManagerShown};
 ghost use Rattle.tp_report.specs.Lines.{Writes, WritesFront};
 ghost use Rattle.tp_workers.specs.Free.{IsFreePass};
 ghost use Rattle.tp_perform.specs.Performing.{line_count};
+ghost use Rattle.tp_perform.specs.Reported.{IsNewPass, Reported, limits_of};
 ghost use Rattle.tp_script.specs.Script.{passes as passes_of, script_view};
 
 use crate::account::close;
@@ -27,6 +28,8 @@ pub fn serve<R: Threads + Sync, W: Sink>(
     script: &Script,
     writer: &mut W,
 ) -> Result<(), RunFault>
+    ensures told { OnOk result ((m : ManagerShown) × Reported (script_view script.now) m
+        (W.contents writer.old) (W.contents writer.new)) }
     ensures done { OnOk result (Writes (line_count (script_view script.now)) (W.contents writer.old) (W.contents writer.new)) }
     ensures front { OnErr result (WritesFront (line_count (script_view script.now)) (W.contents writer.old) (W.contents writer.new)) }
     ensures write { IsErrOf result RunFault.Write → IsTrue (W.has_failed writer.new) }
@@ -63,10 +66,11 @@ fn all_passes(
     keeper: &mut Keeper,
 ) -> Result<Vec<Pass>, AllocError>
     requires keeper { IsKeptBy manager.now keeper.old }
-    requires fresh { keeper.old.given ≡ 0 }
+    requires fresh { (keeper.old.given ≡ 0) × (keeper.old.seen ≡ []) }
     ensures keeper { IsKeptBy manager.now keeper.new }
     ensures free { IfOk result (λ passes. All (IsFreePass manager.now) passes.items) }
     ensures given { IfOk result (λ passes. AreAll keeper.new passes.items) }
+    ensures new { IfOk result (λ passes. All IsNewPass passes.items) }
     ensures all { IfOk result (λ passes. length passes.items ≡ manager.now.limits.parts) }
 {
     let mut passes = Vec::new(alloc);
@@ -90,7 +94,11 @@ fn serve_by<R: Threads + Sync, W: Sink>(
     requires keeper { IsKeptBy manager.now keeper.old }
     requires given { AreAll keeper.old passes.old }
     requires passes { All (IsFreePass manager.now) passes.old }
+    requires new { All IsNewPass passes.old }
+    requires limits { manager.now.limits ≡ limits_of (script_view script.now) }
     requires enough { length passes.old ≡ passes_of (script_view script.now) }
+    ensures told { OnOk result (Reported (script_view script.now) manager.now
+        (W.contents writer.old) (W.contents writer.new)) }
     ensures done { OnOk result (Writes (line_count (script_view script.now)) (W.contents writer.old) (W.contents writer.new)) }
     ensures front { OnErr result (WritesFront (line_count (script_view script.now)) (W.contents writer.old) (W.contents writer.new)) }
     ensures write { IsErrOf result RunFault.Write → IsTrue (W.has_failed writer.new) }

@@ -1,5 +1,5 @@
 //! The manager of one thread.
-ghost use Rattle.std.specs.Prelude.{◌≡◌, ℕ, ◌<◌, ◌≤◌, ◌↔◌, ◌⊎◌, length, IfOk, IfErr, IsSome, replicate};
+ghost use Rattle.std.specs.Prelude.{◌≡◌, ℕ, ◌<◌, ◌≤◌, ◌↔◌, ◌⊎◌, length, IfOk, IfErr, IsSome, is_some, replicate};
 ghost use Rattle.tp_plain.specs.Noted.{event_of};
 ghost use Rattle.tp_plain.specs.Computed.{IsComputed, IsComputedOk, submit_of, claim_of_stage, commit_of, abort_of, kill_of, read_of};
 ghost use Rattle.tp_plain.specs.OneThread.{Answers, CallSubmit, CallAbort, CallClaim, CallCommit, CallKill, CallRead, extended, start, fresh_pass, held_after, pass_at};
@@ -69,6 +69,14 @@ impl Plain {
         ensures { result ≡ rows_of self.now.limits }
     {
         u32::from(self.limits.parts) * u32::from(self.limits.rows)
+    }
+
+    /// Whether a pass has a unit of work in its hand: claimed, and neither committed nor given up by its own calls.
+    pub fn has_open(&self, caller: u16) -> bool
+        requires { caller < self.now.limits.parts }
+        ensures { result ≡ is_some (pass_at self.now caller).holding }
+    {
+        self.passes[caller as usize].holding.is_some()
     }
 
     /// A client puts a new request into a stage.

@@ -11,16 +11,16 @@ use Rattle.tp_model.specs.declared.trace.StepKind.TheVariants as kinds
 use Rattle.tp_model.specs.declared.types.Element.{Element}
 use Rattle.tp_model.specs.declared.types.Limits.{Limits}
 use Rattle.tp_model.specs.History.{Aborted, Committed, UnitEnd, In, here, there, IsUnborn, births, end_of, first_id, pass_of}
-use Rattle.tp_model.specs.Steps.{AreLimits, AreOutputs, Step, rows_of, units_of}
+use Rattle.tp_model.specs.Steps.{AreLimits, AreOutputs, Step, units_of}
 use Rattle.tp_model.specs.Words.{claim_word, claim_word_after}
 use Rattle.tp_model.proofs.Bridges.{found_later, taking_later, by_own, claim_either, in_none, unborn_still, unused_still}
 use Rattle.tp_model.proofs.Lists.{option_or-None, if_same, if_other}
 use Rattle.tp_model.proofs.WordProofs.{end_of-snoc}
-use Rattle.tp_words.specs.Places.{Word, HeadWord, KeyWord, AmountWord, ClaimWord, UnitWord, IsThere, head_place, key_place, amount_place, claim_place, unit_place, place_of}
+use Rattle.tp_words.specs.Places.{Word, HeadWord, KeyWord, AmountWord, ClaimWord, UnitWord, head_place, key_place, amount_place, claim_place, unit_place, place_of}
 use Rattle.tp_words.specs.Words.{IsFitHead, IsFitUnit, head_of, pack_by, pack_head, pack_unit}
 use Rattle.tp_rule.specs.Doors.{Permits}
 use Rattle.tp_rule.specs.Plays.{exchanges_commit, exchanges_abort}
-use Rattle.tp_rule.specs.Rule.{AreFrom, HandHolds, Holds, RowsHold, Rule, Told, UnitsHold, World}
+use Rattle.tp_rule.specs.Rule.{AreFrom, HandHolds, Holds, RowsHold, Rule, Told, UnitsHold}
 use Rattle.tp_rule.specs.Steps.{IsOut, after, unchanged, with_end, with_lost, IsOwnWork, IsClaimed, committed, Grew, Loses}
 use Rattle.tp_rule.specs.Views.{IsOnePass, hand}
 use Rattle.tp_rule.specs.declared.view.Hand.{Hand}
@@ -143,6 +143,7 @@ module _ (k : Limits) where
         counted = r3.counted;
         drawn_below = r3.drawn_below;
         unborn = λ i l m. unborn_still h e i (r2.unborn i l m) (λ z n id. let t = in_run (c * k.rows + first) ds z r.run (from z n) in let b = t.1 in absurd (omega arith));
+        full = r3.full;
         empty = r3.empty;
         key_there = r3.key_there;
         amount_there = r3.amount_there;

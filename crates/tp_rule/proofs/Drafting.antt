@@ -1,6 +1,8 @@
 -- Draft stores keep the rule.
 use Rattle.std.proofs.Common.{◌≡◌, ℕ, ◌+◌, ◌*◌, ◌<◌, ◌≤◌, ◌≢◌, List, [], ◌∷◌, ◌++◌, length, set, get_or, sym, refl, ap, ◌∙◌, subst, ⊎_elim, arith, length-append, Option, Some, None}
 use Rattle.std.specs.Prelude.{IsSome}
+use mathlib.Core.Logic.{dite}
+use native.Mathlib.Decide.{ℕ_discrete}
 use Rattle.tp_model.specs.declared.event.Event.{Event}
 use Rattle.tp_model.specs.declared.trace.StepKind.TheVariants as kinds
 use Rattle.tp_model.specs.declared.types.Element.{Element}
@@ -10,7 +12,6 @@ use Rattle.tp_model.specs.Steps.{rows_of}
 use Rattle.tp_model.proofs.Bridges.{begins_refl, in_either, in_one}
 use Rattle.tp_words.specs.Places.{Word, HeadWord, KeyWord, AmountWord, IsThere, head_place, key_place, amount_place, place_of, size_of}
 use Rattle.tp_words.specs.Words.{head_of, pack_head}
-use Rattle.tp_words.specs.declared.words.Head.{Head}
 use Rattle.tp_words.specs.declared.words.Head.TheVariants.{There}
 use Rattle.tp_rule.specs.Doors.{Permits}
 use Rattle.tp_rule.specs.Plays.{stores_key, stores_amount, stores_head}
@@ -21,7 +22,7 @@ use Rattle.tp_rule.specs.declared.view.Hand.{Hand}
 use Rattle.tp_rule.specs.declared.view.View.{View}
 use Rattle.tp_rule.proofs.Frames.{Turn, hand_holds, hand_quiet, limits_are, me, moved, seat_holds}
 use Rattle.tp_rule.proofs.Parts.{IsOf, in_all, in_run, one_part, run_snoc}
-use Rattle.tp_rule.proofs.Storing.{body_row, holds_same, left, row_left, still_left, stored}
+use Rattle.tp_rule.proofs.Storing.{body_row, full_head, holds_same, left, row_left, still_left, stored}
 use Rattle.tp_rule.proofs.Tellings.{world_stored}
 
 module _ (k : Limits) where
@@ -43,15 +44,19 @@ module _ (k : Limits) where
         let part : IsOf k.parts k.rows c e.id = (below, omega arith, omega arith) in
         holds_same ws stored_words e (row_left k ws w x at e.id (in_all k.parts k.rows c e.id part) (λ z. let same : e.id ≡ row = cc in omega arith)) (r.written e q)
 
-    -- and the heads of the rows behind it, if it isn't theirs
+    -- and the heads of the other rows, if it isn't theirs
+    head_left : (i : ℕ) → w ≢ HeadWord i → IsOf k.parts k.rows c i → get_or stored_words (head_place i) 0 ≡ get_or ws (head_place i) 0
+    head_left i other part = left k ws w x at (HeadWord i) (in_all k.parts k.rows c i part) (λ e. other (sym e))
+
     heads_left : (i : ℕ) → w ≢ HeadWord i → IsOf k.parts k.rows c i → get_or ws (head_place i) 0 ≡ 0 → get_or stored_words (head_place i) 0 ≡ 0
-    heads_left i other part empty = left k ws w x at (HeadWord i) (in_all k.parts k.rows c i part) (λ e. other (sym e)) ∙ empty
+    heads_left i other part empty = head_left i other part ∙ empty
 
     key_stored : (key amount : Option ℕ) (ds : List Element) → w ≡ KeyWord row → drawn < k.rows → length ws ≡ size_of k → RowsHold k h ws c first drawn key amount ds → RowsHold k h stored_words c first drawn (Some x) amount ds
     key_stored key amount ds is room wide r = let own : row < rows_of k = in_all k.parts k.rows c row (below, omega arith, omega arith) in record {
       counted = r.counted;
       drawn_below = r.drawn_below;
       unborn = r.unborn;
+      full = λ i l m z. let top = r.drawn_below in r.full i l m (sym (head_left i (λ e. let q : KeyWord row ≡ HeadWord i = sym is ∙ e in absurd cc) (below, l, omega arith)) ∙ z);
       empty = λ i l m. heads_left i (λ e. let q : KeyWord row ≡ HeadWord i = sym is ∙ e in absurd cc) (below, omega arith, m) (r.empty i l m);
       key_there = λ y some. (room, ap (λ z. get_or stored_words (place_of k z) 0) (sym is) ∙ (stored k ws w x at wide ∙ cc some));
       amount_there = λ y some. let t = r.amount_there y some in (room, left k ws w x at (AmountWord row) own (λ e. let q : AmountWord row ≡ KeyWord row = e ∙ is in absurd cc) ∙ t.1);
@@ -64,6 +69,7 @@ module _ (k : Limits) where
       counted = r.counted;
       drawn_below = r.drawn_below;
       unborn = r.unborn;
+      full = λ i l m z. let top = r.drawn_below in r.full i l m (sym (head_left i (λ e. let q : AmountWord row ≡ HeadWord i = sym is ∙ e in absurd cc) (below, l, omega arith)) ∙ z);
       empty = λ i l m. heads_left i (λ e. let q : AmountWord row ≡ HeadWord i = sym is ∙ e in absurd cc) (below, omega arith, m) (r.empty i l m);
       key_there = λ y some. let t = r.key_there y some in (room, left k ws w x at (KeyWord row) own (λ e. let q : KeyWord row ≡ AmountWord row = e ∙ is in absurd cc) ∙ t.1);
       amount_there = λ y some. (room, ap (λ z. get_or stored_words (place_of k z) 0) (sym is) ∙ (stored k ws w x at wide ∙ cc some));
@@ -84,12 +90,20 @@ module _ (k : Limits) where
     pub empty_behind : w ≡ HeadWord row → (i : ℕ) → c * k.rows + (drawn + 1) ≤ i → i < c * k.rows + k.rows → ((j : ℕ) → row ≤ j → j < c * k.rows + k.rows → get_or ws (head_place j) 0 ≡ 0) → get_or stored_words (head_place i) 0 ≡ 0
     empty_behind is i low high empty = heads_left i (λ e. let q : HeadWord row ≡ HeadWord i = sym is ∙ e in let same : row ≡ i = cc in omega arith) (below, omega arith, high) (empty i (omega arith) high)
 
+    -- and so it and all before it have heads
+    pub full_before : w ≡ HeadWord row → x ≢ 0 → drawn < k.rows → length ws ≡ size_of k → ((j : ℕ) → c * k.rows ≤ j → j < row → get_or ws (head_place j) 0 ≢ 0)
+        → (i : ℕ) → c * k.rows ≤ i → i < c * k.rows + (drawn + 1) → get_or stored_words (head_place i) 0 ≢ 0
+    full_before is some room wide full i low high zero = dite (ℕ_discrete i row)
+        (λ e. some (sym (stored k ws w x at wide) ∙ (ap (λ z. get_or stored_words (place_of k z) 0) is ∙ (ap (λ z. get_or stored_words (head_place z) 0) (sym e) ∙ zero))))
+        (λ ne. full i low (omega arith) (sym (head_left i (λ e. let q : HeadWord row ≡ HeadWord i = sym is ∙ e in ne cc) (below, low, omega arith)) ∙ zero))
+
     draft_stored : (key amount : Option ℕ) (ds : List Element) (e : Element) → w ≡ HeadWord row → e.id ≡ row → key ≡ Some e.key → amount ≡ Some e.amount → x ≡ pack_head (head_of e) → drawn < k.rows → length ws ≡ size_of k
         → RowsHold k h ws c first drawn key amount ds → RowsHold k h stored_words c first (drawn + 1) None None (ds ++ e ∷ [])
     draft_stored key amount ds e is id ke am head room wide r = let count = r.counted in record {
       counted = omega (arith, length-append ds (e ∷ []));
       drawn_below = omega arith;
       unborn = r.unborn;
+      full = full_before is (λ z. full_head (head_of e) (λ q. cc) (sym head ∙ z)) room wide r.full;
       empty = λ i l m. empty_behind is i l m r.empty;
       key_there = λ y some. absurd cc;
       amount_there = λ y some. absurd cc;

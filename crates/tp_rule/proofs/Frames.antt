@@ -14,7 +14,7 @@ use Rattle.tp_model.specs.declared.event.Event.{Event}
 use Rattle.tp_model.specs.declared.event.Event.TheVariants.{Abort, Claim, Commit, Enqueue, Kill}
 use Rattle.tp_model.specs.declared.types.Element.{Element}
 use Rattle.tp_model.specs.declared.types.Limits.{Limits}
-use Rattle.tp_rule.proofs.Parts.{IsOf, in_all, in_run, one_part}
+use Rattle.tp_rule.proofs.Parts.{IsOf, in_run, one_part}
 use Rattle.tp_rule.proofs.Storing.{SameRow, holds_same}
 use Rattle.tp_rule.proofs.Units.{decide}
 use Rattle.tp_rule.specs.declared.view.Hand.{Hand}
@@ -78,6 +78,7 @@ module _ (k : Limits) where
     counted = count;
     drawn_below = top;
     unborn = λ i l m. still i (below, omega arith, m) (r.unborn i l m);
+    full = λ i l m z. r.full i l m (sym (agree i (below, l, omega arith)).0 ∙ z);
     empty = λ i l m. (agree i (below, omega arith, m)).0 ∙ r.empty i l m;
     key_there = λ x is. let t = r.key_there x is in let room = t.0 in (room, (agree (c * k.rows + drawn) (below, omega arith, omega arith)).1 ∙ t.1);
     amount_there = λ x is. let t = r.amount_there x is in let room = t.0 in (room, (agree (c * k.rows + drawn) (below, omega arith, omega arith)).2 ∙ t.1);

@@ -45,6 +45,7 @@ module _ (k : Limits) where
       counted = refl;
       drawn_below = omega arith;
       unborn = λ i l m. refl;
+      full = λ i l m. let low : c * k.rows ≤ i = l in let high : i < c * k.rows + 0 = m in absurd (omega arith);
       empty = λ i l m. zeros (size_of k) (head_place i);
       key_there = λ x is. absurd cc;
       amount_there = λ x is. absurd cc;

@@ -1,29 +1,29 @@
 -- Publish keeps the rule.
-use Rattle.std.proofs.Common.{◌≡◌, ◌≢◌, ℕ, ◌+◌, ◌*◌, ◌<◌, ◌≤◌, List, [], ◌∷◌, ◌++◌, length, set, get_or, sym, refl, ap, ◌∙◌, subst, ⊎_elim, arith, Option, Some, None}
+use Rattle.std.proofs.Common.{◌≡◌, ◌≢◌, ℕ, ◌+◌, ◌*◌, ◌<◌, ◌≤◌, List, [], ◌∷◌, ◌++◌, length, set, get_or, sym, refl, ap, ◌∙◌, subst, arith, Option, None}
 use Rattle.tp_model.specs.declared.event.Event.{Event}
 use Rattle.tp_model.specs.declared.event.Event.TheVariants.{Enqueue}
 use Rattle.tp_model.specs.declared.trace.StepKind.TheVariants as kinds
 use Rattle.tp_model.specs.declared.types.Element.{Element}
 use Rattle.tp_model.specs.declared.types.Limits.{Limits}
-use Rattle.tp_model.specs.History.{UnitEnd, IsUnborn, element_of}
+use Rattle.tp_model.specs.History.{UnitEnd, IsUnborn}
 use Rattle.tp_model.specs.Steps.{AreLimits, Step}
 use Rattle.tp_model.proofs.Bridges.{born_at, by_own, in_none, in_one, new_birth, unborn_still}
 use Rattle.tp_model.proofs.Lists.{option_or-None}
 use Rattle.tp_words.specs.Places.{Word, HeadWord, KeyWord, AmountWord, ClaimWord, UnitWord, IsThere, head_place, place_of, size_of}
-use Rattle.tp_words.specs.Words.{IsFitHead, head_of, pack_by, pack_head}
+use Rattle.tp_words.specs.Words.{head_of, pack_head}
 use Rattle.tp_words.specs.declared.words.Head.TheVariants.{There}
 use Rattle.tp_rule.specs.Doors.{Permits}
 use Rattle.tp_rule.specs.Plays.{publishes}
 use Rattle.tp_rule.specs.Rule.{RowsHold, Rule, Told}
-use Rattle.tp_rule.specs.Steps.{with_birth, next_element, birth, Grew, IsReady}
+use Rattle.tp_rule.specs.Steps.{with_birth, next_element, birth, IsReady}
 use Rattle.tp_rule.specs.Views.{hand, next_row}
 use Rattle.tp_rule.specs.declared.view.Hand.{Hand}
 use Rattle.tp_rule.specs.declared.view.View.{View}
-use Rattle.tp_rule.proofs.Drafting.{empty_behind, next, next_empty, next_own, next_there, next_unborn, of_no_other, row_full, stored_of}
+use Rattle.tp_rule.proofs.Drafting.{empty_behind, full_before, next, next_empty, next_own, next_there, next_unborn, of_no_other, stored_of}
 use Rattle.tp_rule.proofs.Events.{Act, acted, units_own, view_after}
 use Rattle.tp_rule.proofs.Frames.{Turn, hand_holds, limits_are}
 use Rattle.tp_rule.proofs.Parts.{IsOf, fair_rows}
-use Rattle.tp_rule.proofs.Storing.{body_row}
+use Rattle.tp_rule.proofs.Storing.{full_head}
 use Rattle.tp_rule.proofs.Tellings.{body_later, claim_later, head_later, unit_later}
 use Rattle.tp_rule.proofs.Units.{decide}
 
@@ -39,12 +39,13 @@ birth_told h c y (ClaimWord i) n other key amount old = claim_later h (Enqueue c
 birth_told h c y (UnitWord u) n other key amount old = unit_later h (Enqueue c y) u n (enqueue_quiet c y u _) old
 
 module _ (k : Limits) (fair : AreLimits k) where
-  rows_publish : (h : List Event) (ws : List ℕ) (c first drawn x : ℕ) (key amount : Option ℕ) (y : Element) (at : IsThere k (HeadWord (c * k.rows + drawn))) → c < k.parts → y.id ≡ c * k.rows + drawn → drawn < k.rows
+  rows_publish : (h : List Event) (ws : List ℕ) (c first drawn x : ℕ) (key amount : Option ℕ) (y : Element) (at : IsThere k (HeadWord (c * k.rows + drawn))) → c < k.parts → y.id ≡ c * k.rows + drawn → drawn < k.rows → x ≢ 0 → length ws ≡ size_of k
       → RowsHold k h ws c first drawn key amount [] → RowsHold k (h ++ Enqueue c y ∷ []) (set ws (head_place (c * k.rows + drawn)) x) c (drawn + 1) (drawn + 1) None None []
-  rows_publish h ws c first drawn x key amount y at below id room r = let count : first + 0 ≡ drawn = r.counted in record {
+  rows_publish h ws c first drawn x key amount y at below id room some wide r = let count : first + 0 ≡ drawn = r.counted in record {
     counted = omega arith;
     drawn_below = omega arith;
     unborn = λ i l m. unborn_still h (Enqueue c y) i (r.unborn i (omega arith) m) (λ z n same. let t : z.id ≡ y.id = ap (λ (t : Element). t.id) (in_one n) in absurd (omega arith));
+    full = full_before k h ws c first drawn (HeadWord (c * k.rows + drawn)) x at below refl some room wide r.full;
     empty = λ i l m. empty_behind k h ws c first drawn (HeadWord (c * k.rows + drawn)) x at below refl i l m r.empty;
     key_there = λ z is. absurd cc;
     amount_there = λ z is. absurd cc;
@@ -88,7 +89,7 @@ module _ (k : Limits) (fair : AreLimits k) where
         mine = record {
           given = mine.given;
           mine = ap (λ l. l ++ e ∷ []) mine.mine ∙ sym (by_own a.number h e refl);
-          rows = rows_publish h s.words a.number a.first_draft a.drawn x a.next_key a.next_amount y all mine.given here room rows;
+          rows = rows_publish h s.words a.number a.first_draft a.drawn x a.next_key a.next_amount y all mine.given here room (λ z. full_head (head_of y) (λ q. cc) (sym is ∙ z)) r.world.wide rows;
           units = units_own k h e a.number a.claimed a.spare_unit a.open_unit (enqueue_quiet a.number y) (λ d u i n z. cc) (λ d u z. cc) mine.units;
         };
       } in let done = acted k t act in (

@@ -1,9 +1,9 @@
 -- The seats after a step.
-use Rattle.std.proofs.Common.{◌≡◌, ℕ, zero, suc, ◌<◌, ◌≢◌, List, [], ◌∷◌, map, length, set, get_or, sym, refl, ap, ◌∙◌, subst, ⊎_elim, arith}
+use Rattle.std.proofs.Common.{◌≡◌, ℕ, zero, suc, ◌<◌, ◌≢◌, List, [], ◌∷◌, map, length, set, get_or, sym, refl, ap, ◌∙◌, subst, ⊎_elim, arith, ◌+◌, ◌*◌, ◌≤◌, Option}
 use mathlib.Core.Option.{some, some-injective, some-ne-none}
 use mathlib.Core.List.{IsPrefix}
 use mathlib.Core.Logic.{dite}
-use native.Mathlib.Decide.{ℕ_discrete}
+use native.Mathlib.Decide.{dec_le, ℕ_discrete}
 use lib.ListN.{get_elem?}
 use lib.Seq.{set-get_or}
 use Rattle.atomic_table.specs.Table.{State}
@@ -12,15 +12,16 @@ use Rattle.tp_model.specs.declared.event.Event.{Event}
 use Rattle.tp_model.specs.declared.trace.StepKind.{StepKind}
 use Rattle.tp_model.specs.declared.trace.StepKind.TheVariants as kinds
 use Rattle.tp_model.specs.declared.types.Limits.{Limits}
-use Rattle.tp_model.specs.History.{In, here, there}
+use Rattle.tp_model.specs.declared.types.Element.{Element}
+use Rattle.tp_model.specs.History.{In, IsUnborn, here, there}
 use Rattle.tp_model.specs.Steps.{IsLegal, rows_of}
 use Rattle.tp_model.proofs.Bridges.{append_nil, begins_refl, in_cons, in_none}
 use Rattle.tp_words.specs.Places.{HeadWord, head_place}
 use Rattle.tp_words.specs.declared.words.Head.{Head}
 use Rattle.tp_rule.specs.Doors.{Permits}
 use Rattle.tp_rule.specs.Plays.{loads, loads_head}
-use Rattle.tp_rule.specs.Rule.{HandHolds, IsApart, IsSeated, Rule, SeatHolds, StillSo, World}
-use Rattle.tp_rule.specs.Steps.{Found, Loads, noted, after, unchanged}
+use Rattle.tp_rule.specs.Rule.{HandHolds, IsApart, IsSeated, RowsHold, Rule, SeatHolds, StillSo}
+use Rattle.tp_rule.specs.Steps.{Found, Loads, NoneFrom, noted, after, unchanged}
 use Rattle.tp_rule.specs.Views.{HasPass, IsOnePass, hand}
 use Rattle.tp_rule.specs.declared.view.Hand.{Hand}
 use Rattle.tp_rule.specs.declared.view.Known.{Known}
@@ -117,6 +118,17 @@ module _ (k : Limits) where
   pub looks : (v : View) (word : ℕ) → HasPass v → Permits k v word (λ n. n) (loads word 0 0 v)
   looks v word has s r id at = let t = looks_knowing v word has s r id at v.known (r.seats id v at).known (λ x p. p) in (after kinds.Load unchanged r.history v.known v, t.0, t.1)
 
+  -- a row without a head is behind those that are drawn
+  rows_none : (h : List Event) (ws : List ℕ) (c first drawn i j : ℕ) (key amount : Option ℕ) (ds : List Element) → RowsHold k h ws c first drawn key amount ds → c * k.rows ≤ i → i ≤ j → j < c * k.rows + k.rows
+      → get_or ws (head_place i) 0 ≡ 0 → IsUnborn h j
+  rows_none h ws c first drawn i j key amount ds r low later high empty = let count = r.counted in dite (dec_le (c * k.rows + drawn) i)
+      (λ behind. r.unborn j (omega arith) high) (λ before. absurd (r.full i low (omega arith) empty))
+
+  none_from : (s : S) (r : Rule k s) (i : ℕ) → get_or s.words (head_place i) 0 ≡ 0 → NoneFrom k r.history i
+  none_from s r i empty c j own part later = let t = r.complete c own.0 in let a = t.2 in let hand = (r.seats t.0 t.1 t.3).hands a t.4 in
+      rows_none r.history s.words c a.first_draft a.drawn i j a.next_key a.next_amount a.drafts
+      (subst (λ n. RowsHold k r.history s.words n a.first_draft a.drawn a.next_key a.next_amount a.drafts) t.5 hand.rows) own.1 later part.2 empty
+
   -- the load of a head, which the seat remembers
   pub looks_head : (v : View) (row : ℕ) → HasPass v → row < rows_of k → Permits k v (head_place row) (λ n. n) (loads_head (head_place row) 0 0 v)
   looks_head v row has room s r id at = let told = r.world.tells (HeadWord row) room in let known : List Known = RowHead row told.head ∷ v.known in
@@ -128,6 +140,8 @@ module _ (k : Limits) where
           t.1,
           λ i head is packed fit. let same : row ≡ i = omega arith in let is_head : head ≡ told.head = head_told head told.head fit told.fit (sym packed ∙ told.packed) in
               subst (λ (z : ℕ × Head). In (RowHead z.0 z.1) known) (λ j. (same j, sym is_head j)) here,
+          λ i is empty. let same : row ≡ i = omega arith in
+              subst (λ l. NoneFrom l r.history i) (sym ((r.seats id v at).limits has.0 has.1)) (none_from s r i (ap (λ z. get_or s.words (head_place z) 0) (sym same) ∙ empty)),
         ),
       )
 

@@ -1,5 +1,5 @@
 -- What a store to one word leaves of the others.
-use Rattle.std.proofs.Common.{◌≡◌, ◌≢◌, ℕ, ◌+◌, ◌*◌, ◌<◌, List, length, set, get_or, sym, refl, ap, ◌∙◌, subst, arith, get_or-set_other, get_or-set_same, Option, Some, None}
+use Rattle.std.proofs.Common.{◌≡◌, ◌≢◌, ℕ, ◌<◌, List, length, set, get_or, sym, refl, ap, ◌∙◌, subst, arith, get_or-set_other, get_or-set_same, Option, Some, None}
 use mathlib.Core.Logic.{dite}
 use native.Mathlib.Decide.{ℕ_discrete}
 use Rattle.tp_model.specs.declared.types.Element.{Element}
@@ -30,7 +30,7 @@ pub holds_same : (ws ws' : List ℕ) (x : Element) → SameRow ws ws' x.id → H
 holds_same ws ws' x s h = (s.0 ∙ h.0, s.1 ∙ h.1, s.2 ∙ h.2)
 
 -- a head that isn't empty isn't packed as 0
-full_head : (head : Head) → head ≢ Empty → pack_head head ≡ 0 → ⊥
+pub full_head : (head : Head) → head ≢ Empty → pack_head head ≡ 0 → ⊥
 full_head Empty some e = some refl
 full_head (There stage root by) some e = omega arith
 

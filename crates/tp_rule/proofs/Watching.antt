@@ -22,6 +22,7 @@ module _ (k : Limits) where
     counted = omega arith;
     drawn_below = r.drawn_below;
     unborn = λ i l m. r.unborn i (omega arith) m;
+    full = r.full;
     empty = r.empty;
     key_there = r.key_there;
     amount_there = r.amount_there;

@@ -8,7 +8,7 @@ use Rattle.tp_words.specs.declared.words.Head.TheVariants.{There}
 use Rattle.tp_words.specs.Words.{IsFitHead, pack_claim, pack_head}
 use Rattle.tp_words.specs.Places.{head_place, claim_place, unit_place}
 use Rattle.tp_rule.specs.Views.{hand, next_row}
-use Rattle.tp_rule.specs.Steps.{Found, Grew, Knows, Loads, unchanged, drafted, with_key, with_amount, Drafts, Publishes, Chooses, MakesClaim, MakesCommit, Loses, MakesAbort, MakesKill, Misses}
+use Rattle.tp_rule.specs.Steps.{Found, Grew, Knows, Loads, NoneFrom, unchanged, drafted, with_key, with_amount, Drafts, Publishes, Chooses, MakesClaim, MakesCommit, Loses, MakesAbort, MakesKill, Misses}
 use Rattle.tp_rule.specs.declared.view.Known.TheVariants.{RowHead}
 use Rattle.tp_rule.specs.declared.view.View.{View}
 
@@ -18,10 +18,11 @@ Telling = ℕ → ℕ → ℕ → View → ℕ → View → Type 0
 abbrev pub loads : Telling
 loads word first second v r w = Loads v word r w
 
--- a load of a head, which the seat remembers
+-- a load of a head, which the seat remembers; where it is empty, nothing is born from its row on
 abbrev pub loads_head : Telling
 loads_head word first second v r w = Loads v word r w
     × ((i : ℕ) (head : Head) → word ≡ head_place i → r ≡ pack_head head → IsFitHead head → Knows w (RowHead i head))
+    × ((i : ℕ) → word ≡ head_place i → r ≡ 0 → NoneFrom v.limits w.seen i)
 
 abbrev pub stores_key : Telling
 stores_key word key second v r w = w ≡ drafted (with_key key) v

@@ -43,6 +43,8 @@ pub record RowsHold (l : Limits) (h : List Event) (ws : List ℕ) (c first_draft
   pub drawn_below : drawn ≤ l.rows
   -- no row from the first draft on is born
   pub unborn : (i : ℕ) → c * l.rows + first_draft ≤ i → i < c * l.rows + l.rows → IsUnborn h i
+  -- the head of each row that is drawn is not empty
+  pub full : (i : ℕ) → c * l.rows ≤ i → i < c * l.rows + drawn → slice_index ws (head_place i) ≢ 0
   -- the head of each row that is not drawn is empty
   pub empty : (i : ℕ) → c * l.rows + drawn ≤ i → i < c * l.rows + l.rows → slice_index ws (head_place i) ≡ 0
   -- the key that the pass remembers stands in the next row

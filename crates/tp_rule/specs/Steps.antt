@@ -1,6 +1,6 @@
 -- What each kind of step makes of a seat's view, and what it tells. In each definition v is the view before the step, and w the view after it.
 -- A view changes in two ways alone: `after` a step, and by a split or a join of seats.
-use Rattle.std.specs.Prelude.{◌≡◌, ◌≢◌, ℕ, ◌+◌, ◌-◌, ◌<◌, ◌≤◌, List, [], ◌∷◌, ◌++◌, map, Option, Some, None, IsSome}
+use Rattle.std.specs.Prelude.{◌≡◌, ◌≢◌, ℕ, ◌+◌, ◌-◌, ◌≤◌, List, [], ◌∷◌, ◌++◌, map, Option, Some, None, IsSome}
 use mathlib.Core.List.{IsPrefix}
 use Rattle.tp_model.specs.declared.types.Element.{Element}
 use Rattle.tp_model.specs.declared.types.Limits.{Limits}
@@ -9,10 +9,10 @@ use Rattle.tp_model.specs.declared.event.Event.{Event}
 use Rattle.tp_model.specs.declared.event.Event.TheVariants.{Enqueue, Claim, Commit, Abort, Kill}
 use Rattle.tp_model.specs.declared.trace.StepKind.{StepKind}
 use Rattle.tp_model.specs.declared.trace.StepKind.TheVariants as kinds
-use Rattle.tp_model.specs.History.{Aborted, In, UnitClaim, UnitEnd, claim_of, element_of, end_of, events_by}
+use Rattle.tp_model.specs.History.{Aborted, In, IsUnborn, UnitClaim, UnitEnd, claim_of, element_of, end_of, events_by}
 use Rattle.tp_model.specs.Passes.{IsOwnOpen}
 use Rattle.tp_model.specs.Words.{ClaimWord, claim_word, word_status}
-use Rattle.tp_model.specs.Steps.{IsStage, IsServerStage, IsKillable, IsLegal}
+use Rattle.tp_model.specs.Steps.{IsStage, IsServerStage, IsKillable, IsLegal, IsRowOf}
 use Rattle.tp_words.specs.declared.words.Head.{Head}
 use Rattle.tp_words.specs.declared.words.Head.TheVariants.{Empty}
 use Rattle.tp_words.specs.Words.{IsFitClaim, head_of}
@@ -64,6 +64,10 @@ unchanged a = a
 -- what the number r tells, which was found at the place `word` after h
 abbrev pub Found : Limits → List Event → ℕ → ℕ → Type 0
 Found l h word r = (w : Word) → IsThere l w → word ≡ place_of l w → Told h w r
+
+-- no element is born in row i, nor in a later one of its part
+abbrev pub NoneFrom : Limits → List Event → ℕ → Type 0
+NoneFrom l h i = (c j : ℕ) → IsRowOf l c i → IsRowOf l c j → i ≤ j → IsUnborn h j
 
 -- a load, which found r at the place `word`
 abbrev pub Loads : View → ℕ → ℕ → View → Type 0

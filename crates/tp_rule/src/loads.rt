@@ -7,9 +7,10 @@ ghost use Rattle.tp_model.specs.Words.{claim_word};
 ghost use Rattle.tp_model.specs.Steps.{rows_of, units_of};
 ghost use Rattle.tp_words.specs.Words.{claim_value, unit_value, head_of, IsFitClaim};
 ghost use Rattle.tp_words.specs.Places.{size_of};
+ghost use Rattle.tp_words.specs.declared.words.Head.TheVariants.{Empty};
 ghost use Rattle.tp_rule.specs.Rule.{IsDraft};
 ghost use Rattle.tp_rule.specs.Views.{seen_by, view_of, HasPass, IsSameSeat};
-ghost use Rattle.tp_rule.specs.Steps.{Loads, Grew, Knows, unchanged};
+ghost use Rattle.tp_rule.specs.Steps.{Loads, Grew, Knows, NoneFrom, unchanged};
 ghost use Rattle.tp_rule.specs.declared.view.Known.TheVariants.{RowHead};
 
 use crate::plays::{Load, LoadHead};
@@ -21,6 +22,7 @@ impl Words {
     ghost use Rattle.tp_rule.specs.Tables.{limits_of, IsSeatOf, IsPassOf};
 
     /// Reads the word at a place. The seat may stand for several passes: each has one more entry in its trace.
+    #[inline(always)]
     pub fn load(&self, seat: &mut Seat, word: usize) -> u64
         requires own { IsSeatOf self.now seat.old }
         requires inside { word < size_of (limits_of self.now) }
@@ -33,7 +35,8 @@ impl Words {
 
     /// Reads the head of a row. Where an element is born in what is then seen, it is that element's head. Where none
     /// is, it is empty or names a unit: a draft is no element before its unit commits. The seat remembers what it found:
-    /// a head that isn't empty stays.
+    /// a head that isn't empty stays. Where it is empty, no element is born in the later rows of its part either.
+    #[inline(always)]
     pub fn load_head(&self, seat: &mut Seat, row: u32) -> Head
         requires own { IsSeatOf self.now seat.old }
         requires one { IsPassOf self.now seat.old }
@@ -43,6 +46,7 @@ impl Words {
         ensures born { (e : Element) → element_of (seen_by seat.new) row ≡ Some e → result ≡ head_of e }
         ensures draft { IsUnborn (seen_by seat.new) row → IsDraft result }
         ensures knows { Knows (view_of seat.new) (RowHead row result) }
+        ensures none { result ≡ Empty → NoneFrom (limits_of self.now) (seen_by seat.new) row }
     {
         let word = self.places.head(row);
         let found = self.table.load::<LoadHead>(seat, word);
@@ -53,6 +57,7 @@ impl Words {
     }
 
     /// Reads the key of a row: that of its element, where one is born.
+    #[inline(always)]
     pub fn load_key(&self, seat: &mut Seat, row: u32) -> u64
         requires own { IsSeatOf self.now seat.old }
         requires one { IsPassOf self.now seat.old }
@@ -66,6 +71,7 @@ impl Words {
     }
 
     /// Reads the amount of a row: that of its element, where one is born.
+    #[inline(always)]
     pub fn load_amount(&self, seat: &mut Seat, row: u32) -> u64
         requires own { IsSeatOf self.now seat.old }
         requires one { IsPassOf self.now seat.old }
@@ -79,6 +85,7 @@ impl Words {
     }
 
     /// Reads the claim of a row: which unit took its element last, for which time, and whether it was killed.
+    #[inline(always)]
     pub fn load_claim(&self, seat: &mut Seat, row: u32) -> Claim
         requires own { IsSeatOf self.now seat.old }
         requires one { IsPassOf self.now seat.old }
@@ -97,6 +104,7 @@ impl Words {
     }
 
     /// Reads the word of a unit: how it ended, or that it is undecided.
+    #[inline(always)]
     pub fn load_unit(&self, seat: &mut Seat, unit: u16) -> UnitWord
         requires own { IsSeatOf self.now seat.old }
         requires one { IsPassOf self.now seat.old }

@@ -71,6 +71,7 @@ impl SharedTable {
     }
 
     /// Loads a word, with this effect.
+    #[inline(always)]
     pub(crate) fn load<E: Effect>(&self, seat: &mut Seat, word: usize) -> u64
         requires own { seat.old.table ≡ id_of self.now }
         requires inside { word < (id_of self.now).words }
@@ -85,6 +86,7 @@ impl SharedTable {
     }
 
     /// Stores a word, with this effect.
+    #[inline(always)]
     pub(crate) fn store<E: Effect>(&self, seat: &mut Seat, word: usize, new: u64)
         requires own { seat.old.table ≡ id_of self.now }
         requires inside { word < (id_of self.now).words }
@@ -100,6 +102,7 @@ impl SharedTable {
     }
 
     /// Changes a word from `old` to `new` if it is `old`, with this effect. The answer is the word as it was.
+    #[inline(always)]
     pub(crate) fn compare_exchange<E: Effect>(
         &self,
         seat: &mut Seat,

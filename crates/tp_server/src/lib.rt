@@ -10,8 +10,6 @@ mod prepared;
 mod recipe;
 mod registers;
 mod server;
-#[cfg(test)]
-mod tests;
 
 pub use crate::eager::EagerServer;
 pub use crate::lazy::LazyServer;

@@ -1,13 +1,14 @@
 //! Scripts and their reports, from bytes to bytes, and what they are made of.
 
 mod answers;
+mod asking;
 mod boxes;
 mod devices;
 mod faults;
-mod hostile;
 mod interrupted;
 mod plain;
 mod plain_cancels;
+mod reaches;
 mod read;
 mod rows;
 

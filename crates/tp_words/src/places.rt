@@ -1,5 +1,5 @@
 //! Where the words stand in the table: those of each row, then one for each unit.
-ghost use Rattle.std.specs.Prelude.{◌≡◌, ◌<◌, ◌↔◌, IsOk, IfOk, Err};
+ghost use Rattle.std.specs.Prelude.{◌≡◌, ◌+◌, ◌*◌, ◌<◌, ◌≤◌, ◌↔◌, ℕ, IsOk, IfOk, Err};
 ghost use Rattle.tp_model.specs.Steps.{AreLimits};
 ghost use Rattle.tp_words.specs.Places.{PlacesDiffer, PlacesInside};
 
@@ -17,7 +17,7 @@ pub struct Places {
 }
 
 impl Places {
-    ghost use Rattle.tp_model.specs.Steps.{rows_of, units_of};
+    ghost use Rattle.tp_model.specs.Steps.{rows_of, units_of, IsRowOf};
     ghost use Rattle.tp_words.specs.Places.{head_place, key_place, amount_place, claim_place, unit_place, size_of};
     ghost use Rattle.tp_model.specs.declared.types.Refusal.TheVariants as Refusal;
 
@@ -35,10 +35,21 @@ impl Places {
     }
 
     /// How many rows there are, at most 8192.
+    #[inline(always)]
     pub fn rows(&self) -> u32
         ensures { result ≡ rows_of self.now.limits }
     {
         self.limits.parts as u32 * self.limits.rows as u32
+    }
+
+    /// The row behind the last one of this row's part.
+    pub fn part_end(&self, row: u32) -> u32
+        requires { row < rows_of self.now.limits }
+        ensures part { let l = self.now.limits in (c : ℕ) × IsRowOf l c row × (result ≡ c * l.rows + l.rows) }
+        ensures inside { result ≤ rows_of self.now.limits }
+    {
+        let rows = self.limits.rows as u32;
+        (row / rows + 1) * rows
     }
 
     /// How many words there are.
@@ -49,6 +60,7 @@ impl Places {
     }
 
     /// The place of the head of a row.
+    #[inline(always)]
     pub fn head(&self, row: u32) -> usize
         requires { row < rows_of self.now.limits }
         ensures place { result ≡ head_place row }
@@ -58,6 +70,7 @@ impl Places {
     }
 
     /// The place of the key of a row.
+    #[inline(always)]
     pub fn key(&self, row: u32) -> usize
         requires { row < rows_of self.now.limits }
         ensures place { result ≡ key_place row }
@@ -67,6 +80,7 @@ impl Places {
     }
 
     /// The place of the amount of a row.
+    #[inline(always)]
     pub fn amount(&self, row: u32) -> usize
         requires { row < rows_of self.now.limits }
         ensures place { result ≡ amount_place row }
@@ -76,6 +90,7 @@ impl Places {
     }
 
     /// The place of the claim of a row.
+    #[inline(always)]
     pub fn claim(&self, row: u32) -> usize
         requires { row < rows_of self.now.limits }
         ensures place { result ≡ claim_place row }
@@ -85,6 +100,7 @@ impl Places {
     }
 
     /// The place of the word of a unit.
+    #[inline(always)]
     pub fn unit(&self, unit: u16) -> usize
         requires { unit < units_of self.now.limits }
         ensures place { result ≡ unit_place self.now.limits unit }

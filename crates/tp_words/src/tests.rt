@@ -153,6 +153,10 @@ fn places(rt: HostRuntime) {
     assert!(rt; small.amount(15) == 62);
     assert!(rt; small.claim(15) == 63);
     assert!(rt; small.unit(256) == 320);
+    assert!(rt; small.part_end(0) == 8);
+    assert!(rt; small.part_end(7) == 8);
+    assert!(rt; small.part_end(8) == 16);
+    assert!(rt; small.part_end(15) == 16);
     let Ok(largest) = Places::new(limits(32, 256, 1024, 7)) else {
         assert!(rt; false);
         return;

@@ -59,6 +59,7 @@ impl Head {
     ghost use Rattle.tp_words.specs.declared.words.Head.{Head};
 
     /// The word that tells this.
+    #[inline(always)]
     pub fn pack(self) -> u64
         requires { IsFitHead self }
         ensures { result ≡ pack_head self }
@@ -76,6 +77,7 @@ impl Head {
     }
 
     /// What the word tells, or `None` for a number that is no head word.
+    #[inline(always)]
     pub fn unpack(word: u64) -> Option<Head>
         ensures of_pack { (h : Head) → IsFitHead h → word ≡ pack_head h → result ≡ Some h }
         ensures to_pack { IfSome result (λ h. IsFitHead h × (word ≡ pack_head h)) }
@@ -103,6 +105,7 @@ impl Claim {
     ghost use Rattle.tp_words.specs.Words.{pack_claim, claim_value, IsFitClaim, IsClaimWord};
 
     /// The word that tells this.
+    #[inline(always)]
     pub fn pack(self) -> u64
         requires { IsFitClaim (claim_value self) }
         ensures { result ≡ pack_claim (claim_value self) }
@@ -135,6 +138,7 @@ impl Claim {
     }
 
     /// What the word tells, or `None` for a number that is no claim word.
+    #[inline(always)]
     pub fn unpack(word: u64) -> Option<Claim>
         ensures of_pack { (w : ClaimWord) → IsFitClaim w → word ≡ pack_claim w → option_map claim_value result ≡ Some w }
         ensures to_pack { IfSome result (λ c. IsFitClaim (claim_value c) × (word ≡ pack_claim (claim_value c))) }
@@ -164,6 +168,7 @@ impl UnitWord {
     ghost use Rattle.tp_words.specs.Words.{pack_unit, unit_value, IsFitUnit, IsUnitWord};
 
     /// The word that tells this.
+    #[inline(always)]
     pub fn pack(self) -> u64
         requires { IsFitUnit (unit_value self) }
         ensures { result ≡ pack_unit (unit_value self) }
@@ -178,6 +183,7 @@ impl UnitWord {
     }
 
     /// What the word tells, or `None` for a number that is no word of a unit.
+    #[inline(always)]
     pub fn unpack(word: u64) -> Option<UnitWord>
         ensures of_pack { (w : Option UnitEnd) → IsFitUnit w → word ≡ pack_unit w → option_map unit_value result ≡ Some w }
         ensures to_pack { IfSome result (λ u. IsFitUnit (unit_value u) × (word ≡ pack_unit (unit_value u))) }

@@ -9,8 +9,6 @@ mod gate;
 mod killer;
 mod rounds;
 mod tally;
-#[cfg(test)]
-mod tests;
 mod work;
 
 pub use client::ClientJob;

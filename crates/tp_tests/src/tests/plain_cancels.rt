@@ -1,81 +1,59 @@
 //! Cancels by the manager of one thread.
 
-use super::plain::limits;
-use std::test::Fail;
+use super::asking::{aborts, cancels, claim, commits, stands, submits, two, work};
 use tp_model::types::{Cancelled, Claimed, Draft, Ended, Outcome, Refusal, Status};
-use tp_plain::laws;
-use tp_plain::plain::Plain;
 
 // The element 0 is consumed, and of its outputs 8 is held, 9 waits and 10 is a reply. The element 1 is another
 // request.
 #[test]
-fn what_is_held_and_what_waits(rt: HostRuntime) -> Result<(), Fail> {
-    let mut plain = Plain::new(rt.alloc(), limits(8, 256, 3))?;
-    assert_eq!(rt; plain.submit(0, 1, 0, 9), Ok(0));
-    assert_eq!(rt; plain.submit(0, 2, 0, 7), Ok(1));
-    let Ok(Claimed::Work(first)) = plain.claim(1, 1) else {
-        panic!(rt; "no work")
-    };
+fn what_is_held_and_what_waits(rt: HostRuntime) {
+    let mut plain = two(&rt, 8, 256, 3);
+    assert!(rt; submits(&mut plain, 0, 1, 9, Ok(0)));
+    assert!(rt; submits(&mut plain, 0, 2, 7, Ok(1)));
+    let first = work(&mut plain, 1, 1).expect(&rt, "no work");
     let drafts = [
-        Draft::new(14, 0, 4).ok_or("a draft")?,
-        Draft::new(3, 0, 5).ok_or("a draft")?,
-        Draft::new(15, 0, 9).ok_or("a draft")?,
+        Draft::new(14, 0, 4).expect(&rt, "no draft"),
+        Draft::new(3, 0, 5).expect(&rt, "no draft"),
+        Draft::new(15, 0, 9).expect(&rt, "no draft"),
     ];
     let done = Outcome::Committed { first: 8, count: 3 };
-    assert_eq!(rt; plain.commit(1, &drafts), Ok(done));
-    let Ok(Claimed::Work(second)) = plain.claim(1, 14) else {
-        panic!(rt; "no work")
-    };
-    assert_eq!(rt; (first.element.id, second.element.id), (0, 8));
+    assert!(rt; commits(&mut plain, 1, &drafts, Ok(done)));
+    let second = work(&mut plain, 1, 14).expect(&rt, "no work");
+    assert!(rt; first.element.id == 0 && second.element.id == 8);
 
-    assert_eq!(rt; plain.cancel(0, 0), Ok(Cancelled { killed: 2 }));
-    assert_eq!(rt; plain.cancel(0, 0), Ok(Cancelled { killed: 0 }));
-    assert_eq!(rt; plain.commit(1, &[]), Ok(Outcome::Lost));
-    assert_eq!(rt; plain.claim(1, 3), Ok(Claimed::Idle));
-    assert_eq!(rt;
-        plain.read(0)?.status,
-        Status::Consumed { unit: first.unit }
-    );
-    assert_eq!(rt; plain.read(8)?.status, Status::Killed);
-    assert_eq!(rt; plain.read(9)?.status, Status::Killed);
-    assert_eq!(rt; plain.read(10)?.status, Status::Waiting { attempts: 0 });
-    assert_eq!(rt; plain.read(1)?.status, Status::Waiting { attempts: 0 });
-    Ok(())
+    assert!(rt; cancels(&mut plain, 0, 0, Ok(Cancelled { killed: 2 })));
+    assert!(rt; cancels(&mut plain, 0, 0, Ok(Cancelled { killed: 0 })));
+    assert!(rt; commits(&mut plain, 1, &[], Ok(Outcome::Lost)));
+    assert_eq!(rt; claim(&mut plain, 1, 3), Some(Claimed::Idle));
+    assert!(rt; stands(&plain, 0, Status::Consumed { unit: first.unit }));
+    assert!(rt; stands(&plain, 8, Status::Killed));
+    assert!(rt; stands(&plain, 9, Status::Killed));
+    assert!(rt; stands(&plain, 10, Status::Waiting { attempts: 0 }));
+    assert!(rt; stands(&plain, 1, Status::Waiting { attempts: 0 }));
 }
 
 #[test]
-fn what_is_parked(rt: HostRuntime) -> Result<(), Fail> {
-    let mut plain = Plain::new(rt.alloc(), limits(2, 2, 1))?;
-    assert_eq!(rt; plain.submit(0, 1, 0, 9), Ok(0));
-    let Ok(Claimed::Work(_)) = plain.claim(1, 1) else {
-        panic!(rt; "no work")
-    };
-    assert_eq!(rt; plain.abort(1), Ended::Aborted);
-    assert_eq!(rt; plain.read(0)?.status, Status::Parked { attempts: 1 });
-    assert_eq!(rt; plain.cancel(1, 0), Ok(Cancelled { killed: 1 }));
-    assert_eq!(rt; plain.read(0)?.status, Status::Killed);
-    Ok(())
+fn what_is_parked(rt: HostRuntime) {
+    let mut plain = two(&rt, 2, 2, 1);
+    assert!(rt; submits(&mut plain, 0, 1, 9, Ok(0)));
+    assert!(rt; work(&mut plain, 1, 1).is_some());
+    assert!(rt; aborts(&mut plain, 1, Ended::Aborted));
+    assert!(rt; stands(&plain, 0, Status::Parked { attempts: 1 }));
+    assert!(rt; cancels(&mut plain, 1, 0, Ok(Cancelled { killed: 1 })));
+    assert!(rt; stands(&plain, 0, Status::Killed));
 }
 
 #[test]
-fn what_is_no_request(rt: HostRuntime) -> Result<(), Fail> {
-    let mut plain = Plain::new(rt.alloc(), limits(4, 2, 2))?;
-    assert_eq!(rt; plain.cancel(0, 0), Err(Refusal::NotThere));
-    assert_eq!(rt; plain.submit(0, 1, 0, 9), Ok(0));
-    let Ok(Claimed::Work(_)) = plain.claim(1, 1) else {
-        panic!(rt; "no work")
-    };
-    let draft = Draft::new(2, 0, 9).ok_or("a draft")?;
+fn what_is_no_request(rt: HostRuntime) {
+    let mut plain = two(&rt, 4, 2, 2);
+    assert!(rt; cancels(&mut plain, 0, 0, Err(Refusal::NotThere)));
+    assert!(rt; submits(&mut plain, 0, 1, 9, Ok(0)));
+    assert!(rt; work(&mut plain, 1, 1).is_some());
+    let draft = Draft::new(2, 0, 9).expect(&rt, "no draft");
     let done = Outcome::Committed { first: 4, count: 1 };
-    assert_eq!(rt; plain.commit(1, &[draft]), Ok(done));
-    assert_eq!(rt; plain.cancel(0, 4), Err(Refusal::NotThere));
-    assert_eq!(rt; plain.cancel(0, 1), Err(Refusal::NotThere));
-    assert_eq!(rt; plain.cancel(0, 4_000_000_000), Err(Refusal::NotThere));
-    assert_eq!(rt; plain.read(4)?.status, Status::Waiting { attempts: 0 });
-    Ok(())
-}
-
-#[test]
-fn the_law_may_be_called() {
-    laws::cancelled_for_good();
+    assert!(rt; commits(&mut plain, 1, &[draft], Ok(done)));
+    assert!(rt; cancels(&mut plain, 0, 4, Err(Refusal::NotThere)));
+    assert!(rt; cancels(&mut plain, 0, 1, Err(Refusal::NotThere)));
+    assert!(rt; cancels(&mut plain, 0, 4_000_000_000, Err(Refusal::NotThere)));
+    assert!(rt; stands(&plain, 4, Status::Waiting { attempts: 0 }));
 }

@@ -1,7 +1,6 @@
 //! Worked scripts with their reports, and the refused ones with the line that says so.
 
-use super::{agreed, performed, written};
-use std::test::Fail;
+use super::{agreed, written};
 use tp_report::Exit;
 
 #[test]
@@ -55,81 +54,21 @@ fn outputs_by_their_recipes(rt: HostRuntime) {
     assert_eq!(rt; held.as_slice(), want.as_bytes());
 }
 
+// What is read, and what isn't, is the grammar of all reaches but for this, and rows/READ.tsv has its edges.
 #[test]
 fn refusals(rt: HostRuntime) {
     for (script, want) in [
-        // Rows of their own.
-        ("server a eager 1 65 add", "1: 4 BadRecipe"),
-        ("rows 8\nsubmit 1 0", "2: 1 Syntax"),
-        ("limit 8", "1: 3 BadLimits"),
-        // Words.
         ("kill 0", "1: 1 Syntax"),
-        ("Submit 1 0 1", "1: 1 Syntax"),
         ("submit 1 0 1 1", "1: 1 Syntax"),
-        ("submit 1\t0 1", "1: 1 Syntax"),
-        ("# a comment with \x7f", "1: 1 Syntax"),
-        ("submit 1 0 1\r\n", "1: 1 Syntax"),
-        ("server a keen 1 1 add", "1: 1 Syntax"),
-        ("server a eager 1 1 give", "1: 1 Syntax"),
-        ("server a eager 1 1", "1: 1 Syntax"),
-        ("server a eager 1 1 add 15:same", "1: 1 Syntax"),
-        ("server a eager 1 1 add 15:same:same:same", "1: 1 Syntax"),
-        (
-            "server a eager 1 1 add 1:same:same 1:same:same 1:same:same 1:same:same 1:same:same",
-            "1: 1 Syntax",
-        ),
-        // Numbers.
-        ("server a eager 1 1 add 15:same:aft", "1: 2 BadNumber"),
-        ("server a eager 1 1 add 256:same:same", "1: 2 BadNumber"),
-        ("server a eager 256 1 add", "1: 2 BadNumber"),
-        ("server a eager 1 256 add", "1: 2 BadNumber"),
         ("submit 256 0 1", "1: 2 BadNumber"),
-        ("submit +1 0 1", "1: 2 BadNumber"),
-        ("submit 1 0 18446744073709551616", "1: 2 BadNumber"),
-        ("submit 1 0 000000000000000000001", "1: 2 BadNumber"),
-        ("reply 4294967296", "1: 2 BadNumber"),
-        // Limits.
-        ("rows 0", "1: 3 BadLimits"),
         ("rows 257", "1: 3 BadLimits"),
-        ("units 1025", "1: 3 BadLimits"),
-        ("limit 0", "1: 3 BadLimits"),
-        (
-            "server a eager 1 1 add\nserver b eager 1 1 add",
-            "2: 3 BadLimits",
-        ),
-        // Recipes.
-        ("server a eager 0 1 add", "1: 4 BadRecipe"),
-        ("server a eager 15 1 add", "1: 4 BadRecipe"),
-        ("server a eager 1 0 add", "1: 4 BadRecipe"),
-        ("server a eager 1 1 add 0:same:same", "1: 4 BadRecipe"),
-        ("server a eager 1 1 add 16:same:same", "1: 4 BadRecipe"),
-        ("server a eager 1 1 add\nstart a 1 0", "2: 4 BadRecipe"),
-        // Names.
-        ("turn a", "1: 5 BadName"),
-        ("server A eager 1 1 add", "1: 5 BadName"),
-        ("server abcdefghi eager 1 1 add", "1: 5 BadName"),
-        (
-            "server a eager 1 1 add\nserver a eager 1 1 add",
-            "2: 5 BadName",
-        ),
-        ("server a eager 1 1 add\nstart b 0 0", "2: 5 BadName"),
-        // Order.
-        ("submit 1 0 1\nrows 1", "2: 7 Order"),
-        ("server a eager 1 1 add\nunits 1", "2: 7 Order"),
-        ("submit 1 0 1\nserver a eager 1 1 add", "2: 7 Order"),
-        ("server a eager 1 1 add\nturn a\nstart a 0 0", "3: 7 Order"),
-        // Of several faults in a line the first in the order 6, 1, 7, 5, 2, 3, 4.
-        ("submit 1 0 1\nrows x", "2: 7 Order"),
-        ("submit 1 0 1\nrows x y", "2: 1 Syntax"),
-        ("submit 1 0 1\nserver A eager 1 1 add", "2: 7 Order"),
-        ("server A eager 256 1 add", "1: 5 BadName"),
-        ("server a eager 256 65 add", "1: 2 BadNumber"),
         (
             "server a eager 1 1 add\nserver b eager 1 65 add",
             "2: 3 BadLimits",
         ),
-        // The first faulty line.
-        ("turn a\nrows 0", "1: 5 BadName"),
+        ("server a eager 1 65 add", "1: 4 BadRecipe"),
+        ("turn a", "1: 5 BadName"),
+        ("submit 1 0 1\nrows 1", "2: 7 Order"),
     ] {
         let (answer, held) = written(&rt, script.as_bytes());
         assert_eq!(rt; answer, Ok(Exit::Refused), "at {script:?}");
@@ -137,41 +76,4 @@ fn refusals(rt: HostRuntime) {
         let rest = text.strip_prefix("refused line ").unwrap_or("no refusal");
         assert_eq!(rt; rest.strip_suffix("\n"), Some(want), "at {script:?}");
     }
-}
-
-#[test]
-fn names_and_lines_at_their_edges(rt: HostRuntime) -> Result<(), Fail> {
-    let (answer, _) = written(&rt, b"server abcdefgh eager 1 1 add\nturn abcdefgh");
-    assert_eq!(rt; answer, Ok(Exit::Done));
-    let (answer, _) = written(&rt, b"submit 1 0 18446744073709551615\nreply 4294967295");
-    assert_eq!(rt; answer, Ok(Exit::Done));
-    let (answer, _) = written(&rt, b"submit 1 0 00000000000000000001");
-    assert_eq!(rt; answer, Ok(Exit::Done));
-    for (spaces, bytes, want) in [(200, "", ""), (201, "", "refused line 1: 6 TooLong\n")] {
-        let mut script = Vec::new(rt.alloc());
-        script.resize(spaces, b' ')?;
-        script.extend_from_slice(bytes.as_bytes())?;
-        let (_, held) = written(&rt, script.as_slice());
-        assert_eq!(rt; held.as_slice(), want.as_bytes());
-    }
-    for (length, want) in [(65_536, ""), (65_537, "refused line 0: 6 TooLong\n")] {
-        let mut script = Vec::new(rt.alloc());
-        script.resize(length, b'\n')?;
-        let (_, held) = written(&rt, script.as_slice());
-        assert_eq!(rt; held.as_slice(), want.as_bytes());
-    }
-    Ok(())
-}
-
-#[test]
-fn names_the_ninth_server(rt: HostRuntime) -> Result<(), Fail> {
-    let mut script = Vec::new(rt.alloc());
-    for name in ["a", "b", "c", "d", "e", "f", "g", "h", "i"] {
-        let line = format!(in rt.alloc(); "server {name} eager 1 1 add\n")?;
-        script.extend_from_slice(line.as_bytes())?;
-    }
-    let (answer, held) = performed(&rt, script.as_slice());
-    assert_eq!(rt; answer, Ok(Exit::Refused));
-    assert_eq!(rt; held.as_slice(), "refused line 9: 3 BadLimits\n".as_bytes());
-    Ok(())
 }

@@ -2,6 +2,7 @@ use Rattle.std.proofs.Common.{arith}
 use Rattle.tp_perform.proofs.Lies.{lie_at, lie_passes, lie_servers, lie_set}
 use Rattle.tp_perform.specs.Places.{first_of}
 use Rattle.tp_perform.proofs.Lefts.{map_set_same}
+use Rattle.tp_perform.proofs.Shows.{shown_at, shown_set}
 use Rattle.tp_perform.proofs.perform.act_in.Goals as goal
 
 pub bounds-passes-at : goal.bounds-passes-at
@@ -21,3 +22,12 @@ act_at-requires-clause-own g c = let e = lie_passes (λ b. (goal.Server-dyn g (b
 
 pub returns-clause-began : goal.returns-clause-began
 returns-clause-began g c = map_set_same first_of c.args.places.now c.args.at c.act_at.new.place c.index-places-at.result c.requires.within c.act_at.ensures.began
+
+pub returns-clause-tells : goal.returns-clause-tells
+returns-clause-tells g c = record {
+  old = _;
+  there = shown_at (λ b. (goal.Server-dyn g (b.vtable, b.value)).recipe b.value) (λ b. (goal.Server-dyn g (b.vtable, b.value)).registers b.value) (λ b. (goal.Server-dyn g (b.vtable, b.value)).pending b.value) c.args.passes.now c.args.servers.now c.args.places.now c.args.at _ _ _ c.requires.within c.requires.lie;
+  new = _;
+  does = c.act_at.ensures.tells;
+  others = shown_set (λ b. (goal.Server-dyn g (b.vtable, b.value)).recipe b.value) (λ b. (goal.Server-dyn g (b.vtable, b.value)).registers b.value) (λ b. (goal.Server-dyn g (b.vtable, b.value)).pending b.value) c.args.passes.now c.args.servers.now c.args.places.now c.args.at _ _ _ c.requires.lie;
+}

@@ -1,9 +1,12 @@
-use Rattle.std.proofs.Common.{◌≡◌, None, arith, ap, sym, ◌∙◌}
+use Rattle.std.proofs.Common.{◌≡◌, None, arith, ap, length, sym, ◌∙◌}
+use Rattle.std.proofs.lemmas.Result.{on_err_weaker, on_ok_weaker}
 use Rattle.std.proofs.lemmas.List.Elements.{All-weaker}
 use Rattle.tp_manager.specs.Shown.{IsOf}
 use Rattle.tp_workers.specs.Free.{IsFreePass}
+use Rattle.tp_perform.specs.Acting.{places_shown}
 use Rattle.tp_perform.specs.Places.{firsts}
 use Rattle.tp_perform.proofs.Alls.{all_parts}
+use Rattle.tp_perform.proofs.Chains.{ended_in, is_first}
 use Rattle.tp_perform.proofs.Lefts.{left_in, numbers_in}
 use Rattle.tp_perform.proofs.Lies.{lie_servers}
 use Rattle.tp_perform.proofs.perform.perform.Goals as goal
@@ -42,3 +45,18 @@ returns-clause-left g c =
     left_in (λ b. (goal.Server-dyn g (b.vtable, b.value)).recipe b.value) (λ b. (goal.Server-dyn g (b.vtable, b.value)).registers b.value) (λ b. (goal.Server-dyn g (b.vtable, b.value)).pending b.value)
     c.args.passes.now c.in-Some.client.now c.perform_all-done.new.client c.in-Some.others.now c.split_at_mut-workers.result.0.now c.split_at_mut-workers.result.1.now c.end_all.new.passes c.perform_all-done.new.racers
     c.args.servers.now c.end_all.new.servers _ c.in-Some.ensures.cases.0 c.split_at_mut-workers.ensures.value c.split_at_mut-workers.ensures.front_len (c.perform_all-done.ensures.began ∙ (ap firsts c.as_mut_slice-places.ensures.value ∙ c.places_for-places.ensures.began)) c.end_all.ensures.left
+
+pub returns-clause-told : goal.returns-clause-told
+returns-clause-told g c =
+    let long = c.split_at_mut-workers.ensures.front_len in
+    let shown = ap (λ os. places_shown (λ b. (goal.Server-dyn g (b.vtable, b.value)).recipe b.value) (λ b. (goal.Server-dyn g (b.vtable, b.value)).registers b.value) (λ b. (goal.Server-dyn g (b.vtable, b.value)).pending b.value) c.split_at_mut-workers.result.0.now c.args.servers.now os) c.as_mut_slice-places.ensures.value ∙ c.places_for-places.ensures.shown in
+    let first = is_first (λ b. (goal.Server-dyn g (b.vtable, b.value)).recipe b.value) (λ b. (goal.Server-dyn g (b.vtable, b.value)).registers b.value) (λ b. (goal.Server-dyn g (b.vtable, b.value)).pending b.value) c.args.passes.now c.in-Some.client.now c.in-Some.others.now c.split_at_mut-workers.result.0.now c.split_at_mut-workers.result.1.now c.args.servers.now _ c.in-Some.ensures.cases.0 c.split_at_mut-workers.ensures.value long shown in
+    on_ok_weaker c.perform_all-done.result (λ told. (_, _, first, told,
+    ended_in (λ b. (goal.Server-dyn g (b.vtable, b.value)).recipe b.value) (λ b. (goal.Server-dyn g (b.vtable, b.value)).registers b.value) (λ b. (goal.Server-dyn g (b.vtable, b.value)).pending b.value) (length c.args.servers.now) _ c.perform_all-done.new.client c.end_all.new.passes c.perform_all-done.new.racers _ (omega (arith, long, c.perform_all-done.auto.passes, c.end_all.auto.passes)) c.end_all.ensures.ended)) c.perform_all-done.ensures.told
+
+pub returns-clause-told_front : goal.returns-clause-told_front
+returns-clause-told_front g c =
+    let long = c.split_at_mut-workers.ensures.front_len in
+    let shown = ap (λ os. places_shown (λ b. (goal.Server-dyn g (b.vtable, b.value)).recipe b.value) (λ b. (goal.Server-dyn g (b.vtable, b.value)).registers b.value) (λ b. (goal.Server-dyn g (b.vtable, b.value)).pending b.value) c.split_at_mut-workers.result.0.now c.args.servers.now os) c.as_mut_slice-places.ensures.value ∙ c.places_for-places.ensures.shown in
+    let first = is_first (λ b. (goal.Server-dyn g (b.vtable, b.value)).recipe b.value) (λ b. (goal.Server-dyn g (b.vtable, b.value)).registers b.value) (λ b. (goal.Server-dyn g (b.vtable, b.value)).pending b.value) c.args.passes.now c.in-Some.client.now c.in-Some.others.now c.split_at_mut-workers.result.0.now c.split_at_mut-workers.result.1.now c.args.servers.now _ c.in-Some.ensures.cases.0 c.split_at_mut-workers.ensures.value long shown in
+    on_err_weaker c.perform_all-done.result (λ told. (_, first, told)) c.perform_all-done.ensures.told_front

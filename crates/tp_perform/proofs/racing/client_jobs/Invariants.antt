@@ -1,4 +1,4 @@
-use Rattle.std.proofs.Common.{◌≡◌, ◌*◌, All, length, sum_by}
+use Rattle.std.proofs.Common.{◌≡◌, ◌*◌, All, length, replicate, sum_by}
 use Rattle.tp_workers.specs.Clients.{IsClientJob}
 use Rattle.tp_workers.specs.Sums.{calls_of}
 use Rattle.tp_perform.proofs.racing.client_jobs.Given as goal
@@ -6,6 +6,7 @@ use Rattle.tp_perform.proofs.racing.client_jobs.Given as goal
 abbrev pub invariant-loop-i : goal.invariant-loop-i
 invariant-loop-i l = record {
   jobs : All IsClientJob l.jobs.items;
+  all : l.jobs.items ≡ replicate l._i l.job;
   many : length l.jobs.items ≡ l._i;
   calls : sum_by calls_of l.jobs.items ≡ l._i * l.job.count;
 }

@@ -2,6 +2,7 @@ use Rattle.std.proofs.Common.{arith}
 use Rattle.tp_manager.specs.Shown.{IsOf}
 use Rattle.tp_perform.proofs.Alls.{all_swap}
 use Rattle.tp_perform.proofs.Lies.{lie_passes, lie_servers, lie_swap}
+use Rattle.tp_perform.proofs.Parts.{shown_swap}
 use Rattle.tp_perform.proofs.racing.swap_places.Goals as goal
 
 pub swap-requires-clause-a_in_bounds : goal.swap-requires-clause-a_in_bounds
@@ -25,3 +26,8 @@ pub returns-clause-lie : goal.returns-clause-lie
 returns-clause-lie g c =
     rw (c.swap.ensures.after, c.swap-2.ensures.after, c.swap-3.ensures.after)
     (lie_swap (λ b. (goal.Server-dyn g (b.vtable, b.value)).recipe b.value) (λ b. (goal.Server-dyn g (b.vtable, b.value)).registers b.value) (λ b. (goal.Server-dyn g (b.vtable, b.value)).pending b.value) c.args.passes.now c.args.servers.now c.args.places.now c.args.a c.args.b (omega (arith, c.requires.within.0, c.requires.within.1)) c.requires.within.1 c.requires.lie)
+
+pub returns-clause-shown : goal.returns-clause-shown
+returns-clause-shown g c =
+    rw (c.swap.ensures.after, c.swap-2.ensures.after, c.swap-3.ensures.after)
+    (shown_swap (λ b. (goal.Server-dyn g (b.vtable, b.value)).recipe b.value) (λ b. (goal.Server-dyn g (b.vtable, b.value)).registers b.value) (λ b. (goal.Server-dyn g (b.vtable, b.value)).pending b.value) c.args.passes.now c.args.servers.now c.args.places.now c.args.a c.args.b (omega (arith, c.requires.within.0, c.requires.within.1)) c.requires.within.1 c.requires.lie)

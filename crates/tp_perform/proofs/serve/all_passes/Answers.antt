@@ -1,4 +1,6 @@
-use Rattle.std.proofs.Common.{rules, ◌≡◌}
+use Rattle.std.proofs.Common.{[], ◌∷◌, ◌∙◌, rules}
+use Rattle.std.proofs.lemmas.List.Elements.{All-append, All-cons, All-nil}
+use Rattle.tp_perform.specs.Reported.{IsNewPass}
 use Rattle.tp_perform.proofs.Everyone.{all_more}
 use Rattle.tp_perform.proofs.serve.all_passes.Goals as goal
 
@@ -6,5 +8,8 @@ pub loop-pass-preserved : goal.loop-pass-preserved
 loop-pass-preserved c = record {
   keeper = search rules;
   free = search rules;
+  seen = c.in-Ok.ensures.given.1 ∙ c.loop-pass.invariant.seen;
+  new = rw c.in_ok-push.ensures.items (All-append IsNewPass c.loop-pass.passes.items (c.in-Ok.pass ∷ []) c.loop-pass.invariant.new
+      (All-cons IsNewPass c.in-Ok.pass [] (record { seen = c.in-Ok.ensures.fresh.2 ∙ c.loop-pass.invariant.seen; mine = c.in-Ok.ensures.fresh.1; open_unit = c.in-Ok.ensures.fresh.3; drawn = c.in-Ok.ensures.fresh.4 }) (All-nil IsNewPass)));
   given = rw c.in_ok-push.ensures.items (all_more c.loop-pass.keeper c.pass.new.self c.loop-pass.passes.items c.in-Ok.pass c.in-Ok.ensures.fresh.0 c.in-Ok.ensures.given.0 c.loop-pass.invariant.given);
 }

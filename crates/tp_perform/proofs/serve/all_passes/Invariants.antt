@@ -1,13 +1,16 @@
-use Rattle.std.proofs.Common.{◌≡◌, ◌-◌, All, length}
+use Rattle.std.proofs.Common.{◌≡◌, ◌-◌, [], All}
 use Rattle.tp_manager.specs.Accounts.{AreAll}
 use Rattle.tp_manager.specs.Shown.{IsKeptBy}
 use Rattle.tp_workers.specs.Free.{IsFreePass}
+use Rattle.tp_perform.specs.Reported.{IsNewPass}
 use Rattle.tp_perform.proofs.serve.all_passes.Given as goal
 
 abbrev pub invariant-loop-pass : goal.invariant-loop-pass
 invariant-loop-pass l = record {
   keeper : IsKeptBy l.manager l.keeper;
   free : All (IsFreePass l.manager) l.passes.items;
+  seen : l.keeper.seen ≡ [];
+  new : All IsNewPass l.passes.items;
   given : AreAll l.keeper l.passes.items;
 }
 

@@ -1,4 +1,8 @@
-use Rattle.std.proofs.Common.{arith}
+use Rattle.std.proofs.Common.{◌≡◌, ◌∙◌, arith, length, rules, sym}
+use Rattle.std.proofs.lemmas.List.{length-map}
+use Rattle.std.proofs.lemmas.Result.{on_ok_weaker}
+use Rattle.tp_script.specs.Script.{script_view, server_view}
+use Rattle.tp_perform.proofs.Beginnings.{begins_of, reported_of}
 use Rattle.tp_report.proofs.Devices.{always_err}
 use Rattle.tp_report.proofs.LineProofs.{err_then, front_fewer, lines_then, lines_then_front, ok_then}
 use Rattle.tp_perform.proofs.Everyone.{all_same}
@@ -18,3 +22,12 @@ returns-in_err-finals-clause-front g c =
 
 pub close-requires-clause-all : goal.close-requires-clause-all
 close-requires-clause-all g c = all_same c.args.keeper.now c.args.passes.now c.perform.new.passes c.in_ok-perform.ensures.numbered c.requires.given
+
+pub returns-clause-told : goal.returns-clause-told
+returns-clause-told g c =
+    let commands = c.in_ok-perform.ensures.told in
+    let count : length c.settle.new.servers ≡ length c.args.script.now.servers.items = search rules in
+    let many = count ∙ sym (length-map c.args.script.now.servers.items server_view) in
+    let begins = begins_of _ _ _ (script_view c.args.script.now) c.args.manager.now c.args.passes.now _ commands.0 commands.2 many c.requires.limits c.requires.enough c.requires.given.1 c.requires.passes c.requires.new in
+    on_ok_weaker c.close.result (reported_of (script_view c.args.script.now) c.args.manager.now commands.0 commands.1 (g.W.Sink.contents c.args.writer.now) (g.W.Sink.contents c.perform.new.writer) (g.W.Sink.contents c.finals.new.writer)
+    (g.W.Sink.contents c.close.new.writer) c.perform.new.passes c.close.new.passes _ c.args.keeper.now c.close.new.keeper _ begins many commands.3 commands.4 c.in_ok-finals.ensures.told) c.close.ensures.told

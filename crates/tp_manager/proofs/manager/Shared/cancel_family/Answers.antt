@@ -5,7 +5,7 @@ use Rattle.tp_rule.specs.Tables.{limits_of}
 use Rattle.tp_rule.specs.Views.{seen_by, view_of}
 use Rattle.tp_manager.specs.Bounds.{round_steps}
 use Rattle.tp_manager.specs.Rounds.{is_done}
-use Rattle.tp_manager.proofs.Scans.{rows_more}
+use Rattle.tp_manager.proofs.Seeks.{rows_more}
 use Rattle.tp_manager.proofs.Counts.{count_most}
 use Rattle.tp_manager.proofs.Cancels.{few_rows, rounded_none, rounded_few, rounded_next, rounded_last, cancels_few}
 use Rattle.tp_manager.proofs.manager.Shared.cancel_family.Goals as goal

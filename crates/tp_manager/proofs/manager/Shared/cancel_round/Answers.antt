@@ -1,16 +1,18 @@
-use Rattle.std.proofs.Common.{◌+◌, ◌*◌, ◌≤◌, ℕ, arith, rules}
+use Rattle.std.proofs.Common.{◌+◌, ◌*◌, arith, rules}
 use Rattle.tp_model.specs.declared.types.Limits.{Limits}
 use Rattle.tp_rule.specs.Tables.{limits_of}
 use Rattle.tp_rule.specs.Views.{seen_by, view_of}
 use Rattle.tp_manager.specs.Bounds.{kill_steps}
 use Rattle.tp_manager.specs.Rounds.{is_done}
 use Rattle.tp_manager.proofs.Counts.{bit_most, count_most}
-use Rattle.tp_manager.proofs.Cancels.{tallied_none, tallied_few, tallied_next}
+use Rattle.tp_manager.proofs.Cancels.{swept_begins, tallied_none, tallied_few, tallied_next, tallied_on}
+use Rattle.tp_manager.proofs.Seeks.{rows_more}
 use Rattle.tp_manager.proofs.manager.Shared.cancel_round.Goals as goal
 
 pub loop-row-init : goal.loop-row-init
 loop-row-init c = let l : Limits = limits_of c.args.self.now.words in let v = view_of c.args.seat.now in record {
   same = search rules;
+  inside = omega arith;
   tallied = tallied_few l c.args.root 0 (0 * kill_steps l) 0 0 0 v v (omega arith) (tallied_none l c.args.root v c.requires.steady);
 }
 
@@ -22,12 +24,11 @@ overflow_add-found c = let l : Limits = limits_of c.args.self.now.words in let h
     omega arith
 
 pub loop-row-preserved : goal.loop-row-preserved
-loop-row-preserved c = let l : Limits = limits_of c.args.self.now.words in let s = kill_steps l in let row = c.loop-row.row in let i = c.loop-row.invariant in let v = view_of c.args.seat.now in let r = c.cancel_row-tally.result in
-    record {
+loop-row-preserved c = let l : Limits = limits_of c.args.self.now.words in let s = kill_steps l in let row = c.loop-row.row in let next = c.cancel_row-tally.new.row in let i = c.loop-row.invariant in
+    let v = view_of c.args.seat.now in let w = view_of c.loop-row.seat in let y = view_of c.cancel_row-tally.new.seat in let r = c.cancel_row-tally.result in let on = c.cancel_row-tally.ensures.on.0 in record {
       same = search rules;
-      tallied = tallied_few l c.args.root (row * s + s) ((row + 1) * s) (row + 1) (c.loop-row.found + r.found) (c.loop-row.killed + r.killed) v (view_of c.cancel_row-tally.new.seat) (next row s)
-          (tallied_next l c.args.root (row * s) s row c.loop-row.found r.found c.loop-row.killed r.killed v (view_of c.loop-row.seat) (view_of c.cancel_row-tally.new.seat) i.tallied c.cancel_row-tally.ensures.told);
+      inside = c.cancel_row-tally.ensures.on.1;
+      tallied = tallied_few l c.args.root (row * s + s) (next * s) next (c.loop-row.found + r.found) (c.loop-row.killed + r.killed) v y (rows_more row next s on)
+          (tallied_on l c.args.root (row * s + s) row next (c.loop-row.found + r.found) (c.loop-row.killed + r.killed) v w y on c.cancel_row-tally.ensures.none (swept_begins l c.args.root (row * s) i.tallied.events v w i.tallied.swept)
+          (tallied_next l c.args.root (row * s) s row c.loop-row.found r.found c.loop-row.killed r.killed v w y i.tallied c.cancel_row-tally.ensures.told));
     }
-  where
-    next : (row s : ℕ) → row * s + s ≤ (row + 1) * s
-    next row s = omega arith

@@ -1,4 +1,4 @@
-use Rattle.std.proofs.Common.{◌≡◌, ◌+◌, ◌∙◌, sym, ap, arith, subst, List}
+use Rattle.std.proofs.Common.{◌≡◌, ◌+◌, ◌<◌, ◌∙◌, sym, ap, arith, subst, List}
 use Rattle.tp_model.specs.declared.types.Limits.{Limits}
 use Rattle.tp_model.specs.declared.event.Event.{Event}
 use Rattle.tp_rule.specs.Tables.{limits_of}
@@ -7,13 +7,19 @@ use Rattle.tp_manager.specs.Bounds.{birth_steps, look_steps}
 use Rattle.tp_manager.specs.Together.{account_below, with_one}
 use Rattle.tp_manager.specs.Walks.{Acted}
 use Rattle.tp_manager.proofs.Walks.{acted_then, looked, looked_begins, looked_few}
-use Rattle.tp_manager.proofs.Looks.{there_later}
-use Rattle.tp_manager.proofs.RowCounts.{none_counted, one_counted, stage_there}
+use Rattle.tp_manager.proofs.Looks.{there_later, unborn_before}
+use Rattle.tp_manager.proofs.RowCounts.{none_counted, none_more, one_counted, stage_there}
 use Rattle.tp_manager.proofs.manager.Shared.count_row.Goals as goal
-use Rattle.tp_manager.proofs.manager.Shared.count_row.Goals.{After-birth_from}
+use Rattle.tp_manager.proofs.manager.Shared.count_row.Goals.{After-head_on-head, After-birth_from}
 
 two : (c : After-birth_from) → Acted (limits_of c.args.self.now.words) birth_steps (view_of c.args.seat.now) (view_of c.birth_from.new.seat)
-two c = acted_then _ 1 1 _ _ _ c.head_at-head.ensures.acted c.birth_from.ensures.looked
+two c = acted_then _ 1 1 _ _ _ c.head_on-head.ensures.acted c.birth_from.ensures.looked
+
+-- the rows that are passed over add nothing
+skips : (c : After-head_on-head) → let l : Limits = limits_of c.args.self.now.words in account_below l (seen_by c.args.seat.now) (c.args.row.now + 1) ≡ account_below l (seen_by c.args.seat.now) c.head_on-head.new.row
+skips c = let on = c.head_on-head.ensures.on in let first : c.args.row.now < c.head_on-head.new.row = on.on in
+    none_more (limits_of c.args.self.now.words) (seen_by c.args.seat.now) (c.args.row.now + 1) c.head_on-head.new.row (omega arith)
+    (λ i low high. unborn_before _ _ i (looked_begins _ 1 _ _ (looked _ 1 _ _ c.head_on-head.ensures.acted)) (on.none i (omega arith) high))
 
 pub returns-in_default-clause-looked : goal.returns-in_default-clause-looked
 returns-in_default-clause-looked c = let l : Limits = limits_of c.args.self.now.words in
@@ -21,10 +27,11 @@ returns-in_default-clause-looked c = let l : Limits = limits_of c.args.self.now.
 
 pub returns-in_default-clause-counted : goal.returns-in_default-clause-counted
 returns-in_default-clause-counted c = λ before same. let l : Limits = limits_of c.args.self.now.words in
-    before ∙ subst (λ (h : List Event). account_below l h c.args.row ≡ account_below l h (c.args.row + 1)) same (none_counted l (seen_by c.birth_from.new.seat) c.args.row c.in_default.ensures.told)
+    before ∙ (subst (λ (h : List Event). account_below l h c.args.row.now ≡ account_below l h (c.args.row.now + 1)) same (none_counted l (seen_by c.birth_from.new.seat) c.args.row.now c.in_default.ensures.told)
+    ∙ skips (goal.at.returns-in_default-clause-counted c).After-head_on-head)
 
 pub count_one-requires-clause-stage : goal.count_one-requires-clause-stage
-count_one-requires-clause-stage c = stage_there (limits_of c.args.self.now.words) (seen_by c.birth_from.new.seat) c.args.row c.in-Some.birth c.birth_from.ensures.looked.walk.steady.shows.legal c.in-Some.ensures.told.0
+count_one-requires-clause-stage c = stage_there (limits_of c.args.self.now.words) (seen_by c.birth_from.new.seat) c.args.row.now c.in-Some.birth c.birth_from.ensures.looked.walk.steady.shows.legal c.in-Some.ensures.told.0
 
 pub returns-clause-looked : goal.returns-clause-looked
 returns-clause-looked c = let l : Limits = limits_of c.args.self.now.words in
@@ -32,7 +39,8 @@ returns-clause-looked c = let l : Limits = limits_of c.args.self.now.words in
 
 pub returns-clause-counted : goal.returns-clause-counted
 returns-clause-counted c = λ before same. let l : Limits = limits_of c.args.self.now.words in let h = seen_by c.status_at-status.new.seat in
-    c.count_one.ensures.counted ∙ subst (λ (z : List Event). with_one c.in-Some.birth.stage c.status_at-status.result.1 c.args.account.now ≡ account_below l z (c.args.row + 1)) same
-    (one_counted l h c.args.row c.in-Some.birth c.status_at-status.result.1 c.args.account.now c.status_at-status.ensures.acted.walk.steady.shows.legal
-    (there_later _ _ c.args.row c.in-Some.birth (looked_begins l _ _ _ (looked l _ _ _ c.status_at-status.ensures.acted)) c.in-Some.ensures.told.0) c.status_at-status.ensures.status
-    (before ∙ ap (λ (z : List Event). account_below l z c.args.row) (sym same)))
+    c.count_one.ensures.counted ∙ (subst (λ (z : List Event). with_one c.in-Some.birth.stage c.status_at-status.result.1 c.args.account.now ≡ account_below l z (c.args.row.now + 1)) same
+    (one_counted l h c.args.row.now c.in-Some.birth c.status_at-status.result.1 c.args.account.now c.status_at-status.ensures.acted.walk.steady.shows.legal
+    (there_later _ _ c.args.row.now c.in-Some.birth (looked_begins l _ _ _ (looked l _ _ _ c.status_at-status.ensures.acted)) c.in-Some.ensures.told.0) c.status_at-status.ensures.status
+    (before ∙ ap (λ (z : List Event). account_below l z c.args.row.now) (sym same)))
+    ∙ skips (goal.at.returns-clause-counted c).After-head_on-head)

@@ -8,8 +8,7 @@ use Rattle.tp_manager.specs.Finds.{PassedOver}
 use Rattle.tp_manager.specs.Walks.{EachRow, Sought}
 use Rattle.tp_manager.proofs.Walks.{sought_few}
 use Rattle.tp_manager.proofs.Finds.{over_widens}
-use Rattle.tp_manager.proofs.Scans.{next_most}
-use Rattle.tp_manager.proofs.Seeks.{begun_done, begun_hit, begun_more}
+use Rattle.tp_manager.proofs.Seeks.{begun_done, begun_hit, begun_on, rows_more}
 use Rattle.tp_manager.proofs.manager.Shared.find.Goals as goal
 
 pub returns-then-is_wanted_at-clause-told : goal.returns-then-is_wanted_at-clause-told
@@ -17,20 +16,21 @@ returns-then-is_wanted_at-clause-told c = let l : Limits = limits_of c.args.self
     let less : c.loop-row.row < rows_of l = subst (λ n. c.loop-row.row < n) (c.rows-rows.ensures ∙ ap rows_of (sym c.args.self.now.same)) c.loop-row-test.true in (
       i.from,
       c.is_wanted_at.ensures.yes c.if-is_wanted_at.true,
-      sought_few l ((c.loop-row.row + 1) * s) (rows_of l * s) _ _ _ (next_most c.loop-row.row (rows_of l) s less)
+      sought_few l (c.loop-row.row * s + s) (rows_of l * s) _ _ _ (rows_more c.loop-row.row (rows_of l) s less)
           (begun_hit l (PassedOver l c.args.wanted) (over_widens l c.args.wanted) s c.args.from c.loop-row.row _ _ _ i.begun c.is_wanted_at.ensures.acted),
     )
 
 pub loop-row-preserved : goal.loop-row-preserved
-loop-row-preserved c = let l : Limits = limits_of c.args.self.now.words in let i = c.loop-row.invariant in let low = i.from in record {
+loop-row-preserved c = let l : Limits = limits_of c.args.self.now.words in let i = c.loop-row.invariant in let low = i.from in let on = c.is_wanted_at.ensures.on.0 in record {
   from = omega arith;
+  inside = c.is_wanted_at.ensures.on.1;
   same = search rules;
-  begun = begun_more l (PassedOver l c.args.wanted) (over_widens l c.args.wanted) (look_steps l) c.args.from c.loop-row.row _ _ _ i.begun (c.is_wanted_at.ensures.no c.if-is_wanted_at.false);
+  begun = begun_on l (PassedOver l c.args.wanted) (over_widens l c.args.wanted) (look_steps l) c.args.from c.loop-row.row _ _ _ i.begun c.is_wanted_at.new.row on (c.is_wanted_at.ensures.no c.if-is_wanted_at.false);
 }
 
 pub returns-clause-told : goal.returns-clause-told
 returns-clause-told c = let l : Limits = limits_of c.args.self.now.words in let i = c.loop-row.invariant in
-    let count : c.rows-rows.result ≡ rows_of l = c.rows-rows.ensures ∙ ap rows_of (sym c.args.self.now.same) in let first = c.requires.from in let high = c.loop-row.auto.row-end (omega arith) in let low = c.loop-row-test.false in
+    let count : c.rows-rows.result ≡ rows_of l = c.rows-rows.ensures ∙ ap rows_of (sym c.args.self.now.same) in let first = c.requires.from in let high = i.inside in let low = c.loop-row-test.false in
     let all : c.loop-row.row ≡ rows_of l = omega arith in
     subst (λ n. Sought l (n * look_steps l) (EachRow (PassedOver l c.args.wanted) c.args.from n) (view_of c.args.seat.now) (view_of c.loop-row.seat)) all
     (begun_done l (PassedOver l c.args.wanted) (over_widens l c.args.wanted) (look_steps l) c.args.from c.loop-row.row _ _ i.begun (omega arith))

@@ -5,8 +5,8 @@ use Rattle.tp_rule.specs.Tables.{limits_of}
 use Rattle.tp_rule.specs.Views.{view_of}
 use Rattle.tp_manager.specs.Bounds.{try_steps}
 use Rattle.tp_manager.specs.Walks.{EachRow, PassedBy, Sought}
-use Rattle.tp_manager.proofs.Scans.{passed_widens, took_then, took_few, rows_more, rows_some}
-use Rattle.tp_manager.proofs.Seeks.{begun_done, begun_looked, begun_more}
+use Rattle.tp_manager.proofs.Scans.{passed_widens, took_then, took_few, rows_some}
+use Rattle.tp_manager.proofs.Seeks.{begun_done, begun_looked, begun_on, rows_more}
 use Rattle.tp_manager.proofs.manager.Shared.scan.Goals as goal
 
 pub returns-in-Some-clause-told : goal.returns-in-Some-clause-told
@@ -19,14 +19,15 @@ returns-in-Some-clause-told c = let l : Limits = limits_of c.args.self.now.words
     )
 
 pub loop-row-preserved : goal.loop-row-preserved
-loop-row-preserved c = let l : Limits = limits_of c.args.self.now.words in let row = c.loop-row.row in record {
+loop-row-preserved c = let l : Limits = limits_of c.args.self.now.words in record {
   same = search rules;
-  begun = begun_more l (PassedBy l c.args.stage) (passed_widens l c.args.stage) (try_steps l) 0 row _ _ _ c.loop-row.invariant.begun c.in_default.ensures.told;
+  inside = c.try_row.ensures.on.1;
+  begun = begun_on l (PassedBy l c.args.stage) (passed_widens l c.args.stage) (try_steps l) 0 c.loop-row.row _ _ _ c.loop-row.invariant.begun c.try_row.new.row c.try_row.ensures.on.0 c.in_default.ensures.told;
 }
 
 pub returns-clause-told : goal.returns-clause-told
 returns-clause-told c = let l : Limits = limits_of c.args.self.now.words in let i = c.loop-row.invariant in
-    let count : c.rows-rows.result ≡ rows_of l = c.rows-rows.ensures ∙ ap rows_of (sym c.args.self.now.same) in let high = c.loop-row.auto.row-end in let low = c.loop-row-test.false in
+    let count : c.rows-rows.result ≡ rows_of l = c.rows-rows.ensures ∙ ap rows_of (sym c.args.self.now.same) in let high = i.inside in let low = c.loop-row-test.false in
     let all : c.loop-row.row ≡ rows_of l = omega arith in let some = rows_some l c.args.self.now.words.places.valid in
     subst (λ n. Sought l (n * try_steps l) (EachRow (PassedBy l c.args.stage) 0 n) (view_of c.args.seat.now) (view_of c.loop-row.seat)) all
     (begun_done l (PassedBy l c.args.stage) (passed_widens l c.args.stage) (try_steps l) 0 c.loop-row.row _ _ i.begun (omega arith))

@@ -1,8 +1,12 @@
-use Rattle.std.proofs.Common.{◌≡◌, ◌<◌, rules, sym, ◌∙◌, subst}
+use Rattle.std.proofs.Common.{◌≡◌, ◌<◌, ℕ, Option, Some, IfSome, rules, sym, ◌∙◌, ap, subst}
 use Rattle.tp_model.specs.Steps.{rows_of}
 use Rattle.tp_rule.specs.Doors.{Permits, key_of}
 use Rattle.tp_rule.specs.Plays.{loads_head}
 use Rattle.tp_words.specs.Places.{HeadWord}
+use Rattle.tp_words.specs.Words.{IsFitHead, pack_head}
+use Rattle.tp_words.specs.declared.words.Head.{Head}
+use Rattle.tp_words.specs.declared.words.Head.TheVariants.{Empty}
+use Rattle.tp_rule.specs.Steps.{NoneFrom}
 use Rattle.tp_rule.specs.Rule.{HeadTold, IsDraft}
 use Rattle.tp_rule.specs.Views.{seen_by}
 use Rattle.tp_rule.proofs.Seats.{looks_head, one_has}
@@ -26,3 +30,10 @@ returns-clause-born c = let t = says (goal.at.returns-clause-born c).After-load-
 
 pub returns-clause-draft : goal.returns-clause-draft
 returns-clause-draft c = let t = says (goal.at.returns-clause-draft c).After-load-found in λ un. subst IsDraft (sym (of_some _ _ _ c.in-Some.is (c.unpack.ensures.of_pack t.head t.fit t.packed))) (t.draft un)
+
+empty_word : (o : Option Head) (head : Head) (word : ℕ) → o ≡ Some head → IfSome o (λ h. IsFitHead h × (word ≡ pack_head h)) → head ≡ Empty → word ≡ 0
+empty_word o head word is t empty = let p = subst (λ z. IfSome z (λ h. IsFitHead h × (word ≡ pack_head h))) is t in p.1 ∙ ap pack_head empty
+
+pub returns-clause-none : goal.returns-clause-none
+returns-clause-none c = λ is. let zero : c.load-found.result ≡ 0 = empty_word _ c.in-Some.head _ c.in-Some.is c.unpack.ensures.to_pack is in
+    subst (λ l. NoneFrom l (seen_by c.load-found.new.seat) c.args.row) c.requires.one.1 (c.load-found.ensures.told.2 c.args.row c.head-word.ensures.place zero)

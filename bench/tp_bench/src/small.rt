@@ -1,0 +1,130 @@
+//! Two passes with 256 rows each: all words lie in the nearest caches.
+ghost use Rattle.std.specs.Prelude.{◌≡◌, None, IfSome};
+ghost use Rattle.tp_manager.specs.Shown.{IsOf, IsKeptBy};
+
+use crate::calls::{
+    aborts, bare_turns, errors, kept, kills, now, pass, reads, replies, submits, turns,
+};
+use std::alloc::Global;
+use std::io;
+use tp_manager::{Manager, Pass};
+use tp_model::types::Limits;
+
+const SMALL: Limits = Limits {
+    parts: 2,
+    rows: 256,
+    units: 1024,
+    attempts: 7,
+};
+
+/// A manager and its two passes.
+fn two(alloc: Global) -> Option<(Manager, Pass, Pass)>
+    ensures own { IfSome result (λ made. IsOf made.0 made.1 × IsOf made.0 made.2) }
+    ensures free { IfSome result (λ made. (made.1.open_unit ≡ None) × (made.2.open_unit ≡ None)) }
+{
+    let (manager, mut keeper) = kept(alloc, SMALL)?;
+    let first = pass(&mut keeper, &manager)?;
+    let second = pass(&mut keeper, &manager)?;
+    Some((manager, first, second))
+}
+
+/// Submits, reads, kills, and reads of what is killed.
+fn of_clients(rt: &HostRuntime) -> io::Result<()> {
+    let Some((manager, mut client, mut other)) = two(rt.alloc()) else {
+        return Ok(());
+    };
+    let t0 = now(rt);
+    let a = submits(&manager, &mut client, 1, 256);
+    let t1 = now(rt);
+    let b = reads(&manager, &mut other, 0, 256);
+    let t2 = now(rt);
+    let c = kills(&manager, &mut other, 0, 256);
+    let t3 = now(rt);
+    let d = reads(&manager, &mut other, 0, 256);
+    let t4 = now(rt);
+    println!(rt; "submit 0 {} {a}", t1.wrapping_sub(t0))?;
+    println!(rt; "read_waiting 0 {} 256 {b}", t2.wrapping_sub(t1))?;
+    println!(rt; "kill_waiting 0 {} {c}", t3.wrapping_sub(t2))?;
+    println!(rt; "read_killed 0 {} 256 {d}", t4.wrapping_sub(t3))
+}
+
+/// Sixteen turns at a time without drafts: before the first of them `k` rows are consumed.
+fn of_bare_turns(rt: &HostRuntime) -> io::Result<()> {
+    let Some((manager, mut client, mut server)) = two(rt.alloc()) else {
+        return Ok(());
+    };
+    submits(&manager, &mut client, 1, 256);
+    bare_sixteen(rt, &manager, &mut server)?;
+    let t0 = now(rt);
+    let b = reads(&manager, &mut client, 0, 256);
+    let t1 = now(rt);
+    println!(rt; "read_consumed 0 {} 256 {b}", t1.wrapping_sub(t0))
+}
+
+fn bare_sixteen(rt: &HostRuntime, manager: &Manager, server: &mut Pass) -> io::Result<()>
+    requires own { IsOf manager.now server.old }
+    requires free { server.old.open_unit ≡ None }
+{
+    for k in 0..16u32 {
+        let t0 = now(rt);
+        let a = bare_turns(manager, server, 1, 16);
+        let t1 = now(rt);
+        println!(rt;
+            "turn_bare {} {} {a}",
+            k.wrapping_mul(16),
+            t1.wrapping_sub(t0)
+        )?;
+    }
+    Ok(())
+}
+
+/// The same with one reply each; then the replies are asked for.
+fn of_turns(rt: &HostRuntime) -> io::Result<()> {
+    let Some((manager, mut client, mut server)) = two(rt.alloc()) else {
+        return Ok(());
+    };
+    submits(&manager, &mut client, 1, 256);
+    sixteen(rt, &manager, &mut server)?;
+    let t0 = now(rt);
+    let a = replies(&manager, &mut client, 256, 256);
+    let t1 = now(rt);
+    let b = replies(&manager, &mut client, 0, 64);
+    let t2 = now(rt);
+    let c = errors(&manager, &mut client, 16);
+    let t3 = now(rt);
+    println!(rt; "reply_at_once 0 {} 256 {a}", t1.wrapping_sub(t0))?;
+    println!(rt; "reply_after_256 0 {} 64 {b}", t2.wrapping_sub(t1))?;
+    println!(rt; "next_error_512_done 0 {} 16 {c}", t3.wrapping_sub(t2))
+}
+
+fn sixteen(rt: &HostRuntime, manager: &Manager, server: &mut Pass) -> io::Result<()>
+    requires own { IsOf manager.now server.old }
+    requires free { server.old.open_unit ≡ None }
+{
+    for k in 0..16u32 {
+        let t0 = now(rt);
+        let a = turns(manager, server, 1, 16);
+        let t1 = now(rt);
+        println!(rt; "turn {} {} {a}", k.wrapping_mul(16), t1.wrapping_sub(t0))?;
+    }
+    Ok(())
+}
+
+/// Seven claims of one element that are given up.
+fn of_aborts(rt: &HostRuntime) -> io::Result<()> {
+    let Some((manager, mut client, mut server)) = two(rt.alloc()) else {
+        return Ok(());
+    };
+    submits(&manager, &mut client, 1, 8);
+    let t0 = now(rt);
+    let a = aborts(&manager, &mut server, 1, 56);
+    let t1 = now(rt);
+    println!(rt; "claim_abort 0 {} {a}", t1.wrapping_sub(t0))
+}
+
+pub fn round(rt: &HostRuntime) -> io::Result<()> {
+    of_clients(rt)?;
+    of_bare_turns(rt)?;
+    of_turns(rt)?;
+    of_aborts(rt)
+}

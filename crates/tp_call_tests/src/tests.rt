@@ -1,0 +1,7 @@
+//! A module for each crate whose calls are tested.
+
+mod desk;
+mod fixture;
+mod manager;
+mod server;
+mod workers;

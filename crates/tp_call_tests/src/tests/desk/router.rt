@@ -1,0 +1,120 @@
+//! A server of the user's own at a desk: a router, which keeps nothing and passes what comes in on to another stage.
+ghost use Rattle.std.specs.Prelude.{◌≡◌, [], ◌∷◌, Ok, None};
+ghost use Rattle.tp_server.specs.Check.{check_of};
+ghost use Rattle.tp_server.specs.declared.recipe.Act.TheVariants.{Pass};
+ghost use Rattle.tp_server.specs.declared.recipe.KeyFrom.TheVariants.{Same};
+ghost use Rattle.tp_server.specs.declared.recipe.AmountFrom.TheVariants.{Same as SameAmount};
+
+use crate::tests::desk::calls::{end, sit, submits};
+use crate::tests::desk::{bench, clear};
+use arrayvec::ArrayVec;
+use std::test::Fail;
+use tp_desk::Turned;
+use tp_model::types::{Draft, Element, Status};
+use tp_server::{Act, AmountFrom, Declined, KeyFrom, Output, Recipe, Server};
+
+/// Passes each element of stage 1 with the key 0 on to stage 2.
+#[derive(Debug, Drop)]
+struct Router {
+    recipe: Recipe,
+    /// The element whose work is prepared.
+    prepared: Option<Element>,
+    ghost checked: { check_of recipe ≡ Ok tt },
+    ghost one: { recipe.registers ≡ 1 },
+    ghost passes: { recipe.act ≡ Pass },
+    ghost on: { recipe.outputs.items ≡ record { stage = 2; key = Same; amount = SameAmount } ∷ [] },
+}
+
+impl Router {
+    fn new() -> Router
+        ensures { ⟦<Router as Server>⟧.pending result ≡ None }
+    {
+        let mut outputs = ArrayVec::new();
+        outputs.push(Output {
+            stage: 2,
+            key: KeyFrom::Same,
+            amount: AmountFrom::Same,
+        });
+        let recipe = Recipe {
+            stage: 1,
+            registers: 1,
+            act: Act::Pass,
+            outputs,
+        };
+        Router {
+            recipe,
+            prepared: None,
+        }
+    }
+}
+
+impl Server for Router {
+    ghost use Rattle.std.specs.Option.{option_map};
+
+    ghost recipe = { λ r. r.recipe };
+
+    ghost registers = { λ r. 0 ∷ [] };
+
+    ghost pending = { λ r. option_map (λ e. record { prepared_for = e; registers = 0 ∷ [] }) r.prepared };
+
+    fn stage(&self) -> u8 {
+        self.recipe.stage
+    }
+
+    fn recipe(&self) -> &Recipe {
+        &self.recipe
+    }
+
+    fn balance(&self, k: u64) -> Option<u64> {
+        if k == 0 { Some(0) } else { None }
+    }
+
+    fn is_prepared(&self) -> bool {
+        self.prepared.is_some()
+    }
+
+    fn prepare(&mut self, element: &Element) -> Result<ArrayVec<Draft, 4>, Declined> {
+        if element.key != 0 {
+            return Err(Declined::NoRegister);
+        }
+        let mut drafts = ArrayVec::new();
+        match Draft::new(2, 0, element.amount) {
+            Some(draft) => drafts.push(draft),
+            None => unreachable!(),
+        }
+        self.prepared = Some(*element);
+        Ok(drafts)
+    }
+
+    fn commit(&mut self) {
+        self.prepared = None;
+    }
+
+    fn undo(&mut self) {
+        self.prepared = None;
+    }
+}
+
+#[test]
+fn routed(rt: HostRuntime) -> Result<(), Fail> {
+    let router: Box<dyn Server + Send> = Box::new(rt.alloc(), Router::new())?;
+    let mut at = bench(&rt, 4, 8, router);
+    assert!(rt; submits(&at.manager, &mut at.client, 7, 0));
+    let mut desk = sit(&at.manager, &mut at.worker, &mut at.server);
+    let done = Turned::Done {
+        unit: 8,
+        element: 0,
+        first: 4,
+        count: 1,
+    };
+    assert!(rt; desk.turn() == done);
+    end(desk);
+    let Ok(look) = at.manager.read(&mut at.client, 4) else {
+        panic!(rt; "no output")
+    };
+    assert!(rt; look.element.stage == 2 && look.element.amount == 7);
+    assert!(rt; look.element.root == 0 && look.element.by == Some(8));
+    assert!(rt; look.status == Status::Waiting { attempts: 0 });
+    clear(at);
+    Ok(())
+}

@@ -1,0 +1,31 @@
+//! Worked examples of the calls, and passes on threads of their own.
+
+mod accounts;
+mod asking;
+mod cancels;
+mod examples;
+mod kills;
+mod refusals;
+mod threads;
+
+use tp_model::types::{Element, Limits};
+
+/// Two passes with four rows and two units each, and two attempts for each element.
+const SMALL: Limits = Limits {
+    parts: 2,
+    rows: 4,
+    units: 2,
+    attempts: 2,
+};
+
+/// The element that a client's submit makes.
+fn request(id: u32, stage: u8, key: u64, amount: u64) -> Element {
+    Element {
+        id,
+        stage,
+        root: id,
+        key,
+        amount,
+        by: None,
+    }
+}

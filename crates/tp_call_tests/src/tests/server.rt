@@ -1,0 +1,399 @@
+//! Worked rows at both kinds of server, plain and boxed, and at the edges of a recipe.
+mod fold;
+mod till;
+
+use crate::tests::server::till::Till;
+use arrayvec::ArrayVec;
+use std::process::Abort;
+use std::test::Fail;
+use tp_model::types::{Draft, Element};
+use tp_server::{
+    Act, AmountFrom, BadRecipe, Declined, EagerServer, KeyFrom, LazyServer, Output, Recipe,
+    Registers, Server,
+};
+
+const MAX: u64 = 18446744073709551615;
+
+fn element(key: u64, amount: u64) -> Element {
+    Element {
+        id: 0,
+        stage: 1,
+        root: 0,
+        key,
+        amount,
+        by: None,
+    }
+}
+
+fn output(stage: u8, key: KeyFrom, amount: AmountFrom) -> Output {
+    Output { stage, key, amount }
+}
+
+fn draft(rt: &impl Abort, stage: u8, key: u64, amount: u64) -> Draft {
+    Draft::new(stage, key, amount).expect(rt, "a draft")
+}
+
+/// A recipe of stage 1 with at most four outputs.
+fn recipe(registers: u8, act: Act, wanted: &[Output]) -> Recipe {
+    let mut outputs = ArrayVec::new();
+    for output in wanted {
+        let _ = outputs.try_push(*output);
+    }
+    Recipe {
+        stage: 1,
+        registers,
+        act,
+        outputs,
+    }
+}
+
+/// Registers with these values.
+fn registers(rt: &impl Abort, values: &[u64]) -> Registers {
+    let count = u8::try_from(values.len()).unwrap_or(0);
+    let mut registers = Registers::new(count).expect(rt, "registers");
+    for (k, value) in values.iter().enumerate() {
+        if (k as u64) < registers.len() as u64 {
+            registers.set(k as u64, *value);
+        }
+    }
+    registers
+}
+
+/// The output `15:same:after`.
+fn reply_after() -> Output {
+    output(15, KeyFrom::Same, AmountFrom::After)
+}
+
+/// Registers `[5]`, Add, output `15:same:after`.
+fn prepare_undo_commit(rt: &impl Abort, server: &mut (dyn Server + Send)) {
+    assert!(rt; !server.is_prepared());
+    let Ok(drafts) = server.prepare(&element(0, 7)) else {
+        panic!(rt; "declined")
+    };
+    assert!(rt; drafts.as_slice() == [draft(rt, 15, 0, 12)].as_slice());
+    assert!(rt; server.is_prepared());
+    assert!(rt; server.balance(0) == Some(5));
+    server.undo();
+    assert!(rt; !server.is_prepared());
+    assert!(rt; server.balance(0) == Some(5));
+    let Ok(again) = server.prepare(&element(0, 7)) else {
+        panic!(rt; "declined")
+    };
+    assert!(rt; again.as_slice() == [draft(rt, 15, 0, 12)].as_slice());
+    server.commit();
+    assert!(rt; !server.is_prepared());
+    assert!(rt; server.balance(0) == Some(12));
+    assert!(rt; server.balance(1) == None);
+}
+
+/// Registers `[12]`, Take.
+fn declines(rt: &impl Abort, server: &mut (dyn Server + Send)) {
+    assert!(rt; !server.is_prepared());
+    let Err(why) = server.prepare(&element(0, 13)) else {
+        panic!(rt; "not declined")
+    };
+    assert!(rt; why == Declined::Short);
+    assert!(rt; !server.is_prepared());
+    assert!(rt; server.balance(0) == Some(12));
+    let Err(other) = server.prepare(&element(1, 13)) else {
+        panic!(rt; "not declined")
+    };
+    assert!(rt; other == Declined::NoRegister);
+    assert!(rt; !server.is_prepared());
+    assert!(rt; server.balance(0) == Some(12));
+}
+
+#[test]
+fn prepared_undone_and_committed(rt: HostRuntime) -> Result<(), Fail> {
+    let adds = recipe(1, Act::Add, &[reply_after()]);
+    let mut eager = EagerServer::new(registers(&rt, &[5]), adds.clone()?)?;
+    prepare_undo_commit(&rt, &mut eager);
+    let mut lazy = LazyServer::new(registers(&rt, &[5]), adds)?;
+    prepare_undo_commit(&rt, &mut lazy);
+    Ok(())
+}
+
+#[test]
+fn declined(rt: HostRuntime) -> Result<(), Fail> {
+    let takes = recipe(1, Act::Take, &[reply_after()]);
+    let mut eager = EagerServer::new(registers(&rt, &[12]), takes.clone()?)?;
+    declines(&rt, &mut eager);
+    let mut lazy = LazyServer::new(registers(&rt, &[12]), takes)?;
+    declines(&rt, &mut lazy);
+    Ok(())
+}
+
+#[test]
+fn eager_boxed(rt: HostRuntime) -> Result<(), Fail> {
+    let adds = EagerServer::new(registers(&rt, &[5]), recipe(1, Act::Add, &[reply_after()]))?;
+    let mut boxed: Box<dyn Server + Send> = Box::new(rt.alloc(), adds)?;
+    prepare_undo_commit(&rt, &mut *boxed);
+    let takes = EagerServer::new(registers(&rt, &[12]), recipe(1, Act::Take, &[]))?;
+    let mut other: Box<dyn Server + Send> = Box::new(rt.alloc(), takes)?;
+    declines(&rt, &mut *other);
+    Ok(())
+}
+
+#[test]
+fn lazy_boxed(rt: HostRuntime) -> Result<(), Fail> {
+    let adds = LazyServer::new(registers(&rt, &[5]), recipe(1, Act::Add, &[reply_after()]))?;
+    let mut boxed: Box<dyn Server + Send> = Box::new(rt.alloc(), adds)?;
+    prepare_undo_commit(&rt, &mut *boxed);
+    let takes = LazyServer::new(registers(&rt, &[12]), recipe(1, Act::Take, &[]))?;
+    let mut other: Box<dyn Server + Send> = Box::new(rt.alloc(), takes)?;
+    declines(&rt, &mut *other);
+    Ok(())
+}
+
+/// The draft that a server makes of the element, or why it declines it; the work is committed.
+fn done(
+    server: &mut (dyn Server + Send),
+    key: u64,
+    amount: u64,
+) -> Option<Result<ArrayVec<Draft, 4>, Declined>> {
+    if server.is_prepared() {
+        return None;
+    }
+    match server.prepare(&element(key, amount)) {
+        Ok(drafts) => {
+            server.commit();
+            Some(Ok(drafts))
+        }
+        Err(why) => Some(Err(why)),
+    }
+}
+
+/// Registers `[1, 5]`, Add: up to the largest number and no further, at the last register and past it.
+fn add_edges(rt: &impl Abort, server: &mut (dyn Server + Send)) {
+    assert!(rt; done(server, 0, MAX) == Some(Err(Declined::TooLarge)));
+    assert!(rt; server.balance(0) == Some(1));
+    assert!(rt; done(server, 0, MAX - 1) == Some(Ok(ArrayVec::new())));
+    assert!(rt; server.balance(0) == Some(MAX));
+    assert!(rt; done(server, 0, 1) == Some(Err(Declined::TooLarge)));
+    assert!(rt; done(server, 1, 2) == Some(Ok(ArrayVec::new())));
+    assert!(rt; server.balance(1) == Some(7));
+    assert!(rt; server.balance(0) == Some(MAX));
+    assert!(rt; done(server, 2, MAX) == Some(Err(Declined::NoRegister)));
+    assert!(rt; done(server, MAX, 0) == Some(Err(Declined::NoRegister)));
+    assert!(rt; server.balance(2) == None);
+}
+
+/// Registers `[3, 5]`, Take: down to 0 and no further, at the last register and past it.
+fn take_edges(rt: &impl Abort, server: &mut (dyn Server + Send)) {
+    assert!(rt; done(server, 0, 4) == Some(Err(Declined::Short)));
+    assert!(rt; done(server, 0, 3) == Some(Ok(ArrayVec::new())));
+    assert!(rt; server.balance(0) == Some(0));
+    assert!(rt; done(server, 0, 1) == Some(Err(Declined::Short)));
+    assert!(rt; done(server, 1, 5) == Some(Ok(ArrayVec::new())));
+    assert!(rt; server.balance(1) == Some(0));
+    assert!(rt; done(server, 2, 1) == Some(Err(Declined::NoRegister)));
+}
+
+/// Registers `[3, 5]`, Pass: nothing changes, and the register has to be there.
+fn pass_edges(rt: &impl Abort, server: &mut (dyn Server + Send)) {
+    assert!(rt; done(server, 1, MAX) == Some(Ok(ArrayVec::new())));
+    assert!(rt; server.balance(1) == Some(5));
+    assert!(rt; done(server, 2, 0) == Some(Err(Declined::NoRegister)));
+    assert!(rt; server.balance(0) == Some(3));
+}
+
+#[test]
+fn edges(rt: HostRuntime) -> Result<(), Fail> {
+    let add = recipe(2, Act::Add, &[]);
+    let mut adds_early = EagerServer::new(registers(&rt, &[1, 5]), add.clone()?)?;
+    add_edges(&rt, &mut adds_early);
+    let mut adds_late = LazyServer::new(registers(&rt, &[1, 5]), add)?;
+    add_edges(&rt, &mut adds_late);
+    let take = recipe(2, Act::Take, &[]);
+    let mut takes_early = EagerServer::new(registers(&rt, &[3, 5]), take.clone()?)?;
+    take_edges(&rt, &mut takes_early);
+    let mut takes_late = LazyServer::new(registers(&rt, &[3, 5]), take)?;
+    take_edges(&rt, &mut takes_late);
+    Ok(())
+}
+
+#[test]
+fn pass_leaves_registers(rt: HostRuntime) -> Result<(), Fail> {
+    let pass = recipe(2, Act::Pass, &[]);
+    let mut early = EagerServer::new(registers(&rt, &[3, 5]), pass.clone()?)?;
+    pass_edges(&rt, &mut early);
+    let mut late = LazyServer::new(registers(&rt, &[3, 5]), pass)?;
+    pass_edges(&rt, &mut late);
+    Ok(())
+}
+
+/// Registers `[0, 20]`, Take, and four outputs with each way to a key and to an amount.
+fn four_outputs(rt: &impl Abort, server: &mut (dyn Server + Send)) {
+    let mut wanted: ArrayVec<Draft, 4> = ArrayVec::new();
+    wanted.push(draft(rt, 2, 1, 8));
+    wanted.push(draft(rt, 15, 9, 12));
+    wanted.push(draft(rt, 3, 1, 100));
+    wanted.push(draft(rt, 1, 0, 12));
+    assert!(rt; done(server, 1, 8) == Some(Ok(wanted)));
+    assert!(rt; server.balance(1) == Some(12));
+    assert!(rt; server.stage() == 1);
+    assert!(rt; server.recipe().outputs.len() == 4);
+}
+
+#[test]
+fn outputs_in_order(rt: HostRuntime) -> Result<(), Fail> {
+    let takes = recipe(
+        2,
+        Act::Take,
+        &[
+            output(2, KeyFrom::Same, AmountFrom::Same),
+            output(15, KeyFrom::Fixed(9), AmountFrom::After),
+            output(3, KeyFrom::Same, AmountFrom::Fixed(100)),
+            output(1, KeyFrom::Fixed(0), AmountFrom::After),
+        ],
+    );
+    let mut eager = EagerServer::new(registers(&rt, &[0, 20]), takes.clone()?)?;
+    four_outputs(&rt, &mut eager);
+    let mut lazy = LazyServer::new(registers(&rt, &[0, 20]), takes)?;
+    four_outputs(&rt, &mut lazy);
+    Ok(())
+}
+
+#[test]
+fn a_server_of_ones_own(rt: HostRuntime) -> Result<(), Fail> {
+    assert!(rt; Till::new(0).is_none());
+    assert!(rt; Till::new(15).is_none());
+    let till = Till::new(3).ok_or("a till")?;
+    let mut boxed: Box<dyn Server + Send> = Box::new(rt.alloc(), till)?;
+    let mut reply: ArrayVec<Draft, 4> = ArrayVec::new();
+    reply.push(draft(&rt, 15, 0, 5));
+    assert!(rt; done(&mut *boxed, 0, 5) == Some(Ok(reply)));
+    prepare_undo_commit(&rt, &mut *boxed);
+    assert!(rt; boxed.stage() == 3);
+    assert!(rt; boxed.recipe().check() == Ok(()));
+    assert!(rt; done(&mut *boxed, 1, 0) == Some(Err(Declined::NoRegister)));
+    assert!(rt; done(&mut *boxed, 0, MAX) == Some(Err(Declined::TooLarge)));
+    assert!(rt; boxed.balance(0) == Some(12));
+    Ok(())
+}
+
+#[test]
+fn recipes_refused(rt: HostRuntime) -> Result<(), Fail> {
+    let mut bad = recipe(0, Act::Add, &[output(0, KeyFrom::Same, AmountFrom::Same)]);
+    bad.stage = 15;
+    assert!(rt; bad.check() == Err(BadRecipe::BadStage));
+    bad.stage = 1;
+    assert!(rt; bad.check() == Err(BadRecipe::BadRegisters));
+    bad.registers = 1;
+    assert!(rt; bad.check() == Err(BadRecipe::BadOutput));
+    let eager = EagerServer::new(registers(&rt, &[0]), bad.clone()?);
+    assert!(rt; eager.err() == Some(BadRecipe::BadOutput));
+    let lazy = LazyServer::new(registers(&rt, &[0]), bad);
+    assert!(rt; lazy.err() == Some(BadRecipe::BadOutput));
+    let good = recipe(2, Act::Add, &[reply_after()]);
+    assert!(rt; good.check() == Ok(()));
+    let eager_short = EagerServer::new(registers(&rt, &[0]), good.clone()?);
+    assert!(rt; eager_short.err() == Some(BadRecipe::BadRegisters));
+    let lazy_short = LazyServer::new(registers(&rt, &[0]), good);
+    assert!(rt; lazy_short.err() == Some(BadRecipe::BadRegisters));
+    Ok(())
+}
+
+/// The first and the last numbers that a recipe may have, and those beside them.
+#[test]
+fn recipe_edges(rt: HostRuntime) {
+    let mut edge = recipe(
+        64,
+        Act::Pass,
+        &[output(15, KeyFrom::Same, AmountFrom::Same)],
+    );
+    for (stage, is_good) in [(0, false), (1, true), (14, true), (15, false)] {
+        edge.stage = stage;
+        assert!(rt; edge.check().is_ok() == is_good, "stage {stage}");
+    }
+    edge.stage = 14;
+    for (count, is_good) in [(0, false), (1, true), (64, true), (65, false)] {
+        edge.registers = count;
+        assert!(rt; edge.check().is_ok() == is_good, "registers {count}");
+    }
+    for (stage, is_good) in [(0, false), (1, true), (15, true), (16, false)] {
+        let last = recipe(
+            1,
+            Act::Pass,
+            &[
+                reply_after(),
+                output(stage, KeyFrom::Same, AmountFrom::Same),
+            ],
+        );
+        assert!(rt; last.check().is_ok() == is_good, "output {stage}");
+    }
+}
+
+#[test]
+fn registers_are_a_list(rt: HostRuntime) {
+    assert!(rt; Registers::new(0).is_none());
+    assert!(rt; Registers::new(65).is_none());
+    assert!(rt; Registers::new(1).is_some());
+    let mut all = Registers::new(64).expect(&rt, "registers");
+    assert!(rt; all.len() == 64);
+    assert!(rt; all.get(63) == Some(0));
+    assert!(rt; all.get(64) == None);
+    assert!(rt; all.get(MAX) == None);
+    all.set(63, MAX);
+    assert!(rt; all.get(63) == Some(MAX));
+    assert!(rt; all.get(62) == Some(0));
+}
+
+#[test]
+fn printed_names(rt: HostRuntime) -> Result<(), Fail> {
+    for (fault, name) in [
+        (BadRecipe::BadStage, "BadStage"),
+        (BadRecipe::BadRegisters, "BadRegisters"),
+        (BadRecipe::BadOutput, "BadOutput"),
+    ] {
+        assert!(rt; format!(in rt.alloc(); "{fault}")?.as_str() == name);
+    }
+    for (why, name) in [
+        (Declined::NoRegister, "NoRegister"),
+        (Declined::TooLarge, "TooLarge"),
+        (Declined::Short, "Short"),
+    ] {
+        assert!(rt; format!(in rt.alloc(); "{why}")?.as_str() == name);
+    }
+    Ok(())
+}
+
+#[test]
+fn unused_outputs(rt: HostRuntime) {
+    assert!(rt; Output::default() == output(15, KeyFrom::Same, AmountFrom::Same));
+}
+
+#[test]
+fn an_effect_changes_nothing(rt: HostRuntime) -> Result<(), Fail> {
+    let mut registers = Registers::new(2).ok_or("registers")?;
+    registers.set(1, 5);
+    let mut outputs = ArrayVec::new();
+    outputs.push(Output {
+        stage: 15,
+        key: KeyFrom::Same,
+        amount: AmountFrom::After,
+    });
+    let recipe = Recipe {
+        stage: 1,
+        registers: 2,
+        act: Act::Add,
+        outputs,
+    };
+    recipe.check()?;
+    let prepared = recipe.effect(&registers, &element(1, 7))?;
+    assert_eq!(rt; prepared.after, 12);
+    assert_eq!(rt;
+        prepared.drafts.as_slice(),
+        [draft(&rt, 15, 1, 12)].as_slice()
+    );
+    assert!(rt;
+        matches!(
+            recipe.effect(&registers, &element(2, 7)),
+            Err(Declined::NoRegister)
+        )
+    );
+    let copy = registers.clone()?;
+    assert_eq!(rt; copy.as_slice(), [0, 5].as_slice());
+    assert_eq!(rt; registers.as_slice(), [0, 5].as_slice());
+    Ok(())
+}

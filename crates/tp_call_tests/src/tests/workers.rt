@@ -1,0 +1,155 @@
+//! Workers side by side.
+ghost use Rattle.std.specs.Prelude.{◌≡◌, None, All};
+ghost use Rattle.tp_manager.specs.Shown.{IsKeptBy, IsOf};
+ghost use Rattle.tp_workers.specs.Clients.{IsClientJob};
+ghost use Rattle.tp_workers.specs.Free.{IsFreePass};
+
+mod account;
+mod cancels;
+mod counts;
+mod full;
+mod overlap;
+mod race;
+mod storm;
+mod together;
+mod tree;
+
+use std::process::Abort;
+use std::sync::atomic::{AtomicU64, Ordering};
+use std::thread;
+use tp_manager::{Keeper, Manager, Pass};
+use tp_model::types::{Limits, Look, Status};
+use tp_server::Server;
+use tp_workers::ClientJob;
+
+/// A manager with these limits, and the keeper of its passes.
+fn manager<R: Abort + AllocGlobal>(rt: &R, limits: Limits) -> (Manager, Keeper)
+    ensures { IsKeptBy result.0 result.1 }
+{
+    Keeper::new(rt.alloc(), limits).expect(rt, "no manager")
+}
+
+/// The next pass of the manager.
+fn pass<R: Abort>(rt: &R, keeper: &mut Keeper, manager: &Manager) -> Pass
+    requires { IsKeptBy manager.now keeper.old }
+    ensures kept { IsKeptBy manager.now keeper.new }
+    ensures free { IsFreePass manager.now result }
+{
+    keeper.pass(manager).expect(rt, "no pass")
+}
+
+/// The next two passes.
+fn two<R: Abort>(rt: &R, keeper: &mut Keeper, manager: &Manager) -> [Pass; 2]
+    requires { IsKeptBy manager.now keeper.old }
+    ensures kept { IsKeptBy manager.now keeper.new }
+    ensures free { All (IsFreePass manager.now) result }
+{
+    let first = pass(rt, keeper, manager);
+    let second = pass(rt, keeper, manager);
+    [first, second]
+}
+
+/// The next three passes.
+fn three_passes<R: Abort>(rt: &R, keeper: &mut Keeper, manager: &Manager) -> [Pass; 3]
+    requires { IsKeptBy manager.now keeper.old }
+    ensures kept { IsKeptBy manager.now keeper.new }
+    ensures free { All (IsFreePass manager.now) result }
+{
+    let first = pass(rt, keeper, manager);
+    let second = pass(rt, keeper, manager);
+    let third = pass(rt, keeper, manager);
+    [first, second, third]
+}
+
+/// A client of stage 1 and key 0.
+fn client(amount: u64, count: u32) -> ClientJob
+    ensures job { IsClientJob result }
+    ensures count { result.count ≡ count }
+{
+    ClientJob {
+        stage: 1,
+        key: 0,
+        amount,
+        count,
+    }
+}
+
+/// Two servers with nothing prepared, side by side.
+fn pair(one: Box<dyn Server + Send>, other: Box<dyn Server + Send>) -> [Box<dyn Server + Send>; 2]
+    requires { (pending one ≡ None) × (pending other ≡ None) }
+    ensures { All (λ server. pending server ≡ None) result }
+{
+    [one, other]
+}
+
+/// Three servers with nothing prepared, side by side.
+fn three(
+    one: Box<dyn Server + Send>,
+    other: Box<dyn Server + Send>,
+    third: Box<dyn Server + Send>,
+) -> [Box<dyn Server + Send>; 3]
+    requires { (pending one ≡ None) × (pending other ≡ None) × (pending third ≡ None) }
+    ensures { All (λ server. pending server ≡ None) result }
+{
+    [one, other, third]
+}
+
+/// How the elements of a stage stand.
+#[derive(Clone, Copy, Default)]
+struct Standing {
+    waiting: u32,
+    consumed: u32,
+    killed: u32,
+    /// Those that a unit holds, or that are parked.
+    other: u32,
+    /// What the amounts of the consumed ones add up to.
+    amount: u64,
+}
+
+impl Standing {
+    /// How many elements there are.
+    fn all(&self) -> u32 {
+        let settled = self.consumed.wrapping_add(self.killed);
+        self.waiting.wrapping_add(settled).wrapping_add(self.other)
+    }
+
+    fn add(&mut self, look: &Look) {
+        match look.status {
+            Status::Waiting { .. } => self.waiting = self.waiting.wrapping_add(1),
+            Status::Killed => self.killed = self.killed.wrapping_add(1),
+            Status::Consumed { .. } => {
+                self.consumed = self.consumed.wrapping_add(1);
+                self.amount = self.amount.wrapping_add(look.element.amount);
+            }
+            _ => self.other = self.other.wrapping_add(1),
+        }
+    }
+}
+
+/// How the elements of this stage with ids below `end` stand.
+fn survey(manager: &Manager, reader: &mut Pass, stage: u8, end: u32) -> Standing
+    requires { IsOf manager.now reader.old }
+    ensures { IsOf manager.now reader.new }
+{
+    let mut all = Standing::default();
+    for id in 0..end {
+        if let Ok(look) = manager.read(reader, id) {
+            if look.element.stage == stage {
+                all.add(&look);
+            }
+        }
+    }
+    all
+}
+
+/// Looks at most 1,000,000 times until the word has come to a number, and then notes a failure. Each look yields the
+/// processor, so that others come to their points where there are few.
+fn hold(word: &AtomicU64, wanted: u64, failed: &AtomicU64) {
+    for _ in 0..1_000_000u32 {
+        if word.load(Ordering::SeqCst) >= wanted {
+            return;
+        }
+        thread::yield_now();
+    }
+    failed.fetch_add(1, Ordering::SeqCst);
+}

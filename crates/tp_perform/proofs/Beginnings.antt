@@ -1,0 +1,83 @@
+-- The scene before a script's first command.
+use Rattle.std.proofs.Common.{◌≡◌, ◌≤◌, ℕ, suc, ◌+◌, List, [], ◌∷◌, ◌++◌, All, Option, refl, sym, ◌∙◌, ap, subst, arith, length, map, take, drop}
+use Rattle.std.specs.Io.KnownBytes.{Appends}
+use Rattle.std.specs.declared.alloc.Global.{Global}
+use Rattle.std.specs.declared.dyn_box.DynBox.{DynBox}
+use Rattle.std.proofs.lemmas.List.{length-take-le}
+use Rattle.std.proofs.lemmas.List.Elements.{All-cons, All-nil}
+use Rattle.tp_server.specs.declared.recipe.Recipe.{Recipe}
+use Rattle.tp_server.specs.Pending.{Pending}
+use Rattle.tp_manager.specs.Accounts.{Accounts, AreFrom}
+use Rattle.tp_manager.specs.Shown.{KeeperShown, ManagerShown, PassShown}
+use Rattle.tp_script.specs.Script.{ScriptView, passes}
+use Rattle.tp_workers.specs.Free.{IsFreePass}
+use Rattle.tp_perform.specs.Acting.{new_place, new_places}
+use Rattle.tp_perform.specs.Ending.{TellsAccount, finals_of}
+use Rattle.tp_perform.specs.Places.{workers}
+use Rattle.tp_perform.specs.Reported.{Begins, IsNewPass, IsNewPlace, Reported, limits_of}
+use Rattle.tp_perform.specs.Told.{AllEnded, IsFirstScene, Scene, ToldAll}
+
+module _ {X : Type 0} {F : X → Type 0} (recipe : DynBox X Global F → Recipe) (registers : DynBox X Global F → List ℕ) (pending : DynBox X Global F → Option Pending) where
+  abbrev Box : Type 0
+  Box = DynBox X Global F
+
+  new_passes : (ps : List PassShown) (ss : List Box) → length ps ≡ length ss → map (λ p. p.desk.pass) (new_places recipe registers pending ps ss) ≡ ps
+  new_passes [] [] long = refl
+  new_passes [] (s ∷ ss) long = absurd (omega (arith, long))
+  new_passes (p ∷ ps) [] long = absurd (omega (arith, long))
+  new_passes (p ∷ ps) (s ∷ ss) long = ap (λ qs. p ∷ qs) (new_passes ps ss (omega (arith, long)))
+
+  new_length : (ps : List PassShown) (ss : List Box) → length ps ≡ length ss → length (new_places recipe registers pending ps ss) ≡ length ss
+  new_length [] [] long = refl
+  new_length [] (s ∷ ss) long = absurd (omega (arith, long))
+  new_length (p ∷ ps) [] long = absurd (omega (arith, long))
+  new_length (p ∷ ps) (s ∷ ss) long = ap suc (new_length ps ss (omega (arith, long)))
+
+  all_new : (ps : List PassShown) (ss : List Box) → All IsNewPlace (new_places recipe registers pending ps ss)
+  all_new [] [] = All-nil IsNewPlace
+  all_new [] (s ∷ ss) = All-nil IsNewPlace
+  all_new (p ∷ ps) [] = All-nil IsNewPlace
+  all_new (p ∷ ps) (s ∷ ss) = All-cons IsNewPlace (new_place recipe registers pending p s) (new_places recipe registers pending ps ss) (record { began = refl; work = refl; kept = refl }) (all_new ps ss)
+
+  -- the servers' passes are as many as the servers
+  workers_length : (n : ℕ) (olds : List PassShown) → 1 + n ≤ length olds → length (workers n olds) ≡ n
+  workers_length n [] few = absurd (omega (arith, few))
+  workers_length n (p ∷ ps) few = length-take-le n ps (omega (arith, few))
+
+  pub begins_of : (s : ScriptView) (m : ManagerShown) (olds : List PassShown) (ss : List Box) (first : Scene) → IsFirstScene recipe registers pending olds ss first → length ss ≡ length s.servers
+      → m.limits ≡ limits_of s → length olds ≡ passes s → AreFrom 0 olds → All (IsFreePass m) olds → All IsNewPass olds → Begins s m first
+  begins_of s m olds ss first is all limits many numbered own new =
+      let long = workers_length (length ss) olds (omega (arith, many, all)) in
+      let these = ap (map (λ p. p.desk.pass)) is.1 ∙ new_passes (workers (length ss) olds) ss long in
+      record {
+        limits = limits;
+        passes = olds;
+        parts = is.0 ∙ ap (λ ps. first.client ∷ (ps ++ first.racers)) (sym these);
+        many = many ∙ sym (ap (λ l. l.parts) limits);
+        numbered = numbered;
+        own = own;
+        new = new;
+        desks = subst (All IsNewPlace) (sym is.1) (all_new (workers (length ss) olds) ss);
+        each = ap length is.1 ∙ (new_length (workers (length ss) olds) ss long ∙ all);
+      }
+
+-- the whole report
+pub reported_of : (s : ScriptView) (m : ManagerShown) (first last : Scene) (before commands_done finals_done after : Option (List ℕ)) (left closed : List PassShown) (registers : List (List ℕ)) (keeper keeper' : KeeperShown) (n : ℕ)
+    → Begins s m first → n ≡ length s.servers → ToldAll m s first last before commands_done → AllEnded last.places (workers n left) registers → Appends commands_done finals_done (finals_of s registers)
+    → TellsAccount s.account (Accounts m.limits keeper keeper' left closed) finals_done after → Reported s m before after
+reported_of s m first last before commands_done finals_done after left closed registers keeper keeper' n begins many told ended finals account = record {
+  first = first;
+  last = last;
+  begins = begins;
+  commands_done = commands_done;
+  told = told;
+  left = left;
+  registers = registers;
+  ended = subst (λ k. AllEnded last.places (workers k left) registers) many ended;
+  finals_done = finals_done;
+  finals = finals;
+  keeper = keeper;
+  keeper' = keeper';
+  closed = closed;
+  account = account;
+}

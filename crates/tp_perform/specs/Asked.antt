@@ -1,0 +1,110 @@
+-- What the script's own client is answered, and what its pass did for it. `old` is what the pass shows before the
+-- command, and `new` what it shows after it.
+use Rattle.std.specs.Prelude.{◌≡◌, ◌⊎◌, ℕ, zero, suc, ◌+◌, ◌≤◌, List, [], ◌∷◌}
+use Rattle.tp_model.specs.declared.types.Counts.{Counts}
+use Rattle.tp_model.specs.declared.types.Element.{Element}
+use Rattle.tp_model.specs.declared.types.Limits.{Limits}
+use Rattle.tp_model.specs.declared.types.Look.{Look}
+use Rattle.tp_model.specs.declared.types.Refusal.TheVariants as refusals
+use Rattle.tp_model.specs.Accounts.{one_more}
+use Rattle.tp_model.specs.History.{IsUnborn}
+use Rattle.tp_model.specs.Steps.{rows_of}
+use Rattle.tp_manager.specs.Bounds.{kill_steps, cancel_steps, next_error_steps, read_steps, reply_steps, submit_steps}
+use Rattle.tp_manager.specs.Calls.{AtPoint, Follows, IsQuiet, KillFails, Kills, Reads, SubmitRefused, Submits}
+use Rattle.tp_manager.specs.Cancels.{CancelFails, Cancels}
+use Rattle.tp_manager.specs.Lists.{AllKilled, NextError, NextReply, NoneParked}
+use Rattle.tp_manager.specs.Shown.{PassShown}
+use Rattle.tp_report.specs.declared.answer.Answer.{Answer}
+use Rattle.tp_report.specs.declared.answer.Answer.TheVariants as answer
+
+-- ---- one call
+
+-- a submit
+abbrev pub Submitted : ℕ → ℕ → ℕ → PassShown → PassShown → Answer → Type 0
+Submitted stage key amount old new (answer.Submitted id) = Submits id stage key amount old new
+Submitted stage key amount old new (answer.Refused why) = (new ≡ old) × SubmitRefused stage old why
+Submitted stage key amount old new other = ⊥
+
+abbrev pub TellsSubmit : ℕ → ℕ → ℕ → PassShown → PassShown → Answer → Type 0
+TellsSubmit stage key amount old new a = Follows submit_steps old new × Submitted stage key amount old new a
+
+-- a kill
+abbrev pub Killed : Limits → ℕ → PassShown → PassShown → Answer → Type 0
+Killed l id old new (answer.Killed i aborted) = (i ≡ id) × Kills l id aborted old new
+Killed l id old new (answer.Refused why) = KillFails l id old new why
+Killed l id old new other = ⊥
+
+abbrev pub TellsKill : Limits → ℕ → PassShown → PassShown → Answer → Type 0
+TellsKill l id old new a = Follows (kill_steps l) old new × Killed l id old new a
+
+-- a cancel
+abbrev pub Cancelled : Limits → ℕ → PassShown → PassShown → Answer → Type 0
+Cancelled l root old new (answer.Cancelled r killed) = (r ≡ root) × Cancels l root killed old new
+Cancelled l root old new (answer.Refused why) = CancelFails root old new why
+Cancelled l root old new other = ⊥
+
+abbrev pub TellsCancel : Limits → ℕ → PassShown → PassShown → Answer → Type 0
+TellsCancel l root old new a = Follows (cancel_steps l) old new × Cancelled l root old new a
+
+-- a read
+abbrev pub HasRead : Limits → ℕ → PassShown → PassShown → Answer → Type 0
+HasRead l id old new (answer.Read look) = Reads l id old new look
+HasRead l id old new (answer.Refused why) = (why ≡ refusals.NotThere) × AtPoint old new (λ h. IsUnborn h id)
+HasRead l id old new other = ⊥
+
+abbrev pub TellsRead : Limits → ℕ → PassShown → PassShown → Answer → Type 0
+TellsRead l id old new a = Follows (read_steps l) old new × IsQuiet old new × HasRead l id old new a
+
+-- ---- several calls, one after another
+
+-- the next reply from this id on was found, and then read
+pub record FindsReply (l : Limits) (root from : ℕ) (reply : Element) (old new : PassShown) : Type 0 where
+  pub between : PassShown
+  pub follows : Follows (reply_steps l) old between
+  pub quiet : IsQuiet old between
+  pub next : NextReply l root from reply.id old between
+  pub look : Look
+  pub shows : look.element ≡ reply
+  pub read : TellsRead l reply.id between new (answer.Read look)
+
+-- a listing from this id on found none, or no id is left
+abbrev pub FindsNoReply : Limits → ℕ → ℕ → PassShown → PassShown → Type 0
+FindsNoReply l root from old new =
+    (Follows (reply_steps l) old new × IsQuiet old new × AllKilled l root (λ i. from ≤ i) old new)
+    ⊎ ((rows_of l ≤ from) × (new ≡ old))
+
+-- the replies from this id on, one found behind the other
+abbrev pub TellsReplies : Limits → ℕ → ℕ → PassShown → List Element → PassShown → Type 0
+TellsReplies l root from old [] new = FindsNoReply l root from old new
+TellsReplies l root from old (reply ∷ rest) new = (between : PassShown) × FindsReply l root from reply old between
+    × TellsReplies l root (reply.id + 1) between rest new
+
+-- the next parked element from this id on was found
+pub record FindsError (l : Limits) (from id : ℕ) (old new : PassShown) : Type 0 where
+  pub follows : Follows (next_error_steps l) old new
+  pub quiet : IsQuiet old new
+  pub next : NextError l from id old new
+
+-- a listing from this id on found none, or no id is left
+abbrev pub FindsNoError : Limits → ℕ → PassShown → PassShown → Type 0
+FindsNoError l from old new =
+    (Follows (next_error_steps l) old new × IsQuiet old new × NoneParked l (λ i. from ≤ i) old new)
+    ⊎ ((rows_of l ≤ from) × (new ≡ old))
+
+-- the parked elements from this id on, one found behind the other
+abbrev pub TellsErrors : Limits → ℕ → PassShown → List ℕ → PassShown → Type 0
+TellsErrors l from old [] new = FindsNoError l from old new
+TellsErrors l from old (id ∷ rest) new = (between : PassShown) × FindsError l from id old between
+    × TellsErrors l (id + 1) between rest new
+
+-- these counts, and what a read answered
+abbrev pub with_read : Answer → Counts → Counts
+with_read (answer.Read look) c = one_more look.status c
+with_read other c = c
+
+-- the ids below this one were read, one after another, and counted so
+abbrev pub TellsCount : Limits → ℕ → PassShown → Counts → PassShown → Type 0
+TellsCount l zero old c new =
+    (c ≡ record { waiting = 0; held = 0; consumed = 0; parked = 0; killed = 0 }) × (new ≡ old)
+TellsCount l (suc id) old c new = (before : Counts) × (between : PassShown) × (a : Answer)
+    × TellsCount l id old before between × TellsRead l id between new a × (c ≡ with_read a before)

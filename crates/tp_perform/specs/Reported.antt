@@ -1,0 +1,64 @@
+-- What is reported of a script that was performed to its end.
+use Rattle.std.specs.Prelude.{◌≡◌, ℕ, false, List, [], ◌∷◌, ◌++◌, All, Option, Some, None, length, map}
+use Rattle.std.specs.Io.KnownBytes.{Appends}
+use Rattle.tp_model.specs.declared.types.Limits.{Limits}
+use Rattle.tp_manager.specs.Accounts.{Accounts, AreFrom}
+use Rattle.tp_manager.specs.Shown.{KeeperShown, ManagerShown, PassShown}
+use Rattle.tp_script.specs.Script.{ScriptView, passes}
+use Rattle.tp_workers.specs.Free.{IsFreePass}
+use Rattle.tp_perform.specs.Acting.{PlaceShown}
+use Rattle.tp_perform.specs.Ending.{TellsAccount, finals_of}
+use Rattle.tp_perform.specs.Places.{workers}
+use Rattle.tp_perform.specs.Told.{AllEnded, Scene, ToldAll}
+
+-- the limits that a script asks for
+abbrev pub limits_of : ScriptView → Limits
+limits_of s = record {
+  parts = passes s;
+  rows = s.settings.rows;
+  units = s.settings.units;
+  attempts = s.settings.attempts;
+}
+
+-- the pass has seen nothing, and has done nothing
+pub record IsNewPass (p : PassShown) : Type 0 where
+  pub seen : p.seen ≡ []
+  pub mine : p.mine ≡ []
+  pub open_unit : p.open_unit ≡ None
+  pub drawn : p.drawn ≡ 0
+
+-- the desk begins there
+pub record IsNewPlace (p : PlaceShown) : Type 0 where
+  pub began : p.began ≡ Some (p.desk.pass, p.desk.registers)
+  pub work : p.desk.work ≡ None
+  pub kept : p.is_dropped ≡ false
+
+-- the scene of a new manager: its passes are the client's, one for the desk of each server, and those of the races
+pub record Begins (s : ScriptView) (m : ManagerShown) (first : Scene) : Type 0 where
+  pub limits : m.limits ≡ limits_of s
+  pub passes : List PassShown
+  pub parts : passes ≡ first.client ∷ (map (λ p. p.desk.pass) first.places ++ first.racers)
+  pub many : length passes ≡ m.limits.parts
+  pub numbered : AreFrom 0 passes
+  pub own : All (IsFreePass m) passes
+  pub new : All IsNewPass passes
+  pub desks : All IsNewPlace first.places
+  pub each : length first.places ≡ length s.servers
+
+-- the lines of all commands, then the final lines, of the registers that the ended desks left, and then the account of
+-- what all passes have seen, where it is asked for
+pub record Reported (s : ScriptView) (m : ManagerShown) (before after : Option (List ℕ)) : Type 0 where
+  pub first : Scene
+  pub last : Scene
+  pub begins : Begins s m first
+  pub commands_done : Option (List ℕ)
+  pub told : ToldAll m s first last before commands_done
+  pub left : List PassShown
+  pub registers : List (List ℕ)
+  pub ended : AllEnded last.places (workers (length s.servers) left) registers
+  pub finals_done : Option (List ℕ)
+  pub finals : Appends commands_done finals_done (finals_of s registers)
+  pub keeper : KeeperShown
+  pub keeper' : KeeperShown
+  pub closed : List PassShown
+  pub account : TellsAccount s.account (Accounts m.limits keeper keeper' left closed) finals_done after

@@ -1,0 +1,91 @@
+-- Commands that have all free servers work: a race and a drain.
+use Rattle.std.specs.Prelude.{◌≡◌, ◌≤◌, ◌<◌, get_or, ℕ, ◌+◌, ◌*◌, Bool, true, false, ◌&&◌, not, is_some, List, [], ◌∷◌, Option, Some, None, drop, length, replicate, take}
+use Rattle.std.specs.List.{AllZip}
+use Rattle.tp_model.specs.declared.types.Limits.{Limits}
+use Rattle.tp_manager.specs.Shown.{ManagerShown, PassShown}
+use Rattle.tp_desk.specs.declared.aside.Aside.{Aside}
+use Rattle.tp_workers.specs.declared.client.ClientJob.{ClientJob}
+use Rattle.tp_workers.specs.declared.killer.KillJob.{KillJob}
+use Rattle.tp_workers.specs.declared.tally.Shift.{Shift}
+use Rattle.tp_workers.specs.Clients.{ClientRan}
+use Rattle.tp_workers.specs.Desks.{TakesTurns}
+use Rattle.tp_workers.specs.Desks as workers
+use Rattle.tp_workers.specs.Killers.{KillerRan}
+use Rattle.tp_workers.specs.Ran.{RanEach}
+use Rattle.tp_perform.specs.declared.place.Place.{Place}
+use Rattle.tp_perform.specs.declared.racing.RacePlan.{RacePlan}
+use Rattle.tp_perform.specs.Acting.{PlaceShown, place_of}
+
+-- ---- desks
+
+-- whether a desk takes part: it wasn't dropped, and has nothing in hand
+abbrev pub is_free : PlaceShown → Bool
+is_free p = not p.is_dropped && not (is_some p.desk.work)
+
+-- the same of a place
+abbrev pub has_none : {X : Type 0} {F : X → Type 0} → Option (Aside X F) → Bool
+has_none None = false
+has_none (Some aside) = not (is_some aside.work)
+
+abbrev pub is_free_at : {X : Type 0} {F : X → Type 0} → Place X F → Bool
+is_free_at place = not place.is_dropped && has_none place.aside
+
+-- none of the places from the one up to the other is free
+abbrev pub ArePassed : {X : Type 0} {F : X → Type 0} → ℕ → ℕ → List (Place X F) → Type 0
+ArePassed {X = X} {F = F} from to places = (i : ℕ) (d : Place X F) → from ≤ i → i < to → is_free_at (get_or places i d) ≡ false
+
+-- the desk did this, and has nothing in hand
+pub record TookPart (Did : workers.Place → workers.Place → Type 0) (old new : PlaceShown) : Type 0 where
+  pub did : Did (place_of old.desk) (place_of new.desk)
+  pub none_left : new.desk.work ≡ None
+  pub began : new.began ≡ old.began
+  pub kept : new.is_dropped ≡ old.is_dropped
+
+-- a desk that takes part did this, and any other is as it was
+abbrev pub TakesPart : Bool → (workers.Place → workers.Place → Type 0) → PlaceShown → PlaceShown → Type 0
+TakesPart true Did old new = TookPart Did old new
+TakesPart false Did old new = new ≡ old
+
+-- so it is at each place
+abbrev pub AllTakePart : (workers.Place → workers.Place → Type 0) → List PlaceShown → List PlaceShown → Type 0
+AllTakePart Did olds news = AllZip (λ old new. TakesPart (is_free old) Did old new) olds news
+
+-- at most so many turns were taken there
+abbrev pub TookTurns : Limits → ℕ → workers.Place → workers.Place → Type 0
+TookTurns l turns old new = (counts : Shift) × TakesTurns l turns old counts new
+
+-- ---- clients and cancellers
+
+-- what each client of a race is to do
+abbrev pub client_job : RacePlan → ClientJob
+client_job plan = record { stage = plan.stage; key = plan.key; amount = plan.amount; count = plan.submits }
+
+-- the number of the first of these passes
+abbrev pub first_number : List PassShown → ℕ
+first_number [] = 0
+first_number (p ∷ ps) = p.number
+
+-- each canceller is to kill the elements of all rows of these clients
+abbrev pub kill_job : ℕ → RacePlan → List PassShown → KillJob
+kill_job rows plan clients =
+    let first = first_number clients * rows in
+    record { first = first; end = first + plan.clients * rows }
+
+-- clients of the first passes and cancellers of the others did their jobs, and so many submits were accepted
+pub record RacersRan (m : ManagerShown) (submits : List ClientJob) (kills : List KillJob)
+    (clients cancellers : List PassShown) (submitted : ℕ) (clients' cancellers' : List PassShown) : Type 0 where
+  pub client_counts : Shift
+  pub killer_counts : Shift
+  pub clients_ran : RanEach (ClientRan m) clients submits client_counts clients' submits
+  pub cancellers_ran : RanEach (KillerRan m) cancellers kills killer_counts cancellers' kills
+  pub accepted : submitted ≡ client_counts.submitted
+
+-- a race by the first passes as clients and the others as cancellers
+pub record Races (m : ManagerShown) (rows : ℕ) (plan : RacePlan) (racers : List PassShown) (submitted : ℕ) (racers' : List PassShown)
+    (olds news : List PlaceShown) : Type 0 where
+  pub desks : AllTakePart (TookTurns m.limits plan.turns) olds news
+  pub ran :
+      let clients = take plan.clients racers in
+      let cancellers = drop plan.clients racers in
+      RacersRan m (replicate (length clients) (client_job plan)) (replicate (length cancellers) (kill_job rows plan clients))
+      clients cancellers submitted (take plan.clients racers') (drop plan.clients racers')

@@ -1,0 +1,188 @@
+-- What the commands of a script are told, one after another: the line of each is that of its call's answer.
+use Rattle.std.specs.Prelude.{◌≡◌, ◌≤◌, ℕ, zero, suc, Bool, true, false, List, [], ◌∷◌, ◌++◌, All, Option, Some, None, length, slice_get, sum_by, take}
+use Rattle.std.specs.Io.KnownBytes.{Appends}
+use Rattle.std.specs.declared.alloc.Global.{Global}
+use Rattle.std.specs.declared.dyn_box.DynBox.{DynBox}
+use Rattle.tp_model.specs.Steps.{rows_of}
+use Rattle.tp_server.specs.declared.recipe.Recipe.{Recipe}
+use Rattle.tp_server.specs.Pending.{Pending}
+use Rattle.tp_manager.specs.Shown.{ManagerShown, PassShown}
+use Rattle.tp_desk.specs.Turns.{EndsOpen}
+use Rattle.tp_workers.specs.Drained.{EndsIdle}
+use Rattle.tp_report.specs.Answer.{answer_text, counts_text, errors_text, line, named_text, replies_text}
+use Rattle.tp_report.specs.Written.{AppendsFront}
+use Rattle.tp_report.specs.declared.answer.Answer.{Answer}
+use Rattle.tp_report.specs.declared.answer.Answer.TheVariants as answer
+use Rattle.tp_report.specs.declared.answer.ServerAnswer.{ServerAnswer}
+use Rattle.tp_script.specs.Passes.{racers, racing}
+use Rattle.tp_script.specs.Script.{ScriptView, ServerView}
+use Rattle.tp_script.specs.declared.script.Command.{Command}
+use Rattle.tp_script.specs.declared.script.Command.TheVariants as command
+use Rattle.tp_perform.specs.declared.place.Place.{Place}
+use Rattle.tp_perform.specs.declared.desks.Act.{Act}
+use Rattle.tp_perform.specs.declared.desks.Act.TheVariants as acts
+use Rattle.tp_perform.specs.Acting.{DoesIn, IsSteadyPlace, PlaceShown, new_places, places_shown}
+use Rattle.tp_perform.specs.Asked.{TellsCancel, TellsCount, TellsErrors, TellsKill, TellsRead, TellsReplies, TellsSubmit}
+use Rattle.tp_perform.specs.declared.racing.RacePlan.{RacePlan}
+use Rattle.tp_perform.specs.Performing.{TellsBalance}
+use Rattle.tp_perform.specs.Places.{workers}
+use Rattle.tp_perform.specs.Together.{AllTakePart, Races}
+
+-- what is there while a script is performed: the client's pass, the places of the desks, and the passes of races
+pub record Scene : Type 0 where
+  pub client : PassShown
+  pub places : List PlaceShown
+  pub racers : List PassShown
+
+module _ {X : Type 0} {F : X → Type 0} (recipe : DynBox X Global F → Recipe) (registers : DynBox X Global F → List ℕ)
+    (pending : DynBox X Global F → Option Pending) where
+  abbrev pub scene : PassShown → List PassShown → List (DynBox X Global F) → List (Place X F) → List PassShown → Scene
+  scene client passes servers places racers = record {
+    client = client;
+    places = places_shown recipe registers pending passes servers places;
+    racers = racers;
+  }
+
+-- nothing but the client's pass has changed
+pub record OnlyClient (old new : Scene) : Type 0 where
+  pub places : new.places ≡ old.places
+  pub racers : new.racers ≡ old.racers
+
+-- nothing but the places have changed
+pub record OnlyPlaces (old new : Scene) : Type 0 where
+  pub client : new.client ≡ old.client
+  pub racers : new.racers ≡ old.racers
+
+-- the line tells the answer of such a call of the client
+pub record ClientLine (Tells : PassShown → PassShown → Answer → Type 0) (old : Scene) (text : List ℕ) (new : Scene) : Type 0 where
+  pub answer : Answer
+  pub tells : Tells old.client new.client answer
+  pub text_is : text ≡ line (answer_text answer)
+  pub others : OnlyClient old new
+
+-- the line tells what such calls of the client found
+pub record FoundLine {A : Type 0} (Tells : PassShown → A → PassShown → Type 0) (told : A → List ℕ)
+    (old : Scene) (text : List ℕ) (new : Scene) : Type 0 where
+  pub found : A
+  pub tells : Tells old.client found new.client
+  pub text_is : text ≡ line (told found)
+  pub others : OnlyClient old new
+
+-- the line tells, with the server's name, what the desk at its place answered
+pub record ServerLine (m : ManagerShown) (servers : List ServerView) (act : Act) (at : ℕ)
+    (old : Scene) (text : List ℕ) (new : Scene) : Type 0 where
+  pub answer : ServerAnswer
+  pub does : DoesIn m.limits act at old.places answer new.places
+  pub server : ServerView
+  pub named : slice_get servers at ≡ Some server
+  pub text_is : text ≡ line (named_text server.name answer)
+  pub others : OnlyPlaces old new
+
+-- the line tells a register of the server, or that its desk was dropped, and nothing has changed
+pub record BalanceLine (servers : List ServerView) (at k : ℕ) (old : Scene) (text : List ℕ) (new : Scene) : Type 0 where
+  pub place : PlaceShown
+  pub there : slice_get old.places at ≡ Some place
+  pub server : ServerView
+  pub named : slice_get servers at ≡ Some server
+  pub tells : TellsBalance server.name k place.desk.registers place.is_dropped text
+  pub same : new ≡ old
+
+-- what a place adds to the sum of a register: its value, unless the desk was dropped or has no such register
+abbrev pub counted_value : Bool → Option ℕ → ℕ
+counted_value true value = 0
+counted_value false None = 0
+counted_value false (Some value) = value
+
+-- the same of a server and its place
+abbrev pub value_at : {X : Type 0} {F : X → Type 0} → (DynBox X Global F → List ℕ) → ℕ → DynBox X Global F × Place X F → ℕ
+value_at registers k (server, place) = counted_value place.is_dropped (slice_get (registers server) k)
+
+-- the sum of a register over all places
+abbrev pub register_sum : ℕ → List PlaceShown → ℕ
+register_sum k places = sum_by (λ p. counted_value p.is_dropped (slice_get p.desk.registers k)) places
+
+-- the line tells how many submits of a race were accepted
+pub record RaceLine (m : ManagerShown) (rows : ℕ) (plan : RacePlan) (old : Scene) (text : List ℕ) (new : Scene) : Type 0 where
+  pub submitted : ℕ
+  pub races : Races m rows plan old.racers submitted new.racers old.places new.places
+  pub text_is : text ≡ line (answer_text (answer.Raced submitted))
+  pub client : new.client ≡ old.client
+
+-- the line tells that all free desks took turns until their last ones found nothing to claim
+pub record DrainLine (m : ManagerShown) (old : Scene) (text : List ℕ) (new : Scene) : Type 0 where
+  pub desks : AllTakePart (EndsIdle m.limits) old.places new.places
+  pub text_is : text ≡ line (answer_text answer.Drained)
+  pub others : OnlyPlaces old new
+
+-- the line of a script's command
+abbrev pub TellsCommand : ManagerShown → ScriptView → Command → Scene → List ℕ → Scene → Type 0
+TellsCommand m s (command.Submit stage key amount) = ClientLine (TellsSubmit stage key amount)
+TellsCommand m s (command.Kill id) = ClientLine (TellsKill m.limits id)
+TellsCommand m s (command.Cancel root) = ClientLine (TellsCancel m.limits root)
+TellsCommand m s (command.Read id) = ClientLine (TellsRead m.limits id)
+TellsCommand m s (command.Reply root) = FoundLine (TellsReplies m.limits root 0) (replies_text root)
+TellsCommand m s command.Errors = FoundLine (TellsErrors m.limits 0) errors_text
+TellsCommand m s command.Count = FoundLine (TellsCount m.limits (rows_of m.limits)) counts_text
+TellsCommand m s (command.Turn at) = ServerLine m s.servers acts.Turn at
+TellsCommand m s (command.Claim at) = ServerLine m s.servers acts.Claim at
+TellsCommand m s (command.Prepare at) = ServerLine m s.servers acts.Prepare at
+TellsCommand m s (command.Commit at) = ServerLine m s.servers acts.Commit at
+TellsCommand m s (command.Abort at) = ServerLine m s.servers acts.Abort at
+TellsCommand m s (command.Drop at) = ServerLine m s.servers acts.Drop at
+TellsCommand m s (command.Balance at k) = BalanceLine s.servers at k
+TellsCommand m s (command.Sum k) = λ old text new.
+    (text ≡ line (answer_text (answer.Sum k (register_sum k old.places)))) × (new ≡ old)
+TellsCommand m s (command.Race clients submits stage key amount cancellers turns) = RaceLine m s.settings.rows
+    (record { clients = clients; submits = submits; stage = stage; key = key; amount = amount; turns = turns })
+TellsCommand m s command.Drain = DrainLine m
+
+-- A command leads from one scene to another, and this is its line. A race takes the passes behind those of the races
+-- before it; the other ones are as they were.
+pub record Performs (m : ManagerShown) (s : ScriptView) (c : Command) (raced : ℕ)
+    (old : Scene) (text : List ℕ) (new : Scene) : Type 0 where
+  pub front : List PassShown
+  pub here : List PassShown
+  pub after : List PassShown
+  pub back : List PassShown
+  pub parts : old.racers ≡ front ++ (here ++ back)
+  pub kept : new.racers ≡ front ++ (after ++ back)
+  pub behind : length front ≡ raced
+  pub needed : length here ≡ racers c
+  pub tells : TellsCommand m s c (record old { racers = here }) text (record new { racers = after })
+  -- at each place the registers are the fold of what the desk has committed since it began
+  pub steady : All IsSteadyPlace new.places
+
+-- the first n commands of a script lead from one scene to another, and their lines are this text
+abbrev pub Told : ManagerShown → ScriptView → Scene → ℕ → List ℕ → Scene → Type 0
+Told m s old zero text new = (text ≡ []) × (new ≡ old)
+Told m s old (suc n) text new = (front : List ℕ) × (between : Scene) × (c : Command) × (last : List ℕ)
+    × Told m s old n front between × (slice_get s.commands n ≡ Some c)
+    × Performs m s c (racing (take n s.commands)) between last new × (text ≡ front ++ last)
+
+-- all of them were performed, and their lines written
+abbrev pub ToldAll : ManagerShown → ScriptView → Scene → Scene → Option (List ℕ) → Option (List ℕ) → Type 0
+ToldAll m s old new before after = (text : List ℕ)
+    × Told m s old (length s.commands) text new × Appends before after text
+
+-- some of them were performed, and a front of their lines written
+abbrev pub ToldFront : ManagerShown → ScriptView → Scene → Option (List ℕ) → Option (List ℕ) → Type 0
+ToldFront m s old before after = (n : ℕ) × (text : List ℕ) × (new : Scene) × (n ≤ length s.commands)
+    × Told m s old n text new × AppendsFront before after text
+
+module _ {X : Type 0} {F : X → Type 0} (recipe : DynBox X Global F → Recipe) (registers : DynBox X Global F → List ℕ)
+    (pending : DynBox X Global F → Option Pending) where
+  -- the scene before the first command: of the client's pass, desks of the servers' passes, and the passes of races
+  abbrev pub IsFirstScene : List PassShown → List (DynBox X Global F) → Scene → Type 0
+  IsFirstScene passes servers s = (passes ≡ s.client ∷ (workers (length servers) passes ++ s.racers))
+      × (s.places ≡ new_places recipe registers pending (workers (length servers) passes) servers)
+
+-- a desk is ended: what it had in hand is given up, and its registers stay
+pub record EndsAt (old : PlaceShown) (pass : PassShown) (registers : List ℕ) : Type 0 where
+  pub gives_up : EndsOpen old.desk.pass.open_unit old.desk.pass pass
+  pub same : registers ≡ old.desk.registers
+
+-- so it is of each, for lists that are as long as each other
+abbrev pub AllEnded : List PlaceShown → List PassShown → List (List ℕ) → Type 0
+AllEnded [] [] [] = Unit {0}
+AllEnded (o ∷ os) (p ∷ ps) (r ∷ rs) = EndsAt o p r × AllEnded os ps rs
+AllEnded os ps rs = ⊥

@@ -1,0 +1,134 @@
+//! Calls of the manager of one thread with the answers that they are to give, each telling what the next call needs and
+//! no more.
+ghost use Rattle.std.specs.Prelude.{◌≡◌, ◌<◌, ◌≤◌, length};
+ghost use Rattle.tp_model.specs.Steps.{IsServerStage};
+
+use std::process::Abort;
+use tp_model::types::{
+    Cancelled, Claimed, Draft, Element, Ended, Killed, Limits, Look, Outcome, Refusal, Status, Work,
+};
+use tp_plain::plain::Plain;
+
+/// A manager of two passes.
+pub(crate) fn two<R: Abort + AllocGlobal>(rt: &R, rows: u16, units: u16, attempts: u8) -> Plain
+    ensures { result.limits.parts ≡ 2 }
+{
+    let limits = Limits {
+        parts: 2,
+        rows,
+        units,
+        attempts,
+    };
+    Plain::new(rt.alloc(), limits).expect(rt, "no manager")
+}
+
+/// The element of stage 1 that a client's submit makes.
+pub(crate) fn request(id: u32, amount: u64) -> Element {
+    Element {
+        id,
+        stage: 1,
+        root: id,
+        key: 0,
+        amount,
+        by: None,
+    }
+}
+
+/// Whether a submit of key 0 answers this.
+pub(crate) fn submits(
+    plain: &mut Plain,
+    caller: u16,
+    stage: u8,
+    amount: u64,
+    answer: Result<u32, Refusal>,
+) -> bool
+    requires { caller < plain.old.limits.parts }
+    ensures { plain.new.limits ≡ plain.old.limits }
+{
+    plain.submit(caller, stage, 0, amount) == answer
+}
+
+/// What a claim answers; nothing where the pass has a unit in its hand.
+pub(crate) fn claim(plain: &mut Plain, caller: u16, stage: u8) -> Option<Claimed>
+    requires pass { caller < plain.old.limits.parts }
+    requires server { IsServerStage stage }
+    ensures { plain.new.limits ≡ plain.old.limits }
+{
+    if plain.has_open(caller) {
+        return None;
+    }
+    plain.claim(caller, stage).ok()
+}
+
+/// The work that a claim takes.
+pub(crate) fn work(plain: &mut Plain, caller: u16, stage: u8) -> Option<Work>
+    requires pass { caller < plain.old.limits.parts }
+    requires server { IsServerStage stage }
+    ensures { plain.new.limits ≡ plain.old.limits }
+{
+    match claim(plain, caller, stage) {
+        Some(Claimed::Work(work)) => Some(work),
+        _ => None,
+    }
+}
+
+/// Whether a commit by a pass with a unit in its hand answers this.
+pub(crate) fn commits(
+    plain: &mut Plain,
+    caller: u16,
+    drafts: &[Draft],
+    answer: Result<Outcome, Refusal>,
+) -> bool
+    requires pass { caller < plain.old.limits.parts }
+    requires few { length drafts.now ≤ 4 }
+    ensures { plain.new.limits ≡ plain.old.limits }
+{
+    plain.has_open(caller) && plain.commit(caller, drafts) == answer
+}
+
+/// Whether an abort by a pass with a unit in its hand answers this.
+pub(crate) fn aborts(plain: &mut Plain, caller: u16, answer: Ended) -> bool
+    requires { caller < plain.old.limits.parts }
+    ensures { plain.new.limits ≡ plain.old.limits }
+{
+    plain.has_open(caller) && plain.abort(caller) == answer
+}
+
+/// Whether a kill by a pass with nothing in its hand answers this.
+pub(crate) fn kills(
+    plain: &mut Plain,
+    caller: u16,
+    id: u32,
+    answer: Result<Killed, Refusal>,
+) -> bool
+    requires { caller < plain.old.limits.parts }
+    ensures { plain.new.limits ≡ plain.old.limits }
+{
+    !plain.has_open(caller) && plain.kill(caller, id) == answer
+}
+
+/// Whether a cancel by a pass with nothing in its hand answers this.
+pub(crate) fn cancels(
+    plain: &mut Plain,
+    caller: u16,
+    root: u32,
+    answer: Result<Cancelled, Refusal>,
+) -> bool
+    requires { caller < plain.old.limits.parts }
+    ensures { plain.new.limits ≡ plain.old.limits }
+{
+    !plain.has_open(caller) && plain.cancel(caller, root) == answer
+}
+
+/// Whether a read answers this.
+pub(crate) fn reads(plain: &Plain, id: u32, answer: Result<Look, Refusal>) -> bool {
+    plain.read(id) == answer
+}
+
+/// Whether a read finds an element with this status.
+pub(crate) fn stands(plain: &Plain, id: u32, status: Status) -> bool {
+    match plain.read(id) {
+        Ok(look) => look.status == status,
+        Err(_) => false,
+    }
+}
