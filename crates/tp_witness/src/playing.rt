@@ -165,7 +165,7 @@ fn send(manager: &Manager, pass: &mut Pass, diary: &mut Diary) -> Result<(), Tro
     ensures own { IsOf manager.now pass.new }
     ensures free { pass.new.open_unit ≡ None }
 {
-    let stage = if diary.dice.below(2) == 0 { 1 } else { 2 };
+    let stage = if diary.dice.below(2) == 0 { 1 } else { 14 };
     let key = u64::from(diary.dice.below(100));
     let amount = u64::from(diary.dice.below(1000));
     diary.newest = diary.newest.saturating_add(1);
@@ -181,7 +181,7 @@ fn serve(manager: &Manager, pass: &mut Pass, diary: &mut Diary) -> Result<(), Tr
 {
     let stage = match diary.dice.below(3) {
         0 => 1,
-        1 => 2,
+        1 => 14,
         _ => 3,
     };
     if claim(manager, pass, diary, stage)? {
@@ -203,7 +203,7 @@ fn work(manager: &Manager, pass: &mut Pass, diary: &mut Diary) -> Result<(), Tro
         return abort(manager, pass, diary);
     }
     let stage = match diary.dice.below(4) {
-        0 => 2,
+        0 => 14,
         1 => 3,
         _ => 15,
     };
