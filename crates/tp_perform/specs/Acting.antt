@@ -1,5 +1,5 @@
--- What a command on a server is answered, and what its desk did for it. `old` is what the desk shows before the command,
--- and `new` what it shows after it.
+-- What a command on a server is answered, and what its desk did for it. `old` is what the desk shows before the
+-- command, and `new` what it shows after it.
 use Rattle.std.specs.Prelude.{◌≡◌, ℕ, Bool, true, false, List, [], ◌∷◌, Option, Some, None, IfSome, IsSome, slice_get, slice_set}
 use Rattle.std.specs.Option.{option_map}
 use Rattle.std.specs.declared.alloc.Global.{Global}
@@ -41,7 +41,7 @@ pub record DeskShown : Type 0 where
   pub pending : Option Pending
   pub work : Option Work
 
--- a place shows its desk, what its pass and its registers were when the desk began, and whether it was dropped
+-- a place shows its desk, what its pass and its registers were as that began, and whether it was dropped
 pub record PlaceShown : Type 0 where
   pub desk : DeskShown
   pub began : Option (PassShown × List ℕ)
@@ -57,8 +57,8 @@ abbrev pub work_in : {X : Type 0} {F : X → Type 0} → Option (Aside X F) → 
 work_in None = None
 work_in (Some aside) = aside.work
 
-module _ {X : Type 0} {F : X → Type 0} (recipe : DynBox X Global F → Recipe) (registers : DynBox X Global F → List ℕ)
-    (pending : DynBox X Global F → Option Pending) where
+module _ {X : Type 0} {F : X → Type 0} (recipe : DynBox X Global F → Recipe)
+    (registers : DynBox X Global F → List ℕ) (pending : DynBox X Global F → Option Pending) where
   -- a desk that begins
   abbrev pub new_place : PassShown → DynBox X Global F → PlaceShown
   new_place pass server = record {
@@ -135,8 +135,8 @@ pub record ClaimsAt (l : Limits) (claimed : Claimed) (old new : DeskShown) : Typ
   pub server : IsSameServer old new
 
 abbrev pub TellsClaim : Limits → DeskShown → ServerAnswer → DeskShown → Type 0
-TellsClaim l old (told.Work element unit attempt) new = (work : Work) × ClaimsAt l (claimeds.Work work) old new
-    × (element ≡ work.element.id) × (unit ≡ work.unit) × (attempt ≡ work.attempt)
+TellsClaim l old (told.Work element unit attempt) new = (work : Work)
+    × ClaimsAt l (claimeds.Work work) old new × (element ≡ work.element.id) × (unit ≡ work.unit) × (attempt ≡ work.attempt)
 TellsClaim l old (told.Turned turneds.Idle) new = ClaimsAt l claimeds.Idle old new
 TellsClaim l old (told.Turned turneds.NoUnit) new = ClaimsAt l claimeds.NoUnit old new
 TellsClaim l old told.Busy new = IsSome old.work × (new ≡ old)
@@ -226,7 +226,8 @@ abbrev pub DoesAt : Limits → Act → PlaceShown → ServerAnswer → PlaceShow
 DoesAt l act old a new = DoesUnless old.is_dropped l act old a new
 
 -- the desk at one of the places did so, and the others are as they were
-pub record DoesIn (l : Limits) (act : Act) (at : ℕ) (olds : List PlaceShown) (a : ServerAnswer) (news : List PlaceShown) : Type 0 where
+pub record DoesIn (l : Limits) (act : Act) (at : ℕ)
+    (olds : List PlaceShown) (a : ServerAnswer) (news : List PlaceShown) : Type 0 where
   pub old : PlaceShown
   pub there : slice_get olds at ≡ Some old
   pub new : PlaceShown

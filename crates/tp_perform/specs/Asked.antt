@@ -1,5 +1,5 @@
--- What the script's own client is answered, and what its pass did for it. `old` is what the pass shows before the
--- command, and `new` what it shows after it.
+-- What the script's own client is answered, and what its pass did for it. `old` is what the pass shows before
+-- the command, and `new` what it shows after it.
 use Rattle.std.specs.Prelude.{◌≡◌, ◌⊎◌, ℕ, zero, suc, ◌+◌, ◌≤◌, List, [], ◌∷◌}
 use Rattle.tp_model.specs.declared.types.Counts.{Counts}
 use Rattle.tp_model.specs.declared.types.Element.{Element}
@@ -76,8 +76,8 @@ FindsNoReply l root from old new =
 -- the replies from this id on, one found behind the other
 abbrev pub TellsReplies : Limits → ℕ → ℕ → PassShown → List Element → PassShown → Type 0
 TellsReplies l root from old [] new = FindsNoReply l root from old new
-TellsReplies l root from old (reply ∷ rest) new = (between : PassShown) × FindsReply l root from reply old between
-    × TellsReplies l root (reply.id + 1) between rest new
+TellsReplies l root from old (reply ∷ rest) new = (between : PassShown)
+    × FindsReply l root from reply old between × TellsReplies l root (reply.id + 1) between rest new
 
 -- the next parked element from this id on was found
 pub record FindsError (l : Limits) (from id : ℕ) (old new : PassShown) : Type 0 where

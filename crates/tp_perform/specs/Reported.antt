@@ -33,7 +33,7 @@ pub record IsNewPlace (p : PlaceShown) : Type 0 where
   pub work : p.desk.work ≡ None
   pub kept : p.is_dropped ≡ false
 
--- the scene of a new manager: its passes are the client's, one for the desk of each server, and those of the races
+-- the scene of a new manager: its passes are the client's, one for the desk of each server, and those of races
 pub record Begins (s : ScriptView) (m : ManagerShown) (first : Scene) : Type 0 where
   pub limits : m.limits ≡ limits_of s
   pub passes : List PassShown
@@ -45,8 +45,8 @@ pub record Begins (s : ScriptView) (m : ManagerShown) (first : Scene) : Type 0 w
   pub desks : All IsNewPlace first.places
   pub each : length first.places ≡ length s.servers
 
--- the lines of all commands, then the final lines, of the registers that the ended desks left, and then the account of
--- what all passes have seen, where it is asked for
+-- the lines of all commands, then the final lines, of the registers that the ended desks left, and then the account
+-- of what all passes have seen, where it is asked for
 pub record Reported (s : ScriptView) (m : ManagerShown) (before after : Option (List ℕ)) : Type 0 where
   pub first : Scene
   pub last : Scene

@@ -32,7 +32,8 @@ is_free_at place = not place.is_dropped && has_none place.aside
 
 -- none of the places from the one up to the other is free
 abbrev pub ArePassed : {X : Type 0} {F : X → Type 0} → ℕ → ℕ → List (Place X F) → Type 0
-ArePassed {X = X} {F = F} from to places = (i : ℕ) (d : Place X F) → from ≤ i → i < to → is_free_at (get_or places i d) ≡ false
+ArePassed {X = X} {F = F} from to places = (i : ℕ) (d : Place X F) → from ≤ i → i < to
+    → is_free_at (get_or places i d) ≡ false
 
 -- the desk did this, and has nothing in hand
 pub record TookPart (Did : workers.Place → workers.Place → Type 0) (old new : PlaceShown) : Type 0 where
@@ -73,7 +74,8 @@ kill_job rows plan clients =
 
 -- clients of the first passes and cancellers of the others did their jobs, and so many submits were accepted
 pub record RacersRan (m : ManagerShown) (submits : List ClientJob) (kills : List KillJob)
-    (clients cancellers : List PassShown) (submitted : ℕ) (clients' cancellers' : List PassShown) : Type 0 where
+    (clients cancellers : List PassShown) (submitted : ℕ) (clients' cancellers' : List PassShown)
+    : Type 0 where
   pub client_counts : Shift
   pub killer_counts : Shift
   pub clients_ran : RanEach (ClientRan m) clients submits client_counts clients' submits
@@ -81,11 +83,12 @@ pub record RacersRan (m : ManagerShown) (submits : List ClientJob) (kills : List
   pub accepted : submitted ≡ client_counts.submitted
 
 -- a race by the first passes as clients and the others as cancellers
-pub record Races (m : ManagerShown) (rows : ℕ) (plan : RacePlan) (racers : List PassShown) (submitted : ℕ) (racers' : List PassShown)
-    (olds news : List PlaceShown) : Type 0 where
+pub record Races (m : ManagerShown) (rows : ℕ) (plan : RacePlan)
+    (racers : List PassShown) (submitted : ℕ) (racers' : List PassShown) (olds news : List PlaceShown) : Type 0 where
   pub desks : AllTakePart (TookTurns m.limits plan.turns) olds news
   pub ran :
       let clients = take plan.clients racers in
       let cancellers = drop plan.clients racers in
-      RacersRan m (replicate (length clients) (client_job plan)) (replicate (length cancellers) (kill_job rows plan clients))
+      RacersRan m (replicate (length clients) (client_job plan))
+      (replicate (length cancellers) (kill_job rows plan clients))
       clients cancellers submitted (take plan.clients racers') (drop plan.clients racers')

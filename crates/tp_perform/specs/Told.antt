@@ -28,15 +28,16 @@ use Rattle.tp_perform.specs.Performing.{TellsBalance}
 use Rattle.tp_perform.specs.Places.{workers}
 use Rattle.tp_perform.specs.Together.{AllTakePart, Races}
 
--- what is there while a script is performed: the client's pass, the places of the desks, and the passes of races
+-- what is there while a script is performed: the client's pass, the places of desks, and the passes of races
 pub record Scene : Type 0 where
   pub client : PassShown
   pub places : List PlaceShown
   pub racers : List PassShown
 
-module _ {X : Type 0} {F : X → Type 0} (recipe : DynBox X Global F → Recipe) (registers : DynBox X Global F → List ℕ)
-    (pending : DynBox X Global F → Option Pending) where
-  abbrev pub scene : PassShown → List PassShown → List (DynBox X Global F) → List (Place X F) → List PassShown → Scene
+module _ {X : Type 0} {F : X → Type 0} (recipe : DynBox X Global F → Recipe)
+    (registers : DynBox X Global F → List ℕ) (pending : DynBox X Global F → Option Pending) where
+  abbrev pub scene : PassShown → List PassShown → List (DynBox X Global F) → List (Place X F) → List PassShown
+      → Scene
   scene client passes servers places racers = record {
     client = client;
     places = places_shown recipe registers pending passes servers places;
@@ -54,7 +55,8 @@ pub record OnlyPlaces (old new : Scene) : Type 0 where
   pub racers : new.racers ≡ old.racers
 
 -- the line tells the answer of such a call of the client
-pub record ClientLine (Tells : PassShown → PassShown → Answer → Type 0) (old : Scene) (text : List ℕ) (new : Scene) : Type 0 where
+pub record ClientLine (Tells : PassShown → PassShown → Answer → Type 0)
+    (old : Scene) (text : List ℕ) (new : Scene) : Type 0 where
   pub answer : Answer
   pub tells : Tells old.client new.client answer
   pub text_is : text ≡ line (answer_text answer)
@@ -79,7 +81,8 @@ pub record ServerLine (m : ManagerShown) (servers : List ServerView) (act : Act)
   pub others : OnlyPlaces old new
 
 -- the line tells a register of the server, or that its desk was dropped, and nothing has changed
-pub record BalanceLine (servers : List ServerView) (at k : ℕ) (old : Scene) (text : List ℕ) (new : Scene) : Type 0 where
+pub record BalanceLine (servers : List ServerView) (at k : ℕ)
+    (old : Scene) (text : List ℕ) (new : Scene) : Type 0 where
   pub place : PlaceShown
   pub there : slice_get old.places at ≡ Some place
   pub server : ServerView
@@ -94,7 +97,8 @@ counted_value false None = 0
 counted_value false (Some value) = value
 
 -- the same of a server and its place
-abbrev pub value_at : {X : Type 0} {F : X → Type 0} → (DynBox X Global F → List ℕ) → ℕ → DynBox X Global F × Place X F → ℕ
+abbrev pub value_at : {X : Type 0} {F : X → Type 0} → (DynBox X Global F → List ℕ) → ℕ
+    → DynBox X Global F × Place X F → ℕ
 value_at registers k (server, place) = counted_value place.is_dropped (slice_get (registers server) k)
 
 -- the sum of a register over all places
@@ -102,7 +106,8 @@ abbrev pub register_sum : ℕ → List PlaceShown → ℕ
 register_sum k places = sum_by (λ p. counted_value p.is_dropped (slice_get p.desk.registers k)) places
 
 -- the line tells how many submits of a race were accepted
-pub record RaceLine (m : ManagerShown) (rows : ℕ) (plan : RacePlan) (old : Scene) (text : List ℕ) (new : Scene) : Type 0 where
+pub record RaceLine (m : ManagerShown) (rows : ℕ) (plan : RacePlan)
+    (old : Scene) (text : List ℕ) (new : Scene) : Type 0 where
   pub submitted : ℕ
   pub races : Races m rows plan old.racers submitted new.racers old.places new.places
   pub text_is : text ≡ line (answer_text (answer.Raced submitted))
@@ -136,8 +141,8 @@ TellsCommand m s (command.Race clients submits stage key amount cancellers turns
     (record { clients = clients; submits = submits; stage = stage; key = key; amount = amount; turns = turns })
 TellsCommand m s command.Drain = DrainLine m
 
--- A command leads from one scene to another, and this is its line. A race takes the passes behind those of the races
--- before it; the other ones are as they were.
+-- A command leads from one scene to another, and this is its line. A race takes the passes behind those of the
+-- races before it; the other ones are as they were.
 pub record Performs (m : ManagerShown) (s : ScriptView) (c : Command) (raced : ℕ)
     (old : Scene) (text : List ℕ) (new : Scene) : Type 0 where
   pub front : List PassShown
@@ -169,9 +174,9 @@ abbrev pub ToldFront : ManagerShown → ScriptView → Scene → Option (List �
 ToldFront m s old before after = (n : ℕ) × (text : List ℕ) × (new : Scene) × (n ≤ length s.commands)
     × Told m s old n text new × AppendsFront before after text
 
-module _ {X : Type 0} {F : X → Type 0} (recipe : DynBox X Global F → Recipe) (registers : DynBox X Global F → List ℕ)
-    (pending : DynBox X Global F → Option Pending) where
-  -- the scene before the first command: of the client's pass, desks of the servers' passes, and the passes of races
+module _ {X : Type 0} {F : X → Type 0} (recipe : DynBox X Global F → Recipe)
+    (registers : DynBox X Global F → List ℕ) (pending : DynBox X Global F → Option Pending) where
+  -- the scene before the first command: of the client's pass, new desks of the servers', and the passes of races
   abbrev pub IsFirstScene : List PassShown → List (DynBox X Global F) → Scene → Type 0
   IsFirstScene passes servers s = (passes ≡ s.client ∷ (workers (length servers) passes ++ s.racers))
       × (s.places ≡ new_places recipe registers pending (workers (length servers) passes) servers)

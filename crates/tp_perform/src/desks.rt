@@ -37,7 +37,8 @@ pub(crate) fn act_at(
     ensures own { IsOf manager.now pass.new }
     ensures lies { Lies recipe registers pending pass.new server.new place.new.aside }
     ensures began { first_of place.new ≡ first_of place.old }
-    ensures tells { DoesAt manager.now.limits act (place_shown recipe registers pending pass.old server.old place.old) result
+    ensures tells { DoesAt manager.now.limits act
+        (place_shown recipe registers pending pass.old server.old place.old) result
         (place_shown recipe registers pending pass.new server.new place.new) }
 {
     if place.is_dropped {

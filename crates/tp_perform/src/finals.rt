@@ -56,7 +56,8 @@ fn line_of(
     requires within { i < length servers.now }
     requires all { length servers.now ≡ length script.now.servers.items }
     ensures text { IfOk result (λ text. string_bytes text
-        ≡ line_at (slice_get (script_view script.now).servers i) (slice_get (map (λ server. registers server) servers.now) i)) }
+        ≡ line_at (slice_get (script_view script.now).servers i)
+            (slice_get (map (λ server. registers server) servers.now) i)) }
     ensures line { IfOk result (λ text. IsLine (string_bytes text)) }
 {
     final_line(alloc, script.servers[i].name.as_str(), &servers[i])
@@ -73,8 +74,8 @@ pub fn finals<W: Sink>(
     requires { length servers.now ≡ length script.now.servers.items }
     ensures told { OnOk result (Appends (W.contents writer.old) (W.contents writer.new)
         (finals_of (script_view script.now) (map (λ server. registers server) servers.now))) }
-    ensures told_front { OnErr result (FinalsFront (script_view script.now) (map (λ server. registers server) servers.now)
-        (W.contents writer.old) (W.contents writer.new)) }
+    ensures told_front { OnErr result (FinalsFront (script_view script.now)
+        (map (λ server. registers server) servers.now) (W.contents writer.old) (W.contents writer.new)) }
     ensures done { OnOk result (Writes (final_count (script_view script.now)) (W.contents writer.old) (W.contents writer.new)) }
     ensures front { OnErr result (WritesFront (final_count (script_view script.now)) (W.contents writer.old) (W.contents writer.new)) }
     ensures write { IsErrOf result RunFault.Write → IsTrue (W.has_failed writer.new) }

@@ -5,6 +5,7 @@ pub mod account;
 mod client;
 mod desks;
 pub mod finals;
+mod lines;
 pub mod perform;
 mod place;
 mod program;

@@ -1,14 +1,12 @@
 //! A script performed over the shared manager: each server at a desk of its own, each command one line of the report.
-ghost use Rattle.std.specs.List.{zip};
-ghost use Rattle.std.specs.Prelude.{◌≡◌, ◌<◌, ◌≤◌, None, All, IfOk, IfSome, IsErrOf, IsTrue, OnErr, OnOk, length, map, slice_get, string_bytes, sum_by};
+ghost use Rattle.std.specs.Prelude.{◌≡◌, ◌<◌, ◌≤◌, None, All, IfOk, IfSome, IsErrOf, IsTrue, OnErr, OnOk, length, map, slice_get, string_bytes};
 ghost use Rattle.tp_manager.specs.Shown.{IsOf};
 ghost use Rattle.tp_workers.specs.Free.{IsFreePass, numbers};
 ghost use Rattle.tp_report.specs.Answer.{line, named_text};
 ghost use Rattle.tp_report.specs.Lines.{IsLine, Writes, WritesFront};
 ghost use Rattle.tp_report.specs.declared.answer.ServerAnswer.{ServerAnswer};
 ghost use Rattle.tp_perform.specs.Acting.{DoesIn, new_places, place_shown, places_shown};
-ghost use Rattle.tp_perform.specs.Performing.{TellsBalance};
-ghost use Rattle.tp_perform.specs.Told.{AllEnded, EndsAt, IsFirstScene, Scene, TellsCommand, ToldAll, ToldFront, counted_value, scene, value_at};
+ghost use Rattle.tp_perform.specs.Told.{AllEnded, EndsAt, IsFirstScene, Scene, TellsCommand, ToldAll, ToldFront, scene};
 ghost use Rattle.tp_perform.specs.Places.{AllLeft, AllLie, IsLeft, Lies, all_firsts, first_of, firsts, workers};
 ghost use Rattle.tp_script.specs.Passes.{racers as racers_of, racing};
 ghost use Rattle.tp_script.specs.Ranges.{IsInRange};
@@ -17,6 +15,7 @@ ghost use Rattle.tp_script.specs.declared.script.TheConstants.{MOST_SERVERS};
 
 use crate::client;
 use crate::desks::{Act, act_at};
+use crate::lines::{balance_line, server_line, sum};
 use crate::place::Place;
 use crate::racing::{RacePlan, drain_all, run_race};
 use arrayvec::ArrayVec;
@@ -99,67 +98,6 @@ fn end_at(
     Desk::resume(manager, pass, server, aside).end();
 }
 
-/// The sum of a register over the servers that have it and whose desks weren't dropped.
-fn sum(servers: &[Box<dyn Server + Send>], places: &[Place], k: u64) -> u128
-    requires { length servers.now ≡ length places.now }
-    ensures { result ≡ sum_by (value_at registers k) (zip servers.now places.now) }
-{
-    let mut sum = 0;
-    for i in 0..places.len() {
-        sum += u128::from(counted_value(&servers[i], places[i].is_dropped, k));
-    }
-    sum
-}
-
-/// What a server adds to the sum of a register.
-fn counted_value(server: &Box<dyn Server + Send>, is_dropped: bool, k: u64) -> u64
-    ensures { result ≡ counted_value is_dropped (slice_get (registers server.now) k) }
-{
-    if is_dropped {
-        return 0;
-    }
-    match server.balance(k) {
-        Some(value) => value,
-        None => 0,
-    }
-}
-
-/// The line of an answer of the server at a place.
-fn server_line(
-    alloc: Global,
-    servers: &[ScriptServer],
-    server: usize,
-    answer: ServerAnswer,
-) -> Result<String, AllocError>
-    requires { server < length servers.now }
-    ensures text { IfOk result (λ text. IfSome (slice_get servers.now server) (λ it. string_bytes text ≡ line (named_text (string_bytes it.name) answer))) }
-    ensures line { IfOk result (λ text. IsLine (string_bytes text)) }
-{
-    let name = servers[server].name.as_str();
-    line(alloc, Answer::Server { name, answer })
-}
-
-/// The line of `balance NAME K`.
-fn balance_line(
-    alloc: Global,
-    named: &ScriptServer,
-    server: &Box<dyn Server + Send>,
-    is_dropped: bool,
-    k: u64,
-) -> Result<String, AllocError>
-    ensures text { IfOk result (λ text.
-        TellsBalance (string_bytes named.now.name) k (registers server.now) is_dropped (string_bytes text)) }
-    ensures line { IfOk result (λ text. IsLine (string_bytes text)) }
-{
-    let name = named.name.as_str();
-    if is_dropped {
-        let answer = ServerAnswer::Ended;
-        return line(alloc, Answer::Server { name, answer });
-    }
-    let value = server.balance(k);
-    line(alloc, Answer::Balance { name, k, value })
-}
-
 /// Has the desk of a server do what is asked, and answers the line of its answer.
 fn desk_line(
     alloc: Global,
@@ -183,7 +121,8 @@ fn desk_line(
         × DoesIn manager.now.limits act server
             (places_shown recipe registers pending passes.old servers.old places.old) answer
             (places_shown recipe registers pending passes.new servers.new places.new)
-        × IfSome (slice_get named.now server) (λ it. string_bytes text ≡ line (named_text (string_bytes it.name) answer))) }
+        × IfSome (slice_get named.now server)
+            (λ it. string_bytes text ≡ line (named_text (string_bytes it.name) answer))) }
     ensures line { IfOk result (λ text. IsLine (string_bytes text)) }
 {
     let answer = act_in(manager, passes, servers, places, server, act);
@@ -249,7 +188,8 @@ fn command_line<R: Threads + Sync>(
     ensures racers_numbered { numbers racers.new ≡ numbers racers.old }
     ensures tells { IfOk result (λ text.
         TellsCommand manager.now (script_view script.now) command
-        (scene recipe registers pending client.old passes.old servers.old places.old racers.old) (string_bytes text)
+        (scene recipe registers pending client.old passes.old servers.old places.old racers.old)
+        (string_bytes text)
         (scene recipe registers pending client.new passes.new servers.new places.new racers.new)) }
     ensures line { IfOk result (λ text. IsLine (string_bytes text)) }
 {
@@ -445,7 +385,8 @@ pub fn perform<R: Threads + Sync, W: Sink>(
         × IsFirstScene recipe registers pending passes.old servers.old first
         × ToldAll manager.now (script_view script.now) first last
             (W.contents writer.old) (W.contents writer.new)
-        × AllEnded last.places (workers (length servers.old) passes.new) (map (λ server. registers server) servers.new)) }
+        × AllEnded last.places (workers (length servers.old) passes.new)
+            (map (λ server. registers server) servers.new)) }
     ensures told_front { OnErr result ((first : Scene)
         × IsFirstScene recipe registers pending passes.old servers.old first
         × ToldFront manager.now (script_view script.now) first

@@ -184,7 +184,8 @@ fn race_free<R: Threads + Sync>(
     ensures desks { AllTakePart (TookTurns manager.now.limits turns)
         (places_shown recipe registers pending passes.old servers.old places.old)
         (places_shown recipe registers pending passes.new servers.new places.new) }
-    ensures ran { RacersRan manager.now jobs.old kills.old clients.old cancellers.old result clients.new cancellers.new }
+    ensures ran { RacersRan manager.now jobs.old kills.old
+        clients.old cancellers.old result clients.new cancellers.new }
     ensures clients { All (IsFreePass manager.now) clients.new }
     ensures cancellers { All (IsFreePass manager.now) cancellers.new }
     ensures began { firsts places.new ≡ firsts places.old }
@@ -267,7 +268,8 @@ fn race_front<R: Threads + Sync>(
     ensures desks { AllTakePart (TookTurns manager.now.limits turns)
         (places_shown recipe registers pending passes.old servers.old places.now)
         (places_shown recipe registers pending passes.new servers.new places.now) }
-    ensures ran { RacersRan manager.now jobs.old kills.old clients.old cancellers.old result clients.new cancellers.new }
+    ensures ran { RacersRan manager.now jobs.old kills.old
+        clients.old cancellers.old result clients.new cancellers.new }
     ensures clients { All (IsFreePass manager.now) clients.new }
     ensures cancellers { All (IsFreePass manager.now) cancellers.new }
     ensures clients_numbered { numbers clients.new ≡ numbers clients.old }

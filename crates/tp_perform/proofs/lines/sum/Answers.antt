@@ -3,7 +3,7 @@ use Rattle.std.proofs.lemmas.List.{take_all}
 use Rattle.tp_workers.proofs.Shifts.{zip_length}
 use Rattle.tp_perform.specs.Told.{value_at}
 use Rattle.tp_perform.proofs.Shows.{value_next}
-use Rattle.tp_perform.proofs.perform.sum.Goals as goal
+use Rattle.tp_perform.proofs.lines.sum.Goals as goal
 
 pub loop-i-preserved : goal.loop-i-preserved
 loop-i-preserved g c =

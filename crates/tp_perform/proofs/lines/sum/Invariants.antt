@@ -1,7 +1,7 @@
 use Rattle.std.proofs.Common.{◌≡◌, ◌*◌, ◌^◌, ◌≤◌, sum_by, take, zip}
 use Rattle.tp_desk.specs.Steady.{shown}
 use Rattle.tp_perform.specs.Told.{value_at}
-use Rattle.tp_perform.proofs.perform.sum.Given as goal
+use Rattle.tp_perform.proofs.lines.sum.Given as goal
 
 -- the sum so far; each register is below 2 ^ 64
 abbrev pub invariant-loop-i : goal.invariant-loop-i
