@@ -1,5 +1,5 @@
 -- A cancel, on its way.
-use Rattle.std.proofs.Common.{◌≡◌, ◌⊎◌, ◌≢◌, ℕ, suc, ◌+◌, ◌*◌, ◌<◌, ◌≤◌, ◌==◌, ◌&&◌, ◌||◌, cond, Bool, true, false, List, [], ◌∷◌, ◌++◌, sym, refl, ap, ◌∙◌, subst, inl, inr, ⊎_elim, arith, append_assoc, mul-le-mul_right, Option, Some, None}
+use Rattle.std.proofs.Common.{◌≡◌, ◌⊎◌, ◌≢◌, ℕ, suc, ◌+◌, ◌*◌, ◌<◌, ◌≤◌, ◌==◌, ◌&&◌, ◌||◌, cond, Bool, true, false, List, [], ◌∷◌, ◌++◌, sym, refl, ap, ◌∙◌, subst, inl, inr, ⊎_elim, arith, mul-le-mul_right, Option, Some, None}
 use Rattle.std.proofs.lemmas.Bool.{eq-eqb, eqb-true}
 use Rattle.std.specs.Prelude.{is_some}
 use Rattle.atomic_table.specs.Seated.{TableId}
@@ -18,7 +18,7 @@ use Rattle.tp_model.specs.Steps.{AreLimits, rows_of, IsLegal}
 use Rattle.tp_model.proofs.Lists.{if_same}
 use Rattle.tp_model.proofs.Histories.{status_of-snoc}
 use Rattle.tp_model.proofs.LawProofs.{settled_stay}
-use Rattle.tp_model.proofs.Bridges.{append_nil, begins_refl, begins_trans, found_later, in_either, in_none, in_one}
+use Rattle.tp_model.proofs.Bridges.{begins_refl, begins_trans, found_later, in_either, in_none, in_one}
 use Rattle.tp_model.proofs.Families.{AllSettled, all_settled, settled_since}
 use Rattle.tp_model.proofs.Later.{births_inside}
 use Rattle.tp_words.specs.declared.words.Head.{Head}
@@ -26,7 +26,6 @@ use Rattle.tp_words.specs.declared.words.Head.TheVariants.{There}
 use Rattle.tp_words.specs.Words.{head_of}
 use Rattle.tp_rule.specs.Steps.{HasElement}
 use Rattle.tp_rule.specs.Views.{SeatShown, hand, view_of}
-use Rattle.tp_rule.specs.declared.view.Hand.{Hand}
 use Rattle.tp_rule.specs.declared.view.View.{View}
 use Rattle.tp_manager.specs.declared.looking.Birth.{Birth}
 use Rattle.tp_manager.specs.Shown.{PassShown, shown}
@@ -38,8 +37,8 @@ use Rattle.tp_manager.specs.Kills.{FailsIn, Freed, IsPastKill, KillsIn, Slain}
 use Rattle.tp_manager.specs.Looks.{IsThere}
 use Rattle.tp_manager.specs.Walks.{Rests, Steady, Looked}
 use Rattle.tp_manager.proofs.Counts.{count_rises, count_still, bit_le, bit_most, count_le, count_all, and_left, and_right, and_both, or_second, or_not, or_right, or_left}
-use Rattle.tp_manager.proofs.Kills.{rests_kill}
-use Rattle.tp_manager.proofs.Walks.{looked_begins, looked_none, walked_begins, walked_few, walked_then}
+use Rattle.tp_manager.proofs.Gains.{gained_begins, gained_few, gained_looked, gained_then, rests_gained}
+use Rattle.tp_manager.proofs.Walks.{looked_begins, looked_none}
 
 -- how many rows there may be
 pub few_rows : (l : Limits) → AreLimits l → rows_of l ≤ 8192
@@ -179,60 +178,30 @@ kills_append (e ∷ es) fs = let i = kills_append es fs in omega arith
 
 module _ (l : Limits) (root : ℕ) where
   pub swept_looked : (n : ℕ) (v w : View) → Looked l n v w → Swept l n root [] v w
-  swept_looked n v w a = record {
-    marks = a.marks;
-    walk = a.walk;
-    drawn = ap (λ (z : Hand). z.drawn) a.kept;
-    claimed = ap (λ (z : Hand). z.claimed) a.kept;
-    mine = ap (λ (z : Hand). z.mine) a.kept ∙ sym (append_nil (hand v).mine);
-    drafts = λ e. ap (λ (z : Hand). z.drafts) a.kept ∙ e;
-    open_unit = λ e. ap (λ (z : Hand). z.open_unit) a.kept ∙ e;
-    own = λ e p. absurd (in_none p);
-  }
+  swept_looked n v w a = record { gained = gained_looked l n v w a; own = λ e p. absurd (in_none p) }
 
   swept_freed : (n i : ℕ) (es : List Event) (v w : View) → IsTarget root i v.seen → Freed l n i es v w → Swept l n root es v w
-  swept_freed n i es v w target a = record {
-    marks = a.marks;
-    walk = a.walk;
-    drawn = a.drawn;
-    claimed = a.claimed;
-    mine = a.mine;
-    drafts = a.drafts;
-    open_unit = a.open_unit;
-    own = own_aborts l root (hand v).number i v.seen w.seen es target a.aborts;
-  }
+  swept_freed n i es v w target a = record { gained = a.gained; own = own_aborts l root (hand v).number i v.seen w.seen es target a.aborts }
 
   swept_slain : (n i : ℕ) (es : List Event) (v w : View) → IsTarget root i v.seen → Slain l n i es v w → Swept l n root (es ++ Kill (hand v).number i ∷ []) v w
   swept_slain n i es v w target a = let c = (hand v).number in record {
-    marks = a.marks;
-    walk = a.walk;
-    drawn = a.drawn;
-    claimed = a.claimed;
-    mine = a.mine ∙ append_assoc (hand v).mine es (Kill c i ∷ []);
-    drafts = a.drafts;
-    open_unit = a.open_unit;
+    gained = a.gained;
     own = own_both l root c v.seen w.seen es (Kill c i ∷ []) (own_aborts l root c i v.seen w.seen es target a.aborts) (own_kill l root c i v.seen a.before w.seen target a.begins a.ends);
   }
 
   pub swept_then : (n m : ℕ) (es fs : List Event) (v w y : View) → Swept l n root es v w → Swept l m root fs w y → Swept l (n + m) root (es ++ fs) v y
   swept_then n m es fs v w y a b = let c = (hand v).number in record {
-    marks = a.marks ++ b.marks;
-    walk = walked_then l n m a.marks b.marks v w y a.walk b.walk;
-    drawn = b.drawn ∙ a.drawn;
-    claimed = b.claimed ∙ a.claimed;
-    mine = b.mine ∙ (ap (λ z. z ++ fs) a.mine ∙ append_assoc (hand v).mine es fs);
-    drafts = λ e. b.drafts (a.drafts e);
-    open_unit = λ e. b.open_unit (a.open_unit e);
+    gained = gained_then l n m es fs v w y a.gained b.gained;
     own = own_both l root c v.seen y.seen es fs
-        (own_later l root c v.seen w.seen y.seen es (walked_begins l m b.marks w y b.walk) a.own)
-        (own_sooner l root c v.seen w.seen y.seen fs (walked_begins l n a.marks v w a.walk) (subst (λ z. AreOfCancel l z root w.seen y.seen fs) a.walk.number b.own));
+        (own_later l root c v.seen w.seen y.seen es (gained_begins l m fs w y b.gained) a.own)
+        (own_sooner l root c v.seen w.seen y.seen fs (gained_begins l n es v w a.gained) (subst (λ z. AreOfCancel l z root w.seen y.seen fs) a.gained.walk.number b.own));
   }
 
   pub swept_few : (n m : ℕ) (es : List Event) (v w : View) → n ≤ m → Swept l n root es v w → Swept l m root es v w
-  swept_few n m es v w le a = record { marks = a.marks; walk = walked_few l n m a.marks v w le a.walk; drawn = a.drawn; claimed = a.claimed; mine = a.mine; drafts = a.drafts; open_unit = a.open_unit; own = a.own }
+  swept_few n m es v w le a = record { gained = gained_few l n m es v w le a.gained; own = a.own }
 
   pub swept_begins : (n : ℕ) (es : List Event) (v w : View) → Swept l n root es v w → IsPrefix v.seen w.seen
-  swept_begins n es v w a = walked_begins l n a.marks v w a.walk
+  swept_begins n es v w a = gained_begins l n es v w a.gained
 
   -- one row
 
@@ -334,7 +303,7 @@ module _ (l : Limits) (root : ℕ) where
   tallied_next n m i f g k j v w y a b =
       let next : suc i ≡ i + 1 = omega arith in
       let before = swept_begins n a.events v w a.swept in let after = swept_begins m b.events w y b.swept in
-      let legal : IsLegal l y.seen = b.swept.walk.steady.shows.legal in
+      let legal : IsLegal l y.seen = b.swept.gained.walk.steady.shows.legal in
       let first = bit_le (in_family root v.seen i) (in_family root w.seen i) (member_later root i v.seen w.seen before) in
       let kept = count_le (is_done l root w.seen) (is_done l root y.seen) i (λ x below. done_later l root x w.seen y.seen legal after) in
       let a_few = a.few in let b_few = b.few in let a_least = a.least in let b_least = b.least in let a_most = a.most in let b_most = b.most in
@@ -379,7 +348,7 @@ module _ (l : Limits) (root : ℕ) where
 
   pub rounded_next : (n m p f g k j : ℕ) (v w y : View) → rows_of l ≤ 8192 → g ≢ f → Rounded l n root p f k v w → Tallied l m root (rows_of l) g j w y → Rounded l (n + m) root (p + 1) g (k + j) v y
   rounded_next n m p f g k j v w y size other a b =
-      let up = rising f g m j w y a.swept.walk.steady.shows.legal a.most b in let a_few = a.few in let b_few = b.few in let more = a.more in
+      let up = rising f g m j w y a.swept.gained.walk.steady.shows.legal a.most b in let a_few = a.few in let b_few = b.few in let more = a.more in
       record {
         events = a.events ++ b.events;
         swept = swept_then n m a.events b.events v w y a.swept b.swept;
@@ -393,7 +362,7 @@ module _ (l : Limits) (root : ℕ) where
   pub rounded_last : (n m p f g k j : ℕ) (v w y : View) → g ≡ f → HasElement v.seen root → Rounded l n root p f k v w → Tallied l m root (rows_of l) g j w y → CancelsIn l (n + m) root (k + j) v y
   rounded_last n m p f g k j v w y same there_is a b =
       let most = a.most in let least = b.least in
-      let legal : IsLegal l w.seen = a.swept.walk.steady.shows.legal in let now : IsLegal l y.seen = b.swept.walk.steady.shows.legal in
+      let legal : IsLegal l w.seen = a.swept.gained.walk.steady.shows.legal in let now : IsLegal l y.seen = b.swept.gained.walk.steady.shows.legal in
       let begins = swept_begins m b.events w y b.swept in
       let settled : AllSettled l w.seen root = counted_settled l root w.seen f legal most (subst (λ z. count_below (in_family root w.seen) (rows_of l) ≤ z) same least) in
       let born = found_later v.seen w.seen (swept_begins n a.events v w a.swept) root there_is.0 there_is.1 in
@@ -409,7 +378,7 @@ module _ (l : Limits) (root : ℕ) where
 
 module _ (l : Limits) (seat next : SeatShown) (number drawn used : ℕ) (same : (view_of seat).limits ≡ l) (r : Rests seat number drawn used None) where
   pub rests_swept : (n root : ℕ) (es : List Event) → Swept l n root es (view_of seat) (view_of next) → Rests next number drawn used None
-  rests_swept n root es a = rests_kill l seat next number drawn used same r n a.marks es a.walk a.drawn a.claimed a.mine (own_no_claims l root (hand (view_of seat)).number _ _ es a.own) a.drafts a.open_unit
+  rests_swept n root es a = rests_gained l seat next number drawn used same r n es a.gained (own_no_claims l root (hand (view_of seat)).number _ _ es a.own)
 
 module _ (t t' : TableId) (v w : View) (old : PassShown) (is : shown t v ≡ old) (l : Limits) (free : (hand v).open_unit ≡ None) where
   pub cancels_shown : (n root killed : ℕ) → IsRequest w.seen root → CancelsIn l n root killed v w → Cancels l root killed old (shown t' w)
@@ -417,9 +386,9 @@ module _ (t t' : TableId) (v w : View) (old : PassShown) (is : shown t v ≡ old
     events = a.events;
     counted = a.counted;
     own = a.swept.own;
-    mine = a.swept.mine;
-    open_unit = a.swept.open_unit free ∙ sym free;
-    drawn = a.swept.drawn;
+    mine = a.swept.gained.mine;
+    open_unit = a.swept.gained.open_unit free ∙ sym free;
+    drawn = a.swept.gained.drawn;
     request = request;
     settled = a.settled;
   }

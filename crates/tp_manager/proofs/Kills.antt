@@ -7,9 +7,8 @@ use Rattle.tp_model.specs.declared.types.Refusal.{Refusal}
 use Rattle.tp_model.specs.declared.types.Refusal.TheVariants as refusals
 use Rattle.tp_model.specs.declared.types.Status.{Status}
 use Rattle.tp_model.specs.declared.types.Status.TheVariants as statuses
-use Rattle.tp_model.specs.declared.trace.TraceEntry.{TraceEntry}
 use Rattle.tp_manager.specs.Shown.{PassShown, shown}
-use Rattle.tp_manager.proofs.Passes.{claims_append, steady_at}
+use Rattle.tp_manager.proofs.Passes.{claims_append}
 use mathlib.Core.List.{IsPrefix}
 use Rattle.tp_model.specs.declared.types.Limits.{Limits}
 use Rattle.tp_model.specs.declared.types.Status.TheVariants.{Waiting, Held, Parked}
@@ -30,21 +29,13 @@ use Rattle.tp_rule.specs.declared.view.Hand.{Hand}
 use Rattle.tp_rule.specs.declared.view.View.{View}
 use Rattle.tp_manager.specs.Calls.{AreOfHolders, AtPoint, HasStatus, KillFails, Kills, OnlyAborts, claims_in, one_claim}
 use Rattle.tp_manager.specs.Kills.{FailsIn, Freed, KillsIn, Slain}
-use Rattle.tp_manager.specs.Walks.{Rests, Steady, Walked, Looked}
-use Rattle.tp_manager.proofs.Walks.{at_point, point_last, grew_hand, grew_walked, steady_own, walked_begins, walked_few, walked_then}
+use Rattle.tp_manager.specs.Walks.{Gained, Rests, Steady, Looked}
+use Rattle.tp_manager.proofs.Gains.{gained_begins, gained_few, gained_looked, gained_then, rests_gained}
+use Rattle.tp_manager.proofs.Walks.{at_point, point_last, grew_hand, grew_walked, steady_own, walked_begins}
 
 module _ (l : Limits) where
   pub freed_looked : (n i : ℕ) (v w : View) → Looked l n v w → Freed l n i [] v w
-  freed_looked n i v w a = record {
-    marks = a.marks;
-    walk = a.walk;
-    drawn = ap (λ (z : Hand). z.drawn) a.kept;
-    claimed = ap (λ (z : Hand). z.claimed) a.kept;
-    mine = ap (λ (z : Hand). z.mine) a.kept ∙ sym (append_nil (hand v).mine);
-    drafts = λ e. ap (λ (z : Hand). z.drafts) a.kept ∙ e;
-    open_unit = λ e. ap (λ (z : Hand). z.open_unit) a.kept ∙ e;
-    aborts = λ e p. absurd (in_none p);
-  }
+  freed_looked n i v w a = record { gained = gained_looked l n v w a; aborts = λ e p. absurd (in_none p) }
 
   -- the Abort of the unit that holds the element
   pub freed_abort : (i n u : ℕ) (v w : View) → Steady l v → claim_word v.seen i ≡ TakenWord n u → MakesAbort v u w → Freed l 1 i (Abort (hand v).number u ∷ []) v w × (end_of w.seen u ≡ Some Aborted)
@@ -60,13 +51,15 @@ module _ (l : Limits) where
       let still : claim_word p i ≡ TakenWord n u = claim_stands l v.seen p before (g.between, refl) i n u taken (λ z. absurd cc) in
       let held : status_of l.attempts p i ≡ Held u n = status_taken l p i n u before still ∙ ap (taken_status l.attempts n u) open_yet in (
         record {
-          marks = record { kind = kinds.AbortExchange; seen = w.seen } ∷ [];
-          walk = walk;
-          drawn = ap (λ (a : Hand). a.drawn) x;
-          claimed = ap (λ (a : Hand). a.claimed) x;
-          mine = ap (λ (a : Hand). a.mine) x;
-          drafts = λ q. ap (λ (a : Hand). a.drafts) x;
-          open_unit = λ q. ap (λ (a : Hand). a.open_unit) x;
+          gained = record {
+            marks = record { kind = kinds.AbortExchange; seen = w.seen } ∷ [];
+            walk = walk;
+            drawn = ap (λ (a : Hand). a.drawn) x;
+            claimed = ap (λ (a : Hand). a.claimed) x;
+            mine = ap (λ (a : Hand). a.mine) x;
+            drafts = λ q. ap (λ (a : Hand). a.drafts) x;
+            open_unit = λ q. ap (λ (a : Hand). a.open_unit) x;
+          };
           aborts = λ y q. record {
             unit = u;
             attempt = n;
@@ -104,14 +97,8 @@ module _ (l : Limits) where
 
   pub freed_then : (n m i : ℕ) (es fs : List Event) (v w y : View) → Freed l n i es v w → Freed l m i fs w y → Freed l (n + m) i (es ++ fs) v y
   freed_then n m i es fs v w y a b = record {
-    marks = a.marks ++ b.marks;
-    walk = walked_then l n m a.marks b.marks v w y a.walk b.walk;
-    drawn = b.drawn ∙ a.drawn;
-    claimed = b.claimed ∙ a.claimed;
-    mine = b.mine ∙ (ap (λ z. z ++ fs) a.mine ∙ append_assoc (hand v).mine es fs);
-    drafts = λ e. b.drafts (a.drafts e);
-    open_unit = λ e. b.open_unit (a.open_unit e);
-    aborts = held_both (hand v).number (hand w).number i v.seen w.seen y.seen es fs a.walk.number (walked_begins l n a.marks v w a.walk) (walked_begins l m b.marks w y b.walk) a.aborts b.aborts;
+    gained = gained_then l n m es fs v w y a.gained b.gained;
+    aborts = held_both (hand v).number (hand w).number i v.seen w.seen y.seen es fs a.gained.walk.number (gained_begins l n es v w a.gained) (gained_begins l m fs w y b.gained) a.aborts b.aborts;
   }
 
   -- steps that change nothing, after the Aborts
@@ -119,46 +106,46 @@ module _ (l : Limits) where
   freed_look n m i es v w y a b = subst (λ z. Freed l (n + m) i z v y) (append_nil es) (freed_then n m i es [] v w y a (freed_looked m i w y b))
 
   pub freed_few : (n m i : ℕ) (es : List Event) (v w : View) → n ≤ m → Freed l n i es v w → Freed l m i es v w
-  freed_few n m i es v w le a = record { marks = a.marks; walk = walked_few l n m a.marks v w le a.walk; drawn = a.drawn; claimed = a.claimed; mine = a.mine; drafts = a.drafts; open_unit = a.open_unit; aborts = a.aborts }
+  freed_few n m i es v w le a = record { gained = gained_few l n m es v w le a.gained; aborts = a.aborts }
 
   -- the kill itself
   pub slain_by : (n i : ℕ) (es : List Event) (v w y : View) → Freed l n i es v w → MakesKill w i y → Slain l (n + 1) i es v y
   slain_by n i es v w y a g =
-      let e = Kill (hand w).number i in let f : Hand → Hand = with_event e in let s = a.walk.steady in let x = grew_hand l kinds.KillExchange f (e ∷ []) w y s g in
+      let e = Kill (hand w).number i in let f : Hand → Hand = with_event e in let s = a.gained.walk.steady in let x = grew_hand l kinds.KillExchange f (e ∷ []) w y s g in
       let st = steady_own l kinds.KillExchange f e w y s g refl (omega arith) s.shows.within refl refl (λ x p. absurd (in_none p)) in
       let walk = grew_walked l kinds.KillExchange f (e ∷ []) w y s g refl refl refl st in
-      let same : (hand w).number ≡ (hand v).number = a.walk.number in
+      let same : (hand w).number ≡ (hand v).number = a.gained.walk.number in
+      let kill : Gained l 1 (e ∷ []) w y = record {
+        marks = record { kind = kinds.KillExchange; seen = y.seen } ∷ [];
+        walk = walk;
+        drawn = ap (λ (z : Hand). z.drawn) x;
+        claimed = ap (λ (z : Hand). z.claimed) x;
+        mine = ap (λ (z : Hand). z.mine) x;
+        drafts = λ q. ap (λ (z : Hand). z.drafts) x ∙ q;
+        open_unit = λ q. ap (λ (z : Hand). z.open_unit) x ∙ q;
+      } in
       record {
-        marks = a.marks ++ record { kind = kinds.KillExchange; seen = y.seen } ∷ [];
-        walk = walked_then l n 1 a.marks _ v w y a.walk walk;
-        drawn = ap (λ (z : Hand). z.drawn) x ∙ a.drawn;
-        claimed = ap (λ (z : Hand). z.claimed) x ∙ a.claimed;
-        mine = ap (λ (z : Hand). z.mine) x ∙ (λ j. a.mine j ++ Kill (same j) i ∷ []);
-        drafts = λ q. ap (λ (z : Hand). z.drafts) x ∙ a.drafts q;
-        open_unit = λ q. ap (λ (z : Hand). z.open_unit) x ∙ a.open_unit q;
+        gained = subst (λ z. Gained l (n + 1) (es ++ Kill z i ∷ []) v y) same (gained_then l n 1 es (e ∷ []) v w y a.gained kill);
         before = w.seen ++ g.between;
-        begins = begins_trans v.seen w.seen (w.seen ++ g.between) (walked_begins l n a.marks v w a.walk) (g.between, refl);
+        begins = begins_trans v.seen w.seen (w.seen ++ g.between) (gained_begins l n es v w a.gained) (g.between, refl);
         ends = g.seen ∙ ap (λ z. (w.seen ++ g.between) ++ Kill z i ∷ []) same;
         aborts = held_later (hand v).number i v.seen w.seen y.seen es (walked_begins l 1 _ w y walk) a.aborts;
       }
 
   pub freed_slain : (n m i : ℕ) (es fs : List Event) (v w y : View) → Freed l n i es v w → Slain l m i fs w y → Slain l (n + m) i (es ++ fs) v y
-  freed_slain n m i es fs v w y a b = let same : (hand w).number ≡ (hand v).number = a.walk.number in record {
-    marks = a.marks ++ b.marks;
-    walk = walked_then l n m a.marks b.marks v w y a.walk b.walk;
-    drawn = b.drawn ∙ a.drawn;
-    claimed = b.claimed ∙ a.claimed;
-    mine = b.mine ∙ ((λ j. (a.mine j ++ fs) ++ Kill (same j) i ∷ []) ∙ ap (λ z. z ++ Kill (hand v).number i ∷ []) (append_assoc (hand v).mine es fs));
-    drafts = λ e. b.drafts (a.drafts e);
-    open_unit = λ e. b.open_unit (a.open_unit e);
-    before = b.before;
-    begins = begins_trans v.seen w.seen b.before (walked_begins l n a.marks v w a.walk) b.begins;
-    ends = b.ends ∙ ap (λ z. b.before ++ Kill z i ∷ []) same;
-    aborts = held_both (hand v).number (hand w).number i v.seen w.seen y.seen es fs same (walked_begins l n a.marks v w a.walk) (walked_begins l m b.marks w y b.walk) a.aborts b.aborts;
-  }
+  freed_slain n m i es fs v w y a b =
+      let same : (hand w).number ≡ (hand v).number = a.gained.walk.number in let before = gained_begins l n es v w a.gained in
+      let k : Event = Kill (hand w).number i in let both = gained_then l n m es (fs ++ k ∷ []) v w y a.gained b.gained in
+      record {
+        gained = subst (λ z. Gained l (n + m) z v y) (sym (append_assoc es fs (k ∷ [])) ∙ ap (λ z. (es ++ fs) ++ Kill z i ∷ []) same) both;
+        before = b.before;
+        begins = begins_trans v.seen w.seen b.before before b.begins;
+        ends = b.ends ∙ ap (λ z. b.before ++ Kill z i ∷ []) same;
+        aborts = held_both (hand v).number (hand w).number i v.seen w.seen y.seen es fs same before (gained_begins l m (fs ++ k ∷ []) w y b.gained) a.aborts b.aborts;
+      }
 
   pub slain_few : (n m i : ℕ) (es : List Event) (v w : View) → n ≤ m → Slain l n i es v w → Slain l m i es v w
-  slain_few n m i es v w le a = record { marks = a.marks; walk = walked_few l n m a.marks v w le a.walk; drawn = a.drawn; claimed = a.claimed; mine = a.mine; drafts = a.drafts; open_unit = a.open_unit; before = a.before; begins = a.begins; ends = a.ends; aborts = a.aborts }
+  slain_few n m i es v w le a = record { gained = gained_few l n m (es ++ Kill (hand v).number i ∷ []) v w le a.gained; before = a.before; begins = a.begins; ends = a.ends; aborts = a.aborts }
 
   pub never_free : (w z : ClaimWord) → w ≢ FreeWord → Rises w z → z ≢ FreeWord
   never_free FreeWord z not r = absurd (not refl)
@@ -183,26 +170,12 @@ no_claims l c i s t [] h = refl
 no_claims l c i s t (e ∷ es) h = let first : one_claim e ≡ 0 = ap one_claim (h e here).is_abort in let rest = no_claims l c i s t es (λ x p. h x (there p)) in omega arith
 
 module _ (l : Limits) (seat next : SeatShown) (number drawn used : ℕ) (same : (view_of seat).limits ≡ l) (r : Rests seat number drawn used None) where
-  pub rests_kill : (n : ℕ) (ms : List TraceEntry) (es : List Event) → Walked l n ms (view_of seat) (view_of next) → (hand (view_of next)).drawn ≡ (hand (view_of seat)).drawn → (hand (view_of next)).claimed ≡ (hand (view_of seat)).claimed
-      → (hand (view_of next)).mine ≡ (hand (view_of seat)).mine ++ es → claims_in es ≡ 0 → ((hand (view_of seat)).drafts ≡ [] → (hand (view_of next)).drafts ≡ []) → ((hand (view_of seat)).open_unit ≡ None → (hand (view_of next)).open_unit ≡ None) → Rests next number drawn used None
-  rests_kill n ms es walk d c m none dr op = let lim : l ≡ (view_of next).limits = sym walk.steady.pass.1 in record {
-    steady = steady_at l (view_of next).limits (view_of next) lim walk.steady;
-    number_is = walk.number ∙ r.number_is;
-    drawn_is = d ∙ r.drawn_is;
-    used_is = c ∙ r.used_is;
-    used_below = subst (λ (z : Limits). used ≤ z.units) (same ∙ lim) r.used_below;
-    claims = ap claims_in m ∙ (claims_append (hand (view_of seat)).mine es ∙ (let k = r.claims in omega arith));
-    no_drafts = dr r.no_drafts;
-    open_is = op r.open_is;
-    work = tt;
-  }
-
   pub rests_freed : (n i : ℕ) (es : List Event) → Freed l n i es (view_of seat) (view_of next) → Rests next number drawn used None
-  rests_freed n i es a = rests_kill n a.marks es a.walk a.drawn a.claimed a.mine (no_claims l (hand (view_of seat)).number i _ _ es a.aborts) a.drafts a.open_unit
+  rests_freed n i es a = rests_gained l seat next number drawn used same r n es a.gained (no_claims l (hand (view_of seat)).number i _ _ es a.aborts)
 
   pub rests_slain : (n i : ℕ) (es : List Event) → Slain l n i es (view_of seat) (view_of next) → Rests next number drawn used None
   rests_slain n i es a = let k : Event = Kill (hand (view_of seat)).number i in let none = no_claims l (hand (view_of seat)).number i _ _ es a.aborts in
-      rests_kill n a.marks (es ++ k ∷ []) a.walk a.drawn a.claimed (a.mine ∙ append_assoc (hand (view_of seat)).mine es (k ∷ [])) (claims_append es (k ∷ []) ∙ omega arith) a.drafts a.open_unit
+      rests_gained l seat next number drawn used same r n (es ++ k ∷ []) a.gained (claims_append es (k ∷ []) ∙ omega arith)
 
 module _ (t t' : TableId) (v w : View) (old : PassShown) (is : shown t v ≡ old) (l : Limits) (free : (hand v).open_unit ≡ None) where
   pub kills_shown : (n i count : ℕ) → KillsIn l n i l.attempts count v w → Kills l i count old (shown t' w)
@@ -211,20 +184,20 @@ module _ (t t' : TableId) (v w : View) (old : PassShown) (is : shown t v ≡ old
     counted = k.1;
     few = k.2;
     held = a.aborts;
-    mine = a.mine;
+    mine = a.gained.mine ∙ sym (append_assoc (hand v).mine k.0 _);
     before = a.before;
     begins = a.begins;
     seen = a.ends;
-    open_unit = a.open_unit free ∙ sym free;
-    drawn = a.drawn;
+    open_unit = a.gained.open_unit free ∙ sym free;
+    drawn = a.gained.drawn;
   }
 
   only_aborts : (n i : ℕ) (es : List Event) → length es ≤ l.attempts → Freed l n i es v w → OnlyAborts l i old (shown t' w)
-  only_aborts n i es few a = subst (λ (p : PassShown). OnlyAborts l i p (shown t' w)) is record { aborts = es; few = few; held = a.aborts; mine = a.mine; open_unit = a.open_unit free ∙ sym free; drawn = a.drawn }
+  only_aborts n i es few a = subst (λ (p : PassShown). OnlyAborts l i p (shown t' w)) is record { aborts = es; few = few; held = a.aborts; mine = a.gained.mine; open_unit = a.gained.open_unit free ∙ sym free; drawn = a.gained.drawn }
 
   -- the element is born when the kill fails, and has that status then
   stands_at_end : (n i : ℕ) (s : Status) (es : List Event) → Freed l n i es v w → HasElement w.seen i → status_of l.attempts w.seen i ≡ s → AtPoint old (shown t' w) (HasStatus l i s)
-  stands_at_end n i s es a b e = at_point t t' v w old is l n a.marks a.walk (HasStatus l i s) w.seen (point_last l n a.marks v w a.walk) (b.0, b.1, e)
+  stands_at_end n i s es a b e = let g = a.gained in at_point t t' v w old is l n g.marks g.walk (HasStatus l i s) w.seen (point_last l n g.marks v w g.walk) (b.0, b.1, e)
 
   pub fails_shown : (n i : ℕ) (e : Refusal) → HasElement w.seen i → FailsIn l n i l.attempts e v w → KillFails l i old (shown t' w) e
   fails_shown n i refusals.NoMemory b k = k.3

@@ -2,6 +2,7 @@ pub mod Fresh
 pub mod Points
 pub mod Rows
 pub mod Walks
+pub mod Gains
 pub mod Seeks
 pub mod Births
 pub mod Looks

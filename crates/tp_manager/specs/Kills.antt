@@ -1,6 +1,6 @@
 -- What a kill does on its way. In each definition l are the table's limits, i is the row, v is the view before, and w
 -- the view after.
-use Rattle.std.specs.Prelude.{◌≡◌, ℕ, ◌≤◌, List, [], ◌∷◌, ◌++◌, length, Some, None}
+use Rattle.std.specs.Prelude.{◌≡◌, ℕ, ◌≤◌, List, [], ◌∷◌, ◌++◌, length, Some}
 use mathlib.Core.List.{IsPrefix}
 use Rattle.tp_model.specs.declared.types.Limits.{Limits}
 use Rattle.tp_model.specs.declared.types.Refusal.{Refusal}
@@ -8,33 +8,20 @@ use Rattle.tp_model.specs.declared.types.Refusal.TheVariants as refusals
 use Rattle.tp_model.specs.declared.types.Status.TheVariants as statuses
 use Rattle.tp_model.specs.declared.event.Event.{Event}
 use Rattle.tp_model.specs.declared.event.Event.TheVariants.{Kill}
-use Rattle.tp_model.specs.declared.trace.TraceEntry.{TraceEntry}
 use Rattle.tp_model.specs.History.{Aborted, end_of, status_of}
 use Rattle.tp_rule.specs.Views.{hand}
 use Rattle.tp_rule.specs.declared.view.View.{View}
 use Rattle.tp_manager.specs.Calls.{AreOfHolders}
-use Rattle.tp_manager.specs.Walks.{Walked}
+use Rattle.tp_manager.specs.Walks.{Gained}
 
 -- in at most n steps the pass has made the events es, all of them Aborts of units that held the element
 pub record Freed (l : Limits) (n i : ℕ) (es : List Event) (v w : View) : Type 0 where
-  pub marks : List TraceEntry
-  pub walk : Walked l n marks v w
-  pub drawn : (hand w).drawn ≡ (hand v).drawn
-  pub claimed : (hand w).claimed ≡ (hand v).claimed
-  pub mine : (hand w).mine ≡ (hand v).mine ++ es
-  pub drafts : (hand v).drafts ≡ [] → (hand w).drafts ≡ []
-  pub open_unit : (hand v).open_unit ≡ None → (hand w).open_unit ≡ None
+  pub gained : Gained l n es v w
   pub aborts : AreOfHolders l (hand v).number i v.seen w.seen es
 
 -- and then the Kill of the element, which is the last that it has seen
 pub record Slain (l : Limits) (n i : ℕ) (es : List Event) (v w : View) : Type 0 where
-  pub marks : List TraceEntry
-  pub walk : Walked l n marks v w
-  pub drawn : (hand w).drawn ≡ (hand v).drawn
-  pub claimed : (hand w).claimed ≡ (hand v).claimed
-  pub mine : (hand w).mine ≡ ((hand v).mine ++ es) ++ Kill (hand v).number i ∷ []
-  pub drafts : (hand v).drafts ≡ [] → (hand w).drafts ≡ []
-  pub open_unit : (hand v).open_unit ≡ None → (hand w).open_unit ≡ None
+  pub gained : Gained l n (es ++ Kill (hand v).number i ∷ []) v w
   pub before : List Event
   pub begins : IsPrefix v.seen before
   pub ends : w.seen ≡ before ++ Kill (hand v).number i ∷ []

@@ -1,29 +1,22 @@
 -- What a cancel does on its way. In each definition l are the table's limits, root is the id of the request, v is the
 -- view before, and w the view after.
-use Rattle.std.specs.Prelude.{◌≡◌, ℕ, zero, suc, ◌+◌, ◌*◌, ◌≤◌, ◌==◌, ◌&&◌, ◌||◌, cond, Bool, true, false, Option, Some, None, List, [], ◌++◌}
+use Rattle.std.specs.Prelude.{◌≡◌, ℕ, zero, suc, ◌+◌, ◌*◌, ◌≤◌, ◌==◌, ◌&&◌, ◌||◌, cond, Bool, true, false, Option, Some, None, List}
 use Rattle.tp_model.specs.declared.types.Element.{Element}
 use Rattle.tp_model.specs.declared.types.Limits.{Limits}
 use Rattle.tp_model.specs.declared.types.Status.{Status}
 use Rattle.tp_model.specs.declared.types.Status.TheVariants.{Consumed, Killed}
 use Rattle.tp_model.specs.declared.event.Event.{Event}
-use Rattle.tp_model.specs.declared.trace.TraceEntry.{TraceEntry}
 use Rattle.tp_model.specs.History.{element_of, status_of}
 use Rattle.tp_model.specs.Families.{IsSettledFamily}
 use Rattle.tp_model.specs.Steps.{rows_of}
 use Rattle.tp_rule.specs.Views.{hand}
 use Rattle.tp_rule.specs.declared.view.View.{View}
 use Rattle.tp_manager.specs.Cancels.{AreOfCancel, kills_in}
-use Rattle.tp_manager.specs.Walks.{Walked}
+use Rattle.tp_manager.specs.Walks.{Gained}
 
 -- in at most n steps the pass has made the events es, all of them of a cancel
 pub record Swept (l : Limits) (n root : ℕ) (es : List Event) (v w : View) : Type 0 where
-  pub marks : List TraceEntry
-  pub walk : Walked l n marks v w
-  pub drawn : (hand w).drawn ≡ (hand v).drawn
-  pub claimed : (hand w).claimed ≡ (hand v).claimed
-  pub mine : (hand w).mine ≡ (hand v).mine ++ es
-  pub drafts : (hand v).drafts ≡ [] → (hand w).drafts ≡ []
-  pub open_unit : (hand v).open_unit ≡ None → (hand w).open_unit ≡ None
+  pub gained : Gained l n es v w
   pub own : AreOfCancel l (hand v).number root v.seen w.seen es
 
 -- whether an element, if there is one, is of the family

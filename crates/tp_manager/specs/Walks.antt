@@ -53,7 +53,17 @@ pub record Looked (l : Limits) (n : ℕ) (v w : View) : Type 0 where
   pub walk : Walked l n marks v w
   pub kept : hand w ≡ with_trace (hand w).trace (hand v)
 
--- the same, and one of the steps looks
+-- at most n steps have changed nothing in the pass but that it has made these events, and let go of what it had
+pub record Gained (l : Limits) (n : ℕ) (es : List Event) (v w : View) : Type 0 where
+  pub marks : List TraceEntry
+  pub walk : Walked l n marks v w
+  pub drawn : (hand w).drawn ≡ (hand v).drawn
+  pub claimed : (hand w).claimed ≡ (hand v).claimed
+  pub mine : (hand w).mine ≡ (hand v).mine ++ es
+  pub drafts : (hand v).drafts ≡ [] → (hand w).drafts ≡ []
+  pub open_unit : (hand v).open_unit ≡ None → (hand w).open_unit ≡ None
+
+-- at most n steps have changed nothing in the pass but its trace, and one of them looks
 pub record Acted (l : Limits) (n : ℕ) (v w : View) : Type 0 where
   pub marks : List TraceEntry
   pub walk : Walked l n marks v w

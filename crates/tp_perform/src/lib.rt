@@ -11,4 +11,4 @@ mod program;
 mod racing;
 pub mod serve;
 
-pub use program::run;
+pub use program::{run, run_to_end};

@@ -1,20 +1,22 @@
 //! The whole run of a script, from the reader's bytes to the writer's.
-ghost use Rattle.std.specs.Prelude.{◌≡◌, ◌+◌, ◌^◌, ◌<◌, ◌≤◌, IfSome, IsErrOf, IsTrue, OnOk, OnErr};
+ghost use Rattle.std.specs.Prelude.{◌≡◌, ◌+◌, ◌^◌, ◌<◌, ◌≤◌, Result, IfSome, IsErrOf, IsTrue, OnOk, OnErr};
 ghost use Rattle.std.specs.Io.KnownBytes.{Appends};
 ghost use Rattle.tp_script.specs.Fault.{refused_text};
 ghost use Rattle.tp_report.specs.Answer.{line};
 ghost use Rattle.tp_script.specs.Devices.{StopsReading};
 ghost use Rattle.tp_report.specs.Written.{AppendsFront};
 ghost use Rattle.tp_script.specs.Grammar.{script};
-ghost use Rattle.tp_script.specs.declared.reach.TheConstants.{REACH};
-ghost use Rattle.tp_report.specs.Faults.{fault_of};
+ghost use Rattle.tp_script.specs.Numbers.{program_reach, requests_limit};
+ghost use Rattle.tp_report.specs.declared.fault.Exit.{Exit};
+ghost use Rattle.tp_report.specs.declared.fault.Fault.{Fault};
+ghost use Rattle.tp_report.specs.Faults.{TellsFault, exit_status, fault_of};
 ghost use Rattle.tp_perform.specs.Whole.{Answered};
 
 use crate::serve::serve;
 use std::alloc::Global;
 use std::thread::Threads;
-use tp_report::{Exit, Fault, Sink, fault_of, write_refusal};
-use tp_script::{MOST_REQUESTS, REACH, ReadFault, Refused, Source, read_script};
+use tp_report::{Exit, Fault, Sink, exit_status, fault_of, write_fault, write_refusal};
+use tp_script::{ReadFault, Refused, Source, read_script};
 
 /// Reads a script, performs it over the shared manager with a desk for each server, and writes its report: a line for each
 /// command, and the final lines. The reader is asked at most 100,000 times.
@@ -24,9 +26,9 @@ pub fn run<T: Threads + Sync, R: Source, W: Sink>(
     reader: &mut R,
     writer: &mut W,
 ) -> Result<Exit, Fault>
-    requires { R.asked reader.old + MOST_REQUESTS < 2 ^ 64 }
-    ensures asked { R.asked reader.new ≤ R.asked reader.old + MOST_REQUESTS }
-    ensures report { IfSome (R.rest reader.old) (λ bytes. Answered result (script REACH bytes) (W.contents writer.old) (W.contents writer.new)) }
+    requires { R.asked reader.old + requests_limit < 2 ^ 64 }
+    ensures asked { R.asked reader.new ≤ R.asked reader.old + requests_limit }
+    ensures report { IfSome (R.rest reader.old) (λ bytes. Answered result (script program_reach bytes) (W.contents writer.old) (W.contents writer.new)) }
     ensures read { IsErrOf result Fault.Read → StopsReading (R.has_failed reader.new) (R.asked reader.old) (R.asked reader.new) }
     ensures write { IsErrOf result Fault.Write → IsTrue (W.has_failed writer.new) }
 {
@@ -44,4 +46,28 @@ pub fn run<T: Threads + Sync, R: Source, W: Sink>(
         Err(ReadFault::NoMemory) => Err(Fault::NoMemory),
         Err(ReadFault::Read) => Err(Fault::Read),
     }
+}
+
+/// Runs a script as `run` does, writes the line of a fault to the second writer, and answers the exit status.
+pub fn run_to_end<T: Threads + Sync, R: Source, W: Sink, E: Sink>(
+    rt: &T,
+    alloc: Global,
+    reader: &mut R,
+    writer: &mut W,
+    faults: &mut E,
+) -> u8
+    requires { R.asked reader.old + requests_limit < 2 ^ 64 }
+    ensures asked { R.asked reader.new ≤ R.asked reader.old + requests_limit }
+    ensures ended { (outcome : Result Exit Fault)
+        × IfSome (R.rest reader.old)
+            (λ bytes. Answered outcome (script program_reach bytes) (W.contents writer.old) (W.contents writer.new))
+        × (IsErrOf outcome Fault.Read
+            → StopsReading (R.has_failed reader.new) (R.asked reader.old) (R.asked reader.new))
+        × (IsErrOf outcome Fault.Write → IsTrue (W.has_failed writer.new))
+        × (result ≡ exit_status outcome)
+        × TellsFault outcome (E.contents faults.old) (E.contents faults.new) }
+{
+    let outcome = run(rt, alloc, reader, writer);
+    write_fault(outcome, faults);
+    exit_status(outcome)
 }

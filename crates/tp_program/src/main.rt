@@ -6,19 +6,16 @@
 
 use std::io;
 use std::process::ExitCode;
-use tp_perform::run;
-use tp_report::{Exit, StdSink};
+use tp_perform::run_to_end;
+use tp_report::StdSink;
 use tp_script::StdSource;
 
 fn main(rt: HostRuntime) -> ExitCode {
-    let mut source = StdSource::new(rt.reader());
-    let mut sink = StdSink::new(io::writer(&rt));
-    match run(&rt, rt.alloc(), &mut source, &mut sink) {
-        Ok(Exit::Done) => ExitCode::SUCCESS,
-        Ok(Exit::Refused) => ExitCode::from(2),
-        Err(fault) => {
-            let _ = eprintln!(&rt; "{fault}");
-            ExitCode::from(1)
-        }
-    }
+    ExitCode::from(run_to_end(
+        &rt,
+        rt.alloc(),
+        &mut StdSource::new(rt.reader()),
+        &mut StdSink::new(io::writer(&rt)),
+        &mut StdSink::new(rt.stderr()),
+    ))
 }

@@ -1,7 +1,9 @@
 //! What can go wrong with a report, and how a run ends.
 ghost use Rattle.std.specs.Prelude.{◌≡◌};
-ghost use Rattle.tp_report.specs.Faults.{fault_of};
+ghost use Rattle.tp_report.specs.Answer.{line};
+ghost use Rattle.tp_report.specs.Faults.{TellsFault, exit_status, fault_of, fault_text};
 
+use crate::sink::{Sink, write_all};
 use std::alloc::{AllocError, AllocFailed};
 use thiserror::Error;
 use tp_script::Failed;
@@ -47,18 +49,28 @@ impl From<Failed> for RunFault {
     }
 }
 
-/// Why the program ends early: its text is the one line on standard error.
-#[derive(Clone, Copy, Debug, PartialEq, Eq, Error)]
+/// Why the program ends early.
+#[derive(Clone, Copy, Debug, PartialEq, Eq)]
 pub enum Fault {
     /// Memory could not be had.
-    #[error("fault 1 NoMemory")]
     NoMemory,
     /// The script could not be read: nothing of it was run.
-    #[error("fault 2 Read")]
     Read,
     /// The report could not be written: what was written is a front of it.
-    #[error("fault 3 Write")]
     Write,
+}
+
+impl Fault {
+    /// The one line on standard error. It takes no memory.
+    pub fn line(self) -> &'static str
+        ensures { result.now ≡ line (fault_text self) }
+    {
+        match self {
+            Fault::NoMemory => "fault 1 NoMemory\n",
+            Fault::Read => "fault 2 Read\n",
+            Fault::Write => "fault 3 Write\n",
+        }
+    }
 }
 
 /// How the program ends without a fault.
@@ -77,5 +89,25 @@ pub fn fault_of(fault: RunFault) -> Fault
     match fault {
         RunFault::NoMemory => Fault::NoMemory,
         RunFault::Write => Fault::Write,
+    }
+}
+
+/// The exit status of the program, by how it ended.
+pub fn exit_status(outcome: Result<Exit, Fault>) -> u8
+    ensures { result ≡ exit_status outcome }
+{
+    match outcome {
+        Ok(Exit::Done) => 0,
+        Ok(Exit::Refused) => 2,
+        Err(_) => 1,
+    }
+}
+
+/// Writes the line of the fault with which the program ended, if it did.
+pub fn write_fault<W: Sink>(outcome: Result<Exit, Fault>, writer: &mut W)
+    ensures { TellsFault outcome (W.contents writer.old) (W.contents writer.new) }
+{
+    if let Err(fault) = outcome {
+        let _ = write_all(writer, fault.line().as_bytes());
     }
 }

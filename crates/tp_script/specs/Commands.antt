@@ -6,7 +6,7 @@ use Rattle.tp_script.specs.declared.keyword.Verb.{Verb}
 use Rattle.tp_script.specs.declared.keyword.Verb.TheVariants as verb
 use Rattle.tp_script.specs.declared.script.Command.{Command}
 use Rattle.tp_script.specs.declared.script.Command.TheVariants.{Submit, Turn, Reply, Claim, Prepare, Commit, Abort, Drop, Kill, Cancel, Read, Errors, Balance, Sum, Count, Race, Drain}
-use Rattle.tp_script.specs.declared.script.TheConstants.{MOST_PASSES}
+use Rattle.tp_script.specs.Numbers.{passes_limit}
 use Rattle.tp_script.specs.Passes.{racers}
 use Rattle.tp_script.specs.Script.{ScriptView, passes}
 use Rattle.tp_script.specs.ServerLines.{server_at}
@@ -99,5 +99,5 @@ command_at verb.Drain ws s = none ws >>= λ _. Ok Drain
 -- the script with one command more, unless it needs more passes then than there can be
 unfoldable pub with_command : Command → ScriptView → Result ScriptView LineFault
 with_command c s = do
-  _ ← require (nat_le (passes s + racers c) MOST_PASSES) BadLimits
+  _ ← require (nat_le (passes s + racers c) passes_limit) BadLimits
   Ok (record s { commands = s.commands ++ c ∷ [] })

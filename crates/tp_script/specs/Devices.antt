@@ -2,7 +2,7 @@
 use Rattle.std.specs.Prelude.{◌≡◌, ℕ, ◌+◌, Bool, true, ◌⊎◌, Result, Ok, Err}
 use Rattle.tp_script.specs.declared.fault.ReadFault.{ReadFault}
 use Rattle.tp_script.specs.declared.fault.ReadFault.TheVariants.{NoMemory, Read, Script}
-use Rattle.tp_script.specs.declared.source.TheConstants.{MOST_REQUESTS}
+use Rattle.tp_script.specs.Numbers.{requests_limit}
 
 -- nothing is refused
 abbrev pub HasNoScript : {A : Type 0} → Result A ReadFault → Type 0
@@ -13,4 +13,4 @@ HasNoScript (Err (Script line fault)) = ⊥
 
 -- the reader has failed, or all requests are used up
 abbrev pub StopsReading : Bool → ℕ → ℕ → Type 0
-StopsReading failed old new = (failed ≡ true) ⊎ (new ≡ old + MOST_REQUESTS)
+StopsReading failed old new = (failed ≡ true) ⊎ (new ≡ old + requests_limit)

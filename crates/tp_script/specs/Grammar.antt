@@ -1,7 +1,7 @@
 -- What a script says, line by line, or its first fault.
 use Rattle.std.specs.Prelude.{ℕ, ◌+◌, ◌-◌, ◌^◌, List, [], ◌∷◌, length, Bool, true, false, not, ◌&&◌, Result, Ok, Err, nat_lt, nat_le, ◌==◌, if◌then◌else◌}
 use Rattle.std.specs.List.{list_all}
-use Rattle.tp_script.specs.declared.source.TheConstants.{MOST_BYTES}
+use Rattle.tp_script.specs.Numbers.{bytes_limit}
 use Rattle.tp_script.specs.declared.fault.LineFault.{LineFault}
 use Rattle.tp_script.specs.declared.fault.LineFault.TheVariants.{Syntax, BadLimits, TooLong, Order}
 use Rattle.tp_script.specs.declared.fault.Refused.{Refused}
@@ -108,4 +108,4 @@ no_lines = record { settings = record { rows = 64; units = 256; attempts = 3 }; 
 
 -- what the bytes of a script say that may go so far, or the line and number of its first fault
 unfoldable pub script : Reach → List ℕ → Result ScriptView Refused
-script reach bytes = if nat_lt MOST_BYTES (length bytes) then Err (record { line = 0; number = number_of TooLong }) else lines_from reach 1 (lines bytes) no_lines
+script reach bytes = if nat_lt bytes_limit (length bytes) then Err (record { line = 0; number = number_of TooLong }) else lines_from reach 1 (lines bytes) no_lines

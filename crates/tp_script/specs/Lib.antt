@@ -1,5 +1,6 @@
 pub mod Fault
 pub mod Text
+pub mod Numbers
 pub mod Devices
 pub mod Reach
 pub mod Keyword

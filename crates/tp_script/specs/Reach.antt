@@ -2,7 +2,7 @@
 use Rattle.std.specs.Prelude.{ℕ, Bool, nat_le}
 use Rattle.tp_script.specs.declared.reach.Reach.{Reach}
 use Rattle.tp_script.specs.declared.reach.Reach.TheVariants.{Plain, Desks, Workers}
-use Rattle.tp_script.specs.declared.script.TheConstants.{MOST_SERVERS}
+use Rattle.tp_script.specs.Numbers.{servers_limit}
 
 -- the place of a reach among all
 abbrev pub rank : Reach → ℕ
@@ -17,5 +17,5 @@ has reach other = nat_le (rank other) (rank reach)
 -- how many servers a script may have
 abbrev pub most_servers : Reach → ℕ
 most_servers Plain = 1
-most_servers Desks = MOST_SERVERS
-most_servers Workers = MOST_SERVERS
+most_servers Desks = servers_limit
+most_servers Workers = servers_limit

@@ -1,5 +1,6 @@
 //! A script from its bytes.
 ghost use Rattle.std.specs.Prelude.{◌≡◌, ◌+◌, ◌^◌, ◌<◌, ◌≤◌, IfSome, IsErrOf};
+ghost use Rattle.tp_script.specs.Numbers.{program_reach, requests_limit};
 ghost use Rattle.tp_script.specs.Devices.{StopsReading};
 ghost use Rattle.tp_script.specs.Grammar.{script};
 ghost use Rattle.tp_script.specs.Reading.{Answers, fault_at};
@@ -7,7 +8,7 @@ ghost use Rattle.tp_script.specs.Reading.{Answers, fault_at};
 use crate::fault::{LineError, LineFault, ReadFault};
 use crate::reach::{REACH, Reach};
 use crate::script::Script;
-use crate::source::{MOST_BYTES, MOST_REQUESTS, Source, read_all};
+use crate::source::{MOST_BYTES, Source, read_all};
 use crate::text::lines;
 use std::alloc::Global;
 
@@ -50,9 +51,9 @@ pub fn read_script_at<S: Source>(
     reach: Reach,
     source: &mut S,
 ) -> Result<Script, ReadFault>
-    requires { S.asked source.old + MOST_REQUESTS < 2 ^ 64 }
+    requires { S.asked source.old + requests_limit < 2 ^ 64 }
     ensures script { IfSome (S.rest source.old) (λ bytes. Answers result (script reach bytes)) }
-    ensures asked { S.asked source.new ≤ S.asked source.old + MOST_REQUESTS }
+    ensures asked { S.asked source.new ≤ S.asked source.old + requests_limit }
     ensures fault { IsErrOf result ReadFault.Read → StopsReading (S.has_failed source.new) (S.asked source.old) (S.asked source.new) }
 {
     let bytes = read_all(alloc, source)?;
@@ -61,9 +62,9 @@ pub fn read_script_at<S: Source>(
 
 /// The script that a source gives.
 pub fn read_script<S: Source>(alloc: Global, source: &mut S) -> Result<Script, ReadFault>
-    requires { S.asked source.old + MOST_REQUESTS < 2 ^ 64 }
-    ensures script { IfSome (S.rest source.old) (λ bytes. Answers result (script REACH bytes)) }
-    ensures asked { S.asked source.new ≤ S.asked source.old + MOST_REQUESTS }
+    requires { S.asked source.old + requests_limit < 2 ^ 64 }
+    ensures script { IfSome (S.rest source.old) (λ bytes. Answers result (script program_reach bytes)) }
+    ensures asked { S.asked source.new ≤ S.asked source.old + requests_limit }
     ensures fault { IsErrOf result ReadFault.Read → StopsReading (S.has_failed source.new) (S.asked source.old) (S.asked source.new) }
 {
     read_script_at(alloc, REACH, source)

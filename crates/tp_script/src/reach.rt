@@ -1,5 +1,6 @@
 //! Which lines a script may have.
 ghost use Rattle.std.specs.Prelude.{◌≡◌, ◌≤◌};
+ghost use Rattle.tp_script.specs.Numbers.{servers_limit};
 ghost use Rattle.tp_script.specs.Reach.{rank, has, most_servers};
 
 use crate::script::MOST_SERVERS;
@@ -40,7 +41,7 @@ impl Reach {
     /// How many servers a script may have.
     pub fn most_servers(self) -> usize
         ensures value { result ≡ most_servers self }
-        ensures bound { result ≤ MOST_SERVERS }
+        ensures bound { result ≤ servers_limit }
     {
         match self {
             Reach::Plain => 1,

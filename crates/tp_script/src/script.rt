@@ -4,7 +4,7 @@ ghost use Rattle.tp_server.specs.Check.{check_of};
 ghost use Rattle.std.specs.List.{All};
 ghost use Rattle.tp_script.specs.Passes.{racing};
 ghost use Rattle.tp_script.specs.Ranges.{IsInRange, IsInRange-prop};
-ghost use Rattle.tp_script.specs.declared.script.TheConstants.{MOST_SERVERS, MOST_PASSES};
+ghost use Rattle.tp_script.specs.Numbers.{passes_limit, servers_limit};
 
 use crate::fault::{LineError, LineFault};
 use std::alloc::Global;
@@ -174,9 +174,9 @@ pub struct Script {
     pub account: bool,
     // How many passes it needs.
     pass_count: u16,
-    ghost few_servers: { vec_len servers ≤ MOST_SERVERS },
+    ghost few_servers: { vec_len servers ≤ servers_limit },
     ghost passes_counted: { pass_count ≡ 1 + vec_len servers + racing commands.items },
-    ghost few_passes: { pass_count ≤ MOST_PASSES },
+    ghost few_passes: { pass_count ≤ passes_limit },
     ghost commands_in_range: { All (IsInRange (vec_len servers)) commands.items } by { Prim.hlevel IsInRange-prop },
 }
 
@@ -208,7 +208,7 @@ impl Script {
     /// How many passes it needs: the client's, one for each server, and those of its races.
     pub fn passes(&self) -> u16
         ensures value { result ≡ passes (script_view self.now) }
-        ensures bound { result ≤ MOST_PASSES }
+        ensures bound { result ≤ passes_limit }
     {
         self.pass_count
     }
@@ -223,7 +223,7 @@ impl Script {
     /// Adds a server.
     #[tactic(auto, using(crate::proofs::ScriptLemmas::racing_none, crate::proofs::ScriptLemmas::all_in_range_none))]
     pub(crate) fn add_server(&mut self, server: ScriptServer) -> Result<(), LineError>
-        requires few { vec_len self.old.servers < MOST_SERVERS }
+        requires few { vec_len self.old.servers < servers_limit }
         requires first { vec_len self.old.commands ≡ 0 }
         ensures { GivesScript self.new result (Ok (with_server (server_view server) (script_view self.old))) }
     {

@@ -1,6 +1,7 @@
 //! Where a script comes from.
 ghost use Rattle.std.specs.Prelude.{◌≡◌, false, ◌+◌, ◌^◌, ◌<◌, ◌≤◌, ℕ, List, Bool, Option, length, take, min, vec_len, IfOk, IfSome, OnErr, IsTrue, IsErrOf};
 ghost use Rattle.std.specs.Io.KnownBytes.{ReadConsumes};
+ghost use Rattle.tp_script.specs.Numbers.{bytes_limit, requests_limit};
 ghost use Rattle.tp_script.specs.Devices.{StopsReading, HasNoScript};
 
 use crate::fault::ReadFault;
@@ -101,10 +102,10 @@ pub const MOST_REQUESTS: u32 = 100_000;
 
 /// What the source gives up to its end, or the bytes past which a script is too long.
 pub fn read_all<S: Source>(alloc: Global, source: &mut S) -> Result<Vec<u8>, ReadFault>
-    requires { S.asked source.old + MOST_REQUESTS < 2 ^ 64 }
-    ensures bytes { IfOk result (λ read. IfSome (S.rest source.old) (λ all. read.items ≡ take (MOST_BYTES + 1) all)) }
+    requires { S.asked source.old + requests_limit < 2 ^ 64 }
+    ensures bytes { IfOk result (λ read. IfSome (S.rest source.old) (λ all. read.items ≡ take (bytes_limit + 1) all)) }
     ensures no_script { HasNoScript result }
-    ensures asked { S.asked source.new ≤ S.asked source.old + MOST_REQUESTS }
+    ensures asked { S.asked source.new ≤ S.asked source.old + requests_limit }
     ensures fault { IsErrOf result ReadFault.Read → StopsReading (S.has_failed source.new) (S.asked source.old) (S.asked source.new) }
 {
     let mut read = Vec::new(alloc);

@@ -102,11 +102,11 @@ fn a_writer_that_takes_nothing(rt: HostRuntime) {
 #[test]
 fn the_lines_of_faults(rt: HostRuntime) -> Result<(), std::test::Fail> {
     for (fault, want) in [
-        (Fault::NoMemory, "fault 1 NoMemory"),
-        (Fault::Read, "fault 2 Read"),
-        (Fault::Write, "fault 3 Write"),
+        (Fault::NoMemory, "fault 1 NoMemory\n"),
+        (Fault::Read, "fault 2 Read\n"),
+        (Fault::Write, "fault 3 Write\n"),
     ] {
-        assert_eq!(rt; format!(in rt.alloc(); "{fault}")?.as_str(), want);
+        assert_eq!(rt; fault.line(), want);
     }
     Ok(())
 }

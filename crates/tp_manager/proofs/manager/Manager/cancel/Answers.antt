@@ -85,13 +85,13 @@ invariant_of-pass-2 c = let at = goal.at.invariant_of-pass-2 c in let l : Limits
     (rests_swept l c.pass.inside.seat c.cancel_family-killed.new.seat _ _ _ (lim at.After-rows) (rests at.After-rows) _ c.args.root k.events k.swept)
 
 pub returns-clause-follows : goal.returns-clause-follows
-returns-clause-follows c = let at = goal.at.returns-clause-follows c in let l : Limits = limits_of c.self.inside.shared.words in let n = born at.After-birth_from in let k = c.cancel_family-killed.ensures.told.swept in
+returns-clause-follows c = let at = goal.at.returns-clause-follows c in let l : Limits = limits_of c.self.inside.shared.words in let n = born at.After-birth_from in let k = c.cancel_family-killed.ensures.told.swept.gained in
     follows c.pass.inside.seat.table c.cancel_family-killed.new.seat.table (view_of c.pass.inside.seat) (view_of c.cancel_family-killed.new.seat) c.args.pass.now c.pass.view_is l (birth_steps + (rows_of l + 1) * round_steps l) (n.marks ++ k.marks)
     (walked_then l birth_steps ((rows_of l + 1) * round_steps l) n.marks k.marks _ _ _ n.walk k.walk)
     (cancel_steps c.args.self.now.limits) (few_steps l c.args.self.now.limits (limits at.After-rows))
 
 pub returns-clause-looks : goal.returns-clause-looks
-returns-clause-looks c = λ _. let at = goal.at.returns-clause-looks c in let l : Limits = limits_of c.self.inside.shared.words in let n = born at.After-birth_from in let k = c.cancel_family-killed.ensures.told.swept in
+returns-clause-looks c = λ _. let at = goal.at.returns-clause-looks c in let l : Limits = limits_of c.self.inside.shared.words in let n = born at.After-birth_from in let k = c.cancel_family-killed.ensures.told.swept.gained in
     has_looked c.pass.inside.seat.table c.cancel_family-killed.new.seat.table (view_of c.pass.inside.seat) (view_of c.cancel_family-killed.new.seat) c.args.pass.now c.pass.view_is l (birth_steps + (rows_of l + 1) * round_steps l) (n.marks ++ k.marks)
     (walked_then l birth_steps ((rows_of l + 1) * round_steps l) n.marks k.marks _ _ _ n.walk k.walk) (has_more n.marks k.marks n.step)
 

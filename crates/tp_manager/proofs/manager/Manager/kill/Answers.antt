@@ -78,22 +78,22 @@ few : (l k : Limits) → l ≡ k → birth_steps + slay_steps l ≤ kill_steps k
 few l k same = subst (λ (z : Limits). birth_steps + slay_steps l ≤ kill_steps z) same (omega arith)
 
 pub returns-in-Ok-clause-follows : goal.returns-in-Ok-clause-follows
-returns-in-Ok-clause-follows c = let at = goal.at.returns-in-Ok-clause-follows c in let l : Limits = limits_of c.self.inside.shared.words in let n = none at.After-birth_from in let k = c.in-Ok.ensures.told.3 in
+returns-in-Ok-clause-follows c = let at = goal.at.returns-in-Ok-clause-follows c in let l : Limits = limits_of c.self.inside.shared.words in let n = none at.After-birth_from in let k = c.in-Ok.ensures.told.3.gained in
     follows c.pass.inside.seat.table c.kill_row.new.seat.table (view_of c.pass.inside.seat) (view_of c.kill_row.new.seat) c.args.pass.now c.pass.view_is l (birth_steps + slay_steps l) (n.marks ++ k.marks)
     (walked_then l birth_steps (slay_steps l) n.marks k.marks _ _ _ n.walk k.walk) (kill_steps c.args.self.now.limits) (few l c.args.self.now.limits (limits at.After-rows))
 
 pub returns-in-Ok-clause-looks : goal.returns-in-Ok-clause-looks
-returns-in-Ok-clause-looks c = λ _. let at = goal.at.returns-in-Ok-clause-looks c in let l : Limits = limits_of c.self.inside.shared.words in let n = none at.After-birth_from in let k = c.in-Ok.ensures.told.3 in
+returns-in-Ok-clause-looks c = λ _. let at = goal.at.returns-in-Ok-clause-looks c in let l : Limits = limits_of c.self.inside.shared.words in let n = none at.After-birth_from in let k = c.in-Ok.ensures.told.3.gained in
     has_looked c.pass.inside.seat.table c.kill_row.new.seat.table (view_of c.pass.inside.seat) (view_of c.kill_row.new.seat) c.args.pass.now c.pass.view_is l (birth_steps + slay_steps l) (n.marks ++ k.marks)
     (walked_then l birth_steps (slay_steps l) n.marks k.marks _ _ _ n.walk k.walk) (has_more n.marks k.marks n.step)
 
 pub returns-in-Err-clause-follows : goal.returns-in-Err-clause-follows
-returns-in-Err-clause-follows c = let at = goal.at.returns-in-Err-clause-follows c in let l : Limits = limits_of c.self.inside.shared.words in let n = none at.After-birth_from in let k = c.in-Err.ensures.told.2 in
+returns-in-Err-clause-follows c = let at = goal.at.returns-in-Err-clause-follows c in let l : Limits = limits_of c.self.inside.shared.words in let n = none at.After-birth_from in let k = c.in-Err.ensures.told.2.gained in
     follows c.pass.inside.seat.table c.kill_row.new.seat.table (view_of c.pass.inside.seat) (view_of c.kill_row.new.seat) c.args.pass.now c.pass.view_is l (birth_steps + slay_steps l) (n.marks ++ k.marks)
     (walked_then l birth_steps (slay_steps l) n.marks k.marks _ _ _ n.walk k.walk) (kill_steps c.args.self.now.limits) (few l c.args.self.now.limits (limits at.After-rows))
 
 pub returns-in-Err-clause-looks : goal.returns-in-Err-clause-looks
-returns-in-Err-clause-looks c = λ _. let at = goal.at.returns-in-Err-clause-looks c in let l : Limits = limits_of c.self.inside.shared.words in let n = none at.After-birth_from in let k = c.in-Err.ensures.told.2 in
+returns-in-Err-clause-looks c = λ _. let at = goal.at.returns-in-Err-clause-looks c in let l : Limits = limits_of c.self.inside.shared.words in let n = none at.After-birth_from in let k = c.in-Err.ensures.told.2.gained in
     has_looked c.pass.inside.seat.table c.kill_row.new.seat.table (view_of c.pass.inside.seat) (view_of c.kill_row.new.seat) c.args.pass.now c.pass.view_is l (birth_steps + slay_steps l) (n.marks ++ k.marks)
     (walked_then l birth_steps (slay_steps l) n.marks k.marks _ _ _ n.walk k.walk) (has_more n.marks k.marks n.step)
 
@@ -106,7 +106,7 @@ returns-in-Ok-clause-answer c = let at = goal.at.returns-in-Ok-clause-answer c i
 pub returns-in-Err-clause-answer : goal.returns-in-Err-clause-answer
 returns-in-Err-clause-answer c = let at = goal.at.returns-in-Err-clause-answer c in let l : Limits = limits_of c.self.inside.shared.words in let a = l.attempts in
     let k = fails_after l birth_steps (slay_steps l) (kill_steps l) c.args.id a a (view_of c.pass.inside.seat) (view_of c.birth_from.new.seat) (view_of c.kill_row.new.seat) (looked l birth_steps _ _ (none at.After-birth_from)) refl (omega arith) c.in-Err.refusal c.in-Err.ensures.told in
-    let told = c.in-Err.ensures.told in let there = c.in-Some.ensures.told.0 in let later = walked_begins l _ _ _ _ told.2.walk in let born : HasElement (seen_by c.kill_row.new.seat) c.args.id = (there.0, found_later _ _ later c.args.id there.0 there.1) in
+    let told = c.in-Err.ensures.told in let there = c.in-Some.ensures.told.0 in let later = walked_begins l _ _ _ _ told.2.gained.walk in let born : HasElement (seen_by c.kill_row.new.seat) c.args.id = (there.0, found_later _ _ later c.args.id there.0 there.1) in
     subst (λ (z : Limits). KillFails z c.args.id c.args.pass.now (shown c.kill_row.new.seat.table (view_of c.kill_row.new.seat)) c.in-Err.refusal) (limits at.After-rows)
     (fails_shown c.pass.inside.seat.table c.kill_row.new.seat.table (view_of c.pass.inside.seat) (view_of c.kill_row.new.seat) c.args.pass.now c.pass.view_is l (free at.After-rows) _ c.args.id c.in-Err.refusal born k)
 
@@ -114,7 +114,7 @@ pub returns-in_default-clause-open_unit : goal.returns-in_default-clause-open_un
 returns-in_default-clause-open_unit c = let at = goal.at.returns-in_default-clause-open_unit c in ap (λ (h : Hand). h.open_unit) (none at.After-birth_from).kept ∙ free at.After-rows
 
 pub returns-in-Ok-clause-open_unit : goal.returns-in-Ok-clause-open_unit
-returns-in-Ok-clause-open_unit c = let at = goal.at.returns-in-Ok-clause-open_unit c in c.in-Ok.ensures.told.3.open_unit (ap (λ (h : Hand). h.open_unit) (none at.After-birth_from).kept ∙ free at.After-rows)
+returns-in-Ok-clause-open_unit c = let at = goal.at.returns-in-Ok-clause-open_unit c in c.in-Ok.ensures.told.3.gained.open_unit (ap (λ (h : Hand). h.open_unit) (none at.After-birth_from).kept ∙ free at.After-rows)
 
 pub returns-in-Err-clause-open_unit : goal.returns-in-Err-clause-open_unit
-returns-in-Err-clause-open_unit c = let at = goal.at.returns-in-Err-clause-open_unit c in c.in-Err.ensures.told.2.open_unit (ap (λ (h : Hand). h.open_unit) (none at.After-birth_from).kept ∙ free at.After-rows)
+returns-in-Err-clause-open_unit c = let at = goal.at.returns-in-Err-clause-open_unit c in c.in-Err.ensures.told.2.gained.open_unit (ap (λ (h : Hand). h.open_unit) (none at.After-birth_from).kept ∙ free at.After-rows)

@@ -29,7 +29,7 @@ pub overflow_sub-left : goal.overflow_sub-left
 overflow_sub-left t c = some t (goal.at.overflow_sub-left t c).In-Taken
 
 pub kill_exchange-requires-clause-row : goal.kill_exchange-requires-clause-row
-kill_exchange-requires-clause-row t c = let f = c.in-Ok.ensures.told.3 in let b = c.requires.row.1 in (c.requires.row.0, (b.0, found_later _ _ (walked_begins _ _ _ _ _ f.walk) c.args.row b.0 b.1))
+kill_exchange-requires-clause-row t c = let f = c.in-Ok.ensures.told.3 in let b = c.requires.row.1 in (c.requires.row.0, (b.0, found_later _ _ (walked_begins _ _ _ _ _ f.gained.walk) c.args.row b.0 b.1))
 
 pub returns-in-Killed-clause-told : goal.returns-in-Killed-clause-told
 returns-in-Killed-clause-told t c = let l : Limits = limits_of c.args.self.now.words in
@@ -45,27 +45,27 @@ returns-in-Ok-kill_exchange-clause-told t c = let l : Limits = limits_of c.args.
 
 so_far : (t : ℕ) (c : In-Err-kill_exchange t) → Freed (limits_of c.args.self.now.words) (1 + 1) c.args.row c.in-Ok.ensures.told.0 (view_of c.args.seat.now) (view_of c.kill_exchange.new.seat)
 so_far t c = let l : Limits = limits_of c.args.self.now.words in let f = c.in-Ok.ensures.told.3 in
-    freed_look l 1 1 c.args.row _ _ _ _ f (looked l 1 _ _ (acted_by l kinds.KillExchange (view_of c.loosen.new.seat) (view_of c.kill_exchange.new.seat) f.walk.steady refl c.in-Err-kill_exchange.ensures.miss.0))
+    freed_look l 1 1 c.args.row _ _ _ _ f (looked l 1 _ _ (acted_by l kinds.KillExchange (view_of c.loosen.new.seat) (view_of c.kill_exchange.new.seat) f.gained.walk.steady refl c.in-Err-kill_exchange.ensures.miss.0))
 
 pub kill_from-requires : goal.kill_from-requires
 kill_from-requires t c = let l : Limits = limits_of c.args.self.now.words in let at = goal.at.kill_from-requires t c in let i = at.In-Taken in let s = some t i in let f = so_far t at.In-Err-kill_exchange in let b = c.requires.row.1 in
-    let miss = c.in-Err-kill_exchange.ensures.miss in let begins = walked_begins l _ _ _ _ f.walk in
+    let miss = c.in-Err-kill_exchange.ensures.miss in let begins = walked_begins l _ _ _ _ f.gained.walk in
     let not : claim_word (seen_by c.kill_exchange.new.seat) c.args.row ≢ TakenWord c.in-Taken.attempt c.in-Taken.unit = λ same. miss.1 (miss.2 ∙ same) in (
       search rules,
       (
         search rules,
         (
-          f.walk.steady,
+          f.gained.walk.steady,
           (
             (c.requires.row.0, (b.0, found_later _ _ begins c.args.row b.0 b.1)),
             (
               (miss.2, miss.3),
               (
-                f.open_unit c.requires.free,
+                f.gained.open_unit c.requires.free,
                 (
                   subst (IsEnough l (c.args.left - 1)) (sym miss.2)
-                      (enough_next l (seen_by c.args.seat.now) (seen_by c.kill_exchange.new.seat) f.walk.steady.shows.legal begins c.args.row c.in-Taken.attempt c.in-Taken.unit c.args.left (taken t i) not (less t i)),
-                  λ free. never_free l _ _ (λ e. c.requires.enough.1 (c.requires.found.0 ∙ e)) (words_rise l (seen_by c.args.seat.now) (seen_by c.kill_exchange.new.seat) c.args.row f.walk.steady.shows.legal begins) (sym miss.2 ∙ free),
+                      (enough_next l (seen_by c.args.seat.now) (seen_by c.kill_exchange.new.seat) f.gained.walk.steady.shows.legal begins c.args.row c.in-Taken.attempt c.in-Taken.unit c.args.left (taken t i) not (less t i)),
+                  λ free. never_free l _ _ (λ e. c.requires.enough.1 (c.requires.found.0 ∙ e)) (words_rise l (seen_by c.args.seat.now) (seen_by c.kill_exchange.new.seat) c.args.row f.gained.walk.steady.shows.legal begins) (sym miss.2 ∙ free),
                 ),
               ),
             ),

@@ -1,0 +1,64 @@
+-- What a pass has gained over some of a call's steps.
+use Rattle.std.proofs.Common.{◌≡◌, ℕ, ◌+◌, ◌≤◌, List, [], ◌++◌, sym, ap, ◌∙◌, append_assoc, arith, subst, None}
+use mathlib.Core.List.{IsPrefix}
+use Rattle.tp_model.specs.declared.types.Limits.{Limits}
+use Rattle.tp_model.specs.declared.event.Event.{Event}
+use Rattle.tp_model.proofs.Bridges.{append_nil}
+use Rattle.tp_rule.specs.Views.{SeatShown, hand, view_of}
+use Rattle.tp_rule.specs.declared.view.Hand.{Hand}
+use Rattle.tp_rule.specs.declared.view.View.{View}
+use Rattle.tp_manager.specs.Calls.{claims_in}
+use Rattle.tp_manager.specs.Walks.{Gained, Looked, Rests}
+use Rattle.tp_manager.proofs.Passes.{claims_append, steady_at}
+use Rattle.tp_manager.proofs.Walks.{walked_begins, walked_few, walked_then}
+
+module _ (l : Limits) where
+  pub gained_looked : (n : ℕ) (v w : View) → Looked l n v w → Gained l n [] v w
+  gained_looked n v w a = record {
+    marks = a.marks;
+    walk = a.walk;
+    drawn = ap (λ (z : Hand). z.drawn) a.kept;
+    claimed = ap (λ (z : Hand). z.claimed) a.kept;
+    mine = ap (λ (z : Hand). z.mine) a.kept ∙ sym (append_nil (hand v).mine);
+    drafts = λ e. ap (λ (z : Hand). z.drafts) a.kept ∙ e;
+    open_unit = λ e. ap (λ (z : Hand). z.open_unit) a.kept ∙ e;
+  }
+
+  pub gained_then : (n m : ℕ) (es fs : List Event) (v w y : View) → Gained l n es v w → Gained l m fs w y → Gained l (n + m) (es ++ fs) v y
+  gained_then n m es fs v w y a b = record {
+    marks = a.marks ++ b.marks;
+    walk = walked_then l n m a.marks b.marks v w y a.walk b.walk;
+    drawn = b.drawn ∙ a.drawn;
+    claimed = b.claimed ∙ a.claimed;
+    mine = b.mine ∙ (ap (λ z. z ++ fs) a.mine ∙ append_assoc (hand v).mine es fs);
+    drafts = λ e. b.drafts (a.drafts e);
+    open_unit = λ e. b.open_unit (a.open_unit e);
+  }
+
+  pub gained_few : (n m : ℕ) (es : List Event) (v w : View) → n ≤ m → Gained l n es v w → Gained l m es v w
+  gained_few n m es v w le a = record {
+    marks = a.marks;
+    walk = walked_few l n m a.marks v w le a.walk;
+    drawn = a.drawn;
+    claimed = a.claimed;
+    mine = a.mine;
+    drafts = a.drafts;
+    open_unit = a.open_unit;
+  }
+
+  pub gained_begins : (n : ℕ) (es : List Event) (v w : View) → Gained l n es v w → IsPrefix v.seen w.seen
+  gained_begins n es v w a = walked_begins l n a.marks v w a.walk
+
+module _ (l : Limits) (seat next : SeatShown) (number drawn used : ℕ) (same : (view_of seat).limits ≡ l) (r : Rests seat number drawn used None) where
+  pub rests_gained : (n : ℕ) (es : List Event) → Gained l n es (view_of seat) (view_of next) → claims_in es ≡ 0 → Rests next number drawn used None
+  rests_gained n es a none = let lim : l ≡ (view_of next).limits = sym a.walk.steady.pass.1 in record {
+    steady = steady_at l (view_of next).limits (view_of next) lim a.walk.steady;
+    number_is = a.walk.number ∙ r.number_is;
+    drawn_is = a.drawn ∙ r.drawn_is;
+    used_is = a.claimed ∙ r.used_is;
+    used_below = subst (λ (z : Limits). used ≤ z.units) (same ∙ lim) r.used_below;
+    claims = ap claims_in a.mine ∙ (claims_append (hand (view_of seat)).mine es ∙ (let k = r.claims in omega arith));
+    no_drafts = a.drafts r.no_drafts;
+    open_is = a.open_unit r.open_is;
+    work = tt;
+  }
