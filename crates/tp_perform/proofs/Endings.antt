@@ -1,5 +1,5 @@
 -- How a run ends: with its final lines, or before its first.
-use Rattle.std.proofs.Common.{◌≡◌, ◌∙◌, ◌+◌, ℕ, suc, List, [], ◌++◌, Option, false, ap, arith, length, slice_get, subst, sym}
+use Rattle.std.proofs.Common.{◌≡◌, inl, refl, ◌∙◌, ◌+◌, ℕ, suc, List, [], ◌++◌, Option, false, ap, arith, length, slice_get, subst, sym}
 use Rattle.std.specs.Io.KnownBytes.{Appends}
 use Rattle.std.proofs.lemmas.List.{length-map}
 use Rattle.std.specs.Prelude.{Result, Ok, Err}
@@ -28,7 +28,7 @@ final_all script none = rw (sym none) (length-map script.servers.items server_vi
 
 -- a lack of memory before anything was written
 pub answered_none : (script : Result ScriptView Refused) (a : Option (List ℕ)) → Answered (Err faults.NoMemory) script a a
-answered_none (Ok script) a = nothing_written _ a
+answered_none (Ok script) a = (nothing_written _ a, inl refl)
 answered_none (Err refused) a = front_none a (line (refused_text refused))
 
 -- final lines, one behind the other

@@ -1,5 +1,5 @@
 -- What is reported of a script that was performed to its end.
-use Rattle.std.specs.Prelude.{◌≡◌, ℕ, false, List, [], ◌∷◌, ◌++◌, All, Option, Some, None, length, map}
+use Rattle.std.specs.Prelude.{◌≡◌, ◌⊎◌, ℕ, false, List, [], ◌∷◌, ◌++◌, All, Option, Some, None, length, map}
 use Rattle.std.specs.Io.KnownBytes.{Appends}
 use Rattle.tp_model.specs.declared.types.Limits.{Limits}
 use Rattle.tp_manager.specs.Accounts.{Accounts, AreFrom}
@@ -7,9 +7,9 @@ use Rattle.tp_manager.specs.Shown.{KeeperShown, ManagerShown, PassShown}
 use Rattle.tp_script.specs.Script.{ScriptView, passes}
 use Rattle.tp_workers.specs.Free.{IsFreePass}
 use Rattle.tp_perform.specs.Acting.{PlaceShown}
-use Rattle.tp_perform.specs.Ending.{TellsAccount, finals_of}
+use Rattle.tp_perform.specs.Ending.{AccountFront, FinalsFront, TellsAccount, finals_of}
 use Rattle.tp_perform.specs.Places.{workers}
-use Rattle.tp_perform.specs.Told.{AllEnded, Scene, ToldAll}
+use Rattle.tp_perform.specs.Told.{AllEnded, Scene, ToldAll, ToldFront}
 
 -- the limits that a script asks for
 abbrev pub limits_of : ScriptView → Limits
@@ -62,3 +62,43 @@ pub record Reported (s : ScriptView) (m : ManagerShown) (before after : Option (
   pub keeper' : KeeperShown
   pub closed : List PassShown
   pub account : TellsAccount s.account (Accounts m.limits keeper keeper' left closed) finals_done after
+
+-- The same up to a fault: a front of the lines of commands is written,
+pub record CommandsFront (s : ScriptView) (m : ManagerShown) (before after : Option (List ℕ)) : Type 0 where
+  pub first : Scene
+  pub begins : Begins s m first
+  pub told : ToldFront m s first before after
+
+-- all of these and a front of the final lines,
+pub record LastFront (s : ScriptView) (m : ManagerShown) (before after : Option (List ℕ)) : Type 0 where
+  pub first : Scene
+  pub last : Scene
+  pub begins : Begins s m first
+  pub commands_done : Option (List ℕ)
+  pub told : ToldAll m s first last before commands_done
+  pub left : List PassShown
+  pub registers : List (List ℕ)
+  pub ended : AllEnded last.places (workers (length s.servers) left) registers
+  pub finals : FinalsFront s registers commands_done after
+
+-- or these too and a front of the account's line
+pub record ClosingFront (s : ScriptView) (m : ManagerShown) (before after : Option (List ℕ)) : Type 0 where
+  pub first : Scene
+  pub last : Scene
+  pub begins : Begins s m first
+  pub commands_done : Option (List ℕ)
+  pub told : ToldAll m s first last before commands_done
+  pub left : List PassShown
+  pub registers : List (List ℕ)
+  pub ended : AllEnded last.places (workers (length s.servers) left) registers
+  pub finals_done : Option (List ℕ)
+  pub finals : Appends commands_done finals_done (finals_of s registers)
+  pub keeper : KeeperShown
+  pub keeper' : KeeperShown
+  pub closed : List PassShown
+  pub account : AccountFront s.account (Accounts m.limits keeper keeper' left closed) finals_done after
+
+-- where nothing could be made, nothing is written
+abbrev pub ReportedFront : ScriptView → Option (List ℕ) → Option (List ℕ) → Type 0
+ReportedFront s before after = (after ≡ before) ⊎ ((m : ManagerShown)
+    × (CommandsFront s m before after ⊎ (LastFront s m before after ⊎ ClosingFront s m before after)))

@@ -5,7 +5,7 @@ ghost use Rattle.tp_manager.specs.Shown.{IsKeptBy, ManagerShown};
 ghost use Rattle.tp_report.specs.Lines.{Writes, WritesFront};
 ghost use Rattle.tp_workers.specs.Free.{IsFreePass};
 ghost use Rattle.tp_perform.specs.Performing.{line_count};
-ghost use Rattle.tp_perform.specs.Reported.{IsNewPass, Reported, limits_of};
+ghost use Rattle.tp_perform.specs.Reported.{IsNewPass, Reported, ReportedFront, limits_of};
 ghost use Rattle.tp_script.specs.Script.{passes as passes_of, script_view};
 
 use crate::account::close;
@@ -29,6 +29,8 @@ pub fn serve<R: Threads + Sync, W: Sink>(
     writer: &mut W,
 ) -> Result<(), RunFault>
     ensures told { OnOk result ((m : ManagerShown) × Reported (script_view script.now) m
+        (W.contents writer.old) (W.contents writer.new)) }
+    ensures told_front { OnErr result (ReportedFront (script_view script.now)
         (W.contents writer.old) (W.contents writer.new)) }
     ensures done { OnOk result (Writes (line_count (script_view script.now)) (W.contents writer.old) (W.contents writer.new)) }
     ensures front { OnErr result (WritesFront (line_count (script_view script.now)) (W.contents writer.old) (W.contents writer.new)) }
@@ -98,6 +100,8 @@ fn serve_by<R: Threads + Sync, W: Sink>(
     requires limits { manager.now.limits ≡ limits_of (script_view script.now) }
     requires enough { length passes.old ≡ passes_of (script_view script.now) }
     ensures told { OnOk result (Reported (script_view script.now) manager.now
+        (W.contents writer.old) (W.contents writer.new)) }
+    ensures told_front { OnErr result (ReportedFront (script_view script.now)
         (W.contents writer.old) (W.contents writer.new)) }
     ensures done { OnOk result (Writes (line_count (script_view script.now)) (W.contents writer.old) (W.contents writer.new)) }
     ensures front { OnErr result (WritesFront (line_count (script_view script.now)) (W.contents writer.old) (W.contents writer.new)) }
