@@ -3,7 +3,7 @@ pub mod Points
 pub mod Rows
 pub mod Walks
 pub mod Seeks
-pub mod Births
+pub mod Marks
 pub mod Looks
 pub mod Passes
 pub mod Submits
