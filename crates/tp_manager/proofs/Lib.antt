@@ -4,7 +4,7 @@ pub mod Rows
 pub mod Walks
 pub mod Gains
 pub mod Seeks
-pub mod Births
+pub mod Marks
 pub mod Looks
 pub mod Passes
 pub mod Submits

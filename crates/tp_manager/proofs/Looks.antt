@@ -1,5 +1,5 @@
 -- What the words that were found tell of a row.
-use Rattle.std.proofs.Common.{◌≡◌, ◌≢◌, ◌⊎◌, ℕ, ◌+◌, ◌-◌, ◌<◌, ◌≤◌, nat_lt, Bool, true, false, cond, Option, Some, None, List, refl, sym, ◌∙◌, ap, subst, ⊎_elim, arith}
+use Rattle.std.proofs.Common.{◌≡◌, ◌≢◌, ◌⊎◌, ℕ, ◌+◌, ◌-◌, ◌*◌, ◌<◌, ◌≤◌, nat_lt, Bool, true, false, cond, Option, Some, None, List, refl, sym, ◌∙◌, ap, subst, ⊎_elim, arith}
 use Rattle.std.proofs.lemmas.Bool.Decides.{nat_tests}
 use mathlib.Core.List.{IsPrefix}
 use Rattle.tp_model.specs.declared.types.Element.{Element}
@@ -9,7 +9,8 @@ use Rattle.tp_model.specs.declared.event.Event.{Event}
 use Rattle.tp_model.specs.declared.trace.StepKind.{StepKind}
 use Rattle.tp_model.specs.History.{IsUnborn, element_of, UnitEnd, Committed, Aborted, end_of, status_of}
 use Rattle.tp_model.specs.Words.{ClaimWord, FreeWord, TakenWord, KilledWord, Rises, attempt_in, claim_word, taken_status}
-use Rattle.tp_model.specs.Steps.{AreLimits, units_of, IsLegal}
+use Rattle.tp_model.specs.Steps.{AreLimits, IsRowOf, rows_of, units_of, IsLegal}
+use Rattle.tp_model.proofs.Blocks.{blocks_apart}
 use Rattle.tp_model.proofs.WordProofs.{words_rise}
 use Rattle.tp_model.proofs.Bridges.{born_or_not, born_at, found_later}
 use Rattle.tp_model.proofs.Later.{committed_born, claim_stands, status_found, status_aborted}
@@ -22,8 +23,16 @@ use Rattle.tp_rule.specs.Steps.{Grew}
 use Rattle.tp_rule.specs.declared.view.Hand.{Hand}
 use Rattle.tp_rule.specs.declared.view.View.{View}
 use Rattle.tp_manager.specs.declared.looking.Birth.{Birth}
-use Rattle.tp_manager.specs.Looks.{HeadFound, IsThere, IsEnough}
-use Rattle.tp_manager.proofs.Births.{by_unit, attempt_range}
+use Rattle.tp_manager.specs.Looks.{GoesOn, HeadFound, IsThere, IsEnough}
+use Rattle.tp_rule.proofs.Births.{by_unit, attempt_range}
+
+-- behind the last row of its part a scan goes on
+pub goes_end : (l k : Limits) → l ≡ k → (i next : ℕ) → (c : ℕ) × IsRowOf k c i × (next ≡ c * k.rows + k.rows) → next ≤ rows_of k → GoesOn l i next
+goes_end l k same i next t inside = let own = t.1 in let high : i < t.0 * k.rows + k.rows = own.2 in let is : next ≡ t.0 * k.rows + k.rows = t.2 in subst (λ (z : Limits). GoesOn z i next) (sym same) record {
+  on = omega arith;
+  inside = inside;
+  part = λ d row. let one : t.0 ≡ d = blocks_apart k.rows t.0 d i own.1 high row.1 row.2 in subst (λ z. next ≤ z * k.rows + k.rows) one (omega arith);
+}
 
 -- births
 

@@ -1,5 +1,5 @@
 -- A look at one row after another.
-use Rattle.std.proofs.Common.{◌≡◌, ◌≢◌, ℕ, suc, ◌+◌, ◌*◌, ◌<◌, ◌≤◌, List, ◌++◌, sym, ap, ◌∙◌, subst, inl, inr, ⊎_elim, arith, suc-mul, mul-le-mul_right}
+use Rattle.std.proofs.Common.{◌≡◌, ◌≢◌, ℕ, zero, suc, ◌+◌, ◌-◌, ◌*◌, ◌<◌, ◌≤◌, List, ◌++◌, sym, ap, ◌∙◌, subst, inl, inr, ⊎_elim, arith, suc-mul, mul-le-mul_right}
 use Rattle.std.proofs.lemmas.Bool.Decides.{eqb_tells}
 use mathlib.Core.Logic.{dite}
 use native.Mathlib.Decide.{dec_le}
@@ -7,11 +7,12 @@ use mathlib.Core.List.{IsPrefix}
 use Rattle.tp_model.specs.declared.event.Event.{Event}
 use Rattle.tp_model.specs.declared.types.Limits.{Limits}
 use Rattle.tp_model.specs.Passes.{opening_of}
+use Rattle.tp_model.specs.Steps.{rows_of}
 use Rattle.tp_model.specs.History.{IsUnborn}
 use Rattle.tp_model.proofs.Bridges.{begins_refl, begins_trans}
 use Rattle.tp_rule.specs.Views.{hand}
 use Rattle.tp_rule.specs.declared.view.View.{View}
-use Rattle.tp_manager.specs.Walks.{Acted, Begun, EachRow, Looked, Sought, Steady, with_trace}
+use Rattle.tp_manager.specs.Walks.{Acted, Begun, EachRow, OfPart, Looked, Sought, Steady, with_trace}
 use Rattle.tp_manager.proofs.Points.{has_more, opening_kept}
 use Rattle.tp_manager.proofs.Walks.{acted_then, looked_begins, looked_few, looked_none, opening_first, sought_by, sought_few, walked_begins, walked_few, walked_then}
 
@@ -42,44 +43,47 @@ module _ (l : Limits) (Passed : ℕ → List Event → List Event → Type 0) (w
 module _ (l : Limits) (Passed : ℕ → List Event → List Event → Type 0) (widens : Widens Passed) (steps from : ℕ) where
   -- steps that look at one more row, which is passed or not
   module _ (n : ℕ) (v w y : View) (b : Begun l Passed steps from n v w) where
-    abbrev after : (a : Acted l steps w y) (s : Sought l (n * steps) (EachRow Passed from n) v w) → Sought l (n * steps + steps) (EachRow Passed from n) v y
+    abbrev after : (a : Acted l steps w y) (s : Sought l ((n - from) * steps) (EachRow Passed from n) v w) → Sought l ((n - from) * steps + steps) (EachRow Passed from n) v y
     after a s = record {
       marks = s.marks ++ a.marks;
-      walk = walked_then l (n * steps) steps s.marks a.marks v w y s.walk a.walk;
+      walk = walked_then l ((n - from) * steps) steps s.marks a.marks v w y s.walk a.walk;
       kept = a.kept ∙ ap (λ z. with_trace (hand y).trace z) s.kept;
       step = has_more s.marks a.marks s.step;
       passed = λ i p q. subst (λ o. Passed i o y.seen) (sym (opening_kept v.seen s.marks a.marks s.step.0 s.step.1 s.step.2))
           (widens i (opening_of v.seen s.marks) (opening_of v.seen s.marks) w.seen y.seen (begins_refl (opening_of v.seen s.marks)) (walked_begins l steps a.marks w y a.walk) (s.passed i p q));
     }
 
-    first : (a : Acted l steps w y) → n ≡ from → w ≡ v → Sought l (n * steps + steps) (EachRow Passed from n) v y
-    first a at same = subst (λ z. Sought l (n * steps + steps) (EachRow Passed from n) z y) same record {
+    first : (a : Acted l steps w y) → n ≡ from → w ≡ v → Sought l ((n - from) * steps + steps) (EachRow Passed from n) v y
+    first a at same = subst (λ z. Sought l ((n - from) * steps + steps) (EachRow Passed from n) z y) same record {
       marks = a.marks;
-      walk = walked_few l steps (n * steps + steps) a.marks w y (omega arith) a.walk;
+      walk = walked_few l steps ((n - from) * steps + steps) a.marks w y (omega arith) a.walk;
       kept = a.kept;
       step = a.step;
       passed = λ i p q. absurd (omega arith);
     }
 
     -- the rows before it were passed all the same
-    pub begun_hit : Acted l steps w y → Sought l (n * steps + steps) (EachRow Passed from n) v y
+    pub begun_hit : Acted l steps w y → Sought l ((n - from) * steps + steps) (EachRow Passed from n) v y
     begun_hit a = ⊎_elim (λ t. first a t.0 t.1) (after a) b
 
     -- or it and others are passed, up to row m
-    module _ (m : ℕ) (less : n < m) where
-      only : Sought l steps (EachRow Passed n m) w y → n ≡ from → w ≡ v → Sought l (m * steps) (EachRow Passed from m) v y
-      only s at same = subst (λ z. Sought l (m * steps) (EachRow Passed from m) z y) same record {
+    module _ (m : ℕ) (start : from ≤ n) (less : n < m) where
+      room : (n - from) * steps + steps ≤ (m - from) * steps
+      room = rows_more (n - from) (m - from) steps (omega arith)
+
+      only : Sought l steps (EachRow Passed n m) w y → n ≡ from → w ≡ v → Sought l ((m - from) * steps) (EachRow Passed from m) v y
+      only s at same = subst (λ z. Sought l ((m - from) * steps) (EachRow Passed from m) z y) same record {
         marks = s.marks;
-        walk = walked_few l steps (m * steps) s.marks w y (let room = rows_more n m steps less in omega arith) s.walk;
+        walk = walked_few l steps ((m - from) * steps) s.marks w y (let all = room in omega arith) s.walk;
         kept = s.kept;
         step = s.step;
         passed = λ i p q. s.passed i (omega arith) q;
       }
 
-      more : Sought l steps (EachRow Passed n m) w y → Sought l (n * steps) (EachRow Passed from n) v w → Sought l (m * steps) (EachRow Passed from m) v y
+      more : Sought l steps (EachRow Passed n m) w y → Sought l ((n - from) * steps) (EachRow Passed from n) v w → Sought l ((m - from) * steps) (EachRow Passed from m) v y
       more s t = let h = after (record { marks = s.marks; walk = s.walk; kept = s.kept; step = s.step }) t in let opened : opening_of v.seen h.marks ≡ opening_of v.seen t.marks = opening_kept v.seen t.marks s.marks t.step.0 t.step.1 t.step.2 in record {
         marks = t.marks ++ s.marks;
-        walk = walked_few l (n * steps + steps) (m * steps) _ v y (rows_more n m steps less) h.walk;
+        walk = walked_few l ((n - from) * steps + steps) ((m - from) * steps) _ v y room h.walk;
         kept = h.kept;
         step = h.step;
         passed = λ i p q. dite (dec_le n i)
@@ -92,9 +96,59 @@ module _ (l : Limits) (Passed : ℕ → List Event → List Event → Type 0) (w
       begun_on s = inr (⊎_elim (λ t. only s t.0 t.1) (more s) b)
 
   -- where there is a row to look at, all were passed at the end
-  pub begun_done : (n : ℕ) (v w : View) → Begun l Passed steps from n v w → from < n → Sought l (n * steps) (EachRow Passed from n) v w
+  pub begun_done : (n : ℕ) (v w : View) → Begun l Passed steps from n v w → from < n → Sought l ((n - from) * steps) (EachRow Passed from n) v w
   begun_done n v w b some = ⊎_elim (λ t. let e = t.0 in absurd (omega arith)) (λ t. t) b
 
-  pub begun_looked : (n : ℕ) (v w : View) → Begun l Passed steps from n v w → Steady l v → Looked l (n * steps) v w
-  begun_looked n v w b steady = ⊎_elim (λ t. subst (λ z. Looked l (n * steps) v z) (sym t.1) (looked_few l 0 (n * steps) v v (omega arith) (looked_none l v steady)))
+  pub begun_looked : (n : ℕ) (v w : View) → Begun l Passed steps from n v w → Steady l v → Looked l ((n - from) * steps) v w
+  begun_looked n v w b steady = ⊎_elim (λ t. subst (λ z. Looked l ((n - from) * steps) v z) (sym t.1) (looked_few l 0 ((n - from) * steps) v v (omega arith) (looked_none l v steady)))
       (λ t. record { marks = t.marks; walk = t.walk; kept = t.kept }) b
+
+-- a look, and rows behind it: those before the first of them were passed by then
+module _ (l : Limits) (Passed : ℕ → List Event → List Event → Type 0) (widens : Widens Passed) (steps lo from n : ℕ) (v w y : View) (first : Acted l 1 v w) where
+  rest : Begun l Passed steps from n w y → Looked l ((n - from) * steps) w y
+  rest b = begun_looked l Passed widens steps from n w y b first.walk.steady
+
+  pub sought_from : (b : Begun l Passed steps from n w y) → ((i : ℕ) → lo ≤ i → i < from → Passed i w.seen w.seen) → Sought l (1 + (n - from) * steps) (EachRow Passed lo n) v y
+  sought_from b below = sought_by l (1 + (n - from) * steps) (EachRow Passed lo n) v y (acted_then l 1 ((n - from) * steps) v w y first (rest b))
+      (λ i low high. let opened = begun_by l Passed widens (1 + (n - from) * steps) ((n - from) * steps) 0 0 v w y first (rest b) (omega arith) in let later = looked_begins l ((n - from) * steps) w y (rest b) in
+      dite (dec_le from i)
+      (λ past. ⊎_elim (λ t. absurd (let e = t.0 in omega arith))
+      (λ t. widens i _ (opening_of w.seen t.marks) y.seen y.seen (begins_trans _ w.seen _ opened t.walk.opens) (begins_refl y.seen) (t.passed i past high)) b)
+      (λ not. widens i _ w.seen w.seen y.seen opened later (below i low (omega arith))))
+
+-- a look behind, of which nothing hangs
+pub sought_then : (l : Limits) (n m : ℕ) (P : List Event → List Event → Type 0) (v w y : View) → ((a b c : List Event) → IsPrefix b c → P a b → P a c) → Sought l n P v w → Looked l m w y → Sought l (n + m) P v y
+sought_then l n m P v w y grows s a = record {
+  marks = s.marks ++ a.marks;
+  walk = walked_then l n m s.marks a.marks v w y s.walk a.walk;
+  kept = a.kept ∙ ap (λ z. with_trace (hand y).trace z) s.kept;
+  step = has_more s.marks a.marks s.step;
+  passed = subst (λ o. P o y.seen) (sym (opening_kept v.seen s.marks a.marks s.step.0 s.step.1 s.step.2)) (grows _ w.seen y.seen (looked_begins l m w y a) s.passed);
+}
+
+-- rows part by part
+pub part_widens : (l : Limits) (Passed : ℕ → List Event → List Event → Type 0) → Widens Passed → Widens (OfPart l Passed)
+part_widens l Passed widens c a a' b b' before after each i low high = widens i a a' b b' before after (each i low high)
+
+-- a row is of some part
+part_of : (size parts i : ℕ) → i < parts * size → (c : ℕ) × (c < parts) × (c * size ≤ i) × (i < c * size + size)
+part_of size zero i less = absurd (omega arith)
+part_of size (suc parts) i less = dite (dec_le (parts * size) i)
+    (λ past. (parts, omega arith, past, (let all : i < suc parts * size = less in omega (arith, suc-mul parts size))))
+    (λ not. let t = part_of size parts i (omega arith) in let below : t.0 < parts = t.1 in (t.0, omega arith, t.2, t.3))
+
+pub all_parts : (l : Limits) (Passed : ℕ → List Event → List Event → Type 0) (a b : List Event) → EachRow (OfPart l Passed) 0 l.parts a b → EachRow Passed 0 (rows_of l) a b
+all_parts l Passed a b each i low high = let t = part_of l.rows l.parts i high in each t.0 (omega arith) t.1 i t.2 t.3
+
+pub sought_all : (l : Limits) (n : ℕ) (Passed : ℕ → List Event → List Event → Type 0) (v w : View) → Sought l n (EachRow (OfPart l Passed) 0 l.parts) v w → Sought l n (EachRow Passed 0 (rows_of l)) v w
+sought_all l n Passed v w s = record { marks = s.marks; walk = s.walk; kept = s.kept; step = s.step; passed = all_parts l Passed (opening_of v.seen s.marks) w.seen s.passed }
+
+-- one row is each row from it on and below the next
+pub one_row : (l : Limits) (Passed : ℕ → List Event → List Event → Type 0) (n i : ℕ) (v w : View) → Sought l n (Passed i) v w → Sought l n (EachRow Passed i (i + 1)) v w
+one_row l Passed n i v w s = record {
+  marks = s.marks;
+  walk = s.walk;
+  kept = s.kept;
+  step = s.step;
+  passed = λ j low high. let same : i ≡ j = omega arith in subst (λ z. Passed z (opening_of v.seen s.marks) w.seen) same s.passed;
+}

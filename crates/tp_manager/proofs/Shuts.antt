@@ -33,7 +33,7 @@ use Rattle.tp_manager.specs.Shown.{PassShown, shown}
 use Rattle.tp_manager.specs.Calls.{Adds, Closes, Commits, EndedByOther, HasConsumed, HasEnded, Loses, claims_in}
 use Rattle.tp_manager.specs.Bounds.{commit_steps, draft_steps}
 use Rattle.tp_manager.specs.Walks.{Rests, Shut, Steady, Wrote, output, IsTask}
-use Rattle.tp_manager.proofs.Births.{claimed_inside}
+use Rattle.tp_rule.proofs.Births.{claimed_inside}
 use Rattle.tp_manager.proofs.Passes.{claims_append, steady_at}
 use Rattle.tp_manager.proofs.Walks.{grew_hand, grew_walked, steady_own, steady_quiet, walked_few, walked_then, walked_begins}
 

@@ -67,9 +67,13 @@ next_error_steps l = rows_of l * look_steps l
 abbrev pub try_steps : Limits → ℕ
 try_steps l = look_steps l + body_steps + 1
 
--- the choice of a unit, and those at every row
+-- what a claim makes in a part: its mark, those at every row, and the exchange of the mark
+abbrev pub part_steps : Limits → ℕ
+part_steps l = 1 + l.rows * try_steps l + 1
+
+-- the choice of a unit, and those in every part
 abbrev pub claim_steps : Limits → ℕ
-claim_steps l = 1 + rows_of l * try_steps l
+claim_steps l = 1 + l.parts * part_steps l
 
 -- a meeting: the first joins, looks and parts, and the second is there at the look
 abbrev pub meet_steps : ℕ
@@ -102,7 +106,7 @@ account_steps l n = first_steps l n + 2 * led_steps * (n - 1) + kept_steps * (l.
 -- the bounds as round numbers over the limits
 pub record RoundBounds (l : Limits) : Type 0 where
   pub submit : submit_steps ≤ 4
-  pub claim : claim_steps l ≤ rows_of l * (2 * l.attempts + 9) + 1
+  pub claim : claim_steps l ≤ rows_of l * (2 * l.attempts + 9) + 2 * l.parts + 1
   pub commit : (k : ℕ) → commit_steps k ≤ 4 * k + 3
   pub abort : abort_steps ≤ 2
   pub kill : kill_steps l ≤ 4 * l.attempts + 8

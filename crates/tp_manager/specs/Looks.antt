@@ -1,9 +1,10 @@
 -- What the words of a row tell.
-use Rattle.std.specs.Prelude.{◌≡◌, ℕ, ◌+◌, ◌<◌, ◌≤◌, List, Some}
+use Rattle.std.specs.Prelude.{◌≡◌, ℕ, ◌+◌, ◌*◌, ◌<◌, ◌≤◌, List, Some}
 use Rattle.tp_model.specs.declared.types.Element.{Element}
 use Rattle.tp_model.specs.declared.types.Limits.{Limits}
 use Rattle.tp_model.specs.declared.event.Event.{Event}
 use Rattle.tp_model.specs.History.{IsUnborn, element_of}
+use Rattle.tp_model.specs.Steps.{IsRowOf, rows_of}
 use Rattle.tp_model.specs.Words.{ClaimWord, FreeWord, TakenWord, KilledWord}
 use Rattle.tp_words.specs.declared.words.Head.{Head}
 use Rattle.tp_words.specs.declared.words.Head.TheVariants.{There}
@@ -21,11 +22,11 @@ pub record HeadFound (v : View) (i : ℕ) (head : Head) : Type 0 where
   pub draft : IsUnborn v.seen i → IsDraft head
   pub knows : Knows v (RowHead i head)
 
--- a scan may go on from row i to row `next`: no element is born between them
-pub record GoesOn (rows : ℕ) (h : List Event) (i next : ℕ) : Type 0 where
+-- a scan goes on from row i to the row `next`, which is behind it, and at most the first one behind its part
+pub record GoesOn (l : Limits) (i next : ℕ) : Type 0 where
   pub on : i < next
-  pub inside : next ≤ rows
-  pub none : (j : ℕ) → i < j → j < next → IsUnborn h j
+  pub inside : next ≤ rows_of l
+  pub part : (c : ℕ) → IsRowOf l c i → next ≤ c * l.rows + l.rows
 
 -- an element with this head is born in row i
 abbrev pub IsThere : List Event → ℕ → Birth → Type 0

@@ -10,6 +10,7 @@ use Rattle.tp_model.specs.History.{IsClaim, element_of, events_by, status_of}
 use Rattle.tp_model.specs.Drafts.{DraftView}
 use Rattle.tp_model.specs.Passes.{HasLook, PassView, IsPassView, opening_of}
 use Rattle.tp_model.specs.Steps.{AreLimits, IsLegal}
+use Rattle.tp_rule.specs.Rule.{IsSettledRow}
 use Rattle.tp_rule.specs.Views.{SeatShown, IsOnePass, fresh_from, hand, view_of}
 use Rattle.tp_rule.specs.declared.view.Hand.{Hand}
 use Rattle.tp_rule.specs.declared.view.View.{View}
@@ -117,6 +118,10 @@ PassedBy l stage i a b = (x : Element) → element_of a i ≡ Some x → x.stage
 abbrev pub EachRow : (ℕ → List Event → List Event → Type 0) → ℕ → ℕ → List Event → List Event → Type 0
 EachRow Passed from end a b = (i : ℕ) → from ≤ i → i < end → Passed i a b
 
+-- and so of each row of part c
+abbrev pub OfPart : Limits → (ℕ → List Event → List Event → Type 0) → ℕ → List Event → List Event → Type 0
+OfPart l Passed c = EachRow Passed (c * l.rows) (c * l.rows + l.rows)
+
 -- at most n steps have changed nothing in the pass but its trace, one of them looks, and since that was made this is so
 pub record Sought (l : Limits) (n : ℕ) (Passed : List Event → List Event → Type 0) (v w : View) : Type 0 where
   pub marks : List TraceEntry
@@ -125,9 +130,13 @@ pub record Sought (l : Limits) (n : ℕ) (Passed : List Event → List Event →
   pub step : HasLook marks
   pub passed : Passed (opening_of v.seen marks) w.seen
 
--- no row from `from` on was looked at yet, or all below n were, in at most so many steps each, and were passed since the first of these looked
+-- no row from `from` on was looked at yet, or all from there on and below n were, in at most so many steps each, and were passed since the first of these looked
 abbrev pub Begun : Limits → (ℕ → List Event → List Event → Type 0) → ℕ → ℕ → ℕ → View → View → Type 0
-Begun l Passed steps from n v w = ((n ≡ from) × (w ≡ v)) ⊎ Sought l (n * steps) (EachRow Passed from n) v w
+Begun l Passed steps from n v w = ((n ≡ from) × (w ≡ v)) ⊎ Sought l ((n - from) * steps) (EachRow Passed from n) v w
+
+-- each row from a on and below b has an element that is consumed or killed, and so a mark may rise from a to b
+abbrev pub Rose : Limits → List Event → ℕ → ℕ → Type 0
+Rose l h a b = (a ≤ b) × ((i : ℕ) → a ≤ i → i < b → IsSettledRow l h i)
 
 -- the pass has unit u chosen for the next claim, and none open
 abbrev pub IsSpare : ℕ → View → Type 0

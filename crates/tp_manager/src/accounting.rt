@@ -11,6 +11,7 @@ ghost use Rattle.tp_manager.specs.Accounts.{Accounts, AreAll, steps_together};
 ghost use Rattle.tp_manager.specs.Shown.{IsKeptBy, IsOf};
 ghost use Rattle.tp_manager.specs.Together.{IsAt, LooksOn, LooksWith, AreAllPasses, CountsWith};
 ghost use Rattle.tp_manager.specs.Together.{IsWithin, HasCounted, account_below, with_one};
+ghost use Rattle.tp_manager.specs.Looks.{GoesOn};
 ghost use Rattle.tp_manager.specs.Walks.{Acted, Looked, Steady};
 
 use crate::manager::{Keeper, Manager, Pass, Shared};
@@ -112,7 +113,7 @@ impl Shared {
         requires row { row.old < rows_of (limits_of self.now.words) }
         requires few { IsWithin row.old account.old }
         ensures same { IsSameSeat seat.old seat.new }
-        ensures on { (row.old < row.new) × (row.new ≤ rows_of (limits_of self.now.words)) }
+        ensures on { GoesOn (limits_of self.now.words) row.old row.new }
         ensures looked { let l = limits_of self.now.words in
             Looked l (look_steps l) (view_of seat.old) (view_of seat.new) }
         ensures few { IsWithin row.new account.new }

@@ -15,6 +15,7 @@ ghost use Rattle.tp_manager.specs.Bounds.{cancel_steps, kill_steps, round_steps}
 ghost use Rattle.tp_manager.specs.Calls.{Follows, HasLooked};
 ghost use Rattle.tp_manager.specs.Cancels.{Cancels, CancelFails};
 ghost use Rattle.tp_manager.specs.Rounds.{CancelsIn, Tallied, TalliedAt};
+ghost use Rattle.tp_manager.specs.Looks.{GoesOn};
 ghost use Rattle.tp_manager.specs.Walks.{Steady};
 
 use crate::manager::{Manager, Pass, Shared};
@@ -54,7 +55,7 @@ impl Shared {
         requires row { row.old < rows_of (limits_of self.now.words) }
         requires free { (hand_of seat.old).open_unit ≡ None }
         ensures same { IsSameSeat seat.old seat.new }
-        ensures on { (row.old < row.new) × (row.new ≤ rows_of (limits_of self.now.words)) }
+        ensures on { GoesOn (limits_of self.now.words) row.old row.new }
         ensures told { let l = limits_of self.now.words in
             TalliedAt l (kill_steps l) root row.old result.found result.killed (view_of seat.old) (view_of seat.new) }
         ensures none { (i : ℕ) → row.old < i → i < row.new → IsUnborn (seen_by seat.old) i }

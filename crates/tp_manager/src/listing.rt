@@ -10,6 +10,7 @@ ghost use Rattle.tp_manager.specs.Shown.{IsOf};
 ghost use Rattle.tp_manager.specs.Bounds.{look_steps, reply_steps, next_error_steps};
 ghost use Rattle.tp_manager.specs.Calls.{Follows, HasLooked, IsQuiet};
 ghost use Rattle.tp_manager.specs.Lists.{AllKilled, NoneParked, NextReply, NextError};
+ghost use Rattle.tp_manager.specs.Looks.{GoesOn};
 ghost use Rattle.tp_manager.specs.Walks.{Acted, EachRow, Sought, Steady};
 ghost use Rattle.tp_manager.specs.Finds.{IsWanted, Hits, PassedOver};
 
@@ -66,7 +67,7 @@ impl Shared {
         requires steady { Steady (limits_of self.now.words) (view_of seat.old) }
         requires row { row.old < rows_of (limits_of self.now.words) }
         ensures same { IsSameSeat seat.old seat.new }
-        ensures on { (row.old < row.new) × (row.new ≤ rows_of (limits_of self.now.words)) }
+        ensures on { GoesOn (limits_of self.now.words) row.old row.new }
         ensures acted { let l = limits_of self.now.words in
             Acted l (look_steps l) (view_of seat.old) (view_of seat.new) }
         ensures yes { result ≡ true → Hits (limits_of self.now.words) wanted row.old (seen_by seat.new) }

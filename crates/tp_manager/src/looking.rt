@@ -1,5 +1,5 @@
 //! What a pass finds at a row.
-ghost use Rattle.std.specs.Prelude.{◌≡◌, ◌<◌, Some, MatchOption, true, false};
+ghost use Rattle.std.specs.Prelude.{◌≡◌, ◌<◌, ◌≤◌, ℕ, Some, MatchOption, true, false};
 ghost use Rattle.tp_words.specs.declared.words.Head.TheVariants.{Empty, There};
 ghost use Rattle.tp_model.specs.History.{IsUnborn, element_of, status_of};
 ghost use Rattle.tp_model.specs.Steps.{rows_of, units_of};
@@ -7,7 +7,7 @@ ghost use Rattle.tp_model.specs.Words.{claim_word};
 ghost use Rattle.tp_words.specs.Words.{claim_value, IsFitClaim};
 ghost use Rattle.tp_rule.specs.Views.{seen_by, view_of, IsSameSeat};
 ghost use Rattle.tp_rule.specs.Tables.{limits_of, IsSeatOf};
-ghost use Rattle.tp_rule.specs.Steps.{NoneFrom};
+ghost use Rattle.tp_rule.specs.Steps.{AreOver, NoneFrom};
 ghost use Rattle.tp_manager.specs.Walks.{Steady, Looked, Acted};
 ghost use Rattle.tp_manager.specs.Bounds.{body_steps, retry_steps, status_steps};
 ghost use Rattle.tp_manager.specs.Looks.{GoesOn, HeadFound, IsThere, IsEnough};
@@ -40,6 +40,20 @@ impl Shared {
         self.words.load_head(seat, row)
     }
 
+    /// The mark of a part: no row of the part below it has an element that isn't consumed or killed. One step.
+    #[inline(always)]
+    pub(crate) fn mark_at(&self, seat: &mut Seat, part: u16) -> u16
+        requires own { IsSeatOf self.now.words seat.old }
+        requires steady { Steady (limits_of self.now.words) (view_of seat.old) }
+        requires part { part < (limits_of self.now.words).parts }
+        ensures same { IsSameSeat seat.old seat.new }
+        ensures acted { Acted (limits_of self.now.words) 1 (view_of seat.old) (view_of seat.new) }
+        ensures inside { result ≤ (limits_of self.now.words).rows }
+        ensures over { AreOver (limits_of self.now.words) (seen_by seat.new) part result }
+    {
+        self.words.load_mark(seat, part)
+    }
+
     /// What the head of a row says, as a scan goes through the rows: `row` goes on to the next row, or where the
     /// head is empty to the next part, since nothing is born in between. One step.
     #[inline(always)]
@@ -50,7 +64,8 @@ impl Shared {
         ensures same { IsSameSeat seat.old seat.new }
         ensures acted { Acted (limits_of self.now.words) 1 (view_of seat.old) (view_of seat.new) }
         ensures told { HeadFound (view_of seat.new) row.old result }
-        ensures on { GoesOn (rows_of (limits_of self.now.words)) (seen_by seat.new) row.old row.new }
+        ensures on { GoesOn (limits_of self.now.words) row.old row.new }
+        ensures none { (i : ℕ) → row.old < i → i < row.new → IsUnborn (seen_by seat.new) i }
     {
         let here = *row;
         let head = self.head_at(seat, here);

@@ -1,12 +1,14 @@
 //! A server's look for work.
-ghost use Rattle.std.specs.Prelude.{◌≡◌, ◌*◌, ◌<◌, ◌≤◌, MatchOption, true, false};
+ghost use Rattle.std.specs.Prelude.{◌≡◌, ◌⊎◌, ◌+◌, ◌*◌, ◌<◌, ◌≤◌, MatchOption, true, false};
 ghost use Rattle.tp_model.specs.declared.types.Element.{Element as element};
 ghost use Rattle.tp_model.specs.Steps.{rows_of, IsServerStage};
 ghost use Rattle.tp_words.specs.Words.{head_of};
-ghost use Rattle.tp_rule.specs.Views.{view_of, IsSameSeat};
+ghost use Rattle.tp_rule.specs.Views.{seen_by, view_of, IsSameSeat};
 ghost use Rattle.tp_rule.specs.Tables.{limits_of, IsSeatOf};
-ghost use Rattle.tp_manager.specs.Bounds.{try_steps};
-ghost use Rattle.tp_manager.specs.Walks.{Steady, Sought, EachRow, PassedBy, IsSpare, Took};
+ghost use Rattle.tp_model.specs.History.{IsSettled};
+ghost use Rattle.tp_manager.specs.Bounds.{part_steps, try_steps};
+ghost use Rattle.tp_manager.specs.Looks.{GoesOn};
+ghost use Rattle.tp_manager.specs.Walks.{Steady, Looked, Sought, EachRow, OfPart, PassedBy, Rose, IsSpare, Took};
 
 use crate::manager::Shared;
 use tp_model::types::{Element, Status};
@@ -36,18 +38,57 @@ fn is_of_stage(head: Head, stage: u8) -> bool
     }
 }
 
+/// Whether a claim looks at a row with this head: always, or where the head is of the stage.
+#[inline(always)]
+fn is_tried(always: bool, head: Head, stage: u8) -> bool
+    ensures no { result ≡ false → (e : element) → head ≡ head_of e → ¬ (e.stage ≡ stage) }
+{
+    always || is_of_stage(head, stage)
+}
+
+/// The first row that isn't known finished: this one's element stands so.
+#[inline(always)]
+fn low_after(low: u32, row: u32, status: Status) -> u32
+    requires few { row < 65536 }
+    ensures { (result ≡ low) ⊎ ((result ≡ low + 1) × (low ≡ row) × IsSettled status) }
+{
+    if low != row {
+        return low;
+    }
+    match status {
+        Status::Waiting { attempts: _ } => low,
+        Status::Held {
+            unit: _,
+            attempt: _,
+        } => low,
+        Status::Parked { attempts: _ } => low,
+        Status::Consumed { unit: _ } => low + 1,
+        Status::Killed => low + 1,
+    }
+}
+
 impl Shared {
-    /// The unit takes the element of a row, if that waits in the stage; `row` goes on. One step where the head is not
-    /// of the stage.
+    /// The unit takes the element of a row, if that waits in the stage; `row` goes on, and so does `low`, the first row
+    /// that isn't known finished, where that is this one. One step where the head is not of the stage and the row isn't
+    /// that one.
     #[inline(always)]
-    fn try_row(&self, seat: &mut Seat, row: &mut u32, stage: u8, unit: u16) -> Option<Taken>
+    fn try_row(
+        &self,
+        seat: &mut Seat,
+        row: &mut u32,
+        low: &mut u32,
+        stage: u8,
+        unit: u16,
+    ) -> Option<Taken>
         requires own { IsSeatOf self.now.words seat.old }
         requires steady { Steady (limits_of self.now.words) (view_of seat.old) }
         requires row { row.old < rows_of (limits_of self.now.words) }
+        requires low { low.old ≤ row.old }
         requires stage { IsServerStage stage }
         requires spare { IsSpare unit (view_of seat.old) × (unit < 65535) }
         ensures same { IsSameSeat seat.old seat.new }
-        ensures on { (row.old < row.new) × (row.new ≤ rows_of (limits_of self.now.words)) }
+        ensures on { GoesOn (limits_of self.now.words) row.old row.new }
+        ensures low { (low.new ≤ row.new) × Rose (limits_of self.now.words) (seen_by seat.new) low.old low.new }
         ensures told { let l = limits_of self.now.words in let n = try_steps l in MatchOption result
             (Sought l n (EachRow (PassedBy l stage) row.old row.new) (view_of seat.old) (view_of seat.new))
             (λ t. Took l n stage unit (view_of seat.old) (view_of seat.new) t.element t.attempt
@@ -55,13 +96,17 @@ impl Shared {
     {
         let here = *row;
         let head = self.head_on(seat, row);
-        if !is_of_stage(head, stage) {
+        if !is_tried(here == *low, head, stage) {
             return None;
         }
         let Some(birth) = self.birth_from(seat, here, head) else {
             return None;
         };
         let (claim, status) = self.status_at(seat, here);
+        *low = low_after(*low, here, status);
+        if birth.stage != stage {
+            return None;
+        }
         let Status::Waiting { attempts } = status else {
             return None;
         };
@@ -77,6 +122,53 @@ impl Shared {
         }
     }
 
+    /// Raises the mark of a part, where the first row that isn't known finished is behind it. At most one step.
+    fn raise_to(&self, seat: &mut Seat, part: u16, mark: u16, low: u32)
+        requires own { IsSeatOf self.now.words seat.old }
+        requires steady { Steady (limits_of self.now.words) (view_of seat.old) }
+        requires part { part < (limits_of self.now.words).parts }
+        requires low { let l = limits_of self.now.words in (low ≤ part * l.rows + l.rows)
+            × Rose l (seen_by seat.old) (part * l.rows + mark) low }
+        ensures same { IsSameSeat seat.old seat.new }
+        ensures looked { Looked (limits_of self.now.words) 1 (view_of seat.old) (view_of seat.new) }
+        ensures seen { seen_by seat.new ≡ seen_by seat.old }
+    {
+        let first = part as u32 * self.places.limits.rows as u32;
+        let to = (low - first) as u16;
+        if to > mark {
+            self.words.raise(seat, part, mark, to);
+        }
+    }
+
+    /// The unit takes the first element of a part that waits in the stage. The scan starts at the part's mark, and raises it.
+    fn scan_part(&self, seat: &mut Seat, part: u16, stage: u8, unit: u16) -> Option<Taken>
+        requires own { IsSeatOf self.now.words seat.old }
+        requires steady { Steady (limits_of self.now.words) (view_of seat.old) }
+        requires part { part < (limits_of self.now.words).parts }
+        requires stage { IsServerStage stage }
+        requires spare { IsSpare unit (view_of seat.old) × (unit < 65535) }
+        ensures same { IsSameSeat seat.old seat.new }
+        ensures told { let l = limits_of self.now.words in let n = part_steps l in MatchOption result
+            (Sought l n (OfPart l (PassedBy l stage) part) (view_of seat.old) (view_of seat.new))
+            (λ t. Took l n stage unit (view_of seat.old) (view_of seat.new) t.element t.attempt
+            × (t.element.root ≡ t.root)) }
+    {
+        let mark = self.mark_at(seat, part);
+        let rows = self.places.limits.rows as u32;
+        let first = part as u32 * rows;
+        let end = first + rows;
+        let mut low = first + mark as u32;
+        let mut row = low;
+        while row < end {
+            if let Some(taken) = self.try_row(seat, &mut row, &mut low, stage, unit) {
+                self.raise_to(seat, part, mark, low);
+                return Some(taken);
+            }
+        }
+        self.raise_to(seat, part, mark, low);
+        None
+    }
+
     /// The unit takes the first element that waits in the stage.
     pub(crate) fn scan(&self, seat: &mut Seat, stage: u8, unit: u16) -> Option<Taken>
         requires own { IsSeatOf self.now.words seat.old }
@@ -85,15 +177,13 @@ impl Shared {
         requires spare { IsSpare unit (view_of seat.old) × (unit < 65535) }
         ensures same { IsSameSeat seat.old seat.new }
         ensures told { let l = limits_of self.now.words in
-            let n = rows_of l * try_steps l in MatchOption result
+            let n = l.parts * part_steps l in MatchOption result
             (Sought l n (EachRow (PassedBy l stage) 0 (rows_of l)) (view_of seat.old) (view_of seat.new))
             (λ t. Took l n stage unit (view_of seat.old) (view_of seat.new) t.element t.attempt
             × (t.element.root ≡ t.root)) }
     {
-        let rows = self.places.rows();
-        let mut row = 0;
-        while row < rows {
-            if let Some(taken) = self.try_row(seat, &mut row, stage, unit) {
+        for part in 0..self.places.limits.parts {
+            if let Some(taken) = self.scan_part(seat, part, stage, unit) {
                 return Some(taken);
             }
         }

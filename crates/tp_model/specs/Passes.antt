@@ -5,7 +5,7 @@ use Rattle.tp_model.specs.declared.types.Limits.{Limits}
 use Rattle.tp_model.specs.declared.event.Event.{Event}
 use Rattle.tp_model.specs.declared.event.Event.TheVariants.{Abort}
 use Rattle.tp_model.specs.declared.trace.StepKind.{StepKind}
-use Rattle.tp_model.specs.declared.trace.StepKind.TheVariants.{DraftStore, SeatLoad, UnitChoice}
+use Rattle.tp_model.specs.declared.trace.StepKind.TheVariants.{DraftStore, SeatLoad, UnitChoice, Raise}
 use Rattle.tp_model.specs.declared.trace.TraceEntry.{TraceEntry}
 use Rattle.tp_model.specs.History.{Committed, In, IsClaim, IsUnborn, end_of, events_by}
 use Rattle.tp_model.specs.Steps.{IsLegal}
@@ -43,6 +43,7 @@ abbrev pub looks : StepKind → Bool
 looks DraftStore = false
 looks SeatLoad = false
 looks UnitChoice = false
+looks Raise = false
 looks other = true
 
 -- one of these steps looks

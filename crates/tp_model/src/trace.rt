@@ -23,6 +23,8 @@ pub enum StepKind {
     AbortExchange,
     /// The compare-exchange of an element's claim word by which it is killed.
     KillExchange,
+    /// The compare-exchange of a part's mark, by which it is raised. It tells nothing but of the mark.
+    Raise,
 }
 
 /// An atomic step of a pass, and the history that the pass has seen after it.

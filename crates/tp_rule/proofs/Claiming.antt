@@ -1,5 +1,5 @@
 -- The claim exchange keeps the rule.
-use Rattle.std.proofs.Common.{◌≡◌, ℕ, ◌+◌, ◌-◌, ◌*◌, ◌<◌, ◌≤◌, ◌≢◌, eqb, cond, List, [], ◌∷◌, ◌++◌, length, set, get_or, sym, refl, ap, ◌∙◌, subst, ⊎_elim, arith, eq-eqb, ne_eqb, Option, Some, None}
+use Rattle.std.proofs.Common.{◌≡◌, ℕ, ◌+◌, ◌-◌, ◌*◌, ◌<◌, ◌≤◌, ◌≢◌, eqb, cond, List, [], ◌∷◌, ◌++◌, set, get_or, sym, refl, ap, ◌∙◌, subst, ⊎_elim, arith, eq-eqb, ne_eqb, Option, Some, None}
 use mathlib.Core.Logic.{dite}
 use native.Mathlib.Decide.{ℕ_discrete}
 use prog.Atomic.{either}
@@ -76,6 +76,7 @@ module _ (k : Limits) where
       told = claim_now h e row x w here_is is fit;
       rest = λ v there other. told_later h e none_born v (get_or t.state.words (place_of k v) 0) (λ i q. else_is i (λ same. other (q ∙ ap ClaimOf same))) (λ u q. quiet u (end_of h u)) (t.rule.world.tells v there);
       empty = λ i q. absurd cc;
+      unmarked = λ z q. cc;
       apart = λ d i ne part q. cc;
       mine = mine;
     }

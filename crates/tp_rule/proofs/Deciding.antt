@@ -16,7 +16,7 @@ use Rattle.tp_model.specs.Words.{claim_word, claim_word_after}
 use Rattle.tp_model.proofs.Bridges.{found_later, taking_later, by_own, claim_either, in_none, unborn_still, unused_still}
 use Rattle.tp_model.proofs.Lists.{option_or-None, if_same, if_other}
 use Rattle.tp_model.proofs.WordProofs.{end_of-snoc}
-use Rattle.tp_words.specs.Places.{Word, HeadWord, KeyWord, AmountWord, ClaimWord, UnitWord, head_place, key_place, amount_place, claim_place, unit_place, place_of}
+use Rattle.tp_words.specs.Places.{Word, HeadWord, KeyWord, AmountWord, ClaimWord, UnitWord, MarkWord, head_place, key_place, amount_place, claim_place, unit_place, place_of}
 use Rattle.tp_words.specs.Words.{IsFitHead, IsFitUnit, head_of, pack_by, pack_head, pack_unit}
 use Rattle.tp_rule.specs.Doors.{Permits}
 use Rattle.tp_rule.specs.Plays.{exchanges_commit, exchanges_abort}
@@ -110,6 +110,7 @@ module _ (k : Limits) where
   decided_told h ws e u quiet else_is full (KeyWord i) other old = body_later h e i (get_or ws (key_place i) 0) (λ y. y.key) (λ y q id. subst (λ z. get_or ws (key_place z) 0 ≡ y.key) id (full y q).0.1) old
   decided_told h ws e u quiet else_is full (AmountWord i) other old = body_later h e i (get_or ws (amount_place i) 0) (λ y. y.amount) (λ y q id. subst (λ z. get_or ws (amount_place z) 0 ≡ y.amount) id (full y q).0.2) old
   decided_told h ws e u quiet else_is full (ClaimWord i) other old = claim_later h e i (get_or ws (claim_place i) 0) (quiet i) old
+  decided_told h ws e u quiet else_is full (MarkWord p) other old = tt
   decided_told h ws e u quiet else_is full (UnitWord z) other old = unit_later h e z (get_or ws (unit_place k z) 0) (else_is z (λ same. other (ap UnitWord same))) old
 
   -- an event of the pass that decides unit u
@@ -131,6 +132,7 @@ module _ (k : Limits) where
     told = unit_now h e u x w here_is is fit;
     rest = λ v there other. decided_told h t.state.words e u quiet else_is full v other (t.rule.world.tells v there);
     empty = λ i q. absurd cc;
+    unmarked = λ z q. cc;
     apart = λ d i ne part q. cc;
     mine = mine;
   }

@@ -10,15 +10,16 @@ use Rattle.tp_model.specs.declared.types.Limits.{Limits}
 use Rattle.tp_model.specs.History.{In, IsUnborn, element_of}
 use Rattle.tp_model.specs.Steps.{rows_of}
 use Rattle.tp_model.proofs.Bridges.{begins_refl, in_either, in_one}
-use Rattle.tp_words.specs.Places.{Word, HeadWord, KeyWord, AmountWord, IsThere, head_place, key_place, amount_place, place_of, size_of}
+use Rattle.tp_words.specs.Places.{Word, HeadWord, KeyWord, AmountWord, MarkWord, IsThere, head_place, key_place, amount_place, place_of, size_of}
 use Rattle.tp_words.specs.Words.{head_of, pack_head}
 use Rattle.tp_words.specs.declared.words.Head.TheVariants.{There}
 use Rattle.tp_rule.specs.Doors.{Permits}
 use Rattle.tp_rule.specs.Plays.{stores_key, stores_amount, stores_head}
-use Rattle.tp_rule.specs.Rule.{HandHolds, Holds, RowsHold, Rule, Told}
+use Rattle.tp_rule.specs.Rule.{HandHolds, Holds, RowsHold, Rule, StillSo, Told}
 use Rattle.tp_rule.specs.Steps.{drafted, with_key, with_amount, with_draft, next_element, or_zero, IsReady}
 use Rattle.tp_rule.specs.Views.{IsOnePass, hand}
 use Rattle.tp_rule.specs.declared.view.Hand.{Hand}
+use Rattle.tp_rule.specs.declared.view.Known.{Known}
 use Rattle.tp_rule.specs.declared.view.View.{View}
 use Rattle.tp_rule.proofs.Frames.{Turn, hand_holds, hand_quiet, limits_are, me, moved, seat_holds}
 use Rattle.tp_rule.proofs.Parts.{IsOf, in_all, in_run, one_part, run_snoc}
@@ -140,11 +141,22 @@ module _ (k : Limits) where
       stays = stays;
       begins = (seat_holds k t).seen;
       grows = begins_refl h;
-      world = world_stored k h h ws w x t.rule.world t.rule.world.legal at told (λ v there other. t.rule.world.tells v there);
+      world = world_stored k h h ws w x t.rule.world t.rule.world.legal (begins_refl h) at told (λ v there other. t.rule.world.tells v there) empty (λ p e. absurd (unmarked p e));
       mine = mine;
       others = λ b ne hold. hand_quiet k h ws (set ws (place_of k w) x) b (λ i part. row_left k ws w x at i (in_all k.parts k.rows b.number i part) (of_no_other (me k t).number b.number next w is next_own ne i part)) hold;
-      still = still_left k ws w x at (λ i e. let same : i ≡ next = (let q : Some i ≡ Some next = sym (ap body_row e) ∙ is in cc) in ap (λ z. get_or ws (head_place z) 0) same ∙ next_empty);
+      known = t.view.known;
+      knows = λ z q. still z ((seat_holds k t).known z q);
+      still = still;
     }
+      where
+        empty : (i : ℕ) → w ≡ HeadWord i → get_or t.state.words (head_place i) 0 ≡ 0
+        empty i e = let same : i ≡ next = (let q : Some i ≡ Some next = sym (ap body_row e) ∙ is in cc) in ap (λ z. get_or t.state.words (head_place z) 0) same ∙ next_empty
+
+        unmarked : (p : ℕ) → w ≡ MarkWord p → ⊥
+        unmarked p e = let q : None ≡ Some next = sym (ap body_row e) ∙ is in absurd cc
+
+        still : (z : Known) → StillSo k t.state.words z → StillSo k (set t.state.words (place_of k w) x) z
+        still = still_left k t.state.words w x at t.rule.world.wide empty (λ p e. absurd (unmarked p e))
 
   unborn_told : (h : List Event) (row : ℕ) (x : ℕ) (part : Element → ℕ) → IsUnborn h row → (e : Element) → element_of h row ≡ Some e → x ≡ part e
   unborn_told h row x part un e p = let q : None ≡ Some e = sym un ∙ p in absurd cc

@@ -1,28 +1,26 @@
 -- A step that adds an event, and one that adds none.
-use Rattle.std.proofs.Common.{◌≡◌, ℕ, ◌+◌, ◌*◌, ◌<◌, ◌≢◌, List, [], ◌∷◌, ◌++◌, length, set, get_or, sym, refl, ap, ◌∙◌, subst, ⊎_elim, Option, Some}
-use mathlib.Core.Option.{some}
+use Rattle.std.proofs.Common.{◌≡◌, ℕ, ◌≢◌, List, [], ◌∷◌, ◌++◌, set, get_or, sym, refl, ap, ◌∙◌, subst, ⊎_elim, Option, Some}
 use lib.Seq.{set-get_or}
 use Rattle.tp_model.specs.declared.event.Event.{Event}
 use Rattle.tp_model.specs.declared.event.Event.TheVariants.{Abort, Claim}
 use Rattle.tp_model.specs.declared.trace.StepKind.{StepKind}
 use Rattle.tp_model.specs.declared.types.Limits.{Limits}
-use Rattle.tp_model.specs.History.{In, UnitEnd, end_of, events_by, pass_of}
-use Rattle.tp_model.specs.Passes.{IsOwnOpen}
+use Rattle.tp_model.specs.History.{In, UnitEnd, end_of, pass_of}
 use Rattle.tp_model.specs.Steps.{IsLegal, Step}
 use Rattle.tp_model.proofs.Bridges.{append_nil, begins_more, begins_refl, claim_either, claim_kept, in_either, in_one, unused_still}
 use Rattle.tp_model.proofs.Histories.{legal_more}
 use Rattle.tp_model.proofs.WordProofs.{end_of-snoc}
-use Rattle.tp_words.specs.Places.{Word, HeadWord, IsThere, head_place, place_of}
+use Rattle.tp_words.specs.Places.{Word, HeadWord, MarkWord, IsThere, head_place, place_of}
 use Rattle.tp_rule.specs.Rule.{HandHolds, Rule, Told, UnitsHold, World}
-use Rattle.tp_rule.specs.Steps.{after, noted, unchanged, Found, Grew, Misses}
+use Rattle.tp_rule.specs.Steps.{AreOver, after, noted, unchanged, Found, Grew, Misses}
 use Rattle.tp_rule.specs.declared.view.Hand.{Hand}
-use Rattle.tp_rule.specs.declared.view.Known.TheVariants.{RowHead}
+use Rattle.tp_rule.specs.declared.view.Known.TheVariants.{RowHead, PartMark}
 use Rattle.tp_rule.specs.declared.view.View.{View}
 use Rattle.tp_rule.proofs.Frames.{Turn, hand_frame, hand_holds, limits_are, me, moved, only_hand, seat_holds}
 use Rattle.tp_rule.proofs.Parts.{IsOf, in_all}
 use Rattle.tp_rule.proofs.Seats.{hand_noted, in_map}
 use Rattle.tp_rule.proofs.Storing.{body_row, row_left, still_left}
-use Rattle.tp_rule.proofs.Tellings.{found, recall, world_stored}
+use Rattle.tp_rule.proofs.Tellings.{found, over_below, recall, world_stored}
 use Rattle.tp_rule.proofs.Units.{decide}
 
 -- the units of the pass that made an event which is no claim and decides nothing
@@ -44,7 +42,7 @@ units_own k h e c used spare held quiet other never r = record {
 
 module _ (k : Limits) (t : Turn k) where
   -- the one pass of the seat, after a step with one more entry in its trace
-  after_hand : (kind : StepKind) (f : Hand → Hand) (h : List Event) (ws : List ℕ) → HandHolds k h ws (f (me k t)) → (a : Hand) → In a (after kind f h t.view.known t.view).hands → HandHolds k h ws a
+  pub after_hand : (kind : StepKind) (f : Hand → Hand) (h : List Event) (ws : List ℕ) → HandHolds k h ws (f (me k t)) → (a : Hand) → In a (after kind f h t.view.known t.view).hands → HandHolds k h ws a
   after_hand kind f h ws mine a p = let q = in_map (λ (z : Hand). noted kind h (f z)) a t.view.hands p in
       subst (HandHolds k h ws) (sym (q.2 ∙ ap (λ (z : Hand). noted kind h (f z)) (only_hand t.view t.one q.0 q.1))) (hand_noted k h ws kind h (f (me k t)) mine)
 
@@ -65,6 +63,8 @@ module _ (k : Limits) (t : Turn k) where
     pub rest : (w : Word) → IsThere k w → w ≢ word → Told (t.rule.history ++ event ∷ []) w (get_or t.state.words (place_of k w) 0)
     -- no head is stored but over an empty one, and in no row of another pass
     pub empty : (i : ℕ) → word ≡ HeadWord i → get_or t.state.words (head_place i) 0 ≡ 0
+    -- no mark is stored
+    pub unmarked : (p : ℕ) → word ≡ MarkWord p → ⊥
     pub apart : (d i : ℕ) → d ≢ (me k t).number → IsOf k.parts k.rows d i → body_row word ≢ Some i
     -- the pass is as its seat knows it
     pub mine : HandHolds k (t.rule.history ++ event ∷ []) (set t.state.words (place_of k word) number) (f (me k t))
@@ -75,8 +75,8 @@ module _ (k : Limits) (t : Turn k) where
 
   pub acted : (a : Act) → Rule k record { words = set t.state.words (place_of k a.word) a.number; homes = t.state.homes; views = set t.state.views t.id (view_after a) } × Grew a.kind a.f (a.event ∷ []) t.view (view_after a)
   acted a = let h = t.rule.history in let e = a.event in let h' : List Event = h ++ e ∷ [] in let ws : List ℕ = set t.state.words (place_of k a.word) a.number in let seat = seat_holds k t in let seen = seat.seen in
-      let world : World k h' ws = world_stored k h h' t.state.words a.word a.number t.rule.world (legal_more k h e t.rule.world.legal a.step) a.there a.told a.rest in
-      let still = still_left k t.state.words a.word a.number a.there a.empty in (
+      let world : World k h' ws = world_stored k h h' t.state.words a.word a.number t.rule.world (legal_more k h e t.rule.world.legal a.step) (e ∷ [], refl) a.there a.told a.rest a.empty (λ p q. absurd (a.unmarked p q)) in
+      let still = still_left k t.state.words a.word a.number a.there t.rule.world.wide a.empty (λ p q. absurd (a.unmarked p q)) in (
         moved k t record {
           kind = a.kind;
           f = a.f;
@@ -89,6 +89,8 @@ module _ (k : Limits) (t : Turn k) where
           world = world;
           mine = a.mine;
           others = λ b ne hold. hand_frame k h e t.state.words ws b a.step (λ is. ne (sym is ∙ a.own)) (λ i part. row_left k t.state.words a.word a.number a.there i (in_all k.parts k.rows b.number i part) (a.apart b.number i ne part)) hold;
+          known = t.view.known;
+          knows = λ x p. still x (seat.known x p);
           still = still;
         },
         record {
@@ -101,6 +103,7 @@ module _ (k : Limits) (t : Turn k) where
           open_own = λ b p. (after_hand a.kind a.f h' ws a.mine b p).units.open_own;
           knows = λ x p. p;
           heads = λ i head x p. recall k h' ws world i head x (still (RowHead i head) (seat.known (RowHead i head) p));
+          marks = λ p n q. subst (λ l. AreOver l h' p n) (sym (limits_are k t)) (over_below k h' ws world p n (still (PartMark p n) (seat.known (PartMark p n) q)));
         },
       )
 
@@ -125,6 +128,8 @@ module _ (k : Limits) (t : Turn k) where
             world = t.rule.world;
             mine = mine;
             others = λ a ne hold. hold;
+            known = t.view.known;
+            knows = seat.known;
             still = λ x so. so;
           }),
       record {
@@ -137,6 +142,7 @@ module _ (k : Limits) (t : Turn k) where
         open_own = λ a p. (after_hand kind f h t.state.words mine a p).units.open_own;
         knows = λ x p. p;
         heads = λ i head x p. recall k h t.state.words t.rule.world i head x (seat.known (RowHead i head) p);
+        marks = λ p n q. subst (λ l. AreOver l h p n) (sym (limits_are k t)) (over_below k h t.state.words t.rule.world p n (seat.known (PartMark p n) q));
       },
     )
 

@@ -160,16 +160,19 @@ module _ (k : Limits) (t : Turn k) where
     pub mine : HandHolds k history words (f me)
     pub others : (a : Hand) → a.number ≢ me.number → HandHolds k t.rule.history t.state.words a → HandHolds k history words a
     pub still : (x : Known) → StillSo k t.state.words x → StillSo k words x
+    -- what the seat knows afterwards
+    pub known : List Known
+    pub knows : (x : Known) → In x known → StillSo k words x
 
-  pub moved : (m : Move) → Rule k record { words = m.words; homes = t.state.homes; views = set t.state.views t.id (after m.kind m.f m.seen t.view.known t.view) }
+  pub moved : (m : Move) → Rule k record { words = m.words; homes = t.state.homes; views = set t.state.views t.id (after m.kind m.f m.seen m.known t.view) }
   moved m = let r = t.rule in let old = seat_holds in record {
     history = m.history;
     owner = r.owner;
     world = m.world;
-    seats = seats_after k m.history m.words r.owner t.state.views t.id (after m.kind m.f m.seen t.view.known t.view)
-        (seat_after k r.history m.history t.state.words m.words r.owner t.id t.view m.kind m.f m.seen t.view.known m.stays m.begins (λ x p. m.still x (old.known x p))
+    seats = seats_after k m.history m.words r.owner t.state.views t.id (after m.kind m.f m.seen m.known t.view)
+        (seat_after k r.history m.history t.state.words m.words r.owner t.id t.view m.kind m.f m.seen m.known m.stays m.begins m.knows
         (λ a p _. subst (λ (z : Hand). HandHolds k m.history m.words (m.f z)) (sym (only_hand t.view t.one a p)) m.mine) old)
         (λ j u apart e. let there = r.seats j u e in seat_frame k r.history m.history t.state.words m.words r.owner j u m.grows m.still
         (λ a p. m.others a (λ same. apart (sym (there.owns a p) ∙ (ap r.owner same ∙ old.owns me (one_in t.view t.one))))) there);
-    complete = λ c below. seated_after t.state.views t.id t.view m.kind m.f m.seen t.view.known t.at m.stays c (r.complete c below);
+    complete = λ c below. seated_after t.state.views t.id t.view m.kind m.f m.seen m.known t.at m.stays c (r.complete c below);
   }

@@ -1,3 +1,4 @@
+pub mod Births
 pub mod Units
 pub mod Storing
 pub mod Tellings
@@ -17,3 +18,4 @@ pub mod Deciding
 pub mod Killing
 pub mod Doors
 pub mod Meetings
+pub mod Raising

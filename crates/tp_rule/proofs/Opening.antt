@@ -10,11 +10,11 @@ use Rattle.tp_model.proofs.Histories.{legal_empty}
 use Rattle.tp_model.proofs.Bridges.{begins_refl, in_cons, in_here, in_none}
 use Rattle.tp_model.specs.History.{In, there}
 use Rattle.tp_model.specs.declared.types.Limits.{Limits}
-use Rattle.tp_rule.specs.Rule.{HandHolds, IsApart, Rule, SeatHolds, Told}
+use Rattle.tp_rule.specs.Rule.{HandHolds, IsApart, MarkHolds, Rule, SeatHolds, Told}
 use Rattle.tp_rule.specs.Views.{first_view, fresh, fresh_from}
 use Rattle.tp_rule.specs.declared.view.Hand.{Hand}
 use Rattle.tp_rule.specs.declared.view.View.{View}
-use Rattle.tp_words.specs.Places.{Word, HeadWord, KeyWord, AmountWord, ClaimWord, UnitWord, IsThere, head_place, claim_place, unit_place, place_of, size_of}
+use Rattle.tp_words.specs.Places.{Word, HeadWord, KeyWord, AmountWord, ClaimWord, UnitWord, MarkWord, IsThere, head_place, claim_place, unit_place, mark_place, place_of, size_of}
 use Rattle.tp_words.specs.declared.words.Head.TheVariants.{Empty}
 
 zeros : (n i : ℕ) → ◌≡◌ {A = ℕ} (get_or (replicate n 0) i 0) 0
@@ -69,6 +69,7 @@ module _ (k : Limits) where
       legal = legal_empty k;
       wide = length-replicate (size_of k) 0;
       tells = zero_told;
+      marks = λ p l. subst (MarkHolds k [] (replicate (size_of k) 0) p) (sym (zeros (size_of k) (mark_place k p))) record { inside = omega arith; below = λ i low high. let up : i < p * k.rows + 0 = high in let down : p * k.rows ≤ i = low in absurd (omega arith) };
     };
     seats = first;
     complete = λ c below. let p = fresh_seated 0 k.parts c (omega arith) (omega arith) in (0, first_view k, fresh c, refl, p, refl);
@@ -80,6 +81,7 @@ module _ (k : Limits) where
       zero_told (AmountWord i) l = λ x p. absurd cc
       zero_told (ClaimWord i) l = (zeros (size_of k) (claim_place i), tt)
       zero_told (UnitWord u) l = (zeros (size_of k) (unit_place k u), tt)
+      zero_told (MarkWord p) l = tt
 
       first : (j : ℕ) (v : View) → get_elem? (first_view k ∷ []) j ≡ some v → SeatHolds k [] (replicate (size_of k) 0) (λ c. 0) j v
       first zero v e = subst (λ z. SeatHolds k [] (replicate (size_of k) 0) (λ c. 0) 0 z) (some-injective (first_view k) v e) record {

@@ -9,7 +9,7 @@ use Rattle.tp_model.specs.History.{UnitEnd, IsUnborn}
 use Rattle.tp_model.specs.Steps.{AreLimits, Step}
 use Rattle.tp_model.proofs.Bridges.{born_at, by_own, in_none, in_one, new_birth, unborn_still}
 use Rattle.tp_model.proofs.Lists.{option_or-None}
-use Rattle.tp_words.specs.Places.{Word, HeadWord, KeyWord, AmountWord, ClaimWord, UnitWord, IsThere, head_place, place_of, size_of}
+use Rattle.tp_words.specs.Places.{Word, HeadWord, KeyWord, AmountWord, ClaimWord, UnitWord, MarkWord, IsThere, head_place, place_of, size_of}
 use Rattle.tp_words.specs.Words.{head_of, pack_head}
 use Rattle.tp_words.specs.declared.words.Head.TheVariants.{There}
 use Rattle.tp_rule.specs.Doors.{Permits}
@@ -36,6 +36,7 @@ birth_told h c y (HeadWord i) n other key amount old = head_later h (Enqueue c y
 birth_told h c y (KeyWord i) n other key amount old = body_later h (Enqueue c y) i n (λ e. e.key) (λ x q id. let same = in_one q in key (ap KeyWord (sym id ∙ ap (λ (e : Element). e.id) same)) ∙ ap (λ (e : Element). e.key) (sym same)) old
 birth_told h c y (AmountWord i) n other key amount old = body_later h (Enqueue c y) i n (λ e. e.amount) (λ x q id. let same = in_one q in amount (ap AmountWord (sym id ∙ ap (λ (e : Element). e.id) same)) ∙ ap (λ (e : Element). e.amount) (sym same)) old
 birth_told h c y (ClaimWord i) n other key amount old = claim_later h (Enqueue c y) i n refl old
+birth_told h c y (MarkWord p) n other key amount old = tt
 birth_told h c y (UnitWord u) n other key amount old = unit_later h (Enqueue c y) u n (enqueue_quiet c y u _) old
 
 module _ (k : Limits) (fair : AreLimits k) where
@@ -85,6 +86,7 @@ module _ (k : Limits) (fair : AreLimits k) where
         rest = λ z there other. birth_told h a.number y z (get_or s.words (place_of k z) 0) (λ q. other (q ∙ ap HeadWord here))
             (λ q. ap (λ b. get_or s.words (place_of k b) 0) (q ∙ ap KeyWord here) ∙ key) (λ q. ap (λ b. get_or s.words (place_of k b) 0) (q ∙ ap AmountWord here) ∙ amount) (r.world.tells z there);
         empty = λ i q. let same : i ≡ row = cc in ap (λ z. get_or s.words (head_place z) 0) same ∙ next_empty k t room;
+        unmarked = λ z q. cc;
         apart = λ d i ne part. of_no_other k a.number d row w refl (next_own k t room) ne i part;
         mine = record {
           given = mine.given;

@@ -21,13 +21,13 @@ use Rattle.tp_words.specs.declared.words.Head.{Head}
 use Rattle.tp_rule.specs.Doors.{Permits}
 use Rattle.tp_rule.specs.Plays.{loads, loads_head}
 use Rattle.tp_rule.specs.Rule.{HandHolds, IsApart, IsSeated, RowsHold, Rule, SeatHolds, StillSo}
-use Rattle.tp_rule.specs.Steps.{Found, Loads, NoneFrom, noted, after, unchanged}
+use Rattle.tp_rule.specs.Steps.{AreOver, Found, Loads, NoneFrom, noted, after, unchanged}
 use Rattle.tp_rule.specs.Views.{HasPass, IsOnePass, hand}
 use Rattle.tp_rule.specs.declared.view.Hand.{Hand}
 use Rattle.tp_rule.specs.declared.view.Known.{Known}
-use Rattle.tp_rule.specs.declared.view.Known.TheVariants.{RowHead}
+use Rattle.tp_rule.specs.declared.view.Known.TheVariants.{RowHead, PartMark}
 use Rattle.tp_rule.specs.declared.view.View.{View}
-use Rattle.tp_rule.proofs.Tellings.{found, head_told, recall}
+use Rattle.tp_rule.proofs.Tellings.{found, head_told, over_below, recall}
 
 abbrev pub S : Type 0
 S = State (Unit {0}) View
@@ -88,7 +88,7 @@ module _ (k : Limits) where
   }
 
   -- a load by a seat, which may stand for several passes, and may know more of words that stay afterwards
-  looks_knowing : (v : View) (word : ℕ) → HasPass v → (s : S) (r : Rule k s) (id : ℕ) → get_elem? s.views id ≡ some v → (known : List Known) → ((x : Known) → In x known → StillSo k s.words x) → ((x : Known) → In x v.known → In x known)
+  pub looks_knowing : (v : View) (word : ℕ) → HasPass v → (s : S) (r : Rule k s) (id : ℕ) → get_elem? s.views id ≡ some v → (known : List Known) → ((x : Known) → In x known → StillSo k s.words x) → ((x : Known) → In x v.known → In x known)
       → Rule k record { words = set s.words word (get_or s.words word 0); homes = s.homes; views = set s.views id (after kinds.Load unchanged r.history known v) } × Loads v word (get_or s.words word 0) (after kinds.Load unchanged r.history known v)
   looks_knowing v word has s r id at known so more = let h = r.history in let w : View = after kinds.Load unchanged h known v in let mine = r.seats id v at in let seen = mine.seen in let lim = mine.limits has.0 has.1 in
       let there = seat_after h h s.words s.words r.owner id v kinds.Load unchanged h known (λ a. refl) (begins_refl h) so (λ a _ x. x) mine in (
@@ -110,6 +110,7 @@ module _ (k : Limits) where
             open_own = λ a p. (there.hands a p).units.open_own;
             knows = more;
             heads = λ i head x p. recall k h s.words r.world i head x (mine.known (RowHead i head) p);
+            marks = λ p n q. subst (λ l. AreOver l h p n) (sym lim) (over_below k h s.words r.world p n (mine.known (PartMark p n) q));
           },
           subst (λ l. Found l h word (get_or s.words word 0)) (sym lim) (found k h s.words r.world word),
         ),

@@ -1,18 +1,18 @@
 -- What a store to one word leaves of the others.
-use Rattle.std.proofs.Common.{◌≡◌, ◌≢◌, ℕ, ◌<◌, List, length, set, get_or, sym, refl, ap, ◌∙◌, subst, arith, get_or-set_other, get_or-set_same, Option, Some, None}
+use Rattle.std.proofs.Common.{◌≡◌, ◌≢◌, ℕ, ◌<◌, ◌≤◌, List, length, set, get_or, sym, refl, ap, ◌∙◌, subst, arith, get_or-set_other, get_or-set_same, Option, Some, None}
 use mathlib.Core.Logic.{dite}
 use native.Mathlib.Decide.{ℕ_discrete}
 use Rattle.tp_model.specs.declared.types.Element.{Element}
 use Rattle.tp_model.specs.declared.types.Limits.{Limits}
 use Rattle.tp_model.specs.Steps.{rows_of}
-use Rattle.tp_words.specs.Places.{Word, HeadWord, KeyWord, AmountWord, ClaimWord, UnitWord, IsThere, head_place, key_place, amount_place, place_of, size_of}
+use Rattle.tp_words.specs.Places.{Word, HeadWord, KeyWord, AmountWord, ClaimWord, UnitWord, MarkWord, IsThere, head_place, key_place, amount_place, mark_place, place_of, size_of}
 use Rattle.tp_words.specs.Words.{pack_head}
 use Rattle.tp_words.specs.declared.words.Head.{Head}
 use Rattle.tp_words.specs.declared.words.Head.TheVariants.{Empty, There}
 use Rattle.tp_words.proofs.PlaceLemmas.{places_differ, places_inside}
 use Rattle.tp_rule.specs.Rule.{Holds, StillSo}
 use Rattle.tp_rule.specs.declared.view.Known.{Known}
-use Rattle.tp_rule.specs.declared.view.Known.TheVariants.{RowHead}
+use Rattle.tp_rule.specs.declared.view.Known.TheVariants.{RowHead, PartMark}
 
 -- the row whose element the word tells of, beside its claim
 abbrev pub body_row : Word → Option ℕ
@@ -21,6 +21,7 @@ body_row (KeyWord i) = Some i
 body_row (AmountWord i) = Some i
 body_row (ClaimWord i) = None
 body_row (UnitWord u) = None
+body_row (MarkWord p) = None
 
 -- the head, key and amount of row i are the same
 abbrev pub SameRow : List ℕ → List ℕ → ℕ → Type 0
@@ -56,11 +57,17 @@ module _ (l : Limits) where
       left (AmountWord i) there (λ e. other (sym (ap body_row e))),
     )
 
-    -- what was found in words that stay is still so, if no head is stored but over an empty one
-    pub still_left : ((i : ℕ) → w ≡ HeadWord i → get_or ws (head_place i) 0 ≡ 0) → (known : Known) → StillSo l ws known → StillSo l (set ws (place_of l w) x) known
-    still_left empty (RowHead i head) t = (
+    -- a head that isn't empty stays, if no head is stored but over an empty one
+    pub heads_kept : ((i : ℕ) → w ≡ HeadWord i → get_or ws (head_place i) 0 ≡ 0) → (i : ℕ) → i < rows_of l → get_or ws (head_place i) 0 ≢ 0 → get_or (set ws (place_of l w) x) (head_place i) 0 ≡ get_or ws (head_place i) 0
+    heads_kept empty i there some = same_or_other (HeadWord i) w there at (λ e. absurd (some (empty i (sym e)))) (λ other. left (HeadWord i) there other)
+
+    -- what was found in words that stay or rise is still so, if no head is stored but over an empty one, and no mark falls
+    pub still_left : length ws ≡ size_of l → ((i : ℕ) → w ≡ HeadWord i → get_or ws (head_place i) 0 ≡ 0) → ((p : ℕ) → w ≡ MarkWord p → get_or ws (mark_place l p) 0 ≤ x)
+        → (known : Known) → StillSo l ws known → StillSo l (set ws (place_of l w) x) known
+    still_left wide empty rises (RowHead i head) t = (t.0, t.1, λ some. heads_kept empty i t.0 (λ zero. full_head head some (sym (t.2 some) ∙ zero)) ∙ t.2 some)
+    still_left wide empty rises (PartMark p n) t = let low : n ≤ get_or ws (mark_place l p) 0 = t.1 in (
       t.0,
-      t.1,
-      λ some. same_or_other (HeadWord i) w t.0 at
-          (λ e. absurd (full_head head some (sym (t.2 some) ∙ empty i (sym e)))) (λ other. left (HeadWord i) t.0 other ∙ t.2 some),
+      same_or_other (MarkWord p) w t.0 at
+          (λ e. let up = rises p (sym e) in let now : get_or (set ws (place_of l w) x) (mark_place l p) 0 ≡ x = ap (λ z. get_or (set ws (place_of l w) x) (place_of l z) 0) e ∙ stored wide in omega arith)
+          (λ other. let same = left (MarkWord p) t.0 other in omega arith),
     )

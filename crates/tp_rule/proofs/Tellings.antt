@@ -1,22 +1,26 @@
 -- What the words tell of a history that goes on by one event.
-use Rattle.std.proofs.Common.{◌≡◌, ◌≢◌, ℕ, ◌+◌, ◌*◌, ◌<◌, ◌≤◌, List, [], ◌∷◌, ◌++◌, length, set, get_or, sym, refl, ap, ◌∙◌, subst, ⊎_elim, arith, length-set, Option, Some, None}
+use Rattle.std.proofs.Common.{◌≡◌, ◌≢◌, ℕ, ◌<◌, ◌≤◌, List, [], ◌∷◌, ◌++◌, set, get_or, sym, refl, ap, ◌∙◌, subst, inl, inr, ⊎_elim, arith, length-set, Option, Some, None}
 use Rattle.tp_model.specs.declared.event.Event.{Event}
 use Rattle.tp_model.specs.declared.types.Element.{Element}
 use Rattle.tp_model.specs.declared.types.Limits.{Limits}
-use Rattle.tp_model.specs.History.{In, IsBorn, IsUnborn, UnitEnd, births, element_of, end_of}
-use Rattle.tp_model.specs.Steps.{IsLegal}
+use Rattle.tp_model.specs.History.{Aborted, Committed, In, IsSettled, UnitEnd, births, element_of, end_of}
+use mathlib.Core.List.{IsPrefix}
+use Rattle.tp_model.specs.Steps.{IsLegal, rows_of}
 use Rattle.tp_model.specs.Words.{ClaimWord, claim_word, claim_word_after}
-use Rattle.tp_model.proofs.Bridges.{born_at, born_either, element_of-id, in_none, is_born, unborn_before}
+use Rattle.tp_model.proofs.Bridges.{born_at, born_either, element_of-id, end_stays, found_later, in_none, is_born, unborn_before}
+use Rattle.tp_model.proofs.LawProofs.{settled_stay}
 use Rattle.tp_model.proofs.Later.{births_inside}
 use Rattle.tp_model.proofs.WordProofs.{claim_word-snoc, end_of-snoc}
-use Rattle.tp_words.specs.Places.{Word, HeadWord, KeyWord, AmountWord, ClaimWord as ClaimOf, UnitWord, IsThere, head_place, key_place, amount_place, place_of}
+use Rattle.tp_words.specs.Places.{Word, HeadWord, KeyWord, AmountWord, ClaimWord as ClaimOf, UnitWord, MarkWord, IsThere, head_place, mark_place, place_of}
 use Rattle.tp_words.specs.Words.{IsFitClaim, IsFitHead, IsFitUnit, head_of, pack_claim, pack_head, pack_unit}
 use Rattle.tp_words.specs.declared.words.Head.{Head}
 use Rattle.tp_words.specs.declared.words.Head.TheVariants.{Empty, There}
-use Rattle.tp_rule.specs.Rule.{HeadTold, StillSo, Told, World}
-use Rattle.tp_rule.specs.Steps.{Found}
-use Rattle.tp_rule.specs.declared.view.Known.TheVariants.{RowHead}
-use Rattle.tp_rule.proofs.Storing.{left, same_or_other, stored}
+use Rattle.tp_rule.specs.Rule.{HeadTold, IsFinished, MarkHolds, StillSo, Told, World}
+use Rattle.tp_rule.specs.Steps.{AreOver, Found, IsOver}
+use Rattle.tp_rule.specs.declared.view.Known.TheVariants.{RowHead, PartMark}
+use Rattle.tp_rule.proofs.Births.{MadeBy, by_unit}
+use Rattle.tp_rule.proofs.Parts.{in_all}
+use Rattle.tp_rule.proofs.Storing.{heads_kept, left, same_or_other, stored}
 use Rattle.tp_rule.proofs.Units.{decide}
 
 -- a head's word tells the head
@@ -42,6 +46,32 @@ module _ (k : Limits) (h : List Event) (ws : List ℕ) (world : World k h ws) wh
   -- the head of a born element is one that a word can tell
   pub born_fit : (i : ℕ) (x : Element) → element_of h i ≡ Some x → IsFitHead (head_of x)
   born_fit i x p = let id = element_of-id h i x p in let t = world.tells (HeadWord x.id) (births_inside k h world.legal x (is_born h i x p)) in subst IsFitHead (t.born x (is_born h i x p)) t.fit
+
+  -- in a finished row no element is anything but consumed or killed
+  pub over : (i : ℕ) → i < rows_of k → IsFinished k h ws i → IsOver k h i
+  over i there f x p = ⊎_elim (λ s. s.2) (λ d. absurd (not_born d.0 d.1 d.2 d.3 d.4 d.5)) f
+    where
+      named : (stage root u : ℕ) (y : Element) → There stage root (Some u) ≡ head_of y → y.by ≡ Some u
+      named stage root u y e = cc
+
+      apart : (u : ℕ) (m : MadeBy k h i u) → end_of h u ≡ Some Aborted → ⊥
+      apart u m gone = let q : Some (Committed m.from m.count) ≡ Some Aborted = sym m.committed ∙ gone in absurd cc
+
+      not_born : (stage root u : ℕ) → IsFitHead (There stage root (Some u)) → get_or ws (head_place i) 0 ≡ pack_head (There stage root (Some u)) → end_of h u ≡ Some Aborted → ⊥
+      not_born stage root u fit is gone = let t = world.tells (HeadWord i) there in
+          let same : There stage root (Some u) ≡ head_of x = head_told (There stage root (Some u)) t.head fit t.fit (sym is ∙ t.packed) ∙ t.born x p in
+          apart u (by_unit k h world.legal i x u p (named stage root u x same)) gone
+
+  -- and so in all rows below a mark that was found
+  pub over_below : (p n : ℕ) → StillSo k ws (PartMark p n) → AreOver k h p n
+  over_below p n t i low high = let room = t.0 in let m = world.marks p room in let le : n ≤ get_or ws (mark_place k p) 0 = t.1 in let top = m.inside in
+      over i (in_all k.parts k.rows p i (room, low, omega arith)) (m.below i low (omega arith))
+
+-- a finished row stays finished
+pub finished_later : (k : Limits) (h h' : List Event) (ws ws' : List ℕ) (i : ℕ) → IsPrefix h h' → IsLegal k h' → (get_or ws (head_place i) 0 ≢ 0 → get_or ws' (head_place i) 0 ≡ get_or ws (head_place i) 0) → IsFinished k h ws i → IsFinished k h' ws' i
+finished_later k h h' ws ws' i begins legal kept f = ⊎_elim
+    (λ s. inl (s.0, found_later h h' begins i s.0 s.1, subst IsSettled (sym (settled_stay k h h' i legal begins s.2)) s.2))
+    (λ d. inr (d.0, d.1, d.2, d.3, kept (λ zero. let e : pack_head (There d.0 d.1 (Some d.2)) ≡ 0 = sym d.4 ∙ zero in absurd (omega arith)) ∙ d.4, end_stays h h' d.2 Aborted begins d.5)) f
 
 module _ (h : List Event) (e : Event) where
   -- an element that is born in row i is so already, or is born now
@@ -79,13 +109,21 @@ module _ (h : List Event) (e : Event) where
   told_later none (AmountWord i) n claims units old = body_later i n (λ x. x.amount) (λ x q. absurd (in_none (subst (In x) none q))) old
   told_later none (ClaimOf i) n claims units old = claim_later i n (claims i refl) old
   told_later none (UnitWord u) n claims units old = unit_later u n (units u refl) old
+  told_later none (MarkWord p) n claims units old = tt
 
--- the words after a store to w: it tells what is now so, and so do the others
-pub world_stored : (k : Limits) (h h' : List Event) (ws : List ℕ) (w : Word) (x : ℕ) → World k h ws → IsLegal k h' → IsThere k w → Told h' w x → ((v : Word) → IsThere k v → v ≢ w → Told h' v (get_or ws (place_of k v) 0)) → World k h' (set ws (place_of k w) x)
-world_stored k h h' ws w x world legal at now rest = record {
+-- the words after a store to w: it tells what is now so, and so do the others; no head is stored but over an empty one
+pub world_stored : (k : Limits) (h h' : List Event) (ws : List ℕ) (w : Word) (x : ℕ) → World k h ws → IsLegal k h' → IsPrefix h h' → IsThere k w → Told h' w x → ((v : Word) → IsThere k v → v ≢ w → Told h' v (get_or ws (place_of k v) 0))
+    → ((i : ℕ) → w ≡ HeadWord i → get_or ws (head_place i) 0 ≡ 0) → ((p : ℕ) → w ≡ MarkWord p → MarkHolds k h' (set ws (place_of k w) x) p x) → World k h' (set ws (place_of k w) x)
+world_stored k h h' ws w x world legal begins at now rest empty mark = record {
   legal = legal;
   wide = length-set ws (place_of k w) x ∙ world.wide;
   tells = λ v there. same_or_other k v w there at
       (λ same. subst (λ z. Told h' z (get_or (set ws (place_of k w) x) (place_of k z) 0)) (sym same) (subst (Told h' w) (sym (stored k ws w x at world.wide)) now))
       (λ other. subst (Told h' v) (sym (left k ws w x at v there other)) (rest v there other));
+  marks = λ p there. same_or_other k (MarkWord p) w there at
+      (λ same. subst (MarkHolds k h' (set ws (place_of k w) x) p) (sym (ap (λ z. get_or (set ws (place_of k w) x) (place_of k z) 0) same ∙ stored k ws w x at world.wide)) (mark p (sym same)))
+      (λ other. let old = world.marks p there in let top = old.inside in subst (MarkHolds k h' (set ws (place_of k w) x) p) (sym (left k ws w x at (MarkWord p) there other)) record {
+        inside = top;
+        below = λ i low high. finished_later k h h' ws (set ws (place_of k w) x) i begins legal (heads_kept k ws w x at empty i (in_all k.parts k.rows p i (there, low, omega arith))) (old.below i low high);
+      });
 }

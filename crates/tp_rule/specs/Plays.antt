@@ -6,10 +6,10 @@ use Rattle.tp_model.specs.declared.trace.StepKind.TheVariants as kinds
 use Rattle.tp_words.specs.declared.words.Head.{Head}
 use Rattle.tp_words.specs.declared.words.Head.TheVariants.{There}
 use Rattle.tp_words.specs.Words.{IsFitHead, pack_claim, pack_head}
-use Rattle.tp_words.specs.Places.{head_place, claim_place, unit_place}
+use Rattle.tp_words.specs.Places.{head_place, claim_place, mark_place, unit_place}
 use Rattle.tp_rule.specs.Views.{hand, next_row}
-use Rattle.tp_rule.specs.Steps.{Found, Grew, Knows, Loads, NoneFrom, unchanged, drafted, with_key, with_amount, Drafts, Publishes, Chooses, MakesClaim, MakesCommit, Loses, MakesAbort, MakesKill, Misses}
-use Rattle.tp_rule.specs.declared.view.Known.TheVariants.{RowHead}
+use Rattle.tp_rule.specs.Steps.{Found, Grew, Knows, Loads, NoneFrom, unchanged, drafted, with_key, with_amount, Drafts, Publishes, Chooses, MakesClaim, MakesCommit, Loses, MakesAbort, MakesKill, Misses, AreOver, Raises}
+use Rattle.tp_rule.specs.declared.view.Known.TheVariants.{RowHead, PartMark}
 use Rattle.tp_rule.specs.declared.view.View.{View}
 
 abbrev pub Telling : Type 1
@@ -55,3 +55,11 @@ exchanges_abort word old new v r w = (u : ℕ) × (word ≡ unit_place v.limits 
 
 abbrev pub exchanges_kill : Telling
 exchanges_kill word old new v r w = (r ≡ old → (i : ℕ) × (word ≡ claim_place i) × MakesKill v i w) × (r ≢ old → Misses kinds.KillExchange v word r w)
+
+-- a load of a mark, which the seat remembers
+abbrev pub loads_mark : Telling
+loads_mark word first second v r w = Loads v word r w
+    × ((p : ℕ) → word ≡ mark_place v.limits p → p < v.limits.parts → Knows w (PartMark p r) × (r ≤ v.limits.rows) × AreOver v.limits w.seen p r)
+
+abbrev pub raises : Telling
+raises word old new v r w = Raises v w × (r ≡ old → (p : ℕ) → word ≡ mark_place v.limits p → Knows w (PartMark p new))

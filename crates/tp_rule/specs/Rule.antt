@@ -1,11 +1,11 @@
 -- The rule: at every moment there is one legal history behind the words.
 -- It is read from the bottom of this page up. In each record l are the table's limits, h is the history, and ws are the words.
-use Rattle.std.specs.Prelude.{◌≡◌, ◌≢◌, ℕ, ◌+◌, ◌*◌, ◌<◌, ◌≤◌, List, [], ◌∷◌, length, slice_index, Option, Some, None}
+use Rattle.std.specs.Prelude.{◌≡◌, ◌≢◌, ◌⊎◌, ℕ, ◌+◌, ◌*◌, ◌<◌, ◌≤◌, List, [], ◌∷◌, length, slice_index, Option, Some, None}
 use mathlib.Core.Option.{some}
 use mathlib.Core.List.{IsPrefix}
 use lib.ListN.{get_elem?}
 use Rattle.atomic_table.specs.Table.{State}
-use Rattle.tp_model.specs.History.{In, IsClaim, IsUnborn, IsUnused, element_of, end_of, events_by}
+use Rattle.tp_model.specs.History.{Aborted, In, IsClaim, IsSettled, IsUnborn, IsUnused, element_of, end_of, events_by, status_of}
 use Rattle.tp_model.specs.Passes.{IsOwnOpen}
 use Rattle.tp_model.specs.Steps.{IsLegal, rows_of}
 use Rattle.tp_model.specs.Words.{claim_word}
@@ -14,9 +14,9 @@ use Rattle.tp_model.specs.declared.types.Element.{Element}
 use Rattle.tp_model.specs.declared.types.Limits.{Limits}
 use Rattle.tp_rule.specs.declared.view.Hand.{Hand}
 use Rattle.tp_rule.specs.declared.view.Known.{Known}
-use Rattle.tp_rule.specs.declared.view.Known.TheVariants.{RowHead}
+use Rattle.tp_rule.specs.declared.view.Known.TheVariants.{RowHead, PartMark}
 use Rattle.tp_rule.specs.declared.view.View.{View}
-use Rattle.tp_words.specs.Places.{Word, HeadWord, KeyWord, AmountWord, ClaimWord, UnitWord, IsThere, head_place, key_place, amount_place, place_of, size_of}
+use Rattle.tp_words.specs.Places.{Word, HeadWord, KeyWord, AmountWord, ClaimWord, UnitWord, MarkWord, IsThere, head_place, key_place, amount_place, mark_place, place_of, size_of}
 use Rattle.tp_words.specs.Words.{IsFitHead, IsFitClaim, IsFitUnit, head_of, pack_claim, pack_head, pack_unit}
 use Rattle.tp_words.specs.declared.words.Head.{Head}
 use Rattle.tp_words.specs.declared.words.Head.TheVariants.{Empty, There}
@@ -86,8 +86,10 @@ IsApart [] = Unit {0}
 IsApart (a ∷ hands) = ((b : Hand) → In b hands → ¬ (b.number ≡ a.number)) × IsApart hands
 
 -- what was found in a word that stays is still so
+-- or has only risen
 abbrev pub StillSo : Limits → List ℕ → Known → Type 0
 StillSo l ws (RowHead i head) = (i < rows_of l) × IsFitHead head × (head ≢ Empty → slice_index ws (head_place i) ≡ pack_head head)
+StillSo l ws (PartMark p n) = (p < l.parts) × (n ≤ slice_index ws (mark_place l p))
 
 -- what is so of seat j with the view v, where `owner` says which seat stands for a pass
 pub record SeatHolds (l : Limits) (h : List Event) (ws : List ℕ) (owner : ℕ → ℕ) (j : ℕ) (v : View) : Type 0 where
@@ -128,6 +130,26 @@ Told h (AmountWord i) n = (x : Element) → element_of h i ≡ Some x → n ≡ 
 Told h (ClaimWord i) n = (n ≡ pack_claim (claim_word h i)) × IsFitClaim (claim_word h i)
 -- a unit's word: the packing of how the unit ended
 Told h (UnitWord u) n = (n ≡ pack_unit (end_of h u)) × IsFitUnit (end_of h u)
+-- a mark: that hangs on other words too, and is said of all words together
+Told h (MarkWord p) n = Unit {0}
+
+-- row i has an element that is consumed or killed
+abbrev pub IsSettledRow : Limits → List Event → ℕ → Type 0
+IsSettledRow l h i = (x : Element) × (element_of h i ≡ Some x) × IsSettled (status_of l.attempts h i)
+
+-- row i has a draft of a unit that was aborted, which is never born
+abbrev pub IsDead : List Event → List ℕ → ℕ → Type 0
+IsDead h ws i = (stage : ℕ) × (root : ℕ) × (u : ℕ) × IsFitHead (There stage root (Some u))
+    × (slice_index ws (head_place i) ≡ pack_head (There stage root (Some u))) × (end_of h u ≡ Some Aborted)
+
+-- row i is finished
+abbrev pub IsFinished : Limits → List Event → List ℕ → ℕ → Type 0
+IsFinished l h ws i = IsSettledRow l h i ⊎ IsDead h ws i
+
+-- what the mark n of part p tells: each row of the part below it is finished
+pub record MarkHolds (l : Limits) (h : List Event) (ws : List ℕ) (p n : ℕ) : Type 0 where
+  pub inside : n ≤ l.rows
+  pub below : (i : ℕ) → p * l.rows ≤ i → i < p * l.rows + n → IsFinished l h ws i
 
 -- what is so of the words after the history h
 pub record World (l : Limits) (h : List Event) (ws : List ℕ) : Type 0 where
@@ -137,6 +159,8 @@ pub record World (l : Limits) (h : List Event) (ws : List ℕ) : Type 0 where
   pub wide : length ws ≡ size_of l
   -- each word tells what the history says
   pub tells : (w : Word) → IsThere l w → Told h w (slice_index ws (place_of l w))
+  -- the rows below each mark are finished
+  pub marks : (p : ℕ) → p < l.parts → MarkHolds l h ws p (slice_index ws (mark_place l p))
 
 -- pass c is one of a seat's
 abbrev pub IsSeated : List View → ℕ → Type 0

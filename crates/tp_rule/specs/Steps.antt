@@ -1,6 +1,6 @@
 -- What each kind of step makes of a seat's view, and what it tells. In each definition v is the view before the step, and w the view after it.
 -- A view changes in two ways alone: `after` a step, and by a split or a join of seats.
-use Rattle.std.specs.Prelude.{◌≡◌, ◌≢◌, ℕ, ◌+◌, ◌-◌, ◌≤◌, List, [], ◌∷◌, ◌++◌, map, Option, Some, None, IsSome}
+use Rattle.std.specs.Prelude.{◌≡◌, ◌≢◌, ◌⊎◌, ℕ, ◌+◌, ◌-◌, ◌*◌, ◌<◌, ◌≤◌, List, [], ◌∷◌, ◌++◌, map, Option, Some, None, IsSome}
 use mathlib.Core.List.{IsPrefix}
 use Rattle.tp_model.specs.declared.types.Element.{Element}
 use Rattle.tp_model.specs.declared.types.Limits.{Limits}
@@ -9,19 +9,19 @@ use Rattle.tp_model.specs.declared.event.Event.{Event}
 use Rattle.tp_model.specs.declared.event.Event.TheVariants.{Enqueue, Claim, Commit, Abort, Kill}
 use Rattle.tp_model.specs.declared.trace.StepKind.{StepKind}
 use Rattle.tp_model.specs.declared.trace.StepKind.TheVariants as kinds
-use Rattle.tp_model.specs.History.{Aborted, In, IsUnborn, UnitClaim, UnitEnd, claim_of, element_of, end_of, events_by}
+use Rattle.tp_model.specs.History.{Aborted, In, IsSettled, IsUnborn, status_of, UnitClaim, UnitEnd, claim_of, element_of, end_of, events_by}
 use Rattle.tp_model.specs.Passes.{IsOwnOpen}
 use Rattle.tp_model.specs.Words.{ClaimWord, claim_word, word_status}
 use Rattle.tp_model.specs.Steps.{IsStage, IsServerStage, IsKillable, IsLegal, IsRowOf}
 use Rattle.tp_words.specs.declared.words.Head.{Head}
-use Rattle.tp_words.specs.declared.words.Head.TheVariants.{Empty}
+use Rattle.tp_words.specs.declared.words.Head.TheVariants.{Empty, There}
 use Rattle.tp_words.specs.Words.{IsFitClaim, head_of}
 use Rattle.tp_words.specs.Places.{IsThere, Word, place_of}
-use Rattle.tp_rule.specs.Rule.{Told}
+use Rattle.tp_rule.specs.Rule.{IsSettledRow, Told}
 use Rattle.tp_rule.specs.Views.{IsOnePass, hand, next_row}
 use Rattle.tp_rule.specs.declared.view.Hand.{Hand}
 use Rattle.tp_rule.specs.declared.view.Known.{Known}
-use Rattle.tp_rule.specs.declared.view.Known.TheVariants.{RowHead}
+use Rattle.tp_rule.specs.declared.view.Known.TheVariants.{RowHead, PartMark}
 use Rattle.tp_rule.specs.declared.view.View.{View}
 
 -- the pass with one more entry in its trace
@@ -35,6 +35,14 @@ after kind f seen known v = record { limits = v.limits; seen = seen; also_seen =
 -- what a seat knows of words that stay
 abbrev pub Knows : View → Known → Type 0
 Knows v x = In x v.known
+
+-- no element of row i is taken, held or waits: where one is born, it is consumed or killed
+abbrev pub IsOver : Limits → List Event → ℕ → Type 0
+IsOver l h i = (x : Element) → element_of h i ≡ Some x → IsSettled (status_of l.attempts h i)
+
+-- so it is in each row of part p below row n of that part
+abbrev pub AreOver : Limits → List Event → ℕ → ℕ → Type 0
+AreOver l h p n = (i : ℕ) → p * l.rows ≤ i → i < p * l.rows + n → IsOver l h i
 
 -- a step that looks at the table: the seat has then seen the history so far, which ends with the step's own events
 pub record Grew (kind : StepKind) (f : Hand → Hand) (events : List Event) (v w : View) : Type 0 where
@@ -56,6 +64,8 @@ pub record Grew (kind : StepKind) (f : Hand → Hand) (events : List Event) (v w
   pub knows : (x : Known) → Knows v x → Knows w x
   -- a head that was found before, and wasn't empty, is that of the element that is born in the row by now
   pub heads : (i : ℕ) (head : Head) (x : Element) → Knows v (RowHead i head) → head ≢ Empty → element_of w.seen i ≡ Some x → head ≡ head_of x
+  -- below a mark that was found before no row has an element that isn't consumed or killed
+  pub marks : (p n : ℕ) → Knows v (PartMark p n) → AreOver v.limits w.seen p n
 
 -- a step that changes nothing in the pass but its trace
 abbrev pub unchanged : Hand → Hand
@@ -221,6 +231,17 @@ pub record FindsEnded (v : View) (u : ℕ) (found : Option UnitEnd) (w : View) :
 
 abbrev pub MakesKill : View → ℕ → View → Type 0
 MakesKill v i w = Grew kinds.KillExchange (with_event (Kill (hand v).number i)) (Kill (hand v).number i ∷ []) v w
+
+-- raise
+
+-- the seat knows that row i is finished: it saw its element consumed or killed, or found the head of a draft whose unit it
+-- saw aborted
+abbrev pub IsDone : View → ℕ → Type 0
+IsDone v i = IsSettledRow v.limits v.seen i ⊎ ((stage : ℕ) × (root : ℕ) × (u : ℕ) × Knows v (RowHead i (There stage root (Some u))) × (end_of v.seen u ≡ Some Aborted))
+
+-- the exchange of a mark, after which nothing more is seen, and what was known is known
+abbrev pub Raises : View → View → Type 0
+Raises v w = (w ≡ after kinds.Raise unchanged v.seen w.known v) × ((x : Known) → Knows v x → Knows w x)
 
 -- splits and joins of seats, each a load
 

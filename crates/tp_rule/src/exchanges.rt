@@ -1,15 +1,16 @@
 //! The choice of a unit, and the exchanges. An exchange compares a whole word with what was found there before, and
 //! changes it only if it is still the same; so it acts on the state that its caller read. One that fails changes no word,
 //! and tells the word that it found.
-ghost use Rattle.std.specs.Prelude.{◌≡◌, ◌<◌, ◌≤◌, ◌⊎◌, IfErr, IfOk, length, true, false, Some, None};
+ghost use Rattle.std.specs.Prelude.{◌≡◌, ◌+◌, ◌*◌, ◌<◌, ◌≤◌, ◌⊎◌, ℕ, [], IfErr, IfOk, length, true, false, Some, None};
 ghost use Rattle.tp_model.specs.declared.trace.StepKind.TheVariants as kinds;
 ghost use Rattle.tp_model.specs.History.{first_id};
 ghost use Rattle.tp_model.specs.Steps.{rows_of, units_of};
 ghost use Rattle.tp_words.specs.Words.{claim_value, unit_value, IsFitClaim};
 ghost use Rattle.tp_rule.specs.Views.{hand_of, seen_by, view_of, IsNextUnit, IsSameSeat};
-ghost use Rattle.tp_rule.specs.Steps.{Chooses, MakesClaim, MakesCommit, MakesAbort, MakesKill, Loses, FindsOther, FindsEnded, AllowsClaim, AllowsKill, HasElement, HasWork, IsOwnWork, IsClaimed};
+ghost use Rattle.tp_rule.specs.declared.view.Known.TheVariants.{PartMark};
+ghost use Rattle.tp_rule.specs.Steps.{Raises, Knows, IsDone, Chooses, MakesClaim, MakesCommit, MakesAbort, MakesKill, Loses, FindsOther, FindsEnded, AllowsClaim, AllowsKill, HasElement, HasWork, IsOwnWork, IsClaimed};
 
-use crate::plays::{AbortExchange, ClaimExchange, CommitExchange, KillExchange, UnitChoice};
+use crate::plays::{AbortExchange, ClaimExchange, CommitExchange, KillExchange, Raise, UnitChoice};
 use crate::seat::Seat;
 use crate::words::Words;
 use tp_words::bits::{UNIT_ABORTED, UNIT_UNDECIDED};
@@ -145,5 +146,25 @@ impl Words {
             Some(now) => Err(now),
             None => unreachable!(),
         }
+    }
+
+    /// The mark of a part is raised over rows that the seat knows finished, if it is still the one that was found.
+    /// `true`: it is so high now, and the seat remembers it. Nothing more is seen by it, nor has the history changed.
+    pub fn raise(&self, seat: &mut Seat, part: u16, from: u16, to: u16) -> bool
+        requires own { IsSeatOf self.now seat.old }
+        requires one { IsPassOf self.now seat.old }
+        requires part { part < (limits_of self.now).parts }
+        requires up { (from ≤ to) × (to ≤ (limits_of self.now).rows) }
+        requires done { let l = limits_of self.now in (i : ℕ) → part * l.rows + from ≤ i → i < part * l.rows + to
+            → IsDone (view_of seat.old) i }
+        ensures same { IsSameSeat seat.old seat.new }
+        ensures raises { Raises (view_of seat.old) (view_of seat.new) }
+        ensures hit { result ≡ true → Knows (view_of seat.new) (PartMark part to) }
+    {
+        let word = self.places.mark(part);
+        let was = self
+            .table
+            .compare_exchange::<Raise>(seat, word, from as u64, to as u64);
+        was == from as u64
     }
 }

@@ -1,5 +1,5 @@
 //! Loads. Each shows the seat the history so far.
-ghost use Rattle.std.specs.Prelude.{◌≡◌, ◌<◌, [], Some};
+ghost use Rattle.std.specs.Prelude.{◌≡◌, ◌<◌, ◌≤◌, [], Some};
 ghost use Rattle.tp_model.specs.declared.types.Element.{Element};
 ghost use Rattle.tp_model.specs.declared.trace.StepKind.TheVariants as kinds;
 ghost use Rattle.tp_model.specs.History.{IsUnborn, element_of, end_of};
@@ -10,10 +10,10 @@ ghost use Rattle.tp_words.specs.Places.{size_of};
 ghost use Rattle.tp_words.specs.declared.words.Head.TheVariants.{Empty};
 ghost use Rattle.tp_rule.specs.Rule.{IsDraft};
 ghost use Rattle.tp_rule.specs.Views.{seen_by, view_of, HasPass, IsSameSeat};
-ghost use Rattle.tp_rule.specs.Steps.{Loads, Grew, Knows, NoneFrom, unchanged};
-ghost use Rattle.tp_rule.specs.declared.view.Known.TheVariants.{RowHead};
+ghost use Rattle.tp_rule.specs.Steps.{AreOver, Loads, Grew, Knows, NoneFrom, unchanged};
+ghost use Rattle.tp_rule.specs.declared.view.Known.TheVariants.{RowHead, PartMark};
 
-use crate::plays::{Load, LoadHead};
+use crate::plays::{Load, LoadHead, LoadMark};
 use crate::seat::Seat;
 use crate::words::Words;
 use tp_words::{Claim, Head, UnitWord};
@@ -119,5 +119,23 @@ impl Words {
             Some(word) => word,
             None => unreachable!(),
         }
+    }
+
+    /// Reads the mark of a part, and the seat remembers it: no row of the part below it has an element that isn't consumed
+    /// or killed, neither now nor at any later time.
+    #[inline(always)]
+    pub fn load_mark(&self, seat: &mut Seat, part: u16) -> u16
+        requires own { IsSeatOf self.now seat.old }
+        requires one { IsPassOf self.now seat.old }
+        requires part { part < (limits_of self.now).parts }
+        ensures same { IsSameSeat seat.old seat.new }
+        ensures grew { Grew kinds.Load unchanged [] (view_of seat.old) (view_of seat.new) }
+        ensures knows { Knows (view_of seat.new) (PartMark part result) }
+        ensures inside { result ≤ (limits_of self.now).rows }
+        ensures over { AreOver (limits_of self.now) (seen_by seat.new) part result }
+    {
+        let word = self.places.mark(part);
+        let found = self.table.load::<LoadMark>(seat, word);
+        found as u16
     }
 }

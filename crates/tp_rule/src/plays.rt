@@ -1,5 +1,5 @@
 //! What each kind of step tells the functions of this crate, in the numbers of the table, and how seats are cut and joined.
-ghost use Rattle.tp_rule.specs.Plays.{Telling, loads, loads_head, stores_key, stores_amount, stores_head, publishes, chooses, exchanges_claim, exchanges_commit, exchanges_abort, exchanges_kill};
+ghost use Rattle.tp_rule.specs.Plays.{Telling, loads, loads_head, stores_key, stores_amount, stores_head, publishes, chooses, exchanges_claim, exchanges_commit, exchanges_abort, exchanges_kill, loads_mark, raises};
 ghost use Rattle.tp_rule.specs.Views.{spent};
 ghost use Rattle.tp_rule.specs.Steps.{handed_on, handed_out, kept, parted, joined};
 
@@ -78,6 +78,19 @@ pub(crate) struct KillExchange;
 
 impl Effect for KillExchange {
     ghost told = { exchanges_kill };
+}
+
+/// The load of a mark, which the seat remembers.
+pub(crate) struct LoadMark;
+
+impl Effect for LoadMark {
+    ghost told = { loads_mark };
+}
+
+pub(crate) struct Raise;
+
+impl Effect for Raise {
+    ghost told = { raises };
 }
 
 /// The first pass goes to a new seat.

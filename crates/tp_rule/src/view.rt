@@ -41,6 +41,8 @@ pub struct Hand {
 pub enum Known {
     /// The head of a row: once it isn't empty, it stays as it is.
     RowHead(u32, Head),
+    /// The mark of a part: it never falls.
+    PartMark(u16, u16),
 }
 
 /// What a seat knows.

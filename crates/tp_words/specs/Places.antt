@@ -24,9 +24,13 @@ claim_place i = head_place i + 3
 abbrev pub unit_place : Limits → ℕ → ℕ
 unit_place l u = head_place (rows_of l) + u
 
+-- the place of the mark of part p, behind those of all units
+abbrev pub mark_place : Limits → ℕ → ℕ
+mark_place l p = head_place (rows_of l) + units_of l + p
+
 -- how many words there are
 abbrev pub size_of : Limits → ℕ
-size_of l = head_place (rows_of l) + units_of l
+size_of l = head_place (rows_of l) + units_of l + l.parts
 
 -- a word of the table
 pub data Word : Type 0 where
@@ -35,14 +39,16 @@ pub data Word : Type 0 where
   AmountWord : ℕ → Word
   ClaimWord : ℕ → Word
   UnitWord : ℕ → Word
+  MarkWord : ℕ → Word
 
--- it is there: its row or its unit is
+-- it is there: its row, its unit or its part is
 abbrev pub IsThere : Limits → Word → Type 0
 IsThere l (HeadWord i) = i < rows_of l
 IsThere l (KeyWord i) = i < rows_of l
 IsThere l (AmountWord i) = i < rows_of l
 IsThere l (ClaimWord i) = i < rows_of l
 IsThere l (UnitWord u) = u < units_of l
+IsThere l (MarkWord p) = p < l.parts
 
 -- its place
 abbrev pub place_of : Limits → Word → ℕ
@@ -51,6 +57,7 @@ place_of l (KeyWord i) = key_place i
 place_of l (AmountWord i) = amount_place i
 place_of l (ClaimWord i) = claim_place i
 place_of l (UnitWord u) = unit_place l u
+place_of l (MarkWord p) = mark_place l p
 
 -- places of different words differ
 abbrev pub PlacesDiffer : Type 0

@@ -1,4 +1,4 @@
-//! Where the words stand in the table: those of each row, then one for each unit.
+//! Where the words stand in the table: those of each row, then one for each unit, then one for each part.
 ghost use Rattle.std.specs.Prelude.{◌≡◌, ◌+◌, ◌*◌, ◌<◌, ◌≤◌, ◌↔◌, ℕ, IsOk, IfOk, Err};
 ghost use Rattle.tp_model.specs.Steps.{AreLimits};
 ghost use Rattle.tp_words.specs.Places.{PlacesDiffer, PlacesInside};
@@ -8,7 +8,7 @@ use tp_model::types::{Limits, Refusal};
 /// How many words a row has: its head, its key, its amount and its claim, in this order.
 pub const ROW_WORDS: usize = 4;
 
-/// The places of the words of a table. It has at most 65,536 words.
+/// The places of the words of a table. It has at most 65,568 words.
 #[derive(Clone, Copy, Debug, PartialEq, Eq)]
 pub struct Places {
     /// What the table has room for, each limit in its range.
@@ -18,7 +18,7 @@ pub struct Places {
 
 impl Places {
     ghost use Rattle.tp_model.specs.Steps.{rows_of, units_of, IsRowOf};
-    ghost use Rattle.tp_words.specs.Places.{head_place, key_place, amount_place, claim_place, unit_place, size_of};
+    ghost use Rattle.tp_words.specs.Places.{head_place, key_place, amount_place, claim_place, unit_place, mark_place, size_of};
     ghost use Rattle.tp_model.specs.declared.types.Refusal.TheVariants as Refusal;
 
     /// The places for these limits. The one refusal is `BadLimits`, for a limit outside its range.
@@ -56,7 +56,8 @@ impl Places {
     pub fn size(&self) -> usize
         ensures { result ≡ size_of self.now.limits }
     {
-        ROW_WORDS * self.rows() as usize + self.limits.parts as usize * self.limits.units as usize
+        let parts = self.limits.parts as usize;
+        ROW_WORDS * self.rows() as usize + parts * self.limits.units as usize + parts
     }
 
     /// The place of the head of a row.
@@ -107,6 +108,17 @@ impl Places {
         ensures inside { result < size_of self.now.limits }
     {
         ROW_WORDS * self.rows() as usize + unit as usize
+    }
+
+    /// The place of the mark of a part.
+    #[inline(always)]
+    pub fn mark(&self, part: u16) -> usize
+        requires { part < self.now.limits.parts }
+        ensures place { result ≡ mark_place self.now.limits part }
+        ensures inside { result < size_of self.now.limits }
+    {
+        let units = self.limits.parts as usize * self.limits.units as usize;
+        ROW_WORDS * self.rows() as usize + units + part as usize
     }
 }
 

@@ -147,12 +147,13 @@ fn places(rt: HostRuntime) {
         return;
     };
     assert!(rt; small.rows() == 16);
-    assert!(rt; small.size() == 576);
+    assert!(rt; small.size() == 578);
     assert!(rt; small.head(15) == 60);
     assert!(rt; small.key(15) == 61);
     assert!(rt; small.amount(15) == 62);
     assert!(rt; small.claim(15) == 63);
     assert!(rt; small.unit(256) == 320);
+    assert!(rt; small.mark(1) == 577);
     assert!(rt; small.part_end(0) == 8);
     assert!(rt; small.part_end(7) == 8);
     assert!(rt; small.part_end(8) == 16);
@@ -161,7 +162,7 @@ fn places(rt: HostRuntime) {
         assert!(rt; false);
         return;
     };
-    assert!(rt; largest.size() == 65536);
+    assert!(rt; largest.size() == 65568);
 }
 
 #[test]

@@ -5,6 +5,7 @@ mod asking;
 mod cancels;
 mod examples;
 mod kills;
+mod marks;
 mod refusals;
 mod threads;
 

@@ -1,11 +1,10 @@
 use Rattle.std.proofs.Common.{◌≡◌, ◌+◌, ◌*◌, ◌≤◌, ℕ, sym, ◌∙◌, ap, refl, arith, subst}
 use Rattle.tp_model.specs.declared.types.Limits.{Limits}
 use Rattle.tp_model.specs.declared.types.Claimed.TheVariants as claimeds
-use Rattle.tp_model.specs.Steps.{rows_of}
 use Rattle.tp_rule.specs.Tables.{limits_of}
 use Rattle.tp_rule.specs.Views.{view_of}
 use Rattle.tp_manager.specs.Shown.{ManagerShown, PassShown, shown}
-use Rattle.tp_manager.specs.Bounds.{claim_steps, try_steps}
+use Rattle.tp_manager.specs.Bounds.{claim_steps, part_steps}
 use Rattle.tp_manager.specs.Calls.{Claims, Takes}
 use Rattle.tp_manager.specs.Walks.{Steady}
 use Rattle.tp_manager.proofs.Walks.{follows}
@@ -26,8 +25,8 @@ steady c = steady_at _ _ _ (lim c) c.pass.invariant.steady
 not : (c : After-choose_unit) → ¬ (c.pass.inside.used ≡ (limits_of c.self.inside.shared.words).units)
 not c = subst (λ (z : Limits). ¬ (c.pass.inside.used ≡ z.units)) (sym c.self.inside.shared.same) c.if-pass-units.false
 
-few : (l k : Limits) → l ≡ k → 1 + rows_of l * try_steps l ≤ claim_steps k
-few l k same = subst (λ (z : Limits). 1 + rows_of l * try_steps l ≤ claim_steps z) same (omega arith)
+few : (l k : Limits) → l ≡ k → 1 + l.parts * part_steps l ≤ claim_steps k
+few l k same = subst (λ (z : Limits). 1 + l.parts * part_steps l ≤ claim_steps z) same (omega arith)
 
 pub scan-requires-clause-steady : goal.scan-requires-clause-steady
 scan-requires-clause-steady c = chose_steady _ _ _ _ (steady (goal.at.scan-requires-clause-steady c).After-choose_unit) c.choose_unit.ensures.chooses

@@ -25,9 +25,9 @@ overflow_add-found c = let l : Limits = limits_of c.args.self.now.words in let h
 
 pub loop-row-preserved : goal.loop-row-preserved
 loop-row-preserved c = let l : Limits = limits_of c.args.self.now.words in let s = kill_steps l in let row = c.loop-row.row in let next = c.cancel_row-tally.new.row in let i = c.loop-row.invariant in
-    let v = view_of c.args.seat.now in let w = view_of c.loop-row.seat in let y = view_of c.cancel_row-tally.new.seat in let r = c.cancel_row-tally.result in let on = c.cancel_row-tally.ensures.on.0 in record {
+    let v = view_of c.args.seat.now in let w = view_of c.loop-row.seat in let y = view_of c.cancel_row-tally.new.seat in let r = c.cancel_row-tally.result in let on = c.cancel_row-tally.ensures.on.on in record {
       same = search rules;
-      inside = c.cancel_row-tally.ensures.on.1;
+      inside = c.cancel_row-tally.ensures.on.inside;
       tallied = tallied_few l c.args.root (row * s + s) (next * s) next (c.loop-row.found + r.found) (c.loop-row.killed + r.killed) v y (rows_more row next s on)
           (tallied_on l c.args.root (row * s + s) row next (c.loop-row.found + r.found) (c.loop-row.killed + r.killed) v w y on c.cancel_row-tally.ensures.none (swept_begins l c.args.root (row * s) i.tallied.events v w i.tallied.swept)
           (tallied_next l c.args.root (row * s) s row c.loop-row.found r.found c.loop-row.killed r.killed v w y i.tallied c.cancel_row-tally.ensures.told));

@@ -16,7 +16,7 @@ born c = looked_then _ 1 1 _ _ _ (looked _ 1 _ _ c.head_on-head.ensures.acted) c
 
 -- no row that is passed over had an element before
 skips : (c : After-head_on-head) → (i : ℕ) → c.args.row.now < i → i < c.head_on-head.new.row → IsUnborn (seen_by c.args.seat.now) i
-skips c i low high = unborn_before _ _ i (looked_begins _ 1 _ _ (looked _ 1 _ _ c.head_on-head.ensures.acted)) (c.head_on-head.ensures.on.none i low high)
+skips c i low high = unborn_before _ _ i (looked_begins _ 1 _ _ (looked _ 1 _ _ c.head_on-head.ensures.acted)) (c.head_on-head.ensures.none i low high)
 
 -- the element that is born there is of the family
 same : (c : In-Some) → c.in-Some.ensures.told.0.0.root ≡ c.args.root

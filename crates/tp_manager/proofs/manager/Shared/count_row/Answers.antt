@@ -19,7 +19,7 @@ two c = acted_then _ 1 1 _ _ _ c.head_on-head.ensures.acted c.birth_from.ensures
 skips : (c : After-head_on-head) → let l : Limits = limits_of c.args.self.now.words in account_below l (seen_by c.args.seat.now) (c.args.row.now + 1) ≡ account_below l (seen_by c.args.seat.now) c.head_on-head.new.row
 skips c = let on = c.head_on-head.ensures.on in let first : c.args.row.now < c.head_on-head.new.row = on.on in
     none_more (limits_of c.args.self.now.words) (seen_by c.args.seat.now) (c.args.row.now + 1) c.head_on-head.new.row (omega arith)
-    (λ i low high. unborn_before _ _ i (looked_begins _ 1 _ _ (looked _ 1 _ _ c.head_on-head.ensures.acted)) (on.none i (omega arith) high))
+    (λ i low high. unborn_before _ _ i (looked_begins _ 1 _ _ (looked _ 1 _ _ c.head_on-head.ensures.acted)) (c.head_on-head.ensures.none i (omega arith) high))
 
 pub returns-in_default-clause-looked : goal.returns-in_default-clause-looked
 returns-in_default-clause-looked c = let l : Limits = limits_of c.args.self.now.words in

@@ -22,8 +22,8 @@ loop-row-init c = let l : Limits = limits_of c.args.self.now.words in record {
 pub loop-row-preserved : goal.loop-row-preserved
 loop-row-preserved c = let l : Limits = limits_of c.args.self.now.words in let i = c.loop-row.invariant in let row = c.loop-row.row in let s = look_steps l in let next = c.count_row.new.row in record {
   same = search rules;
-  inside = c.count_row.ensures.on.1;
-  looked = looked_few l (row * s + s) (next * s) _ _ (rows_more row next s c.count_row.ensures.on.0) (looked_then l (row * s) s _ _ _ i.looked c.count_row.ensures.looked);
+  inside = c.count_row.ensures.on.inside;
+  looked = looked_few l (row * s + s) (next * s) _ _ (rows_more row next s c.count_row.ensures.on.on) (looked_then l (row * s) s _ _ _ i.looked c.count_row.ensures.looked);
   few = c.count_row.ensures.few;
   counted = λ e.
       let m : seen_by c.loop-row.seat ≡ seen_by c.args.seat.now = squeezed (seen_by c.args.seat.now) (seen_by c.loop-row.seat) (seen_by c.count_row.new.seat) (looked_begins l (row * s) _ _ i.looked) (looked_begins l s _ _ c.count_row.ensures.looked) e in

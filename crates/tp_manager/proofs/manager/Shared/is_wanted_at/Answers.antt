@@ -26,7 +26,7 @@ passed : (c : After-head_on-head) (m : ℕ) (y : View) → Looked (limits_of c.a
     → PassedOver (limits_of c.args.self.now.words) c.args.wanted c.args.row.now (seen_by c.head_on-head.new.seat) y.seen
     → Sought (limits_of c.args.self.now.words) (look_steps (limits_of c.args.self.now.words)) (EachRow (PassedOver (limits_of c.args.self.now.words) c.args.wanted) c.args.row.now c.head_on-head.new.row) (view_of c.args.seat.now) y
 passed c m y a le own = let l : Limits = limits_of c.args.self.now.words in let e = c.head_on-head.ensures in
-    sought_on l (PassedOver l c.args.wanted) (over_widens l c.args.wanted) (look_steps l) m c.args.row.now c.head_on-head.new.row (view_of c.args.seat.now) (view_of c.head_on-head.new.seat) y e.acted a le (none_over l c.args.wanted) e.on.none own
+    sought_on l (PassedOver l c.args.wanted) (over_widens l c.args.wanted) (look_steps l) m c.args.row.now c.head_on-head.new.row (view_of c.args.seat.now) (view_of c.head_on-head.new.seat) y e.acted a le (none_over l c.args.wanted) e.none own
 
 pub returns-then-not-may_be_wanted-clause-acted : goal.returns-then-not-may_be_wanted-clause-acted
 returns-then-not-may_be_wanted-clause-acted c = acted_few _ 1 _ _ _ (omega arith) c.head_on-head.ensures.acted

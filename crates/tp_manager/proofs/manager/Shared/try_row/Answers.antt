@@ -1,4 +1,5 @@
-use Rattle.std.proofs.Common.{◌≡◌, ◌+◌, ◌≤◌, ℕ, sym, ◌∙◌, refl, arith, rules}
+use Rattle.std.proofs.Common.{◌≡◌, ◌⊎◌, ◌+◌, ◌<◌, ◌≤◌, ℕ, Some, List, sym, ◌∙◌, ap, refl, ⊎_elim, arith, rules}
+use Rattle.tp_model.specs.declared.event.Event.{Event}
 use Rattle.tp_model.specs.declared.types.Element.{Element}
 use Rattle.tp_model.specs.declared.types.Limits.{Limits}
 use Rattle.tp_model.specs.declared.types.Status.TheVariants.{Waiting}
@@ -11,20 +12,25 @@ use Rattle.tp_rule.specs.Tables.{limits_of}
 use Rattle.tp_rule.specs.Views.{seen_by, view_of}
 use Rattle.tp_rule.specs.declared.view.View.{View}
 use Rattle.tp_manager.specs.Bounds.{body_steps, status_steps, try_steps}
-use Rattle.tp_manager.specs.Walks.{EachRow, Looked, PassedBy, Sought}
-use Rattle.tp_manager.proofs.Walks.{acted_by, looked, looked_begins, looked_none, looked_then}
+use Rattle.tp_manager.specs.Walks.{EachRow, Looked, PassedBy, Rose, Sought}
+use Rattle.tp_model.specs.Steps.{IsLegal}
+use Rattle.tp_model.specs.History.{element_of}
+use mathlib.Core.List.{IsPrefix}
+use Rattle.tp_manager.proofs.Cancels.{few_rows}
+use Rattle.tp_manager.proofs.Marks.{rose_later, rose_none, rose_one}
+use Rattle.tp_manager.proofs.Walks.{acted_by, grew_legal, grew_seen, looked, looked_begins, looked_none, looked_then}
 use Rattle.tp_manager.proofs.Looks.{there_later}
 use Rattle.tp_manager.proofs.Scans.{allows, few_attempts, none_passed, pass_missed, pass_other, pass_status, pass_unborn, passed_widens, took_by, took_few}
 use Rattle.tp_manager.proofs.Seeks.{sought_on}
 use Rattle.tp_manager.proofs.manager.Shared.try_row.Goals as goal
-use Rattle.tp_manager.proofs.manager.Shared.try_row.Goals.{After-head_on-head, After-birth_from, After-status_at-claim}
+use Rattle.tp_manager.proofs.manager.Shared.try_row.Goals.{After-head_on-head, After-status_at-claim, After-low_after}
 
 -- what is passed where the row's own element is
 passed : (c : After-head_on-head) (m : ℕ) (y : View) → Looked (limits_of c.args.self.now.words) m (view_of c.head_on-head.new.seat) y → 1 + m ≤ try_steps (limits_of c.args.self.now.words)
     → PassedBy (limits_of c.args.self.now.words) c.args.stage c.args.row.now (seen_by c.head_on-head.new.seat) y.seen
     → Sought (limits_of c.args.self.now.words) (try_steps (limits_of c.args.self.now.words)) (EachRow (PassedBy (limits_of c.args.self.now.words) c.args.stage) c.args.row.now c.head_on-head.new.row) (view_of c.args.seat.now) y
 passed c m y rest le own = let l : Limits = limits_of c.args.self.now.words in let e = c.head_on-head.ensures in
-    sought_on l (PassedBy l c.args.stage) (passed_widens l c.args.stage) (try_steps l) m c.args.row.now c.head_on-head.new.row (view_of c.args.seat.now) (view_of c.head_on-head.new.seat) y e.acted rest le (none_passed l c.args.stage) e.on.none own
+    sought_on l (PassedBy l c.args.stage) (passed_widens l c.args.stage) (try_steps l) m c.args.row.now c.head_on-head.new.row (view_of c.args.seat.now) (view_of c.head_on-head.new.seat) y e.acted rest le (none_passed l c.args.stage) e.none own
 
 -- the steps from the head to the status
 found : (c : After-status_at-claim) → Looked (limits_of c.args.self.now.words) (1 + status_steps (limits_of c.args.self.now.words)) (view_of c.head_on-head.new.seat) (view_of c.status_at-claim.new.seat)
@@ -33,19 +39,56 @@ found c = looked_then _ 1 _ _ _ _ c.birth_from.ensures.looked (looked _ _ _ _ c.
 head_stage : (e : Element) (b : Birth) → head_of e ≡ There b.stage b.root b.by → b.stage ≡ e.stage
 head_stage e b p = cc
 
-pub returns-then-not-is_of_stage-clause-told : goal.returns-then-not-is_of_stage-clause-told
-returns-then-not-is_of_stage-clause-told c = let l : Limits = limits_of c.args.self.now.words in let h = seen_by c.head_on-head.new.seat in let at = goal.at.returns-then-not-is_of_stage-clause-told c in
+-- nothing more is known finished
+still_low : (c : After-head_on-head) (g : List Event) → (c.args.low.now ≤ c.head_on-head.new.row) × Rose (limits_of c.args.self.now.words) g c.args.low.now c.args.low.now
+still_low c g = let on = c.head_on-head.ensures.on.on in let low = c.requires.low in (omega arith, rose_none (limits_of c.args.self.now.words) g c.args.low.now)
+
+-- or this row is
+more_low : (c : After-low_after) (g : List Event) → IsLegal (limits_of c.args.self.now.words) g → IsPrefix (seen_by c.status_at-claim.new.seat) g → (c.low_after.result ≤ c.head_on-head.new.row) × Rose (limits_of c.args.self.now.words) g c.args.low.now c.low_after.result
+more_low c g legal begins = let l : Limits = limits_of c.args.self.now.words in let on = c.head_on-head.ensures.on.on in let low = c.requires.low in let h = seen_by c.status_at-claim.new.seat in
+    let there = there_later _ _ c.args.row.now c.in-Some.birth (looked_begins l _ _ _ (looked l _ _ _ c.status_at-claim.ensures.acted)) c.in-Some.ensures.told.0 in (
+      low_near c.args.low.now c.low_after.result c.args.row.now c.head_on-head.new.row low on c.low_after.ensures,
+      rose_later l h g _ _ legal begins (rose_one l h c.args.low.now c.low_after.result c.args.row.now c.in-Some.birth c.status_at-claim.result.1 there c.status_at-claim.ensures.status c.low_after.ensures),
+    )
+  where
+    low_near : {S : Type 0} (low now row next : ℕ) → low ≤ row → row < next → (now ≡ low) ⊎ ((now ≡ low + 1) × (low ≡ row) × S) → now ≤ next
+    low_near low now row next a b o = ⊎_elim (λ e. omega arith) (λ t. (let x = t.0 in let y = t.1 in omega arith)) o
+
+pub returns-then-not-is_tried-clause-told : goal.returns-then-not-is_tried-clause-told
+returns-then-not-is_tried-clause-told c = let l : Limits = limits_of c.args.self.now.words in let h = seen_by c.head_on-head.new.seat in let at = goal.at.returns-then-not-is_tried-clause-told c in
     passed at.After-head_on-head 0 (view_of c.head_on-head.new.seat) (looked_none l _ c.head_on-head.ensures.acted.walk.steady) (omega arith)
-    (pass_other l c.args.stage c.args.row.now h h h (begins_refl h) (λ x p. c.is_of_stage.ensures.no c.if-not-is_of_stage.true x (c.head_on-head.ensures.told.born x p)))
+    (pass_other l c.args.stage c.args.row.now h h h (begins_refl h) (λ x p. c.is_tried.ensures.no c.if-not-is_tried.true x (c.head_on-head.ensures.told.born x p)))
+
+pub returns-then-not-is_tried-clause-low : goal.returns-then-not-is_tried-clause-low
+returns-then-not-is_tried-clause-low c = still_low (goal.at.returns-then-not-is_tried-clause-low c).After-head_on-head (seen_by c.head_on-head.new.seat)
 
 pub returns-in_default-clause-told : goal.returns-in_default-clause-told
 returns-in_default-clause-told c = let l : Limits = limits_of c.args.self.now.words in let h = seen_by c.birth_from.new.seat in let at = goal.at.returns-in_default-clause-told c in let b = c.birth_from.ensures.looked in
     passed at.After-head_on-head 1 (view_of c.birth_from.new.seat) b (omega arith) (pass_unborn l c.args.stage c.args.row.now _ h h (looked_begins l _ _ _ b) c.in_default.ensures.told)
 
+pub returns-in_default-clause-low : goal.returns-in_default-clause-low
+returns-in_default-clause-low c = still_low (goal.at.returns-in_default-clause-low c).After-head_on-head (seen_by c.birth_from.new.seat)
+
+pub low_after-requires : goal.low_after-requires
+low_after-requires c = let few = few_rows (limits_of c.args.self.now.words) c.args.self.now.words.places.valid in let less = c.requires.row in omega arith
+
+pub returns-then-birth-stage-clause-told : goal.returns-then-birth-stage-clause-told
+returns-then-birth-stage-clause-told c = let l : Limits = limits_of c.args.self.now.words in let at = goal.at.returns-then-birth-stage-clause-told c in let b = found at.After-status_at-claim in let h = seen_by c.status_at-claim.new.seat in
+    let there = there_later _ _ c.args.row.now c.in-Some.birth (looked_begins l _ _ _ (looked l _ _ _ c.status_at-claim.ensures.acted)) c.in-Some.ensures.told.0 in
+    passed at.After-head_on-head _ (view_of c.status_at-claim.new.seat) b (omega arith)
+    (pass_other l c.args.stage c.args.row.now _ h h (looked_begins l _ _ _ b) (λ x p st. c.if-birth-stage.true (head_stage there.0 c.in-Some.birth there.2 ∙ (ap (λ (e : Element). e.stage) (one h c.args.row.now there.0 x there.1 p) ∙ st))))
+  where
+    one : (h : List Event) (i : ℕ) (x y : Element) → element_of h i ≡ Some x → element_of h i ≡ Some y → x ≡ y
+    one h i x y p q = cc
+
+pub returns-then-birth-stage-clause-low : goal.returns-then-birth-stage-clause-low
+returns-then-birth-stage-clause-low c = let h = seen_by c.status_at-claim.new.seat in more_low (goal.at.returns-then-birth-stage-clause-low c).After-low_after h c.status_at-claim.ensures.acted.walk.steady.shows.legal (begins_refl h)
+
 pub returns-in_default-status : goal.returns-in_default-status
 returns-in_default-status c = let l : Limits = limits_of c.args.self.now.words in let at = goal.at.returns-in_default-status c in let b = found at.After-status_at-claim in let h = seen_by c.status_at-claim.new.seat in let s = c.status_at-claim.ensures.status in let not = c.in_default-status.not-Waiting in record {
   same = search rules;
-  on = (c.head_on-head.ensures.on.on, c.head_on-head.ensures.on.inside);
+  on = c.head_on-head.ensures.on;
+  low = more_low at.After-low_after h c.status_at-claim.ensures.acted.walk.steady.shows.legal (begins_refl h);
   told = passed at.After-head_on-head _ (view_of c.status_at-claim.new.seat) b (omega arith)
       (pass_status l c.args.stage c.args.row.now _ h h (looked_begins l _ _ _ b) (begins_refl h) (λ x. let is : c.status_at-claim.result.1 ≡ Waiting x.0 = s ∙ x.1 in not x.0 is));
 }
@@ -72,9 +115,20 @@ returns-in-Err-clause-told c = let l : Limits = limits_of c.args.self.now.words 
 pub returns-in-Ok-clause-told : goal.returns-in-Ok-clause-told
 returns-in-Ok-clause-told c = let l : Limits = limits_of c.args.self.now.words in let m = found (goal.at.returns-in-Ok-clause-told c).After-status_at-claim in let e = c.element_at-element.ensures in
     let a = looked_then l _ body_steps _ _ _ (looked_then l 1 _ _ _ _ (looked l 1 _ _ c.head_on-head.ensures.acted) m) e.looked in
-    let there = c.in-Some.ensures.told in
-    let staged : c.element_at-element.result.stage ≡ c.args.stage = e.head.0 ∙ (head_stage there.0.0 _ there.0.2 ∙ c.is_of_stage.ensures.yes c.if-not-is_of_stage.false there.0.0 (there.1 ∙ sym there.0.2)) in (
+    let staged : c.element_at-element.result.stage ≡ c.args.stage = e.head.0 ∙ c.if-birth-stage.false in (
       took_few l c.args.stage c.args.unit (c.in-Waiting.attempts + 1) c.element_at-element.result _ (try_steps l) _ _ (omega arith)
           (took_by l c.args.stage c.args.unit (c.in-Waiting.attempts + 1) c.element_at-element.result _ c.args.row.now _ _ _ e.head.2 a e.born staged c.in-Ok.ensures.hit),
       e.head.1,
     )
+
+pub returns-in-Err-clause-low : goal.returns-in-Err-clause-low
+returns-in-Err-clause-low c = let l : Limits = limits_of c.args.self.now.words in let at = goal.at.returns-in-Err-clause-low c in let m = found at.After-status_at-claim in let e = c.element_at-element.ensures.looked in let miss = c.in-Err.ensures.miss in
+    let a = looked_then l _ body_steps _ _ _ m e in
+    let b = acted_by l kinds.ClaimExchange _ _ a.walk.steady refl miss.0 in
+    more_low at.After-low_after (seen_by c.claim_exchange.new.seat) b.walk.steady.shows.legal (begins_trans _ _ _ (looked_begins l _ _ _ e) (looked_begins l 1 _ _ (looked l 1 _ _ b)))
+
+pub returns-in-Ok-clause-low : goal.returns-in-Ok-clause-low
+returns-in-Ok-clause-low c = let l : Limits = limits_of c.args.self.now.words in let at = goal.at.returns-in-Ok-clause-low c in let m = found at.After-status_at-claim in let e = c.element_at-element.ensures in
+    let a = looked_then l _ body_steps _ _ _ m e.looked in
+    let g = c.in-Ok.ensures.hit in
+    more_low at.After-low_after (seen_by c.claim_exchange.new.seat) (grew_legal l kinds.ClaimExchange _ _ _ _ a.walk.steady g) (begins_trans _ _ _ (looked_begins l _ _ _ e.looked) (grew_seen l kinds.ClaimExchange _ _ _ _ a.walk.steady g))

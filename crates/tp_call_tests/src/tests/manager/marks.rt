@@ -1,0 +1,59 @@
+//! Claims that begin behind what is finished.
+
+use super::SMALL;
+use super::asking::{aborts, claims, commits, submits};
+use crate::tests::fixture::two;
+use tp_model::types::{Limits, Outcome};
+
+const NOTHING: Outcome = Outcome::Committed { first: 0, count: 0 };
+
+#[test]
+fn claims_go_on(rt: HostRuntime) {
+    let limits = Limits { units: 8, ..SMALL };
+    let (manager, mut client, mut server) = two(&rt, limits);
+    assert!(rt; submits(&manager, &mut client, 1, 0, 5, Ok(0)));
+    assert!(rt; submits(&manager, &mut client, 2, 0, 6, Ok(1)));
+    assert!(rt; submits(&manager, &mut client, 1, 0, 7, Ok(2)));
+    let first = claims(&manager, &mut server, 1).expect(&rt, "no work");
+    assert!(rt; first.element.id == 0);
+    assert!(rt; commits(&manager, &mut server, &[], NOTHING));
+    // Row 0 is finished, and row 1 isn't: it waits in another stage.
+    let second = claims(&manager, &mut server, 1).expect(&rt, "no work");
+    assert!(rt; second.element.id == 2);
+    assert!(rt; commits(&manager, &mut server, &[], NOTHING));
+    assert!(rt; claims(&manager, &mut server, 1).is_none());
+    let third = claims(&manager, &mut server, 2).expect(&rt, "no work");
+    assert!(rt; third.element.id == 1);
+    assert!(rt; commits(&manager, &mut server, &[], NOTHING));
+    assert!(rt; claims(&manager, &mut server, 1).is_none());
+    assert!(rt; submits(&manager, &mut client, 1, 0, 8, Ok(3)));
+    let last = claims(&manager, &mut server, 1).expect(&rt, "no work");
+    assert!(rt; last.element.id == 3);
+    drop(server);
+    drop(client);
+    drop(manager);
+}
+
+#[test]
+fn parked_stays(rt: HostRuntime) {
+    let limits = Limits {
+        attempts: 1,
+        units: 8,
+        ..SMALL
+    };
+    let (manager, mut client, mut server) = two(&rt, limits);
+    assert!(rt; submits(&manager, &mut client, 1, 0, 5, Ok(0)));
+    assert!(rt; submits(&manager, &mut client, 1, 0, 6, Ok(1)));
+    let first = claims(&manager, &mut server, 1).expect(&rt, "no work");
+    assert!(rt; first.element.id == 0);
+    assert!(rt; aborts(&manager, &mut server));
+    let second = claims(&manager, &mut server, 1).expect(&rt, "no work");
+    assert!(rt; second.element.id == 1);
+    assert!(rt; commits(&manager, &mut server, &[], NOTHING));
+    assert!(rt; claims(&manager, &mut server, 1).is_none());
+    // The mark stays at the parked element.
+    assert!(rt; manager.next_error(&mut client, 0) == Some(0));
+    drop(server);
+    drop(client);
+    drop(manager);
+}

@@ -1,0 +1,84 @@
+use Rattle.std.proofs.Common.{◌≡◌, ◌+◌, ◌-◌, ◌*◌, ◌≤◌, ℕ, sym, ap, subst, arith, rules, mul-le-mul_right}
+use mathlib.Core.List.{IsPrefix}
+use Rattle.tp_model.specs.declared.types.Limits.{Limits}
+use Rattle.tp_model.specs.Steps.{IsLegal, IsRowOf}
+use Rattle.tp_model.proofs.Bridges.{begins_refl}
+use Rattle.tp_rule.specs.Tables.{limits_of}
+use Rattle.tp_rule.specs.Views.{seen_by, view_of}
+use Rattle.tp_manager.specs.Bounds.{part_steps, try_steps}
+use Rattle.tp_manager.specs.Walks.{EachRow, Looked, OfPart, PassedBy, Rose, Sought}
+use Rattle.tp_manager.proofs.Walks.{looked, looked_then, sought_few, walked_begins}
+use Rattle.tp_manager.proofs.Marks.{over_passed, rose_then, took_looked}
+use Rattle.tp_manager.proofs.Scans.{passed_widens, took_few, took_then}
+use Rattle.tp_manager.proofs.Seeks.{begun_looked, begun_on, rows_more, sought_from, sought_then}
+use Rattle.tp_manager.proofs.manager.Shared.scan_part.Goals as goal
+use Rattle.tp_manager.proofs.manager.Shared.scan_part.Goals.{After-mark_at-mark, After-try_row}
+
+-- where the part begins, and where the scan does
+first : (c : After-mark_at-mark) → c.args.part * (limits_of c.args.self.now.words).rows ≡ c.args.part * c.args.self.now.places.limits.rows
+first c = ap (λ (z : Limits). c.args.part * z.rows) c.args.self.now.same
+
+wide : (c : After-mark_at-mark) → (limits_of c.args.self.now.words).rows ≡ c.args.self.now.places.limits.rows
+wide c = ap (λ (z : Limits). z.rows) c.args.self.now.same
+
+abbrev from : (c : After-mark_at-mark) → ℕ
+from c = c.args.part * c.args.self.now.places.limits.rows + c.mark_at-mark.result
+
+-- the row is of the part, and so is what comes next, but for the part's end
+near : (c : After-try_row) → IsRowOf (limits_of c.args.self.now.words) c.args.part c.loop-row.row × (c.try_row.new.row ≤ c.args.part * (limits_of c.args.self.now.words).rows + (limits_of c.args.self.now.words).rows)
+near c = let l : Limits = limits_of c.args.self.now.words in let i = c.loop-row.invariant in let low = i.from in let less = c.loop-row-test.true in
+    let a : c.args.part * l.rows ≡ c.args.part * c.args.self.now.places.limits.rows = ap (λ (z : Limits). c.args.part * z.rows) c.args.self.now.same in
+    let b : l.rows ≡ c.args.self.now.places.limits.rows = ap (λ (z : Limits). z.rows) c.args.self.now.same in
+    let own : IsRowOf l c.args.part c.loop-row.row = (c.requires.part, omega arith, omega arith) in (own, c.try_row.ensures.on.part c.args.part own)
+
+-- what is known finished after one more row
+rose : (c : After-try_row) → IsLegal (limits_of c.args.self.now.words) (seen_by c.try_row.new.seat) → IsPrefix (seen_by c.loop-row.seat) (seen_by c.try_row.new.seat)
+    → Rose (limits_of c.args.self.now.words) (seen_by c.try_row.new.seat) (c.args.part * c.args.self.now.places.limits.rows + c.mark_at-mark.result) c.try_row.new.low
+rose c legal begins = rose_then (limits_of c.args.self.now.words) (seen_by c.loop-row.seat) (seen_by c.try_row.new.seat) _ c.loop-row.low c.try_row.new.low legal begins c.loop-row.invariant.rose c.try_row.ensures.low.1
+
+-- the steps up to the row
+before : (c : After-try_row) → Looked (limits_of c.args.self.now.words) (1 + (c.loop-row.row - (c.args.part * c.args.self.now.places.limits.rows + c.mark_at-mark.result)) * try_steps (limits_of c.args.self.now.words)) (view_of c.args.seat.now) (view_of c.loop-row.seat)
+before c = let l : Limits = limits_of c.args.self.now.words in
+    looked_then l 1 _ _ _ _ (looked l 1 _ _ c.mark_at-mark.ensures.acted)
+    (begun_looked l (PassedBy l c.args.stage) (passed_widens l c.args.stage) (try_steps l) _ c.loop-row.row _ _ c.loop-row.invariant.begun c.mark_at-mark.ensures.acted.walk.steady)
+
+pub raise_to-requires-clause-low : goal.raise_to-requires-clause-low
+raise_to-requires-clause-low c = let l : Limits = limits_of c.args.self.now.words in let at = (goal.at.raise_to-requires-clause-low c).After-try_row in let t = c.in-Some.ensures.told.0 in
+    let on = (near at).1 in let low = c.try_row.ensures.low.0 in (
+      omega arith,
+      subst (λ z. Rose l (seen_by c.try_row.new.seat) (z + c.mark_at-mark.result) c.try_row.new.low) (sym (first (goal.at.raise_to-requires-clause-low c).After-mark_at-mark))
+          (rose at t.walk.steady.shows.legal (walked_begins l _ _ _ _ t.walk)),
+    )
+
+pub returns-in-Some-clause-told : goal.returns-in-Some-clause-told
+returns-in-Some-clause-told c = let l : Limits = limits_of c.args.self.now.words in let s = try_steps l in let at = goal.at.returns-in-Some-clause-told c in let n = near at.After-try_row in let start = c.loop-row.invariant.from in
+    let e = first at.After-mark_at-mark in let high = n.0.2 in let d : ℕ = c.loop-row.row - (c.args.part * c.args.self.now.places.limits.rows + c.mark_at-mark.result) in
+    let room : d * s + s ≤ l.rows * s = rows_more d l.rows s (omega arith) in (
+      took_few l c.args.stage c.args.unit c.in-Some.taken.attempt c.in-Some.taken.element ((1 + d * s) + s + 1) (part_steps l) _ _ (omega arith)
+          (took_looked l c.args.stage c.args.unit c.in-Some.taken.attempt c.in-Some.taken.element ((1 + d * s) + s) 1 _ _ _
+          (took_then l c.args.stage c.args.unit c.in-Some.taken.attempt c.in-Some.taken.element (1 + d * s) s _ _ _ (before at.After-try_row) c.in-Some.ensures.told.0) c.raise_to.ensures.looked c.raise_to.ensures.seen),
+      c.in-Some.ensures.told.1,
+    )
+
+pub loop-row-preserved : goal.loop-row-preserved
+loop-row-preserved c = let l : Limits = limits_of c.args.self.now.words in let at = goal.at.loop-row-preserved c in let t = c.in_default.ensures.told in let i = c.loop-row.invariant in let on = c.try_row.ensures.on.on in let n = near at.After-try_row in
+    let start = i.from in let e = first at.After-mark_at-mark in let w = wide at.After-mark_at-mark in let top = n.1 in record {
+      same = search rules;
+      from = omega arith;
+      inside = omega arith;
+      low = c.try_row.ensures.low.0;
+      rose = rose at.After-try_row t.walk.steady.shows.legal (walked_begins l _ _ _ _ t.walk);
+      begun = begun_on l (PassedBy l c.args.stage) (passed_widens l c.args.stage) (try_steps l) _ c.loop-row.row _ _ _ i.begun c.try_row.new.row start on t;
+    }
+
+pub returns-clause-told : goal.returns-clause-told
+returns-clause-told c = let l : Limits = limits_of c.args.self.now.words in let s = try_steps l in let at = (goal.at.returns-clause-told c).After-mark_at-mark in let i = c.loop-row.invariant in
+    let high = i.inside in let low = c.loop-row-test.false in let e = first at in let w = wide at in
+    let P = PassedBy l c.args.stage in let F : ℕ = c.args.part * c.args.self.now.places.limits.rows + c.mark_at-mark.result in let d : ℕ = c.loop-row.row - F in
+    let all : c.loop-row.row ≡ c.args.part * l.rows + l.rows = omega arith in
+    let few : d * s ≤ l.rows * s = mul-le-mul_right s (omega arith) in
+    let sought = sought_from l P (passed_widens l c.args.stage) s (c.args.part * l.rows) F c.loop-row.row (view_of c.args.seat.now) (view_of c.mark_at-mark.new.seat) (view_of c.loop-row.seat) c.mark_at-mark.ensures.acted i.begun
+    (λ j from_on below. over_passed l c.args.stage (seen_by c.mark_at-mark.new.seat) c.args.part c.mark_at-mark.result j c.mark_at-mark.ensures.over from_on (omega arith)) in
+    sought_few l ((1 + d * s) + 1) (part_steps l) _ _ _ (omega arith)
+    (sought_then l (1 + d * s) 1 (OfPart l P c.args.part) _ _ _ (λ a b g later each j p q. passed_widens l c.args.stage j a a b g (begins_refl a) later (each j p q))
+    (subst (λ n. Sought l (1 + d * s) (EachRow P (c.args.part * l.rows) n) (view_of c.args.seat.now) (view_of c.loop-row.seat)) all sought) c.raise_to-2.ensures.looked)

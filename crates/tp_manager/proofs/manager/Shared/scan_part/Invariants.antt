@@ -1,0 +1,19 @@
+use Rattle.std.proofs.Common.{◌-◌, ◌+◌, ◌≤◌}
+use Rattle.tp_rule.specs.Tables.{limits_of}
+use Rattle.tp_rule.specs.Views.{IsSameSeat, seen_by, view_of}
+use Rattle.tp_manager.specs.Bounds.{try_steps}
+use Rattle.tp_manager.specs.Walks.{Begun, PassedBy, Rose}
+use Rattle.tp_manager.proofs.manager.Shared.scan_part.Given as goal
+
+abbrev pub invariant-loop-row : goal.invariant-loop-row
+invariant-loop-row l = record {
+  same : IsSameSeat l.initial.seat l.seat;
+  from : l.first + l.mark ≤ l.row;
+  inside : l.row ≤ l.end;
+  low : l.low ≤ l.row;
+  rose : Rose (limits_of l.self.words) (seen_by l.seat) (l.first + l.mark) l.low;
+  begun : Begun (limits_of l.self.words) (PassedBy (limits_of l.self.words) l.stage) (try_steps (limits_of l.self.words)) (l.first + l.mark) l.row (view_of l.initial.seat) (view_of l.seat);
+}
+
+abbrev pub decreases-loop-row : goal.decreases-loop-row
+decreases-loop-row l = l.end - l.row
