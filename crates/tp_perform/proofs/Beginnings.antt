@@ -100,19 +100,22 @@ finals_front_of s m first last before commands_done after left registers n begin
 pub closing_front_of : (s : ScriptView) (m : ManagerShown) (first last : Scene) (before commands_done finals_done after : Option (List ℕ)) (left closed : List PassShown) (registers : List (List ℕ)) (keeper keeper' : KeeperShown) (n : ℕ)
     → Begins s m first → n ≡ length s.servers → ToldAll m s first last before commands_done → AllEnded last.places (workers n left) registers → Appends commands_done finals_done (finals_of s registers)
     → AccountFront s.account (Accounts m.limits keeper keeper' left closed) finals_done after → ReportedFront s before after
-closing_front_of s m first last before commands_done finals_done after left closed registers keeper keeper' n begins many told ended finals account = inr (m, inr (inr (record {
-  first = first;
-  last = last;
-  begins = begins;
-  commands_done = commands_done;
-  told = told;
-  left = left;
-  registers = registers;
-  ended = subst (λ k. AllEnded last.places (workers k left) registers) many ended;
-  finals_done = finals_done;
-  finals = finals;
-  keeper = keeper;
-  keeper' = keeper';
-  closed = closed;
-  account = account;
-})))
+closing_front_of s m first last before commands_done finals_done after left closed registers keeper keeper' n begins many told ended finals account = inr (
+  m,
+  inr (inr (record {
+    first = first;
+    last = last;
+    begins = begins;
+    commands_done = commands_done;
+    told = told;
+    left = left;
+    registers = registers;
+    ended = subst (λ k. AllEnded last.places (workers k left) registers) many ended;
+    finals_done = finals_done;
+    finals = finals;
+    keeper = keeper;
+    keeper' = keeper';
+    closed = closed;
+    account = account;
+  })),
+)

@@ -194,9 +194,9 @@ module _ {X : Type 0} {F : X → Type 0} (recipe : DynBox X Global F → Recipe)
   parts_front R Did did n ps ss os ps' ps'' ss' ss'' c qs ts first second before after worked free busy e k ran =
       let whole : take n os ++ drop n os ≡ os = take-append-drop n os in
       let old : Show ps ss os ≡ Show ps' ss' (take n os) ++ Show ps'' ss'' (drop n os) =
-          (λ i. Show (first i) (second i) (sym whole i)) ∙ shown_append recipe registers pending ps' ss' (take n os) ps'' ss'' (drop n os) before in
+      (λ i. Show (first i) (second i) (sym whole i)) ∙ shown_append recipe registers pending ps' ss' (take n os) ps'' ss'' (drop n os) before in
       let new : Show (qs ++ ps'') (ts ++ ss'') os ≡ Show qs ts (take n os) ++ Show ps'' ss'' (drop n os) =
-          ap (Show (qs ++ ps'') (ts ++ ss'')) (sym whole) ∙ shown_append recipe registers pending qs ts (take n os) ps'' ss'' (drop n os) worked in
+      ap (Show (qs ++ ps'') (ts ++ ss'')) (sym whole) ∙ shown_append recipe registers pending qs ts (take n os) ps'' ss'' (drop n os) worked in
       let both = all_zip_append (λ (o n : PlaceShown). TakesPart (is_free o) Did o n) (Show ps' ss' (take n os)) (Show qs ts (take n os)) (Show ps'' ss'' (drop n os)) (Show ps'' ss'' (drop n os))
-          (took_part R Did did ps' ss' (take n os) c qs ts before free e k ran) (stay_put Did ps'' ss'' (drop n os) after busy) in
+      (took_part R Did did ps' ss' (take n os) c qs ts before free e k ran) (stay_put Did ps'' ss'' (drop n os) after busy) in
       subst (λ zs. AllTakePart Did (Show ps ss os) zs) (sym new) (subst (λ zs. AllTakePart Did zs (Show qs ts (take n os) ++ Show ps'' ss'' (drop n os))) (sym old) both)

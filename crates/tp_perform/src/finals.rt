@@ -57,7 +57,7 @@ fn line_of(
     requires all { length servers.now ≡ length script.now.servers.items }
     ensures text { IfOk result (λ text. string_bytes text
         ≡ line_at (slice_get (script_view script.now).servers i)
-            (slice_get (map (λ server. registers server) servers.now) i)) }
+        (slice_get (map (λ server. registers server) servers.now) i)) }
     ensures line { IfOk result (λ text. IsLine (string_bytes text)) }
 {
     final_line(alloc, script.servers[i].name.as_str(), &servers[i])

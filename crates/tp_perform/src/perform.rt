@@ -119,10 +119,10 @@ fn desk_line(
     ensures began { firsts places.new ≡ firsts places.old }
     ensures tells { IfOk result (λ text. (answer : ServerAnswer)
         × DoesIn manager.now.limits act server
-            (places_shown recipe registers pending passes.old servers.old places.old) answer
-            (places_shown recipe registers pending passes.new servers.new places.new)
+        (places_shown recipe registers pending passes.old servers.old places.old) answer
+        (places_shown recipe registers pending passes.new servers.new places.new)
         × IfSome (slice_get named.now server)
-            (λ it. string_bytes text ≡ line (named_text (string_bytes it.name) answer))) }
+        (λ it. string_bytes text ≡ line (named_text (string_bytes it.name) answer))) }
     ensures line { IfOk result (λ text. IsLine (string_bytes text)) }
 {
     let answer = act_in(manager, passes, servers, places, server, act);
@@ -384,13 +384,13 @@ pub fn perform<R: Threads + Sync, W: Sink>(
     ensures told { OnOk result ((first : Scene) × (last : Scene)
         × IsFirstScene recipe registers pending passes.old servers.old first
         × ToldAll manager.now (script_view script.now) first last
-            (W.contents writer.old) (W.contents writer.new)
+        (W.contents writer.old) (W.contents writer.new)
         × AllEnded last.places (workers (length servers.old) passes.new)
-            (map (λ server. registers server) servers.new)) }
+        (map (λ server. registers server) servers.new)) }
     ensures told_front { OnErr result ((first : Scene)
         × IsFirstScene recipe registers pending passes.old servers.old first
         × ToldFront manager.now (script_view script.now) first
-            (W.contents writer.old) (W.contents writer.new)) }
+        (W.contents writer.old) (W.contents writer.new)) }
     ensures done { OnOk result (Writes (length script.now.commands.items)
         (W.contents writer.old) (W.contents writer.new)) }
     ensures front { OnErr result (WritesFront (length script.now.commands.items)

@@ -60,10 +60,10 @@ pub fn run_to_end<T: Threads + Sync, R: Source, W: Sink, E: Sink>(
     ensures asked { R.asked reader.new ≤ R.asked reader.old + requests_limit }
     ensures ended { (outcome : Result Exit Fault)
         × IfSome (R.rest reader.old)
-            (λ bytes. Answered outcome (script program_reach bytes)
-                (W.contents writer.old) (W.contents writer.new))
+        (λ bytes. Answered outcome (script program_reach bytes)
+        (W.contents writer.old) (W.contents writer.new))
         × (IsErrOf outcome Fault.Read
-            → StopsReading (R.has_failed reader.new) (R.asked reader.old) (R.asked reader.new))
+        → StopsReading (R.has_failed reader.new) (R.asked reader.old) (R.asked reader.new))
         × (IsErrOf outcome Fault.Write → IsTrue (W.has_failed writer.new))
         × (result ≡ exit_status outcome)
         × TellsFault outcome (E.contents faults.old) (E.contents faults.new) }

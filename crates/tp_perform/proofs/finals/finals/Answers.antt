@@ -27,8 +27,12 @@ returns-in_err-text-clause-told_front g c =
 pub returns-in_err-write_all-clause-told_front : goal.returns-in_err-write_all-clause-told_front
 returns-in_err-write_all-clause-told_front g c =
     let most = final_all c.args.script.now c.if-has_race.ensures in
-    always_err c.from_residual-in_err-write_all.result (c.loop-i.i + 1, omega (arith, most, c.requires), final_front_more (script_view c.args.script.now).servers (map (λ b. (goal.Server-dyn g (b.vtable, b.value)).registers b.value) c.args.servers.now) c.loop-i.i _ (g.W.Sink.contents c.loop-i.writer) _ (string_bytes c.in_ok-text.text)
-    c.in_ok-text.ensures.text c.loop-i.invariant.told (rw c.as_bytes.ensures.value at c.in_err-write_all.ensures.err))
+    always_err c.from_residual-in_err-write_all.result (
+      c.loop-i.i + 1,
+      omega (arith, most, c.requires),
+      final_front_more (script_view c.args.script.now).servers (map (λ b. (goal.Server-dyn g (b.vtable, b.value)).registers b.value) c.args.servers.now) c.loop-i.i _ (g.W.Sink.contents c.loop-i.writer) _ (string_bytes c.in_ok-text.text)
+          c.in_ok-text.ensures.text c.loop-i.invariant.told (rw c.as_bytes.ensures.value at c.in_err-write_all.ensures.err),
+    )
 
 pub returns-in_err-text-clause-front : goal.returns-in_err-text-clause-front
 returns-in_err-text-clause-front g c =

@@ -8,7 +8,7 @@ use Rattle.tp_perform.proofs.lines.sum.Goals as goal
 pub loop-i-preserved : goal.loop-i-preserved
 loop-i-preserved g c =
     let next = value_next (λ b. (goal.Server-dyn g (b.vtable, b.value)).recipe b.value) (λ b. (goal.Server-dyn g (b.vtable, b.value)).registers b.value) (λ b. (goal.Server-dyn g (b.vtable, b.value)).pending b.value)
-        c.args.k c.args.servers.now c.args.places.now c.loop-i.i c.index-servers-i.result c.index-places-i.result c.requires c.loop-i-test.true in
+    c.args.k c.args.servers.now c.args.places.now c.loop-i.i c.index-servers-i.result c.index-places-i.result c.requires c.loop-i-test.true in
     record {
       few = search rules;
       is = ap (λ n. n + c.from-sum.result) c.loop-i.invariant.is ∙ (ap (λ n. sum_by (value_at (λ b. (goal.Server-dyn g (b.vtable, b.value)).registers b.value) c.args.k) (take c.loop-i.i (zip c.args.servers.now c.args.places.now)) + n) (c.from-sum.ensures ∙ (c.counted_value.ensures ∙ ap (λ b. value_at (λ b. (goal.Server-dyn g (b.vtable, b.value)).registers b.value) c.args.k (b, get_or c.args.places.now c.loop-i.i c.index-places-i.result)) c.index-servers-i.is)) ∙ sym next);

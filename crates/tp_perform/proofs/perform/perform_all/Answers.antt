@@ -66,12 +66,14 @@ loop-command-preserved g c =
           omega (arith, more, needed, c.from-needed.ensures, c.loop-command.invariant.raced);
       told =
           let needed = c.split_at_mut-here.ensures.front_len ∙ (c.from-needed.ensures ∙ rw c.deref-command-items.ensures.value at c.racers.ensures) in
-          let t = c.loop-command.invariant.told in
-          (t.0 ++ string_bytes c.in_ok-line.line, told_next c.args.manager.now (script_view c.args.script.now) _ c.loop-command.command-index c.loop-command.raced (Submit 0 0 0) (omega (arith, ap length c.deref-command-items.ensures.value)) c.loop-command.invariant.raced
-          _ _ _ _ c.loop-command.racers c.split_at_mut-before.result.0.now c.split_at_mut-before.result.1.now c.split_at_mut-here.result.0.now c.split_at_mut-here.result.1.now c.command_line.new.racers t.0 (string_bytes c.in_ok-line.line)
-          c.split_at_mut-before.ensures.value c.split_at_mut-here.ensures.value c.split_at_mut-before.ensures.front_len needed (rw c.deref-command-items.ensures.value at c.in_ok-line.ensures.tells)
-          (all_steady (λ b. (goal.Server-dyn g (b.vtable, b.value)).recipe b.value) (λ b. (goal.Server-dyn g (b.vtable, b.value)).registers b.value) (λ b. (goal.Server-dyn g (b.vtable, b.value)).pending b.value) _ _ _ c.in_ok-line.ensures.lie) t.1,
-          Appends-then (g.W.Sink.contents c.args.writer.now) (g.W.Sink.contents c.loop-command.writer) (g.W.Sink.contents c.write_all.new.sink) t.0 (string_bytes c.in_ok-line.line) t.2 (rw c.as_bytes.ensures.value at c.in_ok-write_all.ensures.ok));
+          let t = c.loop-command.invariant.told in (
+            t.0 ++ string_bytes c.in_ok-line.line,
+            told_next c.args.manager.now (script_view c.args.script.now) _ c.loop-command.command-index c.loop-command.raced (Submit 0 0 0) (omega (arith, ap length c.deref-command-items.ensures.value)) c.loop-command.invariant.raced
+                _ _ _ _ c.loop-command.racers c.split_at_mut-before.result.0.now c.split_at_mut-before.result.1.now c.split_at_mut-here.result.0.now c.split_at_mut-here.result.1.now c.command_line.new.racers t.0 (string_bytes c.in_ok-line.line)
+                c.split_at_mut-before.ensures.value c.split_at_mut-here.ensures.value c.split_at_mut-before.ensures.front_len needed (rw c.deref-command-items.ensures.value at c.in_ok-line.ensures.tells)
+                (all_steady (λ b. (goal.Server-dyn g (b.vtable, b.value)).recipe b.value) (λ b. (goal.Server-dyn g (b.vtable, b.value)).registers b.value) (λ b. (goal.Server-dyn g (b.vtable, b.value)).pending b.value) _ _ _ c.in_ok-line.ensures.lie) t.1,
+            Appends-then (g.W.Sink.contents c.args.writer.now) (g.W.Sink.contents c.loop-command.writer) (g.W.Sink.contents c.write_all.new.sink) t.0 (string_bytes c.in_ok-line.line) t.2 (rw c.as_bytes.ensures.value at c.in_ok-write_all.ensures.ok),
+          );
       written = line_more c.loop-command.command-index _ (g.W.Sink.contents c.loop-command.writer) _ (string_bytes c.in_ok-line.line) c.loop-command.invariant.written c.in_ok-line.ensures.line (rw c.as_bytes.ensures.value at c.in_ok-write_all.ensures.ok);
     }
 
@@ -100,18 +102,30 @@ returns-in_err-write_all-clause-racers_numbered g c =
 pub returns-in_err-line-clause-told_front : goal.returns-in_err-line-clause-told_front
 returns-in_err-line-clause-told_front g c =
     let t = c.loop-command.invariant.told in
-    always_err c.from_residual.result (c.loop-command.command-index, t.0, _, omega (arith, ap length c.deref-command-items.ensures.value), t.1,
-    subst (AppendsFront (g.W.Sink.contents c.args.writer.now) (g.W.Sink.contents c.loop-command.writer)) (append_nil t.0) (front_then _ _ _ t.0 [] t.2 (front_none (g.W.Sink.contents c.loop-command.writer) [])))
+    always_err c.from_residual.result (
+      c.loop-command.command-index,
+      t.0,
+      _,
+      omega (arith, ap length c.deref-command-items.ensures.value),
+      t.1,
+      subst (AppendsFront (g.W.Sink.contents c.args.writer.now) (g.W.Sink.contents c.loop-command.writer)) (append_nil t.0) (front_then _ _ _ t.0 [] t.2 (front_none (g.W.Sink.contents c.loop-command.writer) [])),
+    )
 
 pub returns-in_err-write_all-clause-told_front : goal.returns-in_err-write_all-clause-told_front
 returns-in_err-write_all-clause-told_front g c =
     let needed = c.split_at_mut-here.ensures.front_len ∙ (c.from-needed.ensures ∙ rw c.deref-command-items.ensures.value at c.racers.ensures) in
     let t = c.loop-command.invariant.told in
-    always_err c.from_residual-in_err-write_all.result (c.loop-command.command-index + 1, t.0 ++ string_bytes c.in_ok-line.line, _, omega (arith, ap length c.deref-command-items.ensures.value), told_next c.args.manager.now (script_view c.args.script.now) _ c.loop-command.command-index c.loop-command.raced (Submit 0 0 0) (omega (arith, ap length c.deref-command-items.ensures.value)) c.loop-command.invariant.raced
+    always_err c.from_residual-in_err-write_all.result (
+      c.loop-command.command-index + 1,
+      t.0 ++ string_bytes c.in_ok-line.line,
+      _,
+      omega (arith, ap length c.deref-command-items.ensures.value),
+      told_next c.args.manager.now (script_view c.args.script.now) _ c.loop-command.command-index c.loop-command.raced (Submit 0 0 0) (omega (arith, ap length c.deref-command-items.ensures.value)) c.loop-command.invariant.raced
           _ _ _ _ c.loop-command.racers c.split_at_mut-before.result.0.now c.split_at_mut-before.result.1.now c.split_at_mut-here.result.0.now c.split_at_mut-here.result.1.now c.command_line.new.racers t.0 (string_bytes c.in_ok-line.line)
           c.split_at_mut-before.ensures.value c.split_at_mut-here.ensures.value c.split_at_mut-before.ensures.front_len needed (rw c.deref-command-items.ensures.value at c.in_ok-line.ensures.tells)
           (all_steady (λ b. (goal.Server-dyn g (b.vtable, b.value)).recipe b.value) (λ b. (goal.Server-dyn g (b.vtable, b.value)).registers b.value) (λ b. (goal.Server-dyn g (b.vtable, b.value)).pending b.value) _ _ _ c.in_ok-line.ensures.lie) t.1,
-    front_then (g.W.Sink.contents c.args.writer.now) (g.W.Sink.contents c.loop-command.writer) (g.W.Sink.contents c.write_all.new.sink) t.0 (string_bytes c.in_ok-line.line) t.2 (rw c.as_bytes.ensures.value at c.in_err-write_all.ensures.err))
+      front_then (g.W.Sink.contents c.args.writer.now) (g.W.Sink.contents c.loop-command.writer) (g.W.Sink.contents c.write_all.new.sink) t.0 (string_bytes c.in_ok-line.line) t.2 (rw c.as_bytes.ensures.value at c.in_err-write_all.ensures.err),
+    )
 
 pub returns-clause-told : goal.returns-clause-told
 returns-clause-told g c =
