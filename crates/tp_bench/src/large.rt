@@ -70,34 +70,55 @@ pub fn round(rt: &HostRuntime) -> io::Result<()> {
         return Ok(());
     };
     let made = now(rt);
-    println!(rt; "make_largest 0 {} 1", made.wrapping_sub(start))?;
     let Some(mut watcher) = pass(&mut keeper, &manager) else {
         return Ok(());
     };
+    measured(
+        rt,
+        &manager,
+        &mut keeper,
+        &mut watcher,
+        made.wrapping_sub(start),
+    )
+}
+
+/// What the calls cost: of a manager that is empty, full of another stage's elements, and used up.
+fn measured(
+    rt: &HostRuntime,
+    manager: &Manager,
+    keeper: &mut Keeper,
+    watcher: &mut Pass,
+    making: u64,
+) -> io::Result<()>
+    requires kept { IsKeptBy manager.now keeper.old }
+    requires own { IsOf manager.now watcher.old }
+    requires free { watcher.old.open_unit ≡ None }
+{
+    println!(rt; "make_largest 0 {making} 1")?;
     let t0 = now(rt);
-    let a = idles(&manager, &mut watcher, 1, 8);
+    let a = idles(manager, watcher, 1, 8);
     let t1 = now(rt);
-    let b = errors(&manager, &mut watcher, 8);
+    let b = errors(manager, watcher, 8);
     let t2 = now(rt);
     println!(rt; "idle_empty 0 {} {a}", t1.wrapping_sub(t0))?;
     println!(rt; "next_error_empty 0 {} 8 {b}", t2.wrapping_sub(t1))?;
-    submits(&manager, &mut watcher, 1, 256);
-    fill(&manager, &mut keeper, 23);
+    submits(manager, watcher, 1, 256);
+    fill(manager, keeper, 23);
     let t3 = now(rt);
-    let c = idles(&manager, &mut watcher, 2, 8);
+    let c = idles(manager, watcher, 2, 8);
     let t4 = now(rt);
-    let d = errors(&manager, &mut watcher, 8);
+    let d = errors(manager, watcher, 8);
     let t5 = now(rt);
-    let e = replies(&manager, &mut watcher, 0, 8);
+    let e = replies(manager, watcher, 0, 8);
     let t6 = now(rt);
     println!(rt; "idle_other_stage_6144 0 {} {c}", t4.wrapping_sub(t3))?;
     println!(rt; "next_error_6144_waiting 0 {} 8 {d}", t5.wrapping_sub(t4))?;
     println!(rt; "reply_none_6144_waiting 0 {} 8 {e}", t6.wrapping_sub(t5))?;
-    consume(rt, &manager, &mut keeper)?;
+    consume(rt, manager, keeper)?;
     let t7 = now(rt);
-    let f = errors(&manager, &mut watcher, 8);
+    let f = errors(manager, watcher, 8);
     let t8 = now(rt);
-    let g = replies(&manager, &mut watcher, 0, 8);
+    let g = replies(manager, watcher, 0, 8);
     let t9 = now(rt);
     println!(rt; "next_error_8192_done 0 {} 8 {f}", t8.wrapping_sub(t7))?;
     println!(rt; "reply_none_8192_done 0 {} 8 {g}", t9.wrapping_sub(t8))

@@ -29,18 +29,23 @@ fn two(alloc: Global) -> Option<(Manager, Pass, Pass)>
 }
 
 /// Submits, reads, kills, and reads of what is killed.
-fn of_clients(rt: &HostRuntime) -> io::Result<()> {
-    let Some((manager, mut client, mut other)) = two(rt.alloc()) else {
-        return Ok(());
-    };
+fn of_clients(
+    rt: &HostRuntime,
+    manager: &Manager,
+    client: &mut Pass,
+    other: &mut Pass,
+) -> io::Result<()>
+    requires own { IsOf manager.now client.old × IsOf manager.now other.old }
+    requires free { (client.old.open_unit ≡ None) × (other.old.open_unit ≡ None) }
+{
     let t0 = now(rt);
-    let a = submits(&manager, &mut client, 1, 256);
+    let a = submits(manager, client, 1, 256);
     let t1 = now(rt);
-    let b = reads(&manager, &mut other, 0, 256);
+    let b = reads(manager, other, 0, 256);
     let t2 = now(rt);
-    let c = kills(&manager, &mut other, 0, 256);
+    let c = kills(manager, other, 0, 256);
     let t3 = now(rt);
-    let d = reads(&manager, &mut other, 0, 256);
+    let d = reads(manager, other, 0, 256);
     let t4 = now(rt);
     println!(rt; "submit 0 {} {a}", t1.wrapping_sub(t0))?;
     println!(rt; "read_waiting 0 {} 256 {b}", t2.wrapping_sub(t1))?;
@@ -49,14 +54,19 @@ fn of_clients(rt: &HostRuntime) -> io::Result<()> {
 }
 
 /// Sixteen turns at a time without drafts: before the first of them `k` rows are consumed.
-fn of_bare_turns(rt: &HostRuntime) -> io::Result<()> {
-    let Some((manager, mut client, mut server)) = two(rt.alloc()) else {
-        return Ok(());
-    };
-    submits(&manager, &mut client, 1, 256);
-    bare_sixteen(rt, &manager, &mut server)?;
+fn of_bare_turns(
+    rt: &HostRuntime,
+    manager: &Manager,
+    client: &mut Pass,
+    server: &mut Pass,
+) -> io::Result<()>
+    requires own { IsOf manager.now client.old × IsOf manager.now server.old }
+    requires free { (client.old.open_unit ≡ None) × (server.old.open_unit ≡ None) }
+{
+    submits(manager, client, 1, 256);
+    bare_sixteen(rt, manager, server)?;
     let t0 = now(rt);
-    let b = reads(&manager, &mut client, 0, 256);
+    let b = reads(manager, client, 0, 256);
     let t1 = now(rt);
     println!(rt; "read_consumed 0 {} 256 {b}", t1.wrapping_sub(t0))
 }
@@ -79,18 +89,23 @@ fn bare_sixteen(rt: &HostRuntime, manager: &Manager, server: &mut Pass) -> io::R
 }
 
 /// The same with one reply each; then the replies are asked for.
-fn of_turns(rt: &HostRuntime) -> io::Result<()> {
-    let Some((manager, mut client, mut server)) = two(rt.alloc()) else {
-        return Ok(());
-    };
-    submits(&manager, &mut client, 1, 256);
-    sixteen(rt, &manager, &mut server)?;
+fn of_turns(
+    rt: &HostRuntime,
+    manager: &Manager,
+    client: &mut Pass,
+    server: &mut Pass,
+) -> io::Result<()>
+    requires own { IsOf manager.now client.old × IsOf manager.now server.old }
+    requires free { (client.old.open_unit ≡ None) × (server.old.open_unit ≡ None) }
+{
+    submits(manager, client, 1, 256);
+    sixteen(rt, manager, server)?;
     let t0 = now(rt);
-    let a = replies(&manager, &mut client, 256, 256);
+    let a = replies(manager, client, 256, 256);
     let t1 = now(rt);
-    let b = replies(&manager, &mut client, 0, 64);
+    let b = replies(manager, client, 0, 64);
     let t2 = now(rt);
-    let c = errors(&manager, &mut client, 16);
+    let c = errors(manager, client, 16);
     let t3 = now(rt);
     println!(rt; "reply_at_once 0 {} 256 {a}", t1.wrapping_sub(t0))?;
     println!(rt; "reply_after_256 0 {} 64 {b}", t2.wrapping_sub(t1))?;
@@ -122,9 +137,29 @@ fn of_aborts(rt: &HostRuntime) -> io::Result<()> {
     println!(rt; "claim_abort 0 {} {a}", t1.wrapping_sub(t0))
 }
 
+/// What is measured with two passes.
+#[derive(Clone, Copy)]
+enum Group {
+    Clients,
+    BareTurns,
+    Turns,
+}
+
+/// One part over a manager of its own.
+fn measured(rt: &HostRuntime, group: Group) -> io::Result<()> {
+    let Some((manager, mut first, mut second)) = two(rt.alloc()) else {
+        return Ok(());
+    };
+    match group {
+        Group::Clients => of_clients(rt, &manager, &mut first, &mut second),
+        Group::BareTurns => of_bare_turns(rt, &manager, &mut first, &mut second),
+        Group::Turns => of_turns(rt, &manager, &mut first, &mut second),
+    }
+}
+
 pub fn round(rt: &HostRuntime) -> io::Result<()> {
-    of_clients(rt)?;
-    of_bare_turns(rt)?;
-    of_turns(rt)?;
+    measured(rt, Group::Clients)?;
+    measured(rt, Group::BareTurns)?;
+    measured(rt, Group::Turns)?;
     of_aborts(rt)
 }
