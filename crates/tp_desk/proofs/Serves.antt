@@ -6,7 +6,7 @@ use Rattle.std.specs.List.{filter_map}
 use mathlib.Core.List.{IsPrefix}
 use Rattle.tp_model.specs.declared.types.Element.{Element}
 use Rattle.tp_model.specs.declared.event.Event.{Event}
-use Rattle.tp_model.specs.declared.event.Event.TheVariants.{Enqueue, Claim, Commit, Abort, Kill}
+use Rattle.tp_model.specs.declared.event.Event.TheVariants.{Enqueue, Claim, Commit, Abort, Kill, Requeue}
 use Rattle.tp_model.specs.Counts.{taken, taken_by}
 use Rattle.tp_model.specs.History.{In, here, there, UnitClaim, claim_by, claim_of, element_of}
 use Rattle.tp_model.proofs.Bridges.{begins_trans, in_either, in_none}
@@ -44,6 +44,7 @@ kept g more h news (Commit c u outs) x is =
     rw (first-kept (claim_by u) g more t claimed) (element_of-kept h news t.item x found))
 kept g more h news (Abort c u) x is = is
 kept g more h news (Kill c i) x is = is
+kept g more h news (Requeue c i k) x is = is
 
 -- and so did all units that were committed
 all_kept : (g more h news es : List Event) → ((c u : ℕ) (outs : List Element) → In (Commit c u outs) es → (x : Element) × (taken_by g h (Commit c u outs) ≡ Some x))
@@ -57,6 +58,7 @@ all_kept g more h news (Commit c u outs ∷ es) all =
     rw (after, one.1) (ap (λ (xs : List Element). one.0 ∷ xs) (all_kept g more h news es (λ c u outs p. all c u outs (there p))))
 all_kept g more h news (Abort c u ∷ es) all = all_kept g more h news es (λ c u outs p. all c u outs (there p))
 all_kept g more h news (Kill c i ∷ es) all = all_kept g more h news es (λ c u outs p. all c u outs (there p))
+all_kept g more h news (Requeue c i k ∷ es) all = all_kept g more h news es (λ c u outs p. all c u outs (there p))
 
 fold_from-append : (recipe : Recipe) (o : Option (List ℕ)) (xs ys : List Element) → fold_from recipe o (xs ++ ys) ≡ fold_from recipe (fold_from recipe o xs) ys
 fold_from-append recipe None xs ys = refl
@@ -150,6 +152,7 @@ all_later g more h (Commit c u outs ∷ es) fresh all =
     rw (after, one.1) (ap (λ (xs : List Element). one.0 ∷ xs) (all_later g more h es fresh (λ c u outs p. all c u outs (there p))))
 all_later g more h (Abort c u ∷ es) fresh all = all_later g more h es fresh (λ c u outs p. all c u outs (there p))
 all_later g more h (Kill c i ∷ es) fresh all = all_later g more h es fresh (λ c u outs p. all c u outs (there p))
+all_later g more h (Requeue c i k ∷ es) fresh all = all_later g more h es fresh (λ c u outs p. all c u outs (there p))
 
 -- what was served goes on from what was served before
 pub serves_then : (recipe : Recipe) (start r r' : List ℕ) (f p q : PassShown) → Serves recipe start r f p → Serves recipe r r' p q → Serves recipe start r' f q

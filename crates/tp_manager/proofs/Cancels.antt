@@ -283,6 +283,8 @@ module _ (l : Limits) (root : ℕ) where
     past_over h (refusals.Consumed u) p = ap is_over p
     past_over h refusals.AlreadyKilled p = ap is_over p
     past_over h refusals.Full p = absurd p
+    past_over h refusals.NotParked p = absurd p
+    past_over h refusals.NoRound p = absurd p
 
     pub row_past : (e : Refusal) → FailsIn l m i left e w y → TalliedAt l k root i 1 0 v y
     row_past e s =

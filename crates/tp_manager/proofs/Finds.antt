@@ -8,16 +8,16 @@ use Rattle.tp_model.specs.declared.types.Limits.{Limits}
 use Rattle.tp_model.specs.declared.types.Status.{Status}
 use Rattle.tp_model.specs.declared.types.Status.TheVariants.{Killed}
 use Rattle.tp_model.specs.declared.event.Event.{Event}
-use Rattle.tp_model.specs.declared.event.Event.TheVariants.{Enqueue, Claim, Commit, Abort, Kill}
+use Rattle.tp_model.specs.declared.event.Event.TheVariants.{Enqueue, Claim, Commit, Abort, Kill, Requeue}
 use Rattle.tp_model.specs.declared.trace.TraceEntry.{TraceEntry}
 use Rattle.tp_model.specs.History.{IsUnborn, element_of, status_of}
 use Rattle.tp_model.specs.Passes.{opening_of}
-use Rattle.tp_model.specs.Words.{ClaimWord, FreeWord, TakenWord, KilledWord, kill_word, claim_word, claim_word_after}
-use Rattle.tp_model.specs.Steps.{IsLegal, IsServerStage, Step, rows_of}
+use Rattle.tp_model.specs.Words.{ClaimWord, FreeWord, TakenWord, KilledWord, AgainWord, round_in, kill_word, claim_word, claim_word_after}
+use Rattle.tp_model.specs.Steps.{IsLegal, IsParked, IsServerStage, Step, rows_of}
 use Rattle.tp_model.proofs.Lists.{if_same, if_other}
 use Rattle.tp_model.proofs.Histories.{by_steps, element_of-kept, legal_start}
 use Rattle.tp_model.proofs.WordProofs.{claim_word-snoc}
-use Rattle.tp_model.proofs.Bridges.{begins_refl, begins_trans, found_later, status_free, status_killed}
+use Rattle.tp_model.proofs.Bridges.{begins_refl, begins_trans, found_later, status_again, status_free, status_killed}
 use Rattle.tp_model.proofs.Later.{births_inside}
 use Rattle.tp_words.specs.Words.{head_of}
 use Rattle.tp_words.specs.declared.words.Head.{Head}
@@ -30,7 +30,7 @@ use Rattle.tp_manager.specs.Calls.{AtPoint, IsWaiting, opening}
 use Rattle.tp_manager.specs.Looks.{IsThere}
 use Rattle.tp_manager.specs.Shown.{PassShown, shown}
 use Rattle.tp_manager.specs.Walks.{Acted, EachRow, Sought, Steady, Walked}
-use Rattle.tp_manager.specs.Lists.{AllKilled, IsParked, IsReply, NextError, NextReply, NoneParked}
+use Rattle.tp_manager.specs.Lists.{AllKilled, IsReply, NextError, NextReply, NoneParked}
 use Rattle.tp_manager.specs.Finds.{Hits, IsWanted, PassedOver}
 use Rattle.tp_manager.proofs.Seeks.{Widens}
 use Rattle.tp_manager.proofs.Walks.{opening_is, sought_acted, walked_none}
@@ -43,31 +43,37 @@ module _ (l : Limits) where
   served_later : (h : List Event) (e : Event) (i : ℕ) → IsServed h i → IsServed (h ++ e ∷ []) i
   served_later h e i s = (s.0, element_of-kept h (e ∷ []) i s.0 s.1, s.2)
 
-  not_taken : (w : ClaimWord) (n u : ℕ) → kill_word w ≢ TakenWord n u
-  not_taken FreeWord n u p = cc
-  not_taken (TakenWord m v) n u p = cc
-  not_taken (KilledWord m v) n u p = cc
+  not_taken : (w : ClaimWord) (n u r : ℕ) → kill_word w ≢ TakenWord n u r
+  not_taken FreeWord n u r p = cc
+  not_taken (TakenWord m v k) n u r p = cc
+  not_taken (KilledWord m v k) n u r p = cc
+  not_taken (AgainWord k) n u r p = cc
 
-  served_after : (h : List Event) (e : Event) → Step l h e → (i n u : ℕ) → (claim_word h i ≡ TakenWord n u → IsServed h i) → claim_word_after i (claim_word h i) e ≡ TakenWord n u → IsServed (h ++ e ∷ []) i
-  served_after h (Enqueue c y) step i n u old p = served_later h (Enqueue c y) i (old p)
-  served_after h (Claim c v j m) step i n u old p =
+  served_after : (h : List Event) (e : Event) → Step l h e → (i n u r : ℕ) → (claim_word h i ≡ TakenWord n u r → IsServed h i) → claim_word_after i (claim_word h i) e ≡ TakenWord n u r → IsServed (h ++ e ∷ []) i
+  served_after h (Enqueue c y) step i n u r old p = served_later h (Enqueue c y) i (old p)
+  served_after h (Claim c v j m) step i n u r old p =
       elim (eqb_tells j i) [
         | inl q ↦ served_later h (Claim c v j m) i (step.item, subst (λ z. element_of h z ≡ Some step.item) q.1 step.born, step.stage)
-        | inr q ↦ served_later h (Claim c v j m) i (old (sym (if_other j i (TakenWord m v) (claim_word h i) q.1) ∙ p))
+        | inr q ↦ served_later h (Claim c v j m) i (old (sym (if_other j i (TakenWord m v (round_in (claim_word h i))) (claim_word h i) q.1) ∙ p))
       ]
-  served_after h (Commit c v outs) step i n u old p = served_later h (Commit c v outs) i (old p)
-  served_after h (Abort c v) step i n u old p = served_later h (Abort c v) i (old p)
-  served_after h (Kill c j) step i n u old p =
+  served_after h (Commit c v outs) step i n u r old p = served_later h (Commit c v outs) i (old p)
+  served_after h (Abort c v) step i n u r old p = served_later h (Abort c v) i (old p)
+  served_after h (Kill c j) step i n u r old p =
       elim (eqb_tells j i) [
-        | inl q ↦ absurd (not_taken (claim_word h i) n u (sym (if_same j i (kill_word (claim_word h i)) (claim_word h i) q.1) ∙ p))
+        | inl q ↦ absurd (not_taken (claim_word h i) n u r (sym (if_same j i (kill_word (claim_word h i)) (claim_word h i) q.1) ∙ p))
         | inr q ↦ served_later h (Kill c j) i (old (sym (if_other j i (kill_word (claim_word h i)) (claim_word h i) q.1) ∙ p))
       ]
+  served_after h (Requeue c j k) step i n u r old p =
+      elim (eqb_tells j i) [
+        | inl q ↦ absurd (let e : AgainWord k ≡ TakenWord n u r = sym (if_same j i (AgainWord k) (claim_word h i) q.1) ∙ p in cc)
+        | inr q ↦ served_later h (Requeue c j k) i (old (sym (if_other j i (AgainWord k) (claim_word h i) q.1) ∙ p))
+      ]
 
-  pub taken_served : (h : List Event) → IsLegal l h → (i n u : ℕ) → claim_word h i ≡ TakenWord n u → IsServed h i
-  taken_served h legal = by_steps l (λ z. (i n u : ℕ) → claim_word z i ≡ TakenWord n u → IsServed z i) (λ i n u p. absurd cc) more h legal
+  pub taken_served : (h : List Event) → IsLegal l h → (i n u r : ℕ) → claim_word h i ≡ TakenWord n u r → IsServed h i
+  taken_served h legal = by_steps l (λ z. (i n u r : ℕ) → claim_word z i ≡ TakenWord n u r → IsServed z i) (λ i n u r p. absurd cc) more h legal
     where
-      more : (h : List Event) (e : Event) → IsLegal l h → Step l h e → ((i n u : ℕ) → claim_word h i ≡ TakenWord n u → IsServed h i) → (i n u : ℕ) → claim_word (h ++ e ∷ []) i ≡ TakenWord n u → IsServed (h ++ e ∷ []) i
-      more h e legal step old i n u p = served_after h e step i n u (old i n u) (sym (claim_word-snoc h e i) ∙ p)
+      more : (h : List Event) (e : Event) → IsLegal l h → Step l h e → ((i n u r : ℕ) → claim_word h i ≡ TakenWord n u r → IsServed h i) → (i n u r : ℕ) → claim_word (h ++ e ∷ []) i ≡ TakenWord n u r → IsServed (h ++ e ∷ []) i
+      more h e legal step old i n u r p = served_after h e step i n u r (old i n u r) (sym (claim_word-snoc h e i) ∙ p)
 
   -- so a reply waits or is killed
   pub reply_killed : (h : List Event) (i : ℕ) (x : Element) → IsLegal l h → element_of h i ≡ Some x → x.stage ≡ 15 → ¬ IsWaiting (status_of l.attempts h i) → status_of l.attempts h i ≡ Killed
@@ -78,8 +84,9 @@ module _ (l : Limits) where
 
       go : (w : ClaimWord) → claim_word h i ≡ w → status_of l.attempts h i ≡ Killed
       go FreeWord is = absurd (not (0, status_free l h i legal is))
-      go (TakenWord n u) is = let s = taken_served h legal i n u is in let high = s.2.1 in let at : s.0.stage ≡ 15 = ap (λ (y : Element). y.stage) (one s.0 s.1) ∙ staged in absurd (omega arith)
-      go (KilledWord n u) is = status_killed l h i n u legal is
+      go (TakenWord n u r) is = let s = taken_served h legal i n u r is in let high = s.2.1 in let at : s.0.stage ≡ 15 = ap (λ (y : Element). y.stage) (one s.0 s.1) ∙ staged in absurd (omega arith)
+      go (KilledWord n u r) is = status_killed l h i n u legal is
+      go (AgainWord r) is = absurd (not (0, status_again l h i r legal is))
 
 module _ (l : Limits) (wanted : Wanted) where
   -- an element whose head is of no element that is looked for

@@ -1,5 +1,5 @@
 -- A kill, on its way.
-use Rattle.std.proofs.Common.{◌≡◌, ◌≢◌, ℕ, ◌+◌, ◌<◌, ◌≤◌, List, [], ◌∷◌, ◌++◌, length, Result, Ok, Err, sym, refl, ap, ◌∙◌, subst, ⊎_elim, arith, append_assoc, Some, None}
+use Rattle.std.proofs.Common.{◌≡◌, ◌≢◌, ℕ, ◌+◌, ◌≤◌, nat_lt, Bool, true, false, cond, List, [], ◌∷◌, ◌++◌, length, Result, Ok, Err, sym, refl, ap, ◌∙◌, subst, ⊎_elim, arith, append_assoc, Some, None}
 use Rattle.std.specs.Prelude.{MatchResult}
 use Rattle.std.specs.Option.{option_or}
 use Rattle.atomic_table.specs.Seated.{TableId}
@@ -16,14 +16,14 @@ use Rattle.tp_model.specs.declared.event.Event.{Event}
 use Rattle.tp_model.specs.declared.event.Event.TheVariants.{Abort, Kill}
 use Rattle.tp_model.specs.declared.trace.StepKind.TheVariants as kinds
 use Rattle.tp_model.specs.History.{Aborted, here, there, end_by, end_of, status_of}
-use Rattle.tp_model.specs.Words.{ClaimWord, FreeWord, TakenWord, KilledWord, Rises, attempt_in, claim_word, taken_status}
-use Rattle.tp_model.specs.Steps.{IsLegal, Step}
+use Rattle.tp_model.specs.Words.{ClaimWord, TakenWord, claim_word, taken_status}
+use Rattle.tp_model.specs.Steps.{IsKillable, IsLegal, Step, tries}
 use Rattle.tp_model.proofs.Lists.{if_same}
 use Rattle.tp_model.proofs.Histories.{legal_at, legal_start}
 use Rattle.tp_model.proofs.WordProofs.{end_of-snoc}
 use Rattle.tp_model.proofs.Bridges.{append_nil, begins_refl, begins_trans, in_either, in_none, in_one, status_taken}
 use Rattle.tp_model.proofs.Later.{claim_stands}
-use Rattle.tp_rule.specs.Steps.{MakesAbort, MakesKill, HasElement, with_end, with_event}
+use Rattle.tp_rule.specs.Steps.{AllowsKill, MakesAbort, MakesKill, HasElement, with_end, with_event}
 use Rattle.tp_rule.specs.Views.{SeatShown, hand, view_of}
 use Rattle.tp_rule.specs.declared.view.Hand.{Hand}
 use Rattle.tp_rule.specs.declared.view.View.{View}
@@ -31,6 +31,7 @@ use Rattle.tp_manager.specs.Calls.{AreOfHolders, AtPoint, HasStatus, KillFails, 
 use Rattle.tp_manager.specs.Kills.{FailsIn, Freed, KillsIn, Slain}
 use Rattle.tp_manager.specs.Walks.{Gained, Rests, Steady, Looked}
 use Rattle.tp_manager.proofs.Gains.{gained_begins, gained_few, gained_looked, gained_then, rests_gained}
+use Rattle.tp_manager.proofs.Tries.{IsAlive}
 use Rattle.tp_manager.proofs.Walks.{at_point, point_last, grew_hand, grew_walked, steady_own, walked_begins}
 
 module _ (l : Limits) where
@@ -38,8 +39,8 @@ module _ (l : Limits) where
   freed_looked n i v w a = record { gained = gained_looked l n v w a; aborts = λ e p. absurd (in_none p) }
 
   -- the Abort of the unit that holds the element
-  pub freed_abort : (i n u : ℕ) (v w : View) → Steady l v → claim_word v.seen i ≡ TakenWord n u → MakesAbort v u w → Freed l 1 i (Abort (hand v).number u ∷ []) v w × (end_of w.seen u ≡ Some Aborted)
-  freed_abort i n u v w s taken g =
+  pub freed_abort : (i n u : ℕ) {r : ℕ} (v w : View) → Steady l v → claim_word v.seen i ≡ TakenWord n u r → MakesAbort v u w → Freed l 1 i (Abort (hand v).number u ∷ []) v w × (end_of w.seen u ≡ Some Aborted)
+  freed_abort i n u {r} v w s taken g =
       let e = Abort (hand v).number u in let f : Hand → Hand = with_end e in let x = grew_hand l kinds.AbortExchange f (e ∷ []) v w s g in
       let st = steady_own l kinds.AbortExchange f e v w s g refl (omega arith) s.shows.within refl refl (λ x p. absurd (in_none p)) in
       let walk = grew_walked l kinds.AbortExchange f (e ∷ []) v w s g refl refl refl st in
@@ -48,7 +49,7 @@ module _ (l : Limits) where
       let step : Step l p e = legal_at l p e [] legal in
       let open_yet : end_of p u ≡ None = step.open_unit.unfinished in
       let before : IsLegal l p = legal_start l p (e ∷ []) legal in
-      let still : claim_word p i ≡ TakenWord n u = claim_stands l v.seen p before (g.between, refl) i n u taken (λ z. absurd cc) in
+      let still : claim_word p i ≡ TakenWord n u r = claim_stands l v.seen p before (g.between, refl) i n u taken (λ z. absurd cc) in
       let held : status_of l.attempts p i ≡ Held u n = status_taken l p i n u before still ∙ ap (taken_status l.attempts n u) open_yet in (
         record {
           gained = record {
@@ -147,10 +148,17 @@ module _ (l : Limits) where
   pub slain_few : (n m i : ℕ) (es : List Event) (v w : View) → n ≤ m → Slain l n i es v w → Slain l m i es v w
   slain_few n m i es v w le a = record { gained = gained_few l n m (es ++ Kill (hand v).number i ∷ []) v w le a.gained; before = a.before; begins = a.begins; ends = a.ends; aborts = a.aborts }
 
-  pub never_free : (w z : ClaimWord) → w ≢ FreeWord → Rises w z → z ≢ FreeWord
-  never_free FreeWord z not r = absurd (not refl)
-  never_free (TakenWord n u) z not r = λ p. ⊎_elim (λ q. absurd cc) (λ t. ⊎_elim (λ (less : n < attempt_in z). (let e : attempt_in z ≡ 0 = ap attempt_in p in absurd (omega arith))) (λ q. absurd cc) t) r
-  never_free (KilledWord n u) z not r = λ p. absurd cc
+  -- an element whose unit was aborted may be killed
+  pub allows_aborted : (h : List Event) (n u r : ℕ) → end_of h u ≡ Some Aborted → AllowsKill l h (TakenWord n u r)
+  allows_aborted h n u r ended = subst (λ x. IsKillable (taken_status l.attempts n u x)) (sym ended) (go (nat_lt n l.attempts))
+    where
+      go : (b : Bool) → IsKillable (cond b (Waiting n) (Parked n))
+      go true = tt
+      go false = tt
+
+  -- a killed one may not
+  pub allows_alive : (h : List Event) (w : ClaimWord) → AllowsKill l h w → IsAlive w
+  allows_alive h w may n u r is = subst (AllowsKill l h) is may
 
 -- a result whose parts tell more
 pub match_map : {A B : Type 0} (P P' : A → Type 0) (Q Q' : B → Type 0) (r : Result A B) → ((a : A) → P a → P' a) → ((b : B) → Q b → Q' b) → MatchResult r P Q → MatchResult r P' Q'
@@ -178,7 +186,7 @@ module _ (l : Limits) (seat next : SeatShown) (number drawn used : ℕ) (same : 
       rests_gained l seat next number drawn used same r n (es ++ k ∷ []) a.gained (claims_append es (k ∷ []) ∙ omega arith)
 
 module _ (t t' : TableId) (v w : View) (old : PassShown) (is : shown t v ≡ old) (l : Limits) (free : (hand v).open_unit ≡ None) where
-  pub kills_shown : (n i count : ℕ) → KillsIn l n i l.attempts count v w → Kills l i count old (shown t' w)
+  pub kills_shown : (n i count : ℕ) → KillsIn l n i (tries l.attempts) count v w → Kills l i count old (shown t' w)
   kills_shown n i count k = let a = k.3 in subst (λ (p : PassShown). Kills l i count p (shown t' w)) is record {
     aborts = k.0;
     counted = k.1;
@@ -192,14 +200,14 @@ module _ (t t' : TableId) (v w : View) (old : PassShown) (is : shown t v ≡ old
     drawn = a.gained.drawn;
   }
 
-  only_aborts : (n i : ℕ) (es : List Event) → length es ≤ l.attempts → Freed l n i es v w → OnlyAborts l i old (shown t' w)
+  only_aborts : (n i : ℕ) (es : List Event) → length es ≤ tries l.attempts → Freed l n i es v w → OnlyAborts l i old (shown t' w)
   only_aborts n i es few a = subst (λ (p : PassShown). OnlyAborts l i p (shown t' w)) is record { aborts = es; few = few; held = a.aborts; mine = a.gained.mine; open_unit = a.gained.open_unit free ∙ sym free; drawn = a.gained.drawn }
 
   -- the element is born when the kill fails, and has that status then
   stands_at_end : (n i : ℕ) (s : Status) (es : List Event) → Freed l n i es v w → HasElement w.seen i → status_of l.attempts w.seen i ≡ s → AtPoint old (shown t' w) (HasStatus l i s)
   stands_at_end n i s es a b e = let g = a.gained in at_point t t' v w old is l n g.marks g.walk (HasStatus l i s) w.seen (point_last l n g.marks v w g.walk) (b.0, b.1, e)
 
-  pub fails_shown : (n i : ℕ) (e : Refusal) → HasElement w.seen i → FailsIn l n i l.attempts e v w → KillFails l i old (shown t' w) e
+  pub fails_shown : (n i : ℕ) (e : Refusal) → HasElement w.seen i → FailsIn l n i (tries l.attempts) e v w → KillFails l i old (shown t' w) e
   fails_shown n i refusals.NoMemory b k = k.3
   fails_shown n i refusals.BadLimits b k = k.3
   fails_shown n i refusals.BadStage b k = k.3
@@ -207,3 +215,5 @@ module _ (t t' : TableId) (v w : View) (old : PassShown) (is : shown t v ≡ old
   fails_shown n i (refusals.Consumed u) b k = (only_aborts n i k.0 k.1 k.2, stands_at_end n i (statuses.Consumed u) k.0 k.2 b k.3)
   fails_shown n i refusals.AlreadyKilled b k = (only_aborts n i k.0 k.1 k.2, stands_at_end n i statuses.Killed k.0 k.2 b k.3)
   fails_shown n i refusals.Full b k = k.3
+  fails_shown n i refusals.NotParked b k = k.3
+  fails_shown n i refusals.NoRound b k = k.3

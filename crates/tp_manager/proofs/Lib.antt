@@ -6,8 +6,11 @@ pub mod Gains
 pub mod Seeks
 pub mod Marks
 pub mod Looks
+pub mod Tries
 pub mod Passes
 pub mod Submits
+pub mod Moves
+pub mod Requeues
 pub mod Scans
 pub mod Claims
 pub mod Shuts

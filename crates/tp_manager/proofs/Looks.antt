@@ -8,10 +8,9 @@ use Rattle.tp_model.specs.declared.types.Status.TheVariants.{Waiting, Held, Cons
 use Rattle.tp_model.specs.declared.event.Event.{Event}
 use Rattle.tp_model.specs.declared.trace.StepKind.{StepKind}
 use Rattle.tp_model.specs.History.{IsUnborn, element_of, UnitEnd, Committed, Aborted, end_of, status_of}
-use Rattle.tp_model.specs.Words.{ClaimWord, FreeWord, TakenWord, KilledWord, Rises, attempt_in, claim_word, taken_status}
-use Rattle.tp_model.specs.Steps.{AreLimits, IsRowOf, rows_of, units_of, IsLegal}
+use Rattle.tp_model.specs.Words.{TakenWord, claim_word, taken_status}
+use Rattle.tp_model.specs.Steps.{IsRowOf, rows_of, units_of, IsLegal}
 use Rattle.tp_model.proofs.Blocks.{blocks_apart}
-use Rattle.tp_model.proofs.WordProofs.{words_rise}
 use Rattle.tp_model.proofs.Bridges.{born_or_not, born_at, found_later}
 use Rattle.tp_model.proofs.Later.{committed_born, claim_stands, status_found, status_aborted}
 use Rattle.tp_words.specs.declared.words.Head.{Head}
@@ -23,8 +22,8 @@ use Rattle.tp_rule.specs.Steps.{Grew}
 use Rattle.tp_rule.specs.declared.view.Hand.{Hand}
 use Rattle.tp_rule.specs.declared.view.View.{View}
 use Rattle.tp_manager.specs.declared.looking.Birth.{Birth}
-use Rattle.tp_manager.specs.Looks.{GoesOn, HeadFound, IsThere, IsEnough}
-use Rattle.tp_rule.proofs.Births.{by_unit, attempt_range}
+use Rattle.tp_manager.specs.Looks.{GoesOn, HeadFound, IsThere}
+use Rattle.tp_rule.proofs.Births.{by_unit}
 
 -- behind the last row of its part a scan goes on
 pub goes_end : (l k : Limits) → l ≡ k → (i next : ℕ) → (c : ℕ) × IsRowOf k c i × (next ≡ c * k.rows + k.rows) → next ≤ rows_of k → GoesOn l i next
@@ -88,61 +87,36 @@ element_there h g i key amount b begins t keys amounts ids =
 
 -- statuses
 
-pub claim_is : (x : Claim) (n u : ℕ) → claim_value x ≡ TakenWord n u → x ≡ claims.Taken n u
-claim_is claims.Free n u p = absurd cc
-claim_is (claims.Taken m v) n u p = cc
-claim_is (claims.Killed m v) n u p = absurd cc
+pub claim_is : (x : Claim) (n u r : ℕ) → claim_value x ≡ TakenWord n u r → x ≡ claims.Taken n u r
+claim_is claims.Free n u r p = absurd cc
+claim_is (claims.Taken m v k) n u r p = cc
+claim_is (claims.Killed m v k) n u r p = absurd cc
+claim_is (claims.Again k) n u r p = absurd cc
 
 module _ (l : Limits) where
-  standing : (a b : List Event) → IsLegal l b → IsPrefix a b → (i n u : ℕ) → claim_word a i ≡ TakenWord n u → (x : Option UnitEnd) → x ≡ end_of b u → x ≢ Some Aborted → taken_status l.attempts n u x ≡ status_of l.attempts b i
+  standing : (a b : List Event) → IsLegal l b → IsPrefix a b → (i n u : ℕ) {r : ℕ} → claim_word a i ≡ TakenWord n u r → (x : Option UnitEnd) → x ≡ end_of b u → x ≢ Some Aborted → taken_status l.attempts n u x ≡ status_of l.attempts b i
   standing a b legal begins i n u is x end_is not = ap (taken_status l.attempts n u) end_is ∙ sym (status_found l a b legal begins i n u is (λ p. not (end_is ∙ p)))
 
-  pub held_yet : (a b : List Event) → IsLegal l b → IsPrefix a b → (i n u : ℕ) → claim_word a i ≡ TakenWord n u → None ≡ end_of b u → Held u n ≡ status_of l.attempts b i
+  pub held_yet : (a b : List Event) → IsLegal l b → IsPrefix a b → (i n u : ℕ) {r : ℕ} → claim_word a i ≡ TakenWord n u r → None ≡ end_of b u → Held u n ≡ status_of l.attempts b i
   held_yet a b legal begins i n u is e = standing a b legal begins i n u is None e (λ p. absurd cc)
 
-  pub consumed_now : (a b : List Event) → IsLegal l b → IsPrefix a b → (i n u f m : ℕ) → claim_word a i ≡ TakenWord n u → Some (Committed f m) ≡ end_of b u → Consumed u ≡ status_of l.attempts b i
+  pub consumed_now : (a b : List Event) → IsLegal l b → IsPrefix a b → (i n u f m : ℕ) {r : ℕ} → claim_word a i ≡ TakenWord n u r → Some (Committed f m) ≡ end_of b u → Consumed u ≡ status_of l.attempts b i
   consumed_now a b legal begins i n u f m is e = standing a b legal begins i n u is (Some (Committed f m)) e (λ p. absurd cc)
 
-  pub taken_still : (a b : List Event) → IsLegal l b → IsPrefix a b → (i n u : ℕ) → claim_word a i ≡ TakenWord n u → (x : Option UnitEnd) → x ≡ end_of b u → x ≢ Some Aborted → TakenWord n u ≡ claim_word b i
+  pub taken_still : (a b : List Event) → IsLegal l b → IsPrefix a b → (i n u : ℕ) {r : ℕ} → claim_word a i ≡ TakenWord n u r → (x : Option UnitEnd) → x ≡ end_of b u → x ≢ Some Aborted → TakenWord n u r ≡ claim_word b i
   taken_still a b legal begins i n u is x end_is not = sym (claim_stands l a b legal begins i n u is (λ p. not (end_is ∙ p)))
 
-  pub held_still : (a b : List Event) → IsLegal l b → IsPrefix a b → (i n u : ℕ) → claim_word a i ≡ TakenWord n u → None ≡ end_of b u → TakenWord n u ≡ claim_word b i
+  pub held_still : (a b : List Event) → IsLegal l b → IsPrefix a b → (i n u : ℕ) {r : ℕ} → claim_word a i ≡ TakenWord n u r → None ≡ end_of b u → TakenWord n u r ≡ claim_word b i
   held_still a b legal begins i n u is e = taken_still a b legal begins i n u is None e (λ p. absurd cc)
 
-  pub consumed_still : (a b : List Event) → IsLegal l b → IsPrefix a b → (i n u f m : ℕ) → claim_word a i ≡ TakenWord n u → Some (Committed f m) ≡ end_of b u → TakenWord n u ≡ claim_word b i
+  pub consumed_still : (a b : List Event) → IsLegal l b → IsPrefix a b → (i n u f m : ℕ) {r : ℕ} → claim_word a i ≡ TakenWord n u r → Some (Committed f m) ≡ end_of b u → TakenWord n u r ≡ claim_word b i
   consumed_still a b legal begins i n u f m is e = taken_still a b legal begins i n u is (Some (Committed f m)) e (λ p. absurd cc)
 
   -- the unit was found aborted, and the same claim was found afterwards
-  pub returned : (a b : List Event) → IsLegal l b → IsPrefix a b → (i n u : ℕ) → end_of a u ≡ Some Aborted → claim_word b i ≡ TakenWord n u
+  pub returned : (a b : List Event) → IsLegal l b → IsPrefix a b → (i n u : ℕ) {r : ℕ} → end_of a u ≡ Some Aborted → claim_word b i ≡ TakenWord n u r
       → (n < l.attempts → Waiting n ≡ status_of l.attempts b i) × (l.attempts ≤ n → Parked n ≡ status_of l.attempts b i)
   returned a b legal begins i n u ended is = let s = status_aborted l a b legal begins i n u ended is in go (nat_lt n l.attempts) refl s
     where
       go : (t : Bool) → nat_lt n l.attempts ≡ t → status_of l.attempts b i ≡ cond t (Waiting n) (Parked n) → (n < l.attempts → Waiting n ≡ status_of l.attempts b i) × (l.attempts ≤ n → Parked n ≡ status_of l.attempts b i)
       go true e s = (λ _. sym s, λ high. let below : n < l.attempts = grind (arith, nat_tests) in absurd (omega arith))
       go false e s = (λ below. let above : l.attempts ≤ n = grind (arith, nat_tests) in absurd (omega arith), λ _. sym s)
-
-  enough_other : (n u left : ℕ) (w : ClaimWord) → (w ≡ TakenWord n u) ⊎ ((n < attempt_in w) ⊎ (w ≡ KilledWord n u)) → w ≢ TakenWord n u → l.attempts < n + left → IsEnough l (left - 1) w
-  enough_other n u left FreeWord r not e = tt
-  enough_other n u left (TakenWord m v) r not e = ⊎_elim (λ p. absurd (not p)) (λ q. ⊎_elim (λ (less : n < m). (let x : l.attempts < m + (left - 1) = omega arith in x)) (λ p. absurd cc) q) r
-  enough_other n u left (KilledWord m v) r not e = tt
-
-  -- another claim has fewer attempts left
-  pub enough_next : (a b : List Event) → IsLegal l b → IsPrefix a b → (i n u left : ℕ) → claim_word a i ≡ TakenWord n u → claim_word b i ≢ TakenWord n u → l.attempts < n + left → IsEnough l (left - 1) (claim_word b i)
-  enough_next a b legal begins i n u left is not e =
-      let r = subst (λ w. (claim_word b i ≡ w) ⊎ ((attempt_in w < attempt_in (claim_word b i)) ⊎ (claim_word b i ≡ KilledWord n u))) is (rising (claim_word a i) is (words_rise l a b i legal begins)) in
-      enough_other n u left (claim_word b i) r not e
-    where
-      rising : (w : ClaimWord) → w ≡ TakenWord n u → Rises w (claim_word b i) → (claim_word b i ≡ w) ⊎ ((attempt_in w < attempt_in (claim_word b i)) ⊎ (claim_word b i ≡ KilledWord n u))
-      rising w at r = subst (λ z. (claim_word b i ≡ z) ⊎ ((attempt_in z < attempt_in (claim_word b i)) ⊎ (claim_word b i ≡ KilledWord n u))) (sym at) (subst (λ z. Rises z (claim_word b i)) at r)
-
-  pub enough_first : AreLimits l → (h : List Event) (i : ℕ) → IsLegal l h → IsEnough l l.attempts (claim_word h i)
-  enough_first fair h i legal = go (claim_word h i) (attempt_range l fair h legal i)
-    where
-      go : (w : ClaimWord) → ((n u : ℕ) → w ≡ TakenWord n u → (1 ≤ n) × (n ≤ l.attempts)) → IsEnough l l.attempts w
-      go FreeWord r = tt
-      go (TakenWord n u) r = let a = (r n u refl).0 in omega arith
-      go (KilledWord n u) r = tt
-
-  -- a claim with attempts left is not the last one
-  pub enough_some : AreLimits l → (h : List Event) (i n u left : ℕ) → IsLegal l h → claim_word h i ≡ TakenWord n u → l.attempts < n + left → 1 ≤ left
-  enough_some fair h i n u left legal is e = let a = (attempt_range l fair h legal i n u is).1 in omega arith

@@ -1,20 +1,17 @@
 -- A row that was passed by, and a row whose element was taken.
 use Rattle.std.proofs.Common.{◌≡◌, ◌≢◌, ◌⊎◌, ℕ, ◌+◌, ◌-◌, ◌*◌, ◌<◌, ◌≤◌, Some, List, [], ◌∷◌, ◌++◌, sym, refl, ap, ◌∙◌, subst, inl, inr, ⊎_elim, arith, mul-le-mul_right}
-use Rattle.std.proofs.lemmas.Bool.Decides.{eqb_tells}
 use mathlib.Core.List.{IsPrefix}
 use Rattle.tp_model.specs.declared.types.Element.{Element}
 use Rattle.tp_model.specs.declared.types.Limits.{Limits}
 use Rattle.tp_model.specs.declared.types.Status.{Status}
-use Rattle.tp_model.specs.declared.types.Status.TheVariants.{Waiting, Held, Killed}
+use Rattle.tp_model.specs.declared.types.Status.TheVariants.{Waiting, Held, Parked, Killed}
 use Rattle.tp_model.specs.declared.event.Event.{Event}
-use Rattle.tp_model.specs.declared.event.Event.TheVariants.{Enqueue, Claim, Commit, Abort, Kill}
+use Rattle.tp_model.specs.declared.event.Event.TheVariants.{Claim}
 use Rattle.tp_model.specs.declared.trace.StepKind.TheVariants as kinds
 use Rattle.tp_model.specs.History.{IsUnborn, element_of, status_after, status_of}
-use Rattle.tp_model.specs.Words.{ClaimWord, TakenWord, kill_word, claim_word, claim_word_after, word_status}
+use Rattle.tp_model.specs.Words.{ClaimWord, claim_word, word_status}
 use Rattle.tp_model.specs.Steps.{AreLimits, IsLegal, rows_of}
-use Rattle.tp_model.proofs.Lists.{if_same, if_other}
-use Rattle.tp_model.proofs.Histories.{along, status_of-snoc}
-use Rattle.tp_model.proofs.WordProofs.{claim_word-snoc, status_by_words}
+use Rattle.tp_model.proofs.WordProofs.{status_by_words}
 use Rattle.tp_model.proofs.Bridges.{in_none, begins_refl, begins_more, begins_trans, found_later, waits_below, waits_later}
 use Rattle.tp_rule.specs.Steps.{AllowsClaim, MakesClaim, claimed, with_claim}
 use Rattle.tp_rule.specs.Views.{hand}
@@ -22,8 +19,18 @@ use Rattle.tp_rule.specs.declared.view.Hand.{Hand}
 use Rattle.tp_rule.specs.declared.view.View.{View}
 use Rattle.tp_manager.specs.Calls.{IsWaiting}
 use Rattle.tp_manager.specs.Walks.{Looked, PassedBy, Took, with_trace}
+use Rattle.tp_manager.proofs.Moves.{moved}
 use Rattle.tp_manager.proofs.Seeks.{Widens}
 use Rattle.tp_manager.proofs.Walks.{steady_own, grew_hand, grew_walked, walked_then, walked_few, looked_begins, walked_begins}
+
+held_not : (u n : ℕ) → ¬ IsWaiting (Held u n)
+held_not u n w = let e = w.1 in cc
+
+killed_not : ¬ IsWaiting Killed
+killed_not w = let e = w.1 in cc
+
+parked_not : (n : ℕ) → ¬ IsWaiting (Parked n)
+parked_not n w = let e = w.1 in cc
 
 module _ (l : Limits) (stage i : ℕ) where
   pub pass_other : (a h b : List Event) → IsPrefix a h → ((x : Element) → element_of h i ≡ Some x → ¬ (x.stage ≡ stage)) → PassedBy l stage i a b
@@ -35,41 +42,8 @@ module _ (l : Limits) (stage i : ℕ) where
   pub pass_status : (a h b : List Event) → IsPrefix a h → IsPrefix h b → ¬ IsWaiting (status_of l.attempts h i) → PassedBy l stage i a b
   pass_status a h b before after not = λ x p st. (h, before, after, not)
 
-  -- between two histories in which the claim words of an element differ it didn't wait at some time
-  abbrev pub HasMoved : List Event → List Event → Type 0
-  HasMoved a z = (claim_word z i ≡ claim_word a i) ⊎ ((p : List Event) × IsPrefix a p × IsPrefix p z × ¬ IsWaiting (status_of l.attempts p i))
-
-  moved_more : (a x : List Event) (e : Event) → IsPrefix a x → HasMoved a x → HasMoved a (x ++ e ∷ [])
-  moved_more a x e begins m = ⊎_elim (λ same. now e same) (λ t. inr (t.0, t.1, begins_more t.0 x e t.2, t.3)) m
-    where
-      still : (e : Event) → claim_word x i ≡ claim_word a i → claim_word_after i (claim_word x i) e ≡ claim_word x i → HasMoved a (x ++ e ∷ [])
-      still e same after = inl (claim_word-snoc x e i ∙ (after ∙ same))
-
-      here : (e : Event) (s : Status) → status_after l.attempts i (status_of l.attempts x i) e ≡ s → ¬ IsWaiting s → HasMoved a (x ++ e ∷ [])
-      here e s is not = inr (x ++ e ∷ [], begins_more a x e begins, begins_refl (x ++ e ∷ []), λ w. not (w.0, sym (status_of-snoc l.attempts x e i ∙ is) ∙ w.1))
-
-      now : (e : Event) → claim_word x i ≡ claim_word a i → HasMoved a (x ++ e ∷ [])
-      now (Enqueue c y) same = still (Enqueue c y) same refl
-      now (Claim c v j n) same =
-          elim (eqb_tells j i) [
-            | inl q ↦ here (Claim c v j n) (Held v n) (if_same j i (Held v n) (status_of l.attempts x i) q.1) (λ w. let e = w.1 in absurd cc)
-            | inr q ↦ still (Claim c v j n) same (if_other j i (TakenWord n v) (claim_word x i) q.1)
-          ]
-      now (Commit c v outs) same = still (Commit c v outs) same refl
-      now (Abort c v) same = still (Abort c v) same refl
-      now (Kill c j) same =
-          elim (eqb_tells j i) [
-            | inl q ↦ here (Kill c j) Killed (if_same j i Killed (status_of l.attempts x i) q.1) (λ w. let e = w.1 in absurd cc)
-            | inr q ↦ still (Kill c j) same (if_other j i (kill_word (claim_word x i)) (claim_word x i) q.1)
-          ]
-
-  moved : (a b : List Event) → IsLegal l b → IsPrefix a b → HasMoved a b
-  moved a b legal begins = let P : List Event → Type 0 = λ z. IsPrefix a z × HasMoved a z in
-      let all : P (a ++ begins.0) = along l P (λ x e _ _ t. (begins_more a x e t.0, moved_more a x e t.0 t.1)) a begins.0 (rw begins.1 legal) (begins_refl a, inl refl) in
-      let there : P b = subst P begins.1 all in there.1
-
   pub pass_missed : (a h b : List Event) (w : ClaimWord) → IsLegal l b → IsPrefix a h → IsPrefix h b → w ≡ claim_word h i → claim_word b i ≢ w → PassedBy l stage i a b
-  pass_missed a h b w legal before after found differs = λ x p st. ⊎_elim (λ same. absurd (differs (same ∙ sym found))) (λ t. (t.0, begins_trans a h t.0 before t.1, t.2, t.3)) (moved h b legal after)
+  pass_missed a h b w legal before after found differs = λ x p st. ⊎_elim (λ same. absurd (differs (same ∙ sym found))) (λ t. (t.0, begins_trans a h t.0 before t.1, t.2, t.3)) (moved l i IsWaiting held_not killed_not (inl parked_not) h b legal after)
 
   -- where the element was found to wait, the next attempt may begin
   pub allows : (h g : List Event) (w : ClaimWord) (n : ℕ) → IsLegal l h → IsPrefix h g → w ≡ claim_word h i → status_of l.attempts h i ≡ Waiting n → AllowsClaim l g w (n + 1)

@@ -6,7 +6,7 @@ use mathlib.Core.Logic.{dite}
 use native.Mathlib.Decide.{ℕ_discrete}
 use Rattle.tp_model.specs.declared.types.Limits.{Limits}
 use Rattle.tp_model.specs.declared.event.Event.{Event}
-use Rattle.tp_model.specs.declared.event.Event.TheVariants.{Enqueue, Claim, Commit, Abort, Kill}
+use Rattle.tp_model.specs.declared.event.Event.TheVariants.{Enqueue, Claim, Commit, Abort, Kill, Requeue}
 use Rattle.tp_model.specs.History.{In, here, there, events_by, pass_of}
 use Rattle.tp_model.specs.Steps.{IsLegal, Step}
 use Rattle.tp_model.proofs.Bridges.{by_own, append_nil}
@@ -24,6 +24,7 @@ by_pass l h (Claim c u i n) legal s = s.unit.0
 by_pass l h (Commit c u outs) legal s = subst (λ n. n < l.parts) s.own (claims_inside l h legal u s.taking s.open_unit.claimed).0
 by_pass l h (Abort c u) legal s = s.pass
 by_pass l h (Kill c i) legal s = s.pass
+by_pass l h (Requeue c i k) legal s = s.pass
 
 by_more : (c : ℕ) (h m : List Event) → length (events_by c h) ≤ length (events_by c (h ++ m))
 by_more c h m = let e = ap length (filter-append (λ e. pass_of e == c) h m) in let k = length-append (events_by c h) (events_by c m) in omega arith

@@ -1,7 +1,9 @@
 -- How many atomic steps the calls make at most. Each is what the call can need, and no more.
 use Rattle.std.specs.Prelude.{ℕ, ◌+◌, ◌-◌, ◌*◌, ◌≤◌}
 use Rattle.tp_model.specs.declared.types.Limits.{Limits}
-use Rattle.tp_model.specs.Steps.{AreLimits, rows_of}
+use Rattle.tp_model.specs.Steps.{AreLimits, rows_of, tries, changes}
+use Rattle.tp_model.specs.Words.{ClaimWord, FreeWord, TakenWord, KilledWord, AgainWord}
+use Rattle.tp_model.specs.declared.types.TheConstants.{MOST_ROUNDS}
 
 -- the key and the amount of an element
 abbrev pub body_steps : ℕ
@@ -31,19 +33,37 @@ birth_steps = 2
 abbrev pub retry_steps : ℕ → ℕ
 retry_steps attempts = 2 * attempts
 
--- the status of an element: its claim, and for each attempt the word of the unit and the claim again
+-- the status of an element: its claim, and for each attempt in all rounds the word of the unit and the claim again
 abbrev pub status_steps : Limits → ℕ
-status_steps l = 1 + retry_steps l.attempts
+status_steps l = 1 + retry_steps (tries l.attempts)
 
 abbrev pub read_steps : Limits → ℕ
 read_steps l = birth_steps + body_steps + status_steps l
 
--- the kill of an element that is born: its claim, the exchange of one that was free, and for each attempt the unit's word and the claim
+-- how often an element can still be found untaken in its round, from this claim on: once in each round
+abbrev pub untaken_left : ClaimWord → ℕ
+untaken_left FreeWord = MOST_ROUNDS + 1
+untaken_left (TakenWord n u r) = MOST_ROUNDS - r
+untaken_left (KilledWord n u r) = 0
+untaken_left (AgainWord r) = MOST_ROUNDS + 1 - r
+
+-- the kill of an element whose claim was found, with so many attempts left: for each the unit's word and the claim, and the claim where it is found untaken
+abbrev pub slay_from : ℕ → ClaimWord → ℕ
+slay_from left word = retry_steps left + untaken_left word
+
+-- the kill of an element that is born: its claim, and those
 abbrev pub slay_steps : Limits → ℕ
-slay_steps l = 2 + retry_steps l.attempts
+slay_steps l = 1 + slay_from (tries l.attempts) FreeWord
 
 abbrev pub kill_steps : Limits → ℕ
 kill_steps l = birth_steps + slay_steps l
+
+-- another round of an element that is born: its claim, the word of its unit, and the exchange
+abbrev pub renew_steps : ℕ
+renew_steps = 3
+
+abbrev pub requeue_steps : ℕ
+requeue_steps = birth_steps + renew_steps
 
 -- a round of a cancel: a kill at every row
 abbrev pub round_steps : Limits → ℕ
@@ -106,14 +126,15 @@ account_steps l n = first_steps l n + 2 * led_steps * (n - 1) + kept_steps * (l.
 -- the bounds as round numbers over the limits
 pub record RoundBounds (l : Limits) : Type 0 where
   pub submit : submit_steps ≤ 4
-  pub claim : claim_steps l ≤ rows_of l * (2 * l.attempts + 9) + 2 * l.parts + 1
+  pub claim : claim_steps l ≤ rows_of l * (2 * changes l.attempts + 9) + 2 * l.parts + 1
   pub commit : (k : ℕ) → commit_steps k ≤ 4 * k + 3
   pub abort : abort_steps ≤ 2
-  pub kill : kill_steps l ≤ 4 * l.attempts + 8
-  pub cancel : 1 ≤ rows_of l → cancel_steps l ≤ (rows_of l + 2) * (rows_of l * (4 * l.attempts + 12))
-  pub read : read_steps l ≤ 2 * l.attempts + 8
-  pub reply : reply_steps l ≤ rows_of l * (2 * l.attempts + 8)
-  pub next_error : next_error_steps l ≤ rows_of l * (2 * l.attempts + 8)
+  pub kill : kill_steps l ≤ 4 * changes l.attempts + 8
+  pub requeue : requeue_steps ≤ 8
+  pub cancel : 1 ≤ rows_of l → cancel_steps l ≤ (rows_of l + 2) * (rows_of l * (4 * changes l.attempts + 12))
+  pub read : read_steps l ≤ 2 * changes l.attempts + 8
+  pub reply : reply_steps l ≤ rows_of l * (2 * changes l.attempts + 8)
+  pub next_error : next_error_steps l ≤ rows_of l * (2 * changes l.attempts + 8)
   pub meet : meet_steps ≤ 3
   pub account : AreLimits l → (n : ℕ) → n ≤ l.parts
-      → account_steps l n ≤ rows_of l * (2 * (4 * l.attempts + 3) + 10) + 2 * l.parts
+      → account_steps l n ≤ rows_of l * (2 * changes l.attempts + 10) + 2 * l.parts

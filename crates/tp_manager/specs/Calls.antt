@@ -23,7 +23,7 @@ use Rattle.tp_model.specs.declared.event.Event.TheVariants.{Enqueue, Claim, Comm
 use Rattle.tp_model.specs.declared.trace.TraceEntry.{TraceEntry}
 use Rattle.tp_model.specs.History.{In, IsClaim, IsUnborn, UnitEnd, claim_of, element_of, end_of, first_id, status_of}
 use Rattle.tp_model.specs.Births.{outputs, request}
-use Rattle.tp_model.specs.Steps.{IsServerStage}
+use Rattle.tp_model.specs.Steps.{IsServerStage, tries}
 use Rattle.tp_model.specs.Passes.{HasLook, IsPassView, IsPoint, opening_of}
 use Rattle.tp_manager.specs.Shown.{PassShown, view_in}
 
@@ -197,11 +197,11 @@ pub record IsOfHolder (l : Limits) (c i : ℕ) (from to : List Event) (e : Event
 abbrev pub AreOfHolders : Limits → ℕ → ℕ → List Event → List Event → List Event → Type 0
 AreOfHolders l c i from to aborts = (e : Event) → In e aborts → IsOfHolder l c i from to e
 
--- the pass has aborted so many units that held the element, at most the attempt limit, and then killed it
+-- the pass has aborted so many units that held the element, at most one for each of its attempts in all rounds, and then killed it
 pub record Kills (l : Limits) (id count : ℕ) (old new : PassShown) : Type 0 where
   pub aborts : List Event
   pub counted : length aborts ≡ count
-  pub few : count ≤ l.attempts
+  pub few : count ≤ tries l.attempts
   pub held : AreOfHolders l old.number id old.seen new.seen aborts
   pub mine : new.mine ≡ (old.mine ++ aborts) ++ Kill old.number id ∷ []
   pub before : List Event
@@ -210,10 +210,10 @@ pub record Kills (l : Limits) (id count : ℕ) (old new : PassShown) : Type 0 wh
   pub open_unit : new.open_unit ≡ old.open_unit
   pub drawn : new.drawn ≡ old.drawn
 
--- the pass has aborted units that held the element, at most the attempt limit, and has done nothing else
+-- the pass has aborted units that held the element, at most one for each of its attempts in all rounds, and has done nothing else
 pub record OnlyAborts (l : Limits) (id : ℕ) (old new : PassShown) : Type 0 where
   pub aborts : List Event
-  pub few : length aborts ≤ l.attempts
+  pub few : length aborts ≤ tries l.attempts
   pub held : AreOfHolders l old.number id old.seen new.seen aborts
   pub mine : new.mine ≡ old.mine ++ aborts
   pub open_unit : new.open_unit ≡ old.open_unit

@@ -9,8 +9,8 @@ use Rattle.tp_model.specs.declared.event.Event.{Event}
 use Rattle.tp_model.specs.History.{element_of, status_of}
 use Rattle.tp_manager.specs.declared.listing.Wanted.{Wanted}
 use Rattle.tp_manager.specs.declared.listing.Wanted.TheVariants.{Reply, Error}
+use Rattle.tp_model.specs.Steps.{IsParked}
 use Rattle.tp_manager.specs.Calls.{IsWaiting}
-use Rattle.tp_manager.specs.Lists.{IsParked}
 
 -- an element of this stage, with this root and status, is looked for
 abbrev pub IsWanted : Wanted → ℕ → ℕ → Status → Type 0

@@ -1,6 +1,6 @@
 -- What a kill does on its way. In each definition l are the table's limits, i is the row, v is the view before, and w
 -- the view after.
-use Rattle.std.specs.Prelude.{◌≡◌, ℕ, ◌≤◌, List, [], ◌∷◌, ◌++◌, length, Some}
+use Rattle.std.specs.Prelude.{◌≡◌, ℕ, ◌≤◌, List, [], ◌∷◌, ◌++◌, length}
 use mathlib.Core.List.{IsPrefix}
 use Rattle.tp_model.specs.declared.types.Limits.{Limits}
 use Rattle.tp_model.specs.declared.types.Refusal.{Refusal}
@@ -8,7 +8,9 @@ use Rattle.tp_model.specs.declared.types.Refusal.TheVariants as refusals
 use Rattle.tp_model.specs.declared.types.Status.TheVariants as statuses
 use Rattle.tp_model.specs.declared.event.Event.{Event}
 use Rattle.tp_model.specs.declared.event.Event.TheVariants.{Kill}
-use Rattle.tp_model.specs.History.{Aborted, end_of, status_of}
+use Rattle.tp_model.specs.History.{status_of}
+use Rattle.tp_model.specs.Words.{ClaimWord, TakenWord}
+use Rattle.tp_rule.specs.Steps.{AllowsKill}
 use Rattle.tp_rule.specs.Views.{hand}
 use Rattle.tp_rule.specs.declared.view.View.{View}
 use Rattle.tp_manager.specs.Calls.{AreOfHolders}
@@ -33,10 +35,15 @@ IsPastKill l h i (refusals.Consumed u) = status_of l.attempts h i ≡ statuses.C
 IsPastKill l h i refusals.AlreadyKilled = status_of l.attempts h i ≡ statuses.Killed
 IsPastKill l h i other = ⊥
 
--- unit u, which had taken the element, is aborted, in one step and by so many own Aborts, none or one
-abbrev pub Loosened : Limits → ℕ → ℕ → ℕ → View → View → Type 0
-Loosened l i u count v w = (es : List Event) × (length es ≡ count) × (count ≤ 1) × Freed l 1 i es v w
-    × (end_of w.seen u ≡ Some Aborted)
+-- how many units stand in the way of a kill where this claim was found: the one that has taken the element, or none
+abbrev pub takers : ClaimWord → ℕ
+takers (TakenWord n u r) = 1
+takers other = 0
+
+-- the element may be killed, whose claim word is this one: the unit that had taken it is aborted, in one step and by so many own Aborts, none or one
+abbrev pub Loosened : Limits → ℕ → ClaimWord → ℕ → View → View → Type 0
+Loosened l i word count v w = (es : List Event) × (length es ≡ count) × (count ≤ takers word) × Freed l (takers word) i es v w
+    × AllowsKill l w.seen word
 
 -- the element was killed, in at most n steps, after so many own Aborts, at most `left`
 abbrev pub KillsIn : Limits → ℕ → ℕ → ℕ → ℕ → View → View → Type 0

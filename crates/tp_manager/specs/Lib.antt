@@ -4,6 +4,7 @@ pub mod Calls
 pub mod Walks
 pub mod Looks
 pub mod Kills
+pub mod Requeues
 pub mod Meetings
 pub mod Lists
 pub mod Finds

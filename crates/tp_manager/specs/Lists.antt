@@ -3,20 +3,16 @@
 use Rattle.std.specs.Prelude.{◌≡◌, ℕ, ◌<◌, ◌≤◌, List, Some}
 use Rattle.tp_model.specs.declared.types.Element.{Element}
 use Rattle.tp_model.specs.declared.types.Limits.{Limits}
-use Rattle.tp_model.specs.declared.types.Status.{Status}
-use Rattle.tp_model.specs.declared.types.Status.TheVariants.{Killed, Parked}
+use Rattle.tp_model.specs.declared.types.Status.TheVariants.{Killed}
 use Rattle.tp_model.specs.declared.event.Event.{Event}
 use Rattle.tp_model.specs.History.{element_of, status_of}
+use Rattle.tp_model.specs.Steps.{IsParked}
 use Rattle.tp_manager.specs.Shown.{PassShown}
 use Rattle.tp_manager.specs.Calls.{AtPoint, IsWaiting, opening}
 
 -- the element is a reply to the request with this root
 abbrev pub IsReply : ℕ → Element → Type 0
 IsReply root x = (x.stage ≡ 15) × (x.root ≡ root)
-
--- an element with this status is parked
-abbrev pub IsParked : Status → Type 0
-IsParked s = (n : ℕ) × (s ≡ Parked n)
 
 -- a reply of this root with this id is born, and waits
 abbrev pub HasReply : Limits → ℕ → ℕ → List Event → Type 0

@@ -4,8 +4,8 @@ use Rattle.tp_model.specs.declared.types.Element.{Element}
 use Rattle.tp_model.specs.declared.types.Limits.{Limits}
 use Rattle.tp_model.specs.declared.event.Event.{Event}
 use Rattle.tp_model.specs.History.{IsUnborn, element_of}
-use Rattle.tp_model.specs.Steps.{IsRowOf, rows_of}
-use Rattle.tp_model.specs.Words.{ClaimWord, FreeWord, TakenWord, KilledWord}
+use Rattle.tp_model.specs.Steps.{IsRowOf, rows_of, tries}
+use Rattle.tp_model.specs.Words.{ClaimWord, FreeWord, TakenWord, KilledWord, AgainWord}
 use Rattle.tp_words.specs.declared.words.Head.{Head}
 use Rattle.tp_words.specs.declared.words.Head.TheVariants.{There}
 use Rattle.tp_words.specs.Words.{head_of}
@@ -32,8 +32,9 @@ pub record GoesOn (l : Limits) (i next : ℕ) : Type 0 where
 abbrev pub IsThere : List Event → ℕ → Birth → Type 0
 IsThere h i b = (e : Element) × (element_of h i ≡ Some e) × (head_of e ≡ There b.stage b.root b.by)
 
--- there are at most so many attempts after this claim
+-- there are at most so many attempts from this claim on, in all rounds; those of the rounds before it are over
 abbrev pub IsEnough : Limits → ℕ → ClaimWord → Type 0
-IsEnough l left FreeWord = Unit {0}
-IsEnough l left (TakenWord n u) = l.attempts < n + left
-IsEnough l left (KilledWord n u) = Unit {0}
+IsEnough l left FreeWord = tries l.attempts ≤ left
+IsEnough l left (TakenWord n u r) = tries l.attempts < r * l.attempts + n + left
+IsEnough l left (KilledWord n u r) = Unit {0}
+IsEnough l left (AgainWord r) = tries l.attempts ≤ r * l.attempts + left

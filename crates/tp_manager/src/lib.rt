@@ -13,6 +13,7 @@ mod looking;
 mod manager;
 mod meeting;
 mod reading;
+mod requeueing;
 mod scanning;
 mod submitting;
 

@@ -171,11 +171,17 @@ impl Shared {
     {
         match claim {
             Claim::Free => (claim, Status::Waiting { attempts: 0 }),
+            Claim::Again { round: _ } => (claim, Status::Waiting { attempts: 0 }),
             Claim::Killed {
                 attempt: _,
                 unit: _,
+                round: _,
             } => (claim, Status::Killed),
-            Claim::Taken { attempt, unit } => match self.words.load_unit(seat, unit) {
+            Claim::Taken {
+                attempt,
+                unit,
+                round: _,
+            } => match self.words.load_unit(seat, unit) {
                 UnitWord::Undecided => (claim, Status::Held { unit, attempt }),
                 UnitWord::Committed { first: _, count: _ } => (claim, Status::Consumed { unit }),
                 UnitWord::Aborted => {
@@ -212,7 +218,8 @@ impl Shared {
         self.status_from(seat, row, claim, left)
     }
 
-    /// The claim and the status of the element of a row. At most one step, and two for each attempt that is allowed.
+    /// The claim and the status of the element of a row. At most one step, and two for each attempt that is allowed in
+    /// all rounds.
     #[inline(always)]
     pub(crate) fn status_at(&self, seat: &mut Seat, row: u32) -> (Claim, Status)
         requires own { IsSeatOf self.now.words seat.old }
@@ -226,6 +233,6 @@ impl Shared {
         ensures status { result.1 ≡ status_of (limits_of self.now.words).attempts (seen_by seat.new) row }
     {
         let claim = self.words.load_claim(seat, row);
-        self.status_from(seat, row, claim, self.places.limits.attempts)
+        self.status_from(seat, row, claim, self.places.limits.tries())
     }
 }

@@ -5,7 +5,7 @@ use Rattle.std.specs.List.{find}
 use Rattle.tp_model.specs.declared.types.Element.{Element}
 use Rattle.tp_model.specs.declared.types.Limits.{Limits}
 use Rattle.tp_model.specs.declared.event.Event.{Event}
-use Rattle.tp_model.specs.declared.event.Event.TheVariants.{Enqueue, Claim, Commit, Abort, Kill}
+use Rattle.tp_model.specs.declared.event.Event.TheVariants.{Enqueue, Claim, Commit, Abort, Kill, Requeue}
 use Rattle.tp_model.specs.History.{births, UnitClaim, claim_by, first_id, pass_of}
 use Rattle.tp_model.specs.Steps.{IsRowOf, IsUnitOf, AreOutputs, Step}
 use Rattle.tp_model.proofs.Lists.{if_other, some_if}
@@ -40,6 +40,7 @@ no_birth l h (Claim c u j n) step i none = refl
 no_birth l h (Commit c u outs) step i none = no_output l h c u step.item.root (first_id outs) outs i step.outputs none
 no_birth l h (Abort c u) step i none = refl
 no_birth l h (Kill c j) step i none = refl
+no_birth l h (Requeue c j k) step i none = refl
 
 -- who claims does it for itself, by a unit of its own
 pub claimer : (l : Limits) (h : List Event) (e : Event) → Step l h e → (u : ℕ) (t : UnitClaim) → claim_by u e ≡ Some t → IsUnitOf l (pass_of e) u × (t.pass ≡ pass_of e)
@@ -50,6 +51,7 @@ claimer l h (Claim c v i n) step u t is =
 claimer l h (Commit c v outs) step u t is = absurd (cc (is))
 claimer l h (Abort c v) step u t is = absurd (cc (is))
 claimer l h (Kill c i) step u t is = absurd (cc (is))
+claimer l h (Requeue c i k) step u t is = absurd (cc (is))
 
 pub no_claim : (l : Limits) (h : List Event) (e : Event) → Step l h e → (u : ℕ) → ¬ IsUnitOf l (pass_of e) u → claim_by u e ≡ None
 no_claim l h (Enqueue c e) step u none = refl
@@ -57,3 +59,4 @@ no_claim l h (Claim c v i n) step u none = if_other v u _ None (λ same. none (s
 no_claim l h (Commit c v outs) step u none = refl
 no_claim l h (Abort c v) step u none = refl
 no_claim l h (Kill c i) step u none = refl
+no_claim l h (Requeue c i k) step u none = refl

@@ -10,10 +10,10 @@ use Rattle.tp_model.specs.declared.types.Element.{Element}
 use Rattle.tp_model.specs.declared.types.Limits.{Limits}
 use Rattle.tp_model.specs.declared.types.Status.TheVariants.{Waiting, Held, Parked, Killed}
 use Rattle.tp_model.specs.declared.event.Event.{Event}
-use Rattle.tp_model.specs.declared.event.Event.TheVariants.{Enqueue, Claim, Commit, Abort, Kill}
+use Rattle.tp_model.specs.declared.event.Event.TheVariants.{Enqueue, Claim, Commit, Abort, Kill, Requeue}
 use Rattle.tp_model.specs.History.{In, here, there, births, born, element_of, IsBorn, IsUnborn, UnitClaim, claim_by, claim_of, IsClaim, IsUnused, UnitEnd, Committed, Aborted, end_by, end_of, first_id, status_of, pass_of, events_by}
-use Rattle.tp_model.specs.Words.{ClaimWord, FreeWord, TakenWord, KilledWord, claim_word, taken_status, word_status}
-use Rattle.tp_model.specs.Steps.{IsRowOf, IsOutput, AreOutputs, IsKillable, Step, IsLegal}
+use Rattle.tp_model.specs.Words.{ClaimWord, FreeWord, TakenWord, KilledWord, AgainWord, claim_word, taken_status, word_status}
+use Rattle.tp_model.specs.Steps.{IsRowOf, IsOutput, AreOutputs, IsKillable, IsParked, Step, IsLegal}
 use Rattle.tp_model.proofs.Lists.{option_or-none, option_or-some, first-kept, first-snoc, if_same, if_other, some_if}
 use Rattle.tp_model.proofs.Histories.{element_of-kept, element_of-snoc}
 use Rattle.tp_model.proofs.WordProofs.{status_by_words}
@@ -137,6 +137,7 @@ births_of l h (Claim c u i n) x step p = absurd (in_none p)
 births_of l h (Commit c u outs) x step p = let t = (outputs_place l h c u step.item.root (first_id outs) outs step.outputs x p).2 in (t.row, t.unborn)
 births_of l h (Abort c u) x step p = absurd (in_none p)
 births_of l h (Kill c i) x step p = absurd (in_none p)
+births_of l h (Requeue c i k) x step p = absurd (in_none p)
 
 -- claims of units
 
@@ -153,6 +154,7 @@ claim_is u (Claim c v i n) t p = let q = some_if v u (record { pass = c; item = 
 claim_is u (Commit c v outs) t p = absurd cc
 claim_is u (Abort c v) t p = absurd cc
 claim_is u (Kill c i) t p = absurd cc
+claim_is u (Requeue c i k) t p = absurd cc
 
 pub claim_either : (h : List Event) (e : Event) (c u i n : ℕ) → IsClaim (h ++ e ∷ []) c u i n → IsClaim h c u i n ⊎ (Claim c u i n ≡ e)
 claim_either h e c u i n p = ⊎_elim (λ q. inl q) (λ q. inr (claim_is u e _ q.1)) (option_or-some (claim_of h u) (claim_by u e) _ (sym (first-snoc (claim_by u) h e) ∙ p))
@@ -163,6 +165,7 @@ claim_by-none u (Claim c v i n) others = if_other v u _ None (λ same. others c 
 claim_by-none u (Commit c v outs) others = refl
 claim_by-none u (Abort c v) others = refl
 claim_by-none u (Kill c i) others = refl
+claim_by-none u (Requeue c i k) others = refl
 
 pub unused_still : (h : List Event) (e : Event) (u : ℕ) → IsUnused h u → ((c i n : ℕ) → Claim c u i n ≢ e) → IsUnused (h ++ e ∷ []) u
 unused_still h e u p others = first-snoc (claim_by u) h e ∙ (ap (λ o. option_or o (claim_by u e)) p ∙ claim_by-none u e others)
@@ -178,11 +181,14 @@ new_claim h c u i n p = first-snoc (claim_by u) h (Claim c u i n) ∙ (ap (λ o.
 pub status_free : (l : Limits) (h : List Event) (i : ℕ) → IsLegal l h → claim_word h i ≡ FreeWord → status_of l.attempts h i ≡ Waiting 0
 status_free l h i legal is = status_by_words l h i legal ∙ ap (word_status l.attempts h) is
 
-pub status_taken : (l : Limits) (h : List Event) (i n u : ℕ) → IsLegal l h → claim_word h i ≡ TakenWord n u → status_of l.attempts h i ≡ taken_status l.attempts n u (end_of h u)
+pub status_taken : (l : Limits) (h : List Event) (i n u : ℕ) {r : ℕ} → IsLegal l h → claim_word h i ≡ TakenWord n u r → status_of l.attempts h i ≡ taken_status l.attempts n u (end_of h u)
 status_taken l h i n u legal is = status_by_words l h i legal ∙ ap (word_status l.attempts h) is
 
-pub status_killed : (l : Limits) (h : List Event) (i n u : ℕ) → IsLegal l h → claim_word h i ≡ KilledWord n u → status_of l.attempts h i ≡ Killed
+pub status_killed : (l : Limits) (h : List Event) (i n u : ℕ) {r : ℕ} → IsLegal l h → claim_word h i ≡ KilledWord n u r → status_of l.attempts h i ≡ Killed
 status_killed l h i n u legal is = status_by_words l h i legal ∙ ap (word_status l.attempts h) is
+
+pub status_again : (l : Limits) (h : List Event) (i r : ℕ) → IsLegal l h → claim_word h i ≡ AgainWord r → status_of l.attempts h i ≡ Waiting 0
+status_again l h i r legal is = status_by_words l h i legal ∙ ap (word_status l.attempts h) is
 
 -- the element of an Enqueue is born by it
 pub new_birth : (h : List Event) (c : ℕ) (y : Element) → IsUnborn h y.id → IsBorn (h ++ Enqueue c y ∷ []) y
@@ -191,7 +197,7 @@ new_birth h c y none = element_of-snoc h (Enqueue c y) y.id ∙ (ap (λ o. optio
 -- where an element waits by its claim word, it had fewer attempts than are allowed
 pub waits_below : (limit : ℕ) (h : List Event) (w : ClaimWord) (m : ℕ) → 1 ≤ limit → word_status limit h w ≡ Waiting m → m < limit
 waits_below limit h FreeWord m some e = let z : 0 ≡ m = cc in omega arith
-waits_below limit h (TakenWord n u) m some e = taken (end_of h u) e
+waits_below limit h (TakenWord n u r) m some e = taken (end_of h u) e
   where
     go : (b : Bool) → nat_lt n limit ≡ b → cond b (Waiting n) (Parked n) ≡ Waiting m → m < limit
     go true less at = let z : n ≡ m = cc in let below : n < limit = grind (arith, nat_tests) in omega arith
@@ -201,23 +207,28 @@ waits_below limit h (TakenWord n u) m some e = taken (end_of h u) e
     taken None e = absurd cc
     taken (Some (Committed f k)) e = absurd cc
     taken (Some Aborted) e = go (nat_lt n limit) refl e
-waits_below limit h (KilledWord n u) m some e = absurd cc
+waits_below limit h (KilledWord n u r) m some e = absurd cc
+waits_below limit h (AgainWord r) m some e = let z : 0 ≡ m = cc in omega arith
 
 -- what a claim word tells where nobody holds its element, it tells in each longer history
 pub word_stays : (limit : ℕ) (h g : List Event) (w : ClaimWord) → IsPrefix h g → ((u n : ℕ) → word_status limit h w ≢ Held u n) → word_status limit g w ≡ word_status limit h w
 word_stays limit h g FreeWord b not = refl
-word_stays limit h g (TakenWord n u) b not = go (end_of h u) refl
+word_stays limit h g (TakenWord n u r) b not = go (end_of h u) refl
   where
     go : (x : Option UnitEnd) → end_of h u ≡ x → taken_status limit n u (end_of g u) ≡ taken_status limit n u (end_of h u)
     go None e = absurd (not u n (ap (taken_status limit n u) e))
     go (Some x) e = ap (taken_status limit n u) (sym (ap (λ l. end_of l u) b.1) ∙ (first-kept (end_by u) h b.0 x e ∙ sym e))
-word_stays limit h g (KilledWord n u) b not = refl
+word_stays limit h g (KilledWord n u r) b not = refl
+word_stays limit h g (AgainWord r) b not = refl
 
 pub waits_later : (limit : ℕ) (h g : List Event) (w : ClaimWord) (m : ℕ) → IsPrefix h g → word_status limit h w ≡ Waiting m → word_status limit g w ≡ Waiting m
 waits_later limit h g w m b e = word_stays limit h g w b (λ u n is. absurd cc) ∙ e
 
 pub killable_later : (limit : ℕ) (h g : List Event) (w : ClaimWord) → IsPrefix h g → IsKillable (word_status limit h w) → IsKillable (word_status limit g w)
 killable_later limit h g w b free = subst IsKillable (sym (word_stays limit h g w b (λ u n is. subst IsKillable is free))) free
+
+pub parked_later : (limit : ℕ) (h g : List Event) (w : ClaimWord) → IsPrefix h g → IsParked (word_status limit h w) → IsParked (word_status limit g w)
+parked_later limit h g w b parked = (parked.0, word_stays limit h g w b (λ u n is. (let e : Parked parked.0 ≡ Held u n = sym parked.1 ∙ is in absurd cc)) ∙ parked.1)
 
 -- a unit that has ended stays ended so
 pub end_stays : (h g : List Event) (u : ℕ) (x : UnitEnd) → IsPrefix h g → end_of h u ≡ Some x → end_of g u ≡ Some x

@@ -7,7 +7,7 @@ use Rattle.tp_model.specs.declared.types.Element.{Element}
 use Rattle.tp_model.specs.declared.types.Limits.{Limits}
 use Rattle.tp_model.specs.declared.types.Status.TheVariants.{Waiting, Held}
 use Rattle.tp_model.specs.declared.event.Event.{Event}
-use Rattle.tp_model.specs.declared.event.Event.TheVariants.{Enqueue, Claim, Commit, Abort, Kill}
+use Rattle.tp_model.specs.declared.event.Event.TheVariants.{Enqueue, Claim, Commit, Abort, Kill, Requeue}
 use Rattle.tp_model.specs.History.{In, here, there, births, born, element_of, IsBorn, UnitClaim, claim_by, claim_of, first_id, status_of, IsSettled}
 use Rattle.tp_model.specs.Families.{family, IsSettledFamily, WorksOn, NeverWorkedOn, SettledFamilyStays}
 use Rattle.tp_model.specs.Steps.{IsServerStage, IsOpen, Step, IsLegal}
@@ -66,6 +66,7 @@ module _ (l : Limits) where
   staged_after h (Commit c v outs) step u t is = absurd (cc (is))
   staged_after h (Abort c v) step u t is = absurd (cc (is))
   staged_after h (Kill c i) step u t is = absurd (cc (is))
+  staged_after h (Requeue c i k) step u t is = absurd (cc (is))
 
   claimed_staged : (h : List Event) → IsLegal l h → (u : ℕ) (t : UnitClaim) → claim_of h u ≡ Some t → (x : Element) × (element_of h t.item ≡ Some x) × IsServerStage x.stage
   claimed_staged h legal = by_steps l (λ y. (u : ℕ) (t : UnitClaim) → claim_of y u ≡ Some t → (x : Element) × (element_of y t.item ≡ Some x) × IsServerStage x.stage) (λ u t is. absurd (cc (is))) more h legal
@@ -113,6 +114,7 @@ module _ (l : Limits) where
       open_unsettled h u step.taking step.item root legal step.open_unit step.taken (sym o.root_is ∙ same) settled
   closed h (Abort c u) root r legal step there_is settled x p same = in_none p
   closed h (Kill c i) root r legal step there_is settled x p same = in_none p
+  closed h (Requeue c i k) root r legal step there_is settled x p same = in_none p
 
   -- it stays settled
   settled_on : (h : List Event) (e : Event) (root : ℕ) (r : Element) → IsLegal l h → Step l h e → element_of h root ≡ Some r → AllSettled h root → AllSettled (h ++ e ∷ []) root
@@ -170,6 +172,7 @@ works_not l mid after root legal settled (Commit c u outs) step works =
     open_unsettled l mid u step.taking step.item root legal step.open_unit step.taken (ap (λ (z : Element). z.root) one ∙ works.2.2) settled
 works_not l mid after root legal settled (Abort c u) step works = works
 works_not l mid after root legal settled (Kill c i) step works = works
+works_not l mid after root legal settled (Requeue c i k) step works = works
 
 pub never_worked_on : NeverWorkedOn
 never_worked_on l h between after e root legal request settled =

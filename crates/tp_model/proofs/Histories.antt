@@ -11,7 +11,7 @@ use Rattle.tp_model.specs.declared.types.Limits.{Limits}
 use Rattle.tp_model.specs.declared.types.Status.{Status}
 use Rattle.tp_model.specs.declared.types.Status.TheVariants.{Waiting, Held, Consumed, Parked, Killed}
 use Rattle.tp_model.specs.declared.event.Event.{Event}
-use Rattle.tp_model.specs.declared.event.Event.TheVariants.{Enqueue, Claim, Commit, Abort, Kill}
+use Rattle.tp_model.specs.declared.event.Event.TheVariants.{Enqueue, Claim, Commit, Abort, Kill, Requeue}
 use Rattle.tp_model.specs.History.{births, born, element_of, UnitClaim, claim_by, claim_of, end_by, end_of, first_id, committed, aborted, status_after, status_of, IsSettled}
 use Rattle.tp_model.specs.Steps.{AreOutputs, IsOpen, IsKillable, Step, IsLegal}
 use Rattle.tp_model.proofs.Lists.{cut_of_snoc, middle_not_nil, option_or-none, option_or-some, first-snoc, if_same, if_other, some_if, none_if}
@@ -102,10 +102,15 @@ holds_after l h (Abort c v) step old u t (inl p) = absurd (cc (p))
 holds_after l h (Abort c v) step old u t (inr p) =
     ap (aborted l.attempts v) (old u t p.0) ∙ if_other v u _ (Held u t.attempt) (none_if v u _ p.1)
 holds_after l h (Kill c j) step old u t (inl p) = absurd (cc (p))
+holds_after l h (Requeue c j k) step old u t (inl p) = absurd (cc (p))
 holds_after l h (Kill c j) step old u t (inr p) =
     let held = old u t p.0 in
     let other : j ≢ t.item = λ same. let free = step.free in rw (same, held) at free in
     if_other j t.item Killed (status_of l.attempts h t.item) other ∙ held
+holds_after l h (Requeue c j k) step old u t (inr p) =
+    let held = old u t p.0 in
+    let other : j ≢ t.item = λ same. let at = ap (status_of l.attempts h) same in let parked = step.parked.1 in cc in
+    if_other j t.item (Waiting 0) (status_of l.attempts h t.item) other ∙ held
 
 -- in a legal history each open unit holds the element that it claimed
 pub open_holds : (l : Limits) (h : List Event) → IsLegal l h → OpenHolds l h
@@ -133,6 +138,8 @@ settled_after l h (Kill c j) step i s settled is =
     not_both (Waiting n) settled free = settled
     not_both (Held u n) settled free = settled
     not_both (Parked n) settled free = settled
+settled_after l h (Requeue c j k) step i s settled is =
+    if_other j i (Waiting 0) s (λ same. let at : status_of l.attempts h j ≡ s = ap (status_of l.attempts h) same ∙ is in subst IsSettled (sym at ∙ step.parked.1) settled)
 settled_after l h e step i (Waiting n) settled is = absurd settled
 settled_after l h e step i (Held u n) settled is = absurd settled
 settled_after l h e step i (Parked n) settled is = absurd settled
@@ -185,6 +192,7 @@ new_found l h (Commit c u outs) step x there =
     let found = outputs_found l h c u step.item.root (first_id outs) outs x step.outputs there in (found.1, found.2)
 new_found l h (Abort c u) step x there = absurd (none_there x there)
 new_found l h (Kill c i) step x there = absurd (none_there x there)
+new_found l h (Requeue c i k) step x there = absurd (none_there x there)
 
 pub element_of-snoc : (h : List Event) (e : Event) (i : ℕ) → element_of (h ++ e ∷ []) i ≡ option_or (element_of h i) (find (λ (y : Element). y.id == i) (births e))
 element_of-snoc h e i = element_of-append h (e ∷ []) i ∙ ap (λ xs. option_or (element_of h i) (find (λ (y : Element). y.id == i) xs)) (append-nil (births e))
@@ -209,6 +217,7 @@ unborn_after l h (Claim c u j n) step i none = if_other j i (Held u n) (Waiting 
 unborn_after l h (Commit c u outs) step i none = refl
 unborn_after l h (Abort c u) step i none = refl
 unborn_after l h (Kill c j) step i none = if_other j i Killed (Waiting 0) (λ same. let born = step.born in let at = ap (element_of h) same in cc)
+unborn_after l h (Requeue c j k) step i none = if_other j i (Waiting 0) (Waiting 0) (λ same. let born = step.born in let at = ap (element_of h) same in cc)
 
 pub unborn_waits : (l : Limits) (h : List Event) → IsLegal l h → (i : ℕ) → element_of h i ≡ None → status_of l.attempts h i ≡ Waiting 0
 unborn_waits l h legal i = by_steps l (λ x. element_of x i ≡ None → status_of l.attempts x i ≡ Waiting 0) (λ none. refl) more h legal

@@ -7,7 +7,7 @@ use Rattle.tp_model.specs.declared.types.Limits.{Limits}
 use Rattle.tp_model.specs.declared.types.Status.{Status}
 use Rattle.tp_model.specs.declared.types.Status.TheVariants.{Waiting, Held, Consumed, Parked, Killed}
 use Rattle.tp_model.specs.declared.event.Event.{Event}
-use Rattle.tp_model.specs.declared.event.Event.TheVariants.{Enqueue, Claim, Commit, Abort, Kill}
+use Rattle.tp_model.specs.declared.event.Event.TheVariants.{Enqueue, Claim, Commit, Abort, Kill, Requeue}
 use Rattle.tp_model.specs.History.{UnitClaim, claim_by, end_by, claim_of, committed, status_after, status_of, IsSettled}
 use Rattle.tp_model.specs.Steps.{MayClaim, MayCommit, IsKillable, Step, IsLegal}
 use Rattle.tp_model.specs.Laws.{item_of, ConsumedOnce, NeverClaimedAfterKill, NeverCommittedAfterKill, Moves, StatusSteps, BornStays, SettledStays, UnitsStay}
@@ -105,10 +105,15 @@ moves_after l h (Kill c j) i step s is =
   where
     may : (s : Status) → IsKillable s → Moves s Killed
     may (Waiting n) free = inr refl
-    may (Parked n) free = refl
+    may (Parked n) free = inr refl
     may (Held u n) free = absurd free
     may (Consumed u) free = free
     may Killed free = free
+moves_after l h (Requeue c j k) i step s is =
+    elim (eqb_tells j i) [
+      | inl p ↦ inr (rw (if_same j i (Waiting 0) s p.1, sym is ∙ (ap (status_of l.attempts h) (sym p.1) ∙ step.parked.1)) (inl refl))
+      | inr p ↦ inl (if_other j i (Waiting 0) s p.1)
+    ]
 moves_after l h (Commit c u outs) i step (Waiting n) is = inl refl
 moves_after l h (Commit c u outs) i step (Consumed v) is = inl refl
 moves_after l h (Commit c u outs) i step (Parked n) is = inl refl

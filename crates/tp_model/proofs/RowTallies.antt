@@ -11,7 +11,7 @@ use Rattle.tp_model.specs.declared.types.Limits.{Limits}
 use Rattle.tp_model.specs.declared.types.Counts.{Counts}
 use Rattle.tp_model.specs.declared.types.Status.{Status}
 use Rattle.tp_model.specs.declared.event.Event.{Event}
-use Rattle.tp_model.specs.declared.event.Event.TheVariants.{Enqueue, Claim, Commit, Abort, Kill}
+use Rattle.tp_model.specs.declared.event.Event.TheVariants.{Enqueue, Claim, Commit, Abort, Kill, Requeue}
 use Rattle.tp_model.specs.Accounts.{CountsByRows, account_among, all_stages, elements_below}
 use Rattle.tp_model.specs.Counts.{is_waiting, is_held, is_consumed, is_parked, is_killed, count_of, counts_among, in_stage}
 use Rattle.tp_model.specs.History.{born, births, element_of, first_id, status_of}
@@ -115,6 +115,7 @@ new_births l h (Claim c u i n) step = tt
 new_births l h (Commit c u outs) step = new_outputs l h c u step.item.root (first_id outs) outs (born h) step.outputs (λ i low. refl)
 new_births l h (Abort c u) step = tt
 new_births l h (Kill c i) step = tt
+new_births l h (Requeue c i k) step = tt
 
 -- what is summed over the born elements is summed over the rows
 pub rows_sum : (l : Limits) (h : List Event) → IsLegal l h → (f : Element → ℕ) → sum_by f (elements_below h (rows_of l)) ≡ sum_by f (born h)

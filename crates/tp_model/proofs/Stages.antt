@@ -11,7 +11,7 @@ use Rattle.tp_model.specs.declared.types.Element.{Element}
 use Rattle.tp_model.specs.declared.types.Limits.{Limits}
 use Rattle.tp_model.specs.declared.types.Status.{Status}
 use Rattle.tp_model.specs.declared.event.Event.{Event}
-use Rattle.tp_model.specs.declared.event.Event.TheVariants.{Enqueue, Claim, Commit, Abort, Kill}
+use Rattle.tp_model.specs.declared.event.Event.TheVariants.{Enqueue, Claim, Commit, Abort, Kill, Requeue}
 use Rattle.tp_model.specs.Accounts.{StagesAddUp, account_among, added, all_in, all_stages, one_more}
 use Rattle.tp_model.specs.Counts.{is_waiting, is_held, is_consumed, is_parked, is_killed, count_of, counts_among, in_stage}
 use Rattle.tp_model.specs.History.{In, here, there, born, births, first_id, status_of}
@@ -95,6 +95,7 @@ staged_births l h (Claim c u i n) x step p = absurd (in_none p)
 staged_births l h (Commit c u outs) x step p = (outputs_place l h c u step.item.root (first_id outs) outs step.outputs x p).2.stage
 staged_births l h (Abort c u) x step p = absurd (in_none p)
 staged_births l h (Kill c i) x step p = absurd (in_none p)
+staged_births l h (Requeue c i k) x step p = absurd (in_none p)
 
 pub born_staged : (l : Limits) (h : List Event) → IsLegal l h → (x : Element) → In x (born h) → IsStage x.stage
 born_staged l h legal = by_steps l (λ z. (x : Element) → In x (born z) → IsStage x.stage) (λ x p. absurd (in_none p)) more h legal

@@ -10,13 +10,13 @@ use Rattle.tp_model.specs.declared.types.Limits.{Limits}
 use Rattle.tp_model.specs.declared.types.Status.{Status}
 use Rattle.tp_model.specs.declared.types.Status.TheVariants.{Waiting, Held, Consumed, Parked, Killed}
 use Rattle.tp_model.specs.declared.event.Event.{Event}
-use Rattle.tp_model.specs.declared.event.Event.TheVariants.{Enqueue, Claim, Commit, Abort, Kill}
+use Rattle.tp_model.specs.declared.event.Event.TheVariants.{Enqueue, Claim, Commit, Abort, Kill, Requeue}
 use Rattle.tp_model.specs.Accounts.{ConsumedIsTaken, TakenIsConsumed, IsTakenOnce, taken_of, times}
 use Rattle.tp_model.specs.Counts.{is_consumed, taken_by}
 use Rattle.tp_model.specs.History.{In, here, there, element_of, IsBorn, UnitClaim, claim_by, claim_of, UnitEnd, Committed, Aborted, end_by, end_of, committed, status_of, pass_of, events_by}
 use Rattle.tp_model.specs.Laws.{item_of}
 use Rattle.tp_model.specs.Steps.{IsLegal, MayCommit}
-use Rattle.tp_model.specs.Words.{ClaimWord, FreeWord, TakenWord, KilledWord, claim_word, taken_status, word_status}
+use Rattle.tp_model.specs.Words.{ClaimWord, FreeWord, TakenWord, KilledWord, AgainWord, claim_word, taken_status, word_status}
 use Rattle.tp_model.proofs.Bridges.{in_left, in_right, in_none, in_cons, is_born, element_of-id}
 use Rattle.tp_model.proofs.Families.{in_filter, contains_filter}
 use Rattle.tp_model.proofs.Histories.{legal_at, legal_start, open_holds}
@@ -80,6 +80,7 @@ claimer_of u (Claim c v i n) t is = ap (λ (r : UnitClaim). r.pass) (some_if v u
 claimer_of u (Commit c v outs) t is = absurd cc
 claimer_of u (Abort c v) t is = absurd cc
 claimer_of u (Kill c i) t is = absurd cc
+claimer_of u (Requeue c i k) t is = absurd cc
 
 own_claim : (h : List Event) (u : ℕ) (t : UnitClaim) → claim_of h u ≡ Some t → claim_of (events_by t.pass h) u ≡ Some t
 own_claim [] u t is = absurd cc
@@ -128,6 +129,7 @@ taking l before (Commit c u outs) after legal y is =
     }
 taking l before (Abort c u) after legal y is = absurd (cc (is))
 taking l before (Kill c i) after legal y is = absurd (cc (is))
+taking l before (Requeue c i k) after legal y is = absurd (cc (is))
 
 took : (l : Limits) (h : List Event) → IsLegal l h → (d : ℕ) (e : Event) (y : Element) → In e h → pass_of e ≡ d → taken_by (events_by d h) h e ≡ Some y → IsTaking l h d e y
 took l h legal d e y p own = subst (λ d. taken_by (events_by d h) h e ≡ Some y → IsTaking l h d e y) own
@@ -162,19 +164,20 @@ committed_by (e ∷ h) u f m p = ⊎_elim
 abbrev IsCommitted : List Event → ℕ → Type 0
 IsCommitted h u = (f : ℕ) × (m : ℕ) × (end_of h u ≡ Some (Committed f m))
 
-consumed_word : (limit : ℕ) (h : List Event) (w : ClaimWord) (u : ℕ) → word_status limit h w ≡ Consumed u → ((n : ℕ) × (w ≡ TakenWord n u)) × IsCommitted h u
+consumed_word : (limit : ℕ) (h : List Event) (w : ClaimWord) (u : ℕ) → word_status limit h w ≡ Consumed u → ((n : ℕ) × (r : ℕ) × (w ≡ TakenWord n u r)) × IsCommitted h u
 consumed_word limit h FreeWord u is = absurd cc
-consumed_word limit h (TakenWord n v) u is = go (end_of h v) refl is
+consumed_word limit h (TakenWord n v r) u is = go (end_of h v) refl is
   where
     neither : (b : Bool) → cond b (Waiting n) (Parked n) ≡ Consumed u → ⊥
     neither true at = cc
     neither false at = cc
 
-    go : (o : Option UnitEnd) → end_of h v ≡ o → taken_status limit n v o ≡ Consumed u → ((m : ℕ) × (TakenWord n v ≡ TakenWord m u)) × IsCommitted h u
+    go : (o : Option UnitEnd) → end_of h v ≡ o → taken_status limit n v o ≡ Consumed u → ((m : ℕ) × (k : ℕ) × (TakenWord n v r ≡ TakenWord m u k)) × IsCommitted h u
     go None ends at = absurd cc
-    go (Some (Committed f m)) ends at = let same : v ≡ u = cc in ((n, ap (TakenWord n) same), (f, m, ap (end_of h) (sym same) ∙ ends))
+    go (Some (Committed f m)) ends at = let same : v ≡ u = cc in ((n, r, ap (λ z. TakenWord n z r) same), (f, m, ap (end_of h) (sym same) ∙ ends))
     go (Some Aborted) ends at = absurd (neither (nat_lt n limit) at)
-consumed_word limit h (KilledWord n v) u is = absurd cc
+consumed_word limit h (KilledWord n v r) u is = absurd cc
+consumed_word limit h (AgainWord r) u is = absurd cc
 
 -- each element is taken by the one Commit of the unit that claimed it
 
@@ -269,7 +272,7 @@ pub consumed_is_taken : ConsumedIsTaken
 consumed_is_taken l h x legal is =
     let s = consumed_unit (status_of l.attempts h x.id) is.consumed in
     let w = consumed_word l.attempts h (claim_word h x.id) s.0 (sym (status_by_words l h x.id legal) ∙ s.1) in
-    let t = claim_taken l h x.id w.0.0 s.0 legal w.0.1 in
+    let t = claim_taken l h x.id w.0.0 s.0 legal w.0.2 in
     let k = committed_by h s.0 w.1.0 w.1.1 w.1.2 in
     taken_at l h legal x is.born k.0 s.0 k.1 t.0 k.2 t.1 t.2 (own_commit l h legal k.0 s.0 k.1 t.0 k.2 t.1)
 

@@ -1,12 +1,12 @@
 -- What a history says of its elements and its units. A history is a list of events, from the oldest to the newest.
-use Rattle.std.specs.Prelude.{◌≡◌, ℕ, ◌==◌, nat_lt, if◌then◌else◌, Option, Some, None, List, [], ◌∷◌, ◌++◌, length, filter}
+use Rattle.std.specs.Prelude.{◌≡◌, ℕ, ◌+◌, ◌==◌, nat_lt, if◌then◌else◌, Option, Some, None, List, [], ◌∷◌, ◌++◌, length, filter}
 use Rattle.std.specs.List.{fold, find}
 use Rattle.std.specs.Option.{option_or}
 use Rattle.tp_model.specs.declared.types.Element.{Element}
 use Rattle.tp_model.specs.declared.types.Status.{Status}
 use Rattle.tp_model.specs.declared.types.Status.TheVariants.{Waiting, Held, Consumed, Parked, Killed}
 use Rattle.tp_model.specs.declared.event.Event.{Event}
-use Rattle.tp_model.specs.declared.event.Event.TheVariants.{Enqueue, Claim, Commit, Abort, Kill}
+use Rattle.tp_model.specs.declared.event.Event.TheVariants.{Enqueue, Claim, Commit, Abort, Kill, Requeue}
 
 -- the elements that an event makes
 abbrev pub births : Event → List Element
@@ -79,11 +79,21 @@ status_after limit i s (Claim c u j n) = if j == i then Held u n else s
 status_after limit i s (Commit c u outs) = committed u s
 status_after limit i s (Abort c u) = aborted limit u s
 status_after limit i s (Kill c j) = if j == i then Killed else s
+status_after limit i s (Requeue c j r) = if j == i then Waiting 0 else s
 status_after limit i s other = s
 
 -- the status of element i: at its birth it waits, with no attempt so far
 abbrev pub status_of : ℕ → List Event → ℕ → Status
 status_of limit h i = fold (status_after limit i) (Waiting 0) h
+
+-- how many more rounds than these element i was given by an event
+abbrev pub rounds_after : ℕ → ℕ → Event → ℕ
+rounds_after i k (Requeue c j r) = if j == i then k + 1 else k
+rounds_after i k other = k
+
+-- how many rounds element i was given, beside the first
+abbrev pub rounds : List Event → ℕ → ℕ
+rounds h i = fold (rounds_after i) 0 h
 
 -- a is one of the list, as a relation for inductions
 pub data In {A : Type 0} (a : A) : List A → Type 0 where
@@ -113,6 +123,7 @@ pass_of (Claim c u i n) = c
 pass_of (Commit c u outs) = c
 pass_of (Abort c u) = c
 pass_of (Kill c i) = c
+pass_of (Requeue c i r) = c
 
 -- the events of one pass
 abbrev pub events_by : ℕ → List Event → List Event

@@ -1,15 +1,16 @@
 -- The laws of legal histories.
-use Rattle.std.specs.Prelude.{◌≡◌, ◌≢◌, ◌⊎◌, ℕ, ◌+◌, Option, Some, List, [], ◌∷◌, ◌++◌, Contains}
+use Rattle.std.specs.Prelude.{◌≡◌, ◌≢◌, ◌⊎◌, ℕ, ◌+◌, ◌≤◌, Option, Some, List, [], ◌∷◌, ◌++◌, Contains}
 use Rattle.std.specs.Option.{option_map}
 use mathlib.Core.List.{IsPrefix}
 use Rattle.tp_model.specs.declared.types.Element.{Element}
 use Rattle.tp_model.specs.declared.types.Limits.{Limits}
+use Rattle.tp_model.specs.declared.types.TheConstants.{MOST_ROUNDS}
 use Rattle.tp_model.specs.declared.types.Status.{Status}
 use Rattle.tp_model.specs.declared.types.Status.TheVariants.{Waiting, Held, Consumed, Parked, Killed}
 use Rattle.tp_model.specs.declared.event.Event.{Event}
 use Rattle.tp_model.specs.declared.event.Event.TheVariants.{Claim, Commit, Kill}
-use Rattle.tp_model.specs.History.{born, element_of, status_of, UnitClaim, claim_of, UnitEnd, end_of, IsSettled}
-use Rattle.tp_model.specs.Words.{claim_word, word_status, Rises}
+use Rattle.tp_model.specs.History.{born, element_of, status_of, rounds, UnitClaim, claim_of, UnitEnd, end_of, IsSettled}
+use Rattle.tp_model.specs.Words.{claim_word, round_in, word_status, Rises}
 use Rattle.tp_model.specs.Steps.{IsLegal}
 
 -- the element that unit u claimed
@@ -40,7 +41,7 @@ NeverCommittedAfterKill =
 abbrev pub Moves : Status → Status → Type 0
 Moves (Waiting n) s = ((u : ℕ) × (s ≡ Held u (n + 1))) ⊎ (s ≡ Killed)
 Moves (Held u n) s = (s ≡ Consumed u) ⊎ ((s ≡ Waiting n) ⊎ (s ≡ Parked n))
-Moves (Parked n) s = s ≡ Killed
+Moves (Parked n) s = (s ≡ Waiting 0) ⊎ (s ≡ Killed)
 Moves (Consumed u) s = ⊥
 Moves Killed s = ⊥
 
@@ -61,6 +62,10 @@ BornStays =
 -- a status is what is read off the claim word and its unit's end
 abbrev pub StatusByWords : Type 0
 StatusByWords = (l : Limits) (h : List Event) (i : ℕ) → IsLegal l h → status_of l.attempts h i ≡ word_status l.attempts h (claim_word h i)
+
+-- a claim word tells how many rounds the element was given, which is at most three
+abbrev pub RoundsByWords : Type 0
+RoundsByWords = (l : Limits) (h : List Event) (i : ℕ) → IsLegal l h → (round_in (claim_word h i) ≡ rounds h i) × (rounds h i ≤ MOST_ROUNDS)
 
 -- in a longer legal history the claim word of an element is the same, or a later one
 abbrev pub WordsRise : Type 0

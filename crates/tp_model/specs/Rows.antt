@@ -3,11 +3,11 @@ use Rattle.std.specs.Prelude.{◌≡◌, ℕ, Some, List, [], ◌∷◌, ◌++�
 use Rattle.tp_model.specs.declared.types.Counts.{Counts}
 use Rattle.tp_model.specs.declared.types.Element.{Element}
 use Rattle.tp_model.specs.declared.types.Limits.{Limits}
-use Rattle.tp_model.specs.declared.types.Status.TheVariants.{Waiting, Consumed, Parked, Killed}
+use Rattle.tp_model.specs.declared.types.Status.TheVariants.{Waiting, Held, Consumed, Parked, Killed}
 use Rattle.tp_model.specs.declared.event.Event.{Event}
-use Rattle.tp_model.specs.declared.event.Event.TheVariants.{Enqueue, Claim, Commit, Abort, Kill}
-use Rattle.tp_model.specs.History.{born, Committed, end_of, status_of, events_by}
-use Rattle.tp_model.specs.Words.{TakenWord, KilledWord, claim_word}
+use Rattle.tp_model.specs.declared.event.Event.TheVariants.{Enqueue, Claim, Commit, Abort, Kill, Requeue}
+use Rattle.tp_model.specs.History.{born, Committed, end_of, status_of, rounds, events_by}
+use Rattle.tp_model.specs.Words.{TakenWord, KilledWord, AgainWord, claim_word}
 use Rattle.tp_model.specs.Counts.{taken, counts, counts_in}
 use Rattle.tp_model.specs.Accounts.{account_of, elements_below, taken_of}
 use Rattle.tp_model.specs.Families.{family, IsSettledFamily}
@@ -34,6 +34,14 @@ given_up = Enqueue 0 (request 0 1 0 11) ∷ Claim 1 256 0 1 ∷ Abort 1 256 ∷ 
 abbrev pub killed_in_hand : List Event
 killed_in_hand = Enqueue 0 (request 0 1 0 5) ∷ Claim 1 256 0 1 ∷ Abort 0 256 ∷ Kill 0 0 ∷ []
 
+-- the given up one is given another round
+abbrev pub given_again : List Event
+given_again = given_up ++ Requeue 0 0 1 ∷ []
+
+-- and is taken in it
+abbrev pub taken_again : List Event
+taken_again = given_again ++ Claim 1 259 0 1 ∷ []
+
 -- so many wait and so many are consumed
 abbrev pub so_many : ℕ → ℕ → Counts
 so_many waiting consumed = record { waiting = waiting; held = 0; consumed = consumed; parked = 0; killed = 0 }
@@ -51,9 +59,16 @@ pub record WorkedRows : Type 0 where
   pub reply_account : account_of 3 with_reply ≡ record { total = so_many 1 1; stages = so_many 0 1 ∷ replicate 13 (so_many 0 0) ++ so_many 1 0 ∷ [] }
   pub reply_rows : map (λ (e : Element). e.id) (elements_below with_reply (rows_of row_limits)) ≡ 0 ∷ 8 ∷ []
   pub parked : status_of 3 given_up 0 ≡ Parked 3
-  pub parked_word : claim_word given_up 0 ≡ TakenWord 3 258
+  pub parked_word : claim_word given_up 0 ≡ TakenWord 3 258 0
+  pub again : status_of 3 given_again 0 ≡ Waiting 0
+  pub again_rounds : rounds given_again 0 ≡ 1
+  pub again_word : claim_word given_again 0 ≡ AgainWord 1
+  pub held_again : status_of 3 taken_again 0 ≡ Held 259 1
+  pub held_word : claim_word taken_again 0 ≡ TakenWord 1 259 1
+  pub killed_again : claim_word (given_again ++ Kill 0 0 ∷ []) 0 ≡ KilledWord 0 0 1
+  pub killed_held : claim_word (taken_again ++ Abort 0 259 ∷ Kill 0 0 ∷ []) 0 ≡ KilledWord 1 259 1
   pub killed : status_of 3 killed_in_hand 0 ≡ Killed
-  pub killed_word : claim_word killed_in_hand 0 ≡ KilledWord 1 256
+  pub killed_word : claim_word killed_in_hand 0 ≡ KilledWord 1 256 0
   pub reply_family : map (λ (e : Element). e.id) (family with_reply 0) ≡ 0 ∷ 8 ∷ []
   pub reply_settled : IsSettledFamily 3 with_reply 0
   pub parked_unsettled : ¬ IsSettledFamily 3 given_up 0

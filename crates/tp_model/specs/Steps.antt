@@ -5,8 +5,9 @@ use Rattle.tp_model.specs.declared.types.Limits.{Limits}
 use Rattle.tp_model.specs.declared.types.Status.{Status}
 use Rattle.tp_model.specs.declared.types.Status.TheVariants.{Waiting, Held, Consumed, Parked, Killed}
 use Rattle.tp_model.specs.declared.event.Event.{Event}
-use Rattle.tp_model.specs.declared.event.Event.TheVariants.{Enqueue, Claim, Commit, Abort, Kill}
-use Rattle.tp_model.specs.History.{element_of, status_of, UnitClaim, claim_of, end_of, first_id}
+use Rattle.tp_model.specs.declared.event.Event.TheVariants.{Enqueue, Claim, Commit, Abort, Kill, Requeue}
+use Rattle.tp_model.specs.declared.types.TheConstants.{MOST_ROUNDS}
+use Rattle.tp_model.specs.History.{element_of, status_of, rounds, UnitClaim, claim_of, end_of, first_id}
 
 -- the limits are in their ranges
 pub record AreLimits (l : Limits) : Type 0 where
@@ -14,6 +15,14 @@ pub record AreLimits (l : Limits) : Type 0 where
   pub rows : (1 ≤ l.rows) × (l.rows ≤ 256)
   pub units : (1 ≤ l.units) × (l.units ≤ 1024)
   pub attempts : (1 ≤ l.attempts) × (l.attempts ≤ 7)
+
+-- how many attempts an element has in all its rounds, the first among them, where so many are allowed in each
+abbrev pub tries : ℕ → ℕ
+tries attempts = (MOST_ROUNDS + 1) * attempts
+
+-- how often its claim word can change before a kill: at each attempt, and at each further round
+abbrev pub changes : ℕ → ℕ
+changes attempts = tries attempts + MOST_ROUNDS
 
 -- how many rows there are
 abbrev pub rows_of : Limits → ℕ
@@ -108,6 +117,19 @@ pub record MayKill (l : Limits) (h : List Event) (c i : ℕ) : Type 0 where
   pub born : element_of h i ≡ Some item
   pub free : IsKillable (status_of l.attempts h i)
 
+-- an element with this status is parked
+abbrev pub IsParked : Status → Type 0
+IsParked s = (n : ℕ) × (s ≡ Parked n)
+
+-- Requeue c i r may come next: any pass may give a parked element its next round
+pub record MayRequeue (l : Limits) (h : List Event) (c i r : ℕ) : Type 0 where
+  pub pass : c < l.parts
+  pub item : Element
+  pub born : element_of h i ≡ Some item
+  pub parked : IsParked (status_of l.attempts h i)
+  pub next : r ≡ rounds h i + 1
+  pub few : r ≤ MOST_ROUNDS
+
 -- the event may come next
 abbrev pub Step : Limits → List Event → Event → Type 0
 Step l h (Enqueue c e) = MayEnqueue l h c e
@@ -115,6 +137,7 @@ Step l h (Claim c u i n) = MayClaim l h c u i n
 Step l h (Commit c u outs) = MayCommit l h c u outs
 Step l h (Abort c u) = MayAbort l h c u
 Step l h (Kill c i) = MayKill l h c i
+Step l h (Requeue c i r) = MayRequeue l h c i r
 
 -- each event may come after those before it
 pub record IsLegal (l : Limits) (h : List Event) : Type 0 where

@@ -15,4 +15,6 @@ pub enum Event {
     Abort(u16, u16),
     /// An element was killed: pass, element.
     Kill(u16, u32),
+    /// A parked element was given another round of attempts: pass, element, which round, from 1 on.
+    Requeue(u16, u32, u8),
 }

@@ -3,7 +3,7 @@
 ghost use Rattle.tp_model.specs.Rows.{WorkedRows};
 ghost use Rattle.tp_model.specs.Accounts.{CountsAddUp, StagesAddUp, StagesInPlace, CountsByRows, ConsumedIsTaken, TakenIsConsumed};
 ghost use Rattle.tp_model.specs.Families.{NeverWorkedOn, SettledFamilyStays};
-ghost use Rattle.tp_model.specs.Laws.{ConsumedOnce, NeverClaimedAfterKill, NeverCommittedAfterKill, StatusSteps, BornStays, BornOnce, StatusByWords, WordsRise, SettledStays, UnitsStay};
+ghost use Rattle.tp_model.specs.Laws.{ConsumedOnce, NeverClaimedAfterKill, NeverCommittedAfterKill, StatusSteps, BornStays, BornOnce, StatusByWords, RoundsByWords, WordsRise, SettledStays, UnitsStay};
 
 /// No element is consumed by two committed units.
 pub fn consumed_once()
@@ -42,9 +42,10 @@ pub fn settled_for_good()
     ensures stays { SettledFamilyStays }
 {}
 
-/// A status is read off two words.
+/// A status is read off two words, and how many rounds an element was given off its claim word.
 pub fn status_by_words()
-    ensures { StatusByWords }
+    ensures status { StatusByWords }
+    ensures rounds { RoundsByWords }
 {}
 
 /// In all and in each stage the five counts add up to the born elements. An account tells the counts of each stage, and

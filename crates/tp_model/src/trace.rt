@@ -23,6 +23,8 @@ pub enum StepKind {
     AbortExchange,
     /// The compare-exchange of an element's claim word by which it is killed.
     KillExchange,
+    /// The compare-exchange of a parked element's claim word by which it is given another round.
+    RequeueExchange,
     /// The compare-exchange of a part's mark, by which it is raised. It tells nothing but of the mark.
     Raise,
 }

@@ -24,13 +24,13 @@ pub struct Element {
 /// How an element stands.
 #[derive(Clone, Copy, Debug, PartialEq, Eq)]
 pub enum Status {
-    /// It may be claimed. So many units of work took it and were aborted: fewer than the attempt limit.
+    /// It may be claimed. So many units of work took it in its round and were aborted: fewer than the attempt limit.
     Waiting { attempts: u8 },
     /// An undecided unit of work holds it, and is the `attempt`-th to do so.
     Held { unit: u16, attempt: u8 },
     /// A unit of work took it and committed.
     Consumed { unit: u16 },
-    /// All attempts, as many as the limit, were aborted: it is in the error queue.
+    /// All attempts of its round, as many as the limit, were aborted: it is in the error queue.
     Parked { attempts: u8 },
     /// It was killed, and is never taken again.
     Killed,
@@ -52,7 +52,7 @@ pub struct Work {
     pub unit: u16,
     /// The element that it holds.
     pub element: Element,
-    /// How many units have taken the element, this one included: 1 to the attempt limit.
+    /// How many units have taken the element in its round, this one included: 1 to the attempt limit.
     pub attempt: u8,
 }
 
@@ -65,13 +65,16 @@ pub struct Limits {
     pub rows: u16,
     /// How many units of work each pass may begin, 1 to 1024.
     pub units: u16,
-    /// How many attempts an element has before it is parked, 1 to 7.
+    /// How many attempts an element has in a round before it is parked, 1 to 7.
     pub attempts: u8,
 }
 
+/// How often a parked element can be given another round of attempts.
+pub const MOST_ROUNDS: u8 = 3;
+
 impl Limits {
-    ghost use Rattle.std.specs.Prelude.{◌↔◌, IsTrue};
-    ghost use Rattle.tp_model.specs.Steps.{AreLimits};
+    ghost use Rattle.std.specs.Prelude.{◌≡◌, ◌↔◌, ◌≤◌, IsTrue};
+    ghost use Rattle.tp_model.specs.Steps.{AreLimits, tries};
 
     /// Whether each limit is in its range.
     pub fn is_valid(&self) -> bool
@@ -85,6 +88,14 @@ impl Limits {
             && self.units <= 1024
             && self.attempts >= 1
             && self.attempts <= 7
+    }
+
+    /// How many attempts an element has in all its rounds.
+    pub fn tries(&self) -> u8
+        requires { self.now.attempts ≤ 7 }
+        ensures { result ≡ tries self.now.attempts }
+    {
+        (MOST_ROUNDS + 1) * self.attempts
     }
 }
 
@@ -123,7 +134,7 @@ pub enum Ended {
 /// The answer of a kill.
 #[derive(Clone, Copy, Debug, PartialEq, Eq)]
 pub struct Killed {
-    /// How many units of work that held the element this call aborted, at most the attempt limit.
+    /// How many units of work that held the element this call aborted, at most the attempt limit in each of its rounds.
     pub units_aborted: u8,
 }
 
@@ -169,6 +180,10 @@ pub enum Refusal {
     AlreadyKilled,
     /// The pass has no row left.
     Full,
+    /// The element isn't parked.
+    NotParked,
+    /// The element is parked, and has had all its rounds.
+    NoRound,
 }
 
 /// An output of a unit of work before it is born. Its stage is 1 to 15.

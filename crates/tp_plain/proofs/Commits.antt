@@ -13,7 +13,7 @@ use Rattle.tp_model.specs.declared.types.Status.TheVariants.{Waiting, Held, Cons
 use Rattle.tp_model.specs.declared.event.Event.{Event}
 use Rattle.tp_model.specs.declared.event.Event.TheVariants.{Commit}
 use Rattle.tp_model.specs.History.{born, element_of, UnitClaim, UnitEnd, Committed, Aborted, claim_by, claim_of, end_of, first_id, status_of}
-use Rattle.tp_model.specs.Words.{ClaimWord, FreeWord, TakenWord, KilledWord, claim_word, taken_status, word_status}
+use Rattle.tp_model.specs.Words.{ClaimWord, FreeWord, TakenWord, KilledWord, AgainWord, claim_word, taken_status, word_status}
 use Rattle.tp_model.specs.Steps.{AreOutputs, IsOpen, Step, IsLegal}
 use Rattle.std.proofs.lemmas.List.Elements.{All-head, All-tail}
 use Rattle.tp_plain.specs.Computed.{commit_of}
@@ -70,8 +70,9 @@ held_claimed l h i u n legal is = go (claim_word h i) (sym (status_by_words l h 
 
     go : (w : ClaimWord) → word_status l.attempts h w ≡ Held u n → WordIsClaimed h i w → (t : UnitClaim) × (claim_of h u ≡ Some t) × (t.item ≡ i)
     go FreeWord e c = absurd (cc (e))
-    go (TakenWord m v) e c = let same = at_unit m v (end_of h v) e in subst (λ k. (t : UnitClaim) × (claim_of h k ≡ Some t) × (t.item ≡ i)) same c
-    go (KilledWord m v) e c = absurd (cc (e))
+    go (TakenWord m v r) e c = let same = at_unit m v (end_of h v) e in subst (λ k. (t : UnitClaim) × (claim_of h k ≡ Some t) × (t.item ≡ i)) same c
+    go (KilledWord m v r) e c = absurd (cc (e))
+    go (AgainWord r) e c = absurd (cc (e))
 
 fits_commit : (l : Limits) (h : List Event) (c u root : ℕ) (ds : List DraftView) (used : PassState) → PassFits l h c used → used.holding ≡ Some u → used.drawn + length ds ≤ l.rows
     → PassFits l (h ++ Commit c u (outputs u root (c * l.rows + used.drawn) ds) ∷ []) c (record { drawn = used.drawn + length ds; claimed = used.claimed; holding = None })

@@ -7,7 +7,7 @@ use Rattle.tp_model.specs.declared.types.Look.{Look}
 use Rattle.tp_plain.specs.declared.pass_state.PassState.{PassState}
 use Rattle.tp_model.specs.declared.types.Status.TheVariants.{Waiting, Held, Parked}
 use Rattle.tp_model.specs.declared.event.Event.{Event}
-use Rattle.tp_model.specs.declared.event.Event.TheVariants.{Enqueue, Claim, Commit, Abort, Kill}
+use Rattle.tp_model.specs.declared.event.Event.TheVariants.{Enqueue, Claim, Commit, Abort, Kill, Requeue}
 use Rattle.tp_model.specs.History.{births, born, element_of, claim_by, aborted, status_of, pass_of}
 use Rattle.tp_model.specs.Steps.{IsKillable, Step, IsLegal}
 use Rattle.tp_plain.specs.OneThread.{State, pass_at, extended}
@@ -49,6 +49,7 @@ pub mark_leaves : (s : State) (looks : List Look) (e : Event) → IsReached s �
 mark_leaves s looks (Enqueue c e) reached agree step quiet = absurd quiet
 mark_leaves s looks (Claim c u i n) reached agree step quiet = absurd quiet
 mark_leaves s looks (Commit c u outs) reached agree step quiet = absurd quiet
+mark_leaves s looks (Requeue c i k) reached agree step quiet = absurd quiet
 mark_leaves s looks (Abort c u) reached agree step quiet =
     (reached_quiet s (Abort c u) c reached step refl (λ v. refl) refl quiet.1, looks_changed s.limits s.history (Abort c u) looks refl reached.legal step agree)
 mark_leaves s looks (Kill c i) reached agree step quiet =

@@ -7,7 +7,7 @@ use Rattle.tp_model.specs.declared.types.Element.{Element}
 use Rattle.tp_model.specs.declared.types.Limits.{Limits}
 use Rattle.tp_plain.specs.declared.pass_state.PassState.{PassState}
 use Rattle.tp_model.specs.declared.event.Event.{Event}
-use Rattle.tp_model.specs.declared.event.Event.TheVariants.{Enqueue, Claim, Commit, Abort, Kill}
+use Rattle.tp_model.specs.declared.event.Event.TheVariants.{Enqueue, Claim, Commit, Abort, Kill, Requeue}
 use Rattle.tp_model.specs.History.{UnitClaim, claim_by, claim_of, Aborted, end_by, end_of, pass_of}
 use Rattle.tp_model.specs.Steps.{AreLimits, IsServerStage, IsOpen, Step}
 use Rattle.tp_model.specs.Births.{request}
@@ -27,6 +27,7 @@ not_ended l h (Commit c v outs) step u t is other whole =
 not_ended l h (Abort c v) step u t is other whole =
     if_other v u _ None (λ same. whole (ap (λ o. option_or o (if v == u then Some Aborted else None)) is.unfinished ∙ if_same v u (Some Aborted) None same))
 not_ended l h (Kill c i) step u t is other whole = refl
+not_ended l h (Requeue c i k) step u t is other whole = refl
 
 pub open_after : (h : List Event) (e : Event) (u : ℕ) (t : UnitClaim) → IsOpen h u t → end_by u e ≡ None → IsOpen (h ++ e ∷ []) u t
 open_after h e u t is none =

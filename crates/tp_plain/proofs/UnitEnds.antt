@@ -12,9 +12,9 @@ use Rattle.tp_plain.specs.declared.pass_state.PassState.{PassState}
 use Rattle.tp_model.specs.declared.types.Status.{Status}
 use Rattle.tp_model.specs.declared.types.Status.TheVariants.{Waiting, Held, Consumed, Parked, Killed}
 use Rattle.tp_model.specs.declared.event.Event.{Event}
-use Rattle.tp_model.specs.declared.event.Event.TheVariants.{Enqueue, Claim, Commit, Abort, Kill}
+use Rattle.tp_model.specs.declared.event.Event.TheVariants.{Enqueue, Claim, Commit, Abort, Kill, Requeue}
 use Rattle.tp_model.specs.History.{born, element_of, UnitClaim, UnitEnd, Committed, Aborted, claim_by, claim_of, end_of, status_of}
-use Rattle.tp_model.specs.Words.{ClaimWord, FreeWord, TakenWord, KilledWord, claim_word, taken_status, word_status}
+use Rattle.tp_model.specs.Words.{ClaimWord, FreeWord, TakenWord, KilledWord, AgainWord, claim_word, taken_status, word_status}
 use Rattle.tp_model.specs.Steps.{IsOpen, Step, IsLegal}
 use Rattle.tp_plain.specs.Computed.{abort_of}
 use Rattle.tp_model.specs.declared.types.Ended.TheVariants as ended
@@ -45,8 +45,9 @@ held_undecided l h i u n legal is = go (claim_word h i) (sym (status_by_words l 
 
     go : (w : ClaimWord) → word_status l.attempts h w ≡ Held u n → end_of h u ≡ None
     go FreeWord e = absurd (cc (e))
-    go (TakenWord m v) e = let at = at_unit m v (end_of h v) e in subst (λ k. end_of h k ≡ None) at.1 at.0
-    go (KilledWord m v) e = absurd (cc (e))
+    go (TakenWord m v r) e = let at = at_unit m v (end_of h v) e in subst (λ k. end_of h k ≡ None) at.1 at.0
+    go (KilledWord m v r) e = absurd (cc (e))
+    go (AgainWord r) e = absurd (cc (e))
 
 -- what a unit claimed is born
 claimed_after : (l : Limits) (h : List Event) (e : Event) → Step l h e → (u : ℕ) (t : UnitClaim) → claim_by u e ≡ Some t → (x : Element) × (element_of h t.item ≡ Some x)
@@ -57,6 +58,7 @@ claimed_after l h (Claim c v i n) step u t is =
 claimed_after l h (Commit c v outs) step u t is = absurd (cc (is))
 claimed_after l h (Abort c v) step u t is = absurd (cc (is))
 claimed_after l h (Kill c i) step u t is = absurd (cc (is))
+claimed_after l h (Requeue c i k) step u t is = absurd (cc (is))
 
 pub claimed_born : (l : Limits) (h : List Event) → IsLegal l h → (u : ℕ) (t : UnitClaim) → claim_of h u ≡ Some t → (x : Element) × (element_of h t.item ≡ Some x)
 claimed_born l h legal = by_steps l (λ y. (u : ℕ) (t : UnitClaim) → claim_of y u ≡ Some t → (x : Element) × (element_of y t.item ≡ Some x)) (λ u t is. absurd (cc (is))) more h legal

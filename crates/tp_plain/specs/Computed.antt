@@ -157,6 +157,8 @@ IsComputed old new (Err refusal.NotThere) computed = (computed.0 ≡ Err refusal
 IsComputed old new (Err (refusal.Consumed u)) computed = (computed.0 ≡ Err (refusal.Consumed u)) × (new ≡ computed.1)
 IsComputed old new (Err refusal.AlreadyKilled) computed = (computed.0 ≡ Err refusal.AlreadyKilled) × (new ≡ computed.1)
 IsComputed old new (Err refusal.Full) computed = (computed.0 ≡ Err refusal.Full) × (new ≡ computed.1)
+IsComputed old new (Err refusal.NotParked) computed = (computed.0 ≡ Err refusal.NotParked) × (new ≡ computed.1)
+IsComputed old new (Err refusal.NoRound) computed = (computed.0 ≡ Err refusal.NoRound) × (new ≡ computed.1)
 
 -- the same for a call whose computed answer is never a refusal
 abbrev pub IsComputedOk : {A : Type 0} → State → State → Result A Refusal → A × State → Type 0

@@ -3,7 +3,7 @@ use Rattle.std.specs.Prelude.{◌≡◌, ◌≢◌, ℕ, ◌+◌, ◌*◌, ◌<�
 use Rattle.tp_model.specs.declared.types.Limits.{Limits}
 use Rattle.tp_plain.specs.declared.pass_state.PassState.{PassState}
 use Rattle.tp_model.specs.declared.event.Event.{Event}
-use Rattle.tp_model.specs.declared.event.Event.TheVariants.{Enqueue, Claim, Commit, Abort, Kill}
+use Rattle.tp_model.specs.declared.event.Event.TheVariants.{Enqueue, Claim, Commit, Abort, Kill, Requeue}
 use Rattle.tp_model.specs.History.{element_of, UnitClaim, claim_of, Aborted, end_of}
 use Rattle.tp_model.specs.Steps.{AreLimits, IsOpen, IsLegal}
 use Rattle.tp_plain.specs.OneThread.{State, pass_at}
@@ -33,3 +33,4 @@ IsQuiet s (Claim c u i n) = ⊥
 IsQuiet s (Commit c u outs) = ⊥
 IsQuiet s (Abort c u) = (c < s.limits.parts) × ((pass_at s c).holding ≡ None)
 IsQuiet s (Kill c i) = (c < s.limits.parts) × ((pass_at s c).holding ≡ None)
+IsQuiet s (Requeue c i r) = ⊥

@@ -73,6 +73,8 @@ impl PlainRun {
             Err(Refusal::NotThere) => unreachable!(),
             Err(Refusal::Consumed { unit: _ }) => unreachable!(),
             Err(Refusal::AlreadyKilled) => unreachable!(),
+            Err(Refusal::NotParked) => unreachable!(),
+            Err(Refusal::NoRound) => unreachable!(),
         }
     }
 

@@ -60,6 +60,8 @@ refusal_text refusal.NotThere = codes "refused 4 NotThere"
 refusal_text (refusal.Consumed unit) = codes "refused 5 Consumed " <> decimal unit
 refusal_text refusal.AlreadyKilled = codes "refused 6 AlreadyKilled"
 refusal_text refusal.Full = codes "refused 7 Full"
+refusal_text refusal.NotParked = codes "refused 8 NotParked"
+refusal_text refusal.NoRound = codes "refused 9 NoRound"
 
 -- a submitted element
 abbrev pub submitted_text : ℕ → List ℕ

@@ -61,6 +61,8 @@ fn refusal<W: fmt::Write>(f: &mut fmt::Formatter<W>, refusal: Refusal) -> fmt::R
         Refusal::Consumed { unit } => write!(f, "refused 5 Consumed {unit}"),
         Refusal::AlreadyKilled => write!(f, "refused 6 AlreadyKilled"),
         Refusal::Full => write!(f, "refused 7 Full"),
+        Refusal::NotParked => write!(f, "refused 8 NotParked"),
+        Refusal::NoRound => write!(f, "refused 9 NoRound"),
     }
 }
 

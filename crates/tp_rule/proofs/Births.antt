@@ -6,9 +6,9 @@ use Rattle.std.specs.Option.{option_or}
 use Rattle.tp_model.specs.declared.types.Element.{Element}
 use Rattle.tp_model.specs.declared.types.Limits.{Limits}
 use Rattle.tp_model.specs.declared.event.Event.{Event}
-use Rattle.tp_model.specs.declared.event.Event.TheVariants.{Enqueue, Claim, Commit, Abort, Kill}
+use Rattle.tp_model.specs.declared.event.Event.TheVariants.{Enqueue, Claim, Commit, Abort, Kill, Requeue}
 use Rattle.tp_model.specs.History.{births, element_of, UnitClaim, claim_of, Committed, end_by, end_of, first_id}
-use Rattle.tp_model.specs.Words.{ClaimWord, FreeWord, TakenWord, KilledWord, kill_word, claim_word, claim_word_after}
+use Rattle.tp_model.specs.Words.{ClaimWord, FreeWord, TakenWord, KilledWord, AgainWord, round_in, kill_word, claim_word, claim_word_after}
 use Rattle.tp_model.specs.Steps.{AreLimits, IsUnitOf, units_of, Step, IsLegal}
 use Rattle.tp_model.proofs.Lists.{option_or-some, if_same, if_other}
 use Rattle.tp_model.proofs.Histories.{by_steps, element_of-snoc}
@@ -64,35 +64,42 @@ module _ (l : Limits) where
           }
       new_one h (Abort c v) legal step i x u p q = absurd cc
       new_one h (Kill c j) legal step i x u p q = absurd cc
+      new_one h (Requeue c j k) legal step i x u p q = absurd cc
 
       more : (h : List Event) (e : Event) → IsLegal l h → Step l h e → ((i : ℕ) (x : Element) (u : ℕ) → element_of h i ≡ Some x → x.by ≡ Some u → MadeBy h i u)
           → (i : ℕ) (x : Element) (u : ℕ) → element_of (h ++ e ∷ []) i ≡ Some x → x.by ≡ Some u → MadeBy (h ++ e ∷ []) i u
       more h e legal step old i x u p q = ⊎_elim (λ s. old_one h e i u (old i x u s q)) (λ s. new_one h e legal step i x u s.1 q) (option_or-some (element_of h i) _ x (sym (element_of-snoc h e i) ∙ p))
 
   -- the attempt in a claim word is at least 1, and within the limit
-  pub attempt_range : AreLimits l → (h : List Event) → IsLegal l h → (i n u : ℕ) → claim_word h i ≡ TakenWord n u → (1 ≤ n) × (n ≤ l.attempts)
-  attempt_range fair h legal = by_steps l (λ z. (i n u : ℕ) → claim_word z i ≡ TakenWord n u → (1 ≤ n) × (n ≤ l.attempts)) (λ i n u p. absurd cc) more h legal
+  pub attempt_range : AreLimits l → (h : List Event) → IsLegal l h → (i n u r : ℕ) → claim_word h i ≡ TakenWord n u r → (1 ≤ n) × (n ≤ l.attempts)
+  attempt_range fair h legal = by_steps l (λ z. (i n u r : ℕ) → claim_word z i ≡ TakenWord n u r → (1 ≤ n) × (n ≤ l.attempts)) (λ i n u r p. absurd cc) more h legal
     where
-      not_taken : (w : ClaimWord) (n u : ℕ) → kill_word w ≢ TakenWord n u
-      not_taken FreeWord n u p = cc
-      not_taken (TakenWord m v) n u p = cc
-      not_taken (KilledWord m v) n u p = cc
+      not_taken : (w : ClaimWord) (n u r : ℕ) → kill_word w ≢ TakenWord n u r
+      not_taken FreeWord n u r p = cc
+      not_taken (TakenWord m v k) n u r p = cc
+      not_taken (KilledWord m v k) n u r p = cc
+      not_taken (AgainWord k) n u r p = cc
 
-      after : (h : List Event) (e : Event) → IsLegal l h → Step l h e → (i n u : ℕ) → (claim_word h i ≡ TakenWord n u → (1 ≤ n) × (n ≤ l.attempts)) → claim_word_after i (claim_word h i) e ≡ TakenWord n u → (1 ≤ n) × (n ≤ l.attempts)
-      after h (Enqueue c y) legal step i n u old p = old p
-      after h (Claim c v j m) legal step i n u old p =
+      after : (h : List Event) (e : Event) → IsLegal l h → Step l h e → (i n u r : ℕ) → (claim_word h i ≡ TakenWord n u r → (1 ≤ n) × (n ≤ l.attempts)) → claim_word_after i (claim_word h i) e ≡ TakenWord n u r → (1 ≤ n) × (n ≤ l.attempts)
+      after h (Enqueue c y) legal step i n u r old p = old p
+      after h (Claim c v j m) legal step i n u r old p =
           elim (eqb_tells j i) [
-            | inl q ↦ let a : TakenWord m v ≡ TakenWord n u = sym (if_same j i (TakenWord m v) (claim_word h i) q.1) ∙ p in let same : m ≡ n = cc in
+            | inl q ↦ let a : TakenWord m v (round_in (claim_word h i)) ≡ TakenWord n u r = sym (if_same j i (TakenWord m v (round_in (claim_word h i))) (claim_word h i) q.1) ∙ p in let same : m ≡ n = cc in
                 let some = step.attempt in let below = waiting_below l h j (m - 1) legal fair.attempts.0 step.waits in (omega arith, omega arith)
-            | inr q ↦ old (sym (if_other j i (TakenWord m v) (claim_word h i) q.1) ∙ p)
+            | inr q ↦ old (sym (if_other j i (TakenWord m v (round_in (claim_word h i))) (claim_word h i) q.1) ∙ p)
           ]
-      after h (Commit c v outs) legal step i n u old p = old p
-      after h (Abort c v) legal step i n u old p = old p
-      after h (Kill c j) legal step i n u old p =
+      after h (Commit c v outs) legal step i n u r old p = old p
+      after h (Abort c v) legal step i n u r old p = old p
+      after h (Kill c j) legal step i n u r old p =
           elim (eqb_tells j i) [
-            | inl q ↦ absurd (not_taken (claim_word h i) n u (sym (if_same j i (kill_word (claim_word h i)) (claim_word h i) q.1) ∙ p))
+            | inl q ↦ absurd (not_taken (claim_word h i) n u r (sym (if_same j i (kill_word (claim_word h i)) (claim_word h i) q.1) ∙ p))
             | inr q ↦ old (sym (if_other j i (kill_word (claim_word h i)) (claim_word h i) q.1) ∙ p)
           ]
+      after h (Requeue c j k) legal step i n u r old p =
+          elim (eqb_tells j i) [
+            | inl q ↦ absurd (let a : AgainWord k ≡ TakenWord n u r = sym (if_same j i (AgainWord k) (claim_word h i) q.1) ∙ p in cc)
+            | inr q ↦ old (sym (if_other j i (AgainWord k) (claim_word h i) q.1) ∙ p)
+          ]
 
-      more : (h : List Event) (e : Event) → IsLegal l h → Step l h e → ((i n u : ℕ) → claim_word h i ≡ TakenWord n u → (1 ≤ n) × (n ≤ l.attempts)) → (i n u : ℕ) → claim_word (h ++ e ∷ []) i ≡ TakenWord n u → (1 ≤ n) × (n ≤ l.attempts)
-      more h e legal step old i n u p = after h e legal step i n u (old i n u) (sym (claim_word-snoc h e i) ∙ p)
+      more : (h : List Event) (e : Event) → IsLegal l h → Step l h e → ((i n u r : ℕ) → claim_word h i ≡ TakenWord n u r → (1 ≤ n) × (n ≤ l.attempts)) → (i n u r : ℕ) → claim_word (h ++ e ∷ []) i ≡ TakenWord n u r → (1 ≤ n) × (n ≤ l.attempts)
+      more h e legal step old i n u r p = after h e legal step i n u r (old i n u r) (sym (claim_word-snoc h e i) ∙ p)

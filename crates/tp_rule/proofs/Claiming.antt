@@ -12,7 +12,7 @@ use Rattle.tp_model.specs.declared.types.Limits.{Limits}
 use Rattle.tp_model.specs.History.{Committed, UnitEnd, In, IsClaim, births, end_of, pass_of}
 use Rattle.tp_model.specs.Passes.{IsOwnOpen}
 use Rattle.tp_model.specs.Steps.{AreLimits, Step, rows_of}
-use Rattle.tp_model.specs.Words.{ClaimWord, FreeWord, KilledWord, TakenWord, claim_word, claim_word_after, word_status}
+use Rattle.tp_model.specs.Words.{ClaimWord, AgainWord, FreeWord, KilledWord, TakenWord, claim_word, round_in, claim_word_after, word_status}
 use Rattle.tp_model.proofs.Bridges.{by_own, claim_either, found_later, in_either, in_none, in_one, new_claim, unborn_still, unused_still, waits_below, waits_later}
 use Rattle.tp_model.proofs.Later.{abort_ends}
 use Rattle.tp_model.proofs.Lists.{option_or-None}
@@ -36,14 +36,21 @@ use Rattle.tp_rule.proofs.Units.{decide}
 -- a claim's word tells the claim
 pub claim_told : (a b : ClaimWord) → IsFitClaim a → IsFitClaim b → pack_claim a ≡ pack_claim b → a ≡ b
 claim_told FreeWord FreeWord f g e = refl
-claim_told FreeWord (TakenWord n u) f g e = absurd (omega arith)
-claim_told FreeWord (KilledWord n u) f g e = absurd (omega arith)
-claim_told (TakenWord n u) FreeWord f g e = absurd (omega arith)
-claim_told (TakenWord n u) (TakenWord m v) f g e = let a : n ≤ 7 = f.1 in let b : m ≤ 7 = g.1 in let x : n ≡ m = omega arith in let y : u ≡ v = omega arith in (λ i. TakenWord (x i) (y i))
-claim_told (TakenWord n u) (KilledWord m v) f g e = absurd (omega arith)
-claim_told (KilledWord n u) FreeWord f g e = absurd (omega arith)
-claim_told (KilledWord n u) (TakenWord m v) f g e = absurd (omega arith)
-claim_told (KilledWord n u) (KilledWord m v) f g e = let a : n ≤ 7 = f.0 in let b : m ≤ 7 = g.0 in let x : n ≡ m = omega arith in let y : u ≡ v = omega arith in (λ i. KilledWord (x i) (y i))
+claim_told FreeWord (TakenWord m v s) f g e = absurd (omega arith)
+claim_told FreeWord (KilledWord m v s) f g e = absurd (omega arith)
+claim_told FreeWord (AgainWord s) f g e = absurd (omega arith)
+claim_told (TakenWord n u r) FreeWord f g e = absurd (omega arith)
+claim_told (TakenWord n u r) (TakenWord m v s) f g e = let a : n ≤ 7 = f.1 in let b : m ≤ 7 = g.1 in let c : u ≤ 65534 = f.2 in let d : v ≤ 65534 = g.2 in let x : n ≡ m = omega arith in let y : u ≡ v = omega arith in let z : r ≡ s = omega arith in (λ i. TakenWord (x i) (y i) (z i))
+claim_told (TakenWord n u r) (KilledWord m v s) f g e = absurd (omega arith)
+claim_told (TakenWord n u r) (AgainWord s) f g e = absurd (omega arith)
+claim_told (KilledWord n u r) FreeWord f g e = absurd (omega arith)
+claim_told (KilledWord n u r) (TakenWord m v s) f g e = absurd (omega arith)
+claim_told (KilledWord n u r) (KilledWord m v s) f g e = let a : n ≤ 7 = f.0 in let b : m ≤ 7 = g.0 in let c : u ≤ 65534 = f.1 in let d : v ≤ 65534 = g.1 in let x : n ≡ m = omega arith in let y : u ≡ v = omega arith in let z : r ≡ s = omega arith in (λ i. KilledWord (x i) (y i) (z i))
+claim_told (KilledWord n u r) (AgainWord s) f g e = absurd (omega arith)
+claim_told (AgainWord r) FreeWord f g e = absurd (omega arith)
+claim_told (AgainWord r) (TakenWord m v s) f g e = absurd (omega arith)
+claim_told (AgainWord r) (KilledWord m v s) f g e = absurd (omega arith)
+claim_told (AgainWord r) (AgainWord s) f g e = let x : r ≡ s = omega arith in ap AgainWord x
 
 claim_quiet : (c v i n : ℕ) (u : ℕ) (w : Option UnitEnd) → decide u w (Claim c v i n) ≡ w
 claim_quiet c v i n u w = option_or-None w
@@ -101,12 +108,19 @@ module _ (k : Limits) where
   attempt_fits : (seen : List Event) (w : ClaimWord) (n : ℕ) → AreLimits k → AllowsClaim k seen w n → n ≤ 7
   attempt_fits seen w n fair may = let some = fair.attempts.0 in let top = fair.attempts.1 in let below = waits_below k.attempts seen w (n - 1) some may.1 in omega arith
 
+  -- the round of a word that can be packed
+  round_fits : (w : ClaimWord) → IsFitClaim w → round_in w ≤ 3
+  round_fits FreeWord f = omega arith
+  round_fits (TakenWord n u r) f = f.3
+  round_fits (KilledWord n u r) f = f.3
+  round_fits (AgainWord r) f = f.1
+
   -- the claim that stands where its word was found
   pub claim_there : (t : Turn k) (row old : ℕ) (w : ClaimWord) → row < rows_of k → IsFitClaim w → old ≡ pack_claim w → get_or t.state.words (claim_place row) 0 ≡ old → claim_word t.rule.history row ≡ w
   claim_there t row old w room fit from hit = let told = t.rule.world.tells (ClaimOf row) room in claim_told (claim_word t.rule.history row) w told.1 fit (sym told.0 ∙ (hit ∙ from))
 
   pub claims_go : (v : View) (p old new row u n : ℕ) (w : ClaimWord) → AreLimits k → IsOnePass v → v.limits ≡ k → row < rows_of k → p ≡ claim_place row → HasWork v.seen row → (hand v).spare_unit ≡ Some u → (hand v).open_unit ≡ None
-      → IsFitClaim w → AllowsClaim k v.seen w n → old ≡ pack_claim w → new ≡ pack_claim (TakenWord n u)
+      → IsFitClaim w → AllowsClaim k v.seen w n → old ≡ pack_claim w → new ≡ pack_claim (TakenWord n u (round_in w))
       → Permits k v p (λ x. either (eqb x old) new x) (exchanges_claim p old new v)
   claims_go v p old new row u n w fair one lim room place was spare held fit may from to s r id at = let t : Turn k = record { state = s; rule = r; id = id; view = v; at = at; one = one } in let a : Hand = hand v in let x : ℕ = get_or s.words p 0 in let h = r.history in
       let seat = seat_holds k t in let mine = hand_holds k t in dite (ℕ_discrete x old)
@@ -124,9 +138,9 @@ module _ (k : Limits) where
         attempt = may.0;
         waits = status_by_words k h row r.world.legal ∙ (ap (word_status k.attempts h) now ∙ waits_later k.attempts v.seen h w (n - 1) seat.seen may.1);
       } in
-      let top_n = attempt_fits v.seen w n fair may in
-      let done = claim_event t e row new (TakenWord n u) kinds.ClaimExchange (with_claim u e) room to (may.0, top_n, omega arith) refl refl st (ap (λ b. cond b (TakenWord n u) (claim_word h row)) (eq-eqb row row refl))
-      (λ i not. ap (λ b. cond b (TakenWord n u) (claim_word h i)) (ne_eqb row i (λ z. not (sym z)))) (claim_quiet a.number u row n) (λ z. refl) record {
+      let top_n = attempt_fits v.seen w n fair may in let small : u ≤ 65534 = omega arith in
+      let done = claim_event t e row new (TakenWord n u (round_in w)) kinds.ClaimExchange (with_claim u e) room to (may.0, top_n, small, round_fits w fit) refl refl st (ap (λ b. cond b (TakenWord n u (round_in (claim_word h row))) (claim_word h row)) (eq-eqb row row refl) ∙ ap (λ z. TakenWord n u (round_in z)) now)
+      (λ i not. ap (λ b. cond b (TakenWord n u (round_in (claim_word h i))) (claim_word h i)) (ne_eqb row i (λ z. not (sym z)))) (claim_quiet a.number u row n) (λ z. refl) record {
         given = mine.given;
         mine = ap (λ l. l ++ e ∷ []) mine.mine ∙ sym (by_own a.number h e refl);
         rows = rows_still h s.words e row new a.number a.first_draft a.drawn a.next_key a.next_amount a.drafts room refl mine.given mine.rows;
@@ -134,7 +148,7 @@ module _ (k : Limits) where
       } in (
         after kinds.ClaimExchange (with_claim u e) (h ++ e ∷ []) v.known v,
         subst (λ (z : ℕ × ℕ). Rule k record { words = set s.words z.0 z.1; homes = s.homes; views = set s.views id (after kinds.ClaimExchange (with_claim u e) (h ++ e ∷ []) v.known v) }) (λ i. (sym place i, sym (ap (λ b. either b new x) (eq-eqb x old hit)) i)) done.0,
-        ((λ _. (u, row, n, place, to, top_n, done.1)), (λ not. absurd (not hit))),
+        ((λ _. (u, row, n, round_in w, place, to, top_n, (let less : u < 65536 = omega arith in less), done.1)), (λ not. absurd (not hit))),
       ))
       (λ miss. let m = missed k t p kinds.ClaimExchange in (
         looking_after k t p kinds.ClaimExchange unchanged,

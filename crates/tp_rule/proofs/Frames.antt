@@ -11,7 +11,7 @@ use Rattle.tp_model.proofs.WordProofs.{end_of-snoc}
 use Rattle.tp_model.specs.History.{Aborted, Committed, UnitEnd, In, IsClaim, IsUnborn, end_by, end_of, here, pass_of}
 use Rattle.tp_model.specs.Steps.{Step}
 use Rattle.tp_model.specs.declared.event.Event.{Event}
-use Rattle.tp_model.specs.declared.event.Event.TheVariants.{Abort, Claim, Commit, Enqueue, Kill}
+use Rattle.tp_model.specs.declared.event.Event.TheVariants.{Abort, Claim, Commit, Enqueue, Kill, Requeue}
 use Rattle.tp_model.specs.declared.types.Element.{Element}
 use Rattle.tp_model.specs.declared.types.Limits.{Limits}
 use Rattle.tp_rule.proofs.Parts.{IsOf, in_run, one_part}
@@ -41,6 +41,7 @@ decide_not u None (Commit c v outs) other not f m p =
     let q : None ≡ Some (Committed f m) = sym (if_other v u _ None (λ is. other c outs (ap (λ z. Commit c z outs) is))) ∙ p in absurd cc
 decide_not u None (Abort c v) other not f m p = let q = some_if v u Aborted (Committed f m) p in let r = q.1 in absurd cc
 decide_not u None (Kill c i) other not f m p = absurd cc
+decide_not u None (Requeue c i k) other not f m p = absurd cc
 
 module _ (k : Limits) where
   pub unborn_frame : (h : List Event) (e : Event) (c i : ℕ) → Step k h e → pass_of e ≢ c → IsOf k.parts k.rows c i → IsUnborn h i → IsUnborn (h ++ e ∷ []) i

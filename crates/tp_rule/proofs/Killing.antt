@@ -9,7 +9,7 @@ use Rattle.tp_model.specs.declared.trace.StepKind.TheVariants as kinds
 use Rattle.tp_model.specs.declared.types.Limits.{Limits}
 use Rattle.tp_model.specs.History.{UnitEnd}
 use Rattle.tp_model.specs.Steps.{IsKillable, Step, rows_of}
-use Rattle.tp_model.specs.Words.{ClaimWord, FreeWord, KilledWord, TakenWord, claim_word, kill_word, word_status}
+use Rattle.tp_model.specs.Words.{ClaimWord, AgainWord, FreeWord, KilledWord, TakenWord, claim_word, kill_word, word_status}
 use Rattle.tp_model.proofs.Bridges.{found_later, by_own, killable_later}
 use Rattle.tp_model.proofs.Lists.{option_or-None}
 use Rattle.tp_model.proofs.WordProofs.{status_by_words}
@@ -31,9 +31,10 @@ kill_quiet : (c i u : ℕ) (w : Option UnitEnd) → decide u w (Kill c i) ≡ w
 kill_quiet c i u w = option_or-None w
 
 killed_fits : (w : ClaimWord) → IsFitClaim w → IsFitClaim (kill_word w)
-killed_fits FreeWord f = (omega arith, omega arith, λ z. refl)
-killed_fits (TakenWord n u) f = let some : 1 ≤ n = f.0 in (f.1, f.2, λ z. absurd (omega arith))
-killed_fits (KilledWord n u) f = f
+killed_fits FreeWord f = (omega arith, omega arith, (λ z. refl), omega arith)
+killed_fits (TakenWord n u r) f = let some : 1 ≤ n = f.0 in (f.1, f.2, (λ z. absurd (omega arith)), f.3)
+killed_fits (KilledWord n u r) f = f
+killed_fits (AgainWord r) f = (omega arith, omega arith, (λ z. refl), f.1)
 
 module _ (k : Limits) where
   pub kills_go : (v : View) (p old new row : ℕ) (w : ClaimWord) → IsOnePass v → row < rows_of k → p ≡ claim_place row → HasElement v.seen row → IsFitClaim w → AllowsKill k v.seen w → old ≡ pack_claim w → new ≡ pack_claim (kill_word w)

@@ -16,6 +16,7 @@ pub mod Sharing
 pub mod Claiming
 pub mod Deciding
 pub mod Killing
+pub mod Requeueing
 pub mod Doors
 pub mod Meetings
 pub mod Raising

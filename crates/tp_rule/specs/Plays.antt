@@ -1,14 +1,14 @@
 -- What the steps tell, of the numbers that the table's steps take and give: a place, one or two numbers, and the number that
 -- was found at the place. In each definition v is the view before the step, and w the view after it.
 use Rattle.std.specs.Prelude.{◌≡◌, ◌≢◌, ℕ, ◌<◌, ◌≤◌, [], Some, None}
-use Rattle.tp_model.specs.Words.{TakenWord}
+use Rattle.tp_model.specs.Words.{TakenWord, AgainWord}
 use Rattle.tp_model.specs.declared.trace.StepKind.TheVariants as kinds
 use Rattle.tp_words.specs.declared.words.Head.{Head}
 use Rattle.tp_words.specs.declared.words.Head.TheVariants.{There}
 use Rattle.tp_words.specs.Words.{IsFitHead, pack_claim, pack_head}
 use Rattle.tp_words.specs.Places.{head_place, claim_place, mark_place, unit_place}
 use Rattle.tp_rule.specs.Views.{hand, next_row}
-use Rattle.tp_rule.specs.Steps.{Found, Grew, Knows, Loads, NoneFrom, unchanged, drafted, with_key, with_amount, Drafts, Publishes, Chooses, MakesClaim, MakesCommit, Loses, MakesAbort, MakesKill, Misses, AreOver, Raises}
+use Rattle.tp_rule.specs.Steps.{Found, Grew, Knows, Loads, NoneFrom, unchanged, drafted, with_key, with_amount, Drafts, Publishes, Chooses, MakesClaim, MakesCommit, Loses, MakesAbort, MakesKill, MakesRequeue, Misses, AreOver, Raises}
 use Rattle.tp_rule.specs.declared.view.Known.TheVariants.{RowHead, PartMark}
 use Rattle.tp_rule.specs.declared.view.View.{View}
 
@@ -41,7 +41,7 @@ abbrev pub chooses : Telling
 chooses word first second v r w = (u : ℕ) × (word ≡ unit_place v.limits u) × Chooses v u w
 
 abbrev pub exchanges_claim : Telling
-exchanges_claim word old new v r w = (r ≡ old → (u : ℕ) × (i : ℕ) × (n : ℕ) × (word ≡ claim_place i) × (new ≡ pack_claim (TakenWord n u)) × (n ≤ 7) × MakesClaim v u i n w)
+exchanges_claim word old new v r w = (r ≡ old → (u : ℕ) × (i : ℕ) × (n : ℕ) × (k : ℕ) × (word ≡ claim_place i) × (new ≡ pack_claim (TakenWord n u k)) × (n ≤ 7) × (u < 65536) × MakesClaim v u i n w)
     × (r ≢ old → Misses kinds.ClaimExchange v word r w)
 
 abbrev pub exchanges_commit : Telling
@@ -55,6 +55,10 @@ exchanges_abort word old new v r w = (u : ℕ) × (word ≡ unit_place v.limits 
 
 abbrev pub exchanges_kill : Telling
 exchanges_kill word old new v r w = (r ≡ old → (i : ℕ) × (word ≡ claim_place i) × MakesKill v i w) × (r ≢ old → Misses kinds.KillExchange v word r w)
+
+abbrev pub exchanges_requeue : Telling
+exchanges_requeue word old new v r w = (r ≡ old → (i : ℕ) × (k : ℕ) × (word ≡ claim_place i) × (new ≡ pack_claim (AgainWord k)) × MakesRequeue v i k w)
+    × (r ≢ old → Misses kinds.RequeueExchange v word r w)
 
 -- a load of a mark, which the seat remembers
 abbrev pub loads_mark : Telling

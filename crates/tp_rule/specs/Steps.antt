@@ -4,15 +4,16 @@ use Rattle.std.specs.Prelude.{◌≡◌, ◌≢◌, ◌⊎◌, ℕ, ◌+◌, ◌
 use mathlib.Core.List.{IsPrefix}
 use Rattle.tp_model.specs.declared.types.Element.{Element}
 use Rattle.tp_model.specs.declared.types.Limits.{Limits}
+use Rattle.tp_model.specs.declared.types.TheConstants.{MOST_ROUNDS}
 use Rattle.tp_model.specs.declared.types.Status.TheVariants.{Waiting}
 use Rattle.tp_model.specs.declared.event.Event.{Event}
-use Rattle.tp_model.specs.declared.event.Event.TheVariants.{Enqueue, Claim, Commit, Abort, Kill}
+use Rattle.tp_model.specs.declared.event.Event.TheVariants.{Enqueue, Claim, Commit, Abort, Kill, Requeue}
 use Rattle.tp_model.specs.declared.trace.StepKind.{StepKind}
 use Rattle.tp_model.specs.declared.trace.StepKind.TheVariants as kinds
 use Rattle.tp_model.specs.History.{Aborted, In, IsSettled, IsUnborn, status_of, UnitClaim, UnitEnd, claim_of, element_of, end_of, events_by}
 use Rattle.tp_model.specs.Passes.{IsOwnOpen}
-use Rattle.tp_model.specs.Words.{ClaimWord, claim_word, word_status}
-use Rattle.tp_model.specs.Steps.{IsStage, IsServerStage, IsKillable, IsLegal, IsRowOf}
+use Rattle.tp_model.specs.Words.{ClaimWord, claim_word, round_in, word_status}
+use Rattle.tp_model.specs.Steps.{IsStage, IsServerStage, IsKillable, IsParked, IsLegal, IsRowOf}
 use Rattle.tp_words.specs.declared.words.Head.{Head}
 use Rattle.tp_words.specs.declared.words.Head.TheVariants.{Empty, There}
 use Rattle.tp_words.specs.Words.{IsFitClaim, head_of}
@@ -148,6 +149,10 @@ AllowsClaim l h w n = (1 ≤ n) × (word_status l.attempts h w ≡ Waiting (n - 
 abbrev pub AllowsKill : Limits → List Event → ClaimWord → Type 0
 AllowsKill l h w = IsKillable (word_status l.attempts h w)
 
+-- where the claim word w was found, the element may be given another round: it is parked, and has rounds left
+abbrev pub AllowsRequeue : Limits → List Event → ClaimWord → Type 0
+AllowsRequeue l h w = IsParked (word_status l.attempts h w) × (round_in w < MOST_ROUNDS)
+
 -- row i has an element
 abbrev pub HasElement : List Event → ℕ → Type 0
 HasElement h i = (x : Element) × (element_of h i ≡ Some x)
@@ -196,7 +201,7 @@ with_claim u e a = record a { mine = a.mine ++ e ∷ []; claimed = a.claimed + 1
 abbrev pub MakesClaim : View → ℕ → ℕ → ℕ → View → Type 0
 MakesClaim v u i n w = Grew kinds.ClaimExchange (with_claim u (claimed v u i n)) (claimed v u i n ∷ []) v w
 
--- a claim or kill exchange that failed: the claim word is not the one that was found before, but this one
+-- an exchange of a claim word that failed: the claim word is not the one that was found before, but this one
 abbrev pub FindsOther : StepKind → View → ℕ → ClaimWord → ClaimWord → View → Type 0
 FindsOther kind v i found now w = Grew kind unchanged [] v w × (now ≢ found) × (now ≡ claim_word w.seen i) × IsFitClaim now
 
@@ -231,6 +236,9 @@ pub record FindsEnded (v : View) (u : ℕ) (found : Option UnitEnd) (w : View) :
 
 abbrev pub MakesKill : View → ℕ → View → Type 0
 MakesKill v i w = Grew kinds.KillExchange (with_event (Kill (hand v).number i)) (Kill (hand v).number i ∷ []) v w
+
+abbrev pub MakesRequeue : View → ℕ → ℕ → View → Type 0
+MakesRequeue v i r w = Grew kinds.RequeueExchange (with_event (Requeue (hand v).number i r)) (Requeue (hand v).number i r ∷ []) v w
 
 -- raise
 

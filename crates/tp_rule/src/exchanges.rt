@@ -5,12 +5,15 @@ ghost use Rattle.std.specs.Prelude.{◌≡◌, ◌+◌, ◌*◌, ◌<◌, ◌≤
 ghost use Rattle.tp_model.specs.declared.trace.StepKind.TheVariants as kinds;
 ghost use Rattle.tp_model.specs.History.{first_id};
 ghost use Rattle.tp_model.specs.Steps.{rows_of, units_of};
+ghost use Rattle.tp_model.specs.Words.{round_in};
 ghost use Rattle.tp_words.specs.Words.{claim_value, unit_value, IsFitClaim};
 ghost use Rattle.tp_rule.specs.Views.{hand_of, seen_by, view_of, IsNextUnit, IsSameSeat};
 ghost use Rattle.tp_rule.specs.declared.view.Known.TheVariants.{PartMark};
-ghost use Rattle.tp_rule.specs.Steps.{Raises, Knows, IsDone, Chooses, MakesClaim, MakesCommit, MakesAbort, MakesKill, Loses, FindsOther, FindsEnded, AllowsClaim, AllowsKill, HasElement, HasWork, IsOwnWork, IsClaimed};
+ghost use Rattle.tp_rule.specs.Steps.{Raises, Knows, IsDone, Chooses, MakesClaim, MakesCommit, MakesAbort, MakesKill, MakesRequeue, Loses, FindsOther, FindsEnded, AllowsClaim, AllowsKill, AllowsRequeue, HasElement, HasWork, IsOwnWork, IsClaimed};
 
-use crate::plays::{AbortExchange, ClaimExchange, CommitExchange, KillExchange, Raise, UnitChoice};
+use crate::plays::{
+    AbortExchange, ClaimExchange, CommitExchange, KillExchange, Raise, RequeueExchange, UnitChoice,
+};
 use crate::seat::Seat;
 use crate::words::Words;
 use tp_words::bits::{UNIT_ABORTED, UNIT_UNDECIDED};
@@ -33,8 +36,9 @@ impl Words {
     }
 
     /// The spare unit takes the element of a row, for the `attempt`-th time that a unit does, if the element's claim
-    /// is still the one that was found: it was free, or its unit was aborted and the attempts are not used up. `Ok`
-    /// adds the claim to the history, and the unit is the pass's open one. `Err` has the claim as it is by now.
+    /// is still the one that was found: it was free, or its unit was aborted and the attempts are not used up, or it was
+    /// given another round. `Ok` adds the claim to the history, and the unit is the pass's open one. `Err` has the claim
+    /// as it is by now.
     pub fn claim_exchange(
         &self,
         seat: &mut Seat,
@@ -57,7 +61,7 @@ impl Words {
     {
         let word = self.places.claim(row);
         let free = found.pack();
-        let taken = Claim::Taken { attempt, unit }.pack();
+        let taken = found.taken(attempt, unit).pack();
         let was = self
             .table
             .compare_exchange::<ClaimExchange>(seat, word, free, taken);
@@ -120,7 +124,7 @@ impl Words {
     }
 
     /// The element of a row is killed, if its claim is still the one that was found: it was free, or its unit was
-    /// aborted. `Ok` adds the kill to the history, and no unit takes the element any more. `Err` has the claim as it
+    /// aborted, or it was given another round. `Ok` adds the kill to the history, and no unit takes the element any more. `Err` has the claim as it
     /// is by now.
     pub fn kill_exchange(&self, seat: &mut Seat, row: u32, found: Claim) -> Result<(), Claim>
         requires own { IsSeatOf self.now seat.old }
@@ -140,6 +144,36 @@ impl Words {
             .table
             .compare_exchange::<KillExchange>(seat, word, alive, killed);
         if was == alive {
+            return Ok(());
+        }
+        match Claim::unpack(was) {
+            Some(now) => Err(now),
+            None => unreachable!(),
+        }
+    }
+
+    /// The parked element of a row is given its next round, if its claim is still the one that was found: its unit was
+    /// aborted, the attempts are used up, and there is a round left. `Ok` adds the requeue to the history, and the
+    /// element waits again. `Err` has the claim as it is by now.
+    pub fn requeue_exchange(&self, seat: &mut Seat, row: u32, found: Claim) -> Result<(), Claim>
+        requires own { IsSeatOf self.now seat.old }
+        requires one { IsPassOf self.now seat.old }
+        requires row { (row < rows_of (limits_of self.now)) × HasElement (seen_by seat.old) row }
+        requires fits { IsFitClaim (claim_value found) }
+        requires found { AllowsRequeue (limits_of self.now) (seen_by seat.old) (claim_value found) }
+        ensures same { IsSameSeat seat.old seat.new }
+        ensures hit { IfOk result (λ done. MakesRequeue (view_of seat.old) row (round_in (claim_value found) + 1) (view_of seat.new)) }
+        ensures miss { IfErr result (λ now. FindsOther kinds.RequeueExchange (view_of seat.old) row (claim_value found)
+            (claim_value now) (view_of seat.new)) }
+    {
+        let word = self.places.claim(row);
+        let parked = found.pack();
+        let round = found.round() + 1;
+        let again = Claim::Again { round }.pack();
+        let was = self
+            .table
+            .compare_exchange::<RequeueExchange>(seat, word, parked, again);
+        if was == parked {
             return Ok(());
         }
         match Claim::unpack(was) {

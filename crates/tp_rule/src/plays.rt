@@ -1,5 +1,5 @@
 //! What each kind of step tells the functions of this crate, in the numbers of the table, and how seats are cut and joined.
-ghost use Rattle.tp_rule.specs.Plays.{Telling, loads, loads_head, stores_key, stores_amount, stores_head, publishes, chooses, exchanges_claim, exchanges_commit, exchanges_abort, exchanges_kill, loads_mark, raises};
+ghost use Rattle.tp_rule.specs.Plays.{Telling, loads, loads_head, stores_key, stores_amount, stores_head, publishes, chooses, exchanges_claim, exchanges_commit, exchanges_abort, exchanges_kill, exchanges_requeue, loads_mark, raises};
 ghost use Rattle.tp_rule.specs.Views.{spent};
 ghost use Rattle.tp_rule.specs.Steps.{handed_on, handed_out, kept, parted, joined};
 
@@ -78,6 +78,12 @@ pub(crate) struct KillExchange;
 
 impl Effect for KillExchange {
     ghost told = { exchanges_kill };
+}
+
+pub(crate) struct RequeueExchange;
+
+impl Effect for RequeueExchange {
+    ghost told = { exchanges_requeue };
 }
 
 /// The load of a mark, which the seat remembers.

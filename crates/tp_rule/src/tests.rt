@@ -227,6 +227,7 @@ fn claim_again(words: &Words, seat: &mut Seat, row: u32, aborted: u16, unit: u16
     let found = Claim::Taken {
         attempt: 1,
         unit: aborted,
+        round: 0,
     };
     match words.claim_exchange(seat, row, found, 2, unit) {
         Ok(()) => true,
@@ -245,7 +246,11 @@ fn abort_holder(words: &Words, seat: &mut Seat, row: u32, unit: u16) -> bool
     ensures work { result ≡ true → HasWork (seen_by seat.new) row }
     ensures aborted { result ≡ true → end_of (seen_by seat.new) unit ≡ Some Aborted }
 {
-    let held = Claim::Taken { attempt: 1, unit };
+    let held = Claim::Taken {
+        attempt: 1,
+        unit,
+        round: 0,
+    };
     if words.load_claim(seat, row) != held {
         return false;
     }
@@ -268,7 +273,11 @@ fn kill_as_first_found(words: &Words, seat: &mut Seat, row: u32, unit: u16) -> O
     ensures one { IsPassOf words.now seat.new }
     ensures no_event { IfSome result (λ now. (hand_of seat.new).mine ≡ (hand_of seat.old).mine) }
 {
-    let found = Claim::Taken { attempt: 1, unit };
+    let found = Claim::Taken {
+        attempt: 1,
+        unit,
+        round: 0,
+    };
     match words.kill_exchange(seat, row, found) {
         Ok(()) => None,
         Err(now) => Some(now),
@@ -293,6 +302,7 @@ fn stale_kill_exchange(rt: HostRuntime) {
     let second_claim = Claim::Taken {
         attempt: 2,
         unit: 4,
+        round: 0,
     };
     assert!(rt; kill_as_first_found(&words, &mut killer, 0, 2) == Some(second_claim));
     assert!(rt; words.load_claim(&mut killer, 0) == second_claim);
@@ -314,7 +324,8 @@ fn two_passes_meet(rt: HostRuntime) {
         words.load_claim(&mut client, 0)
             == Claim::Taken {
                 attempt: 1,
-                unit: 2
+                unit: 2,
+                round: 0
             }
     );
     assert!(rt; words.load_key(&mut client, 0) == 0);

@@ -2,8 +2,8 @@
 use Rattle.std.specs.Prelude.{◌≡◌, ◌⊎◌, ℕ, ◌+◌, ◌*◌, ◌/◌, ◌%◌, ◌≤◌, Option, Some, None}
 use Rattle.tp_model.specs.declared.types.Element.{Element}
 use Rattle.tp_model.specs.History.{UnitEnd, Committed, Aborted}
-use Rattle.tp_model.specs.Words.{ClaimWord, FreeWord, TakenWord, KilledWord}
-use Rattle.tp_words.specs.declared.bits.TheConstants.{HEAD_EMPTY, HEAD_PRESENT, HEAD_STAGE, HEAD_ROOT, HEAD_BY, CLAIM_FREE, CLAIM_TAKEN, CLAIM_KILLED, CLAIM_ATTEMPT, CLAIM_UNIT, UNIT_UNDECIDED, UNIT_COMMITTED, UNIT_ABORTED, UNIT_COUNT, UNIT_FIRST, MAX_ATTEMPT, MAX_UNIT, MAX_ID, MAX_OUTPUTS}
+use Rattle.tp_model.specs.Words.{ClaimWord, FreeWord, TakenWord, KilledWord, AgainWord}
+use Rattle.tp_words.specs.declared.bits.TheConstants.{HEAD_EMPTY, HEAD_PRESENT, HEAD_STAGE, HEAD_ROOT, HEAD_BY, CLAIM_FREE, CLAIM_TAKEN, CLAIM_KILLED, CLAIM_AGAIN, CLAIM_ATTEMPT, CLAIM_UNIT, CLAIM_ROUND, UNIT_UNDECIDED, UNIT_COMMITTED, UNIT_ABORTED, UNIT_COUNT, UNIT_FIRST, MAX_ATTEMPT, MAX_UNIT, MAX_ROUND, MAX_ID, MAX_OUTPUTS}
 use Rattle.tp_words.specs.declared.words.Head.{Head}
 use Rattle.tp_words.specs.declared.words.Head.TheVariants.{Empty, There}
 use Rattle.tp_words.specs.declared.words.Claim as claims
@@ -14,8 +14,9 @@ use Rattle.tp_words.specs.declared.words.UnitWord.TheVariants as unit
 -- the claim word that a `Claim` speaks of
 abbrev pub claim_value : claims.Claim → ClaimWord
 claim_value claim.Free = FreeWord
-claim_value (claim.Taken n u) = TakenWord n u
-claim_value (claim.Killed n u) = KilledWord n u
+claim_value (claim.Taken n u r) = TakenWord n u r
+claim_value (claim.Killed n u r) = KilledWord n u r
+claim_value (claim.Again r) = AgainWord r
 
 -- how a unit ended that has this word
 abbrev pub unit_value : units.UnitWord → Option UnitEnd
@@ -40,8 +41,9 @@ pack_head (There stage root by) = HEAD_PRESENT + HEAD_STAGE * stage + HEAD_ROOT 
 -- the claim word
 abbrev pub pack_claim : ClaimWord → ℕ
 pack_claim FreeWord = CLAIM_FREE
-pack_claim (TakenWord n u) = CLAIM_TAKEN + CLAIM_ATTEMPT * n + CLAIM_UNIT * u
-pack_claim (KilledWord n u) = CLAIM_KILLED + CLAIM_ATTEMPT * n + CLAIM_UNIT * u
+pack_claim (TakenWord n u r) = CLAIM_TAKEN + CLAIM_ATTEMPT * n + CLAIM_UNIT * u + CLAIM_ROUND * r
+pack_claim (KilledWord n u r) = CLAIM_KILLED + CLAIM_ATTEMPT * n + CLAIM_UNIT * u + CLAIM_ROUND * r
+pack_claim (AgainWord r) = CLAIM_AGAIN + CLAIM_ROUND * r
 
 -- the word of a unit
 abbrev pub pack_unit : Option UnitEnd → ℕ
@@ -54,11 +56,12 @@ abbrev pub IsFitHead : Head → Type 0
 IsFitHead Empty = Unit {0}
 IsFitHead (There stage root by) = (1 ≤ stage) × (stage ≤ 15) × (root ≤ MAX_ID) × (pack_by by ≤ MAX_UNIT + 1)
 
--- the values that claim words have: an element that was taken is so for the first time or a later one, and one that was killed without ever being taken has no unit
+-- the values that claim words have: an element that was taken is so for the first time or a later one, one that was killed without being taken in its round has no unit, and one that was given a round has one beside the first
 abbrev pub IsFitClaim : ClaimWord → Type 0
 IsFitClaim FreeWord = Unit {0}
-IsFitClaim (TakenWord n u) = (1 ≤ n) × (n ≤ MAX_ATTEMPT) × (u ≤ MAX_UNIT)
-IsFitClaim (KilledWord n u) = (n ≤ MAX_ATTEMPT) × (u ≤ MAX_UNIT) × (n ≡ 0 → u ≡ 0)
+IsFitClaim (TakenWord n u r) = (1 ≤ n) × (n ≤ MAX_ATTEMPT) × (u ≤ MAX_UNIT) × (r ≤ MAX_ROUND)
+IsFitClaim (KilledWord n u r) = (n ≤ MAX_ATTEMPT) × (u ≤ MAX_UNIT) × (n ≡ 0 → u ≡ 0) × (r ≤ MAX_ROUND)
+IsFitClaim (AgainWord r) = (1 ≤ r) × (r ≤ MAX_ROUND)
 
 -- the values that units' words have: a committed unit without outputs has no first one
 abbrev pub IsFitUnit : Option UnitEnd → Type 0
@@ -70,10 +73,29 @@ IsFitUnit (Some Aborted) = Unit {0}
 abbrev pub IsHeadWord : ℕ → Type 0
 IsHeadWord word = (word ≡ HEAD_EMPTY) ⊎ ((word % HEAD_STAGE ≡ HEAD_PRESENT) × (1 ≤ word % HEAD_ROOT / HEAD_STAGE) × (word / HEAD_BY ≤ MAX_UNIT + 1))
 
--- the numbers that are claim words: 0, those of kind 1 with attempt 1 to 7, and those of kind 2 with attempt 1 to 7, or with attempt 0 and unit 0
+-- the attempt, the unit and the round in a claim word, and whether it has neither attempt nor unit
+abbrev pub claim_attempt : ℕ → ℕ
+claim_attempt word = word % CLAIM_UNIT / CLAIM_ATTEMPT
+
+abbrev pub claim_unit : ℕ → ℕ
+claim_unit word = word % CLAIM_ROUND / CLAIM_UNIT
+
+abbrev pub claim_round : ℕ → ℕ
+claim_round word = word / CLAIM_ROUND
+
+abbrev pub IsUntaken : ℕ → Type 0
+IsUntaken word = (claim_attempt word ≡ 0) × (claim_unit word ≡ 0)
+
+-- the kinds of claim words: kind 1 has an attempt, kind 2 has one or no unit either, and kind 3 has neither, and a round
+abbrev pub HasKind : ℕ → Type 0
+HasKind word = ((word % CLAIM_ATTEMPT ≡ CLAIM_TAKEN) × (1 ≤ claim_attempt word))
+    ⊎ (((word % CLAIM_ATTEMPT ≡ CLAIM_KILLED) × ((1 ≤ claim_attempt word) ⊎ IsUntaken word))
+    ⊎ ((word % CLAIM_ATTEMPT ≡ CLAIM_AGAIN) × IsUntaken word × (1 ≤ claim_round word)))
+
+-- the numbers that are claim words: 0, and those of these kinds with attempt at most 7, a unit's number and round at most 3
 abbrev pub IsClaimWord : ℕ → Type 0
-IsClaimWord word = (word ≡ CLAIM_FREE) ⊎ ((word % CLAIM_UNIT / CLAIM_ATTEMPT ≤ MAX_ATTEMPT) × (word / CLAIM_UNIT ≤ MAX_UNIT)
-    × (((word % CLAIM_ATTEMPT ≡ CLAIM_TAKEN) × (1 ≤ word % CLAIM_UNIT / CLAIM_ATTEMPT)) ⊎ ((word % CLAIM_ATTEMPT ≡ CLAIM_KILLED) × ((1 ≤ word % CLAIM_UNIT / CLAIM_ATTEMPT) ⊎ (word ≡ CLAIM_KILLED)))))
+IsClaimWord word = (word ≡ CLAIM_FREE)
+    ⊎ ((claim_attempt word ≤ MAX_ATTEMPT) × (claim_unit word ≤ MAX_UNIT) × (claim_round word ≤ MAX_ROUND) × HasKind word)
 
 -- the numbers that are words of units: 0, 2, and those of kind 1 with 1 to 4 outputs, or with none and no first one
 abbrev pub IsUnitWord : ℕ → Type 0

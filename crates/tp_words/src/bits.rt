@@ -24,14 +24,20 @@ pub const CLAIM_FREE: u64 = 0;
 /// Claim, bits 0 and 1: a unit took the element.
 pub const CLAIM_TAKEN: u64 = 1;
 
-/// Claim, bits 0 and 1: the element was killed. The attempt and the unit stay as they were.
+/// Claim, bits 0 and 1: the element was killed. The attempt, the unit and the round stay as they were.
 pub const CLAIM_KILLED: u64 = 2;
 
-/// Claim, bits 2 to 5: how many units have taken the element, at most 7.
+/// Claim, bits 0 and 1: the element was given another round, and not taken since. The attempt and the unit are 0.
+pub const CLAIM_AGAIN: u64 = 3;
+
+/// Claim, bits 2 to 5: how many units have taken the element in its round, at most 7.
 pub const CLAIM_ATTEMPT: u64 = 1 << 2;
 
 /// Claim, bits 6 to 21: the unit that took it last.
 pub const CLAIM_UNIT: u64 = 1 << 6;
+
+/// Claim, bits 22 and 23: the round, 0 for the first.
+pub const CLAIM_ROUND: u64 = 1 << 22;
 
 /// The word of a unit that was neither committed nor aborted.
 pub const UNIT_UNDECIDED: u64 = 0;
@@ -50,6 +56,9 @@ pub const UNIT_FIRST: u64 = 1 << 5;
 
 /// The most attempts that a claim word tells of.
 pub const MAX_ATTEMPT: u64 = 7;
+
+/// The last round that a claim word tells of.
+pub const MAX_ROUND: u64 = 3;
 
 /// The greatest number of a unit: a head has room for the number plus 1.
 pub const MAX_UNIT: u64 = 65534;

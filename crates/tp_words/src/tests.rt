@@ -46,24 +46,28 @@ fn claims(rt: HostRuntime) {
     let first = Claim::Taken {
         attempt: 1,
         unit: 256,
+        round: 0,
     };
     assert!(rt; first.pack() == 16389);
     assert!(rt; Claim::unpack(16389) == Some(first));
     let second = Claim::Taken {
         attempt: 2,
         unit: 512,
+        round: 0,
     };
     assert!(rt; second.pack() == 32777);
     assert!(rt; Claim::unpack(32777) == Some(second));
     let last = Claim::Taken {
         attempt: 7,
         unit: 32767,
+        round: 0,
     };
     assert!(rt; last.pack() == 2097117);
     assert!(rt; Claim::unpack(2097117) == Some(last));
     let never_taken = Claim::Killed {
         attempt: 0,
         unit: 0,
+        round: 0,
     };
     assert!(rt; never_taken.pack() == 2);
     assert!(rt; Claim::unpack(2) == Some(never_taken));
@@ -71,6 +75,7 @@ fn claims(rt: HostRuntime) {
     let killed = Claim::Killed {
         attempt: 1,
         unit: 256,
+        round: 0,
     };
     assert!(rt; killed.pack() == 16390);
     assert!(rt; Claim::unpack(16390) == Some(killed));
@@ -83,8 +88,6 @@ fn claims(rt: HostRuntime) {
 fn refused_claims(rt: HostRuntime) {
     // Taken for the 0th time.
     assert!(rt; Claim::unpack(1).is_none());
-    // No such kind.
-    assert!(rt; Claim::unpack(3).is_none());
     // Never taken, with other bits.
     assert!(rt; Claim::unpack(4).is_none());
     // Taken for the 8th time.
@@ -93,8 +96,51 @@ fn refused_claims(rt: HostRuntime) {
     assert!(rt; Claim::unpack(66).is_none());
     // Taken by unit 65535.
     assert!(rt; Claim::unpack(4194245).is_none());
-    // Bit 22.
-    assert!(rt; Claim::unpack(4194309).is_none());
+    // Another round, but of round 0.
+    assert!(rt; Claim::unpack(3).is_none());
+    // Never taken, with a round.
+    assert!(rt; Claim::unpack(4194304).is_none());
+    // Another round, with an attempt.
+    assert!(rt; Claim::unpack(4194311).is_none());
+    // Bit 24.
+    assert!(rt; Claim::unpack(16777221).is_none());
+}
+
+#[test]
+fn claims_with_rounds(rt: HostRuntime) {
+    let again = Claim::Again { round: 1 };
+    assert!(rt; again.pack() == 4194307);
+    assert!(rt; Claim::unpack(4194307) == Some(again));
+    let last = Claim::Again { round: 3 };
+    assert!(rt; last.pack() == 12582915);
+    assert!(rt; Claim::unpack(12582915) == Some(last));
+    let second = Claim::Taken {
+        attempt: 2,
+        unit: 512,
+        round: 1,
+    };
+    assert!(rt; second.pack() == 4227081);
+    assert!(rt; Claim::unpack(4227081) == Some(second));
+    let first = Claim::Taken {
+        attempt: 1,
+        unit: 0,
+        round: 1,
+    };
+    assert!(rt; first.pack() == 4194309);
+    assert!(rt; Claim::unpack(4194309) == Some(first));
+    assert!(rt; again.taken(1, 0) == first);
+    let killed = Claim::Killed {
+        attempt: 0,
+        unit: 0,
+        round: 1,
+    };
+    assert!(rt; killed.pack() == 4194306);
+    assert!(rt; Claim::unpack(4194306) == Some(killed));
+    assert!(rt; again.killed() == killed);
+    assert!(rt; Claim::Free.round() == 0);
+    assert!(rt; again.round() == 1);
+    assert!(rt; second.round() == 1);
+    assert!(rt; last.killed().round() == 3);
 }
 
 #[test]

@@ -5,12 +5,12 @@
 ghost use Rattle.std.specs.Prelude.{◌≡◌, ◌↔◌, IfSome, IsSome, Option, Some};
 ghost use Rattle.std.specs.Option.{option_map};
 ghost use Rattle.tp_model.specs.History.{UnitEnd};
-ghost use Rattle.tp_model.specs.Words.{ClaimWord, kill_word};
+ghost use Rattle.tp_model.specs.Words.{ClaimWord, TakenWord, AgainWord, kill_word, round_in};
 
 use crate::bits::{
-    CLAIM_ATTEMPT, CLAIM_FREE, CLAIM_KILLED, CLAIM_TAKEN, CLAIM_UNIT, HEAD_BY, HEAD_EMPTY,
-    HEAD_PRESENT, HEAD_ROOT, HEAD_STAGE, MAX_ATTEMPT, MAX_ID, MAX_OUTPUTS, MAX_UNIT, UNIT_ABORTED,
-    UNIT_COMMITTED, UNIT_COUNT, UNIT_FIRST, UNIT_UNDECIDED,
+    CLAIM_AGAIN, CLAIM_ATTEMPT, CLAIM_FREE, CLAIM_KILLED, CLAIM_ROUND, CLAIM_TAKEN, CLAIM_UNIT,
+    HEAD_BY, HEAD_EMPTY, HEAD_PRESENT, HEAD_ROOT, HEAD_STAGE, MAX_ATTEMPT, MAX_ID, MAX_OUTPUTS,
+    MAX_ROUND, MAX_UNIT, UNIT_ABORTED, UNIT_COMMITTED, UNIT_COUNT, UNIT_FIRST, UNIT_UNDECIDED,
 };
 
 /// What the head word of a row tells.
@@ -35,11 +35,14 @@ pub enum Head {
 pub enum Claim {
     /// The element was never taken, or the row has none.
     Free,
-    /// The unit was the `attempt`-th to take the element. `attempt` is 1 to 7, `unit` at most 65534.
-    Taken { attempt: u8, unit: u16 },
-    /// The element was killed after that, and both are 0 where it was never taken. `attempt` is at most 7, `unit` at
-    /// most 65534.
-    Killed { attempt: u8, unit: u16 },
+    /// The unit was the `attempt`-th to take the element in its round. `attempt` is 1 to 7, `unit` at most 65534,
+    /// `round` at most 3.
+    Taken { attempt: u8, unit: u16, round: u8 },
+    /// The element was killed after that; attempt and unit are 0 where it was not taken in its round. `attempt` is at
+    /// most 7, `unit` at most 65534, `round` at most 3.
+    Killed { attempt: u8, unit: u16, round: u8 },
+    /// The element was given another round, 1 to 3, and was not taken since.
+    Again { round: u8 },
 }
 
 /// What the word of a unit tells.
@@ -112,16 +115,64 @@ impl Claim {
     {
         match self {
             Claim::Free => CLAIM_FREE,
-            Claim::Taken { attempt, unit } => {
-                CLAIM_TAKEN + CLAIM_ATTEMPT * attempt as u64 + CLAIM_UNIT * unit as u64
+            Claim::Taken {
+                attempt,
+                unit,
+                round,
+            } => {
+                CLAIM_TAKEN
+                    + CLAIM_ATTEMPT * attempt as u64
+                    + CLAIM_UNIT * unit as u64
+                    + CLAIM_ROUND * round as u64
             }
-            Claim::Killed { attempt, unit } => {
-                CLAIM_KILLED + CLAIM_ATTEMPT * attempt as u64 + CLAIM_UNIT * unit as u64
+            Claim::Killed {
+                attempt,
+                unit,
+                round,
+            } => {
+                CLAIM_KILLED
+                    + CLAIM_ATTEMPT * attempt as u64
+                    + CLAIM_UNIT * unit as u64
+                    + CLAIM_ROUND * round as u64
             }
+            Claim::Again { round } => CLAIM_AGAIN + CLAIM_ROUND * round as u64,
         }
     }
 
-    /// The claim after a kill: the attempt and the unit stay.
+    /// The round that the claim tells: 0 is the first.
+    #[inline(always)]
+    pub fn round(self) -> u8
+        ensures { result ≡ round_in (claim_value self) }
+    {
+        match self {
+            Claim::Free => 0,
+            Claim::Taken {
+                attempt: _,
+                unit: _,
+                round,
+            } => round,
+            Claim::Killed {
+                attempt: _,
+                unit: _,
+                round,
+            } => round,
+            Claim::Again { round } => round,
+        }
+    }
+
+    /// The claim after a unit has taken the element: the round stays.
+    #[inline(always)]
+    pub fn taken(self, attempt: u8, unit: u16) -> Claim
+        ensures { claim_value result ≡ TakenWord attempt unit (round_in (claim_value self)) }
+    {
+        Claim::Taken {
+            attempt,
+            unit,
+            round: self.round(),
+        }
+    }
+
+    /// The claim after a kill: the attempt, the unit and the round stay.
     pub fn killed(self) -> Claim
         requires { IsFitClaim (claim_value self) }
         ensures value { claim_value result ≡ kill_word (claim_value self) }
@@ -131,9 +182,31 @@ impl Claim {
             Claim::Free => Claim::Killed {
                 attempt: 0,
                 unit: 0,
+                round: 0,
             },
-            Claim::Taken { attempt, unit } => Claim::Killed { attempt, unit },
-            Claim::Killed { attempt, unit } => Claim::Killed { attempt, unit },
+            Claim::Taken {
+                attempt,
+                unit,
+                round,
+            } => Claim::Killed {
+                attempt,
+                unit,
+                round,
+            },
+            Claim::Killed {
+                attempt,
+                unit,
+                round,
+            } => Claim::Killed {
+                attempt,
+                unit,
+                round,
+            },
+            Claim::Again { round } => Claim::Killed {
+                attempt: 0,
+                unit: 0,
+                round,
+            },
         }
     }
 
@@ -146,18 +219,30 @@ impl Claim {
     {
         let kind = word % CLAIM_ATTEMPT;
         let attempt = word % CLAIM_UNIT / CLAIM_ATTEMPT;
-        let unit = word / CLAIM_UNIT;
-        if attempt > MAX_ATTEMPT || unit > MAX_UNIT {
+        let unit = word % CLAIM_ROUND / CLAIM_UNIT;
+        let round = word / CLAIM_ROUND;
+        if attempt > MAX_ATTEMPT || unit > MAX_UNIT || round > MAX_ROUND {
             return None;
         }
         let attempt = attempt as u8;
         let unit = unit as u16;
+        let round = round as u8;
         if word == CLAIM_FREE {
             Some(Claim::Free)
         } else if kind == CLAIM_TAKEN && attempt > 0 {
-            Some(Claim::Taken { attempt, unit })
+            Some(Claim::Taken {
+                attempt,
+                unit,
+                round,
+            })
         } else if kind == CLAIM_KILLED && (attempt > 0 || unit == 0) {
-            Some(Claim::Killed { attempt, unit })
+            Some(Claim::Killed {
+                attempt,
+                unit,
+                round,
+            })
+        } else if kind == CLAIM_AGAIN && attempt == 0 && unit == 0 && round > 0 {
+            Some(Claim::Again { round })
         } else {
             None
         }

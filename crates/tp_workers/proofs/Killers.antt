@@ -30,6 +30,8 @@ one_refusal refusals.NotThere = refl
 one_refusal (refusals.Consumed unit) = refl
 one_refusal refusals.AlreadyKilled = refl
 one_refusal refusals.Full = refl
+one_refusal refusals.NotParked = refl
+one_refusal refusals.NoRound = refl
 
 pub one_kill : (r : Result Killed Refusal) → total (kill_count r) ≡ 1
 one_kill (Ok killed) = refl
@@ -43,6 +45,8 @@ none_killed refusals.NotThere = refl
 none_killed (refusals.Consumed unit) = refl
 none_killed refusals.AlreadyKilled = refl
 none_killed refusals.Full = refl
+none_killed refusals.NotParked = refl
+none_killed refusals.NoRound = refl
 
 module _ (l : Limits) where
   -- aborts are no kills
@@ -109,6 +113,8 @@ module _ (l : Limits) where
   fails_gained id p q (refusals.Consumed unit) h = aborts_gained id p q h.0
   fails_gained id p q refusals.AlreadyKilled h = aborts_gained id p q h.0
   fails_gained id p q refusals.Full h = absurd h
+  fails_gained id p q refusals.NotParked h = absurd h
+  fails_gained id p q refusals.NoRound h = absurd h
 
   kill_gained : (id : ℕ) (p : PassShown) (r : Result Killed Refusal) (q : PassShown) → KillsOnce l id p r q → GainsOnly (IsKillWork l p.number id (id + 1) p.seen q.seen) p q
   kill_gained id p (Ok killed) q h =
@@ -135,6 +141,8 @@ module _ (l : Limits) where
   fails_counted id p q (refusals.Consumed unit) h = only_aborts id p q h.0
   fails_counted id p q refusals.AlreadyKilled h = only_aborts id p q h.0
   fails_counted id p q refusals.Full h = absurd h
+  fails_counted id p q refusals.NotParked h = absurd h
+  fails_counted id p q refusals.NoRound h = absurd h
 
   kill_counted : (id : ℕ) (p : PassShown) (r : Result Killed Refusal) (q : PassShown) → KillsOnce l id p r q → (kill_count r).killed + kills_in p ≡ kills_in q
   kill_counted id p (Ok killed) q h =

@@ -47,6 +47,8 @@ refusal_part refusals.NotThere = refl
 refusal_part (refusals.Consumed unit) = refl
 refusal_part refusals.AlreadyKilled = refl
 refusal_part refusals.Full = refl
+refusal_part refusals.NotParked = refl
+refusal_part refusals.NoRound = refl
 
 kill_part : (r : Result Killed Refusal) → kill_count r ≡ killer_part (kill_count r)
 kill_part (Ok killed) = refl

@@ -57,6 +57,8 @@ refusal_count refusals.NotThere = record none { missing = 1 }
 refusal_count (refusals.Consumed unit) = record none { late = 1 }
 refusal_count refusals.AlreadyKilled = record none { already = 1 }
 refusal_count refusals.Full = record none { missing = 1 }
+refusal_count refusals.NotParked = record none { missing = 1 }
+refusal_count refusals.NoRound = record none { missing = 1 }
 
 -- a kill with this answer
 abbrev pub kill_count : Result Killed Refusal → Shift

@@ -115,6 +115,8 @@ fn lines_of_elements(rt: HostRuntime) -> Result<(), Fail> {
         (Refusal::Consumed { unit: 256 }, "refused 5 Consumed 256\n"),
         (Refusal::AlreadyKilled, "refused 6 AlreadyKilled\n"),
         (Refusal::Full, "refused 7 Full\n"),
+        (Refusal::NotParked, "refused 8 NotParked\n"),
+        (Refusal::NoRound, "refused 9 NoRound\n"),
     ] {
         let text = line(rt.alloc(), Answer::Refused(refusal))?;
         assert_eq!(rt; text.as_str(), want);

@@ -10,6 +10,7 @@ returns c = record {
     commit = search rules;
     abort = search rules;
     kill = search rules;
+    requeue = search rules;
     cancel = search rules;
     read = search rules;
     reply = search rules;

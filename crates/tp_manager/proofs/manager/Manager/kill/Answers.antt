@@ -1,7 +1,7 @@
 use Rattle.std.proofs.Common.{◌≡◌, ◌+◌, ◌≤◌, ◌++◌, sym, ◌∙◌, ap, refl, arith, subst, None}
 use Rattle.tp_model.specs.declared.types.Limits.{Limits}
 use Rattle.tp_model.specs.History.{IsUnborn}
-use Rattle.tp_model.specs.Steps.{rows_of}
+use Rattle.tp_model.specs.Steps.{rows_of, tries}
 use Rattle.tp_model.proofs.Bridges.{found_later}
 use Rattle.tp_rule.specs.Steps.{HasElement}
 use Rattle.tp_rule.specs.Tables.{limits_of}
@@ -63,13 +63,13 @@ returns-in_default-clause-answer c = let at = goal.at.returns-in_default-clause-
     )
 
 pub invariant_of-pass-in-Ok : goal.invariant_of-pass-in-Ok
-invariant_of-pass-in-Ok c = let at = goal.at.invariant_of-pass-in-Ok c in let l : Limits = limits_of c.self.inside.shared.words in let a = l.attempts in
+invariant_of-pass-in-Ok c = let at = goal.at.invariant_of-pass-in-Ok c in let l : Limits = limits_of c.self.inside.shared.words in let a = tries l.attempts in
     let k = kills_after l birth_steps (slay_steps l) (kill_steps l) c.args.id a a (view_of c.pass.inside.seat) (view_of c.birth_from.new.seat) (view_of c.kill_row.new.seat) (looked l birth_steps _ _ (none at.After-birth_from)) refl (omega arith) c.in-Ok.units_aborted c.in-Ok.ensures.told in
     subst (λ t. Rests c.kill_row.new.seat c.pass.inside.number c.pass.inside.drawn c.pass.inside.used t) (sym (no_task at.After-rows))
     (rests_slain l c.pass.inside.seat c.kill_row.new.seat _ _ _ (lim at.After-rows) (rests at.After-rows) _ c.args.id k.0 k.3)
 
 pub invariant_of-pass-in-Err : goal.invariant_of-pass-in-Err
-invariant_of-pass-in-Err c = let at = goal.at.invariant_of-pass-in-Err c in let l : Limits = limits_of c.self.inside.shared.words in let a = l.attempts in
+invariant_of-pass-in-Err c = let at = goal.at.invariant_of-pass-in-Err c in let l : Limits = limits_of c.self.inside.shared.words in let a = tries l.attempts in
     let k = fails_after l birth_steps (slay_steps l) (kill_steps l) c.args.id a a (view_of c.pass.inside.seat) (view_of c.birth_from.new.seat) (view_of c.kill_row.new.seat) (looked l birth_steps _ _ (none at.After-birth_from)) refl (omega arith) c.in-Err.refusal c.in-Err.ensures.told in
     subst (λ t. Rests c.kill_row.new.seat c.pass.inside.number c.pass.inside.drawn c.pass.inside.used t) (sym (no_task at.After-rows))
     (rests_freed l c.pass.inside.seat c.kill_row.new.seat _ _ _ (lim at.After-rows) (rests at.After-rows) _ c.args.id k.0 k.2)
@@ -98,13 +98,13 @@ returns-in-Err-clause-looks c = λ _. let at = goal.at.returns-in-Err-clause-loo
     (walked_then l birth_steps (slay_steps l) n.marks k.marks _ _ _ n.walk k.walk) (has_more n.marks k.marks n.step)
 
 pub returns-in-Ok-clause-answer : goal.returns-in-Ok-clause-answer
-returns-in-Ok-clause-answer c = let at = goal.at.returns-in-Ok-clause-answer c in let l : Limits = limits_of c.self.inside.shared.words in let a = l.attempts in
+returns-in-Ok-clause-answer c = let at = goal.at.returns-in-Ok-clause-answer c in let l : Limits = limits_of c.self.inside.shared.words in let a = tries l.attempts in
     let k = kills_after l birth_steps (slay_steps l) (kill_steps l) c.args.id a a (view_of c.pass.inside.seat) (view_of c.birth_from.new.seat) (view_of c.kill_row.new.seat) (looked l birth_steps _ _ (none at.After-birth_from)) refl (omega arith) c.in-Ok.units_aborted c.in-Ok.ensures.told in
     subst (λ (z : Limits). Kills z c.args.id c.in-Ok.units_aborted c.args.pass.now (shown c.kill_row.new.seat.table (view_of c.kill_row.new.seat))) (limits at.After-rows)
     (kills_shown c.pass.inside.seat.table c.kill_row.new.seat.table (view_of c.pass.inside.seat) (view_of c.kill_row.new.seat) c.args.pass.now c.pass.view_is l (free at.After-rows) _ c.args.id c.in-Ok.units_aborted k)
 
 pub returns-in-Err-clause-answer : goal.returns-in-Err-clause-answer
-returns-in-Err-clause-answer c = let at = goal.at.returns-in-Err-clause-answer c in let l : Limits = limits_of c.self.inside.shared.words in let a = l.attempts in
+returns-in-Err-clause-answer c = let at = goal.at.returns-in-Err-clause-answer c in let l : Limits = limits_of c.self.inside.shared.words in let a = tries l.attempts in
     let k = fails_after l birth_steps (slay_steps l) (kill_steps l) c.args.id a a (view_of c.pass.inside.seat) (view_of c.birth_from.new.seat) (view_of c.kill_row.new.seat) (looked l birth_steps _ _ (none at.After-birth_from)) refl (omega arith) c.in-Err.refusal c.in-Err.ensures.told in
     let told = c.in-Err.ensures.told in let there = c.in-Some.ensures.told.0 in let later = walked_begins l _ _ _ _ told.2.gained.walk in let born : HasElement (seen_by c.kill_row.new.seat) c.args.id = (there.0, found_later _ _ later c.args.id there.0 there.1) in
     subst (λ (z : Limits). KillFails z c.args.id c.args.pass.now (shown c.kill_row.new.seat.table (view_of c.kill_row.new.seat)) c.in-Err.refusal) (limits at.After-rows)

@@ -2,7 +2,7 @@ use Rattle.std.proofs.Common.{◌≡◌, ◌≢◌, ◌+◌, ◌-◌, ◌<◌, �
 use Rattle.tp_model.specs.declared.types.Limits.{Limits}
 use Rattle.tp_model.specs.declared.trace.StepKind.TheVariants as kinds
 use Rattle.tp_model.specs.Words.{TakenWord, claim_word}
-use Rattle.tp_model.proofs.Bridges.{status_free, status_killed}
+use Rattle.tp_model.proofs.Bridges.{status_again, status_free, status_killed}
 use Rattle.tp_model.proofs.Later.{unit_inside}
 use Rattle.tp_words.specs.Words.{claim_value, unit_value}
 use Rattle.tp_rule.specs.Tables.{limits_of}
@@ -12,18 +12,19 @@ use Rattle.tp_manager.specs.Bounds.{retry_steps}
 use Rattle.tp_manager.specs.Looks.{IsEnough}
 use Rattle.tp_manager.specs.Walks.{Looked}
 use Rattle.tp_manager.proofs.Walks.{acted_by, looked, looked_none, looked_few, looked_then, looked_begins}
-use Rattle.tp_manager.proofs.Looks.{claim_is, held_yet, held_still, consumed_now, consumed_still, returned, enough_next, enough_some}
+use Rattle.tp_manager.proofs.Looks.{claim_is, held_yet, held_still, consumed_now, consumed_still, returned}
+use Rattle.tp_manager.proofs.Tries.{enough_next, enough_some}
 use Rattle.tp_manager.proofs.manager.Shared.+status.Goals as goal
 use Rattle.tp_manager.proofs.manager.Shared.+status.Goals.{status_from-In-Taken, status_from-After-load_unit, status_from-After-load_claim-again}
 
-taken : (t : ℕ) (c : status_from-In-Taken t) → claim_word (seen_by c.args.seat.now) c.args.row ≡ TakenWord c.in-Taken.attempt c.in-Taken.unit
+taken : (t : ℕ) (c : status_from-In-Taken t) → claim_word (seen_by c.args.seat.now) c.args.row ≡ TakenWord c.in-Taken.attempt c.in-Taken.unit c.in-Taken.round
 taken t c = sym c.requires.found.0 ∙ ap claim_value c.in-Taken.is
 
-less : (t : ℕ) (c : status_from-In-Taken t) → (limits_of c.args.self.now.words).attempts < c.in-Taken.attempt + c.args.left
-less t c = subst (λ w. IsEnough (limits_of c.args.self.now.words) c.args.left (claim_value w)) c.in-Taken.is c.requires.enough
+enough : (t : ℕ) (c : status_from-In-Taken t) → IsEnough (limits_of c.args.self.now.words) c.args.left (TakenWord c.in-Taken.attempt c.in-Taken.unit c.in-Taken.round)
+enough t c = subst (λ w. IsEnough (limits_of c.args.self.now.words) c.args.left (claim_value w)) c.in-Taken.is c.requires.enough
 
 some : (t : ℕ) (c : status_from-In-Taken t) → 1 ≤ c.args.left
-some t c = enough_some (limits_of c.args.self.now.words) c.args.self.now.words.places.valid (seen_by c.args.seat.now) c.args.row c.in-Taken.attempt c.in-Taken.unit c.args.left c.requires.steady.shows.legal (taken t c) (less t c)
+some t c = enough_some (limits_of c.args.self.now.words) c.args.self.now.words.places.valid (seen_by c.args.seat.now) c.args.row c.args.left (TakenWord c.in-Taken.attempt c.in-Taken.unit c.in-Taken.round) c.requires.steady.shows.legal (taken t c) (enough t c)
 
 one : (t : ℕ) (c : status_from-After-load_unit t) → Looked (limits_of c.args.self.now.words) 1 (view_of c.args.seat.now) (view_of c.load_unit.new.seat)
 one t c = looked _ 1 _ _ (acted_by _ kinds.Load _ _ c.requires.steady refl c.load_unit.ensures.grew)
@@ -40,7 +41,7 @@ status_from-overflow_sub-left t c = some t (goal.at.status_from-overflow_sub-lef
 pub status_from-status_again-requires : goal.status_from-status_again-requires
 status_from-status_again-requires t c = let at = goal.at.status_from-status_again-requires t c in let i = at.In-Taken in let s = some t i in let b = two t at.After-load_claim-again (one t at.After-load_unit) in let again = c.load_claim-again.ensures in
     let differs : c.load_claim-again.result ≢ c.args.claim = search rules in
-    let not : claim_word (seen_by c.load_claim-again.new.seat) c.args.row ≢ TakenWord c.in-Taken.attempt c.in-Taken.unit = λ same. differs (claim_is c.load_claim-again.result c.in-Taken.attempt c.in-Taken.unit (again.claim ∙ same) ∙ sym c.in-Taken.is) in (
+    let not : claim_word (seen_by c.load_claim-again.new.seat) c.args.row ≢ TakenWord c.in-Taken.attempt c.in-Taken.unit c.in-Taken.round = λ same. differs (claim_is c.load_claim-again.result c.in-Taken.attempt c.in-Taken.unit c.in-Taken.round (again.claim ∙ same) ∙ sym c.in-Taken.is) in (
       search rules,
       (
         search rules,
@@ -51,7 +52,7 @@ status_from-status_again-requires t c = let at = goal.at.status_from-status_agai
             (
               (again.claim, again.fits),
               subst (IsEnough (limits_of c.args.self.now.words) (c.args.left - 1)) (sym again.claim)
-                  (enough_next (limits_of c.args.self.now.words) (seen_by c.args.seat.now) (seen_by c.load_claim-again.new.seat) b.walk.steady.shows.legal (looked_begins _ 2 _ _ b) c.args.row c.in-Taken.attempt c.in-Taken.unit c.args.left (taken t i) not (less t i)),
+                  (enough_next (limits_of c.args.self.now.words) c.args.self.now.words.places.valid (seen_by c.args.seat.now) (seen_by c.load_claim-again.new.seat) c.requires.steady.shows.legal b.walk.steady.shows.legal (looked_begins _ 2 _ _ b) c.args.row c.args.left (TakenWord c.in-Taken.attempt c.in-Taken.unit c.in-Taken.round) (taken t i) (λ n u r z. cc) not (enough t i)),
             ),
           ),
         ),
@@ -67,6 +68,12 @@ status_from-returns-in-Free-clause-status t c = sym (status_free (limits_of c.ar
 
 pub status_from-returns-in-Killed-clause-status : goal.status_from-returns-in-Killed-clause-status
 status_from-returns-in-Killed-clause-status t c = sym (status_killed (limits_of c.args.self.now.words) _ c.args.row _ _ c.requires.steady.shows.legal (sym c.requires.found.0 ∙ ap claim_value c.in-Killed.is))
+
+pub status_from-returns-in-Again-clause-status : goal.status_from-returns-in-Again-clause-status
+status_from-returns-in-Again-clause-status t c = sym (status_again (limits_of c.args.self.now.words) _ c.args.row c.in-Again.round c.requires.steady.shows.legal (sym c.requires.found.0 ∙ ap claim_value c.in-Again.is))
+
+pub status_from-returns-in-Again-clause-looked : goal.status_from-returns-in-Again-clause-looked
+status_from-returns-in-Again-clause-looked t c = looked_few _ 0 (retry_steps c.args.left) _ _ (omega arith) (looked_none _ _ c.requires.steady)
 
 pub status_from-returns-in-Free-clause-looked : goal.status_from-returns-in-Free-clause-looked
 status_from-returns-in-Free-clause-looked t c = looked_few _ 0 (retry_steps c.args.left) _ _ (omega arith) (looked_none _ _ c.requires.steady)

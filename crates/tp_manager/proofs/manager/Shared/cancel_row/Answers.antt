@@ -1,5 +1,6 @@
 use Rattle.std.proofs.Common.{◌≡◌, ◌<◌, ℕ, sym, ◌∙◌, arith}
 use Rattle.tp_model.specs.declared.types.Limits.{Limits}
+use Rattle.tp_model.specs.Steps.{tries}
 use Rattle.tp_model.specs.History.{IsUnborn}
 use Rattle.tp_rule.specs.Tables.{limits_of}
 use Rattle.tp_rule.specs.Views.{seen_by, view_of}
@@ -39,12 +40,12 @@ returns-then-birth-eq15-clause-told c = let l : Limits = limits_of c.args.self.n
 
 pub returns-in-Ok-clause-told : goal.returns-in-Ok-clause-told
 returns-in-Ok-clause-told c = let l : Limits = limits_of c.args.self.now.words in let at = goal.at.returns-in-Ok-clause-told c in
-    row_killed l c.args.root birth_steps (slay_steps l) (kill_steps l) c.args.row.now l.attempts (view_of c.args.seat.now) (view_of c.birth_from.new.seat) (view_of c.kill_row.new.seat) c.in-Some.birth
+    row_killed l c.args.root birth_steps (slay_steps l) (kill_steps l) c.args.row.now (tries l.attempts) (view_of c.args.seat.now) (view_of c.birth_from.new.seat) (view_of c.kill_row.new.seat) c.in-Some.birth
     (born at.After-birth_from) c.in-Some.ensures.told.0 (same at.In-Some) c.if-birth-eq15.false (omega arith) c.in-Ok.field-0 c.in-Ok.ensures.told
 
 pub returns-in-Err-clause-told : goal.returns-in-Err-clause-told
 returns-in-Err-clause-told c = let l : Limits = limits_of c.args.self.now.words in let at = goal.at.returns-in-Err-clause-told c in
-    row_past l c.args.root birth_steps (slay_steps l) (kill_steps l) c.args.row.now l.attempts (view_of c.args.seat.now) (view_of c.birth_from.new.seat) (view_of c.kill_row.new.seat) c.in-Some.birth
+    row_past l c.args.root birth_steps (slay_steps l) (kill_steps l) c.args.row.now (tries l.attempts) (view_of c.args.seat.now) (view_of c.birth_from.new.seat) (view_of c.kill_row.new.seat) c.in-Some.birth
     (born at.After-birth_from) c.in-Some.ensures.told.0 (same at.In-Some) c.if-birth-eq15.false (omega arith) c.in-Err.field-0 c.in-Err.ensures.told
 
 pub returns-then-not-is_of_family-clause-none : goal.returns-then-not-is_of_family-clause-none
