@@ -1,13 +1,13 @@
--- What clients and cancellers of a race did, by the passes of the race.
+-- What clients and killers of a race did, by the passes of the race.
 use Rattle.std.proofs.Common.{◌≡◌, ℕ, List, ◌++◌, sym, ◌∙◌, ap, subst, length, take, drop, replicate}
 use Rattle.std.proofs.Math.Seq.{drop-append_seam, take-append_seam}
 use Rattle.tp_manager.specs.Shown.{ManagerShown, PassShown}
 use Rattle.tp_workers.specs.declared.client.ClientJob.{ClientJob}
 use Rattle.tp_workers.specs.declared.killer.KillJob.{KillJob}
-use Rattle.tp_perform.specs.declared.racing.RacePlan.{RacePlan}
+use Rattle.tp_script.specs.declared.script.Race.{Race}
 use Rattle.tp_perform.specs.Together.{RacersRan, client_job, kill_job}
 
-pub races_ran : (m : ManagerShown) (rows submitted : ℕ) (plan : RacePlan) (racers cs ks cs' ks' : List PassShown) (submits : List ClientJob) (kills : List KillJob) (job : ClientJob) (kill : KillJob)
+pub races_ran : (m : ManagerShown) (rows submitted : ℕ) (plan : Race) (racers cs ks cs' ks' : List PassShown) (submits : List ClientJob) (kills : List KillJob) (job : ClientJob) (kill : KillJob)
     → cs ≡ take plan.clients racers → ks ≡ drop plan.clients racers → length cs' ≡ plan.clients
     → submits ≡ replicate (length cs) job → job ≡ client_job plan → kills ≡ replicate (length ks) kill → kill ≡ kill_job rows plan cs
     → RacersRan m submits kills cs ks submitted cs' ks'

@@ -4,6 +4,7 @@ use Rattle.std.specs.Prelude.{string_bytes}
 use Rattle.std.specs.declared.alloc.Global.{Global}
 use Rattle.std.specs.declared.dyn_box.DynBox.{DynBox}
 use Rattle.std.proofs.lemmas.Result.{IfOk-weaker}
+use Rattle.tp_model.specs.declared.types.Limits.{Limits}
 use Rattle.tp_server.specs.declared.recipe.Recipe.{Recipe}
 use Rattle.tp_server.specs.Pending.{Pending}
 use Rattle.tp_manager.specs.Shown.{ManagerShown, PassShown}
@@ -12,13 +13,15 @@ use Rattle.tp_report.specs.declared.answer.Answer.{Answer}
 use Rattle.tp_report.specs.declared.answer.ServerAnswer.{ServerAnswer}
 use Rattle.tp_script.specs.Script.{server_view}
 use Rattle.tp_script.specs.declared.script.ScriptServer.{ScriptServer}
-use Rattle.tp_perform.specs.declared.desks.Act.{Act}
+use Rattle.tp_script.specs.declared.script.ClientAct.{ClientAct}
+use Rattle.tp_script.specs.declared.script.DeskAct.{DeskAct}
 use Rattle.tp_perform.specs.declared.place.Place.{Place}
+use Rattle.tp_perform.specs.Asked.{AnswerLine, FoundLine, TellsClient}
 use Rattle.tp_perform.specs.Acting.{DoesIn, place_shown, places_shown}
 use Rattle.tp_perform.specs.Performing.{TellsBalance}
 use Rattle.tp_perform.specs.Places.{AllLie}
 use Rattle.tp_perform.proofs.Shows.{shown_at}
-use Rattle.tp_perform.specs.Told.{BalanceLine, ClientLine, FoundLine, OnlyClient, OnlyPlaces, Scene, ServerLine}
+use Rattle.tp_perform.specs.Told.{BalanceLine, ClientLine, OnlyClient, OnlyPlaces, Scene, ServerLine}
 
 -- a server that is named
 pub named : (servers : List ScriptServer) (at : ℕ) (P : ScriptServer → Type 0) → IfSome (slice_get servers at) P → at < length servers → (s : ScriptServer) × (slice_get (map server_view servers) at ≡ Some (server_view s)) × P s
@@ -31,20 +34,24 @@ named_is [] at it within is = absurd (omega (arith, within))
 named_is (s ∷ servers) zero it within is = ap (λ x. Some (server_view x)) (sym is)
 named_is (s ∷ servers) (suc at) it within is = named_is servers at it (omega (arith, within)) is
 
+-- what the client did
+module _ {T E : Type 0} (r : Result T E) (bytes : T → List ℕ) (old new : PassShown) where
+  pub answer_told : (Tells : PassShown → PassShown → Answer → Type 0) (a : Answer) → Tells old new a → IfOk r (λ s. bytes s ≡ line (answer_text a)) → IfOk r (λ s. AnswerLine Tells old (bytes s) new)
+  answer_told Tells a tells text = IfOk-weaker r _ _ (λ s is. record { answer = a; tells = tells; text_is = is }) text
+
+  pub found_told : {A : Type 0} (Tells : PassShown → A → PassShown → Type 0) (told : A → List ℕ) → IfOk r (λ s. (found : A) × Tells old found new × (bytes s ≡ line (told found)))
+      → IfOk r (λ s. FoundLine Tells told old (bytes s) new)
+  found_told Tells told text = IfOk-weaker r _ _ (λ s is. record { found = is.0; tells = is.1; text_is = is.2 }) text
+
+  pub value_told : {A : Type 0} (Tells : PassShown → A → PassShown → Type 0) (told : A → List ℕ) (found : A) → Tells old found new → IfOk r (λ s. bytes s ≡ line (told found)) → IfOk r (λ s. FoundLine Tells told old (bytes s) new)
+  value_told Tells told found tells text = IfOk-weaker r _ _ (λ s is. record { found = found; tells = tells; text_is = is }) text
+
+-- what all that there is has come to
 module _ {T E : Type 0} (r : Result T E) (bytes : T → List ℕ) (old new : Scene) where
-  pub client_told : (Tells : PassShown → PassShown → Answer → Type 0) (a : Answer) → OnlyClient old new → Tells old.client new.client a
-      → IfOk r (λ s. bytes s ≡ line (answer_text a)) → IfOk r (λ s. ClientLine Tells old (bytes s) new)
-  client_told Tells a others tells text = IfOk-weaker r _ _ (λ s is. record { answer = a; tells = tells; text_is = is; others = others }) text
+  pub client_told : (l : Limits) (act : ClientAct) → OnlyClient old new → IfOk r (λ s. TellsClient l act old.client (bytes s) new.client) → IfOk r (λ s. ClientLine l act old (bytes s) new)
+  client_told l act others told = IfOk-weaker r _ _ (λ s is. record { tells = is; others = others }) told
 
-  pub found_told : {A : Type 0} (Tells : PassShown → A → PassShown → Type 0) (told : A → List ℕ) → OnlyClient old new
-      → IfOk r (λ s. (found : A) × Tells old.client found new.client × (bytes s ≡ line (told found))) → IfOk r (λ s. FoundLine Tells told old (bytes s) new)
-  found_told Tells told others text = IfOk-weaker r _ _ (λ s is. record { found = is.0; tells = is.1; text_is = is.2; others = others }) text
-
-  pub value_told : {A : Type 0} (Tells : PassShown → A → PassShown → Type 0) (told : A → List ℕ) (found : A) → OnlyClient old new → Tells old.client found new.client
-      → IfOk r (λ s. bytes s ≡ line (told found)) → IfOk r (λ s. FoundLine Tells told old (bytes s) new)
-  value_told Tells told found others tells text = IfOk-weaker r _ _ (λ s is. record { found = found; tells = tells; text_is = is; others = others }) text
-
-  pub server_told : (m : ManagerShown) (servers : List ScriptServer) (act : Act) (at : ℕ) → OnlyPlaces old new → at < length servers
+  pub server_told : (m : ManagerShown) (servers : List ScriptServer) (act : DeskAct) (at : ℕ) → OnlyPlaces old new → at < length servers
       → IfOk r (λ s. (answer : ServerAnswer) × DoesIn m.limits act at old.places answer new.places × IfSome (slice_get servers at) (λ it. bytes s ≡ line (named_text (string_bytes it.name) answer)))
       → IfOk r (λ s. ServerLine m (map server_view servers) act at old (bytes s) new)
   server_told m servers act at others within text = IfOk-weaker r _ _ (λ s is.

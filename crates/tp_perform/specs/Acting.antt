@@ -27,8 +27,8 @@ use Rattle.tp_report.specs.declared.answer.ServerAnswer.{ServerAnswer}
 use Rattle.tp_report.specs.declared.answer.ServerAnswer.TheVariants as told
 use Rattle.tp_workers.specs.Desks.{TakesTurn}
 use Rattle.tp_workers.specs.Desks as workers
-use Rattle.tp_perform.specs.declared.desks.Act.{Act}
-use Rattle.tp_perform.specs.declared.desks.Act.TheVariants as acts
+use Rattle.tp_script.specs.declared.script.DeskAct.{DeskAct}
+use Rattle.tp_script.specs.declared.script.DeskAct.TheVariants as acts
 use Rattle.tp_perform.specs.declared.place.Place.{Place}
 
 -- ---- what is shown
@@ -203,7 +203,7 @@ TellsDrop old told.Dropped new = DropsAt old new
 TellsDrop old other new = ⊥
 
 -- what a desk was asked
-abbrev pub Does : Limits → Act → DeskShown → ServerAnswer → DeskShown → Type 0
+abbrev pub Does : Limits → DeskAct → DeskShown → ServerAnswer → DeskShown → Type 0
 Does l acts.Turn old a new = TellsTurn l old a new
 Does l acts.Claim old a new = TellsClaim l old a new
 Does l acts.Prepare old a new = TellsPrepare old a new
@@ -212,21 +212,21 @@ Does l acts.Abort old a new = TellsAbort old a new
 Does l acts.Drop old a new = TellsDrop old a new
 
 -- whether it is dropped by that
-abbrev pub is_drop : Act → Bool
+abbrev pub is_drop : DeskAct → Bool
 is_drop acts.Drop = true
 is_drop other = false
 
 -- it did so, unless it was dropped before
-abbrev pub DoesUnless : Bool → Limits → Act → PlaceShown → ServerAnswer → PlaceShown → Type 0
+abbrev pub DoesUnless : Bool → Limits → DeskAct → PlaceShown → ServerAnswer → PlaceShown → Type 0
 DoesUnless true l act old a new = (a ≡ told.Ended) × (new ≡ old)
 DoesUnless false l act old a new =
     Does l act old.desk a new.desk × (new.began ≡ old.began) × (new.is_dropped ≡ is_drop act)
 
-abbrev pub DoesAt : Limits → Act → PlaceShown → ServerAnswer → PlaceShown → Type 0
+abbrev pub DoesAt : Limits → DeskAct → PlaceShown → ServerAnswer → PlaceShown → Type 0
 DoesAt l act old a new = DoesUnless old.is_dropped l act old a new
 
 -- the desk at one of the places did so, and the others are as they were
-pub record DoesIn (l : Limits) (act : Act) (at : ℕ)
+pub record DoesIn (l : Limits) (act : DeskAct) (at : ℕ)
     (olds : List PlaceShown) (a : ServerAnswer) (news : List PlaceShown) : Type 0 where
   pub old : PlaceShown
   pub there : slice_get olds at ≡ Some old

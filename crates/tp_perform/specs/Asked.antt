@@ -1,21 +1,25 @@
 -- What the script's own client is answered, and what its pass did for it. `old` is what the pass shows before
 -- the command, and `new` what it shows after it.
-use Rattle.std.specs.Prelude.{◌≡◌, ◌⊎◌, ℕ, zero, suc, ◌+◌, ◌≤◌, List, [], ◌∷◌}
+use Rattle.std.specs.Prelude.{◌≡◌, ◌⊎◌, ℕ, zero, suc, ◌+◌, ◌≤◌, ◌==◌, Bool, ◌&&◌, if◌then◌else◌, List, [], ◌∷◌, ◌++◌, Option, Some, None}
 use Rattle.tp_model.specs.declared.types.Counts.{Counts}
 use Rattle.tp_model.specs.declared.types.Element.{Element}
 use Rattle.tp_model.specs.declared.types.Limits.{Limits}
 use Rattle.tp_model.specs.declared.types.Look.{Look}
 use Rattle.tp_model.specs.declared.types.Refusal.TheVariants as refusals
 use Rattle.tp_model.specs.Accounts.{one_more}
+use Rattle.tp_model.specs.Counts.{is_waiting}
 use Rattle.tp_model.specs.History.{IsUnborn}
 use Rattle.tp_model.specs.Steps.{rows_of}
-use Rattle.tp_manager.specs.Bounds.{kill_steps, cancel_steps, next_error_steps, read_steps, reply_steps, submit_steps}
+use Rattle.tp_manager.specs.Bounds.{kill_steps, cancel_steps, next_error_steps, read_steps, submit_steps}
 use Rattle.tp_manager.specs.Calls.{AtPoint, Follows, IsQuiet, KillFails, Kills, Reads, SubmitRefused, Submits}
 use Rattle.tp_manager.specs.Cancels.{CancelFails, Cancels}
-use Rattle.tp_manager.specs.Lists.{AllKilled, NextError, NextReply, NoneParked}
+use Rattle.tp_manager.specs.Lists.{NextError, NoneParked}
 use Rattle.tp_manager.specs.Shown.{PassShown}
 use Rattle.tp_report.specs.declared.answer.Answer.{Answer}
 use Rattle.tp_report.specs.declared.answer.Answer.TheVariants as answer
+use Rattle.tp_report.specs.Answer.{answer_text, counts_text, errors_text, line, replies_text}
+use Rattle.tp_script.specs.declared.script.ClientAct.{ClientAct}
+use Rattle.tp_script.specs.declared.script.ClientAct.TheVariants as acts
 
 -- ---- one call
 
@@ -57,27 +61,26 @@ TellsRead l id old new a = Follows (read_steps l) old new × IsQuiet old new × 
 
 -- ---- several calls, one after another
 
--- the next reply from this id on was found, and then read
-pub record FindsReply (l : Limits) (root from : ℕ) (reply : Element) (old new : PassShown) : Type 0 where
-  pub between : PassShown
-  pub follows : Follows (reply_steps l) old between
-  pub quiet : IsQuiet old between
-  pub next : NextReply l root from reply.id old between
-  pub look : Look
-  pub shows : look.element ≡ reply
-  pub read : TellsRead l reply.id between new (answer.Read look)
+-- whether a look shows a reply to this request that waits
+abbrev pub is_reply : ℕ → Look → Bool
+is_reply root look = (look.element.stage == 15) && (look.element.root == root) && is_waiting look.status
 
--- a listing from this id on found none, or no id is left
-abbrev pub FindsNoReply : Limits → ℕ → ℕ → PassShown → PassShown → Type 0
-FindsNoReply l root from old new =
-    (Follows (reply_steps l) old new × IsQuiet old new × AllKilled l root (λ i. from ≤ i) old new)
-    ⊎ ((rows_of l ≤ from) × (new ≡ old))
+-- the element that a read answered, where it is such a reply
+abbrev pub reply_in : ℕ → Answer → Option Element
+reply_in root (answer.Read look) = if is_reply root look then Some look.element else None
+reply_in root other = None
 
--- the replies from this id on, one found behind the other
+-- what was found, and one more where there is one
+abbrev pub with_one : List Element → Option Element → List Element
+with_one found (Some e) = found ++ e ∷ []
+with_one found None = found
+
+-- the ids below this one were read, one after another, and these are the replies to the request among them
 abbrev pub TellsReplies : Limits → ℕ → ℕ → PassShown → List Element → PassShown → Type 0
-TellsReplies l root from old [] new = FindsNoReply l root from old new
-TellsReplies l root from old (reply ∷ rest) new = (between : PassShown)
-    × FindsReply l root from reply old between × TellsReplies l root (reply.id + 1) between rest new
+TellsReplies l root zero old found new = (found ≡ []) × (new ≡ old)
+TellsReplies l root (suc id) old found new = (before : List Element) × (between : PassShown) × (a : Answer)
+    × TellsReplies l root id old before between × TellsRead l id between new a
+    × (found ≡ with_one before (reply_in root a))
 
 -- the next parked element from this id on was found
 pub record FindsError (l : Limits) (from id : ℕ) (old new : PassShown) : Type 0 where
@@ -108,3 +111,29 @@ TellsCount l zero old c new =
     (c ≡ record { waiting = 0; held = 0; consumed = 0; parked = 0; killed = 0 }) × (new ≡ old)
 TellsCount l (suc id) old c new = (before : Counts) × (between : PassShown) × (a : Answer)
     × TellsCount l id old before between × TellsRead l id between new a × (c ≡ with_read a before)
+
+-- ---- the client's line
+
+-- the line tells the answer of such a call
+pub record AnswerLine (Tells : PassShown → PassShown → Answer → Type 0)
+    (old : PassShown) (text : List ℕ) (new : PassShown) : Type 0 where
+  pub answer : Answer
+  pub tells : Tells old new answer
+  pub text_is : text ≡ line (answer_text answer)
+
+-- the line tells what such calls found
+pub record FoundLine {A : Type 0} (Tells : PassShown → A → PassShown → Type 0) (told : A → List ℕ)
+    (old : PassShown) (text : List ℕ) (new : PassShown) : Type 0 where
+  pub found : A
+  pub tells : Tells old found new
+  pub text_is : text ≡ line (told found)
+
+-- the line of what the client is to do
+abbrev pub TellsClient : Limits → ClientAct → PassShown → List ℕ → PassShown → Type 0
+TellsClient l (acts.Submit stage key amount) = AnswerLine (TellsSubmit stage key amount)
+TellsClient l (acts.Kill id) = AnswerLine (TellsKill l id)
+TellsClient l (acts.Cancel root) = AnswerLine (TellsCancel l root)
+TellsClient l (acts.Read id) = AnswerLine (TellsRead l id)
+TellsClient l (acts.Reply root) = FoundLine (TellsReplies l root (rows_of l)) (replies_text root)
+TellsClient l acts.Errors = FoundLine (TellsErrors l 0) errors_text
+TellsClient l acts.Count = FoundLine (TellsCount l (rows_of l)) counts_text

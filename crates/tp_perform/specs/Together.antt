@@ -13,7 +13,7 @@ use Rattle.tp_workers.specs.Desks as workers
 use Rattle.tp_workers.specs.Killers.{KillerRan}
 use Rattle.tp_workers.specs.Ran.{RanEach}
 use Rattle.tp_perform.specs.declared.place.Place.{Place}
-use Rattle.tp_perform.specs.declared.racing.RacePlan.{RacePlan}
+use Rattle.tp_script.specs.declared.script.Race.{Race}
 use Rattle.tp_perform.specs.Acting.{PlaceShown, place_of}
 
 -- ---- desks
@@ -55,10 +55,10 @@ AllTakePart Did olds news = AllZip (λ old new. TakesPart (is_free old) Did old 
 abbrev pub TookTurns : Limits → ℕ → workers.Place → workers.Place → Type 0
 TookTurns l turns old new = (counts : Shift) × TakesTurns l turns old counts new
 
--- ---- clients and cancellers
+-- ---- clients and killers
 
 -- what each client of a race is to do
-abbrev pub client_job : RacePlan → ClientJob
+abbrev pub client_job : Race → ClientJob
 client_job plan = record { stage = plan.stage; key = plan.key; amount = plan.amount; count = plan.submits }
 
 -- the number of the first of these passes
@@ -66,29 +66,29 @@ abbrev pub first_number : List PassShown → ℕ
 first_number [] = 0
 first_number (p ∷ ps) = p.number
 
--- each canceller is to kill the elements of all rows of these clients
-abbrev pub kill_job : ℕ → RacePlan → List PassShown → KillJob
+-- each killer is to kill the elements of all rows of these clients
+abbrev pub kill_job : ℕ → Race → List PassShown → KillJob
 kill_job rows plan clients =
     let first = first_number clients * rows in
     record { first = first; end = first + plan.clients * rows }
 
--- clients of the first passes and cancellers of the others did their jobs, and so many submits were accepted
+-- clients of the first passes and killers of the others did their jobs, and so many submits were accepted
 pub record RacersRan (m : ManagerShown) (submits : List ClientJob) (kills : List KillJob)
-    (clients cancellers : List PassShown) (submitted : ℕ) (clients' cancellers' : List PassShown)
+    (clients killers : List PassShown) (submitted : ℕ) (clients' killers' : List PassShown)
     : Type 0 where
   pub client_counts : Shift
   pub killer_counts : Shift
   pub clients_ran : RanEach (ClientRan m) clients submits client_counts clients' submits
-  pub cancellers_ran : RanEach (KillerRan m) cancellers kills killer_counts cancellers' kills
+  pub killers_ran : RanEach (KillerRan m) killers kills killer_counts killers' kills
   pub accepted : submitted ≡ client_counts.submitted
 
--- a race by the first passes as clients and the others as cancellers
-pub record Races (m : ManagerShown) (rows : ℕ) (plan : RacePlan)
+-- a race by the first passes as clients and the others as killers
+pub record Races (m : ManagerShown) (rows : ℕ) (plan : Race)
     (racers : List PassShown) (submitted : ℕ) (racers' : List PassShown) (olds news : List PlaceShown) : Type 0 where
   pub desks : AllTakePart (TookTurns m.limits plan.turns) olds news
   pub ran :
       let clients = take plan.clients racers in
-      let cancellers = drop plan.clients racers in
+      let killers = drop plan.clients racers in
       RacersRan m (replicate (length clients) (client_job plan))
-      (replicate (length cancellers) (kill_job rows plan clients))
-      clients cancellers submitted (take plan.clients racers') (drop plan.clients racers')
+      (replicate (length killers) (kill_job rows plan clients))
+      clients killers submitted (take plan.clients racers') (drop plan.clients racers')

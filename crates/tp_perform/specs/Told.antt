@@ -3,27 +3,26 @@ use Rattle.std.specs.Prelude.{◌≡◌, ◌≤◌, ℕ, zero, suc, Bool, true, 
 use Rattle.std.specs.Io.KnownBytes.{Appends}
 use Rattle.std.specs.declared.alloc.Global.{Global}
 use Rattle.std.specs.declared.dyn_box.DynBox.{DynBox}
-use Rattle.tp_model.specs.Steps.{rows_of}
+use Rattle.tp_model.specs.declared.types.Limits.{Limits}
 use Rattle.tp_server.specs.declared.recipe.Recipe.{Recipe}
 use Rattle.tp_server.specs.Pending.{Pending}
 use Rattle.tp_manager.specs.Shown.{ManagerShown, PassShown}
 use Rattle.tp_desk.specs.Turns.{EndsOpen}
 use Rattle.tp_workers.specs.Drained.{EndsIdle}
-use Rattle.tp_report.specs.Answer.{answer_text, counts_text, errors_text, line, named_text, replies_text}
+use Rattle.tp_report.specs.Answer.{answer_text, line, named_text}
 use Rattle.tp_report.specs.Written.{AppendsFront}
-use Rattle.tp_report.specs.declared.answer.Answer.{Answer}
 use Rattle.tp_report.specs.declared.answer.Answer.TheVariants as answer
 use Rattle.tp_report.specs.declared.answer.ServerAnswer.{ServerAnswer}
 use Rattle.tp_script.specs.Passes.{racers, racing}
 use Rattle.tp_script.specs.Script.{ScriptView, ServerView}
+use Rattle.tp_script.specs.declared.script.ClientAct.{ClientAct}
 use Rattle.tp_script.specs.declared.script.Command.{Command}
 use Rattle.tp_script.specs.declared.script.Command.TheVariants as command
 use Rattle.tp_perform.specs.declared.place.Place.{Place}
-use Rattle.tp_perform.specs.declared.desks.Act.{Act}
-use Rattle.tp_perform.specs.declared.desks.Act.TheVariants as acts
+use Rattle.tp_script.specs.declared.script.DeskAct.{DeskAct}
 use Rattle.tp_perform.specs.Acting.{DoesIn, IsSteadyPlace, PlaceShown, new_places, places_shown}
-use Rattle.tp_perform.specs.Asked.{TellsCancel, TellsCount, TellsErrors, TellsKill, TellsRead, TellsReplies, TellsSubmit}
-use Rattle.tp_perform.specs.declared.racing.RacePlan.{RacePlan}
+use Rattle.tp_perform.specs.Asked.{TellsClient}
+use Rattle.tp_script.specs.declared.script.Race.{Race}
 use Rattle.tp_perform.specs.Performing.{TellsBalance}
 use Rattle.tp_perform.specs.Places.{workers}
 use Rattle.tp_perform.specs.Together.{AllTakePart, Races}
@@ -54,24 +53,13 @@ pub record OnlyPlaces (old new : Scene) : Type 0 where
   pub client : new.client ≡ old.client
   pub racers : new.racers ≡ old.racers
 
--- the line tells the answer of such a call of the client
-pub record ClientLine (Tells : PassShown → PassShown → Answer → Type 0)
-    (old : Scene) (text : List ℕ) (new : Scene) : Type 0 where
-  pub answer : Answer
-  pub tells : Tells old.client new.client answer
-  pub text_is : text ≡ line (answer_text answer)
-  pub others : OnlyClient old new
-
--- the line tells what such calls of the client found
-pub record FoundLine {A : Type 0} (Tells : PassShown → A → PassShown → Type 0) (told : A → List ℕ)
-    (old : Scene) (text : List ℕ) (new : Scene) : Type 0 where
-  pub found : A
-  pub tells : Tells old.client found new.client
-  pub text_is : text ≡ line (told found)
+-- the line tells what the client did
+pub record ClientLine (l : Limits) (act : ClientAct) (old : Scene) (text : List ℕ) (new : Scene) : Type 0 where
+  pub tells : TellsClient l act old.client text new.client
   pub others : OnlyClient old new
 
 -- the line tells, with the server's name, what the desk at its place answered
-pub record ServerLine (m : ManagerShown) (servers : List ServerView) (act : Act) (at : ℕ)
+pub record ServerLine (m : ManagerShown) (servers : List ServerView) (act : DeskAct) (at : ℕ)
     (old : Scene) (text : List ℕ) (new : Scene) : Type 0 where
   pub answer : ServerAnswer
   pub does : DoesIn m.limits act at old.places answer new.places
@@ -106,7 +94,7 @@ abbrev pub register_sum : ℕ → List PlaceShown → ℕ
 register_sum k places = sum_by (λ p. counted_value p.is_dropped (slice_get p.desk.registers k)) places
 
 -- the line tells how many submits of a race were accepted
-pub record RaceLine (m : ManagerShown) (rows : ℕ) (plan : RacePlan)
+pub record RaceLine (m : ManagerShown) (rows : ℕ) (plan : Race)
     (old : Scene) (text : List ℕ) (new : Scene) : Type 0 where
   pub submitted : ℕ
   pub races : Races m rows plan old.racers submitted new.racers old.places new.places
@@ -121,24 +109,12 @@ pub record DrainLine (m : ManagerShown) (old : Scene) (text : List ℕ) (new : S
 
 -- the line of a script's command
 abbrev pub TellsCommand : ManagerShown → ScriptView → Command → Scene → List ℕ → Scene → Type 0
-TellsCommand m s (command.Submit stage key amount) = ClientLine (TellsSubmit stage key amount)
-TellsCommand m s (command.Kill id) = ClientLine (TellsKill m.limits id)
-TellsCommand m s (command.Cancel root) = ClientLine (TellsCancel m.limits root)
-TellsCommand m s (command.Read id) = ClientLine (TellsRead m.limits id)
-TellsCommand m s (command.Reply root) = FoundLine (TellsReplies m.limits root 0) (replies_text root)
-TellsCommand m s command.Errors = FoundLine (TellsErrors m.limits 0) errors_text
-TellsCommand m s command.Count = FoundLine (TellsCount m.limits (rows_of m.limits)) counts_text
-TellsCommand m s (command.Turn at) = ServerLine m s.servers acts.Turn at
-TellsCommand m s (command.Claim at) = ServerLine m s.servers acts.Claim at
-TellsCommand m s (command.Prepare at) = ServerLine m s.servers acts.Prepare at
-TellsCommand m s (command.Commit at) = ServerLine m s.servers acts.Commit at
-TellsCommand m s (command.Abort at) = ServerLine m s.servers acts.Abort at
-TellsCommand m s (command.Drop at) = ServerLine m s.servers acts.Drop at
+TellsCommand m s (command.Client act) = ClientLine m.limits act
+TellsCommand m s (command.Desk at act) = ServerLine m s.servers act at
 TellsCommand m s (command.Balance at k) = BalanceLine s.servers at k
 TellsCommand m s (command.Sum k) = λ old text new.
     (text ≡ line (answer_text (answer.Sum k (register_sum k old.places)))) × (new ≡ old)
-TellsCommand m s (command.Race clients submits stage key amount cancellers turns) = RaceLine m s.settings.rows
-    (record { clients = clients; submits = submits; stage = stage; key = key; amount = amount; turns = turns })
+TellsCommand m s (command.Race plan) = RaceLine m s.settings.rows plan
 TellsCommand m s command.Drain = DrainLine m
 
 -- A command leads from one scene to another, and this is its line. A race takes the passes behind those of the

@@ -1,28 +1,50 @@
 //! What the script's own client asks of the manager, through its pass.
-ghost use Rattle.std.specs.Prelude.{◌≡◌, ◌+◌, ◌-◌, ◌<◌, ◌≤◌, ◌^◌, ℕ, List, IfOk, IfSome, MatchOption, string_bytes};
+ghost use Rattle.std.specs.Prelude.{◌≡◌, ◌-◌, ◌<◌, ◌^◌, ℕ, List, IfOk, string_bytes};
 ghost use Rattle.tp_model.specs.declared.types.Element.{Element};
 ghost use Rattle.tp_model.specs.Accounts.{all_in, one_more};
 ghost use Rattle.tp_model.specs.Steps.{rows_of};
 ghost use Rattle.tp_report.specs.Answer.{errors_text, line, replies_text};
 ghost use Rattle.tp_report.specs.Lines.{IsLine};
-ghost use Rattle.tp_report.specs.declared.answer.Answer.TheVariants as answer;
+ghost use Rattle.tp_report.specs.declared.answer.Answer.{Answer};
 ghost use Rattle.tp_workers.specs.Free.{IsFreePass};
-ghost use Rattle.tp_perform.specs.Asked.{FindsNoReply, FindsReply, TellsCancel, TellsCount, TellsErrors, TellsKill, TellsRead, TellsReplies, TellsSubmit};
+ghost use Rattle.tp_perform.specs.Asked.{TellsCancel, TellsClient, TellsCount, TellsErrors, TellsKill, TellsRead, TellsReplies, TellsSubmit, is_reply, reply_in};
 
 use std::alloc::{AllocError, Global};
 use std::string::String;
 use tp_manager::{Manager, Pass};
-use tp_model::types::{Counts, Element, Status};
+use tp_model::types::{Counts, Element, Look, Status};
 use tp_report::{Answer, line};
+use tp_script::ClientAct;
 
-/// `submit STAGE KEY AMOUNT`
-pub(crate) fn submit(
+/// Has the client do what is asked, and answers the line of its answer.
+pub(crate) fn client_line(
+    alloc: Global,
     manager: &Manager,
     client: &mut Pass,
-    stage: u8,
-    key: u64,
-    amount: u64,
-) -> Answer<'static>
+    act: ClientAct,
+) -> Result<String, AllocError>
+    requires { IsFreePass manager.now client.old }
+    ensures free { IsFreePass manager.now client.new }
+    ensures number { client.new.number ≡ client.old.number }
+    ensures tells { IfOk result (λ text.
+        TellsClient manager.now.limits act client.old (string_bytes text) client.new) }
+    ensures line { IfOk result (λ text. IsLine (string_bytes text)) }
+{
+    match act {
+        ClientAct::Submit { stage, key, amount } => {
+            line(alloc, submit(manager, client, stage, key, amount))
+        }
+        ClientAct::Kill { id } => line(alloc, kill(manager, client, id)),
+        ClientAct::Cancel { root } => line(alloc, cancel(manager, client, root)),
+        ClientAct::Read { id } => line(alloc, read(manager, client, id)),
+        ClientAct::Reply { root } => replies(alloc, manager, client, root),
+        ClientAct::Errors => errors(alloc, manager, client),
+        ClientAct::Count => line(alloc, Answer::Count(count(manager, client))),
+    }
+}
+
+/// `submit STAGE KEY AMOUNT`
+fn submit(manager: &Manager, client: &mut Pass, stage: u8, key: u64, amount: u64) -> Answer<'static>
     requires { IsFreePass manager.now client.old }
     ensures free { IsFreePass manager.now client.new }
     ensures number { client.new.number ≡ client.old.number }
@@ -35,7 +57,7 @@ pub(crate) fn submit(
 }
 
 /// `kill ID`
-pub(crate) fn kill(manager: &Manager, client: &mut Pass, id: u32) -> Answer<'static>
+fn kill(manager: &Manager, client: &mut Pass, id: u32) -> Answer<'static>
     requires { IsFreePass manager.now client.old }
     ensures free { IsFreePass manager.now client.new }
     ensures number { client.new.number ≡ client.old.number }
@@ -51,7 +73,7 @@ pub(crate) fn kill(manager: &Manager, client: &mut Pass, id: u32) -> Answer<'sta
 }
 
 /// `cancel ROOT`
-pub(crate) fn cancel(manager: &Manager, client: &mut Pass, root: u32) -> Answer<'static>
+fn cancel(manager: &Manager, client: &mut Pass, root: u32) -> Answer<'static>
     requires { IsFreePass manager.now client.old }
     ensures free { IsFreePass manager.now client.new }
     ensures number { client.new.number ≡ client.old.number }
@@ -67,7 +89,7 @@ pub(crate) fn cancel(manager: &Manager, client: &mut Pass, root: u32) -> Answer<
 }
 
 /// `read ID`
-pub(crate) fn read(manager: &Manager, client: &mut Pass, id: u32) -> Answer<'static>
+fn read(manager: &Manager, client: &mut Pass, id: u32) -> Answer<'static>
     requires { IsFreePass manager.now client.old }
     ensures free { IsFreePass manager.now client.new }
     ensures number { client.new.number ≡ client.old.number }
@@ -79,27 +101,36 @@ pub(crate) fn read(manager: &Manager, client: &mut Pass, id: u32) -> Answer<'sta
     }
 }
 
-/// The next reply to the request from this id on, as it is read.
-fn next_reply(manager: &Manager, client: &mut Pass, root: u32, from: u32) -> Option<Element>
+/// Whether a look shows a reply to this request that waits.
+fn is_reply(root: u32, look: &Look) -> bool
+    ensures { result ≡ is_reply root look.now }
+{
+    look.element.stage == 15
+        && look.element.root == root
+        && matches!(look.status, Status::Waiting { attempts: _ })
+}
+
+/// Reads the element with this id, and answers it where it is a reply to the request that waits.
+fn reply_at(manager: &Manager, client: &mut Pass, root: u32, id: u32) -> Option<Element>
     requires { IsFreePass manager.now client.old }
     ensures free { IsFreePass manager.now client.new }
     ensures number { client.new.number ≡ client.old.number }
-    ensures inside { IfSome result (λ reply. (from ≤ reply.id) × (reply.id < rows_of manager.now.limits)) }
-    ensures finds { MatchOption result
-        (FindsNoReply manager.now.limits root from client.old client.new)
-        (λ reply. FindsReply manager.now.limits root from reply client.old client.new) }
+    ensures tells { (a : Answer) × TellsRead manager.now.limits id client.old client.new a × (result ≡ reply_in root a) }
 {
-    let Some(id) = manager.reply(client, root, from) else {
-        return None;
-    };
     match manager.read(client, id) {
-        Ok(look) => Some(look.element),
-        Err(_) => unreachable!(),
+        Ok(look) => {
+            if is_reply(root, &look) {
+                Some(look.element)
+            } else {
+                None
+            }
+        }
+        Err(_) => None,
     }
 }
 
 /// The line of `reply ROOT`: the replies to the request, in ascending order.
-pub(crate) fn replies(
+fn replies(
     alloc: Global,
     manager: &Manager,
     client: &mut Pass,
@@ -109,30 +140,22 @@ pub(crate) fn replies(
     ensures free { IsFreePass manager.now client.new }
     ensures number { client.new.number ≡ client.old.number }
     ensures tells { IfOk result (λ text. (found : List Element)
-        × TellsReplies manager.now.limits root 0 client.old found client.new
+        × TellsReplies manager.now.limits root (rows_of manager.now.limits) client.old found client.new
         × (string_bytes text ≡ line (replies_text root found))) }
     ensures line { IfOk result (λ text. IsLine (string_bytes text)) }
 {
     let mut found = Vec::new(alloc);
-    let capacity = manager.capacity();
-    let mut from = 0;
-    while from < capacity {
-        let Some(reply) = next_reply(manager, client, root, from) else {
-            break;
-        };
-        found.push(reply)?;
-        from = reply.id + 1;
+    for id in 0..manager.capacity() {
+        if let Some(reply) = reply_at(manager, client, root, id) {
+            found.push(reply)?;
+        }
     }
     let replies = found.as_slice();
     line(alloc, Answer::Replies { root, replies })
 }
 
 /// The line of `errors`: the ids of the parked elements, in ascending order.
-pub(crate) fn errors(
-    alloc: Global,
-    manager: &Manager,
-    client: &mut Pass,
-) -> Result<String, AllocError>
+fn errors(alloc: Global, manager: &Manager, client: &mut Pass) -> Result<String, AllocError>
     requires { IsFreePass manager.now client.old }
     ensures free { IsFreePass manager.now client.new }
     ensures number { client.new.number ≡ client.old.number }
@@ -155,7 +178,7 @@ pub(crate) fn errors(
 }
 
 /// `count`: how many elements stand in each way, over all ids below the capacity.
-pub(crate) fn count(manager: &Manager, client: &mut Pass) -> Counts
+fn count(manager: &Manager, client: &mut Pass) -> Counts
     requires { IsFreePass manager.now client.old }
     ensures free { IsFreePass manager.now client.new }
     ensures number { client.new.number ≡ client.old.number }

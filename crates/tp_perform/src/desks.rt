@@ -1,26 +1,82 @@
 //! Commands on one server, at its desk, which is there until it is dropped.
-ghost use Rattle.std.specs.Prelude.{◌≡◌};
+ghost use Rattle.std.specs.Prelude.{◌≡◌, ◌<◌, All, IfOk, IfSome, length, slice_get, string_bytes};
 ghost use Rattle.tp_manager.specs.Shown.{IsOf};
 ghost use Rattle.tp_desk.specs.Steady.{IsSameDesk, SteadyDesk, shown};
-ghost use Rattle.tp_perform.specs.Acting.{Does, DoesAt, TellsAbort, TellsClaim, TellsCommit, TellsDrop, TellsPrepare, TellsTurn, desk_shown, place_shown};
-ghost use Rattle.tp_perform.specs.Places.{Lies, first_of};
+ghost use Rattle.tp_perform.specs.Acting.{Does, DoesAt, DoesIn, TellsAbort, TellsClaim, TellsCommit, TellsDrop, TellsPrepare, TellsTurn, desk_shown, place_shown, places_shown};
+ghost use Rattle.tp_perform.specs.Places.{AllLie, Lies, first_of, firsts};
+ghost use Rattle.tp_report.specs.Answer.{line, named_text};
+ghost use Rattle.tp_report.specs.Lines.{IsLine};
+ghost use Rattle.tp_report.specs.declared.answer.ServerAnswer.{ServerAnswer};
 
+use crate::lines::server_line;
 use crate::place::Place;
+use std::alloc::{AllocError, Global};
+use std::string::String;
 use tp_desk::{Desk, Turned};
 use tp_manager::{Manager, Pass};
 use tp_model::types::{Claimed, Ended};
 use tp_report::ServerAnswer;
+use tp_script::{DeskAct, ScriptServer};
 use tp_server::Server;
 
-/// What a desk is asked to do.
-#[derive(Clone, Copy, Debug, PartialEq, Eq)]
-pub(crate) enum Act {
-    Turn,
-    Claim,
-    Prepare,
-    Commit,
-    Abort,
-    Drop,
+/// Has the desk of a server do what is asked, and answers the line of its answer.
+pub(crate) fn desk_line(
+    alloc: Global,
+    named: &[ScriptServer],
+    manager: &Manager,
+    passes: &mut [Pass],
+    servers: &mut [Box<dyn Server + Send>],
+    places: &mut [Place],
+    server: usize,
+    act: DeskAct,
+) -> Result<String, AllocError>
+    requires own { All (IsOf manager.now) passes.old }
+    requires lie { AllLie recipe registers pending passes.old servers.old places.old }
+    requires as_many { length places.old ≡ length named.now }
+    requires in_range { server < length named.now }
+    ensures own { All (IsOf manager.now) passes.new }
+    ensures lie { AllLie recipe registers pending passes.new servers.new places.new }
+    ensures as_many { length places.new ≡ length places.old }
+    ensures began { firsts places.new ≡ firsts places.old }
+    ensures tells { IfOk result (λ text. (answer : ServerAnswer)
+        × DoesIn manager.now.limits act server
+        (places_shown recipe registers pending passes.old servers.old places.old) answer
+        (places_shown recipe registers pending passes.new servers.new places.new)
+        × IfSome (slice_get named.now server)
+        (λ it. string_bytes text ≡ line (named_text (string_bytes it.name) answer))) }
+    ensures line { IfOk result (λ text. IsLine (string_bytes text)) }
+{
+    let answer = act_in(manager, passes, servers, places, server, act);
+    server_line(alloc, named, server, answer)
+}
+
+/// Has the desk at one of the places do what is asked.
+fn act_in(
+    manager: &Manager,
+    passes: &mut [Pass],
+    servers: &mut [Box<dyn Server + Send>],
+    places: &mut [Place],
+    at: usize,
+    act: DeskAct,
+) -> ServerAnswer
+    requires own { All (IsOf manager.now) passes.old }
+    requires lie { AllLie recipe registers pending passes.old servers.old places.old }
+    requires within { at < length places.old }
+    ensures own { All (IsOf manager.now) passes.new }
+    ensures lie { AllLie recipe registers pending passes.new servers.new places.new }
+    ensures as_many { length places.new ≡ length places.old }
+    ensures began { firsts places.new ≡ firsts places.old }
+    ensures tells { DoesIn manager.now.limits act at
+        (places_shown recipe registers pending passes.old servers.old places.old) result
+        (places_shown recipe registers pending passes.new servers.new places.new) }
+{
+    act_at(
+        manager,
+        &mut passes[at],
+        &mut servers[at],
+        &mut places[at],
+        act,
+    )
 }
 
 /// Has the desk at a place do what is asked, unless it was dropped: it goes on with what it laid aside, and lays aside what
@@ -30,7 +86,7 @@ pub(crate) fn act_at(
     pass: &mut Pass,
     server: &mut Box<dyn Server + Send>,
     place: &mut Place,
-    act: Act,
+    act: DeskAct,
 ) -> ServerAnswer
     requires own { IsOf manager.now pass.old }
     requires lies { Lies recipe registers pending pass.old server.old place.old.aside }
@@ -44,7 +100,7 @@ pub(crate) fn act_at(
     if place.is_dropped {
         return ServerAnswer::Ended;
     }
-    if act == Act::Drop {
+    if act == DeskAct::Drop {
         place.is_dropped = true;
     }
     let Some(aside) = place.aside.take() else {
@@ -57,7 +113,7 @@ pub(crate) fn act_at(
 }
 
 /// Has the desk do what is asked.
-fn act_by(desk: &mut Desk, act: Act) -> ServerAnswer
+fn act_by(desk: &mut Desk, act: DeskAct) -> ServerAnswer
     requires steady { SteadyDesk (shown recipe) (shown registers) (shown pending) desk.old }
     ensures same { IsSameDesk desk.old desk.new }
     ensures steady { SteadyDesk (shown recipe) (shown registers) (shown pending) desk.new }
@@ -65,12 +121,12 @@ fn act_by(desk: &mut Desk, act: Act) -> ServerAnswer
         (desk_shown recipe registers pending desk.new) }
 {
     match act {
-        Act::Turn => turn(desk),
-        Act::Claim => claim(desk),
-        Act::Prepare => prepare(desk),
-        Act::Commit => commit(desk),
-        Act::Abort => abort(desk),
-        Act::Drop => give_up(desk),
+        DeskAct::Turn => turn(desk),
+        DeskAct::Claim => claim(desk),
+        DeskAct::Prepare => prepare(desk),
+        DeskAct::Commit => commit(desk),
+        DeskAct::Abort => abort(desk),
+        DeskAct::Drop => give_up(desk),
     }
 }
 

@@ -1,162 +1,26 @@
 //! A script performed over the shared manager: each server at a desk of its own, each command one line of the report.
-ghost use Rattle.std.specs.Prelude.{◌≡◌, ◌<◌, ◌≤◌, None, All, IfOk, IfSome, IsErrOf, IsTrue, OnErr, OnOk, length, map, slice_get, string_bytes};
+ghost use Rattle.std.specs.Prelude.{◌≡◌, None, All, IfOk, IsErrOf, IsTrue, OnErr, OnOk, length, map, string_bytes};
 ghost use Rattle.tp_manager.specs.Shown.{IsOf};
 ghost use Rattle.tp_workers.specs.Free.{IsFreePass, numbers};
-ghost use Rattle.tp_report.specs.Answer.{line, named_text};
 ghost use Rattle.tp_report.specs.Lines.{IsLine, Writes, WritesFront};
-ghost use Rattle.tp_report.specs.declared.answer.ServerAnswer.{ServerAnswer};
-ghost use Rattle.tp_perform.specs.Acting.{DoesIn, new_places, place_shown, places_shown};
-ghost use Rattle.tp_perform.specs.Told.{AllEnded, EndsAt, IsFirstScene, Scene, TellsCommand, ToldAll, ToldFront, scene};
-ghost use Rattle.tp_perform.specs.Places.{AllLeft, AllLie, IsLeft, Lies, all_firsts, first_of, firsts, workers};
+ghost use Rattle.tp_perform.specs.Told.{AllEnded, IsFirstScene, Scene, TellsCommand, ToldAll, ToldFront, scene};
+ghost use Rattle.tp_perform.specs.Places.{AllLeft, AllLie, all_firsts, firsts, workers};
 ghost use Rattle.tp_script.specs.Passes.{racers as racers_of, racing};
 ghost use Rattle.tp_script.specs.Ranges.{IsInRange};
-ghost use Rattle.tp_script.specs.Script.{passes as passes_of, script_view, server_view};
-ghost use Rattle.tp_script.specs.declared.script.TheConstants.{MOST_SERVERS};
+ghost use Rattle.tp_script.specs.Script.{passes as passes_of, script_view};
 
-use crate::client;
-use crate::desks::{Act, act_at};
-use crate::lines::{balance_line, server_line, sum};
-use crate::place::Place;
-use crate::racing::{RacePlan, drain_all, run_race};
-use arrayvec::ArrayVec;
+use crate::client::client_line;
+use crate::desks::desk_line;
+use crate::lines::{balance_line, sum};
+use crate::place::{Place, end_all, places_for};
+use crate::racing::{drain_all, run_race};
 use std::alloc::{AllocError, Global};
 use std::string::String;
 use std::thread::Threads;
-use tp_desk::{Aside, Desk};
 use tp_manager::{Manager, Pass};
-use tp_report::{Answer, RunFault, ServerAnswer, Sink, line, write_all};
-use tp_script::{Command, MOST_SERVERS, Script, ScriptServer};
+use tp_report::{Answer, RunFault, Sink, line, write_all};
+use tp_script::{Command, Script};
 use tp_server::Server;
-
-/// A place for each server, whose desk has nothing in hand.
-fn places_for(passes: &[Pass], servers: &[Box<dyn Server + Send>]) -> ArrayVec<Place, MOST_SERVERS>
-    requires free { All (λ pass. pass.open_unit ≡ None) passes.now }
-    requires clear { All (λ server. pending server ≡ None) servers.now }
-    requires paired { length passes.now ≡ length servers.now }
-    requires few { length servers.now ≤ MOST_SERVERS }
-    ensures lie { AllLie recipe registers pending passes.now servers.now result.items }
-    ensures began { firsts result.items ≡ all_firsts passes.now servers.now }
-    ensures shown { places_shown recipe registers pending passes.now servers.now result.items
-        ≡ new_places recipe registers pending passes.now servers.now }
-{
-    let mut places = ArrayVec::new();
-    for i in 0..servers.len() {
-        places.push(Place {
-            aside: Some(Aside::nothing(&passes[i], &servers[i])),
-            is_dropped: false,
-        });
-    }
-    places
-}
-
-/// Ends all desks: what they have in hand is given up.
-fn end_all(
-    manager: &Manager,
-    passes: &mut [Pass],
-    servers: &mut [Box<dyn Server + Send>],
-    places: &mut [Place],
-)
-    requires own { All (IsOf manager.now) passes.old }
-    requires lie { AllLie recipe registers pending passes.old servers.old places.old }
-    ensures free { All (IsFreePass manager.now) passes.new }
-    ensures clear { All (λ server. pending server ≡ None) servers.new }
-    ensures left { AllLeft recipe registers (firsts places.old) passes.new servers.new }
-    ensures ended { AllEnded (places_shown recipe registers pending passes.old servers.old places.old)
-        passes.new (map (λ server. registers server) servers.new) }
-{
-    let Some((pass, passes)) = passes.split_first_mut() else {
-        return;
-    };
-    let Some((server, servers)) = servers.split_first_mut() else {
-        return;
-    };
-    let Some((place, places)) = places.split_first_mut() else {
-        return;
-    };
-    end_at(manager, pass, server, place);
-    end_all(manager, passes, servers, places);
-}
-
-/// Ends the desk at a place.
-fn end_at(
-    manager: &Manager,
-    pass: &mut Pass,
-    server: &mut Box<dyn Server + Send>,
-    place: &mut Place,
-)
-    requires own { IsOf manager.now pass.old }
-    requires lies { Lies recipe registers pending pass.old server.old place.old.aside }
-    ensures free { IsFreePass manager.now pass.new }
-    ensures clear { pending server.new ≡ None }
-    ensures left { IsLeft recipe registers (first_of place.old) pass.new server.new }
-    ensures ended { EndsAt (place_shown recipe registers pending pass.old server.old place.old)
-        pass.new (registers server.new) }
-{
-    let Some(aside) = place.aside.take() else {
-        unreachable!();
-    };
-    Desk::resume(manager, pass, server, aside).end();
-}
-
-/// Has the desk of a server do what is asked, and answers the line of its answer.
-fn desk_line(
-    alloc: Global,
-    named: &[ScriptServer],
-    manager: &Manager,
-    passes: &mut [Pass],
-    servers: &mut [Box<dyn Server + Send>],
-    places: &mut [Place],
-    server: usize,
-    act: Act,
-) -> Result<String, AllocError>
-    requires own { All (IsOf manager.now) passes.old }
-    requires lie { AllLie recipe registers pending passes.old servers.old places.old }
-    requires as_many { length places.old ≡ length named.now }
-    requires in_range { server < length named.now }
-    ensures own { All (IsOf manager.now) passes.new }
-    ensures lie { AllLie recipe registers pending passes.new servers.new places.new }
-    ensures as_many { length places.new ≡ length places.old }
-    ensures began { firsts places.new ≡ firsts places.old }
-    ensures tells { IfOk result (λ text. (answer : ServerAnswer)
-        × DoesIn manager.now.limits act server
-        (places_shown recipe registers pending passes.old servers.old places.old) answer
-        (places_shown recipe registers pending passes.new servers.new places.new)
-        × IfSome (slice_get named.now server)
-        (λ it. string_bytes text ≡ line (named_text (string_bytes it.name) answer))) }
-    ensures line { IfOk result (λ text. IsLine (string_bytes text)) }
-{
-    let answer = act_in(manager, passes, servers, places, server, act);
-    server_line(alloc, named, server, answer)
-}
-
-/// Has the desk at one of the places do what is asked.
-fn act_in(
-    manager: &Manager,
-    passes: &mut [Pass],
-    servers: &mut [Box<dyn Server + Send>],
-    places: &mut [Place],
-    at: usize,
-    act: Act,
-) -> ServerAnswer
-    requires own { All (IsOf manager.now) passes.old }
-    requires lie { AllLie recipe registers pending passes.old servers.old places.old }
-    requires within { at < length places.old }
-    ensures own { All (IsOf manager.now) passes.new }
-    ensures lie { AllLie recipe registers pending passes.new servers.new places.new }
-    ensures as_many { length places.new ≡ length places.old }
-    ensures began { firsts places.new ≡ firsts places.old }
-    ensures tells { DoesIn manager.now.limits act at
-        (places_shown recipe registers pending passes.old servers.old places.old) result
-        (places_shown recipe registers pending passes.new servers.new places.new) }
-{
-    act_at(
-        manager,
-        &mut passes[at],
-        &mut servers[at],
-        &mut places[at],
-        act,
-    )
-}
 
 /// Performs a command, and answers its line. The racers are the passes of its race, if it is one.
 fn command_line<R: Threads + Sync>(
@@ -195,74 +59,9 @@ fn command_line<R: Threads + Sync>(
 {
     let named = script.servers.as_slice();
     match command {
-        Command::Submit { stage, key, amount } => {
-            line(alloc, client::submit(manager, client, stage, key, amount))
-        }
-        Command::Kill { id } => line(alloc, client::kill(manager, client, id)),
-        Command::Cancel { root } => line(alloc, client::cancel(manager, client, root)),
-        Command::Read { id } => line(alloc, client::read(manager, client, id)),
-        Command::Reply { root } => client::replies(alloc, manager, client, root),
-        Command::Errors => client::errors(alloc, manager, client),
-        Command::Count => line(alloc, Answer::Count(client::count(manager, client))),
-        Command::Turn { server } => desk_line(
-            alloc,
-            named,
-            manager,
-            passes,
-            servers,
-            places,
-            server,
-            Act::Turn,
-        ),
-        Command::Claim { server } => desk_line(
-            alloc,
-            named,
-            manager,
-            passes,
-            servers,
-            places,
-            server,
-            Act::Claim,
-        ),
-        Command::Prepare { server } => desk_line(
-            alloc,
-            named,
-            manager,
-            passes,
-            servers,
-            places,
-            server,
-            Act::Prepare,
-        ),
-        Command::Commit { server } => desk_line(
-            alloc,
-            named,
-            manager,
-            passes,
-            servers,
-            places,
-            server,
-            Act::Commit,
-        ),
-        Command::Abort { server } => desk_line(
-            alloc,
-            named,
-            manager,
-            passes,
-            servers,
-            places,
-            server,
-            Act::Abort,
-        ),
-        Command::Drop { server } => desk_line(
-            alloc,
-            named,
-            manager,
-            passes,
-            servers,
-            places,
-            server,
-            Act::Drop,
+        Command::Client(act) => client_line(alloc, manager, client, act),
+        Command::Desk { server, act } => desk_line(
+            alloc, named, manager, passes, servers, places, server, act,
         ),
         Command::Balance { server, k } => balance_line(
             alloc,
@@ -275,26 +74,10 @@ fn command_line<R: Threads + Sync>(
             let sum = sum(servers, places, k);
             line(alloc, Answer::Sum { k, sum })
         }
-        Command::Race {
-            clients,
-            submits,
-            stage,
-            key,
-            amount,
-            cancellers: _,
-            turns,
-        } => {
-            let plan = RacePlan {
-                clients,
-                submits,
-                stage,
-                key,
-                amount,
-                turns,
-            };
+        Command::Race(race) => {
             let rows = script.settings.rows;
             let submitted = run_race(
-                rt, alloc, manager, passes, servers, places, racers, rows, plan,
+                rt, alloc, manager, passes, servers, places, racers, rows, race,
             )?;
             line(alloc, Answer::Raced { submitted })
         }

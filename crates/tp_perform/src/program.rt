@@ -16,7 +16,7 @@ use crate::serve::serve;
 use std::alloc::Global;
 use std::thread::Threads;
 use tp_report::{Exit, Fault, Sink, exit_status, fault_of, write_fault, write_refusal};
-use tp_script::{ReadFault, Refused, Source, read_script};
+use tp_script::{ReadFault, Source, read_script};
 
 /// Reads a script, performs it over the shared manager with a desk for each server, and writes its report: a line for each
 /// command, and the final lines. The reader is asked at most 100,000 times.
@@ -37,12 +37,10 @@ pub fn run<T: Threads + Sync, R: Source, W: Sink>(
             Ok(()) => Ok(Exit::Done),
             Err(fault) => Err(fault_of(fault)),
         },
-        Err(ReadFault::Script { line, number }) => {
-            match write_refusal(alloc, Refused { line, number }, writer) {
-                Ok(()) => Ok(Exit::Refused),
-                Err(fault) => Err(fault_of(fault)),
-            }
-        }
+        Err(ReadFault::Script(refused)) => match write_refusal(alloc, refused, writer) {
+            Ok(()) => Ok(Exit::Refused),
+            Err(fault) => Err(fault_of(fault)),
+        },
         Err(ReadFault::NoMemory) => Err(Fault::NoMemory),
         Err(ReadFault::Read) => Err(Fault::Read),
     }

@@ -1,4 +1,4 @@
-//! Commands that have all free servers work: `race`, on threads of their own with clients and cancellers, and `drain`.
+//! Commands that have all free servers work: `race`, on threads of their own with clients and killers, and `drain`.
 ghost use Rattle.std.specs.List.{swap};
 ghost use Rattle.std.specs.Prelude.{◌≡◌, ◌+◌, ◌-◌, ◌*◌, ◌≤◌, ◌<◌, ◌^◌, None, All, IfOk, length, replicate, sum_by, take, true};
 ghost use Rattle.tp_model.specs.Steps.{IsServerStage};
@@ -10,59 +10,41 @@ ghost use Rattle.tp_workers.specs.Sums.{calls_of, size_of_range};
 ghost use Rattle.tp_workers.specs.Drained.{EndsIdle};
 ghost use Rattle.tp_perform.specs.Acting.{places_shown};
 ghost use Rattle.tp_perform.specs.Places.{AllLie, firsts};
-ghost use Rattle.tp_perform.specs.Together.{AllTakePart, ArePassed, Races, RacersRan, TookTurns, is_free_at};
+ghost use Rattle.tp_perform.specs.Together.{AllTakePart, ArePassed, Races, RacersRan, TookTurns, client_job, is_free_at, kill_job};
 ghost use Rattle.tp_script.specs.declared.script.TheConstants.{MOST_SERVERS};
 
 use crate::place::Place;
 use std::alloc::{AllocError, Global};
 use std::thread::Threads;
 use tp_manager::{Manager, Pass};
-use tp_script::MOST_SERVERS;
+use tp_script::{MOST_SERVERS, Race};
 use tp_server::Server;
 use tp_workers::{ClientJob, KillJob, NoGate, drain, shift};
 
-/// What the clients and cancellers of a race do.
-#[derive(Clone, Copy, Debug, PartialEq, Eq)]
-pub(crate) struct RacePlan {
-    /// How many clients there are: the first passes of the race.
-    pub clients: u8,
-    /// How often each client submits.
-    pub submits: u16,
-    pub stage: u8,
-    pub key: u64,
-    pub amount: u64,
-    /// The most turns of each server.
-    pub turns: u16,
+/// What each client of a race is to do.
+fn client_job(plan: Race) -> ClientJob
+    ensures { result ≡ client_job plan }
+{
+    ClientJob {
+        stage: plan.stage,
+        key: plan.key,
+        amount: plan.amount,
+        count: u32::from(plan.submits),
+    }
 }
 
-impl RacePlan {
-    ghost use Rattle.tp_perform.specs.Together.{client_job, first_number, kill_job};
-
-    /// What each client is to do.
-    fn client_job(self) -> ClientJob
-        ensures { result ≡ client_job self }
-    {
-        ClientJob {
-            stage: self.stage,
-            key: self.key,
-            amount: self.amount,
-            count: u32::from(self.submits),
-        }
-    }
-
-    /// What each canceller is to do: to kill the elements of all rows of these clients.
-    fn kill_job(self, clients: &[Pass], rows: u16) -> KillJob
-        requires { rows ≤ 256 }
-        ensures job { result ≡ kill_job rows self clients.now }
-        ensures few { result.first + self.clients * rows < 2 ^ 25 }
-    {
-        let first = match clients.split_first() {
-            Some((pass, _others)) => u32::from(pass.number()) * u32::from(rows),
-            None => 0,
-        };
-        let end = first + u32::from(self.clients) * u32::from(rows);
-        KillJob { first, end }
-    }
+/// What each killer of a race is to do: to kill the elements of all rows of these clients.
+fn kill_job(plan: Race, clients: &[Pass], rows: u16) -> KillJob
+    requires { rows ≤ 256 }
+    ensures job { result ≡ kill_job rows plan clients.now }
+    ensures few { result.first + plan.clients * rows < 2 ^ 25 }
+{
+    let first = match clients.split_first() {
+        Some((pass, _others)) => u32::from(pass.number()) * u32::from(rows),
+        None => 0,
+    };
+    let end = first + u32::from(plan.clients) * u32::from(rows);
+    KillJob { first, end }
 }
 
 /// A list of so many jobs, all alike.
@@ -95,8 +77,8 @@ fn kill_jobs(alloc: Global, many: usize, job: KillJob) -> Result<Vec<KillJob>, A
     Ok(jobs)
 }
 
-/// Has each free server take at most so many turns, while clients submit and cancellers kill, each on a thread of its own;
-/// answers how many submits were accepted. The passes are the clients' and then the cancellers'. Each canceller kills each
+/// Has each free server take at most so many turns, while clients submit and killers kill, each on a thread of its own;
+/// answers how many submits were accepted. The passes are the clients' and then the killers'. Each killer kills each
 /// id of the clients' rows once.
 pub(crate) fn run_race<R: Threads + Sync>(
     rt: &R,
@@ -107,7 +89,7 @@ pub(crate) fn run_race<R: Threads + Sync>(
     places: &mut [Place],
     racers: &mut [Pass],
     rows: u16,
-    plan: RacePlan,
+    plan: Race,
 ) -> Result<u32, AllocError>
     requires own { All (IsOf manager.now) passes.old }
     requires lie { AllLie recipe registers pending passes.old servers.old places.old }
@@ -127,11 +109,11 @@ pub(crate) fn run_race<R: Threads + Sync>(
         (places_shown recipe registers pending passes.old servers.old places.old)
         (places_shown recipe registers pending passes.new servers.new places.new)) }
 {
-    let (clients, cancellers) = racers.split_at_mut(usize::from(plan.clients));
-    let job = plan.client_job();
+    let (clients, killers) = racers.split_at_mut(usize::from(plan.clients));
+    let job = client_job(plan);
     let mut jobs = client_jobs(alloc, clients.len(), job)?;
-    let kill = plan.kill_job(clients, rows);
-    let mut kills = kill_jobs(alloc, cancellers.len(), kill)?;
+    let kill = kill_job(plan, clients, rows);
+    let mut kills = kill_jobs(alloc, killers.len(), kill)?;
     Ok(race_free(
         rt,
         manager,
@@ -140,7 +122,7 @@ pub(crate) fn run_race<R: Threads + Sync>(
         places,
         clients,
         jobs.as_mut_slice(),
-        cancellers,
+        killers,
         kills.as_mut_slice(),
         u32::from(plan.turns),
         0,
@@ -158,7 +140,7 @@ fn race_free<R: Threads + Sync>(
     places: &mut [Place],
     clients: &mut [Pass],
     jobs: &mut [ClientJob],
-    cancellers: &mut [Pass],
+    killers: &mut [Pass],
     kills: &mut [KillJob],
     turns: u32,
     front: usize,
@@ -174,8 +156,8 @@ fn race_free<R: Threads + Sync>(
     requires clients_paired { length clients.old ≡ length jobs.old }
     requires jobs { All IsClientJob jobs.old }
     requires calls { sum_by calls_of jobs.old < 2 ^ 32 }
-    requires cancellers { All (IsFreePass manager.now) cancellers.old }
-    requires cancellers_paired { length cancellers.old ≡ length kills.old }
+    requires killers { All (IsFreePass manager.now) killers.old }
+    requires killers_paired { length killers.old ≡ length kills.old }
     requires kills { All IsKillJob kills.old }
     requires ids { sum_by size_of_range kills.old < 2 ^ 32 }
     requires turns { turns < 2 ^ 16 }
@@ -185,18 +167,18 @@ fn race_free<R: Threads + Sync>(
         (places_shown recipe registers pending passes.old servers.old places.old)
         (places_shown recipe registers pending passes.new servers.new places.new) }
     ensures ran { RacersRan manager.now jobs.old kills.old
-        clients.old cancellers.old result clients.new cancellers.new }
+        clients.old killers.old result clients.new killers.new }
     ensures clients { All (IsFreePass manager.now) clients.new }
-    ensures cancellers { All (IsFreePass manager.now) cancellers.new }
+    ensures killers { All (IsFreePass manager.now) killers.new }
     ensures began { firsts places.new ≡ firsts places.old }
     ensures clients_numbered { numbers clients.new ≡ numbers clients.old }
-    ensures cancellers_numbered { numbers cancellers.new ≡ numbers cancellers.old }
+    ensures killers_numbered { numbers killers.new ≡ numbers killers.old }
     ensures as_many { (length places.new ≡ length places.old) × (length clients.new ≡ length clients.old)
-        × (length cancellers.new ≡ length cancellers.old) }
+        × (length killers.new ≡ length killers.old) }
 {
     if at == places.len() {
         return race_front(
-            rt, manager, passes, servers, places, clients, jobs, cancellers, kills, turns, front,
+            rt, manager, passes, servers, places, clients, jobs, killers, kills, turns, front,
         );
     }
     if !places[at].is_free() {
@@ -208,7 +190,7 @@ fn race_free<R: Threads + Sync>(
             places,
             clients,
             jobs,
-            cancellers,
+            killers,
             kills,
             turns,
             front,
@@ -224,7 +206,7 @@ fn race_free<R: Threads + Sync>(
         places,
         clients,
         jobs,
-        cancellers,
+        killers,
         kills,
         turns,
         front + 1,
@@ -243,7 +225,7 @@ fn race_front<R: Threads + Sync>(
     places: &[Place],
     clients: &mut [Pass],
     jobs: &mut [ClientJob],
-    cancellers: &mut [Pass],
+    killers: &mut [Pass],
     kills: &mut [KillJob],
     turns: u32,
     front: usize,
@@ -258,8 +240,8 @@ fn race_front<R: Threads + Sync>(
     requires clients_paired { length clients.old ≡ length jobs.old }
     requires jobs { All IsClientJob jobs.old }
     requires calls { sum_by calls_of jobs.old < 2 ^ 32 }
-    requires cancellers { All (IsFreePass manager.now) cancellers.old }
-    requires cancellers_paired { length cancellers.old ≡ length kills.old }
+    requires killers { All (IsFreePass manager.now) killers.old }
+    requires killers_paired { length killers.old ≡ length kills.old }
     requires kills { All IsKillJob kills.old }
     requires ids { sum_by size_of_range kills.old < 2 ^ 32 }
     requires turns { turns < 2 ^ 16 }
@@ -269,17 +251,17 @@ fn race_front<R: Threads + Sync>(
         (places_shown recipe registers pending passes.old servers.old places.now)
         (places_shown recipe registers pending passes.new servers.new places.now) }
     ensures ran { RacersRan manager.now jobs.old kills.old
-        clients.old cancellers.old result clients.new cancellers.new }
+        clients.old killers.old result clients.new killers.new }
     ensures clients { All (IsFreePass manager.now) clients.new }
-    ensures cancellers { All (IsFreePass manager.now) cancellers.new }
+    ensures killers { All (IsFreePass manager.now) killers.new }
     ensures clients_numbered { numbers clients.new ≡ numbers clients.old }
-    ensures cancellers_numbered { numbers cancellers.new ≡ numbers cancellers.old }
-    ensures as_many { (length clients.new ≡ length clients.old) × (length cancellers.new ≡ length cancellers.old) }
+    ensures killers_numbered { numbers killers.new ≡ numbers killers.old }
+    ensures as_many { (length clients.new ≡ length clients.old) × (length killers.new ≡ length killers.old) }
 {
     let (desks, _others) = passes.split_at_mut(front);
     let (boxes, _rest) = servers.split_at_mut(front);
     let counts = shift(
-        rt, manager, desks, boxes, clients, jobs, cancellers, kills, turns, &NoGate,
+        rt, manager, desks, boxes, clients, jobs, killers, kills, turns, &NoGate,
     );
     counts.submitted
 }

@@ -18,7 +18,9 @@ use Rattle.tp_model.specs.Steps.{rows_of}
 use Rattle.tp_server.specs.declared.recipe.Declined.{Declined}
 use Rattle.tp_server.specs.Effect.{Effect, effect_of}
 use Rattle.tp_script.specs.declared.script.Command.{Command}
-use Rattle.tp_script.specs.declared.script.Command.TheVariants.{Submit, Turn, Reply}
+use Rattle.tp_script.specs.declared.script.Command.TheVariants.{Client, Desk}
+use Rattle.tp_script.specs.declared.script.ClientAct.TheVariants as acts
+use Rattle.tp_script.specs.declared.script.DeskAct.TheVariants as desks
 use Rattle.tp_desk.specs.declared.turned.Turned.{Turned}
 use Rattle.tp_desk.specs.declared.turned.Turned.TheVariants as turned
 use Rattle.tp_script.specs.declared.fault.Refused.{Refused}
@@ -110,9 +112,9 @@ turn_at None s = ([], s)
 
 -- one command; those that a script of the plain reach doesn't have write nothing
 abbrev pub command_step : List ServerView → Command → State → List ℕ × State
-command_step servers (Submit stage key amount) s = submit_step stage key amount s
-command_step servers (Turn server) s = turn_at (slice_get servers server) s
-command_step servers (Reply root) s = reply_step root s
+command_step servers (Client (acts.Submit stage key amount)) s = submit_step stage key amount s
+command_step servers (Client (acts.Reply root)) s = reply_step root s
+command_step servers (Desk server desks.Turn) s = turn_at (slice_get servers server) s
 command_step servers other s = ([], s)
 
 -- ---- the whole report

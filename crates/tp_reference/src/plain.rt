@@ -8,7 +8,7 @@ ghost use Rattle.tp_reference.specs.Whole.{Reports};
 use crate::plain_report::write_plain_report;
 use std::alloc::Global;
 use tp_report::{Exit, Fault, Sink, fault_of, write_refusal};
-use tp_script::{Reach, ReadFault, Refused, Source, read_script_at};
+use tp_script::{Reach, ReadFault, Source, read_script_at};
 
 /// Reads a script of the plain reach, runs it over the manager of one thread, and writes its report and nothing else.
 /// The reader is asked at most 100,000 times.
@@ -28,12 +28,10 @@ pub fn run_plain<R: Source, W: Sink>(
             Ok(()) => Ok(Exit::Done),
             Err(fault) => Err(fault_of(fault)),
         },
-        Err(ReadFault::Script { line, number }) => {
-            match write_refusal(alloc, Refused { line, number }, writer) {
-                Ok(()) => Ok(Exit::Refused),
-                Err(fault) => Err(fault_of(fault)),
-            }
-        }
+        Err(ReadFault::Script(refused)) => match write_refusal(alloc, refused, writer) {
+            Ok(()) => Ok(Exit::Refused),
+            Err(fault) => Err(fault_of(fault)),
+        },
         Err(ReadFault::NoMemory) => Err(Fault::NoMemory),
         Err(ReadFault::Read) => Err(Fault::Read),
     }

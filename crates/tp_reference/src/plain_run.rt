@@ -16,7 +16,7 @@ use tp_desk::Turned;
 use tp_model::types::{Claimed, Element, Limits, Look, Outcome, Refusal, Status, Work};
 use tp_plain::plain::Plain;
 use tp_report::{Answer, ServerAnswer, line};
-use tp_script::{Command, Script, ScriptServer};
+use tp_script::{ClientAct, Command, DeskAct, Script, ScriptServer};
 use tp_server::{Recipe, Registers};
 
 /// The pass of the script's own client.
@@ -192,10 +192,16 @@ impl PlainRun {
         ensures ready { IfOk result (λ _. IsReady (map server_view servers.now) self.new.plain) }
     {
         match command {
-            Command::Submit { stage, key, amount } => self.submit(alloc, stage, key, amount),
-            Command::Turn { server } => self.turn_line(alloc, &servers[server]),
-            Command::Reply { root } => self.reply(alloc, root),
-            // No script of the plain reach has another command.
+            Command::Client(ClientAct::Submit { stage, key, amount }) => {
+                self.submit(alloc, stage, key, amount)
+            }
+            Command::Client(ClientAct::Reply { root }) => self.reply(alloc, root),
+            Command::Desk { server, act } => match act {
+                DeskAct::Turn => self.turn_line(alloc, &servers[server]),
+                // No script of the plain reach has another act,
+                _ => Ok(String::new(alloc)),
+            },
+            // or another command.
             _ => Ok(String::new(alloc)),
         }
     }

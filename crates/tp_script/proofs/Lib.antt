@@ -3,3 +3,4 @@ pub mod ScriptLemmas
 pub mod TextLemmas
 pub mod GrammarLemmas
 pub mod LinesLemmas
+pub mod FirstWords

@@ -13,7 +13,6 @@ use Rattle.tp_script.specs.declared.fault.ReadFault.TheVariants as faults
 use Rattle.tp_script.specs.declared.reach.Reach.{Reach}
 use Rattle.tp_script.specs.declared.script.Script.{Script}
 use Rattle.tp_script.specs.Script.{ScriptView}
-use Rattle.tp_script.specs.Fault.{number_of}
 use Rattle.tp_script.specs.Text.{lines}
 use Rattle.tp_script.specs.Reading.{Fails}
 use Rattle.tp_script.specs.Grammar.{line_at, at_line, lines_from, no_lines, script}
@@ -38,7 +37,7 @@ pub script_is : (reach : Reach) (bytes : List ℕ) → length bytes ≤ MOST_BYT
 unfolding script
 script_is reach bytes short = rw (le-ltb MOST_BYTES (length bytes) short) refl
 
-pub script_past : (reach : Reach) (bytes : List ℕ) → MOST_BYTES < length bytes → script reach bytes ≡ Err (record { line = 0; number = number_of TooLong })
+pub script_past : (reach : Reach) (bytes : List ℕ) → MOST_BYTES < length bytes → script reach bytes ≡ Err (record { line = 0; fault = TooLong })
 unfolding script
 script_past reach bytes long = rw (lt-ltb MOST_BYTES (length bytes) long) refl
 
@@ -58,4 +57,4 @@ pub answers_none : (reach : Reach) (A : Type 0) (rest : Option (List ℕ)) (e : 
 answers_none reach A None e h = tt
 answers_none reach A (Some all) faults.NoMemory h = tt
 answers_none reach A (Some all) faults.Read h = tt
-answers_none reach A (Some all) (faults.Script line fault) h = absurd h
+answers_none reach A (Some all) (faults.Script refused) h = absurd h

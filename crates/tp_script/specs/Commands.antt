@@ -5,7 +5,8 @@ use Rattle.tp_script.specs.declared.fault.LineFault.TheVariants.{Syntax, BadNumb
 use Rattle.tp_script.specs.declared.keyword.Verb.{Verb}
 use Rattle.tp_script.specs.declared.keyword.Verb.TheVariants as verb
 use Rattle.tp_script.specs.declared.script.Command.{Command}
-use Rattle.tp_script.specs.declared.script.Command.TheVariants.{Submit, Turn, Reply, Claim, Prepare, Commit, Abort, Drop, Kill, Cancel, Read, Errors, Balance, Sum, Count, Race, Drain}
+use Rattle.tp_script.specs.declared.script.Command.TheVariants.{Client, Desk, Balance, Sum, Race, Drain}
+use Rattle.tp_script.specs.declared.script.ClientAct.TheVariants as client
 use Rattle.tp_script.specs.Numbers.{passes_limit}
 use Rattle.tp_script.specs.Passes.{racers}
 use Rattle.tp_script.specs.Script.{ScriptView, passes}
@@ -32,7 +33,7 @@ submit_at (stage, key, amount) = do
   stage ← number_at 255 stage
   key ← number_at (2 ^ 64 - 1) key
   amount ← number_at (2 ^ 64 - 1) amount
-  Ok (Submit stage key amount)
+  Ok (Client (client.Submit stage key amount))
 
 -- `balance NAME K`
 unfoldable pub balance_at : List ℕ × List ℕ → ScriptView → Result Command LineFault
@@ -48,13 +49,13 @@ pub record RaceWords : Type 0 where
   pub stage : List ℕ
   pub key : List ℕ
   pub amount : List ℕ
-  pub cancellers : List ℕ
+  pub killers : List ℕ
   pub turns : List ℕ
 
--- CLIENTS SUBMITS STAGE KEY AMOUNT CANCELLERS TURNS
+-- CLIENTS SUBMITS STAGE KEY AMOUNT KILLERS TURNS
 abbrev pub race_words : List (List ℕ) → Result RaceWords LineFault
-race_words (clients ∷ submits ∷ stage ∷ key ∷ amount ∷ cancellers ∷ turns ∷ []) =
-    Ok (record { clients = clients; submits = submits; stage = stage; key = key; amount = amount; cancellers = cancellers; turns = turns })
+race_words (clients ∷ submits ∷ stage ∷ key ∷ amount ∷ killers ∷ turns ∷ []) =
+    Ok (record { clients = clients; submits = submits; stage = stage; key = key; amount = amount; killers = killers; turns = turns })
 race_words ws = Err Syntax
 
 -- a stage that clients may submit to
@@ -64,7 +65,7 @@ stage_at w = do
   _ ← require (nat_le 1 stage) BadNumber
   Ok stage
 
--- `race CLIENTS SUBMITS STAGE KEY AMOUNT CANCELLERS TURNS`
+-- `race CLIENTS SUBMITS STAGE KEY AMOUNT KILLERS TURNS`
 unfoldable pub race_at : RaceWords → Result Command LineFault
 race_at w = do
   clients ← number_at 31 w.clients
@@ -72,27 +73,22 @@ race_at w = do
   stage ← stage_at w.stage
   key ← number_at (2 ^ 64 - 1) w.key
   amount ← number_at (2 ^ 64 - 1) w.amount
-  cancellers ← number_at 31 w.cancellers
+  killers ← number_at 31 w.killers
   turns ← number_at 10000 w.turns
-  Ok (Race clients submits stage key amount cancellers turns)
+  Ok (Race (record { clients = clients; submits = submits; stage = stage; key = key; amount = amount; killers = killers; turns = turns }))
 
 -- a command of this first word, with the words behind it
 unfoldable pub command_at : Verb → List (List ℕ) → ScriptView → Result Command LineFault
 command_at verb.Submit ws s = three ws >>= λ w. submit_at w
-command_at verb.Turn ws s = one_server ws s >>= λ server. Ok (Turn server)
-command_at verb.Reply ws s = one_id ws >>= λ id. Ok (Reply id)
-command_at verb.Claim ws s = one_server ws s >>= λ server. Ok (Claim server)
-command_at verb.Prepare ws s = one_server ws s >>= λ server. Ok (Prepare server)
-command_at verb.Commit ws s = one_server ws s >>= λ server. Ok (Commit server)
-command_at verb.Abort ws s = one_server ws s >>= λ server. Ok (Abort server)
-command_at verb.Drop ws s = one_server ws s >>= λ server. Ok (Drop server)
-command_at verb.Kill ws s = one_id ws >>= λ id. Ok (Kill id)
-command_at verb.Cancel ws s = one_id ws >>= λ root. Ok (Cancel root)
-command_at verb.Read ws s = one_id ws >>= λ id. Ok (Read id)
-command_at verb.Errors ws s = none ws >>= λ _. Ok Errors
+command_at verb.Kill ws s = one_id ws >>= λ id. Ok (Client (client.Kill id))
+command_at verb.Cancel ws s = one_id ws >>= λ root. Ok (Client (client.Cancel root))
+command_at verb.Read ws s = one_id ws >>= λ id. Ok (Client (client.Read id))
+command_at verb.Reply ws s = one_id ws >>= λ root. Ok (Client (client.Reply root))
+command_at verb.Errors ws s = none ws >>= λ _. Ok (Client client.Errors)
+command_at verb.Count ws s = none ws >>= λ _. Ok (Client client.Count)
+command_at (verb.Desk act) ws s = one_server ws s >>= λ server. Ok (Desk server act)
 command_at verb.Balance ws s = two ws >>= λ w. balance_at w s
 command_at verb.Sum ws s = one ws >>= λ w. number_at (2 ^ 64 - 1) w >>= λ k. Ok (Sum k)
-command_at verb.Count ws s = none ws >>= λ _. Ok Count
 command_at verb.Race ws s = race_words ws >>= λ w. race_at w
 command_at verb.Drain ws s = none ws >>= λ _. Ok Drain
 

@@ -9,7 +9,7 @@ abbrev pub HasNoScript : {A : Type 0} → Result A ReadFault → Type 0
 HasNoScript (Ok x) = Unit {0}
 HasNoScript (Err NoMemory) = Unit {0}
 HasNoScript (Err Read) = Unit {0}
-HasNoScript (Err (Script line fault)) = ⊥
+HasNoScript (Err (Script refused)) = ⊥
 
 -- the reader has failed, or all requests are used up
 abbrev pub StopsReading : Bool → ℕ → ℕ → Type 0

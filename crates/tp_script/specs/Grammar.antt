@@ -8,10 +8,9 @@ use Rattle.tp_script.specs.declared.fault.Refused.{Refused}
 use Rattle.tp_script.specs.declared.keyword.Keyword.{Keyword}
 use Rattle.tp_script.specs.declared.keyword.Keyword.TheVariants as first
 use Rattle.tp_script.specs.declared.reach.Reach.{Reach}
-use Rattle.tp_script.specs.Fault.{number_of}
 use Rattle.tp_script.specs.Text.{lines, words}
 use Rattle.tp_script.specs.Commands.{command_at, with_command}
-use Rattle.tp_script.specs.Keyword.{keyword, first_reach}
+use Rattle.tp_script.specs.Keyword.{keyword}
 use Rattle.tp_script.specs.Reach.{has}
 use Rattle.tp_script.specs.Script.{ScriptView}
 use Rattle.tp_script.specs.ServerLines.{has_commands, server_line, start_line}
@@ -72,8 +71,8 @@ keyword_line reach first.Account ws s = account_line ws s
 unfoldable pub first_word : Reach → List ℕ → Result Keyword LineFault
 first_word reach w = do
   k ← known (keyword w) Syntax
-  _ ← require (has reach (first_reach k)) Syntax
-  Ok k
+  _ ← require (has reach k.0) Syntax
+  Ok k.1
 
 -- a line of these words says nothing where there are none
 unfoldable pub words_line : Reach → List (List ℕ) → ScriptView → Result ScriptView LineFault
@@ -95,7 +94,7 @@ line_at reach line s = do
 -- what the others say, unless line n has a fault
 abbrev pub at_line : ℕ → Result ScriptView LineFault → (ScriptView → Result ScriptView Refused) → Result ScriptView Refused
 at_line n (Ok s) others = others s
-at_line n (Err fault) others = Err (record { line = n; number = number_of fault })
+at_line n (Err fault) others = Err (record { line = n; fault = fault })
 
 -- the lines from number n on
 unfoldable pub lines_from : Reach → ℕ → List (List ℕ) → ScriptView → Result ScriptView Refused
@@ -108,4 +107,4 @@ no_lines = record { settings = record { rows = 64; units = 256; attempts = 3 }; 
 
 -- what the bytes of a script say that may go so far, or the line and number of its first fault
 unfoldable pub script : Reach → List ℕ → Result ScriptView Refused
-script reach bytes = if nat_lt bytes_limit (length bytes) then Err (record { line = 0; number = number_of TooLong }) else lines_from reach 1 (lines bytes) no_lines
+script reach bytes = if nat_lt bytes_limit (length bytes) then Err (record { line = 0; fault = TooLong }) else lines_from reach 1 (lines bytes) no_lines

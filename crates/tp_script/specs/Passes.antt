@@ -4,9 +4,9 @@ use Rattle.std.specs.List.{list_any, sum_by}
 use Rattle.tp_script.specs.declared.script.Command.{Command}
 use Rattle.tp_script.specs.declared.script.Command.TheVariants.{Race}
 
--- what a command needs for itself: a race's clients and cancellers
+-- what a command needs for itself: a race's clients and killers
 abbrev pub racers : Command → ℕ
-racers (Race clients submits stage key amount cancellers turns) = clients + cancellers
+racers (Race race) = race.clients + race.killers
 racers other = 0
 
 -- what all of them need
@@ -15,7 +15,7 @@ racing commands = sum_by racers commands
 
 -- a race
 abbrev pub is_race : Command → Bool
-is_race (Race clients submits stage key amount cancellers turns) = true
+is_race (Race race) = true
 is_race other = false
 
 -- whether there is a race among the commands

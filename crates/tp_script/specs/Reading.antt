@@ -8,7 +8,6 @@ use Rattle.tp_script.specs.declared.fault.ReadFault.TheVariants as faults
 use Rattle.tp_script.specs.declared.fault.Refused.{Refused}
 use Rattle.tp_script.specs.declared.script.Script.{Script}
 use Rattle.tp_script.specs.declared.servers.Shape.{Shape}
-use Rattle.tp_script.specs.Fault.{number_of}
 use Rattle.tp_script.specs.Script.{ScriptView, script_view}
 use Rattle.tp_script.specs.ServerLines as lines
 use Rattle.tp_script.specs.declared.commands.RaceWords.{RaceWords}
@@ -34,16 +33,16 @@ shape_view s = record { name = s.name.now; kind = s.kind; stage = s.stage.now; r
 
 -- the words of a race line, without where they lie in memory
 abbrev pub race_view : RaceWords → commands.RaceWords
-race_view w = record { clients = w.clients.now; submits = w.submits.now; stage = w.stage.now; key = w.key.now; amount = w.amount.now; cancellers = w.cancellers.now; turns = w.turns.now }
+race_view w = record { clients = w.clients.now; submits = w.submits.now; stage = w.stage.now; key = w.key.now; amount = w.amount.now; killers = w.killers.now; turns = w.turns.now }
 
 -- the answer is this script or this refusal, unless memory ran out or the reader stopped
 abbrev pub Answers : Result Script ReadFault → Result ScriptView Refused → Type 0
 Answers (Ok s) read = read ≡ Ok (script_view s)
 Answers (Err faults.NoMemory) read = Unit {0}
 Answers (Err faults.Read) read = Unit {0}
-Answers (Err (faults.Script line number)) read = read ≡ Err (record { line = line; number = number })
+Answers (Err (faults.Script refused)) read = read ≡ Err refused
 
 -- the fault of a line
 abbrev pub fault_at : ℕ → LineError → ReadFault
 fault_at n errors.NoMemory = faults.NoMemory
-fault_at n (errors.Fault fault) = faults.Script n (number_of fault)
+fault_at n (errors.Fault fault) = faults.Script (record { line = n; fault = fault })

@@ -7,7 +7,7 @@ ghost use Rattle.tp_script.specs.Script.{script_view};
 
 use crate::fault::{LineError, LineFault};
 use crate::keyword::Verb;
-use crate::script::{Command, Script};
+use crate::script::{ClientAct, Command, Race, Script};
 use crate::terms::{is_name, none, number_at, one, three, two};
 
 // The one word, an id.
@@ -28,7 +28,7 @@ fn submit_at(words: (&[u8], &[u8], &[u8])) -> Result<Command, LineError>
     let stage = number_at(words.0, 255)? as u8;
     let key = number_at(words.1, u64::MAX)?;
     let amount = number_at(words.2, u64::MAX)?;
-    Ok(Command::Submit { stage, key, amount })
+    Ok(Command::Client(ClientAct::Submit { stage, key, amount }))
 }
 
 // The words of a race line, each in its place.
@@ -39,15 +39,15 @@ struct RaceWords<'a> {
     stage: &'a [u8],
     key: &'a [u8],
     amount: &'a [u8],
-    cancellers: &'a [u8],
+    killers: &'a [u8],
     turns: &'a [u8],
 }
 
-// CLIENTS SUBMITS STAGE KEY AMOUNT CANCELLERS TURNS
+// CLIENTS SUBMITS STAGE KEY AMOUNT KILLERS TURNS
 fn race_words<'a>(words: &[&'a [u8]]) -> Result<RaceWords<'a>, LineError>
     ensures { Gives race_view result (race_words (map (λ x. x.now) words.now)) }
 {
-    let [clients, submits, stage, key, amount, cancellers, turns] = words else {
+    let [clients, submits, stage, key, amount, killers, turns] = words else {
         return Err(LineError::Fault(LineFault::Syntax));
     };
     Ok(RaceWords {
@@ -56,7 +56,7 @@ fn race_words<'a>(words: &[&'a [u8]]) -> Result<RaceWords<'a>, LineError>
         stage,
         key,
         amount,
-        cancellers,
+        killers,
         turns,
     })
 }
@@ -74,7 +74,7 @@ fn stage_at(word: &[u8]) -> Result<u8, LineError>
     Ok(stage as u8)
 }
 
-// `race CLIENTS SUBMITS STAGE KEY AMOUNT CANCELLERS TURNS`
+// `race CLIENTS SUBMITS STAGE KEY AMOUNT KILLERS TURNS`
 #[tactic(auto, unfolding(crate::specs::Commands::race_at))]
 fn race_at(words: RaceWords<'_>) -> Result<Command, LineError>
     ensures gives { Gives (λ c. c) result (race_at (race_view words.entry)) }
@@ -85,17 +85,17 @@ fn race_at(words: RaceWords<'_>) -> Result<Command, LineError>
     let stage = stage_at(words.stage)?;
     let key = number_at(words.key, u64::MAX)?;
     let amount = number_at(words.amount, u64::MAX)?;
-    let cancellers = number_at(words.cancellers, 31)? as u8;
+    let killers = number_at(words.killers, 31)? as u8;
     let turns = number_at(words.turns, 10_000)? as u16;
-    Ok(Command::Race {
+    Ok(Command::Race(Race {
         clients,
         submits,
         stage,
         key,
         amount,
-        cancellers,
+        killers,
         turns,
-    })
+    }))
 }
 
 impl Script {
@@ -139,44 +139,30 @@ impl Script {
     {
         match verb {
             Verb::Submit => submit_at(three(words)?),
-            Verb::Turn => Ok(Command::Turn {
-                server: self.one_server(words)?,
-            }),
-            Verb::Reply => Ok(Command::Reply {
+            Verb::Kill => Ok(Command::Client(ClientAct::Kill { id: one_id(words)? })),
+            Verb::Cancel => Ok(Command::Client(ClientAct::Cancel {
                 root: one_id(words)?,
-            }),
-            Verb::Claim => Ok(Command::Claim {
-                server: self.one_server(words)?,
-            }),
-            Verb::Prepare => Ok(Command::Prepare {
-                server: self.one_server(words)?,
-            }),
-            Verb::Commit => Ok(Command::Commit {
-                server: self.one_server(words)?,
-            }),
-            Verb::Abort => Ok(Command::Abort {
-                server: self.one_server(words)?,
-            }),
-            Verb::Drop => Ok(Command::Drop {
-                server: self.one_server(words)?,
-            }),
-            Verb::Kill => Ok(Command::Kill { id: one_id(words)? }),
-            Verb::Cancel => Ok(Command::Cancel {
+            })),
+            Verb::Read => Ok(Command::Client(ClientAct::Read { id: one_id(words)? })),
+            Verb::Reply => Ok(Command::Client(ClientAct::Reply {
                 root: one_id(words)?,
-            }),
-            Verb::Read => Ok(Command::Read { id: one_id(words)? }),
+            })),
             Verb::Errors => {
                 none(words)?;
-                Ok(Command::Errors)
+                Ok(Command::Client(ClientAct::Errors))
             }
+            Verb::Count => {
+                none(words)?;
+                Ok(Command::Client(ClientAct::Count))
+            }
+            Verb::Desk(act) => Ok(Command::Desk {
+                server: self.one_server(words)?,
+                act,
+            }),
             Verb::Balance => self.balance_at(two(words)?),
             Verb::Sum => Ok(Command::Sum {
                 k: number_at(one(words)?, u64::MAX)?,
             }),
-            Verb::Count => {
-                none(words)?;
-                Ok(Command::Count)
-            }
             Verb::Race => race_at(race_words(words)?),
             Verb::Drain => {
                 none(words)?;

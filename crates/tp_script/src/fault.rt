@@ -1,6 +1,6 @@
 //! What can go wrong with a script, and with reading it.
 ghost use Rattle.std.specs.Prelude.{◌≡◌, Some};
-ghost use Rattle.tp_script.specs.Fault.{number_of, fault_name, refused_text};
+ghost use Rattle.tp_script.specs.Fault.{fault_name, fault_text, number_of, refused_text};
 
 use crate::source::Failed;
 use std::alloc::{AllocError, AllocFailed};
@@ -16,10 +16,9 @@ pub enum ReadFault {
     /// The reader failed, or had not ended after all the requests that it may be asked.
     #[error("the script could not be read")]
     Read,
-    /// The script is refused: the number of its first faulty line, from 1 on (0 where it is too long as a whole), and the
-    /// number of that line's first fault, 1 to 7.
-    #[error("refused line {line}: fault {number}")]
-    Script { line: u32, number: u8 },
+    /// The script is refused.
+    #[error("{0}")]
+    Script(Refused),
 }
 
 /// What is wrong with a line. Of several faults the first in this order counts: 6, 1, 7, 5, 2, 3, 4.
@@ -57,30 +56,40 @@ impl LineFault {
             LineFault::Order => 7,
         }
     }
+
+    /// The name of the fault.
+    fn name(self) -> &'static str
+        ensures { result.now ≡ fault_name self }
+    {
+        match self {
+            LineFault::Syntax => "Syntax",
+            LineFault::BadNumber => "BadNumber",
+            LineFault::BadLimits => "BadLimits",
+            LineFault::BadRecipe => "BadRecipe",
+            LineFault::BadName => "BadName",
+            LineFault::TooLong => "TooLong",
+            LineFault::Order => "Order",
+        }
+    }
 }
 
-/// Where a script is refused, and the number of the fault.
+impl fmt::Display for LineFault {
+    ghost output = { λ fault. Some (fault_text fault) };
+
+    fn fmt<W: fmt::Write>(&self, f: &mut fmt::Formatter<W>) -> fmt::Result {
+        let number = self.number();
+        let name = self.name();
+        write!(f, "{number} {name}")
+    }
+}
+
+/// Where a script is refused, and why.
 #[derive(Clone, Copy, Debug, PartialEq, Eq)]
 pub struct Refused {
-    /// The line's number, from 1 on; 0 where the script is too long as a whole.
+    /// The number of its first faulty line, from 1 on; 0 where the script is too long as a whole.
     pub line: u32,
-    /// The number of the fault, 1 to 7.
-    pub number: u8,
-}
-
-// The name of the fault with a number, 1 to 7.
-fn fault_name(number: u8) -> &'static str
-    ensures { result.now ≡ fault_name number }
-{
-    match number {
-        1 => "Syntax",
-        2 => "BadNumber",
-        3 => "BadLimits",
-        4 => "BadRecipe",
-        5 => "BadName",
-        6 => "TooLong",
-        _ => "Order",
-    }
+    /// The first fault of that line.
+    pub fault: LineFault,
 }
 
 impl fmt::Display for Refused {
@@ -88,9 +97,8 @@ impl fmt::Display for Refused {
 
     fn fmt<W: fmt::Write>(&self, f: &mut fmt::Formatter<W>) -> fmt::Result {
         let line = self.line;
-        let number = self.number;
-        let name = fault_name(number);
-        write!(f, "refused line {line}: {number} {name}")
+        let fault = self.fault;
+        write!(f, "refused line {line}: {fault}")
     }
 }
 

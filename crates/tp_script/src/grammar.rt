@@ -138,8 +138,8 @@ fn first_word(reach: Reach, word: &[u8]) -> Result<Keyword, LineError>
     ensures { Gives (λ k. k) result (first_word reach word.now) }
 {
     match Keyword::of(word) {
-        Some(keyword) => {
-            if reach.has(keyword.reach()) {
+        Some((first, keyword)) => {
+            if reach.has(first) {
                 Ok(keyword)
             } else {
                 Err(LineError::Fault(LineFault::Syntax))

@@ -1,10 +1,11 @@
 //! The first words of lines.
 ghost use Rattle.std.specs.Prelude.{◌≡◌};
-ghost use Rattle.tp_script.specs.Keyword.{verb_text, verb_reach, text, first_reach, keyword};
+ghost use Rattle.tp_script.specs.Keyword.{keyword};
 
-use crate::reach::Reach;
+use crate::reach::Reach::{self, Desks, Plain, Workers};
+use crate::script::DeskAct;
 
-/// The first words that lines may have.
+/// What a line is, by its first word.
 #[derive(Clone, Copy, Debug, PartialEq, Eq)]
 pub enum Keyword {
     Rows,
@@ -18,127 +19,60 @@ pub enum Keyword {
     Account,
 }
 
-/// The first words of commands.
+/// What a command is, by its first word.
 #[derive(Clone, Copy, Debug, PartialEq, Eq)]
 pub enum Verb {
     Submit,
-    Turn,
-    Reply,
-    Claim,
-    Prepare,
-    Commit,
-    Abort,
-    Drop,
     Kill,
     Cancel,
     Read,
+    Reply,
     Errors,
+    Count,
+    /// A server's desk does this.
+    Desk(DeskAct),
     Balance,
     Sum,
-    Count,
     Race,
     Drain,
 }
 
-impl Verb {
-    fn text(self) -> &'static str
-        ensures { result.now ≡ verb_text self }
-    {
-        match self {
-            Verb::Submit => "submit",
-            Verb::Turn => "turn",
-            Verb::Reply => "reply",
-            Verb::Claim => "claim",
-            Verb::Prepare => "prepare",
-            Verb::Commit => "commit",
-            Verb::Abort => "abort",
-            Verb::Drop => "drop",
-            Verb::Kill => "kill",
-            Verb::Cancel => "cancel",
-            Verb::Read => "read",
-            Verb::Errors => "errors",
-            Verb::Balance => "balance",
-            Verb::Sum => "sum",
-            Verb::Count => "count",
-            Verb::Race => "race",
-            Verb::Drain => "drain",
-        }
-    }
-
-    // The first reach that knows the word.
-    fn reach(self) -> Reach
-        ensures { result ≡ verb_reach self }
-    {
-        match self {
-            Verb::Submit => Reach::Plain,
-            Verb::Turn => Reach::Plain,
-            Verb::Reply => Reach::Plain,
-            Verb::Race => Reach::Workers,
-            Verb::Drain => Reach::Workers,
-            _ => Reach::Desks,
-        }
-    }
-}
+/// The first words that lines may have: how each is written, the first reach that knows it, and what the line is.
+const FIRST_WORDS: [(&str, Reach, Keyword); 23] = [
+    ("rows", Plain, Keyword::Rows),
+    ("units", Plain, Keyword::Units),
+    ("limit", Plain, Keyword::Limit),
+    ("server", Plain, Keyword::Server),
+    ("start", Plain, Keyword::Start),
+    ("submit", Plain, Keyword::Do(Verb::Submit)),
+    ("turn", Plain, Keyword::Do(Verb::Desk(DeskAct::Turn))),
+    ("reply", Plain, Keyword::Do(Verb::Reply)),
+    ("claim", Desks, Keyword::Do(Verb::Desk(DeskAct::Claim))),
+    ("prepare", Desks, Keyword::Do(Verb::Desk(DeskAct::Prepare))),
+    ("commit", Desks, Keyword::Do(Verb::Desk(DeskAct::Commit))),
+    ("abort", Desks, Keyword::Do(Verb::Desk(DeskAct::Abort))),
+    ("drop", Desks, Keyword::Do(Verb::Desk(DeskAct::Drop))),
+    ("kill", Desks, Keyword::Do(Verb::Kill)),
+    ("cancel", Desks, Keyword::Do(Verb::Cancel)),
+    ("read", Desks, Keyword::Do(Verb::Read)),
+    ("errors", Desks, Keyword::Do(Verb::Errors)),
+    ("balance", Desks, Keyword::Do(Verb::Balance)),
+    ("sum", Desks, Keyword::Do(Verb::Sum)),
+    ("count", Desks, Keyword::Do(Verb::Count)),
+    ("race", Workers, Keyword::Do(Verb::Race)),
+    ("drain", Workers, Keyword::Do(Verb::Drain)),
+    ("account", Desks, Keyword::Account),
+];
 
 impl Keyword {
-    const ALL: [Keyword; 23] = [
-        Keyword::Rows,
-        Keyword::Units,
-        Keyword::Limit,
-        Keyword::Server,
-        Keyword::Start,
-        Keyword::Do(Verb::Submit),
-        Keyword::Do(Verb::Turn),
-        Keyword::Do(Verb::Reply),
-        Keyword::Do(Verb::Claim),
-        Keyword::Do(Verb::Prepare),
-        Keyword::Do(Verb::Commit),
-        Keyword::Do(Verb::Abort),
-        Keyword::Do(Verb::Drop),
-        Keyword::Do(Verb::Kill),
-        Keyword::Do(Verb::Cancel),
-        Keyword::Do(Verb::Read),
-        Keyword::Do(Verb::Errors),
-        Keyword::Do(Verb::Balance),
-        Keyword::Do(Verb::Sum),
-        Keyword::Do(Verb::Count),
-        Keyword::Do(Verb::Race),
-        Keyword::Do(Verb::Drain),
-        Keyword::Account,
-    ];
-
-    fn text(self) -> &'static str
-        ensures { result.now ≡ text self }
-    {
-        match self {
-            Keyword::Rows => "rows",
-            Keyword::Units => "units",
-            Keyword::Limit => "limit",
-            Keyword::Server => "server",
-            Keyword::Start => "start",
-            Keyword::Do(verb) => verb.text(),
-            Keyword::Account => "account",
-        }
-    }
-
-    /// The first reach that knows the word.
-    pub fn reach(self) -> Reach
-        ensures { result ≡ first_reach self }
-    {
-        match self {
-            Keyword::Do(verb) => verb.reach(),
-            Keyword::Account => Reach::Desks,
-            _ => Reach::Plain,
-        }
-    }
-
-    /// The keyword that a word is.
-    pub fn of(word: &[u8]) -> Option<Keyword>
+    /// What a line of this first word is, with the first reach that knows the word.
+    pub fn of(word: &[u8]) -> Option<(Reach, Keyword)>
         ensures { result ≡ keyword word.now }
     {
-        Keyword::ALL
+        let row = FIRST_WORDS
             .iter()
-            .find(|keyword| keyword.text().as_bytes() == word)
-            .copied()
+            .find(|row| row.0.as_bytes() == word)
+            .copied()?;
+        Some((row.1, row.2))
     }
 }

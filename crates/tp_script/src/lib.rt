@@ -16,5 +16,8 @@ mod text;
 pub use fault::{LineFault, ReadFault, Refused};
 pub use parse::{read_script, read_script_at};
 pub use reach::{REACH, Reach};
-pub use script::{Command, Kind, MOST_PASSES, MOST_SERVERS, Script, ScriptServer, Settings};
+pub use script::{
+    ClientAct, Command, DeskAct, Kind, MOST_PASSES, MOST_SERVERS, Race, Script, ScriptServer,
+    Settings,
+};
 pub use source::{Failed, MOST_BYTES, MOST_REQUESTS, Source, StdSource};

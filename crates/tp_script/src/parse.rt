@@ -5,7 +5,7 @@ ghost use Rattle.tp_script.specs.Devices.{StopsReading};
 ghost use Rattle.tp_script.specs.Grammar.{script};
 ghost use Rattle.tp_script.specs.Reading.{Answers, fault_at};
 
-use crate::fault::{LineError, LineFault, ReadFault};
+use crate::fault::{LineError, LineFault, ReadFault, Refused};
 use crate::reach::{REACH, Reach};
 use crate::script::Script;
 use crate::source::{MOST_BYTES, Source, read_all};
@@ -18,10 +18,7 @@ fn at_line(line: u32, error: LineError) -> ReadFault
 {
     match error {
         LineError::NoMemory => ReadFault::NoMemory,
-        LineError::Fault(fault) => ReadFault::Script {
-            line,
-            number: fault.number(),
-        },
+        LineError::Fault(fault) => ReadFault::Script(Refused { line, fault }),
     }
 }
 

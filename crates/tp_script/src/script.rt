@@ -55,83 +55,72 @@ pub struct ScriptServer {
     ghost counted: { length registers ≡ recipe.registers },
 }
 
+/// What the script's own client does.
+#[derive(Clone, Copy, Debug, PartialEq, Eq)]
+pub enum ClientAct {
+    /// It submits an element.
+    Submit { stage: u8, key: u64, amount: u64 },
+    /// It kills an element.
+    Kill { id: u32 },
+    /// It cancels a whole request.
+    Cancel { root: u32 },
+    /// It reads an element.
+    Read { id: u32 },
+    /// It lists the replies to a request.
+    Reply { root: u32 },
+    /// It lists the parked elements.
+    Errors,
+    /// It counts the elements by how they stand.
+    Count,
+}
+
+/// What a server's desk does.
+#[derive(Clone, Copy, Debug, PartialEq, Eq)]
+pub enum DeskAct {
+    /// It takes a turn.
+    Turn,
+    /// It takes an element.
+    Claim,
+    /// It prepares its work on the element that it took.
+    Prepare,
+    /// It commits its unit of work.
+    Commit,
+    /// It aborts its unit of work.
+    Abort,
+    /// It is dropped.
+    Drop,
+}
+
+/// The servers take turns while clients submit and killers kill, each on a thread of its own.
+#[derive(Clone, Copy, Debug, PartialEq, Eq)]
+pub struct Race {
+    /// How many clients there are, 0 to 31.
+    pub clients: u8,
+    /// How often each of them submits, 0 to 256.
+    pub submits: u16,
+    /// What each of them submits; the stage is 1 to 14.
+    pub stage: u8,
+    pub key: u64,
+    pub amount: u64,
+    /// How many killers there are, 0 to 31.
+    pub killers: u8,
+    /// The most turns of each server, 0 to 10,000.
+    pub turns: u16,
+}
+
 /// A command. A server is given by its place among the script's servers.
 #[derive(Clone, Copy, Debug, PartialEq, Eq)]
 pub enum Command {
-    /// The client submits an element.
-    Submit {
-        stage: u8,
-        key: u64,
-        amount: u64,
-    },
-    /// The server takes a turn.
-    Turn {
-        server: usize,
-    },
-    /// The replies to a request are listed.
-    Reply {
-        root: u32,
-    },
-    /// The server takes an element.
-    Claim {
-        server: usize,
-    },
-    /// The server prepares its work on the element that it took.
-    Prepare {
-        server: usize,
-    },
-    /// The server commits its unit of work.
-    Commit {
-        server: usize,
-    },
-    /// The server aborts its unit of work.
-    Abort {
-        server: usize,
-    },
-    /// The server's desk is dropped.
-    Drop {
-        server: usize,
-    },
-    /// An element is killed.
-    Kill {
-        id: u32,
-    },
-    /// A whole request is cancelled.
-    Cancel {
-        root: u32,
-    },
-    /// An element is read.
-    Read {
-        id: u32,
-    },
-    /// The parked elements are listed.
-    Errors,
+    /// The client does this.
+    Client(ClientAct),
+    /// The desk of a server does this.
+    Desk { server: usize, act: DeskAct },
     /// A register of a server is told.
-    Balance {
-        server: usize,
-        k: u64,
-    },
+    Balance { server: usize, k: u64 },
     /// The sum of a register over all servers is told.
-    Sum {
-        k: u64,
-    },
-    /// The elements are counted by how they stand.
-    Count,
-    /// The servers take turns while clients submit and cancellers kill, each on a thread of its own.
-    Race {
-        /// How many clients there are, 0 to 31.
-        clients: u8,
-        /// How often each of them submits, 0 to 256.
-        submits: u16,
-        /// What each of them submits; the stage is 1 to 14.
-        stage: u8,
-        key: u64,
-        amount: u64,
-        /// How many cancellers there are, 0 to 31.
-        cancellers: u8,
-        /// The most turns of each server, 0 to 10,000.
-        turns: u16,
-    },
+    Sum { k: u64 },
+    /// A race is run.
+    Race(Race),
     /// The servers take turns until a whole round of them finds nothing.
     Drain,
 }
@@ -143,19 +132,15 @@ impl Command {
     fn is_race(self) -> bool
         ensures { result ≡ is_race self }
     {
-        matches!(self, Command::Race { .. })
+        matches!(self, Command::Race(_))
     }
 
-    /// How many passes it needs for itself: those of a race's clients and cancellers.
+    /// How many passes it needs for itself: those of a race's clients and killers.
     pub fn racers(self) -> u16
         ensures { result ≡ racers self }
     {
         match self {
-            Command::Race {
-                clients,
-                cancellers,
-                ..
-            } => u16::from(clients) + u16::from(cancellers),
+            Command::Race(race) => u16::from(race.clients) + u16::from(race.killers),
             _ => 0,
         }
     }

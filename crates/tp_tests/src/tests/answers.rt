@@ -4,7 +4,7 @@ use std::test::Fail;
 use tp_desk::Turned;
 use tp_model::types::{Counts, Element, Look, Refusal, Status};
 use tp_report::{Answer, ServerAnswer, line, refused_line};
-use tp_script::Refused;
+use tp_script::{LineFault, Refused};
 use tp_server::Declined;
 
 const REPLY: Element = Element {
@@ -196,7 +196,10 @@ fn other_lines(rt: HostRuntime) -> Result<(), Fail> {
         let text = line(rt.alloc(), answer)?;
         assert_eq!(rt; text.as_str(), want);
     }
-    let refused = Refused { line: 2, number: 1 };
+    let refused = Refused {
+        line: 2,
+        fault: LineFault::Syntax,
+    };
     let text = refused_line(rt.alloc(), refused)?;
     assert_eq!(rt; text.as_str(), "refused line 2: 1 Syntax\n");
     Ok(())

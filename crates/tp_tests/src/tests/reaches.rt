@@ -1,7 +1,7 @@
 //! How far scripts may go.
 
 use std::test::Fail;
-use tp_script::{Reach, ReadFault, StdSource, read_script, read_script_at};
+use tp_script::{LineFault, Reach, ReadFault, Refused, StdSource, read_script, read_script_at};
 
 /// Why a script isn't read that may go so far.
 fn read(rt: &HostRuntime, reach: Reach, script: &[u8]) -> Result<(), ReadFault> {
@@ -22,7 +22,10 @@ fn behind_a_server(rt: &HostRuntime, line: &str) -> Result<Vec<u8>, Fail> {
 
 #[test]
 fn reaches(rt: HostRuntime) -> Result<(), Fail> {
-    let unknown = Err(ReadFault::Script { line: 2, number: 1 });
+    let unknown = Err(ReadFault::Script(Refused {
+        line: 2,
+        fault: LineFault::Syntax,
+    }));
     for (line, plain, desks) in [
         ("submit 1 0 1", Ok(()), Ok(())),
         ("turn a", Ok(()), Ok(())),

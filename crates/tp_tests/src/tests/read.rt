@@ -1,16 +1,26 @@
 //! What a script says, as it is read.
 
-use tp_script::{Command, Kind, Reach, StdSource, read_script_at};
+use tp_script::{ClientAct, Command, DeskAct, Kind, Race, Reach, StdSource, read_script_at};
 
 const SCRIPT: &str =
     "units 3\nserver a eager 1 2 add\nserver b lazy 2 1 take 15:7:after\nstart a 1 5\nsubmit 9 8 7\nturn b\nreply 6\nclaim a\nprepare b\ncommit a\nabort b\ndrop a\nkill 5\ncancel 6\nread 4\nerrors\nbalance b 3\nsum 2\ncount\nrace 4 256 14 3 2 1 10000\ndrain\naccount\n";
+
+/// The client's command.
+fn client(act: ClientAct) -> Command {
+    Command::Client(act)
+}
+
+/// A command on a server's desk.
+fn desk(server: usize, act: DeskAct) -> Command {
+    Command::Desk { server, act }
+}
 
 #[test]
 fn each_command(rt: HostRuntime) {
     let mut source = StdSource::new(SCRIPT.as_bytes());
     match read_script_at(rt.alloc(), Reach::Workers, &mut source) {
         Ok(script) => {
-            // The client, two servers, four clients and a canceller.
+            // The client, two servers, four clients and a killer.
             assert_eq!(rt; script.passes(), 8);
             let settings = script.settings;
             assert_eq!(rt;
@@ -22,34 +32,34 @@ fn each_command(rt: HostRuntime) {
             assert_eq!(rt; (b.name.as_str(), b.kind), ("b", Kind::Lazy));
             assert_eq!(rt; script.servers[0].registers.get(1), Some(5));
             let commands = [
-                Command::Submit {
+                client(ClientAct::Submit {
                     stage: 9,
                     key: 8,
                     amount: 7,
-                },
-                Command::Turn { server: 1 },
-                Command::Reply { root: 6 },
-                Command::Claim { server: 0 },
-                Command::Prepare { server: 1 },
-                Command::Commit { server: 0 },
-                Command::Abort { server: 1 },
-                Command::Drop { server: 0 },
-                Command::Kill { id: 5 },
-                Command::Cancel { root: 6 },
-                Command::Read { id: 4 },
-                Command::Errors,
+                }),
+                desk(1, DeskAct::Turn),
+                client(ClientAct::Reply { root: 6 }),
+                desk(0, DeskAct::Claim),
+                desk(1, DeskAct::Prepare),
+                desk(0, DeskAct::Commit),
+                desk(1, DeskAct::Abort),
+                desk(0, DeskAct::Drop),
+                client(ClientAct::Kill { id: 5 }),
+                client(ClientAct::Cancel { root: 6 }),
+                client(ClientAct::Read { id: 4 }),
+                client(ClientAct::Errors),
                 Command::Balance { server: 1, k: 3 },
                 Command::Sum { k: 2 },
-                Command::Count,
-                Command::Race {
+                client(ClientAct::Count),
+                Command::Race(Race {
                     clients: 4,
                     submits: 256,
                     stage: 14,
                     key: 3,
                     amount: 2,
-                    cancellers: 1,
+                    killers: 1,
                     turns: 10_000,
-                },
+                }),
                 Command::Drain,
             ];
             assert_eq!(rt; script.commands.as_slice(), commands.as_slice());

@@ -84,6 +84,6 @@ returns-clause-ran g c =
       client_counts = _;
       killer_counts = _;
       clients_ran = subst (λ js. RanEach (ClientRan c.args.manager.now) c.args.clients.now c.args.jobs.now (client_part c.shift-counts.result) c.shift-counts.new.client_passes js) c.shift-counts.ensures.clients_same c.shift-counts.ensures.clients;
-      cancellers_ran = subst (λ js. RanEach (KillerRan c.args.manager.now) c.args.cancellers.now c.args.kills.now (killer_part c.shift-counts.result) c.shift-counts.new.killer_passes js) c.shift-counts.ensures.killers_same c.shift-counts.ensures.killers;
+      killers_ran = subst (λ js. RanEach (KillerRan c.args.manager.now) c.args.killers.now c.args.kills.now (killer_part c.shift-counts.result) c.shift-counts.new.killer_passes js) c.shift-counts.ensures.killers_same c.shift-counts.ensures.killers;
       accepted = refl;
     }

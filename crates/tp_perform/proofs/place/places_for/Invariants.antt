@@ -1,7 +1,7 @@
 use Rattle.std.proofs.Common.{◌≡◌, take}
 use Rattle.tp_perform.specs.Acting.{new_places, places_shown}
 use Rattle.tp_perform.specs.Places.{AllLie, all_firsts, firsts}
-use Rattle.tp_perform.proofs.perform.places_for.Given as goal
+use Rattle.tp_perform.proofs.place.places_for.Given as goal
 
 abbrev pub invariant-loop-i : goal.invariant-loop-i
 invariant-loop-i g l = record {

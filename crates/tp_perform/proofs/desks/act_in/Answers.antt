@@ -3,7 +3,7 @@ use Rattle.tp_perform.proofs.Lies.{lie_at, lie_passes, lie_servers, lie_set}
 use Rattle.tp_perform.specs.Places.{first_of}
 use Rattle.tp_perform.proofs.Lefts.{map_set_same}
 use Rattle.tp_perform.proofs.Shows.{shown_at, shown_set}
-use Rattle.tp_perform.proofs.perform.act_in.Goals as goal
+use Rattle.tp_perform.proofs.desks.act_in.Goals as goal
 
 pub bounds-passes-at : goal.bounds-passes-at
 bounds-passes-at g c = let e = lie_passes (λ b. (goal.Server-dyn g (b.vtable, b.value)).recipe b.value) (λ b. (goal.Server-dyn g (b.vtable, b.value)).registers b.value) (λ b. (goal.Server-dyn g (b.vtable, b.value)).pending b.value) c.args.passes.now c.args.servers.now c.args.places.now c.requires.lie in omega (arith, e, c.requires.within)

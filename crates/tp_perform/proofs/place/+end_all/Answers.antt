@@ -2,7 +2,7 @@ use Rattle.std.proofs.Common.{rules}
 use Rattle.tp_manager.specs.Shown.{IsOf}
 use Rattle.tp_perform.proofs.Alls.{all_rest}
 use Rattle.tp_perform.proofs.Lies.{lie_parts}
-use Rattle.tp_perform.proofs.perform.+end_all.Goals as goal
+use Rattle.tp_perform.proofs.place.+end_all.Goals as goal
 
 pub end_all-requires : goal.end_all-requires
 end_all-requires g t c = (

@@ -3,7 +3,7 @@ use Rattle.std.proofs.lemmas.List.{take_more, length-take-le}
 use Rattle.tp_perform.proofs.Lefts.{firsts_more}
 use Rattle.tp_perform.proofs.Lies.{lie_append, lie_passes, lie_servers}
 use Rattle.tp_perform.proofs.Shows.{shown_more}
-use Rattle.tp_perform.proofs.perform.places_for.Goals as goal
+use Rattle.tp_perform.proofs.place.places_for.Goals as goal
 
 pub push-requires : goal.push-requires
 push-requires g c =
