@@ -10,10 +10,11 @@ use Rattle.tp_model.specs.Accounts.{one_more}
 use Rattle.tp_model.specs.Counts.{is_waiting}
 use Rattle.tp_model.specs.History.{IsUnborn}
 use Rattle.tp_model.specs.Steps.{rows_of}
-use Rattle.tp_manager.specs.Bounds.{kill_steps, cancel_steps, next_error_steps, read_steps, submit_steps}
+use Rattle.tp_manager.specs.Bounds.{kill_steps, cancel_steps, next_error_steps, read_steps, requeue_steps, submit_steps}
 use Rattle.tp_manager.specs.Calls.{AtPoint, Follows, IsQuiet, KillFails, Kills, Reads, SubmitRefused, Submits}
 use Rattle.tp_manager.specs.Cancels.{CancelFails, Cancels}
 use Rattle.tp_manager.specs.Lists.{NextError, NoneParked}
+use Rattle.tp_manager.specs.Requeues.{RequeueFails, Requeues}
 use Rattle.tp_manager.specs.Shown.{PassShown}
 use Rattle.tp_report.specs.declared.answer.Answer.{Answer}
 use Rattle.tp_report.specs.declared.answer.Answer.TheVariants as answer
@@ -49,6 +50,15 @@ Cancelled l root old new other = ⊥
 
 abbrev pub TellsCancel : Limits → ℕ → PassShown → PassShown → Answer → Type 0
 TellsCancel l root old new a = Follows (cancel_steps l) old new × Cancelled l root old new a
+
+-- a requeue
+abbrev pub Requeued : Limits → ℕ → PassShown → PassShown → Answer → Type 0
+Requeued l id old new (answer.Requeued i round) = (i ≡ id) × Requeues id round old new
+Requeued l id old new (answer.Refused why) = RequeueFails l id old new why
+Requeued l id old new other = ⊥
+
+abbrev pub TellsRequeue : Limits → ℕ → PassShown → PassShown → Answer → Type 0
+TellsRequeue l id old new a = Follows requeue_steps old new × Requeued l id old new a
 
 -- a read
 abbrev pub HasRead : Limits → ℕ → PassShown → PassShown → Answer → Type 0
@@ -133,6 +143,7 @@ abbrev pub TellsClient : Limits → ClientAct → PassShown → List ℕ → Pas
 TellsClient l (acts.Submit stage key amount) = AnswerLine (TellsSubmit stage key amount)
 TellsClient l (acts.Kill id) = AnswerLine (TellsKill l id)
 TellsClient l (acts.Cancel root) = AnswerLine (TellsCancel l root)
+TellsClient l (acts.Requeue id) = AnswerLine (TellsRequeue l id)
 TellsClient l (acts.Read id) = AnswerLine (TellsRead l id)
 TellsClient l (acts.Reply root) = FoundLine (TellsReplies l root (rows_of l)) (replies_text root)
 TellsClient l acts.Errors = FoundLine (TellsErrors l 0) errors_text

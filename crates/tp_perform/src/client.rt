@@ -7,7 +7,7 @@ ghost use Rattle.tp_report.specs.Answer.{errors_text, line, replies_text};
 ghost use Rattle.tp_report.specs.Lines.{IsLine};
 ghost use Rattle.tp_report.specs.declared.answer.Answer.{Answer};
 ghost use Rattle.tp_workers.specs.Free.{IsFreePass};
-ghost use Rattle.tp_perform.specs.Asked.{TellsCancel, TellsClient, TellsCount, TellsErrors, TellsKill, TellsRead, TellsReplies, TellsSubmit, is_reply, reply_in};
+ghost use Rattle.tp_perform.specs.Asked.{TellsCancel, TellsClient, TellsCount, TellsErrors, TellsKill, TellsRead, TellsReplies, TellsRequeue, TellsSubmit, is_reply, reply_in};
 
 use std::alloc::{AllocError, Global};
 use std::string::String;
@@ -36,6 +36,7 @@ pub(crate) fn client_line(
         }
         ClientAct::Kill { id } => line(alloc, kill(manager, client, id)),
         ClientAct::Cancel { root } => line(alloc, cancel(manager, client, root)),
+        ClientAct::Requeue { id } => line(alloc, requeue(manager, client, id)),
         ClientAct::Read { id } => line(alloc, read(manager, client, id)),
         ClientAct::Reply { root } => replies(alloc, manager, client, root),
         ClientAct::Errors => errors(alloc, manager, client),
@@ -84,6 +85,19 @@ fn cancel(manager: &Manager, client: &mut Pass, root: u32) -> Answer<'static>
             root,
             killed: cancelled.killed,
         },
+        Err(why) => Answer::Refused(why),
+    }
+}
+
+/// `requeue ID`
+fn requeue(manager: &Manager, client: &mut Pass, id: u32) -> Answer<'static>
+    requires { IsFreePass manager.now client.old }
+    ensures free { IsFreePass manager.now client.new }
+    ensures number { client.new.number ≡ client.old.number }
+    ensures tells { TellsRequeue manager.now.limits id client.old client.new result }
+{
+    match manager.requeue(client, id) {
+        Ok(round) => Answer::Requeued { id, round },
         Err(why) => Answer::Refused(why),
     }
 }

@@ -127,6 +127,7 @@ answer_text (answer.Server name told) = named_text name.now told
 answer_text (answer.Replies root replies) = replies_text root replies.now
 answer_text (answer.Killed id aborted) = codes "killed " <> decimal id <> codes " aborted " <> decimal aborted
 answer_text (answer.Cancelled root killed) = codes "cancelled " <> decimal root <> codes " killed " <> decimal killed
+answer_text (answer.Requeued id round) = codes "requeued " <> decimal id <> codes " round " <> decimal round
 answer_text (answer.Read look) = look_text look
 answer_text (answer.Errors ids) = errors_text ids.now
 answer_text (answer.Balance name k value) = balance_text name.now k value

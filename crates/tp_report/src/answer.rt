@@ -70,6 +70,11 @@ pub enum Answer<'a> {
         root: u32,
         killed: u32,
     },
+    /// The parked element was given this round.
+    Requeued {
+        id: u32,
+        round: u8,
+    },
     /// An element as it was read.
     Read(Look),
     /// The ids of the parked elements.

@@ -203,6 +203,7 @@ impl fmt::Display for Answer<'_> {
             Answer::Replies { root, replies: all } => replies(f, root, all),
             Answer::Killed { id, aborted } => write!(f, "killed {id} aborted {aborted}"),
             Answer::Cancelled { root, killed } => write!(f, "cancelled {root} killed {killed}"),
+            Answer::Requeued { id, round } => write!(f, "requeued {id} round {round}"),
             Answer::Read(shown) => look(f, shown),
             Answer::Errors(ids) => errors(f, ids),
             Answer::Balance { name, k, value } => balance(f, name, k, value),

@@ -82,6 +82,7 @@ unfoldable pub command_at : Verb → List (List ℕ) → ScriptView → Result C
 command_at verb.Submit ws s = three ws >>= λ w. submit_at w
 command_at verb.Kill ws s = one_id ws >>= λ id. Ok (Client (client.Kill id))
 command_at verb.Cancel ws s = one_id ws >>= λ root. Ok (Client (client.Cancel root))
+command_at verb.Requeue ws s = one_id ws >>= λ id. Ok (Client (client.Requeue id))
 command_at verb.Read ws s = one_id ws >>= λ id. Ok (Client (client.Read id))
 command_at verb.Reply ws s = one_id ws >>= λ root. Ok (Client (client.Reply root))
 command_at verb.Errors ws s = none ws >>= λ _. Ok (Client client.Errors)

@@ -26,6 +26,7 @@ first_words =
     ∷ (codes "drop", Desks, Do (verb.Desk desk.Drop))
     ∷ (codes "kill", Desks, Do verb.Kill)
     ∷ (codes "cancel", Desks, Do verb.Cancel)
+    ∷ (codes "requeue", Desks, Do verb.Requeue)
     ∷ (codes "read", Desks, Do verb.Read)
     ∷ (codes "errors", Desks, Do verb.Errors)
     ∷ (codes "balance", Desks, Do verb.Balance)

@@ -143,6 +143,7 @@ impl Script {
             Verb::Cancel => Ok(Command::Client(ClientAct::Cancel {
                 root: one_id(words)?,
             })),
+            Verb::Requeue => Ok(Command::Client(ClientAct::Requeue { id: one_id(words)? })),
             Verb::Read => Ok(Command::Client(ClientAct::Read { id: one_id(words)? })),
             Verb::Reply => Ok(Command::Client(ClientAct::Reply {
                 root: one_id(words)?,

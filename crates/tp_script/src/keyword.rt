@@ -25,6 +25,7 @@ pub enum Verb {
     Submit,
     Kill,
     Cancel,
+    Requeue,
     Read,
     Reply,
     Errors,
@@ -38,7 +39,7 @@ pub enum Verb {
 }
 
 /// The first words that lines may have: how each is written, the first reach that knows it, and what the line is.
-const FIRST_WORDS: [(&str, Reach, Keyword); 23] = [
+const FIRST_WORDS: [(&str, Reach, Keyword); 24] = [
     ("rows", Plain, Keyword::Rows),
     ("units", Plain, Keyword::Units),
     ("limit", Plain, Keyword::Limit),
@@ -54,6 +55,7 @@ const FIRST_WORDS: [(&str, Reach, Keyword); 23] = [
     ("drop", Desks, Keyword::Do(Verb::Desk(DeskAct::Drop))),
     ("kill", Desks, Keyword::Do(Verb::Kill)),
     ("cancel", Desks, Keyword::Do(Verb::Cancel)),
+    ("requeue", Desks, Keyword::Do(Verb::Requeue)),
     ("read", Desks, Keyword::Do(Verb::Read)),
     ("errors", Desks, Keyword::Do(Verb::Errors)),
     ("balance", Desks, Keyword::Do(Verb::Balance)),

@@ -64,6 +64,8 @@ pub enum ClientAct {
     Kill { id: u32 },
     /// It cancels a whole request.
     Cancel { root: u32 },
+    /// It gives a parked element another round.
+    Requeue { id: u32 },
     /// It reads an element.
     Read { id: u32 },
     /// It lists the replies to a request.

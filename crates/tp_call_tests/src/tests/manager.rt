@@ -7,6 +7,7 @@ mod examples;
 mod kills;
 mod marks;
 mod refusals;
+mod requeues;
 mod threads;
 
 use tp_model::types::{Element, Limits};

@@ -164,6 +164,7 @@ fn other_lines(rt: HostRuntime) -> Result<(), Fail> {
             Answer::Cancelled { root: 0, killed: 2 },
             "cancelled 0 killed 2\n",
         ),
+        (Answer::Requeued { id: 0, round: 3 }, "requeued 0 round 3\n"),
         (Answer::Errors(&[]), "errors\n"),
         (Answer::Errors(&ids), "errors 0 5 4294967295\n"),
         (balance(Some(5)), "balance a 1 5\n"),

@@ -43,6 +43,7 @@ fn reaches(rt: HostRuntime) -> Result<(), Fail> {
         ("sum 0", unknown, Ok(())),
         ("count", unknown, Ok(())),
         ("cancel 0", unknown, Ok(())),
+        ("requeue 0", unknown, Ok(())),
         ("race 1 1 1 0 1 1 1", unknown, unknown),
         ("drain", unknown, unknown),
     ] {

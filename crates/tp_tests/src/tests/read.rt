@@ -3,7 +3,7 @@
 use tp_script::{ClientAct, Command, DeskAct, Kind, Race, Reach, StdSource, read_script_at};
 
 const SCRIPT: &str =
-    "units 3\nserver a eager 1 2 add\nserver b lazy 2 1 take 15:7:after\nstart a 1 5\nsubmit 9 8 7\nturn b\nreply 6\nclaim a\nprepare b\ncommit a\nabort b\ndrop a\nkill 5\ncancel 6\nread 4\nerrors\nbalance b 3\nsum 2\ncount\nrace 4 256 14 3 2 1 10000\ndrain\naccount\n";
+    "units 3\nserver a eager 1 2 add\nserver b lazy 2 1 take 15:7:after\nstart a 1 5\nsubmit 9 8 7\nturn b\nreply 6\nclaim a\nprepare b\ncommit a\nabort b\ndrop a\nkill 5\ncancel 6\nrequeue 7\nread 4\nerrors\nbalance b 3\nsum 2\ncount\nrace 4 256 14 3 2 1 10000\ndrain\naccount\n";
 
 /// The client's command.
 fn client(act: ClientAct) -> Command {
@@ -46,6 +46,7 @@ fn each_command(rt: HostRuntime) {
                 desk(0, DeskAct::Drop),
                 client(ClientAct::Kill { id: 5 }),
                 client(ClientAct::Cancel { root: 6 }),
+                client(ClientAct::Requeue { id: 7 }),
                 client(ClientAct::Read { id: 4 }),
                 client(ClientAct::Errors),
                 Command::Balance { server: 1, k: 3 },

@@ -96,6 +96,20 @@ pub(crate) fn cancels(
     manager.cancel(pass, root) == answer
 }
 
+/// Whether a requeue answers this.
+pub(crate) fn requeues(
+    manager: &Manager,
+    pass: &mut Pass,
+    id: u32,
+    answer: Result<u8, Refusal>,
+) -> bool
+    requires { IsOf manager.now pass.old }
+    ensures own { IsOf manager.now pass.new }
+    ensures same { pass.new.open_unit ≡ pass.old.open_unit }
+{
+    manager.requeue(pass, id) == answer
+}
+
 /// Whether a read answers this.
 pub(crate) fn reads(
     manager: &Manager,

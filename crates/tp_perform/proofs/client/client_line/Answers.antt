@@ -11,6 +11,9 @@ returns-in-Kill-clause-tells c = rw c.in-Kill.is (answer_told c.line-in-Kill.res
 pub returns-in-Cancel-clause-tells : goal.returns-in-Cancel-clause-tells
 returns-in-Cancel-clause-tells c = rw c.in-Cancel.is (answer_told c.line-in-Cancel.result string_bytes _ _ _ c.cancel.result c.cancel.ensures.tells c.line-in-Cancel.ensures.text)
 
+pub returns-in-Requeue-clause-tells : goal.returns-in-Requeue-clause-tells
+returns-in-Requeue-clause-tells c = rw c.in-Requeue.is (answer_told c.line-in-Requeue.result string_bytes _ _ _ c.requeue.result c.requeue.ensures.tells c.line-in-Requeue.ensures.text)
+
 pub returns-in-Read-clause-tells : goal.returns-in-Read-clause-tells
 returns-in-Read-clause-tells c = rw c.in-Read.is (answer_told c.line-in-Read.result string_bytes _ _ _ c.read.result c.read.ensures.tells c.line-in-Read.ensures.text)
 
