@@ -57,11 +57,15 @@ cancel_steps l = birth_steps + (rows_of l + 1) * round_steps l
 abbrev pub look_steps : Limits → ℕ
 look_steps l = birth_steps + status_steps l
 
+-- what a listing makes in a part: its mark, and those at every row
+abbrev pub find_steps : Limits → ℕ
+find_steps l = 1 + l.rows * look_steps l
+
 abbrev pub reply_steps : Limits → ℕ
-reply_steps l = rows_of l * look_steps l
+reply_steps l = l.parts * find_steps l
 
 abbrev pub next_error_steps : Limits → ℕ
-next_error_steps l = rows_of l * look_steps l
+next_error_steps l = l.parts * find_steps l
 
 -- what a claim makes at a row: the same look, the body, and the exchange
 abbrev pub try_steps : Limits → ℕ
@@ -112,8 +116,8 @@ pub record RoundBounds (l : Limits) : Type 0 where
   pub kill : kill_steps l ≤ 4 * l.attempts + 8
   pub cancel : 1 ≤ rows_of l → cancel_steps l ≤ (rows_of l + 2) * (rows_of l * (4 * l.attempts + 12))
   pub read : read_steps l ≤ 2 * l.attempts + 8
-  pub reply : reply_steps l ≤ rows_of l * (2 * l.attempts + 8)
-  pub next_error : next_error_steps l ≤ rows_of l * (2 * l.attempts + 8)
+  pub reply : reply_steps l ≤ rows_of l * (2 * l.attempts + 8) + l.parts
+  pub next_error : next_error_steps l ≤ rows_of l * (2 * l.attempts + 8) + l.parts
   pub meet : meet_steps ≤ 3
   pub account : AreLimits l → (n : ℕ) → n ≤ l.parts
       → account_steps l n ≤ rows_of l * (2 * (4 * l.attempts + 3) + 10) + 2 * l.parts
