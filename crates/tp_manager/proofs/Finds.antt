@@ -30,7 +30,7 @@ use Rattle.tp_manager.specs.declared.listing.Wanted.TheVariants as wanteds
 use Rattle.tp_manager.specs.Calls.{AtPoint, IsWaiting, opening}
 use Rattle.tp_manager.specs.Looks.{IsThere}
 use Rattle.tp_manager.specs.Shown.{PassShown, shown}
-use Rattle.tp_manager.specs.Walks.{Acted, EachRow, Sought, Steady, Walked}
+use Rattle.tp_manager.specs.Walks.{Acted, EachRow, Steady, Walked}
 use Rattle.tp_manager.specs.Lists.{AllKilled, IsParked, IsReply, NextError, NextReply, NoneParked}
 use Rattle.tp_manager.specs.Finds.{Finds, Hits, IsWanted, PassedOver}
 use Rattle.tp_manager.proofs.Seeks.{Widens}

@@ -49,9 +49,10 @@ kill_steps l = birth_steps + slay_steps l
 abbrev pub round_steps : Limits → ℕ
 round_steps l = rows_of l * kill_steps l
 
--- whether the root is born; then each round but the last finds more rows of the family than the one before it
+-- whether the root is born, and the mark of each part; then each round but the last finds more rows of the family than the
+-- one before it
 abbrev pub cancel_steps : Limits → ℕ
-cancel_steps l = birth_steps + (rows_of l + 1) * round_steps l
+cancel_steps l = birth_steps + l.parts + (rows_of l + 1) * round_steps l
 
 -- what a listing makes at a row
 abbrev pub look_steps : Limits → ℕ
@@ -114,7 +115,7 @@ pub record RoundBounds (l : Limits) : Type 0 where
   pub commit : (k : ℕ) → commit_steps k ≤ 4 * k + 3
   pub abort : abort_steps ≤ 2
   pub kill : kill_steps l ≤ 4 * l.attempts + 8
-  pub cancel : 1 ≤ rows_of l → cancel_steps l ≤ (rows_of l + 2) * (rows_of l * (4 * l.attempts + 12))
+  pub cancel : 1 ≤ rows_of l → cancel_steps l ≤ (rows_of l + 2) * (rows_of l * (4 * l.attempts + 12) + 2 * l.parts + 1)
   pub read : read_steps l ≤ 2 * l.attempts + 8
   pub reply : reply_steps l ≤ rows_of l * (2 * l.attempts + 8) + l.parts
   pub next_error : next_error_steps l ≤ rows_of l * (2 * l.attempts + 8) + l.parts

@@ -1,6 +1,6 @@
-use Rattle.std.proofs.Common.{◌≡◌, ◌⊎◌, ◌+◌, ◌-◌, ◌*◌, ◌<◌, ◌≤◌, ℕ, suc, inl, sym, ◌∙◌, ap, arith, rules, subst, suc-mul, mul-le-mul_right}
+use Rattle.std.proofs.Common.{◌≡◌, ◌+◌, ◌*◌, ◌<◌, ◌≤◌, ℕ, sym, ◌∙◌, ap, arith, subst, suc-mul, mul-le-mul_right}
 use Rattle.tp_model.specs.declared.types.Limits.{Limits}
-use Rattle.tp_model.specs.Steps.{IsRowOf, rows_of}
+use Rattle.tp_model.specs.Steps.{rows_of}
 use Rattle.tp_rule.specs.Tables.{limits_of}
 use Rattle.tp_rule.specs.Views.{SeatShown, view_of}
 use Rattle.tp_manager.specs.Bounds.{find_steps}
@@ -8,7 +8,7 @@ use Rattle.tp_manager.specs.Finds.{PassedOver}
 use Rattle.tp_manager.specs.Walks.{Begun, EachRow, Sought}
 use Rattle.tp_manager.proofs.Walks.{sought_few}
 use Rattle.tp_manager.proofs.Finds.{over_widens}
-use Rattle.tp_manager.proofs.Seeks.{begun_done, begun_few, begun_looked, begun_on, begun_sought, rows_more}
+use Rattle.tp_manager.proofs.Seeks.{begun_done, begun_few, begun_on, begun_sought, rows_more}
 use Rattle.tp_manager.proofs.manager.Shared.find.Goals as goal
 use Rattle.tp_manager.proofs.manager.Shared.find.Goals.{else-row-end, then-row-end+in_default}
 
