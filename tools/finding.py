@@ -5,7 +5,7 @@ points of each element lie in a chain, and each point between two times of the c
 aborted a unit or killed an element that others tell of, and, where a call passed an element over, whether that began to wait
 after the call began or was taken before it ended. Each choice narrows the times of a point, and what must come before and behind.
 """
-from histories import Point, Wrong, agrees, body, status
+from histories import MOST_ROUNDS, Point, Wrong, agrees, body, status
 
 # How many choices are tried out in one round.
 TRIES = 20_000
@@ -21,7 +21,7 @@ class Log:
     def __init__(self, limits, calls):
         self.limits, self.points = limits, []
         self.births, self.roots, self.stages, self.claims, self.ends = {}, {}, {}, {}, {}
-        self.kills, self.cancels, self.looks, self.nones = {}, [], [], []
+        self.kills, self.cancels, self.looks, self.nones, self.requeues = {}, [], [], [], {}
         # Of which call an abort or a kill may have been, and how many each call says that it made.
         self.choices, self.needs = [], {}
         for thread in sorted({it.thread for it in calls}):
@@ -32,7 +32,7 @@ class Log:
                     getattr(self, "take_" + call.kind.lower())(call, call.told)
         self.find_roots()
         self.stands = {id: self.lifetime(id) for id in self.births}
-        if not set(self.claims) | set(self.kills) <= set(self.births):
+        if not set(self.claims) | set(self.kills) | set(self.requeues) <= set(self.births):
             raise Wrong("what was never born was taken or killed")
         for it in self.looks:
             self.place_look(*it)
@@ -115,6 +115,15 @@ class Log:
         else:
             self.looks.append((call, told["root"], "no request", None))
 
+    def take_requeue(self, call, told):
+        id = told["id"]
+        if call.answer[0] == "Ok":
+            rounds = self.requeues.setdefault(id, {})
+            self.must(call.answer[1] not in rounds, call, "that round was given before")
+            rounds[call.answer[1]] = self.point(call, "requeue", id, call.answer[1])
+        else:
+            self.looks.append((call, id, None if call.answer[1] == "NotThere" else call.answer[1], None))
+
     def take_read(self, call, told):
         if call.answer == ("Err", "NotThere"):
             return self.looks.append((call, told["id"], None, None))
@@ -153,15 +162,20 @@ class Log:
         stands = [(("waiting", 0), self.births[id])]
         killed = [it for it in self.kills.get(id, []) if it[1]]
         is_killed = killed or any(of == id and wanted == ("killed",) for _, of, wanted, _ in self.looks)
-        claims = sorted(self.claims.get(id, []), key=lambda it: it[:2])
-        for place, (attempt, unit, made) in enumerate(claims, 1):
-            if attempt != place or stands[-1][0][0] != "waiting":
+        changes = self.claims_and_rounds(id)
+        for place, (attempt, unit, made) in enumerate(changes, 1):
+            if unit is None:
+                if stands[-1][0][0] != "parked":
+                    raise Wrong(f"{id} is given another round, and was {stands[-1][0]}")
+                stands.append((("waiting", 0), made))
+                continue
+            if stands[-1][0] != ("waiting", attempt - 1):
                 raise Wrong(f"{id} is taken by unit {unit} as {attempt}, and was {stands[-1][0]}")
             stands.append((("held", unit, attempt), made))
             how, by = self.ends[unit] or ("open", None)
             if how == "committed":
                 stands.append((("consumed", unit), by))
-            elif how != "open" or place < len(claims) or is_killed:
+            elif how != "open" or place < len(changes) or is_killed:
                 if how != "aborted":
                     by = self.abort_by_another(id, unit, by, how)
                 name = "waiting" if attempt < self.limits["attempts"] else "parked"
@@ -173,6 +187,24 @@ class Log:
         for (_, a), (_, b) in zip(stands, stands[1:]):
             a.next.append(b)
         return stands
+
+    def claims_and_rounds(self, id):
+        """The claims of an element in order, and before those of each further round its requeue, with no unit. Claims for the
+        same time are of one round after another, so their calls end one after another too."""
+        rounds = self.requeues.get(id, {})
+        if sorted(rounds) != list(range(1, len(rounds) + 1)):
+            raise Wrong(f"{id} was given the rounds {sorted(rounds)}")
+        times = {}
+        for it in sorted(self.claims.get(id, []), key=lambda it: it[2].window[1]):
+            times.setdefault(it[0], []).append(it)
+        changes = []
+        for round in range(len(rounds) + 1):
+            if round:
+                changes.append((0, None, rounds[round]))
+            changes += [its[round] for _, its in sorted(times.items()) if round < len(its)]
+        if len(changes) < len(rounds) + sum(map(len, times.values())):
+            raise Wrong(f"{id} is taken more often than its rounds allow")
+        return changes
 
     def abort_by_another(self, id, unit, end, how):
         made = self.point(None, "abort", unit)
@@ -199,18 +231,33 @@ class Log:
             if id in self.births and self.births[id].does == "commit":
                 return
             wanted = None
-        made = self.point(call, "look", id, wanted, element)
         if wanted is None:
+            made = self.point(call, "look", id, wanted, element)
             if id in self.births:
                 made.next.append(self.births[id])
             return
         stands = self.stands.get(id, [])
-        places = [at for at, (it, _) in enumerate(stands) if it[: len(wanted)] == wanted]
-        self.must(places, call, f"{id} was never {wanted}")
-        # Only a reply can be asked for by less than its whole status, and it waits once.
+        after = [it for _, it in stands[1:]] + [None]
+        places = [at for at, (it, since) in enumerate(stands) if self.is_so(id, at, wanted) and since.low < call.after
+                  and (after[at] is None or after[at].high > call.before)]
+        self.must(places, call, f"{id} was not {wanted} then")
+        if len(places) > 1 or wanted == "NotParked":
+            # It stood so more than once in that time, in one round and another: which look it was is left open.
+            self.births[id].next.append(self.point(call, "look", id, (), element))
+            return
+        made = self.point(call, "no_round", id) if wanted == "NoRound" else self.point(call, "look", id, wanted, element)
         stands[places[0]][1].next.append(made)
-        if places[0] + 1 < len(stands):
-            made.next.append(stands[places[0] + 1][1])
+        if after[places[0]]:
+            made.next.append(after[places[0]])
+
+    def is_so(self, id, at, wanted):
+        """Whether an element's status at a place of its life is the wanted one, or begins so."""
+        stands = self.stands[id]
+        if wanted == "NotParked":
+            return stands[at][0][0] != "parked"
+        if wanted == "NoRound":
+            return stands[at][0][0] == "parked" and sum(it.does == "requeue" for _, it in stands[: at + 1]) == MOST_ROUNDS
+        return stands[at][0][: len(wanted)] == wanted
 
     def place_cancel(self, call):
         root = call.told["root"]

@@ -7,6 +7,9 @@ Nothing is known here of the program but what its calls mean.
 """
 import re
 
+# How often an element can be given another round.
+MOST_ROUNDS = 3
+
 STATUSES = ("waiting", "held", "consumed", "parked", "killed")
 
 
@@ -98,7 +101,7 @@ class Manager:
 
     def __init__(self, limits):
         self.limits, self.born, self.status, self.changed = limits, {}, {}, []
-        self.taken, self.open = {}, {}
+        self.taken, self.open, self.rounds = {}, {}, {}
 
     def now_is(self, id, *status):
         self.status[id] = status
@@ -146,6 +149,16 @@ class Manager:
         if id not in self.born or self.status[id][0] not in ("waiting", "parked"):
             raise Wrong(f"{id} can't be killed")
         self.now_is(id, "killed")
+
+    def requeue(self, id, round):
+        if self.status.get(id, ("",))[0] != "parked" or round != self.rounds.get(id, 0) + 1 or round > MOST_ROUNDS:
+            raise Wrong(f"{id} can't be given round {round}")
+        self.rounds[id] = round
+        self.now_is(id, "waiting", 0)
+
+    def no_round(self, id):
+        if self.status.get(id, ("",))[0] != "parked" or self.rounds.get(id, 0) != MOST_ROUNDS:
+            raise Wrong(f"{id} has a round left, or isn't parked")
 
     def look(self, id, wanted, of):
         """`wanted` is a status or the front of one, or None where nothing with this id may be born; `of` is the element, or

@@ -13,16 +13,17 @@ use Rattle.tp_model.specs.declared.types.Claimed.{Claimed}
 use Rattle.tp_model.specs.declared.types.Outcome.{Outcome}
 use Rattle.tp_model.specs.declared.types.Claimed.TheVariants as claimed
 use Rattle.tp_model.specs.declared.types.Outcome.TheVariants as outcome
-use Rattle.tp_model.specs.declared.event.Event.TheVariants.{Abort}
+use Rattle.tp_model.specs.declared.event.Event.TheVariants.{Abort, Requeue}
 use Rattle.tp_model.specs.Drafts.{DraftView}
-use Rattle.tp_model.specs.History.{element_of, UnitClaim, UnitEnd, Committed, Aborted, end_of, status_of}
+use Rattle.tp_model.specs.History.{element_of, UnitClaim, UnitEnd, Committed, Aborted, end_of, rounds, status_of}
 use Rattle.tp_model.specs.Steps.{IsServerStage, IsOpen, Step}
 use Rattle.tp_model.specs.Births.{HasStage}
-use Rattle.tp_plain.specs.OneThread.{Answers, CallSubmit, CallClaim, CallCommit, CallAbort, CallKill, CallRead, Leaves, State, pass_at, next_row}
+use Rattle.tp_plain.specs.OneThread.{Answers, CallSubmit, CallClaim, CallCommit, CallAbort, CallKill, CallRequeue, CallRead, Leaves, State, extended, pass_at, next_row}
 use Rattle.tp_plain.specs.Looks.{is_held_by, looks_after_all}
 use Rattle.tp_plain.specs.Reached.{IsReached}
-use Rattle.tp_plain.specs.Computed.{is_server_stage, submit_of, with_request, next_waiting, claim_found, claim_of_stage, abort_at, abort_of, commit_at, commit_of, unit_in_hand, kill_at, kill_found, read_found, ComputedAreAllowed}
+use Rattle.tp_plain.specs.Computed.{is_server_stage, submit_of, with_request, next_waiting, claim_found, claim_of_stage, abort_at, abort_of, commit_at, commit_of, unit_in_hand, kill_at, kill_found, requeue_at, requeue_found, read_found, ComputedAreAllowed}
 use Rattle.tp_model.proofs.Bridges.{element_of-id}
+use Rattle.tp_model.proofs.WordProofs.{rounds_by_words}
 use Rattle.tp_plain.proofs.PassStates.{may_submit}
 use Rattle.tp_plain.proofs.Claims.{idle, left_by_claim}
 use Rattle.tp_plain.proofs.UnitEnds.{aborted_of}
@@ -142,6 +143,25 @@ module _ (s : State) (c : ℕ) (reached : IsReached s) (is_pass : c < s.limits.p
       found None is = (is, refl)
       found (Some e) is = at e is (status_of s.limits.attempts s.history i) refl
 
+  requeue_allowed : (i : ℕ) → Answers s (CallRequeue c i (requeue_found s c i (element_of s.history i)).0) (requeue_found s c i (element_of s.history i)).1
+  requeue_allowed i = found (element_of s.history i) refl
+    where
+      parked : (e : Element) (n : ℕ) → element_of s.history i ≡ Some e → status_of s.limits.attempts s.history i ≡ Parked n → (b : Bool) → nat_lt (rounds s.history i) 3 ≡ b
+          → let answer : Result ℕ Refusal × State = cond b (Ok (rounds s.history i + 1), extended s (Requeue c i (rounds s.history i + 1))) (Err refusal.NoRound, s) in Answers s (CallRequeue c i answer.0) answer.1
+      parked e n born is true less = (record { pass = is_pass; item = e; born = born; parked = (n, is); next = refl; few = (let below : rounds s.history i < 3 = grind (arith, nat_tests) in let at : rounds s.history i + 1 ≤ 3 = omega arith in at) }, refl)
+      parked e n born is false less = ((e, born, (n, is), (let above : 3 ≤ rounds s.history i = grind (arith, nat_tests) in let most : rounds s.history i ≤ 3 = (rounds_by_words s.limits s.history i reached.legal).1 in let at : rounds s.history i ≡ 3 = omega arith in at)), refl)
+
+      at : (e : Element) → element_of s.history i ≡ Some e → (st : Status) → status_of s.limits.attempts s.history i ≡ st → Answers s (CallRequeue c i (requeue_at s c i (rounds s.history i) st).0) (requeue_at s c i (rounds s.history i) st).1
+      at e born (Waiting n) is = ((e, born, λ p. (let q = sym is ∙ p.1 in cc)), refl)
+      at e born (Held u n) is = ((e, born, λ p. (let q = sym is ∙ p.1 in cc)), refl)
+      at e born (Consumed u) is = ((e, born, λ p. (let q = sym is ∙ p.1 in cc)), refl)
+      at e born (Parked n) is = parked e n born is (nat_lt (rounds s.history i) 3) refl
+      at e born Killed is = ((e, born, λ p. (let q = sym is ∙ p.1 in cc)), refl)
+
+      found : (o : Option Element) → element_of s.history i ≡ o → Answers s (CallRequeue c i (requeue_found s c i o).0) (requeue_found s c i o).1
+      found None is = (is, refl)
+      found (Some e) is = at e is (status_of s.limits.attempts s.history i) refl
+
   read_allowed : (id : ℕ) → Answers s (CallRead id (read_found s (element_of s.history id))) s
   read_allowed id = go (element_of s.history id) refl
     where
@@ -158,5 +178,6 @@ computed_are_allowed s c reached is_pass =
       abort = λ u hand. abort_allowed s c reached is_pass u hand;
       kill = kill_allowed s c reached is_pass;
       cancel = λ root. cancel_allowed s c root is_pass reached.legal;
+      requeue = requeue_allowed s c reached is_pass;
       read = read_allowed s c reached is_pass;
     }

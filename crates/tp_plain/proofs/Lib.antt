@@ -6,5 +6,6 @@ pub mod UnitEnds
 pub mod Commits
 pub mod RunProofs
 pub mod Kills
+pub mod Requeues
 pub mod Allowed
 pub mod Cancels

@@ -12,10 +12,10 @@ use Rattle.tp_model.specs.declared.types.Outcome.TheVariants as outcome
 use Rattle.tp_model.specs.declared.types.Ended.{Ended}
 use Rattle.tp_model.specs.declared.types.Ended.TheVariants as ended
 use Rattle.tp_model.specs.declared.event.Event.{Event}
-use Rattle.tp_model.specs.declared.event.Event.TheVariants.{Claim, Abort, Kill}
+use Rattle.tp_model.specs.declared.event.Event.TheVariants.{Claim, Abort, Kill, Requeue}
 use Rattle.tp_model.specs.Families.{IsRequest, IsSettledFamily, WorksOn}
 use Rattle.tp_model.specs.Steps.{Step, IsLegal}
-use Rattle.tp_plain.specs.OneThread.{State, start, Call, CallSubmit, CallClaim, CallCommit, CallAbort, CallKill, CallCancel, CallRead, extended, Kills, KillsEach, moved, with_pass, Answers, Ends, GivesUp, Claims, Run, RunsAreLegal, RunsGrow}
+use Rattle.tp_plain.specs.OneThread.{State, start, Call, CallSubmit, CallClaim, CallCommit, CallAbort, CallKill, CallCancel, CallRequeue, CallRead, extended, Kills, KillsEach, moved, with_pass, Answers, Ends, GivesUp, Claims, Run, RunsAreLegal, RunsGrow}
 use Rattle.tp_plain.specs.Cancelled.{CancelledForGood}
 use Rattle.tp_model.proofs.Bridges.{found_later}
 use Rattle.tp_model.proofs.Families.{settled_family_stays, never_worked_on}
@@ -103,6 +103,8 @@ goes s (CallKill c i (Ok k)) t is = goes_kill s c i k.units_aborted t is
 goes s (CallKill c i (Err why)) t is = stays s t is.1
 goes s (CallCancel c root (Ok k)) t is = goes_each s c is.ids t is.kills
 goes s (CallCancel c root (Err why)) t is = stays s t is.1
+goes s (CallRequeue c i (Ok r)) t is = extends s t (Requeue c i r) is.0 is.1
+goes s (CallRequeue c i (Err why)) t is = stays s t is.1
 goes s (CallRead id r) t is = stays s t is.1
 
 goes_all : (s : State) (calls : List Call) (t : State) → Run s calls t → Goes s t

@@ -18,12 +18,13 @@ use Rattle.tp_model.specs.declared.types.Ended.{Ended}
 use Rattle.tp_model.specs.declared.types.Ended.TheVariants as ended
 use Rattle.tp_model.specs.declared.types.Refusal.{Refusal}
 use Rattle.tp_model.specs.declared.types.Refusal.TheVariants as refusal
-use Rattle.tp_model.specs.declared.event.Event.TheVariants.{Enqueue, Claim, Commit, Abort, Kill}
+use Rattle.tp_model.specs.declared.event.Event.TheVariants.{Enqueue, Claim, Commit, Abort, Kill, Requeue}
 use Rattle.tp_model.specs.Drafts.{DraftView}
-use Rattle.tp_model.specs.History.{element_of, UnitEnd, Committed, Aborted, end_of, status_of}
+use Rattle.tp_model.specs.History.{element_of, UnitEnd, Committed, Aborted, end_of, rounds, status_of}
+use Rattle.tp_model.specs.declared.types.TheConstants.{MOST_ROUNDS}
 use Rattle.tp_plain.specs.Looks.{look_at, sooner, attempts_in, is_unsettled_of, looks_after_all}
 use Rattle.tp_model.specs.Births.{HasStage, request}
-use Rattle.tp_plain.specs.OneThread.{Answers, CallSubmit, CallClaim, CallCommit, CallAbort, CallKill, CallCancel, CallRead, State, pass_at, next_row, next_unit, moved, with_pass, extended, free_pass, made_of}
+use Rattle.tp_plain.specs.OneThread.{Answers, CallSubmit, CallClaim, CallCommit, CallAbort, CallKill, CallCancel, CallRequeue, CallRead, State, pass_at, next_row, next_unit, moved, with_pass, extended, free_pass, made_of}
 
 -- whether clients may submit to this stage
 abbrev pub is_server_stage : ℕ → Bool
@@ -118,6 +119,23 @@ kill_found s c i (Some e) = kill_at s c i (status_of s.limits.attempts s.history
 abbrev pub kill_of : State → ℕ → ℕ → Result KilledAnswer Refusal × State
 kill_of s c i = kill_found s c i (element_of s.history i)
 
+-- a requeue of an element that stands so, and has had so many rounds
+abbrev pub requeue_at : State → ℕ → ℕ → ℕ → Status → Result ℕ Refusal × State
+requeue_at s c i k (Waiting n) = (Err refusal.NotParked, s)
+requeue_at s c i k (Held u n) = (Err refusal.NotParked, s)
+requeue_at s c i k (Consumed u) = (Err refusal.NotParked, s)
+requeue_at s c i k (Parked n) = if nat_lt k MOST_ROUNDS then (Ok (k + 1), extended s (Requeue c i (k + 1))) else (Err refusal.NoRound, s)
+requeue_at s c i k Killed = (Err refusal.NotParked, s)
+
+-- a requeue of what was found
+abbrev pub requeue_found : State → ℕ → ℕ → Option Element → Result ℕ Refusal × State
+requeue_found s c i None = (Err refusal.NotThere, s)
+requeue_found s c i (Some e) = requeue_at s c i (rounds s.history i) (status_of s.limits.attempts s.history i)
+
+-- a requeue
+abbrev pub requeue_of : State → ℕ → ℕ → Result ℕ Refusal × State
+requeue_of s c i = requeue_found s c i (element_of s.history i)
+
 -- whether what was found under an id is of the family, no reply, and not settled
 abbrev pub unsettled_found : ℕ → Status → Option Element → Bool
 unsettled_found root st None = false
@@ -174,6 +192,7 @@ pub record AreAllowed (s : State) (c : ℕ) : Type 0 where
   pub abort : (u : ℕ) → (pass_at s c).holding ≡ Some u → Answers s (CallAbort c (abort_of s c).0) (abort_of s c).1
   pub kill : (i : ℕ) → Answers s (CallKill c i (kill_of s c i).0) (kill_of s c i).1
   pub cancel : (root : ℕ) → Answers s (CallCancel c root (cancel_of s c root).0) (cancel_of s c root).1
+  pub requeue : (i : ℕ) → Answers s (CallRequeue c i (requeue_of s c i).0) (requeue_of s c i).1
   pub read : (id : ℕ) → Answers s (CallRead id (read_of s id)) s
 
 -- so it is in every state that a manager of one thread reaches

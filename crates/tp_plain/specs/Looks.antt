@@ -1,12 +1,14 @@
 -- The looks of a manager of one thread: how each born element stands.
-use Rattle.std.specs.Prelude.{ℕ, ◌==◌, nat_lt, Bool, true, false, not, ◌&&◌, if◌then◌else◌, Option, Some, None, List, map}
+use Rattle.std.specs.Prelude.{◌≡◌, ◌<◌, length, slice_index_or, ℕ, ◌==◌, nat_lt, Bool, true, false, not, ◌&&◌, if◌then◌else◌, Option, Some, None, List, map}
 use Rattle.tp_model.specs.declared.types.Element.{Element}
 use Rattle.tp_model.specs.declared.types.Look.{Look}
 use Rattle.tp_model.specs.declared.types.Status.{Status}
 use Rattle.tp_model.specs.declared.types.Status.TheVariants.{Waiting, Held, Consumed, Parked, Killed}
 use Rattle.tp_model.specs.declared.event.Event.{Event}
 use Rattle.tp_model.specs.Counts.{is_waiting}
-use Rattle.tp_model.specs.History.{born, status_after, status_of}
+use Rattle.tp_model.specs.History.{born, rounds, status_after, status_of}
+use Rattle.tp_model.specs.Steps.{rows_of}
+use Rattle.tp_model.specs.declared.types.Limits.{Limits}
 
 -- each born element, as it is read
 abbrev pub look_at : ℕ → List Event → Element → Look
@@ -60,3 +62,8 @@ is_unsettled_of root st e = (e.root == root) && (not (e.stage == 15) && not (is_
 -- the looks at all born elements
 abbrev pub looks_after_all : ℕ → List Event → List Look
 looks_after_all limit h = map (look_at limit h) (born h)
+
+-- for each id below the capacity, how many rounds the element with this id was given
+pub record KeepsRounds (l : Limits) (h : List Event) (kept : List ℕ) : Type 0 where
+  pub as_many : length kept ≡ rows_of l
+  pub each : (i : ℕ) → i < rows_of l → slice_index_or kept i 0 ≡ rounds h i

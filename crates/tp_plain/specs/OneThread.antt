@@ -20,11 +20,12 @@ use Rattle.tp_model.specs.declared.types.Refusal.{Refusal}
 use Rattle.tp_model.specs.declared.types.Refusal.TheVariants as refusal
 use Rattle.tp_plain.specs.declared.pass_state.PassState.{PassState}
 use Rattle.tp_model.specs.declared.event.Event.{Event}
-use Rattle.tp_model.specs.declared.event.Event.TheVariants.{Enqueue, Claim, Commit, Abort, Kill}
-use Rattle.tp_model.specs.History.{In, element_of, status_of, IsSettled, UnitClaim, claim_of, Aborted, end_of}
+use Rattle.tp_model.specs.declared.event.Event.TheVariants.{Enqueue, Claim, Commit, Abort, Kill, Requeue}
+use Rattle.tp_model.specs.History.{In, element_of, status_of, rounds, IsSettled, UnitClaim, claim_of, Aborted, end_of}
 use Rattle.tp_model.specs.Families.{IsRequest, IsSettledFamily}
 use Rattle.tp_model.specs.Births.{request, outputs}
-use Rattle.tp_model.specs.Steps.{IsServerStage, Step, IsLegal}
+use Rattle.tp_model.specs.Steps.{IsParked, IsServerStage, Step, IsLegal}
+use Rattle.tp_model.specs.declared.types.TheConstants.{MOST_ROUNDS}
 
 -- what a manager of one thread is between two calls: its limits, its history, and what each of its passes has used
 pub record State : Type 0 where
@@ -66,6 +67,7 @@ pub data Call : Type 0 where
   CallAbort : ℕ → Ended → Call
   CallKill : ℕ → ℕ → Result KilledAnswer Refusal → Call
   CallCancel : ℕ → ℕ → Result Cancelled Refusal → Call
+  CallRequeue : ℕ → ℕ → Result ℕ Refusal → Call
   CallRead : ℕ → Result Look Refusal → Call
 
 -- the state after an event of pass c, which has then used this
@@ -212,6 +214,17 @@ abbrev pub RefusesCancel : State → ℕ → Refusal → Type 0
 RefusesCancel s root refusal.NotThere = ¬ IsRequest s.history root
 RefusesCancel s root other = ⊥
 
+-- a requeue by pass c went through: the element is given its next round
+abbrev pub Requeues : State → ℕ → ℕ → ℕ → State → Type 0
+Requeues s c i r t = Step s.limits s.history (Requeue c i r) × (t ≡ extended s (Requeue c i r))
+
+-- a requeue is refused where no such element is born, or it isn't parked, or is and has had all its rounds
+abbrev pub RefusesRequeue : State → ℕ → Refusal → Type 0
+RefusesRequeue s i refusal.NotThere = element_of s.history i ≡ None
+RefusesRequeue s i refusal.NotParked = (e : Element) × (element_of s.history i ≡ Some e) × ¬ IsParked (status_of s.limits.attempts s.history i)
+RefusesRequeue s i refusal.NoRound = (e : Element) × (element_of s.history i ≡ Some e) × IsParked (status_of s.limits.attempts s.history i) × (rounds s.history i ≡ MOST_ROUNDS)
+RefusesRequeue s i other = ⊥
+
 -- the call, asked of a manager in state s, may have this answer and leave it in state t
 abbrev pub Answers : State → Call → State → Type 0
 Answers s (CallSubmit c stage key amount r) t = MatchResult r (λ id. Submits s c stage key amount id t) (λ why. RefusesSubmit s c stage why × (t ≡ s))
@@ -220,6 +233,7 @@ Answers s (CallCommit c drafts r) t = (u : ℕ) × ((pass_at s c).holding ≡ So
 Answers s (CallAbort c a) t = (u : ℕ) × ((pass_at s c).holding ≡ Some u) × GivesUp s c u a t
 Answers s (CallKill c i r) t = MatchResult r (λ k. Kills s c i k.units_aborted t) (λ why. RefusesKill s i why × (t ≡ s))
 Answers s (CallCancel c root r) t = MatchResult r (λ k. Cancels s c root k.killed t) (λ why. RefusesCancel s root why × (t ≡ s))
+Answers s (CallRequeue c i r) t = MatchResult r (λ round. Requeues s c i round t) (λ why. RefusesRequeue s i why × (t ≡ s))
 Answers s (CallRead id r) t = MatchResult r (Shows s id) (RefusesRead s id) × (t ≡ s)
 
 -- these calls were asked one after another, from state s to state t

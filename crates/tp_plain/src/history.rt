@@ -24,6 +24,7 @@ pub(crate) enum Note<'a> {
     Commit(u16, u16, &'a [Element]),
     Abort(u16, u16),
     Kill(u16, u32),
+    Requeue(u16, u32, u8),
 }
 
 impl History {

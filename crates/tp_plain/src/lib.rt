@@ -7,3 +7,4 @@ pub mod laws;
 mod looks;
 pub mod pass_state;
 pub mod plain;
+pub mod requeueing;

@@ -53,6 +53,13 @@ fn after(limit: u8, look: Look, note: &Note<'_>) -> Look
                 look.status
             }
         }
+        Note::Requeue(_, id, _) => {
+            if id == look.element.id {
+                Status::Waiting { attempts: 0 }
+            } else {
+                look.status
+            }
+        }
     };
     Look {
         element: look.element,

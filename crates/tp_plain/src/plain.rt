@@ -21,24 +21,27 @@ use tp_model::types::{
 #[derive(Drop)]
 pub struct Plain {
     alloc: Global,
-    limits: Limits,
-    looks: Vec<Look>,
+    pub(crate) limits: Limits,
+    pub(crate) looks: Vec<Look>,
     passes: Vec<PassState>,
-    history: History,
+    // For each id, how many rounds its element was given.
+    pub(crate) rounds: Vec<u8>,
+    pub(crate) history: History,
 }
 
 impl Model for Plain {
     ghost use Rattle.std.specs.Prelude.{◌≡◌, map};
     ghost use Rattle.tp_plain.specs.OneThread.{State};
     ghost use Rattle.tp_plain.specs.Reached.{IsReached};
-    ghost use Rattle.tp_plain.specs.Looks.{look_at};
+    ghost use Rattle.tp_plain.specs.Looks.{KeepsRounds, look_at};
     ghost use Rattle.tp_model.specs.History.{born};
 
     ghost Value = { State };
 
     ghost view = { λ p. record { limits = p.limits; history = p.history.events; passes = p.passes.items } };
 
-    ghost invariant = { λ p. IsReached (record { limits = p.limits; history = p.history.events; passes = p.passes.items }) × (p.looks.items ≡ map (look_at p.limits.attempts p.history.events) (born p.history.events)) };
+    ghost invariant = { λ p. IsReached (record { limits = p.limits; history = p.history.events; passes = p.passes.items }) × (p.looks.items ≡ map (look_at p.limits.attempts p.history.events) (born p.history.events))
+      × KeepsRounds p.limits p.history.events p.rounds.items };
 }
 
 impl Plain {
@@ -55,11 +58,16 @@ impl Plain {
         let Ok(passes) = fresh_passes(alloc, limits.parts) else {
             return Err(Refusal::NoMemory);
         };
+        let rows = limits.parts as u32 * limits.rows as u32;
+        let Ok(rounds) = fresh_rounds(alloc, rows) else {
+            return Err(Refusal::NoMemory);
+        };
         Ok(Plain {
             alloc,
             limits,
             looks: Vec::new(alloc),
             passes,
+            rounds,
             history: History::new(),
         })
     }
@@ -288,6 +296,17 @@ impl Plain {
             None => Err(Refusal::NotThere),
         }
     }
+}
+
+// No round so far, for so many ids.
+fn fresh_rounds(alloc: Global, rows: u32) -> Result<Vec<u8>, AllocError>
+    ensures { IfOk result (λ v. v.items ≡ replicate rows 0) }
+{
+    let mut rounds = Vec::with_capacity(alloc, rows as usize)?;
+    for _ in 0..rows {
+        rounds.push(0)?;
+    }
+    Ok(rounds)
 }
 
 // So many passes that have done nothing.

@@ -8,6 +8,7 @@ mod faults;
 mod interrupted;
 mod plain;
 mod plain_cancels;
+mod plain_requeues;
 mod reaches;
 mod read;
 mod rows;

@@ -135,6 +135,21 @@ pub fn cancel(
     diary.note(before, Made::Cancel { root, answer })
 }
 
+pub fn requeue(
+    manager: &Manager,
+    pass: &mut Pass,
+    diary: &mut Diary,
+    id: u32,
+) -> Result<(), Trouble>
+    requires own { IsOf manager.now pass.old }
+    ensures own { IsOf manager.now pass.new }
+    ensures open_unit { pass.new.open_unit ≡ pass.old.open_unit }
+{
+    let before = diary.now();
+    let answer = manager.requeue(pass, id);
+    diary.note(before, Made::Requeue { id, answer })
+}
+
 pub fn read(manager: &Manager, pass: &mut Pass, diary: &mut Diary, id: u32) -> Result<(), Trouble>
     requires own { IsOf manager.now pass.old }
     ensures own { IsOf manager.now pass.new }

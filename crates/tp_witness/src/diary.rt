@@ -38,6 +38,10 @@ pub enum Made {
         root: u32,
         answer: Result<Cancelled, Refusal>,
     },
+    Requeue {
+        id: u32,
+        answer: Result<u8, Refusal>,
+    },
     Read {
         id: u32,
         answer: Result<Look, Refusal>,

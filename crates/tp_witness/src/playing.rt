@@ -3,7 +3,7 @@ ghost use denote.Param.Send.{IsSync};
 ghost use Rattle.std.specs.Prelude.{◌≡◌, None, IsSome, OnOk};
 ghost use Rattle.tp_manager.specs.Shown.{IsOf};
 
-use crate::calls::{abort, cancel, claim, commit, kill, next_error, read, reply, submit};
+use crate::calls::{abort, cancel, claim, commit, kill, next_error, read, reply, requeue, submit};
 use crate::diary::Diary;
 use crate::trouble::Trouble;
 use std::thread::{self, Threads, join_mut};
@@ -121,6 +121,7 @@ fn take_turn(manager: &Manager, pass: &mut Pass, diary: &mut Diary) -> Result<()
         10 => cancel(manager, pass, diary, id),
         11 => list_replies(manager, pass, diary, id),
         12 => list_errors(manager, pass, diary),
+        13 => requeue(manager, pass, diary, id),
         _ => read(manager, pass, diary, id),
     }
 }
@@ -144,7 +145,7 @@ fn list_replies(
     Ok(())
 }
 
-/// The same of parked elements.
+/// The same of parked elements, and another round for the first of them.
 fn list_errors(manager: &Manager, pass: &mut Pass, diary: &mut Diary) -> Result<(), Trouble>
     requires own { IsOf manager.now pass.old }
     requires free { pass.old.open_unit ≡ None }
@@ -154,6 +155,7 @@ fn list_errors(manager: &Manager, pass: &mut Pass, diary: &mut Diary) -> Result<
     if let Some(id) = next_error(manager, pass, diary, 0)? {
         next_error(manager, pass, diary, id)?;
         next_error(manager, pass, diary, id.saturating_add(1))?;
+        requeue(manager, pass, diary, id)?;
     }
     Ok(())
 }

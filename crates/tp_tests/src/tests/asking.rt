@@ -120,6 +120,19 @@ pub(crate) fn cancels(
     !plain.has_open(caller) && plain.cancel(caller, root) == answer
 }
 
+/// Whether a requeue answers this.
+pub(crate) fn requeues(
+    plain: &mut Plain,
+    caller: u16,
+    id: u32,
+    answer: Result<u8, Refusal>,
+) -> bool
+    requires { caller < plain.old.limits.parts }
+    ensures { plain.new.limits ≡ plain.old.limits }
+{
+    plain.requeue(caller, id) == answer
+}
+
 /// Whether a read answers this.
 pub(crate) fn reads(plain: &Plain, id: u32, answer: Result<Look, Refusal>) -> bool {
     plain.read(id) == answer

@@ -9,6 +9,7 @@ use Rattle.tp_plain.specs.Computed.{abort_of}
 use Rattle.tp_model.proofs.Lists.{whole_write}
 use Rattle.tp_plain.proofs.UnitEnds.{abort_leaves, already_leaves, drawn_within}
 use Rattle.tp_plain.proofs.Computations.{abort_already}
+use Rattle.tp_plain.proofs.Requeues.{rounds_abort}
 use Rattle.tp_plain.proofs.plain.Plain.abort.Goals as goal
 
 pub invariant_of-self : goal.invariant_of-self
@@ -20,7 +21,7 @@ invariant_of-self c =
     let most = drawn_within p.limits p.history.events p.passes.items p.looks.items c.args.caller c.self.invariant.0 c.self.invariant.1 is_pass c.index-used.result.now c.index-used.ensures in
     let left = already_leaves p.limits p.history.events p.passes.items p.looks.items c.args.caller c.self.invariant.0 c.self.invariant.1 is_pass
     c.index-used.result.now c.index-used.ensures c.in-Some.unit c.in-Some.is none (λ (x : PassState). x.drawn) (omega arith) most in
-    (left.0, c.self.invariant.1)
+    (left.0, c.self.invariant.1, c.self.invariant.2)
 
 pub returns-in-None-clause-answer : goal.returns-in-None-clause-answer
 returns-in-None-clause-answer c =
@@ -56,7 +57,7 @@ invariant_of-self-in-Some-held c =
     c.index-used.result.now c.index-used.ensures c.in-Some.unit c.in-Some.is c.in-Some-held.field-0 some in
     let written = whole_write p.looks.items c.apply.new.looks p.looks.len (search rules) (c.apply.auto.looks ∙ ap length c.deref_mut.ensures.value) in
     let applied = rw c.deref_mut.ensures.value at c.apply.ensures in
-    rw c.then-self-inside.ensures (left.0, written ∙ (applied ∙ left.1))
+    rw c.then-self-inside.ensures (left.0, written ∙ (applied ∙ left.1), rounds_abort p.limits p.history.events _ _ p.rounds.items c.self.invariant.2)
 
 pub returns-in-Some-held-clause-answer : goal.returns-in-Some-held-clause-answer
 returns-in-Some-held-clause-answer c =

@@ -3,6 +3,7 @@ use Rattle.std.specs.List.{fold}
 use Rattle.tp_plain.specs.Looks.{sooner}
 use Rattle.tp_model.proofs.Lists.{whole_write}
 use Rattle.tp_plain.proofs.Claims.{idle_leaves, claim_leaves, claim_below}
+use Rattle.tp_plain.proofs.Requeues.{rounds_claim}
 use Rattle.tp_plain.proofs.plain.Plain.claim.Goals as goal
 
 pub returns-in_default-clause-answer : goal.returns-in_default-clause-answer
@@ -32,7 +33,7 @@ invariant_of-self c =
     c.index-used.result.now c.index-used.ensures c.if-used-self.false free in
     let written = whole_write p.looks.items c.apply.new.looks p.looks.len (search rules) (c.apply.auto.looks ∙ ap length c.deref_mut.ensures.value) in
     let applied = rw (c.deref_mut.ensures.value, c.attempts_of-attempt.ensures) at c.apply.ensures in
-    rw (c.then-self-inside.ensures, c.attempts_of-attempt.ensures) (left.0, written ∙ (applied ∙ left.1))
+    rw (c.then-self-inside.ensures, c.attempts_of-attempt.ensures) (left.0, written ∙ (applied ∙ left.1), rounds_claim p.limits p.history.events _ _ _ _ p.rounds.items c.self.invariant.2)
 
 pub returns-clause-answer : goal.returns-clause-answer
 returns-clause-answer c =

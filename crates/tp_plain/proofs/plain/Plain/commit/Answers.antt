@@ -8,6 +8,7 @@ use Rattle.tp_plain.specs.OneThread.{State}
 use Rattle.tp_plain.proofs.Computations.{commit_lost}
 use Rattle.tp_plain.proofs.UnitEnds.{already_leaves, undecided_leaves}
 use Rattle.tp_plain.proofs.Commits.{commit_leaves}
+use Rattle.tp_plain.proofs.Requeues.{rounds_commit}
 use Rattle.tp_plain.proofs.plain.Plain.commit.Goals as goal
 
 pub invariant_of-self : goal.invariant_of-self
@@ -18,7 +19,7 @@ invariant_of-self c =
     ap (find (λ (l : Look). is_held_by c.in-Some.unit l.status)) (sym c.deref.ensures.value) ∙ (sym c.held_by.ensures ∙ c.in_default-held_by.is) in
     let left = already_leaves p.limits p.history.events p.passes.items p.looks.items c.args.caller c.self.invariant.0 c.self.invariant.1 is_pass
     c.index-used.result.now c.index-used.ensures c.in-Some.unit c.in-Some.is none (λ (x : PassState). x.drawn + length c.args.drafts.now) (omega arith) c.if-used-drafts.false in
-    (left.0, c.self.invariant.1)
+    (left.0, c.self.invariant.1, c.self.invariant.2)
 
 pub returns-in_default-held_by-clause-answer : goal.returns-in_default-held_by-clause-answer
 returns-in_default-held_by-clause-answer c =
@@ -53,7 +54,7 @@ invariant_of-self-2 c =
     let outs_are = c.deref-4.ensures.value ∙ c.in-Ok.ensures.outputs in
     let applied = rw (c.deref_mut.ensures.value, c.in-Ok-extend_from_slice.ensures.items, c.deref-3.ensures.value, c.in-Ok-fresh_looks.ensures, c.deref-2.ensures.value, c.in-Ok.ensures.outputs, outs_are) at c.apply.ensures in
     let written = whole_write c.extend_from_slice.new.self.items c.apply.new.looks c.extend_from_slice.new.self.len (search rules) (c.apply.auto.looks ∙ ap length c.deref_mut.ensures.value) in
-    rw (c.then-self-inside.ensures, outs_are) (left.0, written ∙ (applied ∙ left.1))
+    rw (c.then-self-inside.ensures, outs_are) (left.0, written ∙ (applied ∙ left.1), rounds_commit p.limits p.history.events _ _ _ p.rounds.items c.self.invariant.2)
 
 pub returns-clause-answer : goal.returns-clause-answer
 returns-clause-answer c =
