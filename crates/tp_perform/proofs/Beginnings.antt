@@ -11,11 +11,12 @@ use Rattle.tp_manager.specs.Accounts.{Accounts, AreFrom}
 use Rattle.tp_manager.specs.Shown.{KeeperShown, ManagerShown, PassShown}
 use Rattle.tp_script.specs.Script.{ScriptView, passes}
 use Rattle.tp_workers.specs.Free.{IsFreePass}
-use Rattle.tp_perform.specs.Acting.{new_place, new_places}
+use Rattle.tp_commands.specs.Acting.{new_place, new_places}
 use Rattle.tp_perform.specs.Ending.{AccountFront, FinalsFront, TellsAccount, finals_of}
-use Rattle.tp_perform.specs.Places.{workers}
+use Rattle.tp_commands.specs.Places.{workers}
 use Rattle.tp_perform.specs.Reported.{Begins, IsNewPass, IsNewPlace, LastFront, Reported, ReportedFront, limits_of}
-use Rattle.tp_perform.specs.Told.{AllEnded, IsFirstScene, Scene, ToldAll}
+use Rattle.tp_perform.specs.Told.{IsFirstScene, Scene, ToldAll}
+use Rattle.tp_commands.specs.Acting.{AllEnded}
 
 module _ {X : Type 0} {F : X → Type 0} (recipe : DynBox X Global F → Recipe) (registers : DynBox X Global F → List ℕ) (pending : DynBox X Global F → Option Pending) where
   abbrev Box : Type 0

@@ -6,10 +6,11 @@ use Rattle.tp_manager.specs.Accounts.{Accounts, AreFrom}
 use Rattle.tp_manager.specs.Shown.{KeeperShown, ManagerShown, PassShown}
 use Rattle.tp_script.specs.Script.{ScriptView, passes}
 use Rattle.tp_workers.specs.Free.{IsFreePass}
-use Rattle.tp_perform.specs.Acting.{PlaceShown}
+use Rattle.tp_commands.specs.Acting.{PlaceShown}
 use Rattle.tp_perform.specs.Ending.{AccountFront, FinalsFront, TellsAccount, finals_of}
-use Rattle.tp_perform.specs.Places.{workers}
-use Rattle.tp_perform.specs.Told.{AllEnded, Scene, ToldAll, ToldFront}
+use Rattle.tp_commands.specs.Places.{workers}
+use Rattle.tp_perform.specs.Told.{Scene, ToldAll, ToldFront}
+use Rattle.tp_commands.specs.Acting.{AllEnded}
 
 -- the limits that a script asks for
 abbrev pub limits_of : ScriptView → Limits
