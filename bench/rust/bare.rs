@@ -230,7 +230,10 @@ fn race() {
     }
 }
 fn main() {
-    let rounds: u32 = std::env::args().nth(1).and_then(|w| w.parse().ok()).unwrap_or(1);
+    let rounds: u32 = std::env::args()
+        .nth(1)
+        .and_then(|w| w.parse().ok())
+        .unwrap_or(1);
     for _ in 0..rounds {
         for _ in 0..4 {
             small();

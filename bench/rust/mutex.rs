@@ -69,14 +69,18 @@ impl Manager {
         let mut m = self.0.lock().unwrap();
         let id = m.waiting[stage as usize].pop_first()?;
         let (e, s) = m.rows[id as usize].as_mut().unwrap();
-        let Status::Waiting(n) = *s else { unreachable!() };
+        let Status::Waiting(n) = *s else {
+            unreachable!()
+        };
         *s = Status::Held(unit, n + 1);
         Some((id, *e))
     }
     fn commit(&self, pass: usize, unit: u32, id: u32, outs: &[(u8, u64, u64)]) -> bool {
         let mut m = self.0.lock().unwrap();
         let (e, s) = m.rows[id as usize].unwrap();
-        if !matches!(s, Status::Held(u, _) if u == unit) || m.drawn[pass] + outs.len() as u32 > m.per {
+        if !matches!(s, Status::Held(u, _) if u == unit)
+            || m.drawn[pass] + outs.len() as u32 > m.per
+        {
             return false;
         }
         m.rows[id as usize].as_mut().unwrap().1 = Status::Consumed(unit);
@@ -190,7 +194,12 @@ fn small() {
         256,
         (0..256).map(|i| m.read(i).unwrap().0.amount).sum::<u64>()
     );
-    timed!("kill_waiting", 0, 256, (0..256).filter(|&i| m.kill(i)).count());
+    timed!(
+        "kill_waiting",
+        0,
+        256,
+        (0..256).filter(|&i| m.kill(i)).count()
+    );
     timed!(
         "read_killed",
         0,
@@ -231,7 +240,10 @@ fn small() {
             "reply_after_256",
             0,
             64,
-            (0..64).filter_map(|i| m.reply(i, i)).map(u64::from).sum::<u64>()
+            (0..64)
+                .filter_map(|i| m.reply(i, i))
+                .map(u64::from)
+                .sum::<u64>()
         );
         timed!(
             "next_error_512_done",
@@ -381,7 +393,10 @@ fn race() {
 }
 
 fn main() {
-    let rounds: u32 = std::env::args().nth(1).and_then(|w| w.parse().ok()).unwrap_or(1);
+    let rounds: u32 = std::env::args()
+        .nth(1)
+        .and_then(|w| w.parse().ok())
+        .unwrap_or(1);
     for _ in 0..rounds {
         for _ in 0..4 {
             small();

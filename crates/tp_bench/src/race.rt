@@ -162,14 +162,23 @@ fn show(rt: &HostRuntime, own: bool, kind: Kind, threads: u32, span: Span) -> io
     )
 }
 
-/// The next pass, which has submitted all its rows to the stage.
-fn filled(manager: &Manager, keeper: &mut Keeper, stage: u8)
+/// The next pass submits all its rows to the stage.
+fn fill(manager: &Manager, keeper: &mut Keeper, stage: u8)
     requires kept { IsKeptBy manager.now keeper.old }
     ensures kept { IsKeptBy manager.now keeper.new }
 {
-    if let Some(mut client) = pass(keeper, manager) {
-        submits(manager, &mut client, stage, 256);
+    let client = pass(keeper, manager);
+    if let Some(client) = client {
+        fill_from(manager, client, stage);
     }
+}
+
+/// A pass submits all its rows to the stage.
+fn fill_from(manager: &Manager, mut client: Pass, stage: u8)
+    requires own { IsOf manager.now client }
+    requires free { client.open_unit ≡ None }
+{
+    submits(manager, &mut client, stage, 256);
 }
 
 /// One, two or four threads; where they serve, as many clients have filled their rows before.
@@ -185,13 +194,13 @@ fn run<R: Threads + Sync>(
         return Ok(());
     };
     if !matches!(kind, Kind::Submit) {
-        filled(&manager, &mut keeper, 1);
+        fill(&manager, &mut keeper, 1);
         if threads >= 2 {
-            filled(&manager, &mut keeper, stage_of(own, 2));
+            fill(&manager, &mut keeper, stage_of(own, 2));
         }
         if threads >= 4 {
-            filled(&manager, &mut keeper, stage_of(own, 3));
-            filled(&manager, &mut keeper, stage_of(own, 4));
+            fill(&manager, &mut keeper, stage_of(own, 3));
+            fill(&manager, &mut keeper, stage_of(own, 4));
         }
     }
     let Some(mut e) = pass(&mut keeper, &manager) else {

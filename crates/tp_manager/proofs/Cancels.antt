@@ -1,5 +1,5 @@
 -- A cancel, on its way.
-use Rattle.std.proofs.Common.{◌≡◌, ◌⊎◌, ◌≢◌, ℕ, suc, ◌+◌, ◌*◌, ◌<◌, ◌≤◌, ◌==◌, ◌&&◌, ◌||◌, cond, Bool, true, false, List, [], ◌∷◌, ◌++◌, sym, refl, ap, ◌∙◌, subst, inl, inr, ⊎_elim, arith, mul-le-mul_right, Option, Some, None}
+use Rattle.std.proofs.Common.{◌≡◌, ◌⊎◌, ◌≢◌, ℕ, suc, ◌+◌, ◌*◌, ◌/◌, ◌<◌, ◌≤◌, ◌==◌, ◌&&◌, ◌||◌, cond, Bool, true, false, List, [], ◌∷◌, ◌++◌, sym, refl, ap, ◌∙◌, subst, inl, inr, ⊎_elim, arith, suc-mul, mul-le-mul_right, slice_index, Option, Some, None}
 use Rattle.std.proofs.lemmas.Bool.{eq-eqb, eqb-true}
 use Rattle.std.specs.Prelude.{is_some}
 use Rattle.atomic_table.specs.Seated.{TableId}
@@ -14,7 +14,7 @@ use Rattle.tp_model.specs.declared.event.Event.{Event}
 use Rattle.tp_model.specs.declared.event.Event.TheVariants.{Kill}
 use Rattle.tp_model.specs.History.{here, there, IsUnborn, element_of, status_of, IsSettled}
 use Rattle.tp_model.specs.Families.{IsRequest, IsSettledFamily}
-use Rattle.tp_model.specs.Steps.{AreLimits, rows_of, IsLegal}
+use Rattle.tp_model.specs.Steps.{AreLimits, most_rows, rows_of, IsLegal}
 use Rattle.tp_model.proofs.Lists.{if_same}
 use Rattle.tp_model.proofs.Histories.{status_of-snoc}
 use Rattle.tp_model.proofs.LawProofs.{settled_stay}
@@ -24,24 +24,29 @@ use Rattle.tp_model.proofs.Later.{births_inside}
 use Rattle.tp_words.specs.declared.words.Head.{Head}
 use Rattle.tp_words.specs.declared.words.Head.TheVariants.{There}
 use Rattle.tp_words.specs.Words.{head_of}
-use Rattle.tp_rule.specs.Steps.{HasElement}
+use Rattle.tp_rule.specs.Steps.{HasElement, IsOver}
 use Rattle.tp_rule.specs.Views.{SeatShown, hand, view_of}
+use Rattle.tp_model.specs.declared.trace.TraceEntry.{TraceEntry}
+use Rattle.std.proofs.Math.Nat.{div-eq_of_lt-le, div-lt_iff_lt-mul, div-mul-le_self}
+use Rattle.std.proofs.lemmas.Bool.Decides.{leb_tells}
+use Rattle.tp_rule.specs.declared.view.Known.TheVariants.{PartMark}
+use Rattle.tp_manager.proofs.Seeks.{rows_more}
 use Rattle.tp_rule.specs.declared.view.View.{View}
 use Rattle.tp_manager.specs.declared.looking.Birth.{Birth}
 use Rattle.tp_manager.specs.Shown.{PassShown, shown}
 use Rattle.tp_manager.specs.Bounds.{birth_steps, cancel_steps, round_steps}
 use Rattle.tp_manager.specs.Calls.{AreOfHolders, claims_in, one_claim}
 use Rattle.tp_manager.specs.Cancels.{IsTarget, AreOfCancel, one_kill, kills_in, Cancels}
-use Rattle.tp_manager.specs.Rounds.{Swept, is_member, in_family, is_over, is_done_member, is_done, count_below, Tallied, TalliedAt, Rounded, CancelsIn}
+use Rattle.tp_manager.specs.Rounds.{AreKnown, is_looked, row_at_mark, Swept, is_member, in_family, is_over, is_done_member, is_done, count_below, Tallied, TalliedAt, Rounded, CancelsIn}
 use Rattle.tp_manager.specs.Kills.{FailsIn, Freed, IsPastKill, KillsIn, Slain}
 use Rattle.tp_manager.specs.Looks.{IsThere}
-use Rattle.tp_manager.specs.Walks.{Rests, Steady, Looked}
+use Rattle.tp_manager.specs.Walks.{KnowsLow, Looked, Rests, Steady, Walked}
 use Rattle.tp_manager.proofs.Counts.{count_rises, count_still, bit_le, bit_most, count_le, count_all, and_left, and_right, and_both, or_second, or_not, or_right, or_left}
 use Rattle.tp_manager.proofs.Gains.{gained_begins, gained_few, gained_looked, gained_then, rests_gained}
 use Rattle.tp_manager.proofs.Walks.{looked_begins, looked_none}
 
 -- how many rows there may be
-pub few_rows : (l : Limits) → AreLimits l → rows_of l ≤ 8192
+pub few_rows : (l : Limits) → AreLimits l → rows_of l ≤ most_rows
 few_rows l fair =
     let parts : l.parts ≤ 32 = fair.parts.1 in
     let rows : l.rows ≤ 256 = fair.rows.1 in
@@ -107,10 +112,6 @@ module _ (l : Limits) (root : ℕ) where
       either : (b : Bool) → (b ≡ true) ⊎ (b ≡ false)
       either true = inl refl
       either false = inr refl
-
-  -- where both go through all rows
-  pub counted_settled : (h : List Event) (f : ℕ) → IsLegal l h → f ≤ count_below (is_done l root h) (rows_of l) → count_below (in_family root h) (rows_of l) ≤ f → AllSettled l h root
-  counted_settled h f legal most least = boundary h (λ i. true) (λ i. true) f legal (λ i below is. is) most least (λ i below off. absurd cc)
 
   -- the events of a cancel
 
@@ -293,86 +294,139 @@ module _ (l : Limits) (root : ℕ) where
 
   -- the rows below one, and one more
 
-  pub tallied_none : (v : View) → Steady l v → Tallied l 0 root 0 0 0 v v
-  tallied_none v s = record { events = []; swept = swept_looked 0 v v (looked_none l v s); counted = refl; few = omega arith; least = omega arith; most = omega arith }
+  module _ (looked : ℕ → Bool) where
+    pub tallied_none : (v : View) → Steady l v → Tallied l 0 root looked 0 0 0 v v
+    tallied_none v s = record { events = []; swept = swept_looked 0 v v (looked_none l v s); counted = refl; few = omega arith; least = omega arith; most = omega arith }
 
-  pub tallied_few : (n m rows found killed : ℕ) (v w : View) → n ≤ m → Tallied l n root rows found killed v w → Tallied l m root rows found killed v w
-  tallied_few n m rows found killed v w le a = record { events = a.events; swept = swept_few n m a.events v w le a.swept; counted = a.counted; few = a.few; least = a.least; most = a.most }
+    pub tallied_few : (n m rows found killed : ℕ) (v w : View) → n ≤ m → Tallied l n root looked rows found killed v w → Tallied l m root looked rows found killed v w
+    tallied_few n m rows found killed v w le a = record { events = a.events; swept = swept_few n m a.events v w le a.swept; counted = a.counted; few = a.few; least = a.least; most = a.most }
 
-  pub tallied_next : (n m i f g k j : ℕ) (v w y : View) → Tallied l n root i f k v w → TalliedAt l m root i g j w y → Tallied l (n + m) root (i + 1) (f + g) (k + j) v y
-  tallied_next n m i f g k j v w y a b =
-      let next : suc i ≡ i + 1 = omega arith in
-      let before = swept_begins n a.events v w a.swept in let after = swept_begins m b.events w y b.swept in
-      let legal : IsLegal l y.seen = b.swept.gained.walk.steady.shows.legal in
-      let first = bit_le (in_family root v.seen i) (in_family root w.seen i) (member_later root i v.seen w.seen before) in
-      let kept = count_le (is_done l root w.seen) (is_done l root y.seen) i (λ x below. done_later l root x w.seen y.seen legal after) in
-      let a_few = a.few in let b_few = b.few in let a_least = a.least in let b_least = b.least in let a_most = a.most in let b_most = b.most in
-      record {
-        events = a.events ++ b.events;
-        swept = swept_then n m a.events b.events v w y a.swept b.swept;
-        counted = kills_append a.events b.events ∙ (ap (λ z. z + kills_in b.events) a.counted ∙ ap (λ z. k + z) b.counted);
-        few = omega arith;
-        least = subst (λ z. count_below (in_family root v.seen) z ≤ f + g) next (let q : count_below (in_family root v.seen) i + cond (in_family root v.seen i) 1 0 ≤ f + g = omega arith in q);
-        most = subst (λ z. f + g ≤ count_below (is_done l root y.seen) z) next (let q : f + g ≤ count_below (is_done l root y.seen) i + cond (is_done l root y.seen i) 1 0 = omega arith in q);
-      }
+    pub tallied_next : (n m i f g k j : ℕ) (v w y : View) → looked i ≡ true → Tallied l n root looked i f k v w → TalliedAt l m root i g j w y → Tallied l (n + m) root looked (i + 1) (f + g) (k + j) v y
+    tallied_next n m i f g k j v w y on a b =
+        let next : suc i ≡ i + 1 = omega arith in
+        let before = swept_begins n a.events v w a.swept in let after = swept_begins m b.events w y b.swept in
+        let legal : IsLegal l y.seen = b.swept.gained.walk.steady.shows.legal in
+        let found : ℕ → Bool = λ x. looked x && in_family root v.seen x in
+        let done : ℕ → Bool = λ x. looked x && is_done l root y.seen x in
+        let first = bit_le (found i) (in_family root w.seen i) (λ is. member_later root i v.seen w.seen before (and_right (looked i) (in_family root v.seen i) is)) in
+        let last = bit_le (is_done l root y.seen i) (done i) (λ is. and_both (looked i) (is_done l root y.seen i) on is) in
+        let kept = count_le (λ x. looked x && is_done l root w.seen x) done i
+            (λ x below is. and_both (looked x) (is_done l root y.seen x) (and_left (looked x) (is_done l root w.seen x) is) (done_later l root x w.seen y.seen legal after (and_right (looked x) (is_done l root w.seen x) is))) in
+        let a_few = a.few in let b_few = b.few in let a_least = a.least in let b_least = b.least in let a_most = a.most in let b_most = b.most in
+        record {
+          events = a.events ++ b.events;
+          swept = swept_then n m a.events b.events v w y a.swept b.swept;
+          counted = kills_append a.events b.events ∙ (ap (λ z. z + kills_in b.events) a.counted ∙ ap (λ z. k + z) b.counted);
+          few = omega arith;
+          least = subst (λ z. count_below found z ≤ f + g) next (let q : count_below found i + cond (found i) 1 0 ≤ f + g = omega arith in q);
+          most = subst (λ z. f + g ≤ count_below done z) next (let q : f + g ≤ count_below done i + cond (done i) 1 0 = omega arith in q);
+        }
 
-  -- rows in which nothing is born add nothing
-  pub tallied_on : (n i m f k : ℕ) (v w y : View) → i < m → ((j : ℕ) → i < j → j < m → IsUnborn w.seen j) → IsPrefix v.seen w.seen → Tallied l n root (i + 1) f k v y → Tallied l n root m f k v y
-  tallied_on n i m f k v w y less none begins a =
-      let a_few = a.few in let a_least = a.least in let a_most = a.most in
-      let same = count_still (in_family root v.seen) (i + 1) m (omega arith) (λ j low high. unfamiliar j (none j (omega arith) high)) in
-      let more = count_rises (is_done l root y.seen) (i + 1) m (omega arith) in record {
-        events = a.events;
-        swept = a.swept;
-        counted = a.counted;
-        few = omega arith;
-        least = omega arith;
-        most = omega arith;
-      }
+    -- rows of which nothing is counted add nothing
+    pub tallied_on : (n i m f k : ℕ) (v y : View) → i ≤ m → ((j : ℕ) → i ≤ j → j < m → (looked j && in_family root v.seen j) ≡ true → ⊥) → Tallied l n root looked i f k v y → Tallied l n root looked m f k v y
+    tallied_on n i m f k v y less none a =
+        let a_few = a.few in let a_least = a.least in let a_most = a.most in
+        let same = count_still (λ j. looked j && in_family root v.seen j) i m less none in
+        let more = count_rises (λ j. looked j && is_done l root y.seen j) i m less in record {
+          events = a.events;
+          swept = a.swept;
+          counted = a.counted;
+          few = omega arith;
+          least = omega arith;
+          most = omega arith;
+        }
+
+    -- such are rows in which nothing is born
+    pub none_born : (j : ℕ) (v w : View) → IsPrefix v.seen w.seen → IsUnborn w.seen j → (looked j && in_family root v.seen j) ≡ true → ⊥
+    none_born j v w begins un is = let q = member_later root j v.seen w.seen begins (and_right (looked j) (in_family root v.seen j) is) in let e = unborn_no_member w.seen j un in absurd cc
+
+    -- and rows that aren't looked at
+    pub none_looked : (j : ℕ) (v : View) → looked j ≡ false → (looked j && in_family root v.seen j) ≡ true → ⊥
+    none_looked j v off is = let on = and_left (looked j) (in_family root v.seen j) is in absurd cc
+
+    -- rounds
+
+    pub rounded_none : (v : View) → Steady l v → Rounded l 0 root looked 0 0 0 v v
+    rounded_none v s = record { events = []; swept = swept_looked 0 v v (looked_none l v s); counted = refl; few = omega arith; more = omega arith; most = omega arith }
+
+    pub rounded_few : (n m p f k : ℕ) (v w : View) → n ≤ m → Rounded l n root looked p f k v w → Rounded l m root looked p f k v w
+    rounded_few n m p f k v w le a = record { events = a.events; swept = swept_few n m a.events v w le a.swept; counted = a.counted; few = a.few; more = a.more; most = a.most }
+
+    -- what is done with at the end of a round is of the family at the beginning of the next, which finds it
+    rising : (f g n k : ℕ) (w y : View) → f ≤ count_below (λ i. looked i && is_done l root w.seen i) (rows_of l) → Tallied l n root looked (rows_of l) g k w y → f ≤ g
+    rising f g n k w y most b =
+        let sub = count_le (λ i. looked i && is_done l root w.seen i) (λ i. looked i && in_family root w.seen i) (rows_of l)
+            (λ i below is. and_both (looked i) (in_family root w.seen i) (and_left (looked i) (is_done l root w.seen i) is) (done_member l root i w.seen (and_right (looked i) (is_done l root w.seen i) is))) in
+        let least = b.least in omega arith
+
+    pub rounded_next : (n m p f g k j : ℕ) (v w y : View) → rows_of l ≤ most_rows → g ≢ f → Rounded l n root looked p f k v w → Tallied l m root looked (rows_of l) g j w y → Rounded l (n + m) root looked (p + 1) g (k + j) v y
+    rounded_next n m p f g k j v w y size other a b =
+        let up = rising f g m j w y a.most b in let a_few = a.few in let b_few = b.few in let more = a.more in
+        record {
+          events = a.events ++ b.events;
+          swept = swept_then n m a.events b.events v w y a.swept b.swept;
+          counted = kills_append a.events b.events ∙ (ap (λ z. z + kills_in b.events) a.counted ∙ ap (λ z. k + z) b.counted);
+          few = omega arith;
+          more = omega arith;
+          most = b.most;
+        }
+
+    -- a round that finds no more than the one before, where of the family only what is over is in the rows that aren't looked at
+    pub rounded_last : (n m p f g k j : ℕ) (v w y : View) → g ≡ f → HasElement v.seen root → ((i : ℕ) → i < rows_of l → looked i ≡ false → in_family root w.seen i ≡ true → is_done l root w.seen i ≡ true)
+        → Rounded l n root looked p f k v w → Tallied l m root looked (rows_of l) g j w y → CancelsIn l (n + m) root (k + j) v y
+    rounded_last n m p f g k j v w y same there_is rest a b =
+        let most = a.most in let least = b.least in
+        let legal : IsLegal l w.seen = a.swept.gained.walk.steady.shows.legal in let now : IsLegal l y.seen = b.swept.gained.walk.steady.shows.legal in
+        let begins = swept_begins m b.events w y b.swept in
+        let settled : AllSettled l w.seen root = boundary l root w.seen looked looked f legal (λ i below is. is) most (subst (λ z. count_below (λ i. looked i && in_family root w.seen i) (rows_of l) ≤ z) same least) rest in
+        let born = found_later v.seen w.seen (swept_begins n a.events v w a.swept) root there_is.0 there_is.1 in
+        record {
+          events = a.events ++ b.events;
+          swept = swept_then n m a.events b.events v w y a.swept b.swept;
+          counted = kills_append a.events b.events ∙ (ap (λ z. z + kills_in b.events) a.counted ∙ ap (λ z. k + z) b.counted);
+          settled = subst (λ z. IsSettledFamily l.attempts z root) begins.1
+              (all_settled l (w.seen ++ begins.0) root (subst (IsLegal l) (sym begins.1) now) (settled_since l w.seen begins.0 root there_is.0 (subst (IsLegal l) (sym begins.1) now) born settled).settled);
+        }
+
+-- rows below the marks
+
+settled_over : (s : Status) → IsSettled s → is_over s ≡ true
+settled_over (Waiting n) is = absurd is
+settled_over (Held u n) is = absurd is
+settled_over (Consumed u) is = refl
+settled_over (Parked n) is = absurd is
+settled_over Killed is = refl
+
+module _ (l : Limits) (marks : List ℕ) (fair : AreLimits l) where
+  -- the row at the mark is none behind all rows
+  pub mark_inside : (v : View) (i : ℕ) → KnowsLow l v → AreKnown l marks v → i < rows_of l → row_at_mark l marks i ≤ rows_of l
+  mark_inside v i low known less =
+      let p = i / l.rows in let inside : p < l.parts = (div-lt_iff_lt-mul fair.rows.0).1 less in
+      let top = (low p (slice_index marks p) (known p inside)).0 in let all = rows_more p l.parts l.rows inside in omega arith
+
+  -- the rows from one below the mark up to it aren't looked at
+  pub below_mark : (i j : ℕ) (v : View) → KnowsLow l v → AreKnown l marks v → i < rows_of l → i ≤ j → j < row_at_mark l marks i → is_looked l marks j ≡ false
+  below_mark i j v low known less from_on high =
+      let p = i / l.rows in let inside : p < l.parts = (div-lt_iff_lt-mul fair.rows.0).1 less in
+      let top = (low p (slice_index marks p) (known p inside)).0 in let first = div-mul-le_self i l.rows in
+      let flip : (p + 1) * l.rows ≡ p * l.rows + l.rows = omega (arith, suc-mul p l.rows) in
+      let same : j / l.rows ≡ p = div-eq_of_lt-le l.rows (omega arith) (omega arith) in
+      ⊎_elim (λ t. absurd (let low' : j / l.rows * l.rows + slice_index marks (j / l.rows) ≤ j = t.1 in let here : p * l.rows + slice_index marks p ≤ j = subst (λ z. z * l.rows + slice_index marks z ≤ j) same low' in omega arith)) (λ t. t.0) (leb_tells (row_at_mark l marks j) j)
+
+  -- and what is born there is over
+  pub over_unlooked : (root i : ℕ) (v : View) → KnowsLow l v → AreKnown l marks v → i < rows_of l → is_looked l marks i ≡ false → in_family root v.seen i ≡ true → is_done l root v.seen i ≡ true
+  over_unlooked root i v low known less off is =
+      let p = i / l.rows in let inside : p < l.parts = (div-lt_iff_lt-mul fair.rows.0).1 less in let first = div-mul-le_self i l.rows in
+      let below : i < row_at_mark l marks i = ⊎_elim (λ t. let on : is_looked l marks i ≡ true = t.0 in absurd cc) (λ t. t.1) (leb_tells (row_at_mark l marks i) i) in
+      go (element_of v.seen i) refl ((low p (slice_index marks p) (known p inside)).1 i first below) is
     where
-      unfamiliar : (j : ℕ) → IsUnborn w.seen j → in_family root v.seen j ≡ true → ⊥
-      unfamiliar j un is = let q = member_later root j v.seen w.seen begins is in let e = unborn_no_member w.seen j un in absurd cc
+      go : (o : Option Element) → element_of v.seen i ≡ o → IsOver l v.seen i → is_member root o ≡ true → is_done l root v.seen i ≡ true
+      go None e over is = absurd cc
+      go (Some x) e over is = let s = status_of l.attempts v.seen i in ap (is_done_member root s) e
+          ∙ and_both (x.root == root) (x.stage == 15 || is_over s) is (or_right (x.stage == 15) (is_over s) (settled_over s (over x e)))
 
-  -- rounds
-
-  pub rounded_none : (v : View) → Steady l v → Rounded l 0 root 0 0 0 v v
-  rounded_none v s = record { events = []; swept = swept_looked 0 v v (looked_none l v s); counted = refl; few = omega arith; more = omega arith; most = omega arith }
-
-  pub rounded_few : (n m p f k : ℕ) (v w : View) → n ≤ m → Rounded l n root p f k v w → Rounded l m root p f k v w
-  rounded_few n m p f k v w le a = record { events = a.events; swept = swept_few n m a.events v w le a.swept; counted = a.counted; few = a.few; more = a.more; most = a.most }
-
-  -- what is done with at the end of a round is of the family at the beginning of the next, which finds it
-  rising : (f g n k : ℕ) (w y : View) → IsLegal l w.seen → f ≤ count_below (is_done l root w.seen) (rows_of l) → Tallied l n root (rows_of l) g k w y → f ≤ g
-  rising f g n k w y legal most b =
-      let sub = count_le (is_done l root w.seen) (in_family root w.seen) (rows_of l) (λ i below. done_member l root i w.seen) in let least = b.least in omega arith
-
-  pub rounded_next : (n m p f g k j : ℕ) (v w y : View) → rows_of l ≤ 8192 → g ≢ f → Rounded l n root p f k v w → Tallied l m root (rows_of l) g j w y → Rounded l (n + m) root (p + 1) g (k + j) v y
-  rounded_next n m p f g k j v w y size other a b =
-      let up = rising f g m j w y a.swept.gained.walk.steady.shows.legal a.most b in let a_few = a.few in let b_few = b.few in let more = a.more in
-      record {
-        events = a.events ++ b.events;
-        swept = swept_then n m a.events b.events v w y a.swept b.swept;
-        counted = kills_append a.events b.events ∙ (ap (λ z. z + kills_in b.events) a.counted ∙ ap (λ z. k + z) b.counted);
-        few = omega arith;
-        more = omega arith;
-        most = b.most;
-      }
-
-  -- a round that finds no more than the one before
-  pub rounded_last : (n m p f g k j : ℕ) (v w y : View) → g ≡ f → HasElement v.seen root → Rounded l n root p f k v w → Tallied l m root (rows_of l) g j w y → CancelsIn l (n + m) root (k + j) v y
-  rounded_last n m p f g k j v w y same there_is a b =
-      let most = a.most in let least = b.least in
-      let legal : IsLegal l w.seen = a.swept.gained.walk.steady.shows.legal in let now : IsLegal l y.seen = b.swept.gained.walk.steady.shows.legal in
-      let begins = swept_begins m b.events w y b.swept in
-      let settled : AllSettled l w.seen root = counted_settled l root w.seen f legal most (subst (λ z. count_below (in_family root w.seen) (rows_of l) ≤ z) same least) in
-      let born = found_later v.seen w.seen (swept_begins n a.events v w a.swept) root there_is.0 there_is.1 in
-      record {
-        events = a.events ++ b.events;
-        swept = swept_then n m a.events b.events v w y a.swept b.swept;
-        counted = kills_append a.events b.events ∙ (ap (λ z. z + kills_in b.events) a.counted ∙ ap (λ z. k + z) b.counted);
-        settled = subst (λ z. IsSettledFamily l.attempts z root) begins.1
-            (all_settled l (w.seen ++ begins.0) root (subst (IsLegal l) (sym begins.1) now) (settled_since l w.seen begins.0 root there_is.0 (subst (IsLegal l) (sym begins.1) now) born settled).settled);
-      }
+  pub known_later : (n : ℕ) (ms : List TraceEntry) (v w : View) → Walked l n ms v w → AreKnown l marks v → AreKnown l marks w
+  known_later n ms v w a known p inside = a.knows (PartMark p (slice_index marks p)) (known p inside)
 
 -- the call as a whole
 
@@ -427,8 +481,8 @@ pub request_later : (h g : List Event) (root : ℕ) → IsPrefix h g → IsReque
 request_later h g root begins r = (r.0, found_later h g begins root r.0 r.1, r.2)
 
 -- how many steps there are at most
-pub few_steps : (l k : Limits) → l ≡ k → birth_steps + (rows_of l + 1) * round_steps l ≤ cancel_steps k
-few_steps l k same = subst (λ (z : Limits). birth_steps + (rows_of l + 1) * round_steps l ≤ cancel_steps z) same (omega arith)
+pub few_steps : (l k : Limits) → l ≡ k → birth_steps + l.parts + (rows_of l + 1) * round_steps l ≤ cancel_steps k
+few_steps l k same = subst (λ (z : Limits). birth_steps + l.parts + (rows_of l + 1) * round_steps l ≤ cancel_steps z) same (omega arith)
 
 pub some_not : (o : Option ℕ) (b : Bool) → b ≡ is_some o → b ≡ true → o ≡ None → ⊥
 some_not None b r is none = absurd cc

@@ -63,6 +63,7 @@ module _ (l : Limits) (u : ℕ) (v w : View) (s : Steady l v) (g : Chooses v u w
     closes = grew_seen l kinds.UnitChoice (with_spare u) [] v w s g;
     number = ap (λ (a : Hand). a.number) chose_hand;
     steady = chose_steady;
+    knows = g.knows;
   }
 
   -- nothing was found

@@ -1,5 +1,5 @@
 -- The rows that a listing passed over, and the one that it answers.
-use Rattle.std.proofs.Common.{◌≡◌, ◌≢◌, ℕ, ◌<◌, ◌≤◌, Option, Some, None, MatchOption, List, [], ◌∷◌, ◌++◌, sym, refl, ap, ◌∙◌, subst, inl, inr, arith}
+use Rattle.std.proofs.Common.{◌≡◌, ◌≢◌, ℕ, ◌+◌, ◌*◌, ◌<◌, ◌≤◌, Option, Some, None, MatchOption, List, [], ◌∷◌, ◌++◌, sym, refl, ap, ◌∙◌, subst, inl, inr, arith}
 use Rattle.std.proofs.lemmas.Bool.Decides.{eqb_tells}
 use mathlib.Core.List.{IsPrefix}
 use Rattle.atomic_table.specs.Seated.{TableId}
@@ -10,7 +10,7 @@ use Rattle.tp_model.specs.declared.types.Status.TheVariants.{Killed}
 use Rattle.tp_model.specs.declared.event.Event.{Event}
 use Rattle.tp_model.specs.declared.event.Event.TheVariants.{Enqueue, Claim, Commit, Abort, Kill}
 use Rattle.tp_model.specs.declared.trace.TraceEntry.{TraceEntry}
-use Rattle.tp_model.specs.History.{IsUnborn, element_of, status_of}
+use Rattle.tp_model.specs.History.{IsSettled, IsUnborn, element_of, status_of}
 use Rattle.tp_model.specs.Passes.{opening_of}
 use Rattle.tp_model.specs.Words.{ClaimWord, FreeWord, TakenWord, KilledWord, kill_word, claim_word, claim_word_after}
 use Rattle.tp_model.specs.Steps.{IsLegal, IsServerStage, Step, rows_of}
@@ -22,6 +22,7 @@ use Rattle.tp_model.proofs.Later.{births_inside}
 use Rattle.tp_words.specs.Words.{head_of}
 use Rattle.tp_words.specs.declared.words.Head.{Head}
 use Rattle.tp_words.specs.declared.words.Head.TheVariants.{There}
+use Rattle.tp_rule.specs.Steps.{AreOver}
 use Rattle.tp_rule.specs.declared.view.View.{View}
 use Rattle.tp_manager.specs.declared.looking.Birth.{Birth}
 use Rattle.tp_manager.specs.declared.listing.Wanted.{Wanted}
@@ -29,9 +30,9 @@ use Rattle.tp_manager.specs.declared.listing.Wanted.TheVariants as wanteds
 use Rattle.tp_manager.specs.Calls.{AtPoint, IsWaiting, opening}
 use Rattle.tp_manager.specs.Looks.{IsThere}
 use Rattle.tp_manager.specs.Shown.{PassShown, shown}
-use Rattle.tp_manager.specs.Walks.{Acted, EachRow, Sought, Steady, Walked}
+use Rattle.tp_manager.specs.Walks.{Acted, EachRow, Steady, Walked}
 use Rattle.tp_manager.specs.Lists.{AllKilled, IsParked, IsReply, NextError, NextReply, NoneParked}
-use Rattle.tp_manager.specs.Finds.{Hits, IsWanted, PassedOver}
+use Rattle.tp_manager.specs.Finds.{Finds, Hits, IsWanted, PassedOver}
 use Rattle.tp_manager.proofs.Seeks.{Widens}
 use Rattle.tp_manager.proofs.Walks.{opening_is, sought_acted, walked_none}
 
@@ -174,23 +175,26 @@ module _ (t t' : TableId) (v y : View) (old : PassShown) (is : shown t v ≡ old
     before = all_killed root id (λ i. (from ≤ i) × (i < id)) (λ i range _. range) passed;
   }
 
--- what was looked for from `from` on
-abbrev pub Listed : Limits → Wanted → ℕ → ℕ → View → View → Option ℕ → Type 0
-Listed l wanted n from v y r = MatchOption r (Sought l n (EachRow (PassedOver l wanted) from (rows_of l)) v y)
-    (λ id. (from ≤ id) × Hits l wanted id y.seen × Sought l n (EachRow (PassedOver l wanted) from id) v y)
+pub finds_acted : (l : Limits) (wanted : Wanted) (n from end : ℕ) (v y : View) (r : Option ℕ) → Finds l wanted n from end v y r → Acted l n v y
+finds_acted l wanted n from end v y None s = sought_acted l n (EachRow (PassedOver l wanted) from end) v y s
+finds_acted l wanted n from end v y (Some id) s = sought_acted l n (EachRow (PassedOver l wanted) from id) v y s.3
 
-pub listed_acted : (l : Limits) (wanted : Wanted) (n from : ℕ) (v y : View) (r : Option ℕ) → Listed l wanted n from v y r → Acted l n v y
-listed_acted l wanted n from v y None s = sought_acted l n (EachRow (PassedOver l wanted) from (rows_of l)) v y s
-listed_acted l wanted n from v y (Some id) s = sought_acted l n (EachRow (PassedOver l wanted) from id) v y s.2
+-- what is over isn't looked for
+not_wanted : (wanted : Wanted) (stage root : ℕ) (s : Status) → IsSettled s → ¬ IsWanted wanted stage root s
+not_wanted (wanteds.Reply asked) stage root s settled is = subst IsSettled is.2.1 settled
+not_wanted wanteds.Error stage root s settled is = subst IsSettled is.1 settled
+
+pub over_low : (l : Limits) (wanted : Wanted) (h : List Event) (p n i : ℕ) → AreOver l h p n → p * l.rows ≤ i → i < p * l.rows + n → PassedOver l wanted i h h
+over_low l wanted h p n i over low high x born = (h, begins_refl h, begins_refl h, not_wanted wanted x.stage x.root (status_of l.attempts h i) (over i low high x born))
 
 module _ (t t' : TableId) (v y : View) (old : PassShown) (is : shown t v ≡ old) (l : Limits) (n from : ℕ) where
-  pub error_answer : (r : Option ℕ) → Listed l wanteds.Error n from v y r → MatchOption r (NoneParked l (λ i. from ≤ i) old (shown t' y)) (λ id. NextError l from id old (shown t' y))
+  pub error_answer : (r : Option ℕ) → Finds l wanteds.Error n from (rows_of l) v y r → MatchOption r (NoneParked l (λ i. from ≤ i) old (shown t' y)) (λ id. NextError l from id old (shown t' y))
   error_answer None s = error_none t t' v y old is l n from s.marks s.walk s.passed
-  error_answer (Some id) s = error_some t t' v y old is l n from s.2.marks s.2.walk id s.0 s.1 s.2.passed
+  error_answer (Some id) s = error_some t t' v y old is l n from s.3.marks s.3.walk id s.0 s.2 s.3.passed
 
-  pub reply_answer : (root : ℕ) (r : Option ℕ) → Listed l (wanteds.Reply root) n from v y r → MatchOption r (AllKilled l root (λ i. from ≤ i) old (shown t' y)) (λ id. NextReply l root from id old (shown t' y))
+  pub reply_answer : (root : ℕ) (r : Option ℕ) → Finds l (wanteds.Reply root) n from (rows_of l) v y r → MatchOption r (AllKilled l root (λ i. from ≤ i) old (shown t' y)) (λ id. NextReply l root from id old (shown t' y))
   reply_answer root None s = reply_none t t' v y old is l n from s.marks s.walk root s.passed
-  reply_answer root (Some id) s = reply_some t t' v y old is l n from s.2.marks s.2.walk root id s.0 s.1 s.2.passed
+  reply_answer root (Some id) s = reply_some t t' v y old is l n from s.3.marks s.3.walk root id s.0 s.2 s.3.passed
 
 -- from the capacity on there is nothing
 module _ (t : TableId) (v : View) (old : PassShown) (is : shown t v ≡ old) (l : Limits) (s : Steady l v) (from : ℕ) (out : rows_of l ≤ from) where

@@ -1,5 +1,5 @@
 -- The exchange of a mark, and rows that were seen finished.
-use Rattle.std.proofs.Common.{◌≡◌, ◌⊎◌, ℕ, ◌+◌, ◌*◌, ◌<◌, ◌≤◌, Some, List, [], ◌∷◌, ◌++◌, sym, ap, ◌∙◌, subst, inl, ⊎_elim, arith}
+use Rattle.std.proofs.Common.{◌≡◌, ◌⊎◌, ℕ, ◌+◌, ◌*◌, ◌<◌, ◌≤◌, Some, List, [], ◌∷◌, ◌++◌, sym, refl, ap, ◌∙◌, subst, inl, ⊎_elim, arith}
 use mathlib.Core.Logic.{dite}
 use native.Mathlib.Decide.{dec_le}
 use mathlib.Core.List.{IsPrefix}
@@ -14,9 +14,10 @@ use Rattle.tp_model.specs.Steps.{IsLegal}
 use Rattle.tp_model.proofs.Bridges.{begins_refl, found_later}
 use Rattle.tp_model.proofs.LawProofs.{settled_stay}
 use Rattle.tp_rule.specs.Rule.{IsSettledRow}
-use Rattle.tp_rule.specs.Steps.{AreOver, IsDone, Raises, noted, unchanged}
+use Rattle.tp_rule.specs.Steps.{AreOver, IsDone, IsLow, Knows, Raises, noted, unchanged}
 use Rattle.tp_rule.specs.Views.{IsOnePass, hand}
 use Rattle.tp_rule.specs.declared.view.Hand.{Hand}
+use Rattle.tp_rule.specs.declared.view.Known.TheVariants.{PartMark}
 use Rattle.tp_rule.specs.declared.view.View.{View}
 use Rattle.tp_rule.proofs.Reading.{one_after}
 use Rattle.tp_manager.specs.Calls.{IsWaiting}
@@ -25,7 +26,7 @@ use Rattle.tp_manager.specs.declared.looking.Birth.{Birth}
 use Rattle.tp_manager.specs.Walks.{Looked, PassedBy, Rose, Steady, Took, with_trace}
 use Rattle.tp_manager.proofs.Walks.{walked_then}
 
-module _ (l : Limits) (v w : View) (s : Steady l v) (r : Raises v w) where
+module _ (l : Limits) (p n : ℕ) (v w : View) (s : Steady l v) (r : Raises v p n w) (new : IsLow l v.seen p n) where
   raised_after : IsOnePass w × (hand w ≡ noted kinds.Raise v.seen (hand v)) × (w.limits ≡ v.limits)
   raised_after = one_after kinds.Raise unchanged v.seen w.known v w s.pass.0 r.0
 
@@ -52,6 +53,7 @@ module _ (l : Limits) (v w : View) (s : Steady l v) (r : Raises v w) where
           unborn = λ i low high. let low' : (hand v).number * l.rows + (hand v).drawn ≤ i = subst (λ n. n * l.rows + (hand v).drawn ≤ i) c (subst (λ n. (hand w).number * l.rows + n ≤ i) d low) in
               subst (λ z. IsUnborn z i) (sym raised_seen) (s.shows.unborn i low' (subst (λ n. i < n * l.rows + l.rows) c high));
         };
+        low = λ q m is. subst (λ h. IsLow l h q m) (sym raised_seen) (⊎_elim (λ old. s.low q m old) (λ e. subst (λ (z : ℕ × ℕ). IsLow l v.seen z.0 z.1) (λ i. (sym e.0 i, sym e.1 i)) new) (r.2 q m is));
       }
 
   pub raised_looked : Looked l 1 v w
@@ -64,6 +66,7 @@ module _ (l : Limits) (v w : View) (s : Steady l v) (r : Raises v w) where
       closes = subst (IsPrefix v.seen) (sym raised_seen) (begins_refl v.seen);
       number = ap (λ (a : Hand). a.number) raised_hand;
       steady = raised_steady;
+      knows = r.1;
     };
     kept = raised_hand ∙ ap (λ t. with_trace t (hand v)) (sym (ap (λ (a : Hand). a.trace) raised_hand));
   }
@@ -102,6 +105,12 @@ module _ (l : Limits) where
   -- so the seat knows them done
   pub rose_done : (v : View) (a b : ℕ) → v.limits ≡ l → Rose l v.seen a b → (i : ℕ) → a ≤ i → i < b → IsDone v i
   rose_done v a b lim r i low high = inl (subst (λ (z : Limits). IsSettledRow z v.seen i) (sym lim) (r.1 i low high))
+
+  -- and a mark that the seat knows can rise over them
+  pub rose_low : (v : View) (p m n : ℕ) → Steady l v → Knows v (PartMark p m) → n ≤ l.rows → Rose l v.seen (p * l.rows + m) (p * l.rows + n) → IsLow l v.seen p n
+  rose_low v p m n s known top r = (top, λ i low high x born. dite (dec_le (p * l.rows + m) i)
+      (λ past. let t = r.1 i past high in subst IsSettled refl t.2)
+      (λ not. (s.low p m known).1 i low (omega arith) x born))
 
   not_waiting : (s : Status) → IsSettled s → ¬ IsWaiting s
   not_waiting s settled w = subst IsSettled w.1 settled

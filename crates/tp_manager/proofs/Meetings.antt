@@ -6,7 +6,7 @@ use Rattle.tp_model.specs.History.{here, there, events_by}
 use Rattle.tp_model.specs.Passes.{IsOwnOpen}
 use Rattle.tp_model.specs.Steps.{IsLegal}
 use Rattle.tp_model.proofs.Bridges.{begins_refl}
-use Rattle.tp_rule.specs.Steps.{Meets}
+use Rattle.tp_rule.specs.Steps.{IsLow, Meets}
 use Rattle.tp_rule.specs.Views.{IsOnePass, hand}
 use Rattle.tp_rule.specs.declared.view.Hand.{Hand}
 use Rattle.tp_rule.specs.declared.view.View.{View}
@@ -15,13 +15,13 @@ use Rattle.atomic_table.specs.Seated.{TableId}
 use Rattle.tp_manager.specs.Meetings as Met
 use Rattle.tp_manager.specs.Meetings.{load, seat_load}
 use Rattle.tp_manager.specs.Shown.{PassShown, shown}
-use Rattle.tp_manager.specs.Walks.{Acted, Steady}
+use Rattle.tp_manager.specs.Walks.{Acted, KnowsLow, Steady}
 use Rattle.tp_manager.proofs.Rows.{unborn_quiet}
 
 -- a pass that has seen more, and done nothing else
 module _ (l : Limits) (v w : View) (s : Steady l v) (one : IsOnePass w) (lim : w.limits ≡ l) (legal : IsLegal l w.seen) (begins : IsPrefix v.seen w.seen) (own : (hand w).mine ≡ events_by (hand w).number w.seen)
     (open_own : (u : ℕ) → (hand w).open_unit ≡ Some u → IsOwnOpen w.seen (hand w).number u)
-    (number : (hand w).number ≡ (hand v).number) (drawn : (hand w).drawn ≡ (hand v).drawn) (mine : (hand w).mine ≡ (hand v).mine) where
+    (number : (hand w).number ≡ (hand v).number) (drawn : (hand w).drawn ≡ (hand v).drawn) (mine : (hand w).mine ≡ (hand v).mine) (low : KnowsLow l w) where
   pub steady_seen : Steady l w
   steady_seen = record {
     pass = (one, lim);
@@ -38,6 +38,7 @@ module _ (l : Limits) (v w : View) (s : Steady l v) (one : IsOnePass w) (lim : w
           unborn_quiet l (hand v).number i (s.shows.given, omega arith, high') v.seen (s.shows.unborn i low' high') w.seen legal begins few;
       open_own = open_own;
     };
+    low = low;
   }
 
 module _ (l : Limits) (v w x y : View) (sv : Steady l v) (sw : Steady l w) (m : Meets v w x y) where
@@ -46,10 +47,12 @@ module _ (l : Limits) (v w x y : View) (sv : Steady l v) (sw : Steady l w) (m : 
 
   steady_first : Steady l x
   steady_first = let h = m.first_is in steady_seen l v x sv m.first_one (m.limits.0 ∙ sv.pass.1) legal m.first_saw m.mine.0 m.open_own.0 (ap (λ (a : Hand). a.number) h) (ap (λ (a : Hand). a.drawn) h) (ap (λ (a : Hand). a.mine) h)
+      (λ p n q. subst (λ (z : Limits). IsLow z x.seen p n) sv.pass.1 (m.marks.0 p n q))
 
   steady_second : Steady l y
   steady_second = let h = m.second_is in steady_seen l w y sw m.second_one (m.limits.1 ∙ sv.pass.1) (subst (IsLegal l) m.same legal) (subst (IsPrefix w.seen) m.same m.second_saw) m.mine.1 m.open_own.1
       (ap (λ (a : Hand). a.number) h) (ap (λ (a : Hand). a.drawn) h) (ap (λ (a : Hand). a.mine) h)
+      (λ p n q. subst (λ (z : Limits). IsLow z y.seen p n) sv.pass.1 (m.marks.1 p n q))
 
   pub first_trace : (hand x).trace ≡ (hand v).trace ++ seat_load v.seen ∷ load x.seen ∷ seat_load x.seen ∷ []
   first_trace = ap (λ (a : Hand). a.trace) m.first_is ∙ (append_assoc ((hand v).trace ++ seat_load v.seen ∷ []) (load x.seen ∷ []) (seat_load x.seen ∷ []) ∙ append_assoc (hand v).trace (seat_load v.seen ∷ []) (load x.seen ∷ seat_load x.seen ∷ []))
@@ -61,7 +64,7 @@ module _ (l : Limits) (v w x y : View) (sv : Steady l v) (sw : Steady l w) (m : 
   pub met_first : Acted l meet_steps v x
   met_first = let h = m.first_is in record {
     marks = seat_load v.seen ∷ load x.seen ∷ seat_load x.seen ∷ [];
-    walk = record { traced = first_trace; few = omega arith; opens = m.first_saw; closes = begins_refl x.seen; number = ap (λ (a : Hand). a.number) h; steady = steady_first };
+    walk = record { traced = first_trace; few = omega arith; opens = m.first_saw; closes = begins_refl x.seen; number = ap (λ (a : Hand). a.number) h; steady = steady_first; knows = m.knows.0 };
     kept = h ∙ ap (λ t. record (hand v) { trace = t }) (sym (ap (λ (a : Hand). a.trace) h));
     step = (load x.seen, there here, refl);
   }
@@ -70,7 +73,7 @@ module _ (l : Limits) (v w x y : View) (sv : Steady l v) (sw : Steady l w) (m : 
   pub met_second : Acted l met_steps w y
   met_second = let h = m.second_is in record {
     marks = load y.seen ∷ [];
-    walk = record { traced = second_trace; few = omega arith; opens = subst (IsPrefix w.seen) m.same m.second_saw; closes = begins_refl y.seen; number = ap (λ (a : Hand). a.number) h; steady = steady_second };
+    walk = record { traced = second_trace; few = omega arith; opens = subst (IsPrefix w.seen) m.same m.second_saw; closes = begins_refl y.seen; number = ap (λ (a : Hand). a.number) h; steady = steady_second; knows = m.knows.1 };
     kept = h ∙ ap (λ t. record (hand w) { trace = t }) (sym (ap (λ (a : Hand). a.trace) h));
     step = (load y.seen, here, refl);
   }

@@ -1,5 +1,5 @@
 -- A look at one row after another.
-use Rattle.std.proofs.Common.{◌≡◌, ◌≢◌, ℕ, zero, suc, ◌+◌, ◌-◌, ◌*◌, ◌<◌, ◌≤◌, List, ◌++◌, sym, ap, ◌∙◌, subst, inl, inr, ⊎_elim, arith, suc-mul, mul-le-mul_right}
+use Rattle.std.proofs.Common.{◌≡◌, ◌≢◌, ℕ, zero, suc, ◌+◌, ◌*◌, ◌<◌, ◌≤◌, List, ◌++◌, sym, ap, ◌∙◌, subst, inl, inr, ⊎_elim, arith, suc-mul, mul-le-mul_right}
 use Rattle.std.proofs.lemmas.Bool.Decides.{eqb_tells}
 use mathlib.Core.Logic.{dite}
 use native.Mathlib.Decide.{dec_le}
@@ -24,9 +24,6 @@ Widens Passed = (i : ℕ) (a a' b b' : List Event) → IsPrefix a a' → IsPrefi
 pub rows_more : (n m s : ℕ) → n < m → n * s + s ≤ m * s
 rows_more n m s less = let all : suc n * s ≤ m * s = mul-le-mul_right s less in omega (arith, suc-mul n s)
 
-one_more : (n s : ℕ) → n * s + s ≤ (n + 1) * s
-one_more n s = omega arith
-
 module _ (l : Limits) (Passed : ℕ → List Event → List Event → Type 0) (widens : Widens Passed) where
   -- a look at the head of row i, and what follows it: the row was passed, and so were those up to row `next`, where nothing is born
   module _ (n m i next : ℕ) (v w y : View) (first : Acted l 1 v w) (rest : Looked l m w y) (le : 1 + m ≤ n) where
@@ -40,50 +37,47 @@ module _ (l : Limits) (Passed : ℕ → List Event → List Event → Type 0) (w
           | inr e ↦ (let other : j ≢ i = e.1 in widens j _ w.seen w.seen y.seen begun_by (looked_begins l m w y rest) (none j w.seen (skips j (omega arith) high)))
         ]))
 
-module _ (l : Limits) (Passed : ℕ → List Event → List Event → Type 0) (widens : Widens Passed) (steps from : ℕ) where
-  -- steps that look at one more row, which is passed or not
-  module _ (n : ℕ) (v w y : View) (b : Begun l Passed steps from n v w) where
-    abbrev after : (a : Acted l steps w y) (s : Sought l ((n - from) * steps) (EachRow Passed from n) v w) → Sought l ((n - from) * steps + steps) (EachRow Passed from n) v y
+module _ (l : Limits) (Passed : ℕ → List Event → List Event → Type 0) (widens : Widens Passed) (m from : ℕ) where
+  -- so many steps that look at one more row, which is passed or not
+  module _ (k n : ℕ) (v w y : View) (b : Begun l Passed m from n v w) where
+    abbrev after : (a : Acted l k w y) (s : Sought l m (EachRow Passed from n) v w) → Sought l (m + k) (EachRow Passed from n) v y
     after a s = record {
       marks = s.marks ++ a.marks;
-      walk = walked_then l ((n - from) * steps) steps s.marks a.marks v w y s.walk a.walk;
+      walk = walked_then l m k s.marks a.marks v w y s.walk a.walk;
       kept = a.kept ∙ ap (λ z. with_trace (hand y).trace z) s.kept;
       step = has_more s.marks a.marks s.step;
       passed = λ i p q. subst (λ o. Passed i o y.seen) (sym (opening_kept v.seen s.marks a.marks s.step.0 s.step.1 s.step.2))
-          (widens i (opening_of v.seen s.marks) (opening_of v.seen s.marks) w.seen y.seen (begins_refl (opening_of v.seen s.marks)) (walked_begins l steps a.marks w y a.walk) (s.passed i p q));
+          (widens i (opening_of v.seen s.marks) (opening_of v.seen s.marks) w.seen y.seen (begins_refl (opening_of v.seen s.marks)) (walked_begins l k a.marks w y a.walk) (s.passed i p q));
     }
 
-    first : (a : Acted l steps w y) → n ≡ from → w ≡ v → Sought l ((n - from) * steps + steps) (EachRow Passed from n) v y
-    first a at same = subst (λ z. Sought l ((n - from) * steps + steps) (EachRow Passed from n) z y) same record {
+    first : (a : Acted l k w y) → n ≡ from → w ≡ v → Sought l (m + k) (EachRow Passed from n) v y
+    first a at same = subst (λ z. Sought l (m + k) (EachRow Passed from n) z y) same record {
       marks = a.marks;
-      walk = walked_few l steps ((n - from) * steps + steps) a.marks w y (omega arith) a.walk;
+      walk = walked_few l k (m + k) a.marks w y (omega arith) a.walk;
       kept = a.kept;
       step = a.step;
       passed = λ i p q. absurd (omega arith);
     }
 
     -- the rows before it were passed all the same
-    pub begun_hit : Acted l steps w y → Sought l ((n - from) * steps + steps) (EachRow Passed from n) v y
+    pub begun_hit : Acted l k w y → Sought l (m + k) (EachRow Passed from n) v y
     begun_hit a = ⊎_elim (λ t. first a t.0 t.1) (after a) b
 
-    -- or it and others are passed, up to row m
-    module _ (m : ℕ) (start : from ≤ n) (less : n < m) where
-      room : (n - from) * steps + steps ≤ (m - from) * steps
-      room = rows_more (n - from) (m - from) steps (omega arith)
-
-      only : Sought l steps (EachRow Passed n m) w y → n ≡ from → w ≡ v → Sought l ((m - from) * steps) (EachRow Passed from m) v y
-      only s at same = subst (λ z. Sought l ((m - from) * steps) (EachRow Passed from m) z y) same record {
+    -- or it and others are passed, up to row `next`
+    module _ (next : ℕ) (start : from ≤ n) where
+      only : Sought l k (EachRow Passed n next) w y → n ≡ from → w ≡ v → Sought l (m + k) (EachRow Passed from next) v y
+      only s at same = subst (λ z. Sought l (m + k) (EachRow Passed from next) z y) same record {
         marks = s.marks;
-        walk = walked_few l steps ((m - from) * steps) s.marks w y (let all = room in omega arith) s.walk;
+        walk = walked_few l k (m + k) s.marks w y (omega arith) s.walk;
         kept = s.kept;
         step = s.step;
         passed = λ i p q. s.passed i (omega arith) q;
       }
 
-      more : Sought l steps (EachRow Passed n m) w y → Sought l ((n - from) * steps) (EachRow Passed from n) v w → Sought l ((m - from) * steps) (EachRow Passed from m) v y
+      more : Sought l k (EachRow Passed n next) w y → Sought l m (EachRow Passed from n) v w → Sought l (m + k) (EachRow Passed from next) v y
       more s t = let h = after (record { marks = s.marks; walk = s.walk; kept = s.kept; step = s.step }) t in let opened : opening_of v.seen h.marks ≡ opening_of v.seen t.marks = opening_kept v.seen t.marks s.marks t.step.0 t.step.1 t.step.2 in record {
         marks = t.marks ++ s.marks;
-        walk = walked_few l ((n - from) * steps + steps) ((m - from) * steps) _ v y room h.walk;
+        walk = h.walk;
         kept = h.kept;
         step = h.step;
         passed = λ i p q. dite (dec_le n i)
@@ -92,25 +86,31 @@ module _ (l : Limits) (Passed : ℕ → List Event → List Event → Type 0) (w
             (λ before. h.passed i p (omega arith));
       }
 
-      pub begun_on : Sought l steps (EachRow Passed n m) w y → Begun l Passed steps from m v y
-      begun_on s = inr (⊎_elim (λ t. only s t.0 t.1) (more s) b)
+      pub begun_sought : Sought l k (EachRow Passed n next) w y → Sought l (m + k) (EachRow Passed from next) v y
+      begun_sought s = ⊎_elim (λ t. only s t.0 t.1) (more s) b
+
+      pub begun_on : Sought l k (EachRow Passed n next) w y → Begun l Passed (m + k) from next v y
+      begun_on s = inr (begun_sought s)
 
   -- where there is a row to look at, all were passed at the end
-  pub begun_done : (n : ℕ) (v w : View) → Begun l Passed steps from n v w → from < n → Sought l ((n - from) * steps) (EachRow Passed from n) v w
+  pub begun_done : (n : ℕ) (v w : View) → Begun l Passed m from n v w → from < n → Sought l m (EachRow Passed from n) v w
   begun_done n v w b some = ⊎_elim (λ t. let e = t.0 in absurd (omega arith)) (λ t. t) b
 
-  pub begun_looked : (n : ℕ) (v w : View) → Begun l Passed steps from n v w → Steady l v → Looked l ((n - from) * steps) v w
-  begun_looked n v w b steady = ⊎_elim (λ t. subst (λ z. Looked l ((n - from) * steps) v z) (sym t.1) (looked_few l 0 ((n - from) * steps) v v (omega arith) (looked_none l v steady)))
+  pub begun_looked : (n : ℕ) (v w : View) → Begun l Passed m from n v w → Steady l v → Looked l m v w
+  begun_looked n v w b steady = ⊎_elim (λ t. subst (λ z. Looked l m v z) (sym t.1) (looked_few l 0 m v v (omega arith) (looked_none l v steady)))
       (λ t. record { marks = t.marks; walk = t.walk; kept = t.kept }) b
 
--- a look, and rows behind it: those before the first of them were passed by then
-module _ (l : Limits) (Passed : ℕ → List Event → List Event → Type 0) (widens : Widens Passed) (steps lo from n : ℕ) (v w y : View) (first : Acted l 1 v w) where
-  rest : Begun l Passed steps from n w y → Looked l ((n - from) * steps) w y
-  rest b = begun_looked l Passed widens steps from n w y b first.walk.steady
+  pub begun_few : (k n : ℕ) (v w : View) → m ≤ k → Begun l Passed m from n v w → Begun l Passed k from n v w
+  begun_few k n v w le b = ⊎_elim (λ t. inl t) (λ t. inr (sought_few l m k (EachRow Passed from n) v w le t)) b
 
-  pub sought_from : (b : Begun l Passed steps from n w y) → ((i : ℕ) → lo ≤ i → i < from → Passed i w.seen w.seen) → Sought l (1 + (n - from) * steps) (EachRow Passed lo n) v y
-  sought_from b below = sought_by l (1 + (n - from) * steps) (EachRow Passed lo n) v y (acted_then l 1 ((n - from) * steps) v w y first (rest b))
-      (λ i low high. let opened = begun_by l Passed widens (1 + (n - from) * steps) ((n - from) * steps) 0 0 v w y first (rest b) (omega arith) in let later = looked_begins l ((n - from) * steps) w y (rest b) in
+-- a look, and rows behind it: those before the first of them were passed by then
+module _ (l : Limits) (Passed : ℕ → List Event → List Event → Type 0) (widens : Widens Passed) (m lo from n : ℕ) (v w y : View) (first : Acted l 1 v w) where
+  rest : Begun l Passed m from n w y → Looked l m w y
+  rest b = begun_looked l Passed widens m from n w y b first.walk.steady
+
+  pub sought_from : (b : Begun l Passed m from n w y) → ((i : ℕ) → lo ≤ i → i < from → Passed i w.seen w.seen) → Sought l (1 + m) (EachRow Passed lo n) v y
+  sought_from b below = sought_by l (1 + m) (EachRow Passed lo n) v y (acted_then l 1 m v w y first (rest b))
+      (λ i low high. let opened = begun_by l Passed widens (1 + m) m 0 0 v w y first (rest b) (omega arith) in let later = looked_begins l m w y (rest b) in
       dite (dec_le from i)
       (λ past. ⊎_elim (λ t. absurd (let e = t.0 in omega arith))
       (λ t. widens i _ (opening_of w.seen t.marks) y.seen y.seen (begins_trans _ w.seen _ opened t.walk.opens) (begins_refl y.seen) (t.passed i past high)) b)

@@ -35,7 +35,7 @@ use Rattle.tp_manager.specs.Bounds.{commit_steps, draft_steps}
 use Rattle.tp_manager.specs.Walks.{Rests, Shut, Steady, Wrote, output, IsTask}
 use Rattle.tp_rule.proofs.Births.{claimed_inside}
 use Rattle.tp_manager.proofs.Passes.{claims_append, steady_at}
-use Rattle.tp_manager.proofs.Walks.{grew_hand, grew_walked, steady_own, steady_quiet, walked_few, walked_then, walked_begins}
+use Rattle.tp_manager.proofs.Walks.{grew_hand, grew_walked, steady_own, steady_quiet, walked_few, walked_none, walked_then, walked_begins}
 
 module _ (l : Limits) where
   pub wrote_then : (xs ys : List Element) (v w y : View) → Wrote l xs v w → Wrote l ys w y → Wrote l (xs ++ ys) v y
@@ -49,6 +49,9 @@ module _ (l : Limits) where
     drafts = b.drafts ∙ (ap (λ z. z ++ ys) a.drafts ∙ append_assoc (hand v).drafts xs ys);
     open_unit = b.open_unit ∙ a.open_unit;
   }
+
+  pub wrote_none : (v : View) → Steady l v → Wrote l [] v v
+  wrote_none v s = record { marks = []; walk = walked_none l v s; seen = refl; drawn = omega arith; claimed = refl; mine = refl; drafts = sym (append_nil (hand v).drafts); open_unit = refl }
 
   shut_by : (kind : StepKind) (f : Hand → Hand) (es : List Event) (v w : View) → looks kind ≡ true → (s : Steady l v) → (g : Grew kind f es v w) → Steady l w → (f (hand v)).trace ≡ (hand v).trace → (f (hand v)).number ≡ (hand v).number → (f (hand v)).drawn ≡ (hand v).drawn
       → (f (hand v)).claimed ≡ (hand v).claimed → (f (hand v)).mine ≡ (hand v).mine ++ es → (f (hand v)).drafts ≡ [] → (f (hand v)).open_unit ≡ None → Shut l 1 0 es v w

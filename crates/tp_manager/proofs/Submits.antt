@@ -13,12 +13,13 @@ use Rattle.tp_model.specs.Steps.{IsLegal, Step}
 use Rattle.tp_model.proofs.Histories.{legal_at}
 use Rattle.tp_model.proofs.Bridges.{begins_refl, in_one, new_birth}
 use Rattle.tp_rule.specs.Views.{SeatShown, IsOnePass, hand, next_row, view_of}
-use Rattle.tp_rule.specs.Steps.{Publishes, birth, drafted, next_element, noted, or_zero, with_amount, with_birth, with_key}
+use Rattle.tp_rule.specs.Steps.{Drafts, IsLow, Knows, Publishes, birth, drafted, next_element, noted, or_zero, with_amount, with_birth, with_draft, with_key}
 use Rattle.tp_rule.specs.declared.view.Hand.{Hand}
+use Rattle.tp_rule.specs.declared.view.Known.TheVariants.{PartMark}
 use Rattle.tp_rule.specs.declared.view.View.{View}
 use Rattle.tp_rule.proofs.Reading.{one_after}
 use Rattle.tp_manager.specs.declared.manager.Task.{Task}
-use Rattle.tp_manager.specs.Walks.{Steady, Walked, Rests}
+use Rattle.tp_manager.specs.Walks.{Steady, Walked, Rests, Wrote}
 use Rattle.tp_manager.specs.Calls.{claims_in}
 use Rattle.tp_manager.proofs.Walks.{steady_own, grew_hand, grew_walked, walked_then, walked_begins}
 use Rattle.tp_manager.proofs.Passes.{claims_append, steady_at, task_later}
@@ -50,6 +51,7 @@ module _ (l : Limits) (f : Hand → Hand) (v w : View) (s : Steady l v) (is : w 
           unborn = λ i low high. let low' : (hand v).number * l.rows + (f (hand v)).drawn ≤ i = subst (λ n. n * l.rows + (f (hand v)).drawn ≤ i) c (subst (λ n. (hand w).number * l.rows + n ≤ i) d low) in
               subst (λ z. IsUnborn z i) (sym stored_seen) (s.shows.unborn i (omega arith) (subst (λ n. i < n * l.rows + l.rows) c high));
         };
+        low = λ p n q. subst (λ h. IsLow l h p n) (sym stored_seen) (s.low p n (subst (λ (z : View). Knows z (PartMark p n)) is q));
       }
 
   pub stored_walked : (f (hand v)).number ≡ (hand v).number → (f (hand v)).trace ≡ (hand v).trace → Steady l w → Walked l 1 (record { kind = kinds.DraftStore; seen = v.seen } ∷ []) v w
@@ -60,6 +62,7 @@ module _ (l : Limits) (f : Hand → Hand) (v w : View) (s : Steady l v) (is : w 
     closes = subst (IsPrefix v.seen) (sym stored_seen) (begins_refl v.seen);
     number = ap (λ (a : Hand). a.number) stored_hand ∙ number;
     steady = steady;
+    knows = λ x q. subst (λ (z : View). Knows z x) (sym is) q;
   }
 
 -- the stores of a row's key and amount
@@ -78,6 +81,35 @@ module _ (l : Limits) (x y : ℕ) (v k a : View) (s : Steady l v) (key : k ≡ d
 
   pub body_walked : Walked l 2 body_marks v a
   body_walked = walked_then l 1 1 _ _ v k a (stored_walked l (with_key x) v k s key refl refl key_steady) (stored_walked l (with_amount y) k a key_steady amount refl refl body_steady)
+
+-- a draft of unit u: its body, and then its head
+module _ (l : Limits) (x y stage root u : ℕ) (v k a w : View) (s : Steady l v) (key : k ≡ drafted (with_key x) v) (amount : a ≡ drafted (with_amount y) k) (head : Drafts a stage root u w) (room : (hand v).drawn < l.rows) where
+  abbrev pub D : Element
+  D = next_element a stage root (Some u)
+
+  pub draft_is : (row : ℕ) → (hand v).number * l.rows + (hand v).drawn ≡ row → D ≡ record { id = row; stage = stage; root = root; key = x; amount = y; by = Some u }
+  draft_is row at = let b = body_hand l x y v k a s key amount in let lim = (body_steady l x y v k a s key amount).pass.1 in
+      let id : next_row a ≡ row = (λ i. (b i).number * (lim i).rows + (b i).drawn) ∙ at in
+      (λ i. record { id = id i; stage = stage; root = root; key = or_zero (b i).next_key; amount = or_zero (b i).next_amount; by = Some u })
+
+  draft_hand : hand w ≡ noted kinds.DraftStore a.seen (with_draft D (noted kinds.DraftStore k.seen (with_amount y (noted kinds.DraftStore v.seen (with_key x (hand v))))))
+  draft_hand = stored_hand l (with_draft D) a w (body_steady l x y v k a s key amount) head ∙ ap (λ h. noted kinds.DraftStore a.seen (with_draft D h)) (body_hand l x y v k a s key amount)
+
+  draft_steady : Steady l w
+  draft_steady = let drawn : (hand a).drawn ≡ (hand v).drawn = ap (λ (z : Hand). z.drawn) (body_hand l x y v k a s key amount) in
+      stored_steady l (with_draft D) a w (body_steady l x y v k a s key amount) head refl (omega arith) (omega arith) refl refl
+
+  pub draft_wrote : Wrote l (D ∷ []) v w
+  draft_wrote = let h = draft_hand in record {
+    marks = body_marks l x y v k a s key amount ++ record { kind = kinds.DraftStore; seen = a.seen } ∷ [];
+    walk = walked_then l 2 1 _ _ v a w (body_walked l x y v k a s key amount) (stored_walked l (with_draft D) a w (body_steady l x y v k a s key amount) head refl refl draft_steady);
+    seen = ap (λ (z : View). z.seen) head ∙ (ap (λ (z : View). z.seen) amount ∙ ap (λ (z : View). z.seen) key);
+    drawn = ap (λ (z : Hand). z.drawn) h;
+    claimed = ap (λ (z : Hand). z.claimed) h;
+    mine = ap (λ (z : Hand). z.mine) h;
+    drafts = ap (λ (z : Hand). z.drafts) h;
+    open_unit = ap (λ (z : Hand). z.open_unit) h;
+  }
 
 -- a submit as a whole
 module _ (l : Limits) (x y stage : ℕ) (v k a w : View) (s : Steady l v) (key : k ≡ drafted (with_key x) v) (amount : a ≡ drafted (with_amount y) k) (g : Publishes a stage w) (room : (hand v).drawn < l.rows) where

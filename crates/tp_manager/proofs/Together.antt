@@ -10,10 +10,12 @@ use Rattle.tp_model.specs.declared.trace.StepKind.TheVariants as kinds
 use Rattle.tp_model.specs.History.{In, here, there, events_by}
 use Rattle.tp_model.specs.Passes.{IsOwnOpen}
 use Rattle.tp_model.specs.Steps.{IsLegal}
-use Rattle.tp_model.proofs.Bridges.{begins_refl, begins_trans}
+use Rattle.tp_model.proofs.Bridges.{begins_refl, begins_trans, in_left, in_right}
 use Rattle.tp_rule.specs.Views.{HasPass, IsOnePass, first_hand, hand}
-use Rattle.tp_rule.specs.Steps.{Grew, front_of, joined, kept, looked, noted, parted, rest_of, unchanged}
+use Rattle.tp_rule.specs.Steps.{Grew, IsLow, Knows, front_of, joined, kept, looked, noted, parted, rest_of, unchanged}
 use Rattle.tp_rule.specs.declared.view.Hand.{Hand}
+use Rattle.tp_rule.specs.declared.view.Known.{Known}
+use Rattle.tp_rule.specs.declared.view.Known.TheVariants.{PartMark}
 use Rattle.tp_rule.specs.declared.view.View.{View}
 use Rattle.tp_rule.proofs.Reading.{grew_begins}
 use Rattle.tp_manager.specs.Bounds.{lead_steps, led_steps, meet_steps}
@@ -70,12 +72,18 @@ module _ (l : Limits) (v o j m w x : View) (sv : Steady l v) (join : j ≡ joine
   A_in : In A m.hands
   A_in = subst (In A) (sym met_hands) here
 
+  met_knows : (z : Known) → In z (v.known ++ o.known) → Knows m z
+  met_knows z q = g.knows z (subst (λ (u : View). Knows u z) (sym join) q)
+
+  met_low : (p n : ℕ) → Knows m (PartMark p n) → IsLow l w.seen p n
+  met_low p n q = subst (λ h. IsLow l h p n) (sym first_seen) (subst (λ (z : Limits). IsLow z m.seen p n) (ap (λ (z : View). z.limits) join ∙ sv.pass.1) (g.marks p n q))
+
   met_steady : Steady l w
   met_steady = let h = first_is in steady_seen l v w sv (first_hands ∙ ap (λ (a : Hand). a ∷ []) (sym h)) (ap (λ (z : View). z.limits) first ∙ met_limits)
       (subst (λ (z : Limits). IsLegal z w.seen) (ap (λ (z : View). z.limits) join ∙ sv.pass.1) (subst (IsLegal j.limits) (sym first_seen) g.legal)) met_begins
       (ap (λ (a : Hand). a.mine) h ∙ (met_mine A A_in ∙ ap (λ (a : Hand). events_by a.number w.seen) (sym h)))
       (λ u is. subst (λ (a : Hand). IsOwnOpen w.seen a.number u) (sym h) (met_open A A_in u (sym (ap (λ (a : Hand). a.open_unit) h) ∙ is)))
-      (ap (λ (a : Hand). a.number) h) (ap (λ (a : Hand). a.drawn) h) (ap (λ (a : Hand). a.mine) h)
+      (ap (λ (a : Hand). a.number) h) (ap (λ (a : Hand). a.drawn) h) (ap (λ (a : Hand). a.mine) h) (λ p n q. met_low p n (subst (λ (u : View). Knows u (PartMark p n)) first q))
 
   met_trace : (hand w).trace ≡ (hand v).trace ++ seat_load v.seen ∷ load w.seen ∷ seat_load w.seen ∷ []
   met_trace = ap (λ (a : Hand). a.trace) first_is ∙ (append_assoc ((hand v).trace ++ seat_load v.seen ∷ []) (load m.seen ∷ []) (seat_load m.seen ∷ []) ∙ (append_assoc (hand v).trace (seat_load v.seen ∷ []) (load m.seen ∷ seat_load m.seen ∷ [])
@@ -85,7 +93,7 @@ module _ (l : Limits) (v o j m w x : View) (sv : Steady l v) (join : j ≡ joine
   pub met_acted : Acted l meet_steps v w
   met_acted = let h = first_is in record {
     marks = seat_load v.seen ∷ load w.seen ∷ seat_load w.seen ∷ [];
-    walk = record { traced = met_trace; few = omega arith; opens = met_begins; closes = begins_refl w.seen; number = ap (λ (a : Hand). a.number) h; steady = met_steady };
+    walk = record { traced = met_trace; few = omega arith; opens = met_begins; closes = begins_refl w.seen; number = ap (λ (a : Hand). a.number) h; steady = met_steady; knows = λ z q. subst (λ (u : View). Knows u z) (sym first) (met_knows z (in_left o.known q)) };
     kept = h ∙ ap (λ t. record (hand v) { trace = t }) (sym (ap (λ (a : Hand). a.trace) h));
     step = (load w.seen, there here, refl);
   }
@@ -98,6 +106,8 @@ module _ (l : Limits) (v o j m w x : View) (sv : Steady l v) (join : j ≡ joine
     hands = second_hands ∙ ap (λ h. map (noted kinds.Load h) o.hands) (sym first_seen);
     mine = λ a p. met_mine a (in_others a p);
     open_own = λ a p u is. met_open a (in_others a p) u is;
+    low = λ p n q. subst (λ h. IsLow l h p n) (first_seen ∙ sym (ap (λ (z : View). z.seen) second)) (met_low p n (subst (λ (u : View). Knows u (PartMark p n)) second q));
+    knows = λ z q. subst (λ (u : View). Knows u z) (sym second) (met_knows z (in_right v.known q));
   }
 
 -- a seat has a pass, once it has joined others to its one
@@ -144,7 +154,10 @@ module _ (l : Limits) (p q r s t o x : View) (h g : List Event) (sp : Steady l p
   t_steady = let k = t_is in steady_seen l p t sp (t_hands ∙ ap (λ (a : Hand). a ∷ []) (sym k)) (ap (λ (z : View). z.limits) first ∙ look.limits) (subst (IsLegal l) (sym t_seen) legal) t_begins
       (ap (λ (a : Hand). a.mine) k ∙ (look.mine N N_in ∙ (ap (events_by N.number) (sym t_seen) ∙ ap (λ (a : Hand). events_by a.number t.seen) (sym k))))
       (λ u is. subst (λ (a : Hand). IsOwnOpen t.seen a.number u) (sym k) (subst (λ z. IsOwnOpen z N.number u) (sym t_seen) (look.open_own N N_in u (sym (ap (λ (a : Hand). a.open_unit) k) ∙ is))))
-      (ap (λ (a : Hand). a.number) k) (ap (λ (a : Hand). a.drawn) k) (ap (λ (a : Hand). a.mine) k)
+      (ap (λ (a : Hand). a.number) k) (ap (λ (a : Hand). a.drawn) k) (ap (λ (a : Hand). a.mine) k) (λ c n i. let e = first in subst (λ z. IsLow l z c n) (look.seen ∙ sym t_seen) (look.low c n (subst (λ (u : View). Knows u (PartMark c n)) first i)))
+
+  all_known : (z : Known) → In z (q.known ++ o.known) → Knows s z
+  all_known z i = look.knows z (subst (λ (u : View). Knows u z) (sym join) i)
 
   t_trace : (hand t).trace ≡ (hand p).trace ++ load h ∷ seat_load q.seen ∷ load g ∷ seat_load s.seen ∷ []
   t_trace = let z = (hand p).trace in ap (λ (a : Hand). a.trace) t_is ∙ (append_assoc ((z ++ load h ∷ []) ++ seat_load q.seen ∷ []) (load g ∷ []) (seat_load s.seen ∷ [])
@@ -153,7 +166,7 @@ module _ (l : Limits) (p q r s t o x : View) (h g : List Event) (sp : Steady l p
   pub joined_acted : Acted l led_steps p t
   joined_acted = let k = t_is in record {
     marks = load h ∷ seat_load q.seen ∷ load g ∷ seat_load s.seen ∷ [];
-    walk = record { traced = t_trace; few = omega arith; opens = saw; closes = subst (IsPrefix h) (sym t_seen) more; number = ap (λ (a : Hand). a.number) k; steady = t_steady };
+    walk = record { traced = t_trace; few = omega arith; opens = saw; closes = subst (IsPrefix h) (sym t_seen) more; number = ap (λ (a : Hand). a.number) k; steady = t_steady; knows = λ z i. subst (λ (u : View). Knows u z) (sym first) (all_known z (in_left o.known (met.knows z i))) };
     kept = k ∙ ap (λ z. record (hand p) { trace = z }) (sym (ap (λ (a : Hand). a.trace) k));
     step = (load h, here, refl);
   }
@@ -171,6 +184,8 @@ module _ (l : Limits) (p q r s t o x : View) (h g : List Event) (sp : Steady l p
     hands = x_hands;
     mine = λ a i. look.mine a (in_rest a i);
     open_own = λ a i u is. look.open_own a (in_rest a i) u is;
+    low = λ c n i. subst (λ z. IsLow l z c n) (sym (ap (λ (z : View). z.seen) second)) (look.low c n (subst (λ (u : View). Knows u (PartMark c n)) second i));
+    knows = λ z i. subst (λ (u : View). Knows u z) (sym second) (all_known z (in_right q.known i));
   }
 
   -- what it shows

@@ -13,7 +13,7 @@ use Rattle.tp_model.specs.Passes.{HasLook, IsOwnOpen, IsPassView, IsPoint, looks
 use Rattle.tp_model.proofs.Histories.{legal_start}
 use Rattle.tp_model.proofs.Bridges.{append_nil, begins_refl, begins_trans, by_own, unborn_still}
 use Rattle.tp_rule.specs.Views.{IsOnePass, hand}
-use Rattle.tp_rule.specs.Steps.{Grew, noted, unchanged}
+use Rattle.tp_rule.specs.Steps.{Grew, IsLow, noted, unchanged}
 use Rattle.tp_rule.specs.declared.view.Hand.{Hand}
 use Rattle.tp_rule.specs.declared.view.View.{View}
 use Rattle.tp_rule.proofs.Reading.{one_after, grew_begins}
@@ -54,6 +54,7 @@ module _ (l : Limits) (kind : StepKind) (f : Hand → Hand) (es : List Event) (v
       unborn = un;
       open_own = grew_open;
     };
+    low = λ p n q. subst (λ (z : Limits). IsLow z w.seen p n) s.pass.1 (g.marks p n q);
   }
 
   pub grew_walked : looks kind ≡ true → (f (hand v)).trace ≡ (hand v).trace → (f (hand v)).number ≡ (hand v).number → Steady l w → Walked l 1 (record { kind = kind; seen = w.seen } ∷ []) v w
@@ -64,6 +65,7 @@ module _ (l : Limits) (kind : StepKind) (f : Hand → Hand) (es : List Event) (v
     closes = subst (λ z. IsPrefix z w.seen) (sym o) (begins_refl w.seen);
     number = ap (λ (a : Hand). a.number) grew_hand ∙ number;
     steady = steady;
+    knows = g.knows;
   }
 
 -- a step without an event
@@ -101,7 +103,7 @@ steady_own l kind f e v w s g number more room mine own below =
 
 module _ (l : Limits) where
   pub walked_none : (v : View) → Steady l v → Walked l 0 [] v v
-  walked_none v s = record { traced = sym (append_nil (hand v).trace); few = omega arith; opens = begins_refl v.seen; closes = begins_refl v.seen; number = refl; steady = s }
+  walked_none v s = record { traced = sym (append_nil (hand v).trace); few = omega arith; opens = begins_refl v.seen; closes = begins_refl v.seen; number = refl; steady = s; knows = λ x q. q }
 
   pub walked_begins : (n : ℕ) (ms : List TraceEntry) (v w : View) → Walked l n ms v w → IsPrefix v.seen w.seen
   walked_begins n ms v w a = begins_trans _ _ _ a.opens a.closes
@@ -114,10 +116,11 @@ module _ (l : Limits) where
     closes = begins_trans _ _ _ (opening_later v.seen w.seen ms ns a.closes b.opens) b.closes;
     number = b.number ∙ a.number;
     steady = b.steady;
+    knows = λ z q. b.knows z (a.knows z q);
   }
 
   pub walked_few : (n m : ℕ) (ms : List TraceEntry) (v w : View) → n ≤ m → Walked l n ms v w → Walked l m ms v w
-  walked_few n m ms v w le a = record { traced = a.traced; few = let p = a.few in omega arith; opens = a.opens; closes = a.closes; number = a.number; steady = a.steady }
+  walked_few n m ms v w le a = record { traced = a.traced; few = let p = a.few in omega arith; opens = a.opens; closes = a.closes; number = a.number; steady = a.steady; knows = a.knows }
 
   -- a point of a first part is one of both, where that part has a step that is no draft store
   pub point_first : (m : ℕ) (ms ns : List TraceEntry) (v w x : View) → HasLook ms → Walked l m ns w x → (p : List Event) → IsPoint (opening_of v.seen ms) w.seen p → IsPoint (opening_of v.seen (ms ++ ns)) x.seen p

@@ -49,19 +49,24 @@ kill_steps l = birth_steps + slay_steps l
 abbrev pub round_steps : Limits → ℕ
 round_steps l = rows_of l * kill_steps l
 
--- whether the root is born; then each round but the last finds more rows of the family than the one before it
+-- whether the root is born, and the mark of each part; then each round but the last finds more rows of the family than the
+-- one before it
 abbrev pub cancel_steps : Limits → ℕ
-cancel_steps l = birth_steps + (rows_of l + 1) * round_steps l
+cancel_steps l = birth_steps + l.parts + (rows_of l + 1) * round_steps l
 
 -- what a listing makes at a row
 abbrev pub look_steps : Limits → ℕ
 look_steps l = birth_steps + status_steps l
 
+-- what a listing makes in a part: its mark, and those at every row
+abbrev pub find_steps : Limits → ℕ
+find_steps l = 1 + l.rows * look_steps l
+
 abbrev pub reply_steps : Limits → ℕ
-reply_steps l = rows_of l * look_steps l
+reply_steps l = l.parts * find_steps l
 
 abbrev pub next_error_steps : Limits → ℕ
-next_error_steps l = rows_of l * look_steps l
+next_error_steps l = l.parts * find_steps l
 
 -- what a claim makes at a row: the same look, the body, and the exchange
 abbrev pub try_steps : Limits → ℕ
@@ -110,10 +115,10 @@ pub record RoundBounds (l : Limits) : Type 0 where
   pub commit : (k : ℕ) → commit_steps k ≤ 4 * k + 3
   pub abort : abort_steps ≤ 2
   pub kill : kill_steps l ≤ 4 * l.attempts + 8
-  pub cancel : 1 ≤ rows_of l → cancel_steps l ≤ (rows_of l + 2) * (rows_of l * (4 * l.attempts + 12))
+  pub cancel : 1 ≤ rows_of l → cancel_steps l ≤ (rows_of l + 2) * (rows_of l * (4 * l.attempts + 12) + 2 * l.parts + 1)
   pub read : read_steps l ≤ 2 * l.attempts + 8
-  pub reply : reply_steps l ≤ rows_of l * (2 * l.attempts + 8)
-  pub next_error : next_error_steps l ≤ rows_of l * (2 * l.attempts + 8)
+  pub reply : reply_steps l ≤ rows_of l * (2 * l.attempts + 8) + l.parts
+  pub next_error : next_error_steps l ≤ rows_of l * (2 * l.attempts + 8) + l.parts
   pub meet : meet_steps ≤ 3
   pub account : AreLimits l → (n : ℕ) → n ≤ l.parts
       → account_steps l n ≤ rows_of l * (2 * (4 * l.attempts + 3) + 10) + 2 * l.parts

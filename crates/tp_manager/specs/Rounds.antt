@@ -1,6 +1,6 @@
 -- What a cancel does on its way. In each definition l are the table's limits, root is the id of the request, v is the
 -- view before, and w the view after.
-use Rattle.std.specs.Prelude.{◌≡◌, ℕ, zero, suc, ◌+◌, ◌*◌, ◌≤◌, ◌==◌, ◌&&◌, ◌||◌, cond, Bool, true, false, Option, Some, None, List}
+use Rattle.std.specs.Prelude.{◌≡◌, ℕ, zero, suc, ◌+◌, ◌*◌, ◌/◌, ◌<◌, ◌≤◌, ◌==◌, ◌&&◌, ◌||◌, cond, Bool, true, false, Option, Some, None, List, slice_index, nat_le}
 use Rattle.tp_model.specs.declared.types.Element.{Element}
 use Rattle.tp_model.specs.declared.types.Limits.{Limits}
 use Rattle.tp_model.specs.declared.types.Status.{Status}
@@ -8,8 +8,10 @@ use Rattle.tp_model.specs.declared.types.Status.TheVariants.{Consumed, Killed}
 use Rattle.tp_model.specs.declared.event.Event.{Event}
 use Rattle.tp_model.specs.History.{element_of, status_of}
 use Rattle.tp_model.specs.Families.{IsSettledFamily}
-use Rattle.tp_model.specs.Steps.{rows_of}
+use Rattle.tp_model.specs.Steps.{most_rows, rows_of}
+use Rattle.tp_rule.specs.Steps.{Knows}
 use Rattle.tp_rule.specs.Views.{hand}
+use Rattle.tp_rule.specs.declared.view.Known.TheVariants.{PartMark}
 use Rattle.tp_rule.specs.declared.view.View.{View}
 use Rattle.tp_manager.specs.Cancels.{AreOfCancel, kills_in}
 use Rattle.tp_manager.specs.Walks.{Gained}
@@ -57,23 +59,36 @@ pub record TalliedAt (l : Limits) (n root i found killed : ℕ) (v w : View) : T
   pub least : cond (in_family root v.seen i) 1 0 ≤ found
   pub most : found ≤ cond (is_done l root w.seen i) 1 0
 
--- the same of the rows below `rows`: at least as many as there were before, and at most as many as are done with after
-pub record Tallied (l : Limits) (n root rows found killed : ℕ) (v w : View) : Type 0 where
+-- the seat knows these marks, one for each part
+abbrev pub AreKnown : Limits → List ℕ → View → Type 0
+AreKnown l marks v = (p : ℕ) → p < l.parts → Knows v (PartMark p (slice_index marks p))
+
+-- the first row of row i's part that isn't below the part's mark
+abbrev pub row_at_mark : Limits → List ℕ → ℕ → ℕ
+row_at_mark l marks i = i / l.rows * l.rows + slice_index marks (i / l.rows)
+
+-- whether a round looks at row i: it isn't below the mark of its part
+abbrev pub is_looked : Limits → List ℕ → ℕ → Bool
+is_looked l marks i = nat_le (row_at_mark l marks i) i
+
+-- the same of the rows below `rows` that are looked at: at least as many as there were before, and at most as many as are
+-- done with after
+pub record Tallied (l : Limits) (n root : ℕ) (looked : ℕ → Bool) (rows found killed : ℕ) (v w : View) : Type 0 where
   pub events : List Event
   pub swept : Swept l n root events v w
   pub counted : kills_in events ≡ killed
   pub few : killed ≤ rows
-  pub least : count_below (in_family root v.seen) rows ≤ found
-  pub most : found ≤ count_below (is_done l root w.seen) rows
+  pub least : count_below (λ i. looked i && in_family root v.seen i) rows ≤ found
+  pub most : found ≤ count_below (λ i. looked i && is_done l root w.seen i) rows
 
 -- so many rounds later: what was found last is done with, and each round found more than the one before
-pub record Rounded (l : Limits) (n root rounds found killed : ℕ) (v w : View) : Type 0 where
+pub record Rounded (l : Limits) (n root : ℕ) (looked : ℕ → Bool) (rounds found killed : ℕ) (v w : View) : Type 0 where
   pub events : List Event
   pub swept : Swept l n root events v w
   pub counted : kills_in events ≡ killed
-  pub few : killed ≤ rounds * 8192
+  pub few : killed ≤ rounds * most_rows
   pub more : rounds ≤ found
-  pub most : found ≤ count_below (is_done l root w.seen) (rows_of l)
+  pub most : found ≤ count_below (λ i. looked i && is_done l root w.seen i) (rows_of l)
 
 -- the whole of it
 pub record CancelsIn (l : Limits) (n root killed : ℕ) (v w : View) : Type 0 where

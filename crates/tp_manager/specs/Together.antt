@@ -12,14 +12,15 @@ use Rattle.tp_model.specs.declared.event.Event.{Event}
 use Rattle.tp_model.specs.declared.trace.StepKind.TheVariants as kinds
 use Rattle.tp_model.specs.History.{In, events_by}
 use Rattle.tp_model.specs.Passes.{IsOwnOpen}
-use Rattle.tp_rule.specs.Steps.{noted}
+use Rattle.tp_rule.specs.Steps.{Knows, noted}
+use Rattle.tp_rule.specs.declared.view.Known.{Known}
 use Rattle.tp_rule.specs.Views.{fresh_from, hand}
 use Rattle.tp_rule.specs.declared.view.Hand.{Hand}
 use Rattle.tp_rule.specs.declared.view.View.{View}
 use Rattle.tp_manager.specs.Accounts.{AreFrom, Attends}
 use Rattle.tp_manager.specs.Bounds.{first_steps, kept_steps, led_steps, lead_steps}
 use Rattle.tp_manager.specs.Shown.{PassShown, steps_in}
-use Rattle.tp_manager.specs.Walks.{Acted, untraced}
+use Rattle.tp_manager.specs.Walks.{Acted, KnowsLow, untraced}
 
 -- the pass is of this table
 pub record IsAt (table : TableId) (l : Limits) (p : PassShown) : Type 0 where
@@ -33,6 +34,8 @@ pub record LooksOn (l : Limits) (h : List Event) (v w : View) : Type 0 where
   pub hands : w.hands ≡ map (noted kinds.Load h) v.hands
   pub mine : (a : Hand) → In a w.hands → a.mine ≡ events_by a.number h
   pub open_own : (a : Hand) → In a w.hands → (u : ℕ) → a.open_unit ≡ Some u → IsOwnOpen h a.number u
+  pub low : KnowsLow l w
+  pub knows : (x : Known) → Knows v x → Knows w x
 
 -- a pass was there as all looked together, in at most n steps
 pub record Joins (table : TableId) (l : Limits) (n : ℕ) (h : List Event) (old new : PassShown) : Type 0 where
@@ -61,6 +64,7 @@ pub record HasSeen (l : Limits) (n : ℕ) (h : List Event) (v w : View) : Type 0
   pub limits : w.limits ≡ l
   pub hands : untraced w.hands ≡ untraced v.hands
   pub mine : (a : Hand) → In a w.hands → a.mine ≡ events_by a.number h
+  pub low : KnowsLow l w
   pub steps : steps_in w.hands ≡ steps_in v.hands + n * length v.hands
 
 -- the first of n passes looked together with those of another seat and with these, counted the rows by itself, and

@@ -15,7 +15,9 @@ use Rattle.tp_rule.specs.Views.{SeatShown, IsOnePass, fresh_from, hand, view_of}
 use Rattle.tp_rule.specs.declared.view.Hand.{Hand}
 use Rattle.tp_rule.specs.declared.view.View.{View}
 use Rattle.tp_manager.specs.declared.manager.Task.{Task}
-use Rattle.tp_rule.specs.Steps.{claimed, with_claim}
+use Rattle.tp_rule.specs.Steps.{IsLow, Knows, claimed, with_claim}
+use Rattle.tp_rule.specs.declared.view.Known.{Known}
+use Rattle.tp_rule.specs.declared.view.Known.TheVariants.{PartMark}
 use Rattle.tp_manager.specs.Bounds.{draft_steps}
 use Rattle.tp_manager.specs.Calls.{IsWaiting, claims_in}
 
@@ -30,10 +32,15 @@ pass_in v = record {
   trace = (hand v).trace;
 }
 
+-- below each mark that the seat knows no row has an element that isn't consumed or killed
+abbrev pub KnowsLow : Limits → View → Type 0
+KnowsLow l v = (p n : ℕ) → Knows v (PartMark p n) → IsLow l v.seen p n
+
 -- the seat stands for one pass, knows the limits, and shows what a pass shows
 pub record Steady (l : Limits) (v : View) : Type 0 where
   pub pass : IsOnePass v × (v.limits ≡ l)
   pub shows : IsPassView l (pass_in v)
+  pub low : KnowsLow l v
 
 -- these steps lead from v to w, and there are at most n
 pub record Walked (l : Limits) (n : ℕ) (marks : List TraceEntry) (v w : View) : Type 0 where
@@ -43,6 +50,8 @@ pub record Walked (l : Limits) (n : ℕ) (marks : List TraceEntry) (v w : View) 
   pub closes : IsPrefix (opening_of v.seen marks) w.seen
   pub number : (hand w).number ≡ (hand v).number
   pub steady : Steady l w
+  -- what was known is known
+  pub knows : (x : Known) → Knows v x → Knows w x
 
 -- the pass with this trace
 abbrev pub with_trace : List TraceEntry → Hand → Hand
@@ -107,6 +116,7 @@ pub record Keeps (seat : SeatShown) (limits : Limits) (given : ℕ) : Type 0 whe
   pub below : given ≤ limits.parts
   pub rest : untraced (view_of seat).hands ≡ fresh_from given (limits.parts - given)
   pub legal : IsLegal limits (view_of seat).seen
+  pub low : KnowsLow limits (view_of seat)
   pub none : (c : ℕ) → given ≤ c → events_by c (view_of seat).seen ≡ []
 
 -- an element of the stage that was born in row i in history a wasn't waiting in some history from a to b
@@ -130,9 +140,9 @@ pub record Sought (l : Limits) (n : ℕ) (Passed : List Event → List Event →
   pub step : HasLook marks
   pub passed : Passed (opening_of v.seen marks) w.seen
 
--- no row from `from` on was looked at yet, or all from there on and below n were, in at most so many steps each, and were passed since the first of these looked
+-- no row from `from` on was looked at yet, or all from there on and below n were, and were passed since the first of these looked, in at most so many steps
 abbrev pub Begun : Limits → (ℕ → List Event → List Event → Type 0) → ℕ → ℕ → ℕ → View → View → Type 0
-Begun l Passed steps from n v w = ((n ≡ from) × (w ≡ v)) ⊎ Sought l ((n - from) * steps) (EachRow Passed from n) v w
+Begun l Passed steps from n v w = ((n ≡ from) × (w ≡ v)) ⊎ Sought l steps (EachRow Passed from n) v w
 
 -- each row from a on and below b has an element that is consumed or killed, and so a mark may rise from a to b
 abbrev pub Rose : Limits → List Event → ℕ → ℕ → Type 0

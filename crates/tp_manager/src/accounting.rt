@@ -3,7 +3,7 @@ ghost use Rattle.std.specs.Prelude.{◌≡◌, ◌+◌, ◌*◌, ◌<◌, ◌≤
 ghost use mathlib.Core.List.{IsPrefix};
 ghost use Rattle.tp_model.specs.declared.event.Event.{Event};
 ghost use Rattle.tp_model.specs.Accounts.{account_among, all_in, one_more};
-ghost use Rattle.tp_model.specs.Steps.{IsStage, rows_of};
+ghost use Rattle.tp_model.specs.Steps.{most_rows, rows_of, IsStage};
 ghost use Rattle.tp_rule.specs.Tables.{limits_of, table_of, IsSeatOf};
 ghost use Rattle.tp_rule.specs.Views.{seen_by, view_of, IsSameSeat};
 ghost use Rattle.tp_manager.specs.Bounds.{account_steps, look_steps, meet_steps};
@@ -38,7 +38,7 @@ fn no_account() -> Account
 
 /// These counts with one more element, which stands so.
 fn counts_with(counts: Counts, status: Status) -> Counts
-    requires few { all_in counts ≤ 8192 }
+    requires few { all_in counts ≤ most_rows }
     ensures { result ≡ one_more status counts }
 {
     let mut counts = counts;
@@ -58,7 +58,7 @@ fn counts_with(counts: Counts, status: Status) -> Counts
 /// Counts one more element of this stage, which stands so.
 fn count_one(account: &mut Account, stage: u8, status: Status)
     requires stage { IsStage stage }
-    requires few { IsWithin 8192 account.old }
+    requires few { IsWithin most_rows account.old }
     ensures counted { account.new ≡ with_one stage status account.old }
     ensures within { (n : ℕ) → IsWithin n account.old → IsWithin (n + 1) account.new }
 {

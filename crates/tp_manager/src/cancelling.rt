@@ -1,6 +1,7 @@
 //! The cancel of a whole request.
 //!
-//! A round goes through all rows once, kills what it finds of the request's family, and counts what it found. Where two
+//! A round goes once through all rows that aren't below the marks, as these stood before the first round. It kills what it
+//! finds of the request's family, and counts what it found. Where two
 //! rounds in a row find the same number, the family was settled between them, and stays so: see docs/CANCEL.md.
 ghost use Rattle.std.specs.Prelude.{◌≡◌, ◌≢◌, ◌+◌, ◌*◌, ◌<◌, ◌≤◌, ℕ, MatchResult, None, true, false};
 ghost use Rattle.tp_model.specs.declared.types.Element.{Element as element};
@@ -14,9 +15,9 @@ ghost use Rattle.tp_manager.specs.Shown.{IsOf};
 ghost use Rattle.tp_manager.specs.Bounds.{cancel_steps, kill_steps, round_steps};
 ghost use Rattle.tp_manager.specs.Calls.{Follows, HasLooked};
 ghost use Rattle.tp_manager.specs.Cancels.{Cancels, CancelFails};
-ghost use Rattle.tp_manager.specs.Rounds.{CancelsIn, Tallied, TalliedAt};
+ghost use Rattle.tp_manager.specs.Rounds.{is_looked, row_at_mark, AreKnown, CancelsIn, Tallied, TalliedAt};
 ghost use Rattle.tp_manager.specs.Looks.{GoesOn};
-ghost use Rattle.tp_manager.specs.Walks.{Steady};
+ghost use Rattle.tp_manager.specs.Walks.{Looked, Steady};
 
 use crate::manager::{Manager, Pass, Shared};
 use tp_model::types::{Cancelled, Refusal};
@@ -92,20 +93,54 @@ impl Shared {
         }
     }
 
-    /// Goes through all rows once.
-    fn cancel_round(&self, seat: &mut Seat, root: u32) -> Tally
+    /// The marks of all parts, which the seat knows then: no row below them has an element of the family that isn't consumed
+    /// or killed, now or later. One step for each part.
+    fn load_marks(&self, seat: &mut Seat) -> [u16; 32]
+        requires own { IsSeatOf self.now.words seat.old }
+        requires steady { Steady (limits_of self.now.words) (view_of seat.old) }
+        ensures same { IsSameSeat seat.old seat.new }
+        ensures looked { let l = limits_of self.now.words in Looked l l.parts (view_of seat.old) (view_of seat.new) }
+        ensures known { AreKnown (limits_of self.now.words) result (view_of seat.new) }
+    {
+        let mut marks = [0; 32];
+        for part in 0..self.places.limits.parts {
+            marks[part as usize] = self.mark_at(seat, part);
+        }
+        marks
+    }
+
+    /// The first row of this row's part that isn't below the part's mark.
+    #[inline(always)]
+    fn row_at_mark(&self, marks: &[u16; 32], row: u32) -> u32
+        requires row { row < rows_of (limits_of self.now.words) }
+        ensures { result ≡ row_at_mark (limits_of self.now.words) marks.now row }
+    {
+        let rows = self.places.limits.rows as u32;
+        let part = row / rows;
+        part * rows + marks[part as usize] as u32
+    }
+
+    /// Goes once through all rows that are not below the marks.
+    fn cancel_round(&self, seat: &mut Seat, root: u32, marks: &[u16; 32]) -> Tally
         requires own { IsSeatOf self.now.words seat.old }
         requires steady { Steady (limits_of self.now.words) (view_of seat.old) }
         requires free { (hand_of seat.old).open_unit ≡ None }
+        requires known { AreKnown (limits_of self.now.words) marks.now (view_of seat.old) }
         ensures same { IsSameSeat seat.old seat.new }
         ensures told { let l = limits_of self.now.words in
-            Tallied l (round_steps l) root (rows_of l) result.found result.killed (view_of seat.old) (view_of seat.new) }
+            Tallied l (round_steps l) root (is_looked l marks.now) (rows_of l) result.found result.killed
+            (view_of seat.old) (view_of seat.new) }
     {
         let mut found = 0;
         let mut killed = 0;
         let rows = self.places.rows();
         let mut row = 0;
         while row < rows {
+            let first = self.row_at_mark(marks, row);
+            if row < first {
+                row = first;
+                continue;
+            }
             let tally = self.cancel_row(seat, &mut row, root);
             found += tally.found;
             killed += tally.killed;
@@ -113,13 +148,14 @@ impl Shared {
         Tally { found, killed }
     }
 
-    /// Goes through all rows, until a round finds as many elements of the family as the one before it. How many elements
+    /// Goes through those rows until a round finds as many elements of the family as the one before it. How many elements
     /// it killed.
-    fn cancel_family(&self, seat: &mut Seat, root: u32) -> u32
+    fn cancel_family(&self, seat: &mut Seat, root: u32, marks: &[u16; 32]) -> u32
         requires own { IsSeatOf self.now.words seat.old }
         requires steady { Steady (limits_of self.now.words) (view_of seat.old) }
         requires request { HasElement (seen_by seat.old) root }
         requires free { (hand_of seat.old).open_unit ≡ None }
+        requires known { AreKnown (limits_of self.now.words) marks.now (view_of seat.old) }
         ensures same { IsSameSeat seat.old seat.new }
         ensures told { let l = limits_of self.now.words in
             CancelsIn l ((rows_of l + 1) * round_steps l) root result (view_of seat.old) (view_of seat.new) }
@@ -128,7 +164,7 @@ impl Shared {
         let mut found = 0;
         let mut killed = 0;
         for _past in 0..rows + 1 {
-            let tally = self.cancel_round(seat, root);
+            let tally = self.cancel_round(seat, root, marks);
             killed += tally.killed;
             if tally.found == found {
                 return killed;
@@ -168,7 +204,8 @@ impl Manager {
         if birth.by.is_some() {
             return Err(Refusal::NotThere);
         }
-        let killed = shared.cancel_family(seat, root);
+        let marks = shared.load_marks(seat);
+        let killed = shared.cancel_family(seat, root, &marks);
         Ok(Cancelled { killed })
     }
 }

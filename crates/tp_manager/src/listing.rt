@@ -1,18 +1,18 @@
 //! The next reply to a request, and the next element of the error queue.
-ghost use Rattle.std.specs.Prelude.{◌≡◌, ◌*◌, ◌<◌, ◌≤◌, IfSome, MatchOption, true, false};
+ghost use Rattle.std.specs.Prelude.{◌≡◌, ◌⊎◌, ◌+◌, ◌*◌, ◌<◌, ◌≤◌, IfSome, MatchOption, true, false};
 ghost use Rattle.tp_model.specs.declared.types.Element.{Element as element};
 ghost use Rattle.tp_model.specs.declared.types.Status.{Status as status};
-ghost use Rattle.tp_model.specs.Steps.{rows_of};
+ghost use Rattle.tp_model.specs.Steps.{rows_of, IsRowOf};
 ghost use Rattle.tp_rule.specs.Views.{seen_by, view_of, IsSameSeat};
 ghost use Rattle.tp_rule.specs.Tables.{limits_of, IsSeatOf};
 ghost use Rattle.tp_words.specs.Words.{head_of};
 ghost use Rattle.tp_manager.specs.Shown.{IsOf};
-ghost use Rattle.tp_manager.specs.Bounds.{look_steps, reply_steps, next_error_steps};
+ghost use Rattle.tp_manager.specs.Bounds.{find_steps, look_steps, next_error_steps, reply_steps};
 ghost use Rattle.tp_manager.specs.Calls.{Follows, HasLooked, IsQuiet};
 ghost use Rattle.tp_manager.specs.Lists.{AllKilled, NoneParked, NextReply, NextError};
 ghost use Rattle.tp_manager.specs.Looks.{GoesOn};
 ghost use Rattle.tp_manager.specs.Walks.{Acted, EachRow, Sought, Steady};
-ghost use Rattle.tp_manager.specs.Finds.{IsWanted, Hits, PassedOver};
+ghost use Rattle.tp_manager.specs.Finds.{Finds, Hits, IsWanted, PassedOver};
 
 use crate::looking::Birth;
 use crate::manager::{Manager, Pass, Shared};
@@ -59,6 +59,15 @@ fn may_be_wanted(wanted: Wanted, head: Head) -> bool
     }
 }
 
+/// The later of two rows.
+#[inline(always)]
+fn later(row: u32, other: u32) -> u32
+    ensures most { (row ≤ result) × (other ≤ result) }
+    ensures one { (result ≡ row) ⊎ (result ≡ other) }
+{
+    if row < other { other } else { row }
+}
+
 impl Shared {
     /// Whether the element of a row is looked for; `row` goes on. One step where its head says that it isn't.
     #[inline(always)]
@@ -87,6 +96,31 @@ impl Shared {
         is_wanted(wanted, birth, status)
     }
 
+    /// The first row of a part, from one of its rows on, whose element is looked for. The scan starts at the part's mark, if
+    /// that is behind.
+    fn find_in_part(&self, seat: &mut Seat, part: u16, from: u32, wanted: Wanted) -> Option<u32>
+        requires own { IsSeatOf self.now.words seat.old }
+        requires steady { Steady (limits_of self.now.words) (view_of seat.old) }
+        requires from { IsRowOf (limits_of self.now.words) part from }
+        ensures same { IsSameSeat seat.old seat.new }
+        ensures told { let l = limits_of self.now.words in
+            Finds l wanted (find_steps l) from (part * l.rows + l.rows) (view_of seat.old) (view_of seat.new) result }
+    {
+        let mark = self.mark_at(seat, part);
+        let rows = self.places.limits.rows as u32;
+        let first = part as u32 * rows;
+        let end = first + rows;
+        let start = later(from, first + mark as u32);
+        let mut row = start;
+        while row < end {
+            let here = row;
+            if self.is_wanted_at(seat, &mut row, wanted) {
+                return Some(here);
+            }
+        }
+        None
+    }
+
     /// The first row from this one on whose element is looked for.
     fn find(&self, seat: &mut Seat, from: u32, wanted: Wanted) -> Option<u32>
         requires own { IsSeatOf self.now.words seat.old }
@@ -94,17 +128,18 @@ impl Shared {
         requires from { from < rows_of (limits_of self.now.words) }
         ensures same { IsSameSeat seat.old seat.new }
         ensures inside { IfSome result (λ id. id < rows_of (limits_of self.now.words)) }
-        ensures told { let l = limits_of self.now.words in let n = rows_of l * look_steps l in MatchOption result
-            (Sought l n (EachRow (PassedOver l wanted) from (rows_of l)) (view_of seat.old) (view_of seat.new))
-            (λ id. (from ≤ id) × Hits l wanted id (seen_by seat.new)
-            × Sought l n (EachRow (PassedOver l wanted) from id) (view_of seat.old) (view_of seat.new)) }
+        ensures told { let l = limits_of self.now.words in
+            Finds l wanted (l.parts * find_steps l) from (rows_of l) (view_of seat.old) (view_of seat.new) result }
     {
-        let rows = self.places.rows();
+        let rows = self.places.limits.rows as u32;
         let mut row = from;
-        while row < rows {
-            let here = row;
-            if self.is_wanted_at(seat, &mut row, wanted) {
-                return Some(here);
+        for part in 0..self.places.limits.parts {
+            let end = part as u32 * rows + rows;
+            if row < end {
+                if let Some(id) = self.find_in_part(seat, part, row, wanted) {
+                    return Some(id);
+                }
+                row = end;
             }
         }
         None

@@ -6,8 +6,9 @@ ghost use Rattle.tp_model.specs.Steps.{rows_of, units_of};
 ghost use Rattle.tp_model.specs.Words.{claim_word};
 ghost use Rattle.tp_words.specs.Words.{claim_value, IsFitClaim};
 ghost use Rattle.tp_rule.specs.Views.{seen_by, view_of, IsSameSeat};
+ghost use Rattle.tp_rule.specs.declared.view.Known.TheVariants.{PartMark};
 ghost use Rattle.tp_rule.specs.Tables.{limits_of, IsSeatOf};
-ghost use Rattle.tp_rule.specs.Steps.{AreOver, NoneFrom};
+ghost use Rattle.tp_rule.specs.Steps.{IsLow, Knows, NoneFrom};
 ghost use Rattle.tp_manager.specs.Walks.{Steady, Looked, Acted};
 ghost use Rattle.tp_manager.specs.Bounds.{body_steps, retry_steps, status_steps};
 ghost use Rattle.tp_manager.specs.Looks.{GoesOn, HeadFound, IsThere, IsEnough};
@@ -48,8 +49,8 @@ impl Shared {
         requires part { part < (limits_of self.now.words).parts }
         ensures same { IsSameSeat seat.old seat.new }
         ensures acted { Acted (limits_of self.now.words) 1 (view_of seat.old) (view_of seat.new) }
-        ensures inside { result ≤ (limits_of self.now.words).rows }
-        ensures over { AreOver (limits_of self.now.words) (seen_by seat.new) part result }
+        ensures knows { Knows (view_of seat.new) (PartMark part result) }
+        ensures low { IsLow (limits_of self.now.words) (seen_by seat.new) part result }
     {
         self.words.load_mark(seat, part)
     }

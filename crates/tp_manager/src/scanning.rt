@@ -4,6 +4,8 @@ ghost use Rattle.tp_model.specs.declared.types.Element.{Element as element};
 ghost use Rattle.tp_model.specs.Steps.{rows_of, IsServerStage};
 ghost use Rattle.tp_words.specs.Words.{head_of};
 ghost use Rattle.tp_rule.specs.Views.{seen_by, view_of, IsSameSeat};
+ghost use Rattle.tp_rule.specs.Steps.{Knows};
+ghost use Rattle.tp_rule.specs.declared.view.Known.TheVariants.{PartMark};
 ghost use Rattle.tp_rule.specs.Tables.{limits_of, IsSeatOf};
 ghost use Rattle.tp_model.specs.History.{IsSettled};
 ghost use Rattle.tp_manager.specs.Bounds.{part_steps, try_steps};
@@ -127,6 +129,7 @@ impl Shared {
         requires own { IsSeatOf self.now.words seat.old }
         requires steady { Steady (limits_of self.now.words) (view_of seat.old) }
         requires part { part < (limits_of self.now.words).parts }
+        requires mark { Knows (view_of seat.old) (PartMark part mark) }
         requires low { let l = limits_of self.now.words in (low ≤ part * l.rows + l.rows)
             × Rose l (seen_by seat.old) (part * l.rows + mark) low }
         ensures same { IsSameSeat seat.old seat.new }

@@ -19,6 +19,10 @@ pub record AreLimits (l : Limits) : Type 0 where
 abbrev pub rows_of : Limits → ℕ
 rows_of l = l.parts * l.rows
 
+-- how many rows there can be
+abbrev pub most_rows : ℕ
+most_rows = 32 * 256
+
 -- how many units there are
 abbrev pub units_of : Limits → ℕ
 units_of l = l.parts * l.units

@@ -27,10 +27,13 @@ pub fn born_stays()
     ensures once { BornOnce }
 {}
 
-/// What a longer history keeps: the status of what is consumed or killed, who claimed a unit and how it ended, and
-/// each claim word but for later attempts and a kill.
+/// A consumed or killed element stays so.
+pub fn finished_stays()
+    ensures { SettledStays }
+{}
+
+/// What a longer history keeps: who claimed a unit and how it ended, and each claim word but for later attempts and a kill.
 pub fn later_histories()
-    ensures settled { SettledStays }
     ensures units { UnitsStay }
     ensures words { WordsRise }
 {}

@@ -1,6 +1,6 @@
 -- What the table's own steps ask of a seat, from what its door asks.
-use Rattle.std.proofs.Common.{◌≡◌, ℕ, List, [], refl, sym, ap, subst, Option, Some, None}
-use Rattle.atomic_table.specs.Table.{Act, Allows, Me, keeps}
+use Rattle.std.proofs.Common.{◌≡◌, ℕ, refl}
+use Rattle.atomic_table.specs.Table.{Allows, Me, keeps}
 use Rattle.tp_model.specs.declared.types.Limits.{Limits}
 use Rattle.tp_rule.specs.Doors.{Permits}
 use Rattle.tp_rule.specs.Rule.{Rule}

@@ -12,7 +12,7 @@ use Rattle.tp_model.proofs.Histories.{legal_more}
 use Rattle.tp_model.proofs.WordProofs.{end_of-snoc}
 use Rattle.tp_words.specs.Places.{Word, HeadWord, MarkWord, IsThere, head_place, place_of}
 use Rattle.tp_rule.specs.Rule.{HandHolds, Rule, Told, UnitsHold, World}
-use Rattle.tp_rule.specs.Steps.{AreOver, after, noted, unchanged, Found, Grew, Misses}
+use Rattle.tp_rule.specs.Steps.{IsLow, after, noted, unchanged, Found, Grew, Misses}
 use Rattle.tp_rule.specs.declared.view.Hand.{Hand}
 use Rattle.tp_rule.specs.declared.view.Known.TheVariants.{RowHead, PartMark}
 use Rattle.tp_rule.specs.declared.view.View.{View}
@@ -20,7 +20,7 @@ use Rattle.tp_rule.proofs.Frames.{Turn, hand_frame, hand_holds, limits_are, me, 
 use Rattle.tp_rule.proofs.Parts.{IsOf, in_all}
 use Rattle.tp_rule.proofs.Seats.{hand_noted, in_map}
 use Rattle.tp_rule.proofs.Storing.{body_row, row_left, still_left}
-use Rattle.tp_rule.proofs.Tellings.{found, over_below, recall, world_stored}
+use Rattle.tp_rule.proofs.Tellings.{found, low_below, recall, world_stored}
 use Rattle.tp_rule.proofs.Units.{decide}
 
 -- the units of the pass that made an event which is no claim and decides nothing
@@ -103,7 +103,7 @@ module _ (k : Limits) (t : Turn k) where
           open_own = λ b p. (after_hand a.kind a.f h' ws a.mine b p).units.open_own;
           knows = λ x p. p;
           heads = λ i head x p. recall k h' ws world i head x (still (RowHead i head) (seat.known (RowHead i head) p));
-          marks = λ p n q. subst (λ l. AreOver l h' p n) (sym (limits_are k t)) (over_below k h' ws world p n (still (PartMark p n) (seat.known (PartMark p n) q)));
+          marks = λ p n q. subst (λ l. IsLow l h' p n) (sym (limits_are k t)) (low_below k h' ws world p n (still (PartMark p n) (seat.known (PartMark p n) q)));
         },
       )
 
@@ -142,7 +142,7 @@ module _ (k : Limits) (t : Turn k) where
         open_own = λ a p. (after_hand kind f h t.state.words mine a p).units.open_own;
         knows = λ x p. p;
         heads = λ i head x p. recall k h t.state.words t.rule.world i head x (seat.known (RowHead i head) p);
-        marks = λ p n q. subst (λ l. AreOver l h p n) (sym (limits_are k t)) (over_below k h t.state.words t.rule.world p n (seat.known (PartMark p n) q));
+        marks = λ p n q. subst (λ l. IsLow l h p n) (sym (limits_are k t)) (low_below k h t.state.words t.rule.world p n (seat.known (PartMark p n) q));
       },
     )
 

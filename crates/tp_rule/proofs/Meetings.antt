@@ -1,14 +1,17 @@
 -- Two passes meet, by a join, a load and a split.
-use Rattle.std.proofs.Common.{◌≡◌, ℕ, List, [], ◌∷◌, ◌++◌, map, sym, ap, ◌∙◌, subst, Some}
+use Rattle.std.proofs.Common.{◌≡◌, ℕ, [], ◌∷◌, ◌++◌, map, sym, ap, ◌∙◌, subst}
 use mathlib.Core.List.{IsPrefix}
 use Rattle.tp_model.specs.declared.trace.StepKind.TheVariants as kinds
 use Rattle.tp_model.specs.declared.types.Limits.{Limits}
 use Rattle.tp_model.specs.History.{In, here, there, events_by}
 use Rattle.tp_model.specs.Passes.{IsOwnOpen}
+use Rattle.tp_model.proofs.Bridges.{in_left, in_right}
 use Rattle.tp_model.specs.Steps.{IsLegal}
-use Rattle.tp_rule.specs.Steps.{Grew, Meets, front_of, joined, kept, looked, noted, parted, rest_of, unchanged}
+use Rattle.tp_rule.specs.Steps.{Grew, IsLow, Knows, Meets, front_of, joined, kept, looked, noted, parted, rest_of, unchanged}
 use Rattle.tp_rule.specs.Views.{IsOnePass, first_hand, hand}
 use Rattle.tp_rule.specs.declared.view.Hand.{Hand}
+use Rattle.tp_rule.specs.declared.view.Known.{Known}
+use Rattle.tp_rule.specs.declared.view.Known.TheVariants.{PartMark}
 use Rattle.tp_rule.specs.declared.view.View.{View}
 use Rattle.tp_rule.proofs.Reading.{grew_begins}
 
@@ -52,6 +55,12 @@ module _ (v w j m x y : View) (one : IsOnePass v) (other : IsOnePass w) (join : 
   second_in : In B m.hands
   second_in = subst (In B) (sym met_hands) (there here)
 
+  known_met : (z : Known) → In z (v.known ++ w.known) → Knows m z
+  known_met z o = g.knows z (subst (λ (u : View). Knows u z) (sym join) o)
+
+  low_met : (p n : ℕ) → Knows m (PartMark p n) → IsLow v.limits m.seen p n
+  low_met p n o = subst (λ (l : Limits). IsLow l m.seen p n) (ap (λ (z : View). z.limits) join) (g.marks p n o)
+
   pub meets : Meets v w x y
   meets = record {
     same = first_seen ∙ sym second_seen;
@@ -70,5 +79,13 @@ module _ (v w j m x y : View) (one : IsOnePass v) (other : IsOnePass w) (join : 
     open_own = (
       (λ u is. subst (λ (a : Hand). IsOwnOpen x.seen a.number u) (sym first_is) (subst (λ h. IsOwnOpen h A.number u) (sym first_seen) (g.open_own A first_in u (sym (ap (λ (a : Hand). a.open_unit) first_is) ∙ is)))),
       (λ u is. subst (λ (a : Hand). IsOwnOpen y.seen a.number u) (sym second_is) (subst (λ h. IsOwnOpen h B.number u) (sym second_seen) (g.open_own B second_in u (sym (ap (λ (a : Hand). a.open_unit) second_is) ∙ is)))),
+    );
+    knows = (
+      (λ z o. subst (λ (u : View). Knows u z) (sym first) (known_met z (in_left w.known o))),
+      (λ z o. subst (λ (u : View). Knows u z) (sym second) (known_met z (in_right v.known o))),
+    );
+    marks = (
+      (λ p n o. subst (λ h. IsLow v.limits h p n) (sym first_seen) (low_met p n (subst (λ (u : View). Knows u (PartMark p n)) first o))),
+      (λ p n o. subst (λ h. IsLow v.limits h p n) (sym second_seen) (low_met p n (subst (λ (u : View). Knows u (PartMark p n)) second o))),
     );
   }

@@ -15,7 +15,7 @@ use Rattle.tp_words.specs.declared.words.Head.TheVariants.{There}
 use Rattle.tp_rule.specs.Doors.{Permits}
 use Rattle.tp_rule.specs.Plays.{loads_mark, raises}
 use Rattle.tp_rule.specs.Rule.{HandHolds, IsFinished, MarkHolds, Rule, StillSo, World}
-use Rattle.tp_rule.specs.Steps.{AreOver, IsDone, after, unchanged}
+use Rattle.tp_rule.specs.Steps.{IsDone, IsLow, after, unchanged}
 use Rattle.tp_rule.specs.Views.{IsOnePass, hand}
 use Rattle.tp_rule.specs.declared.view.Hand.{Hand}
 use Rattle.tp_rule.specs.declared.view.Known.{Known}
@@ -25,7 +25,13 @@ use Rattle.tp_rule.proofs.Frames.{Turn, hand_holds, hand_quiet, limits_are, move
 use Rattle.tp_rule.proofs.Parts.{in_all}
 use Rattle.tp_rule.proofs.Seats.{looks_knowing, one_has}
 use Rattle.tp_rule.proofs.Storing.{heads_kept, row_left, still_left, stored}
-use Rattle.tp_rule.proofs.Tellings.{finished_later, over_below, world_stored}
+use Rattle.tp_rule.proofs.Tellings.{finished_later, low_below, world_stored}
+
+mark_part : (c m p n : ℕ) → PartMark c m ≡ PartMark p n → c ≡ p
+mark_part c m p n e = cc
+
+mark_number : (c m p n : ℕ) → PartMark c m ≡ PartMark p n → m ≡ n
+mark_number c m p n e = cc
 
 module _ (k : Limits) where
   -- the load of a mark, which the seat remembers
@@ -39,8 +45,8 @@ module _ (k : Limits) where
           t.1,
           λ q is inside. let same : p ≡ q = (let e : mark_place k p ≡ mark_place k q = is ∙ ap (λ (l : Limits). mark_place l q) lim in omega arith) in (
             subst (λ z. In (PartMark z x) known) same here,
-            subst (λ (l : Limits). x ≤ l.rows) (sym lim) (r.world.marks p room).inside,
-            subst (λ (l : Limits). AreOver l r.history q x) (sym lim) (subst (λ z. AreOver k r.history z x) same (over_below k r.history s.words r.world p x (room, omega arith))),
+            subst (λ (l : Limits). IsLow l r.history q x) (sym lim) (subst (λ z. IsLow k r.history z x) same (low_below k r.history s.words r.world p x (room, omega arith))),
+            λ n known_n. ((r.seats id v at).known (PartMark p n) (subst (λ z. In (PartMark z n) v.known) (sym same) known_n)).1,
           ),
         ),
       )
@@ -89,9 +95,9 @@ module _ (k : Limits) where
       } in (
         after kinds.Raise unchanged v.seen known v,
         subst (λ (z : ℕ × ℕ). Rule k record { words = set s.words z.0 z.1; homes = s.homes; views = set s.views id (after kinds.Raise unchanged v.seen known v) }) (λ i. (sym place i, sym (ap (λ b. either b to x) (eq-eqb x from hit)) i)) rule,
-        (
-          (refl, λ z q. there q),
-          λ _ q is. let same : p ≡ q = (let e : mark_place k p ≡ mark_place k q = sym place ∙ (is ∙ ap (λ (l : Limits). mark_place l q) lim) in omega arith) in subst (λ z. In (PartMark z to) known) same here,
+        λ q is. let same : p ≡ q = (let e : mark_place k p ≡ mark_place k q = sym place ∙ (is ∙ ap (λ (l : Limits). mark_place l q) lim) in omega arith) in (
+          (refl, λ z o. there o, λ c m o. ⊎_elim (λ e. inr (mark_part c m p to e ∙ same, mark_number c m p to e)) (λ o'. inl o') (in_cons o)),
+          λ _. subst (λ z. In (PartMark z to) known) same here,
         ),
       ))
       (λ miss. let rule = moved k t record {
@@ -112,5 +118,5 @@ module _ (k : Limits) where
       } in (
         after kinds.Raise unchanged v.seen v.known v,
         subst (λ (z : List ℕ). Rule k record { words = z; homes = s.homes; views = set s.views id (after kinds.Raise unchanged v.seen v.known v) }) (sym (ap (λ z. set s.words word z) (ap (λ b. either b to x) (ne_eqb x from miss)) ∙ set-get_or s.words word 0)) rule,
-        ((refl, λ z q. q), λ hit. absurd (miss hit)),
+        λ q is. ((refl, λ z o. o, λ c m o. inl o), λ hit. absurd (miss hit)),
       ))

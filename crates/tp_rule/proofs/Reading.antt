@@ -1,5 +1,5 @@
 -- What a load tells of the place that it read.
-use Rattle.std.proofs.Common.{◌≡◌, ℕ, ◌<◌, List, [], ◌∷◌, ◌++◌, map, sym, ◌∙◌, subst, ap, refl, append_assoc, ⊎_elim, Option, Some, None}
+use Rattle.std.proofs.Common.{◌≡◌, ℕ, List, [], ◌∷◌, ◌++◌, map, sym, ◌∙◌, subst, ap, refl, append_assoc, ⊎_elim, Option, Some, None}
 use Rattle.tp_rule.specs.Rule.{IsDraft, Told}
 use Rattle.tp_rule.specs.Views.{IsOnePass, first_hand, hand}
 use Rattle.tp_rule.specs.Steps.{Found, Loads, Misses, Grew, after, noted}

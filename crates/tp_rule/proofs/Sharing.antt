@@ -151,7 +151,7 @@ module _ (k : Limits) where
         limits = λ a p. mine.limits has.0 has.1;
         seen = mine.seen;
         also_seen = theirs.seen;
-        known = mine.known;
+        known = λ x p. ⊎_elim (λ q. mine.known x q) (λ q. theirs.known x q) (in_either v.known w.known p);
         apart = apart_append (map f v.hands) w.hands (apart_map f (λ a. refl) v.hands mine.apart) theirs.apart apart;
         owns = λ a p. ⊎_elim (λ q. let t = in_map f a v.hands q in let own : r.owner a.number ≡ id = ap (λ (z : Hand). r.owner z.number) t.2 ∙ mine.owns t.0 t.1 in stays a.number (λ e. ne (sym e ∙ own)) ∙ own)
             (λ q. moved a.number (theirs.owns a q)) (in_either (map f v.hands) w.hands p);

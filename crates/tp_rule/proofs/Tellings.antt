@@ -16,7 +16,7 @@ use Rattle.tp_words.specs.Words.{IsFitClaim, IsFitHead, IsFitUnit, head_of, pack
 use Rattle.tp_words.specs.declared.words.Head.{Head}
 use Rattle.tp_words.specs.declared.words.Head.TheVariants.{Empty, There}
 use Rattle.tp_rule.specs.Rule.{HeadTold, IsFinished, MarkHolds, StillSo, Told, World}
-use Rattle.tp_rule.specs.Steps.{AreOver, Found, IsOver}
+use Rattle.tp_rule.specs.Steps.{AreOver, Found, IsLow, IsOver}
 use Rattle.tp_rule.specs.declared.view.Known.TheVariants.{RowHead, PartMark}
 use Rattle.tp_rule.proofs.Births.{MadeBy, by_unit}
 use Rattle.tp_rule.proofs.Parts.{in_all}
@@ -66,6 +66,10 @@ module _ (k : Limits) (h : List Event) (ws : List ℕ) (world : World k h ws) wh
   pub over_below : (p n : ℕ) → StillSo k ws (PartMark p n) → AreOver k h p n
   over_below p n t i low high = let room = t.0 in let m = world.marks p room in let le : n ≤ get_or ws (mark_place k p) 0 = t.1 in let top = m.inside in
       over i (in_all k.parts k.rows p i (room, low, omega arith)) (m.below i low (omega arith))
+
+  -- no mark is above the part
+  pub low_below : (p n : ℕ) → StillSo k ws (PartMark p n) → IsLow k h p n
+  low_below p n t = (let le : n ≤ get_or ws (mark_place k p) 0 = t.1 in let top = (world.marks p t.0).inside in omega arith, over_below p n t)
 
 -- a finished row stays finished
 pub finished_later : (k : Limits) (h h' : List Event) (ws ws' : List ℕ) (i : ℕ) → IsPrefix h h' → IsLegal k h' → (get_or ws (head_place i) 0 ≢ 0 → get_or ws' (head_place i) 0 ≡ get_or ws (head_place i) 0) → IsFinished k h ws i → IsFinished k h' ws' i

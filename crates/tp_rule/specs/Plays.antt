@@ -8,7 +8,7 @@ use Rattle.tp_words.specs.declared.words.Head.TheVariants.{There}
 use Rattle.tp_words.specs.Words.{IsFitHead, pack_claim, pack_head}
 use Rattle.tp_words.specs.Places.{head_place, claim_place, mark_place, unit_place}
 use Rattle.tp_rule.specs.Views.{hand, next_row}
-use Rattle.tp_rule.specs.Steps.{Found, Grew, Knows, Loads, NoneFrom, unchanged, drafted, with_key, with_amount, Drafts, Publishes, Chooses, MakesClaim, MakesCommit, Loses, MakesAbort, MakesKill, Misses, AreOver, Raises}
+use Rattle.tp_rule.specs.Steps.{Found, Grew, Knows, Loads, NoneFrom, unchanged, drafted, with_key, with_amount, Drafts, Publishes, Chooses, MakesClaim, MakesCommit, Loses, MakesAbort, MakesKill, Misses, IsLow, Raises}
 use Rattle.tp_rule.specs.declared.view.Known.TheVariants.{RowHead, PartMark}
 use Rattle.tp_rule.specs.declared.view.View.{View}
 
@@ -56,10 +56,10 @@ exchanges_abort word old new v r w = (u : ℕ) × (word ≡ unit_place v.limits 
 abbrev pub exchanges_kill : Telling
 exchanges_kill word old new v r w = (r ≡ old → (i : ℕ) × (word ≡ claim_place i) × MakesKill v i w) × (r ≢ old → Misses kinds.KillExchange v word r w)
 
--- a load of a mark, which the seat remembers
+-- a load of a mark, which the seat remembers, and which has not fallen
 abbrev pub loads_mark : Telling
 loads_mark word first second v r w = Loads v word r w
-    × ((p : ℕ) → word ≡ mark_place v.limits p → p < v.limits.parts → Knows w (PartMark p r) × (r ≤ v.limits.rows) × AreOver v.limits w.seen p r)
+    × ((p : ℕ) → word ≡ mark_place v.limits p → p < v.limits.parts → Knows w (PartMark p r) × IsLow v.limits w.seen p r × ((n : ℕ) → Knows v (PartMark p n) → n ≤ r))
 
 abbrev pub raises : Telling
-raises word old new v r w = Raises v w × (r ≡ old → (p : ℕ) → word ≡ mark_place v.limits p → Knows w (PartMark p new))
+raises word old new v r w = (p : ℕ) → word ≡ mark_place v.limits p → Raises v p new w × (r ≡ old → Knows w (PartMark p new))

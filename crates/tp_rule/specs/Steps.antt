@@ -44,6 +44,10 @@ IsOver l h i = (x : Element) → element_of h i ≡ Some x → IsSettled (status
 abbrev pub AreOver : Limits → List Event → ℕ → ℕ → Type 0
 AreOver l h p n = (i : ℕ) → p * l.rows ≤ i → i < p * l.rows + n → IsOver l h i
 
+-- what a seat that knows the mark n of part p knows of the history h
+abbrev pub IsLow : Limits → List Event → ℕ → ℕ → Type 0
+IsLow l h p n = (n ≤ l.rows) × AreOver l h p n
+
 -- a step that looks at the table: the seat has then seen the history so far, which ends with the step's own events
 pub record Grew (kind : StepKind) (f : Hand → Hand) (events : List Event) (v w : View) : Type 0 where
   -- what happened since the seat looked last, before its own events
@@ -64,8 +68,8 @@ pub record Grew (kind : StepKind) (f : Hand → Hand) (events : List Event) (v w
   pub knows : (x : Known) → Knows v x → Knows w x
   -- a head that was found before, and wasn't empty, is that of the element that is born in the row by now
   pub heads : (i : ℕ) (head : Head) (x : Element) → Knows v (RowHead i head) → head ≢ Empty → element_of w.seen i ≡ Some x → head ≡ head_of x
-  -- below a mark that was found before no row has an element that isn't consumed or killed
-  pub marks : (p n : ℕ) → Knows v (PartMark p n) → AreOver v.limits w.seen p n
+  -- below a mark that is known no row has an element that isn't consumed or killed
+  pub marks : (p n : ℕ) → Knows w (PartMark p n) → IsLow v.limits w.seen p n
 
 -- a step that changes nothing in the pass but its trace
 abbrev pub unchanged : Hand → Hand
@@ -239,9 +243,11 @@ MakesKill v i w = Grew kinds.KillExchange (with_event (Kill (hand v).number i)) 
 abbrev pub IsDone : View → ℕ → Type 0
 IsDone v i = IsSettledRow v.limits v.seen i ⊎ ((stage : ℕ) × (root : ℕ) × (u : ℕ) × Knows v (RowHead i (There stage root (Some u))) × (end_of v.seen u ≡ Some Aborted))
 
--- the exchange of a mark, after which nothing more is seen, and what was known is known
-abbrev pub Raises : View → View → Type 0
-Raises v w = (w ≡ after kinds.Raise unchanged v.seen w.known v) × ((x : Known) → Knows v x → Knows w x)
+-- the exchange of the mark of part p, after which nothing more is seen. What was known is known, and no other mark than n
+-- is known besides
+abbrev pub Raises : View → ℕ → ℕ → View → Type 0
+Raises v p n w = (w ≡ after kinds.Raise unchanged v.seen w.known v) × ((x : Known) → Knows v x → Knows w x)
+    × ((q m : ℕ) → Knows w (PartMark q m) → Knows v (PartMark q m) ⊎ ((q ≡ p) × (m ≡ n)))
 
 -- splits and joins of seats, each a load
 
@@ -277,9 +283,9 @@ kept v = with_hands (looked v (front_of v.hands)) v
 abbrev pub parted : View → View
 parted v = with_hands (rest_of v.hands) v
 
--- the seat v after the seat w was joined to it; v's passes made the load
+-- the seat v after the seat w was joined to it; v's passes made the load, and what either knew is known
 abbrev pub joined : View → View → View
-joined v w = record { limits = v.limits; seen = v.seen; also_seen = w.seen; known = v.known; hands = looked v v.hands ++ w.hands }
+joined v w = record { limits = v.limits; seen = v.seen; also_seen = w.seen; known = v.known ++ w.known; hands = looked v v.hands ++ w.hands }
 
 -- two seats that met, where each was v and w before: both have seen the same legal history, which begins with what either had seen
 pub record Meets (v w v' w' : View) : Type 0 where
@@ -296,3 +302,6 @@ pub record Meets (v w v' w' : View) : Type 0 where
   -- the events of each are all with its number, and its open unit is its own
   pub mine : ((hand v').mine ≡ events_by (hand v').number v'.seen) × ((hand w').mine ≡ events_by (hand w').number w'.seen)
   pub open_own : ((u : ℕ) → (hand v').open_unit ≡ Some u → IsOwnOpen v'.seen (hand v').number u) × ((u : ℕ) → (hand w').open_unit ≡ Some u → IsOwnOpen w'.seen (hand w').number u)
+  -- what either knew both know
+  pub knows : ((x : Known) → Knows v x → Knows v' x) × ((x : Known) → Knows w x → Knows w' x)
+  pub marks : ((p n : ℕ) → Knows v' (PartMark p n) → IsLow v.limits v'.seen p n) × ((p n : ℕ) → Knows w' (PartMark p n) → IsLow v.limits w'.seen p n)

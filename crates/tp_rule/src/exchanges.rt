@@ -158,7 +158,7 @@ impl Words {
         requires done { let l = limits_of self.now in (i : ℕ) → part * l.rows + from ≤ i → i < part * l.rows + to
             → IsDone (view_of seat.old) i }
         ensures same { IsSameSeat seat.old seat.new }
-        ensures raises { Raises (view_of seat.old) (view_of seat.new) }
+        ensures raises { Raises (view_of seat.old) part to (view_of seat.new) }
         ensures hit { result ≡ true → Knows (view_of seat.new) (PartMark part to) }
     {
         let word = self.places.mark(part);

@@ -1,5 +1,5 @@
 //! Loads. Each shows the seat the history so far.
-ghost use Rattle.std.specs.Prelude.{◌≡◌, ◌<◌, ◌≤◌, [], Some};
+ghost use Rattle.std.specs.Prelude.{ℕ, ◌≡◌, ◌<◌, ◌≤◌, [], Some};
 ghost use Rattle.tp_model.specs.declared.types.Element.{Element};
 ghost use Rattle.tp_model.specs.declared.trace.StepKind.TheVariants as kinds;
 ghost use Rattle.tp_model.specs.History.{IsUnborn, element_of, end_of};
@@ -10,7 +10,7 @@ ghost use Rattle.tp_words.specs.Places.{size_of};
 ghost use Rattle.tp_words.specs.declared.words.Head.TheVariants.{Empty};
 ghost use Rattle.tp_rule.specs.Rule.{IsDraft};
 ghost use Rattle.tp_rule.specs.Views.{seen_by, view_of, HasPass, IsSameSeat};
-ghost use Rattle.tp_rule.specs.Steps.{AreOver, Loads, Grew, Knows, NoneFrom, unchanged};
+ghost use Rattle.tp_rule.specs.Steps.{IsLow, Loads, Grew, Knows, NoneFrom, unchanged};
 ghost use Rattle.tp_rule.specs.declared.view.Known.TheVariants.{RowHead, PartMark};
 
 use crate::plays::{Load, LoadHead, LoadMark};
@@ -131,8 +131,8 @@ impl Words {
         ensures same { IsSameSeat seat.old seat.new }
         ensures grew { Grew kinds.Load unchanged [] (view_of seat.old) (view_of seat.new) }
         ensures knows { Knows (view_of seat.new) (PartMark part result) }
-        ensures inside { result ≤ (limits_of self.now).rows }
-        ensures over { AreOver (limits_of self.now) (seen_by seat.new) part result }
+        ensures low { IsLow (limits_of self.now) (seen_by seat.new) part result }
+        ensures rises { (n : ℕ) → Knows (view_of seat.old) (PartMark part n) → n ≤ result }
     {
         let word = self.places.mark(part);
         let found = self.table.load::<LoadMark>(seat, word);

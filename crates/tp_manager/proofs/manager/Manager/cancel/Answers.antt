@@ -2,6 +2,7 @@ use Rattle.std.proofs.Common.{◌≡◌, ◌+◌, ◌*◌, ◌≤◌, ◌++◌, 
 use Rattle.tp_model.specs.declared.types.Limits.{Limits}
 use Rattle.tp_model.specs.Families.{IsRequest}
 use Rattle.tp_model.specs.Steps.{rows_of}
+use Rattle.tp_model.proofs.Bridges.{begins_trans, found_later}
 use Rattle.tp_rule.specs.Tables.{limits_of}
 use Rattle.tp_rule.specs.Views.{hand, seen_by, view_of}
 use Rattle.tp_manager.specs.Shown.{ManagerShown, PassShown, shown}
@@ -9,11 +10,11 @@ use Rattle.tp_manager.specs.Bounds.{birth_steps, cancel_steps, round_steps}
 use Rattle.tp_manager.specs.Cancels.{Cancels}
 use Rattle.tp_manager.specs.Walks.{Rests, Acted}
 use Rattle.tp_manager.proofs.Points.{has_more}
-use Rattle.tp_manager.proofs.Walks.{acted_then, looked, looked_none, follows, at_point, has_looked, point_last, walked_then}
+use Rattle.tp_manager.proofs.Walks.{acted_then, looked, looked_begins, looked_none, follows, at_point, has_looked, point_last, walked_then}
 use Rattle.tp_manager.proofs.Passes.{quiet_looked, point_none, unborn_beyond, task_none}
 use Rattle.tp_manager.proofs.Cancels.{rests_swept, cancels_after, cancels_shown, few_steps, unborn_no_request, made_no_request, client_request, request_later, swept_begins, some_not, none_if_not}
 use Rattle.tp_manager.proofs.manager.Manager.cancel.Goals as goal
-use Rattle.tp_manager.proofs.manager.Manager.cancel.Goals.{After-rows, After-birth_from}
+use Rattle.tp_manager.proofs.manager.Manager.cancel.Goals.{After-rows, After-birth_from, After-load_marks-marks}
 
 lim : (c : After-rows) → (view_of c.pass.inside.seat).limits ≡ limits_of c.self.inside.shared.words
 lim c = ap (λ (p : PassShown). p.limits) c.pass.view_is ∙ (c.requires.own.1 ∙ (sym (ap (λ (m : ManagerShown). m.limits) c.self.view_is) ∙ sym c.self.inside.shared.same))
@@ -32,6 +33,15 @@ rests c = subst (λ t. Rests c.pass.inside.seat c.pass.inside.number c.pass.insi
 
 born : (c : After-birth_from) → Acted (limits_of c.self.inside.shared.words) birth_steps (view_of c.pass.inside.seat) (view_of c.birth_from.new.seat)
 born c = acted_then _ 1 1 _ _ _ c.head_at-head.ensures.acted c.birth_from.ensures.looked
+
+-- and the marks
+found : (c : After-load_marks-marks) → Acted (limits_of c.self.inside.shared.words) (birth_steps + (limits_of c.self.inside.shared.words).parts) (view_of c.pass.inside.seat) (view_of c.load_marks-marks.new.seat)
+found c = let l : Limits = limits_of c.self.inside.shared.words in
+    acted_then l birth_steps l.parts _ _ _ (acted_then l 1 1 _ _ _ c.head_at-head.ensures.acted c.birth_from.ensures.looked) c.load_marks-marks.ensures.looked
+
+pub cancel_family-killed-requires-clause-request : goal.cancel_family-killed-requires-clause-request
+cancel_family-killed-requires-clause-request c = let l : Limits = limits_of c.self.inside.shared.words in let t = c.in-Some.ensures.told.0 in
+    (t.0, found_later (seen_by c.birth_from.new.seat) (seen_by c.load_marks-marks.new.seat) (looked_begins l l.parts _ _ c.load_marks-marks.ensures.looked) c.args.root t.0 t.1)
 
 pub returns-then-root-rows-clause-answer : goal.returns-then-root-rows-clause-answer
 returns-then-root-rows-clause-answer c = let r = c.pass.invariant in let at = (goal.at.returns-then-root-rows-clause-answer c).After-rows in
@@ -80,25 +90,26 @@ returns-then-is_some-clause-answer c = let at = goal.at.returns-then-is_some-cla
 
 pub invariant_of-pass-2 : goal.invariant_of-pass-2
 invariant_of-pass-2 c = let at = goal.at.invariant_of-pass-2 c in let l : Limits = limits_of c.self.inside.shared.words in let told = c.cancel_family-killed.ensures.told in
-    let k = cancels_after l c.args.root birth_steps ((rows_of l + 1) * round_steps l) (birth_steps + (rows_of l + 1) * round_steps l) c.cancel_family-killed.result (view_of c.pass.inside.seat) (view_of c.birth_from.new.seat) (view_of c.cancel_family-killed.new.seat) (omega arith) (looked l birth_steps _ _ (born at.After-birth_from)) told in
+    let k = cancels_after l c.args.root (birth_steps + l.parts) ((rows_of l + 1) * round_steps l) (birth_steps + l.parts + (rows_of l + 1) * round_steps l) c.cancel_family-killed.result (view_of c.pass.inside.seat) (view_of c.load_marks-marks.new.seat) (view_of c.cancel_family-killed.new.seat) (omega arith) (looked l (birth_steps + l.parts) _ _ (found at.After-load_marks-marks)) told in
     subst (λ t. Rests c.cancel_family-killed.new.seat c.pass.inside.number c.pass.inside.drawn c.pass.inside.used t) (sym (no_task at.After-rows))
     (rests_swept l c.pass.inside.seat c.cancel_family-killed.new.seat _ _ _ (lim at.After-rows) (rests at.After-rows) _ c.args.root k.events k.swept)
 
 pub returns-clause-follows : goal.returns-clause-follows
-returns-clause-follows c = let at = goal.at.returns-clause-follows c in let l : Limits = limits_of c.self.inside.shared.words in let n = born at.After-birth_from in let k = c.cancel_family-killed.ensures.told.swept.gained in
-    follows c.pass.inside.seat.table c.cancel_family-killed.new.seat.table (view_of c.pass.inside.seat) (view_of c.cancel_family-killed.new.seat) c.args.pass.now c.pass.view_is l (birth_steps + (rows_of l + 1) * round_steps l) (n.marks ++ k.marks)
-    (walked_then l birth_steps ((rows_of l + 1) * round_steps l) n.marks k.marks _ _ _ n.walk k.walk)
+returns-clause-follows c = let at = goal.at.returns-clause-follows c in let l : Limits = limits_of c.self.inside.shared.words in let n = found at.After-load_marks-marks in let k = c.cancel_family-killed.ensures.told.swept.gained in
+    follows c.pass.inside.seat.table c.cancel_family-killed.new.seat.table (view_of c.pass.inside.seat) (view_of c.cancel_family-killed.new.seat) c.args.pass.now c.pass.view_is l (birth_steps + l.parts + (rows_of l + 1) * round_steps l) (n.marks ++ k.marks)
+    (walked_then l (birth_steps + l.parts) ((rows_of l + 1) * round_steps l) n.marks k.marks _ _ _ n.walk k.walk)
     (cancel_steps c.args.self.now.limits) (few_steps l c.args.self.now.limits (limits at.After-rows))
 
 pub returns-clause-looks : goal.returns-clause-looks
-returns-clause-looks c = λ _. let at = goal.at.returns-clause-looks c in let l : Limits = limits_of c.self.inside.shared.words in let n = born at.After-birth_from in let k = c.cancel_family-killed.ensures.told.swept.gained in
-    has_looked c.pass.inside.seat.table c.cancel_family-killed.new.seat.table (view_of c.pass.inside.seat) (view_of c.cancel_family-killed.new.seat) c.args.pass.now c.pass.view_is l (birth_steps + (rows_of l + 1) * round_steps l) (n.marks ++ k.marks)
-    (walked_then l birth_steps ((rows_of l + 1) * round_steps l) n.marks k.marks _ _ _ n.walk k.walk) (has_more n.marks k.marks n.step)
+returns-clause-looks c = λ _. let at = goal.at.returns-clause-looks c in let l : Limits = limits_of c.self.inside.shared.words in let n = found at.After-load_marks-marks in let k = c.cancel_family-killed.ensures.told.swept.gained in
+    has_looked c.pass.inside.seat.table c.cancel_family-killed.new.seat.table (view_of c.pass.inside.seat) (view_of c.cancel_family-killed.new.seat) c.args.pass.now c.pass.view_is l (birth_steps + l.parts + (rows_of l + 1) * round_steps l) (n.marks ++ k.marks)
+    (walked_then l (birth_steps + l.parts) ((rows_of l + 1) * round_steps l) n.marks k.marks _ _ _ n.walk k.walk) (has_more n.marks k.marks n.step)
 
 pub returns-clause-answer : goal.returns-clause-answer
 returns-clause-answer c = let at = goal.at.returns-clause-answer c in let l : Limits = limits_of c.self.inside.shared.words in let told = c.cancel_family-killed.ensures.told in
-    let k = cancels_after l c.args.root birth_steps ((rows_of l + 1) * round_steps l) (birth_steps + (rows_of l + 1) * round_steps l) c.cancel_family-killed.result (view_of c.pass.inside.seat) (view_of c.birth_from.new.seat) (view_of c.cancel_family-killed.new.seat) (omega arith) (looked l birth_steps _ _ (born at.After-birth_from)) told in
+    let k = cancels_after l c.args.root (birth_steps + l.parts) ((rows_of l + 1) * round_steps l) (birth_steps + l.parts + (rows_of l + 1) * round_steps l) c.cancel_family-killed.result (view_of c.pass.inside.seat) (view_of c.load_marks-marks.new.seat) (view_of c.cancel_family-killed.new.seat) (omega arith) (looked l (birth_steps + l.parts) _ _ (found at.After-load_marks-marks)) told in
     let request : IsRequest (seen_by c.birth_from.new.seat) c.args.root = client_request (seen_by c.birth_from.new.seat) c.args.root c.in-Some.birth c.in-Some.ensures.told.0 (none_if_not c.in-Some.birth.by c.is_some.result c.is_some.ensures c.if-is_some.false) in
     subst (λ (z : Limits). Cancels z c.args.root c.cancel_family-killed.result c.args.pass.now (shown c.cancel_family-killed.new.seat.table (view_of c.cancel_family-killed.new.seat))) (limits at.After-rows)
-    (cancels_shown c.pass.inside.seat.table c.cancel_family-killed.new.seat.table (view_of c.pass.inside.seat) (view_of c.cancel_family-killed.new.seat) c.args.pass.now c.pass.view_is l (free at.After-rows) (birth_steps + (rows_of l + 1) * round_steps l) c.args.root c.cancel_family-killed.result
-    (request_later (seen_by c.birth_from.new.seat) (seen_by c.cancel_family-killed.new.seat) c.args.root (swept_begins l c.args.root ((rows_of l + 1) * round_steps l) told.events (view_of c.birth_from.new.seat) (view_of c.cancel_family-killed.new.seat) told.swept) request) k)
+    (cancels_shown c.pass.inside.seat.table c.cancel_family-killed.new.seat.table (view_of c.pass.inside.seat) (view_of c.cancel_family-killed.new.seat) c.args.pass.now c.pass.view_is l (free at.After-rows) (birth_steps + l.parts + (rows_of l + 1) * round_steps l) c.args.root c.cancel_family-killed.result
+    (request_later (seen_by c.birth_from.new.seat) (seen_by c.cancel_family-killed.new.seat) c.args.root (begins_trans (seen_by c.birth_from.new.seat) (seen_by c.load_marks-marks.new.seat) (seen_by c.cancel_family-killed.new.seat) (looked_begins l l.parts _ _ c.load_marks-marks.ensures.looked)
+    (swept_begins l c.args.root ((rows_of l + 1) * round_steps l) told.events (view_of c.load_marks-marks.new.seat) (view_of c.cancel_family-killed.new.seat) told.swept)) request) k)

@@ -10,7 +10,7 @@ use Rattle.tp_manager.specs.Bounds.{reply_steps}
 use Rattle.tp_manager.specs.Walks.{Acted}
 use Rattle.tp_manager.proofs.Walks.{looked, follows, has_looked}
 use Rattle.tp_manager.proofs.Passes.{quiet_looked, rests_looked}
-use Rattle.tp_manager.proofs.Finds.{listed_acted, reply_answer, killed_beyond}
+use Rattle.tp_manager.proofs.Finds.{finds_acted, reply_answer, killed_beyond}
 use Rattle.tp_manager.proofs.manager.Manager.reply.Goals as goal
 use Rattle.tp_manager.proofs.manager.Manager.reply.Goals.{After-rows, After-find}
 
@@ -21,7 +21,7 @@ limits : (c : After-rows) → limits_of c.self.inside.shared.words ≡ c.args.se
 limits c = c.self.inside.shared.same ∙ ap (λ (m : ManagerShown). m.limits) c.self.view_is
 
 whole : (c : After-find) → Acted (limits_of c.self.inside.shared.words) (reply_steps (limits_of c.self.inside.shared.words)) (view_of c.pass.inside.seat) (view_of c.find.new.seat)
-whole c = listed_acted _ (wanteds.Reply c.args.root) _ c.args.from _ _ c.find.result c.find.ensures.told
+whole c = finds_acted _ (wanteds.Reply c.args.root) _ c.args.from _ _ _ c.find.result c.find.ensures.told
 
 pub returns-then-from-rows-clause-answer : goal.returns-then-from-rows-clause-answer
 returns-then-from-rows-clause-answer c = let at = (goal.at.returns-then-from-rows-clause-answer c).After-rows in let v = view_of c.pass.inside.seat in let t = c.pass.inside.seat.table in

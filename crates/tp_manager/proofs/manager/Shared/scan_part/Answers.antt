@@ -10,7 +10,7 @@ use Rattle.tp_manager.specs.Walks.{EachRow, Looked, OfPart, PassedBy, Rose, Soug
 use Rattle.tp_manager.proofs.Walks.{looked, looked_then, sought_few, walked_begins}
 use Rattle.tp_manager.proofs.Marks.{over_passed, rose_then, took_looked}
 use Rattle.tp_manager.proofs.Scans.{passed_widens, took_few, took_then}
-use Rattle.tp_manager.proofs.Seeks.{begun_looked, begun_on, rows_more, sought_from, sought_then}
+use Rattle.tp_manager.proofs.Seeks.{begun_few, begun_looked, begun_on, rows_more, sought_from, sought_then}
 use Rattle.tp_manager.proofs.manager.Shared.scan_part.Goals as goal
 use Rattle.tp_manager.proofs.manager.Shared.scan_part.Goals.{After-mark_at-mark, After-try_row}
 
@@ -40,7 +40,7 @@ rose c legal begins = rose_then (limits_of c.args.self.now.words) (seen_by c.loo
 before : (c : After-try_row) → Looked (limits_of c.args.self.now.words) (1 + (c.loop-row.row - (c.args.part * c.args.self.now.places.limits.rows + c.mark_at-mark.result)) * try_steps (limits_of c.args.self.now.words)) (view_of c.args.seat.now) (view_of c.loop-row.seat)
 before c = let l : Limits = limits_of c.args.self.now.words in
     looked_then l 1 _ _ _ _ (looked l 1 _ _ c.mark_at-mark.ensures.acted)
-    (begun_looked l (PassedBy l c.args.stage) (passed_widens l c.args.stage) (try_steps l) _ c.loop-row.row _ _ c.loop-row.invariant.begun c.mark_at-mark.ensures.acted.walk.steady)
+    (begun_looked l (PassedBy l c.args.stage) (passed_widens l c.args.stage) _ _ c.loop-row.row _ _ c.loop-row.invariant.begun c.mark_at-mark.ensures.acted.walk.steady)
 
 pub raise_to-requires-clause-low : goal.raise_to-requires-clause-low
 raise_to-requires-clause-low c = let l : Limits = limits_of c.args.self.now.words in let at = (goal.at.raise_to-requires-clause-low c).After-try_row in let t = c.in-Some.ensures.told.0 in
@@ -62,13 +62,14 @@ returns-in-Some-clause-told c = let l : Limits = limits_of c.args.self.now.words
 
 pub loop-row-preserved : goal.loop-row-preserved
 loop-row-preserved c = let l : Limits = limits_of c.args.self.now.words in let at = goal.at.loop-row-preserved c in let t = c.in_default.ensures.told in let i = c.loop-row.invariant in let on = c.try_row.ensures.on.on in let n = near at.After-try_row in
+    let s = try_steps l in let P = PassedBy l c.args.stage in let F : ℕ = c.args.part * c.args.self.now.places.limits.rows + c.mark_at-mark.result in let d : ℕ = c.loop-row.row - F in
     let start = i.from in let e = first at.After-mark_at-mark in let w = wide at.After-mark_at-mark in let top = n.1 in record {
       same = search rules;
       from = omega arith;
       inside = omega arith;
       low = c.try_row.ensures.low.0;
       rose = rose at.After-try_row t.walk.steady.shows.legal (walked_begins l _ _ _ _ t.walk);
-      begun = begun_on l (PassedBy l c.args.stage) (passed_widens l c.args.stage) (try_steps l) _ c.loop-row.row _ _ _ i.begun c.try_row.new.row start on t;
+      begun = begun_few l P (passed_widens l c.args.stage) (d * s + s) F _ c.try_row.new.row _ _ (rows_more d (c.try_row.new.row - F) s (omega arith)) (begun_on l P (passed_widens l c.args.stage) (d * s) F s c.loop-row.row _ _ _ i.begun c.try_row.new.row start t);
     }
 
 pub returns-clause-told : goal.returns-clause-told
@@ -77,8 +78,8 @@ returns-clause-told c = let l : Limits = limits_of c.args.self.now.words in let 
     let P = PassedBy l c.args.stage in let F : ℕ = c.args.part * c.args.self.now.places.limits.rows + c.mark_at-mark.result in let d : ℕ = c.loop-row.row - F in
     let all : c.loop-row.row ≡ c.args.part * l.rows + l.rows = omega arith in
     let few : d * s ≤ l.rows * s = mul-le-mul_right s (omega arith) in
-    let sought = sought_from l P (passed_widens l c.args.stage) s (c.args.part * l.rows) F c.loop-row.row (view_of c.args.seat.now) (view_of c.mark_at-mark.new.seat) (view_of c.loop-row.seat) c.mark_at-mark.ensures.acted i.begun
-    (λ j from_on below. over_passed l c.args.stage (seen_by c.mark_at-mark.new.seat) c.args.part c.mark_at-mark.result j c.mark_at-mark.ensures.over from_on (omega arith)) in
+    let sought = sought_from l P (passed_widens l c.args.stage) (d * s) (c.args.part * l.rows) F c.loop-row.row (view_of c.args.seat.now) (view_of c.mark_at-mark.new.seat) (view_of c.loop-row.seat) c.mark_at-mark.ensures.acted i.begun
+    (λ j from_on below. over_passed l c.args.stage (seen_by c.mark_at-mark.new.seat) c.args.part c.mark_at-mark.result j c.mark_at-mark.ensures.low.1 from_on (omega arith)) in
     sought_few l ((1 + d * s) + 1) (part_steps l) _ _ _ (omega arith)
     (sought_then l (1 + d * s) 1 (OfPart l P c.args.part) _ _ _ (λ a b g later each j p q. passed_widens l c.args.stage j a a b g (begins_refl a) later (each j p q))
     (subst (λ n. Sought l (1 + d * s) (EachRow P (c.args.part * l.rows) n) (view_of c.args.seat.now) (view_of c.loop-row.seat)) all sought) c.raise_to-2.ensures.looked)

@@ -1,4 +1,4 @@
-use Rattle.std.proofs.Common.{◌-◌, ◌+◌, ◌≤◌}
+use Rattle.std.proofs.Common.{◌-◌, ◌+◌, ◌*◌, ◌≤◌}
 use Rattle.tp_rule.specs.Tables.{limits_of}
 use Rattle.tp_rule.specs.Views.{IsSameSeat, seen_by, view_of}
 use Rattle.tp_manager.specs.Bounds.{try_steps}
@@ -12,7 +12,7 @@ invariant-loop-row l = record {
   inside : l.row ≤ l.end;
   low : l.low ≤ l.row;
   rose : Rose (limits_of l.self.words) (seen_by l.seat) (l.first + l.mark) l.low;
-  begun : Begun (limits_of l.self.words) (PassedBy (limits_of l.self.words) l.stage) (try_steps (limits_of l.self.words)) (l.first + l.mark) l.row (view_of l.initial.seat) (view_of l.seat);
+  begun : Begun (limits_of l.self.words) (PassedBy (limits_of l.self.words) l.stage) ((l.row - (l.first + l.mark)) * try_steps (limits_of l.self.words)) (l.first + l.mark) l.row (view_of l.initial.seat) (view_of l.seat);
 }
 
 abbrev pub decreases-loop-row : goal.decreases-loop-row

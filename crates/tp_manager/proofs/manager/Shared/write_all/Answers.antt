@@ -1,4 +1,4 @@
-use Rattle.std.proofs.Common.{◌≡◌, List, length, take, rules, arith, sym, ◌∙◌, subst, length-take}
+use Rattle.std.proofs.Common.{◌≡◌, List, length, take, rules, arith, refl, sym, ◌∙◌, subst, length-take}
 use Rattle.tp_model.specs.declared.types.Element.{Element}
 use Rattle.tp_model.specs.declared.types.Limits.{Limits}
 use Rattle.std.proofs.lemmas.List.Elements.{All-more}
@@ -7,7 +7,7 @@ use Rattle.tp_model.proofs.Outputs.{length-outputs}
 use Rattle.tp_rule.specs.Tables.{limits_of}
 use Rattle.tp_rule.specs.Views.{view_of}
 use Rattle.tp_manager.specs.Walks.{Wrote}
-use Rattle.tp_manager.proofs.Shuts.{outs_next, wrote_then}
+use Rattle.tp_manager.proofs.Shuts.{outs_next, wrote_none, wrote_then}
 use Rattle.tp_manager.proofs.manager.Shared.write_all.Goals as goal
 
 pub write_one-requires-clause-next : goal.write_one-requires-clause-next
@@ -16,6 +16,13 @@ write_one-requires-clause-next c =
     let count : length (outputs c.args.unit c.args.root c.args.first (take c.loop-i.i c.args.drafts.now)) ≡ c.loop-i.i = length-outputs c.args.unit c.args.root c.args.first (take c.loop-i.i c.args.drafts.now) ∙ omega (arith, length-take c.loop-i.i c.args.drafts.now) in
     let first = c.requires.next in let room = r.0 in let all = r.1 in
     (rw n (omega arith), omega arith, omega arith)
+
+pub loop-i-init : goal.loop-i-init
+loop-i-init c = record {
+  same = refl;
+  staged = λ k d less. absurd (omega arith);
+  wrote = wrote_none (limits_of c.args.self.now.words) (view_of c.args.seat.now) c.requires.steady;
+}
 
 pub loop-i-preserved : goal.loop-i-preserved
 loop-i-preserved c = let l : Limits = limits_of c.args.self.now.words in record {

@@ -1,9 +1,9 @@
-use Rattle.std.proofs.Common.{◌≡◌, ◌<◌, ◌≤◌, rules, sym, ◌∙◌, ap, subst, arith}
+use Rattle.std.proofs.Common.{◌≡◌, ℕ, ◌<◌, ◌≤◌, rules, sym, ◌∙◌, ap, subst, arith}
 use Rattle.tp_model.specs.declared.types.Limits.{Limits}
 use Rattle.tp_words.specs.Places.{mark_place}
 use Rattle.tp_rule.specs.Doors.{Permits, key_of}
 use Rattle.tp_rule.specs.Plays.{loads_mark}
-use Rattle.tp_rule.specs.Steps.{AreOver, Knows}
+use Rattle.tp_rule.specs.Steps.{IsLow, Knows}
 use Rattle.tp_rule.specs.Tables.{limits_of}
 use Rattle.tp_rule.specs.Views.{seen_by, view_of}
 use Rattle.tp_rule.specs.declared.view.Known.TheVariants.{PartMark}
@@ -16,20 +16,21 @@ load-found-requires-clause-permits c = let keyed : limits_of c.args.self.now ≡
     subst (λ word. Permits (key_of c.args.self.now.table) c.args.seat.now.view word (λ n. n) (loads_mark word 0 0 c.args.seat.now.view)) (sym (c.mark-word.ensures.place ∙ ap (λ (l : Limits). mark_place l c.args.part) keyed))
     (looks_mark _ c.args.seat.now.view c.args.part c.requires.one.0 (c.requires.one.1 ∙ keyed) (subst (λ (l : Limits). c.args.part < l.parts) keyed c.requires.part))
 
-told : (c : After-load-found) → Knows (view_of c.load-found.new.seat) (PartMark c.args.part c.load-found.result) × (c.load-found.result ≤ (view_of c.args.seat.now).limits.rows) × AreOver (view_of c.args.seat.now).limits (seen_by c.load-found.new.seat) c.args.part c.load-found.result
+told : (c : After-load-found) → Knows (view_of c.load-found.new.seat) (PartMark c.args.part c.load-found.result) × IsLow (view_of c.args.seat.now).limits (seen_by c.load-found.new.seat) c.args.part c.load-found.result
+    × ((n : ℕ) → Knows (view_of c.args.seat.now) (PartMark c.args.part n) → n ≤ c.load-found.result)
 told c = let lim = c.requires.one.1 in c.load-found.ensures.told.1 c.args.part (c.mark-word.ensures.place ∙ ap (λ (l : Limits). mark_place l c.args.part) (sym lim)) (subst (λ (l : Limits). c.args.part < l.parts) (sym lim) c.requires.part)
 
-few : (c : After-load-found) → c.load-found.result ≤ (limits_of c.args.self.now).rows
-few c = subst (λ (l : Limits). c.load-found.result ≤ l.rows) c.requires.one.1 (told c).1
+low : (c : After-load-found) → IsLow (limits_of c.args.self.now) (seen_by c.load-found.new.seat) c.args.part c.load-found.result
+low c = subst (λ (l : Limits). IsLow l (seen_by c.load-found.new.seat) c.args.part c.load-found.result) c.requires.one.1 (told c).1
 
 pub overflow_cast-result : goal.overflow_cast-result
-overflow_cast-result c = let a = few (goal.at.overflow_cast-result c).After-load-found in let most = c.args.self.now.places.valid.rows.1 in omega arith
+overflow_cast-result c = let a = (low (goal.at.overflow_cast-result c).After-load-found).0 in let most = c.args.self.now.places.valid.rows.1 in omega arith
 
 pub returns-clause-knows : goal.returns-clause-knows
 returns-clause-knows c = (told (goal.at.returns-clause-knows c).After-load-found).0
 
-pub returns-clause-inside : goal.returns-clause-inside
-returns-clause-inside c = few (goal.at.returns-clause-inside c).After-load-found
+pub returns-clause-low : goal.returns-clause-low
+returns-clause-low c = low (goal.at.returns-clause-low c).After-load-found
 
-pub returns-clause-over : goal.returns-clause-over
-returns-clause-over c = let at = (goal.at.returns-clause-over c).After-load-found in subst (λ (l : Limits). AreOver l (seen_by c.load-found.new.seat) c.args.part c.load-found.result) c.requires.one.1 (told at).2
+pub returns-clause-rises : goal.returns-clause-rises
+returns-clause-rises c = (told (goal.at.returns-clause-rises c).After-load-found).2

@@ -1,0 +1,88 @@
+use Rattle.std.proofs.Common.{◌≡◌, ◌+◌, ◌-◌, ◌*◌, ◌<◌, ◌≤◌, ℕ, ⊎_elim, inl, inr, ap, arith, rules, subst, mul-le-mul_right}
+use Rattle.tp_model.specs.declared.types.Limits.{Limits}
+use Rattle.tp_model.specs.Steps.{IsRowOf}
+use Rattle.tp_rule.specs.Tables.{limits_of}
+use Rattle.tp_rule.specs.Views.{seen_by, view_of}
+use Rattle.tp_rule.specs.declared.view.View.{View}
+use Rattle.tp_manager.specs.Bounds.{find_steps, look_steps}
+use Rattle.tp_manager.specs.Finds.{PassedOver}
+use Rattle.tp_manager.specs.Walks.{Begun, EachRow, Sought}
+use Rattle.tp_manager.proofs.Walks.{sought_few}
+use Rattle.tp_manager.proofs.Finds.{over_low, over_widens}
+use Rattle.tp_manager.proofs.Seeks.{begun_few, begun_hit, begun_on, rows_more, sought_from}
+use Rattle.tp_manager.proofs.manager.Shared.find_in_part.Goals as goal
+use Rattle.tp_manager.proofs.manager.Shared.find_in_part.Goals.{After-later-start, After-is_wanted_at}
+
+-- where the part begins
+first : (c : After-later-start) → c.args.part * (limits_of c.args.self.now.words).rows ≡ c.args.part * c.args.self.now.places.limits.rows
+first c = ap (λ (z : Limits). c.args.part * z.rows) c.args.self.now.same
+
+wide : (c : After-later-start) → (limits_of c.args.self.now.words).rows ≡ c.args.self.now.places.limits.rows
+wide c = ap (λ (z : Limits). z.rows) c.args.self.now.same
+
+-- the rows before the start are below the mark
+skipped : (c : After-later-start) (i : ℕ) → c.args.from ≤ i → i < c.later-start.result
+    → PassedOver (limits_of c.args.self.now.words) c.args.wanted i (seen_by c.mark_at-mark.new.seat) (seen_by c.mark_at-mark.new.seat)
+skipped c i low high = let l : Limits = limits_of c.args.self.now.words in let from_on = c.requires.from.1 in let e = first c in ⊎_elim
+    (λ (q : c.later-start.result ≡ c.args.from). absurd (omega arith))
+    (λ (q : c.later-start.result ≡ c.args.part * c.args.self.now.places.limits.rows + c.mark_at-mark.result). over_low l c.args.wanted (seen_by c.mark_at-mark.new.seat) c.args.part c.mark_at-mark.result i c.mark_at-mark.ensures.low.1 (omega arith) (omega arith))
+    c.later-start.ensures.one
+
+-- the mark, and then the rows from the start on
+from_mark : (c : After-later-start) (m n : ℕ) (y : View) → Begun (limits_of c.args.self.now.words) (PassedOver (limits_of c.args.self.now.words) c.args.wanted) m c.later-start.result n (view_of c.mark_at-mark.new.seat) y
+    → Sought (limits_of c.args.self.now.words) (1 + m) (EachRow (PassedOver (limits_of c.args.self.now.words) c.args.wanted) c.args.from n) (view_of c.args.seat.now) y
+from_mark c m n y b = let l : Limits = limits_of c.args.self.now.words in
+    sought_from l (PassedOver l c.args.wanted) (over_widens l c.args.wanted) m c.args.from c.later-start.result n (view_of c.args.seat.now) (view_of c.mark_at-mark.new.seat) y c.mark_at-mark.ensures.acted b (skipped c)
+
+-- the row is of the part
+near : (c : After-is_wanted_at) → IsRowOf (limits_of c.args.self.now.words) c.args.part c.loop-row.row
+near c = let l : Limits = limits_of c.args.self.now.words in
+    let a : c.args.part * l.rows ≡ c.args.part * c.args.self.now.places.limits.rows = ap (λ (z : Limits). c.args.part * z.rows) c.args.self.now.same in
+    let b : l.rows ≡ c.args.self.now.places.limits.rows = ap (λ (z : Limits). z.rows) c.args.self.now.same in
+    let low = c.loop-row.invariant.start in let most = c.later-start.ensures.most.0 in let from_on = c.requires.from.1 in let less = c.loop-row-test.true in
+    (c.requires.from.0, omega arith, omega arith)
+
+-- and not more rows than the part has were looked at
+few : (c : After-is_wanted_at) → (c.loop-row.row - c.later-start.result) < (limits_of c.args.self.now.words).rows
+few c = let n = near c in let low = c.loop-row.invariant.start in let most = c.later-start.ensures.most.0 in let from_on = c.requires.from.1 in let high = n.2 in omega arith
+
+pub returns-then-is_wanted_at-clause-told : goal.returns-then-is_wanted_at-clause-told
+returns-then-is_wanted_at-clause-told c = let l : Limits = limits_of c.args.self.now.words in let at = goal.at.returns-then-is_wanted_at-clause-told c in let s = look_steps l in let i = c.loop-row.invariant in
+    let P = PassedOver l c.args.wanted in let d : ℕ = c.loop-row.row - c.later-start.result in let most = c.later-start.ensures.most.0 in let start = i.start in
+    let room : d * s + s ≤ l.rows * s = rows_more d l.rows s (few at.After-is_wanted_at) in (
+      omega arith,
+      (near at.After-is_wanted_at).2,
+      c.is_wanted_at.ensures.yes c.if-is_wanted_at.true,
+      sought_few l (1 + (d * s + s)) (find_steps l) (EachRow P c.args.from c.loop-row.row) _ _ (omega arith)
+          (from_mark at.After-later-start (d * s + s) c.loop-row.row (view_of c.is_wanted_at.new.seat)
+          (inr (begun_hit l P (over_widens l c.args.wanted) (d * s) c.later-start.result s c.loop-row.row _ _ _ i.begun c.is_wanted_at.ensures.acted))),
+    )
+
+pub loop-row-init : goal.loop-row-init
+loop-row-init c = let l : Limits = limits_of c.args.self.now.words in let at = goal.at.loop-row-init c in record {
+  start = omega arith;
+  inside = let e = first at.After-later-start in let w = wide at.After-later-start in let high = c.requires.from.2 in let low = c.mark_at-mark.ensures.low.0 in
+      ⊎_elim (λ (q : c.later-start.result ≡ c.args.from). let r : c.later-start.result ≤ c.args.part * c.args.self.now.places.limits.rows + c.args.self.now.places.limits.rows = omega arith in r)
+      (λ (q : c.later-start.result ≡ c.args.part * c.args.self.now.places.limits.rows + c.mark_at-mark.result). omega arith) c.later-start.ensures.one;
+  same = search rules;
+  begun = inl (search rules, search rules);
+}
+
+pub loop-row-preserved : goal.loop-row-preserved
+loop-row-preserved c = let l : Limits = limits_of c.args.self.now.words in let at = goal.at.loop-row-preserved c in let s = look_steps l in let i = c.loop-row.invariant in let start = i.start in let on = c.is_wanted_at.ensures.on.on in
+    let P = PassedOver l c.args.wanted in let W = over_widens l c.args.wanted in let F = c.later-start.result in let d : ℕ = c.loop-row.row - F in record {
+      start = omega arith;
+      inside = let e = first at.After-later-start in let w = wide at.After-later-start in let end = c.is_wanted_at.ensures.on.part c.args.part (near at.After-is_wanted_at) in omega arith;
+      same = search rules;
+      begun = begun_few l P W (d * s + s) F _ c.is_wanted_at.new.row _ _ (rows_more d (c.is_wanted_at.new.row - F) s (omega arith))
+          (begun_on l P W (d * s) F s c.loop-row.row _ _ _ i.begun c.is_wanted_at.new.row start (c.is_wanted_at.ensures.no c.if-is_wanted_at.false));
+    }
+
+pub returns-clause-told : goal.returns-clause-told
+returns-clause-told c = let l : Limits = limits_of c.args.self.now.words in let at = goal.at.returns-clause-told c in let i = c.loop-row.invariant in
+    let s = look_steps l in let P = PassedOver l c.args.wanted in let d : ℕ = c.loop-row.row - c.later-start.result in
+    let most = c.later-start.ensures.most.0 in let from_on = c.requires.from.1 in let high = i.inside in let low = c.loop-row-test.false in let e = first at.After-later-start in let w = wide at.After-later-start in
+    let all : c.loop-row.row ≡ c.args.part * l.rows + l.rows = omega arith in
+    let few : d * s ≤ l.rows * s = mul-le-mul_right s (omega arith) in
+    sought_few l (1 + d * s) (find_steps l) _ _ _ (omega arith)
+    (subst (λ n. Sought l (1 + d * s) (EachRow P c.args.from n) (view_of c.args.seat.now) (view_of c.loop-row.seat)) all (from_mark at.After-later-start (d * s) c.loop-row.row (view_of c.loop-row.seat) i.begun))
