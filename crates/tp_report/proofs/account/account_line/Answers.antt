@@ -4,7 +4,7 @@ use Rattle.std.specs.Io.KnownBytes.{Appends}
 use Rattle.tp_report.specs.Written.{AppendsFront}
 use Rattle.tp_report.proofs.Devices.{always_err, front_none}
 use Rattle.tp_report.proofs.LineProofs.{line_front, line_more, no_lines, nothing_written}
-use Rattle.tp_perform.proofs.account.account_line.Goals as goal
+use Rattle.tp_report.proofs.account.account_line.Goals as goal
 
 pub returns-in_err-text-clause-front : goal.returns-in_err-text-clause-front
 returns-in_err-text-clause-front g c = always_err c.from_residual.result (front_none (g.W.Sink.contents c.args.writer.now) _)
