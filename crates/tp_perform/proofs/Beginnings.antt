@@ -1,21 +1,20 @@
 -- The scene before a script's first command.
-use Rattle.std.proofs.Common.{◌≡◌, ◌≤◌, inr, ℕ, suc, ◌+◌, List, [], ◌∷◌, ◌++◌, All, Option, refl, sym, ◌∙◌, ap, subst, arith, length, map}
-use Rattle.std.specs.Io.KnownBytes.{Appends}
+use Rattle.std.proofs.Common.{◌≡◌, ◌≤◌, ℕ, suc, ◌+◌, List, [], ◌∷◌, ◌++◌, All, Option, refl, sym, ◌∙◌, ap, subst, arith, length, map}
 use Rattle.std.specs.declared.alloc.Global.{Global}
 use Rattle.std.specs.declared.dyn_box.DynBox.{DynBox}
 use Rattle.std.proofs.lemmas.List.{length-take-le}
 use Rattle.std.proofs.lemmas.List.Elements.{All-cons, All-nil}
 use Rattle.tp_server.specs.declared.recipe.Recipe.{Recipe}
 use Rattle.tp_server.specs.Pending.{Pending}
-use Rattle.tp_manager.specs.Accounts.{Accounts, AreFrom}
-use Rattle.tp_manager.specs.Shown.{KeeperShown, ManagerShown, PassShown}
+use Rattle.tp_manager.specs.Accounts.{AreFrom}
+use Rattle.tp_manager.specs.Shown.{ManagerShown, PassShown}
 use Rattle.tp_script.specs.Script.{ScriptView, passes}
 use Rattle.tp_workers.specs.Free.{IsFreePass}
-use Rattle.tp_perform.specs.Acting.{new_place, new_places}
-use Rattle.tp_perform.specs.Ending.{AccountFront, FinalsFront, TellsAccount, finals_of}
-use Rattle.tp_perform.specs.Places.{workers}
-use Rattle.tp_perform.specs.Reported.{Begins, IsNewPass, IsNewPlace, LastFront, Reported, ReportedFront, limits_of}
-use Rattle.tp_perform.specs.Told.{AllEnded, IsFirstScene, Scene, ToldAll}
+use Rattle.tp_commands.specs.Acting.{new_place, new_places}
+use Rattle.tp_commands.specs.Places.{workers}
+use Rattle.tp_perform.specs.Reported.{Begins, IsNewPass, IsNewPlace, Performed, limits_of}
+use Rattle.tp_perform.specs.Told.{IsFirstScene, Scene, ToldAll}
+use Rattle.tp_commands.specs.Acting.{AllEnded}
 
 module _ {X : Type 0} {F : X → Type 0} (recipe : DynBox X Global F → Recipe) (registers : DynBox X Global F → List ℕ) (pending : DynBox X Global F → Option Pending) where
   abbrev Box : Type 0
@@ -61,11 +60,10 @@ module _ {X : Type 0} {F : X → Type 0} (recipe : DynBox X Global F → Recipe)
         each = ap length is.1 ∙ (new_length (workers (length ss) olds) ss long ∙ all);
       }
 
--- the whole report
-pub reported_of : (s : ScriptView) (m : ManagerShown) (first last : Scene) (before commands_done finals_done after : Option (List ℕ)) (left closed : List PassShown) (registers : List (List ℕ)) (keeper keeper' : KeeperShown) (n : ℕ)
-    → Begins s m first → n ≡ length s.servers → ToldAll m s first last before commands_done → AllEnded last.places (workers n left) registers → Appends commands_done finals_done (finals_of s registers)
-    → TellsAccount s.account (Accounts m.limits keeper keeper' left closed) finals_done after → Reported s m before after
-reported_of s m first last before commands_done finals_done after left closed registers keeper keeper' n begins many told ended finals account = record {
+-- what stands when the commands are done
+abbrev pub performed_of : (s : ScriptView) (m : ManagerShown) (first last : Scene) (before commands_done : Option (List ℕ)) (left : List PassShown) (registers : List (List ℕ)) (n : ℕ)
+    → Begins s m first → n ≡ length s.servers → ToldAll m s first last before commands_done → AllEnded last.places (workers n left) registers → Performed s m before
+performed_of s m first last before commands_done left registers n begins many told ended = record {
   first = first;
   last = last;
   begins = begins;
@@ -74,48 +72,4 @@ reported_of s m first last before commands_done finals_done after left closed re
   left = left;
   registers = registers;
   ended = subst (λ k. AllEnded last.places (workers k left) registers) many ended;
-  finals_done = finals_done;
-  finals = finals;
-  keeper = keeper;
-  keeper' = keeper';
-  closed = closed;
-  account = account;
 }
-
--- the same up to a fault
-pub finals_front_of : (s : ScriptView) (m : ManagerShown) (first last : Scene) (before commands_done after : Option (List ℕ)) (left : List PassShown) (registers : List (List ℕ)) (n : ℕ)
-    → Begins s m first → n ≡ length s.servers → ToldAll m s first last before commands_done → AllEnded last.places (workers n left) registers → FinalsFront s registers commands_done after → LastFront s m before after
-finals_front_of s m first last before commands_done after left registers n begins many told ended finals = record {
-  first = first;
-  last = last;
-  begins = begins;
-  commands_done = commands_done;
-  told = told;
-  left = left;
-  registers = registers;
-  ended = subst (λ k. AllEnded last.places (workers k left) registers) many ended;
-  finals = finals;
-}
-
-pub closing_front_of : (s : ScriptView) (m : ManagerShown) (first last : Scene) (before commands_done finals_done after : Option (List ℕ)) (left closed : List PassShown) (registers : List (List ℕ)) (keeper keeper' : KeeperShown) (n : ℕ)
-    → Begins s m first → n ≡ length s.servers → ToldAll m s first last before commands_done → AllEnded last.places (workers n left) registers → Appends commands_done finals_done (finals_of s registers)
-    → AccountFront s.account (Accounts m.limits keeper keeper' left closed) finals_done after → ReportedFront s before after
-closing_front_of s m first last before commands_done finals_done after left closed registers keeper keeper' n begins many told ended finals account = inr (
-  m,
-  inr (inr (record {
-    first = first;
-    last = last;
-    begins = begins;
-    commands_done = commands_done;
-    told = told;
-    left = left;
-    registers = registers;
-    ended = subst (λ k. AllEnded last.places (workers k left) registers) many ended;
-    finals_done = finals_done;
-    finals = finals;
-    keeper = keeper;
-    keeper' = keeper';
-    closed = closed;
-    account = account;
-  })),
-)

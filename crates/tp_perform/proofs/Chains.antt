@@ -11,12 +11,13 @@ use Rattle.tp_manager.specs.Shown.{ManagerShown, PassShown}
 use Rattle.tp_script.specs.Passes.{racers as racers_of, racing}
 use Rattle.tp_script.specs.Script.{ScriptView}
 use Rattle.tp_script.specs.declared.script.Command.{Command}
-use Rattle.tp_perform.specs.declared.place.Place.{Place}
-use Rattle.tp_perform.specs.Acting.{IsSteadyPlace, PlaceShown, new_places, place_shown, places_shown}
-use Rattle.tp_perform.specs.Places.{AllLie, Lies, workers}
-use Rattle.tp_perform.specs.Told.{AllEnded, IsFirstScene, Performs, Scene, TellsCommand, Told, scene}
-use Rattle.tp_perform.proofs.Lefts.{workers_are}
-use Rattle.tp_perform.proofs.Shows.{sum_next}
+use Rattle.tp_commands.specs.declared.place.Place.{Place}
+use Rattle.tp_commands.specs.Acting.{IsSteadyPlace, PlaceShown, new_places, place_shown, places_shown}
+use Rattle.tp_commands.specs.Places.{AllLie, Lies, workers}
+use Rattle.tp_perform.specs.Told.{IsFirstScene, Performs, Scene, TellsCommand, Told, scene}
+use Rattle.tp_commands.specs.Acting.{AllEnded}
+use Rattle.tp_commands.proofs.Lefts.{workers_are}
+use Rattle.tp_commands.proofs.Shows.{sum_next}
 
 -- what races the first n commands and one more need
 pub racing_more : (commands : List Command) (n : ℕ) (c : Command) → n < length commands → racing (take (n + 1) commands) ≡ racing (take n commands) + racers_of (get_or commands n c)

@@ -1,11 +1,6 @@
-pub mod Alls
-pub mod Lies
 pub mod RegisterLemmas
 pub mod Endings
-pub mod Lefts
 pub mod Everyone
-pub mod Listings
-pub mod Shows
 pub mod Tellings
 pub mod Chains
 pub mod Parts

@@ -14,13 +14,14 @@ use Rattle.tp_desk.specs.declared.aside.Aside.{Aside}
 use Rattle.tp_workers.specs.declared.tally.Shift.{Shift}
 use Rattle.tp_workers.specs.Desks as workers
 use Rattle.tp_workers.specs.Ran.{RanAll}
-use Rattle.tp_perform.specs.declared.place.Place.{Place}
-use Rattle.tp_perform.specs.Acting.{PlaceShown, place_shown, places_shown, work_in}
-use Rattle.tp_perform.specs.Places.{AllLie, IsFreeAt, Lies}
-use Rattle.tp_perform.specs.Together.{AllTakePart, ArePassed, TakesPart, has_none, is_free, is_free_at}
-use Rattle.tp_perform.proofs.Lefts.{swap_back}
-use Rattle.tp_perform.proofs.Lies.{lie_at, lie_set}
-use Rattle.tp_perform.proofs.Shows.{shown_append, shown_set}
+use Rattle.tp_commands.specs.declared.place.Place.{Place}
+use Rattle.tp_commands.specs.Acting.{PlaceShown, place_shown, places_shown, work_in}
+use Rattle.tp_commands.specs.Places.{AllLie, IsFreeAt, Lies}
+use Rattle.tp_perform.specs.Together.{AllTakePart, ArePassed, TakesPart, is_free}
+use Rattle.tp_commands.specs.Places.{has_none, is_free_at}
+use Rattle.tp_commands.proofs.Lefts.{swap_back}
+use Rattle.tp_commands.proofs.Lies.{lie_at, lie_set}
+use Rattle.tp_commands.proofs.Shows.{shown_append, shown_set}
 
 -- ---- lists
 

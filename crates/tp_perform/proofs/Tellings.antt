@@ -8,19 +8,18 @@ use Rattle.tp_model.specs.declared.types.Limits.{Limits}
 use Rattle.tp_server.specs.declared.recipe.Recipe.{Recipe}
 use Rattle.tp_server.specs.Pending.{Pending}
 use Rattle.tp_manager.specs.Shown.{ManagerShown, PassShown}
-use Rattle.tp_report.specs.Answer.{answer_text, line, named_text}
-use Rattle.tp_report.specs.declared.answer.Answer.{Answer}
+use Rattle.tp_report.specs.Answer.{line, named_text}
 use Rattle.tp_report.specs.declared.answer.ServerAnswer.{ServerAnswer}
 use Rattle.tp_script.specs.Script.{server_view}
 use Rattle.tp_script.specs.declared.script.ScriptServer.{ScriptServer}
 use Rattle.tp_script.specs.declared.script.ClientAct.{ClientAct}
 use Rattle.tp_script.specs.declared.script.DeskAct.{DeskAct}
-use Rattle.tp_perform.specs.declared.place.Place.{Place}
-use Rattle.tp_perform.specs.Asked.{AnswerLine, FoundLine, TellsClient}
-use Rattle.tp_perform.specs.Acting.{DoesIn, place_shown, places_shown}
-use Rattle.tp_perform.specs.Performing.{TellsBalance}
-use Rattle.tp_perform.specs.Places.{AllLie}
-use Rattle.tp_perform.proofs.Shows.{shown_at}
+use Rattle.tp_commands.specs.declared.place.Place.{Place}
+use Rattle.tp_commands.specs.Asked.{TellsClient}
+use Rattle.tp_commands.specs.Acting.{DoesIn, place_shown, places_shown}
+use Rattle.tp_commands.specs.Registers.{TellsBalance}
+use Rattle.tp_commands.specs.Places.{AllLie}
+use Rattle.tp_commands.proofs.Shows.{shown_at}
 use Rattle.tp_perform.specs.Told.{BalanceLine, ClientLine, OnlyClient, OnlyPlaces, Scene, ServerLine}
 
 -- a server that is named
@@ -33,18 +32,6 @@ named_is : (servers : List ScriptServer) (at : ℕ) (it : ScriptServer) → at <
 named_is [] at it within is = absurd (omega (arith, within))
 named_is (s ∷ servers) zero it within is = ap (λ x. Some (server_view x)) (sym is)
 named_is (s ∷ servers) (suc at) it within is = named_is servers at it (omega (arith, within)) is
-
--- what the client did
-module _ {T E : Type 0} (r : Result T E) (bytes : T → List ℕ) (old new : PassShown) where
-  pub answer_told : (Tells : PassShown → PassShown → Answer → Type 0) (a : Answer) → Tells old new a → IfOk r (λ s. bytes s ≡ line (answer_text a)) → IfOk r (λ s. AnswerLine Tells old (bytes s) new)
-  answer_told Tells a tells text = IfOk-weaker r _ _ (λ s is. record { answer = a; tells = tells; text_is = is }) text
-
-  pub found_told : {A : Type 0} (Tells : PassShown → A → PassShown → Type 0) (told : A → List ℕ) → IfOk r (λ s. (found : A) × Tells old found new × (bytes s ≡ line (told found)))
-      → IfOk r (λ s. FoundLine Tells told old (bytes s) new)
-  found_told Tells told text = IfOk-weaker r _ _ (λ s is. record { found = is.0; tells = is.1; text_is = is.2 }) text
-
-  pub value_told : {A : Type 0} (Tells : PassShown → A → PassShown → Type 0) (told : A → List ℕ) (found : A) → Tells old found new → IfOk r (λ s. bytes s ≡ line (told found)) → IfOk r (λ s. FoundLine Tells told old (bytes s) new)
-  value_told Tells told found tells text = IfOk-weaker r _ _ (λ s is. record { found = found; tells = tells; text_is = is }) text
 
 -- what all that there is has come to
 module _ {T E : Type 0} (r : Result T E) (bytes : T → List ℕ) (old new : Scene) where

@@ -1,8 +1,5 @@
-pub mod Acting
-pub mod Asked
 pub mod Ending
 pub mod Performing
-pub mod Places
 pub mod Reported
 pub mod Together
 pub mod Told

@@ -1,14 +1,7 @@
 -- What a performed script writes.
-use Rattle.std.specs.Prelude.{◌≡◌, ℕ, ◌+◌, List, length, Bool, true, false, slice_get, if◌then◌else◌}
-use Rattle.tp_report.specs.declared.answer.ServerAnswer.TheVariants as told
-use Rattle.tp_report.specs.Answer.{balance_text, line, named_text}
+use Rattle.std.specs.Prelude.{ℕ, ◌+◌, length, if◌then◌else◌}
 use Rattle.tp_script.specs.Passes.{has_race}
 use Rattle.tp_script.specs.Script.{ScriptView}
-
--- the text tells a register of the server of this name, or that its desk was dropped
-abbrev pub TellsBalance : List ℕ → ℕ → List ℕ → Bool → List ℕ → Type 0
-TellsBalance name k registers false text = text ≡ line (balance_text name k (slice_get registers k))
-TellsBalance name k registers true text = text ≡ line (named_text name told.Ended)
 
 -- how many final lines there are: one for each server, and none where there is a race
 abbrev pub final_count : ScriptView → ℕ

@@ -1,15 +1,17 @@
 -- What is reported of a script that was performed to its end.
-use Rattle.std.specs.Prelude.{◌≡◌, ◌⊎◌, ℕ, false, List, [], ◌∷◌, ◌++◌, All, Option, Some, None, length, map}
+use Rattle.std.specs.Prelude.{◌≡◌, ◌⊎◌, ℕ, Bool, false, List, [], ◌∷◌, ◌++◌, All, Option, Some, None, length, map}
 use Rattle.std.specs.Io.KnownBytes.{Appends}
+use Rattle.tp_model.specs.declared.types.Account.{Account}
 use Rattle.tp_model.specs.declared.types.Limits.{Limits}
 use Rattle.tp_manager.specs.Accounts.{Accounts, AreFrom}
 use Rattle.tp_manager.specs.Shown.{KeeperShown, ManagerShown, PassShown}
 use Rattle.tp_script.specs.Script.{ScriptView, passes}
 use Rattle.tp_workers.specs.Free.{IsFreePass}
-use Rattle.tp_perform.specs.Acting.{PlaceShown}
+use Rattle.tp_commands.specs.Acting.{PlaceShown}
 use Rattle.tp_perform.specs.Ending.{AccountFront, FinalsFront, TellsAccount, finals_of}
-use Rattle.tp_perform.specs.Places.{workers}
-use Rattle.tp_perform.specs.Told.{AllEnded, Scene, ToldAll, ToldFront}
+use Rattle.tp_commands.specs.Places.{workers}
+use Rattle.tp_perform.specs.Told.{Scene, ToldAll, ToldFront}
+use Rattle.tp_commands.specs.Acting.{AllEnded}
 
 -- the limits that a script asks for
 abbrev pub limits_of : ScriptView → Limits
@@ -45,9 +47,8 @@ pub record Begins (s : ScriptView) (m : ManagerShown) (first : Scene) : Type 0 w
   pub desks : All IsNewPlace first.places
   pub each : length first.places ≡ length s.servers
 
--- the lines of all commands, then the final lines, of the registers that the ended desks left, and then the account
--- of what all passes have seen, where it is asked for
-pub record Reported (s : ScriptView) (m : ManagerShown) (before after : Option (List ℕ)) : Type 0 where
+-- all commands were performed and their lines written, and the desks ended: what they left
+pub record Performed (s : ScriptView) (m : ManagerShown) (before : Option (List ℕ)) : Type 0 where
   pub first : Scene
   pub last : Scene
   pub begins : Begins s m first
@@ -56,12 +57,22 @@ pub record Reported (s : ScriptView) (m : ManagerShown) (before after : Option (
   pub left : List PassShown
   pub registers : List (List ℕ)
   pub ended : AllEnded last.places (workers (length s.servers) left) registers
+
+-- behind them the final lines, of the registers that are left, and then what is written of the account of what all
+-- passes have seen
+pub record Closes (Tells : Bool → (Account → Type 0) → Option (List ℕ) → Option (List ℕ) → Type 0)
+    (s : ScriptView) (m : ManagerShown) (before after : Option (List ℕ)) : Type 0 where
+  pub performed : Performed s m before
   pub finals_done : Option (List ℕ)
-  pub finals : Appends commands_done finals_done (finals_of s registers)
+  pub finals : Appends performed.commands_done finals_done (finals_of s performed.registers)
   pub keeper : KeeperShown
   pub keeper' : KeeperShown
   pub closed : List PassShown
-  pub account : TellsAccount s.account (Accounts m.limits keeper keeper' left closed) finals_done after
+  pub account : Tells s.account (Accounts m.limits keeper keeper' performed.left closed) finals_done after
+
+-- a whole report: the account's line last, where it is asked for
+abbrev pub Reported : ScriptView → ManagerShown → Option (List ℕ) → Option (List ℕ) → Type 0
+Reported s m before after = Closes TellsAccount s m before after
 
 -- The same up to a fault: a front of the lines of commands is written,
 pub record CommandsFront (s : ScriptView) (m : ManagerShown) (before after : Option (List ℕ)) : Type 0 where
@@ -71,32 +82,12 @@ pub record CommandsFront (s : ScriptView) (m : ManagerShown) (before after : Opt
 
 -- all of these and a front of the final lines,
 pub record LastFront (s : ScriptView) (m : ManagerShown) (before after : Option (List ℕ)) : Type 0 where
-  pub first : Scene
-  pub last : Scene
-  pub begins : Begins s m first
-  pub commands_done : Option (List ℕ)
-  pub told : ToldAll m s first last before commands_done
-  pub left : List PassShown
-  pub registers : List (List ℕ)
-  pub ended : AllEnded last.places (workers (length s.servers) left) registers
-  pub finals : FinalsFront s registers commands_done after
+  pub performed : Performed s m before
+  pub finals : FinalsFront s performed.registers performed.commands_done after
 
 -- or these too and a front of the account's line
-pub record ClosingFront (s : ScriptView) (m : ManagerShown) (before after : Option (List ℕ)) : Type 0 where
-  pub first : Scene
-  pub last : Scene
-  pub begins : Begins s m first
-  pub commands_done : Option (List ℕ)
-  pub told : ToldAll m s first last before commands_done
-  pub left : List PassShown
-  pub registers : List (List ℕ)
-  pub ended : AllEnded last.places (workers (length s.servers) left) registers
-  pub finals_done : Option (List ℕ)
-  pub finals : Appends commands_done finals_done (finals_of s registers)
-  pub keeper : KeeperShown
-  pub keeper' : KeeperShown
-  pub closed : List PassShown
-  pub account : AccountFront s.account (Accounts m.limits keeper keeper' left closed) finals_done after
+abbrev pub ClosingFront : ScriptView → ManagerShown → Option (List ℕ) → Option (List ℕ) → Type 0
+ClosingFront s m before after = Closes AccountFront s m before after
 
 -- where nothing could be made, nothing is written
 abbrev pub ReportedFront : ScriptView → Option (List ℕ) → Option (List ℕ) → Type 0

@@ -1,9 +1,8 @@
 -- Commands that have all free servers work: a race and a drain.
-use Rattle.std.specs.Prelude.{◌≡◌, ◌≤◌, ◌<◌, get_or, ℕ, ◌+◌, ◌*◌, Bool, true, false, ◌&&◌, not, is_some, List, [], ◌∷◌, Option, Some, None, drop, length, replicate, take}
+use Rattle.std.specs.Prelude.{◌≡◌, ◌≤◌, ◌<◌, get_or, ℕ, ◌+◌, ◌*◌, Bool, true, false, ◌&&◌, not, is_some, List, [], ◌∷◌, None, drop, length, replicate, take}
 use Rattle.std.specs.List.{AllZip}
 use Rattle.tp_model.specs.declared.types.Limits.{Limits}
 use Rattle.tp_manager.specs.Shown.{ManagerShown, PassShown}
-use Rattle.tp_desk.specs.declared.aside.Aside.{Aside}
 use Rattle.tp_workers.specs.declared.client.ClientJob.{ClientJob}
 use Rattle.tp_workers.specs.declared.killer.KillJob.{KillJob}
 use Rattle.tp_workers.specs.declared.tally.Shift.{Shift}
@@ -12,23 +11,16 @@ use Rattle.tp_workers.specs.Desks.{TakesTurns}
 use Rattle.tp_workers.specs.Desks as workers
 use Rattle.tp_workers.specs.Killers.{KillerRan}
 use Rattle.tp_workers.specs.Ran.{RanEach}
-use Rattle.tp_perform.specs.declared.place.Place.{Place}
+use Rattle.tp_commands.specs.declared.place.Place.{Place}
 use Rattle.tp_script.specs.declared.script.Race.{Race}
-use Rattle.tp_perform.specs.Acting.{PlaceShown, place_of}
+use Rattle.tp_commands.specs.Acting.{PlaceShown, place_of}
+use Rattle.tp_commands.specs.Places.{is_free_at}
 
 -- ---- desks
 
 -- whether a desk takes part: it wasn't dropped, and has nothing in hand
 abbrev pub is_free : PlaceShown → Bool
 is_free p = not p.is_dropped && not (is_some p.desk.work)
-
--- the same of a place
-abbrev pub has_none : {X : Type 0} {F : X → Type 0} → Option (Aside X F) → Bool
-has_none None = false
-has_none (Some aside) = not (is_some aside.work)
-
-abbrev pub is_free_at : {X : Type 0} {F : X → Type 0} → Place X F → Bool
-is_free_at place = not place.is_dropped && has_none place.aside
 
 -- none of the places from the one up to the other is free
 abbrev pub ArePassed : {X : Type 0} {F : X → Type 0} → ℕ → ℕ → List (Place X F) → Type 0

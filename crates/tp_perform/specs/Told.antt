@@ -1,5 +1,5 @@
 -- What the commands of a script are told, one after another: the line of each is that of its call's answer.
-use Rattle.std.specs.Prelude.{◌≡◌, ◌≤◌, ℕ, zero, suc, Bool, true, false, List, [], ◌∷◌, ◌++◌, All, Option, Some, None, length, slice_get, sum_by, take}
+use Rattle.std.specs.Prelude.{◌≡◌, ◌≤◌, ℕ, zero, suc, List, [], ◌∷◌, ◌++◌, All, Option, Some, length, slice_get, take}
 use Rattle.std.specs.Io.KnownBytes.{Appends}
 use Rattle.std.specs.declared.alloc.Global.{Global}
 use Rattle.std.specs.declared.dyn_box.DynBox.{DynBox}
@@ -7,7 +7,6 @@ use Rattle.tp_model.specs.declared.types.Limits.{Limits}
 use Rattle.tp_server.specs.declared.recipe.Recipe.{Recipe}
 use Rattle.tp_server.specs.Pending.{Pending}
 use Rattle.tp_manager.specs.Shown.{ManagerShown, PassShown}
-use Rattle.tp_desk.specs.Turns.{EndsOpen}
 use Rattle.tp_workers.specs.Drained.{EndsIdle}
 use Rattle.tp_report.specs.Answer.{answer_text, line, named_text}
 use Rattle.tp_report.specs.Written.{AppendsFront}
@@ -18,13 +17,13 @@ use Rattle.tp_script.specs.Script.{ScriptView, ServerView}
 use Rattle.tp_script.specs.declared.script.ClientAct.{ClientAct}
 use Rattle.tp_script.specs.declared.script.Command.{Command}
 use Rattle.tp_script.specs.declared.script.Command.TheVariants as command
-use Rattle.tp_perform.specs.declared.place.Place.{Place}
+use Rattle.tp_commands.specs.declared.place.Place.{Place}
 use Rattle.tp_script.specs.declared.script.DeskAct.{DeskAct}
-use Rattle.tp_perform.specs.Acting.{DoesIn, IsSteadyPlace, PlaceShown, new_places, places_shown}
-use Rattle.tp_perform.specs.Asked.{TellsClient}
+use Rattle.tp_commands.specs.Acting.{DoesIn, IsSteadyPlace, PlaceShown, new_places, places_shown}
+use Rattle.tp_commands.specs.Asked.{TellsClient}
 use Rattle.tp_script.specs.declared.script.Race.{Race}
-use Rattle.tp_perform.specs.Performing.{TellsBalance}
-use Rattle.tp_perform.specs.Places.{workers}
+use Rattle.tp_commands.specs.Registers.{TellsBalance, register_sum}
+use Rattle.tp_commands.specs.Places.{workers}
 use Rattle.tp_perform.specs.Together.{AllTakePart, Races}
 
 -- what is there while a script is performed: the client's pass, the places of desks, and the passes of races
@@ -77,21 +76,6 @@ pub record BalanceLine (servers : List ServerView) (at k : ℕ)
   pub named : slice_get servers at ≡ Some server
   pub tells : TellsBalance server.name k place.desk.registers place.is_dropped text
   pub same : new ≡ old
-
--- what a place adds to the sum of a register: its value, unless the desk was dropped or has no such register
-abbrev pub counted_value : Bool → Option ℕ → ℕ
-counted_value true value = 0
-counted_value false None = 0
-counted_value false (Some value) = value
-
--- the same of a server and its place
-abbrev pub value_at : {X : Type 0} {F : X → Type 0} → (DynBox X Global F → List ℕ) → ℕ
-    → DynBox X Global F × Place X F → ℕ
-value_at registers k (server, place) = counted_value place.is_dropped (slice_get (registers server) k)
-
--- the sum of a register over all places
-abbrev pub register_sum : ℕ → List PlaceShown → ℕ
-register_sum k places = sum_by (λ p. counted_value p.is_dropped (slice_get p.desk.registers k)) places
 
 -- the line tells how many submits of a race were accepted
 pub record RaceLine (m : ManagerShown) (rows : ℕ) (plan : Race)
@@ -156,14 +140,3 @@ module _ {X : Type 0} {F : X → Type 0} (recipe : DynBox X Global F → Recipe)
   abbrev pub IsFirstScene : List PassShown → List (DynBox X Global F) → Scene → Type 0
   IsFirstScene passes servers s = (passes ≡ s.client ∷ (workers (length servers) passes ++ s.racers))
       × (s.places ≡ new_places recipe registers pending (workers (length servers) passes) servers)
-
--- a desk is ended: what it had in hand is given up, and its registers stay
-pub record EndsAt (old : PlaceShown) (pass : PassShown) (registers : List ℕ) : Type 0 where
-  pub gives_up : EndsOpen old.desk.pass.open_unit old.desk.pass pass
-  pub same : registers ≡ old.desk.registers
-
--- so it is of each, for lists that are as long as each other
-abbrev pub AllEnded : List PlaceShown → List PassShown → List (List ℕ) → Type 0
-AllEnded [] [] [] = Unit {0}
-AllEnded (o ∷ os) (p ∷ ps) (r ∷ rs) = EndsAt o p r × AllEnded os ps rs
-AllEnded os ps rs = ⊥

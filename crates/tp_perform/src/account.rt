@@ -1,39 +1,16 @@
 //! The last line of a report that asks for it: the closing account.
 ghost use Rattle.std.specs.Prelude.{◌≡◌, IsErrOf, IsTrue, OnErr, OnOk, All};
-ghost use Rattle.std.specs.Io.KnownBytes.{Appends};
 ghost use Rattle.tp_manager.specs.Accounts.{Accounts, AreAll};
 ghost use Rattle.tp_manager.specs.Shown.{IsKeptBy, IsOf};
-ghost use Rattle.tp_report.specs.Answer.{account_text, line};
 ghost use Rattle.tp_report.specs.Lines.{Writes, WritesFront};
-ghost use Rattle.tp_report.specs.Written.{AppendsFront};
 ghost use Rattle.tp_perform.specs.Ending.{AccountFront, TellsAccount};
 ghost use Rattle.tp_perform.specs.Performing.{account_count};
 ghost use Rattle.tp_script.specs.Script.{script_view};
 
 use std::alloc::Global;
 use tp_manager::{Keeper, Manager, Pass};
-use tp_model::types::Account;
-use tp_report::{Answer, RunFault, Sink, line, write_all};
+use tp_report::{RunFault, Sink, account_line};
 use tp_script::Script;
-
-/// Writes the line of the closing account: how many elements are born, and how many of them stand in each way.
-pub fn account_line<W: Sink>(
-    alloc: Global,
-    account: &Account,
-    writer: &mut W,
-) -> Result<(), RunFault>
-    ensures done { OnOk result (Appends (W.contents writer.old) (W.contents writer.new)
-        (line (account_text account.now.total))) }
-    ensures front { OnErr result (AppendsFront (W.contents writer.old) (W.contents writer.new)
-        (line (account_text account.now.total))) }
-    ensures line { OnOk result (Writes 1 (W.contents writer.old) (W.contents writer.new)) }
-    ensures line_front { OnErr result (WritesFront 1 (W.contents writer.old) (W.contents writer.new)) }
-    ensures write { IsErrOf result RunFault.Write → IsTrue (W.has_failed writer.new) }
-{
-    let text = line(alloc, Answer::Account(account.total))?;
-    write_all(writer, text.as_bytes())?;
-    Ok(())
-}
 
 /// Writes the closing account, if the script asks for it. The passes are all that the keeper gave out.
 pub(crate) fn close<W: Sink>(

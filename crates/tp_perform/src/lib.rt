@@ -2,12 +2,8 @@
 #![tactic(auto)]
 
 pub mod account;
-mod client;
-mod desks;
 pub mod finals;
-mod lines;
 pub mod perform;
-mod place;
 mod program;
 mod racing;
 pub mod serve;

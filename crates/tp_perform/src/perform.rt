@@ -3,20 +3,18 @@ ghost use Rattle.std.specs.Prelude.{◌≡◌, None, All, IfOk, IsErrOf, IsTrue,
 ghost use Rattle.tp_manager.specs.Shown.{IsOf};
 ghost use Rattle.tp_workers.specs.Free.{IsFreePass, numbers};
 ghost use Rattle.tp_report.specs.Lines.{IsLine, Writes, WritesFront};
-ghost use Rattle.tp_perform.specs.Told.{AllEnded, IsFirstScene, Scene, TellsCommand, ToldAll, ToldFront, scene};
-ghost use Rattle.tp_perform.specs.Places.{AllLeft, AllLie, all_firsts, firsts, workers};
+ghost use Rattle.tp_perform.specs.Told.{IsFirstScene, Scene, TellsCommand, ToldAll, ToldFront, scene};
+ghost use Rattle.tp_commands.specs.Acting.{AllEnded};
+ghost use Rattle.tp_commands.specs.Places.{AllLeft, AllLie, all_firsts, firsts, workers};
 ghost use Rattle.tp_script.specs.Passes.{racers as racers_of, racing};
 ghost use Rattle.tp_script.specs.Ranges.{IsInRange};
 ghost use Rattle.tp_script.specs.Script.{passes as passes_of, script_view};
 
-use crate::client::client_line;
-use crate::desks::desk_line;
-use crate::lines::{balance_line, sum};
-use crate::place::{Place, end_all, places_for};
 use crate::racing::{drain_all, run_race};
 use std::alloc::{AllocError, Global};
 use std::string::String;
 use std::thread::Threads;
+use tp_commands::{Place, balance_line, client_line, desk_line, end_all, places_for, sum};
 use tp_manager::{Manager, Pass};
 use tp_report::{Answer, RunFault, Sink, line, write_all};
 use tp_script::{Command, Script};

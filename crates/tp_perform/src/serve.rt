@@ -36,13 +36,7 @@ pub fn serve<R: Threads + Sync, W: Sink>(
     ensures front { OnErr result (WritesFront (line_count (script_view script.now)) (W.contents writer.old) (W.contents writer.new)) }
     ensures write { IsErrOf result RunFault.Write → IsTrue (W.has_failed writer.new) }
 {
-    let limits = Limits {
-        parts: script.passes(),
-        rows: script.settings.rows,
-        units: script.settings.units,
-        attempts: script.settings.attempts,
-    };
-    match Keeper::new(alloc, limits) {
+    match Keeper::new(alloc, limits_of(script)) {
         Ok((manager, mut keeper)) => {
             let mut passes = all_passes(alloc, &manager, &mut keeper)?;
             serve_by(
@@ -58,6 +52,18 @@ pub fn serve<R: Threads + Sync, W: Sink>(
         Err(MakeFault::NoMemory) => Err(RunFault::NoMemory),
         Err(MakeFault::BadLimits) => unreachable!(),
         Err(MakeFault::NoPart) => unreachable!(),
+    }
+}
+
+/// The limits of the manager that a script needs.
+fn limits_of(script: &Script) -> Limits
+    ensures { result ≡ limits_of (script_view script.now) }
+{
+    Limits {
+        parts: script.passes(),
+        rows: script.settings.rows,
+        units: script.settings.units,
+        attempts: script.settings.attempts,
     }
 }
 

@@ -2,9 +2,9 @@ use Rattle.std.proofs.Common.{arith, refl, ap, ◌∙◌}
 use Rattle.std.proofs.lemmas.Result.{IfOk-weaker}
 use Rattle.tp_report.specs.Answer.{answer_text, line}
 use Rattle.tp_report.specs.declared.answer.Answer.TheVariants as answer
-use Rattle.tp_perform.proofs.Shows.{shown_sum}
+use Rattle.tp_commands.proofs.Shows.{shown_sum}
 use Rattle.std.specs.Prelude.{string_bytes}
-use Rattle.tp_perform.proofs.Lies.{lie_servers}
+use Rattle.tp_commands.proofs.Lies.{lie_servers}
 use Rattle.tp_perform.proofs.Tellings.{balance_told, client_told, server_told}
 use Rattle.tp_perform.proofs.perform.command_line.Goals as goal
 

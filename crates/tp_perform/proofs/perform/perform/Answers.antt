@@ -3,12 +3,12 @@ use Rattle.std.proofs.lemmas.Result.{on_err_weaker, on_ok_weaker}
 use Rattle.std.proofs.lemmas.List.Elements.{All-weaker}
 use Rattle.tp_manager.specs.Shown.{IsOf}
 use Rattle.tp_workers.specs.Free.{IsFreePass}
-use Rattle.tp_perform.specs.Acting.{places_shown}
-use Rattle.tp_perform.specs.Places.{firsts}
-use Rattle.tp_perform.proofs.Alls.{all_parts}
+use Rattle.tp_commands.specs.Acting.{places_shown}
+use Rattle.tp_commands.specs.Places.{firsts}
+use Rattle.tp_commands.proofs.Alls.{all_parts}
 use Rattle.tp_perform.proofs.Chains.{ended_in, is_first}
-use Rattle.tp_perform.proofs.Lefts.{left_in, numbers_in}
-use Rattle.tp_perform.proofs.Lies.{lie_servers}
+use Rattle.tp_commands.proofs.Lefts.{left_in, numbers_in}
+use Rattle.tp_commands.proofs.Lies.{lie_servers}
 use Rattle.tp_perform.proofs.perform.perform.Goals as goal
 
 pub places_for-places-requires-clause-free : goal.places_for-places-requires-clause-free

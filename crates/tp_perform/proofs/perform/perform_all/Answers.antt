@@ -10,9 +10,9 @@ use Rattle.tp_script.specs.declared.script.Command.TheVariants.{Client}
 use Rattle.tp_script.specs.declared.script.ClientAct.TheVariants.{Submit}
 use Rattle.tp_manager.specs.Shown.{PassShown}
 use Rattle.tp_workers.specs.Free.{IsFreePass}
-use Rattle.tp_perform.proofs.Alls.{racing_next}
+use Rattle.tp_commands.proofs.Alls.{racing_next}
 use Rattle.tp_perform.proofs.Chains.{all_steady, racing_more, told_next}
-use Rattle.tp_perform.proofs.Lefts.{same_within}
+use Rattle.tp_commands.proofs.Lefts.{same_within}
 use Rattle.tp_perform.proofs.perform.perform_all.Goals as goal
 
 pub returns-in_err-line-clause-racers : goal.returns-in_err-line-clause-racers

@@ -6,7 +6,7 @@ use Rattle.tp_script.specs.Passes.{racing}
 use Rattle.tp_script.specs.Script.{script_view}
 use Rattle.tp_report.specs.Lines.{Writes}
 use Rattle.tp_workers.specs.Free.{IsFreePass, numbers}
-use Rattle.tp_perform.specs.Places.{AllLie, firsts}
+use Rattle.tp_commands.specs.Places.{AllLie, firsts}
 use Rattle.tp_perform.specs.Told.{Told, scene}
 use Rattle.tp_perform.proofs.perform.perform_all.Given as goal
 

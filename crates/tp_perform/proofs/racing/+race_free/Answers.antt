@@ -1,9 +1,10 @@
 use Rattle.std.proofs.Common.{◌≡◌, ◌<◌, length, sym, true, arith}
-use Rattle.tp_perform.specs.Places.{first_of}
-use Rattle.tp_perform.specs.Together.{TakesPart, TookTurns, is_free, is_free_at}
+use Rattle.tp_commands.specs.Places.{first_of}
+use Rattle.tp_perform.specs.Together.{TakesPart, TookTurns, is_free}
+use Rattle.tp_commands.specs.Places.{is_free_at}
 use Rattle.tp_perform.proofs.Parts.{parts_back, passed_swapped, shown_length}
-use Rattle.tp_perform.proofs.Lefts.{kept_between}
-use Rattle.tp_perform.proofs.Lies.{free_more}
+use Rattle.tp_commands.proofs.Lefts.{kept_between}
+use Rattle.tp_commands.proofs.Lies.{free_more}
 use Rattle.tp_perform.proofs.racing.+race_free.Goals as goal
 
 pub race_free-submitted-requires-clause-free : goal.race_free-submitted-requires-clause-free

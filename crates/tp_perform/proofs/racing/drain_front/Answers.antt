@@ -4,8 +4,8 @@ use Rattle.std.proofs.lemmas.List.Elements.{All-append, All-drop, All-take, All-
 use Rattle.tp_manager.specs.Shown.{IsOf}
 use Rattle.tp_workers.specs.Free.{IsFreePass}
 use Rattle.tp_workers.specs.Drained.{DeskDrained, EndsIdle}
-use Rattle.tp_perform.specs.Places.{AllLie}
-use Rattle.tp_perform.proofs.Lies.{lie_append, lie_back, lie_clear, lie_free, lie_front, lie_passes, lie_servers, lie_worked}
+use Rattle.tp_commands.specs.Places.{AllLie}
+use Rattle.tp_commands.proofs.Lies.{lie_append, lie_back, lie_clear, lie_free, lie_front, lie_passes, lie_servers, lie_worked}
 use Rattle.tp_perform.proofs.Parts.{all_free, parts_front, passed_behind}
 use Rattle.tp_perform.proofs.racing.drain_front.Goals as goal
 

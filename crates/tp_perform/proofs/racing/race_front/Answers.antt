@@ -9,8 +9,8 @@ use Rattle.tp_workers.specs.Killers.{KillerRan}
 use Rattle.tp_workers.specs.Ran.{RanEach}
 use Rattle.tp_workers.specs.Sums.{client_part, killer_part}
 use Rattle.tp_perform.specs.Together.{TookTurns}
-use Rattle.tp_perform.specs.Places.{AllLie}
-use Rattle.tp_perform.proofs.Lies.{lie_append, lie_back, lie_clear, lie_free, lie_front, lie_passes, lie_servers, lie_worked}
+use Rattle.tp_commands.specs.Places.{AllLie}
+use Rattle.tp_commands.proofs.Lies.{lie_append, lie_back, lie_clear, lie_free, lie_front, lie_passes, lie_servers, lie_worked}
 use Rattle.tp_perform.proofs.Parts.{all_free, parts_front, passed_behind}
 use Rattle.tp_perform.proofs.racing.race_front.Goals as goal
 

@@ -1,7 +1,7 @@
 use Rattle.std.proofs.Common.{arith}
 use Rattle.tp_manager.specs.Shown.{IsOf}
-use Rattle.tp_perform.proofs.Alls.{all_swap}
-use Rattle.tp_perform.proofs.Lies.{lie_passes, lie_servers, lie_swap}
+use Rattle.tp_commands.proofs.Alls.{all_swap}
+use Rattle.tp_commands.proofs.Lies.{lie_passes, lie_servers, lie_swap}
 use Rattle.tp_perform.proofs.Parts.{shown_swap}
 use Rattle.tp_perform.proofs.racing.swap_places.Goals as goal
 

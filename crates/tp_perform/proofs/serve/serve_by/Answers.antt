@@ -2,7 +2,7 @@ use Rattle.std.proofs.Common.{◌≡◌, ◌∙◌, inl, inr, arith, length, rul
 use Rattle.std.proofs.lemmas.List.{length-map}
 use Rattle.std.proofs.lemmas.Result.{on_err_weaker, on_ok_weaker}
 use Rattle.tp_script.specs.Script.{script_view, server_view}
-use Rattle.tp_perform.proofs.Beginnings.{begins_of, closing_front_of, finals_front_of, reported_of}
+use Rattle.tp_perform.proofs.Beginnings.{begins_of, performed_of}
 use Rattle.tp_report.proofs.Devices.{always_err}
 use Rattle.tp_report.proofs.LineProofs.{err_then, front_fewer, lines_then, lines_then_front, ok_then}
 use Rattle.tp_perform.proofs.Everyone.{all_same}
@@ -29,8 +29,16 @@ returns-clause-told g c =
     let count : length c.settle.new.servers ≡ length c.args.script.now.servers.items = search rules in
     let many = count ∙ sym (length-map c.args.script.now.servers.items server_view) in
     let begins = begins_of _ _ _ (script_view c.args.script.now) c.args.manager.now c.args.passes.now _ commands.0 commands.2 many c.requires.limits c.requires.enough c.requires.given.1 c.requires.passes c.requires.new in
-    on_ok_weaker c.close.result (reported_of (script_view c.args.script.now) c.args.manager.now commands.0 commands.1 (g.W.Sink.contents c.args.writer.now) (g.W.Sink.contents c.perform.new.writer) (g.W.Sink.contents c.finals.new.writer)
-    (g.W.Sink.contents c.close.new.writer) c.perform.new.passes c.close.new.passes _ c.args.keeper.now c.close.new.keeper _ begins many commands.3 commands.4 c.in_ok-finals.ensures.told) c.close.ensures.told
+    let performed = performed_of (script_view c.args.script.now) c.args.manager.now commands.0 commands.1 (g.W.Sink.contents c.args.writer.now) (g.W.Sink.contents c.perform.new.writer) c.perform.new.passes _ _ begins many commands.3 commands.4 in
+    on_ok_weaker c.close.result (λ account. record {
+      performed = performed;
+      finals_done = g.W.Sink.contents c.finals.new.writer;
+      finals = c.in_ok-finals.ensures.told;
+      keeper = c.args.keeper.now;
+      keeper' = c.close.new.keeper;
+      closed = c.close.new.passes;
+      account = account;
+    }) c.close.ensures.told
 
 pub returns-in_err-perform-clause-told_front : goal.returns-in_err-perform-clause-told_front
 returns-in_err-perform-clause-told_front g c =
@@ -46,11 +54,8 @@ returns-in_err-finals-clause-told_front g c =
     let count : length c.settle.new.servers ≡ length c.args.script.now.servers.items = search rules in
     let many = count ∙ sym (length-map c.args.script.now.servers.items server_view) in
     let begins = begins_of _ _ _ (script_view c.args.script.now) c.args.manager.now c.args.passes.now _ commands.0 commands.2 many c.requires.limits c.requires.enough c.requires.given.1 c.requires.passes c.requires.new in
-    always_err c.from_residual-in_err-finals.result (inr (
-      c.args.manager.now,
-      inr (inl (finals_front_of (script_view c.args.script.now) c.args.manager.now commands.0 commands.1 (g.W.Sink.contents c.args.writer.now) (g.W.Sink.contents c.perform.new.writer) (g.W.Sink.contents c.finals.new.writer)
-          c.perform.new.passes _ _ begins many commands.3 commands.4 c.in_err-finals.ensures.told_front)),
-    ))
+    let performed = performed_of (script_view c.args.script.now) c.args.manager.now commands.0 commands.1 (g.W.Sink.contents c.args.writer.now) (g.W.Sink.contents c.perform.new.writer) c.perform.new.passes _ _ begins many commands.3 commands.4 in
+    always_err c.from_residual-in_err-finals.result (inr (c.args.manager.now, inr (inl (record { performed = performed; finals = c.in_err-finals.ensures.told_front }))))
 
 pub returns-clause-told_front : goal.returns-clause-told_front
 returns-clause-told_front g c =
@@ -58,5 +63,16 @@ returns-clause-told_front g c =
     let count : length c.settle.new.servers ≡ length c.args.script.now.servers.items = search rules in
     let many = count ∙ sym (length-map c.args.script.now.servers.items server_view) in
     let begins = begins_of _ _ _ (script_view c.args.script.now) c.args.manager.now c.args.passes.now _ commands.0 commands.2 many c.requires.limits c.requires.enough c.requires.given.1 c.requires.passes c.requires.new in
-    on_err_weaker c.close.result (closing_front_of (script_view c.args.script.now) c.args.manager.now commands.0 commands.1 (g.W.Sink.contents c.args.writer.now) (g.W.Sink.contents c.perform.new.writer) (g.W.Sink.contents c.finals.new.writer)
-    (g.W.Sink.contents c.close.new.writer) c.perform.new.passes c.close.new.passes _ c.args.keeper.now c.close.new.keeper _ begins many commands.3 commands.4 c.in_ok-finals.ensures.told) c.close.ensures.told_front
+    let performed = performed_of (script_view c.args.script.now) c.args.manager.now commands.0 commands.1 (g.W.Sink.contents c.args.writer.now) (g.W.Sink.contents c.perform.new.writer) c.perform.new.passes _ _ begins many commands.3 commands.4 in
+    on_err_weaker c.close.result (λ account. inr (
+      c.args.manager.now,
+      inr (inr (record {
+        performed = performed;
+        finals_done = g.W.Sink.contents c.finals.new.writer;
+        finals = c.in_ok-finals.ensures.told;
+        keeper = c.args.keeper.now;
+        keeper' = c.close.new.keeper;
+        closed = c.close.new.passes;
+        account = account;
+      })),
+    )) c.close.ensures.told_front

@@ -1,0 +1,19 @@
+use Rattle.std.proofs.Common.{◌≡◌, ◌-◌, ◌++◌, ℕ, List}
+use Rattle.tp_model.specs.Steps.{rows_of}
+use Rattle.tp_manager.specs.Shown.{PassShown}
+use Rattle.tp_workers.specs.Free.{IsFreePass}
+use Rattle.tp_commands.specs.Asked.{TellsErrors}
+use Rattle.tp_commands.proofs.client.errors.Given as goal
+
+abbrev pub invariant-loop-from : goal.invariant-loop-from
+invariant-loop-from l = record {
+  free : IsFreePass l.manager l.client;
+  number : l.client.number ≡ l.initial.client.number;
+  capacity : l.capacity ≡ rows_of l.manager.limits;
+  -- what is found from here on stands behind what was found
+  found : (more : List ℕ) (last : PassShown) → TellsErrors l.manager.limits l.from l.client more last
+      → TellsErrors l.manager.limits 0 l.fn.client (l.parked.items ++ more) last;
+}
+
+abbrev pub decreases-loop-from : goal.decreases-loop-from
+decreases-loop-from l = l.capacity - l.from

@@ -1,0 +1,248 @@
+-- What a command on a server is answered, and what its desk did for it. `old` is what the desk shows before the
+-- command, and `new` what it shows after it.
+use Rattle.std.specs.Prelude.{◌≡◌, ℕ, Bool, true, false, List, [], ◌∷◌, Option, Some, None, IfSome, IsSome, slice_get, slice_set}
+use Rattle.std.specs.Option.{option_map}
+use Rattle.std.specs.declared.alloc.Global.{Global}
+use Rattle.std.specs.declared.dyn_box.DynBox.{DynBox}
+use Rattle.tp_model.specs.Drafts.{DraftView}
+use Rattle.tp_model.specs.declared.types.Claimed.{Claimed}
+use Rattle.tp_model.specs.declared.types.Claimed.TheVariants as claimeds
+use Rattle.tp_model.specs.declared.types.Ended.{Ended}
+use Rattle.tp_model.specs.declared.types.Ended.TheVariants as endeds
+use Rattle.tp_model.specs.declared.types.Limits.{Limits}
+use Rattle.tp_model.specs.declared.types.Work.{Work}
+use Rattle.tp_server.specs.declared.recipe.Recipe.{Recipe}
+use Rattle.tp_server.specs.Pending.{Pending}
+use Rattle.tp_manager.specs.Bounds.{abort_steps, claim_steps, commit_steps}
+use Rattle.tp_manager.specs.Calls.{Claims, Ends, Follows}
+use Rattle.tp_manager.specs.Shown.{PassShown}
+use Rattle.tp_desk.specs.declared.aside.Aside.{Aside}
+use Rattle.tp_desk.specs.declared.desk.Desk.{Desk}
+use Rattle.tp_desk.specs.declared.turned.Turned.{Turned}
+use Rattle.tp_desk.specs.declared.turned.Turned.TheVariants as turneds
+use Rattle.tp_desk.specs.InHand.{IsSteady, work_of}
+use Rattle.tp_desk.specs.Steady.{shown}
+use Rattle.tp_desk.specs.Turns.{EndsOpen, WorksOff}
+use Rattle.tp_report.specs.declared.answer.ServerAnswer.{ServerAnswer}
+use Rattle.tp_report.specs.declared.answer.ServerAnswer.TheVariants as told
+use Rattle.tp_workers.specs.Desks.{TakesTurn}
+use Rattle.tp_workers.specs.Desks as workers
+use Rattle.tp_script.specs.declared.script.DeskAct.{DeskAct}
+use Rattle.tp_script.specs.declared.script.DeskAct.TheVariants as acts
+use Rattle.tp_commands.specs.declared.place.Place.{Place}
+
+-- ---- what is shown
+
+-- a desk shows what its pass and its server show, and the work that it has in hand
+pub record DeskShown : Type 0 where
+  pub pass : PassShown
+  pub recipe : Recipe
+  pub registers : List ℕ
+  pub pending : Option Pending
+  pub work : Option Work
+
+-- a place shows its desk, what its pass and its registers were as that began, and whether it was dropped
+pub record PlaceShown : Type 0 where
+  pub desk : DeskShown
+  pub began : Option (PassShown × List ℕ)
+  pub is_dropped : Bool
+
+-- the desk is steady: its registers are the fold of what it has committed since it began
+abbrev pub IsSteadyPlace : PlaceShown → Type 0
+IsSteadyPlace p = IfSome p.began (λ began. let d = p.desk in
+    (drafts : List DraftView) × IsSteady d.recipe d.registers d.pending began.1 began.0 d.pass d.work drafts)
+
+-- what was laid aside
+abbrev pub work_in : {X : Type 0} {F : X → Type 0} → Option (Aside X F) → Option Work
+work_in None = None
+work_in (Some aside) = aside.work
+
+module _ {X : Type 0} {F : X → Type 0} (recipe : DynBox X Global F → Recipe)
+    (registers : DynBox X Global F → List ℕ) (pending : DynBox X Global F → Option Pending) where
+  -- a desk that begins
+  abbrev pub new_place : PassShown → DynBox X Global F → PlaceShown
+  new_place pass server = record {
+    desk = record {
+      pass = pass;
+      recipe = recipe server;
+      registers = registers server;
+      pending = pending server;
+      work = None;
+    };
+    began = Some (pass, registers server);
+    is_dropped = false;
+  }
+
+  -- one for each pass and its server
+  abbrev pub new_places : List PassShown → List (DynBox X Global F) → List PlaceShown
+  new_places (p ∷ ps) (s ∷ ss) = new_place p s ∷ new_places ps ss
+  new_places ps ss = []
+
+  -- a desk that lies aside
+  abbrev pub place_shown : PassShown → DynBox X Global F → Place X F → PlaceShown
+  place_shown pass server place = record {
+    desk = record {
+      pass = pass;
+      recipe = recipe server;
+      registers = registers server;
+      pending = pending server;
+      work = work_in place.aside;
+    };
+    began = option_map (λ a. (a.first_pass.value, registers a.first_server.value)) place.aside;
+    is_dropped = place.is_dropped;
+  }
+
+  -- all of them
+  abbrev pub places_shown : List PassShown → List (DynBox X Global F) → List (Place X F) → List PlaceShown
+  places_shown (p ∷ ps) (s ∷ ss) (o ∷ os) = place_shown p s o ∷ places_shown ps ss os
+  places_shown ps ss os = []
+
+-- the desk at work. Where no box is in sight, a server's members are told of a pair.
+module _ {X : Type 0} {F : X → Type 0} (recipe : (x : X) × F x → Recipe) (registers : (x : X) × F x → List ℕ)
+    (pending : (x : X) × F x → Option Pending) where
+  abbrev pub desk_shown : Desk X F → DeskShown
+  desk_shown d = record {
+    pass = d.pass.now;
+    recipe = shown recipe d.server.now;
+    registers = shown registers d.server.now;
+    pending = shown pending d.server.now;
+    work = d.work;
+  }
+
+-- ---- what is done
+
+-- what a pass and its server show of a desk
+abbrev pub place_of : DeskShown → workers.Place
+place_of d = record { pass = d.pass; recipe = d.recipe; registers = d.registers }
+
+-- the server is as it was
+abbrev pub IsSameServer : DeskShown → DeskShown → Type 0
+IsSameServer old new = (new.recipe ≡ old.recipe) × (new.registers ≡ old.registers)
+
+-- a turn
+abbrev pub TellsTurn : Limits → DeskShown → ServerAnswer → DeskShown → Type 0
+TellsTurn l old (told.Turned turned) new =
+    (old.work ≡ None) × TakesTurn l (place_of old) turned (place_of new) × (new.work ≡ None)
+TellsTurn l old told.Busy new = IsSome old.work × (new ≡ old)
+TellsTurn l old other new = ⊥
+
+-- a claim that had this answer
+pub record ClaimsAt (l : Limits) (claimed : Claimed) (old new : DeskShown) : Type 0 where
+  pub idle : old.work ≡ None
+  pub follows : Follows (claim_steps l) old.pass new.pass
+  pub answer : Claims l old.recipe.stage old.pass new.pass claimed
+  pub work : new.work ≡ work_of claimed
+  pub server : IsSameServer old new
+
+abbrev pub TellsClaim : Limits → DeskShown → ServerAnswer → DeskShown → Type 0
+TellsClaim l old (told.Work element unit attempt) new = (work : Work)
+    × ClaimsAt l (claimeds.Work work) old new × (element ≡ work.element.id) × (unit ≡ work.unit) × (attempt ≡ work.attempt)
+TellsClaim l old (told.Turned turneds.Idle) new = ClaimsAt l claimeds.Idle old new
+TellsClaim l old (told.Turned turneds.NoUnit) new = ClaimsAt l claimeds.NoUnit old new
+TellsClaim l old told.Busy new = IsSome old.work × (new ≡ old)
+TellsClaim l old other new = ⊥
+
+-- the work in hand came to this, and nothing is in hand any more
+pub record WorksOffAt (turned : Turned) (old new : DeskShown) : Type 0 where
+  pub work : Work
+  pub in_hand : old.work ≡ Some work
+  pub follows : Follows (commit_steps 4) old.pass new.pass
+  pub answer : WorksOff old.recipe old.registers work old.pass new.pass turned
+  pub none_left : new.work ≡ None
+  pub recipe_is : new.recipe ≡ old.recipe
+
+-- the work in hand, which wasn't prepared, is prepared now
+pub record PreparesAt (old new : DeskShown) : Type 0 where
+  pub in_hand : IsSome old.work
+  pub unprepared : old.pending ≡ None
+  pub prepared : IsSome new.pending
+  pub work : new.work ≡ old.work
+  pub pass : new.pass ≡ old.pass
+  pub server : IsSameServer old new
+
+-- a prepare, which gives up what the recipe declines
+abbrev pub TellsPrepare : DeskShown → ServerAnswer → DeskShown → Type 0
+TellsPrepare old told.Ready new = PreparesAt old new
+TellsPrepare old (told.Turned (turneds.Refused element why)) new =
+    (old.pending ≡ None) × WorksOffAt (turneds.Refused element why) old new
+TellsPrepare old told.Busy new = IsSome old.work × IsSome old.pending × (new ≡ old)
+TellsPrepare old told.NoneOpen new = (old.work ≡ None) × (new ≡ old)
+TellsPrepare old other new = ⊥
+
+-- a commit, of work that is prepared first where it wasn't
+abbrev pub TellsCommit : DeskShown → ServerAnswer → DeskShown → Type 0
+TellsCommit old (told.Turned turned) new = WorksOffAt turned old new
+TellsCommit old told.NoneOpen new = (old.work ≡ None) × (new ≡ old)
+TellsCommit old other new = ⊥
+
+-- an abort of the unit that holds this element, with this answer
+pub record AbortsAt (ended : Ended) (element : ℕ) (old new : DeskShown) : Type 0 where
+  pub work : Work
+  pub in_hand : old.work ≡ Some work
+  pub element_is : element ≡ work.element.id
+  pub follows : Follows abort_steps old.pass new.pass
+  pub answer : Ends old.pass new.pass ended
+  pub none_left : new.work ≡ None
+  pub server : IsSameServer old new
+
+abbrev pub TellsAbort : DeskShown → ServerAnswer → DeskShown → Type 0
+TellsAbort old (told.Aborted element) new = AbortsAt endeds.Aborted element old new
+TellsAbort old (told.Already element) new = AbortsAt endeds.Already element old new
+TellsAbort old told.NoneOpen new = (old.work ≡ None) × (new ≡ old)
+TellsAbort old other new = ⊥
+
+-- a drop gives up what is in hand
+pub record DropsAt (old new : DeskShown) : Type 0 where
+  pub gives_up : EndsOpen old.pass.open_unit old.pass new.pass
+  pub follows : IfSome old.pass.open_unit (λ _. Follows abort_steps old.pass new.pass)
+  pub none_left : new.work ≡ None
+  pub server : IsSameServer old new
+
+abbrev pub TellsDrop : DeskShown → ServerAnswer → DeskShown → Type 0
+TellsDrop old told.Dropped new = DropsAt old new
+TellsDrop old other new = ⊥
+
+-- what a desk was asked
+abbrev pub Does : Limits → DeskAct → DeskShown → ServerAnswer → DeskShown → Type 0
+Does l acts.Turn old a new = TellsTurn l old a new
+Does l acts.Claim old a new = TellsClaim l old a new
+Does l acts.Prepare old a new = TellsPrepare old a new
+Does l acts.Commit old a new = TellsCommit old a new
+Does l acts.Abort old a new = TellsAbort old a new
+Does l acts.Drop old a new = TellsDrop old a new
+
+-- whether it is dropped by that
+abbrev pub is_drop : DeskAct → Bool
+is_drop acts.Drop = true
+is_drop other = false
+
+-- it did so, unless it was dropped before
+abbrev pub DoesUnless : Bool → Limits → DeskAct → PlaceShown → ServerAnswer → PlaceShown → Type 0
+DoesUnless true l act old a new = (a ≡ told.Ended) × (new ≡ old)
+DoesUnless false l act old a new =
+    Does l act old.desk a new.desk × (new.began ≡ old.began) × (new.is_dropped ≡ is_drop act)
+
+abbrev pub DoesAt : Limits → DeskAct → PlaceShown → ServerAnswer → PlaceShown → Type 0
+DoesAt l act old a new = DoesUnless old.is_dropped l act old a new
+
+-- the desk at one of the places did so, and the others are as they were
+pub record DoesIn (l : Limits) (act : DeskAct) (at : ℕ)
+    (olds : List PlaceShown) (a : ServerAnswer) (news : List PlaceShown) : Type 0 where
+  pub old : PlaceShown
+  pub there : slice_get olds at ≡ Some old
+  pub new : PlaceShown
+  pub does : DoesAt l act old a new
+  pub others : news ≡ slice_set olds at new
+
+-- ---- the end
+
+-- a desk is ended: what it had in hand is given up, and its registers stay
+pub record EndsAt (old : PlaceShown) (pass : PassShown) (registers : List ℕ) : Type 0 where
+  pub gives_up : EndsOpen old.desk.pass.open_unit old.desk.pass pass
+  pub same : registers ≡ old.desk.registers
+
+-- so it is of each, for lists that are as long as each other
+abbrev pub AllEnded : List PlaceShown → List PassShown → List (List ℕ) → Type 0
+AllEnded [] [] [] = Unit {0}
+AllEnded (o ∷ os) (p ∷ ps) (r ∷ rs) = EndsAt o p r × AllEnded os ps rs
+AllEnded os ps rs = ⊥

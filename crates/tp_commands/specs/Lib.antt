@@ -1,0 +1,4 @@
+pub mod Places
+pub mod Acting
+pub mod Asked
+pub mod Registers

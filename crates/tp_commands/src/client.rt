@@ -1,0 +1,230 @@
+//! What the script's own client asks of the manager, through its pass.
+ghost use Rattle.std.specs.Prelude.{◌≡◌, ◌-◌, ◌<◌, ◌^◌, ℕ, List, IfOk, string_bytes};
+ghost use Rattle.tp_model.specs.declared.types.Element.{Element};
+ghost use Rattle.tp_model.specs.Accounts.{all_in, one_more};
+ghost use Rattle.tp_model.specs.Steps.{rows_of};
+ghost use Rattle.tp_report.specs.Answer.{errors_text, line, replies_text};
+ghost use Rattle.tp_report.specs.Lines.{IsLine};
+ghost use Rattle.tp_report.specs.declared.answer.Answer.{Answer};
+ghost use Rattle.tp_workers.specs.Free.{IsFreePass};
+ghost use Rattle.tp_commands.specs.Asked.{TellsCancel, TellsClient, TellsCount, TellsErrors, TellsKill, TellsRead, TellsReplies, TellsRequeue, TellsSubmit, is_reply, reply_in};
+
+use std::alloc::{AllocError, Global};
+use std::string::String;
+use tp_manager::{Manager, Pass};
+use tp_model::types::{Counts, Element, Look, Status};
+use tp_report::{Answer, line};
+use tp_script::ClientAct;
+
+/// Has the client do what is asked, and answers the line of its answer.
+pub fn client_line(
+    alloc: Global,
+    manager: &Manager,
+    client: &mut Pass,
+    act: ClientAct,
+) -> Result<String, AllocError>
+    requires { IsFreePass manager.now client.old }
+    ensures free { IsFreePass manager.now client.new }
+    ensures number { client.new.number ≡ client.old.number }
+    ensures tells { IfOk result (λ text.
+        TellsClient manager.now.limits act client.old (string_bytes text) client.new) }
+    ensures line { IfOk result (λ text. IsLine (string_bytes text)) }
+{
+    match act {
+        ClientAct::Submit { stage, key, amount } => {
+            line(alloc, submit(manager, client, stage, key, amount))
+        }
+        ClientAct::Kill { id } => line(alloc, kill(manager, client, id)),
+        ClientAct::Cancel { root } => line(alloc, cancel(manager, client, root)),
+        ClientAct::Requeue { id } => line(alloc, requeue(manager, client, id)),
+        ClientAct::Read { id } => line(alloc, read(manager, client, id)),
+        ClientAct::Reply { root } => replies(alloc, manager, client, root),
+        ClientAct::Errors => errors(alloc, manager, client),
+        ClientAct::Count => line(alloc, Answer::Count(count(manager, client))),
+    }
+}
+
+/// `submit STAGE KEY AMOUNT`
+fn submit(manager: &Manager, client: &mut Pass, stage: u8, key: u64, amount: u64) -> Answer<'static>
+    requires { IsFreePass manager.now client.old }
+    ensures free { IsFreePass manager.now client.new }
+    ensures number { client.new.number ≡ client.old.number }
+    ensures tells { TellsSubmit stage key amount client.old client.new result }
+{
+    match manager.submit(client, stage, key, amount) {
+        Ok(id) => Answer::Submitted { id },
+        Err(why) => Answer::Refused(why),
+    }
+}
+
+/// `kill ID`
+fn kill(manager: &Manager, client: &mut Pass, id: u32) -> Answer<'static>
+    requires { IsFreePass manager.now client.old }
+    ensures free { IsFreePass manager.now client.new }
+    ensures number { client.new.number ≡ client.old.number }
+    ensures tells { TellsKill manager.now.limits id client.old client.new result }
+{
+    match manager.kill(client, id) {
+        Ok(killed) => Answer::Killed {
+            id,
+            aborted: killed.units_aborted,
+        },
+        Err(why) => Answer::Refused(why),
+    }
+}
+
+/// `cancel ROOT`
+fn cancel(manager: &Manager, client: &mut Pass, root: u32) -> Answer<'static>
+    requires { IsFreePass manager.now client.old }
+    ensures free { IsFreePass manager.now client.new }
+    ensures number { client.new.number ≡ client.old.number }
+    ensures tells { TellsCancel manager.now.limits root client.old client.new result }
+{
+    match manager.cancel(client, root) {
+        Ok(cancelled) => Answer::Cancelled {
+            root,
+            killed: cancelled.killed,
+        },
+        Err(why) => Answer::Refused(why),
+    }
+}
+
+/// `requeue ID`
+fn requeue(manager: &Manager, client: &mut Pass, id: u32) -> Answer<'static>
+    requires { IsFreePass manager.now client.old }
+    ensures free { IsFreePass manager.now client.new }
+    ensures number { client.new.number ≡ client.old.number }
+    ensures tells { TellsRequeue manager.now.limits id client.old client.new result }
+{
+    match manager.requeue(client, id) {
+        Ok(round) => Answer::Requeued { id, round },
+        Err(why) => Answer::Refused(why),
+    }
+}
+
+/// `read ID`
+fn read(manager: &Manager, client: &mut Pass, id: u32) -> Answer<'static>
+    requires { IsFreePass manager.now client.old }
+    ensures free { IsFreePass manager.now client.new }
+    ensures number { client.new.number ≡ client.old.number }
+    ensures tells { TellsRead manager.now.limits id client.old client.new result }
+{
+    match manager.read(client, id) {
+        Ok(look) => Answer::Read(look),
+        Err(why) => Answer::Refused(why),
+    }
+}
+
+/// Whether a look shows a reply to this request that waits.
+fn is_reply(root: u32, look: &Look) -> bool
+    ensures { result ≡ is_reply root look.now }
+{
+    look.element.stage == 15
+        && look.element.root == root
+        && matches!(look.status, Status::Waiting { attempts: _ })
+}
+
+/// Reads the element with this id, and answers it where it is a reply to the request that waits.
+fn reply_at(manager: &Manager, client: &mut Pass, root: u32, id: u32) -> Option<Element>
+    requires { IsFreePass manager.now client.old }
+    ensures free { IsFreePass manager.now client.new }
+    ensures number { client.new.number ≡ client.old.number }
+    ensures tells { (a : Answer) × TellsRead manager.now.limits id client.old client.new a × (result ≡ reply_in root a) }
+{
+    match manager.read(client, id) {
+        Ok(look) => {
+            if is_reply(root, &look) {
+                Some(look.element)
+            } else {
+                None
+            }
+        }
+        Err(_) => None,
+    }
+}
+
+/// The line of `reply ROOT`: the replies to the request, in ascending order.
+fn replies(
+    alloc: Global,
+    manager: &Manager,
+    client: &mut Pass,
+    root: u32,
+) -> Result<String, AllocError>
+    requires { IsFreePass manager.now client.old }
+    ensures free { IsFreePass manager.now client.new }
+    ensures number { client.new.number ≡ client.old.number }
+    ensures tells { IfOk result (λ text. (found : List Element)
+        × TellsReplies manager.now.limits root (rows_of manager.now.limits) client.old found client.new
+        × (string_bytes text ≡ line (replies_text root found))) }
+    ensures line { IfOk result (λ text. IsLine (string_bytes text)) }
+{
+    let mut found = Vec::new(alloc);
+    for id in 0..manager.capacity() {
+        if let Some(reply) = reply_at(manager, client, root, id) {
+            found.push(reply)?;
+        }
+    }
+    let replies = found.as_slice();
+    line(alloc, Answer::Replies { root, replies })
+}
+
+/// The line of `errors`: the ids of the parked elements, in ascending order.
+fn errors(alloc: Global, manager: &Manager, client: &mut Pass) -> Result<String, AllocError>
+    requires { IsFreePass manager.now client.old }
+    ensures free { IsFreePass manager.now client.new }
+    ensures number { client.new.number ≡ client.old.number }
+    ensures tells { IfOk result (λ text. (parked : List ℕ)
+        × TellsErrors manager.now.limits 0 client.old parked client.new
+        × (string_bytes text ≡ line (errors_text parked))) }
+    ensures line { IfOk result (λ text. IsLine (string_bytes text)) }
+{
+    let mut parked = Vec::new(alloc);
+    let capacity = manager.capacity();
+    let mut from = 0;
+    while from < capacity {
+        let Some(id) = manager.next_error(client, from) else {
+            break;
+        };
+        parked.push(id)?;
+        from = id + 1;
+    }
+    line(alloc, Answer::Errors(parked.as_slice()))
+}
+
+/// `count`: how many elements stand in each way, over all ids below the capacity.
+fn count(manager: &Manager, client: &mut Pass) -> Counts
+    requires { IsFreePass manager.now client.old }
+    ensures free { IsFreePass manager.now client.new }
+    ensures number { client.new.number ≡ client.old.number }
+    ensures tells { TellsCount manager.now.limits (rows_of manager.now.limits) client.old result client.new }
+{
+    let mut counts = Counts {
+        waiting: 0,
+        held: 0,
+        consumed: 0,
+        parked: 0,
+        killed: 0,
+    };
+    for id in 0..manager.capacity() {
+        if let Ok(look) = manager.read(client, id) {
+            counts = one_more(counts, look.status);
+        }
+    }
+    counts
+}
+
+/// These counts, and one element more, which stands so.
+fn one_more(counts: Counts, status: Status) -> Counts
+    requires { all_in counts < 2 ^ 32 - 1 }
+    ensures { result ≡ one_more status counts }
+{
+    let mut counts = counts;
+    match status {
+        Status::Waiting { .. } => counts.waiting += 1,
+        Status::Held { .. } => counts.held += 1,
+        Status::Consumed { .. } => counts.consumed += 1,
+        Status::Parked { .. } => counts.parked += 1,
+        Status::Killed => counts.killed += 1,
+    }
+    counts
+}

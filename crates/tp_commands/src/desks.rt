@@ -1,0 +1,247 @@
+//! Commands on one server, at its desk, which is there until it is dropped.
+ghost use Rattle.std.specs.Prelude.{◌≡◌, ◌<◌, All, IfOk, IfSome, length, slice_get, string_bytes};
+ghost use Rattle.tp_manager.specs.Shown.{IsOf};
+ghost use Rattle.tp_desk.specs.Steady.{IsSameDesk, SteadyDesk, shown};
+ghost use Rattle.tp_commands.specs.Acting.{Does, DoesAt, DoesIn, TellsAbort, TellsClaim, TellsCommit, TellsDrop, TellsPrepare, TellsTurn, desk_shown, place_shown, places_shown};
+ghost use Rattle.tp_commands.specs.Places.{AllLie, Lies, first_of, firsts};
+ghost use Rattle.tp_report.specs.Answer.{line, named_text};
+ghost use Rattle.tp_report.specs.Lines.{IsLine};
+ghost use Rattle.tp_report.specs.declared.answer.ServerAnswer.{ServerAnswer};
+
+use crate::lines::server_line;
+use crate::place::Place;
+use std::alloc::{AllocError, Global};
+use std::string::String;
+use tp_desk::{Desk, Turned};
+use tp_manager::{Manager, Pass};
+use tp_model::types::{Claimed, Ended};
+use tp_report::ServerAnswer;
+use tp_script::{DeskAct, ScriptServer};
+use tp_server::Server;
+
+/// Has the desk of a server do what is asked, and answers the line of its answer.
+pub fn desk_line(
+    alloc: Global,
+    named: &[ScriptServer],
+    manager: &Manager,
+    passes: &mut [Pass],
+    servers: &mut [Box<dyn Server + Send>],
+    places: &mut [Place],
+    server: usize,
+    act: DeskAct,
+) -> Result<String, AllocError>
+    requires own { All (IsOf manager.now) passes.old }
+    requires lie { AllLie recipe registers pending passes.old servers.old places.old }
+    requires as_many { length places.old ≡ length named.now }
+    requires in_range { server < length named.now }
+    ensures own { All (IsOf manager.now) passes.new }
+    ensures lie { AllLie recipe registers pending passes.new servers.new places.new }
+    ensures as_many { length places.new ≡ length places.old }
+    ensures began { firsts places.new ≡ firsts places.old }
+    ensures tells { IfOk result (λ text. (answer : ServerAnswer)
+        × DoesIn manager.now.limits act server
+        (places_shown recipe registers pending passes.old servers.old places.old) answer
+        (places_shown recipe registers pending passes.new servers.new places.new)
+        × IfSome (slice_get named.now server)
+        (λ it. string_bytes text ≡ line (named_text (string_bytes it.name) answer))) }
+    ensures line { IfOk result (λ text. IsLine (string_bytes text)) }
+{
+    let answer = act_in(manager, passes, servers, places, server, act);
+    server_line(alloc, named, server, answer)
+}
+
+/// Has the desk at one of the places do what is asked.
+fn act_in(
+    manager: &Manager,
+    passes: &mut [Pass],
+    servers: &mut [Box<dyn Server + Send>],
+    places: &mut [Place],
+    at: usize,
+    act: DeskAct,
+) -> ServerAnswer
+    requires own { All (IsOf manager.now) passes.old }
+    requires lie { AllLie recipe registers pending passes.old servers.old places.old }
+    requires within { at < length places.old }
+    ensures own { All (IsOf manager.now) passes.new }
+    ensures lie { AllLie recipe registers pending passes.new servers.new places.new }
+    ensures as_many { length places.new ≡ length places.old }
+    ensures began { firsts places.new ≡ firsts places.old }
+    ensures tells { DoesIn manager.now.limits act at
+        (places_shown recipe registers pending passes.old servers.old places.old) result
+        (places_shown recipe registers pending passes.new servers.new places.new) }
+{
+    act_at(
+        manager,
+        &mut passes[at],
+        &mut servers[at],
+        &mut places[at],
+        act,
+    )
+}
+
+/// Has the desk at a place do what is asked, unless it was dropped: it goes on with what it laid aside, and lays aside what
+/// it has in hand then.
+pub(crate) fn act_at(
+    manager: &Manager,
+    pass: &mut Pass,
+    server: &mut Box<dyn Server + Send>,
+    place: &mut Place,
+    act: DeskAct,
+) -> ServerAnswer
+    requires own { IsOf manager.now pass.old }
+    requires lies { Lies recipe registers pending pass.old server.old place.old.aside }
+    ensures own { IsOf manager.now pass.new }
+    ensures lies { Lies recipe registers pending pass.new server.new place.new.aside }
+    ensures began { first_of place.new ≡ first_of place.old }
+    ensures tells { DoesAt manager.now.limits act
+        (place_shown recipe registers pending pass.old server.old place.old) result
+        (place_shown recipe registers pending pass.new server.new place.new) }
+{
+    if place.is_dropped {
+        return ServerAnswer::Ended;
+    }
+    if act == DeskAct::Drop {
+        place.is_dropped = true;
+    }
+    let Some(aside) = place.aside.take() else {
+        unreachable!();
+    };
+    let mut desk = Desk::resume(manager, pass, server, aside);
+    let answer = act_by(&mut desk, act);
+    place.aside = Some(desk.lay_aside());
+    answer
+}
+
+/// Has the desk do what is asked.
+fn act_by(desk: &mut Desk, act: DeskAct) -> ServerAnswer
+    requires steady { SteadyDesk (shown recipe) (shown registers) (shown pending) desk.old }
+    ensures same { IsSameDesk desk.old desk.new }
+    ensures steady { SteadyDesk (shown recipe) (shown registers) (shown pending) desk.new }
+    ensures tells { Does desk.old.manager.now.limits act (desk_shown recipe registers pending desk.old) result
+        (desk_shown recipe registers pending desk.new) }
+{
+    match act {
+        DeskAct::Turn => turn(desk),
+        DeskAct::Claim => claim(desk),
+        DeskAct::Prepare => prepare(desk),
+        DeskAct::Commit => commit(desk),
+        DeskAct::Abort => abort(desk),
+        DeskAct::Drop => give_up(desk),
+    }
+}
+
+/// `turn NAME`
+fn turn(desk: &mut Desk) -> ServerAnswer
+    requires steady { SteadyDesk (shown recipe) (shown registers) (shown pending) desk.old }
+    ensures same { IsSameDesk desk.old desk.new }
+    ensures steady { SteadyDesk (shown recipe) (shown registers) (shown pending) desk.new }
+    ensures tells { TellsTurn desk.old.manager.now.limits (desk_shown recipe registers pending desk.old) result
+        (desk_shown recipe registers pending desk.new) }
+{
+    if desk.has_open() {
+        return ServerAnswer::Busy;
+    }
+    ServerAnswer::Turned(desk.turn())
+}
+
+/// `claim NAME`
+fn claim(desk: &mut Desk) -> ServerAnswer
+    requires steady { SteadyDesk (shown recipe) (shown registers) (shown pending) desk.old }
+    ensures same { IsSameDesk desk.old desk.new }
+    ensures steady { SteadyDesk (shown recipe) (shown registers) (shown pending) desk.new }
+    ensures tells { TellsClaim desk.old.manager.now.limits (desk_shown recipe registers pending desk.old) result
+        (desk_shown recipe registers pending desk.new) }
+{
+    if desk.has_open() {
+        return ServerAnswer::Busy;
+    }
+    match desk.claim() {
+        Claimed::Work(work) => ServerAnswer::Work {
+            element: work.element.id,
+            unit: work.unit,
+            attempt: work.attempt,
+        },
+        Claimed::Idle => ServerAnswer::Turned(Turned::Idle),
+        Claimed::NoUnit => ServerAnswer::Turned(Turned::NoUnit),
+    }
+}
+
+/// `prepare NAME`
+fn prepare(desk: &mut Desk) -> ServerAnswer
+    requires steady { SteadyDesk (shown recipe) (shown registers) (shown pending) desk.old }
+    ensures same { IsSameDesk desk.old desk.new }
+    ensures steady { SteadyDesk (shown recipe) (shown registers) (shown pending) desk.new }
+    ensures tells { TellsPrepare (desk_shown recipe registers pending desk.old) result
+        (desk_shown recipe registers pending desk.new) }
+{
+    let Some(work) = desk.in_hand() else {
+        return ServerAnswer::NoneOpen;
+    };
+    if desk.is_prepared() {
+        return ServerAnswer::Busy;
+    }
+    match desk.prepare() {
+        Ok(()) => ServerAnswer::Ready,
+        Err(why) => ServerAnswer::Turned(Turned::Refused {
+            element: work.element.id,
+            why,
+        }),
+    }
+}
+
+/// `commit NAME`: work that isn't prepared is prepared first.
+fn commit(desk: &mut Desk) -> ServerAnswer
+    requires steady { SteadyDesk (shown recipe) (shown registers) (shown pending) desk.old }
+    ensures same { IsSameDesk desk.old desk.new }
+    ensures steady { SteadyDesk (shown recipe) (shown registers) (shown pending) desk.new }
+    ensures tells { TellsCommit (desk_shown recipe registers pending desk.old) result
+        (desk_shown recipe registers pending desk.new) }
+{
+    let Some(work) = desk.in_hand() else {
+        return ServerAnswer::NoneOpen;
+    };
+    if !desk.is_prepared() {
+        match desk.prepare() {
+            Ok(()) => {}
+            Err(why) => {
+                return ServerAnswer::Turned(Turned::Refused {
+                    element: work.element.id,
+                    why,
+                });
+            }
+        }
+    }
+    ServerAnswer::Turned(Turned::settled(&work, desk.commit()))
+}
+
+/// `abort NAME`
+fn abort(desk: &mut Desk) -> ServerAnswer
+    requires steady { SteadyDesk (shown recipe) (shown registers) (shown pending) desk.old }
+    ensures same { IsSameDesk desk.old desk.new }
+    ensures steady { SteadyDesk (shown recipe) (shown registers) (shown pending) desk.new }
+    ensures tells { TellsAbort (desk_shown recipe registers pending desk.old) result
+        (desk_shown recipe registers pending desk.new) }
+{
+    let Some(work) = desk.in_hand() else {
+        return ServerAnswer::NoneOpen;
+    };
+    let element = work.element.id;
+    match desk.abort() {
+        Ended::Aborted => ServerAnswer::Aborted { element },
+        Ended::Already => ServerAnswer::Already { element },
+    }
+}
+
+/// `drop NAME`: what is in hand is given up, as by a drop of the desk.
+fn give_up(desk: &mut Desk) -> ServerAnswer
+    requires steady { SteadyDesk (shown recipe) (shown registers) (shown pending) desk.old }
+    ensures same { IsSameDesk desk.old desk.new }
+    ensures steady { SteadyDesk (shown recipe) (shown registers) (shown pending) desk.new }
+    ensures tells { TellsDrop (desk_shown recipe registers pending desk.old) result
+        (desk_shown recipe registers pending desk.new) }
+{
+    if desk.has_open() {
+        let _ = desk.abort();
+    }
+    ServerAnswer::Dropped
+}

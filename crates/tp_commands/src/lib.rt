@@ -1,0 +1,13 @@
+//! What each command of one caller does, and the line of its answer: the client's calls, what a server's desk does, and what
+//! registers hold.
+#![tactic(auto)]
+
+mod client;
+mod desks;
+mod lines;
+mod place;
+
+pub use client::client_line;
+pub use desks::desk_line;
+pub use lines::{balance_line, sum};
+pub use place::{Place, end_all, places_for};
