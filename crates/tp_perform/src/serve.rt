@@ -88,7 +88,7 @@ fn all_passes(
     Ok(passes)
 }
 
-/// Makes the boxed servers, performs the commands, and writes the final lines and the account.
+/// Makes the boxed servers, and serves the script with them.
 #[tactic(auto, using(tp_report::proofs::LineProofs::nothing_written, tp_report::proofs::LineProofs::front_fewer))]
 fn serve_by<R: Threads + Sync, W: Sink>(
     rt: &R,
@@ -120,7 +120,45 @@ fn serve_by<R: Threads + Sync, W: Sink>(
             Kind::Lazy => servers.push(Box::new(alloc, lazy(server)?)?)?,
         }
     }
-    let boxes = servers.as_mut_slice();
+    serve_with(
+        rt,
+        alloc,
+        script,
+        manager,
+        keeper,
+        passes,
+        servers.as_mut_slice(),
+        writer,
+    )
+}
+
+/// Performs the commands with these servers, and writes the final lines and the account.
+#[tactic(auto, using(tp_report::proofs::LineProofs::nothing_written, tp_report::proofs::LineProofs::front_fewer))]
+fn serve_with<R: Threads + Sync, W: Sink>(
+    rt: &R,
+    alloc: Global,
+    script: &Script,
+    manager: &Manager,
+    keeper: &mut Keeper,
+    passes: &mut [Pass],
+    boxes: &mut [Box<dyn Server + Send>],
+    writer: &mut W,
+) -> Result<(), RunFault>
+    requires keeper { IsKeptBy manager.now keeper.old }
+    requires given { AreAll keeper.old passes.old }
+    requires passes { All (IsFreePass manager.now) passes.old }
+    requires new { All IsNewPass passes.old }
+    requires limits { manager.now.limits ≡ limits_of (script_view script.now) }
+    requires enough { length passes.old ≡ passes_of (script_view script.now) }
+    requires all { length boxes.old ≡ length script.now.servers.items }
+    ensures told { OnOk result (Reported (script_view script.now) manager.now
+        (W.contents writer.old) (W.contents writer.new)) }
+    ensures told_front { OnErr result (ReportedFront (script_view script.now)
+        (W.contents writer.old) (W.contents writer.new)) }
+    ensures done { OnOk result (Writes (line_count (script_view script.now)) (W.contents writer.old) (W.contents writer.new)) }
+    ensures front { OnErr result (WritesFront (line_count (script_view script.now)) (W.contents writer.old) (W.contents writer.new)) }
+    ensures write { IsErrOf result RunFault.Write → IsTrue (W.has_failed writer.new) }
+{
     settle(boxes);
     perform(rt, alloc, script, manager, passes, boxes, writer)?;
     finals(alloc, script, boxes, writer)?;

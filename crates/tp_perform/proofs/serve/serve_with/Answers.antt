@@ -6,7 +6,7 @@ use Rattle.tp_perform.proofs.Beginnings.{begins_of, performed_of}
 use Rattle.tp_report.proofs.Devices.{always_err}
 use Rattle.tp_report.proofs.LineProofs.{err_then, front_fewer, lines_then, lines_then_front, ok_then}
 use Rattle.tp_perform.proofs.Everyone.{all_same}
-use Rattle.tp_perform.proofs.serve.serve_by.Goals as goal
+use Rattle.tp_perform.proofs.serve.serve_with.Goals as goal
 
 pub returns-clause-done : goal.returns-clause-done
 returns-clause-done g c = ok_then c.close.result _ _ _ (g.W.Sink.contents c.finals.new.writer) _
@@ -46,7 +46,7 @@ returns-in_err-perform-clause-told_front g c =
     let count : length c.settle.new.servers ≡ length c.args.script.now.servers.items = search rules in
     let many = count ∙ sym (length-map c.args.script.now.servers.items server_view) in
     let begins = begins_of _ _ _ (script_view c.args.script.now) c.args.manager.now c.args.passes.now _ commands.0 commands.1 many c.requires.limits c.requires.enough c.requires.given.1 c.requires.passes c.requires.new in
-    always_err c.from_residual-in_err-perform.result (inr (c.args.manager.now, inl (record { first = commands.0; begins = begins; told = commands.2 })))
+    always_err c.from_residual.result (inr (c.args.manager.now, inl (record { first = commands.0; begins = begins; told = commands.2 })))
 
 pub returns-in_err-finals-clause-told_front : goal.returns-in_err-finals-clause-told_front
 returns-in_err-finals-clause-told_front g c =
