@@ -1,9 +1,9 @@
 //! A server's call for work.
-ghost use Rattle.std.specs.Prelude.{◌≡◌, None};
+ghost use Rattle.std.specs.Prelude.{◌≡◌, ◌≤◌, length, None};
 ghost use Rattle.tp_model.specs.Steps.{AreLimits, IsServerStage};
 ghost use Rattle.tp_manager.specs.Shown.{IsOf};
-ghost use Rattle.tp_manager.specs.Bounds.{claim_steps};
-ghost use Rattle.tp_manager.specs.Calls.{Claims, Follows};
+ghost use Rattle.tp_manager.specs.Bounds.{claim_steps, claim_steps_left};
+ghost use Rattle.tp_manager.specs.Calls.{steps_of, Claims, Follows};
 
 use crate::manager::{Manager, Pass, Task};
 use tp_model::types::{Claimed, Work};
@@ -18,6 +18,7 @@ impl Manager {
         ensures own { IsOf self.now pass.new }
         ensures limits { AreLimits self.now.limits }
         ensures follows { Follows (claim_steps self.now.limits) pass.old pass.new }
+        ensures few { length (steps_of pass.old pass.new) ≤ claim_steps_left self.now.limits pass.old.lows }
         ensures answer { Claims self.now.limits stage pass.old pass.new result }
     {
         let seat = &mut pass.seat;
@@ -27,7 +28,7 @@ impl Manager {
         }
         let unit = pass.number * units + pass.used;
         self.shared.words.choose_unit(seat, unit);
-        let Some(taken) = self.shared.scan(seat, stage, unit) else {
+        let Some(taken) = self.shared.scan(seat, &mut pass.lows, stage, unit) else {
             return Claimed::Idle;
         };
         pass.used += 1;
