@@ -1,9 +1,9 @@
 //! A server's call for work.
-ghost use Rattle.std.specs.Prelude.{◌≡◌, ◌≤◌, length, None};
+ghost use Rattle.std.specs.Prelude.{◌≡◌, None};
 ghost use Rattle.tp_model.specs.Steps.{AreLimits, IsServerStage};
 ghost use Rattle.tp_manager.specs.Shown.{IsOf};
 ghost use Rattle.tp_manager.specs.Bounds.{claim_steps, claim_steps_left};
-ghost use Rattle.tp_manager.specs.Calls.{steps_of, Claims, Follows};
+ghost use Rattle.tp_manager.specs.Calls.{Claims, Follows};
 
 use crate::manager::{Manager, Pass, Task};
 use tp_model::types::{Claimed, Work};
@@ -18,8 +18,8 @@ impl Manager {
         ensures own { IsOf self.now pass.new }
         ensures limits { AreLimits self.now.limits }
         ensures follows { Follows (claim_steps self.now.limits) pass.old pass.new }
-        ensures few { length (steps_of pass.old pass.new) ≤ claim_steps_left self.now.limits pass.old.lows }
         ensures answer { Claims self.now.limits stage pass.old pass.new result }
+        ensures few { Follows (claim_steps_left self.now.limits pass.old.lows) pass.old pass.new }
     {
         let seat = &mut pass.seat;
         let units = self.shared.places.limits.units;

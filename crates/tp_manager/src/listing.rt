@@ -1,5 +1,5 @@
 //! The next reply to a request, and the next element of the error queue.
-ghost use Rattle.std.specs.Prelude.{◌≡◌, ◌⊎◌, ◌+◌, ◌-◌, ◌*◌, ◌<◌, ◌≤◌, length, slice_index, IfSome, MatchOption, true, false};
+ghost use Rattle.std.specs.Prelude.{◌≡◌, ◌⊎◌, ◌+◌, ◌-◌, ◌*◌, ◌<◌, ◌≤◌, slice_index, IfSome, MatchOption, true, false};
 ghost use Rattle.tp_model.specs.declared.types.Element.{Element as element};
 ghost use Rattle.tp_model.specs.declared.types.Status.{Status as status};
 ghost use Rattle.tp_model.specs.Steps.{rows_of, IsRowOf};
@@ -8,7 +8,7 @@ ghost use Rattle.tp_rule.specs.Tables.{limits_of, IsSeatOf};
 ghost use Rattle.tp_words.specs.Words.{head_of};
 ghost use Rattle.tp_manager.specs.Shown.{IsOf, Rises};
 ghost use Rattle.tp_manager.specs.Bounds.{listing_steps_left, look_steps, next_error_steps, reply_steps, scan_steps};
-ghost use Rattle.tp_manager.specs.Calls.{steps_of, Follows, HasLooked, IsQuiet};
+ghost use Rattle.tp_manager.specs.Calls.{Follows, HasLooked, IsQuiet};
 ghost use Rattle.tp_manager.specs.Lists.{AllKilled, NoneParked, NextReply, NextError};
 ghost use Rattle.tp_manager.specs.Looks.{GoesOn};
 ghost use Rattle.tp_manager.specs.Walks.{Acted, EachRow, Remembers, RisesAt, Sought, Steady};
@@ -171,7 +171,7 @@ impl Manager {
         requires own { IsOf self.now pass.old }
         ensures own { IsOf self.now pass.new }
         ensures follows { Follows (reply_steps self.now.limits) pass.old pass.new }
-        ensures few { length (steps_of pass.old pass.new) ≤ listing_steps_left self.now.limits pass.old.lows }
+        ensures few { Follows (listing_steps_left self.now.limits pass.old.lows) pass.old pass.new }
         ensures quiet { IsQuiet pass.old pass.new }
         ensures looks { from < rows_of self.now.limits → HasLooked pass.old pass.new }
         ensures inside { IfSome result (λ id. id < rows_of self.now.limits) }
@@ -192,7 +192,7 @@ impl Manager {
         requires own { IsOf self.now pass.old }
         ensures own { IsOf self.now pass.new }
         ensures follows { Follows (next_error_steps self.now.limits) pass.old pass.new }
-        ensures few { length (steps_of pass.old pass.new) ≤ listing_steps_left self.now.limits pass.old.lows }
+        ensures few { Follows (listing_steps_left self.now.limits pass.old.lows) pass.old pass.new }
         ensures quiet { IsQuiet pass.old pass.new }
         ensures looks { from < rows_of self.now.limits → HasLooked pass.old pass.new }
         ensures inside { IfSome result (λ id. id < rows_of self.now.limits) }

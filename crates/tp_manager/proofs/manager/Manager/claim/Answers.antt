@@ -50,8 +50,8 @@ returns-in_default-clause-follows c = let at = (goal.at.returns-in_default-claus
 
 pub returns-in_default-clause-few : goal.returns-in_default-clause-few
 returns-in_default-clause-few c = let at = (goal.at.returns-in_default-clause-few c).After-choose_unit in let l : Limits = limits_of c.self.inside.shared.words in let told = c.in_default.ensures.told in
-    (follows (spot c.pass.inside.seat.table c.pass.inside.lows) (spot c.scan.new.seat.table c.scan.new.lows) c.scan.ensures.lows (view_of c.pass.inside.seat) (view_of c.scan.new.seat) c.args.pass.now c.pass.view_is l _ _
-    (idle_walked l _ _ (view_of c.choose_unit.new.seat) (steady at) c.choose_unit.ensures.chooses _ c.args.stage _ told) (claim_steps_left c.args.self.now.limits c.args.pass.now.lows) (few at)).few
+    follows (spot c.pass.inside.seat.table c.pass.inside.lows) (spot c.scan.new.seat.table c.scan.new.lows) c.scan.ensures.lows (view_of c.pass.inside.seat) (view_of c.scan.new.seat) c.args.pass.now c.pass.view_is l _ _
+    (idle_walked l _ _ (view_of c.choose_unit.new.seat) (steady at) c.choose_unit.ensures.chooses _ c.args.stage _ told) (claim_steps_left c.args.self.now.limits c.args.pass.now.lows) (few at)
 
 pub returns-in_default-clause-answer : goal.returns-in_default-clause-answer
 returns-in_default-clause-answer c = let at = (goal.at.returns-in_default-clause-answer c).After-choose_unit in let l : Limits = limits_of c.self.inside.shared.words in let told = c.in_default.ensures.told in
@@ -73,8 +73,8 @@ returns-clause-follows c = let at = (goal.at.returns-clause-follows c).After-cho
 
 pub returns-clause-few : goal.returns-clause-few
 returns-clause-few c = let at = (goal.at.returns-clause-few c).After-choose_unit in let l : Limits = limits_of c.self.inside.shared.words in let told = c.in-Some.ensures.told in
-    (follows (spot c.pass.inside.seat.table c.pass.inside.lows) (spot c.scan.new.seat.table c.scan.new.lows) c.scan.ensures.lows (view_of c.pass.inside.seat) (view_of c.scan.new.seat) c.args.pass.now c.pass.view_is l _ _
-    (took_walked l _ _ (view_of c.choose_unit.new.seat) (steady at) c.choose_unit.ensures.chooses _ _ _ _ _ told.0) (claim_steps_left c.args.self.now.limits c.args.pass.now.lows) (few at)).few
+    follows (spot c.pass.inside.seat.table c.pass.inside.lows) (spot c.scan.new.seat.table c.scan.new.lows) c.scan.ensures.lows (view_of c.pass.inside.seat) (view_of c.scan.new.seat) c.args.pass.now c.pass.view_is l _ _
+    (took_walked l _ _ (view_of c.choose_unit.new.seat) (steady at) c.choose_unit.ensures.chooses _ _ _ _ _ told.0) (claim_steps_left c.args.self.now.limits c.args.pass.now.lows) (few at)
 
 pub returns-clause-answer : goal.returns-clause-answer
 returns-clause-answer c = let at = (goal.at.returns-clause-answer c).After-choose_unit in let l : Limits = limits_of c.self.inside.shared.words in let told = c.in-Some.ensures.told in

@@ -44,12 +44,12 @@ returns-clause-follows c = let at = goal.at.returns-clause-follows c in let l = 
 
 pub returns-clause-few : goal.returns-clause-few
 returns-clause-few c = let at = goal.at.returns-clause-few c in let l = limits_of c.self.inside.shared.words in
-    (within at.After-find (listing_steps_left c.args.self.now.limits c.args.pass.now.lows) (listing_shown l c.args.self.now.limits c.pass.inside.lows c.args.pass.now.lows _ (limits at.After-rows) (ap (λ (p : PassShown). p.lows) c.pass.view_is)
-    (listing_few l c.pass.inside.lows (view_of c.pass.inside.seat) (subst (λ (z : Limits). KnowsLow z (view_of c.pass.inside.seat)) (lim at.After-rows) c.pass.invariant.0.steady.low) c.pass.invariant.1))).few
+    within at.After-find (listing_steps_left c.args.self.now.limits c.args.pass.now.lows) (listing_shown l c.args.self.now.limits c.pass.inside.lows c.args.pass.now.lows _ (limits at.After-rows) (ap (λ (p : PassShown). p.lows) c.pass.view_is)
+    (listing_few l c.pass.inside.lows (view_of c.pass.inside.seat) (subst (λ (z : Limits). KnowsLow z (view_of c.pass.inside.seat)) (lim at.After-rows) c.pass.invariant.0.steady.low) c.pass.invariant.1))
 
 pub returns-then-from-rows-clause-few : goal.returns-then-from-rows-clause-few
 returns-then-from-rows-clause-few c = let at = (goal.at.returns-then-from-rows-clause-few c).After-rows in let v = view_of c.pass.inside.seat in let t = spot c.pass.inside.seat.table c.pass.inside.lows in
-    (follows t t (rises_same c.pass.inside.lows) v v c.args.pass.now c.pass.view_is v.limits 0 [] (walked_none v.limits v c.pass.invariant.0.steady) (listing_steps_left c.args.self.now.limits c.args.pass.now.lows) (omega arith)).few
+    follows t t (rises_same c.pass.inside.lows) v v c.args.pass.now c.pass.view_is v.limits 0 [] (walked_none v.limits v c.pass.invariant.0.steady) (listing_steps_left c.args.self.now.limits c.args.pass.now.lows) (omega arith)
 
 pub returns-clause-quiet : goal.returns-clause-quiet
 returns-clause-quiet c = quiet_looked (spot c.pass.inside.seat.table c.pass.inside.lows) (spot c.find.new.seat.table c.find.new.lows) (view_of c.pass.inside.seat) (view_of c.find.new.seat) c.args.pass.now c.pass.view_is _ _ (looked _ _ _ _ (whole (goal.at.returns-clause-quiet c).After-find))
