@@ -18,7 +18,7 @@ use Rattle.tp_rule.specs.declared.view.View.{View}
 use Rattle.tp_manager.specs.Accounts.{Accounts, AreAll, AreFrom, Attends, steps_together}
 use Rattle.tp_manager.specs.Bounds.{account_steps, first_steps, kept_steps, led_steps}
 use Rattle.tp_manager.specs.Calls.{steps_of}
-use Rattle.tp_manager.specs.Shown.{KeeperShown, PassShown, shown, steps_in}
+use Rattle.tp_manager.specs.Shown.{Rises, Spot, KeeperShown, PassShown, shown, steps_in}
 use Rattle.tp_manager.specs.Together.{CountsWith, HasSeen, IsAt, Joins}
 use Rattle.tp_manager.specs.Walks.{Keeps, untraced}
 use Rattle.tp_manager.proofs.Closing.{joins_at, joins_long}
@@ -82,7 +82,7 @@ pub kept_long : (seat : SeatShown) (l : Limits) (given : ℕ) → Keeps seat l g
 kept_long seat l given keeps = sym (untraced_long (view_of seat).hands) ∙ (ap length keeps.rest ∙ fresh_long given (l.parts - given))
 
 -- the first pass v, which is w afterwards, and the others counted
-module _ (table : TableId) (l : Limits) (t t' : TableId) (v w v' w' : View) (ps olds news : List PassShown) (old : PassShown) (account : Account) (split : ps ≡ old ∷ olds) (is : shown t v ≡ old) (c : CountsWith table l (length olds + 1) v w v' w' olds news account) where
+module _ (table : TableId) (l : Limits) (t t' : Spot) (rises : Rises t.lows t'.lows) (v w v' w' : View) (ps olds news : List PassShown) (old : PassShown) (account : Account) (split : ps ≡ old ∷ olds) (is : shown t v ≡ old) (c : CountsWith table l (length olds + 1) v w v' w' olds news account) where
   long : length ps ≡ length olds + 1
   long = let e : length ps ≡ suc (length olds) = ap length split in omega arith
 
@@ -92,7 +92,7 @@ module _ (table : TableId) (l : Limits) (t t' : TableId) (v w v' w' : View) (ps 
   first_attends : Attends (account_steps l (length ps)) w.seen old (shown t' w)
   first_attends = record {
     seen = refl;
-    follows = follows t t' v w old is l (first_steps l (length olds + 1)) c.first.marks c.first.walk (account_steps l (length ps)) enough;
+    follows = follows t t' rises v w old is l (first_steps l (length olds + 1)) c.first.marks c.first.walk (account_steps l (length ps)) enough;
     looks = has_looked t t' v w old is l (first_steps l (length olds + 1)) c.first.marks c.first.walk c.first.step;
     quiet = quiet_looked t t' v w old is l (first_steps l (length olds + 1)) (walks.looked l (first_steps l (length olds + 1)) v w c.first);
   }
@@ -105,7 +105,7 @@ module _ (table : TableId) (l : Limits) (t t' : TableId) (v w v' w' : View) (ps 
       (first_attends, attend_all table l w.seen (2 * led_steps) (account_steps l (length ps)) olds news led_few c.passes)
 
   first_few : length (steps_of old (shown t' w)) ≤ first_steps l (length olds + 1)
-  first_few = (follows t t' v w old is l (first_steps l (length olds + 1)) c.first.marks c.first.walk (first_steps l (length olds + 1)) (omega arith)).few
+  first_few = (follows t t' rises v w old is l (first_steps l (length olds + 1)) c.first.marks c.first.walk (first_steps l (length olds + 1)) (omega arith)).few
 
   -- the steps of all passes, those that aren't given out too
   pub all_steps : length v'.hands ≡ l.parts - length ps → steps_together ps (shown t' w ∷ news) + steps_in w'.hands ≤ steps_in v'.hands + account_steps l (length ps)
@@ -125,7 +125,7 @@ module _ (table : TableId) (l : Limits) (t t' : TableId) (v w v' w' : View) (ps 
       let rest = joins_long table l (2 * led_steps) w.seen olds news c.passes in
       (omega arith, (c.first.walk.number ∙ (ap (λ (p : PassShown). p.number) is ∙ from.0), from_still table l w.seen (2 * led_steps) 1 olds news from.1 c.passes))
 
-  pub all_at : t' ≡ table → All (IsAt table l) (shown t' w ∷ news)
+  pub all_at : t'.table ≡ table → All (IsAt table l) (shown t' w ∷ news)
   all_at there = All-cons (IsAt table l) (shown t' w) news record { table_is = there; limits_are = c.first.walk.steady.pass.1 } (joins_at table l (2 * led_steps) w.seen olds news c.passes)
 
   pub accounts : (seat : SeatShown) (given : ℕ) (keeper keeper' : KeeperShown) → Keeps seat l given → given ≡ keeper.given → view_of seat ≡ v' → keeper.seen ≡ v'.seen → keeper'.seen ≡ w'.seen → Accounts l keeper keeper' ps (shown t' w ∷ news) account

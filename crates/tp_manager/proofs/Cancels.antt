@@ -2,7 +2,6 @@
 use Rattle.std.proofs.Common.{◌≡◌, ◌⊎◌, ◌≢◌, ℕ, suc, ◌+◌, ◌*◌, ◌/◌, ◌<◌, ◌≤◌, ◌==◌, ◌&&◌, ◌||◌, cond, Bool, true, false, List, [], ◌∷◌, ◌++◌, sym, refl, ap, ◌∙◌, subst, inl, inr, ⊎_elim, arith, suc-mul, mul-le-mul_right, slice_index, Option, Some, None}
 use Rattle.std.proofs.lemmas.Bool.{eq-eqb, eqb-true}
 use Rattle.std.specs.Prelude.{is_some}
-use Rattle.atomic_table.specs.Seated.{TableId}
 use mathlib.Core.List.{IsPrefix}
 use Rattle.tp_model.specs.declared.types.Element.{Element}
 use Rattle.tp_model.specs.declared.types.Limits.{Limits}
@@ -33,7 +32,7 @@ use Rattle.tp_rule.specs.declared.view.Known.TheVariants.{PartMark}
 use Rattle.tp_manager.proofs.Seeks.{rows_more}
 use Rattle.tp_rule.specs.declared.view.View.{View}
 use Rattle.tp_manager.specs.declared.looking.Birth.{Birth}
-use Rattle.tp_manager.specs.Shown.{PassShown, shown}
+use Rattle.tp_manager.specs.Shown.{Spot, PassShown, shown}
 use Rattle.tp_manager.specs.Bounds.{birth_steps, cancel_steps, round_steps}
 use Rattle.tp_manager.specs.Calls.{AreOfHolders, claims_in, one_claim}
 use Rattle.tp_manager.specs.Cancels.{IsTarget, AreOfCancel, one_kill, kills_in, Cancels}
@@ -436,7 +435,7 @@ module _ (l : Limits) (seat next : SeatShown) (number drawn used : ℕ) (same : 
   pub rests_swept : (n root : ℕ) (es : List Event) → Swept l n root es (view_of seat) (view_of next) → Rests next number drawn used None
   rests_swept n root es a = rests_gained l seat next number drawn used same r n es a.gained (own_no_claims l root (hand (view_of seat)).number _ _ es a.own)
 
-module _ (t t' : TableId) (v w : View) (old : PassShown) (is : shown t v ≡ old) (l : Limits) (free : (hand v).open_unit ≡ None) where
+module _ (t t' : Spot) (v w : View) (old : PassShown) (is : shown t v ≡ old) (l : Limits) (free : (hand v).open_unit ≡ None) where
   pub cancels_shown : (n root killed : ℕ) → IsRequest w.seen root → CancelsIn l n root killed v w → Cancels l root killed old (shown t' w)
   cancels_shown n root killed request a = subst (λ (p : PassShown). Cancels l root killed p (shown t' w)) is record {
     events = a.events;

@@ -2,7 +2,6 @@
 use Rattle.std.proofs.Common.{◌≡◌, ℕ, ◌+◌, ◌*◌, ◌<◌, ◌≤◌, ◌==◌, Bool, true, false, cond, Option, Some, None, List, [], ◌∷◌, ◌++◌, sym, refl, ap, ◌∙◌, subst, arith}
 use Rattle.std.specs.Option.{option_or}
 use mathlib.Core.List.{IsPrefix}
-use Rattle.atomic_table.specs.Seated.{TableId}
 use Rattle.tp_model.specs.declared.types.Element.{Element}
 use Rattle.tp_model.specs.declared.types.Limits.{Limits}
 use Rattle.tp_model.specs.declared.types.Claimed.TheVariants as claimeds
@@ -23,7 +22,7 @@ use Rattle.tp_rule.specs.Steps.{Chooses, noted, with_claim, with_spare}
 use Rattle.tp_rule.specs.declared.view.Hand.{Hand}
 use Rattle.tp_rule.specs.declared.view.View.{View}
 use Rattle.tp_manager.specs.declared.manager.Task.{Task}
-use Rattle.tp_manager.specs.Shown.{PassShown, shown}
+use Rattle.tp_manager.specs.Shown.{Spot, PassShown, shown}
 use Rattle.tp_manager.specs.Calls.{Claims, FoundNone, HasLooked, IsQuiet, Takes, claims_in, opening}
 use Rattle.tp_manager.specs.Walks.{EachRow, Steady, Sought, Walked, Rests, Took, PassedBy, with_trace}
 use Rattle.tp_manager.proofs.Walks.{grew_hand, grew_seen, has_looked, opening_is, steady_quiet, walked_begins, walked_then}
@@ -55,7 +54,7 @@ module _ (l : Limits) (u : ℕ) (v w : View) (s : Steady l v) (g : Chooses v u w
   abbrev pub choice : TraceEntry
   choice = record { kind = kinds.UnitChoice; seen = w.seen }
 
-  chose_walked : Walked l 1 (choice ∷ []) v w
+  pub chose_walked : Walked l 1 (choice ∷ []) v w
   chose_walked = record {
     traced = ap (λ (a : Hand). a.trace) chose_hand;
     few = omega arith;
@@ -74,7 +73,7 @@ module _ (l : Limits) (u : ℕ) (v w : View) (s : Steady l v) (g : Chooses v u w
     pub idle_walked : Walked l (1 + n) (choice ∷ a.marks) v y
     idle_walked = walked_then l 1 n (choice ∷ []) a.marks v w y chose_walked a.walk
 
-    pub idle_quiet : (t t' : TableId) (old : PassShown) → shown t v ≡ old → IsQuiet old (shown t' y)
+    pub idle_quiet : (t t' : Spot) (old : PassShown) → shown t v ≡ old → IsQuiet old (shown t' y)
     idle_quiet t t' old is = record {
       mine = ap (λ (z : Hand). z.mine) idle_hand ∙ ap (λ (p : PassShown). p.mine) is;
       open_unit = ap (λ (z : Hand). z.open_unit) idle_hand ∙ ap (λ (p : PassShown). p.open_unit) is;
@@ -87,17 +86,17 @@ module _ (l : Limits) (u : ℕ) (v w : View) (s : Steady l v) (g : Chooses v u w
     legal_look : IsLegal l first_look
     legal_look = legal_start l first_look a.walk.closes.0 (subst (IsLegal l) (sym a.walk.closes.1) a.walk.steady.shows.legal)
 
-    pub idle_found : (t t' : TableId) (old : PassShown) → shown t v ≡ old → FoundNone l stage old (shown t' y)
+    pub idle_found : (t t' : Spot) (old : PassShown) → shown t v ≡ old → FoundNone l stage old (shown t' y)
     idle_found t t' old is = λ x q st.
         let o : opening old (shown t' y) ≡ first_look = opening_is t t' v y old is l (1 + n) (choice ∷ a.marks) idle_walked ∙ opening_any v.seen w.seen a.marks a.step in
         let born : element_of first_look x.id ≡ Some x = subst (λ z. element_of z x.id ≡ Some x) o q in
         let r = a.passed x.id (omega arith) (births_inside l first_look legal_look x born) x born st in
         (r.0, record { opened = subst (λ z. IsPrefix z r.0) (sym o) r.1; seen = r.2 }, r.3)
 
-    pub idle_looked : (t t' : TableId) (old : PassShown) → shown t v ≡ old → HasLooked old (shown t' y)
+    pub idle_looked : (t t' : Spot) (old : PassShown) → shown t v ≡ old → HasLooked old (shown t' y)
     idle_looked t t' old is = has_looked t t' v y old is l (1 + n) (choice ∷ a.marks) idle_walked (a.step.0, there a.step.1, a.step.2)
 
-    pub idle_answer : (used number drawn : ℕ) (task : Option Task) (seat : SeatShown) (t t' : TableId) (old : PassShown) → view_of seat ≡ v → v.limits ≡ l → shown t v ≡ old → Rests seat number drawn used task → ¬ (used ≡ l.units)
+    pub idle_answer : (used number drawn : ℕ) (task : Option Task) (seat : SeatShown) (t t' : Spot) (old : PassShown) → view_of seat ≡ v → v.limits ≡ l → shown t v ≡ old → Rests seat number drawn used task → ¬ (used ≡ l.units)
         → Claims l stage old (shown t' y) claimeds.Idle
     idle_answer used number drawn task seat t t' old same lim is r not =
         let count : claims_in (hand v).mine ≡ used = subst (λ z. claims_in (hand z).mine ≡ used) same r.claims in
@@ -128,7 +127,7 @@ module _ (l : Limits) (u : ℕ) (v w : View) (s : Steady l v) (g : Chooses v u w
     took_fresh : claim_of (hand v).mine u ≡ None
     took_fresh = ap (λ z. claim_of z u) s.shows.own ∙ unused_mine (hand v).number u v.seen (unused_start u v.seen k.before took_begins took_step.unused)
 
-    pub took_answer : (used number drawn : ℕ) (task : Option Task) (seat : SeatShown) (t t' : TableId) (old : PassShown) → view_of seat ≡ v → v.limits ≡ l → shown t v ≡ old → Rests seat number drawn used task → ¬ (used ≡ l.units) → u ≡ number * l.units + used
+    pub took_answer : (used number drawn : ℕ) (task : Option Task) (seat : SeatShown) (t t' : Spot) (old : PassShown) → view_of seat ≡ v → v.limits ≡ l → shown t v ≡ old → Rests seat number drawn used task → ¬ (used ≡ l.units) → u ≡ number * l.units + used
         → Takes l stage (record { unit = u; element = x; attempt = attempt }) old (shown t' y)
     took_answer used number drawn task seat t t' old same lim is r not next =
         let count : claims_in (hand v).mine ≡ used = subst (λ z. claims_in (hand z).mine ≡ used) same r.claims in

@@ -2,7 +2,6 @@
 use Rattle.std.proofs.Common.{◌≡◌, ◌≢◌, ℕ, ◌+◌, ◌*◌, ◌<◌, ◌≤◌, Option, Some, None, MatchOption, List, [], ◌∷◌, ◌++◌, sym, refl, ap, ◌∙◌, subst, inl, inr, arith}
 use Rattle.std.proofs.lemmas.Bool.Decides.{eqb_tells}
 use mathlib.Core.List.{IsPrefix}
-use Rattle.atomic_table.specs.Seated.{TableId}
 use Rattle.tp_model.specs.declared.types.Element.{Element}
 use Rattle.tp_model.specs.declared.types.Limits.{Limits}
 use Rattle.tp_model.specs.declared.types.Status.{Status}
@@ -29,7 +28,7 @@ use Rattle.tp_manager.specs.declared.listing.Wanted.{Wanted}
 use Rattle.tp_manager.specs.declared.listing.Wanted.TheVariants as wanteds
 use Rattle.tp_manager.specs.Calls.{AtPoint, IsWaiting, opening}
 use Rattle.tp_manager.specs.Looks.{IsThere}
-use Rattle.tp_manager.specs.Shown.{PassShown, shown}
+use Rattle.tp_manager.specs.Shown.{Spot, PassShown, shown}
 use Rattle.tp_manager.specs.Walks.{Acted, EachRow, Steady, Walked}
 use Rattle.tp_manager.specs.Lists.{AllKilled, IsReply, NextError, NextReply, NoneParked}
 use Rattle.tp_manager.specs.Finds.{Finds, Hits, IsWanted, PassedOver}
@@ -134,7 +133,7 @@ pub over_widens : (l : Limits) (wanted : Wanted) → Widens (PassedOver l wanted
 over_widens l wanted i a a' b b' before after passed x p = let t = passed x (found_later a a' before i x p) in (t.0, begins_trans a a' t.0 before t.1, begins_trans t.0 b b' t.2 after, t.3)
 
 -- a listing as a whole
-module _ (t t' : TableId) (v y : View) (old : PassShown) (is : shown t v ≡ old) (l : Limits) (m from : ℕ) (marks : List TraceEntry) (walk : Walked l m marks v y) where
+module _ (t t' : Spot) (v y : View) (old : PassShown) (is : shown t v ≡ old) (l : Limits) (m from : ℕ) (marks : List TraceEntry) (walk : Walked l m marks v y) where
   abbrev O : List Event
   O = opening_of v.seen marks
 
@@ -194,7 +193,7 @@ not_wanted wanteds.Error stage root s settled is = subst IsSettled is.1 settled
 pub over_low : (l : Limits) (wanted : Wanted) (h : List Event) (p n i : ℕ) → AreOver l h p n → p * l.rows ≤ i → i < p * l.rows + n → PassedOver l wanted i h h
 over_low l wanted h p n i over low high x born = (h, begins_refl h, begins_refl h, not_wanted wanted x.stage x.root (status_of l.attempts h i) (over i low high x born))
 
-module _ (t t' : TableId) (v y : View) (old : PassShown) (is : shown t v ≡ old) (l : Limits) (n from : ℕ) where
+module _ (t t' : Spot) (v y : View) (old : PassShown) (is : shown t v ≡ old) (l : Limits) (n from : ℕ) where
   pub error_answer : (r : Option ℕ) → Finds l wanteds.Error n from (rows_of l) v y r → MatchOption r (NoneParked l (λ i. from ≤ i) old (shown t' y)) (λ id. NextError l from id old (shown t' y))
   error_answer None s = error_none t t' v y old is l n from s.marks s.walk s.passed
   error_answer (Some id) s = error_some t t' v y old is l n from s.3.marks s.3.walk id s.0 s.2 s.3.passed
@@ -204,7 +203,7 @@ module _ (t t' : TableId) (v y : View) (old : PassShown) (is : shown t v ≡ old
   reply_answer root (Some id) s = reply_some t t' v y old is l n from s.3.marks s.3.walk root id s.0 s.2 s.3.passed
 
 -- from the capacity on there is nothing
-module _ (t : TableId) (v : View) (old : PassShown) (is : shown t v ≡ old) (l : Limits) (s : Steady l v) (from : ℕ) (out : rows_of l ≤ from) where
+module _ (t : Spot) (v : View) (old : PassShown) (is : shown t v ≡ old) (l : Limits) (s : Steady l v) (from : ℕ) (out : rows_of l ≤ from) where
   nothing : (x : Element) → element_of (opening old (shown t v)) x.id ≡ Some x → from ≤ x.id → ⊥
   nothing x p low = let born : element_of v.seen x.id ≡ Some x = subst (λ h. element_of h x.id ≡ Some x) (opening_is t t v v old is l 0 [] (walked_none l v s)) p in let less = births_inside l v.seen s.shows.legal x born in omega arith
 

@@ -1,5 +1,8 @@
 -- A pass that was just given out.
-use Rattle.std.proofs.Common.{◌≡◌, ℕ, zero, suc, ◌+◌, ◌-◌, ◌*◌, ◌<◌, ◌≤◌, List, [], ◌∷◌, length, sym, refl, ap, ◌∙◌, subst, arith, None}
+use Rattle.std.proofs.Common.{◌≡◌, ℕ, zero, suc, ◌+◌, ◌-◌, ◌*◌, ◌<◌, ◌≤◌, List, [], ◌∷◌, length, replicate, slice_index, sym, refl, ap, ◌∙◌, subst, arith, None}
+use Rattle.std.proofs.lemmas.List.{get_or-replicate, get_or_past, length-replicate}
+use mathlib.Core.Logic.{dite}
+use native.Mathlib.Decide.{dec_le}
 use Rattle.tp_model.specs.declared.types.Limits.{Limits}
 use Rattle.tp_model.specs.declared.event.Event.{Event}
 use Rattle.tp_model.specs.declared.trace.StepKind.TheVariants as kinds
@@ -121,3 +124,7 @@ module _ (seat : SeatShown) (l : Limits) (given : ℕ) (k : Keeps seat l given) 
       open_is = ap (λ (a : Hand). a.open_unit) h;
       work = tt;
     }
+
+-- it remembers no mark
+pub no_lows : (n p : ℕ) → slice_index (replicate n 0) p ≡ 0
+no_lows n p = dite (dec_le (suc p) n) (λ less. get_or-replicate n p 0 0 less) (λ not. get_or_past (replicate n 0) p 0 (subst (λ z. z ≤ p) (sym (length-replicate n 0)) (omega arith)))

@@ -2,12 +2,11 @@
 use Rattle.std.proofs.Common.{◌≡◌, ◌≢◌, ℕ, ◌+◌, ◌≤◌, nat_lt, Bool, true, false, cond, List, [], ◌∷◌, ◌++◌, length, Result, Ok, Err, sym, refl, ap, ◌∙◌, subst, ⊎_elim, arith, append_assoc, Some, None}
 use Rattle.std.specs.Prelude.{MatchResult}
 use Rattle.std.specs.Option.{option_or}
-use Rattle.atomic_table.specs.Seated.{TableId}
 use Rattle.tp_model.specs.declared.types.Refusal.{Refusal}
 use Rattle.tp_model.specs.declared.types.Refusal.TheVariants as refusals
 use Rattle.tp_model.specs.declared.types.Status.{Status}
 use Rattle.tp_model.specs.declared.types.Status.TheVariants as statuses
-use Rattle.tp_manager.specs.Shown.{PassShown, shown}
+use Rattle.tp_manager.specs.Shown.{Spot, PassShown, shown}
 use Rattle.tp_manager.proofs.Passes.{claims_append}
 use mathlib.Core.List.{IsPrefix}
 use Rattle.tp_model.specs.declared.types.Limits.{Limits}
@@ -185,7 +184,7 @@ module _ (l : Limits) (seat next : SeatShown) (number drawn used : ℕ) (same : 
   rests_slain n i es a = let k : Event = Kill (hand (view_of seat)).number i in let none = no_claims l (hand (view_of seat)).number i _ _ es a.aborts in
       rests_gained l seat next number drawn used same r n (es ++ k ∷ []) a.gained (claims_append es (k ∷ []) ∙ omega arith)
 
-module _ (t t' : TableId) (v w : View) (old : PassShown) (is : shown t v ≡ old) (l : Limits) (free : (hand v).open_unit ≡ None) where
+module _ (t t' : Spot) (v w : View) (old : PassShown) (is : shown t v ≡ old) (l : Limits) (free : (hand v).open_unit ≡ None) where
   pub kills_shown : (n i count : ℕ) → KillsIn l n i (tries l.attempts) count v w → Kills l i count old (shown t' w)
   kills_shown n i count k = let a = k.3 in subst (λ (p : PassShown). Kills l i count p (shown t' w)) is record {
     aborts = k.0;

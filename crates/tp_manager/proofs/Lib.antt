@@ -5,6 +5,7 @@ pub mod Walks
 pub mod Gains
 pub mod Seeks
 pub mod Marks
+pub mod Lows
 pub mod Looks
 pub mod Tries
 pub mod Passes

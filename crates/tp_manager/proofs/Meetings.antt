@@ -11,10 +11,9 @@ use Rattle.tp_rule.specs.Views.{IsOnePass, hand}
 use Rattle.tp_rule.specs.declared.view.Hand.{Hand}
 use Rattle.tp_rule.specs.declared.view.View.{View}
 use Rattle.tp_manager.specs.Bounds.{meet_steps, met_steps}
-use Rattle.atomic_table.specs.Seated.{TableId}
 use Rattle.tp_manager.specs.Meetings as Met
 use Rattle.tp_manager.specs.Meetings.{load, seat_load}
-use Rattle.tp_manager.specs.Shown.{PassShown, shown}
+use Rattle.tp_manager.specs.Shown.{Spot, PassShown, shown}
 use Rattle.tp_manager.specs.Walks.{Acted, KnowsLow, Steady}
 use Rattle.tp_manager.proofs.Rows.{unborn_quiet}
 
@@ -79,7 +78,7 @@ module _ (l : Limits) (v w x y : View) (sv : Steady l v) (sw : Steady l w) (m : 
   }
 
   -- what both show
-  pub met_shown : (t u t' u' : TableId) (a b : PassShown) → shown t v ≡ a → shown u w ≡ b → Met.Meets a b (shown t' x) (shown u' y)
+  pub met_shown : (t u t' u' : Spot) (a b : PassShown) → shown t v ≡ a → shown u w ≡ b → Met.Meets a b (shown t' x) (shown u' y)
   met_shown t u t' u' a b is_a is_b = subst (λ (p : PassShown × PassShown). Met.Meets p.0 p.1 (shown t' x) (shown u' y)) (λ i. (is_a i, is_b i)) record {
     same = m.same;
     first_saw = m.first_saw;

@@ -1,7 +1,6 @@
 -- What is so of a pass after a call.
 use Rattle.std.proofs.Common.{◌≡◌, ℕ, ◌+◌, ◌≤◌, List, [], ◌∷◌, ◌++◌, sym, refl, ap, ◌∙◌, subst, arith, Option, Some, None}
 use mathlib.Core.List.{IsPrefix}
-use Rattle.atomic_table.specs.Seated.{TableId}
 use Rattle.tp_model.specs.declared.types.Limits.{Limits}
 use Rattle.tp_model.specs.declared.event.Event.{Event}
 use Rattle.tp_model.specs.History.{IsUnborn}
@@ -12,7 +11,7 @@ use Rattle.tp_rule.specs.Views.{SeatShown, view_of}
 use Rattle.tp_rule.specs.declared.view.Hand.{Hand}
 use Rattle.tp_rule.specs.declared.view.View.{View}
 use Rattle.tp_manager.specs.declared.manager.Task.{Task}
-use Rattle.tp_manager.specs.Shown.{PassShown, shown}
+use Rattle.tp_manager.specs.Shown.{Spot, PassShown, shown}
 use Rattle.tp_manager.specs.Calls.{AtPoint, IsQuiet}
 use Rattle.tp_manager.specs.Walks.{Steady, Looked, Rests, IsTask, unit_in}
 use Rattle.tp_manager.specs.Calls.{claims_in}
@@ -46,7 +45,7 @@ module _ (l : Limits) (seat next : SeatShown) (same : (view_of seat).limits ≡ 
   }
 
 -- what a call that has looked shows
-module _ (t t' : TableId) (v w : View) (old : PassShown) (is : shown t v ≡ old) (l : Limits) (n : ℕ) (a : Looked l n v w) where
+module _ (t t' : Spot) (v w : View) (old : PassShown) (is : shown t v ≡ old) (l : Limits) (n : ℕ) (a : Looked l n v w) where
   pub quiet_looked : IsQuiet old (shown t' w)
   quiet_looked = let k = a.kept in record {
     mine = ap (λ (z : Hand). z.mine) k ∙ ap (λ (p : PassShown). p.mine) is;
@@ -55,7 +54,7 @@ module _ (t t' : TableId) (v w : View) (old : PassShown) (is : shown t v ≡ old
   }
 
 -- a call that made no step has its entry for a point
-pub point_none : (t : TableId) (v : View) (old : PassShown) → shown t v ≡ old → (l : Limits) → Steady l v → (Holds : List Event → Type 0) → Holds v.seen → AtPoint old (shown t v) Holds
+pub point_none : (t : Spot) (v : View) (old : PassShown) → shown t v ≡ old → (l : Limits) → Steady l v → (Holds : List Event → Type 0) → Holds v.seen → AtPoint old (shown t v) Holds
 point_none t v old is l s Holds h = at_point t t v v old is l 0 [] (walked_none l v s) Holds v.seen (record { opened = begins_refl v.seen; seen = begins_refl v.seen }) h
 
 -- no element has an id from the capacity on

@@ -2,7 +2,6 @@
 use Rattle.std.proofs.Common.{◌≡◌, ◌≢◌, ℕ, ◌+◌, ◌<◌, ◌≤◌, nat_lt, Bool, true, false, cond, Option, Some, None, List, [], ◌∷◌, ◌++◌, sym, refl, ap, ◌∙◌, subst, inl, inr, ⊎_elim, arith}
 use Rattle.std.proofs.lemmas.Bool.Decides.{nat_tests}
 use mathlib.Core.List.{IsPrefix}
-use Rattle.atomic_table.specs.Seated.{TableId}
 use Rattle.tp_model.specs.declared.types.Limits.{Limits}
 use Rattle.tp_model.specs.declared.types.TheConstants.{MOST_ROUNDS}
 use Rattle.tp_model.specs.declared.types.Refusal.{Refusal}
@@ -26,7 +25,7 @@ use Rattle.tp_rule.specs.declared.view.Hand.{Hand}
 use Rattle.tp_rule.specs.declared.view.View.{View}
 use Rattle.tp_manager.specs.declared.manager.Task.{Task}
 use Rattle.tp_manager.specs.Calls.{AtPoint, claims_in}
-use Rattle.tp_manager.specs.Shown.{PassShown, shown}
+use Rattle.tp_manager.specs.Shown.{Spot, PassShown, shown}
 use Rattle.tp_manager.specs.Requeues.{IsBetween, IsPastRequeue, Renewed, RequeueFails, Requeues}
 use Rattle.tp_manager.specs.Walks.{Acted, Looked, Rests, Walked, with_trace}
 use Rattle.tp_manager.proofs.Moves.{moved}
@@ -150,7 +149,7 @@ rests_renewed l seat next number drawn used task same r n i round a = let k = a.
   work = task_later (view_of seat).seen (view_of next).seen number task (walked_begins l n a.marks (view_of seat) (view_of next) a.walk) r.work;
 }
 
-module _ (t t' : TableId) (v x w : View) (old : PassShown) (is : shown t v ≡ old) (l : Limits) (n m : ℕ) (a : Acted l n v x) where
+module _ (t t' : Spot) (v x w : View) (old : PassShown) (is : shown t v ≡ old) (l : Limits) (n m : ℕ) (a : Acted l n v x) where
   -- what a caller sees of it
   pub requeues_shown : (i r : ℕ) → Renewed l m i r v w → Requeues i r old (shown t' w)
   requeues_shown i r b = subst (λ (p : PassShown). Requeues i r p (shown t' w)) is record {

@@ -1,6 +1,5 @@
 -- The drafts of a pass's own unit, and the unit's end.
 use Rattle.std.proofs.Common.{◌≡◌, ℕ, suc, ◌+◌, ◌*◌, ◌<◌, ◌≤◌, List, [], ◌∷◌, ◌++◌, length, true, slice_index_or, take, sym, refl, ap, ◌∙◌, subst, ⊎_elim, arith, append_assoc, length-append, mul-le-mul_right, Option, Some, None}
-use Rattle.atomic_table.specs.Seated.{TableId}
 use Rattle.tp_model.specs.Drafts.{DraftView}
 use Rattle.std.specs.List.{All}
 use Rattle.std.proofs.lemmas.List.Elements.{All-head, All-tail}
@@ -29,7 +28,7 @@ use Rattle.tp_rule.specs.Steps.{Grew, IsOut, IsOwnWork, IsClaimed, committed, wi
 use Rattle.tp_rule.specs.declared.view.Hand.{Hand}
 use Rattle.tp_rule.specs.declared.view.View.{View}
 use Rattle.tp_manager.specs.declared.manager.Task.{Task}
-use Rattle.tp_manager.specs.Shown.{PassShown, shown}
+use Rattle.tp_manager.specs.Shown.{Spot, PassShown, shown}
 use Rattle.tp_manager.specs.Calls.{Adds, Closes, Commits, EndedByOther, HasConsumed, HasEnded, Loses, claims_in}
 use Rattle.tp_manager.specs.Bounds.{commit_steps, draft_steps}
 use Rattle.tp_manager.specs.Walks.{Rests, Shut, Steady, Wrote, output, IsTask}
@@ -103,7 +102,7 @@ shut_rests l n k es seat next number drawn used drawn' task same t none more r =
   work = tt;
 }
 
-pub shut_closes : (t t' : TableId) (v w : View) (old : PassShown) → shown t v ≡ old → (l : Limits) (n k u drawn : ℕ) (es : List Event) → Shut l n k es v w → (hand v).open_unit ≡ Some u → (how : UnitEnd) × (end_of w.seen u ≡ Some how) → old.drawn + k ≡ drawn → Closes u drawn old (shown t' w)
+pub shut_closes : (t t' : Spot) (v w : View) (old : PassShown) → shown t v ≡ old → (l : Limits) (n k u drawn : ℕ) (es : List Event) → Shut l n k es v w → (hand v).open_unit ≡ Some u → (how : UnitEnd) × (end_of w.seen u ≡ Some how) → old.drawn + k ≡ drawn → Closes u drawn old (shown t' w)
 shut_closes t t' v w old is l n k u drawn es sh held ended more = record {
   was_open = sym (ap (λ (p : PassShown). p.open_unit) is) ∙ held;
   open_unit = sh.open_unit;
@@ -111,10 +110,10 @@ shut_closes t t' v w old is l n k u drawn es sh held ended more = record {
   drawn_is = sh.drawn ∙ (ap (λ (p : PassShown). p.drawn + k) is ∙ more);
 }
 
-pub shut_adds : (t t' : TableId) (v w : View) (old : PassShown) → shown t v ≡ old → (l : Limits) (n k u : ℕ) → Shut l n k (Abort (hand v).number u ∷ []) v w → Adds (Abort old.number u) old (shown t' w)
+pub shut_adds : (t t' : Spot) (v w : View) (old : PassShown) → shown t v ≡ old → (l : Limits) (n k u : ℕ) → Shut l n k (Abort (hand v).number u ∷ []) v w → Adds (Abort old.number u) old (shown t' w)
 shut_adds t t' v w old is l n k u sh = subst (λ (p : PassShown). Adds (Abort p.number u) p (shown t' w)) is record { mine = sh.mine; before = sh.before; seen = sh.ends; begins = sh.begins }
 
-pub shut_loses : (t t' : TableId) (v w : View) (old : PassShown) → shown t v ≡ old → (l : Limits) (n k u : ℕ) → Shut l n k [] v w → end_of w.seen u ≡ Some Aborted → ¬ (In (Abort (hand v).number u) w.seen) → Loses u old (shown t' w)
+pub shut_loses : (t t' : Spot) (v w : View) (old : PassShown) → shown t v ≡ old → (l : Limits) (n k u : ℕ) → Shut l n k [] v w → end_of w.seen u ≡ Some Aborted → ¬ (In (Abort (hand v).number u) w.seen) → Loses u old (shown t' w)
 shut_loses t t' v w old is l n k u sh lost not = subst (λ (p : PassShown). Loses u p (shown t' w)) is (sh.mine ∙ append_nil (hand v).mine, other_abort (hand v).number u w.seen lost not)
 
 -- the drafts, and then the end
@@ -217,7 +216,7 @@ commit_consumes l c u h before outs legal is = let whole = subst (IsLegal l) is 
     )
 
 -- the answer of a commit that was made
-pub committed_answer : (t t' : TableId) (l : Limits) (v w y : View) (old : PassShown) → shown t v ≡ old → (number drawn used row : ℕ) (k : Task) (ds : List DraftView) (seat : SeatShown) → view_of seat ≡ v → Rests seat number drawn used (Some k) → row ≡ number * l.rows + drawn
+pub committed_answer : (t t' : Spot) (l : Limits) (v w y : View) (old : PassShown) → shown t v ≡ old → (number drawn used row : ℕ) (k : Task) (ds : List DraftView) (seat : SeatShown) → view_of seat ≡ v → Rests seat number drawn used (Some k) → row ≡ number * l.rows + drawn
     → Wrote l (outputs k.unit k.root row ds) v w → v.limits ≡ l → (hand v).open_unit ≡ Some k.unit → (f n : ℕ) → Shut l n (length ds) (committed w k.unit ∷ []) v y → (0 < length ds → f ≡ row) → (length ds ≡ 0 → f ≡ 0) → Commits f (length ds) ds old (shown t' y)
 committed_answer t t' l v w y old is number drawn used row k ds seat same r next wr lim held f n sh a b =
     let e = committed_is l v w number drawn used row k ds seat same r next wr lim in

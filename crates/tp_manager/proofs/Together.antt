@@ -20,7 +20,7 @@ use Rattle.tp_rule.specs.declared.view.View.{View}
 use Rattle.tp_rule.proofs.Reading.{grew_begins}
 use Rattle.tp_manager.specs.Bounds.{lead_steps, led_steps, meet_steps}
 use Rattle.tp_manager.specs.Meetings.{load, seat_load}
-use Rattle.tp_manager.specs.Shown.{IsOf, ManagerShown, PassShown, shown}
+use Rattle.tp_manager.specs.Shown.{Rises, Spot, IsOf, ManagerShown, PassShown, shown}
 use Rattle.tp_manager.specs.Together.{IsAt, Joins, LooksOn, LooksWith}
 use Rattle.tp_manager.specs.Walks.{Acted, Steady}
 use Rattle.tp_manager.proofs.Meetings.{steady_seen}
@@ -189,11 +189,11 @@ module _ (l : Limits) (p q r s t o x : View) (h g : List Event) (sp : Steady l p
   }
 
   -- what it shows
-  pub joined_shown : (table at at' : TableId) (old : PassShown) → shown at p ≡ old → at' ≡ table → Joins table l led_steps g old (shown at' t)
-  joined_shown table at at' old is there_at = record {
+  pub joined_shown : (table : TableId) (at at' : Spot) (old : PassShown) → shown at p ≡ old → at'.table ≡ table → Rises at.lows at'.lows → Joins table l led_steps g old (shown at' t)
+  joined_shown table at at' old is there_at rises = record {
     attends = record {
       seen = t_seen;
-      follows = follows at at' p t old is l led_steps joined_acted.marks joined_acted.walk led_steps (omega arith);
+      follows = follows at at' rises p t old is l led_steps joined_acted.marks joined_acted.walk led_steps (omega arith);
       looks = has_looked at at' p t old is l led_steps joined_acted.marks joined_acted.walk joined_acted.step;
       quiet = quiet_looked at at' p t old is l led_steps (walks.looked l led_steps p t joined_acted);
     };

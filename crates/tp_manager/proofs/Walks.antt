@@ -1,7 +1,6 @@
 -- What a step leaves of the view, and what the steps of two parts of a call leave.
-use Rattle.std.proofs.Common.{◌≡◌, ℕ, ◌+◌, ◌*◌, ◌<◌, ◌≤◌, Some, true, List, [], ◌∷◌, ◌++◌, length, drop, sym, refl, ap, ◌∙◌, subst, arith, append_assoc, length-append}
+use Rattle.std.proofs.Common.{◌≡◌, ℕ, ◌+◌, ◌*◌, ◌<◌, ◌≤◌, Some, true, List, [], ◌∷◌, ◌++◌, length, slice_index, drop, sym, refl, ap, ◌∙◌, subst, arith, append_assoc, length-append}
 use mathlib.Core.List.{IsPrefix}
-use Rattle.atomic_table.specs.Seated.{TableId}
 use Rattle.tp_model.specs.declared.types.Element.{Element}
 use Rattle.tp_model.specs.declared.types.Limits.{Limits}
 use Rattle.tp_model.specs.declared.event.Event.{Event}
@@ -15,11 +14,12 @@ use Rattle.tp_model.proofs.Bridges.{append_nil, begins_refl, begins_trans, by_ow
 use Rattle.tp_rule.specs.Views.{IsOnePass, hand}
 use Rattle.tp_rule.specs.Steps.{Grew, IsLow, noted, unchanged}
 use Rattle.tp_rule.specs.declared.view.Hand.{Hand}
+use Rattle.tp_rule.specs.declared.view.Known.TheVariants.{PartMark}
 use Rattle.tp_rule.specs.declared.view.View.{View}
 use Rattle.tp_rule.proofs.Reading.{one_after, grew_begins}
 use Rattle.tp_manager.specs.Calls.{Follows, AtPoint, HasLooked, steps_of, opening}
-use Rattle.tp_manager.specs.Shown.{PassShown, shown}
-use Rattle.tp_manager.specs.Walks.{Steady, Walked, Looked, Acted, Sought, pass_in, with_trace}
+use Rattle.tp_manager.specs.Shown.{Rises, Spot, PassShown, shown}
+use Rattle.tp_manager.specs.Walks.{Remembers, Steady, Walked, Looked, Acted, Sought, pass_in, with_trace}
 use Rattle.tp_manager.proofs.Points.{opening_one, opening_later, opening_kept, opens_later, has_more, drop_steps}
 use Rattle.tp_manager.proofs.Rows.{unborn_quiet}
 
@@ -180,21 +180,22 @@ module _ (l : Limits) where
   sought_acted n Passed v w a = record { marks = a.marks; walk = a.walk; kept = a.kept; step = a.step }
 
 -- what a caller sees of the steps of a call
-module _ (t t' : TableId) (v w : View) (old : PassShown) (is : shown t v ≡ old) (l : Limits) (n : ℕ) (ms : List TraceEntry) (a : Walked l n ms v w) where
+module _ (t t' : Spot) (v w : View) (old : PassShown) (is : shown t v ≡ old) (l : Limits) (n : ℕ) (ms : List TraceEntry) (a : Walked l n ms v w) where
   pub steps_are : steps_of old (shown t' w) ≡ ms
   steps_are = ap (λ (p : PassShown). drop (length p.trace) (hand w).trace) (sym is) ∙ (ap (drop (length (hand v).trace)) a.traced ∙ drop_steps (hand v).trace ms)
 
   pub opening_is : opening old (shown t' w) ≡ opening_of v.seen ms
   opening_is = ap (λ z. opening_of old.seen z) steps_are ∙ ap (λ (p : PassShown). opening_of p.seen ms) (sym is)
 
-  pub follows : (m : ℕ) → n ≤ m → Follows m old (shown t' w)
-  follows m le = record {
+  follows_to : Rises t.lows t'.lows → (m : ℕ) → n ≤ m → Follows m old (shown t' w)
+  follows_to rises m le = record {
     shows = subst (λ (z : Limits). IsPassView z (pass_in w)) (sym a.steady.pass.1) a.steady.shows;
     number = a.number ∙ ap (λ (p : PassShown). p.number) is;
     traced = a.traced ∙ (ap (λ z. (hand v).trace ++ z) (sym steps_are) ∙ ap (λ (p : PassShown). p.trace ++ steps_of old (shown t' w)) is);
     few = let p = a.few in subst (λ z. length z ≤ m) (sym steps_are) (omega arith);
     opened = subst (IsPrefix old.seen) (sym opening_is) (subst (λ (p : PassShown). IsPrefix p.seen (opening_of v.seen ms)) is a.opens);
     closed = subst (λ z. IsPrefix z w.seen) (sym opening_is) a.closes;
+    lows = subst (λ (p : PassShown). Rises p.lows t'.lows) is rises;
   }
 
   pub at_point : (Holds : List Event → Type 0) (p : List Event) → IsPoint (opening_of v.seen ms) w.seen p → Holds p → AtPoint old (shown t' w) Holds
@@ -202,3 +203,14 @@ module _ (t t' : TableId) (v w : View) (old : PassShown) (is : shown t v ≡ old
 
   pub has_looked : HasLook ms → HasLooked old (shown t' w)
   has_looked h = subst HasLook (sym steps_are) h
+
+pub follows : (t t' : Spot) → Rises t.lows t'.lows → (v w : View) (old : PassShown) → shown t v ≡ old → (l : Limits) (n : ℕ) (ms : List TraceEntry) → Walked l n ms v w → (m : ℕ) → n ≤ m → Follows m old (shown t' w)
+follows t t' rises v w old is l n ms a m le = follows_to t t' v w old is l n ms a rises m le
+
+-- a call that neither loads nor raises a mark
+pub rises_same : (lows : List ℕ) → Rises lows lows
+rises_same lows p = omega arith
+
+-- what the pass remembers is known at any later time
+pub remembers : (lows : List ℕ) (l : Limits) (n : ℕ) (ms : List TraceEntry) (v w : View) → Walked l n ms v w → Remembers v lows → Remembers w lows
+remembers lows l n ms v w a r p some = a.knows (PartMark p (slice_index lows p)) (r p some)

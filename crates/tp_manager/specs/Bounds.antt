@@ -1,5 +1,5 @@
 -- How many atomic steps the calls make at most. Each is what the call can need, and no more.
-use Rattle.std.specs.Prelude.{ℕ, ◌+◌, ◌-◌, ◌*◌, ◌≤◌}
+use Rattle.std.specs.Prelude.{ℕ, zero, suc, ◌+◌, ◌-◌, ◌*◌, ◌≤◌, List, slice_index}
 use Rattle.tp_model.specs.declared.types.Limits.{Limits}
 use Rattle.tp_model.specs.Steps.{AreLimits, rows_of, tries, changes}
 use Rattle.tp_model.specs.Words.{ClaimWord, FreeWord, TakenWord, KilledWord, AgainWord}
@@ -100,6 +100,27 @@ part_steps l = 1 + l.rows * try_steps l + 1
 abbrev pub claim_steps : Limits → ℕ
 claim_steps l = 1 + l.parts * part_steps l
 
+-- a pass that remembers marks looks at no row below them. In the first n parts so many rows are
+abbrev pub low_sum : List ℕ → ℕ → ℕ
+low_sum lows zero = 0
+low_sum lows (suc n) = low_sum lows n + slice_index lows n
+
+-- a scan of the first n parts, with t steps at each row that isn't below these marks, and k for each part
+abbrev pub scan_steps : Limits → ℕ → ℕ → List ℕ → ℕ → ℕ
+scan_steps l t k lows zero = 0
+scan_steps l t k lows (suc n) = scan_steps l t k lows n + (k + (l.rows - slice_index lows n) * t)
+
+-- and so many are not below the marks of all parts
+abbrev pub rows_left : Limits → List ℕ → ℕ
+rows_left l lows = rows_of l - low_sum lows l.parts
+
+-- so a claim, and a listing
+abbrev pub claim_steps_left : Limits → List ℕ → ℕ
+claim_steps_left l lows = 1 + rows_left l lows * try_steps l + 2 * l.parts
+
+abbrev pub listing_steps_left : Limits → List ℕ → ℕ
+listing_steps_left l lows = rows_left l lows * look_steps l + l.parts
+
 -- a meeting: the first joins, looks and parts, and the second is there at the look
 abbrev pub meet_steps : ℕ
 meet_steps = 3
@@ -132,6 +153,8 @@ account_steps l n = first_steps l n + 2 * led_steps * (n - 1) + kept_steps * (l.
 pub record RoundBounds (l : Limits) : Type 0 where
   pub submit : submit_steps ≤ 4
   pub claim : claim_steps l ≤ rows_of l * (2 * changes l.attempts + 9) + 2 * l.parts + 1
+  pub claim_left : (lows : List ℕ) → claim_steps_left l lows ≤ (rows_of l - low_sum lows l.parts) * (2 * changes l.attempts + 9) + 2 * l.parts + 1
+  pub listing_left : (lows : List ℕ) → listing_steps_left l lows ≤ (rows_of l - low_sum lows l.parts) * (2 * changes l.attempts + 8) + l.parts
   pub commit : (k : ℕ) → commit_steps k ≤ 4 * k + 3
   pub abort : abort_steps ≤ 2
   pub kill : kill_steps l ≤ 4 * changes l.attempts + 8

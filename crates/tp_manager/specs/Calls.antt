@@ -25,7 +25,7 @@ use Rattle.tp_model.specs.History.{In, IsClaim, IsUnborn, UnitEnd, claim_of, ele
 use Rattle.tp_model.specs.Births.{outputs, request}
 use Rattle.tp_model.specs.Steps.{IsServerStage, tries}
 use Rattle.tp_model.specs.Passes.{HasLook, IsPassView, IsPoint, opening_of}
-use Rattle.tp_manager.specs.Shown.{PassShown, view_in}
+use Rattle.tp_manager.specs.Shown.{PassShown, Rises, view_in}
 
 -- the steps of a call
 abbrev pub steps_of : PassShown → PassShown → List TraceEntry
@@ -44,6 +44,8 @@ pub record Follows (n : ℕ) (old new : PassShown) : Type 0 where
   pub few : length (steps_of old new) ≤ n
   pub opened : IsPrefix old.seen (opening old new)
   pub closed : IsPrefix (opening old new) new.seen
+  -- the marks that it remembers have not fallen
+  pub lows : Rises old.lows new.lows
 
 -- one of the call's steps looks
 abbrev pub HasLooked : PassShown → PassShown → Type 0

@@ -1,5 +1,5 @@
 -- What contracts see of a manager, of its keeper, and of a pass.
-use Rattle.std.specs.Prelude.{◌≡◌, ℕ, ◌+◌, Option, List, [], ◌∷◌, length}
+use Rattle.std.specs.Prelude.{◌≡◌, ℕ, ◌+◌, ◌≤◌, Option, List, [], ◌∷◌, length, slice_index}
 use Rattle.atomic_table.specs.Seated.{TableId}
 use Rattle.tp_model.specs.declared.types.Limits.{Limits}
 use Rattle.tp_model.specs.declared.event.Event.{Event}
@@ -23,7 +23,7 @@ pub record KeeperShown : Type 0 where
   pub seen : List Event
   pub steps : ℕ
 
--- a pass shows these, and what the definitions say that a pass shows
+-- a pass shows these, what the definitions say that a pass shows, and the mark of each part as it last loaded or set it
 pub record PassShown : Type 0 where
   pub table : TableId
   pub limits : Limits
@@ -33,6 +33,7 @@ pub record PassShown : Type 0 where
   pub open_unit : Option ℕ
   pub drawn : ℕ
   pub trace : List TraceEntry
+  pub lows : List ℕ
 
 -- the steps of these passes, all together
 abbrev pub steps_in : List Hand → ℕ
@@ -50,6 +51,14 @@ view_in p = record {
   trace = p.trace;
 }
 
+-- the mark of part p as the pass last loaded or set it, and 0 before
+abbrev pub low_of : PassShown → ℕ → ℕ
+low_of pass p = slice_index pass.lows p
+
+-- no mark is below what it was
+abbrev pub Rises : List ℕ → List ℕ → Type 0
+Rises lows lows' = (p : ℕ) → slice_index lows p ≤ slice_index lows' p
+
 -- the pass comes from this manager's keeper
 abbrev pub IsOf : ManagerShown → PassShown → Type 0
 IsOf m p = (p.table ≡ m.table) × (p.limits ≡ m.limits)
@@ -58,10 +67,18 @@ IsOf m p = (p.table ≡ m.table) × (p.limits ≡ m.limits)
 abbrev pub IsKeptBy : ManagerShown → KeeperShown → Type 0
 IsKeptBy m k = (k.table ≡ m.table) × (k.limits ≡ m.limits)
 
--- a pass at this table that knows this
-abbrev pub shown : TableId → View → PassShown
-shown table v = record {
-  table = table;
+-- where a pass is, and the marks that it remembers
+pub record Spot : Type 0 where
+  pub table : TableId
+  pub lows : List ℕ
+
+abbrev pub spot : TableId → List ℕ → Spot
+spot table lows = record { table = table; lows = lows }
+
+-- a pass there that knows this
+abbrev pub shown : Spot → View → PassShown
+shown at v = record {
+  table = at.table;
   limits = v.limits;
   number = (hand v).number;
   seen = v.seen;
@@ -69,4 +86,5 @@ shown table v = record {
   open_unit = (hand v).open_unit;
   drawn = (hand v).drawn;
   trace = (hand v).trace;
+  lows = at.lows;
 }

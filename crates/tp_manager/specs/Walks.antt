@@ -1,6 +1,6 @@
 -- What the view of a pass keeps over some of a call's steps. In each definition l are the table's limits, v is the
 -- view before, and w the view after.
-use Rattle.std.specs.Prelude.{◌≡◌, ◌⊎◌, ℕ, ◌+◌, ◌-◌, ◌*◌, ◌<◌, ◌≤◌, List, [], ◌∷◌, ◌++◌, length, map, Option, Some, None}
+use Rattle.std.specs.Prelude.{◌≡◌, ◌≢◌, ◌⊎◌, ℕ, ◌+◌, ◌-◌, ◌*◌, ◌<◌, ◌≤◌, List, [], ◌∷◌, ◌++◌, length, map, Option, Some, None, slice_index}
 use mathlib.Core.List.{IsPrefix}
 use Rattle.tp_model.specs.declared.types.Element.{Element}
 use Rattle.tp_model.specs.declared.types.Limits.{Limits}
@@ -19,6 +19,7 @@ use Rattle.tp_rule.specs.Steps.{IsLow, Knows, claimed, with_claim}
 use Rattle.tp_rule.specs.declared.view.Known.{Known}
 use Rattle.tp_rule.specs.declared.view.Known.TheVariants.{PartMark}
 use Rattle.tp_manager.specs.Bounds.{draft_steps}
+use Rattle.tp_manager.specs.Shown.{Rises}
 use Rattle.tp_manager.specs.Calls.{IsWaiting, claims_in}
 
 -- what a seat that stands for one pass shows of it
@@ -103,6 +104,14 @@ pub record Rests (seat : SeatShown) (number drawn used : ℕ) (task : Option Tas
   pub no_drafts : (hand (view_of seat)).drafts ≡ []
   pub open_is : (hand (view_of seat)).open_unit ≡ unit_in task
   pub work : IsTask (view_of seat).seen number task
+
+-- the seat knows the marks that the pass remembers
+abbrev pub Remembers : View → List ℕ → Type 0
+Remembers v lows = (p : ℕ) → 0 < slice_index lows p → Knows v (PartMark p (slice_index lows p))
+
+-- no mark that the pass remembers fell, and it remembers no other than that of part p
+abbrev pub RisesAt : ℕ → List ℕ → List ℕ → Type 0
+RisesAt p lows lows' = Rises lows lows' × ((q : ℕ) → q ≢ p → slice_index lows' q ≡ slice_index lows q)
 
 -- the passes without their traces
 abbrev pub untraced : List Hand → List Hand

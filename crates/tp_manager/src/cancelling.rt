@@ -11,13 +11,13 @@ ghost use Rattle.tp_words.specs.Words.{head_of};
 ghost use Rattle.tp_rule.specs.Steps.{HasElement};
 ghost use Rattle.tp_rule.specs.Views.{hand_of, seen_by, view_of, IsSameSeat};
 ghost use Rattle.tp_rule.specs.Tables.{limits_of, IsSeatOf};
-ghost use Rattle.tp_manager.specs.Shown.{IsOf};
+ghost use Rattle.tp_manager.specs.Shown.{IsOf, Rises};
 ghost use Rattle.tp_manager.specs.Bounds.{cancel_steps, kill_steps, round_steps};
 ghost use Rattle.tp_manager.specs.Calls.{Follows, HasLooked};
 ghost use Rattle.tp_manager.specs.Cancels.{Cancels, CancelFails};
 ghost use Rattle.tp_manager.specs.Rounds.{is_looked, row_at_mark, AreKnown, CancelsIn, Tallied, TalliedAt};
 ghost use Rattle.tp_manager.specs.Looks.{GoesOn};
-ghost use Rattle.tp_manager.specs.Walks.{Looked, Steady};
+ghost use Rattle.tp_manager.specs.Walks.{Looked, Remembers, Steady};
 
 use crate::manager::{Manager, Pass, Shared};
 use tp_model::types::{Cancelled, Refusal};
@@ -93,20 +93,21 @@ impl Shared {
         }
     }
 
-    /// The marks of all parts, which the seat knows then: no row below them has an element of the family that isn't consumed
-    /// or killed, now or later. One step for each part.
-    fn load_marks(&self, seat: &mut Seat) -> [u16; 32]
+    /// The pass looks at the marks of all parts, and remembers them: no row below them has an element of the family that isn't
+    /// consumed or killed, now or later. One step for each part.
+    fn load_marks(&self, seat: &mut Seat, lows: &mut [u16; 32])
         requires own { IsSeatOf self.now.words seat.old }
         requires steady { Steady (limits_of self.now.words) (view_of seat.old) }
+        requires remembers { Remembers (view_of seat.old) lows.old }
         ensures same { IsSameSeat seat.old seat.new }
         ensures looked { let l = limits_of self.now.words in Looked l l.parts (view_of seat.old) (view_of seat.new) }
-        ensures known { AreKnown (limits_of self.now.words) result (view_of seat.new) }
+        ensures known { AreKnown (limits_of self.now.words) lows.new (view_of seat.new) }
+        ensures remembers { Remembers (view_of seat.new) lows.new }
+        ensures lows { Rises lows.old lows.new }
     {
-        let mut marks = [0; 32];
         for part in 0..self.places.limits.parts {
-            marks[part as usize] = self.mark_at(seat, part);
+            self.mark_at(seat, lows, part);
         }
-        marks
     }
 
     /// The first row of this row's part that isn't below the part's mark.
@@ -204,8 +205,8 @@ impl Manager {
         if birth.by.is_some() {
             return Err(Refusal::NotThere);
         }
-        let marks = shared.load_marks(seat);
-        let killed = shared.cancel_family(seat, root, &marks);
+        shared.load_marks(seat, &mut pass.lows);
+        let killed = shared.cancel_family(seat, root, &pass.lows);
         Ok(Cancelled { killed })
     }
 }

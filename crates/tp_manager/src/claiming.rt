@@ -2,7 +2,7 @@
 ghost use Rattle.std.specs.Prelude.{◌≡◌, None};
 ghost use Rattle.tp_model.specs.Steps.{AreLimits, IsServerStage};
 ghost use Rattle.tp_manager.specs.Shown.{IsOf};
-ghost use Rattle.tp_manager.specs.Bounds.{claim_steps};
+ghost use Rattle.tp_manager.specs.Bounds.{claim_steps, claim_steps_left};
 ghost use Rattle.tp_manager.specs.Calls.{Claims, Follows};
 
 use crate::manager::{Manager, Pass, Task};
@@ -19,6 +19,7 @@ impl Manager {
         ensures limits { AreLimits self.now.limits }
         ensures follows { Follows (claim_steps self.now.limits) pass.old pass.new }
         ensures answer { Claims self.now.limits stage pass.old pass.new result }
+        ensures few { Follows (claim_steps_left self.now.limits pass.old.lows) pass.old pass.new }
     {
         let seat = &mut pass.seat;
         let units = self.shared.places.limits.units;
@@ -27,7 +28,7 @@ impl Manager {
         }
         let unit = pass.number * units + pass.used;
         self.shared.words.choose_unit(seat, unit);
-        let Some(taken) = self.shared.scan(seat, stage, unit) else {
+        let Some(taken) = self.shared.scan(seat, &mut pass.lows, stage, unit) else {
             return Claimed::Idle;
         };
         pass.used += 1;

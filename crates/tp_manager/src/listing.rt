@@ -1,17 +1,17 @@
 //! The next reply to a request, and the next element of the error queue.
-ghost use Rattle.std.specs.Prelude.{◌≡◌, ◌⊎◌, ◌+◌, ◌*◌, ◌<◌, ◌≤◌, IfSome, MatchOption, true, false};
+ghost use Rattle.std.specs.Prelude.{◌≡◌, ◌⊎◌, ◌+◌, ◌-◌, ◌*◌, ◌<◌, ◌≤◌, slice_index, IfSome, MatchOption, true, false};
 ghost use Rattle.tp_model.specs.declared.types.Element.{Element as element};
 ghost use Rattle.tp_model.specs.declared.types.Status.{Status as status};
 ghost use Rattle.tp_model.specs.Steps.{rows_of, IsRowOf};
 ghost use Rattle.tp_rule.specs.Views.{seen_by, view_of, IsSameSeat};
 ghost use Rattle.tp_rule.specs.Tables.{limits_of, IsSeatOf};
 ghost use Rattle.tp_words.specs.Words.{head_of};
-ghost use Rattle.tp_manager.specs.Shown.{IsOf};
-ghost use Rattle.tp_manager.specs.Bounds.{find_steps, look_steps, next_error_steps, reply_steps};
+ghost use Rattle.tp_manager.specs.Shown.{IsOf, Rises};
+ghost use Rattle.tp_manager.specs.Bounds.{listing_steps_left, look_steps, next_error_steps, reply_steps, scan_steps};
 ghost use Rattle.tp_manager.specs.Calls.{Follows, HasLooked, IsQuiet};
 ghost use Rattle.tp_manager.specs.Lists.{AllKilled, NoneParked, NextReply, NextError};
 ghost use Rattle.tp_manager.specs.Looks.{GoesOn};
-ghost use Rattle.tp_manager.specs.Walks.{Acted, EachRow, Sought, Steady};
+ghost use Rattle.tp_manager.specs.Walks.{Acted, EachRow, Remembers, RisesAt, Sought, Steady};
 ghost use Rattle.tp_manager.specs.Finds.{Finds, Hits, IsWanted, PassedOver};
 
 use crate::looking::Birth;
@@ -98,15 +98,25 @@ impl Shared {
 
     /// The first row of a part, from one of its rows on, whose element is looked for. The scan starts at the part's mark, if
     /// that is behind.
-    fn find_in_part(&self, seat: &mut Seat, part: u16, from: u32, wanted: Wanted) -> Option<u32>
+    fn find_in_part(
+        &self,
+        seat: &mut Seat,
+        lows: &mut [u16; 32],
+        part: u16,
+        from: u32,
+        wanted: Wanted,
+    ) -> Option<u32>
         requires own { IsSeatOf self.now.words seat.old }
         requires steady { Steady (limits_of self.now.words) (view_of seat.old) }
         requires from { IsRowOf (limits_of self.now.words) part from }
+        requires remembers { Remembers (view_of seat.old) lows.old }
         ensures same { IsSameSeat seat.old seat.new }
+        ensures remembers { Remembers (view_of seat.new) lows.new }
+        ensures lows { RisesAt part lows.old lows.new }
         ensures told { let l = limits_of self.now.words in
-            Finds l wanted (find_steps l) from (part * l.rows + l.rows) (view_of seat.old) (view_of seat.new) result }
+            Finds l wanted (1 + (l.rows - slice_index lows.old part) * look_steps l) from (part * l.rows + l.rows) (view_of seat.old) (view_of seat.new) result }
     {
-        let mark = self.mark_at(seat, part);
+        let mark = self.mark_at(seat, lows, part);
         let rows = self.places.limits.rows as u32;
         let first = part as u32 * rows;
         let end = first + rows;
@@ -122,21 +132,30 @@ impl Shared {
     }
 
     /// The first row from this one on whose element is looked for.
-    fn find(&self, seat: &mut Seat, from: u32, wanted: Wanted) -> Option<u32>
+    fn find(
+        &self,
+        seat: &mut Seat,
+        lows: &mut [u16; 32],
+        from: u32,
+        wanted: Wanted,
+    ) -> Option<u32>
         requires own { IsSeatOf self.now.words seat.old }
         requires steady { Steady (limits_of self.now.words) (view_of seat.old) }
         requires from { from < rows_of (limits_of self.now.words) }
+        requires remembers { Remembers (view_of seat.old) lows.old }
         ensures same { IsSameSeat seat.old seat.new }
+        ensures remembers { Remembers (view_of seat.new) lows.new }
+        ensures lows { Rises lows.old lows.new }
         ensures inside { IfSome result (λ id. id < rows_of (limits_of self.now.words)) }
         ensures told { let l = limits_of self.now.words in
-            Finds l wanted (l.parts * find_steps l) from (rows_of l) (view_of seat.old) (view_of seat.new) result }
+            Finds l wanted (scan_steps l (look_steps l) 1 lows.old l.parts) from (rows_of l) (view_of seat.old) (view_of seat.new) result }
     {
         let rows = self.places.limits.rows as u32;
         let mut row = from;
         for part in 0..self.places.limits.parts {
             let end = part as u32 * rows + rows;
             if row < end {
-                if let Some(id) = self.find_in_part(seat, part, row, wanted) {
+                if let Some(id) = self.find_in_part(seat, lows, part, row, wanted) {
                     return Some(id);
                 }
                 row = end;
@@ -152,6 +171,7 @@ impl Manager {
         requires own { IsOf self.now pass.old }
         ensures own { IsOf self.now pass.new }
         ensures follows { Follows (reply_steps self.now.limits) pass.old pass.new }
+        ensures few { Follows (listing_steps_left self.now.limits pass.old.lows) pass.old pass.new }
         ensures quiet { IsQuiet pass.old pass.new }
         ensures looks { from < rows_of self.now.limits → HasLooked pass.old pass.new }
         ensures inside { IfSome result (λ id. id < rows_of self.now.limits) }
@@ -163,7 +183,8 @@ impl Manager {
         if from >= self.shared.places.rows() {
             return None;
         }
-        self.shared.find(seat, from, Wanted::Reply { root })
+        self.shared
+            .find(seat, &mut pass.lows, from, Wanted::Reply { root })
     }
 
     /// The least id from this one on of an element, of whatever stage, that was found to be parked.
@@ -171,6 +192,7 @@ impl Manager {
         requires own { IsOf self.now pass.old }
         ensures own { IsOf self.now pass.new }
         ensures follows { Follows (next_error_steps self.now.limits) pass.old pass.new }
+        ensures few { Follows (listing_steps_left self.now.limits pass.old.lows) pass.old pass.new }
         ensures quiet { IsQuiet pass.old pass.new }
         ensures looks { from < rows_of self.now.limits → HasLooked pass.old pass.new }
         ensures inside { IfSome result (λ id. id < rows_of self.now.limits) }
@@ -182,6 +204,7 @@ impl Manager {
         if from >= self.shared.places.rows() {
             return None;
         }
-        self.shared.find(seat, from, Wanted::Error)
+        self.shared
+            .find(seat, &mut pass.lows, from, Wanted::Error)
     }
 }

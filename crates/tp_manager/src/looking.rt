@@ -1,5 +1,5 @@
 //! What a pass finds at a row.
-ghost use Rattle.std.specs.Prelude.{◌≡◌, ◌<◌, ◌≤◌, ℕ, Some, MatchOption, true, false};
+ghost use Rattle.std.specs.Prelude.{◌≡◌, ◌<◌, ◌≤◌, ℕ, slice_index, Some, MatchOption, true, false};
 ghost use Rattle.tp_words.specs.declared.words.Head.TheVariants.{Empty, There};
 ghost use Rattle.tp_model.specs.History.{IsUnborn, element_of, status_of};
 ghost use Rattle.tp_model.specs.Steps.{rows_of, units_of};
@@ -9,7 +9,7 @@ ghost use Rattle.tp_rule.specs.Views.{seen_by, view_of, IsSameSeat};
 ghost use Rattle.tp_rule.specs.declared.view.Known.TheVariants.{PartMark};
 ghost use Rattle.tp_rule.specs.Tables.{limits_of, IsSeatOf};
 ghost use Rattle.tp_rule.specs.Steps.{IsLow, Knows, NoneFrom};
-ghost use Rattle.tp_manager.specs.Walks.{Steady, Looked, Acted};
+ghost use Rattle.tp_manager.specs.Walks.{Acted, Looked, Remembers, RisesAt, Steady};
 ghost use Rattle.tp_manager.specs.Bounds.{body_steps, retry_steps, status_steps};
 ghost use Rattle.tp_manager.specs.Looks.{GoesOn, HeadFound, IsThere, IsEnough};
 
@@ -41,18 +41,24 @@ impl Shared {
         self.words.load_head(seat, row)
     }
 
-    /// The mark of a part: no row of the part below it has an element that isn't consumed or killed. One step.
+    /// The mark of a part, which the pass remembers: no row of the part below it has an element that isn't consumed or killed.
+    /// One step.
     #[inline(always)]
-    pub(crate) fn mark_at(&self, seat: &mut Seat, part: u16) -> u16
+    pub(crate) fn mark_at(&self, seat: &mut Seat, lows: &mut [u16; 32], part: u16) -> u16
         requires own { IsSeatOf self.now.words seat.old }
         requires steady { Steady (limits_of self.now.words) (view_of seat.old) }
         requires part { part < (limits_of self.now.words).parts }
+        requires remembers { Remembers (view_of seat.old) lows.old }
         ensures same { IsSameSeat seat.old seat.new }
         ensures acted { Acted (limits_of self.now.words) 1 (view_of seat.old) (view_of seat.new) }
         ensures knows { Knows (view_of seat.new) (PartMark part result) }
+        ensures remembers { Remembers (view_of seat.new) lows.new }
+        ensures lows { (slice_index lows.new part ≡ result) × RisesAt part lows.old lows.new }
         ensures low { IsLow (limits_of self.now.words) (seen_by seat.new) part result }
     {
-        self.words.load_mark(seat, part)
+        let mark = self.words.load_mark(seat, part);
+        lows[part as usize] = mark;
+        mark
     }
 
     /// What the head of a row says, as a scan goes through the rows: `row` goes on to the next row, or where the

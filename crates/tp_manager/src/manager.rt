@@ -1,10 +1,11 @@
 //! The manager, the keeper that hands out its passes, and the passes.
-ghost use Rattle.std.specs.Prelude.{◌≡◌, ◌↔◌, ◌+◌, ◌-◌, ◌≤◌, [], length, true, false, None, IfOk, IfErr, is_some, Err};
+ghost use Rattle.std.specs.Prelude.{◌≡◌, ◌↔◌, ◌+◌, ◌-◌, ◌<◌, ◌≤◌, ℕ, [], length, true, false, None, IfOk, IfErr, is_some, Err};
 ghost use Rattle.tp_model.specs.Steps.{AreLimits, rows_of};
 ghost use Rattle.tp_model.specs.Passes.{IsPassView};
 ghost use Rattle.tp_rule.specs.Views.{fresh_from, view_of};
 ghost use Rattle.tp_rule.specs.Tables.{limits_of};
-ghost use Rattle.tp_manager.specs.Shown.{view_in, IsOf, IsKeptBy};
+ghost use Rattle.tp_rule.specs.Steps.{IsLow};
+ghost use Rattle.tp_manager.specs.Shown.{low_of, view_in, IsOf, IsKeptBy};
 ghost use Rattle.tp_manager.specs.declared.manager.MakeFault.TheVariants as faults;
 
 use std::alloc::Global;
@@ -89,18 +90,20 @@ pub struct Pass {
     pub(crate) drawn: u16,
     pub(crate) used: u16,
     pub(crate) task: Option<Task>,
+    /// The mark of each part, as the pass last loaded or set it.
+    pub(crate) lows: [u16; 32],
 }
 
 impl Model for Pass {
-    ghost use Rattle.tp_manager.specs.Shown.{PassShown, shown};
+    ghost use Rattle.tp_manager.specs.Shown.{PassShown, shown, spot};
 
     ghost Value = { PassShown };
 
-    ghost use Rattle.tp_manager.specs.Walks.{Rests};
+    ghost use Rattle.tp_manager.specs.Walks.{Remembers, Rests};
 
-    ghost view = { λ p. shown p.seat.table p.seat.view };
+    ghost view = { λ p. shown (spot p.seat.table p.lows) p.seat.view };
 
-    ghost invariant = { λ p. Rests p.seat p.number p.drawn p.used p.task };
+    ghost invariant = { λ p. Rests p.seat p.number p.drawn p.used p.task × Remembers p.seat.view p.lows };
 }
 
 impl Keeper {
@@ -139,7 +142,8 @@ impl Keeper {
         ensures own { IfOk result (λ pass. IsOf manager.now pass
             × IsPassView pass.limits (view_in pass)) }
         ensures fresh { IfOk result (λ pass. (pass.number ≡ self.old.given) × (pass.mine ≡ [])
-            × (pass.seen ≡ self.old.seen) × (pass.open_unit ≡ None) × (pass.drawn ≡ 0)) }
+            × (pass.seen ≡ self.old.seen) × (pass.open_unit ≡ None) × (pass.drawn ≡ 0)
+            × ((p : ℕ) → low_of pass p ≡ 0)) }
         ensures given { IfOk result (λ pass. (self.new.given ≡ self.old.given + 1)
             × (self.new.seen ≡ self.old.seen)) }
         ensures steps { IfOk result (λ pass. length pass.trace + self.new.steps ≡ self.old.steps + 1) }
@@ -158,6 +162,7 @@ impl Keeper {
             drawn: 0,
             used: 0,
             task: None,
+            lows: [0; 32],
         })
     }
 }
@@ -168,6 +173,18 @@ impl Pass {
         ensures { result ≡ self.now.number }
     {
         self.number
+    }
+
+    /// The mark of a part as this pass last loaded or set it, and 0 before, or where there is no such part. The mark in the table
+    /// is never below it: no element in so many first rows of the part waits, is held or is parked.
+    pub fn low(&self, part: u16) -> u16
+        ensures answer { result ≡ low_of self.now part }
+        ensures low { IsLow self.now.limits self.now.seen part result }
+    {
+        match self.lows.get(part as usize) {
+            Some(low) => *low,
+            None => 0,
+        }
     }
 
     /// Whether the pass has a unit of work open: claimed, and neither committed nor aborted by its own calls.

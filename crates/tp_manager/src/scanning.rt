@@ -1,5 +1,5 @@
 //! A server's look for work.
-ghost use Rattle.std.specs.Prelude.{◌≡◌, ◌⊎◌, ◌+◌, ◌*◌, ◌<◌, ◌≤◌, MatchOption, true, false};
+ghost use Rattle.std.specs.Prelude.{◌≡◌, ◌⊎◌, ◌+◌, ◌-◌, ◌*◌, ◌<◌, ◌≤◌, slice_index, MatchOption, true, false};
 ghost use Rattle.tp_model.specs.declared.types.Element.{Element as element};
 ghost use Rattle.tp_model.specs.Steps.{rows_of, IsServerStage};
 ghost use Rattle.tp_words.specs.Words.{head_of};
@@ -8,9 +8,10 @@ ghost use Rattle.tp_rule.specs.Steps.{Knows};
 ghost use Rattle.tp_rule.specs.declared.view.Known.TheVariants.{PartMark};
 ghost use Rattle.tp_rule.specs.Tables.{limits_of, IsSeatOf};
 ghost use Rattle.tp_model.specs.History.{IsSettled};
-ghost use Rattle.tp_manager.specs.Bounds.{part_steps, try_steps};
+ghost use Rattle.tp_manager.specs.Bounds.{scan_steps, try_steps};
+ghost use Rattle.tp_manager.specs.Shown.{Rises};
 ghost use Rattle.tp_manager.specs.Looks.{GoesOn};
-ghost use Rattle.tp_manager.specs.Walks.{Steady, Looked, Sought, EachRow, OfPart, PassedBy, Rose, IsSpare, Took};
+ghost use Rattle.tp_manager.specs.Walks.{Steady, Looked, Sought, EachRow, OfPart, PassedBy, Remembers, RisesAt, Rose, IsSpare, Took};
 
 use crate::manager::Shared;
 use tp_model::types::{Element, Status};
@@ -124,39 +125,58 @@ impl Shared {
         }
     }
 
-    /// Raises the mark of a part, where the first row that isn't known finished is behind it. At most one step.
-    fn raise_to(&self, seat: &mut Seat, part: u16, mark: u16, low: u32)
+    /// Raises the mark of a part, where the first row that isn't known finished is behind it, and the pass remembers it. At most
+    /// one step.
+    fn raise_to(&self, seat: &mut Seat, lows: &mut [u16; 32], part: u16, mark: u16, low: u32)
         requires own { IsSeatOf self.now.words seat.old }
         requires steady { Steady (limits_of self.now.words) (view_of seat.old) }
         requires part { part < (limits_of self.now.words).parts }
-        requires mark { Knows (view_of seat.old) (PartMark part mark) }
+        requires mark { Knows (view_of seat.old) (PartMark part mark) × (slice_index lows.old part ≡ mark) }
+        requires remembers { Remembers (view_of seat.old) lows.old }
         requires low { let l = limits_of self.now.words in (low ≤ part * l.rows + l.rows)
             × Rose l (seen_by seat.old) (part * l.rows + mark) low }
         ensures same { IsSameSeat seat.old seat.new }
         ensures looked { Looked (limits_of self.now.words) 1 (view_of seat.old) (view_of seat.new) }
         ensures seen { seen_by seat.new ≡ seen_by seat.old }
+        ensures remembers { Remembers (view_of seat.new) lows.new }
+        ensures lows { RisesAt part lows.old lows.new }
     {
         let first = part as u32 * self.places.limits.rows as u32;
         let to = (low - first) as u16;
-        if to > mark {
-            self.words.raise(seat, part, mark, to);
+        if to <= mark {
+            return;
         }
+        if !self.words.raise(seat, part, mark, to) {
+            return;
+        }
+        lows[part as usize] = to;
     }
 
     /// The unit takes the first element of a part that waits in the stage. The scan starts at the part's mark, and raises it.
-    fn scan_part(&self, seat: &mut Seat, part: u16, stage: u8, unit: u16) -> Option<Taken>
+    fn scan_part(
+        &self,
+        seat: &mut Seat,
+        lows: &mut [u16; 32],
+        part: u16,
+        stage: u8,
+        unit: u16,
+    ) -> Option<Taken>
         requires own { IsSeatOf self.now.words seat.old }
         requires steady { Steady (limits_of self.now.words) (view_of seat.old) }
+        requires remembers { Remembers (view_of seat.old) lows.old }
         requires part { part < (limits_of self.now.words).parts }
         requires stage { IsServerStage stage }
         requires spare { IsSpare unit (view_of seat.old) × (unit < 65535) }
         ensures same { IsSameSeat seat.old seat.new }
-        ensures told { let l = limits_of self.now.words in let n = part_steps l in MatchOption result
+        ensures remembers { Remembers (view_of seat.new) lows.new }
+        ensures lows { RisesAt part lows.old lows.new }
+        ensures told { let l = limits_of self.now.words in
+            let n = 2 + (l.rows - slice_index lows.old part) * try_steps l in MatchOption result
             (Sought l n (OfPart l (PassedBy l stage) part) (view_of seat.old) (view_of seat.new))
             (λ t. Took l n stage unit (view_of seat.old) (view_of seat.new) t.element t.attempt
             × (t.element.root ≡ t.root)) }
     {
-        let mark = self.mark_at(seat, part);
+        let mark = self.mark_at(seat, lows, part);
         let rows = self.places.limits.rows as u32;
         let first = part as u32 * rows;
         let end = first + rows;
@@ -164,29 +184,38 @@ impl Shared {
         let mut row = low;
         while row < end {
             if let Some(taken) = self.try_row(seat, &mut row, &mut low, stage, unit) {
-                self.raise_to(seat, part, mark, low);
+                self.raise_to(seat, lows, part, mark, low);
                 return Some(taken);
             }
         }
-        self.raise_to(seat, part, mark, low);
+        self.raise_to(seat, lows, part, mark, low);
         None
     }
 
     /// The unit takes the first element that waits in the stage.
-    pub(crate) fn scan(&self, seat: &mut Seat, stage: u8, unit: u16) -> Option<Taken>
+    pub(crate) fn scan(
+        &self,
+        seat: &mut Seat,
+        lows: &mut [u16; 32],
+        stage: u8,
+        unit: u16,
+    ) -> Option<Taken>
         requires own { IsSeatOf self.now.words seat.old }
         requires steady { Steady (limits_of self.now.words) (view_of seat.old) }
+        requires remembers { Remembers (view_of seat.old) lows.old }
         requires stage { IsServerStage stage }
         requires spare { IsSpare unit (view_of seat.old) × (unit < 65535) }
         ensures same { IsSameSeat seat.old seat.new }
+        ensures remembers { Remembers (view_of seat.new) lows.new }
+        ensures lows { Rises lows.old lows.new }
         ensures told { let l = limits_of self.now.words in
-            let n = l.parts * part_steps l in MatchOption result
+            let n = scan_steps l (try_steps l) 2 lows.old l.parts in MatchOption result
             (Sought l n (EachRow (PassedBy l stage) 0 (rows_of l)) (view_of seat.old) (view_of seat.new))
             (λ t. Took l n stage unit (view_of seat.old) (view_of seat.new) t.element t.attempt
             × (t.element.root ≡ t.root)) }
     {
         for part in 0..self.places.limits.parts {
-            if let Some(taken) = self.scan_part(seat, part, stage, unit) {
+            if let Some(taken) = self.scan_part(seat, lows, part, stage, unit) {
                 return Some(taken);
             }
         }

@@ -35,6 +35,34 @@ fn claims_go_on(rt: HostRuntime) {
 }
 
 #[test]
+fn mark_rises(rt: HostRuntime) {
+    let limits = Limits { units: 8, ..SMALL };
+    let (manager, mut client, mut server) = two(&rt, limits);
+    assert!(rt; submits(&manager, &mut client, 1, 0, 5, Ok(0)));
+    assert!(rt; submits(&manager, &mut client, 1, 0, 6, Ok(1)));
+    assert!(rt; submits(&manager, &mut client, 1, 0, 7, Ok(2)));
+    assert!(rt; server.low(0) == 0);
+    let first = claims(&manager, &mut server, 1).expect(&rt, "no work");
+    assert!(rt; first.element.id == 0);
+    assert!(rt; server.low(0) == 0);
+    assert!(rt; commits(&manager, &mut server, &[], NOTHING));
+    let second = claims(&manager, &mut server, 1).expect(&rt, "no work");
+    assert!(rt; second.element.id == 1);
+    assert!(rt; server.low(0) == 1);
+    assert!(rt; commits(&manager, &mut server, &[], NOTHING));
+    let third = claims(&manager, &mut server, 1).expect(&rt, "no work");
+    assert!(rt; third.element.id == 2);
+    assert!(rt; server.low(0) == 2);
+    // The client hasn't looked at the mark yet; a listing does.
+    assert!(rt; client.low(0) == 0);
+    assert!(rt; manager.next_error(&mut client, 0).is_none());
+    assert!(rt; client.low(0) == 2);
+    drop(server);
+    drop(client);
+    drop(manager);
+}
+
+#[test]
 fn parked_stays(rt: HostRuntime) {
     let limits = Limits {
         attempts: 1,
@@ -50,8 +78,11 @@ fn parked_stays(rt: HostRuntime) {
     let second = claims(&manager, &mut server, 1).expect(&rt, "no work");
     assert!(rt; second.element.id == 1);
     assert!(rt; commits(&manager, &mut server, &[], NOTHING));
-    assert!(rt; claims(&manager, &mut server, 1).is_none());
     // The mark stays at the parked element.
+    assert!(rt; submits(&manager, &mut client, 1, 0, 7, Ok(2)));
+    let third = claims(&manager, &mut server, 1).expect(&rt, "no work");
+    assert!(rt; third.element.id == 2);
+    assert!(rt; server.low(0) == 0);
     assert!(rt; manager.next_error(&mut client, 0) == Some(0));
     drop(server);
     drop(client);

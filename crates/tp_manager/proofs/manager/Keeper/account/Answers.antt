@@ -4,14 +4,14 @@ use Rattle.tp_rule.specs.Tables.{limits_of, table_of}
 use Rattle.tp_rule.specs.Views.{seen_by, view_of}
 use Rattle.tp_manager.specs.Accounts.{Accounts, steps_together}
 use Rattle.tp_manager.specs.Bounds.{account_steps}
-use Rattle.tp_manager.specs.Shown.{ManagerShown, KeeperShown, PassShown, shown, steps_in}
+use Rattle.tp_manager.specs.Shown.{ManagerShown, KeeperShown, PassShown, shown, steps_in, spot}
 use Rattle.tp_manager.specs.Together.{IsAt}
 use Rattle.tp_manager.specs.Walks.{Keeps}
 use Rattle.tp_manager.proofs.Accounted.{accounts, accounts_none, all_at, all_steps, all_still, keeps_seen, kept_long}
 use Rattle.tp_manager.proofs.Passes.{rests_looked, steady_at}
 use Rattle.tp_manager.proofs.RowCounts.{none_left}
 use Rattle.tp_manager.proofs.Together.{first_at, rest_at}
-use Rattle.tp_manager.proofs.Walks.{looked}
+use Rattle.tp_manager.proofs.Walks.{looked, rises_same, remembers}
 use Rattle.tp_manager.proofs.manager.Keeper.account.Goals as goal
 use Rattle.tp_manager.proofs.manager.Keeper.account.Goals.{After-split_first_mut}
 
@@ -40,7 +40,7 @@ returns-in_default-clause-account c =
 
 pub count_with-requires-clause-steady : goal.count_with-requires-clause-steady
 count_with-requires-clause-steady c = let at = (goal.at.count_with-requires-clause-steady c).After-split_first_mut in
-    steady_at _ _ _ (ap (λ (p : PassShown). p.limits) c.first.view_is ∙ (first_at (table_of c.manager.inside.shared.words) (limits_of c.manager.inside.shared.words) c.args.passes.now c.in-Some.first.now c.in-Some.rest.now c.in-Some.ensures.cases.0 (own at)).limits_are) c.first.invariant.steady
+    steady_at _ _ _ (ap (λ (p : PassShown). p.limits) c.first.view_is ∙ (first_at (table_of c.manager.inside.shared.words) (limits_of c.manager.inside.shared.words) c.args.passes.now c.in-Some.first.now c.in-Some.rest.now c.in-Some.ensures.cases.0 (own at)).limits_are) c.first.invariant.0.steady
 
 pub count_with-requires-clause-passes : goal.count_with-requires-clause-passes
 count_with-requires-clause-passes c = let at = (goal.at.count_with-requires-clause-passes c).After-split_first_mut in
@@ -49,7 +49,7 @@ count_with-requires-clause-passes c = let at = (goal.at.count_with-requires-clau
 pub invariant_of-first : goal.invariant_of-first
 invariant_of-first c = let at = (goal.at.invariant_of-first c).After-split_first_mut in let l = limits_of c.manager.inside.shared.words in
     let first = first_at (table_of c.manager.inside.shared.words) l c.args.passes.now c.in-Some.first.now c.in-Some.rest.now c.in-Some.ensures.cases.0 (own at) in
-    rests_looked l c.first.inside.seat c.count_with.new.first (ap (λ (p : PassShown). p.limits) c.first.view_is ∙ first.limits_are) _ _ _ _ c.first.invariant _ (looked l _ _ _ c.count_with.ensures.counts.first)
+    (rests_looked l c.first.inside.seat c.count_with.new.first (ap (λ (p : PassShown). p.limits) c.first.view_is ∙ first.limits_are) _ _ _ _ c.first.invariant.0 _ (looked l _ _ _ c.count_with.ensures.counts.first), remembers c.first.inside.lows _ _ _ _ _ c.count_with.ensures.counts.first.walk c.first.invariant.1)
 
 pub invariant_of-self-2 : goal.invariant_of-self-2
 invariant_of-self-2 c = let at = (goal.at.invariant_of-self-2 c).After-split_first_mut in let counts = c.count_with.ensures.counts in
@@ -58,14 +58,14 @@ invariant_of-self-2 c = let at = (goal.at.invariant_of-self-2 c).After-split_fir
 pub returns-clause-own : goal.returns-clause-own
 returns-clause-own c = λ k d less. let at = (goal.at.returns-clause-own c).After-split_first_mut in let words = c.manager.inside.shared.words in
     let first = first_at (table_of words) (limits_of words) c.args.passes.now c.in-Some.first.now c.in-Some.rest.now c.in-Some.ensures.cases.0 (own at) in
-    let a = all_at (table_of words) (limits_of words) c.first.inside.seat.table c.count_with.new.first.table (view_of c.first.inside.seat) (view_of c.count_with.new.first) (view_of c.self.inside.seat) (view_of c.count_with.new.keeper)
+    let a = all_at (table_of words) (limits_of words) (spot c.first.inside.seat.table c.first.inside.lows) (spot c.count_with.new.first.table c.first.inside.lows) (rises_same c.first.inside.lows) (view_of c.first.inside.seat) (view_of c.count_with.new.first) (view_of c.self.inside.seat) (view_of c.count_with.new.keeper)
     c.args.passes.now c.in-Some.rest.now c.count_with.new.passes c.in-Some.first.now c.count_with.result c.in-Some.ensures.cases.0 c.first.view_is c.count_with.ensures.counts
     (c.count_with.ensures.same.0 ∙ (ap (λ (p : PassShown). p.table) c.first.view_is ∙ first.table_is)) k d less in
     (a.table_is ∙ table at, a.limits_are ∙ limits at)
 
 pub returns-clause-steps : goal.returns-clause-steps
 returns-clause-steps c = let at = (goal.at.returns-clause-steps c).After-split_first_mut in let words = c.manager.inside.shared.words in
-    let news : List PassShown = shown c.count_with.new.first.table (view_of c.count_with.new.first) ∷ c.count_with.new.passes in
+    let news : List PassShown = shown (spot c.count_with.new.first.table c.first.inside.lows) (view_of c.count_with.new.first) ∷ c.count_with.new.passes in
     let after : ℕ = steps_together c.args.passes.now news + steps_in (view_of c.count_with.new.keeper).hands in
     let before : ℕ = steps_in (view_of c.self.inside.seat).hands in
     let out : c.self.inside.given ≡ length c.args.passes.now = ap (λ (k : KeeperShown). k.given) c.self.view_is ∙ sym c.requires.all.0 in
@@ -74,22 +74,22 @@ returns-clause-steps c = let at = (goal.at.returns-clause-steps c).After-split_f
     subst (λ n. after ≤ n + account_steps c.args.manager.now.limits c.args.self.now.given) (ap (λ (k : KeeperShown). k.steps) c.self.view_is)
     (subst (λ (l : Limits). after ≤ before + account_steps l c.args.self.now.given) (limits at)
     (subst (λ n. after ≤ before + account_steps (limits_of words) n) c.requires.all.0
-    (all_steps (table_of words) (limits_of words) c.first.inside.seat.table c.count_with.new.first.table (view_of c.first.inside.seat) (view_of c.count_with.new.first) (view_of c.self.inside.seat) (view_of c.count_with.new.keeper)
+    (all_steps (table_of words) (limits_of words) (spot c.first.inside.seat.table c.first.inside.lows) (spot c.count_with.new.first.table c.first.inside.lows) (rises_same c.first.inside.lows) (view_of c.first.inside.seat) (view_of c.count_with.new.first) (view_of c.self.inside.seat) (view_of c.count_with.new.keeper)
     c.args.passes.now c.in-Some.rest.now c.count_with.new.passes c.in-Some.first.now c.count_with.result c.in-Some.ensures.cases.0 c.first.view_is c.count_with.ensures.counts (kept_by (limits_of words) (kept at ∙ sym (limits at))))))
 
 pub returns-clause-all : goal.returns-clause-all
 returns-clause-all c = let words = c.manager.inside.shared.words in
-    all_still (table_of words) (limits_of words) c.first.inside.seat.table c.count_with.new.first.table (view_of c.first.inside.seat) (view_of c.count_with.new.first) (view_of c.self.inside.seat) (view_of c.count_with.new.keeper)
+    all_still (table_of words) (limits_of words) (spot c.first.inside.seat.table c.first.inside.lows) (spot c.count_with.new.first.table c.first.inside.lows) (rises_same c.first.inside.lows) (view_of c.first.inside.seat) (view_of c.count_with.new.first) (view_of c.self.inside.seat) (view_of c.count_with.new.keeper)
     c.args.passes.now c.in-Some.rest.now c.count_with.new.passes c.in-Some.first.now c.count_with.result c.in-Some.ensures.cases.0 c.first.view_is c.count_with.ensures.counts
     c.args.self.now c.requires.all record { table = c.count_with.new.keeper.table; limits = c.self.inside.limits; given = c.self.inside.given; seen = seen_by c.count_with.new.keeper; steps = steps_in (view_of c.count_with.new.keeper).hands }
     (ap (λ (k : KeeperShown). k.given) c.self.view_is)
 
 pub returns-clause-account : goal.returns-clause-account
 returns-clause-account c = let at = (goal.at.returns-clause-account c).After-split_first_mut in let words = c.manager.inside.shared.words in
-    let news : List PassShown = shown c.count_with.new.first.table (view_of c.count_with.new.first) ∷ c.count_with.new.passes in
+    let news : List PassShown = shown (spot c.count_with.new.first.table c.first.inside.lows) (view_of c.count_with.new.first) ∷ c.count_with.new.passes in
     let keeper : KeeperShown = record { table = c.count_with.new.keeper.table; limits = c.self.inside.limits; given = c.self.inside.given; seen = seen_by c.count_with.new.keeper; steps = steps_in (view_of c.count_with.new.keeper).hands } in
     subst (λ (l : Limits). Accounts l c.args.self.now keeper c.args.passes.now news c.count_with.result) (limits at)
-    (accounts (table_of words) (limits_of words) c.first.inside.seat.table c.count_with.new.first.table (view_of c.first.inside.seat) (view_of c.count_with.new.first) (view_of c.self.inside.seat) (view_of c.count_with.new.keeper)
+    (accounts (table_of words) (limits_of words) (spot c.first.inside.seat.table c.first.inside.lows) (spot c.count_with.new.first.table c.first.inside.lows) (rises_same c.first.inside.lows) (view_of c.first.inside.seat) (view_of c.count_with.new.first) (view_of c.self.inside.seat) (view_of c.count_with.new.keeper)
     c.args.passes.now c.in-Some.rest.now c.count_with.new.passes c.in-Some.first.now c.count_with.result c.in-Some.ensures.cases.0 c.first.view_is c.count_with.ensures.counts
     c.self.inside.seat c.self.inside.given c.args.self.now keeper (subst (λ (l : Limits). Keeps c.self.inside.seat l c.self.inside.given) (kept at ∙ sym (limits at)) c.self.invariant)
     (ap (λ (k : KeeperShown). k.given) c.self.view_is) refl (sym (ap (λ (k : KeeperShown). k.seen) c.self.view_is)) refl)

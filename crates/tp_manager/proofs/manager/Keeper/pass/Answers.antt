@@ -1,10 +1,14 @@
-use Rattle.std.proofs.Common.{◌∙◌, ap}
+use Rattle.std.proofs.Common.{◌∙◌, ap, arith}
 use Rattle.tp_manager.specs.Shown.{ManagerShown, KeeperShown}
-use Rattle.tp_manager.proofs.Fresh.{keeps_on, fresh_rests, fresh_shows, fresh_limits}
+use Rattle.tp_rule.specs.declared.view.Hand.{Hand}
+use Rattle.tp_manager.proofs.Fresh.{keeps_on, no_lows, fresh_hand, fresh_seen, fresh_rests, fresh_shows, fresh_limits}
 use Rattle.tp_manager.proofs.manager.Keeper.pass.Goals as goal
 
 pub invariant_of-result : goal.invariant_of-result
-invariant_of-result c = fresh_rests c.self.inside.seat c.self.inside.limits c.self.inside.given c.self.invariant c.if-self.false c.hand_out-seat.result c.hand_out-seat.ensures.hands_out
+invariant_of-result c = (
+  fresh_rests c.self.inside.seat c.self.inside.limits c.self.inside.given c.self.invariant c.if-self.false c.hand_out-seat.result c.hand_out-seat.ensures.hands_out,
+  λ p some. absurd (let none = no_lows 32 p in omega arith),
+)
 
 pub invariant_of-self : goal.invariant_of-self
 invariant_of-self c = keeps_on c.self.inside.seat c.self.inside.limits c.self.inside.given c.self.invariant c.if-self.false c.hand_out-seat.new.keeper c.hand_out-seat.ensures.keeps
@@ -16,4 +20,14 @@ returns-clause-own c = let k = c.self.invariant in let seat = c.hand_out-seat.re
     fresh_limits c.self.inside.seat c.self.inside.limits c.self.inside.given k c.if-self.false seat c.hand_out-seat.ensures.hands_out ∙ (ap (λ (s : KeeperShown). s.limits) c.self.view_is ∙ c.requires.keeper.1),
   ),
   fresh_shows c.self.inside.seat c.self.inside.limits c.self.inside.given k c.if-self.false seat c.hand_out-seat.ensures.hands_out,
+)
+
+pub returns-clause-fresh : goal.returns-clause-fresh
+returns-clause-fresh c = let h = fresh_hand c.self.inside.seat c.self.inside.limits c.self.inside.given c.self.invariant c.if-self.false c.hand_out-seat.result c.hand_out-seat.ensures.hands_out in (
+  ap (λ (a : Hand). a.number) h ∙ ap (λ (s : KeeperShown). s.given) c.self.view_is,
+  ap (λ (a : Hand). a.mine) h,
+  fresh_seen c.self.inside.seat c.self.inside.limits c.self.inside.given c.self.invariant c.if-self.false c.hand_out-seat.result c.hand_out-seat.ensures.hands_out ∙ ap (λ (s : KeeperShown). s.seen) c.self.view_is,
+  ap (λ (a : Hand). a.open_unit) h,
+  ap (λ (a : Hand). a.drawn) h,
+  no_lows 32,
 )

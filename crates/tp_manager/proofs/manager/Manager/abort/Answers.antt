@@ -6,10 +6,10 @@ use Rattle.tp_model.specs.History.{Aborted}
 use Rattle.tp_model.proofs.Bridges.{in_none}
 use Rattle.tp_rule.specs.Tables.{limits_of}
 use Rattle.tp_rule.specs.Views.{hand, view_of}
-use Rattle.tp_manager.specs.Shown.{ManagerShown, PassShown}
+use Rattle.tp_manager.specs.Shown.{ManagerShown, PassShown, spot}
 use Rattle.tp_manager.specs.Bounds.{abort_steps}
 use Rattle.tp_manager.specs.Walks.{Steady, Shut, IsTask, unit_in}
-use Rattle.tp_manager.proofs.Walks.{follows}
+use Rattle.tp_manager.proofs.Walks.{follows, rises_same, remembers}
 use Rattle.tp_manager.proofs.Passes.{steady_at}
 use Rattle.tp_manager.proofs.Shuts.{closed_ended, task_claimed, abort_ended, shut_hit, shut_miss, shut_rests, shut_closes, shut_adds, shut_loses}
 use Rattle.tp_manager.proofs.manager.Manager.abort.Goals as goal
@@ -19,40 +19,40 @@ lim : (c : In-Some) → (view_of c.pass.inside.seat).limits ≡ limits_of c.self
 lim c = ap (λ (p : PassShown). p.limits) c.pass.view_is ∙ (c.requires.own.1 ∙ (sym (ap (λ (m : ManagerShown). m.limits) c.self.view_is) ∙ sym c.self.inside.shared.same))
 
 steady : (c : In-Some) → Steady (limits_of c.self.inside.shared.words) (view_of c.pass.inside.seat)
-steady c = steady_at _ _ _ (lim c) c.pass.invariant.steady
+steady c = steady_at _ _ _ (lim c) c.pass.invariant.0.steady
 
 held : (c : In-Some) → (hand (view_of c.pass.inside.seat)).open_unit ≡ Some c.in-Some.task.unit
-held c = c.pass.invariant.open_is ∙ ap unit_in c.in-Some.is
+held c = c.pass.invariant.0.open_is ∙ ap unit_in c.in-Some.is
 
 pub abort_exchange-requires-clause-unit : goal.abort_exchange-requires-clause-unit
 abort_exchange-requires-clause-unit c = let i = (goal.at.abort_exchange-requires-clause-unit c).In-Some in
-    task_claimed (limits_of c.self.inside.shared.words) (view_of c.pass.inside.seat).seen c.pass.inside.number c.in-Some.task (steady i).shows.legal (subst (IsTask (view_of c.pass.inside.seat).seen c.pass.inside.number) c.in-Some.is c.pass.invariant.work)
+    task_claimed (limits_of c.self.inside.shared.words) (view_of c.pass.inside.seat).seen c.pass.inside.number c.in-Some.task (steady i).shows.legal (subst (IsTask (view_of c.pass.inside.seat).seen c.pass.inside.number) c.in-Some.is c.pass.invariant.0.work)
 
 pub invariant_of-pass : goal.invariant_of-pass
 invariant_of-pass c = let i = (goal.at.invariant_of-pass c).In-Some in let l : Limits = limits_of c.self.inside.shared.words in
-    shut_rests l 1 0 _ c.pass.inside.seat c.abort_exchange.new.seat _ _ _ _ _ (lim i) (shut_hit l kinds.AbortExchange _ _ _ refl (steady i) refl (λ x p. absurd (in_none p)) c.in-Ok.ensures.hit) refl (omega arith) c.pass.invariant
+    (shut_rests l 1 0 _ c.pass.inside.seat c.abort_exchange.new.seat _ _ _ _ _ (lim i) (shut_hit l kinds.AbortExchange _ _ _ refl (steady i) refl (λ x p. absurd (in_none p)) c.in-Ok.ensures.hit) refl (omega arith) c.pass.invariant.0, remembers c.pass.inside.lows _ _ _ _ _ (shut_hit l kinds.AbortExchange _ _ _ refl (steady i) refl (λ x p. absurd (in_none p)) c.in-Ok.ensures.hit).walk c.pass.invariant.1)
 
 pub invariant_of-pass-in-Err : goal.invariant_of-pass-in-Err
 invariant_of-pass-in-Err c = let i = (goal.at.invariant_of-pass-in-Err c).In-Some in let l : Limits = limits_of c.self.inside.shared.words in
-    shut_rests l 1 0 _ c.pass.inside.seat c.abort_exchange.new.seat _ _ _ _ _ (lim i) (shut_miss l kinds.AbortExchange _ _ refl (steady i) (c.in-Err.ensures.miss.own (held i)).0) refl (omega arith) c.pass.invariant
+    (shut_rests l 1 0 _ c.pass.inside.seat c.abort_exchange.new.seat _ _ _ _ _ (lim i) (shut_miss l kinds.AbortExchange _ _ refl (steady i) (c.in-Err.ensures.miss.own (held i)).0) refl (omega arith) c.pass.invariant.0, remembers c.pass.inside.lows _ _ _ _ _ (shut_miss l kinds.AbortExchange _ _ refl (steady i) (c.in-Err.ensures.miss.own (held i)).0).walk c.pass.invariant.1)
 
 pub returns-in-Ok-clause-follows : goal.returns-in-Ok-clause-follows
 returns-in-Ok-clause-follows c = let i = (goal.at.returns-in-Ok-clause-follows c).In-Some in let l : Limits = limits_of c.self.inside.shared.words in
     let sh = shut_hit l kinds.AbortExchange _ _ _ refl (steady i) refl (λ x p. absurd (in_none p)) c.in-Ok.ensures.hit in
-    follows c.pass.inside.seat.table c.abort_exchange.new.seat.table (view_of c.pass.inside.seat) (view_of c.abort_exchange.new.seat) c.args.pass.now c.pass.view_is l 1 _ sh.walk abort_steps (omega arith)
+    follows (spot c.pass.inside.seat.table c.pass.inside.lows) (spot c.abort_exchange.new.seat.table c.pass.inside.lows) (rises_same c.pass.inside.lows) (view_of c.pass.inside.seat) (view_of c.abort_exchange.new.seat) c.args.pass.now c.pass.view_is l 1 _ sh.walk abort_steps (omega arith)
 
 pub returns-in-Err-clause-follows : goal.returns-in-Err-clause-follows
 returns-in-Err-clause-follows c = let i = (goal.at.returns-in-Err-clause-follows c).In-Some in let l : Limits = limits_of c.self.inside.shared.words in
     let sh = shut_miss l kinds.AbortExchange _ _ refl (steady i) (c.in-Err.ensures.miss.own (held i)).0 in
-    follows c.pass.inside.seat.table c.abort_exchange.new.seat.table (view_of c.pass.inside.seat) (view_of c.abort_exchange.new.seat) c.args.pass.now c.pass.view_is l 1 _ sh.walk abort_steps (omega arith)
+    follows (spot c.pass.inside.seat.table c.pass.inside.lows) (spot c.abort_exchange.new.seat.table c.pass.inside.lows) (rises_same c.pass.inside.lows) (view_of c.pass.inside.seat) (view_of c.abort_exchange.new.seat) c.args.pass.now c.pass.view_is l 1 _ sh.walk abort_steps (omega arith)
 
 pub returns-in-Ok-clause-answer : goal.returns-in-Ok-clause-answer
 returns-in-Ok-clause-answer c = let i = (goal.at.returns-in-Ok-clause-answer c).In-Some in let l : Limits = limits_of c.self.inside.shared.words in let u = c.in-Some.task.unit in
     let v = view_of c.pass.inside.seat in let w = view_of c.abort_exchange.new.seat in
     let sh : Shut l 1 0 (Abort (hand v).number u ∷ []) v w = shut_hit l kinds.AbortExchange _ _ _ refl (steady i) refl (λ x p. absurd (in_none p)) c.in-Ok.ensures.hit in (
       u,
-      shut_closes c.pass.inside.seat.table c.abort_exchange.new.seat.table v w c.args.pass.now c.pass.view_is l 1 0 u _ _ sh (held i) (abort_ended u (hand v).number w.seen sh.before sh.ends) (omega arith),
-      shut_adds c.pass.inside.seat.table c.abort_exchange.new.seat.table v w c.args.pass.now c.pass.view_is l 1 0 u sh,
+      shut_closes (spot c.pass.inside.seat.table c.pass.inside.lows) (spot c.abort_exchange.new.seat.table c.pass.inside.lows) v w c.args.pass.now c.pass.view_is l 1 0 u _ _ sh (held i) (abort_ended u (hand v).number w.seen sh.before sh.ends) (omega arith),
+      shut_adds (spot c.pass.inside.seat.table c.pass.inside.lows) (spot c.abort_exchange.new.seat.table c.pass.inside.lows) v w c.args.pass.now c.pass.view_is l 1 0 u sh,
     )
 
 pub returns-in-Err-clause-answer : goal.returns-in-Err-clause-answer
@@ -61,8 +61,8 @@ returns-in-Err-clause-answer c = let i = (goal.at.returns-in-Err-clause-answer c
     let miss = c.in-Err.ensures.miss.own (held i) in
     let sh : Shut l 1 0 [] v w = shut_miss l kinds.AbortExchange _ _ refl (steady i) miss.0 in (
       u,
-      shut_closes c.pass.inside.seat.table c.abort_exchange.new.seat.table v w c.args.pass.now c.pass.view_is l 1 0 u _ _ sh (held i) (Aborted, miss.1) (omega arith),
-      shut_loses c.pass.inside.seat.table c.abort_exchange.new.seat.table v w c.args.pass.now c.pass.view_is l 1 0 u sh miss.1 miss.2,
+      shut_closes (spot c.pass.inside.seat.table c.pass.inside.lows) (spot c.abort_exchange.new.seat.table c.pass.inside.lows) v w c.args.pass.now c.pass.view_is l 1 0 u _ _ sh (held i) (Aborted, miss.1) (omega arith),
+      shut_loses (spot c.pass.inside.seat.table c.pass.inside.lows) (spot c.abort_exchange.new.seat.table c.pass.inside.lows) v w c.args.pass.now c.pass.view_is l 1 0 u sh miss.1 miss.2,
     )
 
 pub returns-in-Ok-clause-free : goal.returns-in-Ok-clause-free

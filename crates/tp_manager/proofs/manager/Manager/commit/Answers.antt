@@ -12,10 +12,10 @@ use Rattle.tp_model.specs.History.{Aborted, In}
 use Rattle.tp_model.proofs.Bridges.{in_none}
 use Rattle.tp_rule.specs.Tables.{limits_of}
 use Rattle.tp_rule.specs.Views.{hand, view_of}
-use Rattle.tp_manager.specs.Shown.{ManagerShown, PassShown}
+use Rattle.tp_manager.specs.Shown.{ManagerShown, PassShown, spot}
 use Rattle.tp_manager.specs.Bounds.{commit_steps}
 use Rattle.tp_manager.specs.Walks.{Rests, Steady, Shut, IsTask, unit_in}
-use Rattle.tp_manager.proofs.Walks.{follows}
+use Rattle.tp_manager.proofs.Walks.{follows, rises_same, remembers}
 use Rattle.tp_manager.proofs.Passes.{steady_at}
 use Rattle.tp_manager.proofs.Shuts.{closed_ended, units_few, own_work, own_count, own_first, own_below, wrote_shut, committed_answer, task_claimed, abort_ended, shut_hit, shut_miss, shut_rests, shut_closes, shut_adds, shut_loses}
 use Rattle.tp_manager.proofs.manager.Manager.commit.Goals as goal
@@ -25,38 +25,38 @@ lim : (c : In-Some) → (view_of c.pass.inside.seat).limits ≡ limits_of c.self
 lim c = ap (λ (p : PassShown). p.limits) c.pass.view_is ∙ (c.requires.own.1 ∙ (sym (ap (λ (m : ManagerShown). m.limits) c.self.view_is) ∙ sym c.self.inside.shared.same))
 
 steady : (c : In-Some) → Steady (limits_of c.self.inside.shared.words) (view_of c.pass.inside.seat)
-steady c = steady_at _ _ _ (lim c) c.pass.invariant.steady
+steady c = steady_at _ _ _ (lim c) c.pass.invariant.0.steady
 
 held : (c : In-Some) → (hand (view_of c.pass.inside.seat)).open_unit ≡ Some c.in-Some.task.unit
-held c = c.pass.invariant.open_is ∙ ap unit_in c.in-Some.is
+held c = c.pass.invariant.0.open_is ∙ ap unit_in c.in-Some.is
 
 full : (c : In-Some) → c.self.inside.shared.places.limits.rows - c.pass.inside.drawn < length c.args.drafts.now → c.args.pass.now.limits.rows < c.args.pass.now.drawn + length c.args.drafts.now
-full c test = let r = c.pass.invariant in
+full c test = let r = c.pass.invariant.0 in
     let drawn : c.args.pass.now.drawn ≡ c.pass.inside.drawn = sym (ap (λ (p : PassShown). p.drawn) c.pass.view_is) ∙ r.drawn_is in
     let rows : c.args.pass.now.limits.rows ≡ c.self.inside.shared.places.limits.rows = ap (λ (z : Limits). z.rows) (c.requires.own.1 ∙ sym (ap (λ (m : ManagerShown). m.limits) c.self.view_is)) in
     omega arith
 
 pub abort_exchange-requires-clause-unit : goal.abort_exchange-requires-clause-unit
 abort_exchange-requires-clause-unit c = let i = (goal.at.abort_exchange-requires-clause-unit c).In-Some in
-    task_claimed (limits_of c.self.inside.shared.words) (view_of c.pass.inside.seat).seen c.pass.inside.number c.in-Some.task (steady i).shows.legal (subst (IsTask (view_of c.pass.inside.seat).seen c.pass.inside.number) c.in-Some.is c.pass.invariant.work)
+    task_claimed (limits_of c.self.inside.shared.words) (view_of c.pass.inside.seat).seen c.pass.inside.number c.in-Some.task (steady i).shows.legal (subst (IsTask (view_of c.pass.inside.seat).seen c.pass.inside.number) c.in-Some.is c.pass.invariant.0.work)
 
 pub invariant_of-pass : goal.invariant_of-pass
 invariant_of-pass c = let i = (goal.at.invariant_of-pass c).In-Some in let l : Limits = limits_of c.self.inside.shared.words in
-    shut_rests l 1 0 _ c.pass.inside.seat c.abort_exchange.new.seat _ _ _ _ _ (lim i) (shut_hit l kinds.AbortExchange _ _ _ refl (steady i) refl (λ x p. absurd (in_none p)) c.in-Ok.ensures.hit) refl (omega arith) c.pass.invariant
+    (shut_rests l 1 0 _ c.pass.inside.seat c.abort_exchange.new.seat _ _ _ _ _ (lim i) (shut_hit l kinds.AbortExchange _ _ _ refl (steady i) refl (λ x p. absurd (in_none p)) c.in-Ok.ensures.hit) refl (omega arith) c.pass.invariant.0, remembers c.pass.inside.lows _ _ _ _ _ (shut_hit l kinds.AbortExchange _ _ _ refl (steady i) refl (λ x p. absurd (in_none p)) c.in-Ok.ensures.hit).walk c.pass.invariant.1)
 
 pub invariant_of-pass-in-Err : goal.invariant_of-pass-in-Err
 invariant_of-pass-in-Err c = let i = (goal.at.invariant_of-pass-in-Err c).In-Some in let l : Limits = limits_of c.self.inside.shared.words in
-    shut_rests l 1 0 _ c.pass.inside.seat c.abort_exchange.new.seat _ _ _ _ _ (lim i) (shut_miss l kinds.AbortExchange _ _ refl (steady i) (c.in-Err.ensures.miss.own (held i)).0) refl (omega arith) c.pass.invariant
+    (shut_rests l 1 0 _ c.pass.inside.seat c.abort_exchange.new.seat _ _ _ _ _ (lim i) (shut_miss l kinds.AbortExchange _ _ refl (steady i) (c.in-Err.ensures.miss.own (held i)).0) refl (omega arith) c.pass.invariant.0, remembers c.pass.inside.lows _ _ _ _ _ (shut_miss l kinds.AbortExchange _ _ refl (steady i) (c.in-Err.ensures.miss.own (held i)).0).walk c.pass.invariant.1)
 
 pub returns-in-Ok-clause-follows : goal.returns-in-Ok-clause-follows
 returns-in-Ok-clause-follows c = let i = (goal.at.returns-in-Ok-clause-follows c).In-Some in let l : Limits = limits_of c.self.inside.shared.words in
     let sh = shut_hit l kinds.AbortExchange _ _ _ refl (steady i) refl (λ x p. absurd (in_none p)) c.in-Ok.ensures.hit in
-    follows c.pass.inside.seat.table c.abort_exchange.new.seat.table (view_of c.pass.inside.seat) (view_of c.abort_exchange.new.seat) c.args.pass.now c.pass.view_is l 1 _ sh.walk (commit_steps (length c.args.drafts.now)) (omega arith)
+    follows (spot c.pass.inside.seat.table c.pass.inside.lows) (spot c.abort_exchange.new.seat.table c.pass.inside.lows) (rises_same c.pass.inside.lows) (view_of c.pass.inside.seat) (view_of c.abort_exchange.new.seat) c.args.pass.now c.pass.view_is l 1 _ sh.walk (commit_steps (length c.args.drafts.now)) (omega arith)
 
 pub returns-in-Err-clause-follows : goal.returns-in-Err-clause-follows
 returns-in-Err-clause-follows c = let i = (goal.at.returns-in-Err-clause-follows c).In-Some in let l : Limits = limits_of c.self.inside.shared.words in
     let sh = shut_miss l kinds.AbortExchange _ _ refl (steady i) (c.in-Err.ensures.miss.own (held i)).0 in
-    follows c.pass.inside.seat.table c.abort_exchange.new.seat.table (view_of c.pass.inside.seat) (view_of c.abort_exchange.new.seat) c.args.pass.now c.pass.view_is l 1 _ sh.walk (commit_steps (length c.args.drafts.now)) (omega arith)
+    follows (spot c.pass.inside.seat.table c.pass.inside.lows) (spot c.abort_exchange.new.seat.table c.pass.inside.lows) (rises_same c.pass.inside.lows) (view_of c.pass.inside.seat) (view_of c.abort_exchange.new.seat) c.args.pass.now c.pass.view_is l 1 _ sh.walk (commit_steps (length c.args.drafts.now)) (omega arith)
 
 pub returns-in-Ok-clause-answer : goal.returns-in-Ok-clause-answer
 returns-in-Ok-clause-answer c = let i = (goal.at.returns-in-Ok-clause-answer c).In-Some in let l : Limits = limits_of c.self.inside.shared.words in let u = c.in-Some.task.unit in
@@ -65,8 +65,8 @@ returns-in-Ok-clause-answer c = let i = (goal.at.returns-in-Ok-clause-answer c).
       full i c.if-count-rows.true,
       (
         u,
-        shut_closes c.pass.inside.seat.table c.abort_exchange.new.seat.table v w c.args.pass.now c.pass.view_is l 1 0 u _ _ sh (held i) (abort_ended u (hand v).number w.seen sh.before sh.ends) (omega arith),
-        inl (shut_adds c.pass.inside.seat.table c.abort_exchange.new.seat.table v w c.args.pass.now c.pass.view_is l 1 0 u sh),
+        shut_closes (spot c.pass.inside.seat.table c.pass.inside.lows) (spot c.abort_exchange.new.seat.table c.pass.inside.lows) v w c.args.pass.now c.pass.view_is l 1 0 u _ _ sh (held i) (abort_ended u (hand v).number w.seen sh.before sh.ends) (omega arith),
+        inl (shut_adds (spot c.pass.inside.seat.table c.pass.inside.lows) (spot c.abort_exchange.new.seat.table c.pass.inside.lows) v w c.args.pass.now c.pass.view_is l 1 0 u sh),
       ),
     )
 
@@ -78,13 +78,13 @@ returns-in-Err-clause-answer c = let i = (goal.at.returns-in-Err-clause-answer c
       full i c.if-count-rows.true,
       (
         u,
-        shut_closes c.pass.inside.seat.table c.abort_exchange.new.seat.table v w c.args.pass.now c.pass.view_is l 1 0 u _ _ sh (held i) (Aborted, miss.1) (omega arith),
-        inr (shut_loses c.pass.inside.seat.table c.abort_exchange.new.seat.table v w c.args.pass.now c.pass.view_is l 1 0 u sh miss.1 miss.2),
+        shut_closes (spot c.pass.inside.seat.table c.pass.inside.lows) (spot c.abort_exchange.new.seat.table c.pass.inside.lows) v w c.args.pass.now c.pass.view_is l 1 0 u _ _ sh (held i) (Aborted, miss.1) (omega arith),
+        inr (shut_loses (spot c.pass.inside.seat.table c.pass.inside.lows) (spot c.abort_exchange.new.seat.table c.pass.inside.lows) v w c.args.pass.now c.pass.view_is l 1 0 u sh miss.1 miss.2),
       ),
     )
 
 rests : (c : In-Some) → Rests c.pass.inside.seat c.pass.inside.number c.pass.inside.drawn c.pass.inside.used (Some c.in-Some.task)
-rests c = subst (λ t. Rests c.pass.inside.seat c.pass.inside.number c.pass.inside.drawn c.pass.inside.used t) c.in-Some.is c.pass.invariant
+rests c = subst (λ t. Rests c.pass.inside.seat c.pass.inside.number c.pass.inside.drawn c.pass.inside.used t) c.in-Some.is c.pass.invariant.0
 
 next : (c : In-Some) → c.pass.inside.number * c.self.inside.shared.places.limits.rows + c.pass.inside.drawn ≡ c.pass.inside.number * (limits_of c.self.inside.shared.words).rows + c.pass.inside.drawn
 next c = ap (λ (z : Limits). c.pass.inside.number * z.rows + c.pass.inside.drawn) (sym c.self.inside.shared.same)
@@ -117,7 +117,7 @@ hit : (c : After-write_all) (i : In-Some) → (y : View) → MakesCommit (view_o
 hit c i y made = let l : Limits = limits_of c.self.inside.shared.words in
     shut_hit l kinds.CommitExchange _ _ _ refl c.write_all.ensures.wrote.walk.steady refl
     (own_below l (view_of c.pass.inside.seat) (view_of c.write_all.new.seat) c.pass.inside.number c.pass.inside.drawn c.pass.inside.used (c.pass.inside.number * c.self.inside.shared.places.limits.rows + c.pass.inside.drawn) c.in-Some.task c.args.drafts.now c.pass.inside.seat refl
-    (subst (λ t. Rests c.pass.inside.seat c.pass.inside.number c.pass.inside.drawn c.pass.inside.used t) c.in-Some.is c.pass.invariant) (ap (λ (z : Limits). c.pass.inside.number * z.rows + c.pass.inside.drawn) (sym c.self.inside.shared.same)) c.write_all.ensures.wrote) made
+    (subst (λ t. Rests c.pass.inside.seat c.pass.inside.number c.pass.inside.drawn c.pass.inside.used t) c.in-Some.is c.pass.invariant.0) (ap (λ (z : Limits). c.pass.inside.number * z.rows + c.pass.inside.drawn) (sym c.self.inside.shared.same)) c.write_all.ensures.wrote) made
 
 both : (c : After-write_all) → (es : List Event) (y : View) → Shut (limits_of c.self.inside.shared.words) 1 0 es (view_of c.write_all.new.seat) y
     → Shut (limits_of c.self.inside.shared.words) (commit_steps (length c.args.drafts.now)) (length c.args.drafts.now) es (view_of c.pass.inside.seat) y
@@ -126,38 +126,38 @@ both c es y sh = let row : ℕ = c.pass.inside.number * c.self.inside.shared.pla
     (wrote_shut (limits_of c.self.inside.shared.words) (outputs c.in-Some.task.unit c.in-Some.task.root row c.args.drafts.now) es (view_of c.pass.inside.seat) (view_of c.write_all.new.seat) y c.write_all.ensures.wrote sh)
 
 room : (c : In-Some) → length c.args.drafts.now ≤ c.self.inside.shared.places.limits.rows - c.pass.inside.drawn → c.pass.inside.drawn ≤ c.self.inside.shared.places.limits.rows → c.args.pass.now.drawn + length c.args.drafts.now ≤ c.args.pass.now.limits.rows
-room c test below = let r = c.pass.invariant in
+room c test below = let r = c.pass.invariant.0 in
     let drawn : c.args.pass.now.drawn ≡ c.pass.inside.drawn = sym (ap (λ (p : PassShown). p.drawn) c.pass.view_is) ∙ r.drawn_is in
     let rows : c.args.pass.now.limits.rows ≡ c.self.inside.shared.places.limits.rows = ap (λ (z : Limits). z.rows) (c.requires.own.1 ∙ sym (ap (λ (m : ManagerShown). m.limits) c.self.view_is)) in
     omega arith
 
 below : (c : In-Some) → c.pass.inside.drawn ≤ c.self.inside.shared.places.limits.rows
-below c = subst (λ (z : Limits). c.pass.inside.drawn ≤ z.rows) (lim c ∙ c.self.inside.shared.same) (subst (λ n. n ≤ (view_of c.pass.inside.seat).limits.rows) c.pass.invariant.drawn_is c.pass.invariant.steady.shows.within)
+below c = subst (λ (z : Limits). c.pass.inside.drawn ≤ z.rows) (lim c ∙ c.self.inside.shared.same) (subst (λ n. n ≤ (view_of c.pass.inside.seat).limits.rows) c.pass.invariant.0.drawn_is c.pass.invariant.0.steady.shows.within)
 
 pub invariant_of-pass-then-commit_exchange : goal.invariant_of-pass-then-commit_exchange
 invariant_of-pass-then-commit_exchange c = let at = goal.at.invariant_of-pass-then-commit_exchange c in
-    shut_rests _ _ _ _ c.pass.inside.seat c.commit_exchange.new.seat _ _ _ _ _ (lim at.In-Some) (both at.After-write_all _ _ (hit at.After-write_all at.In-Some _ (c.commit_exchange.ensures.hit c.if-commit_exchange.true))) refl refl c.pass.invariant
+    (shut_rests _ _ _ _ c.pass.inside.seat c.commit_exchange.new.seat _ _ _ _ _ (lim at.In-Some) (both at.After-write_all _ _ (hit at.After-write_all at.In-Some _ (c.commit_exchange.ensures.hit c.if-commit_exchange.true))) refl refl c.pass.invariant.0, remembers c.pass.inside.lows _ _ _ _ _ (both at.After-write_all _ _ (hit at.After-write_all at.In-Some _ (c.commit_exchange.ensures.hit c.if-commit_exchange.true))).walk c.pass.invariant.1)
 
 pub invariant_of-pass-else-commit_exchange : goal.invariant_of-pass-else-commit_exchange
 invariant_of-pass-else-commit_exchange c = let at = goal.at.invariant_of-pass-else-commit_exchange c in
-    shut_rests _ _ _ _ c.pass.inside.seat c.commit_exchange.new.seat _ _ _ _ _ (lim at.In-Some) (both at.After-write_all _ _ (shut_miss _ kinds.CommitExchange _ _ refl c.write_all.ensures.wrote.walk.steady (c.commit_exchange.ensures.miss c.if-commit_exchange.false).0)) refl refl c.pass.invariant
+    (shut_rests _ _ _ _ c.pass.inside.seat c.commit_exchange.new.seat _ _ _ _ _ (lim at.In-Some) (both at.After-write_all _ _ (shut_miss _ kinds.CommitExchange _ _ refl c.write_all.ensures.wrote.walk.steady (c.commit_exchange.ensures.miss c.if-commit_exchange.false).0)) refl refl c.pass.invariant.0, remembers c.pass.inside.lows _ _ _ _ _ (both at.After-write_all _ _ (shut_miss _ kinds.CommitExchange _ _ refl c.write_all.ensures.wrote.walk.steady (c.commit_exchange.ensures.miss c.if-commit_exchange.false).0)).walk c.pass.invariant.1)
 
 pub returns-then-commit_exchange-clause-follows : goal.returns-then-commit_exchange-clause-follows
 returns-then-commit_exchange-clause-follows c = let at = goal.at.returns-then-commit_exchange-clause-follows c in let k : ℕ = length c.args.drafts.now in
     let sh = both at.After-write_all _ _ (hit at.After-write_all at.In-Some _ (c.commit_exchange.ensures.hit c.if-commit_exchange.true)) in
-    follows c.pass.inside.seat.table c.commit_exchange.new.seat.table (view_of c.pass.inside.seat) (view_of c.commit_exchange.new.seat) c.args.pass.now c.pass.view_is _ (commit_steps k) _ sh.walk (commit_steps k) (omega arith)
+    follows (spot c.pass.inside.seat.table c.pass.inside.lows) (spot c.commit_exchange.new.seat.table c.pass.inside.lows) (rises_same c.pass.inside.lows) (view_of c.pass.inside.seat) (view_of c.commit_exchange.new.seat) c.args.pass.now c.pass.view_is _ (commit_steps k) _ sh.walk (commit_steps k) (omega arith)
 
 pub returns-else-commit_exchange-clause-follows : goal.returns-else-commit_exchange-clause-follows
 returns-else-commit_exchange-clause-follows c = let at = goal.at.returns-else-commit_exchange-clause-follows c in let k : ℕ = length c.args.drafts.now in
     let sh = both at.After-write_all _ _ (shut_miss _ kinds.CommitExchange _ _ refl c.write_all.ensures.wrote.walk.steady (c.commit_exchange.ensures.miss c.if-commit_exchange.false).0) in
-    follows c.pass.inside.seat.table c.commit_exchange.new.seat.table (view_of c.pass.inside.seat) (view_of c.commit_exchange.new.seat) c.args.pass.now c.pass.view_is _ (commit_steps k) _ sh.walk (commit_steps k) (omega arith)
+    follows (spot c.pass.inside.seat.table c.pass.inside.lows) (spot c.commit_exchange.new.seat.table c.pass.inside.lows) (rises_same c.pass.inside.lows) (view_of c.pass.inside.seat) (view_of c.commit_exchange.new.seat) c.args.pass.now c.pass.view_is _ (commit_steps k) _ sh.walk (commit_steps k) (omega arith)
 
 pub returns-then-commit_exchange-clause-answer : goal.returns-then-commit_exchange-clause-answer
 returns-then-commit_exchange-clause-answer c = let at = goal.at.returns-then-commit_exchange-clause-answer c in let i = at.In-Some in let u = c.in-Some.task.unit in let l : Limits = limits_of c.self.inside.shared.words in
     let v = view_of c.pass.inside.seat in let w = view_of c.write_all.new.seat in let y = view_of c.commit_exchange.new.seat in
     let sh : Shut l _ _ (committed w u ∷ []) v y = both at.After-write_all _ _ (hit at.After-write_all i y (c.commit_exchange.ensures.hit c.if-commit_exchange.true)) in (
       room i c.if-count-rows.false (below i),
-      committed_answer c.pass.inside.seat.table c.commit_exchange.new.seat.table l v w y c.args.pass.now c.pass.view_is _ _ _ _ c.in-Some.task c.args.drafts.now c.pass.inside.seat refl (rests i) (next i) c.write_all.ensures.wrote (lim i) (held i) c.if-count-eq0.first _ sh
+      committed_answer (spot c.pass.inside.seat.table c.pass.inside.lows) (spot c.commit_exchange.new.seat.table c.pass.inside.lows) l v w y c.args.pass.now c.pass.view_is _ _ _ _ c.in-Some.task c.args.drafts.now c.pass.inside.seat refl (rests i) (next i) c.write_all.ensures.wrote (lim i) (held i) c.if-count-eq0.first _ sh
           (λ some. elim c.if-count-eq0.branch [ then-count-eq0 w ↦ let z = w.if-count-eq0.true in absurd (omega arith) | else-count-eq0 w ↦ w.first-is ])
           (λ none. elim c.if-count-eq0.branch [ then-count-eq0 w ↦ w.first-is | else-count-eq0 w ↦ absurd (w.if-count-eq0.false none) ]),
     )
@@ -170,8 +170,8 @@ returns-else-commit_exchange-clause-answer c = let at = goal.at.returns-else-com
       room i c.if-count-rows.false (below i),
       (
         u,
-        shut_closes c.pass.inside.seat.table c.commit_exchange.new.seat.table v y c.args.pass.now c.pass.view_is l _ _ u _ _ sh (held i) (Aborted, miss.1) refl,
-        shut_loses c.pass.inside.seat.table c.commit_exchange.new.seat.table v y c.args.pass.now c.pass.view_is l _ _ u sh miss.1 (subst (λ k. ¬ (In (Abort k u) y.seen)) c.write_all.ensures.wrote.walk.number miss.2),
+        shut_closes (spot c.pass.inside.seat.table c.pass.inside.lows) (spot c.commit_exchange.new.seat.table c.pass.inside.lows) v y c.args.pass.now c.pass.view_is l _ _ u _ _ sh (held i) (Aborted, miss.1) refl,
+        shut_loses (spot c.pass.inside.seat.table c.pass.inside.lows) (spot c.commit_exchange.new.seat.table c.pass.inside.lows) v y c.args.pass.now c.pass.view_is l _ _ u sh miss.1 (subst (λ k. ¬ (In (Abort k u) y.seen)) c.write_all.ensures.wrote.walk.number miss.2),
       ),
     )
 

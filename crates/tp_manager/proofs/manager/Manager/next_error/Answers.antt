@@ -1,14 +1,16 @@
-use Rattle.std.proofs.Common.{◌≡◌, ◌≤◌, MatchOption, sym, ◌∙◌, ap, arith, subst}
+use Rattle.std.proofs.Common.{[], ℕ, ◌≡◌, ◌≤◌, MatchOption, sym, ◌∙◌, ap, arith, subst}
 use Rattle.tp_model.specs.declared.types.Limits.{Limits}
 use Rattle.tp_model.specs.Steps.{rows_of}
 use Rattle.tp_rule.specs.Tables.{limits_of}
 use Rattle.tp_rule.specs.Views.{view_of}
-use Rattle.tp_manager.specs.Shown.{ManagerShown, PassShown, shown}
+use Rattle.tp_manager.specs.Shown.{ManagerShown, PassShown, shown, spot}
 use Rattle.tp_manager.specs.Lists.{NoneParked, NextError}
 use Rattle.tp_manager.specs.declared.listing.Wanted.TheVariants as wanteds
-use Rattle.tp_manager.specs.Bounds.{next_error_steps}
-use Rattle.tp_manager.specs.Walks.{Acted}
-use Rattle.tp_manager.proofs.Walks.{looked, follows, has_looked}
+use Rattle.tp_manager.specs.Bounds.{next_error_steps, listing_steps_left, look_steps, scan_steps}
+use Rattle.tp_manager.specs.Calls.{Follows}
+use Rattle.tp_manager.specs.Walks.{Acted, KnowsLow}
+use Rattle.tp_manager.proofs.Lows.{listing_few, listing_shown, scan_most}
+use Rattle.tp_manager.proofs.Walks.{looked, follows, has_looked, rises_same, walked_none}
 use Rattle.tp_manager.proofs.Passes.{quiet_looked, rests_looked}
 use Rattle.tp_manager.proofs.Finds.{finds_acted, error_answer, none_beyond}
 use Rattle.tp_manager.proofs.manager.Manager.next_error.Goals as goal
@@ -20,31 +22,43 @@ lim c = ap (λ (p : PassShown). p.limits) c.pass.view_is ∙ (c.requires.own.1 �
 limits : (c : After-rows) → limits_of c.self.inside.shared.words ≡ c.args.self.now.limits
 limits c = c.self.inside.shared.same ∙ ap (λ (m : ManagerShown). m.limits) c.self.view_is
 
-whole : (c : After-find) → Acted (limits_of c.self.inside.shared.words) (next_error_steps (limits_of c.self.inside.shared.words)) (view_of c.pass.inside.seat) (view_of c.find.new.seat)
+whole : (c : After-find) → Acted (limits_of c.self.inside.shared.words) (scan_steps (limits_of c.self.inside.shared.words) (look_steps (limits_of c.self.inside.shared.words)) 1 c.pass.inside.lows (limits_of c.self.inside.shared.words).parts) (view_of c.pass.inside.seat) (view_of c.find.new.seat)
 whole c = finds_acted _ wanteds.Error _ c.args.from _ _ _ c.find.result c.find.ensures.told
 
 pub returns-then-from-rows-clause-answer : goal.returns-then-from-rows-clause-answer
-returns-then-from-rows-clause-answer c = let at = (goal.at.returns-then-from-rows-clause-answer c).After-rows in let v = view_of c.pass.inside.seat in let t = c.pass.inside.seat.table in
+returns-then-from-rows-clause-answer c = let at = (goal.at.returns-then-from-rows-clause-answer c).After-rows in let v = view_of c.pass.inside.seat in let t = (spot c.pass.inside.seat.table c.pass.inside.lows) in
     let out : rows_of v.limits ≤ c.args.from = subst (λ (z : Limits). rows_of z ≤ c.args.from) (sym (lim at ∙ c.self.inside.shared.same)) (subst (λ n. n ≤ c.args.from) c.rows.ensures c.if-from-rows.true) in
-    subst (λ (l : Limits). NoneParked l (λ i. c.args.from ≤ i) c.args.pass.now (shown t v)) (lim at ∙ limits at) (none_beyond t v c.args.pass.now c.pass.view_is v.limits c.pass.invariant.steady c.args.from out)
+    subst (λ (l : Limits). NoneParked l (λ i. c.args.from ≤ i) c.args.pass.now (shown t v)) (lim at ∙ limits at) (none_beyond t v c.args.pass.now c.pass.view_is v.limits c.pass.invariant.0.steady c.args.from out)
 
 pub invariant_of-pass-2 : goal.invariant_of-pass-2
 invariant_of-pass-2 c = let at = goal.at.invariant_of-pass-2 c in
-    rests_looked _ c.pass.inside.seat c.find.new.seat (lim at.After-rows) _ _ _ _ c.pass.invariant _ (looked _ _ _ _ (whole at.After-find))
+    (rests_looked _ c.pass.inside.seat c.find.new.seat (lim at.After-rows) _ _ _ _ c.pass.invariant.0 _ (looked _ _ _ _ (whole at.After-find)), c.find.ensures.remembers)
+
+within : (c : After-find) (m : ℕ) → scan_steps (limits_of c.self.inside.shared.words) (look_steps (limits_of c.self.inside.shared.words)) 1 c.pass.inside.lows (limits_of c.self.inside.shared.words).parts ≤ m
+    → Follows m c.args.pass.now (shown (spot c.find.new.seat.table c.find.new.lows) (view_of c.find.new.seat))
+within c m le = follows (spot c.pass.inside.seat.table c.pass.inside.lows) (spot c.find.new.seat.table c.find.new.lows) c.find.ensures.lows (view_of c.pass.inside.seat) (view_of c.find.new.seat) c.args.pass.now c.pass.view_is _ _ _ (whole c).walk m le
 
 pub returns-clause-follows : goal.returns-clause-follows
 returns-clause-follows c = let at = goal.at.returns-clause-follows c in let l = limits_of c.self.inside.shared.words in
-    follows c.pass.inside.seat.table c.find.new.seat.table (view_of c.pass.inside.seat) (view_of c.find.new.seat) c.args.pass.now c.pass.view_is _ _ _ (whole at.After-find).walk (next_error_steps c.args.self.now.limits)
-    (subst (λ (z : Limits). next_error_steps l ≤ next_error_steps z) (limits at.After-rows) (omega arith))
+    within at.After-find (next_error_steps c.args.self.now.limits) (subst (λ (z : Limits). scan_steps l (look_steps l) 1 c.pass.inside.lows l.parts ≤ next_error_steps z) (limits at.After-rows) (scan_most l c.pass.inside.lows (look_steps l) 1 l.parts))
+
+pub returns-clause-few : goal.returns-clause-few
+returns-clause-few c = let at = goal.at.returns-clause-few c in let l = limits_of c.self.inside.shared.words in
+    within at.After-find (listing_steps_left c.args.self.now.limits c.args.pass.now.lows) (listing_shown l c.args.self.now.limits c.pass.inside.lows c.args.pass.now.lows _ (limits at.After-rows) (ap (λ (p : PassShown). p.lows) c.pass.view_is)
+    (listing_few l c.pass.inside.lows (view_of c.pass.inside.seat) (subst (λ (z : Limits). KnowsLow z (view_of c.pass.inside.seat)) (lim at.After-rows) c.pass.invariant.0.steady.low) c.pass.invariant.1))
+
+pub returns-then-from-rows-clause-few : goal.returns-then-from-rows-clause-few
+returns-then-from-rows-clause-few c = let at = (goal.at.returns-then-from-rows-clause-few c).After-rows in let v = view_of c.pass.inside.seat in let t = spot c.pass.inside.seat.table c.pass.inside.lows in
+    follows t t (rises_same c.pass.inside.lows) v v c.args.pass.now c.pass.view_is v.limits 0 [] (walked_none v.limits v c.pass.invariant.0.steady) (listing_steps_left c.args.self.now.limits c.args.pass.now.lows) (omega arith)
 
 pub returns-clause-quiet : goal.returns-clause-quiet
-returns-clause-quiet c = quiet_looked c.pass.inside.seat.table c.find.new.seat.table (view_of c.pass.inside.seat) (view_of c.find.new.seat) c.args.pass.now c.pass.view_is _ _ (looked _ _ _ _ (whole (goal.at.returns-clause-quiet c).After-find))
+returns-clause-quiet c = quiet_looked (spot c.pass.inside.seat.table c.pass.inside.lows) (spot c.find.new.seat.table c.find.new.lows) (view_of c.pass.inside.seat) (view_of c.find.new.seat) c.args.pass.now c.pass.view_is _ _ (looked _ _ _ _ (whole (goal.at.returns-clause-quiet c).After-find))
 
 pub returns-clause-looks : goal.returns-clause-looks
 returns-clause-looks c = λ _. let a = whole (goal.at.returns-clause-looks c).After-find in
-    has_looked c.pass.inside.seat.table c.find.new.seat.table (view_of c.pass.inside.seat) (view_of c.find.new.seat) c.args.pass.now c.pass.view_is _ _ _ a.walk a.step
+    has_looked (spot c.pass.inside.seat.table c.pass.inside.lows) (spot c.find.new.seat.table c.find.new.lows) (view_of c.pass.inside.seat) (view_of c.find.new.seat) c.args.pass.now c.pass.view_is _ _ _ a.walk a.step
 
 pub returns-clause-answer : goal.returns-clause-answer
-returns-clause-answer c = let at = goal.at.returns-clause-answer c in let t' = c.find.new.seat.table in let y = view_of c.find.new.seat in
+returns-clause-answer c = let at = goal.at.returns-clause-answer c in let t' = (spot c.find.new.seat.table c.find.new.lows) in let y = view_of c.find.new.seat in
     subst (λ (l : Limits). MatchOption c.find.result (NoneParked l (λ i. c.args.from ≤ i) c.args.pass.now (shown t' y)) (λ id. NextError l c.args.from id c.args.pass.now (shown t' y))) (limits at.After-rows)
-    (error_answer c.pass.inside.seat.table t' (view_of c.pass.inside.seat) y c.args.pass.now c.pass.view_is _ _ c.args.from c.find.result c.find.ensures.told)
+    (error_answer (spot c.pass.inside.seat.table c.pass.inside.lows) t' (view_of c.pass.inside.seat) y c.args.pass.now c.pass.view_is _ _ c.args.from c.find.result c.find.ensures.told)

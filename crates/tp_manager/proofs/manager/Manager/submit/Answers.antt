@@ -4,10 +4,10 @@ use Rattle.tp_rule.specs.Tables.{limits_of}
 use Rattle.tp_model.specs.Births.{request}
 use Rattle.tp_model.specs.History.{element_of}
 use Rattle.tp_rule.specs.Views.{hand, seen_by, view_of}
-use Rattle.tp_manager.specs.Shown.{ManagerShown, PassShown}
+use Rattle.tp_manager.specs.Shown.{ManagerShown, PassShown, spot}
 use Rattle.tp_manager.specs.Bounds.{submit_steps}
 use Rattle.tp_manager.specs.Walks.{Steady}
-use Rattle.tp_manager.proofs.Walks.{follows}
+use Rattle.tp_manager.proofs.Walks.{follows, rises_same, remembers}
 use Rattle.tp_manager.proofs.Passes.{steady_at}
 use Rattle.tp_manager.proofs.Submits.{made_request, made_rests, made_walked}
 use Rattle.tp_manager.proofs.manager.Manager.submit.Goals as goal
@@ -17,19 +17,20 @@ lim : (c : After-publish) → (view_of c.pass.inside.seat).limits ≡ limits_of 
 lim c = ap (λ (p : PassShown). p.limits) c.pass.view_is ∙ (c.requires.own.1 ∙ (sym (ap (λ (m : ManagerShown). m.limits) c.self.view_is) ∙ sym c.self.inside.shared.same))
 
 room : (c : After-publish) → (hand (view_of c.pass.inside.seat)).drawn < (limits_of c.self.inside.shared.words).rows
-room c = let r = c.pass.invariant in let below = subst (λ (z : Limits). (hand (view_of c.pass.inside.seat)).drawn ≤ z.rows) (lim c ∙ c.self.inside.shared.same) r.steady.shows.within in let not = c.if-pass-rows.false in let is = r.drawn_is in
+room c = let r = c.pass.invariant.0 in let below = subst (λ (z : Limits). (hand (view_of c.pass.inside.seat)).drawn ≤ z.rows) (lim c ∙ c.self.inside.shared.same) r.steady.shows.within in let not = c.if-pass-rows.false in let is = r.drawn_is in
     subst (λ (z : Limits). (hand (view_of c.pass.inside.seat)).drawn < z.rows) (sym c.self.inside.shared.same) (omega arith)
 
 steady : (c : After-publish) → Steady (limits_of c.self.inside.shared.words) (view_of c.pass.inside.seat)
-steady c = steady_at _ _ _ (lim c) c.pass.invariant.steady
+steady c = steady_at _ _ _ (lim c) c.pass.invariant.0.steady
 
 pub invariant_of-pass-2 : goal.invariant_of-pass-2
 invariant_of-pass-2 c = let at = (goal.at.invariant_of-pass-2 c).After-publish in
-    made_rests (limits_of c.self.inside.shared.words) c.args.key c.args.amount c.args.stage c.pass.inside.seat c.publish.new.seat _ _ (lim at) (steady at) c.store_draft_key.ensures.view c.store_draft_amount.ensures.view c.publish.ensures.grew (room at) _ _ _ _ c.pass.invariant
+    (made_rests (limits_of c.self.inside.shared.words) c.args.key c.args.amount c.args.stage c.pass.inside.seat c.publish.new.seat _ _ (lim at) (steady at) c.store_draft_key.ensures.view c.store_draft_amount.ensures.view c.publish.ensures.grew (room at) _ _ _ _ c.pass.invariant.0,
+      remembers c.pass.inside.lows _ 3 _ _ _ (made_walked (limits_of c.self.inside.shared.words) c.args.key c.args.amount c.args.stage _ _ _ _ (steady at) c.store_draft_key.ensures.view c.store_draft_amount.ensures.view c.publish.ensures.grew (room at)) c.pass.invariant.1)
 
 pub returns-clause-follows : goal.returns-clause-follows
 returns-clause-follows c = let at = (goal.at.returns-clause-follows c).After-publish in
-    follows c.pass.inside.seat.table c.publish.new.seat.table (view_of c.pass.inside.seat) (view_of c.publish.new.seat) c.args.pass.now c.pass.view_is (limits_of c.self.inside.shared.words) 3 _
+    follows (spot c.pass.inside.seat.table c.pass.inside.lows) (spot c.publish.new.seat.table c.pass.inside.lows) (rises_same c.pass.inside.lows) (view_of c.pass.inside.seat) (view_of c.publish.new.seat) c.args.pass.now c.pass.view_is (limits_of c.self.inside.shared.words) 3 _
     (made_walked (limits_of c.self.inside.shared.words) c.args.key c.args.amount c.args.stage _ _ _ _ (steady at) c.store_draft_key.ensures.view c.store_draft_amount.ensures.view c.publish.ensures.grew (room at)) submit_steps (omega arith)
 
 pub returns-clause-answer : goal.returns-clause-answer

@@ -4,11 +4,11 @@ use Rattle.tp_rule.specs.Tables.{limits_of, table_of}
 use Rattle.tp_rule.specs.Views.{seen_by, view_of}
 use Rattle.tp_rule.proofs.Seats.{one_has}
 use Rattle.tp_manager.specs.Bounds.{led_steps}
-use Rattle.tp_manager.specs.Shown.{PassShown}
+use Rattle.tp_manager.specs.Shown.{PassShown, spot}
 use Rattle.tp_manager.specs.Together.{IsAt}
 use Rattle.tp_manager.specs.Walks.{Steady}
 use Rattle.tp_manager.proofs.Passes.{rests_looked, steady_at}
-use Rattle.tp_manager.proofs.Walks.{looked, looked_begins}
+use Rattle.tp_manager.proofs.Walks.{looked, looked_begins, rises_same, remembers}
 use Rattle.tp_manager.proofs.Together.{first_at, rest_at, met_one, joined_acted, joined_others, joined_shown, looks_with}
 use Rattle.tp_manager.proofs.manager.Shared.+look_together.Goals as goal
 use Rattle.tp_manager.proofs.manager.Shared.+look_together.Goals.{After-meet_seat-2, After-part}
@@ -17,7 +17,7 @@ at_table : (t : _) (c : After-meet_seat-2 t) → IsAt (table_of c.args.self.now.
 at_table t c = first_at (table_of c.args.self.now.words) (limits_of c.args.self.now.words) c.args.passes.now c.in-Some.pass.now c.in-Some.rest.now c.in-Some.ensures.cases.0 c.requires.passes
 
 steady : (t : _) (c : After-meet_seat-2 t) → Steady (limits_of c.args.self.now.words) (view_of c.pass.inside.seat)
-steady t c = steady_at _ _ _ (ap (λ (p : PassShown). p.limits) c.pass.view_is ∙ (at_table t c).limits_are) c.pass.invariant.steady
+steady t c = steady_at _ _ _ (ap (λ (p : PassShown). p.limits) c.pass.view_is ∙ (at_table t c).limits_are) c.pass.invariant.0.steady
 
 pub join-requires-clause-pass : goal.join-requires-clause-pass
 join-requires-clause-pass t c = let at = (goal.at.join-requires-clause-pass t c).After-meet_seat-2 in
@@ -41,10 +41,10 @@ more t c = looked_begins (limits_of c.args.self.now.words) _ _ _ (looked _ _ _ _
 
 pub invariant_of-pass : goal.invariant_of-pass
 invariant_of-pass t c = let at = goal.at.invariant_of-pass t c in let l = limits_of c.args.self.now.words in let s = steady t at.After-meet_seat-2 in
-    rests_looked l c.pass.inside.seat c.part.new.seat (s.pass.1) _ _ _ _ c.pass.invariant led_steps
-    (looked l led_steps _ _ (joined_acted l (view_of c.pass.inside.seat) (view_of c.meet_seat-2.new.others) (view_of c.join.new.seat) (view_of c.look_together.new.others) (view_of c.part.new.seat) (view_of c.args.others.now) (view_of c.part.result)
+    let a = joined_acted l (view_of c.pass.inside.seat) (view_of c.meet_seat-2.new.others) (view_of c.join.new.seat) (view_of c.look_together.new.others) (view_of c.part.new.seat) (view_of c.args.others.now) (view_of c.part.result)
     (seen_by c.meet_seat-2.new.first) (seen_by c.look_together.new.first) s c.meet_seat-2.ensures.others c.meet_seat-2.ensures.saw c.join.ensures.joins c.look_together.ensures.look.others c.look_together.ensures.look.first.walk.steady.shows.legal (more t at.After-part)
-    c.part.ensures.keeps c.part.ensures.parts))
+    c.part.ensures.keeps c.part.ensures.parts in
+    (rests_looked l c.pass.inside.seat c.part.new.seat (s.pass.1) _ _ _ _ c.pass.invariant.0 led_steps (looked l led_steps _ _ a), remembers c.pass.inside.lows _ _ _ _ _ a.walk c.pass.invariant.1)
 
 pub returns-clause-look : goal.returns-clause-look
 returns-clause-look t c = let at = goal.at.returns-clause-look t c in let table = table_of c.args.self.now.words in let l = limits_of c.args.self.now.words in let s = steady t at.After-meet_seat-2 in
@@ -55,6 +55,7 @@ returns-clause-look t c = let at = goal.at.returns-clause-look t c in let table 
     c.part.ensures.keeps c.part.ensures.parts)
     (joined_shown l (view_of c.pass.inside.seat) (view_of c.meet_seat-2.new.others) (view_of c.join.new.seat) (view_of c.look_together.new.others) (view_of c.part.new.seat) (view_of c.args.others.now) (view_of c.part.result)
     (seen_by c.meet_seat-2.new.first) (seen_by c.look_together.new.first) s c.meet_seat-2.ensures.others c.meet_seat-2.ensures.saw c.join.ensures.joins c.look_together.ensures.look.others c.look_together.ensures.look.first.walk.steady.shows.legal (more t at.After-part)
-    c.part.ensures.keeps c.part.ensures.parts table c.pass.inside.seat.table c.part.new.seat.table c.in-Some.pass.now c.pass.view_is
-    (c.part.ensures.same ∙ (c.look_together.ensures.same.1 ∙ (c.join.ensures.same ∙ (c.meet_seat-2.ensures.same.1 ∙ (ap (λ (p : PassShown). p.table) c.pass.view_is ∙ (at_table t at.After-meet_seat-2).table_is))))))
+    c.part.ensures.keeps c.part.ensures.parts table (spot c.pass.inside.seat.table c.pass.inside.lows) (spot c.part.new.seat.table c.pass.inside.lows) c.in-Some.pass.now c.pass.view_is
+    (c.part.ensures.same ∙ (c.look_together.ensures.same.1 ∙ (c.join.ensures.same ∙ (c.meet_seat-2.ensures.same.1 ∙ (ap (λ (p : PassShown). p.table) c.pass.view_is ∙ (at_table t at.After-meet_seat-2).table_is)))))
+    (rises_same c.pass.inside.lows))
     c.look_together.ensures.look.passes

@@ -1,10 +1,11 @@
-use Rattle.std.proofs.Common.{◌*◌, ◌≤◌}
+use Rattle.std.proofs.Common.{◌≡◌, ◌*◌, ◌≤◌, ℕ, slice_index}
 use Rattle.tp_model.specs.Steps.{rows_of}
 use Rattle.tp_rule.specs.Tables.{limits_of}
 use Rattle.tp_rule.specs.Views.{IsSameSeat, view_of}
-use Rattle.tp_manager.specs.Bounds.{find_steps}
+use Rattle.tp_manager.specs.Bounds.{look_steps, scan_steps}
+use Rattle.tp_manager.specs.Shown.{Rises}
 use Rattle.tp_manager.specs.Finds.{PassedOver}
-use Rattle.tp_manager.specs.Walks.{Begun}
+use Rattle.tp_manager.specs.Walks.{Begun, Remembers}
 use Rattle.tp_manager.proofs.manager.Shared.find.Given as goal
 
 abbrev pub invariant-loop-part : goal.invariant-loop-part
@@ -13,5 +14,8 @@ invariant-loop-part l = record {
   reach : l.part * l.rows ≤ l.row;
   inside : l.row ≤ rows_of (limits_of l.self.words);
   same : IsSameSeat l.initial.seat l.seat;
-  begun : Begun (limits_of l.self.words) (PassedOver (limits_of l.self.words) l.wanted) (l.part * find_steps (limits_of l.self.words)) l.from l.row (view_of l.initial.seat) (view_of l.seat);
+  remembers : Remembers (view_of l.seat) l.lows;
+  rises : Rises l.initial.lows l.lows;
+  rest : (q : ℕ) → l.part ≤ q → slice_index l.lows q ≡ slice_index l.initial.lows q;
+  begun : Begun (limits_of l.self.words) (PassedOver (limits_of l.self.words) l.wanted) (scan_steps (limits_of l.self.words) (look_steps (limits_of l.self.words)) 1 l.initial.lows l.part) l.from l.row (view_of l.initial.seat) (view_of l.seat);
 }

@@ -1,10 +1,10 @@
-use Rattle.std.proofs.Common.{◌≡◌, ◌+◌, ◌-◌, ◌*◌, ◌<◌, ◌≤◌, ℕ, ⊎_elim, inl, inr, ap, arith, rules, subst, mul-le-mul_right}
+use Rattle.std.proofs.Common.{◌≡◌, ◌+◌, ◌-◌, ◌*◌, ◌<◌, ◌≤◌, ℕ, slice_index, ⊎_elim, inl, inr, ap, arith, rules, subst, mul-le-mul_right}
 use Rattle.tp_model.specs.declared.types.Limits.{Limits}
 use Rattle.tp_model.specs.Steps.{IsRowOf}
 use Rattle.tp_rule.specs.Tables.{limits_of}
 use Rattle.tp_rule.specs.Views.{seen_by, view_of}
 use Rattle.tp_rule.specs.declared.view.View.{View}
-use Rattle.tp_manager.specs.Bounds.{find_steps, look_steps}
+use Rattle.tp_manager.specs.Bounds.{look_steps}
 use Rattle.tp_manager.specs.Finds.{PassedOver}
 use Rattle.tp_manager.specs.Walks.{Begun, EachRow, Sought}
 use Rattle.tp_manager.proofs.Walks.{sought_few}
@@ -43,17 +43,19 @@ near c = let l : Limits = limits_of c.args.self.now.words in
     (c.requires.from.0, omega arith, omega arith)
 
 -- and not more rows than the part has were looked at
-few : (c : After-is_wanted_at) → (c.loop-row.row - c.later-start.result) < (limits_of c.args.self.now.words).rows
-few c = let n = near c in let low = c.loop-row.invariant.start in let most = c.later-start.ensures.most.0 in let from_on = c.requires.from.1 in let high = n.2 in omega arith
+few : (c : After-is_wanted_at) → (c.loop-row.row - c.later-start.result) < ((limits_of c.args.self.now.words).rows - slice_index c.args.lows.now c.args.part)
+few c = let l : Limits = limits_of c.args.self.now.words in let n = near c in let low = c.loop-row.invariant.start in let most = c.later-start.ensures.most.1 in let high = n.2 in
+    let a : c.args.part * l.rows ≡ c.args.part * c.args.self.now.places.limits.rows = ap (λ (z : Limits). c.args.part * z.rows) c.args.self.now.same in
+    let up = c.mark_at-mark.ensures.lows.1.0 c.args.part in let is = c.mark_at-mark.ensures.lows.0 in omega arith
 
 pub returns-then-is_wanted_at-clause-told : goal.returns-then-is_wanted_at-clause-told
 returns-then-is_wanted_at-clause-told c = let l : Limits = limits_of c.args.self.now.words in let at = goal.at.returns-then-is_wanted_at-clause-told c in let s = look_steps l in let i = c.loop-row.invariant in
     let P = PassedOver l c.args.wanted in let d : ℕ = c.loop-row.row - c.later-start.result in let most = c.later-start.ensures.most.0 in let start = i.start in
-    let room : d * s + s ≤ l.rows * s = rows_more d l.rows s (few at.After-is_wanted_at) in (
+    let room : d * s + s ≤ (l.rows - slice_index c.args.lows.now c.args.part) * s = rows_more d (l.rows - slice_index c.args.lows.now c.args.part) s (few at.After-is_wanted_at) in (
       omega arith,
       (near at.After-is_wanted_at).2,
       c.is_wanted_at.ensures.yes c.if-is_wanted_at.true,
-      sought_few l (1 + (d * s + s)) (find_steps l) (EachRow P c.args.from c.loop-row.row) _ _ (omega arith)
+      sought_few l (1 + (d * s + s)) (1 + (l.rows - slice_index c.args.lows.now c.args.part) * s) (EachRow P c.args.from c.loop-row.row) _ _ (omega arith)
           (from_mark at.After-later-start (d * s + s) c.loop-row.row (view_of c.is_wanted_at.new.seat)
           (inr (begun_hit l P (over_widens l c.args.wanted) (d * s) c.later-start.result s c.loop-row.row _ _ _ i.begun c.is_wanted_at.ensures.acted))),
     )
@@ -83,6 +85,7 @@ returns-clause-told c = let l : Limits = limits_of c.args.self.now.words in let 
     let s = look_steps l in let P = PassedOver l c.args.wanted in let d : ℕ = c.loop-row.row - c.later-start.result in
     let most = c.later-start.ensures.most.0 in let from_on = c.requires.from.1 in let high = i.inside in let low = c.loop-row-test.false in let e = first at.After-later-start in let w = wide at.After-later-start in
     let all : c.loop-row.row ≡ c.args.part * l.rows + l.rows = omega arith in
-    let few : d * s ≤ l.rows * s = mul-le-mul_right s (omega arith) in
-    sought_few l (1 + d * s) (find_steps l) _ _ _ (omega arith)
+    let up = c.mark_at-mark.ensures.lows.1.0 c.args.part in let is = c.mark_at-mark.ensures.lows.0 in let start = c.later-start.ensures.most.1 in
+    let few : d * s ≤ (l.rows - slice_index c.args.lows.now c.args.part) * s = mul-le-mul_right s (omega arith) in
+    sought_few l (1 + d * s) (1 + (l.rows - slice_index c.args.lows.now c.args.part) * s) _ _ _ (omega arith)
     (subst (λ n. Sought l (1 + d * s) (EachRow P c.args.from n) (view_of c.args.seat.now) (view_of c.loop-row.seat)) all (from_mark at.After-later-start (d * s) c.loop-row.row (view_of c.loop-row.seat) i.begun))

@@ -1,5 +1,4 @@
-use Rattle.std.proofs.Common.{◌≡◌, ◌<◌, ℕ, sym, ◌∙◌, refl, ap, arith, rules, subst, length, set, slice_index, length-set}
-use Rattle.std.proofs.lemmas.List.{get_or-set_same, get_or-set_other}
+use Rattle.std.proofs.Common.{◌≡◌, ◌<◌, ℕ, sym, ◌∙◌, refl, ap, arith, subst, slice_index}
 use mathlib.Core.Logic.{dite}
 use native.Mathlib.Decide.{ℕ_discrete}
 use Rattle.tp_model.specs.declared.types.Limits.{Limits}
@@ -7,7 +6,7 @@ use Rattle.tp_rule.specs.Steps.{Knows}
 use Rattle.tp_rule.specs.Tables.{limits_of}
 use Rattle.tp_rule.specs.Views.{view_of}
 use Rattle.tp_rule.specs.declared.view.Known.TheVariants.{PartMark}
-use Rattle.tp_manager.proofs.Walks.{looked, looked_few, looked_none, looked_then}
+use Rattle.tp_manager.proofs.Walks.{looked, looked_few, looked_none, looked_then, rises_same}
 use Rattle.tp_manager.proofs.manager.Shared.load_marks.Goals as goal
 
 pub mark_at-requires-clause-part : goal.mark_at-requires-clause-part
@@ -17,20 +16,21 @@ pub loop-part-init : goal.loop-part-init
 loop-part-init c = record {
   same = refl;
   looked = looked_none (limits_of c.args.self.now.words) (view_of c.args.seat.now) c.requires.steady;
-  wide = refl;
+  remembers = c.requires.remembers;
+  rises = rises_same c.args.lows.now;
   known = λ p low. absurd (omega arith);
 }
 
 pub loop-part-preserved : goal.loop-part-preserved
-loop-part-preserved c = let l : Limits = limits_of c.args.self.now.words in let i = c.loop-part.invariant in let n = c.loop-part.part in record {
-  same = search rules;
-  looked = looked_then l n 1 _ _ _ i.looked (looked l 1 _ _ c.mark_at.ensures.acted);
-  wide = length-set c.loop-part.marks n c.mark_at.result ∙ i.wide;
-  known = λ p less. let new = c.mark_at.ensures in dite (ℕ_discrete p n)
-      (λ at. let few : n < length c.loop-part.marks = (let w = i.wide in let high = c.loop-part-test.true in let most = c.args.self.now.places.valid.parts.1 in omega arith) in
-      subst (λ (z : ℕ × ℕ). Knows (view_of c.mark_at.new.seat) (PartMark z.0 z.1)) (λ j. (sym at j, sym (ap (slice_index (set c.loop-part.marks n c.mark_at.result)) at ∙ get_or-set_same c.loop-part.marks n c.mark_at.result 0 few) j)) new.knows)
-      (λ other. subst (λ z. Knows (view_of c.mark_at.new.seat) (PartMark p z)) (sym (get_or-set_other c.loop-part.marks n p c.mark_at.result 0 other))
-      (new.acted.walk.knows (PartMark p (slice_index c.loop-part.marks p)) (i.known p (omega arith))));
+loop-part-preserved c = let l : Limits = limits_of c.args.self.now.words in let i = c.loop-part.invariant in let n = c.loop-part.part in let new = c.mark_at.ensures in record {
+  same = new.same ∙ i.same;
+  looked = looked_then l n 1 _ _ _ i.looked (looked l 1 _ _ new.acted);
+  remembers = new.remembers;
+  rises = λ p. let up = i.rises p in let on = new.lows.1.0 p in omega arith;
+  known = λ p less. dite (ℕ_discrete p n)
+      (λ at. subst (λ (z : ℕ × ℕ). Knows (view_of c.mark_at.new.seat) (PartMark z.0 z.1)) (λ j. (sym at j, sym (ap (slice_index c.mark_at.new.lows) at ∙ new.lows.0) j)) new.knows)
+      (λ other. subst (λ z. Knows (view_of c.mark_at.new.seat) (PartMark p z)) (sym (new.lows.1.1 p other))
+      (new.acted.walk.knows (PartMark p (slice_index c.loop-part.lows p)) (i.known p (omega arith))));
 }
 
 pub returns-clause-looked : goal.returns-clause-looked

@@ -1,18 +1,20 @@
-use Rattle.std.proofs.Common.{◌≡◌, ◌+◌, ◌-◌, ◌*◌, ◌≤◌, ℕ, sym, ap, subst, arith, rules, mul-le-mul_right}
+use Rattle.std.proofs.Common.{◌≡◌, ◌+◌, ◌-◌, ◌*◌, ◌≤◌, ℕ, slice_index, sym, ◌∙◌, ap, subst, arith, rules, mul-le-mul_right}
 use mathlib.Core.List.{IsPrefix}
 use Rattle.tp_model.specs.declared.types.Limits.{Limits}
 use Rattle.tp_model.specs.Steps.{IsLegal, IsRowOf}
 use Rattle.tp_model.proofs.Bridges.{begins_refl}
 use Rattle.tp_rule.specs.Tables.{limits_of}
 use Rattle.tp_rule.specs.Views.{seen_by, view_of}
-use Rattle.tp_manager.specs.Bounds.{part_steps, try_steps}
-use Rattle.tp_manager.specs.Walks.{EachRow, Looked, OfPart, PassedBy, Rose, Sought}
-use Rattle.tp_manager.proofs.Walks.{looked, looked_then, sought_few, walked_begins}
+use Rattle.tp_manager.specs.Bounds.{try_steps}
+use Rattle.tp_manager.specs.Walks.{EachRow, Looked, OfPart, PassedBy, Remembers, RisesAt, Rose, Sought}
+use Rattle.tp_manager.proofs.Walks.{looked, looked_then, remembers, sought_few, walked_begins}
+use Rattle.tp_rule.specs.declared.view.Known.TheVariants.{PartMark}
+use Rattle.tp_manager.proofs.Lows.{rises_at_then}
 use Rattle.tp_manager.proofs.Marks.{over_passed, rose_then, took_looked}
 use Rattle.tp_manager.proofs.Scans.{passed_widens, took_few, took_then}
 use Rattle.tp_manager.proofs.Seeks.{begun_few, begun_looked, begun_on, rows_more, sought_from, sought_then}
 use Rattle.tp_manager.proofs.manager.Shared.scan_part.Goals as goal
-use Rattle.tp_manager.proofs.manager.Shared.scan_part.Goals.{After-mark_at-mark, After-try_row}
+use Rattle.tp_manager.proofs.manager.Shared.scan_part.Goals.{After-loop-row, After-mark_at-mark, After-try_row}
 
 -- where the part begins, and where the scan does
 first : (c : After-mark_at-mark) → c.args.part * (limits_of c.args.self.now.words).rows ≡ c.args.part * c.args.self.now.places.limits.rows
@@ -36,11 +38,18 @@ rose : (c : After-try_row) → IsLegal (limits_of c.args.self.now.words) (seen_b
     → Rose (limits_of c.args.self.now.words) (seen_by c.try_row.new.seat) (c.args.part * c.args.self.now.places.limits.rows + c.mark_at-mark.result) c.try_row.new.low
 rose c legal begins = rose_then (limits_of c.args.self.now.words) (seen_by c.loop-row.seat) (seen_by c.try_row.new.seat) _ c.loop-row.low c.try_row.new.low legal begins c.loop-row.invariant.rose c.try_row.ensures.low.1
 
+-- the steps from the mark up to the row
+since : (c : After-try_row) → Looked (limits_of c.args.self.now.words) ((c.loop-row.row - (c.args.part * c.args.self.now.places.limits.rows + c.mark_at-mark.result)) * try_steps (limits_of c.args.self.now.words)) (view_of c.mark_at-mark.new.seat) (view_of c.loop-row.seat)
+since c = let l : Limits = limits_of c.args.self.now.words in
+    begun_looked l (PassedBy l c.args.stage) (passed_widens l c.args.stage) _ _ c.loop-row.row _ _ c.loop-row.invariant.begun c.mark_at-mark.ensures.acted.walk.steady
+
 -- the steps up to the row
 before : (c : After-try_row) → Looked (limits_of c.args.self.now.words) (1 + (c.loop-row.row - (c.args.part * c.args.self.now.places.limits.rows + c.mark_at-mark.result)) * try_steps (limits_of c.args.self.now.words)) (view_of c.args.seat.now) (view_of c.loop-row.seat)
-before c = let l : Limits = limits_of c.args.self.now.words in
-    looked_then l 1 _ _ _ _ (looked l 1 _ _ c.mark_at-mark.ensures.acted)
-    (begun_looked l (PassedBy l c.args.stage) (passed_widens l c.args.stage) _ _ c.loop-row.row _ _ c.loop-row.invariant.begun c.mark_at-mark.ensures.acted.walk.steady)
+before c = looked_then (limits_of c.args.self.now.words) 1 _ _ _ _ (looked (limits_of c.args.self.now.words) 1 _ _ c.mark_at-mark.ensures.acted) (since c)
+
+-- the pass remembered no more than was found
+above : (c : After-mark_at-mark) → slice_index c.args.lows.now c.args.part ≤ c.mark_at-mark.result
+above c = let up = c.mark_at-mark.ensures.lows.1.0 c.args.part in let is = c.mark_at-mark.ensures.lows.0 in omega arith
 
 pub raise_to-requires-clause-low : goal.raise_to-requires-clause-low
 raise_to-requires-clause-low c = let l : Limits = limits_of c.args.self.now.words in let at = (goal.at.raise_to-requires-clause-low c).After-try_row in let t = c.in-Some.ensures.told.0 in
@@ -50,11 +59,23 @@ raise_to-requires-clause-low c = let l : Limits = limits_of c.args.self.now.word
           (rose at t.walk.steady.shows.legal (walked_begins l _ _ _ _ t.walk)),
     )
 
+pub raise_to-requires-clause-mark : goal.raise_to-requires-clause-mark
+raise_to-requires-clause-mark c = let at = (goal.at.raise_to-requires-clause-mark c).After-try_row in let known = PartMark c.args.part c.mark_at-mark.result in
+    (c.in-Some.ensures.told.0.walk.knows known ((since at).walk.knows known c.mark_at-mark.ensures.knows), ap (λ lows. slice_index lows c.args.part) c.loop-row.invariant.lows ∙ c.mark_at-mark.ensures.lows.0)
+
+pub raise_to-requires-clause-remembers : goal.raise_to-requires-clause-remembers
+raise_to-requires-clause-remembers c = let at = (goal.at.raise_to-requires-clause-remembers c).After-try_row in
+    subst (Remembers (view_of c.try_row.new.seat)) (sym c.loop-row.invariant.lows) (remembers c.mark_at-mark.new.lows _ _ _ _ _ c.in-Some.ensures.told.0.walk (remembers c.mark_at-mark.new.lows _ _ _ _ _ (since at).walk c.mark_at-mark.ensures.remembers))
+
+pub returns-in-Some-clause-lows : goal.returns-in-Some-clause-lows
+returns-in-Some-clause-lows c = rises_at_then c.args.part c.args.lows.now c.mark_at-mark.new.lows c.raise_to.new.lows c.mark_at-mark.ensures.lows.1 (subst (λ lows. RisesAt c.args.part lows c.raise_to.new.lows) c.loop-row.invariant.lows c.raise_to.ensures.lows)
+
 pub returns-in-Some-clause-told : goal.returns-in-Some-clause-told
 returns-in-Some-clause-told c = let l : Limits = limits_of c.args.self.now.words in let s = try_steps l in let at = goal.at.returns-in-Some-clause-told c in let n = near at.After-try_row in let start = c.loop-row.invariant.from in
     let e = first at.After-mark_at-mark in let high = n.0.2 in let d : ℕ = c.loop-row.row - (c.args.part * c.args.self.now.places.limits.rows + c.mark_at-mark.result) in
-    let room : d * s + s ≤ l.rows * s = rows_more d l.rows s (omega arith) in (
-      took_few l c.args.stage c.args.unit c.in-Some.taken.attempt c.in-Some.taken.element ((1 + d * s) + s + 1) (part_steps l) _ _ (omega arith)
+    let low = above at.After-mark_at-mark in
+    let room : d * s + s ≤ (l.rows - slice_index c.args.lows.now c.args.part) * s = rows_more d (l.rows - slice_index c.args.lows.now c.args.part) s (omega arith) in (
+      took_few l c.args.stage c.args.unit c.in-Some.taken.attempt c.in-Some.taken.element ((1 + d * s) + s + 1) (2 + (l.rows - slice_index c.args.lows.now c.args.part) * s) _ _ (omega arith)
           (took_looked l c.args.stage c.args.unit c.in-Some.taken.attempt c.in-Some.taken.element ((1 + d * s) + s) 1 _ _ _
           (took_then l c.args.stage c.args.unit c.in-Some.taken.attempt c.in-Some.taken.element (1 + d * s) s _ _ _ (before at.After-try_row) c.in-Some.ensures.told.0) c.raise_to.ensures.looked c.raise_to.ensures.seen),
       c.in-Some.ensures.told.1,
@@ -65,6 +86,7 @@ loop-row-preserved c = let l : Limits = limits_of c.args.self.now.words in let a
     let s = try_steps l in let P = PassedBy l c.args.stage in let F : ℕ = c.args.part * c.args.self.now.places.limits.rows + c.mark_at-mark.result in let d : ℕ = c.loop-row.row - F in
     let start = i.from in let e = first at.After-mark_at-mark in let w = wide at.After-mark_at-mark in let top = n.1 in record {
       same = search rules;
+      lows = i.lows;
       from = omega arith;
       inside = omega arith;
       low = c.try_row.ensures.low.0;
@@ -72,14 +94,28 @@ loop-row-preserved c = let l : Limits = limits_of c.args.self.now.words in let a
       begun = begun_few l P (passed_widens l c.args.stage) (d * s + s) F _ c.try_row.new.row _ _ (rows_more d (c.try_row.new.row - F) s (omega arith)) (begun_on l P (passed_widens l c.args.stage) (d * s) F s c.loop-row.row _ _ _ i.begun c.try_row.new.row start t);
     }
 
+-- the steps from the mark to the end of the part
+all_since : (c : After-loop-row) → Looked (limits_of c.args.self.now.words) ((c.loop-row.row - (c.args.part * c.args.self.now.places.limits.rows + c.mark_at-mark.result)) * try_steps (limits_of c.args.self.now.words)) (view_of c.mark_at-mark.new.seat) (view_of c.loop-row.seat)
+all_since c = let l : Limits = limits_of c.args.self.now.words in
+    begun_looked l (PassedBy l c.args.stage) (passed_widens l c.args.stage) _ _ c.loop-row.row _ _ c.loop-row.invariant.begun c.mark_at-mark.ensures.acted.walk.steady
+
+pub raise_to-requires-2-clause-mark : goal.raise_to-requires-2-clause-mark
+raise_to-requires-2-clause-mark c = ((all_since (goal.at.raise_to-requires-2-clause-mark c).After-loop-row).walk.knows (PartMark c.args.part c.mark_at-mark.result) c.mark_at-mark.ensures.knows, ap (λ lows. slice_index lows c.args.part) c.loop-row.invariant.lows ∙ c.mark_at-mark.ensures.lows.0)
+
+pub raise_to-requires-2-clause-remembers : goal.raise_to-requires-2-clause-remembers
+raise_to-requires-2-clause-remembers c = subst (Remembers (view_of c.loop-row.seat)) (sym c.loop-row.invariant.lows) (remembers c.mark_at-mark.new.lows _ _ _ _ _ (all_since (goal.at.raise_to-requires-2-clause-remembers c).After-loop-row).walk c.mark_at-mark.ensures.remembers)
+
+pub returns-clause-lows : goal.returns-clause-lows
+returns-clause-lows c = rises_at_then c.args.part c.args.lows.now c.mark_at-mark.new.lows c.raise_to-2.new.lows c.mark_at-mark.ensures.lows.1 (subst (λ lows. RisesAt c.args.part lows c.raise_to-2.new.lows) c.loop-row.invariant.lows c.raise_to-2.ensures.lows)
+
 pub returns-clause-told : goal.returns-clause-told
 returns-clause-told c = let l : Limits = limits_of c.args.self.now.words in let s = try_steps l in let at = (goal.at.returns-clause-told c).After-mark_at-mark in let i = c.loop-row.invariant in
-    let high = i.inside in let low = c.loop-row-test.false in let e = first at in let w = wide at in
+    let high = i.inside in let low = c.loop-row-test.false in let e = first at in let w = wide at in let up = above at in
     let P = PassedBy l c.args.stage in let F : ℕ = c.args.part * c.args.self.now.places.limits.rows + c.mark_at-mark.result in let d : ℕ = c.loop-row.row - F in
     let all : c.loop-row.row ≡ c.args.part * l.rows + l.rows = omega arith in
-    let few : d * s ≤ l.rows * s = mul-le-mul_right s (omega arith) in
+    let few : d * s ≤ (l.rows - slice_index c.args.lows.now c.args.part) * s = mul-le-mul_right s (omega arith) in
     let sought = sought_from l P (passed_widens l c.args.stage) (d * s) (c.args.part * l.rows) F c.loop-row.row (view_of c.args.seat.now) (view_of c.mark_at-mark.new.seat) (view_of c.loop-row.seat) c.mark_at-mark.ensures.acted i.begun
     (λ j from_on below. over_passed l c.args.stage (seen_by c.mark_at-mark.new.seat) c.args.part c.mark_at-mark.result j c.mark_at-mark.ensures.low.1 from_on (omega arith)) in
-    sought_few l ((1 + d * s) + 1) (part_steps l) _ _ _ (omega arith)
+    sought_few l ((1 + d * s) + 1) (2 + (l.rows - slice_index c.args.lows.now c.args.part) * s) _ _ _ (omega arith)
     (sought_then l (1 + d * s) 1 (OfPart l P c.args.part) _ _ _ (λ a b g later each j p q. passed_widens l c.args.stage j a a b g (begins_refl a) later (each j p q))
     (subst (λ n. Sought l (1 + d * s) (EachRow P (c.args.part * l.rows) n) (view_of c.args.seat.now) (view_of c.loop-row.seat)) all sought) c.raise_to-2.ensures.looked)

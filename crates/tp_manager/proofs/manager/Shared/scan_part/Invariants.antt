@@ -1,4 +1,4 @@
-use Rattle.std.proofs.Common.{◌-◌, ◌+◌, ◌*◌, ◌≤◌}
+use Rattle.std.proofs.Common.{◌≡◌, ◌-◌, ◌+◌, ◌*◌, ◌≤◌}
 use Rattle.tp_rule.specs.Tables.{limits_of}
 use Rattle.tp_rule.specs.Views.{IsSameSeat, seen_by, view_of}
 use Rattle.tp_manager.specs.Bounds.{try_steps}
@@ -8,6 +8,7 @@ use Rattle.tp_manager.proofs.manager.Shared.scan_part.Given as goal
 abbrev pub invariant-loop-row : goal.invariant-loop-row
 invariant-loop-row l = record {
   same : IsSameSeat l.initial.seat l.seat;
+  lows : l.lows ≡ l.initial.lows;
   from : l.first + l.mark ≤ l.row;
   inside : l.row ≤ l.end;
   low : l.low ≤ l.row;
