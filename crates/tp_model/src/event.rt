@@ -7,7 +7,7 @@ use std::collections::LinkedList;
 pub enum Event {
     /// A client submitted an element.
     Enqueue(u16, Element),
-    /// A unit of work took an element, for the n-th time that one did: pass, unit, element, n.
+    /// A unit of work took an element, for the n-th time that one did in its round: pass, unit, element, n.
     Claim(u16, u16, u32, u8),
     /// A unit of work was committed, and these outputs were born: pass, unit, outputs.
     Commit(u16, u16, LinkedList<Element>),

@@ -32,7 +32,8 @@ pub fn finished_stays()
     ensures { SettledStays }
 {}
 
-/// What a longer history keeps: who claimed a unit and how it ended, and each claim word but for later attempts and a kill.
+/// What a longer history keeps: who claimed a unit and how it ended, and each claim word but for later attempts and rounds and
+/// a kill.
 pub fn later_histories()
     ensures units { UnitsStay }
     ensures words { WordsRise }

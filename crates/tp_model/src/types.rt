@@ -26,7 +26,7 @@ pub struct Element {
 pub enum Status {
     /// It may be claimed. So many units of work took it in its round and were aborted: fewer than the attempt limit.
     Waiting { attempts: u8 },
-    /// An undecided unit of work holds it, and is the `attempt`-th to do so.
+    /// An undecided unit of work holds it, and is the `attempt`-th to do so in its round.
     Held { unit: u16, attempt: u8 },
     /// A unit of work took it and committed.
     Consumed { unit: u16 },

@@ -105,7 +105,7 @@ fn sooner_of(stage: u8, best: Option<Look>, look: Look) -> Option<Look>
     }
 }
 
-/// How many attempts an element that waits has had.
+/// How many attempts an element that waits has had in its round.
 pub(crate) fn attempts_of(status: Status) -> u8
     ensures { result ≡ attempts_in status }
 {

@@ -15,7 +15,7 @@ use tp_script::Refused;
 pub enum ServerAnswer {
     /// A turn, or the part of it that was asked for, came to this.
     Turned(Turned),
-    /// A new unit of work took the element, as the `attempt`-th to do so.
+    /// A new unit of work took the element, as the `attempt`-th to do so in its round.
     Work {
         element: u32,
         unit: u16,

@@ -29,7 +29,7 @@ pub enum LineFault {
     Syntax,
     /// 2: a number word that isn't 1 to 20 digits, or above its bound.
     BadNumber,
-    /// 3: a setting outside its range, or too many servers.
+    /// 3: a setting outside its range, too many servers, or a race with which too many passes are needed.
     BadLimits,
     /// 4: a recipe that is refused, or a `start` of a register that the server doesn't have.
     BadRecipe,
@@ -37,7 +37,7 @@ pub enum LineFault {
     BadName,
     /// 6: a line above 200 bytes, or a script above 65,536 bytes.
     TooLong,
-    /// 7: a setting behind a server, or one of these behind a command.
+    /// 7: a setting behind a server, one of these behind a command, or a line of any kind behind `account`.
     Order,
 }
 

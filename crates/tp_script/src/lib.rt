@@ -1,4 +1,4 @@
-//! Scripts: what their bytes say, or the line and the number of their first fault.
+//! Scripts: what their bytes say, or their first faulty line and its fault.
 #![tactic(auto)]
 
 mod commands;

@@ -24,7 +24,7 @@ pub struct Settings {
     pub rows: u16,
     /// Units of work of each pass, 1 to 1024.
     pub units: u16,
-    /// Attempts of each element, 1 to 7.
+    /// Attempts of each element in a round, 1 to 7.
     pub attempts: u8,
     ghost rows_in_range: { (1 ≤ rows) × (rows ≤ 256) },
     ghost units_in_range: { (1 ≤ units) × (units ≤ 1024) },
