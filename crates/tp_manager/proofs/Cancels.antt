@@ -312,7 +312,7 @@ module _ (l : Limits) (root : ℕ) where
         let first = bit_le (found i) (in_family root w.seen i) (λ is. member_later root i v.seen w.seen before (and_right (looked i) (in_family root v.seen i) is)) in
         let last = bit_le (is_done l root y.seen i) (done i) (λ is. and_both (looked i) (is_done l root y.seen i) on is) in
         let kept = count_le (λ x. looked x && is_done l root w.seen x) done i
-            (λ x below is. and_both (looked x) (is_done l root y.seen x) (and_left (looked x) (is_done l root w.seen x) is) (done_later l root x w.seen y.seen legal after (and_right (looked x) (is_done l root w.seen x) is))) in
+        (λ x below is. and_both (looked x) (is_done l root y.seen x) (and_left (looked x) (is_done l root w.seen x) is) (done_later l root x w.seen y.seen legal after (and_right (looked x) (is_done l root w.seen x) is))) in
         let a_few = a.few in let b_few = b.few in let a_least = a.least in let b_least = b.least in let a_most = a.most in let b_most = b.most in
         record {
           events = a.events ++ b.events;
@@ -357,7 +357,7 @@ module _ (l : Limits) (root : ℕ) where
     rising : (f g n k : ℕ) (w y : View) → f ≤ count_below (λ i. looked i && is_done l root w.seen i) (rows_of l) → Tallied l n root looked (rows_of l) g k w y → f ≤ g
     rising f g n k w y most b =
         let sub = count_le (λ i. looked i && is_done l root w.seen i) (λ i. looked i && in_family root w.seen i) (rows_of l)
-            (λ i below is. and_both (looked i) (in_family root w.seen i) (and_left (looked i) (is_done l root w.seen i) is) (done_member l root i w.seen (and_right (looked i) (is_done l root w.seen i) is))) in
+        (λ i below is. and_both (looked i) (in_family root w.seen i) (and_left (looked i) (is_done l root w.seen i) is) (done_member l root i w.seen (and_right (looked i) (is_done l root w.seen i) is))) in
         let least = b.least in omega arith
 
     pub rounded_next : (n m p f g k j : ℕ) (v w y : View) → rows_of l ≤ most_rows → g ≢ f → Rounded l n root looked p f k v w → Tallied l m root looked (rows_of l) g j w y → Rounded l (n + m) root looked (p + 1) g (k + j) v y

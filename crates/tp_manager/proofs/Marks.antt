@@ -108,9 +108,12 @@ module _ (l : Limits) where
 
   -- and a mark that the seat knows can rise over them
   pub rose_low : (v : View) (p m n : ℕ) → Steady l v → Knows v (PartMark p m) → n ≤ l.rows → Rose l v.seen (p * l.rows + m) (p * l.rows + n) → IsLow l v.seen p n
-  rose_low v p m n s known top r = (top, λ i low high x born. dite (dec_le (p * l.rows + m) i)
-      (λ past. let t = r.1 i past high in subst IsSettled refl t.2)
-      (λ not. (s.low p m known).1 i low (omega arith) x born))
+  rose_low v p m n s known top r = (
+    top,
+    λ i low high x born. dite (dec_le (p * l.rows + m) i)
+        (λ past. let t = r.1 i past high in subst IsSettled refl t.2)
+        (λ not. (s.low p m known).1 i low (omega arith) x born),
+  )
 
   not_waiting : (s : Status) → IsSettled s → ¬ IsWaiting s
   not_waiting s settled w = subst IsSettled w.1 settled

@@ -132,13 +132,7 @@ impl Shared {
     }
 
     /// The first row from this one on whose element is looked for.
-    fn find(
-        &self,
-        seat: &mut Seat,
-        lows: &mut [u16; 32],
-        from: u32,
-        wanted: Wanted,
-    ) -> Option<u32>
+    fn find(&self, seat: &mut Seat, lows: &mut [u16; 32], from: u32, wanted: Wanted) -> Option<u32>
         requires own { IsSeatOf self.now.words seat.old }
         requires steady { Steady (limits_of self.now.words) (view_of seat.old) }
         requires from { from < rows_of (limits_of self.now.words) }
@@ -204,7 +198,6 @@ impl Manager {
         if from >= self.shared.places.rows() {
             return None;
         }
-        self.shared
-            .find(seat, &mut pass.lows, from, Wanted::Error)
+        self.shared.find(seat, &mut pass.lows, from, Wanted::Error)
     }
 }

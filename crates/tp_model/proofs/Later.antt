@@ -115,9 +115,12 @@ module _ (l : Limits) (a : List Event) (i n u r : ℕ) where
   stands_on x e legal step before same (Some (Committed f m)) at = inl (claim_word-snoc x e i ∙ stands_after l x e legal step i n u same (λ z. let q = sym at ∙ z in cc))
 
   stands_more : (x : List Event) (e : Event) → IsLegal l x → Step l x e → StandsYet x → StandsYet (x ++ e ∷ [])
-  stands_more x e legal step old = (begins_more a x e old.0, ⊎_elim
-      (λ same. stands_on x e legal step old.0 same (end_of x u) refl)
-      (λ t. inr (t.0, t.1, begins_more t.0 x e t.2, t.3, t.4, t.5)) old.1)
+  stands_more x e legal step old = (
+    begins_more a x e old.0,
+    ⊎_elim
+        (λ same. stands_on x e legal step old.0 same (end_of x u) refl)
+        (λ t. inr (t.0, t.1, begins_more t.0 x e t.2, t.3, t.4, t.5)) old.1,
+  )
 
   pub stood : (b : List Event) → IsLegal l b → IsPrefix a b → claim_word a i ≡ TakenWord n u r → end_of b u ≡ Some Aborted → Stood b
   stood b legal begins is ended =

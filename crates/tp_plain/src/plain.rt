@@ -41,7 +41,7 @@ impl Model for Plain {
     ghost view = { λ p. record { limits = p.limits; history = p.history.events; passes = p.passes.items } };
 
     ghost invariant = { λ p. IsReached (record { limits = p.limits; history = p.history.events; passes = p.passes.items }) × (p.looks.items ≡ map (look_at p.limits.attempts p.history.events) (born p.history.events))
-      × KeepsRounds p.limits p.history.events p.rounds.items };
+        × KeepsRounds p.limits p.history.events p.rounds.items };
 }
 
 impl Plain {

@@ -121,12 +121,7 @@ pub(crate) fn cancels(
 }
 
 /// Whether a requeue answers this.
-pub(crate) fn requeues(
-    plain: &mut Plain,
-    caller: u16,
-    id: u32,
-    answer: Result<u8, Refusal>,
-) -> bool
+pub(crate) fn requeues(plain: &mut Plain, caller: u16, id: u32, answer: Result<u8, Refusal>) -> bool
     requires { caller < plain.old.limits.parts }
     ensures { plain.new.limits ≡ plain.old.limits }
 {

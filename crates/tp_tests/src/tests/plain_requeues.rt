@@ -50,7 +50,16 @@ fn requeue_with_work_in_hand(rt: HostRuntime) {
     assert!(rt; aborts(&mut plain, 1, Ended::Aborted));
     let held = work(&mut plain, 1, 2).expect(&rt, "no work");
     assert!(rt; requeues(&mut plain, 1, 0, Ok(1)));
-    assert!(rt; stands(&plain, 1, Status::Held { unit: held.unit, attempt: 1 }));
+    assert!(rt;
+        stands(
+            &plain,
+            1,
+            Status::Held {
+                unit: held.unit,
+                attempt: 1
+            }
+        )
+    );
     assert!(rt; kills(&mut plain, 0, 0, Ok(Killed { units_aborted: 0 })));
     assert!(rt; stands(&plain, 0, Status::Killed));
 }

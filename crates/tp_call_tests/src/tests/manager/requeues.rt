@@ -29,16 +29,37 @@ fn three_rounds(rt: HostRuntime) {
             assert!(rt; requeues(&manager, &mut first, 0, Err(Refusal::NotParked)));
             assert!(rt; aborts(&manager, &mut second));
         }
-        assert!(rt; finds(&manager, &mut first, element, Status::Parked { attempts: 2 }));
+        assert!(rt;
+            finds(
+                &manager,
+                &mut first,
+                element,
+                Status::Parked { attempts: 2 }
+            )
+        );
         assert!(rt; manager.next_error(&mut first, 0) == Some(0));
         if round < 3 {
             assert!(rt; requeues(&manager, &mut first, 0, Ok(round + 1)));
-            assert!(rt; finds(&manager, &mut second, element, Status::Waiting { attempts: 0 }));
+            assert!(rt;
+                finds(
+                    &manager,
+                    &mut second,
+                    element,
+                    Status::Waiting { attempts: 0 }
+                )
+            );
             assert!(rt; manager.next_error(&mut second, 0).is_none());
         }
     }
     assert!(rt; requeues(&manager, &mut first, 0, Err(Refusal::NoRound)));
-    assert!(rt; finds(&manager, &mut first, element, Status::Parked { attempts: 2 }));
+    assert!(rt;
+        finds(
+            &manager,
+            &mut first,
+            element,
+            Status::Parked { attempts: 2 }
+        )
+    );
     assert!(rt; kills(&manager, &mut first, 0, Ok(Killed { units_aborted: 0 })));
     assert!(rt; requeues(&manager, &mut first, 0, Err(Refusal::NotParked)));
     drop(second);
@@ -65,7 +86,14 @@ fn nothing_to_requeue(rt: HostRuntime) {
         )
     );
     assert!(rt; requeues(&manager, &mut first, 0, Err(Refusal::NotParked)));
-    assert!(rt; finds(&manager, &mut first, request(0, 1, 0, 9), Status::Consumed { unit: 16 }));
+    assert!(rt;
+        finds(
+            &manager,
+            &mut first,
+            request(0, 1, 0, 9),
+            Status::Consumed { unit: 16 }
+        )
+    );
     drop(second);
     drop(first);
     drop(manager);

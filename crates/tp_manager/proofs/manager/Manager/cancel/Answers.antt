@@ -93,9 +93,11 @@ returns-then-is_some-clause-answer c = let at = goal.at.returns-then-is_some-cla
 
 pub invariant_of-pass-2 : goal.invariant_of-pass-2
 invariant_of-pass-2 c = let at = goal.at.invariant_of-pass-2 c in let l : Limits = limits_of c.self.inside.shared.words in let told = c.cancel_family-killed.ensures.told in
-    let k = cancels_after l c.args.root (birth_steps + l.parts) ((rows_of l + 1) * round_steps l) (birth_steps + l.parts + (rows_of l + 1) * round_steps l) c.cancel_family-killed.result (view_of c.pass.inside.seat) (view_of c.load_marks.new.seat) (view_of c.cancel_family-killed.new.seat) (omega arith) (looked l (birth_steps + l.parts) _ _ (found at.After-load_marks)) told in
-    (subst (λ t. Rests c.cancel_family-killed.new.seat c.pass.inside.number c.pass.inside.drawn c.pass.inside.used t) (sym (no_task at.After-rows))
-    (rests_swept l c.pass.inside.seat c.cancel_family-killed.new.seat _ _ _ (lim at.After-rows) (rests at.After-rows) _ c.args.root k.events k.swept), remembers c.load_marks.new.lows _ _ _ _ _ told.swept.gained.walk c.load_marks.ensures.remembers)
+    let k = cancels_after l c.args.root (birth_steps + l.parts) ((rows_of l + 1) * round_steps l) (birth_steps + l.parts + (rows_of l + 1) * round_steps l) c.cancel_family-killed.result (view_of c.pass.inside.seat) (view_of c.load_marks.new.seat) (view_of c.cancel_family-killed.new.seat) (omega arith) (looked l (birth_steps + l.parts) _ _ (found at.After-load_marks)) told in (
+      subst (λ t. Rests c.cancel_family-killed.new.seat c.pass.inside.number c.pass.inside.drawn c.pass.inside.used t) (sym (no_task at.After-rows))
+          (rests_swept l c.pass.inside.seat c.cancel_family-killed.new.seat _ _ _ (lim at.After-rows) (rests at.After-rows) _ c.args.root k.events k.swept),
+      remembers c.load_marks.new.lows _ _ _ _ _ told.swept.gained.walk c.load_marks.ensures.remembers,
+    )
 
 pub returns-clause-follows : goal.returns-clause-follows
 returns-clause-follows c = let at = goal.at.returns-clause-follows c in let l : Limits = limits_of c.self.inside.shared.words in let n = found at.After-load_marks in let k = c.cancel_family-killed.ensures.told.swept.gained in

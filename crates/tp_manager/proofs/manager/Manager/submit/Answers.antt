@@ -24,9 +24,10 @@ steady : (c : After-publish) → Steady (limits_of c.self.inside.shared.words) (
 steady c = steady_at _ _ _ (lim c) c.pass.invariant.0.steady
 
 pub invariant_of-pass-2 : goal.invariant_of-pass-2
-invariant_of-pass-2 c = let at = (goal.at.invariant_of-pass-2 c).After-publish in
-    (made_rests (limits_of c.self.inside.shared.words) c.args.key c.args.amount c.args.stage c.pass.inside.seat c.publish.new.seat _ _ (lim at) (steady at) c.store_draft_key.ensures.view c.store_draft_amount.ensures.view c.publish.ensures.grew (room at) _ _ _ _ c.pass.invariant.0,
-      remembers c.pass.inside.lows _ 3 _ _ _ (made_walked (limits_of c.self.inside.shared.words) c.args.key c.args.amount c.args.stage _ _ _ _ (steady at) c.store_draft_key.ensures.view c.store_draft_amount.ensures.view c.publish.ensures.grew (room at)) c.pass.invariant.1)
+invariant_of-pass-2 c = let at = (goal.at.invariant_of-pass-2 c).After-publish in (
+  made_rests (limits_of c.self.inside.shared.words) c.args.key c.args.amount c.args.stage c.pass.inside.seat c.publish.new.seat _ _ (lim at) (steady at) c.store_draft_key.ensures.view c.store_draft_amount.ensures.view c.publish.ensures.grew (room at) _ _ _ _ c.pass.invariant.0,
+  remembers c.pass.inside.lows _ 3 _ _ _ (made_walked (limits_of c.self.inside.shared.words) c.args.key c.args.amount c.args.stage _ _ _ _ (steady at) c.store_draft_key.ensures.view c.store_draft_amount.ensures.view c.publish.ensures.grew (room at)) c.pass.invariant.1,
+)
 
 pub returns-clause-follows : goal.returns-clause-follows
 returns-clause-follows c = let at = (goal.at.returns-clause-follows c).After-publish in

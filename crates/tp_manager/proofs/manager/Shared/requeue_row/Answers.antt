@@ -62,15 +62,25 @@ returns-then-attempt-self-clause-told c = let l : Limits = limits_of c.args.self
 pub returns-in-Undecided-clause-told : goal.returns-in-Undecided-clause-told
 returns-in-Undecided-clause-told c = let l : Limits = limits_of c.args.self.now.words in let at = goal.at.returns-in-Undecided-clause-told c in let o = one at.After-load_claim-claim in let t = two at.After-load_unit o in let h = seen_by c.load_unit.new.seat in let all = looked_then l 1 1 _ _ _ o t in (
   looked_few l 2 renew_steps _ _ (omega arith) all,
-  (h, looked_begins l 2 _ _ all, begins_refl h, not_held l h c.args.row c.in-Taken.unit c.in-Taken.attempt
-      (sym (held_yet l (seen_by c.load_claim-claim.new.seat) h t.walk.steady.shows.legal (looked_begins l 1 _ _ t) c.args.row c.in-Taken.attempt c.in-Taken.unit (taken at.In-Taken) (sym (ap unit_value c.in-Undecided.is) ∙ c.load_unit.ensures.end)))),
+  (
+    h,
+    looked_begins l 2 _ _ all,
+    begins_refl h,
+    not_held l h c.args.row c.in-Taken.unit c.in-Taken.attempt
+        (sym (held_yet l (seen_by c.load_claim-claim.new.seat) h t.walk.steady.shows.legal (looked_begins l 1 _ _ t) c.args.row c.in-Taken.attempt c.in-Taken.unit (taken at.In-Taken) (sym (ap unit_value c.in-Undecided.is) ∙ c.load_unit.ensures.end))),
+  ),
 )
 
 pub returns-in-Committed-clause-told : goal.returns-in-Committed-clause-told
 returns-in-Committed-clause-told c = let l : Limits = limits_of c.args.self.now.words in let at = goal.at.returns-in-Committed-clause-told c in let o = one at.After-load_claim-claim in let t = two at.After-load_unit o in let h = seen_by c.load_unit.new.seat in let all = looked_then l 1 1 _ _ _ o t in (
   looked_few l 2 renew_steps _ _ (omega arith) all,
-  (h, looked_begins l 2 _ _ all, begins_refl h, not_consumed l h c.args.row c.in-Taken.unit
-      (sym (consumed_now l (seen_by c.load_claim-claim.new.seat) h t.walk.steady.shows.legal (looked_begins l 1 _ _ t) c.args.row c.in-Taken.attempt c.in-Taken.unit c.in-Committed.first c.in-Committed.count (taken at.In-Taken) (sym (ap unit_value c.in-Committed.is) ∙ c.load_unit.ensures.end)))),
+  (
+    h,
+    looked_begins l 2 _ _ all,
+    begins_refl h,
+    not_consumed l h c.args.row c.in-Taken.unit
+        (sym (consumed_now l (seen_by c.load_claim-claim.new.seat) h t.walk.steady.shows.legal (looked_begins l 1 _ _ t) c.args.row c.in-Taken.attempt c.in-Taken.unit c.in-Committed.first c.in-Committed.count (taken at.In-Taken) (sym (ap unit_value c.in-Committed.is) ∙ c.load_unit.ensures.end))),
+  ),
 )
 
 pub returns-then-round-ge-MOST_ROUNDS-clause-told : goal.returns-then-round-ge-MOST_ROUNDS-clause-told

@@ -74,9 +74,10 @@ invariant_of-self c =
 pub returns-clause-answer : goal.returns-clause-answer
 returns-clause-answer c =
     let at = goal.at.returns-clause-answer c in
-    let r = round_is at.After-index-round (inside at.In-Parked) in
-    (may_requeue c.args.self.now c.args.caller c.args.id c.index-round.result.now c.in-Parked.attempts c.in-Ok.look.element c.requires c.in-Ok.ensures.answer.0.element (parked at.In-Parked) r c.if-round-ge-MOST_ROUNDS.false,
-    rw (← c.self.view_is, c.then-self-inside.ensures) refl)
+    let r = round_is at.After-index-round (inside at.In-Parked) in (
+      may_requeue c.args.self.now c.args.caller c.args.id c.index-round.result.now c.in-Parked.attempts c.in-Ok.look.element c.requires c.in-Ok.ensures.answer.0.element (parked at.In-Parked) r c.if-round-ge-MOST_ROUNDS.false,
+      rw (← c.self.view_is, c.then-self-inside.ensures) refl,
+    )
 
 pub returns-clause-computed : goal.returns-clause-computed
 returns-clause-computed c =
