@@ -169,13 +169,14 @@ class Drawing:
         y = self.y[it.end] if it.end >= 0 else self.y[-1]
         if it.how.startswith("taken"):
             y -= 10
-        parked = self.y[it.parked] + ROW / 2
         if it.how == "parked":
-            y = parked
+            y = self.y[it.parked] + ROW / 2
         if y > at:
             self.put(f'<path class="way r{colour}" d="M{x:.0f},{at:.0f} V{y:.0f}"/>')
-        if it.parked >= 0:
-            self.put(f'<rect class="d{colour}" x="{x - 5:.0f}" y="{parked - 5:.0f}" width="10" height="10"/>')
+        for row in [*it.parkings, it.parked]:
+            if row >= 0:
+                parked = self.y[row] + ROW / 2
+                self.put(f'<rect class="d{colour}" x="{x - 5:.0f}" y="{parked - 5:.0f}" width="10" height="10"/>')
         if it.how == "killed":
             self.cross(x, y, colour)
         elif it.how == "waiting":

@@ -42,6 +42,9 @@ class Element:
     end: int = -1
     how: str = "waiting"
     parked: int = -1
+    # where the rounds before this one parked it, and how many holds they had
+    parkings: list = field(default_factory=list)
+    past: int = 0
 
 
 @dataclass
@@ -103,6 +106,8 @@ class Story:
             for it in self.elements.values():
                 if it.root == int(command[1]) and it.stage != 15 and it.how not in ("consumed", "killed"):
                     self.kill(row, it.number)
+        elif verb == "requeue" and line[0] == "requeued":
+            self.requeue(int(command[1]))
         elif verb in ("race", "drain"):
             self.crowd(row)
         elif verb in ("turn", "claim", "prepare", "commit", "abort", "drop"):
@@ -141,7 +146,7 @@ class Story:
             self.elements[first + at] = Element(first + at, element.root, stage, lane, row, text)
 
     def wait_again(self, row, element):
-        if element.how == "waiting" and len(element.holds) >= self.attempts:
+        if element.how == "waiting" and len(element.holds) - element.past >= self.attempts:
             element.end, element.how, element.parked = row, "parked", row
 
     def kill(self, row, number):
@@ -150,6 +155,12 @@ class Story:
             element.end, element.how = row, "killed"
             if element.holds and element.holds[-1].last < 0:
                 element.holds[-1].killed = row
+
+    def requeue(self, number):
+        element = self.elements.get(number)
+        if element:
+            element.parkings.append(element.parked)
+            element.end, element.how, element.parked, element.past = -1, "waiting", -1, len(element.holds)
 
     def crowd(self, row):
         """In a race or a drain the servers that are free take what waits for them. The report doesn't tell which of it."""
