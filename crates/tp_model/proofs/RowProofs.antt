@@ -49,6 +49,7 @@ settled_kill e = e.stage ≢ 15 → IsSettled (status_of 3 killed_in_hand e.id)
 pub rows : WorkedRows
 rows =
     record {
+      most_rounds = refl;
       reply_is = refl;
       reply_end = refl;
       reply_status = refl;

@@ -3,6 +3,7 @@ use Rattle.std.specs.Prelude.{◌≡◌, ℕ, Some, List, [], ◌∷◌, ◌++�
 use Rattle.tp_model.specs.declared.types.Counts.{Counts}
 use Rattle.tp_model.specs.declared.types.Element.{Element}
 use Rattle.tp_model.specs.declared.types.Limits.{Limits}
+use Rattle.tp_model.specs.declared.types.TheConstants.{MOST_ROUNDS}
 use Rattle.tp_model.specs.declared.types.Status.TheVariants.{Waiting, Held, Consumed, Parked, Killed}
 use Rattle.tp_model.specs.declared.event.Event.{Event}
 use Rattle.tp_model.specs.declared.event.Event.TheVariants.{Enqueue, Claim, Commit, Abort, Kill, Requeue}
@@ -48,6 +49,8 @@ so_many waiting consumed = record { waiting = waiting; held = 0; consumed = cons
 
 -- what these histories come to
 pub record WorkedRows : Type 0 where
+  -- a parked element is given three more rounds at most
+  pub most_rounds : MOST_ROUNDS ≡ 3
   pub reply_is : map (λ (e : Element). e.id) (born with_reply) ≡ 0 ∷ 8 ∷ []
   pub reply_end : end_of with_reply 256 ≡ Some (Committed 8 1)
   pub reply_status : status_of 3 with_reply 0 ≡ Consumed 256
