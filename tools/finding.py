@@ -5,7 +5,7 @@ points of each element lie in a chain, and each point between two times of the c
 aborted a unit or killed an element that others tell of, and, where a call passed an element over, whether that began to wait
 after the call began or was taken before it ended. Each choice narrows the times of a point, and what must come before and behind.
 """
-from histories import MOST_ROUNDS, Point, Wrong, agrees, body, status
+from histories import MOST_ROUNDS, Point, Wrong, agrees, contents, status
 
 # How many choices are tried out in one round.
 TRIES = 20_000
@@ -57,7 +57,7 @@ class Log:
             return self.must(self.drawn == self.limits["rows"], call, "there was room")
         self.must(call.answer == ("Ok", self.next_id(call)), call, "not the next id")
         id, self.drawn = call.answer[1], self.drawn + 1
-        self.births[id] = self.point(call, "submit", call.thread, id, told["stage"], told["key"], told["amount"])
+        self.births[id] = self.point(call, "submit", call.thread, id, told["stage"], tuple(told["body"]))
 
     def take_claim(self, call, told):
         if call.answer == "NoUnit":
@@ -68,7 +68,7 @@ class Log:
         work = call.answer[1]
         self.must(work["unit"] == call.thread * self.limits["units"] + self.used, call, "not the next unit")
         id, self.open, self.used = work["element"]["id"], work["unit"], self.used + 1
-        what = self.open, id, body(work["element"]), told["stage"], work["attempt"]
+        what = self.open, id, contents(work["element"]), told["stage"], work["attempt"]
         self.claims.setdefault(id, []).append((work["attempt"], self.open, self.point(call, "claim", call.thread, *what)))
         self.ends[self.open] = None
 
@@ -83,7 +83,8 @@ class Log:
             self.ends[self.open] = ("aborted by another", call)
         else:
             first = self.next_id(call)
-            drafts = [(told["stage"], told["key"], told["amount"] + it) for it in range(told["drafts"])]
+            key, *words = told["body"]
+            drafts = [(told["stage"], (key, *(word + it for word in words))) for it in range(told["drafts"])]
             wanted = {"is": "Committed", "first": first if drafts else 0, "count": len(drafts)}
             self.must(call.answer == wanted, call, "not the drafts' ids")
             made = self.point(call, "commit", call.thread, self.open, first, drafts)
@@ -129,7 +130,7 @@ class Log:
             return self.looks.append((call, told["id"], None, None))
         look = call.answer[1]
         self.must(look["element"]["id"] == told["id"], call, "another element")
-        self.looks.append((call, told["id"], status(look["status"]), body(look["element"])))
+        self.looks.append((call, told["id"], status(look["status"]), contents(look["element"])))
 
     def take_reply(self, call, told, name="waiting", stage=15):
         found = call.answer[1] if call.answer != "None" else float("inf")

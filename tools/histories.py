@@ -76,8 +76,8 @@ def read_rounds(lines):
     return rounds
 
 
-def body(element):
-    return tuple(element[it] for it in ("stage", "root", "key", "amount", "by"))
+def contents(element):
+    return element["stage"], element["root"], tuple(element["body"]), element["by"]
 
 
 def status(told):
@@ -107,14 +107,14 @@ class Manager:
         self.status[id] = status
         self.changed.append(id)
 
-    def be_born(self, thread, id, stage, root, key, amount, by):
+    def be_born(self, thread, id, stage, root, body, by):
         if id in self.born or id // self.limits["rows"] != thread:
             raise Wrong(f"{id} can't be born")
-        self.born[id] = (stage, root, key, amount, by)
+        self.born[id] = (stage, root, body, by)
         self.now_is(id, "waiting", 0)
 
-    def submit(self, thread, id, stage, key, amount):
-        self.be_born(thread, id, stage, id, key, amount, "None")
+    def submit(self, thread, id, stage, body):
+        self.be_born(thread, id, stage, id, body, "None")
 
     def claim(self, thread, unit, id, element, stage, attempt):
         is_free = unit // self.limits["units"] == thread and unit not in self.taken and thread not in self.open
@@ -137,8 +137,8 @@ class Manager:
             raise Wrong(f"unit {unit} isn't open")
         id = self.held_by(unit)
         self.now_is(id, "consumed", unit)
-        for place, (stage, key, amount) in enumerate(drafts):
-            self.be_born(thread, first + place, stage, self.born[id][1], key, amount, ("Some", unit))
+        for place, (stage, body) in enumerate(drafts):
+            self.be_born(thread, first + place, stage, self.born[id][1], body, ("Some", unit))
 
     def abort(self, unit):
         id = self.held_by(unit)

@@ -98,7 +98,8 @@ class Story:
         verb = command[0]
         if verb == "submit" and line[0] == "submitted":
             number = int(line[1])
-            text = f"submitted to stage {command[1]} with key {command[2]} and amount {command[3]}"
+            more = f", and behind them {' and '.join(command[4:])}" if len(command) > 4 else ""
+            text = f"submitted to stage {command[1]} with key {command[2]} and amount {command[3]}{more}"
             self.elements[number] = Element(number, number, int(command[1]), 0, row, text)
         elif verb == "kill" and line[0] == "killed":
             self.kill(row, int(command[1]))

@@ -1,7 +1,7 @@
 // The bare atomic instructions that the calls need, on a table like the manager's, in the same order: no packing, no
 // bounds, no pass. Prints NAME K NANOSECONDS CALLS, as tp_bench does.
 use std::hint::black_box;
-use std::sync::atomic::{AtomicU64, Ordering::*};
+use std::sync::atomic::{AtomicU64, Ordering, Ordering::*};
 use std::thread;
 use std::time::Instant;
 
@@ -22,42 +22,58 @@ fn table(n: usize) -> Vec<AtomicU64> {
     (0..n).map(|_| AtomicU64::new(0)).collect()
 }
 
+// A row's words: its head, the four of its body, its claim.
+const ROW: usize = 6;
+const CLAIM: usize = 5;
+
+#[inline(always)]
+fn store_body(t: &[AtomicU64], i: usize, amount: u64, order: Ordering) {
+    t[ROW * i + 1].store(0, order);
+    t[ROW * i + 2].store(amount, order);
+    t[ROW * i + 3].store(0, order);
+    t[ROW * i + 4].store(0, order);
+}
+#[inline(always)]
+fn load_body(t: &[AtomicU64], i: usize, order: Ordering) -> u64 {
+    t[ROW * i + 1].load(order)
+        + t[ROW * i + 2].load(order)
+        + t[ROW * i + 3].load(order)
+        + t[ROW * i + 4].load(order)
+}
 #[inline(never)]
 fn submits_seqcst(t: &[AtomicU64], first: usize) {
     for i in first..first + 256 {
-        t[4 * i + 1].store(0, SeqCst);
-        t[4 * i + 2].store(i as u64, SeqCst);
-        t[4 * i].store(3, SeqCst);
+        store_body(t, i, i as u64, SeqCst);
+        t[ROW * i].store(3, SeqCst);
     }
 }
 #[inline(never)]
 fn submits_release(t: &[AtomicU64], first: usize) {
     for i in first..first + 256 {
-        t[4 * i + 1].store(0, Relaxed);
-        t[4 * i + 2].store(i as u64, Relaxed);
-        t[4 * i].store(3, Release);
+        store_body(t, i, i as u64, Relaxed);
+        t[ROW * i].store(3, Release);
     }
 }
 #[inline(never)]
 fn submits_one_seqcst(t: &[AtomicU64], first: usize) {
     for i in first..first + 256 {
-        t[4 * i + 1].store(0, Relaxed);
-        t[4 * i + 2].store(i as u64, Relaxed);
-        t[4 * i].store(3, SeqCst);
+        store_body(t, i, i as u64, Relaxed);
+        t[ROW * i].store(3, SeqCst);
     }
 }
-// A turn whose row is known: unit word, head, claim, key, amount, exchange of the claim; exchange of the unit word.
+// A turn whose row is known: unit word, head, claim, body, exchange of the claim; exchange of the unit word.
 #[inline(never)]
 fn turns_bare(t: &[AtomicU64], n: usize) -> u64 {
     let mut s = 0;
     for i in 0..n {
-        let u = 4 * 512 + i;
+        let u = ROW * 512 + i;
         s += t[u].load(SeqCst)
-            + t[4 * i].load(SeqCst)
-            + t[4 * i + 3].load(SeqCst)
-            + t[4 * i + 1].load(SeqCst)
-            + t[4 * i + 2].load(SeqCst);
-        s += t[4 * i + 3].compare_exchange(0, 1, SeqCst, SeqCst).is_ok() as u64
+            + t[ROW * i].load(SeqCst)
+            + t[ROW * i + CLAIM].load(SeqCst)
+            + load_body(t, i, SeqCst);
+        s += t[ROW * i + CLAIM]
+            .compare_exchange(0, 1, SeqCst, SeqCst)
+            .is_ok() as u64
             + t[u].compare_exchange(0, 1, SeqCst, SeqCst).is_ok() as u64;
     }
     s
@@ -66,16 +82,16 @@ fn turns_bare(t: &[AtomicU64], n: usize) -> u64 {
 fn turns(t: &[AtomicU64], n: usize) -> u64 {
     let mut s = 0;
     for i in 0..n {
-        let (u, o) = (4 * 512 + i, 256 + i);
+        let (u, o) = (ROW * 512 + i, 256 + i);
         s += t[u].load(SeqCst)
-            + t[4 * i].load(SeqCst)
-            + t[4 * i + 3].load(SeqCst)
-            + t[4 * i + 1].load(SeqCst)
-            + t[4 * i + 2].load(SeqCst);
-        s += t[4 * i + 3].compare_exchange(0, 1, SeqCst, SeqCst).is_ok() as u64;
-        t[4 * o + 1].store(0, SeqCst);
-        t[4 * o + 2].store(s, SeqCst);
-        t[4 * o].store(3, SeqCst);
+            + t[ROW * i].load(SeqCst)
+            + t[ROW * i + CLAIM].load(SeqCst)
+            + load_body(t, i, SeqCst);
+        s += t[ROW * i + CLAIM]
+            .compare_exchange(0, 1, SeqCst, SeqCst)
+            .is_ok() as u64;
+        store_body(t, o, s, SeqCst);
+        t[ROW * o].store(3, SeqCst);
         s += t[u].compare_exchange(0, 1, SeqCst, SeqCst).is_ok() as u64;
     }
     s
@@ -84,16 +100,16 @@ fn turns(t: &[AtomicU64], n: usize) -> u64 {
 fn turns_relaxed(t: &[AtomicU64], n: usize) -> u64 {
     let mut s = 0;
     for i in 0..n {
-        let (u, o) = (4 * 512 + i, 256 + i);
+        let (u, o) = (ROW * 512 + i, 256 + i);
         s += t[u].load(Acquire)
-            + t[4 * i].load(Acquire)
-            + t[4 * i + 3].load(Acquire)
-            + t[4 * i + 1].load(Relaxed)
-            + t[4 * i + 2].load(Relaxed);
-        s += t[4 * i + 3].compare_exchange(0, 1, AcqRel, Acquire).is_ok() as u64;
-        t[4 * o + 1].store(0, Relaxed);
-        t[4 * o + 2].store(s, Relaxed);
-        t[4 * o].store(3, Release);
+            + t[ROW * i].load(Acquire)
+            + t[ROW * i + CLAIM].load(Acquire)
+            + load_body(t, i, Relaxed);
+        s += t[ROW * i + CLAIM]
+            .compare_exchange(0, 1, AcqRel, Acquire)
+            .is_ok() as u64;
+        store_body(t, o, s, Relaxed);
+        t[ROW * o].store(3, Release);
         s += t[u].compare_exchange(0, 1, AcqRel, Acquire).is_ok() as u64;
     }
     s
@@ -102,10 +118,7 @@ fn turns_relaxed(t: &[AtomicU64], n: usize) -> u64 {
 fn reads(t: &[AtomicU64]) -> u64 {
     let mut s = 0;
     for i in 0..256 {
-        s += t[4 * i].load(SeqCst)
-            + t[4 * i + 1].load(SeqCst)
-            + t[4 * i + 2].load(SeqCst)
-            + t[4 * i + 3].load(SeqCst);
+        s += t[ROW * i].load(SeqCst) + load_body(t, i, SeqCst) + t[ROW * i + CLAIM].load(SeqCst);
     }
     s
 }
@@ -113,9 +126,11 @@ fn reads(t: &[AtomicU64]) -> u64 {
 fn kills(t: &[AtomicU64]) -> u64 {
     let mut s = 0;
     for i in 0..256 {
-        s += t[4 * i].load(SeqCst)
-            + t[4 * i + 3].load(SeqCst)
-            + t[4 * i + 3].compare_exchange(0, 2, SeqCst, SeqCst).is_ok() as u64;
+        s += t[ROW * i].load(SeqCst)
+            + t[ROW * i + CLAIM].load(SeqCst)
+            + t[ROW * i + CLAIM]
+                .compare_exchange(0, 2, SeqCst, SeqCst)
+                .is_ok() as u64;
     }
     s
 }
@@ -123,7 +138,7 @@ fn kills(t: &[AtomicU64]) -> u64 {
 #[inline(never)]
 fn parts(t: &[AtomicU64], stage: u64) -> u64 {
     (0..32)
-        .map(|c| (t[4 * 256 * c].load(SeqCst) >> 1 & 15 == stage) as u64)
+        .map(|c| (t[ROW * 256 * c].load(SeqCst) >> 1 & 15 == stage) as u64)
         .sum()
 }
 // A scan over n finished rows: head, claim and unit word of each.
@@ -131,9 +146,9 @@ fn parts(t: &[AtomicU64], stage: u64) -> u64 {
 fn done_rows(t: &[AtomicU64], n: usize) -> u64 {
     let mut s = 0;
     for i in 0..n {
-        if t[4 * i].load(SeqCst) != 0 {
-            let c = t[4 * i + 3].load(SeqCst);
-            if t[4 * 8192 + (c >> 5) as usize].load(SeqCst) & 3 != 1 {
+        if t[ROW * i].load(SeqCst) != 0 {
+            let c = t[ROW * i + CLAIM].load(SeqCst);
+            if t[ROW * 8192 + (c >> 5) as usize].load(SeqCst) & 3 != 1 {
                 s += 1;
             }
         }
@@ -142,25 +157,25 @@ fn done_rows(t: &[AtomicU64], n: usize) -> u64 {
 }
 
 fn small() {
-    let t = table(4 * 512 + 2048);
+    let t = table(ROW * 512 + 2048);
     timed!("submit", 0, 256, submits_seqcst(&t, 0));
     timed!("read_waiting", 0, 256, reads(&t));
     timed!("kill_waiting", 0, 256, kills(&t));
     timed!("read_killed", 0, 256, reads(&t));
-    let t = table(4 * 512 + 2048);
+    let t = table(ROW * 512 + 2048);
     timed!("submit_relaxed_release", 0, 256, submits_release(&t, 0));
-    let t = table(4 * 512 + 2048);
+    let t = table(ROW * 512 + 2048);
     timed!("submit_one_seqcst", 0, 256, submits_one_seqcst(&t, 0));
     for k in 0..16 {
-        let t = table(4 * 512 + 2048);
+        let t = table(ROW * 512 + 2048);
         timed!("turn_bare", k * 16, 16, turns_bare(&t, 16));
     }
     for k in 0..16 {
-        let t = table(4 * 512 + 2048);
+        let t = table(ROW * 512 + 2048);
         timed!("turn", k * 16, 16, turns(&t, 16));
     }
     for k in 0..16 {
-        let t = table(4 * 512 + 2048);
+        let t = table(ROW * 512 + 2048);
         timed!("turn_relaxed", k * 16, 16, turns_relaxed(&t, 16));
     }
 }
@@ -180,9 +195,9 @@ fn large() {
         (0..8).map(|s| black_box(parts(&t, s))).sum::<u64>()
     );
     for i in 0..8192 {
-        t[4 * i].store(3, SeqCst);
-        t[4 * i + 3].store((i as u64) << 5 | 9, SeqCst);
-        t[4 * 8192 + i].store(1, SeqCst);
+        t[ROW * i].store(3, SeqCst);
+        t[ROW * i + CLAIM].store((i as u64) << 5 | 9, SeqCst);
+        t[ROW * 8192 + i].store(1, SeqCst);
     }
     timed!(
         "next_error_8192_done",
@@ -193,13 +208,13 @@ fn large() {
 }
 fn timed_make() -> Vec<AtomicU64> {
     let s = Instant::now();
-    let t = black_box(table(65536));
+    let t = black_box(table(ROW * 8192 + 32 * 1024 + 32));
     show("make_largest", 0, s.elapsed().as_nanos(), 1);
     t
 }
 fn race() {
     for n in [1usize, 2, 4] {
-        let t = table(4 * 16 * 256);
+        let t = table(ROW * 16 * 256);
         let gate = AtomicU64::new(0);
         let zero = Instant::now();
         let spans: Vec<(u128, u128)> = thread::scope(|s| {

@@ -11,8 +11,7 @@ use std::time::Instant;
 struct Element {
     stage: u8,
     root: u32,
-    key: u64,
-    amount: u64,
+    body: [u64; 4],
 }
 #[derive(Clone, Copy, PartialEq)]
 enum Status {
@@ -43,7 +42,7 @@ impl Manager {
             limit,
         }))
     }
-    fn submit(&self, pass: usize, stage: u8, key: u64, amount: u64) -> Option<u32> {
+    fn submit(&self, pass: usize, stage: u8, body: [u64; 4]) -> Option<u32> {
         if stage == 0 || stage > 14 {
             return None;
         }
@@ -57,8 +56,7 @@ impl Manager {
             Element {
                 stage,
                 root: id,
-                key,
-                amount,
+                body,
             },
             Status::Waiting(0),
         ));
@@ -75,7 +73,7 @@ impl Manager {
         *s = Status::Held(unit, n + 1);
         Some((id, *e))
     }
-    fn commit(&self, pass: usize, unit: u32, id: u32, outs: &[(u8, u64, u64)]) -> bool {
+    fn commit(&self, pass: usize, unit: u32, id: u32, outs: &[(u8, [u64; 4])]) -> bool {
         let mut m = self.0.lock().unwrap();
         let (e, s) = m.rows[id as usize].unwrap();
         if !matches!(s, Status::Held(u, _) if u == unit)
@@ -84,15 +82,14 @@ impl Manager {
             return false;
         }
         m.rows[id as usize].as_mut().unwrap().1 = Status::Consumed(unit);
-        for &(stage, key, amount) in outs {
+        for &(stage, body) in outs {
             let out = pass as u32 * m.per + m.drawn[pass];
             m.drawn[pass] += 1;
             m.rows[out as usize] = Some((
                 Element {
                     stage,
                     root: e.root,
-                    key,
-                    amount,
+                    body,
                 },
                 Status::Waiting(0),
             ));
@@ -155,7 +152,7 @@ fn show(name: &str, k: u64, ns: u128, calls: u64) {
 #[inline(never)]
 fn submits(m: &Manager, pass: usize, stage: u8, n: u32) -> u64 {
     (0..n)
-        .filter(|&i| m.submit(pass, stage, 0, i as u64).is_some())
+        .filter(|&i| m.submit(pass, stage, [0, i as u64, 0, 0]).is_some())
         .count() as u64
 }
 #[inline(never)]
@@ -166,7 +163,7 @@ fn turns(m: &Manager, pass: usize, used: &mut u32, stage: u8, n: u32, bare: bool
             let ok = if bare {
                 m.commit(pass, *used, id, &[])
             } else {
-                m.commit(pass, *used, id, &[(15, e.key, e.amount)])
+                m.commit(pass, *used, id, &[(15, e.body)])
             };
             *used += 1;
             done += ok as u64;
@@ -192,7 +189,7 @@ fn small() {
         "read_waiting",
         0,
         256,
-        (0..256).map(|i| m.read(i).unwrap().0.amount).sum::<u64>()
+        (0..256).map(|i| m.read(i).unwrap().0.body[1]).sum::<u64>()
     );
     timed!(
         "kill_waiting",
@@ -204,7 +201,7 @@ fn small() {
         "read_killed",
         0,
         256,
-        (0..256).map(|i| m.read(i).unwrap().0.amount).sum::<u64>()
+        (0..256).map(|i| m.read(i).unwrap().0.body[1]).sum::<u64>()
     );
     for bare in [true, false] {
         let m = Manager::new(2, 256, 7);
@@ -223,7 +220,7 @@ fn small() {
                 "read_consumed",
                 0,
                 256,
-                (0..256).map(|i| m.read(i).unwrap().0.amount).sum::<u64>()
+                (0..256).map(|i| m.read(i).unwrap().0.body[1]).sum::<u64>()
             );
             continue;
         }

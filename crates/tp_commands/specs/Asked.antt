@@ -1,6 +1,6 @@
 -- What the script's own client is answered, and what its pass did for it. `old` is what the pass shows before
 -- the command, and `new` what it shows after it.
-use Rattle.std.specs.Prelude.{◌≡◌, ◌⊎◌, ℕ, zero, suc, ◌+◌, ◌≤◌, ◌==◌, Bool, ◌&&◌, if◌then◌else◌, List, [], ◌∷◌, ◌++◌, Option, Some, None}
+use Rattle.std.specs.Prelude.{◌≡◌, ◌⊎◌, ℕ, zero, suc, ◌+◌, ◌≤◌, ◌<◌, ◌==◌, Bool, ◌&&◌, if◌then◌else◌, List, [], ◌∷◌, ◌++◌, Option, Some, None}
 use Rattle.tp_model.specs.declared.types.Counts.{Counts}
 use Rattle.tp_model.specs.declared.types.Element.{Element}
 use Rattle.tp_model.specs.declared.types.Limits.{Limits}
@@ -11,7 +11,7 @@ use Rattle.tp_model.specs.Counts.{is_waiting}
 use Rattle.tp_model.specs.History.{IsUnborn}
 use Rattle.tp_model.specs.Steps.{rows_of}
 use Rattle.tp_manager.specs.Bounds.{kill_steps, cancel_steps, next_error_steps, read_steps, requeue_steps, submit_steps}
-use Rattle.tp_manager.specs.Calls.{AtPoint, Follows, IsQuiet, KillFails, Kills, Reads, SubmitRefused, Submits}
+use Rattle.tp_manager.specs.Calls.{AtPoint, Follows, HasLooked, IsQuiet, KillFails, Kills, Reads, SubmitRefused, Submits}
 use Rattle.tp_manager.specs.Cancels.{CancelFails, Cancels}
 use Rattle.tp_manager.specs.Lists.{NextError, NoneParked}
 use Rattle.tp_manager.specs.Requeues.{RequeueFails, Requeues}
@@ -24,14 +24,18 @@ use Rattle.tp_script.specs.declared.script.ClientAct.TheVariants as acts
 
 -- ---- one call
 
--- a submit
-abbrev pub Submitted : ℕ → ℕ → ℕ → PassShown → PassShown → Answer → Type 0
-Submitted stage key amount old new (answer.Submitted id) = Submits id stage key amount old new
-Submitted stage key amount old new (answer.Refused why) = (new ≡ old) × SubmitRefused stage old why
-Submitted stage key amount old new other = ⊥
+-- where there is a row for the id, the call has looked at the table, and answers from no earlier look
+abbrev pub LooksAt : Limits → ℕ → PassShown → PassShown → Type 0
+LooksAt l id old new = id < rows_of l → HasLooked old new
 
-abbrev pub TellsSubmit : ℕ → ℕ → ℕ → PassShown → PassShown → Answer → Type 0
-TellsSubmit stage key amount old new a = Follows submit_steps old new × Submitted stage key amount old new a
+-- a submit
+abbrev pub Submitted : ℕ → List ℕ → PassShown → PassShown → Answer → Type 0
+Submitted stage body old new (answer.Submitted id) = Submits id stage body old new
+Submitted stage body old new (answer.Refused why) = (new ≡ old) × SubmitRefused stage old why
+Submitted stage body old new other = ⊥
+
+abbrev pub TellsSubmit : ℕ → List ℕ → PassShown → PassShown → Answer → Type 0
+TellsSubmit stage body old new a = Follows submit_steps old new × Submitted stage body old new a
 
 -- a kill
 abbrev pub Killed : Limits → ℕ → PassShown → PassShown → Answer → Type 0
@@ -40,7 +44,7 @@ Killed l id old new (answer.Refused why) = KillFails l id old new why
 Killed l id old new other = ⊥
 
 abbrev pub TellsKill : Limits → ℕ → PassShown → PassShown → Answer → Type 0
-TellsKill l id old new a = Follows (kill_steps l) old new × Killed l id old new a
+TellsKill l id old new a = Follows (kill_steps l) old new × LooksAt l id old new × Killed l id old new a
 
 -- a cancel
 abbrev pub Cancelled : Limits → ℕ → PassShown → PassShown → Answer → Type 0
@@ -49,7 +53,7 @@ Cancelled l root old new (answer.Refused why) = CancelFails root old new why
 Cancelled l root old new other = ⊥
 
 abbrev pub TellsCancel : Limits → ℕ → PassShown → PassShown → Answer → Type 0
-TellsCancel l root old new a = Follows (cancel_steps l) old new × Cancelled l root old new a
+TellsCancel l root old new a = Follows (cancel_steps l) old new × LooksAt l root old new × Cancelled l root old new a
 
 -- a requeue
 abbrev pub Requeued : Limits → ℕ → PassShown → PassShown → Answer → Type 0
@@ -58,7 +62,7 @@ Requeued l id old new (answer.Refused why) = RequeueFails l id old new why
 Requeued l id old new other = ⊥
 
 abbrev pub TellsRequeue : Limits → ℕ → PassShown → PassShown → Answer → Type 0
-TellsRequeue l id old new a = Follows requeue_steps old new × Requeued l id old new a
+TellsRequeue l id old new a = Follows requeue_steps old new × LooksAt l id old new × Requeued l id old new a
 
 -- a read
 abbrev pub HasRead : Limits → ℕ → PassShown → PassShown → Answer → Type 0
@@ -67,7 +71,7 @@ HasRead l id old new (answer.Refused why) = (why ≡ refusals.NotThere) × AtPoi
 HasRead l id old new other = ⊥
 
 abbrev pub TellsRead : Limits → ℕ → PassShown → PassShown → Answer → Type 0
-TellsRead l id old new a = Follows (read_steps l) old new × IsQuiet old new × HasRead l id old new a
+TellsRead l id old new a = Follows (read_steps l) old new × IsQuiet old new × LooksAt l id old new × HasRead l id old new a
 
 -- ---- several calls, one after another
 
@@ -96,12 +100,13 @@ TellsReplies l root (suc id) old found new = (before : List Element) × (between
 pub record FindsError (l : Limits) (from id : ℕ) (old new : PassShown) : Type 0 where
   pub follows : Follows (next_error_steps l) old new
   pub quiet : IsQuiet old new
+  pub looks : LooksAt l from old new
   pub next : NextError l from id old new
 
 -- a listing from this id on found none, or no id is left
 abbrev pub FindsNoError : Limits → ℕ → PassShown → PassShown → Type 0
 FindsNoError l from old new =
-    (Follows (next_error_steps l) old new × IsQuiet old new × NoneParked l (λ i. from ≤ i) old new)
+    (Follows (next_error_steps l) old new × IsQuiet old new × LooksAt l from old new × NoneParked l (λ i. from ≤ i) old new)
     ⊎ ((rows_of l ≤ from) × (new ≡ old))
 
 -- the parked elements from this id on, one found behind the other
@@ -140,7 +145,7 @@ pub record FoundLine {A : Type 0} (Tells : PassShown → A → PassShown → Typ
 
 -- the line of what the client is to do
 abbrev pub TellsClient : Limits → ClientAct → PassShown → List ℕ → PassShown → Type 0
-TellsClient l (acts.Submit stage key amount) = AnswerLine (TellsSubmit stage key amount)
+TellsClient l (acts.Submit stage body) = AnswerLine (TellsSubmit stage body)
 TellsClient l (acts.Kill id) = AnswerLine (TellsKill l id)
 TellsClient l (acts.Cancel root) = AnswerLine (TellsCancel l root)
 TellsClient l (acts.Requeue id) = AnswerLine (TellsRequeue l id)

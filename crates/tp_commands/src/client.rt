@@ -12,7 +12,7 @@ ghost use Rattle.tp_commands.specs.Asked.{TellsCancel, TellsClient, TellsCount, 
 use std::alloc::{AllocError, Global};
 use std::string::String;
 use tp_manager::{Manager, Pass};
-use tp_model::types::{Counts, Element, Look, Status};
+use tp_model::types::{Body, Counts, Element, Look, Status};
 use tp_report::{Answer, line};
 use tp_script::ClientAct;
 
@@ -31,9 +31,7 @@ pub fn client_line(
     ensures line { IfOk result (λ text. IsLine (string_bytes text)) }
 {
     match act {
-        ClientAct::Submit { stage, key, amount } => {
-            line(alloc, submit(manager, client, stage, key, amount))
-        }
+        ClientAct::Submit { stage, body } => line(alloc, submit(manager, client, stage, body)),
         ClientAct::Kill { id } => line(alloc, kill(manager, client, id)),
         ClientAct::Cancel { root } => line(alloc, cancel(manager, client, root)),
         ClientAct::Requeue { id } => line(alloc, requeue(manager, client, id)),
@@ -44,14 +42,14 @@ pub fn client_line(
     }
 }
 
-/// `submit STAGE KEY AMOUNT`
-fn submit(manager: &Manager, client: &mut Pass, stage: u8, key: u64, amount: u64) -> Answer<'static>
+/// `submit STAGE KEY AMOUNT W2 W3`
+fn submit(manager: &Manager, client: &mut Pass, stage: u8, body: Body) -> Answer<'static>
     requires { IsFreePass manager.now client.old }
     ensures free { IsFreePass manager.now client.new }
     ensures number { client.new.number ≡ client.old.number }
-    ensures tells { TellsSubmit stage key amount client.old client.new result }
+    ensures tells { TellsSubmit stage body client.old client.new result }
 {
-    match manager.submit(client, stage, key, amount) {
+    match manager.submit(client, stage, body) {
         Ok(id) => Answer::Submitted { id },
         Err(why) => Answer::Refused(why),
     }

@@ -52,9 +52,10 @@ fn orders(
     requires shop { IsOf manager.now shop.old }
     requires free { (client.old.open_unit ≡ None) × (shop.old.open_unit ≡ None) }
 {
-    let first = manager.submit(client, 1, 0, 5)?;
-    let second = manager.submit(client, 1, 0, 9)?;
-    let third = manager.submit(client, 1, 0, 4)?;
+    // Which goods, how many, for which customer, on which day.
+    let first = manager.submit(client, 1, [0, 5, 71, 3])?;
+    let second = manager.submit(client, 1, [0, 9, 72, 3])?;
+    let third = manager.submit(client, 1, [0, 4, 73, 4])?;
     open_shop(rt, manager, shop, 12)?;
     tell(rt, manager, client, first)?;
     tell(rt, manager, client, second)?;
@@ -93,7 +94,8 @@ fn tell(rt: &HostRuntime, manager: &Manager, client: &mut Pass, order: u32) -> R
     match manager.reply(client, order, 0) {
         Some(id) => {
             let reply = manager.read(client, id)?;
-            println!(rt; "order {order}: {} left", reply.element.amount)?;
+            let [_goods, left, customer, day] = reply.element.body;
+            println!(rt; "order {order} of customer {customer}, day {day}: {left} left")?;
         }
         None => println!(rt; "order {order}: no reply")?,
     }

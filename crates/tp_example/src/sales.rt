@@ -33,7 +33,7 @@ pub fn sell(
     ensures free { pass.new.open_unit ≡ None }
     ensures unprepared { pending stock.new ≡ None }
     ensures recipe { recipe stock.new ≡ recipe stock.old }
-    ensures adds_up { AddsUp (registers stock.old) (registers stock.new)
+    ensures adds_up { AddsUp (recipe stock.new).word (registers stock.old) (registers stock.new)
         (taken (gained pass.old.mine pass.new.mine) pass.new.seen) }
 {
     work_off(manager, pass, stock, turns)

@@ -10,7 +10,10 @@ use arrayvec::ArrayVec;
 use tp_model::types::{Draft, Element};
 use tp_server::{Act, AmountFrom, Declined, KeyFrom, Output, Recipe, Server};
 
-/// Takes each order of stage 1 from the stock, and replies with what is left. An order for more than that is declined.
+/// Takes each order of stage 1 from the stock. An order for more than is left is declined.
+///
+/// The words of an order's body are which goods it asks for (0, there is one kind alone), how many, for which customer, and
+/// on which day. The reply has the same words, with what is left in place of how many.
 #[derive(Debug, Drop)]
 pub struct Stock {
     recipe: Recipe,
@@ -20,6 +23,7 @@ pub struct Stock {
     ghost checked: { check_of recipe ≡ Ok tt },
     ghost one: { recipe.registers ≡ 1 },
     ghost takes: { recipe.act ≡ Take },
+    ghost how_many: { recipe.word ≡ 1 },
     ghost replies: { recipe.outputs.items ≡ record { stage = 15; key = Same; amount = After } ∷ [] },
 }
 
@@ -39,6 +43,7 @@ impl Stock {
             stage: 1,
             registers: 1,
             act: Act::Take,
+            word: 1,
             outputs,
         };
         Stock {
@@ -73,15 +78,16 @@ impl Server for Stock {
     }
 
     fn prepare(&mut self, order: &Element) -> Result<ArrayVec<Draft, 4>, Declined> {
-        if order.key != 0 {
+        let [goods, how_many, customer, day] = order.body;
+        if goods != 0 {
             return Err(Declined::NoRegister);
         }
-        if order.amount > self.left {
+        if how_many > self.left {
             return Err(Declined::Short);
         }
-        let after = self.left - order.amount;
+        let after = self.left - how_many;
         let mut replies = ArrayVec::new();
-        match Draft::new(15, order.key, after) {
+        match Draft::new(15, [goods, after, customer, day]) {
             Some(reply) => replies.push(reply),
             None => unreachable!(),
         }

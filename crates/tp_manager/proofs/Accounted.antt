@@ -29,7 +29,7 @@ use Rattle.tp_manager.proofs.Walks as walks
 use Rattle.tp_manager.proofs.Walks.{follows, has_looked}
 
 -- no pass that isn't given out has an event in what all have seen
-none_given : (l : Limits) (given : ℕ) (h : List Event) (v w : View) → given ≤ l.parts → IsLegal l h → untraced v.hands ≡ fresh_from given (l.parts - given) → HasSeen l kept_steps h v w → (c : ℕ) → given ≤ c → events_by c h ≡ []
+none_given : (l : Limits) (given : ℕ) (h : List Event) (v w : View) → given ≤ l.parts → IsLegal l h → untraced v.hands ≡ fresh_from l given (l.parts - given) → HasSeen l kept_steps h v w → (c : ℕ) → given ≤ c → events_by c h ≡ []
 none_given l given h v w below legal fresh seen c low = ⊎_elim
     (λ t. let out : l.parts ≤ c = t.1 in none_beyond l c out [] h legal)
     (λ t. let within : c < l.parts = t.1 in none_of_fresh l given h w.hands below (seen.hands ∙ fresh) seen.mine c low within)
@@ -74,12 +74,12 @@ untraced_long : (hs : List Hand) → length (untraced hs) ≡ length hs
 untraced_long [] = refl
 untraced_long (a ∷ hs) = let e = untraced_long hs in omega arith
 
-fresh_long : (c n : ℕ) → length (fresh_from c n) ≡ n
-fresh_long c zero = refl
-fresh_long c (suc n) = let e = fresh_long (c + 1) n in omega arith
+fresh_long : (l : Limits) (c n : ℕ) → length (fresh_from l c n) ≡ n
+fresh_long l c zero = refl
+fresh_long l c (suc n) = let e = fresh_long l (c + 1) n in omega arith
 
 pub kept_long : (seat : SeatShown) (l : Limits) (given : ℕ) → Keeps seat l given → length (view_of seat).hands ≡ l.parts - given
-kept_long seat l given keeps = sym (untraced_long (view_of seat).hands) ∙ (ap length keeps.rest ∙ fresh_long given (l.parts - given))
+kept_long seat l given keeps = sym (untraced_long (view_of seat).hands) ∙ (ap length keeps.rest ∙ fresh_long l given (l.parts - given))
 
 -- the first pass v, which is w afterwards, and the others counted
 module _ (table : TableId) (l : Limits) (t t' : Spot) (rises : Rises t.lows t'.lows) (v w v' w' : View) (ps olds news : List PassShown) (old : PassShown) (account : Account) (split : ps ≡ old ∷ olds) (is : shown t v ≡ old) (c : CountsWith table l (length olds + 1) v w v' w' olds news account) where

@@ -31,6 +31,7 @@ use Rattle.std.proofs.lemmas.Bool.Decides.{leb_tells}
 use Rattle.tp_rule.specs.declared.view.Known.TheVariants.{PartMark}
 use Rattle.tp_manager.proofs.Seeks.{rows_more}
 use Rattle.tp_rule.specs.declared.view.View.{View}
+use Rattle.tp_manager.specs.declared.manager.Run.{Run}
 use Rattle.tp_manager.specs.declared.looking.Birth.{Birth}
 use Rattle.tp_manager.specs.Shown.{Spot, PassShown, shown}
 use Rattle.tp_manager.specs.Bounds.{birth_steps, cancel_steps, round_steps}
@@ -431,9 +432,9 @@ module _ (l : Limits) (marks : List ℕ) (fair : AreLimits l) where
 
 -- the call as a whole
 
-module _ (l : Limits) (seat next : SeatShown) (number drawn used : ℕ) (same : (view_of seat).limits ≡ l) (r : Rests seat number drawn used None) where
-  pub rests_swept : (n root : ℕ) (es : List Event) → Swept l n root es (view_of seat) (view_of next) → Rests next number drawn used None
-  rests_swept n root es a = rests_gained l seat next number drawn used same r n es a.gained (own_no_claims l root (hand (view_of seat)).number _ _ es a.own)
+module _ (l : Limits) (seat next : SeatShown) (number : ℕ) (run : Run) (used : ℕ) (same : (view_of seat).limits ≡ l) (r : Rests seat number run used None) where
+  pub rests_swept : (n root : ℕ) (es : List Event) → Swept l n root es (view_of seat) (view_of next) → Rests next number run used None
+  rests_swept n root es a = rests_gained l seat next number run used same r n es a.gained (own_no_claims l root (hand (view_of seat)).number _ _ es a.own)
 
 module _ (t t' : Spot) (v w : View) (old : PassShown) (is : shown t v ≡ old) (l : Limits) (free : (hand v).open_unit ≡ None) where
   pub cancels_shown : (n root killed : ℕ) → IsRequest w.seen root → CancelsIn l n root killed v w → Cancels l root killed old (shown t' w)
@@ -443,7 +444,7 @@ module _ (t t' : Spot) (v w : View) (old : PassShown) (is : shown t v ≡ old) (
     own = a.swept.own;
     mine = a.swept.gained.mine;
     open_unit = a.swept.gained.open_unit free ∙ sym free;
-    drawn = a.swept.gained.drawn;
+    run = a.swept.gained.run;
     request = request;
     settled = a.settled;
   }

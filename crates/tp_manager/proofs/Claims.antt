@@ -21,11 +21,12 @@ use Rattle.tp_rule.specs.Views.{SeatShown, hand, view_of}
 use Rattle.tp_rule.specs.Steps.{Chooses, noted, with_claim, with_spare}
 use Rattle.tp_rule.specs.declared.view.Hand.{Hand}
 use Rattle.tp_rule.specs.declared.view.View.{View}
+use Rattle.tp_manager.specs.declared.manager.Run.{Run}
 use Rattle.tp_manager.specs.declared.manager.Task.{Task}
 use Rattle.tp_manager.specs.Shown.{Spot, PassShown, shown}
 use Rattle.tp_manager.specs.Calls.{Claims, FoundNone, HasLooked, IsQuiet, Takes, claims_in, opening}
 use Rattle.tp_manager.specs.Walks.{EachRow, Steady, Sought, Walked, Rests, Took, PassedBy, with_trace}
-use Rattle.tp_manager.proofs.Walks.{grew_hand, grew_seen, has_looked, opening_is, steady_quiet, walked_begins, walked_then}
+use Rattle.tp_manager.proofs.Walks.{grew_hand, grew_seen, has_looked, opening_is, grew_steady, walked_begins, walked_then}
 use Rattle.tp_manager.proofs.Passes.{claims_append, steady_at, task_later}
 
 -- a unit that nobody claimed isn't in a pass's own claims
@@ -49,7 +50,7 @@ module _ (l : Limits) (u : ℕ) (v w : View) (s : Steady l v) (g : Chooses v u w
   chose_hand = grew_hand l kinds.UnitChoice (with_spare u) [] v w s g
 
   pub chose_steady : Steady l w
-  chose_steady = steady_quiet l kinds.UnitChoice (with_spare u) v w s g refl refl refl
+  chose_steady = grew_steady l kinds.UnitChoice (with_spare u) [] v w s g refl
 
   abbrev pub choice : TraceEntry
   choice = record { kind = kinds.UnitChoice; seen = w.seen }
@@ -77,7 +78,7 @@ module _ (l : Limits) (u : ℕ) (v w : View) (s : Steady l v) (g : Chooses v u w
     idle_quiet t t' old is = record {
       mine = ap (λ (z : Hand). z.mine) idle_hand ∙ ap (λ (p : PassShown). p.mine) is;
       open_unit = ap (λ (z : Hand). z.open_unit) idle_hand ∙ ap (λ (p : PassShown). p.open_unit) is;
-      drawn = ap (λ (z : Hand). z.drawn) idle_hand ∙ ap (λ (p : PassShown). p.drawn) is;
+      run = (ap (λ (z : Hand). z.next) idle_hand ∙ ap (λ (p : PassShown). p.next) is, ap (λ (z : Hand). z.left) idle_hand ∙ ap (λ (p : PassShown). p.left) is);
     }
 
     abbrev first_look : List Event
@@ -96,9 +97,9 @@ module _ (l : Limits) (u : ℕ) (v w : View) (s : Steady l v) (g : Chooses v u w
     pub idle_looked : (t t' : Spot) (old : PassShown) → shown t v ≡ old → HasLooked old (shown t' y)
     idle_looked t t' old is = has_looked t t' v y old is l (1 + n) (choice ∷ a.marks) idle_walked (a.step.0, there a.step.1, a.step.2)
 
-    pub idle_answer : (used number drawn : ℕ) (task : Option Task) (seat : SeatShown) (t t' : Spot) (old : PassShown) → view_of seat ≡ v → v.limits ≡ l → shown t v ≡ old → Rests seat number drawn used task → ¬ (used ≡ l.units)
+    pub idle_answer : (used number : ℕ) (run : Run) (task : Option Task) (seat : SeatShown) (t t' : Spot) (old : PassShown) → view_of seat ≡ v → v.limits ≡ l → shown t v ≡ old → Rests seat number run used task → ¬ (used ≡ l.units)
         → Claims l stage old (shown t' y) claimeds.Idle
-    idle_answer used number drawn task seat t t' old same lim is r not =
+    idle_answer used number run task seat t t' old same lim is r not =
         let count : claims_in (hand v).mine ≡ used = subst (λ z. claims_in (hand z).mine ≡ used) same r.claims in
         let below : used ≤ l.units = subst (λ (z : Limits). used ≤ z.units) (ap (λ (z : View). z.limits) same ∙ lim) r.used_below in
         let room : claims_in (hand v).mine < l.units = omega arith in
@@ -127,9 +128,9 @@ module _ (l : Limits) (u : ℕ) (v w : View) (s : Steady l v) (g : Chooses v u w
     took_fresh : claim_of (hand v).mine u ≡ None
     took_fresh = ap (λ z. claim_of z u) s.shows.own ∙ unused_mine (hand v).number u v.seen (unused_start u v.seen k.before took_begins took_step.unused)
 
-    pub took_answer : (used number drawn : ℕ) (task : Option Task) (seat : SeatShown) (t t' : Spot) (old : PassShown) → view_of seat ≡ v → v.limits ≡ l → shown t v ≡ old → Rests seat number drawn used task → ¬ (used ≡ l.units) → u ≡ number * l.units + used
+    pub took_answer : (used number : ℕ) (run : Run) (task : Option Task) (seat : SeatShown) (t t' : Spot) (old : PassShown) → view_of seat ≡ v → v.limits ≡ l → shown t v ≡ old → Rests seat number run used task → ¬ (used ≡ l.units) → u ≡ number * l.units + used
         → Takes l stage (record { unit = u; element = x; attempt = attempt }) old (shown t' y)
-    took_answer used number drawn task seat t t' old same lim is r not next =
+    took_answer used number run task seat t t' old same lim is r not next =
         let count : claims_in (hand v).mine ≡ used = subst (λ z. claims_in (hand z).mine ≡ used) same r.claims in
         let below : used ≤ l.units = subst (λ (z : Limits). used ≤ z.units) (ap (λ (z : View). z.limits) same ∙ lim) r.used_below in
         let num : (hand v).number ≡ number = subst (λ z. (hand z).number ≡ number) same r.number_is in
@@ -141,15 +142,15 @@ module _ (l : Limits) (u : ℕ) (v w : View) (s : Steady l v) (g : Chooses v u w
           is_born = k.born;
           of_stage = k.of_stage;
           open_unit = ap (λ (z : Hand). z.open_unit) took_hand;
-          drawn = ap (λ (z : Hand). z.drawn) took_hand;
+          run = (ap (λ (z : Hand). z.next) took_hand, ap (λ (z : Hand). z.left) took_hand);
         }
 
-pub chose_rests : (l : Limits) (u n stage number drawn used : ℕ) (task : Option Task) (seat next : SeatShown) (w : View) → (s : Steady l (view_of seat)) → Chooses (view_of seat) u w → Sought l n (EachRow (PassedBy l stage) 0 (rows_of l)) w (view_of next) → (view_of seat).limits ≡ l → Rests seat number drawn used task → Rests next number drawn used task
-chose_rests l u n stage number drawn used task seat next w s g a same r =
+pub chose_rests : (l : Limits) (u n stage number : ℕ) (run : Run) (used : ℕ) (task : Option Task) (seat next : SeatShown) (w : View) → (s : Steady l (view_of seat)) → Chooses (view_of seat) u w → Sought l n (EachRow (PassedBy l stage) 0 (rows_of l)) w (view_of next) → (view_of seat).limits ≡ l → Rests seat number run used task → Rests next number run used task
+chose_rests l u n stage number run used task seat next w s g a same r =
     let h = idle_hand l u (view_of seat) w s g n stage (view_of next) a in let lim : l ≡ (view_of next).limits = sym a.walk.steady.pass.1 in record {
       steady = steady_at l (view_of next).limits (view_of next) lim a.walk.steady;
       number_is = ap (λ (z : Hand). z.number) h ∙ r.number_is;
-      drawn_is = ap (λ (z : Hand). z.drawn) h ∙ r.drawn_is;
+      run_is = (ap (λ (z : Hand). z.next) h ∙ r.run_is.0, ap (λ (z : Hand). z.left) h ∙ r.run_is.1);
       used_is = ap (λ (z : Hand). z.claimed) h ∙ r.used_is;
       used_below = subst (λ (z : Limits). used ≤ z.units) (same ∙ lim) r.used_below;
       claims = ap (λ (z : Hand). claims_in z.mine) h ∙ r.claims;
@@ -158,9 +159,9 @@ chose_rests l u n stage number drawn used task seat next w s g a same r =
       work = task_later (view_of seat).seen (view_of next).seen number task (walked_begins l (1 + n) _ _ _ (idle_walked l u (view_of seat) w s g n stage (view_of next) a)) r.work;
     }
 
-pub took_rests : (l : Limits) (u n stage attempt root number drawn used : ℕ) (task : Option Task) (seat next : SeatShown) (w : View) (x : Element) → (s : Steady l (view_of seat)) → Chooses (view_of seat) u w → Took l n stage u w (view_of next) x attempt → (view_of seat).limits ≡ l
-    → x.root ≡ root → ¬ (used ≡ l.units) → Rests seat number drawn used task → Rests next number drawn (used + 1) (Some (record { unit = u; root = root }))
-took_rests l u n stage attempt root number drawn used task seat next w x s g k same root_is not r =
+pub took_rests : (l : Limits) (u n stage attempt root number : ℕ) (run : Run) (used : ℕ) (task : Option Task) (seat next : SeatShown) (w : View) (x : Element) → (s : Steady l (view_of seat)) → Chooses (view_of seat) u w → Took l n stage u w (view_of next) x attempt → (view_of seat).limits ≡ l
+    → x.root ≡ root → ¬ (used ≡ l.units) → Rests seat number run used task → Rests next number run (used + 1) (Some (record { unit = u; root = root }))
+took_rests l u n stage attempt root number run used task seat next w x s g k same root_is not r =
     let v : View = view_of seat in let y : View = view_of next in
     let h = took_hand l u v w s g n stage attempt y x k in let lim : l ≡ y.limits = sym k.walk.steady.pass.1 in
     let ends = took_ends l u v w s g n stage attempt y x k in let unused = (took_step l u v w s g n stage attempt y x k).unused in
@@ -168,7 +169,7 @@ took_rests l u n stage attempt root number drawn used task seat next w x s g k s
     record {
       steady = steady_at l y.limits y lim k.walk.steady;
       number_is = ap (λ (z : Hand). z.number) h ∙ r.number_is;
-      drawn_is = ap (λ (z : Hand). z.drawn) h ∙ r.drawn_is;
+      run_is = (ap (λ (z : Hand). z.next) h ∙ r.run_is.0, ap (λ (z : Hand). z.left) h ∙ r.run_is.1);
       used_is = ap (λ (z : Hand). z.claimed) h ∙ ap (λ z. z + 1) r.used_is;
       used_below = subst (λ (z : Limits). used + 1 ≤ z.units) lim (omega arith);
       claims = ap (λ (z : Hand). claims_in z.mine) h ∙ (claims_append (hand v).mine (Claim (hand v).number u x.id attempt ∷ []) ∙ (let c = r.claims in omega arith));

@@ -8,7 +8,7 @@ use Rattle.tp_model.specs.declared.event.Event.{Event}
 use Rattle.tp_model.specs.declared.trace.StepKind.TheVariants as kinds
 use Rattle.tp_model.specs.History.{IsUnborn, events_by}
 use Rattle.tp_model.specs.Steps.{AreLimits, IsLegal}
-use Rattle.tp_model.specs.Passes.{IsPassView}
+use Rattle.tp_model.specs.Passes.{IsPassView, IsRun}
 use Rattle.tp_model.proofs.Bridges.{in_none}
 use Rattle.tp_model.proofs.Histories.{legal_empty}
 use Rattle.tp_rule.specs.Views.{SeatShown, first_hand, first_view, fresh, fresh_from, hand, view_of}
@@ -26,17 +26,17 @@ pub front_of_untraced : (hs : List Hand) (b : Hand) (bs : List Hand) → untrace
 front_of_untraced [] b bs e = absurd cc
 front_of_untraced (a ∷ hs) b bs e = (refl, ap first_hand e, ap rest_of e)
 
-fresh_untraced : (c n : ℕ) → untraced (fresh_from c n) ≡ fresh_from c n
-fresh_untraced c zero = refl
-fresh_untraced c (suc n) = ap (λ hs. fresh c ∷ hs) (fresh_untraced (c + 1) n)
+fresh_untraced : (l : Limits) (c n : ℕ) → untraced (fresh_from l c n) ≡ fresh_from l c n
+fresh_untraced l c zero = refl
+fresh_untraced l c (suc n) = ap (λ hs. fresh l c ∷ hs) (fresh_untraced l (c + 1) n)
 
 -- passes that have done nothing have made no step
-fresh_steps : (c n : ℕ) → steps_in (fresh_from c n) ≡ 0
-fresh_steps c zero = refl
-fresh_steps c (suc n) = let rest = fresh_steps (c + 1) n in omega arith
+fresh_steps : (l : Limits) (c n : ℕ) → steps_in (fresh_from l c n) ≡ 0
+fresh_steps l c zero = refl
+fresh_steps l c (suc n) = let rest = fresh_steps l (c + 1) n in omega arith
 
 pub first_none : (v : View) (l : Limits) → v ≡ first_view l → steps_in v.hands ≡ 0
-first_none v l is = ap (λ (z : View). steps_in z.hands) is ∙ fresh_steps 0 l.parts
+first_none v l is = ap (λ (z : View). steps_in z.hands) is ∙ fresh_steps l 0 l.parts
 
 -- the keeper of a table in which nothing has happened
 pub first_keeps : (seat : SeatShown) (l : Limits) → AreLimits l → view_of seat ≡ first_view l → Keeps seat l 0
@@ -44,7 +44,7 @@ first_keeps seat l valid is = let none : (view_of seat).seen ≡ [] = ap (λ (v 
   valid = valid;
   limits_are = ap (λ (v : View). v.limits) is;
   below = omega arith;
-  rest = let all : l.parts ≡ l.parts - 0 = omega arith in ap (λ (v : View). untraced v.hands) is ∙ (fresh_untraced 0 l.parts ∙ ap (fresh_from 0) all);
+  rest = let all : l.parts ≡ l.parts - 0 = omega arith in ap (λ (v : View). untraced v.hands) is ∙ (fresh_untraced l 0 l.parts ∙ ap (fresh_from l 0) all);
   legal = subst (IsLegal l) (sym none) (legal_empty l);
   low = λ p n q. absurd (in_none (subst (λ (v : View). Knows v (PartMark p n)) is q));
   none = λ c low. ap (events_by c) none;
@@ -54,8 +54,8 @@ module _ (seat : SeatShown) (l : Limits) (given : ℕ) (k : Keeps seat l given) 
   abbrev next_pass : Hand
   next_pass = first_hand (view_of seat).hands
 
-  hands_are : ((view_of seat).hands ≡ next_pass ∷ rest_of (view_of seat).hands) × (with_trace [] next_pass ≡ fresh given) × (untraced (rest_of (view_of seat).hands) ≡ fresh_from (given + 1) (l.parts - (given + 1)))
-  hands_are = let below = k.below in let more : l.parts - given ≡ suc (l.parts - (given + 1)) = omega arith in front_of_untraced (view_of seat).hands (fresh given) _ (k.rest ∙ ap (fresh_from given) more)
+  hands_are : ((view_of seat).hands ≡ next_pass ∷ rest_of (view_of seat).hands) × (with_trace [] next_pass ≡ fresh l given) × (untraced (rest_of (view_of seat).hands) ≡ fresh_from l (given + 1) (l.parts - (given + 1)))
+  hands_are = let below = k.below in let more : l.parts - given ≡ suc (l.parts - (given + 1)) = omega arith in front_of_untraced (view_of seat).hands (fresh l given) _ (k.rest ∙ ap (fresh_from l given) more)
 
   pub still_below : given + 1 ≤ l.parts
   still_below = let below = k.below in omega arith
@@ -78,7 +78,7 @@ module _ (seat : SeatShown) (l : Limits) (given : ℕ) (k : Keeps seat l given) 
     out_hand : hand (view_of next) ≡ noted kinds.SeatLoad (view_of seat).seen next_pass
     out_hand = ap first_hand out
 
-    pub fresh_hand : with_trace [] (hand (view_of next)) ≡ fresh given
+    pub fresh_hand : with_trace [] (hand (view_of next)) ≡ fresh l given
     fresh_hand = ap (with_trace []) out_hand ∙ hands_are.1
 
     pub fresh_seen : (view_of next).seen ≡ (view_of seat).seen
@@ -99,24 +99,27 @@ module _ (seat : SeatShown) (l : Limits) (given : ℕ) (k : Keeps seat l given) 
         unborn_quiet l given i (omega arith, low, high) [] refl (view_of next).seen fresh_legal ((view_of next).seen, refl) few
 
     pub fresh_shows : IsPassView (view_of next).limits (pass_in (view_of next))
-    fresh_shows = let h = fresh_hand in let number : (hand (view_of next)).number ≡ given = ap (λ (a : Hand). a.number) h in let drawn : (hand (view_of next)).drawn ≡ 0 = ap (λ (a : Hand). a.drawn) h in
+    fresh_shows = let h = fresh_hand in let number : (hand (view_of next)).number ≡ given = ap (λ (a : Hand). a.number) h in let row : (hand (view_of next)).next ≡ given * l.rows = ap (λ (a : Hand). a.next) h in let rest : (hand (view_of next)).left ≡ l.rows = ap (λ (a : Hand). a.left) h in
         subst (λ (z : Limits). IsPassView z (pass_in (view_of next))) (sym fresh_limits) record {
           given = let more = still_below in omega arith;
           legal = fresh_legal;
           own = ap (λ (a : Hand). a.mine) h ∙ (sym fresh_none ∙ ap (λ n. events_by n (view_of next).seen) (sym number));
-          within = omega arith;
-          unborn = λ i low high. fresh_unborn i (subst (λ n. n * l.rows ≤ i) number (omega arith)) (subst (λ n. i < n * l.rows + l.rows) number high);
+          run = subst (λ (a : Hand). IsRun l (view_of next).seen a.number a.next a.left) (sym h) record {
+            begins = omega arith;
+            ends = refl;
+            unborn = fresh_unborn;
+          };
           open_own = λ u is. let none : (hand (view_of next)).open_unit ≡ None = ap (λ (a : Hand). a.open_unit) h in absurd cc;
         }
 
     fresh_low : KnowsLow (view_of next).limits (view_of next)
     fresh_low p n q = subst (λ (z : Limits × List Event). IsLow z.0 z.1 p n) (λ i. (sym fresh_limits i, sym fresh_seen i)) (k.low p n (subst (λ (v : View). Knows v (PartMark p n)) is q))
 
-    pub fresh_rests : Rests next given 0 0 None
+    pub fresh_rests : Rests next given (record { next = given * l.rows; left = l.rows }) 0 None
     fresh_rests = let h = fresh_hand in record {
       steady = record { pass = (out ∙ ap (λ (a : Hand). a ∷ []) (sym out_hand), refl); shows = fresh_shows; low = fresh_low };
       number_is = ap (λ (a : Hand). a.number) h;
-      drawn_is = ap (λ (a : Hand). a.drawn) h;
+      run_is = (ap (λ (a : Hand). a.next) h, ap (λ (a : Hand). a.left) h);
       used_is = ap (λ (a : Hand). a.claimed) h;
       used_below = omega arith;
       claims = ap (λ (a : Hand). claims_in a.mine) h;

@@ -7,6 +7,7 @@ use Rattle.tp_model.proofs.Bridges.{append_nil}
 use Rattle.tp_rule.specs.Views.{SeatShown, hand, view_of}
 use Rattle.tp_rule.specs.declared.view.Hand.{Hand}
 use Rattle.tp_rule.specs.declared.view.View.{View}
+use Rattle.tp_manager.specs.declared.manager.Run.{Run}
 use Rattle.tp_manager.specs.Calls.{claims_in}
 use Rattle.tp_manager.specs.Walks.{Gained, Looked, Rests}
 use Rattle.tp_manager.proofs.Passes.{claims_append, steady_at}
@@ -17,7 +18,7 @@ module _ (l : Limits) where
   gained_looked n v w a = record {
     marks = a.marks;
     walk = a.walk;
-    drawn = ap (λ (z : Hand). z.drawn) a.kept;
+    run = (ap (λ (z : Hand). z.next) a.kept, ap (λ (z : Hand). z.left) a.kept);
     claimed = ap (λ (z : Hand). z.claimed) a.kept;
     mine = ap (λ (z : Hand). z.mine) a.kept ∙ sym (append_nil (hand v).mine);
     drafts = λ e. ap (λ (z : Hand). z.drafts) a.kept ∙ e;
@@ -28,7 +29,7 @@ module _ (l : Limits) where
   gained_then n m es fs v w y a b = record {
     marks = a.marks ++ b.marks;
     walk = walked_then l n m a.marks b.marks v w y a.walk b.walk;
-    drawn = b.drawn ∙ a.drawn;
+    run = (b.run.0 ∙ a.run.0, b.run.1 ∙ a.run.1);
     claimed = b.claimed ∙ a.claimed;
     mine = b.mine ∙ (ap (λ z. z ++ fs) a.mine ∙ append_assoc (hand v).mine es fs);
     drafts = λ e. b.drafts (a.drafts e);
@@ -39,7 +40,7 @@ module _ (l : Limits) where
   gained_few n m es v w le a = record {
     marks = a.marks;
     walk = walked_few l n m a.marks v w le a.walk;
-    drawn = a.drawn;
+    run = a.run;
     claimed = a.claimed;
     mine = a.mine;
     drafts = a.drafts;
@@ -49,12 +50,12 @@ module _ (l : Limits) where
   pub gained_begins : (n : ℕ) (es : List Event) (v w : View) → Gained l n es v w → IsPrefix v.seen w.seen
   gained_begins n es v w a = walked_begins l n a.marks v w a.walk
 
-module _ (l : Limits) (seat next : SeatShown) (number drawn used : ℕ) (same : (view_of seat).limits ≡ l) (r : Rests seat number drawn used None) where
-  pub rests_gained : (n : ℕ) (es : List Event) → Gained l n es (view_of seat) (view_of next) → claims_in es ≡ 0 → Rests next number drawn used None
+module _ (l : Limits) (seat next : SeatShown) (number : ℕ) (run : Run) (used : ℕ) (same : (view_of seat).limits ≡ l) (r : Rests seat number run used None) where
+  pub rests_gained : (n : ℕ) (es : List Event) → Gained l n es (view_of seat) (view_of next) → claims_in es ≡ 0 → Rests next number run used None
   rests_gained n es a none = let lim : l ≡ (view_of next).limits = sym a.walk.steady.pass.1 in record {
     steady = steady_at l (view_of next).limits (view_of next) lim a.walk.steady;
     number_is = a.walk.number ∙ r.number_is;
-    drawn_is = a.drawn ∙ r.drawn_is;
+    run_is = (a.run.0 ∙ r.run_is.0, a.run.1 ∙ r.run_is.1);
     used_is = a.claimed ∙ r.used_is;
     used_below = subst (λ (z : Limits). used ≤ z.units) (same ∙ lim) r.used_below;
     claims = ap claims_in a.mine ∙ (claims_append (hand (view_of seat)).mine es ∙ (let k = r.claims in omega arith));

@@ -1,11 +1,12 @@
 -- A kill, on its way.
-use Rattle.std.proofs.Common.{◌≡◌, ◌≢◌, ℕ, ◌+◌, ◌≤◌, nat_lt, Bool, true, false, cond, List, [], ◌∷◌, ◌++◌, length, Result, Ok, Err, sym, refl, ap, ◌∙◌, subst, ⊎_elim, arith, append_assoc, Some, None}
+use Rattle.std.proofs.Common.{◌≡◌, ℕ, ◌+◌, ◌≤◌, nat_lt, Bool, true, false, cond, List, [], ◌∷◌, ◌++◌, length, Result, Ok, Err, sym, refl, ap, ◌∙◌, subst, ⊎_elim, arith, append_assoc, Some, None}
 use Rattle.std.specs.Prelude.{MatchResult}
 use Rattle.std.specs.Option.{option_or}
 use Rattle.tp_model.specs.declared.types.Refusal.{Refusal}
 use Rattle.tp_model.specs.declared.types.Refusal.TheVariants as refusals
 use Rattle.tp_model.specs.declared.types.Status.{Status}
 use Rattle.tp_model.specs.declared.types.Status.TheVariants as statuses
+use Rattle.tp_manager.specs.declared.manager.Run.{Run}
 use Rattle.tp_manager.specs.Shown.{Spot, PassShown, shown}
 use Rattle.tp_manager.proofs.Passes.{claims_append}
 use mathlib.Core.List.{IsPrefix}
@@ -31,7 +32,7 @@ use Rattle.tp_manager.specs.Kills.{FailsIn, Freed, KillsIn, Slain}
 use Rattle.tp_manager.specs.Walks.{Gained, Rests, Steady, Looked}
 use Rattle.tp_manager.proofs.Gains.{gained_begins, gained_few, gained_looked, gained_then, rests_gained}
 use Rattle.tp_manager.proofs.Tries.{IsAlive}
-use Rattle.tp_manager.proofs.Walks.{at_point, point_last, grew_hand, grew_walked, steady_own, walked_begins}
+use Rattle.tp_manager.proofs.Walks.{at_point, point_last, grew_hand, grew_walked, grew_steady, walked_begins}
 
 module _ (l : Limits) where
   pub freed_looked : (n i : ℕ) (v w : View) → Looked l n v w → Freed l n i [] v w
@@ -41,7 +42,7 @@ module _ (l : Limits) where
   pub freed_abort : (i n u : ℕ) {r : ℕ} (v w : View) → Steady l v → claim_word v.seen i ≡ TakenWord n u r → MakesAbort v u w → Freed l 1 i (Abort (hand v).number u ∷ []) v w × (end_of w.seen u ≡ Some Aborted)
   freed_abort i n u {r} v w s taken g =
       let e = Abort (hand v).number u in let f : Hand → Hand = with_end e in let x = grew_hand l kinds.AbortExchange f (e ∷ []) v w s g in
-      let st = steady_own l kinds.AbortExchange f e v w s g refl (omega arith) s.shows.within refl refl (λ x p. absurd (in_none p)) in
+      let st = grew_steady l kinds.AbortExchange f (e ∷ []) v w s g refl in
       let walk = grew_walked l kinds.AbortExchange f (e ∷ []) v w s g refl refl refl st in
       let p : List Event = v.seen ++ g.between in
       let legal : IsLegal l (p ++ e ∷ []) = subst (IsLegal l) g.seen st.shows.legal in
@@ -54,7 +55,7 @@ module _ (l : Limits) where
           gained = record {
             marks = record { kind = kinds.AbortExchange; seen = w.seen } ∷ [];
             walk = walk;
-            drawn = ap (λ (a : Hand). a.drawn) x;
+            run = (ap (λ (z : Hand). z.next) x, ap (λ (z : Hand). z.left) x);
             claimed = ap (λ (a : Hand). a.claimed) x;
             mine = ap (λ (a : Hand). a.mine) x;
             drafts = λ q. ap (λ (a : Hand). a.drafts) x;
@@ -112,13 +113,13 @@ module _ (l : Limits) where
   pub slain_by : (n i : ℕ) (es : List Event) (v w y : View) → Freed l n i es v w → MakesKill w i y → Slain l (n + 1) i es v y
   slain_by n i es v w y a g =
       let e = Kill (hand w).number i in let f : Hand → Hand = with_event e in let s = a.gained.walk.steady in let x = grew_hand l kinds.KillExchange f (e ∷ []) w y s g in
-      let st = steady_own l kinds.KillExchange f e w y s g refl (omega arith) s.shows.within refl refl (λ x p. absurd (in_none p)) in
+      let st = grew_steady l kinds.KillExchange f (e ∷ []) w y s g refl in
       let walk = grew_walked l kinds.KillExchange f (e ∷ []) w y s g refl refl refl st in
       let same : (hand w).number ≡ (hand v).number = a.gained.walk.number in
       let kill : Gained l 1 (e ∷ []) w y = record {
         marks = record { kind = kinds.KillExchange; seen = y.seen } ∷ [];
         walk = walk;
-        drawn = ap (λ (z : Hand). z.drawn) x;
+        run = (ap (λ (z : Hand). z.next) x, ap (λ (z : Hand). z.left) x);
         claimed = ap (λ (z : Hand). z.claimed) x;
         mine = ap (λ (z : Hand). z.mine) x;
         drafts = λ q. ap (λ (z : Hand). z.drafts) x ∙ q;
@@ -176,13 +177,13 @@ pub no_claims : (l : Limits) (c i : ℕ) (s t es : List Event) → AreOfHolders 
 no_claims l c i s t [] h = refl
 no_claims l c i s t (e ∷ es) h = let first : one_claim e ≡ 0 = ap one_claim (h e here).is_abort in let rest = no_claims l c i s t es (λ x p. h x (there p)) in omega arith
 
-module _ (l : Limits) (seat next : SeatShown) (number drawn used : ℕ) (same : (view_of seat).limits ≡ l) (r : Rests seat number drawn used None) where
-  pub rests_freed : (n i : ℕ) (es : List Event) → Freed l n i es (view_of seat) (view_of next) → Rests next number drawn used None
-  rests_freed n i es a = rests_gained l seat next number drawn used same r n es a.gained (no_claims l (hand (view_of seat)).number i _ _ es a.aborts)
+module _ (l : Limits) (seat next : SeatShown) (number : ℕ) (run : Run) (used : ℕ) (same : (view_of seat).limits ≡ l) (r : Rests seat number run used None) where
+  pub rests_freed : (n i : ℕ) (es : List Event) → Freed l n i es (view_of seat) (view_of next) → Rests next number run used None
+  rests_freed n i es a = rests_gained l seat next number run used same r n es a.gained (no_claims l (hand (view_of seat)).number i _ _ es a.aborts)
 
-  pub rests_slain : (n i : ℕ) (es : List Event) → Slain l n i es (view_of seat) (view_of next) → Rests next number drawn used None
+  pub rests_slain : (n i : ℕ) (es : List Event) → Slain l n i es (view_of seat) (view_of next) → Rests next number run used None
   rests_slain n i es a = let k : Event = Kill (hand (view_of seat)).number i in let none = no_claims l (hand (view_of seat)).number i _ _ es a.aborts in
-      rests_gained l seat next number drawn used same r n (es ++ k ∷ []) a.gained (claims_append es (k ∷ []) ∙ omega arith)
+      rests_gained l seat next number run used same r n (es ++ k ∷ []) a.gained (claims_append es (k ∷ []) ∙ omega arith)
 
 module _ (t t' : Spot) (v w : View) (old : PassShown) (is : shown t v ≡ old) (l : Limits) (free : (hand v).open_unit ≡ None) where
   pub kills_shown : (n i count : ℕ) → KillsIn l n i (tries l.attempts) count v w → Kills l i count old (shown t' w)
@@ -196,11 +197,11 @@ module _ (t t' : Spot) (v w : View) (old : PassShown) (is : shown t v ≡ old) (
     begins = a.begins;
     seen = a.ends;
     open_unit = a.gained.open_unit free ∙ sym free;
-    drawn = a.gained.drawn;
+    run = a.gained.run;
   }
 
   only_aborts : (n i : ℕ) (es : List Event) → length es ≤ tries l.attempts → Freed l n i es v w → OnlyAborts l i old (shown t' w)
-  only_aborts n i es few a = subst (λ (p : PassShown). OnlyAborts l i p (shown t' w)) is record { aborts = es; few = few; held = a.aborts; mine = a.gained.mine; open_unit = a.gained.open_unit free ∙ sym free; drawn = a.gained.drawn }
+  only_aborts n i es few a = subst (λ (p : PassShown). OnlyAborts l i p (shown t' w)) is record { aborts = es; few = few; held = a.aborts; mine = a.gained.mine; open_unit = a.gained.open_unit free ∙ sym free; run = a.gained.run }
 
   -- the element is born when the kill fails, and has that status then
   stands_at_end : (n i : ℕ) (s : Status) (es : List Event) → Freed l n i es v w → HasElement w.seen i → status_of l.attempts w.seen i ≡ s → AtPoint old (shown t' w) (HasStatus l i s)

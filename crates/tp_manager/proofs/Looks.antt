@@ -1,5 +1,5 @@
 -- What the words that were found tell of a row.
-use Rattle.std.proofs.Common.{◌≡◌, ◌≢◌, ◌⊎◌, ℕ, ◌+◌, ◌-◌, ◌*◌, ◌<◌, ◌≤◌, nat_lt, Bool, true, false, cond, Option, Some, None, List, refl, sym, ◌∙◌, ap, subst, ⊎_elim, arith}
+use Rattle.std.proofs.Common.{◌≡◌, ◌≢◌, ℕ, ◌+◌, ◌*◌, ◌<◌, ◌≤◌, nat_lt, Bool, true, false, cond, Option, Some, None, List, [], ◌∷◌, slice_index, refl, sym, ◌∙◌, ap, subst, ⊎_elim, arith}
 use Rattle.std.proofs.lemmas.Bool.Decides.{nat_tests}
 use mathlib.Core.List.{IsPrefix}
 use Rattle.tp_model.specs.declared.types.Element.{Element}
@@ -11,6 +11,7 @@ use Rattle.tp_model.specs.History.{IsUnborn, element_of, UnitEnd, Committed, Abo
 use Rattle.tp_model.specs.Words.{TakenWord, claim_word, taken_status}
 use Rattle.tp_model.specs.Steps.{IsRowOf, rows_of, units_of, IsLegal}
 use Rattle.tp_model.proofs.Blocks.{blocks_apart}
+use Rattle.tp_model.proofs.Bodies.{found_whole, four_words}
 use Rattle.tp_model.proofs.Bridges.{born_or_not, born_at, found_later}
 use Rattle.tp_model.proofs.Later.{committed_born, claim_stands, status_found, status_aborted}
 use Rattle.tp_words.specs.declared.words.Head.{Head}
@@ -74,16 +75,27 @@ there_later h g i b begins t = (t.0, found_later h g begins i t.0 t.1, t.2)
 same_head : (e : Element) (b : Birth) → head_of e ≡ There b.stage b.root b.by → (e.stage ≡ b.stage) × (e.root ≡ b.root) × (e.by ≡ b.by)
 same_head e b h = (cc, cc, cc)
 
-pub element_there : (h g : List Event) (i key amount : ℕ) (b : Birth) → IsPrefix h g → IsThere h i b → ((e : Element) → element_of h i ≡ Some e → key ≡ e.key) → ((e : Element) → element_of g i ≡ Some e → amount ≡ e.amount)
-    → ((e : Element) → element_of h i ≡ Some e → e.id ≡ i) → element_of g i ≡ Some (record { id = i; stage = b.stage; root = b.root; key = key; amount = amount; by = b.by })
-element_there h g i key amount b begins t keys amounts ids =
+-- the four words that were found of a born element, one after another, are its body
+pub body_there : (l : Limits) (h a b c d : List Event) (i : ℕ) (w x y z : ℕ) → IsLegal l h → IsPrefix h a → IsPrefix h b → IsPrefix h c → IsPrefix h d
+    → ((e : Element) → element_of a i ≡ Some e → w ≡ slice_index e.body 0) → ((e : Element) → element_of b i ≡ Some e → x ≡ slice_index e.body 1)
+    → ((e : Element) → element_of c i ≡ Some e → y ≡ slice_index e.body 2) → ((e : Element) → element_of d i ≡ Some e → z ≡ slice_index e.body 3)
+    → (e : Element) → element_of h i ≡ Some e → w ∷ x ∷ y ∷ z ∷ [] ≡ e.body
+body_there l h a b c d i w x y z legal in_a in_b in_c in_d first second third last e p =
+    let q = first e (found_later h a in_a i e p) in
+    let r = second e (found_later h b in_b i e p) in
+    let s = third e (found_later h c in_c i e p) in
+    let t = last e (found_later h d in_d i e p) in
+    (λ j. q j ∷ r j ∷ s j ∷ t j ∷ []) ∙ sym (four_words e.body (found_whole l h legal i e p))
+
+pub element_there : (h g : List Event) (i : ℕ) (body : List ℕ) (b : Birth) → IsPrefix h g → IsThere h i b → ((e : Element) → element_of h i ≡ Some e → body ≡ e.body)
+    → ((e : Element) → element_of h i ≡ Some e → e.id ≡ i) → element_of g i ≡ Some (record { id = i; stage = b.stage; root = b.root; body = body; by = b.by })
+element_there h g i body b begins t bodies ids =
     let e = t.0 in
     let p = found_later h g begins i e t.1 in
     let s = same_head e b t.2 in
     let id : e.id ≡ i = ids e t.1 in
-    let key_is : e.key ≡ key = sym (keys e t.1) in
-    let amount_is : e.amount ≡ amount = sym (amounts e p) in
-    p ∙ ap Some (λ j. record { id = id j; stage = s.0 j; root = s.1 j; key = key_is j; amount = amount_is j; by = s.2 j })
+    let body_is : e.body ≡ body = sym (bodies e t.1) in
+    p ∙ ap Some (λ j. record { id = id j; stage = s.0 j; root = s.1 j; body = body_is j; by = s.2 j })
 
 -- statuses
 

@@ -8,8 +8,8 @@ use Rattle.tp_model.specs.declared.types.Limits.{Limits}
 use Rattle.tp_model.specs.declared.types.Status.{Status}
 use Rattle.tp_model.specs.declared.event.Event.{Event}
 use Rattle.tp_model.specs.declared.trace.StepKind.TheVariants as kinds
-use Rattle.tp_model.specs.History.{IsSettled, IsUnborn, element_of, events_by, status_of}
-use Rattle.tp_model.specs.Passes.{IsOwnOpen}
+use Rattle.tp_model.specs.History.{IsSettled, element_of, events_by, status_of}
+use Rattle.tp_model.specs.Passes.{IsOwnOpen, IsRun}
 use Rattle.tp_model.specs.Steps.{IsLegal}
 use Rattle.tp_model.proofs.Bridges.{begins_refl, found_later}
 use Rattle.tp_model.proofs.LawProofs.{settled_stay}
@@ -40,18 +40,15 @@ module _ (l : Limits) (p n : ℕ) (v w : View) (s : Steady l v) (r : Raises v p 
   raised_steady =
       let h = raised_hand in
       let c : (hand w).number ≡ (hand v).number = ap (λ (a : Hand). a.number) h in
-      let d : (hand w).drawn ≡ (hand v).drawn = ap (λ (a : Hand). a.drawn) h in
       record {
         pass = (raised_after.0, raised_after.2 ∙ s.pass.1);
         shows = record {
           given = subst (λ n. n < l.parts) (sym c) s.shows.given;
           legal = subst (IsLegal l) (sym raised_seen) s.shows.legal;
           own = ap (λ (a : Hand). a.mine) h ∙ (s.shows.own ∙ (ap (events_by (hand v).number) (sym raised_seen) ∙ ap (λ n. events_by n w.seen) (sym c)));
-          within = subst (λ n. n ≤ l.rows) (sym d) s.shows.within;
+          run = subst (λ (a : Hand). IsRun l w.seen a.number a.next a.left) (sym h) (subst (λ z. IsRun l z (hand v).number (hand v).next (hand v).left) (sym raised_seen) s.shows.run);
           open_own = λ u is. let same : (hand v).open_unit ≡ Some u = sym (ap (λ (a : Hand). a.open_unit) h) ∙ is in
               subst (λ (z : List Event × ℕ). IsOwnOpen z.0 z.1 u) (λ i. (sym raised_seen i, sym c i)) (s.shows.open_own u same);
-          unborn = λ i low high. let low' : (hand v).number * l.rows + (hand v).drawn ≤ i = subst (λ n. n * l.rows + (hand v).drawn ≤ i) c (subst (λ n. (hand w).number * l.rows + n ≤ i) d low) in
-              subst (λ z. IsUnborn z i) (sym raised_seen) (s.shows.unborn i low' (subst (λ n. i < n * l.rows + l.rows) c high));
         };
         low = λ q m is. subst (λ h. IsLow l h q m) (sym raised_seen) (⊎_elim (λ old. s.low q m old) (λ e. subst (λ (z : ℕ × ℕ). IsLow l v.seen z.0 z.1) (λ i. (sym e.0 i, sym e.1 i)) new) (r.2 q m is));
       }

@@ -1,9 +1,9 @@
 -- Two passes that met.
-use Rattle.std.proofs.Common.{◌≡◌, ◌+◌, ◌*◌, ◌<◌, ◌≤◌, ℕ, Some, [], ◌∷◌, ◌++◌, length, refl, sym, ap, ◌∙◌, subst, arith, append_assoc}
+use Rattle.std.proofs.Common.{◌≡◌, ◌<◌, ℕ, Some, [], ◌∷◌, ◌++◌, refl, sym, ap, ◌∙◌, subst, arith, append_assoc}
 use mathlib.Core.List.{IsPrefix}
 use Rattle.tp_model.specs.declared.types.Limits.{Limits}
 use Rattle.tp_model.specs.History.{here, there, events_by}
-use Rattle.tp_model.specs.Passes.{IsOwnOpen}
+use Rattle.tp_model.specs.Passes.{IsOwnOpen, IsRun}
 use Rattle.tp_model.specs.Steps.{IsLegal}
 use Rattle.tp_model.proofs.Bridges.{begins_refl}
 use Rattle.tp_rule.specs.Steps.{IsLow, Meets}
@@ -15,12 +15,11 @@ use Rattle.tp_manager.specs.Meetings as Met
 use Rattle.tp_manager.specs.Meetings.{load, seat_load}
 use Rattle.tp_manager.specs.Shown.{Spot, PassShown, shown}
 use Rattle.tp_manager.specs.Walks.{Acted, KnowsLow, Steady}
-use Rattle.tp_manager.proofs.Rows.{unborn_quiet}
 
 -- a pass that has seen more, and done nothing else
 module _ (l : Limits) (v w : View) (s : Steady l v) (one : IsOnePass w) (lim : w.limits ≡ l) (legal : IsLegal l w.seen) (begins : IsPrefix v.seen w.seen) (own : (hand w).mine ≡ events_by (hand w).number w.seen)
     (open_own : (u : ℕ) → (hand w).open_unit ≡ Some u → IsOwnOpen w.seen (hand w).number u)
-    (number : (hand w).number ≡ (hand v).number) (drawn : (hand w).drawn ≡ (hand v).drawn) (mine : (hand w).mine ≡ (hand v).mine) (low : KnowsLow l w) where
+    (number : (hand w).number ≡ (hand v).number) (run : IsRun l w.seen (hand w).number (hand w).next (hand w).left) (low : KnowsLow l w) where
   pub steady_seen : Steady l w
   steady_seen = record {
     pass = (one, lim);
@@ -28,13 +27,7 @@ module _ (l : Limits) (v w : View) (s : Steady l v) (one : IsOnePass w) (lim : w
       given = subst (λ n. n < l.parts) (sym number) s.shows.given;
       legal = legal;
       own = own;
-      within = subst (λ n. n ≤ l.rows) (sym drawn) s.shows.within;
-      unborn = λ i low high.
-          let low' : (hand v).number * l.rows + (hand v).drawn ≤ i = subst (λ n. n * l.rows + (hand v).drawn ≤ i) number (subst (λ n. (hand w).number * l.rows + n ≤ i) drawn low) in
-          let high' : i < (hand v).number * l.rows + l.rows = subst (λ n. i < n * l.rows + l.rows) number high in
-          let m : events_by (hand v).number w.seen ≡ events_by (hand v).number v.seen = ap (λ n. events_by n w.seen) (sym number) ∙ (sym own ∙ (mine ∙ s.shows.own)) in
-          let few : length (events_by (hand v).number w.seen) ≤ length (events_by (hand v).number v.seen) = let e = ap length m in omega arith in
-          unborn_quiet l (hand v).number i (s.shows.given, omega arith, high') v.seen (s.shows.unborn i low' high') w.seen legal begins few;
+      run = run;
       open_own = open_own;
     };
     low = low;
@@ -45,12 +38,13 @@ module _ (l : Limits) (v w x y : View) (sv : Steady l v) (sw : Steady l w) (m : 
   legal = subst (λ (z : Limits). IsLegal z x.seen) sv.pass.1 m.legal
 
   steady_first : Steady l x
-  steady_first = let h = m.first_is in steady_seen l v x sv m.first_one (m.limits.0 ∙ sv.pass.1) legal m.first_saw m.mine.0 m.open_own.0 (ap (λ (a : Hand). a.number) h) (ap (λ (a : Hand). a.drawn) h) (ap (λ (a : Hand). a.mine) h)
+  steady_first = let h = m.first_is in steady_seen l v x sv m.first_one (m.limits.0 ∙ sv.pass.1) legal m.first_saw m.mine.0 m.open_own.0 (ap (λ (a : Hand). a.number) h)
+      (subst (λ (z : Limits). IsRun z x.seen (hand x).number (hand x).next (hand x).left) sv.pass.1 m.run.0)
       (λ p n q. subst (λ (z : Limits). IsLow z x.seen p n) sv.pass.1 (m.marks.0 p n q))
 
   steady_second : Steady l y
   steady_second = let h = m.second_is in steady_seen l w y sw m.second_one (m.limits.1 ∙ sv.pass.1) (subst (IsLegal l) m.same legal) (subst (IsPrefix w.seen) m.same m.second_saw) m.mine.1 m.open_own.1
-      (ap (λ (a : Hand). a.number) h) (ap (λ (a : Hand). a.drawn) h) (ap (λ (a : Hand). a.mine) h)
+      (ap (λ (a : Hand). a.number) h) (subst (λ (z : Limits). IsRun z y.seen (hand y).number (hand y).next (hand y).left) sv.pass.1 m.run.1)
       (λ p n q. subst (λ (z : Limits). IsLow z y.seen p n) sv.pass.1 (m.marks.1 p n q))
 
   pub first_trace : (hand x).trace ≡ (hand v).trace ++ seat_load v.seen ∷ load x.seen ∷ seat_load x.seen ∷ []

@@ -10,6 +10,7 @@ use Rattle.tp_model.proofs.Later.{births_inside}
 use Rattle.tp_rule.specs.Views.{SeatShown, view_of}
 use Rattle.tp_rule.specs.declared.view.Hand.{Hand}
 use Rattle.tp_rule.specs.declared.view.View.{View}
+use Rattle.tp_manager.specs.declared.manager.Run.{Run}
 use Rattle.tp_manager.specs.declared.manager.Task.{Task}
 use Rattle.tp_manager.specs.Shown.{Spot, PassShown, shown}
 use Rattle.tp_manager.specs.Calls.{AtPoint, IsQuiet}
@@ -29,13 +30,13 @@ claims_append (e ∷ h) m = let i = claims_append h m in omega arith
 pub steady_at : (k l : Limits) (v : View) → k ≡ l → Steady k v → Steady l v
 steady_at k l v same s = subst (λ (z : Limits). Steady z v) same s
 
-module _ (l : Limits) (seat next : SeatShown) (same : (view_of seat).limits ≡ l) (number drawn used : ℕ) (task : Option Task) (r : Rests seat number drawn used task) where
+module _ (l : Limits) (seat next : SeatShown) (same : (view_of seat).limits ≡ l) (number : ℕ) (run : Run) (used : ℕ) (task : Option Task) (r : Rests seat number run used task) where
   -- the pass has looked, and no more
-  pub rests_looked : (n : ℕ) → Looked l n (view_of seat) (view_of next) → Rests next number drawn used task
+  pub rests_looked : (n : ℕ) → Looked l n (view_of seat) (view_of next) → Rests next number run used task
   rests_looked n a = let k = a.kept in let lim : l ≡ (view_of next).limits = sym a.walk.steady.pass.1 in record {
     steady = steady_at l (view_of next).limits (view_of next) lim a.walk.steady;
     number_is = ap (λ (z : Hand). z.number) k ∙ r.number_is;
-    drawn_is = ap (λ (z : Hand). z.drawn) k ∙ r.drawn_is;
+    run_is = (ap (λ (z : Hand). z.next) k ∙ r.run_is.0, ap (λ (z : Hand). z.left) k ∙ r.run_is.1);
     used_is = ap (λ (z : Hand). z.claimed) k ∙ r.used_is;
     used_below = subst (λ (z : Limits). used ≤ z.units) (same ∙ lim) r.used_below;
     claims = ap (λ (z : Hand). claims_in z.mine) k ∙ r.claims;
@@ -50,7 +51,7 @@ module _ (t t' : Spot) (v w : View) (old : PassShown) (is : shown t v ≡ old) (
   quiet_looked = let k = a.kept in record {
     mine = ap (λ (z : Hand). z.mine) k ∙ ap (λ (p : PassShown). p.mine) is;
     open_unit = ap (λ (z : Hand). z.open_unit) k ∙ ap (λ (p : PassShown). p.open_unit) is;
-    drawn = ap (λ (z : Hand). z.drawn) k ∙ ap (λ (p : PassShown). p.drawn) is;
+    run = (ap (λ (z : Hand). z.next) k ∙ ap (λ (p : PassShown). p.next) is, ap (λ (z : Hand). z.left) k ∙ ap (λ (p : PassShown). p.left) is);
   }
 
 -- a call that made no step has its entry for a point

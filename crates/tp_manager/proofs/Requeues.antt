@@ -1,37 +1,36 @@
 -- A requeue, on its way.
-use Rattle.std.proofs.Common.{◌≡◌, ◌≢◌, ℕ, ◌+◌, ◌<◌, ◌≤◌, nat_lt, Bool, true, false, cond, Option, Some, None, List, [], ◌∷◌, ◌++◌, sym, refl, ap, ◌∙◌, subst, inl, inr, ⊎_elim, arith}
+use Rattle.std.proofs.Common.{◌≡◌, ◌≢◌, ℕ, ◌+◌, ◌<◌, ◌≤◌, nat_lt, Bool, true, false, cond, Option, Some, None, List, [], ◌∷◌, ◌++◌, sym, refl, ap, ◌∙◌, subst, inr, ⊎_elim, arith}
 use Rattle.std.proofs.lemmas.Bool.Decides.{nat_tests}
 use mathlib.Core.List.{IsPrefix}
 use Rattle.tp_model.specs.declared.types.Limits.{Limits}
 use Rattle.tp_model.specs.declared.types.TheConstants.{MOST_ROUNDS}
 use Rattle.tp_model.specs.declared.types.Refusal.{Refusal}
 use Rattle.tp_model.specs.declared.types.Refusal.TheVariants as refusals
-use Rattle.tp_model.specs.declared.types.Status.{Status}
 use Rattle.tp_model.specs.declared.types.Status.TheVariants.{Waiting, Held, Consumed, Parked, Killed}
 use Rattle.tp_model.specs.declared.event.Event.{Event}
 use Rattle.tp_model.specs.declared.event.Event.TheVariants.{Requeue}
 use Rattle.tp_model.specs.declared.trace.StepKind.TheVariants as kinds
-use Rattle.tp_model.specs.declared.trace.TraceEntry.{TraceEntry}
-use Rattle.tp_model.specs.History.{Committed, Aborted, UnitEnd, element_of, end_of, rounds, status_of}
-use Rattle.tp_model.specs.Passes.{HasLook, IsPoint, opening_of}
+use Rattle.tp_model.specs.History.{Committed, Aborted, UnitEnd, end_of, rounds, status_of}
+use Rattle.tp_model.specs.Passes.{opening_of}
 use Rattle.tp_model.specs.Words.{ClaimWord, TakenWord, claim_word, round_in, taken_status}
 use Rattle.tp_model.specs.Steps.{IsLegal, IsParked}
 use Rattle.tp_model.proofs.WordProofs.{rounds_by_words}
-use Rattle.tp_model.proofs.Bridges.{begins_refl, begins_trans, found_later, in_none, status_taken}
+use Rattle.tp_model.proofs.Bridges.{begins_trans, found_later, status_taken}
 use Rattle.tp_model.proofs.Later.{stood}
 use Rattle.tp_rule.specs.Steps.{AllowsRequeue, HasElement, MakesRequeue, with_event}
 use Rattle.tp_rule.specs.Views.{SeatShown, hand, view_of}
 use Rattle.tp_rule.specs.declared.view.Hand.{Hand}
 use Rattle.tp_rule.specs.declared.view.View.{View}
+use Rattle.tp_manager.specs.declared.manager.Run.{Run}
 use Rattle.tp_manager.specs.declared.manager.Task.{Task}
 use Rattle.tp_manager.specs.Calls.{AtPoint, claims_in}
 use Rattle.tp_manager.specs.Shown.{Spot, PassShown, shown}
 use Rattle.tp_manager.specs.Requeues.{IsBetween, IsPastRequeue, Renewed, RequeueFails, Requeues}
-use Rattle.tp_manager.specs.Walks.{Acted, Looked, Rests, Walked, with_trace}
+use Rattle.tp_manager.specs.Walks.{Acted, Looked, Rests, with_trace}
 use Rattle.tp_manager.proofs.Moves.{moved}
 use Rattle.tp_manager.proofs.Passes.{claims_append, quiet_looked, steady_at, task_later}
 use Rattle.tp_manager.proofs.Points.{opening_kept}
-use Rattle.tp_manager.proofs.Walks.{acted_then, at_point, grew_hand, grew_walked, looked, looked_begins, steady_own, walked_begins, walked_then}
+use Rattle.tp_manager.proofs.Walks.{acted_then, at_point, grew_hand, grew_walked, looked, looked_begins, grew_steady, walked_begins, walked_then}
 
 -- statuses that aren't parked
 
@@ -107,7 +106,7 @@ module _ (l : Limits) where
   pub renewed_by : (n i r : ℕ) (v w y : View) → 1 ≤ r → r ≤ 3 → Looked l n v w → MakesRequeue w i r y → Renewed l (n + 1) i r v y
   renewed_by n i r v w y low high a g =
       let e : Event = Requeue (hand w).number i r in let f : Hand → Hand = with_event e in let s = a.walk.steady in let h = grew_hand l kinds.RequeueExchange f (e ∷ []) w y s g in
-      let steady = steady_own l kinds.RequeueExchange f e w y s g refl (omega arith) s.shows.within refl refl (λ x p. absurd (in_none p)) in
+      let steady = grew_steady l kinds.RequeueExchange f (e ∷ []) w y s g refl in
       let walk = grew_walked l kinds.RequeueExchange f (e ∷ []) w y s g refl refl refl steady in
       let same : (hand w).number ≡ (hand v).number = a.walk.number in
       record {
@@ -135,12 +134,12 @@ module _ (l : Limits) where
   }
 
 -- what is so of the pass afterwards
-pub rests_renewed : (l : Limits) (seat next : SeatShown) (number drawn used : ℕ) (task : Option Task) → (view_of seat).limits ≡ l → Rests seat number drawn used task
-    → (n i r : ℕ) → Renewed l n i r (view_of seat) (view_of next) → Rests next number drawn used task
-rests_renewed l seat next number drawn used task same r n i round a = let k = a.kept in let lim : l ≡ (view_of next).limits = sym a.walk.steady.pass.1 in record {
+pub rests_renewed : (l : Limits) (seat next : SeatShown) (number : ℕ) (run : Run) (used : ℕ) (task : Option Task) → (view_of seat).limits ≡ l → Rests seat number run used task
+    → (n i r : ℕ) → Renewed l n i r (view_of seat) (view_of next) → Rests next number run used task
+rests_renewed l seat next number run used task same r n i round a = let k = a.kept in let lim : l ≡ (view_of next).limits = sym a.walk.steady.pass.1 in record {
   steady = steady_at l (view_of next).limits (view_of next) lim a.walk.steady;
   number_is = ap (λ (z : Hand). z.number) k ∙ r.number_is;
-  drawn_is = ap (λ (z : Hand). z.drawn) k ∙ r.drawn_is;
+  run_is = (ap (λ (z : Hand). z.next) k ∙ r.run_is.0, ap (λ (z : Hand). z.left) k ∙ r.run_is.1);
   used_is = ap (λ (z : Hand). z.claimed) k ∙ r.used_is;
   used_below = subst (λ (z : Limits). used ≤ z.units) (same ∙ lim) r.used_below;
   claims = ap (λ (z : Hand). claims_in z.mine) k ∙ (claims_append (hand (view_of seat)).mine (Requeue (hand (view_of seat)).number i round ∷ []) ∙ (let c = r.claims in omega arith));
@@ -157,7 +156,7 @@ module _ (t t' : Spot) (v x w : View) (old : PassShown) (is : shown t v ≡ old)
     high = b.high;
     adds = record { mine = ap (λ (z : Hand). z.mine) b.kept; before = b.before; seen = b.ends; begins = b.begins };
     open_unit = ap (λ (z : Hand). z.open_unit) b.kept;
-    drawn = ap (λ (z : Hand). z.drawn) b.kept;
+    run = (ap (λ (z : Hand). z.next) b.kept, ap (λ (z : Hand). z.left) b.kept);
   }
 
   -- a history between two that a part of the call has seen, after one that looks, is a point of the call

@@ -1,27 +1,31 @@
 -- A row that was passed by, and a row whose element was taken.
-use Rattle.std.proofs.Common.{◌≡◌, ◌≢◌, ◌⊎◌, ℕ, ◌+◌, ◌-◌, ◌*◌, ◌<◌, ◌≤◌, Some, List, [], ◌∷◌, ◌++◌, sym, refl, ap, ◌∙◌, subst, inl, inr, ⊎_elim, arith, mul-le-mul_right}
+use Rattle.std.proofs.Common.{◌≡◌, ◌≢◌, ℕ, ◌+◌, ◌-◌, ◌*◌, ◌<◌, ◌≤◌, Some, List, [], ◌∷◌, ◌++◌, sym, refl, ap, ◌∙◌, subst, inl, ⊎_elim, arith, slice_index, mul-le-mul_right}
 use mathlib.Core.List.{IsPrefix}
+use mathlib.Core.Logic.{dite}
+use native.Mathlib.Decide.{dec_le}
 use Rattle.tp_model.specs.declared.types.Element.{Element}
 use Rattle.tp_model.specs.declared.types.Limits.{Limits}
-use Rattle.tp_model.specs.declared.types.Status.{Status}
 use Rattle.tp_model.specs.declared.types.Status.TheVariants.{Waiting, Held, Parked, Killed}
 use Rattle.tp_model.specs.declared.event.Event.{Event}
 use Rattle.tp_model.specs.declared.event.Event.TheVariants.{Claim}
 use Rattle.tp_model.specs.declared.trace.StepKind.TheVariants as kinds
-use Rattle.tp_model.specs.History.{IsUnborn, element_of, status_after, status_of}
+use Rattle.tp_model.specs.History.{IsUnborn, element_of, status_of}
 use Rattle.tp_model.specs.Words.{ClaimWord, claim_word, word_status}
 use Rattle.tp_model.specs.Steps.{AreLimits, IsLegal, rows_of}
 use Rattle.tp_model.proofs.WordProofs.{status_by_words}
-use Rattle.tp_model.proofs.Bridges.{in_none, begins_refl, begins_more, begins_trans, found_later, waits_below, waits_later}
-use Rattle.tp_rule.specs.Steps.{AllowsClaim, MakesClaim, claimed, with_claim}
+use Rattle.tp_model.proofs.Bridges.{begins_refl, begins_trans, found_later, waits_below, waits_later}
+use Rattle.tp_model.specs.Passes.{opening_of}
+use Rattle.tp_rule.specs.Steps.{AllowsClaim, Knows, MakesClaim, claimed, with_claim}
+use Rattle.tp_rule.specs.declared.view.Known.TheVariants.{PartMark}
 use Rattle.tp_rule.specs.Views.{hand}
 use Rattle.tp_rule.specs.declared.view.Hand.{Hand}
 use Rattle.tp_rule.specs.declared.view.View.{View}
 use Rattle.tp_manager.specs.Calls.{IsWaiting}
-use Rattle.tp_manager.specs.Walks.{Looked, PassedBy, Took, with_trace}
+use Rattle.tp_manager.specs.Walks.{AreFinished, EachRow, Looked, OfPart, PassedBy, Remembers, Sought, Took, with_trace}
+use Rattle.tp_manager.proofs.Marks.{over_passed}
 use Rattle.tp_manager.proofs.Moves.{moved}
 use Rattle.tp_manager.proofs.Seeks.{Widens}
-use Rattle.tp_manager.proofs.Walks.{steady_own, grew_hand, grew_walked, walked_then, walked_few, looked_begins, walked_begins}
+use Rattle.tp_manager.proofs.Walks.{grew_steady, grew_hand, grew_walked, walked_then, walked_few, looked_begins, walked_begins}
 
 held_not : (u n : ℕ) → ¬ IsWaiting (Held u n)
 held_not u n w = let e = w.1 in cc
@@ -63,6 +67,22 @@ none_passed l stage j h un = pass_unborn l stage j h h h (begins_refl h) un
 pub passed_widens : (l : Limits) (stage : ℕ) → Widens (PassedBy l stage)
 passed_widens l stage i a a' b b' before after passed x p st = let t = passed x (found_later a a' before i x p) st in (t.0, begins_trans a a' t.0 before t.1, begins_trans t.0 b b' t.2 after, t.3)
 
+-- parts that the pass knows finished are passed by at every moment of a scan of the others
+pub finished_passed : (l : Limits) (stage n first : ℕ) (lows : List ℕ) (v w : View) → 1 ≤ l.rows → Remembers v lows → AreFinished l lows first
+    → Sought l n (EachRow (OfPart l (PassedBy l stage)) first l.parts) v w → Sought l n (EachRow (OfPart l (PassedBy l stage)) 0 l.parts) v w
+finished_passed l stage n first lows v w some remembers finished s = record {
+  marks = s.marks;
+  walk = s.walk;
+  kept = s.kept;
+  step = s.step;
+  passed = λ p low high. dite (dec_le first p)
+      (λ past. s.passed p past high)
+      (λ not. let is = finished p (omega arith) in let known = remembers p (omega (arith, is, some)) in
+      let under = s.walk.steady.low p (slice_index lows p) (s.walk.knows (PartMark p (slice_index lows p)) known) in
+      (λ i from below. passed_widens l stage i (opening_of v.seen s.marks) w.seen w.seen w.seen s.walk.closes (begins_refl w.seen)
+      (over_passed l stage w.seen p (slice_index lows p) i under.1 from (omega (arith, below, is)))));
+}
+
 module _ (l : Limits) (stage : ℕ) where
   module _ (u attempt : ℕ) (e : Element) where
     pub took_by : (n i : ℕ) (v w y : View) → e.id ≡ i → Looked l n v w → element_of w.seen i ≡ Some e → e.stage ≡ stage → MakesClaim w u i attempt y → Took l (n + 1) stage u v y e attempt
@@ -70,7 +90,7 @@ module _ (l : Limits) (stage : ℕ) where
         let g : MakesClaim w u e.id attempt y = subst (λ z. MakesClaim w u z attempt y) (sym at) made in
         let E : Event = claimed w u e.id attempt in let f : Hand → Hand = with_claim u E in let s = a.walk.steady in
         let h = grew_hand l kinds.ClaimExchange f (E ∷ []) w y s g in
-        let steady = steady_own l kinds.ClaimExchange f E w y s g refl (omega arith) s.shows.within refl refl (λ x p. absurd (in_none p)) in
+        let steady = grew_steady l kinds.ClaimExchange f (E ∷ []) w y s g refl in
         let walk = grew_walked l kinds.ClaimExchange f (E ∷ []) w y s g refl refl refl steady in
         let same : (hand w).number ≡ (hand v).number = a.walk.number in
         record {

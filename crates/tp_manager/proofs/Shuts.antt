@@ -8,8 +8,8 @@ use Rattle.tp_model.specs.declared.types.Limits.{Limits}
 use Rattle.tp_model.specs.declared.event.Event.{Event}
 use Rattle.tp_model.specs.declared.event.Event.TheVariants.{Abort, Commit}
 use Rattle.tp_model.specs.declared.trace.StepKind.{StepKind}
-use Rattle.tp_model.specs.History.{Aborted, Committed, In, UnitEnd, committed as committed_status, end_by, births, end_of, first_id, pass_of, element_of, IsClaim, claim_of, status_of}
-use Rattle.tp_model.specs.Births.{outputs, HasStage}
+use Rattle.tp_model.specs.History.{Aborted, Committed, In, UnitEnd, committed as committed_status, end_by, end_of, first_id, element_of, IsClaim, claim_of, status_of}
+use Rattle.tp_model.specs.Births.{IsWhole, outputs}
 use Rattle.tp_model.specs.Passes.{looks}
 use Rattle.tp_model.specs.Steps.{AreLimits, IsLegal, Step, units_of}
 use Rattle.tp_model.proofs.Bridges.{append_nil, begins_trans, claim_kept, in_cons, in_none}
@@ -27,14 +27,15 @@ use Rattle.tp_rule.specs.Views.{SeatShown, hand, view_of}
 use Rattle.tp_rule.specs.Steps.{Grew, IsOut, IsOwnWork, IsClaimed, committed, with_end, with_lost}
 use Rattle.tp_rule.specs.declared.view.Hand.{Hand}
 use Rattle.tp_rule.specs.declared.view.View.{View}
+use Rattle.tp_manager.specs.declared.manager.Run.{Run}
 use Rattle.tp_manager.specs.declared.manager.Task.{Task}
 use Rattle.tp_manager.specs.Shown.{Spot, PassShown, shown}
 use Rattle.tp_manager.specs.Calls.{Adds, Closes, Commits, EndedByOther, HasConsumed, HasEnded, Loses, claims_in}
 use Rattle.tp_manager.specs.Bounds.{commit_steps, draft_steps}
-use Rattle.tp_manager.specs.Walks.{Rests, Shut, Steady, Wrote, output, IsTask}
+use Rattle.tp_manager.specs.Walks.{Rests, SameRun, Shut, Steady, Wrote, output, IsTask}
 use Rattle.tp_rule.proofs.Births.{claimed_inside}
 use Rattle.tp_manager.proofs.Passes.{claims_append, steady_at}
-use Rattle.tp_manager.proofs.Walks.{grew_hand, grew_walked, steady_own, steady_quiet, walked_few, walked_none, walked_then, walked_begins}
+use Rattle.tp_manager.proofs.Walks.{grew_hand, grew_steady, grew_walked, walked_few, walked_none, walked_then, walked_begins}
 
 module _ (l : Limits) where
   pub wrote_then : (xs ys : List Element) (v w y : View) → Wrote l xs v w → Wrote l ys w y → Wrote l (xs ++ ys) v y
@@ -42,7 +43,7 @@ module _ (l : Limits) where
     marks = a.marks ++ b.marks;
     walk = walked_few l (draft_steps (length xs) + draft_steps (length ys)) (draft_steps (length (xs ++ ys))) _ v y (omega (arith, length-append xs ys)) g;
     seen = b.seen ∙ a.seen;
-    drawn = let p = a.drawn in let q = b.drawn in omega (arith, length-append xs ys);
+    run = let p = a.run.0 in let q = b.run.0 in let r = a.run.1 in let s = b.run.1 in (omega (arith, length-append xs ys), omega (arith, length-append xs ys));
     claimed = b.claimed ∙ a.claimed;
     mine = b.mine ∙ a.mine;
     drafts = b.drafts ∙ (ap (λ z. z ++ ys) a.drafts ∙ append_assoc (hand v).drafts xs ys);
@@ -50,28 +51,28 @@ module _ (l : Limits) where
   }
 
   pub wrote_none : (v : View) → Steady l v → Wrote l [] v v
-  wrote_none v s = record { marks = []; walk = walked_none l v s; seen = refl; drawn = omega arith; claimed = refl; mine = refl; drafts = sym (append_nil (hand v).drafts); open_unit = refl }
+  wrote_none v s = record { marks = []; walk = walked_none l v s; seen = refl; run = (omega arith, omega arith); claimed = refl; mine = refl; drafts = sym (append_nil (hand v).drafts); open_unit = refl }
 
-  shut_by : (kind : StepKind) (f : Hand → Hand) (es : List Event) (v w : View) → looks kind ≡ true → (s : Steady l v) → (g : Grew kind f es v w) → Steady l w → (f (hand v)).trace ≡ (hand v).trace → (f (hand v)).number ≡ (hand v).number → (f (hand v)).drawn ≡ (hand v).drawn
+  shut_by : (kind : StepKind) (f : Hand → Hand) (es : List Event) (v w : View) → looks kind ≡ true → (s : Steady l v) → (g : Grew kind f es v w) → Steady l w → (f (hand v)).trace ≡ (hand v).trace → (f (hand v)).number ≡ (hand v).number → SameRun (hand v) (f (hand v))
       → (f (hand v)).claimed ≡ (hand v).claimed → (f (hand v)).mine ≡ (hand v).mine ++ es → (f (hand v)).drafts ≡ [] → (f (hand v)).open_unit ≡ None → Shut l 1 0 es v w
-  shut_by kind f es v w d s g steady t number drawn claimed mine drafts held = let x = grew_hand l kind f es v w s g in record {
+  shut_by kind f es v w d s g steady t number run claimed mine drafts held = let x = grew_hand l kind f es v w s g in record {
     marks = record { kind = kind; seen = w.seen } ∷ [];
     walk = grew_walked l kind f es v w s g d t number steady;
     before = v.seen ++ g.between;
     begins = (g.between, refl);
     ends = g.seen;
-    drawn = let d : (hand w).drawn ≡ (hand v).drawn = ap (λ (a : Hand). a.drawn) x ∙ drawn in omega arith;
+    run = let d : (hand w).next ≡ (hand v).next = ap (λ (a : Hand). a.next) x ∙ run.0 in let e : (hand w).left ≡ (hand v).left = ap (λ (a : Hand). a.left) x ∙ run.1 in (omega arith, omega arith);
     claimed = ap (λ (a : Hand). a.claimed) x ∙ claimed;
     mine = ap (λ (a : Hand). a.mine) x ∙ mine;
     drafts = ap (λ (a : Hand). a.drafts) x ∙ drafts;
     open_unit = ap (λ (a : Hand). a.open_unit) x ∙ held;
   }
 
-  pub shut_hit : (kind : StepKind) (e : Event) (v w : View) → looks kind ≡ true → (s : Steady l v) → pass_of e ≡ (hand v).number → ((x : Element) → In x (births e) → x.id < (hand v).number * l.rows + (hand v).drawn) → Grew kind (with_end e) (e ∷ []) v w → Shut l 1 0 (e ∷ []) v w
-  shut_hit kind e v w d s own below g = shut_by kind (with_end e) (e ∷ []) v w d s g (steady_own l kind (with_end e) e v w s g refl (omega arith) s.shows.within refl own below) refl refl refl refl refl refl refl
+  pub shut_hit : (kind : StepKind) (e : Event) (v w : View) → looks kind ≡ true → (s : Steady l v) → Grew kind (with_end e) (e ∷ []) v w → Shut l 1 0 (e ∷ []) v w
+  shut_hit kind e v w d s g = shut_by kind (with_end e) (e ∷ []) v w d s g (grew_steady l kind (with_end e) (e ∷ []) v w s g refl) refl refl (refl, refl) refl refl refl refl
 
   pub shut_miss : (kind : StepKind) (v w : View) → looks kind ≡ true → (s : Steady l v) → Grew kind with_lost [] v w → Shut l 1 0 [] v w
-  shut_miss kind v w d s g = shut_by kind with_lost [] v w d s g (steady_quiet l kind with_lost v w s g refl refl refl) refl refl refl refl (sym (append_nil (hand v).mine)) refl refl
+  shut_miss kind v w d s g = shut_by kind with_lost [] v w d s g (grew_steady l kind with_lost [] v w s g refl) refl refl (refl, refl) refl (sym (append_nil (hand v).mine)) refl refl
 
 pub other_abort : (c u : ℕ) (h : List Event) → end_of h u ≡ Some Aborted → ¬ (In (Abort c u) h) → EndedByOther c u h
 other_abort c u h lost not = let t = aborted_by h u lost in (t.0, t.1, λ same. not (subst (λ z. In (Abort z u) h) same t.1))
@@ -89,11 +90,11 @@ abort_ended u c h before is = some (end_of h u) (abort_ends h c u (subst (λ (z 
     some (Some x) not = (x, refl)
 
 -- a pass whose unit is closed
-pub shut_rests : (l : Limits) (n k : ℕ) (es : List Event) (seat next : SeatShown) (number drawn used drawn' : ℕ) (task : Option Task) → (view_of seat).limits ≡ l → Shut l n k es (view_of seat) (view_of next) → claims_in es ≡ 0 → drawn + k ≡ drawn' → Rests seat number drawn used task → Rests next number drawn' used None
-shut_rests l n k es seat next number drawn used drawn' task same t none more r = let w : View = view_of next in let lim : l ≡ w.limits = sym t.walk.steady.pass.1 in record {
+pub shut_rests : (l : Limits) (n k : ℕ) (es : List Event) (seat next : SeatShown) (number : ℕ) (run : Run) (used : ℕ) (run' : Run) (task : Option Task) → (view_of seat).limits ≡ l → Shut l n k es (view_of seat) (view_of next) → claims_in es ≡ 0 → run'.next ≡ run.next + k → run'.left + k ≡ run.left → Rests seat number run used task → Rests next number run' used None
+shut_rests l n k es seat next number run used run' task same t none more less r = let w : View = view_of next in let lim : l ≡ w.limits = sym t.walk.steady.pass.1 in record {
   steady = steady_at l w.limits w lim t.walk.steady;
   number_is = t.walk.number ∙ r.number_is;
-  drawn_is = t.drawn ∙ (ap (λ z. z + k) r.drawn_is ∙ more);
+  run_is = let a = t.run.0 in let b = t.run.1 in let c = r.run_is.0 in let d = r.run_is.1 in (omega arith, omega arith);
   used_is = t.claimed ∙ r.used_is;
   used_below = subst (λ (z : Limits). used ≤ z.units) (same ∙ lim) r.used_below;
   claims = ap claims_in t.mine ∙ (claims_append (hand (view_of seat)).mine es ∙ (let c = r.claims in omega arith));
@@ -102,12 +103,12 @@ shut_rests l n k es seat next number drawn used drawn' task same t none more r =
   work = tt;
 }
 
-pub shut_closes : (t t' : Spot) (v w : View) (old : PassShown) → shown t v ≡ old → (l : Limits) (n k u drawn : ℕ) (es : List Event) → Shut l n k es v w → (hand v).open_unit ≡ Some u → (how : UnitEnd) × (end_of w.seen u ≡ Some how) → old.drawn + k ≡ drawn → Closes u drawn old (shown t' w)
-shut_closes t t' v w old is l n k u drawn es sh held ended more = record {
+pub shut_closes : (t t' : Spot) (v w : View) (old : PassShown) → shown t v ≡ old → (l : Limits) (n k u : ℕ) (es : List Event) → Shut l n k es v w → (hand v).open_unit ≡ Some u → (how : UnitEnd) × (end_of w.seen u ≡ Some how) → Closes u k old (shown t' w)
+shut_closes t t' v w old is l n k u es sh held ended = record {
   was_open = sym (ap (λ (p : PassShown). p.open_unit) is) ∙ held;
   open_unit = sh.open_unit;
   ended = ended;
-  drawn_is = sh.drawn ∙ (ap (λ (p : PassShown). p.drawn + k) is ∙ more);
+  run = (sh.run.0 ∙ ap (λ (p : PassShown). p.next + k) is, sh.run.1 ∙ ap (λ (p : PassShown). p.left) is);
 }
 
 pub shut_adds : (t t' : Spot) (v w : View) (old : PassShown) → shown t v ≡ old → (l : Limits) (n k u : ℕ) → Shut l n k (Abort (hand v).number u ∷ []) v w → Adds (Abort old.number u) old (shown t' w)
@@ -124,7 +125,7 @@ wrote_shut l xs es v w y wr sh = record {
   before = sh.before;
   begins = begins_trans v.seen w.seen sh.before (walked_begins l _ wr.marks v w wr.walk) sh.begins;
   ends = sh.ends;
-  drawn = let a = sh.drawn in let b = wr.drawn in omega arith;
+  run = let a = sh.run.0 in let b = wr.run.0 in let c = sh.run.1 in let d = wr.run.1 in (omega arith, omega arith);
   claimed = sh.claimed ∙ wr.claimed;
   mine = sh.mine ∙ ap (λ z. z ++ es) wr.mine;
   drafts = sh.drafts;
@@ -136,17 +137,17 @@ pub outs_below : (u root i : ℕ) (ds : List DraftView) (x : Element) → In x (
 outs_below u root i [] x p = absurd (in_none p)
 outs_below u root i (d ∷ ds) x p = ⊎_elim (λ e. let at : x.id ≡ i = ap (λ (z : Element). z.id) e in omega arith) (λ q. let r = outs_below u root (i + 1) ds x q in omega arith) (in_cons p)
 
-pub outs_fit : (u root i : ℕ) (ds : List DraftView) (y : Element) → All HasStage ds → In y (outputs u root i ds) → IsOut u root y
-outs_fit u root i [] y staged p = absurd (in_none p)
-outs_fit u root i (d ∷ ds) y staged p =
-    ⊎_elim (λ e. subst (IsOut u root) (sym e) (All-head HasStage d ds staged, refl, refl)) (λ q. outs_fit u root (i + 1) ds y (All-tail HasStage d ds staged) q) (in_cons p)
+pub outs_fit : (u root i : ℕ) (ds : List DraftView) (y : Element) → All IsWhole ds → In y (outputs u root i ds) → IsOut u root y
+outs_fit u root i [] y whole p = absurd (in_none p)
+outs_fit u root i (d ∷ ds) y whole p =
+    ⊎_elim (λ e. subst (IsOut u root) (sym e) ((All-head IsWhole d ds whole).0, refl, refl, (All-head IsWhole d ds whole).1)) (λ q. outs_fit u root (i + 1) ds y (All-tail IsWhole d ds whole) q) (in_cons p)
 
 pub outs_first : (u root i : ℕ) (ds : List DraftView) (f : ℕ) → (0 < length ds → f ≡ i) → (length ds ≡ 0 → f ≡ 0) → f ≡ first_id (outputs u root i ds)
 outs_first u root i [] f a b = b refl
 outs_first u root i (d ∷ ds) f a b = a (omega arith)
 
 -- the unit with its drafts written
-module _ (l : Limits) (v w : View) (number drawn used row : ℕ) (t : Task) (ds : List DraftView) (seat : SeatShown) (same : view_of seat ≡ v) (r : Rests seat number drawn used (Some t)) (next : row ≡ number * l.rows + drawn) (wr : Wrote l (outputs t.unit t.root row ds) v w) where
+module _ (l : Limits) (v w : View) (number : ℕ) (run : Run) (used row : ℕ) (t : Task) (ds : List DraftView) (seat : SeatShown) (same : view_of seat ≡ v) (r : Rests seat number run used (Some t)) (next : row ≡ run.next) (wr : Wrote l (outputs t.unit t.root row ds) v w) where
   outs_are : (hand w).drafts ≡ outputs t.unit t.root row ds
   outs_are = wr.drafts ∙ ap (λ z. z ++ outputs t.unit t.root row ds) (subst (λ (z : View). (hand z).drafts ≡ []) same r.no_drafts)
 
@@ -162,29 +163,25 @@ module _ (l : Limits) (v w : View) (number drawn used row : ℕ) (t : Task) (ds 
   own_number : (hand v).number ≡ number
   own_number = subst (λ (z : View). (hand z).number ≡ number) same r.number_is
 
-  own_drawn : (hand v).drawn ≡ drawn
-  own_drawn = subst (λ (z : View). (hand z).drawn ≡ drawn) same r.drawn_is
+  own_next : (hand v).next ≡ run.next
+  own_next = subst (λ (z : View). (hand z).next ≡ run.next) same r.run_is.0
 
-  pub own_work : All HasStage ds → IsOwnWork w t.unit
-  own_work staged = let k = own_task in record {
+  pub own_work : All IsWhole ds → IsOwnWork w t.unit
+  own_work whole = let k = own_task in record {
     taking = record { pass = number; item = k.0; attempt = k.1 };
     claimed = ap (λ z. claim_of z t.unit) wr.seen ∙ k.3;
     own = sym (wr.walk.number ∙ own_number);
     item = k.2;
     taken = ap (λ z. element_of z k.0) wr.seen ∙ k.4;
-    outputs = λ y p. subst (λ z. IsOut t.unit z y) (sym k.5) (outs_fit t.unit t.root row ds y staged (subst (λ (xs : List Element). In y xs) outs_are p));
+    outputs = λ y p. subst (λ z. IsOut t.unit z y) (sym k.5) (outs_fit t.unit t.root row ds y whole (subst (λ (xs : List Element). In y xs) outs_are p));
   }
 
-  pub own_below : (x : Element) → In x (hand w).drafts → x.id < (hand w).number * l.rows + (hand w).drawn
-  own_below x p = let b = outs_below t.unit t.root row ds x (subst (λ (xs : List Element). In x xs) outs_are p) in let n : (hand w).number * l.rows ≡ number * l.rows = ap (λ z. z * l.rows) (wr.walk.number ∙ own_number) in
-      let d = wr.drawn in let e = own_drawn in let c = length-outputs t.unit t.root row ds in omega arith
+  pub row_is : row ≡ (hand v).next
+  row_is = next ∙ sym own_next
 
-  pub committed_is : v.limits ≡ l → committed w t.unit ≡ Commit (hand v).number t.unit (outputs t.unit t.root ((hand v).number * v.limits.rows + (hand v).drawn) ds)
-  committed_is lim = let outs : (hand w).drafts ≡ outputs t.unit t.root ((hand v).number * v.limits.rows + (hand v).drawn) ds = outs_are ∙ ap (λ z. outputs t.unit t.root z ds) (next ∙ (λ i. sym own_number i * (sym lim i).rows + sym own_drawn i)) in
+  pub committed_is : committed w t.unit ≡ Commit (hand v).number t.unit (outputs t.unit t.root (hand v).next ds)
+  committed_is = let outs : (hand w).drafts ≡ outputs t.unit t.root (hand v).next ds = outs_are ∙ ap (λ z. outputs t.unit t.root z ds) row_is in
       (λ i. Commit (wr.walk.number i) t.unit (outs i))
-
-  pub row_is : v.limits ≡ l → row ≡ (hand v).number * v.limits.rows + (hand v).drawn
-  row_is lim = next ∙ (λ i. sym own_number i * (sym lim i).rows + sym own_drawn i)
 
 pub outs_next : (u root id : ℕ) (ds : List DraftView) (i : ℕ) (d : DraftView) → i < length ds → d ≡ slice_index_or ds i d → outputs u root id (take (i + 1) ds) ≡ outputs u root id (take i ds) ++ output u root (id + i) d ∷ []
 outs_next u root id ds i d less is = let one : i + 1 ≡ suc i = omega arith in ap (λ n. outputs u root id (take n ds)) one ∙ outputs_more u root id ds i d less is
@@ -216,23 +213,23 @@ commit_consumes l c u h before outs legal is = let whole = subst (IsLegal l) is 
     )
 
 -- the answer of a commit that was made
-pub committed_answer : (t t' : Spot) (l : Limits) (v w y : View) (old : PassShown) → shown t v ≡ old → (number drawn used row : ℕ) (k : Task) (ds : List DraftView) (seat : SeatShown) → view_of seat ≡ v → Rests seat number drawn used (Some k) → row ≡ number * l.rows + drawn
+pub committed_answer : (t t' : Spot) (l : Limits) (v w y : View) (old : PassShown) → shown t v ≡ old → (number : ℕ) (run : Run) (used row : ℕ) (k : Task) (ds : List DraftView) (seat : SeatShown) → view_of seat ≡ v → Rests seat number run used (Some k) → row ≡ run.next
     → Wrote l (outputs k.unit k.root row ds) v w → v.limits ≡ l → (hand v).open_unit ≡ Some k.unit → (f n : ℕ) → Shut l n (length ds) (committed w k.unit ∷ []) v y → (0 < length ds → f ≡ row) → (length ds ≡ 0 → f ≡ 0) → Commits f (length ds) ds old (shown t' y)
-committed_answer t t' l v w y old is number drawn used row k ds seat same r next wr lim held f n sh a b =
-    let e = committed_is l v w number drawn used row k ds seat same r next wr lim in
+committed_answer t t' l v w y old is number run used row k ds seat same r next wr lim held f n sh a b =
+    let e = committed_is l v w number run used row k ds seat same r next wr in
     let work : IsTask v.seen number (Some k) = subst (λ (z : View). IsTask z.seen number (Some k)) same r.work in
     let num : (hand v).number ≡ number = subst (λ (z : View). (hand z).number ≡ number) same r.number_is in
     subst (λ (p : PassShown). Commits f (length ds) ds p (shown t' y)) is record {
       unit = k.unit;
       root = k.root;
       root_is = (work.0, work.1, work.2, subst (λ c. IsClaim v.seen c k.unit work.0 work.1) (sym num) work.3, work.4, work.5);
-      closes = record { was_open = held; open_unit = sh.open_unit; ended = commit_ended (hand w).number k.unit y.seen sh.before (hand w).drafts sh.ends; drawn_is = sh.drawn };
+      closes = record { was_open = held; open_unit = sh.open_unit; ended = commit_ended (hand w).number k.unit y.seen sh.before (hand w).drafts sh.ends; run = sh.run };
       adds = record { mine = sh.mine ∙ ap (λ z. (hand v).mine ++ z ∷ []) e; before = sh.before; seen = sh.ends ∙ ap (λ z. sh.before ++ z ∷ []) e; begins = sh.begins };
       consumed = subst (λ (z : Limits). HasConsumed z (hand v).number k.unit y.seen) (sym lim) (subst (λ c. HasConsumed l c k.unit y.seen) wr.walk.number (commit_consumes l (hand w).number k.unit y.seen sh.before (hand w).drafts sh.walk.steady.shows.legal sh.ends));
-      first_is = outs_first k.unit k.root row ds f a b ∙ ap (λ z. first_id (outputs k.unit k.root z ds)) (row_is l v w number drawn used row k ds seat same r next wr lim);
+      first_is = outs_first k.unit k.root row ds f a b ∙ ap (λ z. first_id (outputs k.unit k.root z ds)) (row_is l v w number run used row k ds seat same r next wr);
       count_is = refl;
     }
 
 -- what a closed unit leaves
-pub closed_ended : (u drawn : ℕ) (old new : PassShown) → Closes u drawn old new → IfSome old.open_unit (HasEnded new.seen)
-closed_ended u drawn old new k = subst (λ o. IfSome o (HasEnded new.seen)) (sym k.was_open) k.ended
+pub closed_ended : (u k : ℕ) (old new : PassShown) → Closes u k old new → IfSome old.open_unit (HasEnded new.seen)
+closed_ended u k old new closed = subst (λ o. IfSome o (HasEnded new.seen)) (sym closed.was_open) closed.ended

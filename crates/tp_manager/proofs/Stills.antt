@@ -56,24 +56,24 @@ none_beyond l c out h (e ∷ m) legal =
     ap (λ b. cond b (e ∷ events_by c m) (events_by c m)) (ne_eqb (pass_of e) c other) ∙ none_beyond l c out (h ++ e ∷ []) m (subst (IsLegal l) (sym (append_assoc h (e ∷ []) m)) legal)
 
 -- each of so many passes that have done nothing but look is among them
-fresh_in : (a n c : ℕ) (hs : List Hand) → untraced hs ≡ fresh_from a n → a ≤ c → c < a + n → (x : Hand) × In x hs × (x.number ≡ c) × (x.mine ≡ [])
-fresh_in a zero c hs is low high = absurd (omega arith)
-fresh_in a (suc n) c [] is low high = absurd cc
-fresh_in a (suc n) c (x ∷ hs) is low high =
+fresh_in : (l : Limits) (a n c : ℕ) (hs : List Hand) → untraced hs ≡ fresh_from l a n → a ≤ c → c < a + n → (x : Hand) × In x hs × (x.number ≡ c) × (x.mine ≡ [])
+fresh_in l a zero c hs is low high = absurd (omega arith)
+fresh_in l a (suc n) c [] is low high = absurd cc
+fresh_in l a (suc n) c (x ∷ hs) is low high =
     dite (ℕ_discrete a c)
     (λ same. (x, here, number x hs is ∙ same, mine x hs is))
-    (λ other. let t = fresh_in (a + 1) n c hs (rest x hs is) (omega arith) (omega arith) in (t.0, there t.1, t.2, t.3))
+    (λ other. let t = fresh_in l (a + 1) n c hs (rest x hs is) (omega arith) (omega arith) in (t.0, there t.1, t.2, t.3))
   where
-    number : (x : Hand) (hs : List Hand) → untraced (x ∷ hs) ≡ fresh a ∷ fresh_from (a + 1) n → x.number ≡ a
+    number : (x : Hand) (hs : List Hand) → untraced (x ∷ hs) ≡ fresh l a ∷ fresh_from l (a + 1) n → x.number ≡ a
     number x hs e = ap (λ zs. (first_hand zs).number) e
 
-    mine : (x : Hand) (hs : List Hand) → untraced (x ∷ hs) ≡ fresh a ∷ fresh_from (a + 1) n → x.mine ≡ []
+    mine : (x : Hand) (hs : List Hand) → untraced (x ∷ hs) ≡ fresh l a ∷ fresh_from l (a + 1) n → x.mine ≡ []
     mine x hs e = ap (λ zs. (first_hand zs).mine) e
 
-    rest : (x : Hand) (hs : List Hand) → untraced (x ∷ hs) ≡ fresh a ∷ fresh_from (a + 1) n → untraced hs ≡ fresh_from (a + 1) n
+    rest : (x : Hand) (hs : List Hand) → untraced (x ∷ hs) ≡ fresh l a ∷ fresh_from l (a + 1) n → untraced hs ≡ fresh_from l (a + 1) n
     rest x hs e = ap rest_of e
 
 -- none of them has an event in what they have seen
-pub none_of_fresh : (l : Limits) (given : ℕ) (h : List Event) (hs : List Hand) → given ≤ l.parts → untraced hs ≡ fresh_from given (l.parts - given) → ((a : Hand) → In a hs → a.mine ≡ events_by a.number h) → (c : ℕ) → given ≤ c → c < l.parts → events_by c h ≡ []
-none_of_fresh l given h hs below is mine c low high = let t = fresh_in given (l.parts - given) c hs is low (omega arith) in
+pub none_of_fresh : (l : Limits) (given : ℕ) (h : List Event) (hs : List Hand) → given ≤ l.parts → untraced hs ≡ fresh_from l given (l.parts - given) → ((a : Hand) → In a hs → a.mine ≡ events_by a.number h) → (c : ℕ) → given ≤ c → c < l.parts → events_by c h ≡ []
+none_of_fresh l given h hs below is mine c low high = let t = fresh_in l given (l.parts - given) c hs is low (omega arith) in
     ap (λ n. events_by n h) (sym t.2) ∙ (sym (mine t.0 t.1) ∙ t.3)

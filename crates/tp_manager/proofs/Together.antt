@@ -8,7 +8,7 @@ use Rattle.tp_model.specs.declared.types.Limits.{Limits}
 use Rattle.tp_model.specs.declared.event.Event.{Event}
 use Rattle.tp_model.specs.declared.trace.StepKind.TheVariants as kinds
 use Rattle.tp_model.specs.History.{In, here, there, events_by}
-use Rattle.tp_model.specs.Passes.{IsOwnOpen}
+use Rattle.tp_model.specs.Passes.{IsOwnOpen, IsRun}
 use Rattle.tp_model.specs.Steps.{IsLegal}
 use Rattle.tp_model.proofs.Bridges.{begins_refl, begins_trans, in_left, in_right}
 use Rattle.tp_rule.specs.Views.{HasPass, IsOnePass, first_hand, hand}
@@ -60,6 +60,9 @@ module _ (l : Limits) (v o j m w x : View) (sv : Steady l v) (join : j ≡ joine
   met_open : (a : Hand) → In a m.hands → (u : ℕ) → a.open_unit ≡ Some u → IsOwnOpen w.seen a.number u
   met_open a p u is = subst (λ h. IsOwnOpen h a.number u) (sym first_seen) (g.open_own a p u is)
 
+  met_run : (a : Hand) → In a m.hands → IsRun l w.seen a.number a.next a.left
+  met_run a p = subst (λ h. IsRun l h a.number a.next a.left) (sym first_seen) (subst (λ (z : Limits). IsRun z m.seen a.number a.next a.left) (ap (λ (z : View). z.limits) join ∙ sv.pass.1) (g.run a p))
+
   in_others : (a : Hand) → In a x.hands → In a m.hands
   in_others a p = subst (In a) (sym met_hands) (there (subst (In a) second_hands p))
 
@@ -83,7 +86,7 @@ module _ (l : Limits) (v o j m w x : View) (sv : Steady l v) (join : j ≡ joine
       (subst (λ (z : Limits). IsLegal z w.seen) (ap (λ (z : View). z.limits) join ∙ sv.pass.1) (subst (IsLegal j.limits) (sym first_seen) g.legal)) met_begins
       (ap (λ (a : Hand). a.mine) h ∙ (met_mine A A_in ∙ ap (λ (a : Hand). events_by a.number w.seen) (sym h)))
       (λ u is. subst (λ (a : Hand). IsOwnOpen w.seen a.number u) (sym h) (met_open A A_in u (sym (ap (λ (a : Hand). a.open_unit) h) ∙ is)))
-      (ap (λ (a : Hand). a.number) h) (ap (λ (a : Hand). a.drawn) h) (ap (λ (a : Hand). a.mine) h) (λ p n q. met_low p n (subst (λ (u : View). Knows u (PartMark p n)) first q))
+      (ap (λ (a : Hand). a.number) h) (subst (λ (a : Hand). IsRun l w.seen a.number a.next a.left) (sym h) (met_run A A_in)) (λ p n q. met_low p n (subst (λ (u : View). Knows u (PartMark p n)) first q))
 
   met_trace : (hand w).trace ≡ (hand v).trace ++ seat_load v.seen ∷ load w.seen ∷ seat_load w.seen ∷ []
   met_trace = ap (λ (a : Hand). a.trace) first_is ∙ (append_assoc ((hand v).trace ++ seat_load v.seen ∷ []) (load m.seen ∷ []) (seat_load m.seen ∷ []) ∙ (append_assoc (hand v).trace (seat_load v.seen ∷ []) (load m.seen ∷ seat_load m.seen ∷ [])
@@ -106,6 +109,7 @@ module _ (l : Limits) (v o j m w x : View) (sv : Steady l v) (join : j ≡ joine
     hands = second_hands ∙ ap (λ h. map (noted kinds.Load h) o.hands) (sym first_seen);
     mine = λ a p. met_mine a (in_others a p);
     open_own = λ a p u is. met_open a (in_others a p) u is;
+    run = λ a p. met_run a (in_others a p);
     low = λ p n q. subst (λ h. IsLow l h p n) (first_seen ∙ sym (ap (λ (z : View). z.seen) second)) (met_low p n (subst (λ (u : View). Knows u (PartMark p n)) second q));
     knows = λ z q. subst (λ (u : View). Knows u z) (sym second) (met_knows z (in_right v.known q));
   }
@@ -154,7 +158,7 @@ module _ (l : Limits) (p q r s t o x : View) (h g : List Event) (sp : Steady l p
   t_steady = let k = t_is in steady_seen l p t sp (t_hands ∙ ap (λ (a : Hand). a ∷ []) (sym k)) (ap (λ (z : View). z.limits) first ∙ look.limits) (subst (IsLegal l) (sym t_seen) legal) t_begins
       (ap (λ (a : Hand). a.mine) k ∙ (look.mine N N_in ∙ (ap (events_by N.number) (sym t_seen) ∙ ap (λ (a : Hand). events_by a.number t.seen) (sym k))))
       (λ u is. subst (λ (a : Hand). IsOwnOpen t.seen a.number u) (sym k) (subst (λ z. IsOwnOpen z N.number u) (sym t_seen) (look.open_own N N_in u (sym (ap (λ (a : Hand). a.open_unit) k) ∙ is))))
-      (ap (λ (a : Hand). a.number) k) (ap (λ (a : Hand). a.drawn) k) (ap (λ (a : Hand). a.mine) k) (λ c n i. let e = first in subst (λ z. IsLow l z c n) (look.seen ∙ sym t_seen) (look.low c n (subst (λ (u : View). Knows u (PartMark c n)) first i)))
+      (ap (λ (a : Hand). a.number) k) (subst (λ (a : Hand). IsRun l t.seen a.number a.next a.left) (sym k) (subst (λ z. IsRun l z N.number N.next N.left) (sym t_seen) (look.run N N_in))) (λ c n i. let e = first in subst (λ z. IsLow l z c n) (look.seen ∙ sym t_seen) (look.low c n (subst (λ (u : View). Knows u (PartMark c n)) first i)))
 
   all_known : (z : Known) → In z (q.known ++ o.known) → Knows s z
   all_known z i = look.knows z (subst (λ (u : View). Knows u z) (sym join) i)
@@ -184,6 +188,7 @@ module _ (l : Limits) (p q r s t o x : View) (h g : List Event) (sp : Steady l p
     hands = x_hands;
     mine = λ a i. look.mine a (in_rest a i);
     open_own = λ a i u is. look.open_own a (in_rest a i) u is;
+    run = λ a i. look.run a (in_rest a i);
     low = λ c n i. subst (λ z. IsLow l z c n) (sym (ap (λ (z : View). z.seen) second)) (look.low c n (subst (λ (u : View). Knows u (PartMark c n)) second i));
     knows = λ z i. subst (λ (u : View). Knows u z) (sym second) (all_known z (in_right q.known i));
   }

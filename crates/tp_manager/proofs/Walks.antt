@@ -1,16 +1,14 @@
 -- What a step leaves of the view, and what the steps of two parts of a call leave.
-use Rattle.std.proofs.Common.{◌≡◌, ℕ, ◌+◌, ◌*◌, ◌<◌, ◌≤◌, Some, true, List, [], ◌∷◌, ◌++◌, length, slice_index, drop, sym, refl, ap, ◌∙◌, subst, arith, append_assoc, length-append}
+use Rattle.std.proofs.Common.{◌≡◌, ℕ, ◌+◌, ◌<◌, ◌≤◌, Some, true, List, [], ◌∷◌, ◌++◌, length, slice_index, drop, sym, refl, ap, ◌∙◌, subst, arith, append_assoc, length-append}
 use mathlib.Core.List.{IsPrefix}
-use Rattle.tp_model.specs.declared.types.Element.{Element}
 use Rattle.tp_model.specs.declared.types.Limits.{Limits}
 use Rattle.tp_model.specs.declared.event.Event.{Event}
 use Rattle.tp_model.specs.declared.trace.StepKind.{StepKind}
 use Rattle.tp_model.specs.declared.trace.TraceEntry.{TraceEntry}
-use Rattle.tp_model.specs.History.{In, here, births, IsUnborn, pass_of, events_by}
+use Rattle.tp_model.specs.History.{In, here, events_by}
 use Rattle.tp_model.specs.Steps.{IsLegal}
-use Rattle.tp_model.specs.Passes.{HasLook, IsOwnOpen, IsPassView, IsPoint, looks, opening_of}
-use Rattle.tp_model.proofs.Histories.{legal_start}
-use Rattle.tp_model.proofs.Bridges.{append_nil, begins_refl, begins_trans, by_own, unborn_still}
+use Rattle.tp_model.specs.Passes.{HasLook, IsOwnOpen, IsPassView, IsPoint, IsRun, looks, opening_of}
+use Rattle.tp_model.proofs.Bridges.{append_nil, begins_refl, begins_trans}
 use Rattle.tp_rule.specs.Views.{IsOnePass, hand}
 use Rattle.tp_rule.specs.Steps.{Grew, IsLow, noted, unchanged}
 use Rattle.tp_rule.specs.declared.view.Hand.{Hand}
@@ -21,7 +19,6 @@ use Rattle.tp_manager.specs.Calls.{Follows, AtPoint, HasLooked, steps_of, openin
 use Rattle.tp_manager.specs.Shown.{Rises, Spot, PassShown, shown}
 use Rattle.tp_manager.specs.Walks.{Remembers, Steady, Walked, Looked, Acted, Sought, pass_in, with_trace}
 use Rattle.tp_manager.proofs.Points.{opening_one, opening_later, opening_kept, opens_later, has_more, drop_steps}
-use Rattle.tp_manager.proofs.Rows.{unborn_quiet}
 
 module _ (l : Limits) (kind : StepKind) (f : Hand → Hand) (es : List Event) (v w : View) (s : Steady l v) (g : Grew kind f es v w) where
   pub grew_one : IsOnePass w × (hand w ≡ noted kind w.seen (f (hand v))) × (w.limits ≡ v.limits)
@@ -42,16 +39,17 @@ module _ (l : Limits) (kind : StepKind) (f : Hand → Hand) (es : List Event) (v
   grew_open : (u : ℕ) → (hand w).open_unit ≡ Some u → IsOwnOpen w.seen (hand w).number u
   grew_open = g.open_own (hand w) (subst (λ (hs : List Hand). In (hand w) hs) (sym grew_one.0) here)
 
-  grew_steady : (f (hand v)).number ≡ (hand v).number → (f (hand v)).drawn ≤ l.rows
-      → ((i : ℕ) → (hand w).number * l.rows + (hand w).drawn ≤ i → i < (hand w).number * l.rows + l.rows → IsUnborn w.seen i) → Steady l w
-  grew_steady number room un = let h = grew_hand in record {
+  grew_run : IsRun l w.seen (hand w).number (hand w).next (hand w).left
+  grew_run = subst (λ (z : Limits). IsRun z w.seen (hand w).number (hand w).next (hand w).left) s.pass.1 (g.run (hand w) (subst (λ (hs : List Hand). In (hand w) hs) (sym grew_one.0) here))
+
+  pub grew_steady : (f (hand v)).number ≡ (hand v).number → Steady l w
+  grew_steady number = let h = grew_hand in record {
     pass = (grew_one.0, grew_one.2 ∙ s.pass.1);
     shows = record {
       given = subst (λ n. n < l.parts) (sym (ap (λ (a : Hand). a.number) h ∙ number)) s.shows.given;
       legal = grew_legal;
       own = grew_own;
-      within = subst (λ n. n ≤ l.rows) (sym (ap (λ (a : Hand). a.drawn) h)) room;
-      unborn = un;
+      run = grew_run;
       open_own = grew_open;
     };
     low = λ p n q. subst (λ (z : Limits). IsLow z w.seen p n) s.pass.1 (g.marks p n q);
@@ -67,39 +65,6 @@ module _ (l : Limits) (kind : StepKind) (f : Hand → Hand) (es : List Event) (v
     steady = steady;
     knows = g.knows;
   }
-
--- a step without an event
-pub steady_quiet : (l : Limits) (kind : StepKind) (f : Hand → Hand) (v w : View) → Steady l v → Grew kind f [] v w → (f (hand v)).number ≡ (hand v).number → (f (hand v)).drawn ≡ (hand v).drawn → (f (hand v)).mine ≡ (hand v).mine → Steady l w
-steady_quiet l kind f v w s g number drawn mine =
-    let h = grew_hand l kind f [] v w s g in
-    let c : (hand w).number ≡ (hand v).number = ap (λ (a : Hand). a.number) h ∙ number in
-    let d : (hand w).drawn ≡ (hand v).drawn = ap (λ (a : Hand). a.drawn) h ∙ drawn in
-    let m : events_by (hand v).number w.seen ≡ events_by (hand v).number v.seen = ap (λ n. events_by n w.seen) (sym c) ∙ (sym (grew_own l kind f [] v w s g) ∙ (ap (λ (a : Hand). a.mine) h ∙ (mine ∙ s.shows.own))) in
-    let few : length (events_by (hand v).number w.seen) ≤ length (events_by (hand v).number v.seen) = let e = ap length m in omega arith in
-    grew_steady l kind f [] v w s g number (subst (λ n. n ≤ l.rows) (sym drawn) s.shows.within)
-    (λ i low high. let low' : (hand v).number * l.rows + (hand v).drawn ≤ i = subst (λ n. n * l.rows + (hand v).drawn ≤ i) c (subst (λ n. (hand w).number * l.rows + n ≤ i) d low) in
-    let high' : i < (hand v).number * l.rows + l.rows = subst (λ n. i < n * l.rows + l.rows) c high in
-    unborn_quiet l (hand v).number i (s.shows.given, omega arith, high') v.seen (s.shows.unborn i low' high') w.seen (grew_legal l kind f [] v w s g) (grew_seen l kind f [] v w s g) few)
-
--- a step with an event of the pass, which bears nothing in the rows that the pass has not used then
-pub steady_own : (l : Limits) (kind : StepKind) (f : Hand → Hand) (e : Event) (v w : View) → Steady l v → Grew kind f (e ∷ []) v w → (f (hand v)).number ≡ (hand v).number
-    → (hand v).drawn ≤ (f (hand v)).drawn → (f (hand v)).drawn ≤ l.rows → (f (hand v)).mine ≡ (hand v).mine ++ e ∷ [] → pass_of e ≡ (hand v).number
-    → ((x : Element) → In x (births e) → x.id < (hand v).number * l.rows + (f (hand v)).drawn) → Steady l w
-steady_own l kind f e v w s g number more room mine own below =
-    let h = grew_hand l kind f (e ∷ []) v w s g in
-    let k : ℕ = (hand v).number in
-    let p : List Event = v.seen ++ g.between in
-    let c : (hand w).number ≡ k = ap (λ (a : Hand). a.number) h ∙ number in
-    let d : (hand w).drawn ≡ (f (hand v)).drawn = ap (λ (a : Hand). a.drawn) h in
-    let legal : IsLegal l (p ++ e ∷ []) = subst (IsLegal l) g.seen (grew_legal l kind f (e ∷ []) v w s g) in
-    let m : events_by k p ++ e ∷ [] ≡ events_by k v.seen ++ e ∷ [] = sym (by_own k p e own) ∙ (ap (events_by k) (sym g.seen) ∙ (ap (λ n. events_by n w.seen) (sym c) ∙ (sym (grew_own l kind f (e ∷ []) v w s g) ∙ (ap (λ (a : Hand). a.mine) h ∙ (mine ∙ ap (λ z. z ++ e ∷ []) s.shows.own))))) in
-    let few : length (events_by k p) ≤ length (events_by k v.seen) = (let q = ap length m in let a = length-append (events_by k p) (e ∷ []) in let b = length-append (events_by k v.seen) (e ∷ []) in omega arith) in
-    grew_steady l kind f (e ∷ []) v w s g number room
-    (λ i low high. let low' : k * l.rows + (f (hand v)).drawn ≤ i = subst (λ n. n * l.rows + (f (hand v)).drawn ≤ i) c (subst (λ n. (hand w).number * l.rows + n ≤ i) d low) in
-    let high' : i < k * l.rows + l.rows = subst (λ n. i < n * l.rows + l.rows) c high in
-    subst (λ z. IsUnborn z i) (sym g.seen)
-    (unborn_still p e i (unborn_quiet l k i (s.shows.given, omega arith, high') v.seen (s.shows.unborn i (omega arith) high') p (legal_start l p (e ∷ []) legal) (g.between, refl) few)
-    (λ x q same. let b = below x q in let z : x.id ≡ i = same in omega arith)))
 
 module _ (l : Limits) where
   pub walked_none : (v : View) → Steady l v → Walked l 0 [] v v
@@ -135,7 +100,7 @@ module _ (l : Limits) where
   pub acted_by : (kind : StepKind) (v w : View) → Steady l v → looks kind ≡ true → Grew kind unchanged [] v w → Acted l 1 v w
   acted_by kind v w s d g = record {
     marks = record { kind = kind; seen = w.seen } ∷ [];
-    walk = grew_walked l kind unchanged [] v w s g d refl refl (steady_quiet l kind unchanged v w s g refl refl refl);
+    walk = grew_walked l kind unchanged [] v w s g d refl refl (grew_steady l kind unchanged [] v w s g refl);
     kept = let e = grew_hand l kind unchanged [] v w s g in e ∙ ap (λ t. with_trace t (hand v)) (sym (ap (λ (a : Hand). a.trace) e));
     step = (record { kind = kind; seen = w.seen }, here, d);
   }

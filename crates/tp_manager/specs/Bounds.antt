@@ -3,11 +3,11 @@ use Rattle.std.specs.Prelude.{ℕ, zero, suc, ◌+◌, ◌-◌, ◌*◌, ◌≤�
 use Rattle.tp_model.specs.declared.types.Limits.{Limits}
 use Rattle.tp_model.specs.Steps.{AreLimits, rows_of, tries, changes}
 use Rattle.tp_model.specs.Words.{ClaimWord, FreeWord, TakenWord, KilledWord, AgainWord}
-use Rattle.tp_model.specs.declared.types.TheConstants.{MOST_ROUNDS}
+use Rattle.tp_model.specs.declared.types.TheConstants.{BODY_WORDS, MOST_ROUNDS}
 
--- the key and the amount of an element
+-- the words of an element's body
 abbrev pub body_steps : ℕ
-body_steps = 2
+body_steps = BODY_WORDS
 
 -- a client's element: its body, and its head
 abbrev pub submit_steps : ℕ
@@ -151,16 +151,16 @@ account_steps l n = first_steps l n + 2 * led_steps * (n - 1) + kept_steps * (l.
 
 -- the bounds as round numbers over the limits
 pub record RoundBounds (l : Limits) : Type 0 where
-  pub submit : submit_steps ≤ 4
-  pub claim : claim_steps l ≤ rows_of l * (2 * changes l.attempts + 9) + 2 * l.parts + 1
-  pub claim_left : (lows : List ℕ) → claim_steps_left l lows ≤ (rows_of l - low_sum lows l.parts) * (2 * changes l.attempts + 9) + 2 * l.parts + 1
+  pub submit : submit_steps ≤ 6
+  pub claim : claim_steps l ≤ rows_of l * (2 * changes l.attempts + 11) + 2 * l.parts + 1
+  pub claim_left : (lows : List ℕ) → claim_steps_left l lows ≤ (rows_of l - low_sum lows l.parts) * (2 * changes l.attempts + 11) + 2 * l.parts + 1
   pub listing_left : (lows : List ℕ) → listing_steps_left l lows ≤ (rows_of l - low_sum lows l.parts) * (2 * changes l.attempts + 8) + l.parts
-  pub commit : (k : ℕ) → commit_steps k ≤ 4 * k + 3
+  pub commit : (k : ℕ) → commit_steps k ≤ 6 * k + 3
   pub abort : abort_steps ≤ 2
   pub kill : kill_steps l ≤ 4 * changes l.attempts + 8
   pub requeue : requeue_steps ≤ 8
   pub cancel : 1 ≤ rows_of l → cancel_steps l ≤ (rows_of l + 2) * (rows_of l * (4 * changes l.attempts + 12) + 2 * l.parts + 1)
-  pub read : read_steps l ≤ 2 * changes l.attempts + 8
+  pub read : read_steps l ≤ 2 * changes l.attempts + 10
   pub reply : reply_steps l ≤ rows_of l * (2 * changes l.attempts + 8) + l.parts
   pub next_error : next_error_steps l ≤ rows_of l * (2 * changes l.attempts + 8) + l.parts
   pub meet : meet_steps ≤ 3

@@ -55,11 +55,19 @@ HasLooked old new = HasLook (steps_of old new)
 abbrev pub AtPoint : PassShown → PassShown → (List Event → Type 0) → Type 0
 AtPoint old new Holds = (point : List Event) × IsPoint (opening old new) new.seen point × Holds point
 
+-- the pass has used none of the rows that are left to it
+abbrev pub KeepsRun : PassShown → PassShown → Type 0
+KeepsRun old new = (new.next ≡ old.next) × (new.left ≡ old.left)
+
+-- the pass has used k of them
+abbrev pub UsesRows : ℕ → PassShown → PassShown → Type 0
+UsesRows k old new = (new.next ≡ old.next + k) × (new.left + k ≡ old.left)
+
 -- the pass made no event, its open unit is the same, and it has used no row
 pub record IsQuiet (old new : PassShown) : Type 0 where
   pub mine : new.mine ≡ old.mine
   pub open_unit : new.open_unit ≡ old.open_unit
-  pub drawn : new.drawn ≡ old.drawn
+  pub run : KeepsRun old new
 
 -- the pass made this event, which is the last that it has seen
 pub record Adds (e : Event) (old new : PassShown) : Type 0 where
@@ -77,19 +85,18 @@ abbrev pub Reads : Limits → ℕ → PassShown → PassShown → Look → Type 
 Reads l id old new look = AtPoint old new (IsLook l id look) × (element_of new.seen id ≡ Some look.element)
 
 -- the pass has used its next row for a client's element, which is born
-pub record Submits (id stage key amount : ℕ) (old new : PassShown) : Type 0 where
+pub record Submits (id stage : ℕ) (body : List ℕ) (old new : PassShown) : Type 0 where
   pub stage_is : IsServerStage stage
-  pub room : old.drawn < old.limits.rows
-  pub id_is : id ≡ old.number * old.limits.rows + old.drawn
-  pub adds : Adds (Enqueue old.number (request id stage key amount)) old new
-  pub is_born : element_of new.seen id ≡ Some (request id stage key amount)
+  pub id_is : id ≡ old.next
+  pub adds : Adds (Enqueue old.number (request id stage body)) old new
+  pub is_born : element_of new.seen id ≡ Some (request id stage body)
   pub open_unit : new.open_unit ≡ old.open_unit
-  pub drawn : new.drawn ≡ old.drawn + 1
+  pub run : UsesRows 1 old new
 
--- why a submit was refused: the stage is no server's, or else the pass has used its rows
+-- why a submit was refused: the stage is no server's, or else no row is left to the pass
 abbrev pub SubmitRefused : ℕ → PassShown → Refusal → Type 0
 SubmitRefused stage old e = ((e ≡ refusals.BadStage) × ¬ IsServerStage stage)
-    ⊎ ((e ≡ refusals.Full) × IsServerStage stage × (old.drawn ≡ old.limits.rows))
+    ⊎ ((e ≡ refusals.Full) × IsServerStage stage × (old.left ≡ 0))
 
 -- how many claims there are among the events
 abbrev pub one_claim : Event → ℕ
@@ -119,7 +126,7 @@ pub record Takes (l : Limits) (stage : ℕ) (work : Work) (old new : PassShown) 
   pub is_born : element_of new.seen work.element.id ≡ Some work.element
   pub of_stage : work.element.stage ≡ stage
   pub open_unit : new.open_unit ≡ Some work.unit
-  pub drawn : new.drawn ≡ old.drawn
+  pub run : KeepsRun old new
 
 -- what a claim answers
 abbrev pub Claims : Limits → ℕ → PassShown → PassShown → Claimed → Type 0
@@ -136,12 +143,12 @@ EndedByOther c u h = (d : ℕ) × In (Abort d u) h × ¬ (d ≡ c)
 abbrev pub HasEnded : List Event → ℕ → Type 0
 HasEnded h u = (how : UnitEnd) × (end_of h u ≡ Some how)
 
--- the pass had unit u open, has none open now, has seen how u ended, and has used so many rows
-pub record Closes (u drawn : ℕ) (old new : PassShown) : Type 0 where
+-- the pass had unit u open, has none open now, has seen how u ended, and has used k rows
+pub record Closes (u k : ℕ) (old new : PassShown) : Type 0 where
   pub was_open : old.open_unit ≡ Some u
   pub open_unit : new.open_unit ≡ None
   pub ended : HasEnded new.seen u
-  pub drawn_is : new.drawn ≡ drawn
+  pub run : UsesRows k old new
 
 -- the pass made no event, since another had aborted its unit
 abbrev pub Loses : ℕ → PassShown → PassShown → Type 0
@@ -149,8 +156,8 @@ Loses u old new = (new.mine ≡ old.mine) × EndedByOther old.number u new.seen
 
 -- what an abort answers
 abbrev pub Ends : PassShown → PassShown → Ended → Type 0
-Ends old new endeds.Aborted = (u : ℕ) × Closes u old.drawn old new × Adds (Abort old.number u) old new
-Ends old new endeds.Already = (u : ℕ) × Closes u old.drawn old new × Loses u old new
+Ends old new endeds.Aborted = (u : ℕ) × Closes u 0 old new × Adds (Abort old.number u) old new
+Ends old new endeds.Already = (u : ℕ) × Closes u 0 old new × Loses u old new
 
 -- the element that unit u of pass c took has this root
 abbrev pub IsRoot : List Event → ℕ → ℕ → ℕ → Type 0
@@ -159,7 +166,7 @@ IsRoot h c u root = (i : ℕ) × (n : ℕ) × (x : Element) × IsClaim h c u i n
 
 -- the outputs that these drafts become: in the next rows of the pass, made by unit u, with this root
 abbrev pub outputs_from : PassShown → ℕ → ℕ → List DraftView → List Element
-outputs_from old u root drafts = outputs u root (old.number * old.limits.rows + old.drawn) drafts
+outputs_from old u root drafts = outputs u root old.next drafts
 
 -- the element that the unit took is consumed by it
 abbrev pub HasConsumed : Limits → ℕ → ℕ → List Event → Type 0
@@ -170,7 +177,7 @@ pub record Commits (first count : ℕ) (drafts : List DraftView) (old new : Pass
   pub unit : ℕ
   pub root : ℕ
   pub root_is : IsRoot old.seen old.number unit root
-  pub closes : Closes unit (old.drawn + length drafts) old new
+  pub closes : Closes unit (length drafts) old new
   pub adds : Adds (Commit old.number unit (outputs_from old unit root drafts)) old new
   pub consumed : HasConsumed old.limits old.number unit new.seen
   pub first_is : first ≡ first_id (outputs_from old unit root drafts)
@@ -178,11 +185,11 @@ pub record Commits (first count : ℕ) (drafts : List DraftView) (old new : Pass
 
 -- what a commit answers
 abbrev pub Settles : List DraftView → PassShown → PassShown → Outcome → Type 0
-Settles drafts old new outcomes.Full = (old.limits.rows < old.drawn + length drafts)
-    × ((u : ℕ) × Closes u old.drawn old new × (Adds (Abort old.number u) old new ⊎ Loses u old new))
-Settles drafts old new outcomes.Lost = (old.drawn + length drafts ≤ old.limits.rows)
-    × ((u : ℕ) × Closes u (old.drawn + length drafts) old new × Loses u old new)
-Settles drafts old new (outcomes.Committed first count) = (old.drawn + length drafts ≤ old.limits.rows)
+Settles drafts old new outcomes.Full = (old.left < length drafts)
+    × ((u : ℕ) × Closes u 0 old new × (Adds (Abort old.number u) old new ⊎ Loses u old new))
+Settles drafts old new outcomes.Lost = (length drafts ≤ old.left)
+    × ((u : ℕ) × Closes u (length drafts) old new × Loses u old new)
+Settles drafts old new (outcomes.Committed first count) = (length drafts ≤ old.left)
     × Commits first count drafts old new
 
 -- the event is an Abort by pass c, between two histories, of a unit that held element i where the Abort stands
@@ -210,7 +217,7 @@ pub record Kills (l : Limits) (id count : ℕ) (old new : PassShown) : Type 0 wh
   pub begins : IsPrefix old.seen before
   pub seen : new.seen ≡ before ++ Kill old.number id ∷ []
   pub open_unit : new.open_unit ≡ old.open_unit
-  pub drawn : new.drawn ≡ old.drawn
+  pub run : KeepsRun old new
 
 -- the pass has aborted units that held the element, at most one for each of its attempts in all rounds, and has done nothing else
 pub record OnlyAborts (l : Limits) (id : ℕ) (old new : PassShown) : Type 0 where
@@ -219,7 +226,7 @@ pub record OnlyAborts (l : Limits) (id : ℕ) (old new : PassShown) : Type 0 whe
   pub held : AreOfHolders l old.number id old.seen new.seen aborts
   pub mine : new.mine ≡ old.mine ++ aborts
   pub open_unit : new.open_unit ≡ old.open_unit
-  pub drawn : new.drawn ≡ old.drawn
+  pub run : KeepsRun old new
 
 -- an element with this id is born, and has this status
 abbrev pub HasStatus : Limits → ℕ → Status → List Event → Type 0

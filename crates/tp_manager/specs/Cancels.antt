@@ -12,7 +12,7 @@ use Rattle.tp_model.specs.declared.event.Event.TheVariants.{Abort, Kill}
 use Rattle.tp_model.specs.History.{In, element_of, status_of}
 use Rattle.tp_model.specs.Families.{IsRequest, IsSettledFamily}
 use Rattle.tp_manager.specs.Shown.{PassShown}
-use Rattle.tp_manager.specs.Calls.{AtPoint, IsQuiet}
+use Rattle.tp_manager.specs.Calls.{AtPoint, IsQuiet, KeepsRun}
 
 -- element i is born, of the family, and no reply
 abbrev pub IsTarget : ℕ → ℕ → List Event → Type 0
@@ -49,7 +49,7 @@ pub record Cancels (l : Limits) (root killed : ℕ) (old new : PassShown) : Type
   pub own : AreOfCancel l old.number root old.seen new.seen events
   pub mine : new.mine ≡ old.mine ++ events
   pub open_unit : new.open_unit ≡ old.open_unit
-  pub drawn : new.drawn ≡ old.drawn
+  pub run : KeepsRun old new
   pub request : IsRequest new.seen root
   pub settled : IsSettledFamily l.attempts new.seen root
 

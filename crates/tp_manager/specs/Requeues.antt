@@ -15,7 +15,7 @@ use Rattle.tp_model.specs.Steps.{IsParked}
 use Rattle.tp_rule.specs.Steps.{with_event}
 use Rattle.tp_rule.specs.Views.{hand}
 use Rattle.tp_rule.specs.declared.view.View.{View}
-use Rattle.tp_manager.specs.Calls.{Adds, AtPoint, IsQuiet}
+use Rattle.tp_manager.specs.Calls.{Adds, AtPoint, IsQuiet, KeepsRun}
 use Rattle.tp_manager.specs.Shown.{PassShown}
 use Rattle.tp_manager.specs.Walks.{Walked, with_trace}
 
@@ -25,7 +25,7 @@ pub record Requeues (id round : ℕ) (old new : PassShown) : Type 0 where
   pub high : round ≤ MOST_ROUNDS
   pub adds : Adds (Requeue old.number id round) old new
   pub open_unit : new.open_unit ≡ old.open_unit
-  pub drawn : new.drawn ≡ old.drawn
+  pub run : KeepsRun old new
 
 -- an element with this id is born, and isn't parked
 abbrev pub HasUnparked : Limits → ℕ → List Event → Type 0

@@ -31,7 +31,8 @@ pub record PassShown : Type 0 where
   pub seen : List Event
   pub mine : List Event
   pub open_unit : Option ℕ
-  pub drawn : ℕ
+  pub next : ℕ
+  pub left : ℕ
   pub trace : List TraceEntry
   pub lows : List ℕ
 
@@ -47,7 +48,8 @@ view_in p = record {
   seen = p.seen;
   mine = p.mine;
   open_unit = p.open_unit;
-  drawn = p.drawn;
+  next = p.next;
+  left = p.left;
   trace = p.trace;
 }
 
@@ -84,7 +86,8 @@ shown at v = record {
   seen = v.seen;
   mine = (hand v).mine;
   open_unit = (hand v).open_unit;
-  drawn = (hand v).drawn;
+  next = (hand v).next;
+  left = (hand v).left;
   trace = (hand v).trace;
   lows = at.lows;
 }

@@ -11,7 +11,7 @@ use Rattle.tp_model.specs.Accounts.{account_among, account_of, all_in, elements_
 use Rattle.tp_model.specs.declared.event.Event.{Event}
 use Rattle.tp_model.specs.declared.trace.StepKind.TheVariants as kinds
 use Rattle.tp_model.specs.History.{In, events_by}
-use Rattle.tp_model.specs.Passes.{IsOwnOpen}
+use Rattle.tp_model.specs.Passes.{IsOwnOpen, IsRun}
 use Rattle.tp_rule.specs.Steps.{Knows, noted}
 use Rattle.tp_rule.specs.declared.view.Known.{Known}
 use Rattle.tp_rule.specs.Views.{fresh_from, hand}
@@ -34,6 +34,7 @@ pub record LooksOn (l : Limits) (h : List Event) (v w : View) : Type 0 where
   pub hands : w.hands ≡ map (noted kinds.Load h) v.hands
   pub mine : (a : Hand) → In a w.hands → a.mine ≡ events_by a.number h
   pub open_own : (a : Hand) → In a w.hands → (u : ℕ) → a.open_unit ≡ Some u → IsOwnOpen h a.number u
+  pub run : (a : Hand) → In a w.hands → IsRun l h a.number a.next a.left
   pub low : KnowsLow l w
   pub knows : (x : Known) → Knows v x → Knows w x
 
@@ -56,7 +57,7 @@ pub record AreAllPasses (l : Limits) (v v' : View) (passes : List PassShown) : T
   pub few : length passes + 1 ≤ l.parts
   pub first : (hand v).number ≡ 0
   pub passes_are : AreFrom 1 passes
-  pub others : untraced v'.hands ≡ fresh_from (length passes + 1) (l.parts - (length passes + 1))
+  pub others : untraced v'.hands ≡ fresh_from l (length passes + 1) (l.parts - (length passes + 1))
 
 -- the passes of a seat, however many, have looked so many times, and have done nothing else
 pub record HasSeen (l : Limits) (n : ℕ) (h : List Event) (v w : View) : Type 0 where

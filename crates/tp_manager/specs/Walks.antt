@@ -14,6 +14,7 @@ use Rattle.tp_rule.specs.Rule.{IsSettledRow}
 use Rattle.tp_rule.specs.Views.{SeatShown, IsOnePass, fresh_from, hand, view_of}
 use Rattle.tp_rule.specs.declared.view.Hand.{Hand}
 use Rattle.tp_rule.specs.declared.view.View.{View}
+use Rattle.tp_manager.specs.declared.manager.Run.{Run}
 use Rattle.tp_manager.specs.declared.manager.Task.{Task}
 use Rattle.tp_rule.specs.Steps.{IsLow, Knows, claimed, with_claim}
 use Rattle.tp_rule.specs.declared.view.Known.{Known}
@@ -29,7 +30,8 @@ pass_in v = record {
   seen = v.seen;
   mine = (hand v).mine;
   open_unit = (hand v).open_unit;
-  drawn = (hand v).drawn;
+  next = (hand v).next;
+  left = (hand v).left;
   trace = (hand v).trace;
 }
 
@@ -64,11 +66,19 @@ pub record Looked (l : Limits) (n : ℕ) (v w : View) : Type 0 where
   pub walk : Walked l n marks v w
   pub kept : hand w ≡ with_trace (hand w).trace (hand v)
 
+-- the pass has used none of the rows that are left to it
+abbrev pub SameRun : Hand → Hand → Type 0
+SameRun a b = (b.next ≡ a.next) × (b.left ≡ a.left)
+
+-- the pass has used k of them
+abbrev pub UsedRows : ℕ → Hand → Hand → Type 0
+UsedRows k a b = (b.next ≡ a.next + k) × (b.left + k ≡ a.left)
+
 -- at most n steps have changed nothing in the pass but that it has made these events, and let go of what it had
 pub record Gained (l : Limits) (n : ℕ) (es : List Event) (v w : View) : Type 0 where
   pub marks : List TraceEntry
   pub walk : Walked l n marks v w
-  pub drawn : (hand w).drawn ≡ (hand v).drawn
+  pub run : SameRun (hand v) (hand w)
   pub claimed : (hand w).claimed ≡ (hand v).claimed
   pub mine : (hand w).mine ≡ (hand v).mine ++ es
   pub drafts : (hand v).drafts ≡ [] → (hand w).drafts ≡ []
@@ -93,10 +103,10 @@ IsTask h c (Some t) = (i : ℕ) × (n : ℕ) × (x : Element) × IsClaim h c t.u
     × (element_of h i ≡ Some x) × (x.root ≡ t.root)
 
 -- what is so of every pass between two calls
-pub record Rests (seat : SeatShown) (number drawn used : ℕ) (task : Option Task) : Type 0 where
+pub record Rests (seat : SeatShown) (number : ℕ) (run : Run) (used : ℕ) (task : Option Task) : Type 0 where
   pub steady : Steady (view_of seat).limits (view_of seat)
   pub number_is : (hand (view_of seat)).number ≡ number
-  pub drawn_is : (hand (view_of seat)).drawn ≡ drawn
+  pub run_is : ((hand (view_of seat)).next ≡ run.next) × ((hand (view_of seat)).left ≡ run.left)
   pub used_is : (hand (view_of seat)).claimed ≡ used
   pub used_below : used ≤ (view_of seat).limits.units
   -- each used unit is in an own claim
@@ -108,6 +118,10 @@ pub record Rests (seat : SeatShown) (number drawn used : ℕ) (task : Option Tas
 -- the seat knows the marks that the pass remembers
 abbrev pub Remembers : View → List ℕ → Type 0
 Remembers v lows = (p : ℕ) → 0 < slice_index lows p → Knows v (PartMark p (slice_index lows p))
+
+-- of the first n parts every row is below the mark that is remembered
+abbrev pub AreFinished : Limits → List ℕ → ℕ → Type 0
+AreFinished l lows n = (p : ℕ) → p < n → slice_index lows p ≡ l.rows
 
 -- no mark that the pass remembers fell, and it remembers no other than that of part p
 abbrev pub RisesAt : ℕ → List ℕ → List ℕ → Type 0
@@ -123,7 +137,7 @@ pub record Keeps (seat : SeatShown) (limits : Limits) (given : ℕ) : Type 0 whe
   pub valid : AreLimits limits
   pub limits_are : (view_of seat).limits ≡ limits
   pub below : given ≤ limits.parts
-  pub rest : untraced (view_of seat).hands ≡ fresh_from given (limits.parts - given)
+  pub rest : untraced (view_of seat).hands ≡ fresh_from limits given (limits.parts - given)
   pub legal : IsLegal limits (view_of seat).seen
   pub low : KnowsLow limits (view_of seat)
   pub none : (c : ℕ) → given ≤ c → events_by c (view_of seat).seen ≡ []
@@ -179,7 +193,7 @@ pub record Shut (l : Limits) (n k : ℕ) (es : List Event) (v w : View) : Type 0
   pub before : List Event
   pub begins : IsPrefix v.seen before
   pub ends : w.seen ≡ before ++ es
-  pub drawn : (hand w).drawn ≡ (hand v).drawn + k
+  pub run : UsedRows k (hand v) (hand w)
   pub claimed : (hand w).claimed ≡ (hand v).claimed
   pub mine : (hand w).mine ≡ (hand v).mine ++ es
   pub drafts : (hand w).drafts ≡ []
@@ -187,14 +201,14 @@ pub record Shut (l : Limits) (n k : ℕ) (es : List Event) (v w : View) : Type 0
 
 -- the output that a draft becomes in row i
 abbrev pub output : ℕ → ℕ → ℕ → DraftView → Element
-output u root i d = record { id = i; stage = d.stage; root = root; key = d.key; amount = d.amount; by = Some u }
+output u root i d = record { id = i; stage = d.stage; root = root; body = d.body; by = Some u }
 
 -- the pass has stored the drafts xs, and has seen nothing more
 pub record Wrote (l : Limits) (xs : List Element) (v w : View) : Type 0 where
   pub marks : List TraceEntry
   pub walk : Walked l (draft_steps (length xs)) marks v w
   pub seen : w.seen ≡ v.seen
-  pub drawn : (hand w).drawn ≡ (hand v).drawn + length xs
+  pub run : UsedRows (length xs) (hand v) (hand w)
   pub claimed : (hand w).claimed ≡ (hand v).claimed
   pub mine : (hand w).mine ≡ (hand v).mine
   pub drafts : (hand w).drafts ≡ (hand v).drafts ++ xs

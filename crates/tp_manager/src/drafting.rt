@@ -1,9 +1,9 @@
 //! The drafts of a unit of work.
-ghost use Rattle.std.specs.Prelude.{◌≡◌, ◌+◌, ◌*◌, ◌<◌, ◌≤◌, Some, [], ◌∷◌, length};
+ghost use Rattle.std.specs.Prelude.{◌≡◌, ◌+◌, ◌<◌, ◌≤◌, Some, [], ◌∷◌, length};
 ghost use Rattle.std.specs.List.{All};
-ghost use Rattle.tp_model.specs.Births.{HasStage, outputs};
+ghost use Rattle.tp_model.specs.Births.{IsWhole, outputs};
 ghost use Rattle.tp_model.specs.Steps.{rows_of};
-ghost use Rattle.tp_rule.specs.Views.{hand_of, view_of, IsNextRow, IsSameSeat};
+ghost use Rattle.tp_rule.specs.Views.{hand_of, next_row, view_of, IsNextRow, IsSameSeat};
 ghost use Rattle.tp_rule.specs.Tables.{limits_of, IsSeatOf};
 ghost use Rattle.tp_manager.specs.Walks.{output, Steady, Wrote};
 
@@ -12,7 +12,7 @@ use tp_model::types::Draft;
 use tp_rule::Seat;
 
 impl Shared {
-    /// Writes a draft into the next row of the pass, which has the unit open. Three steps.
+    /// Writes a draft into the next row of the pass, which has the unit open. Five steps.
     fn write_one(&self, seat: &mut Seat, row: u32, draft: Draft, root: u16, unit: u16)
         requires own { IsSeatOf self.now.words seat.old }
         requires steady { Steady (limits_of self.now.words) (view_of seat.old) }
@@ -22,10 +22,9 @@ impl Shared {
         ensures same { IsSameSeat seat.old seat.new }
         ensures wrote { let l = limits_of self.now.words in
             Wrote l (output unit root row draft ∷ []) (view_of seat.old) (view_of seat.new) }
-        ensures staged { HasStage draft }
+        ensures whole { IsWhole draft }
     {
-        self.words.store_draft_key(seat, row, draft.key());
-        self.words.store_draft_amount(seat, row, draft.amount());
+        self.words.store_draft_body(seat, row, draft.body());
         self.words
             .store_draft_head(seat, row, draft.stage(), root, unit);
     }
@@ -41,17 +40,16 @@ impl Shared {
     )
         requires own { IsSeatOf self.now.words seat.old }
         requires steady { Steady (limits_of self.now.words) (view_of seat.old) }
-        requires next { let pass = hand_of seat.old in
-            first ≡ pass.number * (limits_of self.now.words).rows + pass.drawn }
+        requires next { first ≡ next_row (view_of seat.old) }
         requires room { let l = limits_of self.now.words in
-            ((hand_of seat.old).drawn + length drafts.now ≤ l.rows)
+            (length drafts.now ≤ (hand_of seat.old).left)
             × (first + length drafts.now ≤ rows_of l) }
         requires fits { unit < 65535 }
         requires open_unit { (hand_of seat.old).open_unit ≡ Some unit }
         ensures same { IsSameSeat seat.old seat.new }
         ensures wrote { let l = limits_of self.now.words in
             Wrote l (outputs unit root first drafts.now) (view_of seat.old) (view_of seat.new) }
-        ensures staged { All HasStage drafts.now }
+        ensures whole { All IsWhole drafts.now }
     {
         for i in 0..drafts.len() {
             let draft = drafts[i];

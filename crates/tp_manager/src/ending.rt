@@ -4,7 +4,7 @@ ghost use Rattle.tp_manager.specs.Shown.{IsOf};
 ghost use Rattle.tp_manager.specs.Bounds.{abort_steps, commit_steps};
 ghost use Rattle.tp_manager.specs.Calls.{Ends, Follows, HasEnded, Settles};
 
-use crate::manager::{Manager, Pass};
+use crate::manager::{Manager, Pass, Run};
 use tp_model::types::{Draft, Ended, Outcome};
 
 impl Manager {
@@ -55,9 +55,9 @@ impl Manager {
         let Some(task) = pass.task else {
             unreachable!();
         };
-        let rows = shared.places.limits.rows;
+        let Run { next, left } = pass.run;
         let count = drafts.len() as u16;
-        if count > rows - pass.drawn {
+        if count > left {
             match shared.words.abort_exchange(seat, task.unit) {
                 Ok(()) => {
                     pass.task = None;
@@ -69,21 +69,24 @@ impl Manager {
                 }
             }
         }
-        let row = pass.number * rows + pass.drawn;
-        shared.write_all(seat, row as u32, drafts, task.root, task.unit);
-        let first = if count == 0 { 0 } else { row };
+        shared.write_all(seat, next as u32, drafts, task.root, task.unit);
+        let first = if count == 0 { 0 } else { next };
+        let rest = Run {
+            next: next + count,
+            left: left - count,
+        };
         if shared
             .words
             .commit_exchange(seat, task.unit, first, count as u8)
         {
-            pass.drawn += count;
+            pass.run = rest;
             pass.task = None;
             Outcome::Committed {
                 first: first as u32,
                 count: count as u8,
             }
         } else {
-            pass.drawn += count;
+            pass.run = rest;
             pass.task = None;
             Outcome::Lost
         }

@@ -2,6 +2,7 @@
 ghost use Rattle.std.specs.Prelude.{◌≡◌, ◌<◌, ◌≤◌, ℕ, slice_index, Some, MatchOption, true, false};
 ghost use Rattle.tp_words.specs.declared.words.Head.TheVariants.{Empty, There};
 ghost use Rattle.tp_model.specs.History.{IsUnborn, element_of, status_of};
+ghost use Rattle.tp_model.specs.declared.types.Element.{Element};
 ghost use Rattle.tp_model.specs.Steps.{rows_of, units_of};
 ghost use Rattle.tp_model.specs.Words.{claim_word};
 ghost use Rattle.tp_words.specs.Words.{claim_value, IsFitClaim};
@@ -14,7 +15,7 @@ ghost use Rattle.tp_manager.specs.Bounds.{body_steps, retry_steps, status_steps}
 ghost use Rattle.tp_manager.specs.Looks.{GoesOn, HeadFound, IsThere, IsEnough};
 
 use crate::manager::Shared;
-use tp_model::types::{Element, Status};
+use tp_model::types::{Body, Element, Status};
 use tp_rule::Seat;
 use tp_words::{Claim, Head, UnitWord};
 
@@ -129,7 +130,24 @@ impl Shared {
         (unit as u32) < limits.parts as u32 * limits.units as u32
     }
 
-    /// The element that is born in the row with this head: its body, in two steps.
+    /// The body of the element of a row, where one is born: a step for each word.
+    #[inline(always)]
+    fn body_at(&self, seat: &mut Seat, row: u32) -> Body
+        requires own { IsSeatOf self.now.words seat.old }
+        requires steady { Steady (limits_of self.now.words) (view_of seat.old) }
+        requires row { row < rows_of (limits_of self.now.words) }
+        ensures same { IsSameSeat seat.old seat.new }
+        ensures looked { Looked (limits_of self.now.words) body_steps (view_of seat.old) (view_of seat.new) }
+        ensures body { (e : Element) → element_of (seen_by seat.old) row ≡ Some e → result ≡ e.body }
+    {
+        let key = self.words.load_word(seat, row, 0);
+        let second = self.words.load_word(seat, row, 1);
+        let third = self.words.load_word(seat, row, 2);
+        let last = self.words.load_word(seat, row, 3);
+        [key, second, third, last]
+    }
+
+    /// The element that is born in the row with this head, with its body.
     #[inline(always)]
     pub(crate) fn element_at(&self, seat: &mut Seat, row: u32, birth: Birth) -> Element
         requires own { IsSeatOf self.now.words seat.old }
@@ -141,14 +159,12 @@ impl Shared {
         ensures born { element_of (seen_by seat.new) row ≡ Some result }
         ensures head { (result.stage ≡ birth.stage) × (result.root ≡ birth.root) × (result.id ≡ row) }
     {
-        let key = self.words.load_key(seat, row);
-        let amount = self.words.load_amount(seat, row);
+        let body = self.body_at(seat, row);
         Element {
             id: row,
             stage: birth.stage,
             root: birth.root as u32,
-            key,
-            amount,
+            body,
             by: birth.by,
         }
     }

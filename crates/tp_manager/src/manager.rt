@@ -1,5 +1,5 @@
 //! The manager, the keeper that hands out its passes, and the passes.
-ghost use Rattle.std.specs.Prelude.{◌≡◌, ◌↔◌, ◌+◌, ◌-◌, ◌<◌, ◌≤◌, ℕ, [], length, true, false, None, IfOk, IfErr, is_some, Err};
+ghost use Rattle.std.specs.Prelude.{◌≡◌, ◌↔◌, ◌+◌, ◌-◌, ◌*◌, ◌<◌, ◌≤◌, ℕ, [], length, true, false, None, IfOk, IfErr, is_some, Err};
 ghost use Rattle.tp_model.specs.Steps.{AreLimits, rows_of};
 ghost use Rattle.tp_model.specs.Passes.{IsPassView};
 ghost use Rattle.tp_rule.specs.Views.{fresh_from, view_of};
@@ -81,13 +81,20 @@ pub(crate) struct Task {
     pub root: u16,
 }
 
+/// The rows that are left to a pass: so many, from the row `next` on.
+#[derive(Clone, Copy, Debug, PartialEq, Eq)]
+pub(crate) struct Run {
+    pub next: u16,
+    pub left: u16,
+}
+
 /// What one caller acts through, one call at a time. A pass that is dropped leaves its open unit open: the element
 /// stays held, and a kill still takes it.
 #[derive(Drop)]
 pub struct Pass {
     pub(crate) seat: Seat,
     pub(crate) number: u16,
-    pub(crate) drawn: u16,
+    pub(crate) run: Run,
     pub(crate) used: u16,
     pub(crate) task: Option<Task>,
     /// The mark of each part, as the pass last loaded or set it.
@@ -103,7 +110,7 @@ impl Model for Pass {
 
     ghost view = { λ p. shown (spot p.seat.table p.lows) p.seat.view };
 
-    ghost invariant = { λ p. Rests p.seat p.number p.drawn p.used p.task × Remembers p.seat.view p.lows };
+    ghost invariant = { λ p. Rests p.seat p.number p.run p.used p.task × Remembers p.seat.view p.lows };
 }
 
 impl Keeper {
@@ -142,8 +149,10 @@ impl Keeper {
         ensures own { IfOk result (λ pass. IsOf manager.now pass
             × IsPassView pass.limits (view_in pass)) }
         ensures fresh { IfOk result (λ pass. (pass.number ≡ self.old.given) × (pass.mine ≡ [])
-            × (pass.seen ≡ self.old.seen) × (pass.open_unit ≡ None) × (pass.drawn ≡ 0)
+            × (pass.seen ≡ self.old.seen) × (pass.open_unit ≡ None)
             × ((p : ℕ) → low_of pass p ≡ 0)) }
+        ensures rows { IfOk result (λ pass. (pass.next ≡ pass.number * pass.limits.rows)
+            × (pass.left ≡ pass.limits.rows)) }
         ensures given { IfOk result (λ pass. (self.new.given ≡ self.old.given + 1)
             × (self.new.seen ≡ self.old.seen)) }
         ensures steps { IfOk result (λ pass. length pass.trace + self.new.steps ≡ self.old.steps + 1) }
@@ -155,11 +164,15 @@ impl Keeper {
         }
         let seat = manager.shared.words.hand_out(&mut self.seat);
         let number = self.given;
+        let rows = self.limits.rows;
         self.given += 1;
         Ok(Pass {
             seat,
             number,
-            drawn: 0,
+            run: Run {
+                next: number * rows,
+                left: rows,
+            },
             used: 0,
             task: None,
             lows: [0; 32],

@@ -11,7 +11,7 @@ ghost use Rattle.tp_model.specs.History.{IsSettled};
 ghost use Rattle.tp_manager.specs.Bounds.{scan_steps, try_steps};
 ghost use Rattle.tp_manager.specs.Shown.{Rises};
 ghost use Rattle.tp_manager.specs.Looks.{GoesOn};
-ghost use Rattle.tp_manager.specs.Walks.{Steady, Looked, Sought, EachRow, OfPart, PassedBy, Remembers, RisesAt, Rose, IsSpare, Took};
+ghost use Rattle.tp_manager.specs.Walks.{AreFinished, Steady, Looked, Sought, EachRow, OfPart, PassedBy, Remembers, RisesAt, Rose, IsSpare, Took};
 
 use crate::manager::Shared;
 use tp_model::types::{Element, Status};
@@ -192,7 +192,22 @@ impl Shared {
         None
     }
 
-    /// The unit takes the first element that waits in the stage.
+    /// The first part that has a row which the pass doesn't know finished, or else the last part. No step.
+    #[inline(always)]
+    fn first_open(&self, lows: &[u16; 32]) -> u16
+        ensures part { result < (limits_of self.now.words).parts }
+        ensures finished { AreFinished (limits_of self.now.words) lows.now result }
+    {
+        let limits = self.places.limits;
+        let mut part = 0;
+        while part + 1 < limits.parts && lows[part as usize] == limits.rows {
+            part += 1;
+        }
+        part
+    }
+
+    /// The unit takes the first element that waits in the stage. What the pass knows finished isn't looked at again, but for
+    /// the last part, so that each call looks.
     pub(crate) fn scan(
         &self,
         seat: &mut Seat,
@@ -214,7 +229,8 @@ impl Shared {
             (λ t. Took l n stage unit (view_of seat.old) (view_of seat.new) t.element t.attempt
             × (t.element.root ≡ t.root)) }
     {
-        for part in 0..self.places.limits.parts {
+        let first = self.first_open(lows);
+        for part in first..self.places.limits.parts {
             if let Some(taken) = self.scan_part(seat, lows, part, stage, unit) {
                 return Some(taken);
             }

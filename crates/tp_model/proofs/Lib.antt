@@ -14,3 +14,4 @@ pub mod Tallies
 pub mod Stages
 pub mod RowTallies
 pub mod Takings
+pub mod Bodies

@@ -5,39 +5,39 @@ use Rattle.tp_model.specs.declared.types.Element.{Element}
 use Rattle.tp_model.specs.declared.event.Event.TheVariants.{Enqueue, Claim, Commit}
 use Rattle.tp_model.specs.Steps.{Step}
 use Rattle.tp_model.specs.History.{status_of, IsSettled}
-use Rattle.tp_model.specs.Rows.{WorkedRows, row_limits, with_reply, killed_in_hand}
+use Rattle.tp_model.specs.Rows.{WorkedRows, body, row_limits, with_reply, killed_in_hand}
 use Rattle.tp_model.specs.Births.{request}
 use Rattle.tp_model.proofs.Histories.{legal_empty, legal_more}
 
 abbrev reply : Element
-reply = record { id = 8; stage = 15; root = 0; key = 0; amount = 10; by = Some 256 }
+reply = record { id = 8; stage = 15; root = 0; body = body 10; by = Some 256 }
 
-first_step : Step row_limits [] (Enqueue 0 (request 0 1 0 10))
-first_step = record { row = (lit< tt, lit≤ tt, lit< tt); unborn = refl; stage = (lit≤ tt, lit≤ tt); root = refl; by = refl }
+first_step : Step row_limits [] (Enqueue 0 (request 0 1 (body 10)))
+first_step = record { row = (lit< tt, lit≤ tt, lit< tt); unborn = refl; stage = (lit≤ tt, lit≤ tt); body = refl; root = refl; by = refl }
 
-second_step : Step row_limits (Enqueue 0 (request 0 1 0 10) ∷ []) (Claim 1 256 0 1)
+second_step : Step row_limits (Enqueue 0 (request 0 1 (body 10)) ∷ []) (Claim 1 256 0 1)
 second_step =
     record {
       unit = (lit< tt, lit≤ tt, lit< tt);
       unused = refl;
       alone = λ v t own is_open. (let claimed = is_open.claimed in cc);
-      item = request 0 1 0 10;
+      item = request 0 1 (body 10);
       born = refl;
       stage = (lit≤ tt, lit≤ tt);
       attempt = lit≤ tt;
       waits = refl;
     }
 
-third_step : Step row_limits (Enqueue 0 (request 0 1 0 10) ∷ Claim 1 256 0 1 ∷ []) (Commit 1 256 (reply ∷ []))
+third_step : Step row_limits (Enqueue 0 (request 0 1 (body 10)) ∷ Claim 1 256 0 1 ∷ []) (Commit 1 256 (reply ∷ []))
 third_step =
     record {
       taking = record { pass = 1; item = 0; attempt = 1 };
       open_unit = record { claimed = refl; unfinished = refl };
       own = refl;
-      item = request 0 1 0 10;
+      item = request 0 1 (body 10);
       taken = refl;
       few = lit≤ tt;
-      outputs = (record { place = refl; row = (lit< tt, lit≤ tt, lit< tt); unborn = refl; stage = (lit≤ tt, lit≤ tt); by = refl; root_is = refl }, tt);
+      outputs = (record { place = refl; row = (lit< tt, lit≤ tt, lit< tt); unborn = refl; stage = (lit≤ tt, lit≤ tt); body = refl; by = refl; root_is = refl }, tt);
     }
 
 abbrev settled_reply : Element → Type 0
@@ -72,8 +72,8 @@ rows =
       killed = refl;
       killed_word = refl;
       reply_family = refl;
-      reply_settled = All-cons settled_reply (request 0 1 0 10) (reply ∷ []) (λ not. tt) (All-cons settled_reply reply [] (λ not. absurd (not refl)) (All-nil settled_reply));
-      parked_unsettled = λ all. all 0 (request 0 1 0 11) (lit< tt) (λ reply. absurd cc);
-      killed_settled = All-cons settled_kill (request 0 1 0 5) [] (λ not. tt) (All-nil settled_kill);
+      reply_settled = All-cons settled_reply (request 0 1 (body 10)) (reply ∷ []) (λ not. tt) (All-cons settled_reply reply [] (λ not. absurd (not refl)) (All-nil settled_reply));
+      parked_unsettled = λ all. all 0 (request 0 1 (body 11)) (lit< tt) (λ reply. absurd cc);
+      killed_settled = All-cons settled_kill (request 0 1 (body 5)) [] (λ not. tt) (All-nil settled_kill);
       legal = legal_more row_limits _ _ (legal_more row_limits _ _ (legal_more row_limits [] _ (legal_empty row_limits) first_step) second_step) third_step;
     }

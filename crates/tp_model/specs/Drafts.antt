@@ -1,8 +1,7 @@
 -- What a draft shows.
-use Rattle.std.specs.Prelude.{ℕ}
+use Rattle.std.specs.Prelude.{ℕ, List}
 
--- an output that is to be made: its stage and the two words of its body
+-- an output that is to be made: its stage and its body
 pub record DraftView : Type 0 where
   pub stage : ℕ
-  pub key : ℕ
-  pub amount : ℕ
+  pub body : List ℕ

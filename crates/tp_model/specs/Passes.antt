@@ -10,13 +10,15 @@ use Rattle.tp_model.specs.declared.trace.TraceEntry.{TraceEntry}
 use Rattle.tp_model.specs.History.{Committed, In, IsClaim, IsUnborn, end_of, events_by}
 use Rattle.tp_model.specs.Steps.{IsLegal}
 
--- what a pass shows: its number, the history that it has seen, its own events, its open unit, how many of its rows are used, and its atomic steps
+-- what a pass shows: its number, the history that it has seen, its own events, its open unit, the row that it uses next, how many
+-- rows are left to it from there on, and its atomic steps
 pub record PassView : Type 0 where
   pub number : ℕ
   pub seen : List Event
   pub mine : List Event
   pub open_unit : Option ℕ
-  pub drawn : ℕ
+  pub next : ℕ
+  pub left : ℕ
   pub trace : List TraceEntry
 
 -- pass c took unit u, and neither committed nor aborted it: another may have aborted it
@@ -27,14 +29,20 @@ pub record IsOwnOpen (h : List Event) (c u : ℕ) : Type 0 where
   pub uncommitted : (first count : ℕ) → ¬ (end_of h u ≡ Some (Committed first count))
   pub kept : ¬ In (Abort c u) h
 
--- it has seen a legal history; its own events are those of that history with its number; its rows that aren't used
+-- the rows that are left to pass c are a run from row `next` on. It lies in the pass's part, and reaches to its end; and no row of
+-- it is born
+pub record IsRun (l : Limits) (h : List Event) (c next left : ℕ) : Type 0 where
+  pub begins : c * l.rows ≤ next
+  pub ends : next + left ≡ c * l.rows + l.rows
+  pub unborn : (i : ℕ) → next ≤ i → i < next + left → IsUnborn h i
+
+-- it has seen a legal history; its own events are those of that history with its number; the rows that are left to it
 -- aren't born there; and its open unit is there its own, not committed, and not aborted by itself
 pub record IsPassView (l : Limits) (v : PassView) : Type 0 where
   pub given : v.number < l.parts
   pub legal : IsLegal l v.seen
   pub own : v.mine ≡ events_by v.number v.seen
-  pub within : v.drawn ≤ l.rows
-  pub unborn : (i : ℕ) → v.number * l.rows + v.drawn ≤ i → i < v.number * l.rows + l.rows → IsUnborn v.seen i
+  pub run : IsRun l v.seen v.number v.next v.left
   pub open_own : (u : ℕ) → v.open_unit ≡ Some u → IsOwnOpen v.seen v.number u
 
 -- whether a step looks at the table: what it finds or changes there is tied to what is seen after it. A draft store

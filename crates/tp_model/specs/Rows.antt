@@ -1,5 +1,5 @@
 -- Worked histories, with two passes (the second is the server's) of 8 rows and 256 units, and three attempts.
-use Rattle.std.specs.Prelude.{◌≡◌, ℕ, Some, List, [], ◌∷◌, ◌++◌, map, replicate}
+use Rattle.std.specs.Prelude.{◌≡◌, ℕ, ◌+◌, Some, List, [], ◌∷◌, ◌++◌, map, replicate}
 use Rattle.tp_model.specs.declared.types.Counts.{Counts}
 use Rattle.tp_model.specs.declared.types.Element.{Element}
 use Rattle.tp_model.specs.declared.types.Limits.{Limits}
@@ -19,21 +19,25 @@ use Rattle.tp_model.specs.Births.{request}
 abbrev pub row_limits : Limits
 row_limits = record { parts = 2; rows = 8; units = 256; attempts = 3 }
 
+-- a body whose words are told by an amount: the key is 0, and the others count on from the amount
+abbrev pub body : ℕ → List ℕ
+body amount = 0 ∷ amount ∷ (amount + 1) ∷ (amount + 2) ∷ []
+
 -- an output of a unit
 abbrev output : ℕ → ℕ → ℕ → ℕ → ℕ → Element
-output id stage root amount unit = record { id = id; stage = stage; root = root; key = 0; amount = amount; by = Some unit }
+output id stage root amount unit = record { id = id; stage = stage; root = root; body = body amount; by = Some unit }
 
 -- a request, and its reply
 abbrev pub with_reply : List Event
-with_reply = Enqueue 0 (request 0 1 0 10) ∷ Claim 1 256 0 1 ∷ Commit 1 256 (output 8 15 0 10 256 ∷ []) ∷ []
+with_reply = Enqueue 0 (request 0 1 (body 10)) ∷ Claim 1 256 0 1 ∷ Commit 1 256 (output 8 15 0 10 256 ∷ []) ∷ []
 
 -- a request that is taken and given up three times
 abbrev pub given_up : List Event
-given_up = Enqueue 0 (request 0 1 0 11) ∷ Claim 1 256 0 1 ∷ Abort 1 256 ∷ Claim 1 257 0 2 ∷ Abort 1 257 ∷ Claim 1 258 0 3 ∷ Abort 1 258 ∷ []
+given_up = Enqueue 0 (request 0 1 (body 11)) ∷ Claim 1 256 0 1 ∷ Abort 1 256 ∷ Claim 1 257 0 2 ∷ Abort 1 257 ∷ Claim 1 258 0 3 ∷ Abort 1 258 ∷ []
 
 -- a request that is killed while a unit holds it
 abbrev pub killed_in_hand : List Event
-killed_in_hand = Enqueue 0 (request 0 1 0 5) ∷ Claim 1 256 0 1 ∷ Abort 0 256 ∷ Kill 0 0 ∷ []
+killed_in_hand = Enqueue 0 (request 0 1 (body 5)) ∷ Claim 1 256 0 1 ∷ Abort 0 256 ∷ Kill 0 0 ∷ []
 
 -- the given up one is given another round
 abbrev pub given_again : List Event
@@ -55,7 +59,7 @@ pub record WorkedRows : Type 0 where
   pub reply_end : end_of with_reply 256 ≡ Some (Committed 8 1)
   pub reply_status : status_of 3 with_reply 0 ≡ Consumed 256
   pub reply_waits : status_of 3 with_reply 8 ≡ Waiting 0
-  pub reply_taken : map (λ (e : Element). e.amount) (taken (events_by 1 with_reply) with_reply) ≡ 10 ∷ []
+  pub reply_taken : map (λ (e : Element). e.body) (taken (events_by 1 with_reply) with_reply) ≡ (0 ∷ 10 ∷ 11 ∷ 12 ∷ []) ∷ []
   pub client_took_none : taken_of with_reply 0 ≡ []
   pub reply_counts : counts 3 with_reply ≡ so_many 1 1
   pub reply_stage_counts : counts_in 3 with_reply 15 ≡ so_many 1 0

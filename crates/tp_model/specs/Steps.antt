@@ -6,7 +6,7 @@ use Rattle.tp_model.specs.declared.types.Status.{Status}
 use Rattle.tp_model.specs.declared.types.Status.TheVariants.{Waiting, Held, Consumed, Parked, Killed}
 use Rattle.tp_model.specs.declared.event.Event.{Event}
 use Rattle.tp_model.specs.declared.event.Event.TheVariants.{Enqueue, Claim, Commit, Abort, Kill, Requeue}
-use Rattle.tp_model.specs.declared.types.TheConstants.{MOST_ROUNDS}
+use Rattle.tp_model.specs.declared.types.TheConstants.{BODY_WORDS, MOST_ROUNDS}
 use Rattle.tp_model.specs.History.{element_of, status_of, rounds, UnitClaim, claim_of, end_of, first_id}
 
 -- the limits are in their ranges
@@ -52,6 +52,10 @@ IsServerStage s = (1 ≤ s) × (s ≤ 14)
 abbrev pub IsStage : ℕ → Type 0
 IsStage s = (1 ≤ s) × (s ≤ 15)
 
+-- a whole body: as many words as each body has
+abbrev pub IsBody : List ℕ → Type 0
+IsBody body = length body ≡ BODY_WORDS
+
 -- unit u was claimed, and neither committed nor aborted
 pub record IsOpen (h : List Event) (u : ℕ) (t : UnitClaim) : Type 0 where
   pub claimed : claim_of h u ≡ Some t
@@ -62,6 +66,7 @@ pub record MayEnqueue (l : Limits) (h : List Event) (c : ℕ) (e : Element) : Ty
   pub row : IsRowOf l c e.id
   pub unborn : element_of h e.id ≡ None
   pub stage : IsServerStage e.stage
+  pub body : IsBody e.body
   pub root : e.root ≡ e.id
   pub by : e.by ≡ None
 
@@ -82,6 +87,7 @@ pub record IsOutput (l : Limits) (h : List Event) (c u root id : ℕ) (e : Eleme
   pub row : IsRowOf l c id
   pub unborn : element_of h id ≡ None
   pub stage : IsStage e.stage
+  pub body : IsBody e.body
   pub by : e.by ≡ Some u
   pub root_is : e.root ≡ root
 

@@ -4,6 +4,12 @@ ghost use Rattle.std.specs.Prelude.{◌≡◌, ◌≤◌, ◌↔◌, IsSome, IfS
 
 use std::marker::Model;
 
+/// How many words the body of an element has.
+pub const BODY_WORDS: usize = 4;
+
+/// The body of an element, which no call changes. Word 0 is its key: which register of a server it concerns.
+pub type Body = [u64; BODY_WORDS];
+
 /// A request, or a further request or reply that a server's unit of work made of one.
 #[derive(Clone, Copy, Debug, PartialEq, Eq)]
 pub struct Element {
@@ -13,10 +19,8 @@ pub struct Element {
     pub stage: u8,
     /// The id of the client's element that it goes back to; its own id where a client submitted it.
     pub root: u32,
-    /// The first word of its body: which register of a server it concerns.
-    pub key: u64,
-    /// The second word of its body.
-    pub amount: u64,
+    /// Its body.
+    pub body: Body,
     /// The unit of work that made it, or `None` where a client submitted it.
     pub by: Option<u16>,
 }
@@ -190,31 +194,33 @@ pub enum Refusal {
 #[derive(Clone, Copy, Debug, PartialEq, Eq)]
 pub struct Draft {
     stage: u8,
-    key: u64,
-    amount: u64,
+    body: Body,
 }
 
 impl Model for Draft {
     ghost use Rattle.std.specs.Prelude.{◌≤◌};
     ghost use Rattle.tp_model.specs.Drafts.{DraftView};
+    ghost use Rattle.tp_model.specs.Steps.{IsBody};
 
     ghost Value = { DraftView };
 
-    ghost view = { λ d. record { stage = d.stage; key = d.key; amount = d.amount } };
+    ghost view = { λ d. record { stage = d.stage; body = d.body } };
 
-    ghost invariant = { λ d. (1 ≤ d.stage) × (d.stage ≤ 15) };
+    ghost invariant = { λ d. (1 ≤ d.stage) × (d.stage ≤ 15) × IsBody d.body };
 
-    ghost inverse = { λ d. record { stage = d.stage; key = d.key; amount = d.amount } };
+    ghost inverse = { λ d. record { stage = d.stage; body = d.body } };
 }
 
 impl Draft {
+    ghost use Rattle.tp_model.specs.Steps.{IsBody};
+
     /// A draft for a stage, or `None` unless the stage is 1 to 15.
-    pub fn new(stage: u8, key: u64, amount: u64) -> Option<Draft>
+    pub fn new(stage: u8, body: Body) -> Option<Draft>
         ensures some { IsSome result ↔ ((1 ≤ stage) × (stage ≤ 15)) }
-        ensures value { IfSome result (λ d. d ≡ record { stage = stage; key = key; amount = amount }) }
+        ensures value { IfSome result (λ d. d ≡ record { stage = stage; body = body }) }
     {
         if stage >= 1 && stage <= 15 {
-            Some(Draft { stage, key, amount })
+            Some(Draft { stage, body })
         } else {
             None
         }
@@ -229,30 +235,25 @@ impl Draft {
         self.stage
     }
 
-    /// The first word of the output's body.
-    pub fn key(&self) -> u64
-        ensures { result ≡ self.now.key }
+    /// The body of the output.
+    pub fn body(&self) -> Body
+        ensures value { result ≡ self.now.body }
+        ensures whole { IsBody result }
     {
-        self.key
-    }
-
-    /// The second word of the output's body.
-    pub fn amount(&self) -> u64
-        ensures { result ≡ self.now.amount }
-    {
-        self.amount
+        self.body
     }
 }
 
 /// The draft that fills unused places: a reply with a body of zeros.
 impl Default for Draft {
-    ghost is_default = { λ d. d ≡ record { stage = 15; key = 0; amount = 0 } };
+    ghost use Rattle.std.specs.Prelude.{[], ◌∷◌};
+
+    ghost is_default = { λ d. d ≡ record { stage = 15; body = 0 ∷ 0 ∷ 0 ∷ 0 ∷ [] } };
 
     fn default() -> Draft {
         Draft {
             stage: 15,
-            key: 0,
-            amount: 0,
+            body: [0; BODY_WORDS],
         }
     }
 }

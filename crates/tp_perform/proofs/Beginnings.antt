@@ -13,7 +13,7 @@ use Rattle.tp_workers.specs.Free.{IsFreePass}
 use Rattle.tp_commands.specs.Acting.{new_place, new_places}
 use Rattle.tp_commands.specs.Places.{workers}
 use Rattle.tp_perform.specs.Reported.{Begins, IsNewPass, IsNewPlace, Performed, limits_of}
-use Rattle.tp_perform.specs.Told.{IsFirstScene, Scene, ToldAll}
+use Rattle.tp_perform.specs.Told.{ArePasses, IsFirstScene, Scene, ToldAll}
 use Rattle.tp_commands.specs.Acting.{AllEnded}
 
 module _ {X : Type 0} {F : X → Type 0} (recipe : DynBox X Global F → Recipe) (registers : DynBox X Global F → List ℕ) (pending : DynBox X Global F → Option Pending) where
@@ -62,14 +62,15 @@ module _ {X : Type 0} {F : X → Type 0} (recipe : DynBox X Global F → Recipe)
 
 -- what stands when the commands are done
 abbrev pub performed_of : (s : ScriptView) (m : ManagerShown) (first last : Scene) (before commands_done : Option (List ℕ)) (left : List PassShown) (registers : List (List ℕ)) (n : ℕ)
-    → Begins s m first → n ≡ length s.servers → ToldAll m s first last before commands_done → AllEnded last.places (workers n left) registers → Performed s m before
-performed_of s m first last before commands_done left registers n begins many told ended = record {
+    → Begins s m first → n ≡ length s.servers → ToldAll m s first last before commands_done → ArePasses n last left → AllEnded last.places (workers n left) registers → Performed s m before
+performed_of s m first last before commands_done left registers n begins many told all ended = record {
   first = first;
   last = last;
   begins = begins;
   commands_done = commands_done;
   told = told;
   left = left;
+  all = subst (λ k. ArePasses k last left) many all;
   registers = registers;
   ended = subst (λ k. AllEnded last.places (workers k left) registers) many ended;
 }

@@ -77,6 +77,10 @@ module _ {X : Type 0} {F : X → Type 0} (recipe : DynBox X Global F → Recipe)
       let these : workers (length ss) olds ≡ ws = ap (workers (length ss)) (all ∙ ap (λ zs. client ∷ zs) parts) ∙ workers_are recipe registers pending (length ss) client ws rs long in
       (all ∙ (ap (λ zs. client ∷ zs) parts ∙ ap (λ zs. client ∷ (zs ++ rs)) (sym these)), shown ∙ ap (λ zs. new_places recipe registers pending zs ss) (sym these))
 
+  -- which passes are whose at the end
+  pub passes_in : (n : ℕ) (client : PassShown) (qs rs : List PassShown) → length qs ≡ n → client ∷ (qs ++ rs) ≡ client ∷ (workers n (client ∷ (qs ++ rs)) ++ rs)
+  passes_in n client qs rs long = ap (λ zs. client ∷ (zs ++ rs)) (sym (workers_are recipe registers pending n client qs rs long))
+
   -- what its servers' passes are among all at the end
   pub ended_in : (n : ℕ) (places : List PlaceShown) (client : PassShown) (qs rs : List PassShown) (registers_left : List (List ℕ)) → length qs ≡ n → AllEnded places qs registers_left
       → AllEnded places (workers n (client ∷ (qs ++ rs))) registers_left

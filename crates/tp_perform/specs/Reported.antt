@@ -1,5 +1,5 @@
 -- What is reported of a script that was performed to its end.
-use Rattle.std.specs.Prelude.{◌≡◌, ◌⊎◌, ℕ, Bool, false, List, [], ◌∷◌, ◌++◌, All, Option, Some, None, length, map}
+use Rattle.std.specs.Prelude.{◌≡◌, ◌⊎◌, ℕ, ◌*◌, Bool, false, List, [], ◌∷◌, ◌++◌, All, Option, Some, None, length, map}
 use Rattle.std.specs.Io.KnownBytes.{Appends}
 use Rattle.tp_model.specs.declared.types.Account.{Account}
 use Rattle.tp_model.specs.declared.types.Limits.{Limits}
@@ -10,7 +10,7 @@ use Rattle.tp_workers.specs.Free.{IsFreePass}
 use Rattle.tp_commands.specs.Acting.{PlaceShown}
 use Rattle.tp_perform.specs.Ending.{AccountFront, FinalsFront, TellsAccount, finals_of}
 use Rattle.tp_commands.specs.Places.{workers}
-use Rattle.tp_perform.specs.Told.{Scene, ToldAll, ToldFront}
+use Rattle.tp_perform.specs.Told.{ArePasses, Scene, ToldAll, ToldFront}
 use Rattle.tp_commands.specs.Acting.{AllEnded}
 
 -- the limits that a script asks for
@@ -22,12 +22,13 @@ limits_of s = record {
   attempts = s.settings.attempts;
 }
 
--- the pass has seen nothing, and has done nothing
+-- the pass has seen nothing, and has done nothing: all rows of its part are left to it
 pub record IsNewPass (p : PassShown) : Type 0 where
   pub seen : p.seen ≡ []
   pub mine : p.mine ≡ []
   pub open_unit : p.open_unit ≡ None
-  pub drawn : p.drawn ≡ 0
+  pub next : p.next ≡ p.number * p.limits.rows
+  pub left : p.left ≡ p.limits.rows
 
 -- the desk begins there
 pub record IsNewPlace (p : PlaceShown) : Type 0 where
@@ -47,7 +48,8 @@ pub record Begins (s : ScriptView) (m : ManagerShown) (first : Scene) : Type 0 w
   pub desks : All IsNewPlace first.places
   pub each : length first.places ≡ length s.servers
 
--- all commands were performed and their lines written, and the desks ended: what they left
+-- All commands were performed and their lines written, and the desks ended: what they left. The client and the racers did
+-- nothing behind the last command, and the servers' passes only what ends a desk.
 pub record Performed (s : ScriptView) (m : ManagerShown) (before : Option (List ℕ)) : Type 0 where
   pub first : Scene
   pub last : Scene
@@ -55,6 +57,7 @@ pub record Performed (s : ScriptView) (m : ManagerShown) (before : Option (List 
   pub commands_done : Option (List ℕ)
   pub told : ToldAll m s first last before commands_done
   pub left : List PassShown
+  pub all : ArePasses (length s.servers) last left
   pub registers : List (List ℕ)
   pub ended : AllEnded last.places (workers (length s.servers) left) registers
 

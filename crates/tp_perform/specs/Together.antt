@@ -49,9 +49,9 @@ TookTurns l turns old new = (counts : Shift) × TakesTurns l turns old counts ne
 
 -- ---- clients and killers
 
--- what each client of a race is to do
+-- what each client of a race is to do: words 2 and 3 of its bodies are 0
 abbrev pub client_job : Race → ClientJob
-client_job plan = record { stage = plan.stage; key = plan.key; amount = plan.amount; count = plan.submits }
+client_job plan = record { stage = plan.stage; body = plan.key ∷ plan.amount ∷ 0 ∷ 0 ∷ []; count = plan.submits }
 
 -- the number of the first of these passes
 abbrev pub first_number : List PassShown → ℕ

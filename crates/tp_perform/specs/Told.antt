@@ -134,9 +134,13 @@ abbrev pub ToldFront : ManagerShown → ScriptView → Scene → Option (List �
 ToldFront m s old before after = (n : ℕ) × (text : List ℕ) × (new : Scene) × (n ≤ length s.commands)
     × Told m s old n text new × AppendsFront before after text
 
+-- of all passes the first is the client's, then comes one for each of so many servers, and the rest are those of races
+abbrev pub ArePasses : ℕ → Scene → List PassShown → Type 0
+ArePasses servers s passes = passes ≡ s.client ∷ (workers servers passes ++ s.racers)
+
 module _ {X : Type 0} {F : X → Type 0} (recipe : DynBox X Global F → Recipe)
     (registers : DynBox X Global F → List ℕ) (pending : DynBox X Global F → Option Pending) where
   -- the scene before the first command: of the client's pass, new desks of the servers', and the passes of races
   abbrev pub IsFirstScene : List PassShown → List (DynBox X Global F) → Scene → Type 0
-  IsFirstScene passes servers s = (passes ≡ s.client ∷ (workers (length servers) passes ++ s.racers))
+  IsFirstScene passes servers s = ArePasses (length servers) s passes
       × (s.places ≡ new_places recipe registers pending (workers (length servers) passes) servers)

@@ -3,7 +3,7 @@ ghost use Rattle.std.specs.Prelude.{◌≡◌, None, All, IfOk, IsErrOf, IsTrue,
 ghost use Rattle.tp_manager.specs.Shown.{IsOf};
 ghost use Rattle.tp_workers.specs.Free.{IsFreePass, numbers};
 ghost use Rattle.tp_report.specs.Lines.{IsLine, Writes, WritesFront};
-ghost use Rattle.tp_perform.specs.Told.{IsFirstScene, Scene, TellsCommand, ToldAll, ToldFront, scene};
+ghost use Rattle.tp_perform.specs.Told.{ArePasses, IsFirstScene, Scene, TellsCommand, ToldAll, ToldFront, scene};
 ghost use Rattle.tp_commands.specs.Acting.{AllEnded};
 ghost use Rattle.tp_commands.specs.Places.{AllLeft, AllLie, all_firsts, firsts, workers};
 ghost use Rattle.tp_script.specs.Passes.{racers as racers_of, racing};
@@ -143,7 +143,8 @@ fn perform_all<R: Threads + Sync, W: Sink>(
 /// Performs the commands of a script over the manager, each server at a desk of its own, and writes a line for each as it
 /// comes. The passes are the manager's: the client's, then one for each server, then those of each race. The servers are the
 /// script's, in their order. When the commands are done, and after a fault, all desks are ended: each server's registers are
-/// then what its recipe makes of what its pass has committed. What was done before a fault stands.
+/// then what its recipe makes of what its pass has committed. Behind the last command nothing else is done. What was done
+/// before a fault stands.
 pub fn perform<R: Threads + Sync, W: Sink>(
     rt: &R,
     alloc: Global,
@@ -166,6 +167,7 @@ pub fn perform<R: Threads + Sync, W: Sink>(
         × IsFirstScene recipe registers pending passes.old servers.old first
         × ToldAll manager.now (script_view script.now) first last
         (W.contents writer.old) (W.contents writer.new)
+        × ArePasses (length servers.old) last passes.new
         × AllEnded last.places (workers (length servers.old) passes.new)
         (map (λ server. registers server) servers.new)) }
     ensures told_front { OnErr result ((first : Scene)

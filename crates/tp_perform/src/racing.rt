@@ -28,8 +28,7 @@ fn client_job(plan: Race) -> ClientJob
 {
     ClientJob {
         stage: plan.stage,
-        key: plan.key,
-        amount: plan.amount,
+        body: [plan.key, plan.amount, 0, 0],
         count: u32::from(plan.submits),
     }
 }

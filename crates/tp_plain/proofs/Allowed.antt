@@ -16,8 +16,8 @@ use Rattle.tp_model.specs.declared.types.Outcome.TheVariants as outcome
 use Rattle.tp_model.specs.declared.event.Event.TheVariants.{Abort, Requeue}
 use Rattle.tp_model.specs.Drafts.{DraftView}
 use Rattle.tp_model.specs.History.{element_of, UnitClaim, UnitEnd, Committed, Aborted, end_of, rounds, status_of}
-use Rattle.tp_model.specs.Steps.{IsServerStage, IsOpen, Step}
-use Rattle.tp_model.specs.Births.{HasStage}
+use Rattle.tp_model.specs.Steps.{IsServerStage, IsBody, IsOpen, Step}
+use Rattle.tp_model.specs.Births.{IsWhole}
 use Rattle.tp_plain.specs.OneThread.{Answers, CallSubmit, CallClaim, CallCommit, CallAbort, CallKill, CallRequeue, CallRead, Leaves, State, extended, pass_at, next_row}
 use Rattle.tp_plain.specs.Looks.{is_held_by, looks_after_all}
 use Rattle.tp_plain.specs.Reached.{IsReached}
@@ -42,16 +42,16 @@ is_stage : (stage : ℕ) → IsServerStage stage → is_server_stage stage ≡ t
 is_stage stage good = and_from (nat_le 1 stage) (nat_le stage 14) (le-leb 1 stage good.0) (le-leb stage 14 good.1)
 
 module _ (s : State) (c : ℕ) (reached : IsReached s) (is_pass : c < s.limits.parts) where
-  submit_allowed : (stage key amount : ℕ) → Answers s (CallSubmit c stage key amount (submit_of s c stage key amount).0) (submit_of s c stage key amount).1
-  submit_allowed stage key amount = go (is_server_stage stage) (nat_lt (pass_at s c).drawn s.limits.rows) refl refl
+  submit_allowed : (stage : ℕ) (body : List ℕ) → IsBody body → Answers s (CallSubmit c stage body (submit_of s c stage body).0) (submit_of s c stage body).1
+  submit_allowed stage body whole = go (is_server_stage stage) (nat_lt 0 (pass_at s c).left) refl refl
     where
-      go : (staged room : Bool) → is_server_stage stage ≡ staged → nat_lt (pass_at s c).drawn s.limits.rows ≡ room
-          → let computed : Result ℕ Refusal × State = cond {A = Result ℕ Refusal × State} staged (cond {A = Result ℕ Refusal × State} room (Ok (next_row s c), with_request s c stage key amount) (Err refusal.Full, s)) (Err refusal.BadStage, s) in
-          Answers s (CallSubmit c stage key amount computed.0) computed.1
+      go : (staged room : Bool) → is_server_stage stage ≡ staged → nat_lt 0 (pass_at s c).left ≡ room
+          → let computed : Result ℕ Refusal × State = cond {A = Result ℕ Refusal × State} staged (cond {A = Result ℕ Refusal × State} room (Ok (next_row s c), with_request s c stage body) (Err refusal.Full, s)) (Err refusal.BadStage, s) in
+          Answers s (CallSubmit c stage body computed.0) computed.1
       go true true staged room =
-          let below : (pass_at s c).drawn < s.limits.rows = leb-true (suc (pass_at s c).drawn) s.limits.rows room in
-          record { room = below; next = refl; step = may_submit s c stage key amount reached is_pass (stage_is stage staged) below; after = refl }
-      go true false staged room = ((stage_is stage staged, ltb-false (pass_at s c).drawn s.limits.rows room), refl)
+          let below : 0 < (pass_at s c).left = leb-true 1 (pass_at s c).left room in
+          record { room = below; next = refl; step = may_submit s c stage body reached is_pass (stage_is stage staged) whole below; after = refl }
+      go true false staged room = ((stage_is stage staged, (let none : (pass_at s c).left ≤ 0 = ltb-false 0 (pass_at s c).left room in omega arith)), refl)
       go false room staged _ = ((λ good. let clash : false ≡ true = sym staged ∙ is_stage stage good in cc), refl)
 
   claim_allowed : (stage : ℕ) → IsServerStage stage → (pass_at s c).holding ≡ None → Answers s (CallClaim c stage (Ok (claim_of_stage s c stage).0)) (claim_of_stage s c stage).1
@@ -98,19 +98,19 @@ module _ (s : State) (c : ℕ) (reached : IsReached s) (is_pass : c < s.limits.p
         go (Some (Committed first count)) is = absurd (not_committed first count is)
         go (Some Aborted) is = (u, hand, (is, refl))
 
-    commit_allowed : (drafts : List DraftView) → length drafts ≤ 4 → All HasStage drafts → Answers s (CallCommit c drafts (Ok (commit_of s c drafts).0)) (commit_of s c drafts).1
+    commit_allowed : (drafts : List DraftView) → length drafts ≤ 4 → All IsWhole drafts → Answers s (CallCommit c drafts (Ok (commit_of s c drafts).0)) (commit_of s c drafts).1
     commit_allowed drafts few staged =
-        subst P (sym in_hand) (go (nat_le ((pass_at s c).drawn + length drafts) s.limits.rows) (end_of s.history u) refl refl)
+        subst P (sym in_hand) (go (nat_le (length drafts) (pass_at s c).left) (end_of s.history u) refl refl)
       where
         computed : ℕ → Outcome × State
         computed v =
-            if nat_le ((pass_at s c).drawn + length drafts) s.limits.rows then commit_at s c v drafts (end_of s.history v) else (outcome.Full, (abort_at s c v (end_of s.history v)).1)
+            if nat_le (length drafts) (pass_at s c).left then commit_at s c v drafts (end_of s.history v) else (outcome.Full, (abort_at s c v (end_of s.history v)).1)
 
         P : ℕ → Type 0
         P v = Answers s (CallCommit c drafts (Ok (computed v).0)) (computed v).1
 
         held : (found : Option Look) → find (λ (l : Look). is_held_by u l.status) (looks_after_all s.limits.attempts s.history) ≡ found → end_of s.history u ≡ None
-            → (pass_at s c).drawn + length drafts ≤ s.limits.rows → Answers s (CallCommit c drafts (Ok (commit_at s c u drafts None).0)) (commit_at s c u drafts None).1
+            → length drafts ≤ (pass_at s c).left → Answers s (CallCommit c drafts (Ok (commit_at s c u drafts None).0)) (commit_at s c u drafts None).1
         held None is undecided room =
             let gone = aborted_of s (looks_after_all s.limits.attempts s.history) reached refl c u is_pass hand is in
             let clash : None ≡ Some Aborted = sym undecided ∙ gone in cc
@@ -118,14 +118,14 @@ module _ (s : State) (c : ℕ) (reached : IsReached s) (is_pass : c < s.limits.p
             let left = left_by_commit s.limits s.history s.passes (looks_after_all s.limits.attempts s.history) c reached refl is_pass u look is drafts staged few hand room in
             (u, hand, record { room = room; count_is = refl; first_is = refl; step = left.3.step; after = refl })
 
-        go : (room : Bool) (x : Option UnitEnd) → nat_le ((pass_at s c).drawn + length drafts) s.limits.rows ≡ room → end_of s.history u ≡ x
+        go : (room : Bool) (x : Option UnitEnd) → nat_le (length drafts) (pass_at s c).left ≡ room → end_of s.history u ≡ x
             → let computed : Outcome × State = cond {A = Outcome × State} room (commit_at s c u drafts x) (outcome.Full, (abort_at s c u x).1) in Answers s (CallCommit c drafts (Ok computed.0)) computed.1
         go true None room is =
-            held (find (λ (l : Look). is_held_by u l.status) (looks_after_all s.limits.attempts s.history)) refl is (leb-true ((pass_at s c).drawn + length drafts) s.limits.rows room)
+            held (find (λ (l : Look). is_held_by u l.status) (looks_after_all s.limits.attempts s.history)) refl is (leb-true (length drafts) (pass_at s c).left room)
         go true (Some (Committed first count)) room is = absurd (not_committed first count is)
-        go true (Some Aborted) room is = (u, hand, (leb-true ((pass_at s c).drawn + length drafts) s.limits.rows room, is, refl))
+        go true (Some Aborted) room is = (u, hand, (leb-true (length drafts) (pass_at s c).left room, is, refl))
         go false x room is =
-            let over : s.limits.rows < (pass_at s c).drawn + length drafts = grind (arith, nat_tests) in
+            let over : (pass_at s c).left < length drafts = grind (arith, nat_tests) in
             (u, hand, (over, abort_leaves_it x is))
 
   kill_allowed : (i : ℕ) → Answers s (CallKill c i (kill_found s c i (element_of s.history i)).0) (kill_found s c i (element_of s.history i)).1

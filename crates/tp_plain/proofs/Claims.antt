@@ -20,14 +20,14 @@ use Rattle.tp_model.specs.Steps.{IsServerStage, IsOpen, Step, IsLegal}
 use Rattle.tp_plain.specs.Computed.{claim_of_stage}
 use Rattle.tp_model.specs.declared.types.Claimed.TheVariants as claimed
 use Rattle.tp_plain.proofs.Computations.{claim_takes, claim_idle}
-use Rattle.tp_plain.specs.OneThread.{State, fresh_pass, pass_at, Waits, Takes}
+use Rattle.tp_plain.specs.OneThread.{State, no_pass, pass_at, Waits, Takes}
 use Rattle.tp_plain.specs.Reached.{PassFits, IsReached}
 use Rattle.tp_plain.specs.Looks.{look_at, look_after, fresh_look, waits_in, sooner, attempts_in}
 use Rattle.tp_model.proofs.Lists.{first-snoc, if_same, if_other, some_if}
 use Rattle.tp_model.proofs.Histories.{born_once, element_of-snoc, open_before}
 use Rattle.tp_model.proofs.WordProofs.{unended}
 use Rattle.tp_model.proofs.Attempts.{waiting_below}
-use Rattle.tp_plain.proofs.PassStates.{reached_moved}
+use Rattle.tp_plain.proofs.PassStates.{reached_moved, run_kept}
 use Rattle.tp_plain.proofs.PlainLemmas.{looks_after}
 
 -- The least that waits.
@@ -168,13 +168,12 @@ module _ (s : State) (looks : List Look) (stage : ℕ) (reached : IsReached s) (
 -- What it leaves.
 
 fits_claim : (l : Limits) (h : List Event) (c i n : ℕ) (used : PassState) → IsLegal l h → PassFits l h c used → used.claimed < l.units → used.holding ≡ None
-    → PassFits l (h ++ Claim c (c * l.units + used.claimed) i n ∷ []) c (record { drawn = used.drawn; claimed = used.claimed + 1; holding = Some (c * l.units + used.claimed) })
+    → PassFits l (h ++ Claim c (c * l.units + used.claimed) i n ∷ []) c (record { next = used.next; left = used.left; claimed = used.claimed + 1; holding = Some (c * l.units + used.claimed) })
 fits_claim l h c i n used legal fits room free =
     let u = c * l.units + used.claimed in
     let e : Event = Claim c u i n in
     record {
-      drawn = fits.drawn;
-      undrawn = λ j low high. element_of-snoc h e j ∙ rw (fits.undrawn j low high) refl;
+      run = run_kept l h (h ++ e ∷ []) c used.next used.left (λ j low high none. element_of-snoc h e j ∙ rw none refl) fits.run;
       claimed = omega arith;
       unclaimed = λ v low high. first-snoc (claim_by v) h e ∙ rw (fits.unclaimed v (omega arith) high) (if_other u v _ None (λ same. omega arith));
       holding = λ v t is own.
@@ -215,7 +214,7 @@ module _ (l : Limits) (h : List Event) (passes : List PassState) (looks : List L
 
   abbrev pub claimed_state : PassState → State
   claimed_state x =
-      record { limits = l; history = h ++ the_claim x ∷ []; passes = slice_set passes c (record { drawn = x.drawn; claimed = x.claimed + 1; holding = Some (c * l.units + x.claimed) }) }
+      record { limits = l; history = h ++ the_claim x ∷ []; passes = slice_set passes c (record { next = x.next; left = x.left; claimed = x.claimed + 1; holding = Some (c * l.units + x.claimed) }) }
 
   abbrev pub ClaimLeft : PassState → Type 0
   ClaimLeft x =
@@ -253,10 +252,10 @@ module _ (l : Limits) (h : List Event) (passes : List PassState) (looks : List L
         claim_takes old_state c stage look room (ap (fold (sooner stage) None) (sym agree) ∙ is),
       )
 
-  pub claim_leaves : (used : PassState) → used ≡ slice_index_or passes c used → used.claimed < l.units → (slice_index_or passes c fresh_pass).holding ≡ None → ClaimLeft used
+  pub claim_leaves : (used : PassState) → used ≡ slice_index_or passes c used → used.claimed < l.units → (slice_index_or passes c no_pass).holding ≡ None → ClaimLeft used
   claim_leaves used read room free =
       let there : c < length passes = rw reached.passes is_pass in
-      let same : used ≡ slice_index_or passes c fresh_pass = get_or_read passes c used there read fresh_pass in
+      let same : used ≡ slice_index_or passes c no_pass = get_or_read passes c used there read no_pass in
       subst (λ (x : PassState). x.claimed < l.units → ClaimLeft x) (sym same) (λ room. left_by_claim room free) room
 
   pub claim_below : attempts_in look.status < l.attempts
@@ -266,11 +265,11 @@ module _ (l : Limits) (h : List Event) (passes : List PassState) (looks : List L
 pub idle_leaves : (l : Limits) (h : List Event) (passes : List PassState) (looks : List Look) (c stage : ℕ)
     (reached : IsReached (record { limits = l; history = h; passes = passes })) → looks ≡ map (look_at l.attempts h) (born h) → c < l.parts
     → (used : PassState) → used ≡ slice_index_or passes c used → used.claimed < l.units → fold (sooner stage) None looks ≡ None
-    → ((slice_index_or passes c fresh_pass).claimed < l.units) × ((e : Element) (n : ℕ) → ¬ Waits (record { limits = l; history = h; passes = passes }) stage e n)
+    → ((slice_index_or passes c no_pass).claimed < l.units) × ((e : Element) (n : ℕ) → ¬ Waits (record { limits = l; history = h; passes = passes }) stage e n)
     × (claim_of_stage (record { limits = l; history = h; passes = passes }) c stage ≡ (claimed.Idle, record { limits = l; history = h; passes = passes }))
 idle_leaves l h passes looks c stage reached agree is_pass used read room none =
     let there : c < length passes = rw reached.passes is_pass in
-    let same : used ≡ slice_index_or passes c fresh_pass = get_or_read passes c used there read fresh_pass in
+    let same : used ≡ slice_index_or passes c no_pass = get_or_read passes c used there read no_pass in
     let s : State = record { limits = l; history = h; passes = passes } in
     let left = subst (λ (x : PassState). x.claimed < l.units) same room in
     (left, idle s looks stage reached agree none, claim_idle s c stage left (ap (fold (sooner stage) None) (sym agree) ∙ none))

@@ -19,15 +19,15 @@ use Rattle.std.proofs.lemmas.List.Elements.{All-head, All-tail}
 use Rattle.tp_plain.specs.Computed.{commit_of}
 use Rattle.tp_model.specs.declared.types.Outcome.TheVariants as outcome
 use Rattle.tp_plain.proofs.Computations.{commit_goes}
-use Rattle.tp_model.specs.Births.{HasStage, outputs}
-use Rattle.tp_plain.specs.OneThread.{root_of, State, fresh_pass, pass_at, Commits}
+use Rattle.tp_model.specs.Births.{IsWhole, outputs}
+use Rattle.tp_plain.specs.OneThread.{root_of, State, no_pass, pass_at, spent, Commits}
 use Rattle.tp_plain.specs.Reached.{PassFits, IsReached}
 use Rattle.tp_plain.specs.Looks.{look_at, look_after, fresh_look, is_held_by}
 use Rattle.tp_model.proofs.Lists.{first-snoc, if_other, none_if}
 use Rattle.tp_model.proofs.Outputs.{length-outputs}
 use Rattle.tp_model.proofs.Histories.{element_of-snoc, open_before, born_once}
 use Rattle.tp_model.proofs.WordProofs.{WordIsClaimed, word_claimed, status_by_words}
-use Rattle.tp_plain.proofs.PassStates.{reached_moved}
+use Rattle.tp_plain.proofs.PassStates.{reached_moved, run_used}
 use Rattle.tp_plain.proofs.PlainLemmas.{find-passes, looks_after}
 use Rattle.tp_plain.proofs.Claims.{mapped, found_contains}
 use Rattle.tp_plain.proofs.UnitEnds.{open_of}
@@ -36,12 +36,12 @@ first_id-outputs : (u root id : ℕ) (ds : List DraftView) → first_id (outputs
 first_id-outputs u root id [] = refl
 first_id-outputs u root id (d ∷ ds) = sym (if_other (suc (length ds)) 0 0 id (λ e. omega arith))
 
-are_outputs : (l : Limits) (h : List Event) (c u root id : ℕ) (ds : List DraftView) → All HasStage ds → c < l.parts → c * l.rows ≤ id → id + length ds ≤ c * l.rows + l.rows
+are_outputs : (l : Limits) (h : List Event) (c u root id : ℕ) (ds : List DraftView) → All IsWhole ds → c < l.parts → c * l.rows ≤ id → id + length ds ≤ c * l.rows + l.rows
     → ((i : ℕ) → id ≤ i → i < c * l.rows + l.rows → element_of h i ≡ None) → AreOutputs l h c u root id (outputs u root id ds)
-are_outputs l h c u root id [] staged is_pass low high unborn = tt
-are_outputs l h c u root id (d ∷ ds) staged is_pass low high unborn = (
-  record { place = refl; row = (is_pass, low, omega arith); unborn = unborn id (omega arith) (omega arith); stage = All-head HasStage d ds staged; by = refl; root_is = refl },
-  are_outputs l h c u root (id + 1) ds (All-tail HasStage d ds staged) is_pass (omega arith) (omega arith) (λ i more less. unborn i (omega arith) less),
+are_outputs l h c u root id [] whole is_pass low high unborn = tt
+are_outputs l h c u root id (d ∷ ds) whole is_pass low high unborn = (
+  record { place = refl; row = (is_pass, low, omega arith); unborn = unborn id (omega arith) (omega arith); stage = (All-head IsWhole d ds whole).0; body = (All-head IsWhole d ds whole).1; by = refl; root_is = refl },
+  are_outputs l h c u root (id + 1) ds (All-tail IsWhole d ds whole) is_pass (omega arith) (omega arith) (λ i more less. unborn i (omega arith) less),
 )
 
 -- and with the first id as the history tells it
@@ -52,7 +52,7 @@ are_outputs_from l h c u root id (d ∷ ds) are = are
 none_later : (u root id : ℕ) (ds : List DraftView) (i : ℕ) → id + length ds ≤ i → find (λ (y : Element). y.id == i) (outputs u root id ds) ≡ None
 none_later u root id [] i more = refl
 none_later u root id (d ∷ ds) i more =
-    if_other id i (Some (record { id = id; stage = d.stage; root = root; key = d.key; amount = d.amount; by = Some u })) (find (λ (y : Element). y.id == i) (outputs u root (id + 1) ds)) (λ same. omega arith)
+    if_other id i (Some (record { id = id; stage = d.stage; root = root; body = d.body; by = Some u })) (find (λ (y : Element). y.id == i) (outputs u root (id + 1) ds)) (λ same. omega arith)
     ∙ none_later u root (id + 1) ds i (omega arith)
 
 -- a unit that holds an element claimed it
@@ -74,14 +74,13 @@ held_claimed l h i u n legal is = go (claim_word h i) (sym (status_by_words l h 
     go (KilledWord m v r) e c = absurd (cc (e))
     go (AgainWord r) e c = absurd (cc (e))
 
-fits_commit : (l : Limits) (h : List Event) (c u root : ℕ) (ds : List DraftView) (used : PassState) → PassFits l h c used → used.holding ≡ Some u → used.drawn + length ds ≤ l.rows
-    → PassFits l (h ++ Commit c u (outputs u root (c * l.rows + used.drawn) ds) ∷ []) c (record { drawn = used.drawn + length ds; claimed = used.claimed; holding = None })
+fits_commit : (l : Limits) (h : List Event) (c u root : ℕ) (ds : List DraftView) (used : PassState) → PassFits l h c used → used.holding ≡ Some u → length ds ≤ used.left
+    → PassFits l (h ++ Commit c u (outputs u root used.next ds) ∷ []) c (spent used (length ds))
 fits_commit l h c u root ds used fits hand room =
-    let outs = outputs u root (c * l.rows + used.drawn) ds in
+    let outs = outputs u root used.next ds in
     let e : Event = Commit c u outs in
     record {
-      drawn = room;
-      undrawn = λ j low high. element_of-snoc h e j ∙ rw (fits.undrawn j (omega arith) high) (none_later u root (c * l.rows + used.drawn) ds j (omega arith));
+      run = run_used l h (h ++ e ∷ []) c used.next used.left (length ds) room (λ j low none. element_of-snoc h e j ∙ rw none (none_later u root used.next ds j low)) fits.run;
       claimed = fits.claimed;
       unclaimed = λ v low high. first-snoc (claim_by v) h e ∙ rw (fits.unclaimed v low high) refl;
       holding = λ v t is own.
@@ -106,24 +105,24 @@ looks_committed l h c u outs looks legal step agree =
 
 module _ (l : Limits) (h : List Event) (passes : List PassState) (looks : List Look) (c : ℕ)
     (reached : IsReached (record { limits = l; history = h; passes = passes })) (agree : looks ≡ map (look_at l.attempts h) (born h)) (is_pass : c < l.parts)
-    (u : ℕ) (look : Look) (is : find (λ (l : Look). is_held_by u l.status) looks ≡ Some look) (ds : List DraftView) (staged : All HasStage ds) (few : length ds ≤ 4) where
+    (u : ℕ) (look : Look) (is : find (λ (l : Look). is_held_by u l.status) looks ≡ Some look) (ds : List DraftView) (whole : All IsWhole ds) (few : length ds ≤ 4) where
   abbrev pub at_first : State
   at_first = record { limits = l; history = h; passes = passes }
 
   abbrev pub the_outputs : PassState → List Element
-  the_outputs x = outputs u look.element.root (c * l.rows + x.drawn) ds
+  the_outputs x = outputs u look.element.root x.next ds
 
   abbrev pub committed_state : PassState → State
   committed_state x =
-      record { limits = l; history = h ++ Commit c u (the_outputs x) ∷ []; passes = slice_set passes c (record { drawn = x.drawn + length ds; claimed = x.claimed; holding = None }) }
+      record { limits = l; history = h ++ Commit c u (the_outputs x) ∷ []; passes = slice_set passes c (spent x (length ds)) }
 
   abbrev pub CommitLeft : PassState → Type 0
   CommitLeft x =
       IsReached (committed_state x)
       × (map (look_after l.attempts (Commit c u (the_outputs x))) (looks ++ map fresh_look (the_outputs x)) ≡ map (look_at l.attempts (h ++ Commit c u (the_outputs x) ∷ [])) (born (h ++ Commit c u (the_outputs x) ∷ [])))
       × ((pass_at at_first c).holding ≡ Some u)
-      × Commits at_first c u ds (if length ds == 0 then 0 else c * l.rows + x.drawn) (length ds) (committed_state x)
-      × (commit_of at_first c ds ≡ (outcome.Committed (if length ds == 0 then 0 else c * l.rows + x.drawn) (length ds), committed_state x))
+      × Commits at_first c u ds (if length ds == 0 then 0 else x.next) (length ds) (committed_state x)
+      × (commit_of at_first c ds ≡ (outcome.Committed (if length ds == 0 then 0 else x.next) (length ds), committed_state x))
 
   -- the element in the unit's hand
   the_item : (t : UnitClaim) → IsOpen h u t → element_of h t.item ≡ Some look.element
@@ -143,7 +142,7 @@ module _ (l : Limits) (h : List Event) (passes : List PassState) (looks : List L
       held (Parked n) e = absurd (cc (e))
       held Killed e = absurd (cc (e))
 
-  pub left_by_commit : (pass_at at_first c).holding ≡ Some u → (pass_at at_first c).drawn + length ds ≤ l.rows → CommitLeft (pass_at at_first c)
+  pub left_by_commit : (pass_at at_first c).holding ≡ Some u → length ds ≤ (pass_at at_first c).left → CommitLeft (pass_at at_first c)
   left_by_commit hand room =
       let x = pass_at at_first c in
       let fits : PassFits l h c x = reached.fits c is_pass in
@@ -155,9 +154,9 @@ module _ (l : Limits) (h : List Event) (passes : List PassState) (looks : List L
         own = o.2;
         item = look.element;
         taken = the_item o.0 o.1;
-        few = rw (length-outputs u look.element.root (c * l.rows + x.drawn) ds) few;
-        outputs = are_outputs_from l h c u look.element.root (c * l.rows + x.drawn) ds
-            (are_outputs l h c u look.element.root (c * l.rows + x.drawn) ds staged is_pass (omega arith) (omega arith) (λ i more less. fits.undrawn i more less));
+        few = rw (length-outputs u look.element.root x.next ds) few;
+        outputs = are_outputs_from l h c u look.element.root x.next ds
+            (are_outputs l h c u look.element.root x.next ds whole is_pass (let low = fits.run.begins in omega arith) (let high = fits.run.ends in omega arith) (λ i more less. fits.run.unborn i more (omega arith)));
       } in
       let root : root_of h u ≡ look.element.root = rw (o.1.claimed, the_item o.0 o.1) refl in (
         reached_moved at_first (Commit c u (the_outputs x)) c _ reached step refl is_pass (fits_commit l h c u look.element.root ds x fits hand room),
@@ -167,8 +166,8 @@ module _ (l : Limits) (h : List Event) (passes : List PassState) (looks : List L
         commit_goes at_first c u ds hand o.1.unfinished room ∙ rw root refl,
       )
 
-  pub commit_leaves : (used : PassState) → used ≡ slice_index_or passes c used → used.holding ≡ Some u → used.drawn + length ds ≤ l.rows → CommitLeft used
+  pub commit_leaves : (used : PassState) → used ≡ slice_index_or passes c used → used.holding ≡ Some u → length ds ≤ used.left → CommitLeft used
   commit_leaves used read hand room =
       let there : c < length passes = rw reached.passes is_pass in
-      let same : used ≡ slice_index_or passes c fresh_pass = get_or_read passes c used there read fresh_pass in
-      subst (λ (x : PassState). x.holding ≡ Some u → x.drawn + length ds ≤ l.rows → CommitLeft x) (sym same) left_by_commit hand room
+      let same : used ≡ slice_index_or passes c no_pass = get_or_read passes c used there read no_pass in
+      subst (λ (x : PassState). x.holding ≡ Some u → length ds ≤ x.left → CommitLeft x) (sym same) left_by_commit hand room

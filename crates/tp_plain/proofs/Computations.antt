@@ -11,16 +11,16 @@ use Rattle.tp_model.specs.declared.event.Event.TheVariants.{Commit, Abort}
 use Rattle.tp_model.specs.Drafts.{DraftView}
 use Rattle.tp_model.specs.History.{Aborted, element_of, end_of, status_of}
 use Rattle.tp_model.specs.Steps.{IsServerStage}
-use Rattle.tp_plain.specs.OneThread.{State, pass_at, next_row, moved, with_pass, free_pass, made_of}
+use Rattle.tp_plain.specs.OneThread.{State, pass_at, next_row, moved, with_pass, freed, spent, made_of}
 use Rattle.tp_plain.specs.Computed.{is_server_stage, submit_of, with_request, next_waiting, work_on, with_claim, claim_of_stage, abort_of, commit_of, read_of}
 use Rattle.tp_model.proofs.Bridges.{element_of-id}
 
 module _ (s : State) (c : ℕ) where
-  pub submit_goes : (stage key amount : ℕ) → IsServerStage stage → (pass_at s c).drawn < s.limits.rows
-      → submit_of s c stage key amount ≡ (Ok (next_row s c), with_request s c stage key amount)
-  submit_goes stage key amount good room =
+  pub submit_goes : (stage : ℕ) (body : List ℕ) → IsServerStage stage → 0 < (pass_at s c).left
+      → submit_of s c stage body ≡ (Ok (next_row s c), with_request s c stage body)
+  submit_goes stage body good room =
       let staged : is_server_stage stage ≡ true = and_from (nat_le 1 stage) (nat_le stage 14) (le-leb 1 stage good.0) (le-leb stage 14 good.1) in
-      rw (staged, le-leb (suc (pass_at s c).drawn) s.limits.rows room) refl
+      rw (staged, le-leb 1 (pass_at s c).left room) refl
 
   pub claim_takes : (stage : ℕ) (look : Look) → (pass_at s c).claimed < s.limits.units → next_waiting s stage ≡ Some look
       → claim_of_stage s c stage ≡ (claimed.Work (work_on s c look), with_claim s c look)
@@ -31,21 +31,21 @@ module _ (s : State) (c : ℕ) where
 
   module _ (u : ℕ) where
     pub abort_goes : (pass_at s c).holding ≡ Some u → end_of s.history u ≡ None
-        → abort_of s c ≡ (ended.Aborted, moved s (Abort c u) c (free_pass s c (pass_at s c).drawn))
+        → abort_of s c ≡ (ended.Aborted, moved s (Abort c u) c (freed (pass_at s c)))
     abort_goes hand undecided = rw (hand, undecided) refl
 
     pub abort_already : (pass_at s c).holding ≡ Some u → end_of s.history u ≡ Some Aborted
-        → abort_of s c ≡ (ended.Already, with_pass s c (free_pass s c (pass_at s c).drawn))
+        → abort_of s c ≡ (ended.Already, with_pass s c (freed (pass_at s c)))
     abort_already hand gone = rw (hand, gone) refl
 
-    pub commit_goes : (ds : List DraftView) → (pass_at s c).holding ≡ Some u → end_of s.history u ≡ None → (pass_at s c).drawn + length ds ≤ s.limits.rows
+    pub commit_goes : (ds : List DraftView) → (pass_at s c).holding ≡ Some u → end_of s.history u ≡ None → length ds ≤ (pass_at s c).left
         → commit_of s c ds
-        ≡ (outcome.Committed (if length ds == 0 then 0 else next_row s c) (length ds), moved s (Commit c u (made_of s c u ds)) c (free_pass s c ((pass_at s c).drawn + length ds)))
-    commit_goes ds hand undecided room = rw (le-leb ((pass_at s c).drawn + length ds) s.limits.rows room, hand, undecided) refl
+        ≡ (outcome.Committed (if length ds == 0 then 0 else next_row s c) (length ds), moved s (Commit c u (made_of s c u ds)) c (spent (pass_at s c) (length ds)))
+    commit_goes ds hand undecided room = rw (le-leb (length ds) (pass_at s c).left room, hand, undecided) refl
 
-    pub commit_lost : (ds : List DraftView) → (pass_at s c).holding ≡ Some u → end_of s.history u ≡ Some Aborted → (pass_at s c).drawn + length ds ≤ s.limits.rows
-        → commit_of s c ds ≡ (outcome.Lost, with_pass s c (free_pass s c ((pass_at s c).drawn + length ds)))
-    commit_lost ds hand gone room = rw (le-leb ((pass_at s c).drawn + length ds) s.limits.rows room, hand, gone) refl
+    pub commit_lost : (ds : List DraftView) → (pass_at s c).holding ≡ Some u → end_of s.history u ≡ Some Aborted → length ds ≤ (pass_at s c).left
+        → commit_of s c ds ≡ (outcome.Lost, with_pass s c (spent (pass_at s c) (length ds)))
+    commit_lost ds hand gone room = rw (le-leb (length ds) (pass_at s c).left room, hand, gone) refl
 
 -- a read of what is born, and of what isn't
 module _ (s : State) (id : ℕ) where

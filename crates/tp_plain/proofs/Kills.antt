@@ -15,7 +15,7 @@ use Rattle.tp_plain.specs.Reached.{IsQuiet, PassFits, IsReached}
 use Rattle.tp_plain.specs.Looks.{look_at, look_after}
 use Rattle.tp_model.proofs.Lists.{first-snoc, if_same}
 use Rattle.tp_model.proofs.Histories.{legal_more, element_of-kept, element_of-snoc, open_before, status_of-snoc}
-use Rattle.tp_plain.proofs.PassStates.{fits_other}
+use Rattle.tp_plain.proofs.PassStates.{fits_other, run_kept}
 use Rattle.tp_plain.proofs.Claims.{looks_changed}
 use Rattle.tp_plain.proofs.UnitEnds.{held_undecided}
 use Rattle.tp_plain.proofs.Commits.{held_claimed}
@@ -24,8 +24,7 @@ use Rattle.tp_plain.proofs.Commits.{held_claimed}
 fits_quiet : (l : Limits) (h : List Event) (e : Event) (c : ℕ) (used : PassState) → births e ≡ [] → ((u : ℕ) → claim_by u e ≡ None) → PassFits l h c used → used.holding ≡ None → PassFits l (h ++ e ∷ []) c used
 fits_quiet l h e c used none unclaimed fits free =
     record {
-      drawn = fits.drawn;
-      undrawn = λ i low high. element_of-snoc h e i ∙ rw (fits.undrawn i low high, none) refl;
+      run = run_kept l h (h ++ e ∷ []) c used.next used.left (λ i low high un. element_of-snoc h e i ∙ rw (un, none) refl) fits.run;
       claimed = fits.claimed;
       unclaimed = λ u low high. first-snoc (claim_by u) h e ∙ rw (fits.unclaimed u low high) (unclaimed u);
       holding = λ u t is own. elim (open_before h e u t is) [ inl by ↦ absurd (let no = unclaimed u in cc) | inr old ↦ fits.holding u t old.0 own ];

@@ -1,5 +1,5 @@
 -- What Plain keeps of rounds, and what a requeue leaves.
-use Rattle.std.proofs.Common.{◌≡◌, ◌≢◌, ℕ, suc, ◌+◌, ◌<◌, ◌≤◌, ◌==◌, nat_lt, Bool, true, false, cond, Result, Ok, Err, arith, Some, List, [], ◌∷◌, ◌++◌, length, map, slice_index_or, slice_set, replicate, refl, sym, ◌∙◌, ap, subst, inl, inr}
+use Rattle.std.proofs.Common.{◌≡◌, ℕ, suc, ◌+◌, ◌<◌, ◌≤◌, nat_lt, Bool, true, false, cond, Result, Ok, Err, arith, Some, List, [], ◌∷◌, ◌++◌, length, map, slice_index_or, slice_set, replicate, refl, sym, ◌∙◌, ap, subst, inl, inr}
 use Rattle.std.proofs.lemmas.Bool.{le-leb}
 use Rattle.std.proofs.lemmas.Bool.Decides.{eqb_tells, nat_tests}
 use Rattle.std.proofs.lemmas.List.{get_or_read, get_or-set_same, get_or-set_other, length-set, get_or-replicate, length-replicate}
@@ -24,9 +24,9 @@ use Rattle.tp_plain.specs.Looks.{KeepsRounds, look_after, look_at}
 use Rattle.tp_plain.specs.OneThread.{State, extended, pass_at}
 use Rattle.tp_plain.specs.Reached.{IsQuiet, IsReached, PassFits}
 use Rattle.tp_model.proofs.Lists.{first-snoc}
-use Rattle.tp_model.specs.History.{claim_by, end_by}
+use Rattle.tp_model.specs.History.{claim_by}
 use Rattle.tp_plain.proofs.Claims.{looks_changed}
-use Rattle.tp_plain.proofs.PassStates.{open_after, whole_before}
+use Rattle.tp_plain.proofs.PassStates.{open_after, whole_before, run_kept}
 
 pub rounds_fresh : (l : Limits) → KeepsRounds l [] (replicate (rows_of l) 0)
 rounds_fresh l = record { as_many = length-replicate (rows_of l) 0; each = λ i less. get_or-replicate (rows_of l) i 0 0 less }
@@ -72,8 +72,7 @@ fits_requeue : (l : Limits) (h : List Event) (c i r d : ℕ) (used : PassState) 
 fits_requeue l h c i r d used fits =
     let e : Event = Requeue c i r in
     record {
-      drawn = fits.drawn;
-      undrawn = λ j low high. element_of-snoc h e j ∙ rw (fits.undrawn j low high) refl;
+      run = run_kept l h (h ++ e ∷ []) d used.next used.left (λ j low high none. element_of-snoc h e j ∙ rw none refl) fits.run;
       claimed = fits.claimed;
       unclaimed = λ u low high. first-snoc (claim_by u) h e ∙ rw (fits.unclaimed u low high) refl;
       holding = λ u t is own. elim (open_before h e u t is) [ inl by ↦ absurd (cc (by)) | inr old ↦ fits.holding u t old.0 own ];

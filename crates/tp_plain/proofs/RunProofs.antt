@@ -92,8 +92,8 @@ goes_each s c [] t is = stays s t is
 goes_each s c (i ∷ ids) t is = goes_on s is.1 t (goes_kill s c i is.0 is.1 is.2) (goes_each is.1 c ids t is.3)
 
 goes : (s : State) (call : Call) (t : State) → Answers s call t → Goes s t
-goes s (CallSubmit c stage key amount (Ok id)) t is = moves s t _ c _ is.step is.after
-goes s (CallSubmit c stage key amount (Err why)) t is = stays s t is.1
+goes s (CallSubmit c stage body (Ok id)) t is = moves s t _ c _ is.step is.after
+goes s (CallSubmit c stage body (Err why)) t is = stays s t is.1
 goes s (CallClaim c stage (Ok a)) t is = goes_claim s c stage a t is
 goes s (CallClaim c stage (Err why)) t is = absurd is
 goes s (CallCommit c drafts (Ok a)) t is = goes_commit s c is.0 drafts a t is.2

@@ -1,5 +1,5 @@
 -- How units end: what an abort finds, and what it leaves.
-use Rattle.std.proofs.Common.{◌≡◌, ◌⊎◌, ℕ, ◌<◌, ◌≤◌, ◌==◌, nat_lt, Bool, true, false, cond, Option, Some, None, List, [], ◌∷◌, ◌++◌, map, length, slice_index_or, slice_set, refl, sym, ◌∙◌, ap, subst, inl, inr, arith, ◌+◌, ◌≢◌}
+use Rattle.std.proofs.Common.{◌≡◌, ◌⊎◌, ℕ, ◌<◌, ◌≤◌, ◌==◌, nat_lt, Bool, true, false, cond, Option, Some, None, List, [], ◌∷◌, ◌++◌, map, length, slice_index_or, slice_set, refl, sym, ◌∙◌, ap, subst, inl, inr, arith, suc, ◌+◌, ◌-◌, ◌*◌, ◌≢◌, suc-mul, mul-le-mul_right}
 use Rattle.std.proofs.lemmas.Bool.{eqb-true, eq-eqb}
 use Rattle.std.proofs.lemmas.Bool.Decides.{eqb_tells}
 use Rattle.std.proofs.lemmas.List.{get_or_read, get_or-set_same, get_or-set_other, length-set}
@@ -14,18 +14,19 @@ use Rattle.tp_model.specs.declared.types.Status.TheVariants.{Waiting, Held, Cons
 use Rattle.tp_model.specs.declared.event.Event.{Event}
 use Rattle.tp_model.specs.declared.event.Event.TheVariants.{Enqueue, Claim, Commit, Abort, Kill, Requeue}
 use Rattle.tp_model.specs.History.{born, element_of, UnitClaim, UnitEnd, Committed, Aborted, claim_by, claim_of, end_of, status_of}
+use Rattle.tp_model.specs.Passes.{IsRun}
 use Rattle.tp_model.specs.Words.{ClaimWord, FreeWord, TakenWord, KilledWord, AgainWord, claim_word, taken_status, word_status}
 use Rattle.tp_model.specs.Steps.{IsOpen, Step, IsLegal}
 use Rattle.tp_plain.specs.Computed.{abort_of}
 use Rattle.tp_model.specs.declared.types.Ended.TheVariants as ended
 use Rattle.tp_plain.proofs.Computations.{abort_goes}
-use Rattle.tp_plain.specs.OneThread.{State, fresh_pass, pass_at, moved, with_pass, free_pass}
+use Rattle.tp_plain.specs.OneThread.{State, no_pass, pass_at, moved, with_pass, freed, spent}
 use Rattle.tp_plain.specs.Reached.{PassFits, IsReached}
 use Rattle.tp_plain.specs.Looks.{look_at, look_after, is_held_by}
 use Rattle.tp_model.proofs.Lists.{first-snoc, option_or-some, some_if, none_if}
 use Rattle.tp_model.proofs.Histories.{by_steps, element_of-kept, element_of-snoc, open_before, open_holds}
 use Rattle.tp_model.proofs.WordProofs.{status_by_words}
-use Rattle.tp_plain.proofs.PassStates.{reached_moved}
+use Rattle.tp_plain.proofs.PassStates.{reached_moved, run_kept, run_used}
 use Rattle.tp_plain.proofs.PlainLemmas.{find-passes}
 use Rattle.tp_model.proofs.Bridges.{element_of-id}
 use Rattle.tp_plain.proofs.Claims.{mapped, map_contains, found_contains, looks_changed, one_of}
@@ -131,11 +132,10 @@ module _ (s : State) (looks : List Look) (reached : IsReached s) (agree : looks 
 -- What an abort leaves.
 
 fits_abort : (l : Limits) (h : List Event) (c u : ℕ) (used : PassState) → PassFits l h c used → used.holding ≡ Some u
-    → PassFits l (h ++ Abort c u ∷ []) c (record { drawn = used.drawn; claimed = used.claimed; holding = None })
+    → PassFits l (h ++ Abort c u ∷ []) c (freed used)
 fits_abort l h c u used fits hand =
     record {
-      drawn = fits.drawn;
-      undrawn = λ j low high. element_of-snoc h (Abort c u) j ∙ rw (fits.undrawn j low high) refl;
+      run = run_kept l h (h ++ Abort c u ∷ []) c used.next used.left (λ j low high none. element_of-snoc h (Abort c u) j ∙ rw none refl) fits.run;
       claimed = fits.claimed;
       unclaimed = λ v low high. first-snoc (claim_by v) h (Abort c u) ∙ rw (fits.unclaimed v low high) refl;
       holding = λ v t is own.
@@ -147,27 +147,33 @@ fits_abort l h c u used fits hand =
     }
 
 -- the hand is emptied, where its unit was aborted before
-fits_already : (l : Limits) (h : List Event) (c u drawn : ℕ) (used : PassState) → PassFits l h c used → used.holding ≡ Some u → end_of h u ≡ Some Aborted → used.drawn ≤ drawn → drawn ≤ l.rows
-    → PassFits l h c (record { drawn = drawn; claimed = used.claimed; holding = None })
-fits_already l h c u drawn used fits hand gone more most =
+fits_already : (l : Limits) (h : List Event) (c u next left : ℕ) (used : PassState) → PassFits l h c used → used.holding ≡ Some u → end_of h u ≡ Some Aborted → IsRun l h c next left
+    → PassFits l h c (record { next = next; left = left; claimed = used.claimed; holding = None })
+fits_already l h c u next left used fits hand gone run =
     record {
-      drawn = most;
-      undrawn = λ j low high. fits.undrawn j (omega arith) high;
+      run = run;
       claimed = fits.claimed;
       unclaimed = fits.unclaimed;
       holding = λ v t is own. absurd (let other = fits.holding v t is own in let same : u ≡ v = cc in let none = is.unfinished in let at : end_of h u ≡ None = ap (end_of h) same ∙ none in cc);
       held = λ v none whole. absurd (cc (none));
     }
 
+-- where no row was used, or k were
+pub fits_freed : (l : Limits) (h : List Event) (c u : ℕ) (used : PassState) → used.holding ≡ Some u → PassFits l h c used → end_of h u ≡ Some Aborted → PassFits l h c (freed used)
+fits_freed l h c u used hand fits gone = fits_already l h c u used.next used.left used fits hand gone fits.run
+
+pub fits_spent : (l : Limits) (h : List Event) (c u k : ℕ) (used : PassState) → k ≤ used.left → used.holding ≡ Some u → PassFits l h c used → end_of h u ≡ Some Aborted → PassFits l h c (spent used k)
+fits_spent l h c u k used few hand fits gone = fits_already l h c u (used.next + k) (used.left - k) used fits hand gone (run_used l h h c used.next used.left k few (λ i low none. none) fits.run)
+
 pub reached_with_pass : (s : State) (c : ℕ) (used : PassState) → IsReached s → c < s.limits.parts → PassFits s.limits s.history c used → IsReached (with_pass s c used)
 reached_with_pass s c used reached is_pass own =
     record { limits = reached.limits; legal = reached.legal; passes = length-set s.passes c used ∙ reached.passes; fits = fits }
   where
-    fits : (d : ℕ) → d < s.limits.parts → PassFits s.limits s.history d (slice_index_or (slice_set s.passes c used) d fresh_pass)
+    fits : (d : ℕ) → d < s.limits.parts → PassFits s.limits s.history d (slice_index_or (slice_set s.passes c used) d no_pass)
     fits d in_parts =
         elim (eqb_tells d c) [
-          | inl p ↦ let there : c < length s.passes = rw reached.passes is_pass in rw (p.1, get_or-set_same s.passes c used fresh_pass there) own
-          | inr p ↦ rw (get_or-set_other s.passes c d used fresh_pass p.1) (reached.fits d in_parts)
+          | inl p ↦ let there : c < length s.passes = rw reached.passes is_pass in rw (p.1, get_or-set_same s.passes c used no_pass there) own
+          | inr p ↦ rw (get_or-set_other s.passes c d used no_pass p.1) (reached.fits d in_parts)
         ]
 
 module _ (l : Limits) (h : List Event) (passes : List PassState) (looks : List Look) (c : ℕ)
@@ -175,63 +181,75 @@ module _ (l : Limits) (h : List Event) (passes : List PassState) (looks : List L
   abbrev pub before : State
   before = record { limits = l; history = h; passes = passes }
 
-  abbrev pub emptied : PassState → ℕ → PassState
-  emptied x drawn = record { drawn = drawn; claimed = x.claimed; holding = None }
-
   -- the unit in the hand is aborted
   pub abort_leaves : (used : PassState) → used ≡ slice_index_or passes c used → (u : ℕ) → used.holding ≡ Some u → (look : Look) → find (λ (l : Look). is_held_by u l.status) looks ≡ Some look
-      → IsReached (moved before (Abort c u) c (emptied used used.drawn))
+      → IsReached (moved before (Abort c u) c (freed used))
       × (map (look_after l.attempts (Abort c u)) looks ≡ map (look_at l.attempts (h ++ Abort c u ∷ [])) (born (h ++ Abort c u ∷ [])))
       × Step l h (Abort c u) × ((pass_at before c).holding ≡ Some u)
-      × (moved before (Abort c u) c (emptied used used.drawn) ≡ moved before (Abort c u) c (free_pass before c (pass_at before c).drawn))
-      × (abort_of before c ≡ (ended.Aborted, moved before (Abort c u) c (free_pass before c (pass_at before c).drawn)))
+      × (moved before (Abort c u) c (freed used) ≡ moved before (Abort c u) c (freed (pass_at before c)))
+      × (abort_of before c ≡ (ended.Aborted, moved before (Abort c u) c (freed (pass_at before c))))
   abort_leaves used read u hand look is =
       let there : c < length passes = rw reached.passes is_pass in
-      let same : used ≡ pass_at before c = get_or_read passes c used there read fresh_pass in
+      let same : used ≡ pass_at before c = get_or_read passes c used there read no_pass in
       let hand' : (pass_at before c).holding ≡ Some u = rw same at hand in
       let o = open_of before looks reached agree c u is_pass hand' look is in
       let step : Step l h (Abort c u) = record { pass = is_pass; taking = o.0; open_unit = o.1 } in
       let fits : PassFits l h c used = rw (same) (reached.fits c is_pass) in (
-        reached_moved before (Abort c u) c (emptied used used.drawn) reached step refl is_pass (fits_abort l h c u used fits hand),
+        reached_moved before (Abort c u) c (freed used) reached step refl is_pass (fits_abort l h c u used fits hand),
         looks_changed l h (Abort c u) looks refl reached.legal step agree,
         step,
         hand',
-        ap (λ (x : PassState). moved before (Abort c u) c (emptied x x.drawn)) same,
+        ap (λ (x : PassState). moved before (Abort c u) c (freed x)) same,
         abort_goes before c u hand' o.1.unfinished,
       )
 
-  pub drawn_within : (used : PassState) → used ≡ slice_index_or passes c used → used.drawn ≤ l.rows
-  drawn_within used read =
+  -- the rows that are left to the pass
+  pub run_there : (used : PassState) → used ≡ slice_index_or passes c used → IsRun l h c used.next used.left
+  run_there used read =
       let there : c < length passes = rw reached.passes is_pass in
-      let same : used ≡ pass_at before c = get_or_read passes c used there read fresh_pass in
-      rw same ((reached.fits c is_pass).drawn)
+      let same : used ≡ pass_at before c = get_or_read passes c used there read no_pass in
+      rw same ((reached.fits c is_pass).run)
 
-  -- it was aborted before; f says how many rows are drawn from then on
-  pub already_leaves : (used : PassState) → used ≡ slice_index_or passes c used → (u : ℕ) → used.holding ≡ Some u → find (λ (l : Look). is_held_by u l.status) looks ≡ None
-      → (f : PassState → ℕ) → used.drawn ≤ f used → f used ≤ l.rows
-      → IsReached (with_pass before c (emptied used (f used)))
-      × (end_of h u ≡ Some Aborted) × ((pass_at before c).holding ≡ Some u)
-      × (with_pass before c (emptied used (f used)) ≡ with_pass before c (free_pass before c (f (pass_at before c))))
-      × (f (pass_at before c) ≤ l.rows)
-  already_leaves used read u hand none f more room =
+  -- they are few
+  pub next_few : (used : PassState) → used ≡ slice_index_or passes c used → used.next + used.left ≤ 8192
+  next_few used read =
+      let high = (run_there used read).ends in
+      let few : l.parts ≤ 32 = reached.limits.parts.1 in
+      let rows : l.rows ≤ 256 = reached.limits.rows.1 in
+      let one : suc c * l.rows ≤ l.parts * l.rows = mul-le-mul_right l.rows is_pass in
+      let all : l.parts * l.rows ≤ 32 * l.rows = mul-le-mul_right l.rows few in omega (arith, suc-mul c l.rows)
+
+  -- a pass that was read has as many rows
+  pub left_there : (used : PassState) → used ≡ slice_index_or passes c used → (n : ℕ) → n ≤ used.left → n ≤ (pass_at before c).left
+  left_there used read n few =
       let there : c < length passes = rw reached.passes is_pass in
-      let same : used ≡ pass_at before c = get_or_read passes c used there read fresh_pass in
+      let same : used ≡ pass_at before c = get_or_read passes c used there read no_pass in
+      subst (λ (x : PassState). n ≤ x.left) same few
+
+  -- it was aborted before; f says what the pass has used from then on
+  pub already_leaves : (used : PassState) → used ≡ slice_index_or passes c used → (u : ℕ) → used.holding ≡ Some u → find (λ (l : Look). is_held_by u l.status) looks ≡ None
+      → (f : PassState → PassState) → (PassFits l h c used → end_of h u ≡ Some Aborted → PassFits l h c (f used))
+      → IsReached (with_pass before c (f used))
+      × (end_of h u ≡ Some Aborted) × ((pass_at before c).holding ≡ Some u)
+      × (with_pass before c (f used) ≡ with_pass before c (f (pass_at before c)))
+  already_leaves used read u hand none f own =
+      let there : c < length passes = rw reached.passes is_pass in
+      let same : used ≡ pass_at before c = get_or_read passes c used there read no_pass in
       let hand' : (pass_at before c).holding ≡ Some u = rw same at hand in
       let gone = aborted_of before looks reached agree c u is_pass hand' none in
       let fits : PassFits l h c used = rw (same) (reached.fits c is_pass) in (
-        reached_with_pass before c (emptied used (f used)) reached is_pass (fits_already l h c u (f used) used fits hand gone more room),
+        reached_with_pass before c (f used) reached is_pass (own fits gone),
         gone,
         hand',
-        ap (λ (x : PassState). with_pass before c (emptied x (f x))) same,
-        subst (λ (x : PassState). f x ≤ l.rows) same room,
+        ap (λ (x : PassState). with_pass before c (f x)) same,
       )
 
   -- it is neither aborted nor ended otherwise, and the rows suffice for n outputs
   pub undecided_leaves : (used : PassState) → used ≡ slice_index_or passes c used → (u : ℕ) → used.holding ≡ Some u → (look : Look) → find (λ (l : Look). is_held_by u l.status) looks ≡ Some look
-      → (n : ℕ) → used.drawn + n ≤ l.rows → ((pass_at before c).holding ≡ Some u) × ((pass_at before c).drawn + n ≤ l.rows) × (end_of h u ≢ Some Aborted)
+      → (n : ℕ) → n ≤ used.left → ((pass_at before c).holding ≡ Some u) × (n ≤ (pass_at before c).left) × (end_of h u ≢ Some Aborted)
   undecided_leaves used read u hand look is n room =
       let there : c < length passes = rw reached.passes is_pass in
-      let same : used ≡ pass_at before c = get_or_read passes c used there read fresh_pass in
+      let same : used ≡ pass_at before c = get_or_read passes c used there read no_pass in
       let hand' : (pass_at before c).holding ≡ Some u = rw same at hand in
       let o = open_of before looks reached agree c u is_pass hand' look is in
-      (hand', subst (λ (x : PassState). x.drawn + n ≤ l.rows) same room, λ gone. let clash : None ≡ Some Aborted = sym o.1.unfinished ∙ gone in cc)
+      (hand', subst (λ (x : PassState). n ≤ x.left) same room, λ gone. let clash : None ≡ Some Aborted = sym o.1.unfinished ∙ gone in cc)

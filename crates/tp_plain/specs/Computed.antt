@@ -1,7 +1,7 @@
 -- The answers of a manager of one thread, computed: what each call answers, and the state that it leaves.
-use Rattle.std.specs.Prelude.{◌≡◌, ℕ, ◌+◌, ◌<◌, ◌≤◌, nat_le, nat_lt, ◌&&◌, ◌==◌, Bool, false, if◌then◌else◌, Option, Some, None, Result, Ok, Err, List, length, filter, is_some, unwrap_or}
+use Rattle.std.specs.Prelude.{◌≡◌, ℕ, ◌+◌, ◌-◌, ◌<◌, ◌≤◌, nat_le, nat_lt, ◌&&◌, ◌==◌, Bool, false, if◌then◌else◌, Option, Some, None, Result, Ok, Err, List, length, filter, is_some, unwrap_or}
 use Rattle.std.specs.List.{fold, range_with_len, All}
-use Rattle.tp_model.specs.Steps.{rows_of, IsServerStage}
+use Rattle.tp_model.specs.Steps.{rows_of, IsServerStage, IsBody}
 use Rattle.tp_plain.specs.Reached.{IsReached}
 use Rattle.tp_model.specs.declared.types.Element.{Element}
 use Rattle.tp_model.specs.declared.types.Look.{Look}
@@ -23,24 +23,24 @@ use Rattle.tp_model.specs.Drafts.{DraftView}
 use Rattle.tp_model.specs.History.{element_of, UnitEnd, Committed, Aborted, end_of, rounds, status_of}
 use Rattle.tp_model.specs.declared.types.TheConstants.{MOST_ROUNDS}
 use Rattle.tp_plain.specs.Looks.{look_at, sooner, attempts_in, is_unsettled_of, looks_after_all}
-use Rattle.tp_model.specs.Births.{HasStage, request}
-use Rattle.tp_plain.specs.OneThread.{Answers, CallSubmit, CallClaim, CallCommit, CallAbort, CallKill, CallCancel, CallRequeue, CallRead, State, pass_at, next_row, next_unit, moved, with_pass, extended, free_pass, made_of}
+use Rattle.tp_model.specs.Births.{IsWhole, request}
+use Rattle.tp_plain.specs.OneThread.{Answers, CallSubmit, CallClaim, CallCommit, CallAbort, CallKill, CallCancel, CallRequeue, CallRead, State, pass_at, next_row, next_unit, moved, with_pass, extended, freed, spent, made_of}
 
 -- whether clients may submit to this stage
 abbrev pub is_server_stage : ℕ → Bool
 is_server_stage stage = nat_le 1 stage && nat_le stage 14
 
 -- the state after a submit that goes through
-abbrev pub with_request : State → ℕ → ℕ → ℕ → ℕ → State
-with_request s c stage key amount =
+abbrev pub with_request : State → ℕ → ℕ → List ℕ → State
+with_request s c stage body =
     let used = pass_at s c in
-    moved s (Enqueue c (request (next_row s c) stage key amount)) c (record { drawn = used.drawn + 1; claimed = used.claimed; holding = used.holding })
+    moved s (Enqueue c (request (next_row s c) stage body)) c (record { next = used.next + 1; left = used.left - 1; claimed = used.claimed; holding = used.holding })
 
 -- a submit
-abbrev pub submit_of : State → ℕ → ℕ → ℕ → ℕ → Result ℕ Refusal × State
-submit_of s c stage key amount =
+abbrev pub submit_of : State → ℕ → ℕ → List ℕ → Result ℕ Refusal × State
+submit_of s c stage body =
     if is_server_stage stage
-    then (if nat_lt (pass_at s c).drawn s.limits.rows then (Ok (next_row s c), with_request s c stage key amount) else (Err refusal.Full, s))
+    then (if nat_lt 0 (pass_at s c).left then (Ok (next_row s c), with_request s c stage body) else (Err refusal.Full, s))
     else (Err refusal.BadStage, s)
 
 -- of the waiting elements of a stage, the look at the one with the least id
@@ -55,7 +55,7 @@ work_on s c look = record { unit = next_unit s c; element = look.element; attemp
 abbrev pub with_claim : State → ℕ → Look → State
 with_claim s c look =
     let used = pass_at s c in
-    moved s (Claim c (next_unit s c) look.element.id (attempts_in look.status + 1)) c (record { drawn = used.drawn; claimed = used.claimed + 1; holding = Some (next_unit s c) })
+    moved s (Claim c (next_unit s c) look.element.id (attempts_in look.status + 1)) c (record { next = used.next; left = used.left; claimed = used.claimed + 1; holding = Some (next_unit s c) })
 
 -- a claim of what was found to wait
 abbrev pub claim_found : State → ℕ → Option Look → Claimed × State
@@ -72,9 +72,9 @@ unit_in_hand s c = unwrap_or (pass_at s c).holding 0
 
 -- an abort of a unit that ended so, or is undecided
 abbrev pub abort_at : State → ℕ → ℕ → Option UnitEnd → Ended × State
-abort_at s c u None = (ended.Aborted, moved s (Abort c u) c (free_pass s c (pass_at s c).drawn))
-abort_at s c u (Some (Committed first count)) = (ended.Aborted, moved s (Abort c u) c (free_pass s c (pass_at s c).drawn))
-abort_at s c u (Some Aborted) = (ended.Already, with_pass s c (free_pass s c (pass_at s c).drawn))
+abort_at s c u None = (ended.Aborted, moved s (Abort c u) c (freed (pass_at s c)))
+abort_at s c u (Some (Committed first count)) = (ended.Aborted, moved s (Abort c u) c (freed (pass_at s c)))
+abort_at s c u (Some Aborted) = (ended.Already, with_pass s c (freed (pass_at s c)))
 
 -- an abort
 abbrev pub abort_of : State → ℕ → Ended × State
@@ -82,14 +82,14 @@ abort_of s c = abort_at s c (unit_in_hand s c) (end_of s.history (unit_in_hand s
 
 -- a commit, where the rows suffice, of a unit that ended so, or is undecided
 abbrev pub commit_at : State → ℕ → ℕ → List DraftView → Option UnitEnd → Outcome × State
-commit_at s c u drafts None = (outcome.Committed (if length drafts == 0 then 0 else next_row s c) (length drafts), moved s (Commit c u (made_of s c u drafts)) c (free_pass s c ((pass_at s c).drawn + length drafts)))
-commit_at s c u drafts (Some (Committed first count)) = (outcome.Committed (if length drafts == 0 then 0 else next_row s c) (length drafts), moved s (Commit c u (made_of s c u drafts)) c (free_pass s c ((pass_at s c).drawn + length drafts)))
-commit_at s c u drafts (Some Aborted) = (outcome.Lost, with_pass s c (free_pass s c ((pass_at s c).drawn + length drafts)))
+commit_at s c u drafts None = (outcome.Committed (if length drafts == 0 then 0 else next_row s c) (length drafts), moved s (Commit c u (made_of s c u drafts)) c (spent (pass_at s c) (length drafts)))
+commit_at s c u drafts (Some (Committed first count)) = (outcome.Committed (if length drafts == 0 then 0 else next_row s c) (length drafts), moved s (Commit c u (made_of s c u drafts)) c (spent (pass_at s c) (length drafts)))
+commit_at s c u drafts (Some Aborted) = (outcome.Lost, with_pass s c (spent (pass_at s c) (length drafts)))
 
 -- a commit
 abbrev pub commit_of : State → ℕ → List DraftView → Outcome × State
 commit_of s c drafts =
-    if nat_le ((pass_at s c).drawn + length drafts) s.limits.rows
+    if nat_le (length drafts) (pass_at s c).left
     then commit_at s c (unit_in_hand s c) drafts (end_of s.history (unit_in_hand s c))
     else (outcome.Full, (abort_of s c).1)
 
@@ -185,9 +185,9 @@ IsComputedOk old new (Err why) computed = (why ≡ refusal.NoMemory) × (new ≡
 
 -- the computed answers to the calls of pass c are those that a manager of one thread may give
 pub record AreAllowed (s : State) (c : ℕ) : Type 0 where
-  pub submit : (stage key amount : ℕ) → Answers s (CallSubmit c stage key amount (submit_of s c stage key amount).0) (submit_of s c stage key amount).1
+  pub submit : (stage : ℕ) (body : List ℕ) → IsBody body → Answers s (CallSubmit c stage body (submit_of s c stage body).0) (submit_of s c stage body).1
   pub claim : (stage : ℕ) → IsServerStage stage → (pass_at s c).holding ≡ None → Answers s (CallClaim c stage (Ok (claim_of_stage s c stage).0)) (claim_of_stage s c stage).1
-  pub commit : (u : ℕ) (drafts : List DraftView) → (pass_at s c).holding ≡ Some u → length drafts ≤ 4 → All HasStage drafts
+  pub commit : (u : ℕ) (drafts : List DraftView) → (pass_at s c).holding ≡ Some u → length drafts ≤ 4 → All IsWhole drafts
       → Answers s (CallCommit c drafts (Ok (commit_of s c drafts).0)) (commit_of s c drafts).1
   pub abort : (u : ℕ) → (pass_at s c).holding ≡ Some u → Answers s (CallAbort c (abort_of s c).0) (abort_of s c).1
   pub kill : (i : ℕ) → Answers s (CallKill c i (kill_of s c i).0) (kill_of s c i).1

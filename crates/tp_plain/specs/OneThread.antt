@@ -1,5 +1,6 @@
 -- Runs of a manager of one thread: which answers its calls may give, and what state they leave.
-use Rattle.std.specs.Prelude.{◌≡◌, ◌≢◌, ◌⊎◌, ◌↔◌, ℕ, zero, suc, ◌+◌, ◌-◌, ◌*◌, ◌<◌, ◌≤◌, ◌==◌, if◌then◌else◌, Option, Some, None, Result, List, [], ◌∷◌, ◌++◌, length, replicate, slice_index_or, slice_set, AllPairs, MatchResult}
+use Rattle.std.specs.Prelude.{◌≡◌, ◌≢◌, ◌⊎◌, ◌↔◌, ℕ, zero, suc, ◌+◌, ◌-◌, ◌*◌, ◌<◌, ◌≤◌, ◌==◌, if◌then◌else◌, Option, Some, None, Result, List, [], ◌∷◌, ◌++◌, length, map, slice_index_or, slice_set, AllPairs, MatchResult}
+use Rattle.std.specs.List.{range_with_len}
 use Rattle.std.specs.Option.{option_and_then, option_map_or}
 use mathlib.Core.List.{IsPrefix}
 use Rattle.tp_model.specs.declared.types.Element.{Element}
@@ -33,21 +34,25 @@ pub record State : Type 0 where
   pub history : List Event
   pub passes : List PassState
 
--- a pass that has done nothing
-abbrev pub fresh_pass : PassState
-fresh_pass = record { drawn = 0; claimed = 0; holding = None }
+-- no pass
+abbrev pub no_pass : PassState
+no_pass = record { next = 0; left = 0; claimed = 0; holding = None }
+
+-- pass c, which has done nothing: so many rows are left to it, all those of its part
+abbrev pub fresh_pass : ℕ → ℕ → PassState
+fresh_pass rows c = record { next = c * rows; left = rows; claimed = 0; holding = None }
 
 -- a manager to which nothing happened
 abbrev pub start : Limits → State
-start l = record { limits = l; history = []; passes = replicate l.parts fresh_pass }
+start l = record { limits = l; history = []; passes = map (fresh_pass l.rows) (range_with_len 0 l.parts) }
 
 -- what pass c has used
 abbrev pub pass_at : State → ℕ → PassState
-pass_at s c = slice_index_or s.passes c fresh_pass
+pass_at s c = slice_index_or s.passes c no_pass
 
 -- the id of the row that pass c uses next
 abbrev pub next_row : State → ℕ → ℕ
-next_row s c = c * s.limits.rows + (pass_at s c).drawn
+next_row s c = (pass_at s c).next
 
 -- the unit that pass c uses next
 abbrev pub next_unit : State → ℕ → ℕ
@@ -61,7 +66,7 @@ held_after claimed.NoUnit = None
 
 -- one call, with its answer
 pub data Call : Type 0 where
-  CallSubmit : ℕ → ℕ → ℕ → ℕ → Result ℕ Refusal → Call
+  CallSubmit : ℕ → ℕ → List ℕ → Result ℕ Refusal → Call
   CallClaim : ℕ → ℕ → Result Claimed Refusal → Call
   CallCommit : ℕ → List DraftView → Result Outcome Refusal → Call
   CallAbort : ℕ → Ended → Call
@@ -79,17 +84,17 @@ abbrev pub with_pass : State → ℕ → PassState → State
 with_pass s c used = record { limits = s.limits; history = s.history; passes = slice_set s.passes c used }
 
 -- a submit went through: the pass's next row is a new request
-pub record Submits (s : State) (c stage key amount id : ℕ) (t : State) : Type 0 where
-  pub room : (pass_at s c).drawn < s.limits.rows
+pub record Submits (s : State) (c stage : ℕ) (body : List ℕ) (id : ℕ) (t : State) : Type 0 where
+  pub room : 0 < (pass_at s c).left
   pub next : id ≡ next_row s c
-  pub step : Step s.limits s.history (Enqueue c (request id stage key amount))
-  pub after : t ≡ moved s (Enqueue c (request id stage key amount)) c (record { drawn = (pass_at s c).drawn + 1; claimed = (pass_at s c).claimed; holding = (pass_at s c).holding })
+  pub step : Step s.limits s.history (Enqueue c (request id stage body))
+  pub after : t ≡ moved s (Enqueue c (request id stage body)) c (record { next = (pass_at s c).next + 1; left = (pass_at s c).left - 1; claimed = (pass_at s c).claimed; holding = (pass_at s c).holding })
 
 -- a submit is refused for its stage, then for want of a row, then for want of memory
 abbrev pub RefusesSubmit : State → ℕ → ℕ → Refusal → Type 0
-RefusesSubmit s c stage refusal.NoMemory = IsServerStage stage × ((pass_at s c).drawn < s.limits.rows)
+RefusesSubmit s c stage refusal.NoMemory = IsServerStage stage × (0 < (pass_at s c).left)
 RefusesSubmit s c stage refusal.BadStage = ¬ IsServerStage stage
-RefusesSubmit s c stage refusal.Full = IsServerStage stage × (s.limits.rows ≤ (pass_at s c).drawn)
+RefusesSubmit s c stage refusal.Full = IsServerStage stage × ((pass_at s c).left ≡ 0)
 RefusesSubmit s c stage other = ⊥
 
 -- element e of this stage waits, with this many attempts so far
@@ -105,7 +110,7 @@ pub record Takes (s : State) (c stage : ℕ) (w : Work) (t : State) : Type 0 whe
   pub waiting : Waits s stage w.element (w.attempt - 1)
   pub least : (e : Element) (n : ℕ) → Waits s stage e n → w.element.id ≤ e.id
   pub step : Step s.limits s.history (Claim c w.unit w.element.id w.attempt)
-  pub after : t ≡ moved s (Claim c w.unit w.element.id w.attempt) c (record { drawn = (pass_at s c).drawn; claimed = (pass_at s c).claimed + 1; holding = Some w.unit })
+  pub after : t ≡ moved s (Claim c w.unit w.element.id w.attempt) c (record { next = (pass_at s c).next; left = (pass_at s c).left; claimed = (pass_at s c).claimed + 1; holding = Some w.unit })
 
 -- a claim takes work, or is idle where nothing waits, or finds the pass's units used up
 abbrev pub Claims : State → ℕ → ℕ → Claimed → State → Type 0
@@ -113,9 +118,13 @@ Claims s c stage (claimed.Work w) t = Takes s c stage w t
 Claims s c stage claimed.Idle t = (t ≡ s) × ((pass_at s c).claimed < s.limits.units) × ((e : Element) (n : ℕ) → ¬ Waits s stage e n)
 Claims s c stage claimed.NoUnit t = (t ≡ s) × (s.limits.units ≤ (pass_at s c).claimed)
 
--- what pass c has used when it has no unit in hand any more, and so many rows drawn
-abbrev pub free_pass : State → ℕ → ℕ → PassState
-free_pass s c drawn = record { drawn = drawn; claimed = (pass_at s c).claimed; holding = None }
+-- the pass without a unit in hand
+abbrev pub freed : PassState → PassState
+freed used = record { next = used.next; left = used.left; claimed = used.claimed; holding = None }
+
+-- and with k rows more used
+abbrev pub spent : PassState → ℕ → PassState
+spent used k = record { next = used.next + k; left = used.left - k; claimed = used.claimed; holding = None }
 
 -- the root of the element that unit u claimed
 abbrev pub root_of : List Event → ℕ → ℕ
@@ -127,34 +136,34 @@ made_of s c u drafts = outputs u (root_of s.history u) (next_row s c) drafts
 
 -- a commit went through: the drafts are born in the pass's next rows, with the root of the element that the unit claimed
 pub record Commits (s : State) (c u : ℕ) (drafts : List DraftView) (first count : ℕ) (t : State) : Type 0 where
-  pub room : (pass_at s c).drawn + length drafts ≤ s.limits.rows
+  pub room : length drafts ≤ (pass_at s c).left
   pub count_is : count ≡ length drafts
   pub first_is : first ≡ (if length drafts == 0 then 0 else next_row s c)
   pub step : Step s.limits s.history (Commit c u (made_of s c u drafts))
-  pub after : t ≡ moved s (Commit c u (made_of s c u drafts)) c (free_pass s c ((pass_at s c).drawn + length drafts))
+  pub after : t ≡ moved s (Commit c u (made_of s c u drafts)) c (spent (pass_at s c) (length drafts))
 
 -- the unit in hand ends by an Abort, unless another pass has aborted it
 abbrev pub Leaves : State → ℕ → ℕ → State → Type 0
 Leaves s c u t =
-    (Step s.limits s.history (Abort c u) × (t ≡ moved s (Abort c u) c (free_pass s c (pass_at s c).drawn)))
-    ⊎ ((end_of s.history u ≡ Some Aborted) × (t ≡ with_pass s c (free_pass s c (pass_at s c).drawn)))
+    (Step s.limits s.history (Abort c u) × (t ≡ moved s (Abort c u) c (freed (pass_at s c))))
+    ⊎ ((end_of s.history u ≡ Some Aborted) × (t ≡ with_pass s c (freed (pass_at s c))))
 
 -- a commit is full where too few rows are left, then lost where another pass has aborted the unit, and else goes through
 abbrev pub Ends : State → ℕ → ℕ → List DraftView → Outcome → State → Type 0
 Ends s c u drafts (outcome.Committed first count) t = Commits s c u drafts first count t
 Ends s c u drafts outcome.Lost t =
-    ((pass_at s c).drawn + length drafts ≤ s.limits.rows) × (end_of s.history u ≡ Some Aborted) × (t ≡ with_pass s c (free_pass s c ((pass_at s c).drawn + length drafts)))
-Ends s c u drafts outcome.Full t = (s.limits.rows < (pass_at s c).drawn + length drafts) × Leaves s c u t
+    (length drafts ≤ (pass_at s c).left) × (end_of s.history u ≡ Some Aborted) × (t ≡ with_pass s c (spent (pass_at s c) (length drafts)))
+Ends s c u drafts outcome.Full t = ((pass_at s c).left < length drafts) × Leaves s c u t
 
 -- a commit that is neither full nor lost is refused for want of memory alone
 abbrev pub RefusesCommit : State → ℕ → ℕ → List DraftView → Refusal → Type 0
-RefusesCommit s c u drafts refusal.NoMemory = ((pass_at s c).drawn + length drafts ≤ s.limits.rows) × (end_of s.history u ≢ Some Aborted)
+RefusesCommit s c u drafts refusal.NoMemory = (length drafts ≤ (pass_at s c).left) × (end_of s.history u ≢ Some Aborted)
 RefusesCommit s c u drafts other = ⊥
 
 -- an abort goes through, unless another pass has aborted the unit
 abbrev pub GivesUp : State → ℕ → ℕ → Ended → State → Type 0
-GivesUp s c u ended.Aborted t = Step s.limits s.history (Abort c u) × (t ≡ moved s (Abort c u) c (free_pass s c (pass_at s c).drawn))
-GivesUp s c u ended.Already t = (end_of s.history u ≡ Some Aborted) × (t ≡ with_pass s c (free_pass s c (pass_at s c).drawn))
+GivesUp s c u ended.Aborted t = Step s.limits s.history (Abort c u) × (t ≡ moved s (Abort c u) c (freed (pass_at s c)))
+GivesUp s c u ended.Already t = (end_of s.history u ≡ Some Aborted) × (t ≡ with_pass s c (freed (pass_at s c)))
 
 -- a look shows the born element with this id, and its status
 pub record Shows (s : State) (id : ℕ) (look : Look) : Type 0 where
@@ -227,7 +236,7 @@ RefusesRequeue s i other = ⊥
 
 -- the call, asked of a manager in state s, may have this answer and leave it in state t
 abbrev pub Answers : State → Call → State → Type 0
-Answers s (CallSubmit c stage key amount r) t = MatchResult r (λ id. Submits s c stage key amount id t) (λ why. RefusesSubmit s c stage why × (t ≡ s))
+Answers s (CallSubmit c stage body r) t = MatchResult r (λ id. Submits s c stage body id t) (λ why. RefusesSubmit s c stage why × (t ≡ s))
 Answers s (CallClaim c stage r) t = MatchResult r (λ a. Claims s c stage a t) (λ why. ⊥)
 Answers s (CallCommit c drafts r) t = (u : ℕ) × ((pass_at s c).holding ≡ Some u) × MatchResult r (λ a. Ends s c u drafts a t) (λ why. RefusesCommit s c u drafts why × (t ≡ s))
 Answers s (CallAbort c a) t = (u : ℕ) × ((pass_at s c).holding ≡ Some u) × GivesUp s c u a t

@@ -4,14 +4,14 @@ use Rattle.tp_model.specs.declared.types.Limits.{Limits}
 use Rattle.tp_plain.specs.declared.pass_state.PassState.{PassState}
 use Rattle.tp_model.specs.declared.event.Event.{Event}
 use Rattle.tp_model.specs.declared.event.Event.TheVariants.{Enqueue, Claim, Commit, Abort, Kill, Requeue}
-use Rattle.tp_model.specs.History.{element_of, UnitClaim, claim_of, Aborted, end_of}
+use Rattle.tp_model.specs.Passes.{IsRun}
+use Rattle.tp_model.specs.History.{UnitClaim, claim_of, Aborted, end_of}
 use Rattle.tp_model.specs.Steps.{AreLimits, IsOpen, IsLegal}
 use Rattle.tp_plain.specs.OneThread.{State, pass_at}
 
 -- what pass c has used, as the history says
 pub record PassFits (l : Limits) (h : List Event) (c : ℕ) (used : PassState) : Type 0 where
-  pub drawn : used.drawn ≤ l.rows
-  pub undrawn : (i : ℕ) → c * l.rows + used.drawn ≤ i → i < c * l.rows + l.rows → element_of h i ≡ None
+  pub run : IsRun l h c used.next used.left
   pub claimed : used.claimed ≤ l.units
   pub unclaimed : (u : ℕ) → c * l.units + used.claimed ≤ u → u < c * l.units + l.units → claim_of h u ≡ None
   -- a unit of the pass that is open is in its hand

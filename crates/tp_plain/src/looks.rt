@@ -3,7 +3,7 @@ ghost use Rattle.std.specs.Prelude.{◌≡◌, ◌==◌, if◌then◌else◌, �
 ghost use Rattle.std.specs.List.{find, fold, All};
 ghost use Rattle.tp_plain.specs.Noted.{event_of};
 ghost use Rattle.tp_plain.specs.Looks.{look_after, sooner, attempts_in, is_held_by, is_unsettled_of, fresh_look};
-ghost use Rattle.tp_model.specs.Births.{HasStage, outputs};
+ghost use Rattle.tp_model.specs.Births.{IsWhole, outputs};
 
 use crate::history::Note;
 use std::alloc::{AllocError, Global};
@@ -134,7 +134,7 @@ pub(crate) fn outputs_of(
 ) -> Result<Vec<Element>, AllocError>
     requires { first + length drafts.now < 2 ^ 32 }
     ensures outputs { IfOk result (λ v. v.items ≡ outputs unit root first drafts.now) }
-    ensures stages { IfOk result (λ _. All HasStage drafts.now) }
+    ensures whole { IfOk result (λ _. All IsWhole drafts.now) }
 {
     let mut outs = Vec::with_capacity(alloc, drafts.len())?;
     let mut id = first;
@@ -143,8 +143,7 @@ pub(crate) fn outputs_of(
             id,
             stage: draft.stage(),
             root,
-            key: draft.key(),
-            amount: draft.amount(),
+            body: draft.body(),
             by: Some(unit),
         })?;
         id += 1;

@@ -3,8 +3,10 @@
 /// What a pass of the manager of one thread has used.
 #[derive(Clone, Copy, Debug, PartialEq, Eq)]
 pub struct PassState {
-    /// How many of its rows are used.
-    pub drawn: u16,
+    /// The id of the row that it uses next.
+    pub next: u32,
+    /// How many rows are left to it, from that one on.
+    pub left: u16,
     /// How many of its units of work are used.
     pub claimed: u16,
     /// The unit of work that it has claimed, and neither committed nor aborted itself.

@@ -1,5 +1,6 @@
 //! The manager of one thread.
-ghost use Rattle.std.specs.Prelude.{◌≡◌, ℕ, ◌<◌, ◌≤◌, ◌↔◌, ◌⊎◌, length, IfOk, IfErr, IsSome, is_some, replicate};
+ghost use Rattle.std.specs.Prelude.{◌≡◌, ℕ, ◌<◌, ◌≤◌, ◌↔◌, ◌⊎◌, length, map, IfOk, IfErr, IsSome, is_some, replicate};
+ghost use Rattle.std.specs.List.{range_with_len};
 ghost use Rattle.tp_plain.specs.Noted.{event_of};
 ghost use Rattle.tp_plain.specs.Computed.{IsComputed, IsComputedOk, submit_of, claim_of_stage, commit_of, abort_of, kill_of, read_of};
 ghost use Rattle.tp_plain.specs.OneThread.{Answers, CallSubmit, CallAbort, CallClaim, CallCommit, CallKill, CallRead, extended, start, fresh_pass, held_after, pass_at};
@@ -14,7 +15,7 @@ use crate::pass_state::PassState;
 use std::alloc::{AllocError, Global};
 use std::marker::Model;
 use tp_model::types::{
-    Claimed, Draft, Element, Ended, Killed, Limits, Look, Outcome, Refusal, Status, Work,
+    Body, Claimed, Draft, Element, Ended, Killed, Limits, Look, Outcome, Refusal, Status, Work,
 };
 
 /// The manager of one thread. Contracts see it as its limits, its history and what its passes have used.
@@ -55,7 +56,7 @@ impl Plain {
         if !limits.is_valid() {
             return Err(Refusal::BadLimits);
         }
-        let Ok(passes) = fresh_passes(alloc, limits.parts) else {
+        let Ok(passes) = fresh_passes(alloc, limits.parts, limits.rows) else {
             return Err(Refusal::NoMemory);
         };
         let rows = limits.parts as u32 * limits.rows as u32;
@@ -88,10 +89,10 @@ impl Plain {
     }
 
     /// A client puts a new request into a stage.
-    pub fn submit(&mut self, caller: u16, stage: u8, key: u64, amount: u64) -> Result<u32, Refusal>
+    pub fn submit(&mut self, caller: u16, stage: u8, body: Body) -> Result<u32, Refusal>
         requires { caller < self.old.limits.parts }
-        ensures answer { Answers self.old (CallSubmit caller stage key amount result) self.new }
-        ensures computed { IsComputed self.old self.new result (submit_of self.old caller stage key amount) }
+        ensures answer { Answers self.old (CallSubmit caller stage body result) self.new }
+        ensures computed { IsComputed self.old self.new result (submit_of self.old caller stage body) }
         ensures hands { (c : ℕ) → (pass_at self.new c).holding ≡ (pass_at self.old c).holding }
         ensures limits { self.new.limits ≡ self.old.limits }
     {
@@ -99,16 +100,15 @@ impl Plain {
             return Err(Refusal::BadStage);
         }
         let used = self.passes[caller as usize];
-        if used.drawn >= self.limits.rows {
+        if used.left == 0 {
             return Err(Refusal::Full);
         }
-        let id = caller as u32 * self.limits.rows as u32 + used.drawn as u32;
+        let id = used.next;
         let element = Element {
             id,
             stage,
             root: id,
-            key,
-            amount,
+            body,
             by: None,
         };
         let look = Look {
@@ -119,7 +119,8 @@ impl Plain {
             return Err(Refusal::NoMemory);
         };
         self.passes[caller as usize] = PassState {
-            drawn: used.drawn + 1,
+            next: used.next + 1,
+            left: used.left - 1,
             claimed: used.claimed,
             holding: used.holding,
         };
@@ -149,7 +150,8 @@ impl Plain {
         let note = Note::Claim(caller, unit, look.element.id, attempt);
         apply(self.limits.attempts, &mut self.looks, &note);
         self.passes[caller as usize] = PassState {
-            drawn: used.drawn,
+            next: used.next,
+            left: used.left,
             claimed: used.claimed + 1,
             holding: Some(unit),
         };
@@ -172,23 +174,25 @@ impl Plain {
         ensures limits { self.new.limits ≡ self.old.limits }
     {
         let used = self.passes[caller as usize];
-        if used.drawn as usize + drafts.len() > self.limits.rows as usize {
+        if drafts.len() > used.left as usize {
             let _ended = self.abort(caller);
             return Ok(Outcome::Full);
         }
-        let drawn = used.drawn + drafts.len() as u16;
+        let next = used.next + drafts.len() as u32;
+        let left = used.left - drafts.len() as u16;
         let Some(unit) = used.holding else {
             return Ok(Outcome::Lost);
         };
         let Some(look) = held_by(&self.looks, unit) else {
             self.passes[caller as usize] = PassState {
-                drawn,
+                next,
+                left,
                 claimed: used.claimed,
                 holding: None,
             };
             return Ok(Outcome::Lost);
         };
-        let first = caller as u32 * self.limits.rows as u32 + used.drawn as u32;
+        let first = used.next;
         let Ok(outs) = outputs_of(self.alloc, unit, look.element.root, first, drafts) else {
             return Err(Refusal::NoMemory);
         };
@@ -201,7 +205,8 @@ impl Plain {
         let note = Note::Commit(caller, unit, &outs);
         apply(self.limits.attempts, &mut self.looks, &note);
         self.passes[caller as usize] = PassState {
-            drawn,
+            next,
+            left,
             claimed: used.claimed,
             holding: None,
         };
@@ -227,7 +232,8 @@ impl Plain {
         };
         let held = held_by(&self.looks, unit);
         self.passes[caller as usize] = PassState {
-            drawn: used.drawn,
+            next: used.next,
+            left: used.left,
             claimed: used.claimed,
             holding: None,
         };
@@ -309,14 +315,15 @@ fn fresh_rounds(alloc: Global, rows: u32) -> Result<Vec<u8>, AllocError>
     Ok(rounds)
 }
 
-// So many passes that have done nothing.
-fn fresh_passes(alloc: Global, parts: u16) -> Result<Vec<PassState>, AllocError>
-    ensures { IfOk result (λ v. v.items ≡ replicate parts fresh_pass) }
+// So many passes that have done nothing, each with so many rows.
+fn fresh_passes(alloc: Global, parts: u16, rows: u16) -> Result<Vec<PassState>, AllocError>
+    ensures { IfOk result (λ v. v.items ≡ map (fresh_pass rows) (range_with_len 0 parts)) }
 {
     let mut passes = Vec::with_capacity(alloc, parts as usize)?;
-    for _ in 0..parts {
+    for pass in 0..parts {
         passes.push(PassState {
-            drawn: 0,
+            next: pass as u32 * rows as u32,
+            left: rows,
             claimed: 0,
             holding: None,
         })?;

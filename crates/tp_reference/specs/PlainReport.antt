@@ -73,9 +73,9 @@ submit_text (Ok id) = submitted_text id
 submit_text (Err why) = refusal_text why
 
 -- a submit by the client
-abbrev pub submit_step : ℕ → ℕ → ℕ → State → List ℕ × State
-submit_step stage key amount s =
-    let answer = submit_of s.manager client stage key amount in
+abbrev pub submit_step : ℕ → List ℕ → State → List ℕ × State
+submit_step stage body s =
+    let answer = submit_of s.manager client stage body in
     (line (submit_text answer.0), record { manager = answer.1; registers = s.registers })
 
 -- a turn of the server
@@ -112,7 +112,7 @@ turn_at None s = ([], s)
 
 -- one command; those that a script of the plain reach doesn't have write nothing
 abbrev pub command_step : List ServerView → Command → State → List ℕ × State
-command_step servers (Client (acts.Submit stage key amount)) s = submit_step stage key amount s
+command_step servers (Client (acts.Submit stage body)) s = submit_step stage body s
 command_step servers (Client (acts.Reply root)) s = reply_step root s
 command_step servers (Desk server desks.Turn) s = turn_at (slice_get servers server) s
 command_step servers other s = ([], s)

@@ -13,7 +13,7 @@ ghost use Rattle.tp_script.specs.Script.{script_view, server_view};
 use std::alloc::{AllocError, Global};
 use std::string::String;
 use tp_desk::Turned;
-use tp_model::types::{Claimed, Element, Limits, Look, Outcome, Refusal, Status, Work};
+use tp_model::types::{Body, Claimed, Element, Limits, Look, Outcome, Refusal, Status, Work};
 use tp_plain::plain::Plain;
 use tp_report::{Answer, ServerAnswer, line};
 use tp_script::{ClientAct, Command, DeskAct, Script, ScriptServer};
@@ -54,17 +54,11 @@ impl PlainRun {
     }
 
     // Performs a submit and answers its line.
-    fn submit(
-        &mut self,
-        alloc: Global,
-        stage: u8,
-        key: u64,
-        amount: u64,
-    ) -> Result<String, AllocError>
+    fn submit(&mut self, alloc: Global, stage: u8, body: Body) -> Result<String, AllocError>
         requires { 0 < self.old.plain.limits.parts }
-        ensures step { IfOk result (λ text. submit_step stage key amount (state self.old) ≡ (string_bytes text, state self.new)) }
+        ensures step { IfOk result (λ text. submit_step stage body (state self.old) ≡ (string_bytes text, state self.new)) }
     {
-        match self.plain.submit(CLIENT, stage, key, amount) {
+        match self.plain.submit(CLIENT, stage, body) {
             Ok(id) => line(alloc, Answer::Submitted { id }),
             Err(Refusal::NoMemory) => Err(AllocError),
             Err(Refusal::BadStage) => line(alloc, Answer::Refused(Refusal::BadStage)),
@@ -97,7 +91,7 @@ impl PlainRun {
         };
         match self.plain.commit(WORKER, prepared.drafts.as_slice()) {
             Ok(Outcome::Committed { first, count }) => {
-                self.registers.set(work.element.key, prepared.after);
+                self.registers.set(work.element.body[0], prepared.after);
                 let unit = work.unit;
                 Ok(Turned::Done {
                     unit,
@@ -192,9 +186,7 @@ impl PlainRun {
         ensures ready { IfOk result (λ _. IsReady (map server_view servers.now) self.new.plain) }
     {
         match command {
-            Command::Client(ClientAct::Submit { stage, key, amount }) => {
-                self.submit(alloc, stage, key, amount)
-            }
+            Command::Client(ClientAct::Submit { stage, body }) => self.submit(alloc, stage, body),
             Command::Client(ClientAct::Reply { root }) => self.reply(alloc, root),
             Command::Desk { server, act } => match act {
                 DeskAct::Turn => self.turn_line(alloc, &servers[server]),

@@ -1,5 +1,5 @@
 -- The texts of answers, and the lines of a report.
-use Rattle.std.specs.Prelude.{ℕ, List, Option, Some, None, codes, decimal}
+use Rattle.std.specs.Prelude.{ℕ, List, [], Bool, ◌&&◌, ◌==◌, if◌then◌else◌, Option, Some, None, codes, decimal, slice_index}
 use Rattle.std.specs.List.{flat_map}
 use Rattle.tp_model.specs.declared.types.Counts.{Counts}
 use Rattle.tp_model.specs.declared.types.Element.{Element}
@@ -80,16 +80,35 @@ status_text (status.Consumed unit) = codes "consumed " <> decimal unit
 status_text (status.Parked attempts) = codes "parked " <> decimal attempts
 status_text status.Killed = codes "killed"
 
+-- whether words 2 and 3 of a body are 0: then they aren't told
+abbrev pub is_short : List ℕ → Bool
+is_short body = (slice_index body 2 == 0) && (slice_index body 3 == 0)
+
+-- a body as it was read
+abbrev pub two_words_text : List ℕ → List ℕ
+two_words_text body = codes " key " <> decimal (slice_index body 0) <> codes " amount " <> decimal (slice_index body 1)
+
+abbrev pub more_words_text : List ℕ → List ℕ
+more_words_text body = if is_short body then [] else codes " more " <> decimal (slice_index body 2) <> codes " " <> decimal (slice_index body 3)
+
 -- an element as it was read
-abbrev pub element_text : Element → List ℕ
-element_text e = decimal e.id <> codes " stage " <> decimal e.stage <> codes " root " <> decimal e.root <> codes " key " <> decimal e.key <> codes " amount " <> decimal e.amount <> codes " by "
+unfoldable pub element_text : Element → List ℕ
+element_text e = (decimal e.id <> codes " stage " <> decimal e.stage <> codes " root " <> decimal e.root <> two_words_text e.body) <> more_words_text e.body <> codes " by "
 
 abbrev pub look_text : Look → List ℕ
 look_text look = element_text look.element <> maker_text look.element.by <> codes " " <> status_text look.status
 
--- the replies to a request
+-- a reply: its id, and its body
+abbrev pub two_words : List ℕ → List ℕ
+two_words body = codes ":" <> decimal (slice_index body 0) <> codes ":" <> decimal (slice_index body 1)
+
+abbrev pub more_words : List ℕ → List ℕ
+more_words body = if is_short body then [] else codes ":" <> decimal (slice_index body 2) <> codes ":" <> decimal (slice_index body 3)
+
 abbrev pub reply_text : Element → List ℕ
-reply_text e = codes " " <> decimal e.id <> codes ":" <> decimal e.key <> codes ":" <> decimal e.amount
+reply_text e = (codes " " <> decimal e.id <> two_words e.body) <> more_words e.body
+
+-- the replies to a request
 
 abbrev pub replies_text : ℕ → List Element → List ℕ
 replies_text root replies = (codes "replies " <> decimal root) <> flat_map reply_text replies

@@ -1,12 +1,12 @@
 //! How answers are told: the one place where the texts of a report's lines stand.
 ghost use Rattle.std.specs.Prelude.{◌≡◌, Some};
 ghost use Rattle.std.specs.Fmt.{WritesOnOk};
-ghost use Rattle.tp_report.specs.Answer.{turned_text, server_text, refusal_text, maker_text, status_text, look_text, replies_text, errors_text, counts_text, account_text, balance_text, final_text, answer_text};
+ghost use Rattle.tp_report.specs.Answer.{turned_text, server_text, refusal_text, maker_text, status_text, is_short, more_words_text, element_text, look_text, reply_text, replies_text, errors_text, counts_text, account_text, balance_text, final_text, answer_text};
 
 use crate::answer::{Answer, ServerAnswer};
 use std::fmt;
 use tp_desk::Turned;
-use tp_model::types::{Counts, Element, Look, Refusal, Status};
+use tp_model::types::{Body, Counts, Element, Look, Refusal, Status};
 
 // What a turn came to.
 fn turned<W: fmt::Write>(f: &mut fmt::Formatter<W>, turned: Turned) -> fmt::Result
@@ -89,25 +89,65 @@ fn status<W: fmt::Write>(f: &mut fmt::Formatter<W>, status: Status) -> fmt::Resu
     }
 }
 
-// An element as it was read.
-fn look<W: fmt::Write>(f: &mut fmt::Formatter<W>, look: Look) -> fmt::Result
-    ensures { WritesOnOk W.write_str_gives f.old result (look_text look) f.new }
+// Whether words 2 and 3 of a body are 0: then they aren't told.
+fn is_short(body: &Body) -> bool
+    ensures { result ≡ is_short body.now }
+{
+    body[2] == 0 && body[3] == 0
+}
+
+// Words 2 and 3 of a body as it was read.
+fn more_words<W: fmt::Write>(f: &mut fmt::Formatter<W>, body: &Body) -> fmt::Result
+    ensures { WritesOnOk W.write_str_gives f.old result (more_words_text body.now) f.new }
+{
+    if is_short(body) {
+        return Ok(());
+    }
+    let [_, _, word_two, word_three] = *body;
+    write!(f, " more {word_two} {word_three}")
+}
+
+// An element as it was read, up to who made it.
+#[tactic(auto, unfolding(crate::specs::Answer::element_text))]
+fn element<W: fmt::Write>(f: &mut fmt::Formatter<W>, element: &Element) -> fmt::Result
+    ensures { WritesOnOk W.write_str_gives f.old result (element_text element.now) f.new }
 {
     let Element {
         id,
         stage,
         root,
-        key,
-        amount,
-        by,
-    } = look.element;
+        ..
+    } = *element;
+    let [key, amount, ..] = element.body;
     write!(
         f,
-        "{id} stage {stage} root {root} key {key} amount {amount} by "
+        "{id} stage {stage} root {root} key {key} amount {amount}"
     )?;
-    maker(f, by)?;
+    more_words(f, &element.body)?;
+    write!(f, " by ")
+}
+
+// An element as it was read.
+fn look<W: fmt::Write>(f: &mut fmt::Formatter<W>, look: Look) -> fmt::Result
+    ensures { WritesOnOk W.write_str_gives f.old result (look_text look) f.new }
+{
+    element(f, &look.element)?;
+    maker(f, look.element.by)?;
     write!(f, " ")?;
     status(f, look.status)
+}
+
+// A reply: its id, and its body.
+fn reply<W: fmt::Write>(f: &mut fmt::Formatter<W>, reply: &Element) -> fmt::Result
+    ensures { WritesOnOk W.write_str_gives f.old result (reply_text reply.now) f.new }
+{
+    let id = reply.id;
+    let [key, amount, word_two, word_three] = reply.body;
+    write!(f, " {id}:{key}:{amount}")?;
+    if is_short(&reply.body) {
+        return Ok(());
+    }
+    write!(f, ":{word_two}:{word_three}")
 }
 
 // The replies to a request.
@@ -115,14 +155,8 @@ fn replies<W: fmt::Write>(f: &mut fmt::Formatter<W>, root: u32, replies: &[Eleme
     ensures { WritesOnOk W.write_str_gives f.old result (replies_text root replies.now) f.new }
 {
     write!(f, "replies {root}")?;
-    for reply in replies {
-        let Element {
-            id,
-            key,
-            amount,
-            ..
-        } = *reply;
-        write!(f, " {id}:{key}:{amount}")?;
+    for element in replies {
+        reply(f, element)?;
     }
     Ok(())
 }

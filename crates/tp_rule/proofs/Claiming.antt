@@ -57,9 +57,9 @@ claim_quiet c v i n u w = option_or-None w
 
 module _ (k : Limits) where
   -- the rows of the pass that made an event without births, at the claim word of a row
-  pub rows_still : (h : List Event) (ws : List ℕ) (e : Event) (row x c first drawn : ℕ) (key amount : Option ℕ) (ds : List Element) → row < rows_of k → births e ≡ [] → c < k.parts
-      → RowsHold k h ws c first drawn key amount ds → RowsHold k (h ++ e ∷ []) (set ws (claim_place row) x) c first drawn key amount ds
-  rows_still h ws e row x c first drawn key amount ds at none_born below r = rows_frame k h (h ++ e ∷ []) ws (set ws (claim_place row) x) c first drawn key amount ds below
+  pub rows_still : (h : List Event) (ws : List ℕ) (e : Event) (row x c first next left : ℕ) (body : List ℕ) (ds : List Element) → row < rows_of k → births e ≡ [] → c < k.parts
+      → RowsHold k h ws c first next left body ds → RowsHold k (h ++ e ∷ []) (set ws (claim_place row) x) c first next left body ds
+  rows_still h ws e row x c first next left body ds at none_born below r = rows_frame k h (h ++ e ∷ []) ws (set ws (claim_place row) x) c first next left body ds below
       (λ i part. row_left k ws (ClaimOf row) x at i (in_all k.parts k.rows c i part) (λ q. cc))
       (λ i part un. unborn_still h e i un (λ z n id. in_none (subst (λ l. In z l) none_born n))) r
 
@@ -143,7 +143,7 @@ module _ (k : Limits) where
       (λ i not. ap (λ b. cond b (TakenWord n u (round_in (claim_word h i))) (claim_word h i)) (ne_eqb row i (λ z. not (sym z)))) (claim_quiet a.number u row n) (λ z. refl) record {
         given = mine.given;
         mine = ap (λ l. l ++ e ∷ []) mine.mine ∙ sym (by_own a.number h e refl);
-        rows = rows_still h s.words e row new a.number a.first_draft a.drawn a.next_key a.next_amount a.drafts room refl mine.given mine.rows;
+        rows = rows_still h s.words e row new a.number a.first_draft a.next a.left a.next_body a.drafts room refl mine.given mine.rows;
         units = units_claim h s.words a.number row n a.claimed u r.world is_next left units;
       } in (
         after kinds.ClaimExchange (with_claim u e) (h ++ e ∷ []) v.known v,

@@ -1,5 +1,5 @@
 -- The commit exchange and the abort exchange keep the rule.
-use Rattle.std.proofs.Common.{◌≡◌, ℕ, ◌+◌, ◌*◌, ◌<◌, ◌≤◌, ◌≢◌, eqb, List, [], ◌∷◌, ◌++◌, length, set, get_or, sym, refl, ap, ◌∙◌, subst, ◌⊎◌, inr, ⊎_elim, arith, eq-eqb, ne_eqb, Option, Some, None}
+use Rattle.std.proofs.Common.{◌≡◌, ℕ, ◌+◌, ◌*◌, ◌<◌, ◌≤◌, ◌≢◌, eqb, List, [], ◌∷◌, ◌++◌, length, set, get_or, slice_index, sym, refl, ap, ◌∙◌, subst, ◌⊎◌, inr, ⊎_elim, arith, eq-eqb, ne_eqb, Option, Some, None}
 use Rattle.std.specs.Option.{option_or}
 use mathlib.Core.Logic.{dite}
 use native.Mathlib.Decide.{ℕ_discrete}
@@ -16,7 +16,7 @@ use Rattle.tp_model.specs.Words.{claim_word, claim_word_after}
 use Rattle.tp_model.proofs.Bridges.{found_later, taking_later, by_own, claim_either, in_none, unborn_still, unused_still}
 use Rattle.tp_model.proofs.Lists.{option_or-None, if_same, if_other}
 use Rattle.tp_model.proofs.WordProofs.{end_of-snoc}
-use Rattle.tp_words.specs.Places.{Word, HeadWord, KeyWord, AmountWord, ClaimWord, UnitWord, MarkWord, head_place, key_place, amount_place, claim_place, unit_place, place_of}
+use Rattle.tp_words.specs.Places.{Word, HeadWord, BodyWord, ClaimWord, UnitWord, MarkWord, IsThere, head_place, body_place, claim_place, unit_place, place_of}
 use Rattle.tp_words.specs.Words.{IsFitHead, IsFitUnit, head_of, pack_by, pack_head, pack_unit}
 use Rattle.tp_rule.specs.Doors.{Permits}
 use Rattle.tp_rule.specs.Plays.{exchanges_commit, exchanges_abort}
@@ -68,6 +68,7 @@ are_outputs k h c u root i (y ∷ ys) from places outs_so = let p = places y her
     row = subst (IsOf k.parts k.rows c) from.0 p.0;
     unborn = subst (IsUnborn h) from.0 p.1;
     stage = o.0;
+    body = o.3;
     by = o.1;
     root_is = o.2;
   },
@@ -105,13 +106,13 @@ module _ (k : Limits) where
 
   -- what the words tell after an event that decides unit u, where those of each row that is born hold its element
   decided_told : (h : List Event) (ws : List ℕ) (e : Event) (u : ℕ) → ((i : ℕ) → claim_word_after i (claim_word h i) e ≡ claim_word h i) → ((z : ℕ) → z ≢ u → decide z (end_of h z) e ≡ end_of h z)
-      → ((y : Element) → In y (births e) → Holds ws y × IsFitHead (head_of y)) → (w : Word) → w ≢ UnitWord u → Told h w (get_or ws (place_of k w) 0) → Told (h ++ e ∷ []) w (get_or ws (place_of k w) 0)
-  decided_told h ws e u quiet else_is full (HeadWord i) other old = head_later h e i (get_or ws (head_place i) 0) (λ y q id. let f = full y q in (subst (λ z. get_or ws (head_place z) 0 ≡ pack_head (head_of y)) id f.0.0, f.1)) old
-  decided_told h ws e u quiet else_is full (KeyWord i) other old = body_later h e i (get_or ws (key_place i) 0) (λ y. y.key) (λ y q id. subst (λ z. get_or ws (key_place z) 0 ≡ y.key) id (full y q).0.1) old
-  decided_told h ws e u quiet else_is full (AmountWord i) other old = body_later h e i (get_or ws (amount_place i) 0) (λ y. y.amount) (λ y q id. subst (λ z. get_or ws (amount_place z) 0 ≡ y.amount) id (full y q).0.2) old
-  decided_told h ws e u quiet else_is full (ClaimWord i) other old = claim_later h e i (get_or ws (claim_place i) 0) (quiet i) old
-  decided_told h ws e u quiet else_is full (MarkWord p) other old = tt
-  decided_told h ws e u quiet else_is full (UnitWord z) other old = unit_later h e z (get_or ws (unit_place k z) 0) (else_is z (λ same. other (ap UnitWord same))) old
+      → ((y : Element) → In y (births e) → Holds ws y × IsFitHead (head_of y)) → (w : Word) → IsThere k w → w ≢ UnitWord u → Told h w (get_or ws (place_of k w) 0) → Told (h ++ e ∷ []) w (get_or ws (place_of k w) 0)
+  decided_told h ws e u quiet else_is full (HeadWord i) at other old = head_later h e i (get_or ws (head_place i) 0) (λ y q id. let f = full y q in (subst (λ z. get_or ws (head_place z) 0 ≡ pack_head (head_of y)) id f.0.0, f.1)) old
+  decided_told h ws e u quiet else_is full (BodyWord i j) at other old = body_later h e i (get_or ws (body_place i j) 0) (λ y. slice_index y.body j)
+      (λ y q id. let holds = (full y q).0 in let below = at.1 in let whole = holds.2 in subst (λ z. get_or ws (body_place z j) 0 ≡ slice_index y.body j) id (holds.1 j (omega arith))) old
+  decided_told h ws e u quiet else_is full (ClaimWord i) at other old = claim_later h e i (get_or ws (claim_place i) 0) (quiet i) old
+  decided_told h ws e u quiet else_is full (MarkWord p) at other old = tt
+  decided_told h ws e u quiet else_is full (UnitWord z) at other old = unit_later h e z (get_or ws (unit_place k z) 0) (else_is z (λ same. other (ap UnitWord same))) old
 
   -- an event of the pass that decides unit u
   unit_event : (t : Turn k) (e : Event) (u x : ℕ) (w : Option UnitEnd) (kind : StepKind) → u < units_of k → x ≡ pack_unit w → IsFitUnit w → pass_of e ≡ (hand t.view).number → Step k t.rule.history e
@@ -130,7 +131,7 @@ module _ (k : Limits) where
     step = st;
     there = room;
     told = unit_now h e u x w here_is is fit;
-    rest = λ v there other. decided_told h t.state.words e u quiet else_is full v other (t.rule.world.tells v there);
+    rest = λ v there other. decided_told h t.state.words e u quiet else_is full v there other (t.rule.world.tells v there);
     empty = λ i q. absurd cc;
     unmarked = λ z q. cc;
     apart = λ d i ne part q. cc;
@@ -138,17 +139,18 @@ module _ (k : Limits) where
   }
 
   -- the rows of the pass that decided a unit; its births are its drafts, or there are none
-  rows_end : (h : List Event) (ws : List ℕ) (e : Event) (u x c first drawn : ℕ) (key amount : Option ℕ) (ds : List Element) → u < units_of k → c < k.parts → ((y : Element) → In y (births e) → In y ds)
-      → RowsHold k h ws c first drawn key amount ds → RowsHold k (h ++ e ∷ []) (set ws (unit_place k u) x) c drawn drawn key amount []
-  rows_end h ws e u x c first drawn key amount ds at below from r = let r2 = rows_lost k h ws c first drawn key amount ds r in let same_words = λ (i : ℕ) (part : IsOf k.parts k.rows c i). row_left k ws (UnitWord u) x at i (in_all k.parts k.rows c i part) (λ q. cc) in
-      let count = r.counted in let r3 = rows_frame k h h ws (set ws (unit_place k u) x) c drawn drawn key amount [] below same_words (λ i part un. un) r2 in record {
+  rows_end : (h : List Event) (ws : List ℕ) (e : Event) (u x c first next left : ℕ) (body : List ℕ) (ds : List Element) → u < units_of k → c < k.parts → ((y : Element) → In y (births e) → In y ds)
+      → RowsHold k h ws c first next left body ds → RowsHold k (h ++ e ∷ []) (set ws (unit_place k u) x) c next next left body []
+  rows_end h ws e u x c first next left body ds at below from r = let r2 = rows_lost k h ws c first next left body ds r in let same_words = λ (i : ℕ) (part : IsOf k.parts k.rows c i). row_left k ws (UnitWord u) x at i (in_all k.parts k.rows c i part) (λ q. cc) in
+      let count = r.counted in let r3 = rows_frame k h h ws (set ws (unit_place k u) x) c next next left body [] below same_words (λ i part un. un) r2 in record {
         counted = r3.counted;
-        drawn_below = r3.drawn_below;
-        unborn = λ i l m. unborn_still h e i (r2.unborn i l m) (λ z n id. let t = in_run (c * k.rows + first) ds z r.run (from z n) in let b = t.1 in absurd (omega arith));
+        begins = r3.begins;
+        ends = r3.ends;
+        unborn = λ i l m. unborn_still h e i (r2.unborn i l m) (λ z n id. let t = in_run first ds z r.run (from z n) in let b = t.1 in absurd (omega arith));
         full = r3.full;
         empty = r3.empty;
-        key_there = r3.key_there;
-        amount_there = r3.amount_there;
+        body_few = r3.body_few;
+        body_there = r3.body_there;
         run = tt;
         written = λ z q. absurd (in_none q);
       }
@@ -157,15 +159,15 @@ module _ (k : Limits) where
   first_of_none [] e = refl
   first_of_none (y ∷ ys) e = absurd (omega arith)
 
-  first_fits : (h : List Event) (c first drawn : ℕ) (ds : List Element) → AreLimits k → c < k.parts → first + length ds ≡ drawn → drawn ≤ k.rows → AreFrom (c * k.rows + first) ds → first_id ds < 65536
-  first_fits h c first drawn [] fair below count top r = omega arith
-  first_fits h c first drawn (y ∷ ys) fair below count top r = let id : y.id ≡ c * k.rows + first = r.0 in let part : IsOf k.parts k.rows c y.id = (below, omega arith, omega arith) in let all = in_all k.parts k.rows c y.id part in let few = fair_rows k fair in omega arith
+  first_fits : (h : List Event) (c first next left : ℕ) (ds : List Element) → AreLimits k → c < k.parts → first + length ds ≡ next → c * k.rows ≤ first → next + left ≡ c * k.rows + k.rows → AreFrom first ds → first_id ds < 65536
+  first_fits h c first next left [] fair below count low top r = omega arith
+  first_fits h c first next left (y ∷ ys) fair below count low top r = let id : y.id ≡ first = r.0 in let part : IsOf k.parts k.rows c y.id = (below, omega arith, omega arith) in let all = in_all k.parts k.rows c y.id part in let few = fair_rows k fair in omega arith
 
   lost_hand : (h : List Event) (ws : List ℕ) (u : ℕ) (a : Hand) → a.open_unit ≡ Some u → end_of h u ≡ (Some Aborted) → HandHolds k h ws a → HandHolds k h ws (with_lost a)
   lost_hand h ws u a held gone r = record {
     given = r.given;
     mine = r.mine;
-    rows = rows_lost k h ws a.number a.first_draft a.drawn a.next_key a.next_amount a.drafts r.rows;
+    rows = rows_lost k h ws a.number a.first_draft a.next a.left a.next_body a.drafts r.rows;
     units = units_decided h a.number a.claimed u a.spare_unit a.open_unit (inr held) (λ z. let q : (Some Aborted) ≡ None = sym gone ∙ z in absurd cc) r.units;
   }
 
@@ -184,7 +186,7 @@ module _ (k : Limits) where
       → Permits k v p (λ x. either (eqb x 0) new x) (exchanges_commit p 0 new v)
   commits_go v p new u first count fair one lim held work few f_is c_is room place to s r id at = let t : Turn k = record { state = s; rule = r; id = id; view = v; at = at; one = one } in let a : Hand = hand v in let x : ℕ = get_or s.words p 0 in let h = r.history in
       let seat = seat_holds k t in let mine = hand_holds k t in let ds : List Element = a.drafts in let word : p ≡ unit_place v.limits u = place ∙ ap (λ (l : Limits). unit_place l u) (sym lim) in dite (ℕ_discrete x 0)
-      (λ hit. let e : Event = committed v u in let undecided = open_unit t p u place room hit in let rows = mine.rows in let count_is = rows.counted in let top = rows.drawn_below in
+      (λ hit. let e : Event = committed v u in let undecided = open_unit t p u place room hit in let rows = mine.rows in let count_is = rows.counted in let bottom = rows.begins in let top = rows.ends in
       let item = found_later v.seen h seat.seen work.taking.item work.item work.taken in
       let st : Step k h e = record {
         taking = work.taking;
@@ -193,17 +195,17 @@ module _ (k : Limits) where
         item = work.item;
         taken = item;
         few = few;
-        outputs = are_outputs k h a.number u work.item.root (first_id ds) ds (run_first (a.number * k.rows + a.first_draft) ds rows.run)
-            (λ y q. let b = in_run (a.number * k.rows + a.first_draft) ds y rows.run q in let l = b.0 in let m = b.1 in ((mine.given, omega arith, omega arith), rows.unborn y.id (omega arith) (omega arith))) work.outputs;
+        outputs = are_outputs k h a.number u work.item.root (first_id ds) ds (run_first a.first_draft ds rows.run)
+            (λ y q. let b = in_run a.first_draft ds y rows.run q in let l = b.0 in let m = b.1 in ((mine.given, omega arith, omega arith), rows.unborn y.id (omega arith) (omega arith))) work.outputs;
       } in
       let now : decide u (end_of h u) e ≡ Some (Committed first count) = ap (λ z. decide u z e) undecided ∙ (commit_here a.number u ds ∙ (λ i. Some (Committed (sym f_is i) (sym c_is i)))) in
-      let many = fair_units k fair in let none_first : count ≡ 0 → first ≡ 0 = λ z. f_is ∙ first_of_none ds (sym c_is ∙ z) in let small = first_fits h a.number a.first_draft a.drawn ds fair mine.given rows.counted rows.drawn_below rows.run in
+      let many = fair_units k fair in let none_first : count ≡ 0 → first ≡ 0 = λ z. f_is ∙ first_of_none ds (sym c_is ∙ z) in let small = first_fits h a.number a.first_draft a.next a.left ds fair mine.given rows.counted rows.begins rows.ends rows.run in
       let old = born_fit k h s.words r.world work.taking.item work.item item in let low : work.item.root ≤ 65535 = old.2 in
       let done = unit_event t e u new (Some (Committed first count)) kinds.CommitExchange room to (omega arith, omega arith, none_first) refl st (λ i. refl) now (λ z ne. commit_else a.number u ds z (end_of h z) ne)
       (λ y q. let o = work.outputs y q in let same_root : y.root ≡ work.item.root = o.2 in (rows.written y q, (o.0.0, o.0.1, omega arith, subst (λ z. pack_by z ≤ 65535) (sym o.1) (omega arith)))) record {
         given = mine.given;
         mine = ap (λ l. l ++ e ∷ []) mine.mine ∙ sym (by_own a.number h e refl);
-        rows = rows_end h s.words e u new a.number a.first_draft a.drawn a.next_key a.next_amount ds room mine.given (λ y q. q) rows;
+        rows = rows_end h s.words e u new a.number a.first_draft a.next a.left a.next_body ds room mine.given (λ y q. q) rows;
         units = units_end h e a.number a.claimed u a.spare_unit a.open_unit (inr held) (λ d z i n q. cc) (λ z. let q : Some (Committed first count) ≡ None = sym (end_of-snoc h e u ∙ now) ∙ z in absurd cc) mine.units;
       } in (
         after kinds.CommitExchange (with_end e) (h ++ e ∷ []) v.known v,
@@ -226,7 +228,7 @@ module _ (k : Limits) where
       let done = unit_event t e u 2 (Some Aborted) kinds.AbortExchange room refl tt refl st (λ i. refl) now (λ z ne. abort_else a.number u z (end_of h z) ne) (λ y q. absurd (in_none q)) record {
         given = mine.given;
         mine = ap (λ l. l ++ e ∷ []) mine.mine ∙ sym (by_own a.number h e refl);
-        rows = rows_end h s.words e u 2 a.number a.first_draft a.drawn a.next_key a.next_amount a.drafts room mine.given (λ y q. absurd (in_none q)) mine.rows;
+        rows = rows_end h s.words e u 2 a.number a.first_draft a.next a.left a.next_body a.drafts room mine.given (λ y q. absurd (in_none q)) mine.rows;
         units = units_end h e a.number a.claimed u a.spare_unit a.open_unit holding (λ d z i n q. cc) (λ z. let q : (Some Aborted) ≡ None = sym (end_of-snoc h e u ∙ now) ∙ z in absurd cc) mine.units;
       } in (
         after kinds.AbortExchange (with_end e) (h ++ e ∷ []) v.known v,

@@ -1,6 +1,5 @@
 -- Draft stores keep the rule.
-use Rattle.std.proofs.Common.{◌≡◌, ℕ, ◌+◌, ◌*◌, ◌<◌, ◌≤◌, ◌≢◌, List, [], ◌∷◌, ◌++◌, length, set, get_or, sym, refl, ap, ◌∙◌, subst, ⊎_elim, arith, length-append, Option, Some, None}
-use Rattle.std.specs.Prelude.{IsSome}
+use Rattle.std.proofs.Common.{◌≡◌, ℕ, zero, suc, ◌+◌, ◌-◌, ◌*◌, ◌<◌, ◌≤◌, ◌≢◌, List, [], ◌∷◌, ◌++◌, length, take, set, get_or, slice_index, sym, refl, ap, ◌∙◌, subst, ⊎_elim, arith, length-append, Some, None}
 use mathlib.Core.Logic.{dite}
 use native.Mathlib.Decide.{ℕ_discrete}
 use Rattle.tp_model.specs.declared.event.Event.{Event}
@@ -8,23 +7,48 @@ use Rattle.tp_model.specs.declared.trace.StepKind.TheVariants as kinds
 use Rattle.tp_model.specs.declared.types.Element.{Element}
 use Rattle.tp_model.specs.declared.types.Limits.{Limits}
 use Rattle.tp_model.specs.History.{In, IsUnborn, element_of}
-use Rattle.tp_model.specs.Steps.{rows_of}
+use Rattle.tp_model.specs.declared.types.TheConstants.{BODY_WORDS}
+use Rattle.tp_model.specs.Steps.{IsBody, rows_of}
 use Rattle.tp_model.proofs.Bridges.{begins_refl, in_either, in_one}
-use Rattle.tp_words.specs.Places.{Word, HeadWord, KeyWord, AmountWord, MarkWord, IsThere, head_place, key_place, amount_place, place_of, size_of}
+use Rattle.tp_words.specs.Places.{Word, HeadWord, BodyWord, MarkWord, IsThere, head_place, body_place, place_of, size_of}
 use Rattle.tp_words.specs.Words.{head_of, pack_head}
 use Rattle.tp_words.specs.declared.words.Head.TheVariants.{There}
 use Rattle.tp_rule.specs.Doors.{Permits}
-use Rattle.tp_rule.specs.Plays.{stores_key, stores_amount, stores_head}
+use Rattle.tp_rule.specs.Plays.{stores_word, stores_head}
 use Rattle.tp_rule.specs.Rule.{HandHolds, Holds, RowsHold, Rule, StillSo, Told}
-use Rattle.tp_rule.specs.Steps.{drafted, with_key, with_amount, with_draft, next_element, or_zero, IsReady}
+use Rattle.tp_rule.specs.Steps.{drafted, with_word, with_draft, next_element, IsReady}
 use Rattle.tp_rule.specs.Views.{IsOnePass, hand}
 use Rattle.tp_rule.specs.declared.view.Hand.{Hand}
 use Rattle.tp_rule.specs.declared.view.Known.{Known}
 use Rattle.tp_rule.specs.declared.view.View.{View}
-use Rattle.tp_rule.proofs.Frames.{Turn, hand_holds, hand_quiet, limits_are, me, moved, seat_holds}
+use Rattle.tp_rule.proofs.Frames.{Turn, hand_holds, hand_quiet, me, moved, seat_holds}
 use Rattle.tp_rule.proofs.Parts.{IsOf, in_all, in_run, one_part, run_snoc}
 use Rattle.tp_rule.proofs.Storing.{body_row, full_head, holds_same, left, row_left, still_left, stored}
 use Rattle.tp_rule.proofs.Tellings.{world_stored}
+
+-- the words of a body, of which the m-th is stored behind those before it
+pub length_stored : (m x : ℕ) (body : List ℕ) → m ≤ length body → length (take m body ++ x ∷ []) ≡ suc m
+length_stored zero x body less = refl
+length_stored (suc m) x [] less = absurd (omega arith)
+length_stored (suc m) x (b ∷ body) less = ap suc (length_stored m x body (omega arith))
+
+pub last_stored : (m x : ℕ) (body : List ℕ) → m ≤ length body → get_or (take m body ++ x ∷ []) m 0 ≡ x
+last_stored zero x body less = refl
+last_stored (suc m) x [] less = absurd (omega arith)
+last_stored (suc m) x (b ∷ body) less = last_stored m x body (omega arith)
+
+pub first_stored : (m x j : ℕ) (body : List ℕ) → m ≤ length body → j < m → get_or (take m body ++ x ∷ []) j 0 ≡ get_or body j 0
+first_stored zero x j body less before = absurd (omega arith)
+first_stored (suc m) x j [] less before = absurd (omega arith)
+first_stored (suc m) x zero (b ∷ body) less before = refl
+first_stored (suc m) x (suc j) (b ∷ body) less before = first_stored m x j body (omega arith) (omega arith)
+
+-- a word of a body is no head, and is one of its body alone
+no_head : (i j n : ℕ) → BodyWord i j ≢ HeadWord n
+no_head i j n e = cc
+
+same_word : (i j n m : ℕ) → BodyWord i j ≡ BodyWord n m → j ≡ m
+same_word i j n m e = cc
 
 module _ (k : Limits) where
   -- a word of row `row` of pass c is of no row of pass d
@@ -32,16 +56,13 @@ module _ (k : Limits) where
   of_no_other c d row w is own ne i part e = let same : i ≡ row = cc in one_part k.parts k.rows d c row (subst (IsOf k.parts k.rows d) same part) own ne
 
   -- a store to a word of the row that pass c draws next
-  module _ (h : List Event) (ws : List ℕ) (c first drawn : ℕ) (w : Word) (x : ℕ) (at : IsThere k w) (below : c < k.parts) where
-    abbrev row : ℕ
-    row = c * k.rows + drawn
-
+  module _ (h : List Event) (ws : List ℕ) (c first row rest : ℕ) (w : Word) (x : ℕ) (at : IsThere k w) (below : c < k.parts) where
     abbrev stored_words : List ℕ
     stored_words = set ws (place_of k w) x
 
     -- leaves the drafts, which are behind it
-    pub drafts_stay : (key amount : Option ℕ) (ds : List Element) → body_row w ≡ Some row → drawn < k.rows → RowsHold k h ws c first drawn key amount ds → (e : Element) → In e ds → Holds stored_words e
-    drafts_stay key amount ds is room r e q = let b = in_run (c * k.rows + first) ds e r.run q in let low = b.0 in let high = b.1 in let count = r.counted in
+    pub drafts_stay : (body : List ℕ) (ds : List Element) → body_row w ≡ Some row → 0 < rest → RowsHold k h ws c first row rest body ds → (e : Element) → In e ds → Holds stored_words e
+    drafts_stay body ds is room r e q = let b = in_run first ds e r.run q in let low = b.0 in let high = b.1 in let count = r.counted in let bottom = r.begins in let top = r.ends in
         let part : IsOf k.parts k.rows c e.id = (below, omega arith, omega arith) in
         holds_same ws stored_words e (row_left k ws w x at e.id (in_all k.parts k.rows c e.id part) (λ z. let same : e.id ≡ row = cc in omega arith)) (r.written e q)
 
@@ -52,72 +73,66 @@ module _ (k : Limits) where
     heads_left : (i : ℕ) → w ≢ HeadWord i → IsOf k.parts k.rows c i → get_or ws (head_place i) 0 ≡ 0 → get_or stored_words (head_place i) 0 ≡ 0
     heads_left i other part empty = head_left i other part ∙ empty
 
-    key_stored : (key amount : Option ℕ) (ds : List Element) → w ≡ KeyWord row → drawn < k.rows → length ws ≡ size_of k → RowsHold k h ws c first drawn key amount ds → RowsHold k h stored_words c first drawn (Some x) amount ds
-    key_stored key amount ds is room wide r = let own : row < rows_of k = in_all k.parts k.rows c row (below, omega arith, omega arith) in record {
+    word_stored : (m : ℕ) (body : List ℕ) (ds : List Element) → w ≡ BodyWord row m → m ≤ length body → 0 < rest → length ws ≡ size_of k → RowsHold k h ws c first row rest body ds
+        → RowsHold k h stored_words c first row rest (take m body ++ x ∷ []) ds
+    word_stored m body ds is behind room wide r = let count = r.counted in let bottom = r.begins in let top = r.ends in let own : row < rows_of k = in_all k.parts k.rows c row (below, omega arith, omega arith) in let at_word : IsThere k (BodyWord row m) = subst (IsThere k) is at in let few = at_word.1 in record {
       counted = r.counted;
-      drawn_below = r.drawn_below;
+      begins = r.begins;
+      ends = r.ends;
       unborn = r.unborn;
-      full = λ i l m z. let top = r.drawn_below in r.full i l m (sym (head_left i (λ e. let q : KeyWord row ≡ HeadWord i = sym is ∙ e in absurd cc) (below, l, omega arith)) ∙ z);
-      empty = λ i l m. heads_left i (λ e. let q : KeyWord row ≡ HeadWord i = sym is ∙ e in absurd cc) (below, omega arith, m) (r.empty i l m);
-      key_there = λ y some. (room, ap (λ z. get_or stored_words (place_of k z) 0) (sym is) ∙ (stored k ws w x at wide ∙ cc some));
-      amount_there = λ y some. let t = r.amount_there y some in (room, left k ws w x at (AmountWord row) own (λ e. let q : AmountWord row ≡ KeyWord row = e ∙ is in absurd cc) ∙ t.1);
+      full = λ i l n z. r.full i l n (sym (head_left i (λ e. no_head row m i (sym is ∙ e)) (below, l, omega arith)) ∙ z);
+      empty = λ i l n. heads_left i (λ e. no_head row m i (sym is ∙ e)) (below, omega arith, omega arith) (r.empty i l n);
+      body_few = let long = length_stored m x body behind in omega arith;
+      body_there = λ _ j less. let long = length_stored m x body behind in dite (ℕ_discrete j m)
+          (λ e. ap (λ z. get_or stored_words (body_place row z) 0) e ∙ (ap (λ z. get_or stored_words (place_of k z) 0) (sym is) ∙ (stored k ws w x at wide ∙ (sym (last_stored m x body behind) ∙ ap (λ z. get_or (take m body ++ x ∷ []) z 0) (sym e)))))
+          (λ ne. let before : j < m = omega arith in left k ws w x at (BodyWord row j) (own, omega arith) (λ e. ne (same_word row j row m (e ∙ is)))
+          ∙ (r.body_there room j (omega arith) ∙ sym (first_stored m x j body behind before)));
       run = r.run;
-      written = drafts_stay key amount ds (ap body_row is) room r;
-    }
-
-    amount_stored : (key amount : Option ℕ) (ds : List Element) → w ≡ AmountWord row → drawn < k.rows → length ws ≡ size_of k → RowsHold k h ws c first drawn key amount ds → RowsHold k h stored_words c first drawn key (Some x) ds
-    amount_stored key amount ds is room wide r = let own : row < rows_of k = in_all k.parts k.rows c row (below, omega arith, omega arith) in record {
-      counted = r.counted;
-      drawn_below = r.drawn_below;
-      unborn = r.unborn;
-      full = λ i l m z. let top = r.drawn_below in r.full i l m (sym (head_left i (λ e. let q : AmountWord row ≡ HeadWord i = sym is ∙ e in absurd cc) (below, l, omega arith)) ∙ z);
-      empty = λ i l m. heads_left i (λ e. let q : AmountWord row ≡ HeadWord i = sym is ∙ e in absurd cc) (below, omega arith, m) (r.empty i l m);
-      key_there = λ y some. let t = r.key_there y some in (room, left k ws w x at (KeyWord row) own (λ e. let q : KeyWord row ≡ AmountWord row = e ∙ is in absurd cc) ∙ t.1);
-      amount_there = λ y some. (room, ap (λ z. get_or stored_words (place_of k z) 0) (sym is) ∙ (stored k ws w x at wide ∙ cc some));
-      run = r.run;
-      written = drafts_stay key amount ds (ap body_row is) room r;
+      written = drafts_stay body ds (ap body_row is) room r;
     }
 
     -- the row that is drawn has its body and its head
-    pub row_full : (key amount : Option ℕ) (ds : List Element) (e : Element) → w ≡ HeadWord row → e.id ≡ row → key ≡ Some e.key → amount ≡ Some e.amount → x ≡ pack_head (head_of e) → drawn < k.rows → length ws ≡ size_of k
-        → RowsHold k h ws c first drawn key amount ds → Holds stored_words e
-    row_full key amount ds e is id ke am head room wide r = let a = r.key_there e.key ke in let b = r.amount_there e.amount am in let own : row < rows_of k = in_all k.parts k.rows c row (below, omega arith, omega arith) in (
+    pub row_full : (body : List ℕ) (ds : List Element) (e : Element) → w ≡ HeadWord row → e.id ≡ row → body ≡ e.body → IsBody body → x ≡ pack_head (head_of e) → 0 < rest → length ws ≡ size_of k
+        → RowsHold k h ws c first row rest body ds → Holds stored_words e
+    row_full body ds e is id same whole head room wide r = let count = r.counted in let bottom = r.begins in let top = r.ends in let own : row < rows_of k = in_all k.parts k.rows c row (below, omega arith, omega arith) in let e_whole : IsBody e.body = subst IsBody same whole in (
       ap (λ z. get_or stored_words (head_place z) 0) id ∙ (ap (λ z. get_or stored_words (place_of k z) 0) (sym is) ∙ (stored k ws w x at wide ∙ head)),
-      ap (λ z. get_or stored_words (key_place z) 0) id ∙ (left k ws w x at (KeyWord row) own (λ e. let q : KeyWord row ≡ HeadWord row = e ∙ is in absurd cc) ∙ a.1),
-      ap (λ z. get_or stored_words (amount_place z) 0) id ∙ (left k ws w x at (AmountWord row) own (λ e. let q : AmountWord row ≡ HeadWord row = e ∙ is in absurd cc) ∙ b.1),
+      λ j less. ap (λ z. get_or stored_words (body_place z j) 0) id ∙ (left k ws w x at (BodyWord row j) (own, omega arith) (λ e. no_head row j row (sym (sym is ∙ sym e)))
+          ∙ (r.body_there room j (subst (λ z. j < length z) (sym same) less) ∙ ap (λ z. get_or z j 0) same)),
+      e_whole,
     )
 
     -- no head behind it is stored
-    pub empty_behind : w ≡ HeadWord row → (i : ℕ) → c * k.rows + (drawn + 1) ≤ i → i < c * k.rows + k.rows → ((j : ℕ) → row ≤ j → j < c * k.rows + k.rows → get_or ws (head_place j) 0 ≡ 0) → get_or stored_words (head_place i) 0 ≡ 0
-    empty_behind is i low high empty = heads_left i (λ e. let q : HeadWord row ≡ HeadWord i = sym is ∙ e in let same : row ≡ i = cc in omega arith) (below, omega arith, high) (empty i (omega arith) high)
+    pub empty_behind : c * k.rows ≤ row → row + rest ≡ c * k.rows + k.rows → w ≡ HeadWord row → (i : ℕ) → row + 1 ≤ i → i < row + rest → ((j : ℕ) → row ≤ j → j < row + rest → get_or ws (head_place j) 0 ≡ 0) → get_or stored_words (head_place i) 0 ≡ 0
+    empty_behind bottom top is i low high empty = heads_left i (λ e. let q : HeadWord row ≡ HeadWord i = sym is ∙ e in let same : row ≡ i = cc in omega arith) (below, omega arith, omega arith) (empty i (omega arith) high)
 
     -- and so it and all before it have heads
-    pub full_before : w ≡ HeadWord row → x ≢ 0 → drawn < k.rows → length ws ≡ size_of k → ((j : ℕ) → c * k.rows ≤ j → j < row → get_or ws (head_place j) 0 ≢ 0)
-        → (i : ℕ) → c * k.rows ≤ i → i < c * k.rows + (drawn + 1) → get_or stored_words (head_place i) 0 ≢ 0
-    full_before is some room wide full i low high zero = dite (ℕ_discrete i row)
-        (λ e. some (sym (stored k ws w x at wide) ∙ (ap (λ z. get_or stored_words (place_of k z) 0) is ∙ (ap (λ z. get_or stored_words (head_place z) 0) (sym e) ∙ zero))))
-        (λ ne. full i low (omega arith) (sym (head_left i (λ e. let q : HeadWord row ≡ HeadWord i = sym is ∙ e in ne cc) (below, low, omega arith)) ∙ zero))
+    pub full_before : row + rest ≡ c * k.rows + k.rows → w ≡ HeadWord row → x ≢ 0 → 0 < rest → length ws ≡ size_of k → ((j : ℕ) → c * k.rows ≤ j → j < row → get_or ws (head_place j) 0 ≢ 0)
+        → (i : ℕ) → c * k.rows ≤ i → i < row + 1 → get_or stored_words (head_place i) 0 ≢ 0
+    full_before top is some room wide full i low high none = dite (ℕ_discrete i row)
+        (λ e. some (sym (stored k ws w x at wide) ∙ (ap (λ z. get_or stored_words (place_of k z) 0) is ∙ (ap (λ z. get_or stored_words (head_place z) 0) (sym e) ∙ none))))
+        (λ ne. full i low (omega arith) (sym (head_left i (λ e. let q : HeadWord row ≡ HeadWord i = sym is ∙ e in ne cc) (below, low, omega arith)) ∙ none))
 
-    draft_stored : (key amount : Option ℕ) (ds : List Element) (e : Element) → w ≡ HeadWord row → e.id ≡ row → key ≡ Some e.key → amount ≡ Some e.amount → x ≡ pack_head (head_of e) → drawn < k.rows → length ws ≡ size_of k
-        → RowsHold k h ws c first drawn key amount ds → RowsHold k h stored_words c first (drawn + 1) None None (ds ++ e ∷ [])
-    draft_stored key amount ds e is id ke am head room wide r = let count = r.counted in record {
+    draft_stored : (body : List ℕ) (ds : List Element) (e : Element) → w ≡ HeadWord row → e.id ≡ row → body ≡ e.body → IsBody body → x ≡ pack_head (head_of e) → 0 < rest → length ws ≡ size_of k
+        → RowsHold k h ws c first row rest body ds → RowsHold k h stored_words c first (row + 1) (rest - 1) [] (ds ++ e ∷ [])
+    draft_stored body ds e is id same whole head room wide r = let count = r.counted in let bottom = r.begins in let top = r.ends in record {
       counted = omega (arith, length-append ds (e ∷ []));
-      drawn_below = omega arith;
-      unborn = r.unborn;
-      full = full_before is (λ z. full_head (head_of e) (λ q. cc) (sym head ∙ z)) room wide r.full;
-      empty = λ i l m. empty_behind is i l m r.empty;
-      key_there = λ y some. absurd cc;
-      amount_there = λ y some. absurd cc;
-      run = run_snoc (c * k.rows + first) ds e r.run (omega arith);
-      written = λ y q. ⊎_elim (λ o. drafts_stay key amount ds (ap body_row is) room r y o) (λ n. subst (Holds stored_words) (sym (in_one n)) (row_full key amount ds e is id ke am head room wide r)) (in_either ds (e ∷ []) q);
+      begins = bottom;
+      ends = omega arith;
+      unborn = λ i l m. r.unborn i l (omega arith);
+      full = full_before top is (λ z. full_head (head_of e) (λ q. cc) (sym head ∙ z)) room wide r.full;
+      empty = λ i l m. empty_behind (omega arith) top is i l (omega arith) r.empty;
+      body_few = omega arith;
+      body_there = λ _ j less. absurd (omega arith);
+      run = run_snoc first ds e r.run (omega arith);
+      written = λ y q. ⊎_elim (λ o. drafts_stay body ds (ap body_row is) room r y o) (λ n. subst (Holds stored_words) (sym (in_one n)) (row_full body ds e is id same whole head room wide r)) (in_either ds (e ∷ []) q);
     }
 
-  module _ (t : Turn k) (room : (me k t).drawn < k.rows) where
+  module _ (t : Turn k) (room : 0 < (me k t).left) where
     abbrev pub next : ℕ
-    next = (me k t).number * k.rows + (me k t).drawn
+    next = (me k t).next
 
     pub next_own : IsOf k.parts k.rows (me k t).number next
-    next_own = ((hand_holds k t).given, omega arith, omega arith)
+    next_own = let r = (hand_holds k t).rows in let count = r.counted in let bottom = r.begins in let top = r.ends in ((hand_holds k t).given, omega arith, omega arith)
 
     pub next_there : next < rows_of k
     next_there = in_all k.parts k.rows (me k t).number next next_own
@@ -161,41 +176,25 @@ module _ (k : Limits) where
   unborn_told : (h : List Event) (row : ℕ) (x : ℕ) (part : Element → ℕ) → IsUnborn h row → (e : Element) → element_of h row ≡ Some e → x ≡ part e
   unborn_told h row x part un e p = let q : None ≡ Some e = sym un ∙ p in absurd cc
 
-  pub keys : (v : View) (p x : ℕ) → IsOnePass v → (hand v).drawn < k.rows → p ≡ key_place ((hand v).number * k.rows + (hand v).drawn) → Permits k v p (λ _. x) (λ _ w. stores_key p x 0 v x w)
-  keys v p x one room place s r id at = let t : Turn k = record { state = s; rule = r; id = id; view = v; at = at; one = one } in let a : Hand = hand v in let b = hand_holds k t in let w : Word = KeyWord (next t room) in (
-    drafted (with_key x) v,
-    subst (λ q. Rule k record { words = set s.words q x; homes = s.homes; views = set s.views id (drafted (with_key x) v) }) (sym place)
-        (stores t room w x (next_there t room) refl (unborn_told r.history (next t room) x (λ e. e.key) (next_unborn t room)) (with_key x) (λ z. refl) record {
+  pub words_go : (v : View) (p x m : ℕ) → IsOnePass v → 0 < (hand v).left → m < BODY_WORDS → m ≤ length (hand v).next_body → p ≡ body_place (hand v).next m
+      → Permits k v p (λ _. x) (λ _ w. stores_word p x 0 v x w)
+  words_go v p x m one room less behind place s r id at = let t : Turn k = record { state = s; rule = r; id = id; view = v; at = at; one = one } in let a : Hand = hand v in let b = hand_holds k t in let w : Word = BodyWord (next t room) m in (
+    drafted (with_word m x) v,
+    subst (λ q. Rule k record { words = set s.words q x; homes = s.homes; views = set s.views id (drafted (with_word m x) v) }) (sym place)
+        (stores t room w x (next_there t room, less) refl (unborn_told r.history (next t room) x (λ e. slice_index e.body m) (next_unborn t room)) (with_word m x) (λ z. refl) record {
           given = b.given;
           mine = b.mine;
-          rows = key_stored r.history s.words a.number a.first_draft a.drawn w x (next_there t room) b.given a.next_key a.next_amount a.drafts refl room r.world.wide b.rows;
+          rows = word_stored r.history s.words a.number a.first_draft a.next a.left w x (next_there t room, less) b.given m a.next_body a.drafts refl behind room r.world.wide b.rows;
           units = b.units;
         }),
-    refl,
+    (next t room, m, less, place, refl),
   )
 
-  pub amounts : (v : View) (p x : ℕ) → IsOnePass v → (hand v).drawn < k.rows → p ≡ amount_place ((hand v).number * k.rows + (hand v).drawn) → Permits k v p (λ _. x) (λ _ w. stores_amount p x 0 v x w)
-  amounts v p x one room place s r id at = let t : Turn k = record { state = s; rule = r; id = id; view = v; at = at; one = one } in let a : Hand = hand v in let b = hand_holds k t in let w : Word = AmountWord (next t room) in (
-    drafted (with_amount x) v,
-    subst (λ q. Rule k record { words = set s.words q x; homes = s.homes; views = set s.views id (drafted (with_amount x) v) }) (sym place)
-        (stores t room w x (next_there t room) refl (unborn_told r.history (next t room) x (λ e. e.amount) (next_unborn t room)) (with_amount x) (λ z. refl) record {
-          given = b.given;
-          mine = b.mine;
-          rows = amount_stored r.history s.words a.number a.first_draft a.drawn w x (next_there t room) b.given a.next_key a.next_amount a.drafts refl room r.world.wide b.rows;
-          units = b.units;
-        }),
-    refl,
-  )
-
-  pub stored_of : (o : Option ℕ) → IsSome o → o ≡ Some (or_zero o)
-  stored_of None t = absurd cc
-  stored_of (Some x) t = refl
-
-  pub heads : (v : View) (p x stage root u : ℕ) → IsReady v → (hand v).drawn < k.rows → p ≡ head_place ((hand v).number * k.rows + (hand v).drawn)
+  pub heads : (v : View) (p x stage root u : ℕ) → IsReady v → 0 < (hand v).left → p ≡ head_place (hand v).next
       → x ≡ pack_head (There stage root (Some u)) → 1 ≤ stage → stage ≤ 15 → root < 65536 → u < 65535
       → Permits k v p (λ _. x) (λ _ w. stores_head p x 0 v x w)
   heads v p x stage root u ready room place is pos top low small s r id at = let t : Turn k = record { state = s; rule = r; id = id; view = v; at = at; one = ready.0 } in let a : Hand = hand v in let b = hand_holds k t in let e : Element = next_element v stage root (Some u) in
-      let here : e.id ≡ next t room = ap (λ (l : Limits). a.number * l.rows + a.drawn) (limits_are k t) in let w : Word = HeadWord (next t room) in (
+      let here : e.id ≡ next t room = refl in let w : Word = HeadWord (next t room) in (
         drafted (with_draft e) v,
         subst (λ q. Rule k record { words = set s.words q x; homes = s.homes; views = set s.views id (drafted (with_draft e) v) }) (sym place)
             (stores t room w x (next_there t room) refl record {
@@ -207,7 +206,7 @@ module _ (k : Limits) where
             } (with_draft e) (λ z. refl) record {
               given = b.given;
               mine = b.mine;
-              rows = draft_stored r.history s.words a.number a.first_draft a.drawn w x (next_there t room) b.given a.next_key a.next_amount a.drafts e refl here (stored_of a.next_key ready.1) (stored_of a.next_amount ready.2) is room r.world.wide b.rows;
+              rows = draft_stored r.history s.words a.number a.first_draft a.next a.left w x (next_there t room) b.given a.next_body a.drafts e refl here refl ready.1 is room r.world.wide b.rows;
               units = b.units;
             }),
         (stage, root, u, top, low, is, refl),

@@ -6,6 +6,7 @@ use Rattle.tp_model.specs.declared.event.Event.TheVariants.{Abort, Claim}
 use Rattle.tp_model.specs.declared.trace.StepKind.{StepKind}
 use Rattle.tp_model.specs.declared.types.Limits.{Limits}
 use Rattle.tp_model.specs.History.{In, UnitEnd, end_of, pass_of}
+use Rattle.tp_model.specs.Passes.{IsRun}
 use Rattle.tp_model.specs.Steps.{IsLegal, Step}
 use Rattle.tp_model.proofs.Bridges.{append_nil, begins_more, begins_refl, claim_either, claim_kept, in_either, in_one, unused_still}
 use Rattle.tp_model.proofs.Histories.{legal_more}
@@ -18,7 +19,7 @@ use Rattle.tp_rule.specs.declared.view.Known.TheVariants.{RowHead, PartMark}
 use Rattle.tp_rule.specs.declared.view.View.{View}
 use Rattle.tp_rule.proofs.Frames.{Turn, hand_frame, hand_holds, limits_are, me, moved, only_hand, seat_holds}
 use Rattle.tp_rule.proofs.Parts.{IsOf, in_all}
-use Rattle.tp_rule.proofs.Seats.{hand_noted, in_map}
+use Rattle.tp_rule.proofs.Seats.{hand_noted, in_map, run_of}
 use Rattle.tp_rule.proofs.Storing.{body_row, row_left, still_left}
 use Rattle.tp_rule.proofs.Tellings.{found, low_below, recall, world_stored}
 use Rattle.tp_rule.proofs.Units.{decide}
@@ -101,6 +102,7 @@ module _ (k : Limits) (t : Turn k) where
           view = refl;
           mine = λ b p. (after_hand a.kind a.f h' ws a.mine b p).mine;
           open_own = λ b p. (after_hand a.kind a.f h' ws a.mine b p).units.open_own;
+          run = λ b p. subst (λ l. IsRun l h' b.number b.next b.left) (sym (limits_are k t)) (run_of k h' ws b (after_hand a.kind a.f h' ws a.mine b p));
           knows = λ x p. p;
           heads = λ i head x p. recall k h' ws world i head x (still (RowHead i head) (seat.known (RowHead i head) p));
           marks = λ p n q. subst (λ l. IsLow l h' p n) (sym (limits_are k t)) (low_below k h' ws world p n (still (PartMark p n) (seat.known (PartMark p n) q)));
@@ -140,6 +142,7 @@ module _ (k : Limits) (t : Turn k) where
         view = refl;
         mine = λ a p. (after_hand kind f h t.state.words mine a p).mine;
         open_own = λ a p. (after_hand kind f h t.state.words mine a p).units.open_own;
+        run = λ a p. subst (λ l. IsRun l h a.number a.next a.left) (sym (limits_are k t)) (run_of k h t.state.words a (after_hand kind f h t.state.words mine a p));
         knows = λ x p. p;
         heads = λ i head x p. recall k h t.state.words t.rule.world i head x (seat.known (RowHead i head) p);
         marks = λ p n q. subst (λ l. IsLow l h p n) (sym (limits_are k t)) (low_below k h t.state.words t.rule.world p n (seat.known (PartMark p n) q));

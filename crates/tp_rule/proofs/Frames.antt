@@ -1,5 +1,5 @@
 -- What a step of one pass leaves to the others.
-use Rattle.std.proofs.Common.{◌≡◌, ℕ, ◌+◌, ◌*◌, ◌<◌, ◌≢◌, List, [], ◌∷◌, ◌++◌, set, sym, ap, ◌∙◌, subst, ⊎_elim, arith, Option, Some, None}
+use Rattle.std.proofs.Common.{◌≡◌, ℕ, ◌<◌, ◌≢◌, List, [], ◌∷◌, ◌++◌, set, sym, ap, ◌∙◌, subst, ⊎_elim, arith, Option, Some, None}
 use mathlib.Core.Option.{some}
 use lib.ListN.{get_elem?}
 use Rattle.tp_rule.specs.Rule.{HandHolds, RowsHold, Rule, SeatHolds, StillSo, UnitsHold, World}
@@ -69,22 +69,23 @@ module _ (k : Limits) where
     closed = λ u i n p not z. ⊎_elim (λ q. r.closed u i n q not (decide_undecided u (end_of h u) e (sym (end_of-snoc h e u) ∙ z))) (λ q. ne (sym (ap pass_of q))) (claim_either h e c u i n p);
   }
 
-  -- the rows of part c have the heads, keys and amounts that they had
+  -- the rows of part c have the heads and bodies that they had
   abbrev pub Agree : ℕ → List ℕ → List ℕ → Type 0
   Agree c ws ws' = (i : ℕ) → IsOf k.parts k.rows c i → SameRow ws ws' i
 
-  pub rows_frame : (h h' : List Event) (ws ws' : List ℕ) (c first drawn : ℕ) (key amount : Option ℕ) (drafts : List Element) → c < k.parts → Agree c ws ws'
-      → ((i : ℕ) → IsOf k.parts k.rows c i → IsUnborn h i → IsUnborn h' i) → RowsHold k h ws c first drawn key amount drafts → RowsHold k h' ws' c first drawn key amount drafts
-  rows_frame h h' ws ws' c first drawn key amount drafts below agree still r = let count = r.counted in let top = r.drawn_below in record {
+  pub rows_frame : (h h' : List Event) (ws ws' : List ℕ) (c first next left : ℕ) (body : List ℕ) (drafts : List Element) → c < k.parts → Agree c ws ws'
+      → ((i : ℕ) → IsOf k.parts k.rows c i → IsUnborn h i → IsUnborn h' i) → RowsHold k h ws c first next left body drafts → RowsHold k h' ws' c first next left body drafts
+  rows_frame h h' ws ws' c first next left body drafts below agree still r = let count = r.counted in let bottom = r.begins in let top = r.ends in record {
     counted = count;
-    drawn_below = top;
-    unborn = λ i l m. still i (below, omega arith, m) (r.unborn i l m);
+    begins = bottom;
+    ends = top;
+    unborn = λ i l m. still i (below, omega arith, omega arith) (r.unborn i l m);
     full = λ i l m z. r.full i l m (sym (agree i (below, l, omega arith)).0 ∙ z);
-    empty = λ i l m. (agree i (below, omega arith, m)).0 ∙ r.empty i l m;
-    key_there = λ x is. let t = r.key_there x is in let room = t.0 in (room, (agree (c * k.rows + drawn) (below, omega arith, omega arith)).1 ∙ t.1);
-    amount_there = λ x is. let t = r.amount_there x is in let room = t.0 in (room, (agree (c * k.rows + drawn) (below, omega arith, omega arith)).2 ∙ t.1);
+    empty = λ i l m. (agree i (below, omega arith, omega arith)).0 ∙ r.empty i l m;
+    body_few = r.body_few;
+    body_there = λ room j less. let few = r.body_few in (agree next (below, omega arith, omega arith)).1 j (omega arith) ∙ r.body_there room j less;
     run = r.run;
-    written = λ x p. let t = in_run (c * k.rows + first) drafts x r.run p in let a = t.0 in let b = t.1 in holds_same ws ws' x (agree x.id (below, omega arith, omega arith)) (r.written x p);
+    written = λ x p. let t = in_run first drafts x r.run p in let a = t.0 in let b = t.1 in holds_same ws ws' x (agree x.id (below, omega arith, omega arith)) (r.written x p);
   }
 
   -- a pass other than the one that made the event e
@@ -92,7 +93,7 @@ module _ (k : Limits) where
   hand_frame h e ws ws' a st ne agree r = record {
     given = r.given;
     mine = r.mine ∙ sym (by_other a.number h e ne);
-    rows = rows_frame h (h ++ e ∷ []) ws ws' a.number a.first_draft a.drawn a.next_key a.next_amount a.drafts r.given agree (λ i part. unborn_frame h e a.number i st ne part) r.rows;
+    rows = rows_frame h (h ++ e ∷ []) ws ws' a.number a.first_draft a.next a.left a.next_body a.drafts r.given agree (λ i part. unborn_frame h e a.number i st ne part) r.rows;
     units = units_frame h e a.number a.claimed a.spare_unit a.open_unit r.given ne st r.units;
   }
 
@@ -101,7 +102,7 @@ module _ (k : Limits) where
   hand_quiet h ws ws' a agree r = record {
     given = r.given;
     mine = r.mine;
-    rows = rows_frame h h ws ws' a.number a.first_draft a.drawn a.next_key a.next_amount a.drafts r.given agree (λ i part u. u) r.rows;
+    rows = rows_frame h h ws ws' a.number a.first_draft a.next a.left a.next_body a.drafts r.given agree (λ i part u. u) r.rows;
     units = r.units;
   }
 

@@ -1,10 +1,10 @@
 -- Two passes meet, by a join, a load and a split.
-use Rattle.std.proofs.Common.{◌≡◌, ℕ, [], ◌∷◌, ◌++◌, map, sym, ap, ◌∙◌, subst}
+use Rattle.std.proofs.Common.{◌≡◌, ◌⊎◌, ℕ, [], ◌∷◌, ◌++◌, map, sym, ap, ◌∙◌, subst, inl, inr, ⊎_elim}
 use mathlib.Core.List.{IsPrefix}
 use Rattle.tp_model.specs.declared.trace.StepKind.TheVariants as kinds
 use Rattle.tp_model.specs.declared.types.Limits.{Limits}
 use Rattle.tp_model.specs.History.{In, here, there, events_by}
-use Rattle.tp_model.specs.Passes.{IsOwnOpen}
+use Rattle.tp_model.specs.Passes.{IsOwnOpen, IsRun}
 use Rattle.tp_model.proofs.Bridges.{in_left, in_right}
 use Rattle.tp_model.specs.Steps.{IsLegal}
 use Rattle.tp_rule.specs.Steps.{Grew, IsLow, Knows, Meets, front_of, joined, kept, looked, noted, parted, rest_of, unchanged}
@@ -61,6 +61,12 @@ module _ (v w j m x y : View) (one : IsOnePass v) (other : IsOnePass w) (join : 
   low_met : (p n : ℕ) → Knows m (PartMark p n) → IsLow v.limits m.seen p n
   low_met p n o = subst (λ (l : Limits). IsLow l m.seen p n) (ap (λ (z : View). z.limits) join) (g.marks p n o)
 
+  -- the run of one of the two
+  run_met : (z : View) (a : Hand) → z.seen ≡ m.seen → In a m.hands → hand z ≡ a ⊎ hand z ≡ noted kinds.SeatLoad m.seen a → IsRun v.limits z.seen (hand z).number (hand z).next (hand z).left
+  run_met z a seen p is = let old : IsRun v.limits z.seen a.number a.next a.left = subst (λ (l : Limits). IsRun l z.seen a.number a.next a.left) (ap (λ (u : View). u.limits) join) (subst (λ h. IsRun j.limits h a.number a.next a.left) (sym seen) (g.run a p)) in ⊎_elim
+      (λ e. subst (λ (b : Hand). IsRun v.limits z.seen b.number b.next b.left) (sym e) old)
+      (λ e. subst (λ (b : Hand). IsRun v.limits z.seen b.number b.next b.left) (sym e) old) is
+
   pub meets : Meets v w x y
   meets = record {
     same = first_seen ∙ sym second_seen;
@@ -80,6 +86,7 @@ module _ (v w j m x y : View) (one : IsOnePass v) (other : IsOnePass w) (join : 
       (λ u is. subst (λ (a : Hand). IsOwnOpen x.seen a.number u) (sym first_is) (subst (λ h. IsOwnOpen h A.number u) (sym first_seen) (g.open_own A first_in u (sym (ap (λ (a : Hand). a.open_unit) first_is) ∙ is)))),
       (λ u is. subst (λ (a : Hand). IsOwnOpen y.seen a.number u) (sym second_is) (subst (λ h. IsOwnOpen h B.number u) (sym second_seen) (g.open_own B second_in u (sym (ap (λ (a : Hand). a.open_unit) second_is) ∙ is)))),
     );
+    run = (run_met x A first_seen first_in (inr first_is), run_met y B second_seen second_in (inl second_is));
     knows = (
       (λ z o. subst (λ (u : View). Knows u z) (sym first) (known_met z (in_left w.known o))),
       (λ z o. subst (λ (u : View). Knows u z) (sym second) (known_met z (in_right v.known o))),

@@ -14,7 +14,7 @@ use Rattle.tp_rule.specs.Rule.{HandHolds, IsApart, MarkHolds, Rule, SeatHolds, T
 use Rattle.tp_rule.specs.Views.{first_view, fresh, fresh_from}
 use Rattle.tp_rule.specs.declared.view.Hand.{Hand}
 use Rattle.tp_rule.specs.declared.view.View.{View}
-use Rattle.tp_words.specs.Places.{Word, HeadWord, KeyWord, AmountWord, ClaimWord, UnitWord, MarkWord, IsThere, head_place, claim_place, unit_place, mark_place, place_of, size_of}
+use Rattle.tp_words.specs.Places.{Word, HeadWord, BodyWord, ClaimWord, UnitWord, MarkWord, IsThere, head_place, claim_place, unit_place, mark_place, place_of, size_of}
 use Rattle.tp_words.specs.declared.words.Head.TheVariants.{Empty}
 
 zeros : (n i : ℕ) → ◌≡◌ {A = ℕ} (get_or (replicate n 0) i 0) 0
@@ -22,33 +22,34 @@ zeros zero i = refl
 zeros (suc n) zero = refl
 zeros (suc n) (suc i) = zeros n i
 
-fresh_in : (c n : ℕ) (a : Hand) → In a (fresh_from c n) → (c ≤ a.number) × (a.number < c + n) × (a ≡ fresh a.number)
-fresh_in c zero a p = absurd (in_none p)
-fresh_in c (suc n) a p = ⊎_elim (λ e. let same : a.number ≡ c = ap (λ (z : Hand). z.number) e in (omega arith, omega arith, e ∙ ap fresh (sym same)))
-    (λ q. let t = fresh_in (c + 1) n a q in let x = t.0 in let y = t.1 in (omega arith, omega arith, t.2)) (in_cons p)
-
-fresh_apart : (c n : ℕ) → IsApart (fresh_from c n)
-fresh_apart c zero = tt
-fresh_apart c (suc n) = (λ b p e. let t = fresh_in (c + 1) n b p in let x = t.0 in omega arith, fresh_apart (c + 1) n)
-
--- each pass is one of the first ones
-fresh_seated : (c n d : ℕ) → c ≤ d → d < c + n → In (fresh d) (fresh_from c n)
-fresh_seated c zero d low high = absurd (omega arith)
-fresh_seated c (suc n) d low high = dite (ℕ_discrete d c) (λ e. in_here (fresh_from (c + 1) n) (ap fresh e)) (λ other. there (fresh_seated (c + 1) n d (omega arith) (omega arith)))
-
 module _ (k : Limits) where
-  fresh_holds : (c : ℕ) → c < k.parts → HandHolds k [] (replicate (size_of k) 0) (fresh c)
+  fresh_in : (c n : ℕ) (a : Hand) → In a (fresh_from k c n) → (c ≤ a.number) × (a.number < c + n) × (a ≡ fresh k a.number)
+  fresh_in c zero a p = absurd (in_none p)
+  fresh_in c (suc n) a p = ⊎_elim (λ e. let same : a.number ≡ c = ap (λ (z : Hand). z.number) e in (omega arith, omega arith, e ∙ ap (fresh k) (sym same)))
+      (λ q. let t = fresh_in (c + 1) n a q in let x = t.0 in let y = t.1 in (omega arith, omega arith, t.2)) (in_cons p)
+
+  fresh_apart : (c n : ℕ) → IsApart (fresh_from k c n)
+  fresh_apart c zero = tt
+  fresh_apart c (suc n) = (λ b p e. let t = fresh_in (c + 1) n b p in let x = t.0 in omega arith, fresh_apart (c + 1) n)
+
+  -- each pass is one of the first ones
+  fresh_seated : (c n d : ℕ) → c ≤ d → d < c + n → In (fresh k d) (fresh_from k c n)
+  fresh_seated c zero d low high = absurd (omega arith)
+  fresh_seated c (suc n) d low high = dite (ℕ_discrete d c) (λ e. in_here (fresh_from k (c + 1) n) (ap (fresh k) e)) (λ other. there (fresh_seated (c + 1) n d (omega arith) (omega arith)))
+
+  fresh_holds : (c : ℕ) → c < k.parts → HandHolds k [] (replicate (size_of k) 0) (fresh k c)
   fresh_holds c below = record {
     given = below;
     mine = refl;
     rows = record {
-      counted = refl;
-      drawn_below = omega arith;
+      counted = omega arith;
+      begins = omega arith;
+      ends = refl;
       unborn = λ i l m. refl;
-      full = λ i l m. let low : c * k.rows ≤ i = l in let high : i < c * k.rows + 0 = m in absurd (omega arith);
+      full = λ i l m. let low : c * k.rows ≤ i = l in let high : i < c * k.rows = m in absurd (omega arith);
       empty = λ i l m. zeros (size_of k) (head_place i);
-      key_there = λ x is. absurd cc;
-      amount_there = λ x is. absurd cc;
+      body_few = omega arith;
+      body_there = λ room j less. absurd (omega arith);
       run = tt;
       written = λ x p. absurd (in_none p);
     };
@@ -72,13 +73,12 @@ module _ (k : Limits) where
       marks = λ p l. subst (MarkHolds k [] (replicate (size_of k) 0) p) (sym (zeros (size_of k) (mark_place k p))) record { inside = omega arith; below = λ i low high. let up : i < p * k.rows + 0 = high in let down : p * k.rows ≤ i = low in absurd (omega arith) };
     };
     seats = first;
-    complete = λ c below. let p = fresh_seated 0 k.parts c (omega arith) (omega arith) in (0, first_view k, fresh c, refl, p, refl);
+    complete = λ c below. let p = fresh_seated 0 k.parts c (omega arith) (omega arith) in (0, first_view k, fresh k c, refl, p, refl);
   }
     where
       zero_told : (w : Word) → IsThere k w → Told [] w (get_or (replicate (size_of k) 0) (place_of k w) 0)
       zero_told (HeadWord i) l = record { head = Empty; packed = zeros (size_of k) (head_place i); fit = tt; born = λ x p. absurd cc; draft = λ un. tt }
-      zero_told (KeyWord i) l = λ x p. absurd cc
-      zero_told (AmountWord i) l = λ x p. absurd cc
+      zero_told (BodyWord i j) l = λ x p. absurd cc
       zero_told (ClaimWord i) l = (zeros (size_of k) (claim_place i), tt)
       zero_told (UnitWord u) l = (zeros (size_of k) (unit_place k u), tt)
       zero_told (MarkWord p) l = tt

@@ -1,15 +1,16 @@
 -- Publish keeps the rule.
-use Rattle.std.proofs.Common.{◌≡◌, ◌≢◌, ℕ, ◌+◌, ◌*◌, ◌<◌, ◌≤◌, List, [], ◌∷◌, ◌++◌, length, set, get_or, sym, refl, ap, ◌∙◌, subst, arith, Option, None}
+use Rattle.std.proofs.Common.{◌≡◌, ◌≢◌, ℕ, ◌+◌, ◌-◌, ◌*◌, ◌<◌, ◌≤◌, List, [], ◌∷◌, ◌++◌, length, set, get_or, slice_index, sym, refl, ap, ◌∙◌, subst, arith, Option, None}
 use Rattle.tp_model.specs.declared.event.Event.{Event}
 use Rattle.tp_model.specs.declared.event.Event.TheVariants.{Enqueue}
 use Rattle.tp_model.specs.declared.trace.StepKind.TheVariants as kinds
 use Rattle.tp_model.specs.declared.types.Element.{Element}
 use Rattle.tp_model.specs.declared.types.Limits.{Limits}
 use Rattle.tp_model.specs.History.{UnitEnd, IsUnborn}
-use Rattle.tp_model.specs.Steps.{AreLimits, Step}
+use Rattle.tp_model.specs.declared.types.TheConstants.{BODY_WORDS}
+use Rattle.tp_model.specs.Steps.{AreLimits, IsBody, Step}
 use Rattle.tp_model.proofs.Bridges.{born_at, by_own, in_none, in_one, new_birth, unborn_still}
 use Rattle.tp_model.proofs.Lists.{option_or-None}
-use Rattle.tp_words.specs.Places.{Word, HeadWord, KeyWord, AmountWord, ClaimWord, UnitWord, MarkWord, IsThere, head_place, place_of, size_of}
+use Rattle.tp_words.specs.Places.{Word, HeadWord, BodyWord, ClaimWord, UnitWord, MarkWord, IsThere, head_place, body_place, place_of, size_of}
 use Rattle.tp_words.specs.Words.{head_of, pack_head}
 use Rattle.tp_words.specs.declared.words.Head.TheVariants.{There}
 use Rattle.tp_rule.specs.Doors.{Permits}
@@ -19,9 +20,9 @@ use Rattle.tp_rule.specs.Steps.{with_birth, next_element, birth, IsReady}
 use Rattle.tp_rule.specs.Views.{hand, next_row}
 use Rattle.tp_rule.specs.declared.view.Hand.{Hand}
 use Rattle.tp_rule.specs.declared.view.View.{View}
-use Rattle.tp_rule.proofs.Drafting.{empty_behind, full_before, next, next_empty, next_own, next_there, next_unborn, of_no_other, stored_of}
+use Rattle.tp_rule.proofs.Drafting.{empty_behind, full_before, next, next_empty, next_own, next_there, next_unborn, of_no_other}
 use Rattle.tp_rule.proofs.Events.{Act, acted, units_own, view_after}
-use Rattle.tp_rule.proofs.Frames.{Turn, hand_holds, limits_are}
+use Rattle.tp_rule.proofs.Frames.{Turn, hand_holds}
 use Rattle.tp_rule.proofs.Parts.{IsOf, fair_rows}
 use Rattle.tp_rule.proofs.Storing.{full_head}
 use Rattle.tp_rule.proofs.Tellings.{body_later, claim_later, head_later, unit_later}
@@ -30,41 +31,42 @@ use Rattle.tp_rule.proofs.Units.{decide}
 enqueue_quiet : (c : ℕ) (y : Element) (u : ℕ) (w : Option UnitEnd) → decide u w (Enqueue c y) ≡ w
 enqueue_quiet c y u w = option_or-None w
 
--- what the words tell after the birth of a client's element whose key and amount stand in its row
-birth_told : (h : List Event) (c : ℕ) (y : Element) (w : Word) (n : ℕ) → w ≢ HeadWord y.id → (w ≡ KeyWord y.id → n ≡ y.key) → (w ≡ AmountWord y.id → n ≡ y.amount) → Told h w n → Told (h ++ Enqueue c y ∷ []) w n
-birth_told h c y (HeadWord i) n other key amount old = head_later h (Enqueue c y) i n (λ x q id. absurd (other (ap HeadWord (sym id ∙ ap (λ (e : Element). e.id) (in_one q))))) old
-birth_told h c y (KeyWord i) n other key amount old = body_later h (Enqueue c y) i n (λ e. e.key) (λ x q id. let same = in_one q in key (ap KeyWord (sym id ∙ ap (λ (e : Element). e.id) same)) ∙ ap (λ (e : Element). e.key) (sym same)) old
-birth_told h c y (AmountWord i) n other key amount old = body_later h (Enqueue c y) i n (λ e. e.amount) (λ x q id. let same = in_one q in amount (ap AmountWord (sym id ∙ ap (λ (e : Element). e.id) same)) ∙ ap (λ (e : Element). e.amount) (sym same)) old
-birth_told h c y (ClaimWord i) n other key amount old = claim_later h (Enqueue c y) i n refl old
-birth_told h c y (MarkWord p) n other key amount old = tt
-birth_told h c y (UnitWord u) n other key amount old = unit_later h (Enqueue c y) u n (enqueue_quiet c y u _) old
+-- what the words tell after the birth of a client's element whose body stands in its row
+birth_told : (h : List Event) (c : ℕ) (y : Element) (w : Word) (n : ℕ) → w ≢ HeadWord y.id → ((j : ℕ) → w ≡ BodyWord y.id j → n ≡ slice_index y.body j) → Told h w n → Told (h ++ Enqueue c y ∷ []) w n
+birth_told h c y (HeadWord i) n other body old = head_later h (Enqueue c y) i n (λ x q id. absurd (other (ap HeadWord (sym id ∙ ap (λ (e : Element). e.id) (in_one q))))) old
+birth_told h c y (BodyWord i j) n other body old = body_later h (Enqueue c y) i n (λ e. slice_index e.body j)
+    (λ x q id. let same = in_one q in body j (ap (λ z. BodyWord z j) (sym id ∙ ap (λ (e : Element). e.id) same)) ∙ ap (λ (e : Element). slice_index e.body j) (sym same)) old
+birth_told h c y (ClaimWord i) n other body old = claim_later h (Enqueue c y) i n refl old
+birth_told h c y (MarkWord p) n other body old = tt
+birth_told h c y (UnitWord u) n other body old = unit_later h (Enqueue c y) u n (enqueue_quiet c y u _) old
 
 module _ (k : Limits) (fair : AreLimits k) where
-  rows_publish : (h : List Event) (ws : List ℕ) (c first drawn x : ℕ) (key amount : Option ℕ) (y : Element) (at : IsThere k (HeadWord (c * k.rows + drawn))) → c < k.parts → y.id ≡ c * k.rows + drawn → drawn < k.rows → x ≢ 0 → length ws ≡ size_of k
-      → RowsHold k h ws c first drawn key amount [] → RowsHold k (h ++ Enqueue c y ∷ []) (set ws (head_place (c * k.rows + drawn)) x) c (drawn + 1) (drawn + 1) None None []
-  rows_publish h ws c first drawn x key amount y at below id room some wide r = let count : first + 0 ≡ drawn = r.counted in record {
+  rows_publish : (h : List Event) (ws : List ℕ) (c first row left x : ℕ) (body : List ℕ) (y : Element) (at : IsThere k (HeadWord row)) → c < k.parts → y.id ≡ row → 0 < left → x ≢ 0 → length ws ≡ size_of k
+      → RowsHold k h ws c first row left body [] → RowsHold k (h ++ Enqueue c y ∷ []) (set ws (head_place row) x) c (row + 1) (row + 1) (left - 1) [] []
+  rows_publish h ws c first row left x body y at below id room some wide r = let count : first + 0 ≡ row = r.counted in let bottom = r.begins in let top = r.ends in record {
     counted = omega arith;
-    drawn_below = omega arith;
-    unborn = λ i l m. unborn_still h (Enqueue c y) i (r.unborn i (omega arith) m) (λ z n same. let t : z.id ≡ y.id = ap (λ (t : Element). t.id) (in_one n) in absurd (omega arith));
-    full = full_before k h ws c first drawn (HeadWord (c * k.rows + drawn)) x at below refl some room wide r.full;
-    empty = λ i l m. empty_behind k h ws c first drawn (HeadWord (c * k.rows + drawn)) x at below refl i l m r.empty;
-    key_there = λ z is. absurd cc;
-    amount_there = λ z is. absurd cc;
+    begins = omega arith;
+    ends = omega arith;
+    unborn = λ i l m. unborn_still h (Enqueue c y) i (r.unborn i (omega arith) (omega arith)) (λ z n same. let t : z.id ≡ y.id = ap (λ (t : Element). t.id) (in_one n) in absurd (omega arith));
+    full = full_before k h ws c first row left (HeadWord row) x at below top refl some room wide r.full;
+    empty = λ i l m. empty_behind k h ws c first row left (HeadWord row) x at below (omega arith) top refl i l (omega arith) r.empty;
+    body_few = omega arith;
+    body_there = λ _ j less. absurd (omega arith);
     run = tt;
     written = λ z q. absurd (in_none q);
   }
 
-  pub births_go : (v : View) (p x stage : ℕ) → IsReady v → (hand v).drafts ≡ [] → (hand v).drawn < k.rows → p ≡ head_place ((hand v).number * k.rows + (hand v).drawn)
+  pub births_go : (v : View) (p x stage : ℕ) → IsReady v → (hand v).drafts ≡ [] → 0 < (hand v).left → p ≡ head_place (hand v).next
       → x ≡ pack_head (There stage (next_row v) None) → 1 ≤ stage → stage ≤ 14
       → Permits k v p (λ _. x) (λ _ w. publishes p x 0 v x w)
   births_go v p x stage ready none_yet room place is pos top s r id at = let t : Turn k = record { state = s; rule = r; id = id; view = v; at = at; one = ready.0 } in let a : Hand = hand v in let y : Element = next_element v stage (next_row v) None in let e : Event = birth v stage in let h = r.history in
       let mine = hand_holds k t in let row : ℕ = next k t room in let w : Word = HeadWord row in
-      let here : y.id ≡ row = ap (λ (l : Limits). a.number * l.rows + a.drawn) (limits_are k t) in
+      let here : y.id ≡ row = refl in
       let all : row < k.parts * k.rows = next_there k t room in let few : k.parts * k.rows ≤ 8192 = fair_rows k fair in
-      let rows : RowsHold k h s.words a.number a.first_draft a.drawn a.next_key a.next_amount [] = subst (λ l. RowsHold k h s.words a.number a.first_draft a.drawn a.next_key a.next_amount l) none_yet mine.rows in
-      let st : Step k h e = record { row = subst (IsOf k.parts k.rows a.number) (sym here) (next_own k t room); unborn = subst (λ z. IsUnborn h z) (sym here) (next_unborn k t room); stage = (pos, omega arith); root = refl; by = refl } in
-      let key : get_or s.words (place_of k (KeyWord row)) 0 ≡ y.key = (mine.rows.key_there y.key (stored_of k a.next_key ready.1)).1 in
-      let amount : get_or s.words (place_of k (AmountWord row)) 0 ≡ y.amount = (mine.rows.amount_there y.amount (stored_of k a.next_amount ready.2)).1 in
+      let rows : RowsHold k h s.words a.number a.first_draft a.next a.left a.next_body [] = subst (λ l. RowsHold k h s.words a.number a.first_draft a.next a.left a.next_body l) none_yet mine.rows in
+      let st : Step k h e = record { row = subst (IsOf k.parts k.rows a.number) (sym here) (next_own k t room); unborn = subst (λ z. IsUnborn h z) (sym here) (next_unborn k t room); stage = (pos, omega arith); body = ready.1; root = refl; by = refl } in
+      let whole : IsBody y.body = ready.1 in
+      let body : (j : ℕ) → j < BODY_WORDS → get_or s.words (body_place row j) 0 ≡ slice_index y.body j = λ j less. mine.rows.body_there room j (omega arith) in
       let now = new_birth h a.number y st.unborn in
       let act : Act k t = record {
         event = e;
@@ -84,14 +86,14 @@ module _ (k : Limits) (fair : AreLimits k) where
           draft = λ un. let b = born_at (h ++ e ∷ []) row y now here in absurd cc;
         };
         rest = λ z there other. birth_told h a.number y z (get_or s.words (place_of k z) 0) (λ q. other (q ∙ ap HeadWord here))
-            (λ q. ap (λ b. get_or s.words (place_of k b) 0) (q ∙ ap KeyWord here) ∙ key) (λ q. ap (λ b. get_or s.words (place_of k b) 0) (q ∙ ap AmountWord here) ∙ amount) (r.world.tells z there);
+            (λ j q. ap (λ b. get_or s.words (place_of k b) 0) (q ∙ ap (λ i. BodyWord i j) here) ∙ body j (subst (IsThere k) q there).1) (r.world.tells z there);
         empty = λ i q. let same : i ≡ row = cc in ap (λ z. get_or s.words (head_place z) 0) same ∙ next_empty k t room;
         unmarked = λ z q. cc;
         apart = λ d i ne part. of_no_other k a.number d row w refl (next_own k t room) ne i part;
         mine = record {
           given = mine.given;
           mine = ap (λ l. l ++ e ∷ []) mine.mine ∙ sym (by_own a.number h e refl);
-          rows = rows_publish h s.words a.number a.first_draft a.drawn x a.next_key a.next_amount y all mine.given here room (λ z. full_head (head_of y) (λ q. cc) (sym is ∙ z)) r.world.wide rows;
+          rows = rows_publish h s.words a.number a.first_draft a.next a.left x a.next_body y all mine.given here room (λ z. full_head (head_of y) (λ q. cc) (sym is ∙ z)) r.world.wide rows;
           units = units_own k h e a.number a.claimed a.spare_unit a.open_unit (enqueue_quiet a.number y) (λ d u i n z. cc) (λ d u z. cc) mine.units;
         };
       } in let done = acted k t act in (

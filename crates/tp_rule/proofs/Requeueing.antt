@@ -48,7 +48,7 @@ module _ (k : Limits) where
       (λ i not. ap (λ b. cond b (AgainWord m) (claim_word h i)) (ne_eqb row i (λ z. not (sym z)))) (requeue_quiet a.number row m) (λ z. refl) record {
         given = mine.given;
         mine = ap (λ l. l ++ e ∷ []) mine.mine ∙ sym (by_own a.number h e refl);
-        rows = rows_still k h s.words e row new a.number a.first_draft a.drawn a.next_key a.next_amount a.drafts room refl mine.given mine.rows;
+        rows = rows_still k h s.words e row new a.number a.first_draft a.next a.left a.next_body a.drafts room refl mine.given mine.rows;
         units = units_own k h e a.number a.claimed a.spare_unit a.open_unit (requeue_quiet a.number row m) (λ d u i n z. cc) (λ d u z. cc) mine.units;
       } in (
         after kinds.RequeueExchange (with_event e) (h ++ e ∷ []) v.known v,

@@ -1,5 +1,5 @@
 -- The seats after a step.
-use Rattle.std.proofs.Common.{◌≡◌, ℕ, zero, suc, ◌<◌, ◌≢◌, List, [], ◌∷◌, map, length, set, get_or, sym, refl, ap, ◌∙◌, subst, ⊎_elim, arith, ◌+◌, ◌*◌, ◌≤◌, Option}
+use Rattle.std.proofs.Common.{◌≡◌, ℕ, zero, suc, ◌<◌, ◌≢◌, List, [], ◌∷◌, map, length, set, get_or, sym, refl, ap, ◌∙◌, subst, ⊎_elim, arith, ◌+◌, ◌*◌, ◌≤◌}
 use mathlib.Core.Option.{some, some-injective, some-ne-none}
 use mathlib.Core.List.{IsPrefix}
 use mathlib.Core.Logic.{dite}
@@ -14,6 +14,7 @@ use Rattle.tp_model.specs.declared.trace.StepKind.TheVariants as kinds
 use Rattle.tp_model.specs.declared.types.Limits.{Limits}
 use Rattle.tp_model.specs.declared.types.Element.{Element}
 use Rattle.tp_model.specs.History.{In, IsUnborn, here, there}
+use Rattle.tp_model.specs.Passes.{IsRun}
 use Rattle.tp_model.specs.Steps.{IsLegal, rows_of}
 use Rattle.tp_model.proofs.Bridges.{append_nil, begins_refl, in_cons, in_none}
 use Rattle.tp_words.specs.Places.{HeadWord, head_place}
@@ -70,6 +71,14 @@ module _ (k : Limits) where
   seats_after h ws owner views id w mine others j v e = ⊎_elim (λ (t : (j ≡ id) × (w ≡ v)). subst (λ (x : ℕ × View). SeatHolds k h ws owner x.0 x.1) (λ i. (sym t.0 i, t.1 i)) mine)
       (λ (t : (j ≢ id) × (get_elem? views j ≡ some v)). others j v t.0 t.1) (at_set views id j w v e)
 
+  -- the run of a pass that is as its seat knows it
+  pub run_of : (h : List Event) (ws : List ℕ) (a : Hand) → HandHolds k h ws a → IsRun k h a.number a.next a.left
+  run_of h ws a r = let count = r.rows.counted in let low = r.rows.begins in record {
+    begins = omega arith;
+    ends = r.rows.ends;
+    unborn = λ i l m. r.rows.unborn i (omega arith) m;
+  }
+
   pub hand_noted : (h : List Event) (ws : List ℕ) (kind : StepKind) (seen : List Event) (a : Hand) → HandHolds k h ws a → HandHolds k h ws (noted kind seen a)
   hand_noted h ws kind seen a r = record { given = r.given; mine = r.mine; rows = r.rows; units = r.units }
 
@@ -108,6 +117,7 @@ module _ (k : Limits) where
             view = refl;
             mine = λ a p. (there.hands a p).mine;
             open_own = λ a p. (there.hands a p).units.open_own;
+            run = λ a p. subst (λ l. IsRun l h a.number a.next a.left) (sym lim) (run_of h s.words a (there.hands a p));
             knows = more;
             heads = λ i head x p. recall k h s.words r.world i head x (mine.known (RowHead i head) p);
             marks = λ p n q. subst (λ l. IsLow l h p n) (sym lim) (low_below k h s.words r.world p n (so (PartMark p n) q));
@@ -120,15 +130,15 @@ module _ (k : Limits) where
   looks v word has s r id at = let t = looks_knowing v word has s r id at v.known (r.seats id v at).known (λ x p. p) in (after kinds.Load unchanged r.history v.known v, t.0, t.1)
 
   -- a row without a head is behind those that are drawn
-  rows_none : (h : List Event) (ws : List ℕ) (c first drawn i j : ℕ) (key amount : Option ℕ) (ds : List Element) → RowsHold k h ws c first drawn key amount ds → c * k.rows ≤ i → i ≤ j → j < c * k.rows + k.rows
+  rows_none : (h : List Event) (ws : List ℕ) (c first next left i j : ℕ) (body : List ℕ) (ds : List Element) → RowsHold k h ws c first next left body ds → c * k.rows ≤ i → i ≤ j → j < c * k.rows + k.rows
       → get_or ws (head_place i) 0 ≡ 0 → IsUnborn h j
-  rows_none h ws c first drawn i j key amount ds r low later high empty = let count = r.counted in dite (dec_le (c * k.rows + drawn) i)
-      (λ behind. r.unborn j (omega arith) high) (λ before. absurd (r.full i low (omega arith) empty))
+  rows_none h ws c first next left i j body ds r low later high empty = let count = r.counted in let top = r.ends in dite (dec_le next i)
+      (λ behind. r.unborn j (omega arith) (omega arith)) (λ before. absurd (r.full i low (omega arith) empty))
 
   none_from : (s : S) (r : Rule k s) (i : ℕ) → get_or s.words (head_place i) 0 ≡ 0 → NoneFrom k r.history i
   none_from s r i empty c j own part later = let t = r.complete c own.0 in let a = t.2 in let hand = (r.seats t.0 t.1 t.3).hands a t.4 in
-      rows_none r.history s.words c a.first_draft a.drawn i j a.next_key a.next_amount a.drafts
-      (subst (λ n. RowsHold k r.history s.words n a.first_draft a.drawn a.next_key a.next_amount a.drafts) t.5 hand.rows) own.1 later part.2 empty
+      rows_none r.history s.words c a.first_draft a.next a.left i j a.next_body a.drafts
+      (subst (λ n. RowsHold k r.history s.words n a.first_draft a.next a.left a.next_body a.drafts) t.5 hand.rows) own.1 later part.2 empty
 
   -- the load of a head, which the seat remembers
   pub looks_head : (v : View) (row : ℕ) → HasPass v → row < rows_of k → Permits k v (head_place row) (λ n. n) (loads_head (head_place row) 0 0 v)

@@ -4,8 +4,9 @@ use mathlib.Core.Logic.{dite}
 use native.Mathlib.Decide.{ℕ_discrete}
 use Rattle.tp_model.specs.declared.types.Element.{Element}
 use Rattle.tp_model.specs.declared.types.Limits.{Limits}
+use Rattle.tp_model.specs.declared.types.TheConstants.{BODY_WORDS}
 use Rattle.tp_model.specs.Steps.{rows_of}
-use Rattle.tp_words.specs.Places.{Word, HeadWord, KeyWord, AmountWord, ClaimWord, UnitWord, MarkWord, IsThere, head_place, key_place, amount_place, mark_place, place_of, size_of}
+use Rattle.tp_words.specs.Places.{Word, HeadWord, BodyWord, ClaimWord, UnitWord, MarkWord, IsThere, head_place, body_place, mark_place, place_of, size_of}
 use Rattle.tp_words.specs.Words.{pack_head}
 use Rattle.tp_words.specs.declared.words.Head.{Head}
 use Rattle.tp_words.specs.declared.words.Head.TheVariants.{Empty, There}
@@ -17,18 +18,17 @@ use Rattle.tp_rule.specs.declared.view.Known.TheVariants.{RowHead, PartMark}
 -- the row whose element the word tells of, beside its claim
 abbrev pub body_row : Word → Option ℕ
 body_row (HeadWord i) = Some i
-body_row (KeyWord i) = Some i
-body_row (AmountWord i) = Some i
+body_row (BodyWord i j) = Some i
 body_row (ClaimWord i) = None
 body_row (UnitWord u) = None
 body_row (MarkWord p) = None
 
--- the head, key and amount of row i are the same
+-- the head and the body of row i are the same
 abbrev pub SameRow : List ℕ → List ℕ → ℕ → Type 0
-SameRow ws ws' i = (get_or ws' (head_place i) 0 ≡ get_or ws (head_place i) 0) × (get_or ws' (key_place i) 0 ≡ get_or ws (key_place i) 0) × (get_or ws' (amount_place i) 0 ≡ get_or ws (amount_place i) 0)
+SameRow ws ws' i = (get_or ws' (head_place i) 0 ≡ get_or ws (head_place i) 0) × ((j : ℕ) → j < BODY_WORDS → get_or ws' (body_place i j) 0 ≡ get_or ws (body_place i j) 0)
 
 pub holds_same : (ws ws' : List ℕ) (x : Element) → SameRow ws ws' x.id → Holds ws x → Holds ws' x
-holds_same ws ws' x s h = (s.0 ∙ h.0, s.1 ∙ h.1, s.2 ∙ h.2)
+holds_same ws ws' x s h = let whole = h.2 in (s.0 ∙ h.0, λ j less. s.1 j (omega arith) ∙ h.1 j less, whole)
 
 -- a head that isn't empty isn't packed as 0
 pub full_head : (head : Head) → head ≢ Empty → pack_head head ≡ 0 → ⊥
@@ -53,8 +53,7 @@ module _ (l : Limits) where
     pub row_left : (i : ℕ) → i < rows_of l → body_row w ≢ Some i → SameRow ws (set ws (place_of l w) x) i
     row_left i there other = (
       left (HeadWord i) there (λ e. other (sym (ap body_row e))),
-      left (KeyWord i) there (λ e. other (sym (ap body_row e))),
-      left (AmountWord i) there (λ e. other (sym (ap body_row e))),
+      λ j less. left (BodyWord i j) (there, less) (λ e. other (sym (ap body_row e))),
     )
 
     -- a head that isn't empty stays, if no head is stored but over an empty one

@@ -1,5 +1,5 @@
 -- What the words tell of a history that goes on by one event.
-use Rattle.std.proofs.Common.{◌≡◌, ◌≢◌, ℕ, ◌<◌, ◌≤◌, List, [], ◌∷◌, ◌++◌, set, get_or, sym, refl, ap, ◌∙◌, subst, inl, inr, ⊎_elim, arith, length-set, Option, Some, None}
+use Rattle.std.proofs.Common.{◌≡◌, ◌≢◌, ℕ, ◌<◌, ◌≤◌, List, [], ◌∷◌, ◌++◌, set, get_or, slice_index, sym, refl, ap, ◌∙◌, subst, inl, inr, ⊎_elim, arith, length-set, Option, Some, None}
 use Rattle.tp_model.specs.declared.event.Event.{Event}
 use Rattle.tp_model.specs.declared.types.Element.{Element}
 use Rattle.tp_model.specs.declared.types.Limits.{Limits}
@@ -11,7 +11,7 @@ use Rattle.tp_model.proofs.Bridges.{born_at, born_either, element_of-id, end_sta
 use Rattle.tp_model.proofs.LawProofs.{settled_stay}
 use Rattle.tp_model.proofs.Later.{births_inside}
 use Rattle.tp_model.proofs.WordProofs.{claim_word-snoc, end_of-snoc}
-use Rattle.tp_words.specs.Places.{Word, HeadWord, KeyWord, AmountWord, ClaimWord as ClaimOf, UnitWord, MarkWord, IsThere, head_place, mark_place, place_of}
+use Rattle.tp_words.specs.Places.{Word, HeadWord, BodyWord, ClaimWord as ClaimOf, UnitWord, MarkWord, IsThere, head_place, mark_place, place_of}
 use Rattle.tp_words.specs.Words.{IsFitClaim, IsFitHead, IsFitUnit, head_of, pack_claim, pack_head, pack_unit}
 use Rattle.tp_words.specs.declared.words.Head.{Head}
 use Rattle.tp_words.specs.declared.words.Head.TheVariants.{Empty, There}
@@ -109,8 +109,7 @@ module _ (h : List Event) (e : Event) where
   -- a word that tells nothing of what an event without births changes
   pub told_later : births e ≡ [] → (w : Word) (n : ℕ) → ((i : ℕ) → w ≡ ClaimOf i → claim_word_after i (claim_word h i) e ≡ claim_word h i) → ((u : ℕ) → w ≡ UnitWord u → decide u (end_of h u) e ≡ end_of h u) → Told h w n → Told (h ++ e ∷ []) w n
   told_later none (HeadWord i) n claims units old = head_later i n (λ x q. absurd (in_none (subst (In x) none q))) old
-  told_later none (KeyWord i) n claims units old = body_later i n (λ x. x.key) (λ x q. absurd (in_none (subst (In x) none q))) old
-  told_later none (AmountWord i) n claims units old = body_later i n (λ x. x.amount) (λ x q. absurd (in_none (subst (In x) none q))) old
+  told_later none (BodyWord i j) n claims units old = body_later i n (λ x. slice_index x.body j) (λ x q. absurd (in_none (subst (In x) none q))) old
   told_later none (ClaimOf i) n claims units old = claim_later i n (claims i refl) old
   told_later none (UnitWord u) n claims units old = unit_later u n (units u refl) old
   told_later none (MarkWord p) n claims units old = tt

@@ -1,5 +1,5 @@
 -- Steps that store nothing: the choice of a unit.
-use Rattle.std.proofs.Common.{◌≡◌, ℕ, ◌+◌, ◌*◌, ◌<◌, List, [], sym, refl, ap, ◌∙◌, arith, Option}
+use Rattle.std.proofs.Common.{◌≡◌, ℕ, ◌+◌, ◌*◌, ◌<◌, List, [], sym, refl, ap, ◌∙◌, arith}
 use Rattle.tp_model.specs.declared.event.Event.{Event}
 use Rattle.tp_model.specs.declared.trace.StepKind.TheVariants as kinds
 use Rattle.tp_model.specs.declared.types.Element.{Element}
@@ -17,15 +17,16 @@ use Rattle.tp_rule.proofs.Events.{looking_after, watched}
 
 module _ (k : Limits) where
   -- the rows behind the drafts of a lost unit
-  pub rows_lost : (h : List Event) (ws : List ℕ) (c first drawn : ℕ) (key amount : Option ℕ) (ds : List Element) → RowsHold k h ws c first drawn key amount ds → RowsHold k h ws c drawn drawn key amount []
-  rows_lost h ws c first drawn key amount ds r = let count = r.counted in record {
+  pub rows_lost : (h : List Event) (ws : List ℕ) (c first next left : ℕ) (body : List ℕ) (ds : List Element) → RowsHold k h ws c first next left body ds → RowsHold k h ws c next next left body []
+  rows_lost h ws c first next left body ds r = let count = r.counted in record {
     counted = omega arith;
-    drawn_below = r.drawn_below;
+    begins = let low = r.begins in omega arith;
+    ends = r.ends;
     unborn = λ i l m. r.unborn i (omega arith) m;
     full = r.full;
     empty = r.empty;
-    key_there = r.key_there;
-    amount_there = r.amount_there;
+    body_few = r.body_few;
+    body_there = r.body_there;
     run = tt;
     written = λ x p. absurd (in_none p);
   }

@@ -6,7 +6,7 @@ use Rattle.tp_model.specs.declared.event.Event.TheVariants.{Claim}
 use Rattle.tp_model.specs.declared.types.Element.{Element}
 use Rattle.tp_model.specs.declared.types.Limits.{Limits}
 use Rattle.tp_model.specs.History.{In, IsClaim, claim_of, element_of}
-use Rattle.tp_model.specs.Steps.{IsLegal, IsStage}
+use Rattle.tp_model.specs.Steps.{IsBody, IsLegal, IsStage}
 use Rattle.tp_model.proofs.Histories.{legal_at}
 use Rattle.tp_model.proofs.Bridges.{found_later, in_either, in_none, in_one, new_claim}
 use Rattle.tp_rule.specs.declared.view.Hand.{Hand}
@@ -47,9 +47,9 @@ work_stays v w u seen number drafts work = (
 )
 
 -- and with one more draft for the root of that element
-pub drafted_work : (v w : View) (stage root u : ℕ) → IsOnePass v → (work : IsOwnWork v u) → Drafts v stage root u w → IsStage stage → root ≡ work.item.root → IsOwnWork w u
-drafted_work v w stage root u one work is fits same_root = let x : Element = next_element v stage root (Some u) in let t = one_after kinds.DraftStore (with_draft x) v.seen v.known v w one is in let seen : w.seen ≡ v.seen = ap (λ (z : View). z.seen) is in
-    let drafts : (hand w).drafts ≡ (hand v).drafts ++ x ∷ [] = ap (λ (a : Hand). a.drafts) t.1 in let is_out : IsOut u work.item.root x = (fits, refl, same_root) in record {
+pub drafted_work : (v w : View) (stage root u : ℕ) → IsOnePass v → (work : IsOwnWork v u) → Drafts v stage root u w → IsStage stage → root ≡ work.item.root → IsBody (hand v).next_body → IsOwnWork w u
+drafted_work v w stage root u one work is fits same_root whole = let x : Element = next_element v stage root (Some u) in let t = one_after kinds.DraftStore (with_draft x) v.seen v.known v w one is in let seen : w.seen ≡ v.seen = ap (λ (z : View). z.seen) is in
+    let drafts : (hand w).drafts ≡ (hand v).drafts ++ x ∷ [] = ap (λ (a : Hand). a.drafts) t.1 in let is_out : IsOut u work.item.root x = (fits, refl, same_root, whole) in record {
       taking = work.taking;
       claimed = ap (λ h. claim_of h u) seen ∙ work.claimed;
       own = work.own ∙ sym (ap (λ (a : Hand). a.number) t.1);

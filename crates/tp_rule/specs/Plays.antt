@@ -2,13 +2,14 @@
 -- was found at the place. In each definition v is the view before the step, and w the view after it.
 use Rattle.std.specs.Prelude.{◌≡◌, ◌≢◌, ℕ, ◌<◌, ◌≤◌, [], Some, None}
 use Rattle.tp_model.specs.Words.{TakenWord, AgainWord}
+use Rattle.tp_model.specs.declared.types.TheConstants.{BODY_WORDS}
 use Rattle.tp_model.specs.declared.trace.StepKind.TheVariants as kinds
 use Rattle.tp_words.specs.declared.words.Head.{Head}
 use Rattle.tp_words.specs.declared.words.Head.TheVariants.{There}
 use Rattle.tp_words.specs.Words.{IsFitHead, pack_claim, pack_head}
-use Rattle.tp_words.specs.Places.{head_place, claim_place, mark_place, unit_place}
+use Rattle.tp_words.specs.Places.{head_place, body_place, claim_place, mark_place, unit_place}
 use Rattle.tp_rule.specs.Views.{hand, next_row}
-use Rattle.tp_rule.specs.Steps.{Found, Grew, Knows, Loads, NoneFrom, unchanged, drafted, with_key, with_amount, Drafts, Publishes, Chooses, MakesClaim, MakesCommit, Loses, MakesAbort, MakesKill, MakesRequeue, Misses, IsLow, Raises}
+use Rattle.tp_rule.specs.Steps.{Found, Grew, Knows, Loads, NoneFrom, unchanged, drafted, with_word, Drafts, Publishes, Chooses, MakesClaim, MakesCommit, Loses, MakesAbort, MakesKill, MakesRequeue, Misses, IsLow, Raises}
 use Rattle.tp_rule.specs.declared.view.Known.TheVariants.{RowHead, PartMark}
 use Rattle.tp_rule.specs.declared.view.View.{View}
 
@@ -24,11 +25,8 @@ loads_head word first second v r w = Loads v word r w
     × ((i : ℕ) (head : Head) → word ≡ head_place i → r ≡ pack_head head → IsFitHead head → Knows w (RowHead i head))
     × ((i : ℕ) → word ≡ head_place i → r ≡ 0 → NoneFrom v.limits w.seen i)
 
-abbrev pub stores_key : Telling
-stores_key word key second v r w = w ≡ drafted (with_key key) v
-
-abbrev pub stores_amount : Telling
-stores_amount word amount second v r w = w ≡ drafted (with_amount amount) v
+abbrev pub stores_word : Telling
+stores_word word number second v r w = (i : ℕ) × (k : ℕ) × (k < BODY_WORDS) × (word ≡ body_place i k) × (w ≡ drafted (with_word k number) v)
 
 abbrev pub stores_head : Telling
 stores_head word packed second v r w = (stage : ℕ) × (root : ℕ) × (u : ℕ) × (stage ≤ 15) × (root < 65536)

@@ -7,23 +7,28 @@ use lib.ListN.{get_elem?}
 use Rattle.atomic_table.specs.Table.{State}
 use Rattle.tp_model.specs.History.{Aborted, In, IsClaim, IsSettled, IsUnborn, IsUnused, element_of, end_of, events_by, status_of}
 use Rattle.tp_model.specs.Passes.{IsOwnOpen}
-use Rattle.tp_model.specs.Steps.{IsLegal, rows_of}
+use Rattle.tp_model.specs.Steps.{IsBody, IsLegal, rows_of}
 use Rattle.tp_model.specs.Words.{claim_word}
 use Rattle.tp_model.specs.declared.event.Event.{Event}
 use Rattle.tp_model.specs.declared.types.Element.{Element}
 use Rattle.tp_model.specs.declared.types.Limits.{Limits}
+use Rattle.tp_model.specs.declared.types.TheConstants.{BODY_WORDS}
 use Rattle.tp_rule.specs.declared.view.Hand.{Hand}
 use Rattle.tp_rule.specs.declared.view.Known.{Known}
 use Rattle.tp_rule.specs.declared.view.Known.TheVariants.{RowHead, PartMark}
 use Rattle.tp_rule.specs.declared.view.View.{View}
-use Rattle.tp_words.specs.Places.{Word, HeadWord, KeyWord, AmountWord, ClaimWord, UnitWord, MarkWord, IsThere, head_place, key_place, amount_place, mark_place, place_of, size_of}
+use Rattle.tp_words.specs.Places.{Word, HeadWord, BodyWord, ClaimWord, UnitWord, MarkWord, IsThere, head_place, body_place, mark_place, place_of, size_of}
 use Rattle.tp_words.specs.Words.{IsFitHead, IsFitClaim, IsFitUnit, head_of, pack_claim, pack_head, pack_unit}
 use Rattle.tp_words.specs.declared.words.Head.{Head}
 use Rattle.tp_words.specs.declared.words.Head.TheVariants.{Empty, There}
 
--- the head, key and amount words of row x.id hold the element x
+-- the words of the body of row i are these
+abbrev pub HoldsBody : List ℕ → ℕ → List ℕ → Type 0
+HoldsBody ws i body = (k : ℕ) → k < length body → slice_index ws (body_place i k) ≡ slice_index body k
+
+-- the head of row x.id and the words of its body hold the element x, whose body is whole
 abbrev pub Holds : List ℕ → Element → Type 0
-Holds ws x = (slice_index ws (head_place x.id) ≡ pack_head (head_of x)) × (slice_index ws (key_place x.id) ≡ x.key) × (slice_index ws (amount_place x.id) ≡ x.amount)
+Holds ws x = (slice_index ws (head_place x.id) ≡ pack_head (head_of x)) × HoldsBody ws x.id x.body × IsBody x.body
 
 -- these elements have the ids i, i + 1, ..
 abbrev pub AreFrom : ℕ → List Element → Type 0
@@ -36,23 +41,25 @@ IsDraft Empty = Unit {0}
 IsDraft (There stage root by) = ¬ (by ≡ None)
 
 -- what is so of the rows of pass c
-pub record RowsHold (l : Limits) (h : List Event) (ws : List ℕ) (c first_draft drawn : ℕ) (key amount : Option ℕ) (drafts : List Element) : Type 0 where
+pub record RowsHold (l : Limits) (h : List Event) (ws : List ℕ) (c first_draft next left : ℕ) (body : List ℕ) (drafts : List Element) : Type 0 where
   -- there is one row for each draft
-  pub counted : first_draft + length drafts ≡ drawn
-  -- no more rows are drawn than the pass has
-  pub drawn_below : drawn ≤ l.rows
-  -- no row from the first draft on is born
-  pub unborn : (i : ℕ) → c * l.rows + first_draft ≤ i → i < c * l.rows + l.rows → IsUnborn h i
-  -- the head of each row that is drawn is not empty
-  pub full : (i : ℕ) → c * l.rows ≤ i → i < c * l.rows + drawn → slice_index ws (head_place i) ≢ 0
-  -- the head of each row that is not drawn is empty
-  pub empty : (i : ℕ) → c * l.rows + drawn ≤ i → i < c * l.rows + l.rows → slice_index ws (head_place i) ≡ 0
-  -- the key that the pass remembers stands in the next row
-  pub key_there : (x : ℕ) → key ≡ Some x → (drawn < l.rows) × (slice_index ws (key_place (c * l.rows + drawn)) ≡ x)
-  -- the amount that the pass remembers stands in the next row
-  pub amount_there : (x : ℕ) → amount ≡ Some x → (drawn < l.rows) × (slice_index ws (amount_place (c * l.rows + drawn)) ≡ x)
+  pub counted : first_draft + length drafts ≡ next
+  -- the run lies in the pass's part
+  pub begins : c * l.rows ≤ first_draft
+  -- and reaches to its end
+  pub ends : next + left ≡ c * l.rows + l.rows
+  -- no row of it from the first draft on is born
+  pub unborn : (i : ℕ) → first_draft ≤ i → i < next + left → IsUnborn h i
+  -- the head of each row before the next one is not empty
+  pub full : (i : ℕ) → c * l.rows ≤ i → i < next → slice_index ws (head_place i) ≢ 0
+  -- the head of each row that is left is empty
+  pub empty : (i : ℕ) → next ≤ i → i < next + left → slice_index ws (head_place i) ≡ 0
+  -- the pass remembers no more words than a body has
+  pub body_few : length body ≤ BODY_WORDS
+  -- those that it remembers stand in the next row
+  pub body_there : 0 < left → HoldsBody ws next body
   -- the drafts stand in the rows from the first draft on, one after another
-  pub run : AreFrom (c * l.rows + first_draft) drafts
+  pub run : AreFrom first_draft drafts
   -- the words of each draft's row hold it
   pub written : (x : Element) → In x drafts → Holds ws x
 
@@ -76,7 +83,7 @@ pub record HandHolds (l : Limits) (h : List Event) (ws : List ℕ) (a : Hand) : 
   -- its own events are all of the history's events with its number
   pub mine : a.mine ≡ events_by a.number h
   -- its rows are as it remembers them
-  pub rows : RowsHold l h ws a.number a.first_draft a.drawn a.next_key a.next_amount a.drafts
+  pub rows : RowsHold l h ws a.number a.first_draft a.next a.left a.next_body a.drafts
   -- its units are as it remembers them
   pub units : UnitsHold l h a.number a.claimed a.spare_unit a.open_unit
 
@@ -123,9 +130,8 @@ pub record HeadTold (h : List Event) (i n : ℕ) : Type 0 where
 abbrev pub Told : List Event → Word → ℕ → Type 0
 -- a head: what it says, which is that of the element where one is born
 Told h (HeadWord i) n = HeadTold h i n
--- a key and an amount: those of the element, where one is born
-Told h (KeyWord i) n = (x : Element) → element_of h i ≡ Some x → n ≡ x.key
-Told h (AmountWord i) n = (x : Element) → element_of h i ≡ Some x → n ≡ x.amount
+-- a word of a body: that of the element, where one is born
+Told h (BodyWord i k) n = (x : Element) → element_of h i ≡ Some x → n ≡ slice_index x.body k
 -- a claim: the packing of what the history says of the element's claims and kill
 Told h (ClaimWord i) n = (n ≡ pack_claim (claim_word h i)) × IsFitClaim (claim_word h i)
 -- a unit's word: the packing of how the unit ended

@@ -1,6 +1,6 @@
 -- What each kind of step makes of a seat's view, and what it tells. In each definition v is the view before the step, and w the view after it.
 -- A view changes in two ways alone: `after` a step, and by a split or a join of seats.
-use Rattle.std.specs.Prelude.{◌≡◌, ◌≢◌, ◌⊎◌, ℕ, ◌+◌, ◌-◌, ◌*◌, ◌<◌, ◌≤◌, List, [], ◌∷◌, ◌++◌, map, Option, Some, None, IsSome}
+use Rattle.std.specs.Prelude.{◌≡◌, ◌≢◌, ◌⊎◌, ℕ, ◌+◌, ◌-◌, ◌*◌, ◌<◌, ◌≤◌, List, [], ◌∷◌, ◌++◌, map, take, Option, Some, None}
 use mathlib.Core.List.{IsPrefix}
 use Rattle.tp_model.specs.declared.types.Element.{Element}
 use Rattle.tp_model.specs.declared.types.Limits.{Limits}
@@ -11,9 +11,9 @@ use Rattle.tp_model.specs.declared.event.Event.TheVariants.{Enqueue, Claim, Comm
 use Rattle.tp_model.specs.declared.trace.StepKind.{StepKind}
 use Rattle.tp_model.specs.declared.trace.StepKind.TheVariants as kinds
 use Rattle.tp_model.specs.History.{Aborted, In, IsSettled, IsUnborn, status_of, UnitClaim, UnitEnd, claim_of, element_of, end_of, events_by}
-use Rattle.tp_model.specs.Passes.{IsOwnOpen}
+use Rattle.tp_model.specs.Passes.{IsOwnOpen, IsRun}
 use Rattle.tp_model.specs.Words.{ClaimWord, claim_word, round_in, word_status}
-use Rattle.tp_model.specs.Steps.{IsStage, IsServerStage, IsKillable, IsParked, IsLegal, IsRowOf}
+use Rattle.tp_model.specs.Steps.{IsBody, IsStage, IsServerStage, IsKillable, IsParked, IsLegal, IsRowOf}
 use Rattle.tp_words.specs.declared.words.Head.{Head}
 use Rattle.tp_words.specs.declared.words.Head.TheVariants.{Empty, There}
 use Rattle.tp_words.specs.Words.{IsFitClaim, head_of}
@@ -65,6 +65,8 @@ pub record Grew (kind : StepKind) (f : Hand → Hand) (events : List Event) (v w
   pub mine : (a : Hand) → In a w.hands → a.mine ≡ events_by a.number w.seen
   -- its open unit is its own
   pub open_own : (a : Hand) → In a w.hands → (u : ℕ) → a.open_unit ≡ Some u → IsOwnOpen w.seen a.number u
+  -- the rows that are left to it are a run
+  pub run : (a : Hand) → In a w.hands → IsRun v.limits w.seen a.number a.next a.left
   -- what was known is known
   pub knows : (x : Known) → Knows v x → Knows w x
   -- a head that was found before, and wasn't empty, is that of the element that is born in the row by now
@@ -94,29 +96,29 @@ Loads v word r w = Grew kinds.Load unchanged [] v w × Found v.limits w.seen wor
 abbrev pub drafted : (Hand → Hand) → View → View
 drafted f v = after kinds.DraftStore f v.seen v.known v
 
--- the key of the next row is stored
-abbrev pub with_key : ℕ → Hand → Hand
-with_key x a = record a { next_key = Some x }
+-- word k of the body of the next row is stored: those before it stand, and those behind it don't count any more
+abbrev pub with_word : ℕ → ℕ → Hand → Hand
+with_word k x a = record a { next_body = take k a.next_body ++ x ∷ [] }
 
--- the amount of the next row is stored
-abbrev pub with_amount : ℕ → Hand → Hand
-with_amount x a = record a { next_amount = Some x }
+-- the body of the next row is stored
+abbrev pub with_body : List ℕ → Hand → Hand
+with_body body a = record a { next_body = body }
 
-abbrev pub or_zero : Option ℕ → ℕ
-or_zero None = 0
-or_zero (Some x) = x
+-- the view after the four words of the body of the next row are stored, one after another
+abbrev pub bodied : List ℕ → View → View
+bodied body v = drafted (with_body body) (drafted unchanged (drafted unchanged (drafted unchanged v)))
 
 -- the element that the next row holds once its head is stored
 abbrev pub next_element : View → ℕ → ℕ → Option ℕ → Element
-next_element v stage root by = record { id = next_row v; stage = stage; root = root; key = or_zero (hand v).next_key; amount = or_zero (hand v).next_amount; by = by }
+next_element v stage root by = record { id = next_row v; stage = stage; root = root; body = (hand v).next_body; by = by }
 
 -- the next row has become a draft of the open unit
 abbrev pub with_draft : Element → Hand → Hand
-with_draft x a = record a { drawn = a.drawn + 1; next_key = None; next_amount = None; drafts = a.drafts ++ x ∷ [] }
+with_draft x a = record a { next = a.next + 1; left = a.left - 1; next_body = []; drafts = a.drafts ++ x ∷ [] }
 
--- the key and the amount of the next row are stored
+-- the body of the next row is stored
 abbrev pub IsReady : View → Type 0
-IsReady v = IsOnePass v × IsSome (hand v).next_key × IsSome (hand v).next_amount
+IsReady v = IsOnePass v × IsBody (hand v).next_body
 
 -- the store of the head of a draft of unit u
 abbrev pub Drafts : View → ℕ → ℕ → ℕ → View → Type 0
@@ -130,7 +132,7 @@ birth v stage = Enqueue (hand v).number (next_element v stage (next_row v) None)
 
 -- the next row is born
 abbrev pub with_birth : Event → Hand → Hand
-with_birth e a = record a { mine = a.mine ++ e ∷ []; first_draft = a.drawn + 1; drawn = a.drawn + 1; next_key = None; next_amount = None; drafts = [] }
+with_birth e a = record a { mine = a.mine ++ e ∷ []; first_draft = a.next + 1; next = a.next + 1; left = a.left - 1; next_body = []; drafts = [] }
 
 abbrev pub Publishes : View → ℕ → View → Type 0
 Publishes v stage w = Grew kinds.Publish (with_birth (birth v stage)) (birth v stage ∷ []) v w
@@ -167,7 +169,7 @@ HasWork h i = (x : Element) × (element_of h i ≡ Some x) × IsServerStage x.st
 
 -- y may be an output of unit u for a request with this root
 abbrev pub IsOut : ℕ → ℕ → Element → Type 0
-IsOut u root y = IsStage y.stage × (y.by ≡ Some u) × (y.root ≡ root)
+IsOut u root y = IsStage y.stage × (y.by ≡ Some u) × (y.root ≡ root) × IsBody y.body
 
 -- the pass claimed unit u, and its drafts may be the unit's outputs
 pub record IsOwnWork (v : View) (u : ℕ) : Type 0 where
@@ -215,11 +217,11 @@ committed v u = Commit (hand v).number u (hand v).drafts
 
 -- the open unit has ended by the pass's own event; its drafts are drafts no more
 abbrev pub with_end : Event → Hand → Hand
-with_end e a = record a { mine = a.mine ++ e ∷ []; first_draft = a.drawn; drafts = []; open_unit = None }
+with_end e a = record a { mine = a.mine ++ e ∷ []; first_draft = a.next; drafts = []; open_unit = None }
 
 -- the open unit was aborted by another; its drafts are given up
 abbrev pub with_lost : Hand → Hand
-with_lost a = record a { first_draft = a.drawn; drafts = []; open_unit = None }
+with_lost a = record a { first_draft = a.next; drafts = []; open_unit = None }
 
 abbrev pub MakesCommit : View → ℕ → View → Type 0
 MakesCommit v u w = Grew kinds.CommitExchange (with_end (committed v u)) (committed v u ∷ []) v w
@@ -310,6 +312,8 @@ pub record Meets (v w v' w' : View) : Type 0 where
   -- the events of each are all with its number, and its open unit is its own
   pub mine : ((hand v').mine ≡ events_by (hand v').number v'.seen) × ((hand w').mine ≡ events_by (hand w').number w'.seen)
   pub open_own : ((u : ℕ) → (hand v').open_unit ≡ Some u → IsOwnOpen v'.seen (hand v').number u) × ((u : ℕ) → (hand w').open_unit ≡ Some u → IsOwnOpen w'.seen (hand w').number u)
+  -- the rows that are left to each are a run
+  pub run : IsRun v.limits v'.seen (hand v').number (hand v').next (hand v').left × IsRun v.limits w'.seen (hand w').number (hand w').next (hand w').left
   -- what either knew both know
   pub knows : ((x : Known) → Knows v x → Knows v' x) × ((x : Known) → Knows w x → Knows w' x)
   pub marks : ((p n : ℕ) → Knows v' (PartMark p n) → IsLow v.limits v'.seen p n) × ((p n : ℕ) → Knows w' (PartMark p n) → IsLow v.limits w'.seen p n)

@@ -21,22 +21,26 @@ view_of seat = seat.view
 abbrev pub IsSameSeat : SeatShown → SeatShown → Type 0
 IsSameSeat old new = new.table ≡ old.table
 
--- the pass c, which has done nothing
-abbrev pub fresh : ℕ → Hand
-fresh c = record { number = c; mine = []; trace = []; first_draft = 0; drawn = 0; next_key = None; next_amount = None; drafts = []; claimed = 0; spare_unit = None; open_unit = None }
+-- the pass c of a table with these limits, which has done nothing: all rows of its part are left
+abbrev pub fresh : Limits → ℕ → Hand
+fresh l c = record { number = c; mine = []; trace = []; first_draft = c * l.rows; next = c * l.rows; left = l.rows; next_body = []; drafts = []; claimed = 0; spare_unit = None; open_unit = None }
 
 -- so many passes from c on, which have done nothing
-abbrev pub fresh_from : ℕ → ℕ → List Hand
-fresh_from c zero = []
-fresh_from c (suc n) = fresh c ∷ fresh_from (c + 1) n
+abbrev pub fresh_from : Limits → ℕ → ℕ → List Hand
+fresh_from l c zero = []
+fresh_from l c (suc n) = fresh l c ∷ fresh_from l (c + 1) n
 
 -- the keeper's view at the start: it stands for all passes
 abbrev pub first_view : Limits → View
-first_view l = record { limits = l; seen = []; also_seen = []; known = []; hands = fresh_from 0 l.parts }
+first_view l = record { limits = l; seen = []; also_seen = []; known = []; hands = fresh_from l 0 l.parts }
+
+-- the limits of no table
+abbrev pub no_limits : Limits
+no_limits = record { parts = 0; rows = 0; units = 0; attempts = 0 }
 
 -- the view of an empty seat: it stands for no pass
 abbrev pub spent : View
-spent = record { limits = record { parts = 0; rows = 0; units = 0; attempts = 0 }; seen = []; also_seen = []; known = []; hands = [] }
+spent = record { limits = no_limits; seen = []; also_seen = []; known = []; hands = [] }
 
 -- the name of no table
 abbrev pub no_table : TableId
@@ -47,7 +51,7 @@ abbrev pub no_seat : SeatShown
 no_seat = record { table = no_table; view = spent }
 
 abbrev pub first_hand : List Hand → Hand
-first_hand [] = fresh 0
+first_hand [] = fresh no_limits 0
 first_hand (a ∷ hands) = a
 
 -- the first pass of a view, and the only one where the seat stands for one
@@ -72,11 +76,11 @@ HasPass v = (a : Hand) × In a v.hands
 
 -- the row that the pass draws next
 abbrev pub next_row : View → ℕ
-next_row v = (hand v).number * v.limits.rows + (hand v).drawn
+next_row v = (hand v).next
 
 -- row i is the one that the pass draws next, and there is one
 abbrev pub IsNextRow : Limits → View → ℕ → Type 0
-IsNextRow l v i = (i ≡ (hand v).number * l.rows + (hand v).drawn) × ((hand v).drawn < l.rows) × (i < rows_of l)
+IsNextRow l v i = (i ≡ next_row v) × (0 < (hand v).left) × (i < rows_of l)
 
 -- unit u is the one that the pass claims with next, and there is one
 abbrev pub IsNextUnit : Limits → View → ℕ → Type 0

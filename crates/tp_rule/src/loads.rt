@@ -1,5 +1,6 @@
 //! Loads. Each shows the seat the history so far.
-ghost use Rattle.std.specs.Prelude.{ℕ, ◌≡◌, ◌<◌, ◌≤◌, [], Some};
+ghost use Rattle.std.specs.Prelude.{ℕ, ◌≡◌, ◌<◌, ◌≤◌, [], Some, slice_index};
+ghost use Rattle.tp_model.specs.declared.types.TheConstants.{BODY_WORDS};
 ghost use Rattle.tp_model.specs.declared.types.Element.{Element};
 ghost use Rattle.tp_model.specs.declared.trace.StepKind.TheVariants as kinds;
 ghost use Rattle.tp_model.specs.History.{IsUnborn, element_of, end_of};
@@ -56,32 +57,20 @@ impl Words {
         }
     }
 
-    /// Reads the key of a row: that of its element, where one is born.
+    /// Reads a word of the body of a row: that of its element, where one is born.
     #[inline(always)]
-    pub fn load_key(&self, seat: &mut Seat, row: u32) -> u64
+    pub fn load_word(&self, seat: &mut Seat, row: u32, word: usize) -> u64
         requires own { IsSeatOf self.now seat.old }
         requires one { IsPassOf self.now seat.old }
         requires row { row < rows_of (limits_of self.now) }
+        requires word { word < BODY_WORDS }
         ensures same { IsSameSeat seat.old seat.new }
         ensures grew { Grew kinds.Load unchanged [] (view_of seat.old) (view_of seat.new) }
-        ensures born { (e : Element) → element_of (seen_by seat.new) row ≡ Some e → result ≡ e.key }
+        ensures born { (e : Element) → element_of (seen_by seat.new) row ≡ Some e
+            → result ≡ slice_index e.body word }
     {
-        let word = self.places.key(row);
-        self.load(seat, word)
-    }
-
-    /// Reads the amount of a row: that of its element, where one is born.
-    #[inline(always)]
-    pub fn load_amount(&self, seat: &mut Seat, row: u32) -> u64
-        requires own { IsSeatOf self.now seat.old }
-        requires one { IsPassOf self.now seat.old }
-        requires row { row < rows_of (limits_of self.now) }
-        ensures same { IsSameSeat seat.old seat.new }
-        ensures grew { Grew kinds.Load unchanged [] (view_of seat.old) (view_of seat.new) }
-        ensures born { (e : Element) → element_of (seen_by seat.new) row ≡ Some e → result ≡ e.amount }
-    {
-        let word = self.places.amount(row);
-        self.load(seat, word)
+        let place = self.places.body(row, word);
+        self.load(seat, place)
     }
 
     /// Reads the claim of a row: which unit took its element last, for which time, and whether it was killed.

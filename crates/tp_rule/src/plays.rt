@@ -1,5 +1,5 @@
 //! What each kind of step tells the functions of this crate, in the numbers of the table, and how seats are cut and joined.
-ghost use Rattle.tp_rule.specs.Plays.{Telling, loads, loads_head, stores_key, stores_amount, stores_head, publishes, chooses, exchanges_claim, exchanges_commit, exchanges_abort, exchanges_kill, exchanges_requeue, loads_mark, raises};
+ghost use Rattle.tp_rule.specs.Plays.{Telling, loads, loads_head, stores_word, stores_head, publishes, chooses, exchanges_claim, exchanges_commit, exchanges_abort, exchanges_kill, exchanges_requeue, loads_mark, raises};
 ghost use Rattle.tp_rule.specs.Views.{spent};
 ghost use Rattle.tp_rule.specs.Steps.{handed_on, handed_out, kept, parted, joined};
 
@@ -26,16 +26,10 @@ impl Effect for LoadHead {
     ghost told = { loads_head };
 }
 
-pub(crate) struct DraftKey;
+pub(crate) struct DraftWord;
 
-impl Effect for DraftKey {
-    ghost told = { stores_key };
-}
-
-pub(crate) struct DraftAmount;
-
-impl Effect for DraftAmount {
-    ghost told = { stores_amount };
+impl Effect for DraftWord {
+    ghost told = { stores_word };
 }
 
 pub(crate) struct DraftHead;

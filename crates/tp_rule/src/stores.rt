@@ -1,43 +1,50 @@
 //! Stores to a pass's own rows: draft stores, which nobody sees, and publish.
-ghost use Rattle.std.specs.Prelude.{◌≡◌, ◌<◌, [], Some};
-ghost use Rattle.tp_model.specs.Steps.{IsServerStage, IsStage};
+ghost use Rattle.std.specs.Prelude.{◌≡◌, ◌<◌, ◌≤◌, [], length, Some};
+ghost use Rattle.tp_model.specs.declared.types.TheConstants.{BODY_WORDS};
+ghost use Rattle.tp_model.specs.Steps.{IsBody, IsServerStage, IsStage};
 ghost use Rattle.tp_rule.specs.Views.{hand_of, view_of, IsNextRow, IsOnePass, IsSameSeat};
-ghost use Rattle.tp_rule.specs.Steps.{drafted, with_key, with_amount, Drafts, Publishes, IsReady};
+ghost use Rattle.tp_rule.specs.Steps.{bodied, drafted, with_word, Drafts, Publishes, IsReady};
 
-use crate::plays::{DraftAmount, DraftHead, DraftKey, Publish};
+use crate::plays::{DraftHead, DraftWord, Publish};
 use crate::seat::Seat;
 use crate::words::Words;
+use tp_model::types::Body;
 use tp_words::Head;
 
 impl Words {
     ghost use Rattle.tp_rule.specs.Tables.{limits_of, IsPassOf, IsSeatOf};
 
-    /// Stores the key of the row that the pass draws next. The row is not born, so the history does not change, and
-    /// the seat sees nothing new.
-    pub fn store_draft_key(&self, seat: &mut Seat, row: u32, key: u64)
+    /// Stores a word of the body of the row that the pass draws next; those before it are stored. The row is not born,
+    /// so the history does not change, and the seat sees nothing new.
+    fn store_draft_word(&self, seat: &mut Seat, row: u32, word: usize, number: u64)
+        requires own { IsSeatOf self.now seat.old }
+        requires one { IsOnePass (view_of seat.old) }
+        requires next { IsNextRow (limits_of self.now) (view_of seat.old) row }
+        requires word { (word < BODY_WORDS) × (word ≤ length (hand_of seat.old).next_body) }
+        ensures same { IsSameSeat seat.old seat.new }
+        ensures view { view_of seat.new ≡ drafted (with_word word number) (view_of seat.old) }
+    {
+        let place = self.places.body(row, word);
+        self.table.store::<DraftWord>(seat, place, number);
+    }
+
+    /// Stores the body of the row that the pass draws next, word by word. Four steps.
+    #[tactic(auto, using(crate::proofs::Bodied::body_stored))]
+    pub fn store_draft_body(&self, seat: &mut Seat, row: u32, body: Body)
         requires own { IsSeatOf self.now seat.old }
         requires one { IsOnePass (view_of seat.old) }
         requires next { IsNextRow (limits_of self.now) (view_of seat.old) row }
         ensures same { IsSameSeat seat.old seat.new }
-        ensures view { view_of seat.new ≡ drafted (with_key key) (view_of seat.old) }
+        ensures view { view_of seat.new ≡ bodied body (view_of seat.old) }
+        ensures whole { IsBody body }
     {
-        let word = self.places.key(row);
-        self.table.store::<DraftKey>(seat, word, key);
+        self.store_draft_word(seat, row, 0, body[0]);
+        self.store_draft_word(seat, row, 1, body[1]);
+        self.store_draft_word(seat, row, 2, body[2]);
+        self.store_draft_word(seat, row, 3, body[3]);
     }
 
-    /// Stores the amount of the row that the pass draws next, likewise.
-    pub fn store_draft_amount(&self, seat: &mut Seat, row: u32, amount: u64)
-        requires own { IsSeatOf self.now seat.old }
-        requires one { IsOnePass (view_of seat.old) }
-        requires next { IsNextRow (limits_of self.now) (view_of seat.old) row }
-        ensures same { IsSameSeat seat.old seat.new }
-        ensures view { view_of seat.new ≡ drafted (with_amount amount) (view_of seat.old) }
-    {
-        let word = self.places.amount(row);
-        self.table.store::<DraftAmount>(seat, word, amount);
-    }
-
-    /// Stores the head of the row that the pass draws next, whose key and amount are stored. It names the pass's open
+    /// Stores the head of the row that the pass draws next, whose body is stored. It names the pass's open
     /// unit, so the row is a draft from now on: an output that is born when the unit commits, and never if it does
     /// not.
     pub fn store_draft_head(&self, seat: &mut Seat, row: u32, stage: u8, root: u16, unit: u16)
@@ -59,7 +66,7 @@ impl Words {
         self.table.store::<DraftHead>(seat, word, head);
     }
 
-    /// Stores the head of the row that the pass draws next, whose key and amount are stored. It names no unit, so the
+    /// Stores the head of the row that the pass draws next, whose body is stored. It names no unit, so the
     /// store is the birth of a client's element, and the history has its event: it is its own root.
     pub fn publish(&self, seat: &mut Seat, row: u32, stage: u8)
         requires own { IsSeatOf self.now seat.old }

@@ -11,7 +11,7 @@ ghost use Rattle.tp_rule.specs.Tables.{limits_of, IsSeatOf, IsPassOf};
 use crate::{Seat, Words};
 use std::alloc::Global;
 use std::thread::join_mut;
-use tp_model::types::Limits;
+use tp_model::types::{Body, Limits};
 use tp_words::{Claim, Head, Places, UnitWord};
 
 /// Words for three passes of four rows and two units each, with two attempts, and the keeper's seat.
@@ -19,7 +19,7 @@ fn small(alloc: Global) -> Option<(Words, Seat)>
     ensures limits { IfSome result (λ made. limits_of made.0 ≡ record { parts = 3; rows = 4; units = 2; attempts = 2 }) }
     ensures seat { IfSome result (λ made. IsSeatOf made.0 made.1) }
     ensures view { IfSome result (λ made. view_of made.1 ≡ first_view (limits_of made.0)) }
-    ensures hands { IfSome result (λ made. (view_of made.1).hands ≡ fresh_from 0 (3 - 0)) }
+    ensures hands { IfSome result (λ made. (view_of made.1).hands ≡ fresh_from (limits_of made.0) 0 (3 - 0)) }
 {
     let limits = Limits {
         parts: 3,
@@ -35,21 +35,22 @@ fn small(alloc: Global) -> Option<(Words, Seat)>
 fn pass(words: &Words, keeper: &mut Seat, number: u16) -> Seat
     requires own { IsSeatOf words.now keeper.old }
     requires limits { (view_of keeper.old).limits ≡ limits_of words.now }
-    requires left { (number < 3) × ((view_of keeper.old).hands ≡ fresh_from number (3 - number)) }
+    requires left { (number < 3) × ((view_of keeper.old).hands ≡ fresh_from (limits_of words.now) number (3 - number)) }
     ensures same { IsSameSeat keeper.old keeper.new }
     ensures limits { (view_of keeper.new).limits ≡ limits_of words.now }
-    ensures left { (view_of keeper.new).hands ≡ fresh_from (number + 1) (3 - (number + 1)) }
+    ensures left { (view_of keeper.new).hands ≡ fresh_from (limits_of words.now) (number + 1) (3 - (number + 1)) }
     ensures own { IsSeatOf words.now result }
     ensures one { IsPassOf words.now result }
     ensures number { (hand_of result).number ≡ number }
-    ensures rows { ((hand_of result).drawn ≡ 0) × ((hand_of result).drafts ≡ []) }
+    ensures rows { let l = limits_of words.now in ((hand_of result).next ≡ number * l.rows)
+        × ((hand_of result).left ≡ l.rows) × ((hand_of result).drafts ≡ []) }
     ensures units { ((hand_of result).claimed ≡ 0) × ((hand_of result).open_unit ≡ None) }
 {
     words.hand_out(keeper)
 }
 
-/// A client's element of stage 1, in the next row of the pass.
-fn submit(words: &Words, seat: &mut Seat, row: u32, amount: u64)
+/// A client's element of stage 1 with this body, in the next row of the pass.
+fn submit(words: &Words, seat: &mut Seat, row: u32, body: Body)
     requires own { IsSeatOf words.now seat.old }
     requires one { IsPassOf words.now seat.old }
     requires next { IsNextRow (limits_of words.now) (view_of seat.old) row }
@@ -57,13 +58,13 @@ fn submit(words: &Words, seat: &mut Seat, row: u32, amount: u64)
     ensures same { IsSameSeat seat.old seat.new }
     ensures one { IsPassOf words.now seat.new }
     ensures number { (hand_of seat.new).number ≡ (hand_of seat.old).number }
-    ensures drawn { (hand_of seat.new).drawn ≡ (hand_of seat.old).drawn + 1 }
+    ensures used { ((hand_of seat.new).next ≡ (hand_of seat.old).next + 1)
+        × ((hand_of seat.new).left ≡ (hand_of seat.old).left - 1) }
     ensures drafts { (hand_of seat.new).drafts ≡ [] }
     ensures claimed { (hand_of seat.new).claimed ≡ (hand_of seat.old).claimed }
     ensures open_unit { (hand_of seat.new).open_unit ≡ (hand_of seat.old).open_unit }
 {
-    words.store_draft_key(seat, row, 0);
-    words.store_draft_amount(seat, row, amount);
+    words.store_draft_body(seat, row, body);
     words.publish(seat, row, 1);
 }
 
@@ -96,7 +97,8 @@ fn claim(words: &Words, seat: &mut Seat, row: u32, unit: u16) -> bool
     ensures same { IsSameSeat seat.old seat.new }
     ensures one { IsPassOf words.now seat.new }
     ensures number { (hand_of seat.new).number ≡ (hand_of seat.old).number }
-    ensures rows { ((hand_of seat.new).drawn ≡ (hand_of seat.old).drawn) × ((hand_of seat.new).drafts ≡ []) }
+    ensures rows { ((hand_of seat.new).next ≡ (hand_of seat.old).next)
+        × ((hand_of seat.new).left ≡ (hand_of seat.old).left) × ((hand_of seat.new).drafts ≡ []) }
     ensures won { result ≡ true → (hand_of seat.new).open_unit ≡ Some unit }
     ensures work { result ≡ true → (work : IsOwnWork (view_of seat.new) unit) × (work.item.root ≡ 0) }
 {
@@ -110,7 +112,7 @@ fn claim(words: &Words, seat: &mut Seat, row: u32, unit: u16) -> bool
     }
 }
 
-/// Drafts a reply for the open unit, in the next row of the pass.
+/// Drafts a reply with the body 0, 10, 20, 30 for the open unit, in the next row of the pass.
 fn draft_reply(words: &Words, seat: &mut Seat, row: u32, unit: u16)
     requires own { IsSeatOf words.now seat.old }
     requires one { IsPassOf words.now seat.old }
@@ -124,9 +126,22 @@ fn draft_reply(words: &Words, seat: &mut Seat, row: u32, unit: u16)
     ensures drafts { (length (hand_of seat.new).drafts ≡ 1) × (first_id (hand_of seat.new).drafts ≡ row) }
     ensures work { IsOwnWork (view_of seat.new) unit }
 {
-    words.store_draft_key(seat, row, 0);
-    words.store_draft_amount(seat, row, 10);
+    words.store_draft_body(seat, row, [0, 10, 20, 30]);
     words.store_draft_head(seat, row, 15, 0, unit);
+}
+
+/// Whether the body of the row is this one, word by word.
+fn shows_body(words: &Words, seat: &mut Seat, row: u32, body: Body) -> bool
+    requires own { IsSeatOf words.now seat.old }
+    requires one { IsPassOf words.now seat.old }
+    requires row { row < rows_of (limits_of words.now) }
+    ensures same { IsSameSeat seat.old seat.new }
+    ensures one { IsPassOf words.now seat.new }
+{
+    words.load_word(seat, row, 0) == body[0]
+        && words.load_word(seat, row, 1) == body[1]
+        && words.load_word(seat, row, 2) == body[2]
+        && words.load_word(seat, row, 3) == body[3]
 }
 
 /// Whether a row with this head is born, where `made_by` is the word of the unit that its head names.
@@ -162,7 +177,7 @@ fn output_born_at_exchange(rt: HostRuntime) {
     };
     let mut server = pass(&words, &mut keeper, 0);
     let mut reader = pass(&words, &mut keeper, 1);
-    submit(&words, &mut server, 0, 9);
+    submit(&words, &mut server, 0, [0, 9, 8, 7]);
     if !claim(&words, &mut server, 0, 0) {
         assert!(rt; false);
         return;
@@ -188,6 +203,8 @@ fn output_born_at_exchange(rt: HostRuntime) {
     assert!(rt; reply == draft);
     assert!(rt; made_by == UnitWord::Committed { first: 1, count: 1 });
     assert!(rt; is_born(1, reply, made_by));
+    assert!(rt; shows_body(&words, &mut reader, 0, [0, 9, 8, 7]));
+    assert!(rt; shows_body(&words, &mut reader, 1, [0, 10, 20, 30]));
 }
 
 /// Whether the row has a client's element of stage 1, and the unit was aborted.
@@ -295,7 +312,7 @@ fn stale_kill_exchange(rt: HostRuntime) {
     let mut killer = pass(&words, &mut keeper, 0);
     let mut first = pass(&words, &mut keeper, 1);
     let mut second = pass(&words, &mut keeper, 2);
-    submit(&words, &mut killer, 0, 9);
+    submit(&words, &mut killer, 0, [0, 9, 8, 7]);
     assert!(rt; claim(&words, &mut first, 0, 2));
     assert!(rt; abort_holder(&words, &mut killer, 0, 2));
     assert!(rt; claim_again(&words, &mut second, 0, 2, 4));
@@ -317,7 +334,7 @@ fn two_passes_meet(rt: HostRuntime) {
     };
     let mut client = pass(&words, &mut keeper, 0);
     let mut server = pass(&words, &mut keeper, 1);
-    submit(&words, &mut client, 0, 9);
+    submit(&words, &mut client, 0, [5, 9, 8, 7]);
     words.meet(&mut client, &mut server);
     assert!(rt; claim(&words, &mut server, 0, 2));
     assert!(rt;
@@ -328,26 +345,28 @@ fn two_passes_meet(rt: HostRuntime) {
                 round: 0
             }
     );
-    assert!(rt; words.load_key(&mut client, 0) == 0);
-    assert!(rt; words.load_amount(&mut server, 0) == 9);
+    assert!(rt; words.load_word(&mut client, 0, 0) == 5);
+    assert!(rt; words.load_word(&mut server, 0, 1) == 9);
+    assert!(rt; words.load_word(&mut client, 0, 2) == 8);
+    assert!(rt; words.load_word(&mut server, 0, 3) == 7);
 }
 
-/// All four rows of a pass, each with this amount.
-fn fill(words: &Words, seat: &mut Seat, first: u32, amount: u64)
+/// All four rows of a pass, each with this body.
+fn fill(words: &Words, seat: &mut Seat, first: u32, body: Body)
     requires own { IsSeatOf words.now seat.old }
     requires one { IsPassOf words.now seat.old }
     requires limits { limits_of words.now ≡ record { parts = 3; rows = 4; units = 2; attempts = 2 } }
-    requires first { (first ≡ 4 * (hand_of seat.old).number) × ((hand_of seat.old).number < 3) }
-    requires new { ((hand_of seat.old).drawn ≡ 0) × ((hand_of seat.old).drafts ≡ []) }
+    requires first { (first ≡ (hand_of seat.old).next) × (first < 9) }
+    requires new { ((hand_of seat.old).left ≡ 4) × ((hand_of seat.old).drafts ≡ []) }
     ensures same { IsSameSeat seat.old seat.new }
 {
     for i in 0..4u32 {
-        submit(words, seat, first + i, amount);
+        submit(words, seat, first + i, body);
     }
 }
 
-/// Whether the row has a client's element of stage 1, which is its own root, with this amount.
-fn reads_back(words: &Words, seat: &mut Seat, row: u32, amount: u64) -> bool
+/// Whether the row has a client's element of stage 1, which is its own root, with this body.
+fn reads_back(words: &Words, seat: &mut Seat, row: u32, body: Body) -> bool
     requires own { IsSeatOf words.now seat.old }
     requires one { IsPassOf words.now seat.old }
     requires row { row < rows_of (limits_of words.now) }
@@ -360,11 +379,11 @@ fn reads_back(words: &Words, seat: &mut Seat, row: u32, amount: u64) -> bool
         root: row as u16,
         by: None,
     };
-    head == expected && words.load_amount(seat, row) == amount
+    head == expected && shows_body(words, seat, row, body)
 }
 
 /// Whether four rows read back so, from this row on.
-fn all_read_back(words: &Words, seat: &mut Seat, first: u32, amount: u64) -> bool
+fn all_read_back(words: &Words, seat: &mut Seat, first: u32, body: Body) -> bool
     requires own { IsSeatOf words.now seat.old }
     requires one { IsPassOf words.now seat.old }
     requires rows { first + 4 ≤ rows_of (limits_of words.now) }
@@ -373,7 +392,7 @@ fn all_read_back(words: &Words, seat: &mut Seat, first: u32, amount: u64) -> boo
 {
     let mut all = true;
     for i in 0..4u32 {
-        if !reads_back(words, seat, first + i, amount) {
+        if !reads_back(words, seat, first + i, body) {
             all = false;
         }
     }
@@ -392,9 +411,9 @@ fn two_threads_publish(rt: HostRuntime) {
     let mut reader = pass(&words, &mut keeper, 2);
     join_mut(
         &rt,
-        &mut || fill(&words, &mut left, 0, 7),
-        &mut || fill(&words, &mut right, 4, 8),
+        &mut || fill(&words, &mut left, 0, [1, 2, 3, 4]),
+        &mut || fill(&words, &mut right, 4, [8, 7, 6, 5]),
     );
-    assert!(rt; all_read_back(&words, &mut reader, 0, 7));
-    assert!(rt; all_read_back(&words, &mut reader, 4, 8));
+    assert!(rt; all_read_back(&words, &mut reader, 0, [1, 2, 3, 4]));
+    assert!(rt; all_read_back(&words, &mut reader, 4, [8, 7, 6, 5]));
 }

@@ -8,8 +8,8 @@ use tp_words::Head;
 
 /// What a seat knows as one of the passes that it stands for.
 ///
-/// The rows of a pass are numbered from 0 here, and so are its units: row `r` of pass `number` is the row
-/// `number * limits.rows + r` of the table, and unit `u` of it the unit `number * limits.units + u`.
+/// Its rows are used one after another: the next is `next`, and `left` of the run that begins there are unused. The units
+/// of a pass are numbered from 0 here: unit `u` of pass `number` is the unit `number * limits.units + u` of the table.
 pub struct Hand {
     /// The number of the pass, below `limits.parts`.
     pub number: u16,
@@ -17,15 +17,15 @@ pub struct Hand {
     pub mine: LinkedList<Event>,
     /// The atomic steps that the pass made, oldest first. Every step adds one entry, and nothing else adds any.
     pub trace: LinkedList<TraceEntry>,
-    /// The own rows below this are born, or given up with a unit that was aborted.
-    pub first_draft: u16,
-    /// The own rows below this, at most `limits.rows`, are used: those from `first_draft` on hold the drafts, and the
-    /// heads of all behind are empty.
-    pub drawn: u16,
-    /// The key that was stored in the next row, the one at `drawn`.
-    pub next_key: Option<u64>,
-    /// The amount that was stored in the next row.
-    pub next_amount: Option<u64>,
+    /// The rows of the run below this are born, or given up with a unit that was aborted.
+    pub first_draft: u32,
+    /// The row of the run that is used next: those from `first_draft` up to it hold the drafts, and the heads of the
+    /// `left` rows from it on are empty.
+    pub next: u32,
+    /// How many rows of the run are unused.
+    pub left: u16,
+    /// The first words of the body of the next row: those that are stored.
+    pub next_body: LinkedList<u64>,
     /// The outputs that are written for the open unit, and are born when it commits.
     pub drafts: LinkedList<Element>,
     /// The own units below this, at most `limits.units`, were claimed.

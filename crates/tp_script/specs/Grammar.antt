@@ -64,7 +64,7 @@ keyword_line reach first.Units ws s = one ws >>= λ w. units_line w s
 keyword_line reach first.Limit ws s = one ws >>= λ w. limit_line w s
 keyword_line reach first.Server ws s = server_line reach ws s
 keyword_line reach first.Start ws s = three ws >>= λ w. start_line w s
-keyword_line reach (first.Do verb) ws s = command_at verb ws s >>= λ c. with_command c s
+keyword_line reach (first.Do verb) ws s = command_at reach verb ws s >>= λ c. with_command c s
 keyword_line reach first.Account ws s = account_line ws s
 
 -- the keyword that a word is, where the script may have such a line

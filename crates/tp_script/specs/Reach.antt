@@ -14,6 +14,10 @@ rank Workers = 2
 abbrev pub has : Reach → Reach → Bool
 has reach other = nat_le (rank other) (rank reach)
 
+-- whether a script may say all four words of a body, and which of them is the amount
+abbrev pub has_whole_bodies : Reach → Bool
+has_whole_bodies reach = has reach Desks
+
 -- how many servers a script may have
 abbrev pub most_servers : Reach → ℕ
 most_servers Plain = 1

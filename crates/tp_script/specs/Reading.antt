@@ -11,6 +11,7 @@ use Rattle.tp_script.specs.declared.servers.Shape.{Shape}
 use Rattle.tp_script.specs.Script.{ScriptView, script_view}
 use Rattle.tp_script.specs.ServerLines as lines
 use Rattle.tp_script.specs.declared.commands.RaceWords.{RaceWords}
+use Rattle.tp_script.specs.declared.commands.SubmitWords.{SubmitWords}
 use Rattle.tp_script.specs.Commands as commands
 
 -- a fault is the one that is said, and a lack of memory may always come
@@ -29,7 +30,11 @@ GivesScript s r read = Gives (λ _. script_view s) r read
 
 -- the words of a server line, without where they lie in memory
 abbrev pub shape_view : Shape → lines.Shape
-shape_view s = record { name = s.name.now; kind = s.kind; stage = s.stage.now; registers = s.registers.now; act = s.act; outputs = map (λ x. x.now) s.outputs.now }
+shape_view s = record { name = s.name.now; kind = s.kind; stage = s.stage.now; registers = s.registers.now; act = s.act; word = s.word; outputs = map (λ x. x.now) s.outputs.now }
+
+-- the words of a submit line, without where they lie in memory
+abbrev pub submit_view : SubmitWords → commands.SubmitWords
+submit_view w = record { stage = w.stage.now; key = w.key.now; amount = w.amount.now; word_two = w.word_two.now; word_three = w.word_three.now }
 
 -- the words of a race line, without where they lie in memory
 abbrev pub race_view : RaceWords → commands.RaceWords

@@ -28,16 +28,17 @@ pub record Shape : Type 0 where
   pub stage : List ℕ
   pub registers : List ℕ
   pub act : Act
+  pub word : ℕ
   pub outputs : List (List ℕ)
 
 -- NAME KIND STAGE REGISTERS ACT OUT.., with at most four OUT of two colons each
-unfoldable pub shape_at : List (List ℕ) → Result Shape LineFault
-shape_at (name ∷ kind ∷ stage ∷ registers ∷ act ∷ outputs) = do
+unfoldable pub shape_at : Reach → List (List ℕ) → Result Shape LineFault
+shape_at reach (name ∷ kind ∷ stage ∷ registers ∷ act ∷ outputs) = do
   kind ← kind_at kind
-  act ← act_at act
+  deed ← act_at reach act
   _ ← require (nat_le (length outputs) 4 && list_all is_output outputs) Syntax
-  Ok (record { name = name; kind = kind; stage = stage; registers = registers; act = act; outputs = outputs })
-shape_at ws = Err Syntax
+  Ok (record { name = name; kind = kind; stage = stage; registers = registers; act = deed.0; word = deed.1; outputs = outputs })
+shape_at reach ws = Err Syntax
 
 -- a name that no server has yet
 unfoldable pub new_name : List ℕ → ScriptView → Result (List ℕ) LineFault
@@ -51,7 +52,7 @@ recipe_at shape = do
   stage ← number_at 255 shape.stage
   registers ← number_at 255 shape.registers
   outputs ← outputs_at shape.outputs
-  Ok (record { stage = stage; registers = registers; act = shape.act; outputs = record { items = outputs } })
+  Ok (record { stage = stage; registers = registers; act = shape.act; word = shape.word; outputs = record { items = outputs } })
 
 -- the registers of a good recipe, all zero
 unfoldable pub registers_for : Recipe → Result (List ℕ) LineFault
@@ -66,7 +67,7 @@ with_server server s = record s { servers = s.servers ++ server ∷ [] }
 -- `server NAME KIND STAGE REGISTERS ACT OUT..`
 unfoldable pub server_line : Reach → List (List ℕ) → ScriptView → Result ScriptView LineFault
 server_line reach ws s = do
-  shape ← shape_at ws
+  shape ← shape_at reach ws
   _ ← require (not (has_commands s)) Order
   name ← new_name shape.name s
   recipe ← recipe_at shape

@@ -1,14 +1,15 @@
 //! The command lines of a script.
 ghost use Rattle.std.specs.Prelude.{◌<◌, ◌≤◌, ℕ, map, vec_len, IfOk};
-ghost use Rattle.tp_script.specs.Commands.{named, one_server, one_id, submit_at, balance_at, race_words, stage_at, race_at, command_at};
+ghost use Rattle.tp_script.specs.Commands.{named, one_server, one_id, submit_words, submit_at, balance_at, race_words, stage_at, race_at, command_at};
 ghost use Rattle.tp_script.specs.Ranges.{IsInRange};
-ghost use Rattle.tp_script.specs.Reading.{Gives, race_view};
+ghost use Rattle.tp_script.specs.Reading.{Gives, submit_view, race_view};
 ghost use Rattle.tp_script.specs.Script.{script_view};
 
 use crate::fault::{LineError, LineFault};
 use crate::keyword::Verb;
+use crate::reach::Reach;
 use crate::script::{ClientAct, Command, Race, Script};
-use crate::terms::{is_name, none, number_at, one, three, two};
+use crate::terms::{is_name, none, number_at, one, two};
 
 // The one word, an id.
 #[tactic(auto, unfolding(crate::specs::Commands::one_id))]
@@ -19,16 +20,60 @@ fn one_id(words: &[&[u8]]) -> Result<u32, LineError>
     Ok(id as u32)
 }
 
-// `submit STAGE KEY AMOUNT`
+// The words of a submit line, each in its place.
+#[derive(Clone, Copy)]
+struct SubmitWords<'a> {
+    stage: &'a [u8],
+    key: &'a [u8],
+    amount: &'a [u8],
+    word_two: &'a [u8],
+    word_three: &'a [u8],
+}
+
+// STAGE KEY AMOUNT, with words 2 and 3 of the body behind where the script may go so far; missing ones are 0.
+fn submit_words<'a>(reach: Reach, words: &[&'a [u8]]) -> Result<SubmitWords<'a>, LineError>
+    ensures { Gives submit_view result (submit_words reach (map (λ x. x.now) words.now)) }
+{
+    let (stage, key, amount, word_two, word_three) = match words {
+        [stage, key, amount] => {
+            return Ok(SubmitWords {
+                stage,
+                key,
+                amount,
+                word_two: b"0",
+                word_three: b"0",
+            });
+        }
+        [stage, key, amount, word_two] => (stage, key, amount, word_two, b"0".as_slice()),
+        [stage, key, amount, word_two, word_three] => (stage, key, amount, word_two, *word_three),
+        _ => return Err(LineError::Fault(LineFault::Syntax)),
+    };
+    if !reach.has_whole_bodies() {
+        return Err(LineError::Fault(LineFault::Syntax));
+    }
+    Ok(SubmitWords {
+        stage,
+        key,
+        amount,
+        word_two,
+        word_three,
+    })
+}
+
+// `submit STAGE KEY AMOUNT W2 W3`
 #[tactic(auto, unfolding(crate::specs::Commands::submit_at))]
-fn submit_at(words: (&[u8], &[u8], &[u8])) -> Result<Command, LineError>
-    ensures gives { Gives (λ c. c) result (submit_at (words.entry.0.now, words.entry.1.now, words.entry.2.now)) }
+fn submit_at(words: SubmitWords<'_>) -> Result<Command, LineError>
+    ensures gives { Gives (λ c. c) result (submit_at (submit_view words.entry)) }
     ensures in_range { IfOk result (λ c. (servers : ℕ) → IsInRange servers c) }
 {
-    let stage = number_at(words.0, 255)? as u8;
-    let key = number_at(words.1, u64::MAX)?;
-    let amount = number_at(words.2, u64::MAX)?;
-    Ok(Command::Client(ClientAct::Submit { stage, key, amount }))
+    let stage = number_at(words.stage, 255)? as u8;
+    let body = [
+        number_at(words.key, u64::MAX)?,
+        number_at(words.amount, u64::MAX)?,
+        number_at(words.word_two, u64::MAX)?,
+        number_at(words.word_three, u64::MAX)?,
+    ];
+    Ok(Command::Client(ClientAct::Submit { stage, body }))
 }
 
 // The words of a race line, each in its place.
@@ -133,12 +178,17 @@ impl Script {
 
     /// The command of this first word, with the words behind it.
     #[tactic(auto, unfolding(crate::specs::Commands::command_at))]
-    pub(crate) fn command_at(&self, verb: Verb, words: &[&[u8]]) -> Result<Command, LineError>
-        ensures gives { Gives (λ c. c) result (command_at verb (map (λ x. x.now) words.now) (script_view self.now)) }
+    pub(crate) fn command_at(
+        &self,
+        reach: Reach,
+        verb: Verb,
+        words: &[&[u8]],
+    ) -> Result<Command, LineError>
+        ensures gives { Gives (λ c. c) result (command_at reach verb (map (λ x. x.now) words.now) (script_view self.now)) }
         ensures in_range { IfOk result (λ c. IsInRange (vec_len self.now.servers) c) }
     {
         match verb {
-            Verb::Submit => submit_at(three(words)?),
+            Verb::Submit => submit_at(submit_words(reach, words)?),
             Verb::Kill => Ok(Command::Client(ClientAct::Kill { id: one_id(words)? })),
             Verb::Cancel => Ok(Command::Client(ClientAct::Cancel {
                 root: one_id(words)?,

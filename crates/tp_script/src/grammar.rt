@@ -85,7 +85,7 @@ impl Script {
             Keyword::Server => self.server_line(alloc, reach, words),
             Keyword::Start => self.start_line(three(words)?),
             Keyword::Do(verb) => {
-                let command = self.command_at(verb, words)?;
+                let command = self.command_at(reach, verb, words)?;
                 self.add(command)
             }
             Keyword::Account => self.account_line(words),

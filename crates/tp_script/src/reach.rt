@@ -1,7 +1,7 @@
 //! Which lines a script may have.
 ghost use Rattle.std.specs.Prelude.{◌≡◌, ◌≤◌};
 ghost use Rattle.tp_script.specs.Numbers.{servers_limit};
-ghost use Rattle.tp_script.specs.Reach.{rank, has, most_servers};
+ghost use Rattle.tp_script.specs.Reach.{rank, has, has_whole_bodies, most_servers};
 
 use crate::script::MOST_SERVERS;
 
@@ -36,6 +36,13 @@ impl Reach {
         ensures { result ≡ has self other }
     {
         other.rank() <= self.rank()
+    }
+
+    /// Whether a script may say all four words of a body, and which of them is the amount.
+    pub fn has_whole_bodies(self) -> bool
+        ensures { result ≡ has_whole_bodies self }
+    {
+        self.has(Reach::Desks)
     }
 
     /// How many servers a script may have.

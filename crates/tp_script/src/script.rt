@@ -9,6 +9,7 @@ ghost use Rattle.tp_script.specs.Numbers.{passes_limit, servers_limit};
 use crate::fault::{LineError, LineFault};
 use std::alloc::Global;
 use std::string::String;
+use tp_model::types::Body;
 use tp_server::{Recipe, Registers};
 
 /// How many servers a script may have.
@@ -59,7 +60,7 @@ pub struct ScriptServer {
 #[derive(Clone, Copy, Debug, PartialEq, Eq)]
 pub enum ClientAct {
     /// It submits an element.
-    Submit { stage: u8, key: u64, amount: u64 },
+    Submit { stage: u8, body: Body },
     /// It kills an element.
     Kill { id: u32 },
     /// It cancels a whole request.
@@ -100,7 +101,7 @@ pub struct Race {
     pub clients: u8,
     /// How often each of them submits, 0 to 256.
     pub submits: u16,
-    /// What each of them submits; the stage is 1 to 14.
+    /// What each of them submits, with zeros behind key and amount; the stage is 1 to 14.
     pub stage: u8,
     pub key: u64,
     pub amount: u64,

@@ -22,20 +22,21 @@ struct Shape<'a> {
     stage: &'a [u8],
     registers: &'a [u8],
     act: Act,
+    word: u8,
     outputs: &'a [&'a [u8]],
 }
 
 // NAME KIND STAGE REGISTERS ACT OUT..
 #[tactic(auto, unfolding(crate::specs::ServerLines::shape_at))]
-fn shape_at<'a>(words: &'a [&'a [u8]]) -> Result<Shape<'a>, LineError>
-    ensures gives { Gives shape_view result (shape_at (map (λ x. x.now) words.now)) }
+fn shape_at<'a>(alloc: Global, reach: Reach, words: &'a [&'a [u8]]) -> Result<Shape<'a>, LineError>
+    ensures gives { Gives shape_view result (shape_at reach (map (λ x. x.now) words.now)) }
     ensures few { IfOk result (λ shape. length shape.outputs.now ≤ 4) }
 {
     let [name, kind, stage, registers, act, outputs @ ..] = words else {
         return Err(LineError::Fault(LineFault::Syntax));
     };
     let kind = kind_at(kind)?;
-    let act = act_at(act)?;
+    let (act, word) = act_at(alloc, reach, act)?;
     if outputs.len() > 4 || !all_outputs(outputs) {
         return Err(LineError::Fault(LineFault::Syntax));
     }
@@ -45,6 +46,7 @@ fn shape_at<'a>(words: &'a [&'a [u8]]) -> Result<Shape<'a>, LineError>
         stage,
         registers,
         act,
+        word,
         outputs,
     })
 }
@@ -59,10 +61,12 @@ fn recipe_at(alloc: Global, shape: &Shape<'_>) -> Result<Recipe, LineError>
     let registers = number_at(shape.registers, 255)? as u8;
     let outputs = outputs_at(alloc, shape.outputs)?;
     let act = shape.act;
+    let word = shape.word;
     Ok(Recipe {
         stage,
         registers,
         act,
+        word,
         outputs,
     })
 }
@@ -134,7 +138,7 @@ impl Script {
     ) -> Result<(), LineError>
         ensures { GivesScript self.new result (server_line reach (map (λ x. x.now) words.now) (script_view self.old)) }
     {
-        let shape = shape_at(words)?;
+        let shape = shape_at(alloc, reach, words)?;
         if !self.commands.is_empty() {
             return Err(LineError::Fault(LineFault::Order));
         }

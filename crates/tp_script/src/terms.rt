@@ -3,9 +3,10 @@ ghost use Rattle.std.specs.Prelude.{◌≡◌, ◌≤◌, ◌-◌, ◌^◌, ◌&
 ghost use Rattle.std.specs.List.{list_all};
 ghost use Rattle.std.specs.Str.{bytes_eq};
 ghost use Rattle.tp_script.specs.Reading.{Gives};
-ghost use Rattle.tp_script.specs.Terms.{none, one, two, three, number_at, is_name, kind_at, act_at, key_at, amount_at, is_output, output_at, outputs_at};
+ghost use Rattle.tp_script.specs.Terms.{none, one, two, three, number_at, is_name, kind_at, act_named, place_at, act_words, act_at, key_at, amount_at, is_output, output_at, outputs_at};
 
 use crate::fault::{LineError, LineFault};
+use crate::reach::Reach;
 use crate::script::Kind;
 use crate::text::{number, parts};
 use arrayvec::ArrayVec;
@@ -106,10 +107,10 @@ pub(crate) fn kind_at(word: &[u8]) -> Result<Kind, LineError>
     }
 }
 
-/// `add`, `take` or `pass`.
-#[tactic(auto, unfolding(crate::specs::Terms::act_at))]
-pub(crate) fn act_at(word: &[u8]) -> Result<Act, LineError>
-    ensures { Gives (λ x. x) result (act_at word.now) }
+// `add`, `take` or `pass`.
+#[tactic(auto, unfolding(crate::specs::Terms::act_named))]
+fn act_named(word: &[u8]) -> Result<Act, LineError>
+    ensures { Gives (λ x. x) result (act_named word.now) }
 {
     if is(word, "add") {
         Ok(Act::Add)
@@ -120,6 +121,49 @@ pub(crate) fn act_at(word: &[u8]) -> Result<Act, LineError>
     } else {
         Err(LineError::Fault(LineFault::Syntax))
     }
+}
+
+// The place of the amount in a body: `1`, `2` or `3`.
+#[tactic(auto, unfolding(crate::specs::Terms::place_at))]
+fn place_at(word: &[u8]) -> Result<u8, LineError>
+    ensures { Gives (λ x. x) result (place_at word.now) }
+{
+    if is(word, "1") {
+        Ok(1)
+    } else if is(word, "2") {
+        Ok(2)
+    } else if is(word, "3") {
+        Ok(3)
+    } else {
+        Err(LineError::Fault(LineFault::Syntax))
+    }
+}
+
+// An act, and the place of its amount: 1 where none is said.
+fn act_words<'a>(reach: Reach, parts: &[&'a [u8]]) -> Result<(&'a [u8], &'a [u8]), LineError>
+    ensures { Gives (λ x. (x.0.now, x.1.now)) result (act_words reach (map (λ x. x.now) parts.now)) }
+{
+    match parts {
+        [act] => Ok((*act, b"1".as_slice())),
+        [act, place] => {
+            if reach.has_whole_bodies() {
+                Ok((*act, *place))
+            } else {
+                Err(LineError::Fault(LineFault::Syntax))
+            }
+        }
+        _ => Err(LineError::Fault(LineFault::Syntax)),
+    }
+}
+
+/// `ACT` or `ACT:PLACE`.
+#[tactic(auto, unfolding(crate::specs::Terms::act_at))]
+pub(crate) fn act_at(alloc: Global, reach: Reach, word: &[u8]) -> Result<(Act, u8), LineError>
+    ensures { Gives (λ x. x) result (act_at reach word.now) }
+{
+    let parts = parts(alloc, word, b':')?;
+    let (act, place) = act_words(reach, parts.as_slice())?;
+    Ok((act_named(act)?, place_at(place)?))
 }
 
 // The key of an output: `same` or a number.

@@ -1,5 +1,5 @@
 -- What a recipe does with an element, and with a list of them.
-use Rattle.std.specs.Prelude.{ℕ, ◌+◌, ◌-◌, ◌^◌, nat_lt, nat_le, List, [], ◌∷◌, map, Option, Some, None, Result, Ok, Err, slice_get, slice_set, if◌then◌else◌}
+use Rattle.std.specs.Prelude.{ℕ, ◌+◌, ◌-◌, ◌^◌, nat_lt, nat_le, List, [], ◌∷◌, map, Option, Some, None, Result, Ok, Err, slice_get, slice_set, slice_index, if◌then◌else◌}
 use Rattle.tp_model.specs.Drafts.{DraftView}
 use Rattle.tp_model.specs.declared.types.Element.{Element}
 use Rattle.tp_server.specs.declared.recipe.Recipe.{Recipe}
@@ -18,6 +18,10 @@ pub record Effect : Type 0 where
   pub registers : List ℕ
   pub drafts : List DraftView
 
+-- the key of a body is its word 0
+abbrev pub key_in : List ℕ → ℕ
+key_in body = slice_index body 0
+
 -- a register's value after the act, or why the act can't be done
 abbrev pub act_on : Act → ℕ → ℕ → Result ℕ Declined
 act_on Add value amount = if nat_lt (value + amount) (2 ^ 64) then Ok (value + amount) else Err TooLarge
@@ -29,9 +33,9 @@ abbrev pub act_at : Act → Option ℕ → ℕ → Result ℕ Declined
 act_at act None amount = Err NoRegister
 act_at act (Some value) amount = act_on act value amount
 
--- the register that the element's key names, after the recipe's act, or why that can't be done
+-- the register that the element's key names, after the recipe's act with the amount, or why that can't be done
 abbrev pub register_after : Recipe → List ℕ → Element → Result ℕ Declined
-register_after recipe registers element = act_at recipe.act (slice_get registers element.key) element.amount
+register_after recipe registers element = act_at recipe.act (slice_get registers (key_in element.body)) (slice_index element.body recipe.word)
 
 -- an output's key: the element's own, or a fixed one
 abbrev pub key_of : KeyFrom → ℕ → ℕ
@@ -44,20 +48,22 @@ amount_of SameAmount amount after = amount
 amount_of After amount after = after
 amount_of (FixedAmount n) amount after = n
 
--- the draft of one output, where the act leaves the register at after
-abbrev pub draft_of : Element → ℕ → Output → DraftView
-draft_of element after output = record {
-  stage = output.stage;
-  key = key_of output.key element.key;
-  amount = amount_of output.amount element.amount after;
-}
+-- an output's body is the element's own, with the output's key as its word 0 and the output's amount as its word at this
+-- place
+abbrev pub body_of : ℕ → List ℕ → ℕ → Output → List ℕ
+body_of word body after output =
+    slice_set (slice_set body 0 (key_of output.key (key_in body))) word (amount_of output.amount (slice_index body word) after)
+
+-- the draft of one output of a recipe whose amount is the word at this place, where the act leaves the register at after
+abbrev pub draft_of : ℕ → Element → ℕ → Output → DraftView
+draft_of word element after output = record { stage = output.stage; body = body_of word element.body after output }
 
 -- the whole effect, once it is known what becomes of the one register
 abbrev pub effect_with : Recipe → List ℕ → Element → Result ℕ Declined → Result Effect Declined
 effect_with recipe registers element (Err why) = Err why
 effect_with recipe registers element (Ok after) = Ok (record {
-  registers = slice_set registers element.key after;
-  drafts = map (draft_of element after) recipe.outputs.items;
+  registers = slice_set registers (key_in element.body) after;
+  drafts = map (draft_of recipe.word element after) recipe.outputs.items;
 })
 
 -- what the recipe does with an element, or why it declines

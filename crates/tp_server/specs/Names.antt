@@ -1,7 +1,7 @@
 -- The names that refusals are printed under.
 use Rattle.std.specs.Prelude.{ℕ, List, codes}
 use Rattle.tp_server.specs.declared.recipe.BadRecipe.{BadRecipe}
-use Rattle.tp_server.specs.declared.recipe.BadRecipe.TheVariants.{BadStage, BadRegisters, BadOutput}
+use Rattle.tp_server.specs.declared.recipe.BadRecipe.TheVariants.{BadStage, BadRegisters, BadOutput, BadWord}
 use Rattle.tp_server.specs.declared.recipe.Declined.{Declined}
 use Rattle.tp_server.specs.declared.recipe.Declined.TheVariants.{NoRegister, TooLarge, Short}
 
@@ -10,6 +10,7 @@ abbrev pub fault_name : BadRecipe → List ℕ
 fault_name BadStage = codes "BadStage"
 fault_name BadRegisters = codes "BadRegisters"
 fault_name BadOutput = codes "BadOutput"
+fault_name BadWord = codes "BadWord"
 
 -- the bytes of the reason why a server declined
 abbrev pub declined_name : Declined → List ℕ

@@ -2,6 +2,7 @@
 ghost use Rattle.std.specs.Prelude.{◌≡◌, ◌<◌, length, Ok, Err, None, IfOk, IfErr, OnOk};
 ghost use Rattle.std.specs.Option.{ForSome};
 ghost use Rattle.tp_server.specs.Check.{check_of};
+ghost use Rattle.tp_server.specs.Effect.{key_in};
 
 use crate::effect;
 use crate::entry::Entry;
@@ -20,7 +21,7 @@ pub struct EagerServer {
     undo: Option<Entry>,
     ghost checked: { check_of recipe ≡ Ok tt },
     ghost counted: { length registers ≡ recipe.registers },
-    ghost in_range: { ForSome undo (λ entry. entry.element.key < length registers) },
+    ghost in_range: { ForSome undo (λ entry. key_in entry.element.body < length registers) },
 }
 
 impl EagerServer {
@@ -65,7 +66,7 @@ impl Server for EagerServer {
 
     fn balance(&self, k: u64) -> Option<u64> {
         match self.undo {
-            Some(entry) if entry.element.key == k => Some(entry.value),
+            Some(entry) if entry.element.body[0] == k => Some(entry.value),
             _ => self.registers.get(k),
         }
     }
@@ -76,14 +77,15 @@ impl Server for EagerServer {
 
     fn prepare(&mut self, element: &Element) -> Result<ArrayVec<Draft, 4>, Declined> {
         let after = effect::register_after(&self.recipe, &self.registers, element)?;
-        if let Some(value) = self.registers.get(element.key) {
+        let key = element.body[0];
+        if let Some(value) = self.registers.get(key) {
             self.undo = Some(Entry {
                 element: *element,
                 value,
             });
         }
-        self.registers.set(element.key, after);
-        Ok(effect::drafts(&self.recipe.outputs, element, after))
+        self.registers.set(key, after);
+        Ok(effect::drafts(&self.recipe, element, after))
     }
 
     fn commit(&mut self) {
@@ -92,7 +94,7 @@ impl Server for EagerServer {
 
     fn undo(&mut self) {
         if let Some(entry) = self.undo {
-            self.registers.set(entry.element.key, entry.value);
+            self.registers.set(entry.element.body[0], entry.value);
         }
         self.undo = None;
     }

@@ -2,6 +2,7 @@
 ghost use Rattle.std.specs.Prelude.{◌≡◌, ◌<◌, length, Ok, Err, None, IfOk, IfErr, OnOk};
 ghost use Rattle.std.specs.Option.{ForSome};
 ghost use Rattle.tp_server.specs.Check.{check_of};
+ghost use Rattle.tp_server.specs.Effect.{key_in};
 
 use crate::effect;
 use crate::entry::Entry;
@@ -20,7 +21,7 @@ pub struct LazyServer {
     write: Option<Entry>,
     ghost checked: { check_of recipe ≡ Ok tt },
     ghost counted: { length registers ≡ recipe.registers },
-    ghost in_range: { ForSome write (λ entry. entry.element.key < length registers) },
+    ghost in_range: { ForSome write (λ entry. key_in entry.element.body < length registers) },
 }
 
 impl LazyServer {
@@ -77,12 +78,12 @@ impl Server for LazyServer {
             element: *element,
             value,
         });
-        Ok(effect::drafts(&self.recipe.outputs, element, value))
+        Ok(effect::drafts(&self.recipe, element, value))
     }
 
     fn commit(&mut self) {
         if let Some(entry) = self.write {
-            self.registers.set(entry.element.key, entry.value);
+            self.registers.set(entry.element.body[0], entry.value);
         }
         self.write = None;
     }

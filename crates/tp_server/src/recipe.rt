@@ -8,7 +8,7 @@ use arrayvec::ArrayVec;
 use std::error::Error;
 use std::fmt;
 
-/// What a server does to the register that an element's key names.
+/// What a server does to the register that an element's key names: the key is word 0 of its body.
 #[derive(Clone, Copy, Debug, PartialEq, Eq)]
 pub enum Act {
     /// The register is increased by the element's amount. It holds 18446744073709551615 at most.
@@ -39,18 +39,18 @@ pub enum AmountFrom {
     Fixed(u64),
 }
 
-/// An output that a recipe makes of each element.
+/// An output that a recipe makes of each element. Its body is the element's own but for the two words that are said here.
 #[derive(Clone, Copy, Debug, PartialEq, Eq)]
 pub struct Output {
     /// The stage that it goes to: 1 to 14 for servers, 15 for replies.
     pub stage: u8,
-    /// Where its key comes from.
+    /// Where its key comes from: word 0 of its body.
     pub key: KeyFrom,
-    /// Where its amount comes from.
+    /// Where its amount comes from: the word of its body at the recipe's place for amounts.
     pub amount: AmountFrom,
 }
 
-/// A reply with the element's own key and amount. It only fills unused places.
+/// A reply with the element's own body. It only fills unused places.
 impl Default for Output {
     ghost use Rattle.tp_server.specs.declared.recipe.KeyFrom.TheVariants.{Same};
     ghost use Rattle.tp_server.specs.declared.recipe.AmountFrom.TheVariants.{Same as SameAmount};
@@ -75,6 +75,8 @@ pub struct Recipe {
     pub registers: u8,
     /// What it does to the register that the element's key names.
     pub act: Act,
+    /// Which word of a body is the amount, 1 to 3.
+    pub word: u8,
     /// The outputs that it makes, in this order.
     pub outputs: ArrayVec<Output, 4>,
 }
@@ -88,6 +90,8 @@ pub enum BadRecipe {
     BadRegisters,
     /// The stage of an output isn't 1 to 15.
     BadOutput,
+    /// The amount's place isn't 1 to 3.
+    BadWord,
 }
 
 /// Its bare name, as `BadStage`.
@@ -101,6 +105,7 @@ impl fmt::Display for BadRecipe {
             BadRecipe::BadStage => f.write_str("BadStage"),
             BadRecipe::BadRegisters => f.write_str("BadRegisters"),
             BadRecipe::BadOutput => f.write_str("BadOutput"),
+            BadRecipe::BadWord => f.write_str("BadWord"),
         }
     }
 }
@@ -136,7 +141,7 @@ impl fmt::Display for Declined {
 impl Error for Declined {}
 
 impl Recipe {
-    /// The first fault of the recipe: `BadStage`, then `BadRegisters`, then `BadOutput`.
+    /// The first fault of the recipe: `BadStage`, then `BadRegisters`, then `BadOutput`, then `BadWord`.
     pub fn check(&self) -> Result<(), BadRecipe>
         ensures { result ≡ check_of self.now }
     {
@@ -148,6 +153,9 @@ impl Recipe {
         }
         if !are_outputs_good(self.outputs.as_slice()) {
             return Err(BadRecipe::BadOutput);
+        }
+        if self.word < 1 || self.word > 3 {
+            return Err(BadRecipe::BadWord);
         }
         Ok(())
     }

@@ -1,7 +1,9 @@
 //! Scripts and their reports, from bytes to bytes, and what they are made of.
 
+mod accounts;
 mod answers;
 mod asking;
+mod bodies;
 mod boxes;
 mod devices;
 mod faults;

@@ -5,28 +5,26 @@ ghost use Rattle.tp_manager.specs.Shown.{IsOf};
 use crate::diary::{Diary, Made};
 use crate::trouble::Trouble;
 use tp_manager::{Manager, Pass};
-use tp_model::types::{Claimed, Draft};
+use tp_model::types::{Body, Claimed, Draft};
 
 pub fn submit(
     manager: &Manager,
     pass: &mut Pass,
     diary: &mut Diary,
     stage: u8,
-    key: u64,
-    amount: u64,
+    body: Body,
 ) -> Result<(), Trouble>
     requires own { IsOf manager.now pass.old }
     ensures own { IsOf manager.now pass.new }
     ensures open_unit { pass.new.open_unit ≡ pass.old.open_unit }
 {
     let before = diary.now();
-    let answer = manager.submit(pass, stage, key, amount);
+    let answer = manager.submit(pass, stage, body);
     diary.note(
         before,
         Made::Submit {
             stage,
-            key,
-            amount,
+            body,
             answer,
         },
     )
@@ -61,8 +59,7 @@ pub fn commit(
     diary: &mut Diary,
     drafts: u8,
     stage: u8,
-    key: u64,
-    amount: u64,
+    body: Body,
 ) -> Result<(), Trouble>
     requires own { IsOf manager.now pass.old }
     requires busy { IsSome pass.old.open_unit }
@@ -71,10 +68,10 @@ pub fn commit(
 {
     let drafts = drafts.min(4);
     let all = [
-        draft(stage, key, amount),
-        draft(stage, key, amount.wrapping_add(1)),
-        draft(stage, key, amount.wrapping_add(2)),
-        draft(stage, key, amount.wrapping_add(3)),
+        draft(stage, body, 0),
+        draft(stage, body, 1),
+        draft(stage, body, 2),
+        draft(stage, body, 3),
     ];
     let before = diary.now();
     let answer = manager.commit(pass, &all[..usize::from(drafts)]);
@@ -83,15 +80,22 @@ pub fn commit(
         Made::Commit {
             drafts,
             stage,
-            key,
-            amount,
+            body,
             answer,
         },
     )
 }
 
-fn draft(stage: u8, key: u64, amount: u64) -> Draft {
-    match Draft::new(stage, key, amount) {
+/// A draft with this body, of which each word but the key is so much more.
+fn draft(stage: u8, body: Body, more: u64) -> Draft {
+    let [key, second, third, last] = body;
+    let body = [
+        key,
+        second.wrapping_add(more),
+        third.wrapping_add(more),
+        last.wrapping_add(more),
+    ];
+    match Draft::new(stage, body) {
         Some(draft) => draft,
         None => Draft::default(),
     }

@@ -4,27 +4,26 @@ use crate::dice::Dice;
 use crate::trouble::Trouble;
 use std::alloc::Global;
 use std::sync::atomic::{AtomicU64, Ordering};
-use tp_model::types::{Cancelled, Claimed, Ended, Killed, Look, Outcome, Refusal, Status};
+use tp_model::types::{Body, Cancelled, Claimed, Ended, Killed, Look, Outcome, Refusal, Status};
 
 /// A call, with all that it was given, and its answer.
 #[derive(Clone, Copy, Debug)]
 pub enum Made {
     Submit {
         stage: u8,
-        key: u64,
-        amount: u64,
+        body: Body,
         answer: Result<u32, Refusal>,
     },
     Claim {
         stage: u8,
         answer: Claimed,
     },
-    /// So many drafts: they go to one stage with one key, and with the amounts from this one on.
+    /// So many drafts: they go to one stage, the first with this body, and each further one with a body in which each
+    /// word but the key is one more.
     Commit {
         drafts: u8,
         stage: u8,
-        key: u64,
-        amount: u64,
+        body: Body,
         answer: Outcome,
     },
     Abort {

@@ -8,6 +8,7 @@ use crate::diary::Diary;
 use crate::trouble::Trouble;
 use std::thread::{self, Threads, join_mut};
 use tp_manager::{Manager, Pass};
+use tp_model::types::Body;
 
 /// The ids of each pass.
 const ROWS: u32 = 64;
@@ -168,10 +169,18 @@ fn send(manager: &Manager, pass: &mut Pass, diary: &mut Diary) -> Result<(), Tro
     ensures free { pass.new.open_unit ≡ None }
 {
     let stage = if diary.dice.below(2) == 0 { 1 } else { 14 };
-    let key = u64::from(diary.dice.below(100));
-    let amount = u64::from(diary.dice.below(1000));
+    let body = some_body(diary);
     diary.newest = diary.newest.saturating_add(1);
-    submit(manager, pass, diary, stage, key, amount)
+    submit(manager, pass, diary, stage, body)
+}
+
+/// A key, and three more words.
+fn some_body(diary: &mut Diary) -> Body {
+    let key = u64::from(diary.dice.below(100));
+    let second = u64::from(diary.dice.below(1000));
+    let third = u64::from(diary.dice.below(1000));
+    let last = u64::from(diary.dice.below(1000));
+    [key, second, third, last]
 }
 
 /// A server's calls: a claim, a few reads while it holds what it claimed, and an end.
@@ -214,10 +223,9 @@ fn work(manager: &Manager, pass: &mut Pass, diary: &mut Diary) -> Result<(), Tro
         1 => 2,
         _ => 1,
     };
-    let key = u64::from(diary.dice.below(100));
-    let amount = u64::from(diary.dice.below(1000));
+    let body = some_body(diary);
     diary.newest = diary.newest.saturating_add(u32::from(drafts));
-    commit(manager, pass, diary, drafts, stage, key, amount)
+    commit(manager, pass, diary, drafts, stage, body)
 }
 
 /// Waits until others have made a few calls, or for a little while.

@@ -1,5 +1,6 @@
 -- Where the words stand in the table.
 use Rattle.std.specs.Prelude.{◌≡◌, ℕ, ◌+◌, ◌*◌, ◌<◌}
+use Rattle.tp_model.specs.declared.types.TheConstants.{BODY_WORDS}
 use Rattle.tp_model.specs.declared.types.Limits.{Limits}
 use Rattle.tp_model.specs.Steps.{rows_of, units_of}
 use Rattle.tp_words.specs.declared.places.TheConstants.{ROW_WORDS}
@@ -8,17 +9,13 @@ use Rattle.tp_words.specs.declared.places.TheConstants.{ROW_WORDS}
 abbrev pub head_place : ℕ → ℕ
 head_place i = ROW_WORDS * i
 
--- the place of the key of row i
-abbrev pub key_place : ℕ → ℕ
-key_place i = head_place i + 1
+-- the place of word k of the body of row i
+abbrev pub body_place : ℕ → ℕ → ℕ
+body_place i k = head_place i + 1 + k
 
--- the place of the amount of row i
-abbrev pub amount_place : ℕ → ℕ
-amount_place i = head_place i + 2
-
--- the place of the claim of row i
+-- the place of the claim of row i, behind its body
 abbrev pub claim_place : ℕ → ℕ
-claim_place i = head_place i + 3
+claim_place i = body_place i BODY_WORDS
 
 -- the place of the word of unit u, behind those of all rows
 abbrev pub unit_place : Limits → ℕ → ℕ
@@ -35,17 +32,15 @@ size_of l = head_place (rows_of l) + units_of l + l.parts
 -- a word of the table
 pub data Word : Type 0 where
   HeadWord : ℕ → Word
-  KeyWord : ℕ → Word
-  AmountWord : ℕ → Word
+  BodyWord : ℕ → ℕ → Word
   ClaimWord : ℕ → Word
   UnitWord : ℕ → Word
   MarkWord : ℕ → Word
 
--- it is there: its row, its unit or its part is
+-- it is there: its row, its unit or its part is, and a body has that many words
 abbrev pub IsThere : Limits → Word → Type 0
 IsThere l (HeadWord i) = i < rows_of l
-IsThere l (KeyWord i) = i < rows_of l
-IsThere l (AmountWord i) = i < rows_of l
+IsThere l (BodyWord i k) = (i < rows_of l) × (k < BODY_WORDS)
 IsThere l (ClaimWord i) = i < rows_of l
 IsThere l (UnitWord u) = u < units_of l
 IsThere l (MarkWord p) = p < l.parts
@@ -53,8 +48,7 @@ IsThere l (MarkWord p) = p < l.parts
 -- its place
 abbrev pub place_of : Limits → Word → ℕ
 place_of l (HeadWord i) = head_place i
-place_of l (KeyWord i) = key_place i
-place_of l (AmountWord i) = amount_place i
+place_of l (BodyWord i k) = body_place i k
 place_of l (ClaimWord i) = claim_place i
 place_of l (UnitWord u) = unit_place l u
 place_of l (MarkWord p) = mark_place l p

@@ -3,12 +3,12 @@ ghost use Rattle.std.specs.Prelude.{◌≡◌, ◌+◌, ◌*◌, ◌<◌, ◌≤
 ghost use Rattle.tp_model.specs.Steps.{AreLimits};
 ghost use Rattle.tp_words.specs.Places.{PlacesDiffer, PlacesInside};
 
-use tp_model::types::{Limits, Refusal};
+use tp_model::types::{BODY_WORDS, Limits, Refusal};
 
-/// How many words a row has: its head, its key, its amount and its claim, in this order.
-pub const ROW_WORDS: usize = 4;
+/// How many words a row has: its head, its body and its claim, in this order.
+pub const ROW_WORDS: usize = BODY_WORDS + 2;
 
-/// The places of the words of a table. It has at most 65,568 words.
+/// The places of the words of a table. It has at most 81,952 words.
 #[derive(Clone, Copy, Debug, PartialEq, Eq)]
 pub struct Places {
     /// What the table has room for, each limit in its range.
@@ -18,7 +18,8 @@ pub struct Places {
 
 impl Places {
     ghost use Rattle.tp_model.specs.Steps.{rows_of, units_of, IsRowOf};
-    ghost use Rattle.tp_words.specs.Places.{head_place, key_place, amount_place, claim_place, unit_place, mark_place, size_of};
+    ghost use Rattle.tp_words.specs.Places.{head_place, body_place, claim_place, unit_place, mark_place, size_of};
+    ghost use Rattle.tp_model.specs.declared.types.TheConstants.{BODY_WORDS};
     ghost use Rattle.tp_model.specs.declared.types.Refusal.TheVariants as Refusal;
 
     /// The places for these limits. The one refusal is `BadLimits`, for a limit outside its range.
@@ -70,24 +71,15 @@ impl Places {
         ROW_WORDS * row as usize
     }
 
-    /// The place of the key of a row.
+    /// The place of a word of the body of a row, from word 0 on.
     #[inline(always)]
-    pub fn key(&self, row: u32) -> usize
-        requires { row < rows_of self.now.limits }
-        ensures place { result ≡ key_place row }
+    pub fn body(&self, row: u32, word: usize) -> usize
+        requires row { row < rows_of self.now.limits }
+        requires word { word < BODY_WORDS }
+        ensures place { result ≡ body_place row word }
         ensures inside { result < size_of self.now.limits }
     {
-        self.head(row) + 1
-    }
-
-    /// The place of the amount of a row.
-    #[inline(always)]
-    pub fn amount(&self, row: u32) -> usize
-        requires { row < rows_of self.now.limits }
-        ensures place { result ≡ amount_place row }
-        ensures inside { result < size_of self.now.limits }
-    {
-        self.head(row) + 2
+        self.head(row) + 1 + word
     }
 
     /// The place of the claim of a row.
@@ -97,7 +89,7 @@ impl Places {
         ensures place { result ≡ claim_place row }
         ensures inside { result < size_of self.now.limits }
     {
-        self.head(row) + 3
+        self.head(row) + 1 + BODY_WORDS
     }
 
     /// The place of the word of a unit.

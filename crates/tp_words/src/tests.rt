@@ -193,13 +193,16 @@ fn places(rt: HostRuntime) {
         return;
     };
     assert!(rt; small.rows() == 16);
-    assert!(rt; small.size() == 578);
-    assert!(rt; small.head(15) == 60);
-    assert!(rt; small.key(15) == 61);
-    assert!(rt; small.amount(15) == 62);
-    assert!(rt; small.claim(15) == 63);
-    assert!(rt; small.unit(256) == 320);
-    assert!(rt; small.mark(1) == 577);
+    assert!(rt; small.size() == 610);
+    assert!(rt; small.head(15) == 90);
+    assert!(rt; small.body(15, 0) == 91);
+    assert!(rt; small.body(15, 1) == 92);
+    assert!(rt; small.body(15, 2) == 93);
+    assert!(rt; small.body(15, 3) == 94);
+    assert!(rt; small.claim(15) == 95);
+    assert!(rt; small.unit(0) == 96);
+    assert!(rt; small.unit(256) == 352);
+    assert!(rt; small.mark(1) == 609);
     assert!(rt; small.part_end(0) == 8);
     assert!(rt; small.part_end(7) == 8);
     assert!(rt; small.part_end(8) == 16);
@@ -208,7 +211,7 @@ fn places(rt: HostRuntime) {
         assert!(rt; false);
         return;
     };
-    assert!(rt; largest.size() == 65568);
+    assert!(rt; largest.size() == 81952);
 }
 
 #[test]

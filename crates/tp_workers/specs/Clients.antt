@@ -1,5 +1,5 @@
 -- What clients do in a shift.
-use Rattle.std.specs.Prelude.{◌≡◌, ℕ, ◌+◌, Result, MatchResult}
+use Rattle.std.specs.Prelude.{◌≡◌, ℕ, ◌+◌, List, Result, MatchResult}
 use Rattle.tp_model.specs.declared.event.Event.{Event}
 use Rattle.tp_model.specs.declared.event.Event.TheVariants.{Enqueue}
 use Rattle.tp_model.specs.declared.types.Refusal.{Refusal}
@@ -25,22 +25,22 @@ pub record IsClientOf (m : ManagerShown) (x : PassShown × ClientJob) : Type 0 w
   pub job : IsClientJob x.1
 
 -- a call submitted this body or was refused, as the manager's call answers
-pub record SubmitsOnce (stage key amount : ℕ) (old : PassShown) (answer : Result ℕ Refusal) (new : PassShown) : Type 0 where
+pub record SubmitsOnce (stage : ℕ) (body : List ℕ) (old : PassShown) (answer : Result ℕ Refusal) (new : PassShown) : Type 0 where
   pub follows : Follows submit_steps old new
   pub open_unit : new.open_unit ≡ old.open_unit
   pub told : MatchResult answer
-      (λ id. Submits id stage key amount old new)
+      (λ id. Submits id stage body old new)
       (λ why. (new ≡ old) × SubmitRefused stage old why)
 
 -- the event is an Enqueue of this body
-abbrev pub IsRequest : ℕ → ℕ → ℕ → Event → Type 0
-IsRequest stage key amount e = (c : ℕ) × (id : ℕ) × (e ≡ Enqueue c (request id stage key amount))
+abbrev pub IsRequest : ℕ → List ℕ → Event → Type 0
+IsRequest stage body e = (c : ℕ) × (id : ℕ) × (e ≡ Enqueue c (request id stage body))
 
 -- a client of this pass and this job made all its calls, and they left the pass so
 pub record ClientRan (m : ManagerShown) (old : PassShown × ClientJob) (counts : Shift) (new : PassShown × ClientJob)
     : Type 0 where
-  pub calls : Called (SubmitsOnce old.1.stage old.1.key old.1.amount) submit_count old.1.count old.0 counts new.0
-  pub gains : GainsOnly (IsRequest old.1.stage old.1.key old.1.amount) old.0 new.0
+  pub calls : Called (SubmitsOnce old.1.stage old.1.body) submit_count old.1.count old.0 counts new.0
+  pub gains : GainsOnly (IsRequest old.1.stage old.1.body) old.0 new.0
   pub submitted : counts.submitted + enqueues_in old.0 ≡ enqueues_in new.0
   pub number : new.0.number ≡ old.0.number
   pub same_job : new.1 ≡ old.1

@@ -7,14 +7,13 @@ ghost use Rattle.tp_workers.specs.Tally.{total};
 use crate::gate::{Gate, Point};
 use crate::tally::Shift;
 use tp_manager::{Manager, Pass};
-use tp_model::types::Refusal;
+use tp_model::types::{Body, Refusal};
 
 /// To submit the same body `count` times, to a stage of a server's.
 #[derive(Clone, Copy, Debug, PartialEq, Eq)]
 pub struct ClientJob {
     pub stage: u8,
-    pub key: u64,
-    pub amount: u64,
+    pub body: Body,
     pub count: u32,
 }
 
@@ -48,10 +47,10 @@ fn submit_at<G: Gate>(
 ) -> Result<u32, Refusal>
     requires own { IsOf manager.now pass.old }
     ensures own { IsOf manager.now pass.new }
-    ensures call { SubmitsOnce job.now.stage job.now.key job.now.amount pass.old result pass.new }
+    ensures call { SubmitsOnce job.now.stage job.now.body pass.old result pass.new }
 {
     gate.pause(worker, Point::Start);
-    let answer = manager.submit(pass, job.stage, job.key, job.amount);
+    let answer = manager.submit(pass, job.stage, job.body);
     gate.pause(worker, Point::Settled);
     answer
 }

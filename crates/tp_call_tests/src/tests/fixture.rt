@@ -53,6 +53,7 @@ pub(crate) fn recipe(stage: u8, act: Act, outputs: &[Output]) -> Recipe {
         stage,
         registers: 1,
         act,
+        word: 1,
         outputs: made,
     }
 }

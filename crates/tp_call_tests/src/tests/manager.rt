@@ -2,6 +2,7 @@
 
 mod accounts;
 mod asking;
+mod bodies;
 mod cancels;
 mod examples;
 mod kills;
@@ -10,7 +11,7 @@ mod refusals;
 mod requeues;
 mod threads;
 
-use tp_model::types::{Element, Limits};
+use tp_model::types::{Body, Element, Limits};
 
 /// Two passes with four rows and two units each, and two attempts for each element.
 const SMALL: Limits = Limits {
@@ -21,13 +22,12 @@ const SMALL: Limits = Limits {
 };
 
 /// The element that a client's submit makes.
-fn request(id: u32, stage: u8, key: u64, amount: u64) -> Element {
+fn request(id: u32, stage: u8, body: Body) -> Element {
     Element {
         id,
         stage,
         root: id,
-        key,
-        amount,
+        body,
         by: None,
     }
 }

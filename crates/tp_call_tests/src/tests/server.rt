@@ -14,13 +14,13 @@ use tp_server::{
 
 const MAX: u64 = 18446744073709551615;
 
+/// An element with this key and amount. The words behind them are 70 and 80, as in each draft.
 fn element(key: u64, amount: u64) -> Element {
     Element {
         id: 0,
         stage: 1,
         root: 0,
-        key,
-        amount,
+        body: [key, amount, 70, 80],
         by: None,
     }
 }
@@ -30,7 +30,7 @@ fn output(stage: u8, key: KeyFrom, amount: AmountFrom) -> Output {
 }
 
 fn draft(rt: &impl Abort, stage: u8, key: u64, amount: u64) -> Draft {
-    Draft::new(stage, key, amount).expect(rt, "a draft")
+    Draft::new(stage, [key, amount, 70, 80]).expect(rt, "a draft")
 }
 
 /// A recipe of stage 1 with at most four outputs.
@@ -43,6 +43,7 @@ fn recipe(registers: u8, act: Act, wanted: &[Output]) -> Recipe {
         stage: 1,
         registers,
         act,
+        word: 1,
         outputs,
     }
 }
@@ -280,6 +281,7 @@ fn recipes_refused(rt: HostRuntime) -> Result<(), Fail> {
     bad.stage = 1;
     assert!(rt; bad.check() == Err(BadRecipe::BadRegisters));
     bad.registers = 1;
+    bad.word = 0;
     assert!(rt; bad.check() == Err(BadRecipe::BadOutput));
     let eager = EagerServer::new(registers(&rt, &[0]), bad.clone()?);
     assert!(rt; eager.err() == Some(BadRecipe::BadOutput));
@@ -310,6 +312,16 @@ fn recipe_edges(rt: HostRuntime) {
     for (count, is_good) in [(0, false), (1, true), (64, true), (65, false)] {
         edge.registers = count;
         assert!(rt; edge.check().is_ok() == is_good, "registers {count}");
+    }
+    edge.registers = 64;
+    for (word, is_good) in [(0, false), (1, true), (3, true), (4, false)] {
+        edge.word = word;
+        let answer = if is_good {
+            Ok(())
+        } else {
+            Err(BadRecipe::BadWord)
+        };
+        assert!(rt; edge.check() == answer, "word {word}");
     }
     for (stage, is_good) in [(0, false), (1, true), (15, true), (16, false)] {
         let last = recipe(
@@ -345,6 +357,7 @@ fn printed_names(rt: HostRuntime) -> Result<(), Fail> {
         (BadRecipe::BadStage, "BadStage"),
         (BadRecipe::BadRegisters, "BadRegisters"),
         (BadRecipe::BadOutput, "BadOutput"),
+        (BadRecipe::BadWord, "BadWord"),
     ] {
         assert!(rt; format!(in rt.alloc(); "{fault}")?.as_str() == name);
     }
@@ -377,6 +390,7 @@ fn an_effect_changes_nothing(rt: HostRuntime) -> Result<(), Fail> {
         stage: 1,
         registers: 2,
         act: Act::Add,
+        word: 1,
         outputs,
     };
     recipe.check()?;

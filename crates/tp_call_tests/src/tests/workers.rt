@@ -61,15 +61,14 @@ fn three_passes<R: Abort>(rt: &R, keeper: &mut Keeper, manager: &Manager) -> [Pa
     [first, second, third]
 }
 
-/// A client of stage 1 and key 0.
+/// A client of stage 1, whose bodies have the key 0 and this amount.
 fn client(amount: u64, count: u32) -> ClientJob
     ensures job { IsClientJob result }
     ensures count { result.count ≡ count }
 {
     ClientJob {
         stage: 1,
-        key: 0,
-        amount,
+        body: [0, amount, 0, 0],
         count,
     }
 }
@@ -119,7 +118,7 @@ impl Standing {
             Status::Killed => self.killed = self.killed.wrapping_add(1),
             Status::Consumed { .. } => {
                 self.consumed = self.consumed.wrapping_add(1);
-                self.amount = self.amount.wrapping_add(look.element.amount);
+                self.amount = self.amount.wrapping_add(look.element.body[1]);
             }
             _ => self.other = self.other.wrapping_add(1),
         }

@@ -11,8 +11,7 @@ const REPLY: Element = Element {
     id: 8,
     stage: 15,
     root: 0,
-    key: 7,
-    amount: 18446744073709551615,
+    body: [7, 18446744073709551615, 0, 0],
     by: Some(256),
 };
 
@@ -20,8 +19,33 @@ const REQUEST: Element = Element {
     id: 0,
     stage: 1,
     root: 0,
-    key: 0,
-    amount: 11,
+    body: [0, 11, 0, 0],
+    by: None,
+};
+
+/// An output with four words.
+const WHOLE: Element = Element {
+    id: 4,
+    stage: 15,
+    root: 0,
+    body: [0, 5, 7, 9],
+    by: Some(256),
+};
+
+/// One whose word 2 alone is 0, and one whose word 3 alone is.
+const NO_WORD_TWO: Element = Element {
+    id: 5,
+    stage: 2,
+    root: 5,
+    body: [3, 2, 0, 1],
+    by: None,
+};
+
+const NO_WORD_THREE: Element = Element {
+    id: 6,
+    stage: 2,
+    root: 6,
+    body: [3, 2, 1, 0],
     by: None,
 };
 
@@ -105,6 +129,21 @@ fn lines_of_elements(rt: HostRuntime) -> Result<(), Fail> {
             Status::Killed,
             "8 stage 15 root 0 key 7 amount 18446744073709551615 by 256 killed\n",
         ),
+        (
+            WHOLE,
+            Status::Waiting { attempts: 0 },
+            "4 stage 15 root 0 key 0 amount 5 more 7 9 by 256 waiting 0\n",
+        ),
+        (
+            NO_WORD_TWO,
+            Status::Killed,
+            "5 stage 2 root 5 key 3 amount 2 more 0 1 by client killed\n",
+        ),
+        (
+            NO_WORD_THREE,
+            Status::Killed,
+            "6 stage 2 root 6 key 3 amount 2 more 1 0 by client killed\n",
+        ),
     ] {
         let text = line(rt.alloc(), Answer::Read(Look { element, status }))?;
         assert_eq!(rt; text.as_str(), want);
@@ -126,7 +165,7 @@ fn lines_of_elements(rt: HostRuntime) -> Result<(), Fail> {
 
 #[test]
 fn other_lines(rt: HostRuntime) -> Result<(), Fail> {
-    let replies = [REPLY, REQUEST];
+    let replies = [REPLY, REQUEST, WHOLE, NO_WORD_TWO, NO_WORD_THREE];
     let ids = [0, 5, 4294967295];
     let registers = [1, 18446744073709551615];
     let counts = Counts {
@@ -157,7 +196,7 @@ fn other_lines(rt: HostRuntime) -> Result<(), Fail> {
                 root: 0,
                 replies: &replies,
             },
-            "replies 0 8:7:18446744073709551615 0:0:11\n",
+            "replies 0 8:7:18446744073709551615 0:0:11 4:0:5:7:9 5:3:2:0:1 6:3:2:1:0\n",
         ),
         (Answer::Killed { id: 0, aborted: 1 }, "killed 0 aborted 1\n"),
         (

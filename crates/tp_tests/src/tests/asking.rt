@@ -5,7 +5,8 @@ ghost use Rattle.tp_model.specs.Steps.{IsServerStage};
 
 use std::process::Abort;
 use tp_model::types::{
-    Cancelled, Claimed, Draft, Element, Ended, Killed, Limits, Look, Outcome, Refusal, Status, Work,
+    Body, Cancelled, Claimed, Draft, Element, Ended, Killed, Limits, Look, Outcome, Refusal,
+    Status, Work,
 };
 use tp_plain::plain::Plain;
 
@@ -22,19 +23,23 @@ pub(crate) fn two<R: Abort + AllocGlobal>(rt: &R, rows: u16, units: u16, attempt
     Plain::new(rt.alloc(), limits).expect(rt, "no manager")
 }
 
+/// The body of key 0 with this amount, and with words that differ behind it.
+pub(crate) fn body(amount: u64) -> Body {
+    [0, amount, 71, 72]
+}
+
 /// The element of stage 1 that a client's submit makes.
 pub(crate) fn request(id: u32, amount: u64) -> Element {
     Element {
         id,
         stage: 1,
         root: id,
-        key: 0,
-        amount,
+        body: body(amount),
         by: None,
     }
 }
 
-/// Whether a submit of key 0 answers this.
+/// Whether a submit of a body with this amount answers this.
 pub(crate) fn submits(
     plain: &mut Plain,
     caller: u16,
@@ -45,7 +50,7 @@ pub(crate) fn submits(
     requires { caller < plain.old.limits.parts }
     ensures { plain.new.limits ≡ plain.old.limits }
 {
-    plain.submit(caller, stage, 0, amount) == answer
+    plain.submit(caller, stage, body(amount)) == answer
 }
 
 /// What a claim answers; nothing where the pass has a unit in its hand.

@@ -42,6 +42,7 @@ fn adder(alloc: Global) -> Option<Box<dyn Server + Send>>
         stage: 1,
         registers: 1,
         act: Act::Add,
+        word: 1,
         outputs: ArrayVec::new(),
     };
     let server = EagerServer::new(Registers::new(1)?, recipe).ok()?;
@@ -68,7 +69,7 @@ fn consumed(manager: &Manager, reader: &mut Pass) -> u64
     for id in 0..512u32 {
         if let Ok(look) = manager.read(reader, id) {
             if let Status::Consumed { .. } = look.status {
-                count = count.wrapping_add(look.element.amount);
+                count = count.wrapping_add(look.element.body[1]);
             }
         }
     }

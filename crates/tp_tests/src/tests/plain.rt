@@ -1,6 +1,8 @@
 //! Worked rows through the manager of one thread, and each of its calls once.
 
-use super::asking::{aborts, claim, commits, kills, reads, request, stands, submits, two, work};
+use super::asking::{
+    aborts, body, claim, commits, kills, reads, request, stands, submits, two, work,
+};
 use std::test::Fail;
 use tp_model::types::{
     Claimed, Draft, Element, Ended, Killed, Limits, Look, Outcome, Refusal, Status, Work,
@@ -21,7 +23,7 @@ fn a_request_and_its_reply(rt: HostRuntime) {
     };
     assert_eq!(rt; work(&mut plain, 1, 1), Some(taken));
     assert!(rt; plain.has_open(1));
-    let draft = Draft::new(15, 0, 10).expect(&rt, "no draft");
+    let draft = Draft::new(15, [5, 10, 6, 7]).expect(&rt, "no draft");
     let done = Outcome::Committed { first: 8, count: 1 };
     assert!(rt; commits(&mut plain, 1, &[draft], Ok(done)));
     let reply = Look {
@@ -29,8 +31,7 @@ fn a_request_and_its_reply(rt: HostRuntime) {
             id: 8,
             stage: 15,
             root: 0,
-            key: 0,
-            amount: 10,
+            body: [5, 10, 6, 7],
             by: Some(256),
         },
         status: Status::Waiting { attempts: 0 },
@@ -51,7 +52,7 @@ fn refused_submits(rt: HostRuntime) {
     let mut plain = two(&rt, 2, 2, 2);
     assert!(rt; submits(&mut plain, 0, 1, 9, Ok(0)));
     assert!(rt; submits(&mut plain, 0, 0, 9, Err(Refusal::BadStage)));
-    assert_eq!(rt; plain.submit(0, 14, 3, 4), Ok(1));
+    assert_eq!(rt; plain.submit(0, 14, [3, 4, 5, 6]), Ok(1));
     assert!(rt; submits(&mut plain, 0, 1, 9, Err(Refusal::Full)));
     assert!(rt; submits(&mut plain, 0, 15, 9, Err(Refusal::BadStage)));
     let second = Look {
@@ -59,8 +60,7 @@ fn refused_submits(rt: HostRuntime) {
             id: 1,
             stage: 14,
             root: 1,
-            key: 3,
-            amount: 4,
+            body: [3, 4, 5, 6],
             by: None,
         },
         status: Status::Waiting { attempts: 0 },
@@ -87,7 +87,7 @@ fn attempts_and_units(rt: HostRuntime) {
 #[test]
 fn full_then_committed(rt: HostRuntime) {
     let mut plain = two(&rt, 1, 2, 2);
-    let draft = Draft::new(15, 0, 9).expect(&rt, "no draft");
+    let draft = Draft::new(15, body(9)).expect(&rt, "no draft");
     assert!(rt; submits(&mut plain, 0, 1, 9, Ok(0)));
     assert!(rt; work(&mut plain, 1, 1).is_some());
     assert!(rt; commits(&mut plain, 1, &[draft, draft], Ok(Outcome::Full)));
@@ -108,7 +108,7 @@ fn killed_in_the_hand(rt: HostRuntime) {
     assert!(rt; kills(&mut plain, 0, 0, Ok(Killed { units_aborted: 1 })));
     assert!(rt; kills(&mut plain, 0, 0, Err(Refusal::AlreadyKilled)));
     assert!(rt; stands(&plain, 0, Status::Killed));
-    let draft = Draft::new(2, 0, 9).expect(&rt, "no draft");
+    let draft = Draft::new(2, body(9)).expect(&rt, "no draft");
     assert!(rt; commits(&mut plain, 1, &[draft], Ok(Outcome::Lost)));
     let again = work(&mut plain, 1, 1).expect(&rt, "no work");
     assert_eq!(rt; again.element.id, 1);
@@ -135,7 +135,7 @@ fn want_of_memory_changes_nothing(rt: HostRuntime) -> Result<(), Fail> {
         assert!(rt; submits(&mut plain, 0, 1, 9, Ok(0)));
     }
     let taken = work(&mut plain, 1, 1).expect(&rt, "no work");
-    let draft = Draft::new(15, 0, 9).expect(&rt, "no draft");
+    let draft = Draft::new(15, body(9)).expect(&rt, "no draft");
     let done = Outcome::Committed { first: 4, count: 2 };
     if !commits(&mut plain, 1, &[draft, draft], Ok(done)) {
         let held = Status::Held {

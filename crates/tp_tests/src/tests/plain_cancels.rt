@@ -1,6 +1,6 @@
 //! Cancels by the manager of one thread.
 
-use super::asking::{aborts, cancels, claim, commits, stands, submits, two, work};
+use super::asking::{aborts, body, cancels, claim, commits, stands, submits, two, work};
 use tp_model::types::{Cancelled, Claimed, Draft, Ended, Outcome, Refusal, Status};
 
 // The element 0 is consumed, and of its outputs 8 is held, 9 waits and 10 is a reply. The element 1 is another
@@ -12,9 +12,9 @@ fn what_is_held_and_what_waits(rt: HostRuntime) {
     assert!(rt; submits(&mut plain, 0, 2, 7, Ok(1)));
     let first = work(&mut plain, 1, 1).expect(&rt, "no work");
     let drafts = [
-        Draft::new(14, 0, 4).expect(&rt, "no draft"),
-        Draft::new(3, 0, 5).expect(&rt, "no draft"),
-        Draft::new(15, 0, 9).expect(&rt, "no draft"),
+        Draft::new(14, body(4)).expect(&rt, "no draft"),
+        Draft::new(3, body(5)).expect(&rt, "no draft"),
+        Draft::new(15, body(9)).expect(&rt, "no draft"),
     ];
     let done = Outcome::Committed { first: 8, count: 3 };
     assert!(rt; commits(&mut plain, 1, &drafts, Ok(done)));
@@ -49,7 +49,7 @@ fn what_is_no_request(rt: HostRuntime) {
     assert!(rt; cancels(&mut plain, 0, 0, Err(Refusal::NotThere)));
     assert!(rt; submits(&mut plain, 0, 1, 9, Ok(0)));
     assert!(rt; work(&mut plain, 1, 1).is_some());
-    let draft = Draft::new(2, 0, 9).expect(&rt, "no draft");
+    let draft = Draft::new(2, body(9)).expect(&rt, "no draft");
     let done = Outcome::Committed { first: 4, count: 1 };
     assert!(rt; commits(&mut plain, 1, &[draft], Ok(done)));
     assert!(rt; cancels(&mut plain, 0, 4, Err(Refusal::NotThere)));

@@ -28,6 +28,9 @@ fn reaches(rt: HostRuntime) -> Result<(), Fail> {
     }));
     for (line, plain, desks) in [
         ("submit 1 0 1", Ok(()), Ok(())),
+        ("submit 1 0 1 2", unknown, Ok(())),
+        ("submit 1 0 1 2 3", unknown, Ok(())),
+        ("server b eager 1 1 add:1", unknown, Ok(())),
         ("turn a", Ok(()), Ok(())),
         ("reply 0", Ok(()), Ok(())),
         ("start a 0 1", Ok(()), Ok(())),

@@ -1,13 +1,19 @@
 //! What a script says, as it is read.
 
+use tp_model::types::Body;
 use tp_script::{ClientAct, Command, DeskAct, Kind, Race, Reach, StdSource, read_script_at};
 
 const SCRIPT: &str =
-    "units 3\nserver a eager 1 2 add\nserver b lazy 2 1 take 15:7:after\nstart a 1 5\nsubmit 9 8 7\nturn b\nreply 6\nclaim a\nprepare b\ncommit a\nabort b\ndrop a\nkill 5\ncancel 6\nrequeue 7\nread 4\nerrors\nbalance b 3\nsum 2\ncount\nrace 4 256 14 3 2 1 10000\ndrain\naccount\n";
+    "units 3\nserver a eager 1 2 add:3\nserver b lazy 2 1 take 15:7:after\nstart a 1 5\nsubmit 9 8 7\nsubmit 9 8 7 6\nsubmit 9 8 7 6 5\nturn b\nreply 6\nclaim a\nprepare b\ncommit a\nabort b\ndrop a\nkill 5\ncancel 6\nrequeue 7\nread 4\nerrors\nbalance b 3\nsum 2\ncount\nrace 4 256 14 3 2 1 10000\ndrain\naccount\n";
 
 /// The client's command.
 fn client(act: ClientAct) -> Command {
     Command::Client(act)
+}
+
+/// A submit to stage 9.
+fn submit(body: Body) -> Command {
+    client(ClientAct::Submit { stage: 9, body })
 }
 
 /// A command on a server's desk.
@@ -31,12 +37,11 @@ fn each_command(rt: HostRuntime) {
             let b = &script.servers[1];
             assert_eq!(rt; (b.name.as_str(), b.kind), ("b", Kind::Lazy));
             assert_eq!(rt; script.servers[0].registers.get(1), Some(5));
+            assert_eq!(rt; (script.servers[0].recipe.word, b.recipe.word), (3, 1));
             let commands = [
-                client(ClientAct::Submit {
-                    stage: 9,
-                    key: 8,
-                    amount: 7,
-                }),
+                submit([8, 7, 0, 0]),
+                submit([8, 7, 6, 0]),
+                submit([8, 7, 6, 5]),
                 desk(1, DeskAct::Turn),
                 client(ClientAct::Reply { root: 6 }),
                 desk(0, DeskAct::Claim),

@@ -60,6 +60,7 @@ fn refusals(rt: HostRuntime) {
     for (script, want) in [
         ("kill 0", "1: 1 Syntax"),
         ("submit 1 0 1 1", "1: 1 Syntax"),
+        ("server a eager 1 1 add:1", "1: 1 Syntax"),
         ("submit 256 0 1", "1: 2 BadNumber"),
         ("rows 257", "1: 3 BadLimits"),
         (

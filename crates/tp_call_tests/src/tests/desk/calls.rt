@@ -8,13 +8,13 @@ use tp_manager::{Manager, Pass};
 use tp_model::types::{Claimed, Killed, Outcome, Status, Work};
 use tp_server::Server;
 
-/// Whether a request of stage 1 and key 0 is accepted as the element with this id.
+/// Whether a request of stage 1 with the key 0, this amount, and 8 and 9 behind it is accepted as the element with this id.
 pub(crate) fn submits(manager: &Manager, client: &mut Pass, amount: u64, id: u32) -> bool
     requires { IsOf manager.now client.old }
     ensures own { IsOf manager.now client.new }
     ensures same { client.new.open_unit ≡ client.old.open_unit }
 {
-    manager.submit(client, 1, 0, amount) == Ok(id)
+    manager.submit(client, 1, [0, amount, 8, 9]) == Ok(id)
 }
 
 /// Whether a kill of the element aborts so many units.

@@ -22,6 +22,7 @@ struct Router {
     ghost checked: { check_of recipe ≡ Ok tt },
     ghost one: { recipe.registers ≡ 1 },
     ghost passes: { recipe.act ≡ Pass },
+    ghost counts: { recipe.word ≡ 1 },
     ghost on: { recipe.outputs.items ≡ record { stage = 2; key = Same; amount = SameAmount } ∷ [] },
 }
 
@@ -39,6 +40,7 @@ impl Router {
             stage: 1,
             registers: 1,
             act: Act::Pass,
+            word: 1,
             outputs,
         };
         Router {
@@ -74,11 +76,12 @@ impl Server for Router {
     }
 
     fn prepare(&mut self, element: &Element) -> Result<ArrayVec<Draft, 4>, Declined> {
-        if element.key != 0 {
+        let [key, amount, third, last] = element.body;
+        if key != 0 {
             return Err(Declined::NoRegister);
         }
         let mut drafts = ArrayVec::new();
-        match Draft::new(2, 0, element.amount) {
+        match Draft::new(2, [key, amount, third, last]) {
             Some(draft) => drafts.push(draft),
             None => unreachable!(),
         }
@@ -112,7 +115,7 @@ fn routed(rt: HostRuntime) -> Result<(), Fail> {
     let Ok(look) = at.manager.read(&mut at.client, 4) else {
         panic!(rt; "no output")
     };
-    assert!(rt; look.element.stage == 2 && look.element.amount == 7);
+    assert!(rt; look.element.stage == 2 && look.element.body == [0, 7, 8, 9]);
     assert!(rt; look.element.root == 0 && look.element.by == Some(8));
     assert!(rt; look.status == Status::Waiting { attempts: 0 });
     clear(at);

@@ -24,7 +24,7 @@ fn outputs_appear_at_commit(rt: HostRuntime) {
     let Some(work) = claims(&mut desk) else {
         panic!(rt; "no work")
     };
-    assert!(rt; work.unit == 8 && work.attempt == 1 && work.element.amount == 3);
+    assert!(rt; work.unit == 8 && work.attempt == 1 && work.element.body == [0, 3, 8, 9]);
     assert!(rt; desk.in_hand() == Some(work) && desk.has_open());
     assert!(rt; prepares(&mut desk));
     assert!(rt; at.manager.read(&mut at.client, 4).is_err());
@@ -33,7 +33,7 @@ fn outputs_appear_at_commit(rt: HostRuntime) {
     let Ok(look) = at.manager.read(&mut at.client, 4) else {
         panic!(rt; "no reply")
     };
-    assert!(rt; look.element.root == 0 && look.element.amount == 3);
+    assert!(rt; look.element.root == 0 && look.element.body == [0, 3, 8, 9]);
     assert!(rt; look.status == Status::Waiting { attempts: 0 });
     end(desk);
     clear(at);

@@ -49,8 +49,8 @@ fn held_then_killed(rt: HostRuntime) {
     let (manager, mut keeper, first, second) = kept(&rt, SMALL);
     let mut passes = [first, second];
     let none = counts(0, 0, 0, 0, 0);
-    assert!(rt; manager.submit(&mut passes[0], 1, 0, 9) == Ok(0));
-    assert!(rt; manager.submit(&mut passes[0], 1, 0, 7) == Ok(1));
+    assert!(rt; manager.submit(&mut passes[0], 1, [0, 9, 0, 0]) == Ok(0));
+    assert!(rt; manager.submit(&mut passes[0], 1, [0, 7, 0, 0]) == Ok(1));
     assert!(rt; matches!(manager.claim(&mut passes[1], 1), Claimed::Work(_)));
     let held = counts(1, 1, 0, 0, 0);
     assert!(rt; keeper.has_all(&passes));
@@ -65,9 +65,9 @@ fn held_then_killed(rt: HostRuntime) {
 fn replies_and_lost_drafts(rt: HostRuntime) {
     let (manager, mut keeper, first, second) = kept(&rt, SMALL);
     let mut passes = [first, second];
-    assert!(rt; manager.submit(&mut passes[0], 1, 0, 9) == Ok(0));
-    assert!(rt; manager.submit(&mut passes[0], 1, 0, 7) == Ok(1));
-    let Some(reply) = Draft::new(15, 0, 9) else {
+    assert!(rt; manager.submit(&mut passes[0], 1, [0, 9, 0, 0]) == Ok(0));
+    assert!(rt; manager.submit(&mut passes[0], 1, [0, 7, 0, 0]) == Ok(1));
+    let Some(reply) = Draft::new(15, [0, 9, 0, 0]) else {
         panic!(rt; "no draft")
     };
     assert!(rt; matches!(manager.claim(&mut passes[1], 1), Claimed::Work(_)));
@@ -88,7 +88,7 @@ fn a_pass_comes_after(rt: HostRuntime) {
     let (manager, mut keeper, first, second) = kept(&rt, THREE);
     let mut passes = [first, second];
     let none = counts(0, 0, 0, 0, 0);
-    assert!(rt; manager.submit(&mut passes[0], 1, 0, 9) == Ok(0));
+    assert!(rt; manager.submit(&mut passes[0], 1, [0, 9, 0, 0]) == Ok(0));
     assert!(rt; matches!(manager.claim(&mut passes[1], 1), Claimed::Work(_)));
     assert!(rt; manager.abort(&mut passes[1]) == Ended::Aborted);
     let parked = counts(0, 0, 0, 1, 0);
@@ -99,7 +99,7 @@ fn a_pass_comes_after(rt: HostRuntime) {
     };
     assert!(rt; third.number() == 2);
     assert!(rt; !keeper.has_all(&passes));
-    assert!(rt; manager.submit(&mut third, 1, 0, 5) == Ok(8));
+    assert!(rt; manager.submit(&mut third, 1, [0, 5, 0, 0]) == Ok(8));
     assert!(rt; manager.kill(&mut third, 0).is_ok());
 }
 

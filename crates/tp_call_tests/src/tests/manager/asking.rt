@@ -5,7 +5,7 @@ ghost use Rattle.tp_manager.specs.Shown.{IsOf};
 
 use tp_manager::{Manager, Pass};
 use tp_model::types::{
-    Cancelled, Claimed, Draft, Element, Ended, Killed, Look, Outcome, Refusal, Status, Work,
+    Body, Cancelled, Claimed, Draft, Element, Ended, Killed, Look, Outcome, Refusal, Status, Work,
 };
 
 /// Whether a submit answers this.
@@ -13,15 +13,14 @@ pub(crate) fn submits(
     manager: &Manager,
     pass: &mut Pass,
     stage: u8,
-    key: u64,
-    amount: u64,
+    body: Body,
     answer: Result<u32, Refusal>,
 ) -> bool
     requires { IsOf manager.now pass.old }
     ensures own { IsOf manager.now pass.new }
     ensures same { pass.new.open_unit ≡ pass.old.open_unit }
 {
-    manager.submit(pass, stage, key, amount) == answer
+    manager.submit(pass, stage, body) == answer
 }
 
 /// The work that a claim takes.

@@ -10,14 +10,14 @@ fn cancel_request(rt: HostRuntime) {
     let (manager, mut first, mut second) = two(&rt, SMALL);
     assert!(rt; cancels(&manager, &mut first, 0, Err(Refusal::NotThere)));
     assert!(rt; cancels(&manager, &mut first, 8, Err(Refusal::NotThere)));
-    assert!(rt; submits(&manager, &mut first, 1, 0, 6, Ok(0)));
+    assert!(rt; submits(&manager, &mut first, 1, [0, 6, 0, 0], Ok(0)));
     let Some(_work) = claims(&manager, &mut second, 1) else {
         panic!(rt; "no work")
     };
     let (Some(one), Some(two), Some(reply)) = (
-        Draft::new(2, 0, 6),
-        Draft::new(3, 0, 6),
-        Draft::new(15, 0, 6),
+        Draft::new(2, [0, 6, 0, 0]),
+        Draft::new(3, [0, 6, 0, 0]),
+        Draft::new(15, [0, 6, 0, 0]),
     ) else {
         panic!(rt; "no draft")
     };

@@ -9,12 +9,12 @@ use tp_model::types::{Draft, Limits, Outcome, Status};
 fn example(rt: HostRuntime) {
     let (manager, mut client, mut server) = two(&rt, SMALL);
     assert!(rt; manager.capacity() == 8);
-    assert!(rt; submits(&manager, &mut client, 1, 0, 9, Ok(0)));
+    assert!(rt; submits(&manager, &mut client, 1, [0, 9, 0, 0], Ok(0)));
     let Some(work) = claims(&manager, &mut server, 1) else {
         panic!(rt; "no work");
     };
-    assert!(rt; work.element.amount == 9);
-    let Some(reply) = Draft::new(15, 0, work.element.amount + 1) else {
+    assert!(rt; work.element.body == [0, 9, 0, 0]);
+    let Some(reply) = Draft::new(15, [0, 10, 0, 0]) else {
         panic!(rt; "no draft");
     };
     assert!(rt;
@@ -28,7 +28,7 @@ fn example(rt: HostRuntime) {
     let Ok(look) = manager.read(&mut client, 4) else {
         panic!(rt; "no reply");
     };
-    assert!(rt; look.element.root == 0 && look.element.amount == 10);
+    assert!(rt; look.element.root == 0 && look.element.body == [0, 10, 0, 0]);
     assert!(rt; look.status == Status::Waiting { attempts: 0 });
     drop(server);
     drop(client);
@@ -38,8 +38,8 @@ fn example(rt: HostRuntime) {
 #[test]
 fn two_passes_meet(rt: HostRuntime) {
     let (manager, mut first, mut second) = two(&rt, SMALL);
-    let element = request(0, 1, 0, 9);
-    assert!(rt; submits(&manager, &mut first, 1, 0, 9, Ok(0)));
+    let element = request(0, 1, [0, 9, 0, 0]);
+    assert!(rt; submits(&manager, &mut first, 1, [0, 9, 0, 0], Ok(0)));
     assert!(rt;
         finds(
             &manager,
@@ -82,7 +82,7 @@ fn next_error(rt: HostRuntime) {
         ..SMALL
     };
     let (manager, mut first, mut second) = two(&rt, limits);
-    assert!(rt; submits(&manager, &mut first, 1, 0, 9, Ok(0)));
+    assert!(rt; submits(&manager, &mut first, 1, [0, 9, 0, 0], Ok(0)));
     assert!(rt; manager.next_error(&mut first, 0).is_none());
     let Some(_work) = claims(&manager, &mut second, 1) else {
         panic!(rt; "no work")

@@ -8,7 +8,7 @@ use tp_model::types::{Claimed, Draft, Killed, Outcome, Refusal, Status};
 #[test]
 fn kill_held(rt: HostRuntime) {
     let (manager, mut first, mut second) = two(&rt, SMALL);
-    assert!(rt; submits(&manager, &mut first, 1, 0, 9, Ok(0)));
+    assert!(rt; submits(&manager, &mut first, 1, [0, 9, 0, 0], Ok(0)));
     let Some(work) = claims(&manager, &mut second, 1) else {
         panic!(rt; "no work");
     };
@@ -19,12 +19,26 @@ fn kill_held(rt: HostRuntime) {
     };
     assert!(rt; again.unit == 3 && again.attempt == 2);
     assert!(rt; kills(&manager, &mut first, 0, Ok(Killed { units_aborted: 1 })));
-    assert!(rt; finds(&manager, &mut first, request(0, 1, 0, 9), Status::Killed));
+    assert!(rt;
+        finds(
+            &manager,
+            &mut first,
+            request(0, 1, [0, 9, 0, 0]),
+            Status::Killed
+        )
+    );
     assert!(rt; commits(&manager, &mut second, &[], Outcome::Lost));
     assert!(rt; !second.has_open());
     // Its last attempt was aborted, but it is killed, and so it isn't in the error queue.
     assert!(rt; manager.next_error(&mut first, 0).is_none());
-    assert!(rt; finds(&manager, &mut second, request(0, 1, 0, 9), Status::Killed));
+    assert!(rt;
+        finds(
+            &manager,
+            &mut second,
+            request(0, 1, [0, 9, 0, 0]),
+            Status::Killed
+        )
+    );
     drop(second);
     drop(first);
     drop(manager);
@@ -33,8 +47,8 @@ fn kill_held(rt: HostRuntime) {
 #[test]
 fn kill_refused(rt: HostRuntime) {
     let (manager, mut first, mut second) = two(&rt, SMALL);
-    assert!(rt; submits(&manager, &mut first, 1, 0, 9, Ok(0)));
-    assert!(rt; submits(&manager, &mut first, 2, 0, 9, Ok(1)));
+    assert!(rt; submits(&manager, &mut first, 1, [0, 9, 0, 0], Ok(0)));
+    assert!(rt; submits(&manager, &mut first, 2, [0, 9, 0, 0], Ok(1)));
     assert!(rt; kills(&manager, &mut first, 0, Ok(Killed { units_aborted: 0 })));
     assert!(rt; kills(&manager, &mut first, 0, Err(Refusal::AlreadyKilled)));
     assert!(rt; matches!(manager.claim(&mut second, 1), Claimed::Idle));
@@ -60,11 +74,11 @@ fn kill_refused(rt: HostRuntime) {
 #[test]
 fn kill_reply(rt: HostRuntime) {
     let (manager, mut first, mut second) = two(&rt, SMALL);
-    assert!(rt; submits(&manager, &mut first, 1, 0, 9, Ok(0)));
+    assert!(rt; submits(&manager, &mut first, 1, [0, 9, 0, 0], Ok(0)));
     let Some(_work) = claims(&manager, &mut second, 1) else {
         panic!(rt; "no work")
     };
-    let Some(reply) = Draft::new(15, 0, 9) else {
+    let Some(reply) = Draft::new(15, [0, 9, 0, 0]) else {
         panic!(rt; "no draft")
     };
     assert!(rt;

@@ -11,9 +11,9 @@ const NOTHING: Outcome = Outcome::Committed { first: 0, count: 0 };
 fn claims_go_on(rt: HostRuntime) {
     let limits = Limits { units: 8, ..SMALL };
     let (manager, mut client, mut server) = two(&rt, limits);
-    assert!(rt; submits(&manager, &mut client, 1, 0, 5, Ok(0)));
-    assert!(rt; submits(&manager, &mut client, 2, 0, 6, Ok(1)));
-    assert!(rt; submits(&manager, &mut client, 1, 0, 7, Ok(2)));
+    assert!(rt; submits(&manager, &mut client, 1, [0, 5, 0, 0], Ok(0)));
+    assert!(rt; submits(&manager, &mut client, 2, [0, 6, 0, 0], Ok(1)));
+    assert!(rt; submits(&manager, &mut client, 1, [0, 7, 0, 0], Ok(2)));
     let first = claims(&manager, &mut server, 1).expect(&rt, "no work");
     assert!(rt; first.element.id == 0);
     assert!(rt; commits(&manager, &mut server, &[], NOTHING));
@@ -26,7 +26,7 @@ fn claims_go_on(rt: HostRuntime) {
     assert!(rt; third.element.id == 1);
     assert!(rt; commits(&manager, &mut server, &[], NOTHING));
     assert!(rt; claims(&manager, &mut server, 1).is_none());
-    assert!(rt; submits(&manager, &mut client, 1, 0, 8, Ok(3)));
+    assert!(rt; submits(&manager, &mut client, 1, [0, 8, 0, 0], Ok(3)));
     let last = claims(&manager, &mut server, 1).expect(&rt, "no work");
     assert!(rt; last.element.id == 3);
     drop(server);
@@ -38,9 +38,9 @@ fn claims_go_on(rt: HostRuntime) {
 fn mark_rises(rt: HostRuntime) {
     let limits = Limits { units: 8, ..SMALL };
     let (manager, mut client, mut server) = two(&rt, limits);
-    assert!(rt; submits(&manager, &mut client, 1, 0, 5, Ok(0)));
-    assert!(rt; submits(&manager, &mut client, 1, 0, 6, Ok(1)));
-    assert!(rt; submits(&manager, &mut client, 1, 0, 7, Ok(2)));
+    assert!(rt; submits(&manager, &mut client, 1, [0, 5, 0, 0], Ok(0)));
+    assert!(rt; submits(&manager, &mut client, 1, [0, 6, 0, 0], Ok(1)));
+    assert!(rt; submits(&manager, &mut client, 1, [0, 7, 0, 0], Ok(2)));
     assert!(rt; server.low(0) == 0);
     let first = claims(&manager, &mut server, 1).expect(&rt, "no work");
     assert!(rt; first.element.id == 0);
@@ -70,8 +70,8 @@ fn parked_stays(rt: HostRuntime) {
         ..SMALL
     };
     let (manager, mut client, mut server) = two(&rt, limits);
-    assert!(rt; submits(&manager, &mut client, 1, 0, 5, Ok(0)));
-    assert!(rt; submits(&manager, &mut client, 1, 0, 6, Ok(1)));
+    assert!(rt; submits(&manager, &mut client, 1, [0, 5, 0, 0], Ok(0)));
+    assert!(rt; submits(&manager, &mut client, 1, [0, 6, 0, 0], Ok(1)));
     let first = claims(&manager, &mut server, 1).expect(&rt, "no work");
     assert!(rt; first.element.id == 0);
     assert!(rt; aborts(&manager, &mut server));
@@ -79,7 +79,7 @@ fn parked_stays(rt: HostRuntime) {
     assert!(rt; second.element.id == 1);
     assert!(rt; commits(&manager, &mut server, &[], NOTHING));
     // The mark stays at the parked element.
-    assert!(rt; submits(&manager, &mut client, 1, 0, 7, Ok(2)));
+    assert!(rt; submits(&manager, &mut client, 1, [0, 7, 0, 0], Ok(2)));
     let third = claims(&manager, &mut server, 1).expect(&rt, "no work");
     assert!(rt; third.element.id == 2);
     assert!(rt; server.low(0) == 0);

@@ -11,18 +11,42 @@ fn rows_used_up(rt: HostRuntime) {
     let limits = Limits { rows: 2, ..SMALL };
     let (manager, mut keeper, mut first, mut second) = kept(&rt, limits);
     assert!(rt; matches!(keeper.pass(&manager), Err(MakeFault::NoPart)));
-    assert!(rt; submits(&manager, &mut first, 1, 0, 9, Ok(0)));
-    assert!(rt; submits(&manager, &mut first, 15, 0, 9, Err(Refusal::BadStage)));
-    assert!(rt; submits(&manager, &mut first, 14, 3, 4, Ok(1)));
-    assert!(rt; submits(&manager, &mut first, 1, 0, 1, Err(Refusal::Full)));
-    assert!(rt; submits(&manager, &mut first, 0, 0, 1, Err(Refusal::BadStage)));
-    assert!(rt; submits(&manager, &mut first, 15, 0, 1, Err(Refusal::BadStage)));
+    assert!(rt; submits(&manager, &mut first, 1, [0, 9, 0, 0], Ok(0)));
+    assert!(rt;
+        submits(
+            &manager,
+            &mut first,
+            15,
+            [0, 9, 0, 0],
+            Err(Refusal::BadStage)
+        )
+    );
+    assert!(rt; submits(&manager, &mut first, 14, [3, 4, 0, 0], Ok(1)));
+    assert!(rt; submits(&manager, &mut first, 1, [0, 1, 0, 0], Err(Refusal::Full)));
+    assert!(rt;
+        submits(
+            &manager,
+            &mut first,
+            0,
+            [0, 1, 0, 0],
+            Err(Refusal::BadStage)
+        )
+    );
+    assert!(rt;
+        submits(
+            &manager,
+            &mut first,
+            15,
+            [0, 1, 0, 0],
+            Err(Refusal::BadStage)
+        )
+    );
     let waiting = Status::Waiting { attempts: 0 };
-    assert!(rt; finds(&manager, &mut first, request(0, 1, 0, 9), waiting));
-    assert!(rt; finds(&manager, &mut first, request(1, 14, 3, 4), waiting));
+    assert!(rt; finds(&manager, &mut first, request(0, 1, [0, 9, 0, 0]), waiting));
+    assert!(rt; finds(&manager, &mut first, request(1, 14, [3, 4, 0, 0]), waiting));
     assert!(rt; reads(&manager, &mut first, 2, Err(Refusal::NotThere)));
     // The rows of another pass are its own.
-    assert!(rt; submits(&manager, &mut second, 1, 0, 1, Ok(2)));
+    assert!(rt; submits(&manager, &mut second, 1, [0, 1, 0, 0], Ok(2)));
     drop(second);
     drop(first);
     drop(keeper);
@@ -32,8 +56,8 @@ fn rows_used_up(rt: HostRuntime) {
 #[test]
 fn attempts_and_units(rt: HostRuntime) {
     let (manager, mut first, mut second) = two(&rt, SMALL);
-    let element = request(0, 1, 0, 9);
-    assert!(rt; submits(&manager, &mut first, 1, 0, 9, Ok(0)));
+    let element = request(0, 1, [0, 9, 0, 0]);
+    assert!(rt; submits(&manager, &mut first, 1, [0, 9, 0, 0], Ok(0)));
     let Some(work) = claims(&manager, &mut second, 1) else {
         panic!(rt; "no work");
     };
@@ -73,13 +97,13 @@ fn attempts_and_units(rt: HostRuntime) {
 fn full_then_committed(rt: HostRuntime) {
     let limits = Limits { rows: 1, ..SMALL };
     let (manager, mut first, mut second) = two(&rt, limits);
-    let element = request(0, 1, 0, 9);
-    assert!(rt; submits(&manager, &mut first, 1, 0, 9, Ok(0)));
+    let element = request(0, 1, [0, 9, 0, 0]);
+    assert!(rt; submits(&manager, &mut first, 1, [0, 9, 0, 0], Ok(0)));
     let Some(work) = claims(&manager, &mut second, 1) else {
         panic!(rt; "no work");
     };
     assert!(rt; work.unit == 2 && work.attempt == 1);
-    let Some(reply) = Draft::new(15, 0, 9) else {
+    let Some(reply) = Draft::new(15, [0, 9, 0, 0]) else {
         panic!(rt; "no draft");
     };
     assert!(rt; commits(&manager, &mut second, &[reply, reply], Outcome::Full));
@@ -110,8 +134,7 @@ fn full_then_committed(rt: HostRuntime) {
         id: 1,
         stage: 15,
         root: 0,
-        key: 0,
-        amount: 9,
+        body: [0, 9, 0, 0],
         by: Some(3),
     };
     assert!(rt;

@@ -51,7 +51,7 @@ fn parks<R: Abort>(rt: &R, manager: &Manager, first: &mut Pass, second: &mut Pas
     gives_up(rt, manager, first, second, 1, unit);
     gives_up(rt, manager, first, second, 2, unit + 1);
     let parked = Status::Parked { attempts: 2 };
-    assert!(rt; finds(manager, first, request(0, 1, 0, 9), parked));
+    assert!(rt; finds(manager, first, request(0, 1, [0, 9, 0, 0]), parked));
     assert!(rt; manager.next_error(first, 0) == Some(0));
 }
 
@@ -64,14 +64,14 @@ fn goes_on<R: Abort>(rt: &R, manager: &Manager, first: &mut Pass, second: &mut P
 {
     assert!(rt; requeues(manager, first, 0, Ok(round)));
     let waits = Status::Waiting { attempts: 0 };
-    assert!(rt; finds(manager, second, request(0, 1, 0, 9), waits));
+    assert!(rt; finds(manager, second, request(0, 1, [0, 9, 0, 0]), waits));
     assert!(rt; manager.next_error(second, 0).is_none());
 }
 
 #[test]
 fn three_rounds(rt: HostRuntime) {
     let (manager, mut first, mut second) = two(&rt, ROUNDS);
-    assert!(rt; submits(&manager, &mut first, 1, 0, 9, Ok(0)));
+    assert!(rt; submits(&manager, &mut first, 1, [0, 9, 0, 0], Ok(0)));
     parks(&rt, &manager, &mut first, &mut second, 16);
     goes_on(&rt, &manager, &mut first, &mut second, 1);
     parks(&rt, &manager, &mut first, &mut second, 18);
@@ -81,7 +81,7 @@ fn three_rounds(rt: HostRuntime) {
     parks(&rt, &manager, &mut first, &mut second, 22);
     assert!(rt; requeues(&manager, &mut first, 0, Err(Refusal::NoRound)));
     let parked = Status::Parked { attempts: 2 };
-    assert!(rt; finds(&manager, &mut first, request(0, 1, 0, 9), parked));
+    assert!(rt; finds(&manager, &mut first, request(0, 1, [0, 9, 0, 0]), parked));
     assert!(rt; kills(&manager, &mut first, 0, Ok(Killed { units_aborted: 0 })));
     assert!(rt; requeues(&manager, &mut first, 0, Err(Refusal::NotParked)));
     drop(second);
@@ -94,7 +94,7 @@ fn nothing_to_requeue(rt: HostRuntime) {
     let (manager, mut first, mut second) = two(&rt, ROUNDS);
     assert!(rt; requeues(&manager, &mut first, 0, Err(Refusal::NotThere)));
     assert!(rt; requeues(&manager, &mut first, 8, Err(Refusal::NotThere)));
-    assert!(rt; submits(&manager, &mut first, 1, 0, 9, Ok(0)));
+    assert!(rt; submits(&manager, &mut first, 1, [0, 9, 0, 0], Ok(0)));
     assert!(rt; requeues(&manager, &mut first, 0, Err(Refusal::NotParked)));
     let Some(_work) = claims(&manager, &mut second, 1) else {
         panic!(rt; "no work");
@@ -112,7 +112,7 @@ fn nothing_to_requeue(rt: HostRuntime) {
         finds(
             &manager,
             &mut first,
-            request(0, 1, 0, 9),
+            request(0, 1, [0, 9, 0, 0]),
             Status::Consumed { unit: 16 }
         )
     );
@@ -126,8 +126,8 @@ fn nothing_to_requeue(rt: HostRuntime) {
 #[test]
 fn requeue_with_an_open_unit(rt: HostRuntime) {
     let (manager, mut first, mut second) = two(&rt, ROUNDS);
-    assert!(rt; submits(&manager, &mut first, 1, 0, 9, Ok(0)));
-    assert!(rt; submits(&manager, &mut first, 2, 0, 7, Ok(1)));
+    assert!(rt; submits(&manager, &mut first, 1, [0, 9, 0, 0], Ok(0)));
+    assert!(rt; submits(&manager, &mut first, 2, [0, 7, 0, 0], Ok(1)));
     gives_up(&rt, &manager, &mut first, &mut second, 1, 16);
     gives_up(&rt, &manager, &mut first, &mut second, 2, 17);
     let Some(work) = claims(&manager, &mut second, 2) else {
@@ -145,7 +145,14 @@ fn requeue_with_an_open_unit(rt: HostRuntime) {
         )
     );
     assert!(rt; kills(&manager, &mut first, 0, Ok(Killed { units_aborted: 0 })));
-    assert!(rt; finds(&manager, &mut second, request(0, 1, 0, 9), Status::Killed));
+    assert!(rt;
+        finds(
+            &manager,
+            &mut second,
+            request(0, 1, [0, 9, 0, 0]),
+            Status::Killed
+        )
+    );
     assert!(rt; claims(&manager, &mut second, 1).is_none());
     drop(second);
     drop(first);

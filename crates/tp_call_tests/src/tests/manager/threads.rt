@@ -15,7 +15,7 @@ fn fill(manager: &Manager, pass: &mut Pass, key: u64, first: u32) -> u32
 {
     let mut count = 0u32;
     for i in 0..257u32 {
-        if manager.submit(pass, 14, key, u64::from(i)) == Ok(first.wrapping_add(i)) {
+        if manager.submit(pass, 14, [key, u64::from(i), key, 3]) == Ok(first.wrapping_add(i)) {
             count = count.wrapping_add(1);
         }
     }
@@ -30,7 +30,7 @@ fn read_back(manager: &Manager, pass: &mut Pass, key: u64, first: u32) -> u32
     let mut count = 0u32;
     for i in 0..256u32 {
         if let Ok(look) = manager.read(pass, first.wrapping_add(i)) {
-            if look.element.key == key && look.element.amount == u64::from(i) {
+            if look.element.body == [key, u64::from(i), key, 3] {
                 count = count.wrapping_add(1);
             }
         }
@@ -48,8 +48,8 @@ fn two_threads_submit(rt: HostRuntime) {
         &mut || fill(&manager, &mut second, 8, 256),
     );
     assert!(rt; a == 256 && b == 256);
-    assert!(rt; manager.submit(&mut first, 14, 7, 0) == Err(Refusal::Full));
-    assert!(rt; manager.submit(&mut second, 14, 8, 0) == Err(Refusal::Full));
+    assert!(rt; manager.submit(&mut first, 14, [7, 0, 0, 0]) == Err(Refusal::Full));
+    assert!(rt; manager.submit(&mut second, 14, [8, 0, 0, 0]) == Err(Refusal::Full));
     assert!(rt; read_back(&manager, &mut first, 7, 0) == 256);
     assert!(rt; read_back(&manager, &mut first, 8, 256) == 256);
 }
@@ -73,7 +73,7 @@ fn rounds(manager: &Manager, pass: &mut Pass) -> Sums
         killed: 0,
     };
     for i in 0..8u32 {
-        if manager.submit(pass, 1, 0, 1).is_ok() {
+        if manager.submit(pass, 1, [0, 1, 0, 0]).is_ok() {
             sums.submitted = sums.submitted.wrapping_add(1);
         }
         if worked(manager, pass, i % 3 == 0) {

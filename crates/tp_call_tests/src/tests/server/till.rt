@@ -19,6 +19,7 @@ pub struct Till {
     ghost checked: { check_of recipe ≡ Ok tt },
     ghost one: { recipe.registers ≡ 1 },
     ghost adds: { recipe.act ≡ Add },
+    ghost counts: { recipe.word ≡ 1 },
     ghost replies: { recipe.outputs.items ≡ record { stage = 15; key = Same; amount = After } ∷ [] },
 }
 
@@ -42,6 +43,7 @@ impl Till {
                 stage,
                 registers: 1,
                 act: Act::Add,
+                word: 1,
                 outputs,
             },
             sum: 0,
@@ -76,15 +78,13 @@ impl Server for Till {
     }
 
     fn prepare(&mut self, element: &Element) -> Result<ArrayVec<Draft, 4>, Declined> {
-        if element.key != 0 {
+        let [key, amount, third, last] = element.body;
+        if key != 0 {
             return Err(Declined::NoRegister);
         }
-        let sum = self
-            .sum
-            .checked_add(element.amount)
-            .ok_or(Declined::TooLarge)?;
+        let sum = self.sum.checked_add(amount).ok_or(Declined::TooLarge)?;
         let mut drafts = ArrayVec::new();
-        match Draft::new(15, 0, sum) {
+        match Draft::new(15, [key, sum, third, last]) {
             Some(reply) => drafts.push(reply),
             None => unreachable!(),
         }

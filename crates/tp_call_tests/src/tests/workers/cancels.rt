@@ -111,7 +111,7 @@ fn cancelled_at<R: Abort + AllocGlobal + Threads + Sync>(
     let mut client = pass(rt, &mut keeper, &manager);
     let mut desks = [pass(rt, &mut keeper, &manager)];
     let mut canceller = pass(rt, &mut keeper, &manager);
-    assert!(rt; manager.submit(&mut client, 1, 0, 6) == Ok(0));
+    assert!(rt; manager.submit(&mut client, 1, [0, 6, 0, 0]) == Ok(0));
     let mut servers = [eager(rt, recipe(1, Act::Add, &[output(2)]))];
     let gate = Stop {
         at,

@@ -81,7 +81,7 @@ fn full_then_no_unit(rt: HostRuntime) {
 fn refused_then_no_unit(rt: HostRuntime) {
     let (manager, mut keeper) = manager(&rt, LIMITS);
     let mut client = pass(&rt, &mut keeper, &manager);
-    assert!(rt; manager.submit(&mut client, 1, 0, 1) == Ok(0));
+    assert!(rt; manager.submit(&mut client, 1, [0, 1, 0, 0]) == Ok(0));
     let server = lazy(&rt, recipe(1, Act::Take, &[]));
     let counts = two_turns(&rt, &manager, pass(&rt, &mut keeper, &manager), server);
     let wanted = Shift {

@@ -38,8 +38,8 @@ fn two_desks_overlap(rt: HostRuntime) {
     let (manager, mut keeper) = manager(&rt, limits);
     let mut client = pass(&rt, &mut keeper, &manager);
     let mut passes = two(&rt, &mut keeper, &manager);
-    assert!(rt; manager.submit(&mut client, 1, 0, 5) == Ok(0));
-    assert!(rt; manager.submit(&mut client, 1, 0, 7) == Ok(1));
+    assert!(rt; manager.submit(&mut client, 1, [0, 5, 0, 0]) == Ok(0));
+    assert!(rt; manager.submit(&mut client, 1, [0, 7, 0, 0]) == Ok(1));
     let a = eager(&rt, recipe(1, Act::Add, &[]));
     let b = lazy(&rt, recipe(1, Act::Add, &[]));
     let gate = Overlap {

@@ -40,7 +40,7 @@ fn submit_all(manager: &Manager, client: &mut Pass) -> u32
 {
     let mut submitted = 0u32;
     for _past in 0..SUBMITTED {
-        if manager.submit(client, 1, 0, 1).is_ok() {
+        if manager.submit(client, 1, [0, 1, 0, 0]).is_ok() {
             submitted = submitted.wrapping_add(1);
         }
     }

@@ -12,7 +12,7 @@ loop-from-preserved c = record {
   number = c.next_error.ensures.follows.number ∙ c.loop-from.invariant.number;
   capacity = c.capacity-capacity.ensures;
   found = λ more last rest. rw c.in_ok-push.ensures.items (error_more c.args.manager.now.limits c.args.client.now c.loop-from.client c.next_error.new.pass c.loop-from.parked.items c.loop-from.from c.in-Some.id c.loop-from.invariant.found
-      (record { follows = c.next_error.ensures.follows; quiet = c.next_error.ensures.quiet; next = c.in-Some.ensures.answer }) more last rest);
+      (record { follows = c.next_error.ensures.follows; quiet = c.next_error.ensures.quiet; looks = c.next_error.ensures.looks; next = c.in-Some.ensures.answer }) more last rest);
 }
 
 pub returns-clause-tells : goal.returns-clause-tells
@@ -21,6 +21,6 @@ returns-clause-tells c =
       | else-loop-from-test w ↦ no_more_errors c.args.manager.now.limits c.args.client.now c.loop-from.client _ c.loop-from.parked.items c.loop-from.from c.loop-from.invariant.found
           (inr (omega (arith, c.capacity-capacity.ensures, w.loop-from-test.false), w.client-is))
       | then-loop-from-test+in_default w ↦ no_more_errors c.args.manager.now.limits c.args.client.now c.loop-from.client _ c.loop-from.parked.items c.loop-from.from c.loop-from.invariant.found
-          (inl (rw w.client-is (w.next_error.ensures.follows, w.next_error.ensures.quiet, w.in_default.ensures.answer)))
+          (inl (rw w.client-is (w.next_error.ensures.follows, w.next_error.ensures.quiet, w.next_error.ensures.looks, w.in_default.ensures.answer)))
     ] in
     IfOk-weaker c.line.result _ _ (λ text is. (c.loop-from.parked.items, all, is ∙ ap (λ xs. line (errors_text xs)) c.as_slice.ensures.value)) c.line.ensures.text

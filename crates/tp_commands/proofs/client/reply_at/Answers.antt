@@ -3,10 +3,10 @@ use Rattle.tp_report.specs.declared.answer.Answer.TheVariants as answer
 use Rattle.tp_commands.proofs.client.reply_at.Goals as goal
 
 pub returns-then-is_reply-clause-tells : goal.returns-then-is_reply-clause-tells
-returns-then-is_reply-clause-tells c = (answer.Read c.in-Ok.look, (c.read.ensures.follows, c.read.ensures.quiet, c.in-Ok.ensures.answer), search rules)
+returns-then-is_reply-clause-tells c = (answer.Read c.in-Ok.look, (c.read.ensures.follows, c.read.ensures.quiet, c.read.ensures.looks, c.in-Ok.ensures.answer), search rules)
 
 pub returns-else-is_reply-clause-tells : goal.returns-else-is_reply-clause-tells
-returns-else-is_reply-clause-tells c = (answer.Read c.in-Ok.look, (c.read.ensures.follows, c.read.ensures.quiet, c.in-Ok.ensures.answer), search rules)
+returns-else-is_reply-clause-tells c = (answer.Read c.in-Ok.look, (c.read.ensures.follows, c.read.ensures.quiet, c.read.ensures.looks, c.in-Ok.ensures.answer), search rules)
 
 pub returns-in-Err-clause-tells : goal.returns-in-Err-clause-tells
-returns-in-Err-clause-tells c = (answer.Refused c.in-Err.field-0, (c.read.ensures.follows, c.read.ensures.quiet, c.in-Err.ensures.answer), search rules)
+returns-in-Err-clause-tells c = (answer.Refused c.in-Err.field-0, (c.read.ensures.follows, c.read.ensures.quiet, c.read.ensures.looks, c.in-Err.ensures.answer), search rules)

@@ -6,7 +6,7 @@ use Rattle.tp_workers.specs.Free.{IsFreePass}
 use Rattle.tp_commands.specs.Acting.{places_shown}
 use Rattle.tp_commands.specs.Places.{firsts}
 use Rattle.tp_commands.proofs.Alls.{all_parts}
-use Rattle.tp_perform.proofs.Chains.{ended_in, is_first}
+use Rattle.tp_perform.proofs.Chains.{ended_in, is_first, passes_in}
 use Rattle.tp_commands.proofs.Lefts.{left_in, numbers_in}
 use Rattle.tp_commands.proofs.Lies.{lie_servers}
 use Rattle.tp_perform.proofs.perform.perform.Goals as goal
@@ -51,12 +51,14 @@ returns-clause-told g c =
     let long = c.split_at_mut-workers.ensures.front_len in
     let shown = ap (λ os. places_shown (λ b. (goal.Server-dyn g (b.vtable, b.value)).recipe b.value) (λ b. (goal.Server-dyn g (b.vtable, b.value)).registers b.value) (λ b. (goal.Server-dyn g (b.vtable, b.value)).pending b.value) c.split_at_mut-workers.result.0.now c.args.servers.now os) c.as_mut_slice-places.ensures.value ∙ c.places_for-places.ensures.shown in
     let first = is_first (λ b. (goal.Server-dyn g (b.vtable, b.value)).recipe b.value) (λ b. (goal.Server-dyn g (b.vtable, b.value)).registers b.value) (λ b. (goal.Server-dyn g (b.vtable, b.value)).pending b.value) c.args.passes.now c.in-Some.client.now c.in-Some.others.now c.split_at_mut-workers.result.0.now c.split_at_mut-workers.result.1.now c.args.servers.now _ c.in-Some.ensures.cases.0 c.split_at_mut-workers.ensures.value long shown in
+    let many : length c.end_all.new.passes ≡ length c.args.servers.now = omega (arith, long, c.perform_all-done.auto.passes, c.end_all.auto.passes) in
     on_ok_weaker c.perform_all-done.result (λ told. (
       _,
       _,
       first,
       told,
-      ended_in (λ b. (goal.Server-dyn g (b.vtable, b.value)).recipe b.value) (λ b. (goal.Server-dyn g (b.vtable, b.value)).registers b.value) (λ b. (goal.Server-dyn g (b.vtable, b.value)).pending b.value) (length c.args.servers.now) _ c.perform_all-done.new.client c.end_all.new.passes c.perform_all-done.new.racers _ (omega (arith, long, c.perform_all-done.auto.passes, c.end_all.auto.passes)) c.end_all.ensures.ended,
+      passes_in (λ b. (goal.Server-dyn g (b.vtable, b.value)).recipe b.value) (λ b. (goal.Server-dyn g (b.vtable, b.value)).registers b.value) (λ b. (goal.Server-dyn g (b.vtable, b.value)).pending b.value) (length c.args.servers.now) c.perform_all-done.new.client c.end_all.new.passes c.perform_all-done.new.racers many,
+      ended_in (λ b. (goal.Server-dyn g (b.vtable, b.value)).recipe b.value) (λ b. (goal.Server-dyn g (b.vtable, b.value)).registers b.value) (λ b. (goal.Server-dyn g (b.vtable, b.value)).pending b.value) (length c.args.servers.now) _ c.perform_all-done.new.client c.end_all.new.passes c.perform_all-done.new.racers _ many c.end_all.ensures.ended,
     )) c.perform_all-done.ensures.told
 
 pub returns-clause-told_front : goal.returns-clause-told_front

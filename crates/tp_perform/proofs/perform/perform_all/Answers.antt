@@ -58,18 +58,18 @@ loop-command-preserved g c =
       racers = All-append Free c.split_at_mut-before.result.0.now (c.command_line.new.racers ++ c.split_at_mut-here.result.1.now) front
           (All-append Free c.command_line.new.racers c.split_at_mut-here.result.1.now c.in_ok-line.ensures.racers after);
       enough =
-          let next = racing_next c.args.script.now.commands.items c.loop-command.command-index (Client (Submit 0 0 0)) (omega (arith, ap length c.deref-command-items.ensures.value)) in
+          let next = racing_next c.args.script.now.commands.items c.loop-command.command-index (Client (Submit 0 [])) (omega (arith, ap length c.deref-command-items.ensures.value)) in
           let needed = rw c.deref-command-items.ensures.value at c.racers.ensures in
           omega (arith, c.loop-command.invariant.enough, next, needed, whole, both, c.from-needed.ensures, c.command_line.auto.racers, c.split_at_mut-before.ensures.front_len, c.split_at_mut-before.ensures.back_len, c.split_at_mut-here.ensures.front_len, c.split_at_mut-here.ensures.back_len);
       raced =
-          let more = racing_more c.args.script.now.commands.items c.loop-command.command-index (Client (Submit 0 0 0)) (omega (arith, ap length c.deref-command-items.ensures.value)) in
+          let more = racing_more c.args.script.now.commands.items c.loop-command.command-index (Client (Submit 0 [])) (omega (arith, ap length c.deref-command-items.ensures.value)) in
           let needed = rw c.deref-command-items.ensures.value at c.racers.ensures in
           omega (arith, more, needed, c.from-needed.ensures, c.loop-command.invariant.raced);
       told =
           let needed = c.split_at_mut-here.ensures.front_len ∙ (c.from-needed.ensures ∙ rw c.deref-command-items.ensures.value at c.racers.ensures) in
           let t = c.loop-command.invariant.told in (
             t.0 ++ string_bytes c.in_ok-line.line,
-            told_next c.args.manager.now (script_view c.args.script.now) _ c.loop-command.command-index c.loop-command.raced (Client (Submit 0 0 0)) (omega (arith, ap length c.deref-command-items.ensures.value)) c.loop-command.invariant.raced
+            told_next c.args.manager.now (script_view c.args.script.now) _ c.loop-command.command-index c.loop-command.raced (Client (Submit 0 [])) (omega (arith, ap length c.deref-command-items.ensures.value)) c.loop-command.invariant.raced
                 _ _ _ _ c.loop-command.racers c.split_at_mut-before.result.0.now c.split_at_mut-before.result.1.now c.split_at_mut-here.result.0.now c.split_at_mut-here.result.1.now c.command_line.new.racers t.0 (string_bytes c.in_ok-line.line)
                 c.split_at_mut-before.ensures.value c.split_at_mut-here.ensures.value c.split_at_mut-before.ensures.front_len needed (rw c.deref-command-items.ensures.value at c.in_ok-line.ensures.tells)
                 (all_steady (λ b. (goal.Server-dyn g (b.vtable, b.value)).recipe b.value) (λ b. (goal.Server-dyn g (b.vtable, b.value)).registers b.value) (λ b. (goal.Server-dyn g (b.vtable, b.value)).pending b.value) _ _ _ c.in_ok-line.ensures.lie) t.1,
@@ -121,7 +121,7 @@ returns-in_err-write_all-clause-told_front g c =
       t.0 ++ string_bytes c.in_ok-line.line,
       _,
       omega (arith, ap length c.deref-command-items.ensures.value),
-      told_next c.args.manager.now (script_view c.args.script.now) _ c.loop-command.command-index c.loop-command.raced (Client (Submit 0 0 0)) (omega (arith, ap length c.deref-command-items.ensures.value)) c.loop-command.invariant.raced
+      told_next c.args.manager.now (script_view c.args.script.now) _ c.loop-command.command-index c.loop-command.raced (Client (Submit 0 [])) (omega (arith, ap length c.deref-command-items.ensures.value)) c.loop-command.invariant.raced
           _ _ _ _ c.loop-command.racers c.split_at_mut-before.result.0.now c.split_at_mut-before.result.1.now c.split_at_mut-here.result.0.now c.split_at_mut-here.result.1.now c.command_line.new.racers t.0 (string_bytes c.in_ok-line.line)
           c.split_at_mut-before.ensures.value c.split_at_mut-here.ensures.value c.split_at_mut-before.ensures.front_len needed (rw c.deref-command-items.ensures.value at c.in_ok-line.ensures.tells)
           (all_steady (λ b. (goal.Server-dyn g (b.vtable, b.value)).recipe b.value) (λ b. (goal.Server-dyn g (b.vtable, b.value)).registers b.value) (λ b. (goal.Server-dyn g (b.vtable, b.value)).pending b.value) _ _ _ c.in_ok-line.ensures.lie) t.1,

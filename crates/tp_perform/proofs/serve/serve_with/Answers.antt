@@ -29,7 +29,7 @@ returns-clause-told g c =
     let count : length c.settle.new.servers ≡ length c.args.script.now.servers.items = search rules in
     let many = count ∙ sym (length-map c.args.script.now.servers.items server_view) in
     let begins = begins_of _ _ _ (script_view c.args.script.now) c.args.manager.now c.args.passes.now _ commands.0 commands.2 many c.requires.limits c.requires.enough c.requires.given.1 c.requires.passes c.requires.new in
-    let performed = performed_of (script_view c.args.script.now) c.args.manager.now commands.0 commands.1 (g.W.Sink.contents c.args.writer.now) (g.W.Sink.contents c.perform.new.writer) c.perform.new.passes _ _ begins many commands.3 commands.4 in
+    let performed = performed_of (script_view c.args.script.now) c.args.manager.now commands.0 commands.1 (g.W.Sink.contents c.args.writer.now) (g.W.Sink.contents c.perform.new.writer) c.perform.new.passes _ _ begins many commands.3 commands.4 commands.5 in
     on_ok_weaker c.close.result (λ account. record {
       performed = performed;
       finals_done = g.W.Sink.contents c.finals.new.writer;
@@ -54,7 +54,7 @@ returns-in_err-finals-clause-told_front g c =
     let count : length c.settle.new.servers ≡ length c.args.script.now.servers.items = search rules in
     let many = count ∙ sym (length-map c.args.script.now.servers.items server_view) in
     let begins = begins_of _ _ _ (script_view c.args.script.now) c.args.manager.now c.args.passes.now _ commands.0 commands.2 many c.requires.limits c.requires.enough c.requires.given.1 c.requires.passes c.requires.new in
-    let performed = performed_of (script_view c.args.script.now) c.args.manager.now commands.0 commands.1 (g.W.Sink.contents c.args.writer.now) (g.W.Sink.contents c.perform.new.writer) c.perform.new.passes _ _ begins many commands.3 commands.4 in
+    let performed = performed_of (script_view c.args.script.now) c.args.manager.now commands.0 commands.1 (g.W.Sink.contents c.args.writer.now) (g.W.Sink.contents c.perform.new.writer) c.perform.new.passes _ _ begins many commands.3 commands.4 commands.5 in
     always_err c.from_residual-in_err-finals.result (inr (c.args.manager.now, inr (inl (record { performed = performed; finals = c.in_err-finals.ensures.told_front }))))
 
 pub returns-clause-told_front : goal.returns-clause-told_front
@@ -63,7 +63,7 @@ returns-clause-told_front g c =
     let count : length c.settle.new.servers ≡ length c.args.script.now.servers.items = search rules in
     let many = count ∙ sym (length-map c.args.script.now.servers.items server_view) in
     let begins = begins_of _ _ _ (script_view c.args.script.now) c.args.manager.now c.args.passes.now _ commands.0 commands.2 many c.requires.limits c.requires.enough c.requires.given.1 c.requires.passes c.requires.new in
-    let performed = performed_of (script_view c.args.script.now) c.args.manager.now commands.0 commands.1 (g.W.Sink.contents c.args.writer.now) (g.W.Sink.contents c.perform.new.writer) c.perform.new.passes _ _ begins many commands.3 commands.4 in
+    let performed = performed_of (script_view c.args.script.now) c.args.manager.now commands.0 commands.1 (g.W.Sink.contents c.args.writer.now) (g.W.Sink.contents c.perform.new.writer) c.perform.new.passes _ _ begins many commands.3 commands.4 commands.5 in
     on_err_weaker c.close.result (λ account. inr (
       c.args.manager.now,
       inr (inr (record {

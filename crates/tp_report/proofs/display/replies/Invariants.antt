@@ -4,5 +4,5 @@ use Rattle.std.specs.Fmt.{HasWritten, IsPlainFormatter}
 use Rattle.tp_report.specs.Answer.{reply_text}
 use Rattle.tp_report.proofs.display.replies.Given as goal
 
-abbrev pub invariant-loop-reply : goal.invariant-loop-reply
-invariant-loop-reply g l = IsPlainFormatter l.initial.f → HasWritten g.W.Write.write_str_gives l.initial.f (flat_map reply_text (take l.reply-index l.replies)) l.f
+abbrev pub invariant-loop-element : goal.invariant-loop-element
+invariant-loop-element g l = IsPlainFormatter l.initial.f → HasWritten g.W.Write.write_str_gives l.initial.f (flat_map reply_text (take l.element-index l.replies)) l.f

@@ -1,4 +1,5 @@
-use Rattle.std.proofs.Common.{◌∙◌, ap, arith}
+use Rattle.std.proofs.Common.{◌∙◌, ◌*◌, ap, arith, sym}
+use Rattle.tp_model.specs.declared.types.Limits.{Limits}
 use Rattle.tp_manager.specs.Shown.{ManagerShown, KeeperShown}
 use Rattle.tp_rule.specs.declared.view.Hand.{Hand}
 use Rattle.tp_manager.proofs.Fresh.{keeps_on, no_lows, fresh_hand, fresh_seen, fresh_rests, fresh_shows, fresh_limits}
@@ -28,6 +29,12 @@ returns-clause-fresh c = let h = fresh_hand c.self.inside.seat c.self.inside.lim
   ap (λ (a : Hand). a.mine) h,
   fresh_seen c.self.inside.seat c.self.inside.limits c.self.inside.given c.self.invariant c.if-self.false c.hand_out-seat.result c.hand_out-seat.ensures.hands_out ∙ ap (λ (s : KeeperShown). s.seen) c.self.view_is,
   ap (λ (a : Hand). a.open_unit) h,
-  ap (λ (a : Hand). a.drawn) h,
   no_lows 32,
 )
+
+pub returns-clause-rows : goal.returns-clause-rows
+returns-clause-rows c = let h = fresh_hand c.self.inside.seat c.self.inside.limits c.self.inside.given c.self.invariant c.if-self.false c.hand_out-seat.result c.hand_out-seat.ensures.hands_out in
+    let lim = fresh_limits c.self.inside.seat c.self.inside.limits c.self.inside.given c.self.invariant c.if-self.false c.hand_out-seat.result c.hand_out-seat.ensures.hands_out in (
+      ap (λ (a : Hand). a.next) h ∙ (λ i. sym (ap (λ (a : Hand). a.number) h) i * (sym lim i).rows),
+      ap (λ (a : Hand). a.left) h ∙ ap (λ (l : Limits). l.rows) (sym lim),
+    )

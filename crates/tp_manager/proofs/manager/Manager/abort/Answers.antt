@@ -3,7 +3,6 @@ use Rattle.tp_model.specs.declared.types.Limits.{Limits}
 use Rattle.tp_model.specs.declared.event.Event.TheVariants.{Abort}
 use Rattle.tp_model.specs.declared.trace.StepKind.TheVariants as kinds
 use Rattle.tp_model.specs.History.{Aborted}
-use Rattle.tp_model.proofs.Bridges.{in_none}
 use Rattle.tp_rule.specs.Tables.{limits_of}
 use Rattle.tp_rule.specs.Views.{hand, view_of}
 use Rattle.tp_manager.specs.Shown.{ManagerShown, PassShown, spot}
@@ -30,15 +29,15 @@ abort_exchange-requires-clause-unit c = let i = (goal.at.abort_exchange-requires
 
 pub invariant_of-pass : goal.invariant_of-pass
 invariant_of-pass c = let i = (goal.at.invariant_of-pass c).In-Some in let l : Limits = limits_of c.self.inside.shared.words in
-    (shut_rests l 1 0 _ c.pass.inside.seat c.abort_exchange.new.seat _ _ _ _ _ (lim i) (shut_hit l kinds.AbortExchange _ _ _ refl (steady i) refl (λ x p. absurd (in_none p)) c.in-Ok.ensures.hit) refl (omega arith) c.pass.invariant.0, remembers c.pass.inside.lows _ _ _ _ _ (shut_hit l kinds.AbortExchange _ _ _ refl (steady i) refl (λ x p. absurd (in_none p)) c.in-Ok.ensures.hit).walk c.pass.invariant.1)
+    (shut_rests l 1 0 _ c.pass.inside.seat c.abort_exchange.new.seat _ _ _ _ _ (lim i) (shut_hit l kinds.AbortExchange _ _ _ refl (steady i) c.in-Ok.ensures.hit) refl (omega arith) (omega arith) c.pass.invariant.0, remembers c.pass.inside.lows _ _ _ _ _ (shut_hit l kinds.AbortExchange _ _ _ refl (steady i) c.in-Ok.ensures.hit).walk c.pass.invariant.1)
 
 pub invariant_of-pass-in-Err : goal.invariant_of-pass-in-Err
 invariant_of-pass-in-Err c = let i = (goal.at.invariant_of-pass-in-Err c).In-Some in let l : Limits = limits_of c.self.inside.shared.words in
-    (shut_rests l 1 0 _ c.pass.inside.seat c.abort_exchange.new.seat _ _ _ _ _ (lim i) (shut_miss l kinds.AbortExchange _ _ refl (steady i) (c.in-Err.ensures.miss.own (held i)).0) refl (omega arith) c.pass.invariant.0, remembers c.pass.inside.lows _ _ _ _ _ (shut_miss l kinds.AbortExchange _ _ refl (steady i) (c.in-Err.ensures.miss.own (held i)).0).walk c.pass.invariant.1)
+    (shut_rests l 1 0 _ c.pass.inside.seat c.abort_exchange.new.seat _ _ _ _ _ (lim i) (shut_miss l kinds.AbortExchange _ _ refl (steady i) (c.in-Err.ensures.miss.own (held i)).0) refl (omega arith) (omega arith) c.pass.invariant.0, remembers c.pass.inside.lows _ _ _ _ _ (shut_miss l kinds.AbortExchange _ _ refl (steady i) (c.in-Err.ensures.miss.own (held i)).0).walk c.pass.invariant.1)
 
 pub returns-in-Ok-clause-follows : goal.returns-in-Ok-clause-follows
 returns-in-Ok-clause-follows c = let i = (goal.at.returns-in-Ok-clause-follows c).In-Some in let l : Limits = limits_of c.self.inside.shared.words in
-    let sh = shut_hit l kinds.AbortExchange _ _ _ refl (steady i) refl (λ x p. absurd (in_none p)) c.in-Ok.ensures.hit in
+    let sh = shut_hit l kinds.AbortExchange _ _ _ refl (steady i) c.in-Ok.ensures.hit in
     follows (spot c.pass.inside.seat.table c.pass.inside.lows) (spot c.abort_exchange.new.seat.table c.pass.inside.lows) (rises_same c.pass.inside.lows) (view_of c.pass.inside.seat) (view_of c.abort_exchange.new.seat) c.args.pass.now c.pass.view_is l 1 _ sh.walk abort_steps (omega arith)
 
 pub returns-in-Err-clause-follows : goal.returns-in-Err-clause-follows
@@ -49,9 +48,9 @@ returns-in-Err-clause-follows c = let i = (goal.at.returns-in-Err-clause-follows
 pub returns-in-Ok-clause-answer : goal.returns-in-Ok-clause-answer
 returns-in-Ok-clause-answer c = let i = (goal.at.returns-in-Ok-clause-answer c).In-Some in let l : Limits = limits_of c.self.inside.shared.words in let u = c.in-Some.task.unit in
     let v = view_of c.pass.inside.seat in let w = view_of c.abort_exchange.new.seat in
-    let sh : Shut l 1 0 (Abort (hand v).number u ∷ []) v w = shut_hit l kinds.AbortExchange _ _ _ refl (steady i) refl (λ x p. absurd (in_none p)) c.in-Ok.ensures.hit in (
+    let sh : Shut l 1 0 (Abort (hand v).number u ∷ []) v w = shut_hit l kinds.AbortExchange _ _ _ refl (steady i) c.in-Ok.ensures.hit in (
       u,
-      shut_closes (spot c.pass.inside.seat.table c.pass.inside.lows) (spot c.abort_exchange.new.seat.table c.pass.inside.lows) v w c.args.pass.now c.pass.view_is l 1 0 u _ _ sh (held i) (abort_ended u (hand v).number w.seen sh.before sh.ends) (omega arith),
+      shut_closes (spot c.pass.inside.seat.table c.pass.inside.lows) (spot c.abort_exchange.new.seat.table c.pass.inside.lows) v w c.args.pass.now c.pass.view_is l 1 0 u _ sh (held i) (abort_ended u (hand v).number w.seen sh.before sh.ends),
       shut_adds (spot c.pass.inside.seat.table c.pass.inside.lows) (spot c.abort_exchange.new.seat.table c.pass.inside.lows) v w c.args.pass.now c.pass.view_is l 1 0 u sh,
     )
 
@@ -61,7 +60,7 @@ returns-in-Err-clause-answer c = let i = (goal.at.returns-in-Err-clause-answer c
     let miss = c.in-Err.ensures.miss.own (held i) in
     let sh : Shut l 1 0 [] v w = shut_miss l kinds.AbortExchange _ _ refl (steady i) miss.0 in (
       u,
-      shut_closes (spot c.pass.inside.seat.table c.pass.inside.lows) (spot c.abort_exchange.new.seat.table c.pass.inside.lows) v w c.args.pass.now c.pass.view_is l 1 0 u _ _ sh (held i) (Aborted, miss.1) (omega arith),
+      shut_closes (spot c.pass.inside.seat.table c.pass.inside.lows) (spot c.abort_exchange.new.seat.table c.pass.inside.lows) v w c.args.pass.now c.pass.view_is l 1 0 u _ sh (held i) (Aborted, miss.1),
       shut_loses (spot c.pass.inside.seat.table c.pass.inside.lows) (spot c.abort_exchange.new.seat.table c.pass.inside.lows) v w c.args.pass.now c.pass.view_is l 1 0 u sh miss.1 miss.2,
     )
 

@@ -28,8 +28,8 @@ free c = ap (λ (p : PassShown). p.open_unit) c.pass.view_is ∙ c.requires.free
 no_task : (c : After-rows) → c.pass.inside.task ≡ None
 no_task c = task_none c.pass.inside.task (sym c.pass.invariant.0.open_is ∙ free c)
 
-rests : (c : After-rows) → Rests c.pass.inside.seat c.pass.inside.number c.pass.inside.drawn c.pass.inside.used None
-rests c = subst (λ t. Rests c.pass.inside.seat c.pass.inside.number c.pass.inside.drawn c.pass.inside.used t) (no_task c) c.pass.invariant.0
+rests : (c : After-rows) → Rests c.pass.inside.seat c.pass.inside.number c.pass.inside.run c.pass.inside.used None
+rests c = subst (λ t. Rests c.pass.inside.seat c.pass.inside.number c.pass.inside.run c.pass.inside.used t) (no_task c) c.pass.invariant.0
 
 born : (c : After-birth_from) → Acted (limits_of c.self.inside.shared.words) birth_steps (view_of c.pass.inside.seat) (view_of c.birth_from.new.seat)
 born c = acted_then _ 1 1 _ _ _ c.head_at-head.ensures.acted c.birth_from.ensures.looked
@@ -94,7 +94,7 @@ returns-then-is_some-clause-answer c = let at = goal.at.returns-then-is_some-cla
 pub invariant_of-pass-2 : goal.invariant_of-pass-2
 invariant_of-pass-2 c = let at = goal.at.invariant_of-pass-2 c in let l : Limits = limits_of c.self.inside.shared.words in let told = c.cancel_family-killed.ensures.told in
     let k = cancels_after l c.args.root (birth_steps + l.parts) ((rows_of l + 1) * round_steps l) (birth_steps + l.parts + (rows_of l + 1) * round_steps l) c.cancel_family-killed.result (view_of c.pass.inside.seat) (view_of c.load_marks.new.seat) (view_of c.cancel_family-killed.new.seat) (omega arith) (looked l (birth_steps + l.parts) _ _ (found at.After-load_marks)) told in (
-      subst (λ t. Rests c.cancel_family-killed.new.seat c.pass.inside.number c.pass.inside.drawn c.pass.inside.used t) (sym (no_task at.After-rows))
+      subst (λ t. Rests c.cancel_family-killed.new.seat c.pass.inside.number c.pass.inside.run c.pass.inside.used t) (sym (no_task at.After-rows))
           (rests_swept l c.pass.inside.seat c.cancel_family-killed.new.seat _ _ _ (lim at.After-rows) (rests at.After-rows) _ c.args.root k.events k.swept),
       remembers c.load_marks.new.lows _ _ _ _ _ told.swept.gained.walk c.load_marks.ensures.remembers,
     )

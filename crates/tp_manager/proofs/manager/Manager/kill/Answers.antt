@@ -30,8 +30,8 @@ free c = ap (λ (p : PassShown). p.open_unit) c.pass.view_is ∙ c.requires.free
 no_task : (c : After-rows) → c.pass.inside.task ≡ None
 no_task c = task_none c.pass.inside.task (sym c.pass.invariant.0.open_is ∙ free c)
 
-rests : (c : After-rows) → Rests c.pass.inside.seat c.pass.inside.number c.pass.inside.drawn c.pass.inside.used None
-rests c = subst (λ t. Rests c.pass.inside.seat c.pass.inside.number c.pass.inside.drawn c.pass.inside.used t) (no_task c) c.pass.invariant.0
+rests : (c : After-rows) → Rests c.pass.inside.seat c.pass.inside.number c.pass.inside.run c.pass.inside.used None
+rests c = subst (λ t. Rests c.pass.inside.seat c.pass.inside.number c.pass.inside.run c.pass.inside.used t) (no_task c) c.pass.invariant.0
 
 none : (c : After-birth_from) → Acted (limits_of c.self.inside.shared.words) birth_steps (view_of c.pass.inside.seat) (view_of c.birth_from.new.seat)
 none c = acted_then _ 1 1 _ _ _ c.head_at-head.ensures.acted c.birth_from.ensures.looked
@@ -65,7 +65,7 @@ returns-in_default-clause-answer c = let at = goal.at.returns-in_default-clause-
 pub invariant_of-pass-in-Ok : goal.invariant_of-pass-in-Ok
 invariant_of-pass-in-Ok c = let at = goal.at.invariant_of-pass-in-Ok c in let l : Limits = limits_of c.self.inside.shared.words in let a = tries l.attempts in
     let k = kills_after l birth_steps (slay_steps l) (kill_steps l) c.args.id a a (view_of c.pass.inside.seat) (view_of c.birth_from.new.seat) (view_of c.kill_row.new.seat) (looked l birth_steps _ _ (none at.After-birth_from)) refl (omega arith) c.in-Ok.units_aborted c.in-Ok.ensures.told in (
-      subst (λ t. Rests c.kill_row.new.seat c.pass.inside.number c.pass.inside.drawn c.pass.inside.used t) (sym (no_task at.After-rows))
+      subst (λ t. Rests c.kill_row.new.seat c.pass.inside.number c.pass.inside.run c.pass.inside.used t) (sym (no_task at.After-rows))
           (rests_slain l c.pass.inside.seat c.kill_row.new.seat _ _ _ (lim at.After-rows) (rests at.After-rows) _ c.args.id k.0 k.3),
       remembers c.pass.inside.lows _ _ _ _ _ k.3.gained.walk c.pass.invariant.1,
     )
@@ -73,7 +73,7 @@ invariant_of-pass-in-Ok c = let at = goal.at.invariant_of-pass-in-Ok c in let l 
 pub invariant_of-pass-in-Err : goal.invariant_of-pass-in-Err
 invariant_of-pass-in-Err c = let at = goal.at.invariant_of-pass-in-Err c in let l : Limits = limits_of c.self.inside.shared.words in let a = tries l.attempts in
     let k = fails_after l birth_steps (slay_steps l) (kill_steps l) c.args.id a a (view_of c.pass.inside.seat) (view_of c.birth_from.new.seat) (view_of c.kill_row.new.seat) (looked l birth_steps _ _ (none at.After-birth_from)) refl (omega arith) c.in-Err.refusal c.in-Err.ensures.told in (
-      subst (λ t. Rests c.kill_row.new.seat c.pass.inside.number c.pass.inside.drawn c.pass.inside.used t) (sym (no_task at.After-rows))
+      subst (λ t. Rests c.kill_row.new.seat c.pass.inside.number c.pass.inside.run c.pass.inside.used t) (sym (no_task at.After-rows))
           (rests_freed l c.pass.inside.seat c.kill_row.new.seat _ _ _ (lim at.After-rows) (rests at.After-rows) _ c.args.id k.0 k.2),
       remembers c.pass.inside.lows _ _ _ _ _ k.2.gained.walk c.pass.invariant.1,
     )

@@ -1,19 +1,17 @@
-use Rattle.std.proofs.Common.{◌≡◌, ◌+◌, ◌≤◌, ◌<◌, ℕ, sym, ◌∙◌, ap, refl, rules, arith, subst}
+use Rattle.std.proofs.Common.{◌≡◌, ◌+◌, ◌≤◌, ◌<◌, sym, ◌∙◌, ap, refl, rules, arith, subst}
 use Rattle.tp_model.specs.declared.trace.StepKind.TheVariants as kinds
 use Rattle.tp_model.specs.declared.types.Limits.{Limits}
-use Rattle.tp_model.specs.History.{Aborted, end_of}
 use Rattle.tp_model.specs.Words.{TakenWord, claim_word}
 use Rattle.tp_model.proofs.Bridges.{begins_refl, begins_trans, found_later, status_again, status_free, status_killed}
 use Rattle.tp_model.proofs.Later.{unit_inside}
 use Rattle.tp_words.specs.Words.{claim_value, unit_value}
 use Rattle.tp_rule.specs.Tables.{limits_of}
 use Rattle.tp_rule.specs.Views.{seen_by, view_of}
-use Rattle.tp_rule.proofs.Reading.{grew_begins}
 use Rattle.tp_manager.specs.Bounds.{renew_steps}
 use Rattle.tp_manager.specs.Walks.{Looked}
 use Rattle.tp_manager.proofs.Walks.{acted_by, looked, looked_begins, looked_few, looked_then}
 use Rattle.tp_manager.proofs.Looks.{consumed_now, held_yet}
-use Rattle.tp_manager.proofs.Requeues.{allows_again, between, gone_on, no_round, not_consumed, not_held, not_killed, not_waiting, not_yet, renewed_by}
+use Rattle.tp_manager.proofs.Requeues.{gone_on, no_round, not_consumed, not_held, not_killed, not_waiting, not_yet, renewed_by}
 use Rattle.tp_manager.proofs.manager.Shared.requeue_row.Goals as goal
 use Rattle.tp_manager.proofs.manager.Shared.requeue_row.Goals.{After-load_claim-claim, In-Taken, After-load_unit, In-Err}
 

@@ -6,7 +6,7 @@ use Rattle.tp_manager.specs.Bounds.{scan_steps, try_steps}
 use Rattle.tp_manager.specs.Walks.{EachRow, OfPart, PassedBy, Sought, Took}
 use Rattle.tp_manager.proofs.Lows.{rises_then, scan_next, scan_rises}
 use Rattle.tp_manager.proofs.Walks.{rises_same, sought_few}
-use Rattle.tp_manager.proofs.Scans.{passed_widens, took_then, took_few}
+use Rattle.tp_manager.proofs.Scans.{finished_passed, passed_widens, took_then, took_few}
 use Rattle.tp_manager.proofs.Seeks.{begun_done, begun_few, begun_looked, begun_on, one_row, part_widens, sought_all}
 use Rattle.tp_manager.proofs.manager.Shared.scan.Goals as goal
 
@@ -18,6 +18,7 @@ loop-part-init c = record {
   same = refl;
   remembers = c.requires.remembers;
   rises = rises_same c.args.lows.now;
+  from = omega arith;
   rest = λ q low. refl;
   begun = inl (refl, refl);
 }
@@ -31,7 +32,7 @@ returns-in-Some-clause-told c = let l : Limits = limits_of c.args.self.now.words
     let next = scan_next l lows s 2 n in let all = scan_rises l lows s 2 (n + 1) l.parts (omega arith) in (
       took_few l c.args.stage c.args.unit t.attempt t.element (scan_steps l s 2 lows n + (2 + (l.rows - slice_index lows n) * s)) (scan_steps l s 2 lows l.parts) _ _ (omega arith)
           (took_then l c.args.stage c.args.unit t.attempt t.element (scan_steps l s 2 lows n) (2 + (l.rows - slice_index lows n) * s) (view_of c.args.seat.now) (view_of c.loop-part.seat) (view_of c.scan_part.new.seat)
-          (begun_looked l (OfPart l P) (part_widens l P (passed_widens l c.args.stage)) (scan_steps l s 2 lows n) 0 n _ _ i.begun c.requires.steady)
+          (begun_looked l (OfPart l P) (part_widens l P (passed_widens l c.args.stage)) (scan_steps l s 2 lows n) c.first_open-first.result n _ _ i.begun c.requires.steady)
           (subst (λ m. Took l (2 + (l.rows - m) * s) c.args.stage c.args.unit (view_of c.loop-part.seat) (view_of c.scan_part.new.seat) t.element t.attempt) (i.rest n (omega arith)) c.in-Some.ensures.told.0)),
       c.in-Some.ensures.told.1,
     )
@@ -41,9 +42,10 @@ loop-part-preserved c = let l : Limits = limits_of c.args.self.now.words in let 
   same = search rules;
   remembers = c.scan_part.ensures.remembers;
   rises = rises_then lows c.loop-part.lows c.scan_part.new.lows i.rises c.scan_part.ensures.lows.0;
+  from = omega arith;
   rest = λ q low. c.scan_part.ensures.lows.1 q (λ is. absurd (omega arith)) ∙ i.rest q (omega arith);
-  begun = begun_few l (OfPart l P) W (scan_steps l s 2 lows n + (2 + (l.rows - slice_index lows n) * s)) 0 _ (n + 1) _ _ (scan_next l lows s 2 n)
-      (begun_on l (OfPart l P) W (scan_steps l s 2 lows n) 0 (2 + (l.rows - slice_index lows n) * s) n _ _ _ i.begun (n + 1) (omega arith)
+  begun = begun_few l (OfPart l P) W (scan_steps l s 2 lows n + (2 + (l.rows - slice_index lows n) * s)) c.first_open-first.result _ (n + 1) _ _ (scan_next l lows s 2 n)
+      (begun_on l (OfPart l P) W (scan_steps l s 2 lows n) c.first_open-first.result (2 + (l.rows - slice_index lows n) * s) n _ _ _ i.begun (n + 1) i.from
       (subst (λ m. Sought l (2 + (l.rows - m) * s) (EachRow (OfPart l P) n (n + 1)) (view_of c.loop-part.seat) (view_of c.scan_part.new.seat)) (i.rest n (omega arith))
       (one_row l (OfPart l P) (2 + (l.rows - slice_index c.loop-part.lows n) * s) n _ _ c.in_default.ensures.told)));
 }
@@ -51,7 +53,9 @@ loop-part-preserved c = let l : Limits = limits_of c.args.self.now.words in let 
 pub returns-clause-told : goal.returns-clause-told
 returns-clause-told c = let l : Limits = limits_of c.args.self.now.words in let s = try_steps l in let P = PassedBy l c.args.stage in let n = c.loop-part.part in let i = c.loop-part.invariant in let lows = c.args.lows.now in
     let count : l.parts ≡ c.args.self.now.places.limits.parts = ap (λ (z : Limits). z.parts) c.args.self.now.same in let high = c.loop-part.auto.part-end in let low = c.loop-part-test.false in
-    let all : n ≡ l.parts = omega arith in let some : 1 ≤ l.parts = c.args.self.now.words.places.valid.parts.0 in
+    let first = c.first_open-first.result in let within = c.first_open-first.ensures.part in let from = i.from in
+    let all : n ≡ l.parts = omega arith in let some = c.args.self.now.words.places.valid.rows.0 in
     sought_few l (scan_steps l s 2 lows n) (scan_steps l s 2 lows l.parts) _ _ _ (scan_rises l lows s 2 n l.parts (omega arith))
-    (sought_all l (scan_steps l s 2 lows n) P _ _ (subst (λ m. Sought l (scan_steps l s 2 lows n) (EachRow (OfPart l P) 0 m) (view_of c.args.seat.now) (view_of c.loop-part.seat)) all
-    (begun_done l (OfPart l P) (part_widens l P (passed_widens l c.args.stage)) (scan_steps l s 2 lows n) 0 n _ _ i.begun (omega arith))))
+    (sought_all l (scan_steps l s 2 lows n) P _ _ (finished_passed l c.args.stage (scan_steps l s 2 lows n) first lows _ _ some c.requires.remembers c.first_open-first.ensures.finished
+    (subst (λ m. Sought l (scan_steps l s 2 lows n) (EachRow (OfPart l P) first m) (view_of c.args.seat.now) (view_of c.loop-part.seat)) all
+    (begun_done l (OfPart l P) (part_widens l P (passed_widens l c.args.stage)) (scan_steps l s 2 lows n) first n _ _ i.begun (omega arith)))))

@@ -1,6 +1,6 @@
 use Rattle.std.proofs.Common.{take}
 use Rattle.std.specs.List.{All}
-use Rattle.tp_model.specs.Births.{HasStage, outputs}
+use Rattle.tp_model.specs.Births.{IsWhole, outputs}
 use Rattle.tp_rule.specs.Tables.{limits_of}
 use Rattle.tp_rule.specs.Views.{IsSameSeat, view_of}
 use Rattle.tp_manager.specs.Walks.{Wrote}
@@ -9,6 +9,6 @@ use Rattle.tp_manager.proofs.manager.Shared.write_all.Given as goal
 abbrev pub invariant-loop-i : goal.invariant-loop-i
 invariant-loop-i l = record {
   same : IsSameSeat l.initial.seat l.seat;
-  staged : All HasStage (take l.i l.drafts);
+  whole : All IsWhole (take l.i l.drafts);
   wrote : Wrote (limits_of l.self.words) (outputs l.unit l.root l.first (take l.i l.drafts)) (view_of l.initial.seat) (view_of l.seat);
 }

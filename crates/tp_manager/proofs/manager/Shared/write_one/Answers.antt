@@ -7,8 +7,8 @@ use Rattle.tp_manager.proofs.Submits.{draft_is, draft_wrote}
 use Rattle.tp_manager.proofs.manager.Shared.write_one.Goals as goal
 
 pub returns-clause-wrote : goal.returns-clause-wrote
-returns-clause-wrote c = let l = limits_of c.args.self.now.words in let v = view_of c.args.seat.now in let k = view_of c.store_draft_key.new.seat in let a = view_of c.store_draft_amount.new.seat in let w = view_of c.store_draft_head.new.seat in
+returns-clause-wrote c = let l = limits_of c.args.self.now.words in let v = view_of c.args.seat.now in let a = view_of c.store_draft_body.new.seat in let w = view_of c.store_draft_head.new.seat in
     subst (λ (e : Element). Wrote l (e ∷ []) v w)
-    (draft_is l c.key.result c.amount.result c.stage.result c.args.root c.args.unit v k a w c.requires.steady c.store_draft_key.ensures.view c.store_draft_amount.ensures.view c.store_draft_head.ensures.view c.requires.next.1 c.args.row (sym c.requires.next.0)
-    ∙ (λ i. output c.args.unit c.args.root c.args.row (record { stage = c.stage.ensures.value i; key = c.key.ensures i; amount = c.amount.ensures i })))
-    (draft_wrote l c.key.result c.amount.result c.stage.result c.args.root c.args.unit v k a w c.requires.steady c.store_draft_key.ensures.view c.store_draft_amount.ensures.view c.store_draft_head.ensures.view c.requires.next.1)
+    (draft_is l c.body.result c.stage.result c.args.root c.args.unit v a w c.requires.steady c.store_draft_body.ensures.view c.store_draft_head.ensures.view c.requires.next.1 c.args.row (sym c.requires.next.0)
+    ∙ (λ i. output c.args.unit c.args.root c.args.row (record { stage = c.stage.ensures.value i; body = c.body.ensures.value i })))
+    (draft_wrote l c.body.result c.stage.result c.args.root c.args.unit v a w c.requires.steady c.store_draft_body.ensures.view c.store_draft_head.ensures.view c.requires.next.1)

@@ -1,4 +1,4 @@
-use Rattle.std.proofs.Common.{◌≡◌, ℕ, ◌+◌, ◌<◌, ◌≤◌, length, refl, sym, ◌∙◌, ap, arith, rules, subst}
+use Rattle.std.proofs.Common.{◌≡◌, ◌+◌, ◌<◌, ◌≤◌, length, refl, sym, ◌∙◌, ap, arith, rules, subst}
 use Rattle.tp_model.specs.History.{rounds, status_of}
 use Rattle.tp_model.specs.declared.types.Status.TheVariants.{Parked}
 use Rattle.tp_model.specs.Steps.{rows_of}
