@@ -45,7 +45,7 @@ keeps_seen seat next l k given h same keeps legal' seen' =
       below = keeps.below;
       rest = seen.hands ∙ keeps.rest;
       legal = subst (IsLegal l) (sym seen.seen) legal;
-      low = seen.low;
+      known = seen.known;
       none = λ c low. ap (events_by c) seen.seen ∙ none_given l given h (view_of seat) (view_of next) keeps.below legal keeps.rest seen c low;
     }
 

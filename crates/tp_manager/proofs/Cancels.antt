@@ -40,7 +40,7 @@ use Rattle.tp_manager.specs.Cancels.{IsTarget, AreOfCancel, one_kill, kills_in, 
 use Rattle.tp_manager.specs.Rounds.{AreKnown, is_looked, row_at_mark, Swept, is_member, in_family, is_over, is_done_member, is_done, count_below, Tallied, TalliedAt, Rounded, CancelsIn}
 use Rattle.tp_manager.specs.Kills.{FailsIn, Freed, IsPastKill, KillsIn, Slain}
 use Rattle.tp_manager.specs.Looks.{IsThere}
-use Rattle.tp_manager.specs.Walks.{KnowsLow, Looked, Rests, Steady, Walked}
+use Rattle.tp_manager.specs.Walks.{IsKnown, Looked, Rests, Steady, Walked}
 use Rattle.tp_manager.proofs.Counts.{count_rises, count_still, bit_le, bit_most, count_le, count_all, and_left, and_right, and_both, or_second, or_not, or_right, or_left}
 use Rattle.tp_manager.proofs.Gains.{gained_begins, gained_few, gained_looked, gained_then, rests_gained}
 use Rattle.tp_manager.proofs.Walks.{looked_begins, looked_none}
@@ -401,26 +401,26 @@ settled_over Killed is = refl
 
 module _ (l : Limits) (marks : List ℕ) (fair : AreLimits l) where
   -- the row at the mark is none behind all rows
-  pub mark_inside : (v : View) (i : ℕ) → KnowsLow l v → AreKnown l marks v → i < rows_of l → row_at_mark l marks i ≤ rows_of l
+  pub mark_inside : (v : View) (i : ℕ) → IsKnown l v → AreKnown l marks v → i < rows_of l → row_at_mark l marks i ≤ rows_of l
   mark_inside v i low known less =
       let p = i / l.rows in let inside : p < l.parts = (div-lt_iff_lt-mul fair.rows.0).1 less in
-      let top = (low p (slice_index marks p) (known p inside)).0 in let all = rows_more p l.parts l.rows inside in omega arith
+      let top = (low (PartMark p (slice_index marks p)) (known p inside)).0 in let all = rows_more p l.parts l.rows inside in omega arith
 
   -- the rows from one below the mark up to it aren't looked at
-  pub below_mark : (i j : ℕ) (v : View) → KnowsLow l v → AreKnown l marks v → i < rows_of l → i ≤ j → j < row_at_mark l marks i → is_looked l marks j ≡ false
+  pub below_mark : (i j : ℕ) (v : View) → IsKnown l v → AreKnown l marks v → i < rows_of l → i ≤ j → j < row_at_mark l marks i → is_looked l marks j ≡ false
   below_mark i j v low known less from_on high =
       let p = i / l.rows in let inside : p < l.parts = (div-lt_iff_lt-mul fair.rows.0).1 less in
-      let top = (low p (slice_index marks p) (known p inside)).0 in let first = div-mul-le_self i l.rows in
+      let top = (low (PartMark p (slice_index marks p)) (known p inside)).0 in let first = div-mul-le_self i l.rows in
       let flip : (p + 1) * l.rows ≡ p * l.rows + l.rows = omega (arith, suc-mul p l.rows) in
       let same : j / l.rows ≡ p = div-eq_of_lt-le l.rows (omega arith) (omega arith) in
       ⊎_elim (λ t. absurd (let low' : j / l.rows * l.rows + slice_index marks (j / l.rows) ≤ j = t.1 in let here : p * l.rows + slice_index marks p ≤ j = subst (λ z. z * l.rows + slice_index marks z ≤ j) same low' in omega arith)) (λ t. t.0) (leb_tells (row_at_mark l marks j) j)
 
   -- and what is born there is over
-  pub over_unlooked : (root i : ℕ) (v : View) → KnowsLow l v → AreKnown l marks v → i < rows_of l → is_looked l marks i ≡ false → in_family root v.seen i ≡ true → is_done l root v.seen i ≡ true
+  pub over_unlooked : (root i : ℕ) (v : View) → IsKnown l v → AreKnown l marks v → i < rows_of l → is_looked l marks i ≡ false → in_family root v.seen i ≡ true → is_done l root v.seen i ≡ true
   over_unlooked root i v low known less off is =
       let p = i / l.rows in let inside : p < l.parts = (div-lt_iff_lt-mul fair.rows.0).1 less in let first = div-mul-le_self i l.rows in
       let below : i < row_at_mark l marks i = ⊎_elim (λ t. let on : is_looked l marks i ≡ true = t.0 in absurd cc) (λ t. t.1) (leb_tells (row_at_mark l marks i) i) in
-      go (element_of v.seen i) refl ((low p (slice_index marks p) (known p inside)).1 i first below) is
+      go (element_of v.seen i) refl ((low (PartMark p (slice_index marks p)) (known p inside)).1 i first below) is
     where
       go : (o : Option Element) → element_of v.seen i ≡ o → IsOver l v.seen i → is_member root o ≡ true → is_done l root v.seen i ≡ true
       go None e over is = absurd cc

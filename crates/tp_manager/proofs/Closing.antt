@@ -151,7 +151,7 @@ module _ (table : TableId) (l : Limits) (v v1 v2 v3 w v' o p w' : View) (olds mi
   pub counts_with : CountsWith table l (length olds + 1) v w v' w' olds news account
   counts_with = record {
     first = first;
-    others = record { seen = two.others.seen; limits = two.others.limits; hands = hands_last; mine = two.others.mine; low = two.others.low; steps = steps_last };
+    others = record { seen = two.others.seen; limits = two.others.limits; hands = hands_last; mine = two.others.mine; known = two.others.known; steps = steps_last };
     saw = begins_trans v'.seen v1.seen w.seen saw (begins_trans v1.seen v2.seen w.seen (looked_begins l _ v1 v2 (walks.looked l _ v1 v2 one.first)) (looked_begins l _ v2 w after));
     passes = joins_twice table l led_steps led_steps v2.seen w.seen olds mids news one.passes two.passes;
     account_is = account_seen;

@@ -12,12 +12,12 @@ use Rattle.tp_model.specs.Passes.{IsPassView, IsRun}
 use Rattle.tp_model.proofs.Bridges.{in_none}
 use Rattle.tp_model.proofs.Histories.{legal_empty}
 use Rattle.tp_rule.specs.Views.{SeatShown, first_hand, first_view, fresh, fresh_from, hand, view_of}
-use Rattle.tp_rule.specs.Steps.{IsLow, Knows, handed_out, handed_on, front_of, rest_of, looked, noted}
+use Rattle.tp_rule.specs.Steps.{IsSo, Knows, handed_out, handed_on, front_of, rest_of, looked, noted}
 use Rattle.tp_rule.specs.declared.view.Hand.{Hand}
 use Rattle.tp_rule.specs.declared.view.Known.TheVariants.{PartMark}
 use Rattle.tp_rule.specs.declared.view.View.{View}
 use Rattle.tp_manager.specs.Shown.{steps_in}
-use Rattle.tp_manager.specs.Walks.{Keeps, KnowsLow, Rests, pass_in, untraced, with_trace}
+use Rattle.tp_manager.specs.Walks.{IsKnown, Keeps, Rests, pass_in, untraced, with_trace}
 use Rattle.tp_manager.specs.Calls.{claims_in}
 use Rattle.tp_manager.proofs.Rows.{unborn_quiet}
 
@@ -46,7 +46,7 @@ first_keeps seat l valid is = let none : (view_of seat).seen ≡ [] = ap (λ (v 
   below = omega arith;
   rest = let all : l.parts ≡ l.parts - 0 = omega arith in ap (λ (v : View). untraced v.hands) is ∙ (fresh_untraced l 0 l.parts ∙ ap (fresh_from l 0) all);
   legal = subst (IsLegal l) (sym none) (legal_empty l);
-  low = λ p n q. absurd (in_none (subst (λ (v : View). Knows v (PartMark p n)) is q));
+  known = λ x q. absurd (in_none (subst (λ (v : View). Knows v x) is q));
   none = λ c low. ap (events_by c) none;
 }
 
@@ -67,7 +67,7 @@ module _ (seat : SeatShown) (l : Limits) (given : ℕ) (k : Keeps seat l given) 
     below = still_below;
     rest = ap (λ (v : View). untraced v.hands) is ∙ hands_are.2;
     legal = subst (IsLegal l) (sym same) k.legal;
-    low = λ p n q. subst (λ h. IsLow l h p n) (sym same) (k.low p n (subst (λ (v : View). Knows v (PartMark p n)) is q));
+    known = λ x q. subst (λ h. IsSo l h x) (sym same) (k.known x (subst (λ (v : View). Knows v x) is q));
     none = λ c low. ap (events_by c) same ∙ k.none c (omega arith);
   }
 
@@ -112,12 +112,12 @@ module _ (seat : SeatShown) (l : Limits) (given : ℕ) (k : Keeps seat l given) 
           open_own = λ u is. let none : (hand (view_of next)).open_unit ≡ None = ap (λ (a : Hand). a.open_unit) h in absurd cc;
         }
 
-    fresh_low : KnowsLow (view_of next).limits (view_of next)
-    fresh_low p n q = subst (λ (z : Limits × List Event). IsLow z.0 z.1 p n) (λ i. (sym fresh_limits i, sym fresh_seen i)) (k.low p n (subst (λ (v : View). Knows v (PartMark p n)) is q))
+    fresh_known : IsKnown (view_of next).limits (view_of next)
+    fresh_known x q = subst (λ (z : Limits × List Event). IsSo z.0 z.1 x) (λ i. (sym fresh_limits i, sym fresh_seen i)) (k.known x (subst (λ (v : View). Knows v x) is q))
 
     pub fresh_rests : Rests next given (record { next = given * l.rows; left = l.rows }) 0 None
     fresh_rests = let h = fresh_hand in record {
-      steady = record { pass = (out ∙ ap (λ (a : Hand). a ∷ []) (sym out_hand), refl); shows = fresh_shows; low = fresh_low };
+      steady = record { pass = (out ∙ ap (λ (a : Hand). a ∷ []) (sym out_hand), refl); shows = fresh_shows; known = fresh_known };
       number_is = ap (λ (a : Hand). a.number) h;
       run_is = (ap (λ (a : Hand). a.next) h, ap (λ (a : Hand). a.left) h);
       used_is = ap (λ (a : Hand). a.claimed) h;

@@ -21,6 +21,7 @@ use Rattle.tp_words.specs.declared.words.Claim.TheVariants as claims
 use Rattle.tp_words.specs.Words.{claim_value, head_of}
 use Rattle.tp_rule.specs.Steps.{Grew}
 use Rattle.tp_rule.specs.declared.view.Hand.{Hand}
+use Rattle.tp_rule.specs.declared.view.Known.TheVariants.{RowHead}
 use Rattle.tp_rule.specs.declared.view.View.{View}
 use Rattle.tp_manager.specs.declared.looking.Birth.{Birth}
 use Rattle.tp_manager.specs.Looks.{GoesOn, HeadFound, IsThere}
@@ -44,7 +45,7 @@ same_by x s r u b head is e q = cc
 
 -- a head that isn't empty is that of the element that is born by now
 pub head_now : (kind : StepKind) (f : Hand → Hand) (es : List Event) (v w : View) (i s r : ℕ) (b : Option ℕ) (head : Head) → HeadFound v i head → Grew kind f es v w → head ≡ There s r b → (x : Element) → element_of w.seen i ≡ Some x → head ≡ head_of x
-head_now kind f es v w i s r b head t g is x p = g.heads i head x t.knows (λ empty. let e : There s r b ≡ Empty = sym is ∙ empty in absurd cc) p
+head_now kind f es v w i s r b head t g is x p = g.is_so (RowHead i head) (g.knows (RowHead i head) t.knows) (λ empty. let e : There s r b ≡ Empty = sym is ∙ empty in absurd cc) x p
 
 -- what isn't born wasn't before
 pub unborn_before : (a b : List Event) (i : ℕ) → IsPrefix a b → IsUnborn b i → IsUnborn a i

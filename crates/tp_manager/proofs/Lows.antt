@@ -5,14 +5,15 @@ use mathlib.Core.Logic.{dite}
 use native.Mathlib.Decide.{dec_le}
 use Rattle.tp_model.specs.declared.types.Limits.{Limits}
 use Rattle.tp_rule.specs.declared.view.View.{View}
+use Rattle.tp_rule.specs.declared.view.Known.TheVariants.{PartMark}
 use Rattle.tp_manager.specs.Shown.{Rises}
 use Rattle.tp_manager.specs.Bounds.{claim_steps_left, listing_steps_left, look_steps, low_sum, scan_steps, try_steps}
-use Rattle.tp_manager.specs.Walks.{KnowsLow, Remembers, RisesAt}
+use Rattle.tp_manager.specs.Walks.{IsKnown, Remembers, RisesAt}
 
 module _ (l : Limits) (lows : List ℕ) where
   -- no mark that is remembered is above its part
-  pub lows_inside : (v : View) → KnowsLow l v → Remembers v lows → (p : ℕ) → slice_index lows p ≤ l.rows
-  lows_inside v low r p = dite (dec_le 1 (slice_index lows p)) (λ some. (low p (slice_index lows p) (r p some)).0) (λ none. omega arith)
+  pub lows_inside : (v : View) → IsKnown l v → Remembers v lows → (p : ℕ) → slice_index lows p ≤ l.rows
+  lows_inside v low r p = dite (dec_le 1 (slice_index lows p)) (λ some. (low (PartMark p (slice_index lows p)) (r p some)).0) (λ none. omega arith)
 
   module _ (t k : ℕ) where
     -- one part more
@@ -45,7 +46,7 @@ module _ (l : Limits) (lows : List ℕ) where
     scan_most (suc n) = let rest = scan_most n in let one : (l.rows - slice_index lows n) * t ≤ l.rows * t = mul-le-mul_right t (omega arith) in omega (arith, suc-mul n (k + l.rows * t))
 
   -- a listing, and a claim
-  module _ (v : View) (low : KnowsLow l v) (r : Remembers v lows) where
+  module _ (v : View) (low : IsKnown l v) (r : Remembers v lows) where
     pub listing_few : scan_steps l (look_steps l) 1 lows l.parts ≤ listing_steps_left l lows
     listing_few = let all = scan_sum (look_steps l) 1 (lows_inside v low r) l.parts in omega arith
 

@@ -1,5 +1,5 @@
 -- The exchange of a mark, and rows that were seen finished.
-use Rattle.std.proofs.Common.{◌≡◌, ◌⊎◌, ℕ, ◌+◌, ◌*◌, ◌<◌, ◌≤◌, Some, List, [], ◌∷◌, ◌++◌, sym, refl, ap, ◌∙◌, subst, inl, ⊎_elim, arith}
+use Rattle.std.proofs.Common.{◌≡◌, ◌⊎◌, ℕ, ◌+◌, ◌*◌, ◌<◌, ◌≤◌, Some, None, List, [], ◌∷◌, ◌++◌, sym, refl, ap, ◌∙◌, subst, inl, inr, ⊎_elim, arith}
 use mathlib.Core.Logic.{dite}
 use native.Mathlib.Decide.{dec_le}
 use mathlib.Core.List.{IsPrefix}
@@ -8,23 +8,28 @@ use Rattle.tp_model.specs.declared.types.Limits.{Limits}
 use Rattle.tp_model.specs.declared.types.Status.{Status}
 use Rattle.tp_model.specs.declared.event.Event.{Event}
 use Rattle.tp_model.specs.declared.trace.StepKind.TheVariants as kinds
-use Rattle.tp_model.specs.History.{IsSettled, element_of, events_by, status_of}
+use Rattle.tp_model.specs.History.{Aborted, IsSettled, element_of, events_by, status_of}
 use Rattle.tp_model.specs.Passes.{IsOwnOpen, IsRun}
 use Rattle.tp_model.specs.Steps.{IsLegal}
-use Rattle.tp_model.proofs.Bridges.{begins_refl, found_later}
+use Rattle.tp_model.proofs.Bridges.{begins_refl, end_stays, found_later}
 use Rattle.tp_model.proofs.LawProofs.{settled_stay}
 use Rattle.tp_rule.specs.Rule.{IsSettledRow}
-use Rattle.tp_rule.specs.Steps.{AreOver, IsDone, IsLow, Knows, Raises, noted, unchanged}
+use Rattle.tp_rule.specs.Steps.{AreOver, HasDead, IsDone, IsLow, IsSo, Knows, Raises, noted, unchanged}
 use Rattle.tp_rule.specs.Views.{IsOnePass, hand}
 use Rattle.tp_rule.specs.declared.view.Hand.{Hand}
-use Rattle.tp_rule.specs.declared.view.Known.TheVariants.{PartMark}
+use Rattle.tp_rule.specs.declared.view.Known.{Known}
+use Rattle.tp_rule.specs.declared.view.Known.TheVariants.{PartMark, RowHead}
 use Rattle.tp_rule.specs.declared.view.View.{View}
 use Rattle.tp_rule.proofs.Reading.{one_after}
 use Rattle.tp_manager.specs.Calls.{IsWaiting}
 use Rattle.tp_manager.specs.Looks.{IsThere}
 use Rattle.tp_manager.specs.declared.looking.Birth.{Birth}
-use Rattle.tp_manager.specs.Walks.{Looked, PassedBy, Rose, Steady, Took, with_trace}
-use Rattle.tp_manager.proofs.Walks.{walked_then}
+use Rattle.tp_manager.specs.Walks.{Looked, PassedBy, Rose, Steady, Took, Walked, with_trace}
+use Rattle.tp_words.specs.declared.words.Head.TheVariants.{There}
+use Rattle.tp_words.specs.Words.{head_of}
+use Rattle.tp_model.specs.declared.trace.TraceEntry.{TraceEntry}
+use Rattle.tp_manager.proofs.Looks.{none_unit}
+use Rattle.tp_manager.proofs.Walks.{walked_begins, walked_then}
 
 module _ (l : Limits) (p n : ℕ) (v w : View) (s : Steady l v) (r : Raises v p n w) (new : IsLow l v.seen p n) where
   raised_after : IsOnePass w × (hand w ≡ noted kinds.Raise v.seen (hand v)) × (w.limits ≡ v.limits)
@@ -50,7 +55,7 @@ module _ (l : Limits) (p n : ℕ) (v w : View) (s : Steady l v) (r : Raises v p 
           open_own = λ u is. let same : (hand v).open_unit ≡ Some u = sym (ap (λ (a : Hand). a.open_unit) h) ∙ is in
               subst (λ (z : List Event × ℕ). IsOwnOpen z.0 z.1 u) (λ i. (sym raised_seen i, sym c i)) (s.shows.open_own u same);
         };
-        low = λ q m is. subst (λ h. IsLow l h q m) (sym raised_seen) (⊎_elim (λ old. s.low q m old) (λ e. subst (λ (z : ℕ × ℕ). IsLow l v.seen z.0 z.1) (λ i. (sym e.0 i, sym e.1 i)) new) (r.2 q m is));
+        known = λ x is. subst (λ h. IsSo l h x) (sym raised_seen) (⊎_elim (λ old. s.known x old) (λ e. subst (IsSo l v.seen) (sym e) new) (r.2 x is));
       }
 
   pub raised_looked : Looked l 1 v w
@@ -68,6 +73,16 @@ module _ (l : Limits) (p n : ℕ) (v w : View) (s : Steady l v) (r : Raises v p 
     kept = raised_hand ∙ ap (λ t. with_trace t (hand v)) (sym (ap (λ (a : Hand). a.trace) raised_hand));
   }
 
+-- the seat goes on from v to w: it has seen more, and knows what it knew
+pub record Goes (l : Limits) (v w : View) : Type 0 where
+  pub limits : (v.limits ≡ l) × (w.limits ≡ l)
+  pub legal : IsLegal l w.seen
+  pub begins : IsPrefix v.seen w.seen
+  pub knows : (x : Known) → Knows v x → Knows w x
+
+pub goes_walked : (l : Limits) (n : ℕ) (ms : List TraceEntry) (v w : View) → v.limits ≡ l → Walked l n ms v w → Goes l v w
+goes_walked l n ms v w lim a = record { limits = (lim, a.steady.pass.1); legal = a.steady.shows.legal; begins = walked_begins l n ms v w a; knows = a.knows }
+
 module _ (l : Limits) where
   -- what was taken stays the last of what is seen, where nothing more is
   pub took_looked : (stage u attempt : ℕ) (e : Element) (n m : ℕ) (v w y : View) → Took l n stage u v w e attempt → Looked l m w y → y.seen ≡ w.seen → Took l (n + m) stage u v y e attempt
@@ -82,35 +97,53 @@ module _ (l : Limits) where
     of_stage = t.of_stage;
   }
 
-  pub rose_none : (h : List Event) (a : ℕ) → Rose l h a a
-  rose_none h a = (omega arith, λ i low high. absurd (omega arith))
+  pub rose_none : (v : View) (a : ℕ) → Rose v a a
+  rose_none v a = (omega arith, λ i low high. absurd (omega arith))
 
   settled_row : (h g : List Event) (i : ℕ) → IsLegal l g → IsPrefix h g → IsSettledRow l h i → IsSettledRow l g i
   settled_row h g i legal begins s = (s.0, found_later h g begins i s.0 s.1, subst IsSettled (sym (settled_stay l h g i legal begins s.2)) s.2)
 
-  pub rose_later : (h g : List Event) (a b : ℕ) → IsLegal l g → IsPrefix h g → Rose l h a b → Rose l g a b
-  rose_later h g a b legal begins r = (r.0, λ i low high. settled_row h g i legal begins (r.1 i low high))
+  -- what a seat knows finished it knows later too
+  done_later : (v w : View) (i : ℕ) → Goes l v w → IsDone v i → IsDone w i
+  done_later v w i g d = ⊎_elim
+      (λ s. inl (subst (λ (z : Limits). IsSettledRow z w.seen i) (sym g.limits.1) (settled_row v.seen w.seen i g.legal g.begins (subst (λ (z : Limits). IsSettledRow z v.seen i) g.limits.0 s))))
+      (λ n. inr (n.0, n.1, n.2, g.knows _ n.3, end_stays v.seen w.seen n.2 Aborted g.begins n.4)) d
 
-  pub rose_then : (h g : List Event) (a b c : ℕ) → IsLegal l g → IsPrefix h g → Rose l h a b → Rose l g b c → Rose l g a c
-  rose_then h g a b c legal begins r t = let up = r.0 in let on = t.0 in (omega arith, λ i low high. dite (dec_le b i) (λ past. t.1 i past high) (λ not. settled_row h g i legal begins (r.1 i low (omega arith))))
+  pub rose_later : (v w : View) (a b : ℕ) → Goes l v w → Rose v a b → Rose w a b
+  rose_later v w a b g r = (r.0, λ i low high. done_later v w i g (r.1 i low high))
 
-  -- one more row
-  pub rose_one : (h : List Event) (a b row : ℕ) (birth : Birth) (s : Status) → IsThere h row birth → s ≡ status_of l.attempts h row → (b ≡ a) ⊎ ((b ≡ a + 1) × (a ≡ row) × IsSettled s) → Rose l h a b
-  rose_one h a b row birth s there is o = ⊎_elim (λ e. (omega arith, λ i low high. absurd (omega arith)))
-      (λ t. (let up = t.0 in omega arith, λ i low high. let same : row ≡ i = (let up = t.0 in let at = t.1 in omega arith) in subst (IsSettledRow l h) same (there.0, there.1, subst IsSettled is t.2))) o
+  pub rose_then : (v w : View) (a b c : ℕ) → Goes l v w → Rose v a b → Rose w b c → Rose w a c
+  rose_then v w a b c g r t = let up = r.0 in let on = t.0 in (omega arith, λ i low high. dite (dec_le b i) (λ past. t.1 i past high) (λ not. done_later v w i g (r.1 i low (omega arith))))
 
-  -- so the seat knows them done
-  pub rose_done : (v : View) (a b : ℕ) → v.limits ≡ l → Rose l v.seen a b → (i : ℕ) → a ≤ i → i < b → IsDone v i
-  rose_done v a b lim r i low high = inl (subst (λ (z : Limits). IsSettledRow z v.seen i) (sym lim) (r.1 i low high))
+  -- one more row, whose element is consumed or killed
+  pub rose_one : (v : View) (a b row : ℕ) (birth : Birth) (s : Status) → v.limits ≡ l → IsThere v.seen row birth → s ≡ status_of l.attempts v.seen row → (b ≡ a) ⊎ ((b ≡ a + 1) × (a ≡ row) × IsSettled s) → Rose v a b
+  rose_one v a b row birth s lim there is o = ⊎_elim (λ e. (omega arith, λ i low high. absurd (omega arith)))
+      (λ t. (let up = t.0 in omega arith, λ i low high. let same : row ≡ i = (let up = t.0 in let at = t.1 in omega arith) in
+      inl (subst (λ (z : Limits). IsSettledRow z v.seen i) (sym lim) (subst (IsSettledRow l v.seen) same (there.0, there.1, subst IsSettled is t.2))))) o
+
+  -- or which has a draft that is never born
+  pub rose_dead : (v : View) (a b row : ℕ) → HasDead v row → (b ≡ a) ⊎ ((b ≡ a + 1) × (a ≡ row)) → Rose v a b
+  rose_dead v a b row dead o = ⊎_elim (λ e. (omega arith, λ i low high. absurd (omega arith)))
+      (λ t. (let up = t.0 in omega arith, λ i low high. let same : row ≡ i = (let up = t.0 in let at = t.1 in omega arith) in inr (subst (HasDead v) same dead))) o
+
+  -- no element is born in a row whose draft is dead
+  dead_over : (v : View) (i : ℕ) → Steady l v → HasDead v i → (x : Element) → element_of v.seen i ≡ Some x → ⊥
+  dead_over v i s n x born =
+      let head : There n.0 n.1 (Some n.2) ≡ head_of x = s.known (RowHead i (There n.0 n.1 (Some n.2))) n.3 (λ e. absurd cc) x born in
+      let none = none_unit l v.seen i n.0 n.1 n.2 (Some n.2) (There n.0 n.1 (Some n.2)) refl refl (s.known (RowHead i (There n.0 n.1 (Some n.2))) n.3 (λ e. absurd cc)) s.shows.legal (λ f m e low high. let gone = n.4 in absurd cc) in
+      let e : None ≡ Some x = sym none ∙ born in absurd cc
 
   -- and a mark that the seat knows can rise over them
-  pub rose_low : (v : View) (p m n : ℕ) → Steady l v → Knows v (PartMark p m) → n ≤ l.rows → Rose l v.seen (p * l.rows + m) (p * l.rows + n) → IsLow l v.seen p n
+  pub rose_low : (v : View) (p m n : ℕ) → Steady l v → Knows v (PartMark p m) → n ≤ l.rows → Rose v (p * l.rows + m) (p * l.rows + n) → IsLow l v.seen p n
   rose_low v p m n s known top r = (
     top,
     λ i low high x born. dite (dec_le (p * l.rows + m) i)
-        (λ past. let t = r.1 i past high in subst IsSettled refl t.2)
-        (λ not. (s.low p m known).1 i low (omega arith) x born),
+        (λ past. ⊎_elim (λ t. settled_is v i x s t born) (λ d. absurd (dead_over v i s d x born)) (r.1 i past high))
+        (λ not. (s.known (PartMark p m) known).1 i low (omega arith) x born),
   )
+    where
+      settled_is : (v : View) (i : ℕ) (x : Element) → Steady l v → IsSettledRow v.limits v.seen i → element_of v.seen i ≡ Some x → IsSettled (status_of l.attempts v.seen i)
+      settled_is v i x s t born = subst (λ (z : Limits). IsSettled (status_of z.attempts v.seen i)) s.pass.1 t.2
 
   not_waiting : (s : Status) → IsSettled s → ¬ IsWaiting s
   not_waiting s settled w = subst IsSettled w.1 settled

@@ -6,7 +6,7 @@ use Rattle.tp_model.specs.History.{here, there, events_by}
 use Rattle.tp_model.specs.Passes.{IsOwnOpen, IsRun}
 use Rattle.tp_model.specs.Steps.{IsLegal}
 use Rattle.tp_model.proofs.Bridges.{begins_refl}
-use Rattle.tp_rule.specs.Steps.{IsLow, Meets}
+use Rattle.tp_rule.specs.Steps.{IsSo, Meets}
 use Rattle.tp_rule.specs.Views.{IsOnePass, hand}
 use Rattle.tp_rule.specs.declared.view.Hand.{Hand}
 use Rattle.tp_rule.specs.declared.view.View.{View}
@@ -14,12 +14,12 @@ use Rattle.tp_manager.specs.Bounds.{meet_steps, met_steps}
 use Rattle.tp_manager.specs.Meetings as Met
 use Rattle.tp_manager.specs.Meetings.{load, seat_load}
 use Rattle.tp_manager.specs.Shown.{Spot, PassShown, shown}
-use Rattle.tp_manager.specs.Walks.{Acted, KnowsLow, Steady}
+use Rattle.tp_manager.specs.Walks.{Acted, IsKnown, Steady}
 
 -- a pass that has seen more, and done nothing else
 module _ (l : Limits) (v w : View) (s : Steady l v) (one : IsOnePass w) (lim : w.limits ≡ l) (legal : IsLegal l w.seen) (begins : IsPrefix v.seen w.seen) (own : (hand w).mine ≡ events_by (hand w).number w.seen)
     (open_own : (u : ℕ) → (hand w).open_unit ≡ Some u → IsOwnOpen w.seen (hand w).number u)
-    (number : (hand w).number ≡ (hand v).number) (run : IsRun l w.seen (hand w).number (hand w).next (hand w).left) (low : KnowsLow l w) where
+    (number : (hand w).number ≡ (hand v).number) (run : IsRun l w.seen (hand w).number (hand w).next (hand w).left) (known : IsKnown l w) where
   pub steady_seen : Steady l w
   steady_seen = record {
     pass = (one, lim);
@@ -30,7 +30,7 @@ module _ (l : Limits) (v w : View) (s : Steady l v) (one : IsOnePass w) (lim : w
       run = run;
       open_own = open_own;
     };
-    low = low;
+    known = known;
   }
 
 module _ (l : Limits) (v w x y : View) (sv : Steady l v) (sw : Steady l w) (m : Meets v w x y) where
@@ -40,12 +40,12 @@ module _ (l : Limits) (v w x y : View) (sv : Steady l v) (sw : Steady l w) (m : 
   steady_first : Steady l x
   steady_first = let h = m.first_is in steady_seen l v x sv m.first_one (m.limits.0 ∙ sv.pass.1) legal m.first_saw m.mine.0 m.open_own.0 (ap (λ (a : Hand). a.number) h)
       (subst (λ (z : Limits). IsRun z x.seen (hand x).number (hand x).next (hand x).left) sv.pass.1 m.run.0)
-      (λ p n q. subst (λ (z : Limits). IsLow z x.seen p n) sv.pass.1 (m.marks.0 p n q))
+      (λ z q. subst (λ (k : Limits). IsSo k x.seen z) sv.pass.1 (m.is_so.0 z q))
 
   steady_second : Steady l y
   steady_second = let h = m.second_is in steady_seen l w y sw m.second_one (m.limits.1 ∙ sv.pass.1) (subst (IsLegal l) m.same legal) (subst (IsPrefix w.seen) m.same m.second_saw) m.mine.1 m.open_own.1
       (ap (λ (a : Hand). a.number) h) (subst (λ (z : Limits). IsRun z y.seen (hand y).number (hand y).next (hand y).left) sv.pass.1 m.run.1)
-      (λ p n q. subst (λ (z : Limits). IsLow z y.seen p n) sv.pass.1 (m.marks.1 p n q))
+      (λ z q. subst (λ (k : Limits). IsSo k y.seen z) sv.pass.1 (m.is_so.1 z q))
 
   pub first_trace : (hand x).trace ≡ (hand v).trace ++ seat_load v.seen ∷ load x.seen ∷ seat_load x.seen ∷ []
   first_trace = ap (λ (a : Hand). a.trace) m.first_is ∙ (append_assoc ((hand v).trace ++ seat_load v.seen ∷ []) (load x.seen ∷ []) (seat_load x.seen ∷ []) ∙ append_assoc (hand v).trace (seat_load v.seen ∷ []) (load x.seen ∷ seat_load x.seen ∷ []))

@@ -78,7 +78,7 @@ finished_passed l stage n first lows v w some remembers finished s = record {
   passed = λ p low high. dite (dec_le first p)
       (λ past. s.passed p past high)
       (λ not. let is = finished p (omega arith) in let known = remembers p (omega (arith, is, some)) in
-      let under = s.walk.steady.low p (slice_index lows p) (s.walk.knows (PartMark p (slice_index lows p)) known) in
+      let under = s.walk.steady.known (PartMark p (slice_index lows p)) (s.walk.knows (PartMark p (slice_index lows p)) known) in
       (λ i from below. passed_widens l stage i (opening_of v.seen s.marks) w.seen w.seen w.seen s.walk.closes (begins_refl w.seen)
       (over_passed l stage w.seen p (slice_index lows p) i under.1 from (omega (arith, below, is)))));
 }

@@ -13,7 +13,7 @@ use Rattle.tp_model.specs.Steps.{IsLegal, Step}
 use Rattle.tp_model.proofs.Histories.{legal_at}
 use Rattle.tp_model.proofs.Bridges.{begins_refl, new_birth}
 use Rattle.tp_rule.specs.Views.{SeatShown, IsOnePass, hand, next_row, view_of}
-use Rattle.tp_rule.specs.Steps.{Drafts, IsLow, Knows, Publishes, birth, bodied, drafted, next_element, noted, unchanged, with_birth, with_body, with_draft}
+use Rattle.tp_rule.specs.Steps.{Drafts, IsSo, Knows, Publishes, birth, bodied, drafted, next_element, noted, unchanged, with_birth, with_body, with_draft}
 use Rattle.tp_rule.specs.declared.view.Hand.{Hand}
 use Rattle.tp_rule.specs.declared.view.Known.TheVariants.{PartMark}
 use Rattle.tp_rule.specs.declared.view.View.{View}
@@ -58,7 +58,7 @@ module _ (l : Limits) (f : Hand → Hand) (v w : View) (s : Steady l v) (is : w 
           open_own = λ u is. let same : (hand v).open_unit ≡ Some u = sym (ap (λ (a : Hand). a.open_unit) h ∙ open_unit) ∙ is in
               subst (λ (z : List Event × ℕ). IsOwnOpen z.0 z.1 u) (λ i. (sym stored_seen i, sym c i)) (s.shows.open_own u same);
         };
-        low = λ p n q. subst (λ h. IsLow l h p n) (sym stored_seen) (s.low p n (subst (λ (z : View). Knows z (PartMark p n)) is q));
+        known = λ x q. subst (λ h. IsSo l h x) (sym stored_seen) (s.known x (subst (λ (z : View). Knows z x) is q));
       }
 
   pub stored_walked : (f (hand v)).number ≡ (hand v).number → (f (hand v)).trace ≡ (hand v).trace → Steady l w → Walked l 1 (record { kind = kinds.DraftStore; seen = v.seen } ∷ []) v w

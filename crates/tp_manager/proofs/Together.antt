@@ -12,7 +12,7 @@ use Rattle.tp_model.specs.Passes.{IsOwnOpen, IsRun}
 use Rattle.tp_model.specs.Steps.{IsLegal}
 use Rattle.tp_model.proofs.Bridges.{begins_refl, begins_trans, in_left, in_right}
 use Rattle.tp_rule.specs.Views.{HasPass, IsOnePass, first_hand, hand}
-use Rattle.tp_rule.specs.Steps.{Grew, IsLow, Knows, front_of, joined, kept, looked, noted, parted, rest_of, unchanged}
+use Rattle.tp_rule.specs.Steps.{Grew, IsSo, Knows, front_of, joined, kept, looked, noted, parted, rest_of, unchanged}
 use Rattle.tp_rule.specs.declared.view.Hand.{Hand}
 use Rattle.tp_rule.specs.declared.view.Known.{Known}
 use Rattle.tp_rule.specs.declared.view.Known.TheVariants.{PartMark}
@@ -78,15 +78,15 @@ module _ (l : Limits) (v o j m w x : View) (sv : Steady l v) (join : j ≡ joine
   met_knows : (z : Known) → In z (v.known ++ o.known) → Knows m z
   met_knows z q = g.knows z (subst (λ (u : View). Knows u z) (sym join) q)
 
-  met_low : (p n : ℕ) → Knows m (PartMark p n) → IsLow l w.seen p n
-  met_low p n q = subst (λ h. IsLow l h p n) (sym first_seen) (subst (λ (z : Limits). IsLow z m.seen p n) (ap (λ (z : View). z.limits) join ∙ sv.pass.1) (g.marks p n q))
+  met_known : (z : Known) → Knows m z → IsSo l w.seen z
+  met_known z q = subst (λ h. IsSo l h z) (sym first_seen) (subst (λ (k : Limits). IsSo k m.seen z) (ap (λ (z : View). z.limits) join ∙ sv.pass.1) (g.is_so z q))
 
   met_steady : Steady l w
   met_steady = let h = first_is in steady_seen l v w sv (first_hands ∙ ap (λ (a : Hand). a ∷ []) (sym h)) (ap (λ (z : View). z.limits) first ∙ met_limits)
       (subst (λ (z : Limits). IsLegal z w.seen) (ap (λ (z : View). z.limits) join ∙ sv.pass.1) (subst (IsLegal j.limits) (sym first_seen) g.legal)) met_begins
       (ap (λ (a : Hand). a.mine) h ∙ (met_mine A A_in ∙ ap (λ (a : Hand). events_by a.number w.seen) (sym h)))
       (λ u is. subst (λ (a : Hand). IsOwnOpen w.seen a.number u) (sym h) (met_open A A_in u (sym (ap (λ (a : Hand). a.open_unit) h) ∙ is)))
-      (ap (λ (a : Hand). a.number) h) (subst (λ (a : Hand). IsRun l w.seen a.number a.next a.left) (sym h) (met_run A A_in)) (λ p n q. met_low p n (subst (λ (u : View). Knows u (PartMark p n)) first q))
+      (ap (λ (a : Hand). a.number) h) (subst (λ (a : Hand). IsRun l w.seen a.number a.next a.left) (sym h) (met_run A A_in)) (λ z q. met_known z (subst (λ (u : View). Knows u z) first q))
 
   met_trace : (hand w).trace ≡ (hand v).trace ++ seat_load v.seen ∷ load w.seen ∷ seat_load w.seen ∷ []
   met_trace = ap (λ (a : Hand). a.trace) first_is ∙ (append_assoc ((hand v).trace ++ seat_load v.seen ∷ []) (load m.seen ∷ []) (seat_load m.seen ∷ []) ∙ (append_assoc (hand v).trace (seat_load v.seen ∷ []) (load m.seen ∷ seat_load m.seen ∷ [])
@@ -110,7 +110,7 @@ module _ (l : Limits) (v o j m w x : View) (sv : Steady l v) (join : j ≡ joine
     mine = λ a p. met_mine a (in_others a p);
     open_own = λ a p u is. met_open a (in_others a p) u is;
     run = λ a p. met_run a (in_others a p);
-    low = λ p n q. subst (λ h. IsLow l h p n) (first_seen ∙ sym (ap (λ (z : View). z.seen) second)) (met_low p n (subst (λ (u : View). Knows u (PartMark p n)) second q));
+    known = λ z q. subst (λ h. IsSo l h z) (first_seen ∙ sym (ap (λ (z : View). z.seen) second)) (met_known z (subst (λ (u : View). Knows u z) second q));
     knows = λ z q. subst (λ (u : View). Knows u z) (sym second) (met_knows z (in_right v.known q));
   }
 
@@ -158,7 +158,7 @@ module _ (l : Limits) (p q r s t o x : View) (h g : List Event) (sp : Steady l p
   t_steady = let k = t_is in steady_seen l p t sp (t_hands ∙ ap (λ (a : Hand). a ∷ []) (sym k)) (ap (λ (z : View). z.limits) first ∙ look.limits) (subst (IsLegal l) (sym t_seen) legal) t_begins
       (ap (λ (a : Hand). a.mine) k ∙ (look.mine N N_in ∙ (ap (events_by N.number) (sym t_seen) ∙ ap (λ (a : Hand). events_by a.number t.seen) (sym k))))
       (λ u is. subst (λ (a : Hand). IsOwnOpen t.seen a.number u) (sym k) (subst (λ z. IsOwnOpen z N.number u) (sym t_seen) (look.open_own N N_in u (sym (ap (λ (a : Hand). a.open_unit) k) ∙ is))))
-      (ap (λ (a : Hand). a.number) k) (subst (λ (a : Hand). IsRun l t.seen a.number a.next a.left) (sym k) (subst (λ z. IsRun l z N.number N.next N.left) (sym t_seen) (look.run N N_in))) (λ c n i. let e = first in subst (λ z. IsLow l z c n) (look.seen ∙ sym t_seen) (look.low c n (subst (λ (u : View). Knows u (PartMark c n)) first i)))
+      (ap (λ (a : Hand). a.number) k) (subst (λ (a : Hand). IsRun l t.seen a.number a.next a.left) (sym k) (subst (λ z. IsRun l z N.number N.next N.left) (sym t_seen) (look.run N N_in))) (λ z i. let e = first in subst (λ h. IsSo l h z) (look.seen ∙ sym t_seen) (look.known z (subst (λ (u : View). Knows u z) first i)))
 
   all_known : (z : Known) → In z (q.known ++ o.known) → Knows s z
   all_known z i = look.knows z (subst (λ (u : View). Knows u z) (sym join) i)
@@ -189,7 +189,7 @@ module _ (l : Limits) (p q r s t o x : View) (h g : List Event) (sp : Steady l p
     mine = λ a i. look.mine a (in_rest a i);
     open_own = λ a i u is. look.open_own a (in_rest a i) u is;
     run = λ a i. look.run a (in_rest a i);
-    low = λ c n i. subst (λ z. IsLow l z c n) (sym (ap (λ (z : View). z.seen) second)) (look.low c n (subst (λ (u : View). Knows u (PartMark c n)) second i));
+    known = λ z i. subst (λ h. IsSo l h z) (sym (ap (λ (v : View). v.seen) second)) (look.known z (subst (λ (u : View). Knows u z) second i));
     knows = λ z i. subst (λ (u : View). Knows u z) (sym second) (all_known z (in_right q.known i));
   }
 

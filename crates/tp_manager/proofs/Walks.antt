@@ -10,7 +10,7 @@ use Rattle.tp_model.specs.Steps.{IsLegal}
 use Rattle.tp_model.specs.Passes.{HasLook, IsOwnOpen, IsPassView, IsPoint, IsRun, looks, opening_of}
 use Rattle.tp_model.proofs.Bridges.{append_nil, begins_refl, begins_trans}
 use Rattle.tp_rule.specs.Views.{IsOnePass, hand}
-use Rattle.tp_rule.specs.Steps.{Grew, IsLow, noted, unchanged}
+use Rattle.tp_rule.specs.Steps.{Grew, IsSo, noted, unchanged}
 use Rattle.tp_rule.specs.declared.view.Hand.{Hand}
 use Rattle.tp_rule.specs.declared.view.Known.TheVariants.{PartMark}
 use Rattle.tp_rule.specs.declared.view.View.{View}
@@ -52,7 +52,7 @@ module _ (l : Limits) (kind : StepKind) (f : Hand → Hand) (es : List Event) (v
       run = grew_run;
       open_own = grew_open;
     };
-    low = λ p n q. subst (λ (z : Limits). IsLow z w.seen p n) s.pass.1 (g.marks p n q);
+    known = λ x q. subst (λ (z : Limits). IsSo z w.seen x) s.pass.1 (g.is_so x q);
   }
 
   pub grew_walked : looks kind ≡ true → (f (hand v)).trace ≡ (hand v).trace → (f (hand v)).number ≡ (hand v).number → Steady l w → Walked l 1 (record { kind = kind; seen = w.seen } ∷ []) v w

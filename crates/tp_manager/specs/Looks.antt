@@ -10,10 +10,12 @@ use Rattle.tp_words.specs.declared.words.Head.{Head}
 use Rattle.tp_words.specs.declared.words.Head.TheVariants.{There}
 use Rattle.tp_words.specs.Words.{head_of}
 use Rattle.tp_rule.specs.Rule.{IsDraft}
-use Rattle.tp_rule.specs.Steps.{Knows}
+use Rattle.tp_rule.specs.Steps.{HasDead, Knows}
 use Rattle.tp_rule.specs.declared.view.Known.TheVariants.{RowHead}
 use Rattle.tp_rule.specs.declared.view.View.{View}
 use Rattle.tp_manager.specs.declared.looking.Birth.{Birth}
+use Rattle.tp_manager.specs.declared.looking.Contents.{Contents}
+use Rattle.tp_manager.specs.declared.looking.Contents.TheVariants.{Holds, DeadDraft, Nothing}
 
 -- what the head tells that the pass found in row i: it is that of the born element, or empty or naming a unit where none
 -- is born; and the pass remembers it
@@ -31,6 +33,12 @@ pub record GoesOn (l : Limits) (i next : ℕ) : Type 0 where
 -- an element with this head is born in row i
 abbrev pub IsThere : List Event → ℕ → Birth → Type 0
 IsThere h i b = (e : Element) × (element_of h i ≡ Some e) × (head_of e ≡ There b.stage b.root b.by)
+
+-- row i, whose head was found to be this, holds this
+abbrev pub Contains : View → ℕ → Head → Contents → Type 0
+Contains v i head (Holds birth) = IsThere v.seen i birth × (head ≡ There birth.stage birth.root birth.by)
+Contains v i head DeadDraft = IsUnborn v.seen i × HasDead v i
+Contains v i head Nothing = IsUnborn v.seen i
 
 -- there are at most so many attempts from this claim on, in all rounds; those of the rounds before it are over
 abbrev pub IsEnough : Limits → ℕ → ClaimWord → Type 0

@@ -20,7 +20,7 @@ use Rattle.tp_rule.specs.declared.view.View.{View}
 use Rattle.tp_manager.specs.Accounts.{AreFrom, Attends}
 use Rattle.tp_manager.specs.Bounds.{first_steps, kept_steps, led_steps, lead_steps}
 use Rattle.tp_manager.specs.Shown.{PassShown, steps_in}
-use Rattle.tp_manager.specs.Walks.{Acted, KnowsLow, untraced}
+use Rattle.tp_manager.specs.Walks.{Acted, IsKnown, untraced}
 
 -- the pass is of this table
 pub record IsAt (table : TableId) (l : Limits) (p : PassShown) : Type 0 where
@@ -35,7 +35,7 @@ pub record LooksOn (l : Limits) (h : List Event) (v w : View) : Type 0 where
   pub mine : (a : Hand) → In a w.hands → a.mine ≡ events_by a.number h
   pub open_own : (a : Hand) → In a w.hands → (u : ℕ) → a.open_unit ≡ Some u → IsOwnOpen h a.number u
   pub run : (a : Hand) → In a w.hands → IsRun l h a.number a.next a.left
-  pub low : KnowsLow l w
+  pub known : IsKnown l w
   pub knows : (x : Known) → Knows v x → Knows w x
 
 -- a pass was there as all looked together, in at most n steps
@@ -65,7 +65,7 @@ pub record HasSeen (l : Limits) (n : ℕ) (h : List Event) (v w : View) : Type 0
   pub limits : w.limits ≡ l
   pub hands : untraced w.hands ≡ untraced v.hands
   pub mine : (a : Hand) → In a w.hands → a.mine ≡ events_by a.number h
-  pub low : KnowsLow l w
+  pub known : IsKnown l w
   pub steps : steps_in w.hands ≡ steps_in v.hands + n * length v.hands
 
 -- the first of n passes looked together with those of another seat and with these, counted the rows by itself, and

@@ -10,13 +10,12 @@ use Rattle.tp_model.specs.History.{IsClaim, element_of, events_by, status_of}
 use Rattle.tp_model.specs.Drafts.{DraftView}
 use Rattle.tp_model.specs.Passes.{HasLook, PassView, IsPassView, opening_of}
 use Rattle.tp_model.specs.Steps.{AreLimits, IsLegal}
-use Rattle.tp_rule.specs.Rule.{IsSettledRow}
 use Rattle.tp_rule.specs.Views.{SeatShown, IsOnePass, fresh_from, hand, view_of}
 use Rattle.tp_rule.specs.declared.view.Hand.{Hand}
 use Rattle.tp_rule.specs.declared.view.View.{View}
 use Rattle.tp_manager.specs.declared.manager.Run.{Run}
 use Rattle.tp_manager.specs.declared.manager.Task.{Task}
-use Rattle.tp_rule.specs.Steps.{IsLow, Knows, claimed, with_claim}
+use Rattle.tp_rule.specs.Steps.{IsDone, IsSo, Knows, claimed, with_claim}
 use Rattle.tp_rule.specs.declared.view.Known.{Known}
 use Rattle.tp_rule.specs.declared.view.Known.TheVariants.{PartMark}
 use Rattle.tp_manager.specs.Bounds.{draft_steps}
@@ -35,15 +34,15 @@ pass_in v = record {
   trace = (hand v).trace;
 }
 
--- below each mark that the seat knows no row has an element that isn't consumed or killed
-abbrev pub KnowsLow : Limits → View → Type 0
-KnowsLow l v = (p n : ℕ) → Knows v (PartMark p n) → IsLow l v.seen p n
+-- what the seat knows is so in what it has seen
+abbrev pub IsKnown : Limits → View → Type 0
+IsKnown l v = (x : Known) → Knows v x → IsSo l v.seen x
 
 -- the seat stands for one pass, knows the limits, and shows what a pass shows
 pub record Steady (l : Limits) (v : View) : Type 0 where
   pub pass : IsOnePass v × (v.limits ≡ l)
   pub shows : IsPassView l (pass_in v)
-  pub low : KnowsLow l v
+  pub known : IsKnown l v
 
 -- these steps lead from v to w, and there are at most n
 pub record Walked (l : Limits) (n : ℕ) (marks : List TraceEntry) (v w : View) : Type 0 where
@@ -139,7 +138,7 @@ pub record Keeps (seat : SeatShown) (limits : Limits) (given : ℕ) : Type 0 whe
   pub below : given ≤ limits.parts
   pub rest : untraced (view_of seat).hands ≡ fresh_from limits given (limits.parts - given)
   pub legal : IsLegal limits (view_of seat).seen
-  pub low : KnowsLow limits (view_of seat)
+  pub known : IsKnown limits (view_of seat)
   pub none : (c : ℕ) → given ≤ c → events_by c (view_of seat).seen ≡ []
 
 -- an element of the stage that was born in row i in history a wasn't waiting in some history from a to b
@@ -167,9 +166,9 @@ pub record Sought (l : Limits) (n : ℕ) (Passed : List Event → List Event →
 abbrev pub Begun : Limits → (ℕ → List Event → List Event → Type 0) → ℕ → ℕ → ℕ → View → View → Type 0
 Begun l Passed steps from n v w = ((n ≡ from) × (w ≡ v)) ⊎ Sought l steps (EachRow Passed from n) v w
 
--- each row from a on and below b has an element that is consumed or killed, and so a mark may rise from a to b
-abbrev pub Rose : Limits → List Event → ℕ → ℕ → Type 0
-Rose l h a b = (a ≤ b) × ((i : ℕ) → a ≤ i → i < b → IsSettledRow l h i)
+-- the seat knows each row from a on and below b finished, and so a mark may rise from a to b
+abbrev pub Rose : View → ℕ → ℕ → Type 0
+Rose v a b = (a ≤ b) × ((i : ℕ) → a ≤ i → i < b → IsDone v i)
 
 -- the pass has unit u chosen for the next claim, and none open
 abbrev pub IsSpare : ℕ → View → Type 0

@@ -12,7 +12,7 @@ ghost use Rattle.tp_rule.specs.Tables.{limits_of, IsSeatOf};
 ghost use Rattle.tp_rule.specs.Steps.{IsLow, Knows, NoneFrom};
 ghost use Rattle.tp_manager.specs.Walks.{Acted, Looked, Remembers, RisesAt, Steady};
 ghost use Rattle.tp_manager.specs.Bounds.{body_steps, retry_steps, status_steps};
-ghost use Rattle.tp_manager.specs.Looks.{GoesOn, HeadFound, IsThere, IsEnough};
+ghost use Rattle.tp_manager.specs.Looks.{Contains, GoesOn, HeadFound, IsThere, IsEnough};
 
 use crate::manager::Shared;
 use tp_model::types::{Body, Element, Status};
@@ -25,6 +25,17 @@ pub(crate) struct Birth {
     pub stage: u8,
     pub root: u16,
     pub by: Option<u16>,
+}
+
+/// What a row holds.
+#[derive(Clone, Copy, Debug, PartialEq, Eq)]
+pub(crate) enum Contents {
+    /// An element that is born.
+    Holds(Birth),
+    /// A draft of a unit that was aborted: it is never born.
+    DeadDraft,
+    /// Nothing that is born by now.
+    Nothing,
 }
 
 impl Shared {
@@ -85,6 +96,39 @@ impl Shared {
         head
     }
 
+    /// What the row holds whose head was just found. At most one more step.
+    #[inline(always)]
+    pub(crate) fn contents_from(&self, seat: &mut Seat, row: u32, head: Head) -> Contents
+        requires own { IsSeatOf self.now.words seat.old }
+        requires steady { Steady (limits_of self.now.words) (view_of seat.old) }
+        requires row { row < rows_of (limits_of self.now.words) }
+        requires told { HeadFound (view_of seat.old) row head }
+        ensures same { IsSameSeat seat.old seat.new }
+        ensures looked { Looked (limits_of self.now.words) 1 (view_of seat.old) (view_of seat.new) }
+        ensures told { Contains (view_of seat.new) row head result }
+    {
+        let Head::There { stage, root, by } = head else {
+            return Contents::Nothing;
+        };
+        let birth = Birth { stage, root, by };
+        let Some(unit) = by else {
+            return Contents::Holds(birth);
+        };
+        if !self.is_unit(unit) {
+            return Contents::Nothing;
+        }
+        match self.words.load_unit(seat, unit) {
+            UnitWord::Undecided => Contents::Nothing,
+            UnitWord::Aborted => Contents::DeadDraft,
+            UnitWord::Committed { first, count } => {
+                if row < first as u32 || row - first as u32 >= count as u32 {
+                    return Contents::Nothing;
+                }
+                Contents::Holds(birth)
+            }
+        }
+    }
+
     /// Whether the row whose head was just found has a born element, and what its head says. At most one more step.
     #[inline(always)]
     pub(crate) fn birth_from(&self, seat: &mut Seat, row: u32, head: Head) -> Option<Birth>
@@ -98,25 +142,10 @@ impl Shared {
             (IsUnborn (seen_by seat.new) row)
             (λ birth. IsThere (seen_by seat.new) row birth × (head ≡ There birth.stage birth.root birth.by)) }
     {
-        let Head::There { stage, root, by } = head else {
-            return None;
-        };
-        let birth = Birth { stage, root, by };
-        let Some(unit) = by else {
-            return Some(birth);
-        };
-        if !self.is_unit(unit) {
-            return None;
-        }
-        match self.words.load_unit(seat, unit) {
-            UnitWord::Undecided => None,
-            UnitWord::Aborted => None,
-            UnitWord::Committed { first, count } => {
-                if row < first as u32 || row - first as u32 >= count as u32 {
-                    return None;
-                }
-                Some(birth)
-            }
+        match self.contents_from(seat, row, head) {
+            Contents::Holds(birth) => Some(birth),
+            Contents::DeadDraft => None,
+            Contents::Nothing => None,
         }
     }
 

@@ -13,6 +13,7 @@ ghost use Rattle.tp_manager.specs.Shown.{Rises};
 ghost use Rattle.tp_manager.specs.Looks.{GoesOn};
 ghost use Rattle.tp_manager.specs.Walks.{AreFinished, Steady, Looked, Sought, EachRow, OfPart, PassedBy, Remembers, RisesAt, Rose, IsSpare, Took};
 
+use crate::looking::Contents;
 use crate::manager::Shared;
 use tp_model::types::{Element, Status};
 use tp_rule::Seat;
@@ -47,6 +48,19 @@ fn is_tried(always: bool, head: Head, stage: u8) -> bool
     ensures no { result ≡ false → (e : element) → head ≡ head_of e → ¬ (e.stage ≡ stage) }
 {
     always || is_of_stage(head, stage)
+}
+
+/// The first row that isn't known finished, where this one is.
+#[inline(always)]
+fn past(low: u32, row: u32) -> u32
+    requires few { row < 65536 }
+    ensures { (result ≡ low) ⊎ ((result ≡ low + 1) × (low ≡ row)) }
+{
+    if low == row {
+        low + 1
+    } else {
+        low
+    }
 }
 
 /// The first row that isn't known finished: this one's element stands so.
@@ -91,7 +105,7 @@ impl Shared {
         requires spare { IsSpare unit (view_of seat.old) × (unit < 65535) }
         ensures same { IsSameSeat seat.old seat.new }
         ensures on { GoesOn (limits_of self.now.words) row.old row.new }
-        ensures low { (low.new ≤ row.new) × Rose (limits_of self.now.words) (seen_by seat.new) low.old low.new }
+        ensures low { (low.new ≤ row.new) × Rose (view_of seat.new) low.old low.new }
         ensures told { let l = limits_of self.now.words in let n = try_steps l in MatchOption result
             (Sought l n (EachRow (PassedBy l stage) row.old row.new) (view_of seat.old) (view_of seat.new))
             (λ t. Took l n stage unit (view_of seat.old) (view_of seat.new) t.element t.attempt
@@ -102,8 +116,13 @@ impl Shared {
         if !is_tried(here == *low, head, stage) {
             return None;
         }
-        let Some(birth) = self.birth_from(seat, here, head) else {
-            return None;
+        let birth = match self.contents_from(seat, here, head) {
+            Contents::Holds(birth) => birth,
+            Contents::DeadDraft => {
+                *low = past(*low, here);
+                return None;
+            }
+            Contents::Nothing => return None,
         };
         let (claim, status) = self.status_at(seat, here);
         *low = low_after(*low, here, status);
@@ -134,7 +153,7 @@ impl Shared {
         requires mark { Knows (view_of seat.old) (PartMark part mark) × (slice_index lows.old part ≡ mark) }
         requires remembers { Remembers (view_of seat.old) lows.old }
         requires low { let l = limits_of self.now.words in (low ≤ part * l.rows + l.rows)
-            × Rose l (seen_by seat.old) (part * l.rows + mark) low }
+            × Rose (view_of seat.old) (part * l.rows + mark) low }
         ensures same { IsSameSeat seat.old seat.new }
         ensures looked { Looked (limits_of self.now.words) 1 (view_of seat.old) (view_of seat.new) }
         ensures seen { seen_by seat.new ≡ seen_by seat.old }

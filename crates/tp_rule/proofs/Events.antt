@@ -13,7 +13,7 @@ use Rattle.tp_model.proofs.Histories.{legal_more}
 use Rattle.tp_model.proofs.WordProofs.{end_of-snoc}
 use Rattle.tp_words.specs.Places.{Word, HeadWord, MarkWord, IsThere, head_place, place_of}
 use Rattle.tp_rule.specs.Rule.{HandHolds, Rule, Told, UnitsHold, World}
-use Rattle.tp_rule.specs.Steps.{IsLow, after, noted, unchanged, Found, Grew, Misses}
+use Rattle.tp_rule.specs.Steps.{IsSo, after, noted, unchanged, Found, Grew, Misses}
 use Rattle.tp_rule.specs.declared.view.Hand.{Hand}
 use Rattle.tp_rule.specs.declared.view.Known.TheVariants.{RowHead, PartMark}
 use Rattle.tp_rule.specs.declared.view.View.{View}
@@ -21,7 +21,7 @@ use Rattle.tp_rule.proofs.Frames.{Turn, hand_frame, hand_holds, limits_are, me, 
 use Rattle.tp_rule.proofs.Parts.{IsOf, in_all}
 use Rattle.tp_rule.proofs.Seats.{hand_noted, in_map, run_of}
 use Rattle.tp_rule.proofs.Storing.{body_row, row_left, still_left}
-use Rattle.tp_rule.proofs.Tellings.{found, low_below, recall, world_stored}
+use Rattle.tp_rule.proofs.Tellings.{found, so_now, world_stored}
 use Rattle.tp_rule.proofs.Units.{decide}
 
 -- the units of the pass that made an event which is no claim and decides nothing
@@ -104,8 +104,7 @@ module _ (k : Limits) (t : Turn k) where
           open_own = λ b p. (after_hand a.kind a.f h' ws a.mine b p).units.open_own;
           run = λ b p. subst (λ l. IsRun l h' b.number b.next b.left) (sym (limits_are k t)) (run_of k h' ws b (after_hand a.kind a.f h' ws a.mine b p));
           knows = λ x p. p;
-          heads = λ i head x p. recall k h' ws world i head x (still (RowHead i head) (seat.known (RowHead i head) p));
-          marks = λ p n q. subst (λ l. IsLow l h' p n) (sym (limits_are k t)) (low_below k h' ws world p n (still (PartMark p n) (seat.known (PartMark p n) q)));
+          is_so = λ x p. subst (λ l. IsSo l h' x) (sym (limits_are k t)) (so_now k h' ws world x (still x (seat.known x p)));
         },
       )
 
@@ -144,8 +143,7 @@ module _ (k : Limits) (t : Turn k) where
         open_own = λ a p. (after_hand kind f h t.state.words mine a p).units.open_own;
         run = λ a p. subst (λ l. IsRun l h a.number a.next a.left) (sym (limits_are k t)) (run_of k h t.state.words a (after_hand kind f h t.state.words mine a p));
         knows = λ x p. p;
-        heads = λ i head x p. recall k h t.state.words t.rule.world i head x (seat.known (RowHead i head) p);
-        marks = λ p n q. subst (λ l. IsLow l h p n) (sym (limits_are k t)) (low_below k h t.state.words t.rule.world p n (seat.known (PartMark p n) q));
+        is_so = λ x p. subst (λ l. IsSo l h x) (sym (limits_are k t)) (so_now k h t.state.words t.rule.world x (seat.known x p));
       },
     )
 

@@ -7,7 +7,7 @@ use Rattle.tp_model.specs.History.{In, here, there, events_by}
 use Rattle.tp_model.specs.Passes.{IsOwnOpen, IsRun}
 use Rattle.tp_model.proofs.Bridges.{in_left, in_right}
 use Rattle.tp_model.specs.Steps.{IsLegal}
-use Rattle.tp_rule.specs.Steps.{Grew, IsLow, Knows, Meets, front_of, joined, kept, looked, noted, parted, rest_of, unchanged}
+use Rattle.tp_rule.specs.Steps.{Grew, IsSo, Knows, Meets, front_of, joined, kept, looked, noted, parted, rest_of, unchanged}
 use Rattle.tp_rule.specs.Views.{IsOnePass, first_hand, hand}
 use Rattle.tp_rule.specs.declared.view.Hand.{Hand}
 use Rattle.tp_rule.specs.declared.view.Known.{Known}
@@ -58,8 +58,8 @@ module _ (v w j m x y : View) (one : IsOnePass v) (other : IsOnePass w) (join : 
   known_met : (z : Known) → In z (v.known ++ w.known) → Knows m z
   known_met z o = g.knows z (subst (λ (u : View). Knows u z) (sym join) o)
 
-  low_met : (p n : ℕ) → Knows m (PartMark p n) → IsLow v.limits m.seen p n
-  low_met p n o = subst (λ (l : Limits). IsLow l m.seen p n) (ap (λ (z : View). z.limits) join) (g.marks p n o)
+  so_met : (z : Known) → Knows m z → IsSo v.limits m.seen z
+  so_met z o = subst (λ (l : Limits). IsSo l m.seen z) (ap (λ (z : View). z.limits) join) (g.is_so z o)
 
   -- the run of one of the two
   run_met : (z : View) (a : Hand) → z.seen ≡ m.seen → In a m.hands → hand z ≡ a ⊎ hand z ≡ noted kinds.SeatLoad m.seen a → IsRun v.limits z.seen (hand z).number (hand z).next (hand z).left
@@ -91,8 +91,8 @@ module _ (v w j m x y : View) (one : IsOnePass v) (other : IsOnePass w) (join : 
       (λ z o. subst (λ (u : View). Knows u z) (sym first) (known_met z (in_left w.known o))),
       (λ z o. subst (λ (u : View). Knows u z) (sym second) (known_met z (in_right v.known o))),
     );
-    marks = (
-      (λ p n o. subst (λ h. IsLow v.limits h p n) (sym first_seen) (low_met p n (subst (λ (u : View). Knows u (PartMark p n)) first o))),
-      (λ p n o. subst (λ h. IsLow v.limits h p n) (sym second_seen) (low_met p n (subst (λ (u : View). Knows u (PartMark p n)) second o))),
+    is_so = (
+      (λ z o. subst (λ h. IsSo v.limits h z) (sym first_seen) (so_met z (subst (λ (u : View). Knows u z) first o))),
+      (λ z o. subst (λ h. IsSo v.limits h z) (sym second_seen) (so_met z (subst (λ (u : View). Knows u z) second o))),
     );
   }

@@ -27,12 +27,6 @@ use Rattle.tp_rule.proofs.Seats.{looks_knowing, one_has}
 use Rattle.tp_rule.proofs.Storing.{heads_kept, row_left, still_left, stored}
 use Rattle.tp_rule.proofs.Tellings.{finished_later, low_below, world_stored}
 
-mark_part : (c m p n : ℕ) → PartMark c m ≡ PartMark p n → c ≡ p
-mark_part c m p n e = cc
-
-mark_number : (c m p n : ℕ) → PartMark c m ≡ PartMark p n → m ≡ n
-mark_number c m p n e = cc
-
 module _ (k : Limits) where
   -- the load of a mark, which the seat remembers
   pub looks_mark : (v : View) (p : ℕ) → IsOnePass v → v.limits ≡ k → p < k.parts → Permits k v (mark_place k p) (λ n. n) (loads_mark (mark_place k p) 0 0 v)
@@ -96,7 +90,7 @@ module _ (k : Limits) where
         after kinds.Raise unchanged v.seen known v,
         subst (λ (z : ℕ × ℕ). Rule k record { words = set s.words z.0 z.1; homes = s.homes; views = set s.views id (after kinds.Raise unchanged v.seen known v) }) (λ i. (sym place i, sym (ap (λ b. either b to x) (eq-eqb x from hit)) i)) rule,
         λ q is. let same : p ≡ q = (let e : mark_place k p ≡ mark_place k q = sym place ∙ (is ∙ ap (λ (l : Limits). mark_place l q) lim) in omega arith) in (
-          (refl, λ z o. there o, λ c m o. ⊎_elim (λ e. inr (mark_part c m p to e ∙ same, mark_number c m p to e)) (λ o'. inl o') (in_cons o)),
+          (refl, λ z o. there o, λ z o. ⊎_elim (λ e. inr (e ∙ ap (λ c. PartMark c to) same)) (λ o'. inl o') (in_cons o)),
           λ _. subst (λ z. In (PartMark z to) known) same here,
         ),
       ))
@@ -118,5 +112,5 @@ module _ (k : Limits) where
       } in (
         after kinds.Raise unchanged v.seen v.known v,
         subst (λ (z : List ℕ). Rule k record { words = z; homes = s.homes; views = set s.views id (after kinds.Raise unchanged v.seen v.known v) }) (sym (ap (λ z. set s.words word z) (ap (λ b. either b to x) (ne_eqb x from miss)) ∙ set-get_or s.words word 0)) rule,
-        λ q is. ((refl, λ z o. o, λ c m o. inl o), λ hit. absurd (miss hit)),
+        λ q is. ((refl, λ z o. o, λ z o. inl o), λ hit. absurd (miss hit)),
       ))

@@ -22,13 +22,13 @@ use Rattle.tp_words.specs.declared.words.Head.{Head}
 use Rattle.tp_rule.specs.Doors.{Permits}
 use Rattle.tp_rule.specs.Plays.{loads, loads_head}
 use Rattle.tp_rule.specs.Rule.{HandHolds, IsApart, IsSeated, RowsHold, Rule, SeatHolds, StillSo}
-use Rattle.tp_rule.specs.Steps.{Found, IsLow, Loads, NoneFrom, noted, after, unchanged}
+use Rattle.tp_rule.specs.Steps.{Found, IsSo, Loads, NoneFrom, noted, after, unchanged}
 use Rattle.tp_rule.specs.Views.{HasPass, IsOnePass, hand}
 use Rattle.tp_rule.specs.declared.view.Hand.{Hand}
 use Rattle.tp_rule.specs.declared.view.Known.{Known}
 use Rattle.tp_rule.specs.declared.view.Known.TheVariants.{RowHead, PartMark}
 use Rattle.tp_rule.specs.declared.view.View.{View}
-use Rattle.tp_rule.proofs.Tellings.{found, head_told, low_below, recall}
+use Rattle.tp_rule.proofs.Tellings.{found, head_told, so_now}
 
 abbrev pub S : Type 0
 S = State (Unit {0}) View
@@ -119,8 +119,7 @@ module _ (k : Limits) where
             open_own = λ a p. (there.hands a p).units.open_own;
             run = λ a p. subst (λ l. IsRun l h a.number a.next a.left) (sym lim) (run_of h s.words a (there.hands a p));
             knows = more;
-            heads = λ i head x p. recall k h s.words r.world i head x (mine.known (RowHead i head) p);
-            marks = λ p n q. subst (λ l. IsLow l h p n) (sym lim) (low_below k h s.words r.world p n (so (PartMark p n) q));
+            is_so = λ x p. subst (λ l. IsSo l h x) (sym lim) (so_now k h s.words r.world x (so x p));
           },
           subst (λ l. Found l h word (get_or s.words word 0)) (sym lim) (found k h s.words r.world word),
         ),

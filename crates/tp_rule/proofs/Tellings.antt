@@ -16,7 +16,8 @@ use Rattle.tp_words.specs.Words.{IsFitClaim, IsFitHead, IsFitUnit, head_of, pack
 use Rattle.tp_words.specs.declared.words.Head.{Head}
 use Rattle.tp_words.specs.declared.words.Head.TheVariants.{Empty, There}
 use Rattle.tp_rule.specs.Rule.{HeadTold, IsFinished, MarkHolds, StillSo, Told, World}
-use Rattle.tp_rule.specs.Steps.{AreOver, Found, IsLow, IsOver}
+use Rattle.tp_rule.specs.Steps.{AreOver, Found, IsLow, IsOver, IsSo}
+use Rattle.tp_rule.specs.declared.view.Known.{Known}
 use Rattle.tp_rule.specs.declared.view.Known.TheVariants.{RowHead, PartMark}
 use Rattle.tp_rule.proofs.Births.{MadeBy, by_unit}
 use Rattle.tp_rule.proofs.Parts.{in_all}
@@ -70,6 +71,11 @@ module _ (k : Limits) (h : List Event) (ws : List ℕ) (world : World k h ws) wh
   -- no mark is above the part
   pub low_below : (p n : ℕ) → StillSo k ws (PartMark p n) → IsLow k h p n
   low_below p n t = (let le : n ≤ get_or ws (mark_place k p) 0 = t.1 in let top = (world.marks p t.0).inside in omega arith, over_below p n t)
+
+  -- what a seat knows of words that stay is so
+  pub so_now : (x : Known) → StillSo k ws x → IsSo k h x
+  so_now (RowHead i head) still = λ some x p. recall i head x still some p
+  so_now (PartMark p n) still = low_below p n still
 
 -- a finished row stays finished
 pub finished_later : (k : Limits) (h h' : List Event) (ws ws' : List ℕ) (i : ℕ) → IsPrefix h h' → IsLegal k h' → (get_or ws (head_place i) 0 ≢ 0 → get_or ws' (head_place i) 0 ≡ get_or ws (head_place i) 0) → IsFinished k h ws i → IsFinished k h' ws' i

@@ -49,6 +49,12 @@ AreOver l h p n = (i : ℕ) → p * l.rows ≤ i → i < p * l.rows + n → IsOv
 abbrev pub IsLow : Limits → List Event → ℕ → ℕ → Type 0
 IsLow l h p n = (n ≤ l.rows) × AreOver l h p n
 
+-- what a seat that knows x knows of the history h: a head that isn't empty is that of the element that is born in the row,
+-- and no row below a mark has an element that isn't consumed or killed
+abbrev pub IsSo : Limits → List Event → Known → Type 0
+IsSo l h (RowHead i head) = head ≢ Empty → (x : Element) → element_of h i ≡ Some x → head ≡ head_of x
+IsSo l h (PartMark p n) = IsLow l h p n
+
 -- a step that looks at the table: the seat has then seen the history so far, which ends with the step's own events
 pub record Grew (kind : StepKind) (f : Hand → Hand) (events : List Event) (v w : View) : Type 0 where
   -- what happened since the seat looked last, before its own events
@@ -69,10 +75,8 @@ pub record Grew (kind : StepKind) (f : Hand → Hand) (events : List Event) (v w
   pub run : (a : Hand) → In a w.hands → IsRun v.limits w.seen a.number a.next a.left
   -- what was known is known
   pub knows : (x : Known) → Knows v x → Knows w x
-  -- a head that was found before, and wasn't empty, is that of the element that is born in the row by now
-  pub heads : (i : ℕ) (head : Head) (x : Element) → Knows v (RowHead i head) → head ≢ Empty → element_of w.seen i ≡ Some x → head ≡ head_of x
-  -- below a mark that is known no row has an element that isn't consumed or killed
-  pub marks : (p n : ℕ) → Knows w (PartMark p n) → IsLow v.limits w.seen p n
+  -- what is known is so by now
+  pub is_so : (x : Known) → Knows w x → IsSo v.limits w.seen x
 
 -- a step that changes nothing in the pass but its trace
 abbrev pub unchanged : Hand → Hand
@@ -248,16 +252,19 @@ MakesRequeue v i r w = Grew kinds.RequeueExchange (with_event (Requeue (hand v).
 
 -- raise
 
--- the seat knows that row i is finished: it saw its element consumed or killed, or found the head of a draft whose unit it
--- saw aborted
-abbrev pub IsDone : View → ℕ → Type 0
-IsDone v i = IsSettledRow v.limits v.seen i ⊎ ((stage : ℕ) × (root : ℕ) × (u : ℕ) × Knows v (RowHead i (There stage root (Some u))) × (end_of v.seen u ≡ Some Aborted))
+-- the seat has found in row i the head of a draft whose unit it saw aborted
+abbrev pub HasDead : View → ℕ → Type 0
+HasDead v i = (stage : ℕ) × (root : ℕ) × (u : ℕ) × Knows v (RowHead i (There stage root (Some u))) × (end_of v.seen u ≡ Some Aborted)
 
--- the exchange of the mark of part p, after which nothing more is seen. What was known is known, and no other mark than n
--- is known besides
+-- the seat knows that row i is finished: it saw its element consumed or killed, or a draft that is never born
+abbrev pub IsDone : View → ℕ → Type 0
+IsDone v i = IsSettledRow v.limits v.seen i ⊎ HasDead v i
+
+-- the exchange of the mark of part p, after which nothing more is seen. What was known is known, and nothing but the mark n
+-- besides
 abbrev pub Raises : View → ℕ → ℕ → View → Type 0
 Raises v p n w = (w ≡ after kinds.Raise unchanged v.seen w.known v) × ((x : Known) → Knows v x → Knows w x)
-    × ((q m : ℕ) → Knows w (PartMark q m) → Knows v (PartMark q m) ⊎ ((q ≡ p) × (m ≡ n)))
+    × ((x : Known) → Knows w x → Knows v x ⊎ (x ≡ PartMark p n))
 
 -- splits and joins of seats, each a load
 
@@ -316,4 +323,4 @@ pub record Meets (v w v' w' : View) : Type 0 where
   pub run : IsRun v.limits v'.seen (hand v').number (hand v').next (hand v').left × IsRun v.limits w'.seen (hand w').number (hand w').next (hand w').left
   -- what either knew both know
   pub knows : ((x : Known) → Knows v x → Knows v' x) × ((x : Known) → Knows w x → Knows w' x)
-  pub marks : ((p n : ℕ) → Knows v' (PartMark p n) → IsLow v.limits v'.seen p n) × ((p n : ℕ) → Knows w' (PartMark p n) → IsLow v.limits w'.seen p n)
+  pub is_so : ((x : Known) → Knows v' x → IsSo v.limits v'.seen x) × ((x : Known) → Knows w' x → IsSo v.limits w'.seen x)

@@ -35,7 +35,7 @@ most l k lows same = subst (λ (z : Limits). 1 + scan_steps l (try_steps l) 2 lo
 
 few : (c : After-choose_unit) → 1 + scan_steps (limits_of c.self.inside.shared.words) (try_steps (limits_of c.self.inside.shared.words)) 2 c.pass.inside.lows (limits_of c.self.inside.shared.words).parts ≤ claim_steps_left c.args.self.now.limits c.args.pass.now.lows
 few c = let l : Limits = limits_of c.self.inside.shared.words in
-    claim_shown l c.args.self.now.limits c.pass.inside.lows c.args.pass.now.lows _ (limits c) (ap (λ (p : PassShown). p.lows) c.pass.view_is) (claim_few l c.pass.inside.lows (view_of c.pass.inside.seat) (steady c).low c.pass.invariant.1)
+    claim_shown l c.args.self.now.limits c.pass.inside.lows c.args.pass.now.lows _ (limits c) (ap (λ (p : PassShown). p.lows) c.pass.view_is) (claim_few l c.pass.inside.lows (view_of c.pass.inside.seat) (steady c).known c.pass.invariant.1)
 
 pub scan-requires-clause-remembers : goal.scan-requires-clause-remembers
 scan-requires-clause-remembers c = known (goal.at.scan-requires-clause-remembers c).After-choose_unit

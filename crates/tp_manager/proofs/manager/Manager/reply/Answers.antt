@@ -8,7 +8,7 @@ use Rattle.tp_manager.specs.Lists.{AllKilled, NextReply}
 use Rattle.tp_manager.specs.declared.listing.Wanted.TheVariants as wanteds
 use Rattle.tp_manager.specs.Bounds.{reply_steps, listing_steps_left, look_steps, scan_steps}
 use Rattle.tp_manager.specs.Calls.{Follows}
-use Rattle.tp_manager.specs.Walks.{Acted, KnowsLow}
+use Rattle.tp_manager.specs.Walks.{Acted, IsKnown}
 use Rattle.tp_manager.proofs.Lows.{listing_few, listing_shown, scan_most}
 use Rattle.tp_manager.proofs.Walks.{looked, follows, has_looked, rises_same, walked_none}
 use Rattle.tp_manager.proofs.Passes.{quiet_looked, rests_looked}
@@ -45,7 +45,7 @@ returns-clause-follows c = let at = goal.at.returns-clause-follows c in let l = 
 pub returns-clause-few : goal.returns-clause-few
 returns-clause-few c = let at = goal.at.returns-clause-few c in let l = limits_of c.self.inside.shared.words in
     within at.After-find (listing_steps_left c.args.self.now.limits c.args.pass.now.lows) (listing_shown l c.args.self.now.limits c.pass.inside.lows c.args.pass.now.lows _ (limits at.After-rows) (ap (λ (p : PassShown). p.lows) c.pass.view_is)
-    (listing_few l c.pass.inside.lows (view_of c.pass.inside.seat) (subst (λ (z : Limits). KnowsLow z (view_of c.pass.inside.seat)) (lim at.After-rows) c.pass.invariant.0.steady.low) c.pass.invariant.1))
+    (listing_few l c.pass.inside.lows (view_of c.pass.inside.seat) (subst (λ (z : Limits). IsKnown z (view_of c.pass.inside.seat)) (lim at.After-rows) c.pass.invariant.0.steady.known) c.pass.invariant.1))
 
 pub returns-then-from-rows-clause-few : goal.returns-then-from-rows-clause-few
 returns-then-from-rows-clause-few c = let at = (goal.at.returns-then-from-rows-clause-few c).After-rows in let v = view_of c.pass.inside.seat in let t = spot c.pass.inside.seat.table c.pass.inside.lows in

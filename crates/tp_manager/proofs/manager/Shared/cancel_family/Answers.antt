@@ -53,7 +53,7 @@ returns-then-tally-found-clause-told c = let l : Limits = limits_of c.args.self.
     let v = view_of c.args.seat.now in let w = view_of c.loop-past.seat in let y = view_of c.cancel_round-tally.new.seat in
     cancels_few l c.args.root (p * s + s) ((rows_of l + 1) * s) (c.loop-past.killed + r.killed) v y (rows_more p (rows_of l + 1) s (omega arith))
     (rounded_last l c.args.root L (p * s) s p c.loop-past.found r.found c.loop-past.killed r.killed v w y c.if-tally-found.true c.requires.request
-    (λ i inside. over_unlooked l c.args.marks.now c.args.self.now.words.places.valid c.args.root i w c.loop-past.invariant.rounded.swept.gained.walk.steady.low (known at.After-rows-rows _ _ _ c.loop-past.invariant.rounded.swept.gained.walk) inside) c.loop-past.invariant.rounded c.cancel_round-tally.ensures.told)
+    (λ i inside. over_unlooked l c.args.marks.now c.args.self.now.words.places.valid c.args.root i w c.loop-past.invariant.rounded.swept.gained.walk.steady.known (known at.After-rows-rows _ _ _ c.loop-past.invariant.rounded.swept.gained.walk) inside) c.loop-past.invariant.rounded c.cancel_round-tally.ensures.told)
 
 pub unreachable-requires : goal.unreachable-requires
 unreachable-requires c = let l : Limits = limits_of c.args.self.now.words in let at = goal.at.unreachable-requires c in

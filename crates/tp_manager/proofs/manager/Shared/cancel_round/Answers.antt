@@ -30,10 +30,10 @@ loop-row-preserved-then-row-first c = let l : Limits = limits_of c.args.self.now
     let v = view_of c.args.seat.now in let y = view_of c.loop-row.seat in let L = is_looked l c.args.marks.now in let e = c.row_at_mark-first.ensures in let fair = c.args.self.now.words.places.valid in
     let up : row < c.row_at_mark-first.result = c.if-row-first.true in let inside = less at in record {
       same = i.same;
-      inside = subst (λ n. n ≤ rows_of l) (sym e) (mark_inside l c.args.marks.now fair v row c.requires.steady.low c.requires.known inside);
+      inside = subst (λ n. n ≤ rows_of l) (sym e) (mark_inside l c.args.marks.now fair v row c.requires.steady.known c.requires.known inside);
       tallied = tallied_few l c.args.root L (row * s) (c.row_at_mark-first.result * s) c.row_at_mark-first.result c.loop-row.found c.loop-row.killed v y (omega (arith, rows_more row c.row_at_mark-first.result s up))
           (tallied_on l c.args.root L (row * s) row c.row_at_mark-first.result c.loop-row.found c.loop-row.killed v y (omega arith)
-          (λ j low high. none_looked l c.args.root L j v (below_mark l c.args.marks.now fair row j v c.requires.steady.low c.requires.known inside low (subst (λ n. j < n) e high))) i.tallied);
+          (λ j low high. none_looked l c.args.root L j v (below_mark l c.args.marks.now fair row j v c.requires.steady.known c.requires.known inside low (subst (λ n. j < n) e high))) i.tallied);
     }
 
 pub overflow_add-found : goal.overflow_add-found

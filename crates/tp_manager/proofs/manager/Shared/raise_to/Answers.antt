@@ -4,7 +4,7 @@ use Rattle.tp_rule.specs.Tables.{limits_of}
 use Rattle.tp_rule.specs.Views.{seen_by, view_of}
 use Rattle.tp_manager.specs.Walks.{Looked, Rose}
 use Rattle.tp_manager.proofs.Walks.{looked_few, looked_none}
-use Rattle.tp_manager.proofs.Marks.{raised_looked, rose_done, rose_low}
+use Rattle.tp_manager.proofs.Marks.{raised_looked, rose_low}
 use Rattle.tp_manager.proofs.manager.Shared.raise_to.Goals as goal
 use Rattle.tp_manager.proofs.manager.Shared.raise_to.Goals.{After-raise}
 
@@ -12,14 +12,14 @@ pub raise-requires-clause-done : goal.raise-requires-clause-done
 raise-requires-clause-done c = λ i low high. let l : Limits = limits_of c.args.self.now.words in
     let same : c.args.part * l.rows ≡ c.args.part * c.args.self.now.places.limits.rows = ap (λ (z : Limits). c.args.part * z.rows) c.args.self.now.same in
     let up : c.args.part * l.rows + c.args.mark ≤ c.args.low = c.requires.low.1.0 in
-    rose_done l (view_of c.args.seat.now) (c.args.part * l.rows + c.args.mark) c.args.low c.requires.steady.pass.1 c.requires.low.1 i low (omega arith)
+    c.requires.low.1.1 i low (omega arith)
 
 -- the exchange, whether it went through or not
 one : (c : After-raise) → Looked (limits_of c.args.self.now.words) 1 (view_of c.args.seat.now) (view_of c.raise.new.seat)
 one c = let l : Limits = limits_of c.args.self.now.words in let up = c.requires.low.1.0 in let top = c.requires.low.0 in
     let same : c.args.part * l.rows ≡ c.args.part * c.args.self.now.places.limits.rows = ap (λ (z : Limits). c.args.part * z.rows) c.args.self.now.same in
     raised_looked l c.args.part _ (view_of c.args.seat.now) (view_of c.raise.new.seat) c.requires.steady c.raise.ensures.raises
-    (rose_low l (view_of c.args.seat.now) c.args.part c.args.mark _ c.requires.steady c.requires.mark.0 (omega arith) (subst (λ n. Rose l (seen_by c.args.seat.now) (c.args.part * l.rows + c.args.mark) n) (omega arith) c.requires.low.1))
+    (rose_low l (view_of c.args.seat.now) c.args.part c.args.mark _ c.requires.steady c.requires.mark.0 (omega arith) (subst (λ n. Rose (view_of c.args.seat.now) (c.args.part * l.rows + c.args.mark) n) (omega arith) c.requires.low.1))
 
 pub returns-then-not-raise-clause-looked : goal.returns-then-not-raise-clause-looked
 returns-then-not-raise-clause-looked c = one (goal.at.returns-then-not-raise-clause-looked c).After-raise

@@ -1,16 +1,16 @@
-use Rattle.std.proofs.Common.{◌≡◌, ◌+◌, ◌-◌, ◌*◌, ◌≤◌, ℕ, slice_index, sym, ◌∙◌, ap, subst, arith, rules, mul-le-mul_right}
-use mathlib.Core.List.{IsPrefix}
+use Rattle.std.proofs.Common.{◌≡◌, ◌+◌, ◌-◌, ◌*◌, ◌≤◌, ℕ, List, slice_index, sym, ◌∙◌, ap, subst, arith, rules, mul-le-mul_right}
 use Rattle.tp_model.specs.declared.types.Limits.{Limits}
-use Rattle.tp_model.specs.Steps.{IsLegal, IsRowOf}
+use Rattle.tp_model.specs.declared.trace.TraceEntry.{TraceEntry}
+use Rattle.tp_model.specs.Steps.{IsRowOf}
 use Rattle.tp_model.proofs.Bridges.{begins_refl}
 use Rattle.tp_rule.specs.Tables.{limits_of}
 use Rattle.tp_rule.specs.Views.{seen_by, view_of}
 use Rattle.tp_manager.specs.Bounds.{try_steps}
-use Rattle.tp_manager.specs.Walks.{EachRow, Looked, OfPart, PassedBy, Remembers, RisesAt, Rose, Sought}
-use Rattle.tp_manager.proofs.Walks.{looked, looked_then, remembers, sought_few, walked_begins}
+use Rattle.tp_manager.specs.Walks.{EachRow, Looked, OfPart, PassedBy, Remembers, RisesAt, Rose, Sought, Walked}
+use Rattle.tp_manager.proofs.Walks.{looked, looked_then, remembers, sought_few}
 use Rattle.tp_rule.specs.declared.view.Known.TheVariants.{PartMark}
 use Rattle.tp_manager.proofs.Lows.{rises_at_then}
-use Rattle.tp_manager.proofs.Marks.{over_passed, rose_then, took_looked}
+use Rattle.tp_manager.proofs.Marks.{goes_walked, over_passed, rose_then, took_looked}
 use Rattle.tp_manager.proofs.Scans.{passed_widens, took_few, took_then}
 use Rattle.tp_manager.proofs.Seeks.{begun_few, begun_looked, begun_on, rows_more, sought_from, sought_then}
 use Rattle.tp_manager.proofs.manager.Shared.scan_part.Goals as goal
@@ -33,15 +33,16 @@ near c = let l : Limits = limits_of c.args.self.now.words in let i = c.loop-row.
     let b : l.rows ≡ c.args.self.now.places.limits.rows = ap (λ (z : Limits). z.rows) c.args.self.now.same in
     let own : IsRowOf l c.args.part c.loop-row.row = (c.requires.part, omega arith, omega arith) in (own, c.try_row.ensures.on.part c.args.part own)
 
--- what is known finished after one more row
-rose : (c : After-try_row) → IsLegal (limits_of c.args.self.now.words) (seen_by c.try_row.new.seat) → IsPrefix (seen_by c.loop-row.seat) (seen_by c.try_row.new.seat)
-    → Rose (limits_of c.args.self.now.words) (seen_by c.try_row.new.seat) (c.args.part * c.args.self.now.places.limits.rows + c.mark_at-mark.result) c.try_row.new.low
-rose c legal begins = rose_then (limits_of c.args.self.now.words) (seen_by c.loop-row.seat) (seen_by c.try_row.new.seat) _ c.loop-row.low c.try_row.new.low legal begins c.loop-row.invariant.rose c.try_row.ensures.low.1
-
 -- the steps from the mark up to the row
 since : (c : After-try_row) → Looked (limits_of c.args.self.now.words) ((c.loop-row.row - (c.args.part * c.args.self.now.places.limits.rows + c.mark_at-mark.result)) * try_steps (limits_of c.args.self.now.words)) (view_of c.mark_at-mark.new.seat) (view_of c.loop-row.seat)
 since c = let l : Limits = limits_of c.args.self.now.words in
     begun_looked l (PassedBy l c.args.stage) (passed_widens l c.args.stage) _ _ c.loop-row.row _ _ c.loop-row.invariant.begun c.mark_at-mark.ensures.acted.walk.steady
+
+-- what is known finished after one more row
+rose : (c : After-try_row) (n : ℕ) (ms : List TraceEntry) → Walked (limits_of c.args.self.now.words) n ms (view_of c.loop-row.seat) (view_of c.try_row.new.seat)
+    → Rose (view_of c.try_row.new.seat) (c.args.part * c.args.self.now.places.limits.rows + c.mark_at-mark.result) c.try_row.new.low
+rose c n ms a = let l : Limits = limits_of c.args.self.now.words in let v = view_of c.loop-row.seat in
+    rose_then l v (view_of c.try_row.new.seat) _ c.loop-row.low c.try_row.new.low (goes_walked l n ms v _ (since c).walk.steady.pass.1 a) c.loop-row.invariant.rose c.try_row.ensures.low.1
 
 -- the steps up to the row
 before : (c : After-try_row) → Looked (limits_of c.args.self.now.words) (1 + (c.loop-row.row - (c.args.part * c.args.self.now.places.limits.rows + c.mark_at-mark.result)) * try_steps (limits_of c.args.self.now.words)) (view_of c.args.seat.now) (view_of c.loop-row.seat)
@@ -55,8 +56,8 @@ pub raise_to-requires-clause-low : goal.raise_to-requires-clause-low
 raise_to-requires-clause-low c = let l : Limits = limits_of c.args.self.now.words in let at = (goal.at.raise_to-requires-clause-low c).After-try_row in let t = c.in-Some.ensures.told.0 in
     let on = (near at).1 in let low = c.try_row.ensures.low.0 in (
       omega arith,
-      subst (λ z. Rose l (seen_by c.try_row.new.seat) (z + c.mark_at-mark.result) c.try_row.new.low) (sym (first (goal.at.raise_to-requires-clause-low c).After-mark_at-mark))
-          (rose at t.walk.steady.shows.legal (walked_begins l _ _ _ _ t.walk)),
+      subst (λ z. Rose (view_of c.try_row.new.seat) (z + c.mark_at-mark.result) c.try_row.new.low) (sym (first (goal.at.raise_to-requires-clause-low c).After-mark_at-mark))
+          (rose at _ _ t.walk),
     )
 
 pub raise_to-requires-clause-mark : goal.raise_to-requires-clause-mark
@@ -90,7 +91,7 @@ loop-row-preserved c = let l : Limits = limits_of c.args.self.now.words in let a
       from = omega arith;
       inside = omega arith;
       low = c.try_row.ensures.low.0;
-      rose = rose at.After-try_row t.walk.steady.shows.legal (walked_begins l _ _ _ _ t.walk);
+      rose = rose at.After-try_row _ _ t.walk;
       begun = begun_few l P (passed_widens l c.args.stage) (d * s + s) F _ c.try_row.new.row _ _ (rows_more d (c.try_row.new.row - F) s (omega arith)) (begun_on l P (passed_widens l c.args.stage) (d * s) F s c.loop-row.row _ _ _ i.begun c.try_row.new.row start t);
     }
 
@@ -98,6 +99,12 @@ loop-row-preserved c = let l : Limits = limits_of c.args.self.now.words in let a
 all_since : (c : After-loop-row) → Looked (limits_of c.args.self.now.words) ((c.loop-row.row - (c.args.part * c.args.self.now.places.limits.rows + c.mark_at-mark.result)) * try_steps (limits_of c.args.self.now.words)) (view_of c.mark_at-mark.new.seat) (view_of c.loop-row.seat)
 all_since c = let l : Limits = limits_of c.args.self.now.words in
     begun_looked l (PassedBy l c.args.stage) (passed_widens l c.args.stage) _ _ c.loop-row.row _ _ c.loop-row.invariant.begun c.mark_at-mark.ensures.acted.walk.steady
+
+pub raise_to-requires-2-clause-low : goal.raise_to-requires-2-clause-low
+raise_to-requires-2-clause-low c = let at = (goal.at.raise_to-requires-2-clause-low c).After-mark_at-mark in let i = c.loop-row.invariant in let e = first at in let w = wide at in let high = i.inside in let low = i.low in (
+  omega arith,
+  subst (λ z. Rose (view_of c.loop-row.seat) (z + c.mark_at-mark.result) c.loop-row.low) (sym e) i.rose,
+)
 
 pub raise_to-requires-2-clause-mark : goal.raise_to-requires-2-clause-mark
 raise_to-requires-2-clause-mark c = ((all_since (goal.at.raise_to-requires-2-clause-mark c).After-loop-row).walk.knows (PartMark c.args.part c.mark_at-mark.result) c.mark_at-mark.ensures.knows, ap (λ lows. slice_index lows c.args.part) c.loop-row.invariant.lows ∙ c.mark_at-mark.ensures.lows.0)

@@ -12,7 +12,7 @@ invariant-loop-row l = record {
   from : l.first + l.mark ≤ l.row;
   inside : l.row ≤ l.end;
   low : l.low ≤ l.row;
-  rose : Rose (limits_of l.self.words) (seen_by l.seat) (l.first + l.mark) l.low;
+  rose : Rose (view_of l.seat) (l.first + l.mark) l.low;
   begun : Begun (limits_of l.self.words) (PassedBy (limits_of l.self.words) l.stage) ((l.row - (l.first + l.mark)) * try_steps (limits_of l.self.words)) (l.first + l.mark) l.row (view_of l.initial.seat) (view_of l.seat);
 }
 

@@ -1,15 +1,18 @@
-use Rattle.std.proofs.Common.{◌≡◌, sym, ◌∙◌, ap, arith, refl, Some, None}
+use Rattle.std.proofs.Common.{◌≡◌, subst, sym, ◌∙◌, ap, arith, refl, Some, None}
 use Rattle.tp_model.specs.declared.types.Element.{Element}
 use Rattle.tp_model.specs.declared.trace.StepKind.TheVariants as kinds
 use Rattle.tp_model.specs.History.{Committed, element_of, end_of}
 use Rattle.tp_words.specs.Words.{head_of, unit_value}
 use Rattle.tp_rule.specs.Tables.{limits_of}
 use Rattle.tp_rule.specs.Views.{seen_by, view_of}
+use Rattle.tp_rule.specs.Steps.{Knows}
+use Rattle.tp_rule.specs.declared.view.Known.TheVariants.{RowHead}
+use Rattle.tp_words.specs.declared.words.Head.TheVariants.{There}
 use Rattle.tp_manager.specs.Walks.{Acted}
 use Rattle.tp_manager.proofs.Walks.{acted_by, looked, looked_none, looked_few}
 use Rattle.tp_manager.proofs.Looks.{head_now, none_outside, none_unit, there_unit}
-use Rattle.tp_manager.proofs.manager.Shared.birth_from.Goals as goal
-use Rattle.tp_manager.proofs.manager.Shared.birth_from.Goals.{After-load_unit, In-Committed, then-row-first-via-then-row-first, then-row-first-via-else-row-first+then-row-first-2}
+use Rattle.tp_manager.proofs.manager.Shared.contents_from.Goals as goal
+use Rattle.tp_manager.proofs.manager.Shared.contents_from.Goals.{After-load_unit, In-Committed, then-row-first-via-then-row-first, then-row-first-via-else-row-first+then-row-first-2}
 
 one : (c : After-load_unit) → Acted (limits_of c.args.self.now.words) 1 (view_of c.args.seat.now) (view_of c.load_unit.new.seat)
 one c = acted_by _ kinds.Load _ _ c.requires.steady refl c.load_unit.ensures.grew
@@ -42,9 +45,12 @@ pub returns-in-Aborted-clause-looked : goal.returns-in-Aborted-clause-looked
 returns-in-Aborted-clause-looked c = looked _ 1 _ _ (one (goal.at.returns-in-Aborted-clause-looked c).After-load_unit)
 
 pub returns-in-Aborted-clause-told : goal.returns-in-Aborted-clause-told
-returns-in-Aborted-clause-told c = let a = c.in-There in let o = (goal.at.returns-in-Aborted-clause-told c).After-load_unit in
+returns-in-Aborted-clause-told c = let a = c.in-There in let o = (goal.at.returns-in-Aborted-clause-told c).After-load_unit in (
     none_unit (limits_of c.args.self.now.words) (seen_by c.load_unit.new.seat) c.args.row a.stage a.root c.in-Some.unit a.by c.args.head a.is c.in-Some.is (now o) (one o).walk.steady.shows.legal
-    (λ f m e low high. let lost = sym c.load_unit.ensures.end ∙ ap unit_value c.in-Aborted.is in absurd cc)
+    (λ f m e low high. let lost = sym c.load_unit.ensures.end ∙ ap unit_value c.in-Aborted.is in absurd cc),
+    (a.stage, a.root, c.in-Some.unit,
+      subst (λ z. Knows (view_of c.load_unit.new.seat) (RowHead c.args.row z)) (a.is ∙ ap (λ b. There a.stage a.root b) c.in-Some.is) (c.load_unit.ensures.grew.knows (RowHead c.args.row c.args.head) c.requires.told.knows),
+      sym c.load_unit.ensures.end ∙ ap unit_value c.in-Aborted.is))
 
 pub returns-then-row-first-clause-looked : goal.returns-then-row-first-clause-looked
 returns-then-row-first-clause-looked c = looked _ 1 _ _ (one (goal.at.returns-then-row-first-clause-looked c).After-load_unit)
