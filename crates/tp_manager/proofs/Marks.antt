@@ -118,8 +118,11 @@ module _ (l : Limits) where
   -- one more row, whose element is consumed or killed
   pub rose_one : (v : View) (a b row : ℕ) (birth : Birth) (s : Status) → v.limits ≡ l → IsThere v.seen row birth → s ≡ status_of l.attempts v.seen row → (b ≡ a) ⊎ ((b ≡ a + 1) × (a ≡ row) × IsSettled s) → Rose v a b
   rose_one v a b row birth s lim there is o = ⊎_elim (λ e. (omega arith, λ i low high. absurd (omega arith)))
-      (λ t. (let up = t.0 in omega arith, λ i low high. let same : row ≡ i = (let up = t.0 in let at = t.1 in omega arith) in
-      inl (subst (λ (z : Limits). IsSettledRow z v.seen i) (sym lim) (subst (IsSettledRow l v.seen) same (there.0, there.1, subst IsSettled is t.2))))) o
+      (λ t. (
+        let up = t.0 in omega arith,
+        λ i low high. let same : row ≡ i = (let up = t.0 in let at = t.1 in omega arith) in
+            inl (subst (λ (z : Limits). IsSettledRow z v.seen i) (sym lim) (subst (IsSettledRow l v.seen) same (there.0, there.1, subst IsSettled is t.2))),
+      )) o
 
   -- or which has a draft that is never born
   pub rose_dead : (v : View) (a b row : ℕ) → HasDead v row → (b ≡ a) ⊎ ((b ≡ a + 1) × (a ≡ row)) → Rose v a b

@@ -56,11 +56,7 @@ fn past(low: u32, row: u32) -> u32
     requires few { row < 65536 }
     ensures { (result ≡ low) ⊎ ((result ≡ low + 1) × (low ≡ row)) }
 {
-    if low == row {
-        low + 1
-    } else {
-        low
-    }
+    if low == row { low + 1 } else { low }
 }
 
 /// The first row that isn't known finished: this one's element stands so.

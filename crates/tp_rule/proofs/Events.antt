@@ -15,7 +15,6 @@ use Rattle.tp_words.specs.Places.{Word, HeadWord, MarkWord, IsThere, head_place,
 use Rattle.tp_rule.specs.Rule.{HandHolds, Rule, Told, UnitsHold, World}
 use Rattle.tp_rule.specs.Steps.{IsSo, after, noted, unchanged, Found, Grew, Misses}
 use Rattle.tp_rule.specs.declared.view.Hand.{Hand}
-use Rattle.tp_rule.specs.declared.view.Known.TheVariants.{RowHead, PartMark}
 use Rattle.tp_rule.specs.declared.view.View.{View}
 use Rattle.tp_rule.proofs.Frames.{Turn, hand_frame, hand_holds, limits_are, me, moved, only_hand, seat_holds}
 use Rattle.tp_rule.proofs.Parts.{IsOf, in_all}

@@ -1,5 +1,5 @@
 -- Two passes meet, by a join, a load and a split.
-use Rattle.std.proofs.Common.{◌≡◌, ◌⊎◌, ℕ, [], ◌∷◌, ◌++◌, map, sym, ap, ◌∙◌, subst, inl, inr, ⊎_elim}
+use Rattle.std.proofs.Common.{◌≡◌, ◌⊎◌, [], ◌∷◌, ◌++◌, map, sym, ap, ◌∙◌, subst, inl, inr, ⊎_elim}
 use mathlib.Core.List.{IsPrefix}
 use Rattle.tp_model.specs.declared.trace.StepKind.TheVariants as kinds
 use Rattle.tp_model.specs.declared.types.Limits.{Limits}
@@ -11,7 +11,6 @@ use Rattle.tp_rule.specs.Steps.{Grew, IsSo, Knows, Meets, front_of, joined, kept
 use Rattle.tp_rule.specs.Views.{IsOnePass, first_hand, hand}
 use Rattle.tp_rule.specs.declared.view.Hand.{Hand}
 use Rattle.tp_rule.specs.declared.view.Known.{Known}
-use Rattle.tp_rule.specs.declared.view.Known.TheVariants.{PartMark}
 use Rattle.tp_rule.specs.declared.view.View.{View}
 use Rattle.tp_rule.proofs.Reading.{grew_begins}
 

@@ -14,7 +14,6 @@ use Rattle.tp_model.specs.History.{Aborted, In, IsSettled, IsUnborn, status_of, 
 use Rattle.tp_model.specs.Passes.{IsOwnOpen, IsRun}
 use Rattle.tp_model.specs.Words.{ClaimWord, claim_word, round_in, word_status}
 use Rattle.tp_model.specs.Steps.{IsBody, IsStage, IsServerStage, IsKillable, IsParked, IsLegal, IsRowOf}
-use Rattle.tp_words.specs.declared.words.Head.{Head}
 use Rattle.tp_words.specs.declared.words.Head.TheVariants.{Empty, There}
 use Rattle.tp_words.specs.Words.{IsFitClaim, head_of}
 use Rattle.tp_words.specs.Places.{IsThere, Word, place_of}

@@ -1,9 +1,9 @@
 //! Claims that begin behind what is finished.
 
 use super::SMALL;
-use super::asking::{aborts, claims, commits, submits};
+use super::asking::{aborts, claims, commits, kills, submits};
 use crate::tests::fixture::two;
-use tp_model::types::{Limits, Outcome};
+use tp_model::types::{Draft, Killed, Limits, Outcome};
 
 const NOTHING: Outcome = Outcome::Committed { first: 0, count: 0 };
 
@@ -84,6 +84,34 @@ fn parked_stays(rt: HostRuntime) {
     assert!(rt; third.element.id == 2);
     assert!(rt; server.low(0) == 0);
     assert!(rt; manager.next_error(&mut client, 0) == Some(0));
+    drop(server);
+    drop(client);
+    drop(manager);
+}
+
+#[test]
+fn mark_passes_dead_drafts(rt: HostRuntime) {
+    let limits = Limits { units: 8, ..SMALL };
+    let (manager, mut client, mut server) = two(&rt, limits);
+    assert!(rt; submits(&manager, &mut client, 1, [0, 5, 0, 0], Ok(0)));
+    let first = claims(&manager, &mut server, 1).expect(&rt, "no work");
+    assert!(rt; first.unit == 8);
+    assert!(rt; kills(&manager, &mut client, 0, Ok(Killed { units_aborted: 1 })));
+    // The heads of rows 4 and 5 name unit 8, which was aborted: nothing is ever born in them.
+    let drafts = [Draft::default(), Draft::default()];
+    assert!(rt; commits(&manager, &mut server, &drafts, Outcome::Lost));
+    assert!(rt; claims(&manager, &mut server, 1).is_none());
+    assert!(rt; server.low(0) == 1);
+    assert!(rt; server.low(1) == 2);
+    // The reply that is born behind them waits.
+    assert!(rt; submits(&manager, &mut client, 1, [0, 6, 0, 0], Ok(1)));
+    let second = claims(&manager, &mut server, 1).expect(&rt, "no work");
+    assert!(rt; second.element.id == 1);
+    let one = Outcome::Committed { first: 6, count: 1 };
+    assert!(rt; commits(&manager, &mut server, &[Draft::default()], one));
+    assert!(rt; claims(&manager, &mut server, 1).is_none());
+    assert!(rt; server.low(0) == 2);
+    assert!(rt; server.low(1) == 2);
     drop(server);
     drop(client);
     drop(manager);

@@ -46,11 +46,16 @@ returns-in-Aborted-clause-looked c = looked _ 1 _ _ (one (goal.at.returns-in-Abo
 
 pub returns-in-Aborted-clause-told : goal.returns-in-Aborted-clause-told
 returns-in-Aborted-clause-told c = let a = c.in-There in let o = (goal.at.returns-in-Aborted-clause-told c).After-load_unit in (
-    none_unit (limits_of c.args.self.now.words) (seen_by c.load_unit.new.seat) c.args.row a.stage a.root c.in-Some.unit a.by c.args.head a.is c.in-Some.is (now o) (one o).walk.steady.shows.legal
-    (λ f m e low high. let lost = sym c.load_unit.ensures.end ∙ ap unit_value c.in-Aborted.is in absurd cc),
-    (a.stage, a.root, c.in-Some.unit,
-      subst (λ z. Knows (view_of c.load_unit.new.seat) (RowHead c.args.row z)) (a.is ∙ ap (λ b. There a.stage a.root b) c.in-Some.is) (c.load_unit.ensures.grew.knows (RowHead c.args.row c.args.head) c.requires.told.knows),
-      sym c.load_unit.ensures.end ∙ ap unit_value c.in-Aborted.is))
+  none_unit (limits_of c.args.self.now.words) (seen_by c.load_unit.new.seat) c.args.row a.stage a.root c.in-Some.unit a.by c.args.head a.is c.in-Some.is (now o) (one o).walk.steady.shows.legal
+      (λ f m e low high. let lost = sym c.load_unit.ensures.end ∙ ap unit_value c.in-Aborted.is in absurd cc),
+  (
+    a.stage,
+    a.root,
+    c.in-Some.unit,
+    subst (λ z. Knows (view_of c.load_unit.new.seat) (RowHead c.args.row z)) (a.is ∙ ap (λ b. There a.stage a.root b) c.in-Some.is) (c.load_unit.ensures.grew.knows (RowHead c.args.row c.args.head) c.requires.told.knows),
+    sym c.load_unit.ensures.end ∙ ap unit_value c.in-Aborted.is,
+  ),
+)
 
 pub returns-then-row-first-clause-looked : goal.returns-then-row-first-clause-looked
 returns-then-row-first-clause-looked c = looked _ 1 _ _ (one (goal.at.returns-then-row-first-clause-looked c).After-load_unit)
