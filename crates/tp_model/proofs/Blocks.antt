@@ -1,4 +1,4 @@
--- Each pass has a block of rows and a block of units, and its events concern these alone.
+-- Each pass has a part of the rows and of the units, and its events concern what it may use alone.
 use Rattle.std.proofs.Common.{◌≡◌, ◌⊎◌, ℕ, zero, suc, ◌+◌, ◌*◌, ◌<◌, ◌≤◌, ◌==◌, Some, None, List, [], ◌∷◌, refl, sym, ◌∙◌, ap, subst, inl, inr, arith}
 use Rattle.std.proofs.Math.Nat.{mul-le-mul_right, suc-mul}
 use Rattle.std.specs.List.{find}
@@ -7,7 +7,7 @@ use Rattle.tp_model.specs.declared.types.Limits.{Limits}
 use Rattle.tp_model.specs.declared.event.Event.{Event}
 use Rattle.tp_model.specs.declared.event.Event.TheVariants.{Enqueue, Claim, Commit, Abort, Kill, Requeue}
 use Rattle.tp_model.specs.History.{births, UnitClaim, claim_by, first_id, pass_of}
-use Rattle.tp_model.specs.Steps.{IsRowOf, IsUnitOf, AreOutputs, Step}
+use Rattle.tp_model.specs.Steps.{MayUse, IsUnitOf, AreOutputs, Step}
 use Rattle.tp_model.proofs.Lists.{if_other, some_if}
 
 -- two blocks of equal size that share a number are one block
@@ -26,16 +26,16 @@ blocks_apart size c d i low high low' high' =
     order (suc a) zero = inr (inl (omega arith))
     order (suc a) (suc b) = elim (order a b) [ inl less ↦ inl (omega arith) | inr rest ↦ elim rest [ inl less ↦ inr (inl (omega arith)) | inr same ↦ inr (inr (ap suc same)) ] ]
 
--- what an event makes lies in the rows of its pass
-no_output : (l : Limits) (h : List Event) (c u root id : ℕ) (outs : List Element) (i : ℕ) → AreOutputs l h c u root id outs → ¬ IsRowOf l c i → find (λ (y : Element). y.id == i) outs ≡ None
+-- what an event makes lies in rows that its pass may use
+no_output : (l : Limits) (h : List Event) (c u root id : ℕ) (outs : List Element) (i : ℕ) → AreOutputs l h c u root id outs → ¬ MayUse l h c i → find (λ (y : Element). y.id == i) outs ≡ None
 no_output l h c u root id [] i are none = refl
 no_output l h c u root id (o ∷ os) i are none =
     let place = are.0.place in
-    if_other o.id i (Some o) (find (λ (y : Element). y.id == i) os) (λ same. let at : id ≡ i = sym place ∙ same in none (subst (λ k. IsRowOf l c k) at are.0.row))
+    if_other o.id i (Some o) (find (λ (y : Element). y.id == i) os) (λ same. let at : id ≡ i = sym place ∙ same in none (subst (λ k. MayUse l h c k) at are.0.row))
     ∙ no_output l h c u root (id + 1) os i are.1 none
 
-pub no_birth : (l : Limits) (h : List Event) (e : Event) → Step l h e → (i : ℕ) → ¬ IsRowOf l (pass_of e) i → find (λ (y : Element). y.id == i) (births e) ≡ None
-no_birth l h (Enqueue c e) step i none = if_other e.id i (Some e) None (λ same. none (subst (λ k. IsRowOf l c k) same step.row))
+pub no_birth : (l : Limits) (h : List Event) (e : Event) → Step l h e → (i : ℕ) → ¬ MayUse l h (pass_of e) i → find (λ (y : Element). y.id == i) (births e) ≡ None
+no_birth l h (Enqueue c e) step i none = if_other e.id i (Some e) None (λ same. none (subst (λ k. MayUse l h c k) same step.row))
 no_birth l h (Claim c u j n) step i none = refl
 no_birth l h (Commit c u outs) step i none = no_output l h c u step.item.root (first_id outs) outs i step.outputs none
 no_birth l h (Abort c u) step i none = refl

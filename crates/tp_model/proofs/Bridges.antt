@@ -13,7 +13,7 @@ use Rattle.tp_model.specs.declared.event.Event.{Event}
 use Rattle.tp_model.specs.declared.event.Event.TheVariants.{Enqueue, Claim, Commit, Abort, Kill, Requeue}
 use Rattle.tp_model.specs.History.{In, here, there, births, born, element_of, IsBorn, IsUnborn, UnitClaim, claim_by, claim_of, IsClaim, IsUnused, UnitEnd, Committed, Aborted, end_by, end_of, first_id, status_of, pass_of, events_by}
 use Rattle.tp_model.specs.Words.{ClaimWord, FreeWord, TakenWord, KilledWord, AgainWord, claim_word, taken_status, word_status}
-use Rattle.tp_model.specs.Steps.{IsRowOf, IsOutput, AreOutputs, IsKillable, IsParked, Step, IsLegal}
+use Rattle.tp_model.specs.Steps.{MayUse, IsOutput, AreOutputs, IsKillable, IsParked, Step, IsLegal}
 use Rattle.tp_model.proofs.Lists.{option_or-none, option_or-some, first-kept, first-snoc, if_same, if_other, some_if}
 use Rattle.tp_model.proofs.Histories.{element_of-kept, element_of-snoc}
 use Rattle.tp_model.proofs.WordProofs.{status_by_words}
@@ -130,9 +130,9 @@ outputs_place l h c u root id (y ∷ ys) are x p = ⊎_elim
     (λ same. let at : x.id ≡ id = ap (λ (z : Element). z.id) same ∙ are.0.place in (omega arith, omega arith, subst (λ z. IsOutput l h c u root z.id z) (sym same) (subst (λ j. IsOutput l h c u root j y) (sym are.0.place) are.0)))
     (λ q. let t = outputs_place l h c u root (id + 1) ys are.1 x q in let a = t.0 in let b = t.1 in (omega arith, omega arith, t.2)) (in_cons p)
 
--- what an event makes is in rows of its pass, and was not born
-pub births_of : (l : Limits) (h : List Event) (e : Event) (x : Element) → Step l h e → In x (births e) → IsRowOf l (pass_of e) x.id × IsUnborn h x.id
-births_of l h (Enqueue c y) x step p = subst (λ (z : Element). IsRowOf l c z.id × IsUnborn h z.id) (sym (in_one p)) (step.row, step.unborn)
+-- what an event makes is in rows that its pass may use, and was not born
+pub births_of : (l : Limits) (h : List Event) (e : Event) (x : Element) → Step l h e → In x (births e) → MayUse l h (pass_of e) x.id × IsUnborn h x.id
+births_of l h (Enqueue c y) x step p = subst (λ (z : Element). MayUse l h c z.id × IsUnborn h z.id) (sym (in_one p)) (step.row, step.unborn)
 births_of l h (Claim c u i n) x step p = absurd (in_none p)
 births_of l h (Commit c u outs) x step p = let t = (outputs_place l h c u step.item.root (first_id outs) outs step.outputs x p).2 in (t.row, t.unborn)
 births_of l h (Abort c u) x step p = absurd (in_none p)

@@ -15,6 +15,7 @@ use Rattle.tp_model.specs.Steps.{rows_of, IsUnitOf, units_of, IsKillable, AreOut
 use Rattle.tp_model.proofs.Lists.{option_or-none, option_or-some, if_same, if_other, some_if}
 use Rattle.tp_model.proofs.Histories.{along, by_steps, element_of-kept, element_of-snoc}
 use Rattle.tp_model.proofs.WordProofs.{WordIsClaimed, word_claimed, claim_word-snoc, end_of-snoc, status_by_words}
+use Rattle.tp_model.proofs.Areas.{use_inside}
 use Rattle.tp_model.proofs.Bridges.{append_nil, begins_more, in_none, in_cons, births_of, born_either, end_stays, claim_either, status_taken}
 
 -- one of the outputs has each id of their range
@@ -151,12 +152,7 @@ births_inside l h legal = by_steps l (λ z. (x : Element) → IsBorn z x → x.i
   where
     more : (h : List Event) (e : Event) → IsLegal l h → Step l h e → ((x : Element) → IsBorn h x → x.id < rows_of l) → (x : Element) → IsBorn (h ++ e ∷ []) x → x.id < rows_of l
     more h e legal step old x p = ⊎_elim (old x)
-        (λ q.
-        let o = (births_of l h e x step q).0 in
-        let below : pass_of e < l.parts = o.0 in
-        let last : x.id < pass_of e * l.rows + l.rows = o.2 in
-        let all : suc (pass_of e) * l.rows ≤ l.parts * l.rows = mul-le-mul_right l.rows below in
-        omega (arith, suc-mul (pass_of e) l.rows))
+        (λ q. use_inside l h (pass_of e) x.id (births_of l h e x step q).0)
         (born_either x h e p)
 
 -- a unit with an Abort has ended

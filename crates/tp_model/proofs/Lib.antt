@@ -15,3 +15,4 @@ pub mod Stages
 pub mod RowTallies
 pub mod Takings
 pub mod Bodies
+pub mod Areas

@@ -1,19 +1,21 @@
 -- The worked histories, computed.
-use Rattle.std.proofs.Common.{◌≢◌, Some, [], ◌∷◌, refl, lit<, lit≤}
+use Rattle.std.proofs.Common.{◌≡◌, ◌≢◌, ◌<◌, Some, [], ◌∷◌, refl, sym, ap, subst, inl, inr, ⊎_elim, arith, lit<, lit≤}
 use Rattle.std.proofs.lemmas.List.Elements.{All-nil, All-cons}
 use Rattle.tp_model.specs.declared.types.Element.{Element}
 use Rattle.tp_model.specs.declared.event.Event.TheVariants.{Enqueue, Claim, Commit}
-use Rattle.tp_model.specs.Steps.{Step}
-use Rattle.tp_model.specs.History.{status_of, IsSettled}
-use Rattle.tp_model.specs.Rows.{WorkedRows, body, row_limits, with_reply, killed_in_hand}
+use Rattle.tp_model.specs.Steps.{IsRowOfBlock, Step}
+use Rattle.tp_model.specs.History.{here, pass_of, status_of, IsSettled}
+use Rattle.tp_model.specs.Rows.{WorkedRows, body, in_spare_block, row_limits, spare_limits, with_reply, killed_in_hand}
 use Rattle.tp_model.specs.Births.{request}
+use Rattle.tp_model.proofs.Areas.{use_inside}
+use Rattle.tp_model.proofs.Bridges.{in_none, in_one}
 use Rattle.tp_model.proofs.Histories.{legal_empty, legal_more}
 
 abbrev reply : Element
 reply = record { id = 8; stage = 15; root = 0; body = body 10; by = Some 256 }
 
 first_step : Step row_limits [] (Enqueue 0 (request 0 1 (body 10)))
-first_step = record { row = (lit< tt, lit≤ tt, lit< tt); unborn = refl; stage = (lit≤ tt, lit≤ tt); body = refl; root = refl; by = refl }
+first_step = record { row = inl (lit< tt, lit≤ tt, lit< tt); unborn = refl; stage = (lit≤ tt, lit≤ tt); body = refl; root = refl; by = refl }
 
 second_step : Step row_limits (Enqueue 0 (request 0 1 (body 10)) ∷ []) (Claim 1 256 0 1)
 second_step =
@@ -37,8 +39,23 @@ third_step =
       item = request 0 1 (body 10);
       taken = refl;
       few = lit≤ tt;
-      outputs = (record { place = refl; row = (lit< tt, lit≤ tt, lit< tt); unborn = refl; stage = (lit≤ tt, lit≤ tt); body = refl; by = refl; root_is = refl }, tt);
+      outputs = (record { place = refl; row = inl (lit< tt, lit≤ tt, lit< tt); unborn = refl; stage = (lit≤ tt, lit≤ tt); body = refl; by = refl; root_is = refl }, tt);
     }
+
+spare_step : Step spare_limits [] (Enqueue 1 (request 2 1 (body 4)))
+spare_step = record { row = inr (lit< tt, 0, (lit< tt, lit≤ tt, lit< tt), λ e x p. absurd (in_none p)); unborn = refl; stage = (lit≤ tt, lit≤ tt); body = refl; root = refl; by = refl }
+
+next_spare_step : Step spare_limits in_spare_block (Enqueue 1 (request 9 1 (body 5)))
+next_spare_step = record { row = inr (lit< tt, 0, (lit< tt, lit≤ tt, lit< tt), λ e x p made at. ap pass_of (in_one p)); unborn = refl; stage = (lit≤ tt, lit≤ tt); body = refl; root = refl; by = refl }
+
+other_spare_step : ¬ Step spare_limits in_spare_block (Enqueue 0 (request 9 1 (body 5)))
+other_spare_step step = ⊎_elim
+    (λ part. let high : 9 < 1 = part.2 in absurd (omega arith))
+    (λ t. let first : t.1 ≡ 0 = (let below : t.1 < 1 = t.2.0 in omega arith) in
+    let one : 1 ≡ 0 = t.3 (Enqueue 1 (request 2 1 (body 4))) (request 2 1 (body 4)) here here (subst (λ b. IsRowOfBlock spare_limits b 2) (sym first) (lit< tt, lit≤ tt, lit< tt)) in absurd (omega arith)) step.row
+
+behind_spare_step : ¬ Step spare_limits in_spare_block (Enqueue 1 (request 10 1 (body 5)))
+behind_spare_step step = let inside : 10 < 10 = use_inside spare_limits in_spare_block 1 10 step.row in absurd (omega arith)
 
 abbrev settled_reply : Element → Type 0
 settled_reply e = e.stage ≢ 15 → IsSettled (status_of 3 with_reply e.id)
@@ -76,4 +93,8 @@ rows =
       parked_unsettled = λ all. all 0 (request 0 1 (body 11)) (lit< tt) (λ reply. absurd cc);
       killed_settled = All-cons settled_kill (request 0 1 (body 5)) [] (λ not. tt) (All-nil settled_kill);
       legal = legal_more row_limits _ _ (legal_more row_limits _ _ (legal_more row_limits [] _ (legal_empty row_limits) first_step) second_step) third_step;
+      spare_legal = legal_more spare_limits [] _ (legal_empty spare_limits) spare_step;
+      spare_again = next_spare_step;
+      spare_of_another = other_spare_step;
+      behind_spare = behind_spare_step;
     }

@@ -1,5 +1,5 @@
 -- Who goes through the rows finds each born element, and each once.
-use Rattle.std.proofs.Common.{◌≡◌, ◌≢◌, ℕ, zero, suc, ◌+◌, ◌*◌, ◌<◌, ◌≤◌, ◌==◌, cond, Bool, true, false, Option, Some, None, List, [], ◌∷◌, ◌++◌, length, map, refl, sym, ◌∙◌, ap, subst, inl, inr, append_assoc, arith, suc-mul, mul-le-mul_right}
+use Rattle.std.proofs.Common.{◌≡◌, ◌≢◌, ℕ, zero, suc, ◌+◌, ◌<◌, ◌≤◌, ◌==◌, cond, Bool, true, false, Option, Some, None, List, [], ◌∷◌, ◌++◌, length, map, refl, sym, ◌∙◌, ap, subst, inl, inr, append_assoc, arith}
 use Rattle.std.proofs.lemmas.Bool.Decides.{eqb_tells}
 use Rattle.std.proofs.lemmas.List.Elements.{filter_map-append}
 use Rattle.std.proofs.lemmas.List.Folds.{find-append}
@@ -15,7 +15,8 @@ use Rattle.tp_model.specs.declared.event.Event.TheVariants.{Enqueue, Claim, Comm
 use Rattle.tp_model.specs.Accounts.{CountsByRows, account_among, all_stages, elements_below}
 use Rattle.tp_model.specs.Counts.{is_waiting, is_held, is_consumed, is_parked, is_killed, count_of, counts_among, in_stage}
 use Rattle.tp_model.specs.History.{born, births, element_of, first_id, status_of}
-use Rattle.tp_model.specs.Steps.{AreOutputs, IsLegal, IsRowOf, Step, rows_of}
+use Rattle.tp_model.specs.Steps.{AreOutputs, IsLegal, Step, rows_of}
+use Rattle.tp_model.proofs.Areas.{use_inside}
 use Rattle.tp_model.proofs.Bridges.{append_nil}
 use Rattle.tp_model.proofs.Histories.{by_steps, born-snoc}
 use Rattle.tp_model.proofs.Lists.{if_same, if_other, option_or-None}
@@ -93,24 +94,17 @@ all_more f n xs (y ∷ ys) new =
 
 -- what a step makes is new, and in rows that there are
 
-below_rows : (l : Limits) (c i : ℕ) → IsRowOf l c i → i < rows_of l
-below_rows l c i row =
-    let below : c < l.parts = row.0 in
-    let last : i < c * l.rows + l.rows = row.2 in
-    let all : suc c * l.rows ≤ l.parts * l.rows = mul-le-mul_right l.rows below in
-    omega (arith, suc-mul c l.rows)
-
 new_outputs : (l : Limits) (h : List Event) (c u root id : ℕ) (outs xs : List Element) → AreOutputs l h c u root id outs → ((i : ℕ) → id ≤ i → with_id xs i ≡ element_of h i) → AreNew (rows_of l) xs outs
 new_outputs l h c u root id [] xs are same = tt
 new_outputs l h c u root id (y ∷ ys) xs are same =
     let place : y.id ≡ id = are.0.place in (
       same y.id (omega arith) ∙ (ap (element_of h) are.0.place ∙ are.0.unborn),
-      subst (λ i. i < rows_of l) (sym are.0.place) (below_rows l c id are.0.row),
+      subst (λ i. i < rows_of l) (sym are.0.place) (use_inside l h c id are.0.row),
       new_outputs l h c u root (id + 1) ys (xs ++ y ∷ []) are.1 (λ i low. with_id-other xs y i (λ is. omega arith) ∙ same i (omega arith)),
     )
 
 new_births : (l : Limits) (h : List Event) (e : Event) → Step l h e → AreNew (rows_of l) (born h) (births e)
-new_births l h (Enqueue c y) step = (step.unborn, below_rows l c y.id step.row, tt)
+new_births l h (Enqueue c y) step = (step.unborn, use_inside l h c y.id step.row, tt)
 new_births l h (Claim c u i n) step = tt
 new_births l h (Commit c u outs) step = new_outputs l h c u step.item.root (first_id outs) outs (born h) step.outputs (λ i low. refl)
 new_births l h (Abort c u) step = tt

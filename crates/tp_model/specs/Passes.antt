@@ -1,17 +1,17 @@
 -- What a pass shows to contracts, and the points of its calls.
-use Rattle.std.specs.Prelude.{◌≡◌, ℕ, ◌+◌, ◌*◌, ◌<◌, ◌≤◌, Bool, true, false, if◌then◌else◌, Option, Some, List, [], ◌∷◌}
+use Rattle.std.specs.Prelude.{◌≡◌, ◌⊎◌, ℕ, ◌+◌, ◌<◌, ◌≤◌, Bool, true, false, if◌then◌else◌, Option, Some, List, [], ◌∷◌}
 use mathlib.Core.List.{IsPrefix}
 use Rattle.tp_model.specs.declared.types.Limits.{Limits}
 use Rattle.tp_model.specs.declared.event.Event.{Event}
 use Rattle.tp_model.specs.declared.event.Event.TheVariants.{Abort}
 use Rattle.tp_model.specs.declared.trace.StepKind.{StepKind}
-use Rattle.tp_model.specs.declared.trace.StepKind.TheVariants.{DraftStore, SeatLoad, UnitChoice, Raise}
+use Rattle.tp_model.specs.declared.trace.StepKind.TheVariants.{DraftStore, SeatLoad, UnitChoice, Raise, Draw}
 use Rattle.tp_model.specs.declared.trace.TraceEntry.{TraceEntry}
 use Rattle.tp_model.specs.History.{Committed, In, IsClaim, IsUnborn, end_of, events_by}
-use Rattle.tp_model.specs.Steps.{IsLegal}
+use Rattle.tp_model.specs.Steps.{IsBlock, IsLegal, IsPart, MayUse}
 
 -- what a pass shows: its number, the history that it has seen, its own events, its open unit, the row that it uses next, how many
--- rows are left to it from there on, and its atomic steps
+-- rows are left to it from there on, the spare blocks that it has drawn, and its atomic steps
 pub record PassView : Type 0 where
   pub number : ℕ
   pub seen : List Event
@@ -19,6 +19,7 @@ pub record PassView : Type 0 where
   pub open_unit : Option ℕ
   pub next : ℕ
   pub left : ℕ
+  pub blocks : List ℕ
   pub trace : List TraceEntry
 
 -- pass c took unit u, and neither committed nor aborted it: another may have aborted it
@@ -29,29 +30,49 @@ pub record IsOwnOpen (h : List Event) (c u : ℕ) : Type 0 where
   pub uncommitted : (first count : ℕ) → ¬ (end_of h u ≡ Some (Committed first count))
   pub kept : ¬ In (Abort c u) h
 
--- the rows that are left to pass c are a run from row `next` on. It lies in the pass's part, and reaches to its end; and no row of
--- it is born
-pub record IsRun (l : Limits) (h : List Event) (c next left : ℕ) : Type 0 where
-  pub begins : c * l.rows ≤ next
-  pub ends : next + left ≡ c * l.rows + l.rows
+-- these numbers ascend, and are at least `low` and below `high`
+abbrev pub Ascend : ℕ → ℕ → List ℕ → Type 0
+Ascend low high [] = Unit {0}
+Ascend low high (n ∷ ns) = (low ≤ n) × (n < high) × Ascend (n + 1) high ns
+
+-- the rows from `first` up to `end` are an area of pass c, which has drawn these blocks: its part, or one of them
+abbrev pub IsOwnArea : Limits → ℕ → List ℕ → ℕ → ℕ → Type 0
+IsOwnArea l c blocks first end = IsPart l c first end ⊎ ((b : ℕ) × In b blocks × IsBlock l b first end)
+
+-- the rows that are left to pass c, which has drawn these blocks, are a run from row `next` on
+pub record IsRun (l : Limits) (h : List Event) (c : ℕ) (blocks : List ℕ) (next left : ℕ) : Type 0 where
+  -- the blocks were drawn in ascending order
+  pub drawn : Ascend 0 l.spare blocks
+  -- the run lies in an area of the pass
+  pub first : ℕ
+  pub end : ℕ
+  pub own : IsOwnArea l c blocks first end
+  pub begins : first ≤ next
+  -- and reaches to its end
+  pub ends : next + left ≡ end
+  -- no row of it is born
   pub unborn : (i : ℕ) → next ≤ i → i < next + left → IsUnborn h i
+  -- and the pass may use each
+  pub usable : (i : ℕ) → next ≤ i → i < next + left → MayUse l h c i
 
 -- it has seen a legal history; its own events are those of that history with its number; the rows that are left to it
--- aren't born there; and its open unit is there its own, not committed, and not aborted by itself
+-- are a run there; and its open unit is there its own, not committed, and not aborted by itself
 pub record IsPassView (l : Limits) (v : PassView) : Type 0 where
   pub given : v.number < l.parts
   pub legal : IsLegal l v.seen
   pub own : v.mine ≡ events_by v.number v.seen
-  pub run : IsRun l v.seen v.number v.next v.left
+  pub run : IsRun l v.seen v.number v.blocks v.next v.left
   pub open_own : (u : ℕ) → v.open_unit ≡ Some u → IsOwnOpen v.seen v.number u
 
 -- whether a step looks at the table: what it finds or changes there is tied to what is seen after it. A draft store
--- sees nothing, the load that cuts or joins seats tells nothing, and the choice of a unit is told nothing of its word.
+-- sees nothing, the load that cuts or joins seats tells nothing, the choice of a unit is told nothing of its word, and the
+-- exchanges of a mark and of the counter of drawn blocks are told nothing of the history.
 abbrev pub looks : StepKind → Bool
 looks DraftStore = false
 looks SeatLoad = false
 looks UnitChoice = false
 looks Raise = false
+looks Draw = false
 looks other = true
 
 -- one of these steps looks

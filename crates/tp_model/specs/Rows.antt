@@ -12,12 +12,12 @@ use Rattle.tp_model.specs.Words.{TakenWord, KilledWord, AgainWord, claim_word}
 use Rattle.tp_model.specs.Counts.{taken, counts, counts_in}
 use Rattle.tp_model.specs.Accounts.{account_of, elements_below, taken_of}
 use Rattle.tp_model.specs.Families.{family, IsSettledFamily}
-use Rattle.tp_model.specs.Steps.{IsLegal, rows_of}
+use Rattle.tp_model.specs.Steps.{IsLegal, Step, rows_of}
 use Rattle.tp_model.specs.Births.{request}
 
 -- the limits of the worked histories
 abbrev pub row_limits : Limits
-row_limits = record { parts = 2; rows = 8; units = 256; attempts = 3 }
+row_limits = record { parts = 2; rows = 8; units = 256; attempts = 3; spare = 0 }
 
 -- a body whose words are told by an amount: the key is 0, and the others count on from the amount
 abbrev pub body : ℕ → List ℕ
@@ -46,6 +46,14 @@ given_again = given_up ++ Requeue 0 0 1 ∷ []
 -- and is taken in it
 abbrev pub taken_again : List Event
 taken_again = given_again ++ Claim 1 259 0 1 ∷ []
+
+-- limits with one row for each pass, and one spare block, of the rows 2 to 9
+abbrev pub spare_limits : Limits
+spare_limits = record { parts = 2; rows = 1; units = 1; attempts = 1; spare = 1 }
+
+-- the second pass makes an element in the spare block before it used its own row
+abbrev pub in_spare_block : List Event
+in_spare_block = Enqueue 1 (request 2 1 (body 4)) ∷ []
 
 -- so many wait and so many are consumed
 abbrev pub so_many : ℕ → ℕ → Counts
@@ -81,3 +89,9 @@ pub record WorkedRows : Type 0 where
   pub parked_unsettled : ¬ IsSettledFamily 3 given_up 0
   pub killed_settled : IsSettledFamily 3 killed_in_hand 0
   pub legal : IsLegal row_limits with_reply
+  pub spare_legal : IsLegal spare_limits in_spare_block
+  -- that pass may make another one there, and no other pass may
+  pub spare_again : Step spare_limits in_spare_block (Enqueue 1 (request 9 1 (body 5)))
+  pub spare_of_another : ¬ Step spare_limits in_spare_block (Enqueue 0 (request 9 1 (body 5)))
+  -- the one that has no row is behind the block
+  pub behind_spare : ¬ Step spare_limits in_spare_block (Enqueue 1 (request 10 1 (body 5)))

@@ -1,13 +1,13 @@
 -- Which event may come next, and which histories are legal.
-use Rattle.std.specs.Prelude.{◌≡◌, ℕ, ◌+◌, ◌-◌, ◌*◌, ◌<◌, ◌≤◌, Some, None, List, [], ◌∷◌, ◌++◌, length}
+use Rattle.std.specs.Prelude.{◌≡◌, ◌⊎◌, ℕ, ◌+◌, ◌-◌, ◌*◌, ◌<◌, ◌≤◌, Some, None, List, [], ◌∷◌, ◌++◌, length}
 use Rattle.tp_model.specs.declared.types.Element.{Element}
 use Rattle.tp_model.specs.declared.types.Limits.{Limits}
 use Rattle.tp_model.specs.declared.types.Status.{Status}
 use Rattle.tp_model.specs.declared.types.Status.TheVariants.{Waiting, Held, Consumed, Parked, Killed}
 use Rattle.tp_model.specs.declared.event.Event.{Event}
 use Rattle.tp_model.specs.declared.event.Event.TheVariants.{Enqueue, Claim, Commit, Abort, Kill, Requeue}
-use Rattle.tp_model.specs.declared.types.TheConstants.{BODY_WORDS, MOST_ROUNDS}
-use Rattle.tp_model.specs.History.{element_of, status_of, rounds, UnitClaim, claim_of, end_of, first_id}
+use Rattle.tp_model.specs.declared.types.TheConstants.{BLOCK_ROWS, BODY_WORDS, MOST_ROUNDS}
+use Rattle.tp_model.specs.History.{In, births, element_of, status_of, rounds, UnitClaim, claim_of, end_of, first_id, pass_of}
 
 -- the limits are in their ranges
 pub record AreLimits (l : Limits) : Type 0 where
@@ -15,6 +15,7 @@ pub record AreLimits (l : Limits) : Type 0 where
   pub rows : (1 ≤ l.rows) × (l.rows ≤ 256)
   pub units : (1 ≤ l.units) × (l.units ≤ 1024)
   pub attempts : (1 ≤ l.attempts) × (l.attempts ≤ 7)
+  pub spare : l.spare ≤ 256
 
 -- how many attempts an element has in all its rounds, the first among them, where so many are allowed in each
 abbrev pub tries : ℕ → ℕ
@@ -24,21 +25,53 @@ tries attempts = (MOST_ROUNDS + 1) * attempts
 abbrev pub changes : ℕ → ℕ
 changes attempts = tries attempts + MOST_ROUNDS
 
--- how many rows there are
+-- how many rows the parts have
+abbrev pub part_rows : Limits → ℕ
+part_rows l = l.parts * l.rows
+
+-- how many rows there are: those of the parts, and behind them those of the spare blocks
 abbrev pub rows_of : Limits → ℕ
-rows_of l = l.parts * l.rows
+rows_of l = part_rows l + BLOCK_ROWS * l.spare
 
 -- how many rows there can be
 abbrev pub most_rows : ℕ
-most_rows = 32 * 256
+most_rows = 32 * 256 + BLOCK_ROWS * 256
 
 -- how many units there are
 abbrev pub units_of : Limits → ℕ
 units_of l = l.parts * l.units
 
--- row i is one of pass c's
+-- row i is one of the part of pass c
 abbrev pub IsRowOf : Limits → ℕ → ℕ → Type 0
 IsRowOf l c i = (c < l.parts) × (c * l.rows ≤ i) × (i < c * l.rows + l.rows)
+
+-- the first row of spare block b
+abbrev pub block_first : Limits → ℕ → ℕ
+block_first l b = part_rows l + BLOCK_ROWS * b
+
+-- row i is one of spare block b
+abbrev pub IsRowOfBlock : Limits → ℕ → ℕ → Type 0
+IsRowOfBlock l b i = (b < l.spare) × (block_first l b ≤ i) × (i < block_first l b + BLOCK_ROWS)
+
+-- the rows of part c are those from `first` up to `end`
+abbrev pub IsPart : Limits → ℕ → ℕ → ℕ → Type 0
+IsPart l c first end = (c < l.parts) × (first ≡ c * l.rows) × (end ≡ c * l.rows + l.rows)
+
+-- the rows of spare block b are those from `first` up to `end`
+abbrev pub IsBlock : Limits → ℕ → ℕ → ℕ → Type 0
+IsBlock l b first end = (b < l.spare) × (first ≡ block_first l b) × (end ≡ block_first l b + BLOCK_ROWS)
+
+-- the rows from `first` up to `end` are an area: a part, or a spare block
+abbrev pub IsArea : Limits → ℕ → ℕ → Type 0
+IsArea l first end = ((c : ℕ) × IsPart l c first end) ⊎ ((b : ℕ) × IsBlock l b first end)
+
+-- pass c made all that is born in spare block b
+abbrev pub IsBlockFor : Limits → List Event → ℕ → ℕ → Type 0
+IsBlockFor l h c b = (e : Event) (x : Element) → In e h → In x (births e) → IsRowOfBlock l b x.id → pass_of e ≡ c
+
+-- pass c may use row i: it is one of its part, or a spare one in whose block no other pass made anything
+abbrev pub MayUse : Limits → List Event → ℕ → ℕ → Type 0
+MayUse l h c i = IsRowOf l c i ⊎ ((c < l.parts) × (b : ℕ) × IsRowOfBlock l b i × IsBlockFor l h c b)
 
 -- unit u is one of pass c's
 abbrev pub IsUnitOf : Limits → ℕ → ℕ → Type 0
@@ -63,7 +96,7 @@ pub record IsOpen (h : List Event) (u : ℕ) (t : UnitClaim) : Type 0 where
 
 -- Enqueue c e may come next
 pub record MayEnqueue (l : Limits) (h : List Event) (c : ℕ) (e : Element) : Type 0 where
-  pub row : IsRowOf l c e.id
+  pub row : MayUse l h c e.id
   pub unborn : element_of h e.id ≡ None
   pub stage : IsServerStage e.stage
   pub body : IsBody e.body
@@ -84,7 +117,7 @@ pub record MayClaim (l : Limits) (h : List Event) (c u i n : ℕ) : Type 0 where
 -- e may be the output with this id of unit u of pass c, for a request with this root
 pub record IsOutput (l : Limits) (h : List Event) (c u root id : ℕ) (e : Element) : Type 0 where
   pub place : e.id ≡ id
-  pub row : IsRowOf l c id
+  pub row : MayUse l h c id
   pub unborn : element_of h id ≡ None
   pub stage : IsStage e.stage
   pub body : IsBody e.body

@@ -65,13 +65,18 @@ pub struct Work {
 pub struct Limits {
     /// How many passes there are, 1 to 32.
     pub parts: u16,
-    /// How many elements each pass may make, 1 to 256.
+    /// How many elements each pass may make in its own part, 1 to 256.
     pub rows: u16,
     /// How many units of work each pass may begin, 1 to 1024.
     pub units: u16,
     /// How many attempts an element has in a round before it is parked, 1 to 7.
     pub attempts: u8,
+    /// How many spare blocks of rows there are, 0 to 256. Each pass that needs more rows than its own may draw them.
+    pub spare: u16,
 }
+
+/// How many rows a spare block has.
+pub const BLOCK_ROWS: u16 = 8;
 
 /// How often a parked element can be given another round of attempts.
 pub const MOST_ROUNDS: u8 = 3;
@@ -92,6 +97,7 @@ impl Limits {
             && self.units <= 1024
             && self.attempts >= 1
             && self.attempts <= 7
+            && self.spare <= 256
     }
 
     /// How many attempts an element has in all its rounds.
@@ -122,7 +128,7 @@ pub enum Outcome {
     Committed { first: u32, count: u8 },
     /// Another caller had aborted the unit of work: none of it is seen. The rows of its drafts stay unused.
     Lost,
-    /// The pass has too few rows left for the outputs: the unit of work is aborted.
+    /// The pass has too few rows left for the outputs, and no spare block is left: the unit of work is aborted.
     Full,
 }
 
@@ -182,7 +188,7 @@ pub enum Refusal {
     Consumed { unit: u16 },
     /// The element was killed before.
     AlreadyKilled,
-    /// The pass has no row left.
+    /// The pass has no row left, and no spare block is left.
     Full,
     /// The element isn't parked.
     NotParked,

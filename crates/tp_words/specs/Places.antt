@@ -25,9 +25,13 @@ unit_place l u = head_place (rows_of l) + u
 abbrev pub mark_place : Limits → ℕ → ℕ
 mark_place l p = head_place (rows_of l) + units_of l + p
 
+-- the place of the counter of drawn blocks, behind all marks
+abbrev pub drawn_place : Limits → ℕ
+drawn_place l = head_place (rows_of l) + units_of l + l.parts
+
 -- how many words there are
 abbrev pub size_of : Limits → ℕ
-size_of l = head_place (rows_of l) + units_of l + l.parts
+size_of l = drawn_place l + 1
 
 -- a word of the table
 pub data Word : Type 0 where
@@ -36,14 +40,16 @@ pub data Word : Type 0 where
   ClaimWord : ℕ → Word
   UnitWord : ℕ → Word
   MarkWord : ℕ → Word
+  DrawnWord : Word
 
--- it is there: its row, its unit or its part is, and a body has that many words
+-- it is there: its row, its unit or its part is, and a body has that many words; the counter of drawn blocks always is
 abbrev pub IsThere : Limits → Word → Type 0
 IsThere l (HeadWord i) = i < rows_of l
 IsThere l (BodyWord i k) = (i < rows_of l) × (k < BODY_WORDS)
 IsThere l (ClaimWord i) = i < rows_of l
 IsThere l (UnitWord u) = u < units_of l
 IsThere l (MarkWord p) = p < l.parts
+IsThere l DrawnWord = Unit {0}
 
 -- its place
 abbrev pub place_of : Limits → Word → ℕ
@@ -52,6 +58,7 @@ place_of l (BodyWord i k) = body_place i k
 place_of l (ClaimWord i) = claim_place i
 place_of l (UnitWord u) = unit_place l u
 place_of l (MarkWord p) = mark_place l p
+place_of l DrawnWord = drawn_place l
 
 -- places of different words differ
 abbrev pub PlacesDiffer : Type 0

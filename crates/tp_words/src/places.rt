@@ -1,14 +1,15 @@
-//! Where the words stand in the table: those of each row, then one for each unit, then one for each part.
+//! Where the words stand in the table: those of each row, then one for each unit, then one for each part, then one that
+//! counts drawn blocks. The rows of the parts come first, and behind them those of the spare blocks.
 ghost use Rattle.std.specs.Prelude.{◌≡◌, ◌+◌, ◌*◌, ◌<◌, ◌≤◌, ◌↔◌, ℕ, IsOk, IfOk, Err};
 ghost use Rattle.tp_model.specs.Steps.{AreLimits};
 ghost use Rattle.tp_words.specs.Places.{PlacesDiffer, PlacesInside};
 
-use tp_model::types::{BODY_WORDS, Limits, Refusal};
+use tp_model::types::{BLOCK_ROWS, BODY_WORDS, Limits, Refusal};
 
 /// How many words a row has: its head, its body and its claim, in this order.
 pub const ROW_WORDS: usize = BODY_WORDS + 2;
 
-/// The places of the words of a table. It has at most 81,952 words.
+/// The places of the words of a table. It has at most 94,241 words.
 #[derive(Clone, Copy, Debug, PartialEq, Eq)]
 pub struct Places {
     /// What the table has room for, each limit in its range.
@@ -17,8 +18,8 @@ pub struct Places {
 }
 
 impl Places {
-    ghost use Rattle.tp_model.specs.Steps.{rows_of, units_of, IsRowOf};
-    ghost use Rattle.tp_words.specs.Places.{head_place, body_place, claim_place, unit_place, mark_place, size_of};
+    ghost use Rattle.tp_model.specs.Steps.{block_first, part_rows, rows_of, units_of, IsArea};
+    ghost use Rattle.tp_words.specs.Places.{head_place, body_place, claim_place, unit_place, mark_place, drawn_place, size_of};
     ghost use Rattle.tp_model.specs.declared.types.TheConstants.{BODY_WORDS};
     ghost use Rattle.tp_model.specs.declared.types.Refusal.TheVariants as Refusal;
 
@@ -35,30 +36,52 @@ impl Places {
         }
     }
 
-    /// How many rows there are, at most 8192.
+    /// How many rows the parts have, at most 8192.
     #[inline(always)]
-    pub fn rows(&self) -> u32
-        ensures { result ≡ rows_of self.now.limits }
+    pub fn part_rows(&self) -> u32
+        ensures { result ≡ part_rows self.now.limits }
     {
         self.limits.parts as u32 * self.limits.rows as u32
     }
 
-    /// The row behind the last one of this row's part.
-    pub fn part_end(&self, row: u32) -> u32
+    /// How many rows there are, at most 10,240: those of the parts, and 8 for each spare block.
+    #[inline(always)]
+    pub fn rows(&self) -> u32
+        ensures { result ≡ rows_of self.now.limits }
+    {
+        self.part_rows() + BLOCK_ROWS as u32 * self.limits.spare as u32
+    }
+
+    /// The first row of a spare block. For the number of blocks it is the row behind the last one.
+    pub fn block_first(&self, block: u16) -> u32
+        requires { block ≤ self.now.limits.spare }
+        ensures first { result ≡ block_first self.now.limits block }
+        ensures inside { result ≤ rows_of self.now.limits }
+    {
+        self.part_rows() + BLOCK_ROWS as u32 * block as u32
+    }
+
+    /// The row behind the last one of this row's part, or of its block where it is a spare one.
+    #[tactic(auto, using(crate::proofs::PlaceLemmas::part_area, crate::proofs::PlaceLemmas::block_area))]
+    pub fn area_end(&self, row: u32) -> u32
         requires { row < rows_of self.now.limits }
-        ensures part { let l = self.now.limits in (c : ℕ) × IsRowOf l c row × (result ≡ c * l.rows + l.rows) }
+        ensures area { (first : ℕ) × IsArea self.now.limits first result × (first ≤ row) × (row < result) }
         ensures inside { result ≤ rows_of self.now.limits }
     {
         let rows = self.limits.rows as u32;
-        (row / rows + 1) * rows
+        let parts = self.part_rows();
+        if row < parts {
+            (row / rows + 1) * rows
+        } else {
+            parts + ((row - parts) / BLOCK_ROWS as u32 + 1) * BLOCK_ROWS as u32
+        }
     }
 
     /// How many words there are.
     pub fn size(&self) -> usize
         ensures { result ≡ size_of self.now.limits }
     {
-        let parts = self.limits.parts as usize;
-        ROW_WORDS * self.rows() as usize + parts * self.limits.units as usize + parts
+        self.drawn() + 1
     }
 
     /// The place of the head of a row.
@@ -111,6 +134,16 @@ impl Places {
     {
         let units = self.limits.parts as usize * self.limits.units as usize;
         ROW_WORDS * self.rows() as usize + units + part as usize
+    }
+
+    /// The place of the counter of drawn blocks.
+    #[inline(always)]
+    pub fn drawn(&self) -> usize
+        ensures place { result ≡ drawn_place self.now.limits }
+        ensures inside { result < size_of self.now.limits }
+    {
+        let parts = self.limits.parts as usize;
+        ROW_WORDS * self.rows() as usize + parts * self.limits.units as usize + parts
     }
 }
 

@@ -176,13 +176,14 @@ fn refused_units(rt: HostRuntime) {
 }
 
 fn limits(parts: u16, rows: u16, units: u16, attempts: u8) -> Limits
-    ensures { (result.parts ≡ parts) × (result.rows ≡ rows) × (result.units ≡ units) }
+    ensures { result ≡ record { parts = parts; rows = rows; units = units; attempts = attempts; spare = 0 } }
 {
     Limits {
         parts,
         rows,
         units,
         attempts,
+        spare: 0,
     }
 }
 
@@ -193,7 +194,7 @@ fn places(rt: HostRuntime) {
         return;
     };
     assert!(rt; small.rows() == 16);
-    assert!(rt; small.size() == 610);
+    assert!(rt; small.size() == 611);
     assert!(rt; small.head(15) == 90);
     assert!(rt; small.body(15, 0) == 91);
     assert!(rt; small.body(15, 1) == 92);
@@ -203,15 +204,53 @@ fn places(rt: HostRuntime) {
     assert!(rt; small.unit(0) == 96);
     assert!(rt; small.unit(256) == 352);
     assert!(rt; small.mark(1) == 609);
-    assert!(rt; small.part_end(0) == 8);
-    assert!(rt; small.part_end(7) == 8);
-    assert!(rt; small.part_end(8) == 16);
-    assert!(rt; small.part_end(15) == 16);
+    assert!(rt; small.drawn() == 610);
+    assert!(rt; small.area_end(0) == 8);
+    assert!(rt; small.area_end(7) == 8);
+    assert!(rt; small.area_end(8) == 16);
+    assert!(rt; small.area_end(15) == 16);
     let Ok(largest) = Places::new(limits(32, 256, 1024, 7)) else {
         assert!(rt; false);
         return;
     };
-    assert!(rt; largest.size() == 81952);
+    assert!(rt; largest.size() == 81953);
+}
+
+#[test]
+fn places_of_spare_blocks(rt: HostRuntime) {
+    let with_spare = Limits {
+        spare: 2,
+        ..limits(3, 4, 2, 2)
+    };
+    let Ok(places) = Places::new(with_spare) else {
+        assert!(rt; false);
+        return;
+    };
+    assert!(rt; places.part_rows() == 12);
+    assert!(rt; places.rows() == 28);
+    assert!(rt; places.block_first(0) == 12);
+    assert!(rt; places.block_first(1) == 20);
+    assert!(rt; places.block_first(2) == 28);
+    assert!(rt; places.area_end(11) == 12);
+    assert!(rt; places.area_end(12) == 20);
+    assert!(rt; places.area_end(19) == 20);
+    assert!(rt; places.area_end(20) == 28);
+    assert!(rt; places.area_end(27) == 28);
+    assert!(rt; places.head(27) == 162);
+    assert!(rt; places.unit(0) == 168);
+    assert!(rt; places.mark(0) == 174);
+    assert!(rt; places.drawn() == 177);
+    assert!(rt; places.size() == 178);
+    let most = Limits {
+        spare: 256,
+        ..limits(32, 256, 1024, 7)
+    };
+    let Ok(largest) = Places::new(most) else {
+        assert!(rt; false);
+        return;
+    };
+    assert!(rt; largest.rows() == 10240);
+    assert!(rt; largest.size() == 94241);
 }
 
 #[test]
@@ -224,4 +263,9 @@ fn bad_limits(rt: HostRuntime) {
     assert!(rt; Places::new(limits(2, 8, 1025, 3)) == Err(Refusal::BadLimits));
     assert!(rt; Places::new(limits(2, 8, 8, 0)) == Err(Refusal::BadLimits));
     assert!(rt; Places::new(limits(2, 8, 8, 8)) == Err(Refusal::BadLimits));
+    let many = Limits {
+        spare: 257,
+        ..limits(2, 8, 8, 3)
+    };
+    assert!(rt; Places::new(many) == Err(Refusal::BadLimits));
 }
