@@ -1,5 +1,5 @@
 -- The claim exchange keeps the rule.
-use Rattle.std.proofs.Common.{◌≡◌, ℕ, ◌+◌, ◌-◌, ◌*◌, ◌<◌, ◌≤◌, ◌≢◌, eqb, cond, List, [], ◌∷◌, ◌++◌, set, get_or, sym, refl, ap, ◌∙◌, subst, ⊎_elim, arith, eq-eqb, ne_eqb, Option, Some, None}
+use Rattle.std.proofs.Common.{◌≡◌, ℕ, ◌+◌, ◌-◌, ◌*◌, ◌<◌, ◌≤◌, ◌≢◌, eqb, cond, List, [], ◌∷◌, ◌++◌, length, set, get_or, sym, refl, ap, ◌∙◌, subst, ⊎_elim, arith, eq-eqb, ne_eqb, Option, Some, None}
 use mathlib.Core.Logic.{dite}
 use native.Mathlib.Decide.{ℕ_discrete}
 use prog.Atomic.{either}
@@ -10,26 +10,28 @@ use Rattle.tp_model.specs.declared.trace.StepKind.TheVariants as kinds
 use Rattle.tp_model.specs.declared.types.Element.{Element}
 use Rattle.tp_model.specs.declared.types.Limits.{Limits}
 use Rattle.tp_model.specs.History.{Committed, UnitEnd, In, IsClaim, births, end_of, pass_of}
-use Rattle.tp_model.specs.Passes.{IsOwnOpen}
+use Rattle.tp_model.specs.Passes.{Ascend, IsOwnOpen}
 use Rattle.tp_model.specs.Steps.{AreLimits, Step, rows_of}
 use Rattle.tp_model.specs.Words.{ClaimWord, AgainWord, FreeWord, KilledWord, TakenWord, claim_word, round_in, claim_word_after, word_status}
 use Rattle.tp_model.proofs.Bridges.{by_own, claim_either, found_later, in_either, in_none, in_one, new_claim, unborn_still, unused_still, waits_below, waits_later}
 use Rattle.tp_model.proofs.Later.{abort_ends}
 use Rattle.tp_model.proofs.Lists.{option_or-None}
 use Rattle.tp_model.proofs.WordProofs.{end_of-snoc, status_by_words, unended}
-use Rattle.tp_words.specs.Places.{ClaimWord as ClaimOf, claim_place, place_of}
+use Rattle.tp_words.specs.Places.{ClaimWord as ClaimOf, claim_place, place_of, size_of}
 use Rattle.tp_words.specs.Words.{IsFitClaim, pack_claim}
 use Rattle.tp_rule.specs.Doors.{Permits}
 use Rattle.tp_rule.specs.Plays.{exchanges_claim}
-use Rattle.tp_rule.specs.Rule.{HandHolds, RowsHold, Rule, UnitsHold, World}
+use Rattle.tp_rule.specs.Rule.{HandHolds, RowsHold, Rule, UnitsHold, World, drawn_in}
 use Rattle.tp_rule.specs.Steps.{after, unchanged, with_claim, Grew, AllowsClaim, HasWork, claimed}
 use Rattle.tp_rule.specs.Views.{IsOnePass, hand}
 use Rattle.tp_rule.specs.declared.view.Hand.{Hand}
 use Rattle.tp_rule.specs.declared.view.View.{View}
 use Rattle.tp_rule.proofs.Events.{acted, looking_after, missed}
-use Rattle.tp_rule.proofs.Frames.{Turn, hand_holds, rows_frame, seat_holds}
+use Rattle.tp_rule.proofs.Frames.{Stays, Turn, hand_holds, rows_frame, seat_holds, spares_more}
+use Rattle.tp_rule.proofs.Owning.{own_inside}
+use Rattle.tp_model.proofs.Areas.{ascend_wider}
 use Rattle.tp_rule.proofs.Parts.{fair_units, IsOf, in_all}
-use Rattle.tp_rule.proofs.Storing.{row_left}
+use Rattle.tp_rule.proofs.Storing.{drawn_rises, may_claim, row_left}
 use Rattle.tp_rule.proofs.Tellings.{claim_now, told_later}
 use Rattle.tp_rule.proofs.Units.{decide}
 
@@ -57,17 +59,21 @@ claim_quiet c v i n u w = option_or-None w
 
 module _ (k : Limits) where
   -- the rows of the pass that made an event without births, at the claim word of a row
-  pub rows_still : (h : List Event) (ws : List ℕ) (e : Event) (row x c first next left : ℕ) (body : List ℕ) (ds : List Element) → row < rows_of k → births e ≡ [] → c < k.parts
-      → RowsHold k h ws c first next left body ds → RowsHold k (h ++ e ∷ []) (set ws (claim_place row) x) c first next left body ds
-  rows_still h ws e row x c first next left body ds at none_born below r = rows_frame k h (h ++ e ∷ []) ws (set ws (claim_place row) x) c first next left body ds below
-      (λ i part. row_left k ws (ClaimOf row) x at i (in_all k.parts k.rows c i part) (λ q. cc))
-      (λ i part un. unborn_still h e i un (λ z n id. in_none (subst (λ l. In z l) none_born n))) r
+  pub rows_still : (h : List Event) (ws : List ℕ) (e : Event) (row x first end first_draft next left : ℕ) (body : List ℕ) (ds : List Element) → row < rows_of k → births e ≡ [] → end ≤ rows_of k
+      → RowsHold h ws first end first_draft next left body ds → RowsHold (h ++ e ∷ []) (set ws (claim_place row) x) first end first_draft next left body ds
+  rows_still h ws e row x first end first_draft next left body ds at none_born inside r = rows_frame k h (h ++ e ∷ []) ws (set ws (claim_place row) x) first end first_draft next left body ds
+      (λ i low high. row_left k ws (ClaimOf row) x at i (omega arith) (λ q. cc))
+      (λ i low high un. unborn_still h e i un (λ z n id. in_none (subst (λ l. In z l) none_born n))) r
+
+  -- and its blocks
+  pub blocks_still : (ws : List ℕ) (row x : ℕ) (bs : List ℕ) → row < rows_of k → length ws ≡ size_of k → Ascend 0 (drawn_in k ws) bs → Ascend 0 (drawn_in k (set ws (claim_place row) x)) bs
+  blocks_still ws row x bs at wide up = ascend_wider 0 (drawn_in k ws) (drawn_in k (set ws (claim_place row) x)) bs (drawn_rises k ws (ClaimOf row) x at wide (may_claim k ws row x)) up
 
   -- an event about row `row` that makes its claim w
   module _ (t : Turn k) (e : Event) (row x : ℕ) (w : ClaimWord) (kind : StepKind) (f : Hand → Hand) where
     pub claim_event : row < rows_of k → x ≡ pack_claim w → IsFitClaim w → births e ≡ [] → pass_of e ≡ (hand t.view).number → Step k t.rule.history e
         → claim_word_after row (claim_word t.rule.history row) e ≡ w → ((i : ℕ) → i ≢ row → claim_word_after i (claim_word t.rule.history i) e ≡ claim_word t.rule.history i) → ((u : ℕ) (z : Option UnitEnd) → decide u z e ≡ z)
-        → ((a : Hand) → (f a).number ≡ a.number) → HandHolds k (t.rule.history ++ e ∷ []) (set t.state.words (claim_place row) x) (f (hand t.view))
+        → Stays k t f → HandHolds k (t.rule.history ++ e ∷ []) (set t.state.words (claim_place row) x) (f (hand t.view))
         → Rule k record { words = set t.state.words (claim_place row) x; homes = t.state.homes; views = set t.state.views t.id (after kind f (t.rule.history ++ e ∷ []) t.view.known t.view) }
         × Grew kind f (e ∷ []) t.view (after kind f (t.rule.history ++ e ∷ []) t.view.known t.view)
     claim_event room is fit none_born own st here_is else_is quiet stays mine = let h = t.rule.history in acted k t record {
@@ -82,9 +88,10 @@ module _ (k : Limits) where
       there = room;
       told = claim_now h e row x w here_is is fit;
       rest = λ v there other. told_later h e none_born v (get_or t.state.words (place_of k v) 0) (λ i q. else_is i (λ same. other (q ∙ ap ClaimOf same))) (λ u q. quiet u (end_of h u)) (t.rule.world.tells v there);
-      empty = λ i q. absurd cc;
+      may = may_claim k t.state.words row x;
       unmarked = λ z q. cc;
-      apart = λ d i ne part q. cc;
+      tells_own = λ i q. absurd cc;
+      births_own = λ y q. absurd (in_none (subst (In y) none_born q));
       mine = mine;
     }
 
@@ -140,10 +147,15 @@ module _ (k : Limits) where
       } in
       let top_n = attempt_fits v.seen w n fair may in let small : u ≤ 65534 = omega arith in
       let done = claim_event t e row new (TakenWord n u (round_in w)) kinds.ClaimExchange (with_claim u e) room to (may.0, top_n, small, round_fits w fit) refl refl st (ap (λ b. cond b (TakenWord n u (round_in (claim_word h row))) (claim_word h row)) (eq-eqb row row refl) ∙ ap (λ z. TakenWord n u (round_in z)) now)
-      (λ i not. ap (λ b. cond b (TakenWord n u (round_in (claim_word h i))) (claim_word h i)) (ne_eqb row i (λ z. not (sym z)))) (claim_quiet a.number u row n) (λ z. refl) record {
+      (λ i not. ap (λ b. cond b (TakenWord n u (round_in (claim_word h i))) (claim_word h i)) (ne_eqb row i (λ z. not (sym z)))) (claim_quiet a.number u row n) (λ z. (refl, refl)) record {
         given = mine.given;
         mine = ap (λ l. l ++ e ∷ []) mine.mine ∙ sym (by_own a.number h e refl);
-        rows = rows_still h s.words e row new a.number a.first_draft a.next a.left a.next_body a.drafts room refl mine.given mine.rows;
+        blocks = blocks_still s.words row new a.blocks room r.world.wide mine.blocks;
+        spares = spares_more k t e (λ y q. absurd (in_none q));
+        first = mine.first;
+        end = mine.end;
+        area = mine.area;
+        rows = rows_still h s.words e row new mine.first mine.end a.first_draft a.next a.left a.next_body a.drafts room refl (own_inside k a.number a.blocks mine.first mine.end mine.area) mine.rows;
         units = units_claim h s.words a.number row n a.claimed u r.world is_next left units;
       } in (
         after kinds.ClaimExchange (with_claim u e) (h ++ e ∷ []) v.known v,

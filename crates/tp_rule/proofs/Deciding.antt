@@ -11,24 +11,27 @@ use Rattle.tp_model.specs.declared.trace.StepKind.TheVariants as kinds
 use Rattle.tp_model.specs.declared.types.Element.{Element}
 use Rattle.tp_model.specs.declared.types.Limits.{Limits}
 use Rattle.tp_model.specs.History.{Aborted, Committed, UnitEnd, In, here, there, IsUnborn, births, end_of, first_id, pass_of}
-use Rattle.tp_model.specs.Steps.{AreLimits, AreOutputs, Step, units_of}
+use Rattle.tp_model.specs.Steps.{AreLimits, AreOutputs, MayUse, Step, rows_of, units_of}
 use Rattle.tp_model.specs.Words.{claim_word, claim_word_after}
 use Rattle.tp_model.proofs.Bridges.{found_later, taking_later, by_own, claim_either, in_none, unborn_still, unused_still}
 use Rattle.tp_model.proofs.Lists.{option_or-None, if_same, if_other}
 use Rattle.tp_model.proofs.WordProofs.{end_of-snoc}
-use Rattle.tp_words.specs.Places.{Word, HeadWord, BodyWord, ClaimWord, UnitWord, MarkWord, IsThere, head_place, body_place, claim_place, unit_place, place_of}
+use Rattle.tp_words.specs.Places.{Word, HeadWord, BodyWord, ClaimWord, UnitWord, MarkWord, DrawnWord, IsThere, head_place, body_place, claim_place, unit_place, place_of, size_of}
 use Rattle.tp_words.specs.Words.{IsFitHead, IsFitUnit, head_of, pack_by, pack_head, pack_unit}
 use Rattle.tp_rule.specs.Doors.{Permits}
 use Rattle.tp_rule.specs.Plays.{exchanges_commit, exchanges_abort}
-use Rattle.tp_rule.specs.Rule.{AreFrom, HandHolds, Holds, RowsHold, Rule, Told, UnitsHold}
+use Rattle.tp_rule.specs.Rule.{AreFrom, HandHolds, Holds, RowsHold, Rule, Told, UnitsHold, drawn_in}
+use Rattle.tp_model.specs.Passes.{Ascend}
 use Rattle.tp_rule.specs.Steps.{IsOut, after, unchanged, with_end, with_lost, IsOwnWork, IsClaimed, committed, Grew, Loses}
 use Rattle.tp_rule.specs.Views.{IsOnePass, hand}
 use Rattle.tp_rule.specs.declared.view.Hand.{Hand}
 use Rattle.tp_rule.specs.declared.view.View.{View}
 use Rattle.tp_rule.proofs.Events.{acted, found_there, looking_after, watched}
-use Rattle.tp_rule.proofs.Frames.{Turn, decide_undecided, hand_holds, rows_frame, seat_holds}
-use Rattle.tp_rule.proofs.Parts.{fair_rows, fair_units, IsOf, in_all, in_run}
-use Rattle.tp_rule.proofs.Storing.{row_left}
+use Rattle.tp_rule.proofs.Frames.{IsMine, Turn, decide_undecided, hand_holds, mine_may, rows_frame, seat_holds, spares_more}
+use Rattle.tp_rule.proofs.Owning.{own_inside}
+use Rattle.tp_model.proofs.Areas.{ascend_wider}
+use Rattle.tp_rule.proofs.Parts.{fair_rows, fair_units, in_run}
+use Rattle.tp_rule.proofs.Storing.{drawn_rises, may_unit, row_left}
 use Rattle.tp_rule.proofs.Tellings.{body_later, born_fit, claim_later, head_later, unit_later, unit_now}
 use Rattle.tp_rule.proofs.Units.{decide}
 use Rattle.tp_rule.proofs.Watching.{rows_lost}
@@ -59,13 +62,13 @@ run_first : (i : ℕ) (xs : List Element) → AreFrom i xs → AreFrom (first_id
 run_first i [] r = tt
 run_first i (x ∷ xs) r = (refl, subst (λ z. AreFrom (z + 1) xs) (sym r.0) r.1)
 
--- drafts in unborn rows of the pass are outputs of the unit
-are_outputs : (k : Limits) (h : List Event) (c u root i : ℕ) (outs : List Element) → AreFrom i outs → ((y : Element) → In y outs → IsOf k.parts k.rows c y.id × IsUnborn h y.id) → ((y : Element) → In y outs → IsOut u root y) → AreOutputs k h c u root i outs
+-- drafts in unborn rows that the pass may use are outputs of the unit
+are_outputs : (k : Limits) (h : List Event) (c u root i : ℕ) (outs : List Element) → AreFrom i outs → ((y : Element) → In y outs → MayUse k h c y.id × IsUnborn h y.id) → ((y : Element) → In y outs → IsOut u root y) → AreOutputs k h c u root i outs
 are_outputs k h c u root i [] from places outs_so = tt
 are_outputs k h c u root i (y ∷ ys) from places outs_so = let p = places y here in let o = outs_so y here in (
   record {
     place = from.0;
-    row = subst (IsOf k.parts k.rows c) from.0 p.0;
+    row = subst (MayUse k h c) from.0 p.0;
     unborn = subst (IsUnborn h) from.0 p.1;
     stage = o.0;
     body = o.3;
@@ -112,41 +115,44 @@ module _ (k : Limits) where
       (λ y q id. let holds = (full y q).0 in let below = at.1 in let whole = holds.2 in subst (λ z. get_or ws (body_place z j) 0 ≡ slice_index y.body j) id (holds.1 j (omega arith))) old
   decided_told h ws e u quiet else_is full (ClaimWord i) at other old = claim_later h e i (get_or ws (claim_place i) 0) (quiet i) old
   decided_told h ws e u quiet else_is full (MarkWord p) at other old = tt
+  decided_told h ws e u quiet else_is full DrawnWord at other old = tt
   decided_told h ws e u quiet else_is full (UnitWord z) at other old = unit_later h e z (get_or ws (unit_place k z) 0) (else_is z (λ same. other (ap UnitWord same))) old
 
   -- an event of the pass that decides unit u
   unit_event : (t : Turn k) (e : Event) (u x : ℕ) (w : Option UnitEnd) (kind : StepKind) → u < units_of k → x ≡ pack_unit w → IsFitUnit w → pass_of e ≡ (hand t.view).number → Step k t.rule.history e
       → ((i : ℕ) → claim_word_after i (claim_word t.rule.history i) e ≡ claim_word t.rule.history i) → decide u (end_of t.rule.history u) e ≡ w → ((z : ℕ) → z ≢ u → decide z (end_of t.rule.history z) e ≡ end_of t.rule.history z)
-      → ((y : Element) → In y (births e) → Holds t.state.words y × IsFitHead (head_of y)) → HandHolds k (t.rule.history ++ e ∷ []) (set t.state.words (unit_place k u) x) (with_end e (hand t.view))
+      → ((y : Element) → In y (births e) → Holds t.state.words y × IsFitHead (head_of y)) → ((y : Element) → In y (births e) → IsMine k t y.id) → HandHolds k (t.rule.history ++ e ∷ []) (set t.state.words (unit_place k u) x) (with_end e (hand t.view))
       → Rule k record { words = set t.state.words (unit_place k u) x; homes = t.state.homes; views = set t.state.views t.id (after kind (with_end e) (t.rule.history ++ e ∷ []) t.view.known t.view) }
       × Grew kind (with_end e) (e ∷ []) t.view (after kind (with_end e) (t.rule.history ++ e ∷ []) t.view.known t.view)
-  unit_event t e u x w kind room is fit own st quiet here_is else_is full mine = let h = t.rule.history in acted k t record {
+  unit_event t e u x w kind room is fit own st quiet here_is else_is full born_own mine = let h = t.rule.history in acted k t record {
     event = e;
     word = UnitWord u;
     number = x;
     kind = kind;
     f = with_end e;
-    stays = λ z. refl;
+    stays = λ z. (refl, refl);
     own = own;
     step = st;
     there = room;
     told = unit_now h e u x w here_is is fit;
     rest = λ v there other. decided_told h t.state.words e u quiet else_is full v there other (t.rule.world.tells v there);
-    empty = λ i q. absurd cc;
+    may = may_unit k t.state.words u x;
     unmarked = λ z q. cc;
-    apart = λ d i ne part q. cc;
+    tells_own = λ i q. absurd cc;
+    births_own = born_own;
     mine = mine;
   }
 
   -- the rows of the pass that decided a unit; its births are its drafts, or there are none
-  rows_end : (h : List Event) (ws : List ℕ) (e : Event) (u x c first next left : ℕ) (body : List ℕ) (ds : List Element) → u < units_of k → c < k.parts → ((y : Element) → In y (births e) → In y ds)
-      → RowsHold k h ws c first next left body ds → RowsHold k (h ++ e ∷ []) (set ws (unit_place k u) x) c next next left body []
-  rows_end h ws e u x c first next left body ds at below from r = let r2 = rows_lost k h ws c first next left body ds r in let same_words = λ (i : ℕ) (part : IsOf k.parts k.rows c i). row_left k ws (UnitWord u) x at i (in_all k.parts k.rows c i part) (λ q. cc) in
-      let count = r.counted in let r3 = rows_frame k h h ws (set ws (unit_place k u) x) c next next left body [] below same_words (λ i part un. un) r2 in record {
+  rows_end : (h : List Event) (ws : List ℕ) (e : Event) (u x first end first_draft next left : ℕ) (body : List ℕ) (ds : List Element) → u < units_of k → end ≤ rows_of k → ((y : Element) → In y (births e) → In y ds)
+      → RowsHold h ws first end first_draft next left body ds → RowsHold (h ++ e ∷ []) (set ws (unit_place k u) x) first end next next left body []
+  rows_end h ws e u x first end first_draft next left body ds at inside from r = let r2 = rows_lost k h ws first end first_draft next left body ds r in
+      let same_words = λ (i : ℕ) (low : first ≤ i) (high : i < end). row_left k ws (UnitWord u) x at i (omega arith) (λ q. cc) in
+      let count = r.counted in let r3 = rows_frame k h h ws (set ws (unit_place k u) x) first end next next left body [] same_words (λ i low high un. un) r2 in record {
         counted = r3.counted;
         begins = r3.begins;
         ends = r3.ends;
-        unborn = λ i l m. unborn_still h e i (r2.unborn i l m) (λ z n id. let t = in_run first ds z r.run (from z n) in let b = t.1 in absurd (omega arith));
+        unborn = λ i l m. unborn_still h e i (r2.unborn i l m) (λ z n id. let t = in_run first_draft ds z r.run (from z n) in let b = t.1 in absurd (omega arith));
         full = r3.full;
         empty = r3.empty;
         body_few = r3.body_few;
@@ -159,15 +165,24 @@ module _ (k : Limits) where
   first_of_none [] e = refl
   first_of_none (y ∷ ys) e = absurd (omega arith)
 
-  first_fits : (h : List Event) (c first next left : ℕ) (ds : List Element) → AreLimits k → c < k.parts → first + length ds ≡ next → c * k.rows ≤ first → next + left ≡ c * k.rows + k.rows → AreFrom first ds → first_id ds < 65536
-  first_fits h c first next left [] fair below count low top r = omega arith
-  first_fits h c first next left (y ∷ ys) fair below count low top r = let id : y.id ≡ first = r.0 in let part : IsOf k.parts k.rows c y.id = (below, omega arith, omega arith) in let all = in_all k.parts k.rows c y.id part in let few = fair_rows k fair in omega arith
+  first_fits : (end first next left : ℕ) (ds : List Element) → AreLimits k → first + length ds ≡ next → next + left ≡ end → end ≤ rows_of k → AreFrom first ds → first_id ds < 65536
+  first_fits end first next left [] fair count top inside r = omega arith
+  first_fits end first next left (y ∷ ys) fair count top inside r = let id : y.id ≡ first = r.0 in let few = fair_rows k fair in omega arith
+
+  -- the blocks of the pass after a store to a unit's word
+  blocks_end : (ws : List ℕ) (u x : ℕ) (bs : List ℕ) → u < units_of k → length ws ≡ size_of k → Ascend 0 (drawn_in k ws) bs → Ascend 0 (drawn_in k (set ws (unit_place k u) x)) bs
+  blocks_end ws u x bs at wide up = ascend_wider 0 (drawn_in k ws) (drawn_in k (set ws (unit_place k u) x)) bs (drawn_rises k ws (UnitWord u) x at wide (may_unit k ws u x)) up
 
   lost_hand : (h : List Event) (ws : List ℕ) (u : ℕ) (a : Hand) → a.open_unit ≡ Some u → end_of h u ≡ (Some Aborted) → HandHolds k h ws a → HandHolds k h ws (with_lost a)
   lost_hand h ws u a held gone r = record {
     given = r.given;
     mine = r.mine;
-    rows = rows_lost k h ws a.number a.first_draft a.next a.left a.next_body a.drafts r.rows;
+    blocks = r.blocks;
+    spares = r.spares;
+    first = r.first;
+    end = r.end;
+    area = r.area;
+    rows = rows_lost k h ws r.first r.end a.first_draft a.next a.left a.next_body a.drafts r.rows;
     units = units_decided h a.number a.claimed u a.spare_unit a.open_unit (inr held) (λ z. let q : (Some Aborted) ≡ None = sym gone ∙ z in absurd cc) r.units;
   }
 
@@ -176,7 +191,7 @@ module _ (k : Limits) where
       → Rule k record { words = set t.state.words p (get_or t.state.words p 0); homes = t.state.homes; views = set t.state.views t.id (looking_after k t p kind with_lost) } × Loses kind t.view u (looking_after k t p kind with_lost)
   loses t kind p u place room held miss = let mine = hand_holds k t in let own = mine.units.open_own u held in
       let gone = only_aborted (end_of t.rule.history u) (λ z. miss (ap (λ y. get_or t.state.words y 0) place ∙ ((t.rule.world.tells (UnitWord u) room).0 ∙ z))) own.uncommitted in
-      let w = watched k t p kind with_lost (λ a. refl) (lost_hand t.rule.history t.state.words u (hand t.view) held gone mine) in (w.0, (w.1, gone, own.kept))
+      let w = watched k t p kind with_lost (λ a. (refl, refl)) (lost_hand t.rule.history t.state.words u (hand t.view) held gone mine) in (w.0, (w.1, gone, own.kept))
 
   open_unit : (t : Turn k) (p u : ℕ) → p ≡ unit_place k u → u < units_of k → get_or t.state.words p 0 ≡ 0 → end_of t.rule.history u ≡ None
   open_unit t p u place room hit = unit_undecided (end_of t.rule.history u) (sym (t.rule.world.tells (UnitWord u) room).0 ∙ (ap (λ y. get_or t.state.words y 0) (sym place) ∙ hit))
@@ -187,6 +202,7 @@ module _ (k : Limits) where
   commits_go v p new u first count fair one lim held work few f_is c_is room place to s r id at = let t : Turn k = record { state = s; rule = r; id = id; view = v; at = at; one = one } in let a : Hand = hand v in let x : ℕ = get_or s.words p 0 in let h = r.history in
       let seat = seat_holds k t in let mine = hand_holds k t in let ds : List Element = a.drafts in let word : p ≡ unit_place v.limits u = place ∙ ap (λ (l : Limits). unit_place l u) (sym lim) in dite (ℕ_discrete x 0)
       (λ hit. let e : Event = committed v u in let undecided = open_unit t p u place room hit in let rows = mine.rows in let count_is = rows.counted in let bottom = rows.begins in let top = rows.ends in
+      let drafts_own : (y : Element) → In y ds → IsMine k t y.id = λ y q. (let b = in_run a.first_draft ds y rows.run q in let l = b.0 in let m = b.1 in (omega arith, omega arith)) in let inside = own_inside k a.number a.blocks mine.first mine.end mine.area in
       let item = found_later v.seen h seat.seen work.taking.item work.item work.taken in
       let st : Step k h e = record {
         taking = work.taking;
@@ -196,16 +212,21 @@ module _ (k : Limits) where
         taken = item;
         few = few;
         outputs = are_outputs k h a.number u work.item.root (first_id ds) ds (run_first a.first_draft ds rows.run)
-            (λ y q. let b = in_run a.first_draft ds y rows.run q in let l = b.0 in let m = b.1 in ((mine.given, omega arith, omega arith), rows.unborn y.id (omega arith) (omega arith))) work.outputs;
+            (λ y q. let own = drafts_own y q in (mine_may k t y.id own, rows.unborn y.id (in_run a.first_draft ds y rows.run q).0 (let high = own.1 in omega arith))) work.outputs;
       } in
       let now : decide u (end_of h u) e ≡ Some (Committed first count) = ap (λ z. decide u z e) undecided ∙ (commit_here a.number u ds ∙ (λ i. Some (Committed (sym f_is i) (sym c_is i)))) in
-      let many = fair_units k fair in let none_first : count ≡ 0 → first ≡ 0 = λ z. f_is ∙ first_of_none ds (sym c_is ∙ z) in let small = first_fits h a.number a.first_draft a.next a.left ds fair mine.given rows.counted rows.begins rows.ends rows.run in
+      let many = fair_units k fair in let none_first : count ≡ 0 → first ≡ 0 = λ z. f_is ∙ first_of_none ds (sym c_is ∙ z) in let small = first_fits mine.end a.first_draft a.next a.left ds fair rows.counted rows.ends inside rows.run in
       let old = born_fit k h s.words r.world work.taking.item work.item item in let low : work.item.root ≤ 65535 = old.2 in
       let done = unit_event t e u new (Some (Committed first count)) kinds.CommitExchange room to (omega arith, omega arith, none_first) refl st (λ i. refl) now (λ z ne. commit_else a.number u ds z (end_of h z) ne)
-      (λ y q. let o = work.outputs y q in let same_root : y.root ≡ work.item.root = o.2 in (rows.written y q, (o.0.0, o.0.1, omega arith, subst (λ z. pack_by z ≤ 65535) (sym o.1) (omega arith)))) record {
+      (λ y q. let o = work.outputs y q in let same_root : y.root ≡ work.item.root = o.2 in (rows.written y q, (o.0.0, o.0.1, omega arith, subst (λ z. pack_by z ≤ 65535) (sym o.1) (omega arith)))) drafts_own record {
         given = mine.given;
         mine = ap (λ l. l ++ e ∷ []) mine.mine ∙ sym (by_own a.number h e refl);
-        rows = rows_end h s.words e u new a.number a.first_draft a.next a.left a.next_body ds room mine.given (λ y q. q) rows;
+        blocks = blocks_end s.words u new a.blocks room r.world.wide mine.blocks;
+        spares = spares_more k t e drafts_own;
+        first = mine.first;
+        end = mine.end;
+        area = mine.area;
+        rows = rows_end h s.words e u new mine.first mine.end a.first_draft a.next a.left a.next_body ds room inside (λ y q. q) rows;
         units = units_end h e a.number a.claimed u a.spare_unit a.open_unit (inr held) (λ d z i n q. cc) (λ z. let q : Some (Committed first count) ≡ None = sym (end_of-snoc h e u ∙ now) ∙ z in absurd cc) mine.units;
       } in (
         after kinds.CommitExchange (with_end e) (h ++ e ∷ []) v.known v,
@@ -225,10 +246,15 @@ module _ (k : Limits) where
       (λ hit. let e : Event = Abort a.number u in let undecided = open_unit t p u place room hit in
       let st : Step k h e = record { pass = mine.given; taking = was.0; open_unit = record { claimed = taking_later v.seen h seat.seen u was.0 was.1; unfinished = undecided } } in
       let now : decide u (end_of h u) e ≡ (Some Aborted) = ap (λ z. decide u z e) undecided ∙ abort_here a.number u in
-      let done = unit_event t e u 2 (Some Aborted) kinds.AbortExchange room refl tt refl st (λ i. refl) now (λ z ne. abort_else a.number u z (end_of h z) ne) (λ y q. absurd (in_none q)) record {
+      let done = unit_event t e u 2 (Some Aborted) kinds.AbortExchange room refl tt refl st (λ i. refl) now (λ z ne. abort_else a.number u z (end_of h z) ne) (λ y q. absurd (in_none q)) (λ y q. absurd (in_none q)) record {
         given = mine.given;
         mine = ap (λ l. l ++ e ∷ []) mine.mine ∙ sym (by_own a.number h e refl);
-        rows = rows_end h s.words e u 2 a.number a.first_draft a.next a.left a.next_body a.drafts room mine.given (λ y q. absurd (in_none q)) mine.rows;
+        blocks = blocks_end s.words u 2 a.blocks room r.world.wide mine.blocks;
+        spares = spares_more k t e (λ y q. absurd (in_none q));
+        first = mine.first;
+        end = mine.end;
+        area = mine.area;
+        rows = rows_end h s.words e u 2 mine.first mine.end a.first_draft a.next a.left a.next_body a.drafts room (own_inside k a.number a.blocks mine.first mine.end mine.area) (λ y q. absurd (in_none q)) mine.rows;
         units = units_end h e a.number a.claimed u a.spare_unit a.open_unit holding (λ d z i n q. cc) (λ z. let q : (Some Aborted) ≡ None = sym (end_of-snoc h e u ∙ now) ∙ z in absurd cc) mine.units;
       } in (
         after kinds.AbortExchange (with_end e) (h ++ e ∷ []) v.known v,
@@ -236,7 +262,7 @@ module _ (k : Limits) where
         (u, word, (λ _. done.1), (λ not. absurd (not hit)), (λ not. absurd (not hit)), (λ not. absurd (not hit))),
       ))
       (λ miss. ⊎_elim
-      (λ none_held. let m = watched k t p kinds.AbortExchange unchanged (λ z. refl) mine in (
+      (λ none_held. let m = watched k t p kinds.AbortExchange unchanged (λ z. (refl, refl)) mine in (
         looking_after k t p kinds.AbortExchange unchanged,
         subst (λ z. Rule k record { words = set s.words p z; homes = s.homes; views = set s.views id (looking_after k t p kinds.AbortExchange unchanged) }) (sym (ap (λ b. either b 2 x) (ne_eqb x 0 miss))) m.0,
         (u, word, (λ hit. absurd (miss hit)), (λ _ is. let q : None ≡ Some u = sym none_held ∙ is in absurd cc), (λ _ _. m.1), (λ _. found_there k t p kinds.AbortExchange unchanged)),

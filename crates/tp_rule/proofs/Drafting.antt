@@ -1,5 +1,5 @@
 -- Draft stores keep the rule.
-use Rattle.std.proofs.Common.{◌≡◌, ℕ, zero, suc, ◌+◌, ◌-◌, ◌*◌, ◌<◌, ◌≤◌, ◌≢◌, List, [], ◌∷◌, ◌++◌, length, take, set, get_or, slice_index, sym, refl, ap, ◌∙◌, subst, ⊎_elim, arith, length-append, Some, None}
+use Rattle.std.proofs.Common.{◌≡◌, ℕ, zero, suc, ◌+◌, ◌-◌, ◌<◌, ◌≤◌, ◌≢◌, List, [], ◌∷◌, ◌++◌, length, take, set, get_or, slice_index, sym, refl, ap, ◌∙◌, subst, ⊎_elim, arith, length-append, Some, None}
 use mathlib.Core.Logic.{dite}
 use native.Mathlib.Decide.{ℕ_discrete}
 use Rattle.tp_model.specs.declared.event.Event.{Event}
@@ -10,20 +10,21 @@ use Rattle.tp_model.specs.History.{In, IsUnborn, element_of}
 use Rattle.tp_model.specs.declared.types.TheConstants.{BODY_WORDS}
 use Rattle.tp_model.specs.Steps.{IsBody, rows_of}
 use Rattle.tp_model.proofs.Bridges.{begins_refl, in_either, in_one}
-use Rattle.tp_words.specs.Places.{Word, HeadWord, BodyWord, MarkWord, IsThere, head_place, body_place, place_of, size_of}
+use Rattle.tp_words.specs.Places.{Word, HeadWord, BodyWord, IsThere, head_place, body_place, place_of, size_of}
 use Rattle.tp_words.specs.Words.{head_of, pack_head}
 use Rattle.tp_words.specs.declared.words.Head.TheVariants.{There}
 use Rattle.tp_rule.specs.Doors.{Permits}
 use Rattle.tp_rule.specs.Plays.{stores_word, stores_head}
-use Rattle.tp_rule.specs.Rule.{HandHolds, Holds, RowsHold, Rule, StillSo, Told}
+use Rattle.tp_rule.specs.Rule.{HandHolds, Holds, RowsHold, Rule, Told, drawn_in}
 use Rattle.tp_rule.specs.Steps.{drafted, with_word, with_draft, next_element, IsReady}
 use Rattle.tp_rule.specs.Views.{IsOnePass, hand}
 use Rattle.tp_rule.specs.declared.view.Hand.{Hand}
-use Rattle.tp_rule.specs.declared.view.Known.{Known}
 use Rattle.tp_rule.specs.declared.view.View.{View}
-use Rattle.tp_rule.proofs.Frames.{Turn, hand_holds, hand_quiet, me, moved, seat_holds}
-use Rattle.tp_rule.proofs.Parts.{IsOf, in_all, in_run, one_part, run_snoc}
-use Rattle.tp_rule.proofs.Storing.{body_row, full_head, holds_same, left, row_left, still_left, stored}
+use Rattle.tp_rule.proofs.Frames.{IsMine, Stays, Turn, draws_still, hand_holds, hand_quiet, me, mine_alone, mine_inside, moved, seat_holds}
+use Rattle.tp_rule.proofs.Owning.{own_drawn, own_inside}
+use Rattle.tp_rule.proofs.Parts.{in_run, run_snoc}
+use Rattle.tp_model.proofs.Areas.{ascend_wider, one_area, own_area}
+use Rattle.tp_rule.proofs.Storing.{MayHead, MayStore, body_row, drawn_rises, full_head, holds_same, left, row_left, still_left, stored}
 use Rattle.tp_rule.proofs.Tellings.{world_stored}
 
 -- the words of a body, of which the m-th is stored behind those before it
@@ -51,37 +52,32 @@ same_word : (i j n m : ℕ) → BodyWord i j ≡ BodyWord n m → j ≡ m
 same_word i j n m e = cc
 
 module _ (k : Limits) where
-  -- a word of row `row` of pass c is of no row of pass d
-  pub of_no_other : (c d row : ℕ) (w : Word) → body_row w ≡ Some row → IsOf k.parts k.rows c row → d ≢ c → (i : ℕ) → IsOf k.parts k.rows d i → body_row w ≢ Some i
-  of_no_other c d row w is own ne i part e = let same : i ≡ row = cc in one_part k.parts k.rows d c row (subst (IsOf k.parts k.rows d) same part) own ne
-
-  -- a store to a word of the row that pass c draws next
-  module _ (h : List Event) (ws : List ℕ) (c first row rest : ℕ) (w : Word) (x : ℕ) (at : IsThere k w) (below : c < k.parts) where
+  -- a store to a word of the row that a pass draws next, whose run lies in the area from row `first` up to `end`
+  module _ (h : List Event) (ws : List ℕ) (first end first_draft row rest : ℕ) (w : Word) (x : ℕ) (at : IsThere k w) (inside : end ≤ rows_of k) where
     abbrev stored_words : List ℕ
     stored_words = set ws (place_of k w) x
 
     -- leaves the drafts, which are behind it
-    pub drafts_stay : (body : List ℕ) (ds : List Element) → body_row w ≡ Some row → 0 < rest → RowsHold k h ws c first row rest body ds → (e : Element) → In e ds → Holds stored_words e
-    drafts_stay body ds is room r e q = let b = in_run first ds e r.run q in let low = b.0 in let high = b.1 in let count = r.counted in let bottom = r.begins in let top = r.ends in
-        let part : IsOf k.parts k.rows c e.id = (below, omega arith, omega arith) in
-        holds_same ws stored_words e (row_left k ws w x at e.id (in_all k.parts k.rows c e.id part) (λ z. let same : e.id ≡ row = cc in omega arith)) (r.written e q)
+    pub drafts_stay : (body : List ℕ) (ds : List Element) → body_row w ≡ Some row → 0 < rest → RowsHold h ws first end first_draft row rest body ds → (e : Element) → In e ds → Holds stored_words e
+    drafts_stay body ds is room r e q = let b = in_run first_draft ds e r.run q in let low = b.0 in let high = b.1 in let count = r.counted in let top = r.ends in
+        holds_same ws stored_words e (row_left k ws w x at e.id (omega arith) (λ z. let same : e.id ≡ row = cc in omega arith)) (r.written e q)
 
     -- and the heads of the other rows, if it isn't theirs
-    head_left : (i : ℕ) → w ≢ HeadWord i → IsOf k.parts k.rows c i → get_or stored_words (head_place i) 0 ≡ get_or ws (head_place i) 0
-    head_left i other part = left k ws w x at (HeadWord i) (in_all k.parts k.rows c i part) (λ e. other (sym e))
+    head_left : (i : ℕ) → w ≢ HeadWord i → i < end → get_or stored_words (head_place i) 0 ≡ get_or ws (head_place i) 0
+    head_left i other below = left k ws w x at (HeadWord i) (omega arith) (λ e. other (sym e))
 
-    heads_left : (i : ℕ) → w ≢ HeadWord i → IsOf k.parts k.rows c i → get_or ws (head_place i) 0 ≡ 0 → get_or stored_words (head_place i) 0 ≡ 0
-    heads_left i other part empty = head_left i other part ∙ empty
+    heads_left : (i : ℕ) → w ≢ HeadWord i → i < end → get_or ws (head_place i) 0 ≡ 0 → get_or stored_words (head_place i) 0 ≡ 0
+    heads_left i other below empty = head_left i other below ∙ empty
 
-    word_stored : (m : ℕ) (body : List ℕ) (ds : List Element) → w ≡ BodyWord row m → m ≤ length body → 0 < rest → length ws ≡ size_of k → RowsHold k h ws c first row rest body ds
-        → RowsHold k h stored_words c first row rest (take m body ++ x ∷ []) ds
-    word_stored m body ds is behind room wide r = let count = r.counted in let bottom = r.begins in let top = r.ends in let own : row < rows_of k = in_all k.parts k.rows c row (below, omega arith, omega arith) in let at_word : IsThere k (BodyWord row m) = subst (IsThere k) is at in let few = at_word.1 in record {
+    word_stored : (m : ℕ) (body : List ℕ) (ds : List Element) → w ≡ BodyWord row m → m ≤ length body → 0 < rest → length ws ≡ size_of k → RowsHold h ws first end first_draft row rest body ds
+        → RowsHold h stored_words first end first_draft row rest (take m body ++ x ∷ []) ds
+    word_stored m body ds is behind room wide r = let count = r.counted in let bottom = r.begins in let top = r.ends in let own : row < rows_of k = omega arith in let at_word : IsThere k (BodyWord row m) = subst (IsThere k) is at in let few = at_word.1 in record {
       counted = r.counted;
       begins = r.begins;
       ends = r.ends;
       unborn = r.unborn;
-      full = λ i l n z. r.full i l n (sym (head_left i (λ e. no_head row m i (sym is ∙ e)) (below, l, omega arith)) ∙ z);
-      empty = λ i l n. heads_left i (λ e. no_head row m i (sym is ∙ e)) (below, omega arith, omega arith) (r.empty i l n);
+      full = λ i l n z. r.full i l n (sym (head_left i (λ e. no_head row m i (sym is ∙ e)) (omega arith)) ∙ z);
+      empty = λ i l n. heads_left i (λ e. no_head row m i (sym is ∙ e)) (omega arith) (r.empty i l n);
       body_few = let long = length_stored m x body behind in omega arith;
       body_there = λ _ j less. let long = length_stored m x body behind in dite (ℕ_discrete j m)
           (λ e. ap (λ z. get_or stored_words (body_place row z) 0) e ∙ (ap (λ z. get_or stored_words (place_of k z) 0) (sym is) ∙ (stored k ws w x at wide ∙ (sym (last_stored m x body behind) ∙ ap (λ z. get_or (take m body ++ x ∷ []) z 0) (sym e)))))
@@ -93,8 +89,8 @@ module _ (k : Limits) where
 
     -- the row that is drawn has its body and its head
     pub row_full : (body : List ℕ) (ds : List Element) (e : Element) → w ≡ HeadWord row → e.id ≡ row → body ≡ e.body → IsBody body → x ≡ pack_head (head_of e) → 0 < rest → length ws ≡ size_of k
-        → RowsHold k h ws c first row rest body ds → Holds stored_words e
-    row_full body ds e is id same whole head room wide r = let count = r.counted in let bottom = r.begins in let top = r.ends in let own : row < rows_of k = in_all k.parts k.rows c row (below, omega arith, omega arith) in let e_whole : IsBody e.body = subst IsBody same whole in (
+        → RowsHold h ws first end first_draft row rest body ds → Holds stored_words e
+    row_full body ds e is id same whole head room wide r = let count = r.counted in let bottom = r.begins in let top = r.ends in let own : row < rows_of k = omega arith in let e_whole : IsBody e.body = subst IsBody same whole in (
       ap (λ z. get_or stored_words (head_place z) 0) id ∙ (ap (λ z. get_or stored_words (place_of k z) 0) (sym is) ∙ (stored k ws w x at wide ∙ head)),
       λ j less. ap (λ z. get_or stored_words (body_place z j) 0) id ∙ (left k ws w x at (BodyWord row j) (own, omega arith) (λ e. no_head row j row (sym (sym is ∙ sym e)))
           ∙ (r.body_there room j (subst (λ z. j < length z) (sym same) less) ∙ ap (λ z. get_or z j 0) same)),
@@ -102,28 +98,28 @@ module _ (k : Limits) where
     )
 
     -- no head behind it is stored
-    pub empty_behind : c * k.rows ≤ row → row + rest ≡ c * k.rows + k.rows → w ≡ HeadWord row → (i : ℕ) → row + 1 ≤ i → i < row + rest → ((j : ℕ) → row ≤ j → j < row + rest → get_or ws (head_place j) 0 ≡ 0) → get_or stored_words (head_place i) 0 ≡ 0
-    empty_behind bottom top is i low high empty = heads_left i (λ e. let q : HeadWord row ≡ HeadWord i = sym is ∙ e in let same : row ≡ i = cc in omega arith) (below, omega arith, omega arith) (empty i (omega arith) high)
+    pub empty_behind : row + rest ≡ end → w ≡ HeadWord row → (i : ℕ) → row + 1 ≤ i → i < row + rest → ((j : ℕ) → row ≤ j → j < row + rest → get_or ws (head_place j) 0 ≡ 0) → get_or stored_words (head_place i) 0 ≡ 0
+    empty_behind top is i low high empty = heads_left i (λ e. let q : HeadWord row ≡ HeadWord i = sym is ∙ e in let same : row ≡ i = cc in omega arith) (omega arith) (empty i (omega arith) high)
 
     -- and so it and all before it have heads
-    pub full_before : row + rest ≡ c * k.rows + k.rows → w ≡ HeadWord row → x ≢ 0 → 0 < rest → length ws ≡ size_of k → ((j : ℕ) → c * k.rows ≤ j → j < row → get_or ws (head_place j) 0 ≢ 0)
-        → (i : ℕ) → c * k.rows ≤ i → i < row + 1 → get_or stored_words (head_place i) 0 ≢ 0
+    pub full_before : row + rest ≡ end → w ≡ HeadWord row → x ≢ 0 → 0 < rest → length ws ≡ size_of k → ((j : ℕ) → first ≤ j → j < row → get_or ws (head_place j) 0 ≢ 0)
+        → (i : ℕ) → first ≤ i → i < row + 1 → get_or stored_words (head_place i) 0 ≢ 0
     full_before top is some room wide full i low high none = dite (ℕ_discrete i row)
         (λ e. some (sym (stored k ws w x at wide) ∙ (ap (λ z. get_or stored_words (place_of k z) 0) is ∙ (ap (λ z. get_or stored_words (head_place z) 0) (sym e) ∙ none))))
-        (λ ne. full i low (omega arith) (sym (head_left i (λ e. let q : HeadWord row ≡ HeadWord i = sym is ∙ e in ne cc) (below, low, omega arith)) ∙ none))
+        (λ ne. full i low (omega arith) (sym (head_left i (λ e. let q : HeadWord row ≡ HeadWord i = sym is ∙ e in ne cc) (omega arith)) ∙ none))
 
     draft_stored : (body : List ℕ) (ds : List Element) (e : Element) → w ≡ HeadWord row → e.id ≡ row → body ≡ e.body → IsBody body → x ≡ pack_head (head_of e) → 0 < rest → length ws ≡ size_of k
-        → RowsHold k h ws c first row rest body ds → RowsHold k h stored_words c first (row + 1) (rest - 1) [] (ds ++ e ∷ [])
+        → RowsHold h ws first end first_draft row rest body ds → RowsHold h stored_words first end first_draft (row + 1) (rest - 1) [] (ds ++ e ∷ [])
     draft_stored body ds e is id same whole head room wide r = let count = r.counted in let bottom = r.begins in let top = r.ends in record {
       counted = omega (arith, length-append ds (e ∷ []));
       begins = bottom;
       ends = omega arith;
       unborn = λ i l m. r.unborn i l (omega arith);
       full = full_before top is (λ z. full_head (head_of e) (λ q. cc) (sym head ∙ z)) room wide r.full;
-      empty = λ i l m. empty_behind (omega arith) top is i l (omega arith) r.empty;
+      empty = λ i l m. empty_behind top is i l (omega arith) r.empty;
       body_few = omega arith;
       body_there = λ _ j less. absurd (omega arith);
-      run = run_snoc first ds e r.run (omega arith);
+      run = run_snoc first_draft ds e r.run (omega arith);
       written = λ y q. ⊎_elim (λ o. drafts_stay body ds (ap body_row is) room r y o) (λ n. subst (Holds stored_words) (sym (in_one n)) (row_full body ds e is id same whole head room wide r)) (in_either ds (e ∷ []) q);
     }
 
@@ -131,11 +127,11 @@ module _ (k : Limits) where
     abbrev pub next : ℕ
     next = (me k t).next
 
-    pub next_own : IsOf k.parts k.rows (me k t).number next
-    next_own = let r = (hand_holds k t).rows in let count = r.counted in let bottom = r.begins in let top = r.ends in ((hand_holds k t).given, omega arith, omega arith)
+    pub next_own : IsMine k t next
+    next_own = let r = (hand_holds k t).rows in let count = r.counted in let bottom = r.begins in let top = r.ends in (omega arith, omega arith)
 
     pub next_there : next < rows_of k
-    next_there = in_all k.parts k.rows (me k t).number next next_own
+    next_there = mine_inside k t next next_own
 
     pub next_unborn : IsUnborn t.rule.history next
     next_unborn = let count = (hand_holds k t).rows.counted in (hand_holds k t).rows.unborn next (omega arith) (omega arith)
@@ -143,35 +139,54 @@ module _ (k : Limits) where
     pub next_empty : get_or t.state.words (head_place next) 0 ≡ 0
     next_empty = (hand_holds k t).rows.empty next (omega arith) (omega arith)
 
+    -- its head may be stored
+    next_head : MayHead k t.state.words next
+    next_head = let r = hand_holds k t in let low = next_own.0 in let high = next_own.1 in record {
+      empty = next_empty;
+      full = λ first end j area from to low' less. (let same = one_area k first end r.first r.end next area (own_area k (me k t).number (me k t).blocks r.first r.end r.area) from to low high in
+          r.rows.full j (subst (λ z. z ≤ j) same.0 low') less);
+      drawn = let top = own_drawn k (me k t).number (drawn_in k t.state.words) (me k t).blocks r.first r.end r.blocks r.area in omega arith;
+    }
+
+    row_is_next : (w : Word) (i : ℕ) → body_row w ≡ Some next → body_row w ≡ Some i → next ≡ i
+    row_is_next w i is at = let q : Some next ≡ Some i = sym is ∙ at in cc
+
+    -- and so may each word of it
+    pub next_may : (w : Word) (x : ℕ) → body_row w ≡ Some next → MayStore k t.state.words w x
+    next_may w x is = record {
+      head = λ i e. subst (MayHead k t.state.words) (row_is_next w i is (ap body_row e)) next_head;
+      mark = λ p e. let q : None ≡ Some next = sym (ap body_row e) ∙ is in absurd cc;
+      count = λ e. let q : None ≡ Some next = sym (ap body_row e) ∙ is in absurd cc;
+    }
+
+    pub next_tells : (w : Word) → body_row w ≡ Some next → (i : ℕ) → body_row w ≡ Some i → IsMine k t i
+    next_tells w is i at = subst (IsMine k t) (row_is_next w i is at) next_own
+
     -- a store to a word of the row that the pass draws next, of which the history tells nothing
-    stores : (w : Word) (x : ℕ) → IsThere k w → body_row w ≡ Some next → Told t.rule.history w x → (f : Hand → Hand) → ((a : Hand) → (f a).number ≡ a.number)
+    stores : (w : Word) (x : ℕ) → IsThere k w → body_row w ≡ Some next → Told t.rule.history w x → (f : Hand → Hand) → Stays k t f
         → HandHolds k t.rule.history (set t.state.words (place_of k w) x) (f (me k t))
         → Rule k record { words = set t.state.words (place_of k w) x; homes = t.state.homes; views = set t.state.views t.id (drafted f t.view) }
-    stores w x at is told f stays mine = let h = t.rule.history in let ws = t.state.words in moved k t record {
+    stores w x at is told f stays mine = let h = t.rule.history in let ws = t.state.words in let may = next_may w x is in moved k t record {
       kind = kinds.DraftStore;
       f = f;
       seen = t.view.seen;
       history = h;
       words = set ws (place_of k w) x;
-      stays = stays;
+      owner = t.rule.owner;
+      stays = λ z. (stays z).0;
       begins = (seat_holds k t).seen;
       grows = begins_refl h;
-      world = world_stored k h h ws w x t.rule.world t.rule.world.legal (begins_refl h) at told (λ v there other. t.rule.world.tells v there) empty (λ p e. absurd (unmarked p e));
+      world = world_stored k h h ws w x t.rule.world t.rule.world.legal (begins_refl h) at told (λ v there other. t.rule.world.tells v there) may (λ p e. let q : None ≡ Some next = sym (ap body_row e) ∙ is in absurd cc);
       mine = mine;
-      others = λ b ne hold. hand_quiet k h ws (set ws (place_of k w) x) b (λ i part. row_left k ws w x at i (in_all k.parts k.rows b.number i part) (of_no_other (me k t).number b.number next w is next_own ne i part)) hold;
+      others = λ b ne draws hold. let top = own_inside k b.number b.blocks hold.first hold.end hold.area in hand_quiet k h ws (set ws (place_of k w) x) b (drawn_rises k ws w x at t.rule.world.wide may) hold
+          (λ i low high. row_left k ws w x at i (omega arith) (λ q. mine_alone k t b ne draws hold i (next_tells w is i q) low high));
       known = t.view.known;
-      knows = λ z q. still z ((seat_holds k t).known z q);
-      still = still;
+      knows = λ z q. still_left k ws w x at t.rule.world.wide may z ((seat_holds k t).known z q);
+      still = still_left k ws w x at t.rule.world.wide may;
+      same = λ c. refl;
+      draws = draws_still k t f stays;
+      drew = λ b ne hold draws. draws;
     }
-      where
-        empty : (i : ℕ) → w ≡ HeadWord i → get_or t.state.words (head_place i) 0 ≡ 0
-        empty i e = let same : i ≡ next = (let q : Some i ≡ Some next = sym (ap body_row e) ∙ is in cc) in ap (λ z. get_or t.state.words (head_place z) 0) same ∙ next_empty
-
-        unmarked : (p : ℕ) → w ≡ MarkWord p → ⊥
-        unmarked p e = let q : None ≡ Some next = sym (ap body_row e) ∙ is in absurd cc
-
-        still : (z : Known) → StillSo k t.state.words z → StillSo k (set t.state.words (place_of k w) x) z
-        still = still_left k t.state.words w x at t.rule.world.wide empty (λ p e. absurd (unmarked p e))
 
   unborn_told : (h : List Event) (row : ℕ) (x : ℕ) (part : Element → ℕ) → IsUnborn h row → (e : Element) → element_of h row ≡ Some e → x ≡ part e
   unborn_told h row x part un e p = let q : None ≡ Some e = sym un ∙ p in absurd cc
@@ -181,10 +196,15 @@ module _ (k : Limits) where
   words_go v p x m one room less behind place s r id at = let t : Turn k = record { state = s; rule = r; id = id; view = v; at = at; one = one } in let a : Hand = hand v in let b = hand_holds k t in let w : Word = BodyWord (next t room) m in (
     drafted (with_word m x) v,
     subst (λ q. Rule k record { words = set s.words q x; homes = s.homes; views = set s.views id (drafted (with_word m x) v) }) (sym place)
-        (stores t room w x (next_there t room, less) refl (unborn_told r.history (next t room) x (λ e. slice_index e.body m) (next_unborn t room)) (with_word m x) (λ z. refl) record {
+        (stores t room w x (next_there t room, less) refl (unborn_told r.history (next t room) x (λ e. slice_index e.body m) (next_unborn t room)) (with_word m x) (λ z. (refl, refl)) record {
           given = b.given;
           mine = b.mine;
-          rows = word_stored r.history s.words a.number a.first_draft a.next a.left w x (next_there t room, less) b.given m a.next_body a.drafts refl behind room r.world.wide b.rows;
+          blocks = ascend_wider 0 (drawn_in k s.words) (drawn_in k (set s.words (place_of k w) x)) a.blocks (drawn_rises k s.words w x (next_there t room, less) r.world.wide (next_may t room w x refl)) b.blocks;
+          spares = b.spares;
+          first = b.first;
+          end = b.end;
+          area = b.area;
+          rows = word_stored r.history s.words b.first b.end a.first_draft a.next a.left w x (next_there t room, less) (own_inside k a.number a.blocks b.first b.end b.area) m a.next_body a.drafts refl behind room r.world.wide b.rows;
           units = b.units;
         }),
     (next t room, m, less, place, refl),
@@ -203,10 +223,15 @@ module _ (k : Limits) where
               fit = (pos, top, omega arith, omega arith);
               born = λ y p. let q : None ≡ Some y = sym (next_unborn t room) ∙ p in absurd cc;
               draft = λ _ none. absurd cc;
-            } (with_draft e) (λ z. refl) record {
+            } (with_draft e) (λ z. (refl, refl)) record {
               given = b.given;
               mine = b.mine;
-              rows = draft_stored r.history s.words a.number a.first_draft a.next a.left w x (next_there t room) b.given a.next_body a.drafts e refl here refl ready.1 is room r.world.wide b.rows;
+              blocks = ascend_wider 0 (drawn_in k s.words) (drawn_in k (set s.words (place_of k w) x)) a.blocks (drawn_rises k s.words w x (next_there t room) r.world.wide (next_may t room w x refl)) b.blocks;
+              spares = b.spares;
+              first = b.first;
+              end = b.end;
+              area = b.area;
+              rows = draft_stored r.history s.words b.first b.end a.first_draft a.next a.left w x (next_there t room) (own_inside k a.number a.blocks b.first b.end b.area) a.next_body a.drafts e refl here refl ready.1 is room r.world.wide b.rows;
               units = b.units;
             }),
         (stage, root, u, top, low, is, refl),

@@ -1,25 +1,26 @@
 -- A step that adds an event, and one that adds none.
-use Rattle.std.proofs.Common.{◌≡◌, ℕ, ◌≢◌, List, [], ◌∷◌, ◌++◌, set, get_or, sym, refl, ap, ◌∙◌, subst, ⊎_elim, Option, Some}
+use Rattle.std.proofs.Common.{◌≡◌, ℕ, ◌≢◌, ◌≤◌, arith, List, [], ◌∷◌, ◌++◌, set, get_or, sym, refl, ap, ◌∙◌, subst, ⊎_elim, Option, Some}
 use lib.Seq.{set-get_or}
 use Rattle.tp_model.specs.declared.event.Event.{Event}
 use Rattle.tp_model.specs.declared.event.Event.TheVariants.{Abort, Claim}
 use Rattle.tp_model.specs.declared.trace.StepKind.{StepKind}
 use Rattle.tp_model.specs.declared.types.Limits.{Limits}
-use Rattle.tp_model.specs.History.{In, UnitEnd, end_of, pass_of}
+use Rattle.tp_model.specs.History.{In, UnitEnd, births, end_of, pass_of}
+use Rattle.tp_model.specs.declared.types.Element.{Element}
 use Rattle.tp_model.specs.Passes.{IsRun}
-use Rattle.tp_model.specs.Steps.{IsLegal, Step}
+use Rattle.tp_model.specs.Steps.{IsBlockFor, IsLegal, Step}
 use Rattle.tp_model.proofs.Bridges.{append_nil, begins_more, begins_refl, claim_either, claim_kept, in_either, in_one, unused_still}
 use Rattle.tp_model.proofs.Histories.{legal_more}
 use Rattle.tp_model.proofs.WordProofs.{end_of-snoc}
-use Rattle.tp_words.specs.Places.{Word, HeadWord, MarkWord, IsThere, head_place, place_of}
-use Rattle.tp_rule.specs.Rule.{HandHolds, Rule, Told, UnitsHold, World}
+use Rattle.tp_words.specs.Places.{Word, MarkWord, IsThere, place_of}
+use Rattle.tp_rule.specs.Rule.{HandHolds, Rule, Told, UnitsHold, World, drawn_in}
 use Rattle.tp_rule.specs.Steps.{IsSo, after, noted, unchanged, Found, Grew, Misses}
 use Rattle.tp_rule.specs.declared.view.Hand.{Hand}
 use Rattle.tp_rule.specs.declared.view.View.{View}
-use Rattle.tp_rule.proofs.Frames.{Turn, hand_frame, hand_holds, limits_are, me, moved, only_hand, seat_holds}
-use Rattle.tp_rule.proofs.Parts.{IsOf, in_all}
-use Rattle.tp_rule.proofs.Seats.{hand_noted, in_map, run_of}
-use Rattle.tp_rule.proofs.Storing.{body_row, row_left, still_left}
+use Rattle.tp_rule.proofs.Frames.{IsMine, Stays, Turn, draws_still, hand_frame, hand_holds, limits_are, me, mine_alone, mine_for, moved, only_hand, seat_holds}
+use Rattle.tp_rule.proofs.Owning.{AreBlocksFor, blocks_for_own, own_inside, run_of}
+use Rattle.tp_rule.proofs.Seats.{hand_noted, in_map}
+use Rattle.tp_rule.proofs.Storing.{MayStore, body_row, drawn_rises, row_left, still_left}
 use Rattle.tp_rule.proofs.Tellings.{found, so_now, world_stored}
 use Rattle.tp_rule.proofs.Units.{decide}
 
@@ -46,6 +47,16 @@ module _ (k : Limits) (t : Turn k) where
   after_hand kind f h ws mine a p = let q = in_map (λ (z : Hand). noted kind h (f z)) a t.view.hands p in
       subst (HandHolds k h ws) (sym (q.2 ∙ ap (λ (z : Hand). noted kind h (f z)) (only_hand t.view t.one q.0 q.1))) (hand_noted k h ws kind h (f (me k t)) mine)
 
+  -- so its run is one
+  pub after_run : (kind : StepKind) (f : Hand → Hand) (h : List Event) (ws : List ℕ) → drawn_in k ws ≤ k.spare → AreBlocksFor k h (f (me k t)) → HandHolds k h ws (f (me k t))
+      → (a : Hand) → In a (after kind f h t.view.known t.view).hands → IsRun t.view.limits h a.number a.blocks a.next a.left
+  after_run kind f h ws top for mine a p = let q = in_map (λ (z : Hand). noted kind h (f z)) a t.view.hands p in let same = q.2 ∙ ap (λ (z : Hand). noted kind h (f z)) (only_hand t.view t.one q.0 q.1) in
+      subst (λ (l : Limits). IsRun l h a.number a.blocks a.next a.left) (sym (limits_are k t)) (subst (λ (z : Hand). IsRun k h z.number z.blocks z.next z.left) (sym same) (run_of k h ws (f (me k t)) top for mine))
+
+  -- what is born in its blocks goes on to be its own
+  blocks_kept : (f : Hand → Hand) → Stays k t f → AreBlocksFor k t.rule.history (f (me k t))
+  blocks_kept f stays b has = let same = stays (me k t) in subst (λ c. IsBlockFor k t.rule.history c b) (sym same.0) (mine_for k t b (subst (In b) same.1 has))
+
   -- a step that adds an event of the pass, and stores the number that now tells it
   pub record Act : Type 0 where
     pub event : Event
@@ -53,7 +64,7 @@ module _ (k : Limits) (t : Turn k) where
     pub number : ℕ
     pub kind : StepKind
     pub f : Hand → Hand
-    pub stays : (a : Hand) → (f a).number ≡ a.number
+    pub stays : Stays k t f
     -- it is the pass's own, and may come next
     pub own : pass_of event ≡ (me k t).number
     pub step : Step k t.rule.history event
@@ -61,11 +72,12 @@ module _ (k : Limits) (t : Turn k) where
     pub there : IsThere k word
     pub told : Told (t.rule.history ++ event ∷ []) word number
     pub rest : (w : Word) → IsThere k w → w ≢ word → Told (t.rule.history ++ event ∷ []) w (get_or t.state.words (place_of k w) 0)
-    -- no head is stored but over an empty one, and in no row of another pass
-    pub empty : (i : ℕ) → word ≡ HeadWord i → get_or t.state.words (head_place i) 0 ≡ 0
-    -- no mark is stored
+    -- it may be stored, and it is no mark
+    pub may : MayStore k t.state.words word number
     pub unmarked : (p : ℕ) → word ≡ MarkWord p → ⊥
-    pub apart : (d i : ℕ) → d ≢ (me k t).number → IsOf k.parts k.rows d i → body_row word ≢ Some i
+    -- what it tells of and what is born is in the area of the pass's run
+    pub tells_own : (i : ℕ) → body_row word ≡ Some i → IsMine k t i
+    pub births_own : (x : Element) → In x (births event) → IsMine k t x.id
     -- the pass is as its seat knows it
     pub mine : HandHolds k (t.rule.history ++ event ∷ []) (set t.state.words (place_of k word) number) (f (me k t))
 
@@ -75,23 +87,29 @@ module _ (k : Limits) (t : Turn k) where
 
   pub acted : (a : Act) → Rule k record { words = set t.state.words (place_of k a.word) a.number; homes = t.state.homes; views = set t.state.views t.id (view_after a) } × Grew a.kind a.f (a.event ∷ []) t.view (view_after a)
   acted a = let h = t.rule.history in let e = a.event in let h' : List Event = h ++ e ∷ [] in let ws : List ℕ = set t.state.words (place_of k a.word) a.number in let seat = seat_holds k t in let seen = seat.seen in
-      let world : World k h' ws = world_stored k h h' t.state.words a.word a.number t.rule.world (legal_more k h e t.rule.world.legal a.step) (e ∷ [], refl) a.there a.told a.rest a.empty (λ p q. absurd (a.unmarked p q)) in
-      let still = still_left k t.state.words a.word a.number a.there t.rule.world.wide a.empty (λ p q. absurd (a.unmarked p q)) in (
+      let world : World k h' ws = world_stored k h h' t.state.words a.word a.number t.rule.world (legal_more k h e t.rule.world.legal a.step) (e ∷ [], refl) a.there a.told a.rest a.may (λ p q. absurd (a.unmarked p q)) in
+      let still = still_left k t.state.words a.word a.number a.there t.rule.world.wide a.may in let rises = drawn_rises k t.state.words a.word a.number a.there t.rule.world.wide a.may in (
         moved k t record {
           kind = a.kind;
           f = a.f;
           seen = h';
           history = h';
           words = ws;
-          stays = a.stays;
+          owner = t.rule.owner;
+          stays = λ z. (a.stays z).0;
           begins = begins_refl h';
           grows = (e ∷ [], refl);
           world = world;
           mine = a.mine;
-          others = λ b ne hold. hand_frame k h e t.state.words ws b a.step (λ is. ne (sym is ∙ a.own)) (λ i part. row_left k t.state.words a.word a.number a.there i (in_all k.parts k.rows b.number i part) (a.apart b.number i ne part)) hold;
+          others = λ b ne draws hold. let top = own_inside k b.number b.blocks hold.first hold.end hold.area in hand_frame k h e t.state.words ws b a.step (λ is. ne (sym is ∙ a.own)) rises hold
+              (λ i low high. row_left k t.state.words a.word a.number a.there i (omega arith) (λ q. mine_alone k t b ne draws hold i (a.tells_own i q) low high))
+              (λ x q low high. mine_alone k t b ne draws hold x.id (a.births_own x q) low high);
           known = t.view.known;
           knows = λ x p. still x (seat.known x p);
           still = still;
+          same = λ c. refl;
+          draws = draws_still k t a.f a.stays;
+          drew = λ b ne hold draws. draws;
         },
         record {
           between = seen.0;
@@ -101,7 +119,7 @@ module _ (k : Limits) (t : Turn k) where
           view = refl;
           mine = λ b p. (after_hand a.kind a.f h' ws a.mine b p).mine;
           open_own = λ b p. (after_hand a.kind a.f h' ws a.mine b p).units.open_own;
-          run = λ b p. subst (λ l. IsRun l h' b.number b.next b.left) (sym (limits_are k t)) (run_of k h' ws b (after_hand a.kind a.f h' ws a.mine b p));
+          run = after_run a.kind a.f h' ws world.drawn (blocks_for_own k h e (a.f (me k t)) (a.own ∙ sym (a.stays (me k t)).0) (blocks_kept a.f a.stays)) a.mine;
           knows = λ x p. p;
           is_so = λ x p. subst (λ l. IsSo l h' x) (sym (limits_are k t)) (so_now k h' ws world x (still x (seat.known x p)));
         },
@@ -112,7 +130,7 @@ module _ (k : Limits) (t : Turn k) where
     abbrev pub looking_after : View
     looking_after = after kind f t.rule.history t.view.known t.view
 
-    pub watched : ((a : Hand) → (f a).number ≡ a.number) → HandHolds k t.rule.history t.state.words (f (me k t))
+    pub watched : Stays k t f → HandHolds k t.rule.history t.state.words (f (me k t))
         → Rule k record { words = set t.state.words word (get_or t.state.words word 0); homes = t.state.homes; views = set t.state.views t.id looking_after } × Grew kind f [] t.view looking_after
     watched stays mine = let h = t.rule.history in let seat = seat_holds k t in let seen = seat.seen in (
       subst (λ (ws : List ℕ). Rule k record { words = ws; homes = t.state.homes; views = set t.state.views t.id looking_after }) (sym (set-get_or t.state.words word 0))
@@ -122,15 +140,19 @@ module _ (k : Limits) (t : Turn k) where
             seen = h;
             history = h;
             words = t.state.words;
-            stays = stays;
+            owner = t.rule.owner;
+            stays = λ z. (stays z).0;
             begins = begins_refl h;
             grows = begins_refl h;
             world = t.rule.world;
             mine = mine;
-            others = λ a ne hold. hold;
+            others = λ a ne draws hold. hold;
             known = t.view.known;
             knows = seat.known;
             still = λ x so. so;
+            same = λ c. refl;
+            draws = draws_still k t f stays;
+            drew = λ b ne hold draws. draws;
           }),
       record {
         between = seen.0;
@@ -140,7 +162,7 @@ module _ (k : Limits) (t : Turn k) where
         view = refl;
         mine = λ a p. (after_hand kind f h t.state.words mine a p).mine;
         open_own = λ a p. (after_hand kind f h t.state.words mine a p).units.open_own;
-        run = λ a p. subst (λ l. IsRun l h a.number a.next a.left) (sym (limits_are k t)) (run_of k h t.state.words a (after_hand kind f h t.state.words mine a p));
+        run = after_run kind f h t.state.words t.rule.world.drawn (blocks_kept f stays) mine;
         knows = λ x p. p;
         is_so = λ x p. subst (λ l. IsSo l h x) (sym (limits_are k t)) (so_now k h t.state.words t.rule.world x (seat.known x p));
       },
@@ -153,4 +175,4 @@ module _ (k : Limits) (t : Turn k) where
   -- an exchange that failed
   pub missed : (word : ℕ) (kind : StepKind) → Rule k record { words = set t.state.words word (get_or t.state.words word 0); homes = t.state.homes; views = set t.state.views t.id (looking_after word kind unchanged) }
       × Misses kind t.view word (get_or t.state.words word 0) (looking_after word kind unchanged)
-  missed word kind = let w = watched word kind unchanged (λ a. refl) (hand_holds k t) in (w.0, (w.1, found_there word kind unchanged))
+  missed word kind = let w = watched word kind unchanged (λ a. (refl, refl)) (hand_holds k t) in (w.0, (w.1, found_there word kind unchanged))

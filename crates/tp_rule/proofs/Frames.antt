@@ -1,20 +1,22 @@
 -- What a step of one pass leaves to the others.
-use Rattle.std.proofs.Common.{◌≡◌, ℕ, ◌<◌, ◌≢◌, List, [], ◌∷◌, ◌++◌, set, sym, ap, ◌∙◌, subst, ⊎_elim, arith, Option, Some, None}
+use Rattle.std.proofs.Common.{◌≡◌, ℕ, ◌<◌, ◌≤◌, ◌≢◌, List, [], ◌∷◌, ◌++◌, set, sym, ap, ◌∙◌, subst, ⊎_elim, arith, Option, Some, None}
 use mathlib.Core.Option.{some}
 use lib.ListN.{get_elem?}
-use Rattle.tp_rule.specs.Rule.{HandHolds, RowsHold, Rule, SeatHolds, StillSo, UnitsHold, World}
+use Rattle.tp_rule.specs.Rule.{HandHolds, Owners, RowsHold, Rule, SeatHolds, StillSo, UnitsHold, World, drawn_in}
 use Rattle.tp_rule.specs.Views.{IsOnePass, hand}
 use Rattle.tp_rule.specs.Steps.{after}
-use Rattle.tp_rule.proofs.Seats.{S, seated_after, seats_after, seat_after}
-use Rattle.tp_model.proofs.Bridges.{begins_trans, births_of, by_other, claim_either, claim_kept, in_either, in_one, unborn_still, unused_still}
+use Rattle.tp_rule.proofs.Owning.{AreBlocksFor, IsDrawer, S, blocks_for, own_apart, own_inside, own_may, own_spares}
+use Rattle.tp_rule.proofs.Seats.{seated_after, seats_after, seat_after}
+use Rattle.tp_model.proofs.Areas.{ascend_wider}
+use Rattle.tp_model.proofs.Bridges.{begins_trans, by_other, claim_either, claim_kept, in_either, in_one, unborn_still, unused_still}
 use Rattle.tp_model.proofs.WordProofs.{end_of-snoc}
-use Rattle.tp_model.specs.History.{Aborted, Committed, UnitEnd, In, IsClaim, IsUnborn, end_by, end_of, here, pass_of}
-use Rattle.tp_model.specs.Steps.{Step}
+use Rattle.tp_model.specs.History.{Aborted, Committed, UnitEnd, In, IsClaim, IsUnborn, births, end_by, end_of, here, pass_of}
+use Rattle.tp_model.specs.Steps.{IsRowOfBlock, MayUse, Step, rows_of}
 use Rattle.tp_model.specs.declared.event.Event.{Event}
 use Rattle.tp_model.specs.declared.event.Event.TheVariants.{Abort, Claim, Commit, Enqueue, Kill, Requeue}
 use Rattle.tp_model.specs.declared.types.Element.{Element}
 use Rattle.tp_model.specs.declared.types.Limits.{Limits}
-use Rattle.tp_rule.proofs.Parts.{IsOf, in_run, one_part}
+use Rattle.tp_rule.proofs.Parts.{in_run, one_part}
 use Rattle.tp_rule.proofs.Storing.{SameRow, holds_same}
 use Rattle.tp_rule.proofs.Units.{decide}
 use Rattle.tp_rule.specs.declared.view.Hand.{Hand}
@@ -44,10 +46,6 @@ decide_not u None (Kill c i) other not f m p = absurd cc
 decide_not u None (Requeue c i k) other not f m p = absurd cc
 
 module _ (k : Limits) where
-  pub unborn_frame : (h : List Event) (e : Event) (c i : ℕ) → Step k h e → pass_of e ≢ c → IsOf k.parts k.rows c i → IsUnborn h i → IsUnborn (h ++ e ∷ []) i
-  unborn_frame h e c i st ne part u = unborn_still h e i u
-      (λ x q is. one_part k.parts k.rows (pass_of e) c i (subst (λ z. IsOf k.parts k.rows (pass_of e) z) is (births_of k h e x st q).0) part ne)
-
   -- a unit is committed by the pass that claimed it
   not_by_other : (h : List Event) (e : Event) (c u i n : ℕ) → Step k h e → pass_of e ≢ c → IsClaim h c u i n → (d : ℕ) (outs : List Element) → ¬ (e ≡ Commit d u outs)
   not_by_other h e c u i n st ne p d outs is = let t : Step k h (Commit d u outs) = subst (Step k h) is st in
@@ -69,52 +67,65 @@ module _ (k : Limits) where
     closed = λ u i n p not z. ⊎_elim (λ q. r.closed u i n q not (decide_undecided u (end_of h u) e (sym (end_of-snoc h e u) ∙ z))) (λ q. ne (sym (ap pass_of q))) (claim_either h e c u i n p);
   }
 
-  -- the rows of part c have the heads and bodies that they had
-  abbrev pub Agree : ℕ → List ℕ → List ℕ → Type 0
-  Agree c ws ws' = (i : ℕ) → IsOf k.parts k.rows c i → SameRow ws ws' i
+  -- the rows from `first` up to `end` have the heads and bodies that they had
+  abbrev pub Agree : ℕ → ℕ → List ℕ → List ℕ → Type 0
+  Agree first end ws ws' = (i : ℕ) → first ≤ i → i < end → SameRow ws ws' i
 
-  pub rows_frame : (h h' : List Event) (ws ws' : List ℕ) (c first next left : ℕ) (body : List ℕ) (drafts : List Element) → c < k.parts → Agree c ws ws'
-      → ((i : ℕ) → IsOf k.parts k.rows c i → IsUnborn h i → IsUnborn h' i) → RowsHold k h ws c first next left body drafts → RowsHold k h' ws' c first next left body drafts
-  rows_frame h h' ws ws' c first next left body drafts below agree still r = let count = r.counted in let bottom = r.begins in let top = r.ends in record {
+  pub rows_frame : (h h' : List Event) (ws ws' : List ℕ) (first end first_draft next left : ℕ) (body : List ℕ) (drafts : List Element) → Agree first end ws ws'
+      → ((i : ℕ) → first ≤ i → i < end → IsUnborn h i → IsUnborn h' i) → RowsHold h ws first end first_draft next left body drafts → RowsHold h' ws' first end first_draft next left body drafts
+  rows_frame h h' ws ws' first end first_draft next left body drafts agree still r = let count = r.counted in let bottom = r.begins in let top = r.ends in record {
     counted = count;
     begins = bottom;
     ends = top;
-    unborn = λ i l m. still i (below, omega arith, omega arith) (r.unborn i l m);
-    full = λ i l m z. r.full i l m (sym (agree i (below, l, omega arith)).0 ∙ z);
-    empty = λ i l m. (agree i (below, omega arith, omega arith)).0 ∙ r.empty i l m;
+    unborn = λ i l m. still i (omega arith) (omega arith) (r.unborn i l m);
+    full = λ i l m z. r.full i l m (sym (agree i l (omega arith)).0 ∙ z);
+    empty = λ i l m. (agree i (omega arith) (omega arith)).0 ∙ r.empty i l m;
     body_few = r.body_few;
-    body_there = λ room j less. let few = r.body_few in (agree next (below, omega arith, omega arith)).1 j (omega arith) ∙ r.body_there room j less;
+    body_there = λ room j less. let few = r.body_few in (agree next (omega arith) (omega arith)).1 j (omega arith) ∙ r.body_there room j less;
     run = r.run;
-    written = λ x p. let t = in_run first drafts x r.run p in let a = t.0 in let b = t.1 in holds_same ws ws' x (agree x.id (below, omega arith, omega arith)) (r.written x p);
+    written = λ x p. let t = in_run first_draft drafts x r.run p in let a = t.0 in let b = t.1 in holds_same ws ws' x (agree x.id (omega arith) (omega arith)) (r.written x p);
   }
 
   -- a pass other than the one that made the event e
-  pub hand_frame : (h : List Event) (e : Event) (ws ws' : List ℕ) (a : Hand) → Step k h e → pass_of e ≢ a.number → Agree a.number ws ws' → HandHolds k h ws a → HandHolds k (h ++ e ∷ []) ws' a
-  hand_frame h e ws ws' a st ne agree r = record {
+  pub hand_frame : (h : List Event) (e : Event) (ws ws' : List ℕ) (a : Hand) → Step k h e → pass_of e ≢ a.number → drawn_in k ws ≤ drawn_in k ws' → (r : HandHolds k h ws a) → Agree r.first r.end ws ws'
+      → ((x : Element) → In x (births e) → r.first ≤ x.id → x.id < r.end → ⊥) → HandHolds k (h ++ e ∷ []) ws' a
+  hand_frame h e ws ws' a st ne rises r agree apart = record {
     given = r.given;
     mine = r.mine ∙ sym (by_other a.number h e ne);
-    rows = rows_frame h (h ++ e ∷ []) ws ws' a.number a.first_draft a.next a.left a.next_body a.drafts r.given agree (λ i part. unborn_frame h e a.number i st ne part) r.rows;
+    blocks = ascend_wider 0 (drawn_in k ws) (drawn_in k ws') a.blocks rises r.blocks;
+    spares = r.spares;
+    first = r.first;
+    end = r.end;
+    area = r.area;
+    rows = rows_frame h (h ++ e ∷ []) ws ws' r.first r.end a.first_draft a.next a.left a.next_body a.drafts agree
+        (λ i low high un. unborn_still h e i un (λ x q is. apart x q (subst (λ z. r.first ≤ z) (sym is) low) (subst (λ z. z < r.end) (sym is) high))) r.rows;
     units = units_frame h e a.number a.claimed a.spare_unit a.open_unit r.given ne st r.units;
   }
 
   -- a pass other than the one that stored
-  pub hand_quiet : (h : List Event) (ws ws' : List ℕ) (a : Hand) → Agree a.number ws ws' → HandHolds k h ws a → HandHolds k h ws' a
-  hand_quiet h ws ws' a agree r = record {
+  pub hand_quiet : (h : List Event) (ws ws' : List ℕ) (a : Hand) → drawn_in k ws ≤ drawn_in k ws' → (r : HandHolds k h ws a) → Agree r.first r.end ws ws' → HandHolds k h ws' a
+  hand_quiet h ws ws' a rises r agree = record {
     given = r.given;
     mine = r.mine;
-    rows = rows_frame h h ws ws' a.number a.first_draft a.next a.left a.next_body a.drafts r.given agree (λ i part u. u) r.rows;
+    blocks = ascend_wider 0 (drawn_in k ws) (drawn_in k ws') a.blocks rises r.blocks;
+    spares = r.spares;
+    first = r.first;
+    end = r.end;
+    area = r.area;
+    rows = rows_frame h h ws ws' r.first r.end a.first_draft a.next a.left a.next_body a.drafts agree (λ i low high u. u) r.rows;
     units = r.units;
   }
 
-  seat_frame : (h h' : List Event) (ws ws' : List ℕ) (owner : ℕ → ℕ) (j : ℕ) (v : View) → IsPrefix h h' → ((x : Known) → StillSo k ws x → StillSo k ws' x) → ((a : Hand) → In a v.hands → HandHolds k h ws a → HandHolds k h' ws' a)
-      → SeatHolds k h ws owner j v → SeatHolds k h' ws' owner j v
-  seat_frame h h' ws ws' owner j v more so still r = record {
+  seat_frame : (h h' : List Event) (ws ws' : List ℕ) (owner owner' : Owners) (j : ℕ) (v : View) → IsPrefix h h' → ((x : Known) → StillSo k ws x → StillSo k ws' x) → ((c : ℕ) → owner'.seat c ≡ owner.seat c)
+      → ((a : Hand) → In a v.hands → IsDrawer k owner' a) → ((a : Hand) → In a v.hands → HandHolds k h ws a → HandHolds k h' ws' a) → SeatHolds k h ws owner j v → SeatHolds k h' ws' owner' j v
+  seat_frame h h' ws ws' owner owner' j v more so same draws still r = record {
     limits = r.limits;
     seen = begins_trans v.seen h h' r.seen more;
     also_seen = begins_trans v.also_seen h h' r.also_seen more;
     known = λ x p. so x (r.known x p);
     apart = r.apart;
-    owns = r.owns;
+    owns = λ a p. same a.number ∙ r.owns a p;
+    draws = draws;
     hands = λ a p. still a p (r.hands a p);
   }
 
@@ -146,13 +157,41 @@ module _ (k : Limits) (t : Turn k) where
   pub limits_are : t.view.limits ≡ k
   limits_are = seat_holds.limits me (one_in t.view t.one)
 
-  -- what the seat's step makes of the history, the words and the view
+  -- row i is in the area of the pass's run
+  abbrev pub IsMine : ℕ → Type 0
+  IsMine i = (hand_holds.first ≤ i) × (i < hand_holds.end)
+
+  -- what is born in the pass's blocks is its own
+  pub mine_for : AreBlocksFor k t.rule.history me
+  mine_for = blocks_for k t.state t.rule t.id t.view me t.at (one_in t.view t.one)
+
+  pub mine_drawn : IsDrawer k t.rule.owner me
+  mine_drawn = seat_holds.draws me (one_in t.view t.one)
+
+  pub mine_inside : (i : ℕ) → IsMine i → i < rows_of k
+  mine_inside i own = let top = own_inside k me.number me.blocks hand_holds.first hand_holds.end hand_holds.area in let high = own.1 in omega arith
+
+  -- and no other pass's
+  pub mine_alone : (a : Hand) → a.number ≢ me.number → IsDrawer k t.rule.owner a → (r : HandHolds k t.rule.history t.state.words a) → (i : ℕ) → IsMine i → r.first ≤ i → i < r.end → ⊥
+  mine_alone a ne draws r i own low high = ne (sym (own_apart k t.rule.owner me a hand_holds.first hand_holds.end r.first r.end i mine_drawn draws hand_holds.area r.area own.0 own.1 low high))
+
+  -- what it makes in spare blocks is in its own
+  pub spares_more : (e : Event) → ((x : Element) → In x (births e) → IsMine x.id) → (d : Event) (x : Element) (b : ℕ) → In d (me.mine ++ e ∷ []) → In x (births d) → IsRowOfBlock k b x.id → In b me.blocks
+  spares_more e own d x b p made row = ⊎_elim (λ q. hand_holds.spares d x b q made row)
+      (λ q. let at = own x (subst (λ z. In x (births z)) (in_one q) made) in own_spares k me.number me.blocks hand_holds.first hand_holds.end x.id b hand_holds.area at.0 at.1 row) (in_either me.mine (e ∷ []) p)
+
+  -- it may use the rows of its run's area
+  pub mine_may : (i : ℕ) → IsMine i → MayUse k t.rule.history me.number i
+  mine_may i own = own_may k t.rule.history me hand_holds.first hand_holds.end i hand_holds.given mine_for hand_holds.area own.0 own.1
+
+  -- what the seat's step makes of the history, the words, the view and the owners
   pub record Move : Type 0 where
     pub kind : StepKind
     pub f : Hand → Hand
     pub seen : List Event
     pub history : List Event
     pub words : List ℕ
+    pub owner : Owners
     -- f leaves the number, and the history grows
     pub stays : (a : Hand) → (f a).number ≡ a.number
     pub begins : IsPrefix seen history
@@ -160,21 +199,34 @@ module _ (k : Limits) (t : Turn k) where
     -- the words tell the history, the pass is as its seat knows it, the others are as they were, and words that stay stay
     pub world : World k history words
     pub mine : HandHolds k history words (f me)
-    pub others : (a : Hand) → a.number ≢ me.number → HandHolds k t.rule.history t.state.words a → HandHolds k history words a
+    pub others : (a : Hand) → a.number ≢ me.number → IsDrawer k t.rule.owner a → HandHolds k t.rule.history t.state.words a → HandHolds k history words a
     pub still : (x : Known) → StillSo k t.state.words x → StillSo k words x
     -- what the seat knows afterwards
     pub known : List Known
     pub knows : (x : Known) → In x known → StillSo k words x
+    -- the seats stand for the same passes, and each pass has its blocks alone
+    pub same : (c : ℕ) → owner.seat c ≡ t.rule.owner.seat c
+    pub draws : IsDrawer k owner (f me)
+    pub drew : (a : Hand) → a.number ≢ me.number → HandHolds k t.rule.history t.state.words a → IsDrawer k t.rule.owner a → IsDrawer k owner a
 
   pub moved : (m : Move) → Rule k record { words = m.words; homes = t.state.homes; views = set t.state.views t.id (after m.kind m.f m.seen m.known t.view) }
   moved m = let r = t.rule in let old = seat_holds in record {
     history = m.history;
-    owner = r.owner;
+    owner = m.owner;
     world = m.world;
-    seats = seats_after k m.history m.words r.owner t.state.views t.id (after m.kind m.f m.seen m.known t.view)
-        (seat_after k r.history m.history t.state.words m.words r.owner t.id t.view m.kind m.f m.seen m.known m.stays m.begins m.knows
+    seats = seats_after k m.history m.words m.owner t.state.views t.id (after m.kind m.f m.seen m.known t.view)
+        (seat_after k r.history m.history t.state.words m.words r.owner m.owner t.id t.view m.kind m.f m.seen m.known m.stays m.same
+        (λ a p _. subst (λ (z : Hand). IsDrawer k m.owner (m.f z)) (sym (only_hand t.view t.one a p)) m.draws) m.begins m.knows
         (λ a p _. subst (λ (z : Hand). HandHolds k m.history m.words (m.f z)) (sym (only_hand t.view t.one a p)) m.mine) old)
-        (λ j u apart e. let there = r.seats j u e in seat_frame k r.history m.history t.state.words m.words r.owner j u m.grows m.still
-        (λ a p. m.others a (λ same. apart (sym (there.owns a p) ∙ (ap r.owner same ∙ old.owns me (one_in t.view t.one))))) there);
+        (λ j u apart e. let there = r.seats j u e in
+        let other : (a : Hand) → In a u.hands → a.number ≢ me.number = λ a p same. apart (sym (there.owns a p) ∙ (ap r.owner.seat same ∙ old.owns me (one_in t.view t.one))) in
+        seat_frame k r.history m.history t.state.words m.words r.owner m.owner j u m.grows m.still m.same (λ a p. m.drew a (other a p) (there.hands a p) (there.draws a p)) (λ a p. m.others a (other a p) (there.draws a p)) there);
     complete = λ c below. seated_after t.state.views t.id t.view m.kind m.f m.seen m.known t.at m.stays c (r.complete c below);
   }
+
+  -- f leaves the number and the blocks
+  abbrev pub Stays : (Hand → Hand) → Type 0
+  Stays f = (a : Hand) → ((f a).number ≡ a.number) × ((f a).blocks ≡ a.blocks)
+
+  pub draws_still : (f : Hand → Hand) → Stays f → IsDrawer k t.rule.owner (f me)
+  draws_still f stays b has = let same = stays me in mine_drawn b (subst (In b) same.1 has) ∙ sym same.0

@@ -10,7 +10,7 @@ use Rattle.tp_model.specs.declared.types.Limits.{Limits}
 use Rattle.tp_model.specs.History.{UnitEnd}
 use Rattle.tp_model.specs.Steps.{IsKillable, Step, rows_of}
 use Rattle.tp_model.specs.Words.{ClaimWord, AgainWord, FreeWord, KilledWord, TakenWord, claim_word, kill_word, word_status}
-use Rattle.tp_model.proofs.Bridges.{found_later, by_own, killable_later}
+use Rattle.tp_model.proofs.Bridges.{found_later, by_own, in_none, killable_later}
 use Rattle.tp_model.proofs.Lists.{option_or-None}
 use Rattle.tp_model.proofs.WordProofs.{status_by_words}
 use Rattle.tp_words.specs.Places.{claim_place}
@@ -22,9 +22,10 @@ use Rattle.tp_rule.specs.Steps.{after, unchanged, with_event, AllowsKill, HasEle
 use Rattle.tp_rule.specs.Views.{IsOnePass, hand}
 use Rattle.tp_rule.specs.declared.view.Hand.{Hand}
 use Rattle.tp_rule.specs.declared.view.View.{View}
-use Rattle.tp_rule.proofs.Claiming.{claim_event, claim_there, rows_still}
+use Rattle.tp_rule.proofs.Claiming.{blocks_still, claim_event, claim_there, rows_still}
 use Rattle.tp_rule.proofs.Events.{looking_after, missed, units_own}
-use Rattle.tp_rule.proofs.Frames.{Turn, hand_holds, seat_holds}
+use Rattle.tp_rule.proofs.Frames.{Turn, hand_holds, seat_holds, spares_more}
+use Rattle.tp_rule.proofs.Owning.{own_inside}
 use Rattle.tp_rule.proofs.Units.{decide}
 
 kill_quiet : (c i u : ℕ) (w : Option UnitEnd) → decide u w (Kill c i) ≡ w
@@ -49,10 +50,15 @@ module _ (k : Limits) where
         free = subst IsKillable (sym (status_by_words k h row r.world.legal ∙ ap (word_status k.attempts h) now)) (killable_later k.attempts v.seen h w seat.seen may);
       } in
       let done = claim_event k t e row new (kill_word w) kinds.KillExchange (with_event e) room to (killed_fits w fit) refl refl st (ap (λ b. cond b (kill_word (claim_word h row)) (claim_word h row)) (eq-eqb row row refl) ∙ ap kill_word now)
-      (λ i not. ap (λ b. cond b (kill_word (claim_word h i)) (claim_word h i)) (ne_eqb row i (λ z. not (sym z)))) (kill_quiet a.number row) (λ z. refl) record {
+      (λ i not. ap (λ b. cond b (kill_word (claim_word h i)) (claim_word h i)) (ne_eqb row i (λ z. not (sym z)))) (kill_quiet a.number row) (λ z. (refl, refl)) record {
         given = mine.given;
         mine = ap (λ l. l ++ e ∷ []) mine.mine ∙ sym (by_own a.number h e refl);
-        rows = rows_still k h s.words e row new a.number a.first_draft a.next a.left a.next_body a.drafts room refl mine.given mine.rows;
+        blocks = blocks_still k s.words row new a.blocks room r.world.wide mine.blocks;
+        spares = spares_more k t e (λ y q. absurd (in_none q));
+        first = mine.first;
+        end = mine.end;
+        area = mine.area;
+        rows = rows_still k h s.words e row new mine.first mine.end a.first_draft a.next a.left a.next_body a.drafts room refl (own_inside k a.number a.blocks mine.first mine.end mine.area) mine.rows;
         units = units_own k h e a.number a.claimed a.spare_unit a.open_unit (kill_quiet a.number row) (λ d u i n z. cc) (λ d u z. cc) mine.units;
       } in (
         after kinds.KillExchange (with_event e) (h ++ e ∷ []) v.known v,

@@ -5,6 +5,7 @@ pub mod Storing
 pub mod Tellings
 pub mod Working
 pub mod Parts
+pub mod Owning
 pub mod Seats
 pub mod Frames
 pub mod Events
@@ -21,3 +22,4 @@ pub mod Requeueing
 pub mod Doors
 pub mod Meetings
 pub mod Raising
+pub mod Drawing

@@ -61,10 +61,10 @@ module _ (v w j m x y : View) (one : IsOnePass v) (other : IsOnePass w) (join : 
   so_met z o = subst (λ (l : Limits). IsSo l m.seen z) (ap (λ (z : View). z.limits) join) (g.is_so z o)
 
   -- the run of one of the two
-  run_met : (z : View) (a : Hand) → z.seen ≡ m.seen → In a m.hands → hand z ≡ a ⊎ hand z ≡ noted kinds.SeatLoad m.seen a → IsRun v.limits z.seen (hand z).number (hand z).next (hand z).left
-  run_met z a seen p is = let old : IsRun v.limits z.seen a.number a.next a.left = subst (λ (l : Limits). IsRun l z.seen a.number a.next a.left) (ap (λ (u : View). u.limits) join) (subst (λ h. IsRun j.limits h a.number a.next a.left) (sym seen) (g.run a p)) in ⊎_elim
-      (λ e. subst (λ (b : Hand). IsRun v.limits z.seen b.number b.next b.left) (sym e) old)
-      (λ e. subst (λ (b : Hand). IsRun v.limits z.seen b.number b.next b.left) (sym e) old) is
+  run_met : (z : View) (a : Hand) → z.seen ≡ m.seen → In a m.hands → hand z ≡ a ⊎ hand z ≡ noted kinds.SeatLoad m.seen a → IsRun v.limits z.seen (hand z).number (hand z).blocks (hand z).next (hand z).left
+  run_met z a seen p is = let old : IsRun v.limits z.seen a.number a.blocks a.next a.left = subst (λ (l : Limits). IsRun l z.seen a.number a.blocks a.next a.left) (ap (λ (u : View). u.limits) join) (subst (λ h. IsRun j.limits h a.number a.blocks a.next a.left) (sym seen) (g.run a p)) in ⊎_elim
+      (λ e. subst (λ (b : Hand). IsRun v.limits z.seen b.number b.blocks b.next b.left) (sym e) old)
+      (λ e. subst (λ (b : Hand). IsRun v.limits z.seen b.number b.blocks b.next b.left) (sym e) old) is
 
   pub meets : Meets v w x y
   meets = record {

@@ -1,5 +1,5 @@
 -- The table at the start meets the rule.
-use Rattle.std.proofs.Common.{◌≡◌, ℕ, zero, suc, ◌+◌, ◌*◌, ◌<◌, ◌≤◌, List, [], ◌∷◌, replicate, get_or, sym, refl, ap, ◌∙◌, subst, ⊎_elim, arith}
+use Rattle.std.proofs.Common.{◌≡◌, ℕ, zero, suc, ◌+◌, ◌*◌, ◌<◌, ◌≤◌, List, [], ◌∷◌, replicate, get_or, sym, refl, ap, ◌∙◌, subst, inl, ⊎_elim, arith}
 use Rattle.std.proofs.lemmas.List.{length-replicate}
 use mathlib.Core.Option.{some, some-injective, some-ne-none}
 use mathlib.Core.Logic.{dite}
@@ -10,17 +10,21 @@ use Rattle.tp_model.proofs.Histories.{legal_empty}
 use Rattle.tp_model.proofs.Bridges.{begins_refl, in_cons, in_here, in_none}
 use Rattle.tp_model.specs.History.{In, there}
 use Rattle.tp_model.specs.declared.types.Limits.{Limits}
-use Rattle.tp_rule.specs.Rule.{HandHolds, IsApart, MarkHolds, Rule, SeatHolds, Told}
+use Rattle.tp_rule.specs.Rule.{HandHolds, IsApart, MarkHolds, Owners, Rule, SeatHolds, Told}
 use Rattle.tp_rule.specs.Views.{first_view, fresh, fresh_from}
 use Rattle.tp_rule.specs.declared.view.Hand.{Hand}
 use Rattle.tp_rule.specs.declared.view.View.{View}
-use Rattle.tp_words.specs.Places.{Word, HeadWord, BodyWord, ClaimWord, UnitWord, MarkWord, IsThere, head_place, claim_place, unit_place, mark_place, place_of, size_of}
+use Rattle.tp_words.specs.Places.{Word, HeadWord, BodyWord, ClaimWord, UnitWord, MarkWord, DrawnWord, IsThere, head_place, claim_place, unit_place, mark_place, drawn_place, place_of, size_of}
 use Rattle.tp_words.specs.declared.words.Head.TheVariants.{Empty}
 
 zeros : (n i : ℕ) → ◌≡◌ {A = ℕ} (get_or (replicate n 0) i 0) 0
 zeros zero i = refl
 zeros (suc n) zero = refl
 zeros (suc n) (suc i) = zeros n i
+
+-- the first seat stands for all passes, and no block is drawn
+abbrev first_owners : Owners
+first_owners = record { seat = λ c. 0; drawer = λ b. 0 }
 
 module _ (k : Limits) where
   fresh_in : (c n : ℕ) (a : Hand) → In a (fresh_from k c n) → (c ≤ a.number) × (a.number < c + n) × (a ≡ fresh k a.number)
@@ -41,6 +45,11 @@ module _ (k : Limits) where
   fresh_holds c below = record {
     given = below;
     mine = refl;
+    blocks = tt;
+    spares = λ e x b p. absurd (in_none p);
+    first = c * k.rows;
+    end = c * k.rows + k.rows;
+    area = inl (below, refl, refl);
     rows = record {
       counted = omega arith;
       begins = omega arith;
@@ -65,11 +74,14 @@ module _ (k : Limits) where
   pub opens : (ws : List ℕ) → ws ≡ replicate (size_of k) 0 → Rule k (opening ws [] (first_view k))
   opens ws e = subst (λ (l : List ℕ). Rule k (opening l [] (first_view k))) (sym e) record {
     history = [];
-    owner = λ c. 0;
+    owner = first_owners;
     world = record {
       legal = legal_empty k;
       wide = length-replicate (size_of k) 0;
       tells = zero_told;
+      drawn = let none = zeros (size_of k) (drawn_place k) in omega arith;
+      bare = λ i low high. zeros (size_of k) (head_place i);
+      behind = λ first end i j area low later high zero. zeros (size_of k) (head_place j);
       marks = λ p l. subst (MarkHolds k [] (replicate (size_of k) 0) p) (sym (zeros (size_of k) (mark_place k p))) record { inside = omega arith; below = λ i low high. let up : i < p * k.rows + 0 = high in let down : p * k.rows ≤ i = low in absurd (omega arith) };
     };
     seats = first;
@@ -82,15 +94,17 @@ module _ (k : Limits) where
       zero_told (ClaimWord i) l = (zeros (size_of k) (claim_place i), tt)
       zero_told (UnitWord u) l = (zeros (size_of k) (unit_place k u), tt)
       zero_told (MarkWord p) l = tt
+      zero_told DrawnWord l = tt
 
-      first : (j : ℕ) (v : View) → get_elem? (first_view k ∷ []) j ≡ some v → SeatHolds k [] (replicate (size_of k) 0) (λ c. 0) j v
-      first zero v e = subst (λ z. SeatHolds k [] (replicate (size_of k) 0) (λ c. 0) 0 z) (some-injective (first_view k) v e) record {
+      first : (j : ℕ) (v : View) → get_elem? (first_view k ∷ []) j ≡ some v → SeatHolds k [] (replicate (size_of k) 0) first_owners j v
+      first zero v e = subst (λ z. SeatHolds k [] (replicate (size_of k) 0) first_owners 0 z) (some-injective (first_view k) v e) record {
         limits = λ a p. refl;
         seen = begins_refl [];
         also_seen = begins_refl [];
         known = λ x p. absurd (in_none p);
         apart = fresh_apart 0 k.parts;
         owns = λ a p. refl;
+        draws = λ a p b q. absurd (in_none (subst (λ (z : Hand). In b z.blocks) (fresh_in 0 k.parts a p).2 q));
         hands = λ a p. let t = fresh_in 0 k.parts a p in let low = t.1 in subst (HandHolds k [] (replicate (size_of k) 0)) (sym t.2) (fresh_holds a.number (omega arith));
       }
       first (suc j) v e = absurd (some-ne-none v (sym e))

@@ -1,30 +1,32 @@
 -- Publish keeps the rule.
-use Rattle.std.proofs.Common.{◌≡◌, ◌≢◌, ℕ, ◌+◌, ◌-◌, ◌*◌, ◌<◌, ◌≤◌, List, [], ◌∷◌, ◌++◌, length, set, get_or, slice_index, sym, refl, ap, ◌∙◌, subst, arith, Option, None}
+use Rattle.std.proofs.Common.{◌≡◌, ◌≢◌, ℕ, ◌+◌, ◌-◌, ◌<◌, ◌≤◌, List, [], ◌∷◌, ◌++◌, length, set, get_or, slice_index, sym, refl, ap, ◌∙◌, subst, arith, Option, None}
 use Rattle.tp_model.specs.declared.event.Event.{Event}
 use Rattle.tp_model.specs.declared.event.Event.TheVariants.{Enqueue}
 use Rattle.tp_model.specs.declared.trace.StepKind.TheVariants as kinds
 use Rattle.tp_model.specs.declared.types.Element.{Element}
 use Rattle.tp_model.specs.declared.types.Limits.{Limits}
-use Rattle.tp_model.specs.History.{UnitEnd, IsUnborn}
+use Rattle.tp_model.specs.History.{In, UnitEnd, IsUnborn, births}
 use Rattle.tp_model.specs.declared.types.TheConstants.{BODY_WORDS}
-use Rattle.tp_model.specs.Steps.{AreLimits, IsBody, Step}
+use Rattle.tp_model.specs.Steps.{AreLimits, IsBody, Step, rows_of}
 use Rattle.tp_model.proofs.Bridges.{born_at, by_own, in_none, in_one, new_birth, unborn_still}
 use Rattle.tp_model.proofs.Lists.{option_or-None}
-use Rattle.tp_words.specs.Places.{Word, HeadWord, BodyWord, ClaimWord, UnitWord, MarkWord, IsThere, head_place, body_place, place_of, size_of}
+use Rattle.tp_words.specs.Places.{Word, HeadWord, BodyWord, ClaimWord, UnitWord, MarkWord, DrawnWord, IsThere, head_place, body_place, place_of, size_of}
 use Rattle.tp_words.specs.Words.{head_of, pack_head}
 use Rattle.tp_words.specs.declared.words.Head.TheVariants.{There}
 use Rattle.tp_rule.specs.Doors.{Permits}
 use Rattle.tp_rule.specs.Plays.{publishes}
-use Rattle.tp_rule.specs.Rule.{RowsHold, Rule, Told}
+use Rattle.tp_rule.specs.Rule.{RowsHold, Rule, Told, drawn_in}
 use Rattle.tp_rule.specs.Steps.{with_birth, next_element, birth, IsReady}
 use Rattle.tp_rule.specs.Views.{hand, next_row}
 use Rattle.tp_rule.specs.declared.view.Hand.{Hand}
 use Rattle.tp_rule.specs.declared.view.View.{View}
-use Rattle.tp_rule.proofs.Drafting.{empty_behind, full_before, next, next_empty, next_own, next_there, next_unborn, of_no_other}
+use Rattle.tp_rule.proofs.Drafting.{empty_behind, full_before, next, next_may, next_own, next_tells, next_there, next_unborn}
 use Rattle.tp_rule.proofs.Events.{Act, acted, units_own, view_after}
-use Rattle.tp_rule.proofs.Frames.{Turn, hand_holds}
-use Rattle.tp_rule.proofs.Parts.{IsOf, fair_rows}
-use Rattle.tp_rule.proofs.Storing.{full_head}
+use Rattle.tp_rule.proofs.Frames.{IsMine, Turn, hand_holds, mine_may, spares_more}
+use Rattle.tp_rule.proofs.Owning.{own_inside}
+use Rattle.tp_model.proofs.Areas.{ascend_wider}
+use Rattle.tp_rule.proofs.Parts.{fair_rows}
+use Rattle.tp_rule.proofs.Storing.{drawn_rises, full_head}
 use Rattle.tp_rule.proofs.Tellings.{body_later, claim_later, head_later, unit_later}
 use Rattle.tp_rule.proofs.Units.{decide}
 
@@ -38,18 +40,19 @@ birth_told h c y (BodyWord i j) n other body old = body_later h (Enqueue c y) i 
     (λ x q id. let same = in_one q in body j (ap (λ z. BodyWord z j) (sym id ∙ ap (λ (e : Element). e.id) same)) ∙ ap (λ (e : Element). slice_index e.body j) (sym same)) old
 birth_told h c y (ClaimWord i) n other body old = claim_later h (Enqueue c y) i n refl old
 birth_told h c y (MarkWord p) n other body old = tt
+birth_told h c y DrawnWord n other body old = tt
 birth_told h c y (UnitWord u) n other body old = unit_later h (Enqueue c y) u n (enqueue_quiet c y u _) old
 
 module _ (k : Limits) (fair : AreLimits k) where
-  rows_publish : (h : List Event) (ws : List ℕ) (c first row left x : ℕ) (body : List ℕ) (y : Element) (at : IsThere k (HeadWord row)) → c < k.parts → y.id ≡ row → 0 < left → x ≢ 0 → length ws ≡ size_of k
-      → RowsHold k h ws c first row left body [] → RowsHold k (h ++ Enqueue c y ∷ []) (set ws (head_place row) x) c (row + 1) (row + 1) (left - 1) [] []
-  rows_publish h ws c first row left x body y at below id room some wide r = let count : first + 0 ≡ row = r.counted in let bottom = r.begins in let top = r.ends in record {
+  rows_publish : (h : List Event) (ws : List ℕ) (c first end first_draft row left x : ℕ) (body : List ℕ) (y : Element) (at : IsThere k (HeadWord row)) → end ≤ rows_of k → y.id ≡ row → 0 < left → x ≢ 0 → length ws ≡ size_of k
+      → RowsHold h ws first end first_draft row left body [] → RowsHold (h ++ Enqueue c y ∷ []) (set ws (head_place row) x) first end (row + 1) (row + 1) (left - 1) [] []
+  rows_publish h ws c first end first_draft row left x body y at inside id room some wide r = let count : first_draft + 0 ≡ row = r.counted in let bottom = r.begins in let top = r.ends in record {
     counted = omega arith;
     begins = omega arith;
     ends = omega arith;
     unborn = λ i l m. unborn_still h (Enqueue c y) i (r.unborn i (omega arith) (omega arith)) (λ z n same. let t : z.id ≡ y.id = ap (λ (t : Element). t.id) (in_one n) in absurd (omega arith));
-    full = full_before k h ws c first row left (HeadWord row) x at below top refl some room wide r.full;
-    empty = λ i l m. empty_behind k h ws c first row left (HeadWord row) x at below (omega arith) top refl i l (omega arith) r.empty;
+    full = full_before k h ws first end first_draft row left (HeadWord row) x at inside top refl some room wide r.full;
+    empty = λ i l m. empty_behind k h ws first end first_draft row left (HeadWord row) x at inside top refl i l (omega arith) r.empty;
     body_few = omega arith;
     body_there = λ _ j less. absurd (omega arith);
     run = tt;
@@ -62,19 +65,19 @@ module _ (k : Limits) (fair : AreLimits k) where
   births_go v p x stage ready none_yet room place is pos top s r id at = let t : Turn k = record { state = s; rule = r; id = id; view = v; at = at; one = ready.0 } in let a : Hand = hand v in let y : Element = next_element v stage (next_row v) None in let e : Event = birth v stage in let h = r.history in
       let mine = hand_holds k t in let row : ℕ = next k t room in let w : Word = HeadWord row in
       let here : y.id ≡ row = refl in
-      let all : row < k.parts * k.rows = next_there k t room in let few : k.parts * k.rows ≤ 8192 = fair_rows k fair in
-      let rows : RowsHold k h s.words a.number a.first_draft a.next a.left a.next_body [] = subst (λ l. RowsHold k h s.words a.number a.first_draft a.next a.left a.next_body l) none_yet mine.rows in
-      let st : Step k h e = record { row = subst (IsOf k.parts k.rows a.number) (sym here) (next_own k t room); unborn = subst (λ z. IsUnborn h z) (sym here) (next_unborn k t room); stage = (pos, omega arith); body = ready.1; root = refl; by = refl } in
+      let all : row < rows_of k = next_there k t room in let few : rows_of k ≤ 10240 = fair_rows k fair in
+      let rows : RowsHold h s.words mine.first mine.end a.first_draft a.next a.left a.next_body [] = subst (λ l. RowsHold h s.words mine.first mine.end a.first_draft a.next a.left a.next_body l) none_yet mine.rows in
+      let st : Step k h e = record { row = mine_may k t row (next_own k t room); unborn = subst (λ z. IsUnborn h z) (sym here) (next_unborn k t room); stage = (pos, omega arith); body = ready.1; root = refl; by = refl } in
       let whole : IsBody y.body = ready.1 in
       let body : (j : ℕ) → j < BODY_WORDS → get_or s.words (body_place row j) 0 ≡ slice_index y.body j = λ j less. mine.rows.body_there room j (omega arith) in
-      let now = new_birth h a.number y st.unborn in
+      let now = new_birth h a.number y st.unborn in let births_own : (z : Element) → In z (births e) → IsMine k t z.id = λ z q. subst (λ (n : Element). IsMine k t n.id) (sym (in_one q)) (next_own k t room) in
       let act : Act k t = record {
         event = e;
         word = w;
         number = x;
         kind = kinds.Publish;
         f = with_birth e;
-        stays = λ z. refl;
+        stays = λ z. (refl, refl);
         own = refl;
         step = st;
         there = next_there k t room;
@@ -87,13 +90,19 @@ module _ (k : Limits) (fair : AreLimits k) where
         };
         rest = λ z there other. birth_told h a.number y z (get_or s.words (place_of k z) 0) (λ q. other (q ∙ ap HeadWord here))
             (λ j q. ap (λ b. get_or s.words (place_of k b) 0) (q ∙ ap (λ i. BodyWord i j) here) ∙ body j (subst (IsThere k) q there).1) (r.world.tells z there);
-        empty = λ i q. let same : i ≡ row = cc in ap (λ z. get_or s.words (head_place z) 0) same ∙ next_empty k t room;
+        may = next_may k t room w x refl;
         unmarked = λ z q. cc;
-        apart = λ d i ne part. of_no_other k a.number d row w refl (next_own k t room) ne i part;
+        tells_own = next_tells k t room w refl;
+        births_own = births_own;
         mine = record {
           given = mine.given;
           mine = ap (λ l. l ++ e ∷ []) mine.mine ∙ sym (by_own a.number h e refl);
-          rows = rows_publish h s.words a.number a.first_draft a.next a.left x a.next_body y all mine.given here room (λ z. full_head (head_of y) (λ q. cc) (sym is ∙ z)) r.world.wide rows;
+          blocks = ascend_wider 0 (drawn_in k s.words) (drawn_in k (set s.words (place_of k w) x)) a.blocks (drawn_rises k s.words w x all r.world.wide (next_may k t room w x refl)) mine.blocks;
+          spares = spares_more k t e births_own;
+          first = mine.first;
+          end = mine.end;
+          area = mine.area;
+          rows = rows_publish h s.words a.number mine.first mine.end a.first_draft a.next a.left x a.next_body y all (own_inside k a.number a.blocks mine.first mine.end mine.area) here room (λ z. full_head (head_of y) (λ q. cc) (sym is ∙ z)) r.world.wide rows;
           units = units_own k h e a.number a.claimed a.spare_unit a.open_unit (enqueue_quiet a.number y) (λ d u i n z. cc) (λ d u z. cc) mine.units;
         };
       } in let done = acted k t act in (

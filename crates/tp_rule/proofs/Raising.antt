@@ -21,10 +21,11 @@ use Rattle.tp_rule.specs.declared.view.Hand.{Hand}
 use Rattle.tp_rule.specs.declared.view.Known.{Known}
 use Rattle.tp_rule.specs.declared.view.Known.TheVariants.{PartMark, RowHead}
 use Rattle.tp_rule.specs.declared.view.View.{View}
-use Rattle.tp_rule.proofs.Frames.{Turn, hand_holds, hand_quiet, limits_are, moved, seat_holds}
-use Rattle.tp_rule.proofs.Parts.{in_all}
+use Rattle.tp_rule.proofs.Frames.{Turn, hand_holds, hand_quiet, limits_are, mine_drawn, moved, seat_holds}
+use Rattle.tp_rule.proofs.Owning.{own_inside}
+use Rattle.tp_rule.proofs.Parts.{in_rows}
 use Rattle.tp_rule.proofs.Seats.{looks_knowing, one_has}
-use Rattle.tp_rule.proofs.Storing.{heads_kept, row_left, still_left, stored}
+use Rattle.tp_rule.proofs.Storing.{MayStore, drawn_rises, heads_kept, row_left, still_left, stored}
 use Rattle.tp_rule.proofs.Tellings.{finished_later, low_below, world_stored}
 
 module _ (k : Limits) where
@@ -64,28 +65,37 @@ module _ (k : Limits) where
       let old = r.world.marks p room in
       let marked : (q : ℕ) → MarkWord p ≡ MarkWord q → MarkHolds k h ws q to = λ q e. let same : p ≡ q = cc in subst (λ z. MarkHolds k h ws z to) same record {
         inside = top;
-        below = λ i low high. finished_later k h h s.words ws i (begins_refl h) r.world.legal (heads_kept k s.words (MarkWord p) to room (λ j e. absurd cc) i (in_all k.parts k.rows p i (room, low, omega arith)))
+        below = λ i low high. finished_later k h h s.words ws i (begins_refl h) r.world.legal (heads_kept k s.words (MarkWord p) to room (λ j e. absurd cc) i (in_rows k p i (room, low, omega arith)))
             (dite (dec_le (p * k.rows + from) i) (λ past. done_is t i (done i past high)) (λ not. old.below i low (omega arith)));
       } in
-      let world : World k h ws = world_stored k h h s.words (MarkWord p) to r.world r.world.legal (begins_refl h) room tt (λ w there _. r.world.tells w there) (λ j e. absurd cc) marked in
-      let still : (z : Known) → StillSo k s.words z → StillSo k ws z = still_left k s.words (MarkWord p) to room r.world.wide (λ j e. absurd cc) (λ q e. let same : p ≡ q = cc in subst (λ z. get_or s.words (mark_place k z) 0 ≤ to) same (omega arith)) in
+      let may : MayStore k s.words (MarkWord p) to = record {
+        head = λ j e. absurd cc;
+        mark = λ q e. let same : p ≡ q = cc in subst (λ z. get_or s.words (mark_place k z) 0 ≤ to) same (omega arith);
+        count = λ e. absurd cc;
+      } in
+      let world : World k h ws = world_stored k h h s.words (MarkWord p) to r.world r.world.legal (begins_refl h) room tt (λ w there _. r.world.tells w there) may marked in
+      let still : (z : Known) → StillSo k s.words z → StillSo k ws z = still_left k s.words (MarkWord p) to room r.world.wide may in let rises = drawn_rises k s.words (MarkWord p) to room r.world.wide may in
       let now : get_or ws (mark_place k p) 0 ≡ to = stored k s.words (MarkWord p) to room r.world.wide in
-      let quiet : (a : Hand) → HandHolds k h s.words a → HandHolds k h ws a = λ a hold. hand_quiet k h s.words ws a (λ i part. row_left k s.words (MarkWord p) to room i (in_all k.parts k.rows a.number i part) (λ q. cc)) hold in
+      let quiet : (a : Hand) → HandHolds k h s.words a → HandHolds k h ws a = λ a hold. (let top = own_inside k a.number a.blocks hold.first hold.end hold.area in hand_quiet k h s.words ws a rises hold (λ i low high. row_left k s.words (MarkWord p) to room i (omega arith) (λ q. cc))) in
       let rule = moved k t record {
         kind = kinds.Raise;
         f = unchanged;
         seen = v.seen;
         history = h;
         words = ws;
+        owner = r.owner;
         stays = λ a. refl;
         begins = seen;
         grows = begins_refl h;
         world = world;
         mine = quiet (hand v) mine;
-        others = λ b _ hold. quiet b hold;
+        others = λ b _ _ hold. quiet b hold;
         known = known;
         knows = λ z q. ⊎_elim (λ e. subst (StillSo k ws) (sym e) (room, omega arith)) (λ o. still z (seat.known z o)) (in_cons q);
         still = still;
+        same = λ c. refl;
+        draws = mine_drawn k t;
+        drew = λ b ne hold draws. draws;
       } in (
         after kinds.Raise unchanged v.seen known v,
         subst (λ (z : ℕ × ℕ). Rule k record { words = set s.words z.0 z.1; homes = s.homes; views = set s.views id (after kinds.Raise unchanged v.seen known v) }) (λ i. (sym place i, sym (ap (λ b. either b to x) (eq-eqb x from hit)) i)) rule,
@@ -100,15 +110,19 @@ module _ (k : Limits) where
         seen = v.seen;
         history = h;
         words = s.words;
+        owner = r.owner;
         stays = λ a. refl;
         begins = seen;
         grows = begins_refl h;
         world = r.world;
         mine = mine;
-        others = λ b _ hold. hold;
+        others = λ b _ _ hold. hold;
         known = v.known;
         knows = seat.known;
         still = λ z so. so;
+        same = λ c. refl;
+        draws = mine_drawn k t;
+        drew = λ b ne hold draws. draws;
       } in (
         after kinds.Raise unchanged v.seen v.known v,
         subst (λ (z : List ℕ). Rule k record { words = z; homes = s.homes; views = set s.views id (after kinds.Raise unchanged v.seen v.known v) }) (sym (ap (λ z. set s.words word z) (ap (λ b. either b to x) (ne_eqb x from miss)) ∙ set-get_or s.words word 0)) rule,

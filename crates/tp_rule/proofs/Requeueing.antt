@@ -10,7 +10,7 @@ use Rattle.tp_model.specs.declared.types.Limits.{Limits}
 use Rattle.tp_model.specs.History.{UnitEnd}
 use Rattle.tp_model.specs.Steps.{IsParked, Step, rows_of}
 use Rattle.tp_model.specs.Words.{ClaimWord, AgainWord, claim_word, round_in, word_status}
-use Rattle.tp_model.proofs.Bridges.{found_later, by_own, parked_later}
+use Rattle.tp_model.proofs.Bridges.{found_later, by_own, in_none, parked_later}
 use Rattle.tp_model.proofs.Lists.{option_or-None}
 use Rattle.tp_model.proofs.WordProofs.{rounds_by_words, status_by_words}
 use Rattle.tp_words.specs.Places.{claim_place}
@@ -22,9 +22,10 @@ use Rattle.tp_rule.specs.Steps.{after, unchanged, with_event, AllowsRequeue, Has
 use Rattle.tp_rule.specs.Views.{IsOnePass, hand}
 use Rattle.tp_rule.specs.declared.view.Hand.{Hand}
 use Rattle.tp_rule.specs.declared.view.View.{View}
-use Rattle.tp_rule.proofs.Claiming.{claim_event, claim_there, rows_still}
+use Rattle.tp_rule.proofs.Claiming.{blocks_still, claim_event, claim_there, rows_still}
 use Rattle.tp_rule.proofs.Events.{looking_after, missed, units_own}
-use Rattle.tp_rule.proofs.Frames.{Turn, hand_holds, seat_holds}
+use Rattle.tp_rule.proofs.Frames.{Turn, hand_holds, seat_holds, spares_more}
+use Rattle.tp_rule.proofs.Owning.{own_inside}
 use Rattle.tp_rule.proofs.Units.{decide}
 
 requeue_quiet : (c i m u : ℕ) (w : Option UnitEnd) → decide u w (Requeue c i m) ≡ w
@@ -45,10 +46,15 @@ module _ (k : Limits) where
         few = (let less : round_in w < 3 = may.1 in let at : round_in w + 1 ≤ 3 = omega arith in at);
       } in
       let done = claim_event k t e row new (AgainWord m) kinds.RequeueExchange (with_event e) room to ((let least : 1 ≤ m = omega arith in least), (let less : round_in w < 3 = may.1 in let at : m ≤ 3 = omega arith in at)) refl refl st (ap (λ b. cond b (AgainWord m) (claim_word h row)) (eq-eqb row row refl))
-      (λ i not. ap (λ b. cond b (AgainWord m) (claim_word h i)) (ne_eqb row i (λ z. not (sym z)))) (requeue_quiet a.number row m) (λ z. refl) record {
+      (λ i not. ap (λ b. cond b (AgainWord m) (claim_word h i)) (ne_eqb row i (λ z. not (sym z)))) (requeue_quiet a.number row m) (λ z. (refl, refl)) record {
         given = mine.given;
         mine = ap (λ l. l ++ e ∷ []) mine.mine ∙ sym (by_own a.number h e refl);
-        rows = rows_still k h s.words e row new a.number a.first_draft a.next a.left a.next_body a.drafts room refl mine.given mine.rows;
+        blocks = blocks_still k s.words row new a.blocks room r.world.wide mine.blocks;
+        spares = spares_more k t e (λ y q. absurd (in_none q));
+        first = mine.first;
+        end = mine.end;
+        area = mine.area;
+        rows = rows_still k h s.words e row new mine.first mine.end a.first_draft a.next a.left a.next_body a.drafts room refl (own_inside k a.number a.blocks mine.first mine.end mine.area) mine.rows;
         units = units_own k h e a.number a.claimed a.spare_unit a.open_unit (requeue_quiet a.number row m) (λ d u i n z. cc) (λ d u z. cc) mine.units;
       } in (
         after kinds.RequeueExchange (with_event e) (h ++ e ∷ []) v.known v,

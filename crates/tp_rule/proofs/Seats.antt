@@ -1,19 +1,17 @@
 -- The seats after a step.
-use Rattle.std.proofs.Common.{◌≡◌, ℕ, zero, suc, ◌<◌, ◌≢◌, List, [], ◌∷◌, map, length, set, get_or, sym, refl, ap, ◌∙◌, subst, ⊎_elim, arith, ◌+◌, ◌*◌, ◌≤◌}
+use Rattle.std.proofs.Common.{◌≡◌, ℕ, zero, suc, ◌<◌, ◌≢◌, List, [], ◌∷◌, map, length, set, get_or, sym, refl, ap, ◌∙◌, subst, ⊎_elim, arith}
 use mathlib.Core.Option.{some, some-injective, some-ne-none}
 use mathlib.Core.List.{IsPrefix}
 use mathlib.Core.Logic.{dite}
-use native.Mathlib.Decide.{dec_le, ℕ_discrete}
+use native.Mathlib.Decide.{ℕ_discrete}
 use lib.ListN.{get_elem?}
 use lib.Seq.{set-get_or}
-use Rattle.atomic_table.specs.Table.{State}
 use Rattle.atomic_table.proofs.Lists.{at_set, set_else, set_here}
 use Rattle.tp_model.specs.declared.event.Event.{Event}
 use Rattle.tp_model.specs.declared.trace.StepKind.{StepKind}
 use Rattle.tp_model.specs.declared.trace.StepKind.TheVariants as kinds
 use Rattle.tp_model.specs.declared.types.Limits.{Limits}
-use Rattle.tp_model.specs.declared.types.Element.{Element}
-use Rattle.tp_model.specs.History.{In, IsUnborn, here, there}
+use Rattle.tp_model.specs.History.{In, here, there}
 use Rattle.tp_model.specs.Passes.{IsRun}
 use Rattle.tp_model.specs.Steps.{IsLegal, rows_of}
 use Rattle.tp_model.proofs.Bridges.{append_nil, begins_refl, in_cons, in_none}
@@ -21,17 +19,15 @@ use Rattle.tp_words.specs.Places.{HeadWord, head_place}
 use Rattle.tp_words.specs.declared.words.Head.{Head}
 use Rattle.tp_rule.specs.Doors.{Permits}
 use Rattle.tp_rule.specs.Plays.{loads, loads_head}
-use Rattle.tp_rule.specs.Rule.{HandHolds, IsApart, IsSeated, RowsHold, Rule, SeatHolds, StillSo}
+use Rattle.tp_rule.specs.Rule.{HandHolds, IsApart, IsSeated, Owners, Rule, SeatHolds, StillSo}
 use Rattle.tp_rule.specs.Steps.{Found, IsSo, Loads, NoneFrom, noted, after, unchanged}
 use Rattle.tp_rule.specs.Views.{HasPass, IsOnePass, hand}
 use Rattle.tp_rule.specs.declared.view.Hand.{Hand}
 use Rattle.tp_rule.specs.declared.view.Known.{Known}
 use Rattle.tp_rule.specs.declared.view.Known.TheVariants.{RowHead}
 use Rattle.tp_rule.specs.declared.view.View.{View}
-use Rattle.tp_rule.proofs.Tellings.{found, head_told, so_now}
-
-abbrev pub S : Type 0
-S = State (Unit {0}) View
+use Rattle.tp_rule.proofs.Owning.{IsDrawer, S, blocks_for, run_of}
+use Rattle.tp_rule.proofs.Tellings.{found, head_told, none_behind, so_now}
 
 module _ {A B : Type 0} (f : A → B) where
   -- what stands in the map was made of what stood in the list
@@ -65,34 +61,38 @@ pub seated_after : (views : List View) (id : ℕ) (v : View) (kind : StepKind) (
 seated_after views id v kind f seen known at stays = let g : Hand → Hand = λ a. noted kind seen (f a) in seated_still views id v (after kind f seen known v) at (λ a p. (g a, in_map_to g p, stays a))
 
 module _ (k : Limits) where
-  pub seats_after : (h : List Event) (ws : List ℕ) (owner : ℕ → ℕ) (views : List View) (id : ℕ) (w : View) → SeatHolds k h ws owner id w
+  pub seats_after : (h : List Event) (ws : List ℕ) (owner : Owners) (views : List View) (id : ℕ) (w : View) → SeatHolds k h ws owner id w
       → ((j : ℕ) (v : View) → j ≢ id → get_elem? views j ≡ some v → SeatHolds k h ws owner j v)
       → (j : ℕ) (v : View) → get_elem? (set views id w) j ≡ some v → SeatHolds k h ws owner j v
   seats_after h ws owner views id w mine others j v e = ⊎_elim (λ (t : (j ≡ id) × (w ≡ v)). subst (λ (x : ℕ × View). SeatHolds k h ws owner x.0 x.1) (λ i. (sym t.0 i, t.1 i)) mine)
       (λ (t : (j ≢ id) × (get_elem? views j ≡ some v)). others j v t.0 t.1) (at_set views id j w v e)
 
-  -- the run of a pass that is as its seat knows it
-  pub run_of : (h : List Event) (ws : List ℕ) (a : Hand) → HandHolds k h ws a → IsRun k h a.number a.next a.left
-  run_of h ws a r = let count = r.rows.counted in let low = r.rows.begins in record {
-    begins = omega arith;
-    ends = r.rows.ends;
-    unborn = λ i l m. r.rows.unborn i (omega arith) m;
+  pub hand_noted : (h : List Event) (ws : List ℕ) (kind : StepKind) (seen : List Event) (a : Hand) → HandHolds k h ws a → HandHolds k h ws (noted kind seen a)
+  hand_noted h ws kind seen a r = record {
+    given = r.given;
+    mine = r.mine;
+    blocks = r.blocks;
+    spares = r.spares;
+    first = r.first;
+    end = r.end;
+    area = r.area;
+    rows = r.rows;
+    units = r.units;
   }
 
-  pub hand_noted : (h : List Event) (ws : List ℕ) (kind : StepKind) (seen : List Event) (a : Hand) → HandHolds k h ws a → HandHolds k h ws (noted kind seen a)
-  hand_noted h ws kind seen a r = record { given = r.given; mine = r.mine; rows = r.rows; units = r.units }
-
-  -- the seat that makes a step, where f leaves the number
-  pub seat_after : (h h' : List Event) (ws ws' : List ℕ) (owner : ℕ → ℕ) (j : ℕ) (v : View) (kind : StepKind) (f : Hand → Hand) (seen : List Event) (known : List Known) → ((a : Hand) → (f a).number ≡ a.number) → IsPrefix seen h'
+  -- the seat that makes a step, where f leaves the number, and the seats go on to stand for the same passes
+  pub seat_after : (h h' : List Event) (ws ws' : List ℕ) (owner owner' : Owners) (j : ℕ) (v : View) (kind : StepKind) (f : Hand → Hand) (seen : List Event) (known : List Known) → ((a : Hand) → (f a).number ≡ a.number)
+      → ((c : ℕ) → owner'.seat c ≡ owner.seat c) → ((a : Hand) → In a v.hands → IsDrawer k owner a → IsDrawer k owner' (f a)) → IsPrefix seen h'
       → ((x : Known) → In x known → StillSo k ws' x)
-      → ((a : Hand) → In a v.hands → HandHolds k h ws a → HandHolds k h' ws' (f a)) → SeatHolds k h ws owner j v → SeatHolds k h' ws' owner j (after kind f seen known v)
-  seat_after h h' ws ws' owner j v kind f seen known stays begins knows goes r = let g : Hand → Hand = λ a. noted kind seen (f a) in record {
+      → ((a : Hand) → In a v.hands → HandHolds k h ws a → HandHolds k h' ws' (f a)) → SeatHolds k h ws owner j v → SeatHolds k h' ws' owner' j (after kind f seen known v)
+  seat_after h h' ws ws' owner owner' j v kind f seen known stays same draws begins knows goes r = let g : Hand → Hand = λ a. noted kind seen (f a) in record {
     limits = λ b p. let q = in_map g b v.hands p in r.limits q.0 q.1;
     seen = begins;
     also_seen = (h', refl);
     known = knows;
     apart = apart_map g stays v.hands r.apart;
-    owns = λ b p. let q = in_map g b v.hands p in ap (λ (x : Hand). owner x.number) q.2 ∙ (ap owner (stays q.0) ∙ r.owns q.0 q.1);
+    owns = λ b p. let q = in_map g b v.hands p in ap (λ (x : Hand). owner'.seat x.number) q.2 ∙ (ap owner'.seat (stays q.0) ∙ (same q.0.number ∙ r.owns q.0 q.1));
+    draws = λ b p. let q = in_map g b v.hands p in subst (λ (x : Hand). IsDrawer k owner' x) (sym q.2) (draws q.0 q.1 (r.draws q.0 q.1));
     hands = λ b p. let q = in_map g b v.hands p in subst (λ (x : Hand). HandHolds k h' ws' x) (sym q.2) (hand_noted h' ws' kind seen (f q.0) (goes q.0 q.1 (r.hands q.0 q.1)));
   }
 
@@ -100,14 +100,15 @@ module _ (k : Limits) where
   pub looks_knowing : (v : View) (word : ℕ) → HasPass v → (s : S) (r : Rule k s) (id : ℕ) → get_elem? s.views id ≡ some v → (known : List Known) → ((x : Known) → In x known → StillSo k s.words x) → ((x : Known) → In x v.known → In x known)
       → Rule k record { words = set s.words word (get_or s.words word 0); homes = s.homes; views = set s.views id (after kinds.Load unchanged r.history known v) } × Loads v word (get_or s.words word 0) (after kinds.Load unchanged r.history known v)
   looks_knowing v word has s r id at known so more = let h = r.history in let w : View = after kinds.Load unchanged h known v in let mine = r.seats id v at in let seen = mine.seen in let lim = mine.limits has.0 has.1 in
-      let there = seat_after h h s.words s.words r.owner id v kinds.Load unchanged h known (λ a. refl) (begins_refl h) so (λ a _ x. x) mine in (
-        subst (λ (ws : List ℕ). Rule k record { words = ws; homes = s.homes; views = set s.views id w }) (sym (set-get_or s.words word 0)) record {
-          history = h;
-          owner = r.owner;
-          world = r.world;
-          seats = seats_after h s.words r.owner s.views id w there (λ j u _ e. r.seats j u e);
-          complete = λ c below. seated_after s.views id v kinds.Load unchanged h known at (λ a. refl) c (r.complete c below);
-        },
+      let there = seat_after h h s.words s.words r.owner r.owner id v kinds.Load unchanged h known (λ a. refl) (λ c. refl) (λ a _ d. d) (begins_refl h) so (λ a _ x. x) mine in
+      let rule : Rule k record { words = s.words; homes = s.homes; views = set s.views id w } = record {
+        history = h;
+        owner = r.owner;
+        world = r.world;
+        seats = seats_after h s.words r.owner s.views id w there (λ j u _ e. r.seats j u e);
+        complete = λ c below. seated_after s.views id v kinds.Load unchanged h known at (λ a. refl) c (r.complete c below);
+      } in let now = set_here s.views id w (at_below s.views v id at) in (
+        subst (λ (ws : List ℕ). Rule k record { words = ws; homes = s.homes; views = set s.views id w }) (sym (set-get_or s.words word 0)) rule,
         (
           record {
             between = seen.0;
@@ -117,7 +118,7 @@ module _ (k : Limits) where
             view = refl;
             mine = λ a p. (there.hands a p).mine;
             open_own = λ a p. (there.hands a p).units.open_own;
-            run = λ a p. subst (λ l. IsRun l h a.number a.next a.left) (sym lim) (run_of h s.words a (there.hands a p));
+            run = λ a p. subst (λ l. IsRun l h a.number a.blocks a.next a.left) (sym lim) (run_of k h s.words a r.world.drawn (blocks_for k (record { words = s.words; homes = s.homes; views = set s.views id w }) rule id w a now p) (there.hands a p));
             knows = more;
             is_so = λ x p. subst (λ l. IsSo l h x) (sym lim) (so_now k h s.words r.world x (so x p));
           },
@@ -128,16 +129,8 @@ module _ (k : Limits) where
   pub looks : (v : View) (word : ℕ) → HasPass v → Permits k v word (λ n. n) (loads word 0 0 v)
   looks v word has s r id at = let t = looks_knowing v word has s r id at v.known (r.seats id v at).known (λ x p. p) in (after kinds.Load unchanged r.history v.known v, t.0, t.1)
 
-  -- a row without a head is behind those that are drawn
-  rows_none : (h : List Event) (ws : List ℕ) (c first next left i j : ℕ) (body : List ℕ) (ds : List Element) → RowsHold k h ws c first next left body ds → c * k.rows ≤ i → i ≤ j → j < c * k.rows + k.rows
-      → get_or ws (head_place i) 0 ≡ 0 → IsUnborn h j
-  rows_none h ws c first next left i j body ds r low later high empty = let count = r.counted in let top = r.ends in dite (dec_le next i)
-      (λ behind. r.unborn j (omega arith) (omega arith)) (λ before. absurd (r.full i low (omega arith) empty))
-
   none_from : (s : S) (r : Rule k s) (i : ℕ) → get_or s.words (head_place i) 0 ≡ 0 → NoneFrom k r.history i
-  none_from s r i empty c j own part later = let t = r.complete c own.0 in let a = t.2 in let hand = (r.seats t.0 t.1 t.3).hands a t.4 in
-      rows_none r.history s.words c a.first_draft a.next a.left i j a.next_body a.drafts
-      (subst (λ n. RowsHold k r.history s.words n a.first_draft a.next a.left a.next_body a.drafts) t.5 hand.rows) own.1 later part.2 empty
+  none_from s r i empty first end j area low later high = none_behind k r.history s.words r.world first end i j area low later high empty
 
   -- the load of a head, which the seat remembers
   pub looks_head : (v : View) (row : ℕ) → HasPass v → row < rows_of k → Permits k v (head_place row) (λ n. n) (loads_head (head_place row) 0 0 v)

@@ -7,9 +7,10 @@ use lib.ListN.{get_elem?}
 use Rattle.atomic_table.specs.Table.{Splits, Joins}
 use Rattle.atomic_table.proofs.Lists.{at_last, at_longer, at_set, set_else, set_here}
 use Rattle.tp_model.specs.declared.trace.StepKind.TheVariants as kinds
-use Rattle.tp_rule.specs.Rule.{HandHolds, IsApart, IsSeated, Rule, SeatHolds}
+use Rattle.tp_rule.specs.Rule.{HandHolds, IsApart, IsSeated, Owners, Rule, SeatHolds}
 use Rattle.tp_rule.specs.Views.{HasPass, spent}
 use Rattle.tp_rule.specs.Steps.{noted, looked, with_hands, handed_on, handed_out, kept, parted, joined, rest_of, front_of}
+use Rattle.tp_rule.proofs.Owning.{IsDrawer}
 use Rattle.tp_rule.proofs.Seats.{at_below, in_map, in_map_to, apart_map, seats_after, hand_noted}
 use Rattle.tp_model.proofs.Bridges.{in_cons, in_either, in_here, in_left, in_none, in_one, in_right}
 use Rattle.tp_model.specs.History.{In, here, there}
@@ -72,32 +73,38 @@ cross (x ∷ hs) t a b p q e = t.0 b q (e ∙ ap (λ (z : Hand). z.number) (in_o
 
 module _ (k : Limits) where
   -- a seat with some of the hands
-  seat_of : (h : List Event) (ws : List ℕ) (owner owner' : ℕ → ℕ) (j n : ℕ) (v : View) (hs : List Hand) (u : View) → u ≡ with_hands hs v → ((a : Hand) → In a hs → (b : Hand) × In b v.hands × (HandHolds k h ws b → HandHolds k h ws a)) → IsApart hs
-      → ((a : Hand) → In a hs → owner' a.number ≡ n) → SeatHolds k h ws owner j v → SeatHolds k h ws owner' n u
-  seat_of h ws owner owner' j n v hs u is from apart owns r = subst (SeatHolds k h ws owner' n) (sym is) record {
+  seat_of : (h : List Event) (ws : List ℕ) (owner owner' : Owners) (j n : ℕ) (v : View) (hs : List Hand) (u : View) → u ≡ with_hands hs v → ((a : Hand) → In a hs → (b : Hand) × In b v.hands × (HandHolds k h ws b → HandHolds k h ws a)) → IsApart hs
+      → ((a : Hand) → In a hs → owner'.seat a.number ≡ n) → ((a : Hand) → In a hs → IsDrawer k owner' a) → SeatHolds k h ws owner j v → SeatHolds k h ws owner' n u
+  seat_of h ws owner owner' j n v hs u is from apart owns draws r = subst (SeatHolds k h ws owner' n) (sym is) record {
     limits = λ a p. let t = from a p in r.limits t.0 t.1;
     seen = r.seen;
     also_seen = r.also_seen;
     known = r.known;
     apart = apart;
     owns = owns;
+    draws = draws;
     hands = λ a p. let t = from a p in t.2 (r.hands t.0 t.1);
   }
 
-  owned_anew : (h : List Event) (ws : List ℕ) (owner owner' : ℕ → ℕ) (j : ℕ) (v : View) → ((a : Hand) → In a v.hands → owner' a.number ≡ owner a.number) → SeatHolds k h ws owner j v → SeatHolds k h ws owner' j v
-  owned_anew h ws owner owner' j v same r = record {
+  owned_anew : (h : List Event) (ws : List ℕ) (owner owner' : Owners) (j : ℕ) (v : View) → ((a : Hand) → In a v.hands → owner'.seat a.number ≡ owner.seat a.number) → ((b : ℕ) → owner'.drawer b ≡ owner.drawer b) → SeatHolds k h ws owner j v → SeatHolds k h ws owner' j v
+  owned_anew h ws owner owner' j v same drew r = record {
     limits = r.limits;
     seen = r.seen;
     also_seen = r.also_seen;
     known = r.known;
     apart = r.apart;
     owns = λ a p. same a p ∙ r.owns a p;
+    draws = λ a p b q. drew b ∙ r.draws a p b q;
     hands = r.hands;
   }
 
+  -- a seat, and what it knows, by other names
+  seat_at : (h : List Event) (ws : List ℕ) (owner : Owners) (j n : ℕ) (u w : View) → j ≡ n → w ≡ u → SeatHolds k h ws owner n w → SeatHolds k h ws owner j u
+  seat_at h ws owner j n u w same is holds = subst (λ (z : ℕ × View). SeatHolds k h ws owner z.0 z.1) (λ i. (sym same i, is i)) holds
+
   -- these hands are of the seat's passes, perhaps with more in their traces
   abbrev From : List Hand → View → Type 0
-  From hs v = (a : Hand) → In a hs → (b : Hand) × In b v.hands × (a.number ≡ b.number) × ((h : List Event) (ws : List ℕ) → HandHolds k h ws b → HandHolds k h ws a)
+  From hs v = (a : Hand) → In a hs → (b : Hand) × In b v.hands × (a.number ≡ b.number) × (a.blocks ≡ b.blocks) × ((h : List Event) (ws : List ℕ) → HandHolds k h ws b → HandHolds k h ws a)
 
   -- one of these hands is of pass c
   abbrev HasHand : List Hand → ℕ → Type 0
@@ -114,18 +121,19 @@ module _ (k : Limits) where
   pub splits : (id : ℕ) (v : View) (L R : List Hand) → From L v → From R v → ((a : Hand) → In a v.hands → HasHand L a.number ⊎ HasHand R a.number) → (IsApart v.hands → IsApart L) → (IsApart v.hands → IsApart R)
       → (IsApart v.hands → (a b : Hand) → In a R → In b L → a.number ≢ b.number) → Splits (Rule k) id v (with_hands L v) (with_hands R v)
   splits id v L R left right cover apart_l apart_r cross s r at = let n : ℕ = length s.views in let h = r.history in let mine = r.seats id v at in let room = at_below s.views v id at in
-      let owner : ℕ → ℕ = λ c. cond (among c R) n (r.owner c) in
-      let in_r : (a : Hand) → In a R → owner a.number ≡ n = λ a p. ap (λ t. cond t n (r.owner a.number)) (among_in a.number R a p refl) in
-      let not_r : (c : ℕ) → ((a : Hand) → In a R → a.number ≢ c) → owner c ≡ r.owner c = λ c f. ap (λ t. cond t n (r.owner c)) (not_among c R f) in
-      let all : SeatHolds k h s.words owner id (with_hands L v) = seat_of h s.words r.owner owner id id v L (with_hands L v) refl (λ a p. let t = left a p in (t.0, t.1, t.3 h s.words)) (apart_l mine.apart)
-      (λ b q. let t = left b q in not_r b.number (λ a p. cross mine.apart a b p q) ∙ (ap r.owner t.2 ∙ mine.owns t.0 t.1)) mine in
-      let new : SeatHolds k h s.words owner n (with_hands R v) = seat_of h s.words r.owner owner id n v R (with_hands R v) refl (λ a p. let t = right a p in (t.0, t.1, t.3 h s.words)) (apart_r mine.apart) in_r mine in
+      let owner : Owners = record { seat = λ c. cond (among c R) n (r.owner.seat c); drawer = r.owner.drawer } in
+      let in_r : (a : Hand) → In a R → owner.seat a.number ≡ n = λ a p. ap (λ t. cond t n (r.owner.seat a.number)) (among_in a.number R a p refl) in
+      let not_r : (c : ℕ) → ((a : Hand) → In a R → a.number ≢ c) → owner.seat c ≡ r.owner.seat c = λ c f. ap (λ t. cond t n (r.owner.seat c)) (not_among c R f) in
+      let drawn : (hs : List Hand) → From hs v → (a : Hand) → In a hs → IsDrawer k owner a = λ hs from a p b q. (let t = from a p in mine.draws t.0 t.1 b (subst (In b) t.3 q) ∙ sym t.2) in
+      let all : SeatHolds k h s.words owner id (with_hands L v) = seat_of h s.words r.owner owner id id v L (with_hands L v) refl (λ a p. let t = left a p in (t.0, t.1, t.4 h s.words)) (apart_l mine.apart)
+      (λ b q. let t = left b q in not_r b.number (λ a p. cross mine.apart a b p q) ∙ (ap r.owner.seat t.2 ∙ mine.owns t.0 t.1)) (drawn L left) mine in
+      let new : SeatHolds k h s.words owner n (with_hands R v) = seat_of h s.words r.owner owner id n v R (with_hands R v) refl (λ a p. let t = right a p in (t.0, t.1, t.4 h s.words)) (apart_r mine.apart) in_r (drawn R right) mine in
       let old = seats_after k h s.words owner s.views id (with_hands L v) all (λ j u apart e. owned_anew h s.words r.owner owner j u
-      (λ b q. not_r b.number (λ a p same. let t = right a p in apart (sym ((r.seats j u e).owns b q) ∙ (ap r.owner (sym same) ∙ (ap r.owner t.2 ∙ mine.owns t.0 t.1))))) (r.seats j u e)) in record {
+      (λ b q. not_r b.number (λ a p same. let t = right a p in apart (sym ((r.seats j u e).owns b q) ∙ (ap r.owner.seat (sym same) ∙ (ap r.owner.seat t.2 ∙ mine.owns t.0 t.1))))) (λ b. refl) (r.seats j u e)) in record {
         history = h;
         owner = owner;
         world = r.world;
-        seats = λ j u e. ⊎_elim (λ t. old j u t.0) (λ t. subst (λ (z : ℕ × View). SeatHolds k h s.words owner z.0 z.1) (λ i. (sym (t.0 ∙ length-set s.views id (with_hands L v)) i, t.1 i)) new)
+        seats = λ j u e. ⊎_elim (λ t. old j u t.0) (λ t. seat_at h s.words owner j n u (with_hands R v) (t.0 ∙ length-set s.views id (with_hands L v)) t.1 new)
             (at_end (set s.views id (with_hands L v)) (with_hands R v) u j e);
         complete = λ c below. split_complete s.views id v L R at cover c (r.complete c below);
       }
@@ -142,19 +150,20 @@ module _ (k : Limits) where
   pub joins : (id : ℕ) (v : View) (other : ℕ) (w : View) → HasPass v → Joins (Rule k) id v other w (joined v w) spent
   joins id v other w has s r at ne their_at = let h = r.history in let mine = r.seats id v at in
       let found : get_elem? s.views other ≡ some w = ⊎_elim (λ (t : (other ≡ id) × (joined v w ≡ w)). absurd (ne t.0)) (λ (t : (other ≢ id) × (get_elem? s.views other ≡ some w)). t.1) (at_set s.views id other (joined v w) w their_at) in
-      let theirs = r.seats other w found in let owner : ℕ → ℕ = λ c. cond (eqb (r.owner c) other) id (r.owner c) in let f : Hand → Hand = noted kinds.SeatLoad v.seen in
-      let moved : (c : ℕ) → r.owner c ≡ other → owner c ≡ id = λ c e. ap (λ b. cond b id (r.owner c)) (eq-eqb (r.owner c) other e) in
-      let stays : (c : ℕ) → r.owner c ≢ other → owner c ≡ r.owner c = λ c e. ap (λ b. cond b id (r.owner c)) (ne_eqb (r.owner c) other e) in
+      let theirs = r.seats other w found in let owner : Owners = record { seat = λ c. cond (eqb (r.owner.seat c) other) id (r.owner.seat c); drawer = r.owner.drawer } in let f : Hand → Hand = noted kinds.SeatLoad v.seen in
+      let moved : (c : ℕ) → r.owner.seat c ≡ other → owner.seat c ≡ id = λ c e. ap (λ b. cond b id (r.owner.seat c)) (eq-eqb (r.owner.seat c) other e) in
+      let stays : (c : ℕ) → r.owner.seat c ≢ other → owner.seat c ≡ r.owner.seat c = λ c e. ap (λ b. cond b id (r.owner.seat c)) (ne_eqb (r.owner.seat c) other e) in
       let apart : (a b : Hand) → In a (map f v.hands) → In b w.hands → b.number ≢ a.number = λ a b p q same. let t = in_map f a v.hands p in
-      ne (sym (theirs.owns b q) ∙ (ap r.owner (same ∙ ap (λ (z : Hand). z.number) t.2) ∙ mine.owns t.0 t.1)) in
+      ne (sym (theirs.owns b q) ∙ (ap r.owner.seat (same ∙ ap (λ (z : Hand). z.number) t.2) ∙ mine.owns t.0 t.1)) in
       let whole : SeatHolds k h s.words owner id (joined v w) = record {
         limits = λ a p. mine.limits has.0 has.1;
         seen = mine.seen;
         also_seen = theirs.seen;
         known = λ x p. ⊎_elim (λ q. mine.known x q) (λ q. theirs.known x q) (in_either v.known w.known p);
         apart = apart_append (map f v.hands) w.hands (apart_map f (λ a. refl) v.hands mine.apart) theirs.apart apart;
-        owns = λ a p. ⊎_elim (λ q. let t = in_map f a v.hands q in let own : r.owner a.number ≡ id = ap (λ (z : Hand). r.owner z.number) t.2 ∙ mine.owns t.0 t.1 in stays a.number (λ e. ne (sym e ∙ own)) ∙ own)
+        owns = λ a p. ⊎_elim (λ q. let t = in_map f a v.hands q in let own : r.owner.seat a.number ≡ id = ap (λ (z : Hand). r.owner.seat z.number) t.2 ∙ mine.owns t.0 t.1 in stays a.number (λ e. ne (sym e ∙ own)) ∙ own)
             (λ q. moved a.number (theirs.owns a q)) (in_either (map f v.hands) w.hands p);
+        draws = λ a p. ⊎_elim (λ q. let t = in_map f a v.hands q in subst (λ (z : Hand). IsDrawer k r.owner z) (sym t.2) (mine.draws t.0 t.1)) (theirs.draws a) (in_either (map f v.hands) w.hands p);
         hands = λ a p. ⊎_elim (λ q. let t = in_map f a v.hands q in subst (HandHolds k h s.words) (sym t.2) (hand_noted k h s.words kinds.SeatLoad v.seen t.0 (mine.hands t.0 t.1))) (λ q. theirs.hands a q) (in_either (map f v.hands) w.hands p);
       } in
       let none_left : SeatHolds k h s.words owner other spent = record {
@@ -164,6 +173,7 @@ module _ (k : Limits) where
         known = λ x p. absurd (in_none p);
         apart = tt;
         owns = λ a p. absurd (in_none p);
+        draws = λ a p. absurd (in_none p);
         hands = λ a p. absurd (in_none p);
       } in record {
         history = h;
@@ -171,17 +181,17 @@ module _ (k : Limits) where
         world = r.world;
         seats = seats_after k h s.words owner (set s.views id (joined v w)) other spent none_left (λ j u far e. ⊎_elim
             (λ (t : (j ≡ id) × (joined v w ≡ u)). subst (λ (z : ℕ × View). SeatHolds k h s.words owner z.0 z.1) (λ i. (sym t.0 i, t.1 i)) whole)
-            (λ (t : (j ≢ id) × (get_elem? s.views j ≡ some u)). let old = r.seats j u t.1 in owned_anew h s.words r.owner owner j u (λ a p. stays a.number (λ e. far (sym (old.owns a p) ∙ e))) old)
+            (λ (t : (j ≢ id) × (get_elem? s.views j ≡ some u)). let old = r.seats j u t.1 in owned_anew h s.words r.owner owner j u (λ a p. stays a.number (λ e. far (sym (old.owns a p) ∙ e))) (λ b. refl) old)
             (at_set s.views id j (joined v w) u e));
         complete = λ c below. join_complete s.views id v other w at ne found c (r.complete c below);
       }
 
   from_rest : (v : View) → From (rest_of v.hands) v
-  from_rest v a p = (a, in_rest v.hands a p, refl, λ h ws holds. holds)
+  from_rest v a p = (a, in_rest v.hands a p, refl, refl, λ h ws holds. holds)
 
   from_front : (v : View) → From (looked v (front_of v.hands)) v
   from_front v a p = let f : Hand → Hand = noted kinds.SeatLoad v.seen in let t = in_map f a (front_of v.hands) p in
-      (t.0, in_front v.hands t.0 t.1, ap (λ (z : Hand). z.number) t.2, λ h ws holds. subst (HandHolds k h ws) (sym t.2) (hand_noted k h ws kinds.SeatLoad v.seen t.0 holds))
+      (t.0, in_front v.hands t.0 t.1, ap (λ (z : Hand). z.number) t.2, ap (λ (z : Hand). z.blocks) t.2, λ h ws holds. subst (HandHolds k h ws) (sym t.2) (hand_noted k h ws kinds.SeatLoad v.seen t.0 holds))
 
   apart_looked : (v : View) → IsApart v.hands → IsApart (looked v (front_of v.hands))
   apart_looked v t = apart_map (noted kinds.SeatLoad v.seen) (λ a. refl) (front_of v.hands) (apart_front v.hands t)

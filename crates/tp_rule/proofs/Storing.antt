@@ -5,15 +5,15 @@ use native.Mathlib.Decide.{ℕ_discrete}
 use Rattle.tp_model.specs.declared.types.Element.{Element}
 use Rattle.tp_model.specs.declared.types.Limits.{Limits}
 use Rattle.tp_model.specs.declared.types.TheConstants.{BODY_WORDS}
-use Rattle.tp_model.specs.Steps.{rows_of}
-use Rattle.tp_words.specs.Places.{Word, HeadWord, BodyWord, ClaimWord, UnitWord, MarkWord, IsThere, head_place, body_place, mark_place, place_of, size_of}
+use Rattle.tp_model.specs.Steps.{IsArea, block_first, rows_of}
+use Rattle.tp_words.specs.Places.{Word, HeadWord, BodyWord, ClaimWord, UnitWord, MarkWord, DrawnWord, IsThere, head_place, body_place, mark_place, place_of, size_of}
 use Rattle.tp_words.specs.Words.{pack_head}
 use Rattle.tp_words.specs.declared.words.Head.{Head}
 use Rattle.tp_words.specs.declared.words.Head.TheVariants.{Empty, There}
 use Rattle.tp_words.proofs.PlaceLemmas.{places_differ, places_inside}
-use Rattle.tp_rule.specs.Rule.{Holds, StillSo}
+use Rattle.tp_rule.specs.Rule.{Holds, StillSo, drawn_in}
 use Rattle.tp_rule.specs.declared.view.Known.{Known}
-use Rattle.tp_rule.specs.declared.view.Known.TheVariants.{RowHead, PartMark}
+use Rattle.tp_rule.specs.declared.view.Known.TheVariants.{RowHead, PartMark, BlocksDrawn}
 
 -- the row whose element the word tells of, beside its claim
 abbrev pub body_row : Word → Option ℕ
@@ -22,6 +22,7 @@ body_row (BodyWord i j) = Some i
 body_row (ClaimWord i) = None
 body_row (UnitWord u) = None
 body_row (MarkWord p) = None
+body_row DrawnWord = None
 
 -- the head and the body of row i are the same
 abbrev pub SameRow : List ℕ → List ℕ → ℕ → Type 0
@@ -34,6 +35,25 @@ holds_same ws ws' x s h = let whole = h.2 in (s.0 ∙ h.0, λ j less. s.1 j (ome
 pub full_head : (head : Head) → head ≢ Empty → pack_head head ≡ 0 → ⊥
 full_head Empty some e = some refl
 full_head (There stage root by) some e = omega arith
+
+-- the head of row i may be stored: it is empty, those before it in its area aren't, and its row is in no block that isn't drawn
+pub record MayHead (l : Limits) (ws : List ℕ) (i : ℕ) : Type 0 where
+  pub empty : get_or ws (head_place i) 0 ≡ 0
+  pub full : (first end j : ℕ) → IsArea l first end → first ≤ i → i < end → first ≤ j → j < i → get_or ws (head_place j) 0 ≢ 0
+  pub drawn : i < block_first l (drawn_in l ws)
+
+-- the number x may be stored at the word w: a head where it may be, and no mark and no counter falls
+pub record MayStore (l : Limits) (ws : List ℕ) (w : Word) (x : ℕ) : Type 0 where
+  pub head : (i : ℕ) → w ≡ HeadWord i → MayHead l ws i
+  pub mark : (p : ℕ) → w ≡ MarkWord p → get_or ws (mark_place l p) 0 ≤ x
+  pub count : w ≡ DrawnWord → (drawn_in l ws ≤ x) × (x ≤ l.spare)
+
+-- a claim and a unit's word may always be stored
+pub may_claim : (l : Limits) (ws : List ℕ) (i x : ℕ) → MayStore l ws (ClaimWord i) x
+may_claim l ws i x = record { head = λ j e. absurd cc; mark = λ p e. absurd cc; count = λ e. absurd cc }
+
+pub may_unit : (l : Limits) (ws : List ℕ) (u x : ℕ) → MayStore l ws (UnitWord u) x
+may_unit l ws u x = record { head = λ j e. absurd cc; mark = λ p e. absurd cc; count = λ e. absurd cc }
 
 module _ (l : Limits) where
   -- two words are the same or not
@@ -60,13 +80,50 @@ module _ (l : Limits) where
     pub heads_kept : ((i : ℕ) → w ≡ HeadWord i → get_or ws (head_place i) 0 ≡ 0) → (i : ℕ) → i < rows_of l → get_or ws (head_place i) 0 ≢ 0 → get_or (set ws (place_of l w) x) (head_place i) 0 ≡ get_or ws (head_place i) 0
     heads_kept empty i there some = same_or_other (HeadWord i) w there at (λ e. absurd (some (empty i (sym e)))) (λ other. left (HeadWord i) there other)
 
-    -- what was found in words that stay or rise is still so, if no head is stored but over an empty one, and no mark falls
-    pub still_left : length ws ≡ size_of l → ((i : ℕ) → w ≡ HeadWord i → get_or ws (head_place i) 0 ≡ 0) → ((p : ℕ) → w ≡ MarkWord p → get_or ws (mark_place l p) 0 ≤ x)
-        → (known : Known) → StillSo l ws known → StillSo l (set ws (place_of l w) x) known
-    still_left wide empty rises (RowHead i head) t = (t.0, t.1, λ some. heads_kept empty i t.0 (λ zero. full_head head some (sym (t.2 some) ∙ zero)) ∙ t.2 some)
-    still_left wide empty rises (PartMark p n) t = let low : n ≤ get_or ws (mark_place l p) 0 = t.1 in (
-      t.0,
-      same_or_other (MarkWord p) w t.0 at
-          (λ e. let up = rises p (sym e) in let now : get_or (set ws (place_of l w) x) (mark_place l p) 0 ≡ x = ap (λ z. get_or (set ws (place_of l w) x) (place_of l z) 0) e ∙ stored wide in omega arith)
-          (λ other. let same = left (MarkWord p) t.0 other in omega arith),
-    )
+    module _ (wide : length ws ≡ size_of l) (may : MayStore l ws w x) where
+      -- the counter of drawn blocks doesn't fall, nor rise above the number of blocks
+      pub drawn_rises : drawn_in l ws ≤ drawn_in l (set ws (place_of l w) x)
+      drawn_rises = same_or_other DrawnWord w tt at
+          (λ e. let up = (may.count (sym e)).0 in let now : drawn_in l (set ws (place_of l w) x) ≡ x = ap (λ z. get_or (set ws (place_of l w) x) (place_of l z) 0) e ∙ stored wide in omega arith)
+          (λ other. let same = left DrawnWord tt other in omega arith)
+
+      pub drawn_inside : drawn_in l ws ≤ l.spare → drawn_in l (set ws (place_of l w) x) ≤ l.spare
+      drawn_inside inside = same_or_other DrawnWord w tt at
+          (λ e. let top = (may.count (sym e)).1 in let now : drawn_in l (set ws (place_of l w) x) ≡ x = ap (λ z. get_or (set ws (place_of l w) x) (place_of l z) 0) e ∙ stored wide in omega arith)
+          (λ other. let same = left DrawnWord tt other in omega arith)
+
+      -- what was found in words that stay or rise is still so
+      pub still_left : (known : Known) → StillSo l ws known → StillSo l (set ws (place_of l w) x) known
+      still_left (RowHead i head) t = (t.0, t.1, λ some. heads_kept (λ j e. (may.head j e).empty) i t.0 (λ zero. full_head head some (sym (t.2 some) ∙ zero)) ∙ t.2 some)
+      still_left (PartMark p n) t = let low : n ≤ get_or ws (mark_place l p) 0 = t.1 in (
+        t.0,
+        same_or_other (MarkWord p) w t.0 at
+            (λ e. let up = may.mark p (sym e) in let now : get_or (set ws (place_of l w) x) (mark_place l p) 0 ≡ x = ap (λ z. get_or (set ws (place_of l w) x) (place_of l z) 0) e ∙ stored wide in omega arith)
+            (λ other. let same = left (MarkWord p) t.0 other in omega arith),
+      )
+      still_left (BlocksDrawn n) t = let low : n ≤ drawn_in l ws = t in let up = drawn_rises in omega arith
+
+      -- the rows of blocks that aren't drawn have empty heads
+      pub bare_after : ((i : ℕ) → block_first l (drawn_in l ws) ≤ i → i < rows_of l → get_or ws (head_place i) 0 ≡ 0)
+          → (i : ℕ) → block_first l (drawn_in l (set ws (place_of l w) x)) ≤ i → i < rows_of l → get_or (set ws (place_of l w) x) (head_place i) 0 ≡ 0
+      bare_after bare i low there = let up = drawn_rises in same_or_other (HeadWord i) w there at
+          (λ e. let inside = (may.head i (sym e)).drawn in absurd (omega arith))
+          (λ other. left (HeadWord i) there other ∙ bare i (omega arith) there)
+
+      -- and behind an empty head in an area there are only empty ones
+      pub behind_after : (first end i j : ℕ) → IsArea l first end → end ≤ rows_of l → first ≤ i → i ≤ j → j < end → (get_or ws (head_place i) 0 ≡ 0 → get_or ws (head_place j) 0 ≡ 0)
+          → get_or (set ws (place_of l w) x) (head_place i) 0 ≡ 0 → get_or (set ws (place_of l w) x) (head_place j) 0 ≡ 0
+      behind_after first end i j area top low later high old zero = let there_i : i < rows_of l = omega arith in let there_j : j < rows_of l = omega arith in dite (ℕ_discrete i j)
+          (λ same. ap (λ z. get_or (set ws (place_of l w) x) (head_place z) 0) (sym same) ∙ zero)
+          (λ apart. same_or_other (HeadWord j) w there_j at
+          (λ e. let now = same_head i there_i (λ q. apart (head_row i j (sym q ∙ sym e))) in absurd ((may.head j (sym e)).full first end i area (omega arith) high low (omega arith) (sym now ∙ zero)))
+          (λ other. left (HeadWord j) there_j other ∙ old (was_empty i there_i zero)))
+        where
+          head_row : (n m : ℕ) → HeadWord n ≡ HeadWord m → n ≡ m
+          head_row n m e = cc
+
+          same_head : (n : ℕ) → n < rows_of l → (w ≢ HeadWord n) → get_or (set ws (place_of l w) x) (head_place n) 0 ≡ get_or ws (head_place n) 0
+          same_head n there other = left (HeadWord n) there (λ e. other (sym e))
+
+          was_empty : (n : ℕ) → n < rows_of l → get_or (set ws (place_of l w) x) (head_place n) 0 ≡ 0 → get_or ws (head_place n) 0 ≡ 0
+          was_empty n there none = same_or_other (HeadWord n) w there at (λ e. (may.head n (sym e)).empty) (λ other. sym (left (HeadWord n) there other) ∙ none)

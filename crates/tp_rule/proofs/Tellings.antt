@@ -3,25 +3,26 @@ use Rattle.std.proofs.Common.{◌≡◌, ◌≢◌, ℕ, ◌<◌, ◌≤◌, Lis
 use Rattle.tp_model.specs.declared.event.Event.{Event}
 use Rattle.tp_model.specs.declared.types.Element.{Element}
 use Rattle.tp_model.specs.declared.types.Limits.{Limits}
-use Rattle.tp_model.specs.History.{Aborted, Committed, In, IsSettled, UnitEnd, births, element_of, end_of}
+use Rattle.tp_model.specs.History.{Aborted, Committed, In, IsSettled, IsUnborn, UnitEnd, births, element_of, end_of}
 use mathlib.Core.List.{IsPrefix}
-use Rattle.tp_model.specs.Steps.{IsLegal, rows_of}
+use Rattle.tp_model.specs.Steps.{IsArea, IsLegal, rows_of}
 use Rattle.tp_model.specs.Words.{ClaimWord, claim_word, claim_word_after}
-use Rattle.tp_model.proofs.Bridges.{born_at, born_either, element_of-id, end_stays, found_later, in_none, is_born, unborn_before}
+use Rattle.tp_model.proofs.Areas.{area_inside}
+use Rattle.tp_model.proofs.Bridges.{born_at, born_either, born_or_not, element_of-id, end_stays, found_later, in_none, is_born, unborn_before}
 use Rattle.tp_model.proofs.LawProofs.{settled_stay}
 use Rattle.tp_model.proofs.Later.{births_inside}
 use Rattle.tp_model.proofs.WordProofs.{claim_word-snoc, end_of-snoc}
-use Rattle.tp_words.specs.Places.{Word, HeadWord, BodyWord, ClaimWord as ClaimOf, UnitWord, MarkWord, IsThere, head_place, mark_place, place_of}
+use Rattle.tp_words.specs.Places.{Word, HeadWord, BodyWord, ClaimWord as ClaimOf, UnitWord, MarkWord, DrawnWord, IsThere, head_place, mark_place, place_of}
 use Rattle.tp_words.specs.Words.{IsFitClaim, IsFitHead, IsFitUnit, head_of, pack_claim, pack_head, pack_unit}
 use Rattle.tp_words.specs.declared.words.Head.{Head}
 use Rattle.tp_words.specs.declared.words.Head.TheVariants.{Empty, There}
 use Rattle.tp_rule.specs.Rule.{HeadTold, IsFinished, MarkHolds, StillSo, Told, World}
 use Rattle.tp_rule.specs.Steps.{AreOver, Found, IsLow, IsOver, IsSo}
 use Rattle.tp_rule.specs.declared.view.Known.{Known}
-use Rattle.tp_rule.specs.declared.view.Known.TheVariants.{RowHead, PartMark}
+use Rattle.tp_rule.specs.declared.view.Known.TheVariants.{RowHead, PartMark, BlocksDrawn}
 use Rattle.tp_rule.proofs.Births.{MadeBy, by_unit}
-use Rattle.tp_rule.proofs.Parts.{in_all}
-use Rattle.tp_rule.proofs.Storing.{heads_kept, left, same_or_other, stored}
+use Rattle.tp_rule.proofs.Parts.{in_rows}
+use Rattle.tp_rule.proofs.Storing.{MayStore, bare_after, behind_after, drawn_inside, full_head, heads_kept, left, same_or_other, stored}
 use Rattle.tp_rule.proofs.Units.{decide}
 
 -- a head's word tells the head
@@ -66,7 +67,17 @@ module _ (k : Limits) (h : List Event) (ws : List ℕ) (world : World k h ws) wh
   -- and so in all rows below a mark that was found
   pub over_below : (p n : ℕ) → StillSo k ws (PartMark p n) → AreOver k h p n
   over_below p n t i low high = let room = t.0 in let m = world.marks p room in let le : n ≤ get_or ws (mark_place k p) 0 = t.1 in let top = m.inside in
-      over i (in_all k.parts k.rows p i (room, low, omega arith)) (m.below i low (omega arith))
+      over i (in_rows k p i (room, low, omega arith)) (m.below i low (omega arith))
+
+  -- nothing is born in a row without a head
+  pub empty_unborn : (i : ℕ) → i < rows_of k → get_or ws (head_place i) 0 ≡ 0 → IsUnborn h i
+  empty_unborn i there zero = ⊎_elim
+      (λ t. let told = world.tells (HeadWord i) there in absurd (full_head (head_of t.0) (λ q. cc) (ap pack_head (sym (told.born t.0 (born_at h i t.0 t.1 t.2))) ∙ (sym told.packed ∙ zero))))
+      (λ none. none) (born_or_not h i)
+
+  -- nor behind one in its area
+  pub none_behind : (first end i j : ℕ) → IsArea k first end → first ≤ i → i ≤ j → j < end → get_or ws (head_place i) 0 ≡ 0 → IsUnborn h j
+  none_behind first end i j area low later high zero = let top = area_inside k first end area in empty_unborn j (omega arith) (world.behind first end i j area low later high zero)
 
   -- no mark is above the part
   pub low_below : (p n : ℕ) → StillSo k ws (PartMark p n) → IsLow k h p n
@@ -76,6 +87,7 @@ module _ (k : Limits) (h : List Event) (ws : List ℕ) (world : World k h ws) wh
   pub so_now : (x : Known) → StillSo k ws x → IsSo k h x
   so_now (RowHead i head) still = λ some x p. recall i head x still some p
   so_now (PartMark p n) still = low_below p n still
+  so_now (BlocksDrawn n) still = let top = world.drawn in omega arith
 
 -- a finished row stays finished
 pub finished_later : (k : Limits) (h h' : List Event) (ws ws' : List ℕ) (i : ℕ) → IsPrefix h h' → IsLegal k h' → (get_or ws (head_place i) 0 ≢ 0 → get_or ws' (head_place i) 0 ≡ get_or ws (head_place i) 0) → IsFinished k h ws i → IsFinished k h' ws' i
@@ -119,11 +131,12 @@ module _ (h : List Event) (e : Event) where
   told_later none (ClaimOf i) n claims units old = claim_later i n (claims i refl) old
   told_later none (UnitWord u) n claims units old = unit_later u n (units u refl) old
   told_later none (MarkWord p) n claims units old = tt
+  told_later none DrawnWord n claims units old = tt
 
--- the words after a store to w: it tells what is now so, and so do the others; no head is stored but over an empty one
+-- the words after a store to w, which may be made: it tells what is now so, and so do the others
 pub world_stored : (k : Limits) (h h' : List Event) (ws : List ℕ) (w : Word) (x : ℕ) → World k h ws → IsLegal k h' → IsPrefix h h' → IsThere k w → Told h' w x → ((v : Word) → IsThere k v → v ≢ w → Told h' v (get_or ws (place_of k v) 0))
-    → ((i : ℕ) → w ≡ HeadWord i → get_or ws (head_place i) 0 ≡ 0) → ((p : ℕ) → w ≡ MarkWord p → MarkHolds k h' (set ws (place_of k w) x) p x) → World k h' (set ws (place_of k w) x)
-world_stored k h h' ws w x world legal begins at now rest empty mark = record {
+    → MayStore k ws w x → ((p : ℕ) → w ≡ MarkWord p → MarkHolds k h' (set ws (place_of k w) x) p x) → World k h' (set ws (place_of k w) x)
+world_stored k h h' ws w x world legal begins at now rest may mark = record {
   legal = legal;
   wide = length-set ws (place_of k w) x ∙ world.wide;
   tells = λ v there. same_or_other k v w there at
@@ -133,6 +146,9 @@ world_stored k h h' ws w x world legal begins at now rest empty mark = record {
       (λ same. subst (MarkHolds k h' (set ws (place_of k w) x) p) (sym (ap (λ z. get_or (set ws (place_of k w) x) (place_of k z) 0) same ∙ stored k ws w x at world.wide)) (mark p (sym same)))
       (λ other. let old = world.marks p there in let top = old.inside in subst (MarkHolds k h' (set ws (place_of k w) x) p) (sym (left k ws w x at (MarkWord p) there other)) record {
         inside = top;
-        below = λ i low high. finished_later k h h' ws (set ws (place_of k w) x) i begins legal (heads_kept k ws w x at empty i (in_all k.parts k.rows p i (there, low, omega arith))) (old.below i low high);
+        below = λ i low high. finished_later k h h' ws (set ws (place_of k w) x) i begins legal (heads_kept k ws w x at (λ j e. (may.head j e).empty) i (in_rows k p i (there, low, omega arith))) (old.below i low high);
       });
+  drawn = drawn_inside k ws w x at world.wide may world.drawn;
+  bare = bare_after k ws w x at world.wide may world.bare;
+  behind = λ first end i j area low later high. behind_after k ws w x at world.wide may first end i j area (area_inside k first end area) low later high (world.behind first end i j area low later high);
 }

@@ -17,8 +17,8 @@ use Rattle.tp_rule.proofs.Events.{looking_after, watched}
 
 module _ (k : Limits) where
   -- the rows behind the drafts of a lost unit
-  pub rows_lost : (h : List Event) (ws : List ℕ) (c first next left : ℕ) (body : List ℕ) (ds : List Element) → RowsHold k h ws c first next left body ds → RowsHold k h ws c next next left body []
-  rows_lost h ws c first next left body ds r = let count = r.counted in record {
+  pub rows_lost : (h : List Event) (ws : List ℕ) (first end first_draft next left : ℕ) (body : List ℕ) (ds : List Element) → RowsHold h ws first end first_draft next left body ds → RowsHold h ws first end next next left body []
+  rows_lost h ws first end first_draft next left body ds r = let count = r.counted in record {
     counted = omega arith;
     begins = let low = r.begins in omega arith;
     ends = r.ends;
@@ -34,9 +34,14 @@ module _ (k : Limits) where
   pub choosing : (v : View) (p u : ℕ) → IsOnePass v → v.limits ≡ k → u ≡ (hand v).number * k.units + (hand v).claimed → (hand v).claimed < k.units → p ≡ unit_place k u
       → Permits k v p (λ n. n) (chooses p 0 0 v)
   choosing v p u one lim next room place s r id at = let t : Turn k = record { state = s; rule = r; id = id; view = v; at = at; one = one } in let a = hand_holds k t in
-      let w = watched k t p kinds.UnitChoice (with_spare u) (λ z. refl) record {
+      let w = watched k t p kinds.UnitChoice (with_spare u) (λ z. (refl, refl)) record {
         given = a.given;
         mine = a.mine;
+        blocks = a.blocks;
+        spares = a.spares;
+        first = a.first;
+        end = a.end;
+        area = a.area;
         rows = a.rows;
         units = record {
           used_below = a.units.used_below;

@@ -7,10 +7,10 @@ use Rattle.tp_model.specs.declared.trace.StepKind.TheVariants as kinds
 use Rattle.tp_words.specs.declared.words.Head.{Head}
 use Rattle.tp_words.specs.declared.words.Head.TheVariants.{There}
 use Rattle.tp_words.specs.Words.{IsFitHead, pack_claim, pack_head}
-use Rattle.tp_words.specs.Places.{head_place, body_place, claim_place, mark_place, unit_place}
+use Rattle.tp_words.specs.Places.{head_place, body_place, claim_place, mark_place, drawn_place, unit_place}
 use Rattle.tp_rule.specs.Views.{hand, next_row}
-use Rattle.tp_rule.specs.Steps.{Found, Grew, Knows, Loads, NoneFrom, unchanged, drafted, with_word, Drafts, Publishes, Chooses, MakesClaim, MakesCommit, Loses, MakesAbort, MakesKill, MakesRequeue, Misses, IsLow, Raises}
-use Rattle.tp_rule.specs.declared.view.Known.TheVariants.{RowHead, PartMark}
+use Rattle.tp_rule.specs.Steps.{Found, Grew, Knows, Loads, NoneFrom, unchanged, drafted, with_word, Drafts, Publishes, Chooses, MakesClaim, MakesCommit, Loses, MakesAbort, MakesKill, MakesRequeue, Misses, IsLow, Raises, NoneDrawn, Draws, DrawsNone}
+use Rattle.tp_rule.specs.declared.view.Known.TheVariants.{RowHead, PartMark, BlocksDrawn}
 use Rattle.tp_rule.specs.declared.view.View.{View}
 
 abbrev pub Telling : Type 1
@@ -65,3 +65,11 @@ loads_mark word first second v r w = Loads v word r w
 
 abbrev pub raises : Telling
 raises word old new v r w = (p : ℕ) → word ≡ mark_place v.limits p → Raises v p new w × (r ≡ old → Knows w (PartMark p new))
+
+-- a load of the counter of drawn blocks, which the seat remembers, and which has not fallen; nothing is born in the blocks from it on
+abbrev pub loads_drawn : Telling
+loads_drawn word first second v r w = Loads v word r w
+    × (word ≡ drawn_place v.limits → Knows w (BlocksDrawn r) × (r ≤ v.limits.spare) × NoneDrawn v.limits w.seen r × ((n : ℕ) → Knows v (BlocksDrawn n) → n ≤ r))
+
+abbrev pub draws : Telling
+draws word old new v r w = (r ≡ old → Draws v old w) × (r ≢ old → DrawsNone v old r w)

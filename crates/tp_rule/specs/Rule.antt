@@ -5,9 +5,9 @@ use mathlib.Core.Option.{some}
 use mathlib.Core.List.{IsPrefix}
 use lib.ListN.{get_elem?}
 use Rattle.atomic_table.specs.Table.{State}
-use Rattle.tp_model.specs.History.{Aborted, In, IsClaim, IsSettled, IsUnborn, IsUnused, element_of, end_of, events_by, status_of}
-use Rattle.tp_model.specs.Passes.{IsOwnOpen}
-use Rattle.tp_model.specs.Steps.{IsBody, IsLegal, rows_of}
+use Rattle.tp_model.specs.History.{Aborted, In, IsClaim, IsSettled, IsUnborn, IsUnused, births, element_of, end_of, events_by, status_of}
+use Rattle.tp_model.specs.Passes.{Ascend, IsOwnArea, IsOwnOpen}
+use Rattle.tp_model.specs.Steps.{IsArea, IsBody, IsLegal, IsRowOfBlock, block_first, rows_of}
 use Rattle.tp_model.specs.Words.{claim_word}
 use Rattle.tp_model.specs.declared.event.Event.{Event}
 use Rattle.tp_model.specs.declared.types.Element.{Element}
@@ -15,9 +15,9 @@ use Rattle.tp_model.specs.declared.types.Limits.{Limits}
 use Rattle.tp_model.specs.declared.types.TheConstants.{BODY_WORDS}
 use Rattle.tp_rule.specs.declared.view.Hand.{Hand}
 use Rattle.tp_rule.specs.declared.view.Known.{Known}
-use Rattle.tp_rule.specs.declared.view.Known.TheVariants.{RowHead, PartMark}
+use Rattle.tp_rule.specs.declared.view.Known.TheVariants.{RowHead, PartMark, BlocksDrawn}
 use Rattle.tp_rule.specs.declared.view.View.{View}
-use Rattle.tp_words.specs.Places.{Word, HeadWord, BodyWord, ClaimWord, UnitWord, MarkWord, IsThere, head_place, body_place, mark_place, place_of, size_of}
+use Rattle.tp_words.specs.Places.{Word, HeadWord, BodyWord, ClaimWord, UnitWord, MarkWord, DrawnWord, IsThere, head_place, body_place, mark_place, drawn_place, place_of, size_of}
 use Rattle.tp_words.specs.Words.{IsFitHead, IsFitClaim, IsFitUnit, head_of, pack_claim, pack_head, pack_unit}
 use Rattle.tp_words.specs.declared.words.Head.{Head}
 use Rattle.tp_words.specs.declared.words.Head.TheVariants.{Empty, There}
@@ -40,18 +40,22 @@ abbrev pub IsDraft : Head → Type 0
 IsDraft Empty = Unit {0}
 IsDraft (There stage root by) = ¬ (by ≡ None)
 
--- what is so of the rows of pass c
-pub record RowsHold (l : Limits) (h : List Event) (ws : List ℕ) (c first_draft next left : ℕ) (body : List ℕ) (drafts : List Element) : Type 0 where
+-- how many spare blocks are drawn
+abbrev pub drawn_in : Limits → List ℕ → ℕ
+drawn_in l ws = slice_index ws (drawn_place l)
+
+-- what is so of the rows of a pass, whose run lies in the area of the rows from `first` up to `end`
+pub record RowsHold (h : List Event) (ws : List ℕ) (first end first_draft next left : ℕ) (body : List ℕ) (drafts : List Element) : Type 0 where
   -- there is one row for each draft
   pub counted : first_draft + length drafts ≡ next
-  -- the run lies in the pass's part
-  pub begins : c * l.rows ≤ first_draft
+  -- the run lies in the area
+  pub begins : first ≤ first_draft
   -- and reaches to its end
-  pub ends : next + left ≡ c * l.rows + l.rows
+  pub ends : next + left ≡ end
   -- no row of it from the first draft on is born
   pub unborn : (i : ℕ) → first_draft ≤ i → i < next + left → IsUnborn h i
-  -- the head of each row before the next one is not empty
-  pub full : (i : ℕ) → c * l.rows ≤ i → i < next → slice_index ws (head_place i) ≢ 0
+  -- the head of each row of the area before the next one is not empty
+  pub full : (i : ℕ) → first ≤ i → i < next → slice_index ws (head_place i) ≢ 0
   -- the head of each row that is left is empty
   pub empty : (i : ℕ) → next ≤ i → i < next + left → slice_index ws (head_place i) ≡ 0
   -- the pass remembers no more words than a body has
@@ -82,8 +86,16 @@ pub record HandHolds (l : Limits) (h : List Event) (ws : List ℕ) (a : Hand) : 
   pub given : a.number < l.parts
   -- its own events are all of the history's events with its number
   pub mine : a.mine ≡ events_by a.number h
+  -- the spare blocks that it has drawn ascend, and are below the counter
+  pub blocks : Ascend 0 (drawn_in l ws) a.blocks
+  -- each element that it made in a spare block is in one of those
+  pub spares : (e : Event) (x : Element) (b : ℕ) → In e a.mine → In x (births e) → IsRowOfBlock l b x.id → In b a.blocks
+  -- its run lies in one of its areas
+  pub first : ℕ
+  pub end : ℕ
+  pub area : IsOwnArea l a.number a.blocks first end
   -- its rows are as it remembers them
-  pub rows : RowsHold l h ws a.number a.first_draft a.next a.left a.next_body a.drafts
+  pub rows : RowsHold h ws first end a.first_draft a.next a.left a.next_body a.drafts
   -- its units are as it remembers them
   pub units : UnitsHold l h a.number a.claimed a.spare_unit a.open_unit
 
@@ -97,9 +109,15 @@ IsApart (a ∷ hands) = ((b : Hand) → In b hands → ¬ (b.number ≡ a.number
 abbrev pub StillSo : Limits → List ℕ → Known → Type 0
 StillSo l ws (RowHead i head) = (i < rows_of l) × IsFitHead head × (head ≢ Empty → slice_index ws (head_place i) ≡ pack_head head)
 StillSo l ws (PartMark p n) = (p < l.parts) × (n ≤ slice_index ws (mark_place l p))
+StillSo l ws (BlocksDrawn n) = n ≤ drawn_in l ws
 
--- what is so of seat j with the view v, where `owner` says which seat stands for a pass
-pub record SeatHolds (l : Limits) (h : List Event) (ws : List ℕ) (owner : ℕ → ℕ) (j : ℕ) (v : View) : Type 0 where
+-- which seat stands for a pass, and which pass has drawn a spare block
+pub record Owners : Type 0 where
+  pub seat : ℕ → ℕ
+  pub drawer : ℕ → ℕ
+
+-- what is so of seat j with the view v
+pub record SeatHolds (l : Limits) (h : List Event) (ws : List ℕ) (owner : Owners) (j : ℕ) (v : View) : Type 0 where
   -- a seat that stands for a pass knows the limits
   pub limits : (a : Hand) → In a v.hands → v.limits ≡ l
   -- what it has seen begins the history
@@ -111,7 +129,9 @@ pub record SeatHolds (l : Limits) (h : List Event) (ws : List ℕ) (owner : ℕ 
   -- it stands for no pass twice
   pub apart : IsApart v.hands
   -- it is the one seat that stands for its passes
-  pub owns : (a : Hand) → In a v.hands → owner a.number ≡ j
+  pub owns : (a : Hand) → In a v.hands → owner.seat a.number ≡ j
+  -- each block that one of its passes has drawn is that pass's alone
+  pub draws : (a : Hand) → In a v.hands → (b : ℕ) → In b a.blocks → owner.drawer b ≡ a.number
   -- each of its passes is as the seat knows it
   pub hands : (a : Hand) → In a v.hands → HandHolds l h ws a
 
@@ -138,6 +158,8 @@ Told h (ClaimWord i) n = (n ≡ pack_claim (claim_word h i)) × IsFitClaim (clai
 Told h (UnitWord u) n = (n ≡ pack_unit (end_of h u)) × IsFitUnit (end_of h u)
 -- a mark: that hangs on other words too, and is said of all words together
 Told h (MarkWord p) n = Unit {0}
+-- the counter of drawn blocks: the same
+Told h DrawnWord n = Unit {0}
 
 -- row i has an element that is consumed or killed
 abbrev pub IsSettledRow : Limits → List Event → ℕ → Type 0
@@ -167,6 +189,12 @@ pub record World (l : Limits) (h : List Event) (ws : List ℕ) : Type 0 where
   pub tells : (w : Word) → IsThere l w → Told h w (slice_index ws (place_of l w))
   -- the rows below each mark are finished
   pub marks : (p : ℕ) → p < l.parts → MarkHolds l h ws p (slice_index ws (mark_place l p))
+  -- no more blocks are drawn than there are
+  pub drawn : drawn_in l ws ≤ l.spare
+  -- the rows of blocks that aren't drawn have empty heads
+  pub bare : (i : ℕ) → block_first l (drawn_in l ws) ≤ i → i < rows_of l → slice_index ws (head_place i) ≡ 0
+  -- behind an empty head there are only empty ones in its area
+  pub behind : (first end i j : ℕ) → IsArea l first end → first ≤ i → i ≤ j → j < end → slice_index ws (head_place i) ≡ 0 → slice_index ws (head_place j) ≡ 0
 
 -- pass c is one of a seat's
 abbrev pub IsSeated : List View → ℕ → Type 0
@@ -176,8 +204,8 @@ IsSeated views c = (j : ℕ) × (v : View) × (a : Hand) × (get_elem? views j �
 pub record Rule (l : Limits) (s : State (Unit {0}) View) : Type 0 where
   -- the one history behind the words
   pub history : List Event
-  -- which seat stands for each pass
-  pub owner : ℕ → ℕ
+  -- which seat stands for each pass, and which pass has drawn each block
+  pub owner : Owners
   -- the words tell what the history says
   pub world : World l history s.words
   -- each seat has seen a beginning of the history, and its passes are as it knows them

@@ -4,7 +4,7 @@ use Rattle.std.specs.Prelude.{◌≡◌, ◌≢◌, ◌⊎◌, ℕ, ◌+◌, ◌
 use mathlib.Core.List.{IsPrefix}
 use Rattle.tp_model.specs.declared.types.Element.{Element}
 use Rattle.tp_model.specs.declared.types.Limits.{Limits}
-use Rattle.tp_model.specs.declared.types.TheConstants.{MOST_ROUNDS}
+use Rattle.tp_model.specs.declared.types.TheConstants.{BLOCK_ROWS, MOST_ROUNDS}
 use Rattle.tp_model.specs.declared.types.Status.TheVariants.{Waiting}
 use Rattle.tp_model.specs.declared.event.Event.{Event}
 use Rattle.tp_model.specs.declared.event.Event.TheVariants.{Enqueue, Claim, Commit, Abort, Kill, Requeue}
@@ -13,7 +13,7 @@ use Rattle.tp_model.specs.declared.trace.StepKind.TheVariants as kinds
 use Rattle.tp_model.specs.History.{Aborted, In, IsSettled, IsUnborn, status_of, UnitClaim, UnitEnd, claim_of, element_of, end_of, events_by}
 use Rattle.tp_model.specs.Passes.{IsOwnOpen, IsRun}
 use Rattle.tp_model.specs.Words.{ClaimWord, claim_word, round_in, word_status}
-use Rattle.tp_model.specs.Steps.{IsBody, IsStage, IsServerStage, IsKillable, IsParked, IsLegal, IsRowOf}
+use Rattle.tp_model.specs.Steps.{IsBody, IsStage, IsServerStage, IsKillable, IsParked, IsLegal, IsArea, block_first, rows_of}
 use Rattle.tp_words.specs.declared.words.Head.TheVariants.{Empty, There}
 use Rattle.tp_words.specs.Words.{IsFitClaim, head_of}
 use Rattle.tp_words.specs.Places.{IsThere, Word, place_of}
@@ -21,7 +21,7 @@ use Rattle.tp_rule.specs.Rule.{IsSettledRow, Told}
 use Rattle.tp_rule.specs.Views.{IsOnePass, hand, next_row}
 use Rattle.tp_rule.specs.declared.view.Hand.{Hand}
 use Rattle.tp_rule.specs.declared.view.Known.{Known}
-use Rattle.tp_rule.specs.declared.view.Known.TheVariants.{RowHead, PartMark}
+use Rattle.tp_rule.specs.declared.view.Known.TheVariants.{RowHead, PartMark, BlocksDrawn}
 use Rattle.tp_rule.specs.declared.view.View.{View}
 
 -- the pass with one more entry in its trace
@@ -49,10 +49,11 @@ abbrev pub IsLow : Limits → List Event → ℕ → ℕ → Type 0
 IsLow l h p n = (n ≤ l.rows) × AreOver l h p n
 
 -- what a seat that knows x knows of the history h: a head that isn't empty is that of the element that is born in the row,
--- and no row below a mark has an element that isn't consumed or killed
+-- no row below a mark has an element that isn't consumed or killed, and no more blocks are drawn than there are
 abbrev pub IsSo : Limits → List Event → Known → Type 0
 IsSo l h (RowHead i head) = head ≢ Empty → (x : Element) → element_of h i ≡ Some x → head ≡ head_of x
 IsSo l h (PartMark p n) = IsLow l h p n
+IsSo l h (BlocksDrawn n) = n ≤ l.spare
 
 -- a step that looks at the table: the seat has then seen the history so far, which ends with the step's own events
 pub record Grew (kind : StepKind) (f : Hand → Hand) (events : List Event) (v w : View) : Type 0 where
@@ -71,7 +72,7 @@ pub record Grew (kind : StepKind) (f : Hand → Hand) (events : List Event) (v w
   -- its open unit is its own
   pub open_own : (a : Hand) → In a w.hands → (u : ℕ) → a.open_unit ≡ Some u → IsOwnOpen w.seen a.number u
   -- the rows that are left to it are a run
-  pub run : (a : Hand) → In a w.hands → IsRun v.limits w.seen a.number a.next a.left
+  pub run : (a : Hand) → In a w.hands → IsRun v.limits w.seen a.number a.blocks a.next a.left
   -- what was known is known
   pub knows : (x : Known) → Knows v x → Knows w x
   -- what is known is so by now
@@ -85,9 +86,13 @@ unchanged a = a
 abbrev pub Found : Limits → List Event → ℕ → ℕ → Type 0
 Found l h word r = (w : Word) → IsThere l w → word ≡ place_of l w → Told h w r
 
--- no element is born in row i, nor in a later one of its part
+-- no element is born in row i, nor in a later one of its part or its spare block
 abbrev pub NoneFrom : Limits → List Event → ℕ → Type 0
-NoneFrom l h i = (c j : ℕ) → IsRowOf l c i → IsRowOf l c j → i ≤ j → IsUnborn h j
+NoneFrom l h i = (first end j : ℕ) → IsArea l first end → first ≤ i → i ≤ j → j < end → IsUnborn h j
+
+-- no element is born in spare block n, nor in a later one
+abbrev pub NoneDrawn : Limits → List Event → ℕ → Type 0
+NoneDrawn l h n = (i : ℕ) → block_first l n ≤ i → i < rows_of l → IsUnborn h i
 
 -- a load, which found r at the place `word`
 abbrev pub Loads : View → ℕ → ℕ → View → Type 0
@@ -265,6 +270,27 @@ abbrev pub Raises : View → ℕ → ℕ → View → Type 0
 Raises v p n w = (w ≡ after kinds.Raise unchanged v.seen w.known v) × ((x : Known) → Knows v x → Knows w x)
     × ((x : Known) → Knows w x → Knows v x ⊎ (x ≡ PartMark p n))
 
+-- draw
+
+-- spare block b, which begins with row `first`, is drawn, and its rows are the run
+abbrev pub with_block : ℕ → ℕ → Hand → Hand
+with_block b first a = record a { first_draft = first; next = first; left = BLOCK_ROWS; next_body = []; blocks = a.blocks ++ b ∷ [] }
+
+-- the view after an exchange of the counter of drawn blocks, which is n by then: that is known, and nothing more is seen
+abbrev pub drew : (Hand → Hand) → ℕ → View → View
+drew f n v = after kinds.Draw f v.seen (BlocksDrawn n ∷ v.known) v
+
+-- the exchange by which spare block b is drawn. No row of it is born in what is seen, and the pass may use each
+abbrev pub Draws : View → ℕ → View → Type 0
+Draws v b w = (w ≡ drew (with_block b (block_first v.limits b)) (b + 1) v) × IsRun v.limits v.seen (hand w).number (hand w).blocks (hand w).next (hand w).left
+
+-- the exchange that failed, since not b but n blocks are drawn, which is no fewer than were known to be
+pub record DrawsNone (v : View) (b n : ℕ) (w : View) : Type 0 where
+  pub view : w ≡ drew unchanged n v
+  pub other : n ≢ b
+  pub inside : n ≤ v.limits.spare
+  pub rises : (m : ℕ) → Knows v (BlocksDrawn m) → m ≤ n
+
 -- splits and joins of seats, each a load
 
 abbrev pub rest_of : List Hand → List Hand
@@ -319,7 +345,7 @@ pub record Meets (v w v' w' : View) : Type 0 where
   pub mine : ((hand v').mine ≡ events_by (hand v').number v'.seen) × ((hand w').mine ≡ events_by (hand w').number w'.seen)
   pub open_own : ((u : ℕ) → (hand v').open_unit ≡ Some u → IsOwnOpen v'.seen (hand v').number u) × ((u : ℕ) → (hand w').open_unit ≡ Some u → IsOwnOpen w'.seen (hand w').number u)
   -- the rows that are left to each are a run
-  pub run : IsRun v.limits v'.seen (hand v').number (hand v').next (hand v').left × IsRun v.limits w'.seen (hand w').number (hand w').next (hand w').left
+  pub run : IsRun v.limits v'.seen (hand v').number (hand v').blocks (hand v').next (hand v').left × IsRun v.limits w'.seen (hand w').number (hand w').blocks (hand w').next (hand w').left
   -- what either knew both know
   pub knows : ((x : Known) → Knows v x → Knows v' x) × ((x : Known) → Knows w x → Knows w' x)
   pub is_so : ((x : Known) → Knows v' x → IsSo v.limits v'.seen x) × ((x : Known) → Knows w' x → IsSo v.limits w'.seen x)

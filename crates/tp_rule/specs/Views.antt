@@ -23,7 +23,7 @@ IsSameSeat old new = new.table ≡ old.table
 
 -- the pass c of a table with these limits, which has done nothing: all rows of its part are left
 abbrev pub fresh : Limits → ℕ → Hand
-fresh l c = record { number = c; mine = []; trace = []; first_draft = c * l.rows; next = c * l.rows; left = l.rows; next_body = []; drafts = []; claimed = 0; spare_unit = None; open_unit = None }
+fresh l c = record { number = c; mine = []; trace = []; first_draft = c * l.rows; next = c * l.rows; left = l.rows; blocks = []; next_body = []; drafts = []; claimed = 0; spare_unit = None; open_unit = None }
 
 -- so many passes from c on, which have done nothing
 abbrev pub fresh_from : Limits → ℕ → ℕ → List Hand
@@ -36,7 +36,7 @@ first_view l = record { limits = l; seen = []; also_seen = []; known = []; hands
 
 -- the limits of no table
 abbrev pub no_limits : Limits
-no_limits = record { parts = 0; rows = 0; units = 0; attempts = 0 }
+no_limits = record { parts = 0; rows = 0; units = 0; attempts = 0; spare = 0 }
 
 -- the view of an empty seat: it stands for no pass
 abbrev pub spent : View

@@ -9,10 +9,11 @@ ghost use Rattle.tp_model.specs.Words.{round_in};
 ghost use Rattle.tp_words.specs.Words.{claim_value, unit_value, IsFitClaim};
 ghost use Rattle.tp_rule.specs.Views.{hand_of, seen_by, view_of, IsNextUnit, IsSameSeat};
 ghost use Rattle.tp_rule.specs.declared.view.Known.TheVariants.{PartMark};
-ghost use Rattle.tp_rule.specs.Steps.{Raises, Knows, IsDone, Chooses, MakesClaim, MakesCommit, MakesAbort, MakesKill, MakesRequeue, Loses, FindsOther, FindsEnded, AllowsClaim, AllowsKill, AllowsRequeue, HasElement, HasWork, IsOwnWork, IsClaimed};
+ghost use Rattle.tp_rule.specs.Steps.{Raises, Draws, DrawsNone, Knows, IsDone, Chooses, MakesClaim, MakesCommit, MakesAbort, MakesKill, MakesRequeue, Loses, FindsOther, FindsEnded, AllowsClaim, AllowsKill, AllowsRequeue, HasElement, HasWork, IsOwnWork, IsClaimed};
 
 use crate::plays::{
-    AbortExchange, ClaimExchange, CommitExchange, KillExchange, Raise, RequeueExchange, UnitChoice,
+    AbortExchange, ClaimExchange, CommitExchange, Draw, KillExchange, Raise, RequeueExchange,
+    UnitChoice,
 };
 use crate::seat::Seat;
 use crate::words::Words;
@@ -200,5 +201,29 @@ impl Words {
             .table
             .compare_exchange::<Raise>(seat, word, from as u64, to as u64);
         was == from as u64
+    }
+
+    /// Draws the next spare block, if so many are drawn as the caller believes. `Ok`: the block with that number is the
+    /// pass's, and its 8 rows are the run; what was left of the old run stays unused. `Err` has how many are drawn by now.
+    /// Nothing more is seen by it, nor has the history changed.
+    #[tactic(auto, using(crate::proofs::Drawing::draws_go))]
+    pub fn draw(&self, seat: &mut Seat, drawn: u16) -> Result<(), u16>
+        requires own { IsSeatOf self.now seat.old }
+        requires one { IsPassOf self.now seat.old }
+        requires no_drafts { (hand_of seat.old).drafts ≡ [] }
+        requires room { drawn < (limits_of self.now).spare }
+        ensures same { IsSameSeat seat.old seat.new }
+        ensures hit { IfOk result (λ done. Draws (view_of seat.old) drawn (view_of seat.new)) }
+        ensures miss { IfErr result (λ now. DrawsNone (view_of seat.old) drawn now (view_of seat.new)) }
+    {
+        let word = self.places.drawn();
+        let was = self
+            .table
+            .compare_exchange::<Draw>(seat, word, drawn as u64, drawn as u64 + 1);
+        if was == drawn as u64 {
+            Ok(())
+        } else {
+            Err(was as u16)
+        }
     }
 }

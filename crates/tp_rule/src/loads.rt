@@ -11,10 +11,10 @@ ghost use Rattle.tp_words.specs.Places.{size_of};
 ghost use Rattle.tp_words.specs.declared.words.Head.TheVariants.{Empty};
 ghost use Rattle.tp_rule.specs.Rule.{IsDraft};
 ghost use Rattle.tp_rule.specs.Views.{seen_by, view_of, HasPass, IsSameSeat};
-ghost use Rattle.tp_rule.specs.Steps.{IsLow, Loads, Grew, Knows, NoneFrom, unchanged};
-ghost use Rattle.tp_rule.specs.declared.view.Known.TheVariants.{RowHead, PartMark};
+ghost use Rattle.tp_rule.specs.Steps.{IsLow, Loads, Grew, Knows, NoneDrawn, NoneFrom, unchanged};
+ghost use Rattle.tp_rule.specs.declared.view.Known.TheVariants.{RowHead, PartMark, BlocksDrawn};
 
-use crate::plays::{Load, LoadHead, LoadMark};
+use crate::plays::{Load, LoadDrawn, LoadHead, LoadMark};
 use crate::seat::Seat;
 use crate::words::Words;
 use tp_words::{Claim, Head, UnitWord};
@@ -36,7 +36,7 @@ impl Words {
 
     /// Reads the head of a row. Where an element is born in what is then seen, it is that element's head. Where none
     /// is, it is empty or names a unit: a draft is no element before its unit commits. The seat remembers what it found:
-    /// a head that isn't empty stays. Where it is empty, no element is born in the later rows of its part either.
+    /// a head that isn't empty stays. Where it is empty, no element is born in the later rows of its part, or of its spare block, either.
     #[inline(always)]
     pub fn load_head(&self, seat: &mut Seat, row: u32) -> Head
         requires own { IsSeatOf self.now seat.old }
@@ -126,5 +126,23 @@ impl Words {
         let word = self.places.mark(part);
         let found = self.table.load::<LoadMark>(seat, word);
         found as u16
+    }
+
+    /// Reads how many spare blocks are drawn, and the seat remembers it: they never get fewer. In the blocks from that
+    /// one on no element is born.
+    #[inline(always)]
+    pub fn load_drawn(&self, seat: &mut Seat) -> u16
+        requires own { IsSeatOf self.now seat.old }
+        requires one { IsPassOf self.now seat.old }
+        ensures same { IsSameSeat seat.old seat.new }
+        ensures grew { Grew kinds.Load unchanged [] (view_of seat.old) (view_of seat.new) }
+        ensures knows { Knows (view_of seat.new) (BlocksDrawn result) }
+        ensures inside { result ≤ (limits_of self.now).spare }
+        ensures none { NoneDrawn (limits_of self.now) (seen_by seat.new) result }
+        ensures rises { (n : ℕ) → Knows (view_of seat.old) (BlocksDrawn n) → n ≤ result }
+    {
+        let word = self.places.drawn();
+        let drawn = self.table.load::<LoadDrawn>(seat, word);
+        drawn as u16
     }
 }

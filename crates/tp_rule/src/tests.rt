@@ -8,6 +8,8 @@ ghost use Rattle.tp_rule.specs.Views.{hand_of, seen_by, view_of, first_view, fre
 ghost use Rattle.tp_rule.specs.Steps.{HasWork, IsOwnWork, noted};
 ghost use Rattle.tp_rule.specs.Tables.{limits_of, IsSeatOf, IsPassOf};
 
+mod blocks;
+
 use crate::{Seat, Words};
 use std::alloc::Global;
 use std::thread::join_mut;
@@ -16,7 +18,7 @@ use tp_words::{Claim, Head, Places, UnitWord};
 
 /// Words for three passes of four rows and two units each, with two attempts, and the keeper's seat.
 fn small(alloc: Global) -> Option<(Words, Seat)>
-    ensures limits { IfSome result (λ made. limits_of made.0 ≡ record { parts = 3; rows = 4; units = 2; attempts = 2 }) }
+    ensures limits { IfSome result (λ made. limits_of made.0 ≡ record { parts = 3; rows = 4; units = 2; attempts = 2; spare = 0 }) }
     ensures seat { IfSome result (λ made. IsSeatOf made.0 made.1) }
     ensures view { IfSome result (λ made. view_of made.1 ≡ first_view (limits_of made.0)) }
     ensures hands { IfSome result (λ made. (view_of made.1).hands ≡ fresh_from (limits_of made.0) 0 (3 - 0)) }
@@ -26,6 +28,7 @@ fn small(alloc: Global) -> Option<(Words, Seat)>
         rows: 4,
         units: 2,
         attempts: 2,
+        spare: 0,
     };
     let places = Places::new(limits).ok()?;
     Words::new(alloc, places).ok()
@@ -355,7 +358,7 @@ fn two_passes_meet(rt: HostRuntime) {
 fn fill(words: &Words, seat: &mut Seat, first: u32, body: Body)
     requires own { IsSeatOf words.now seat.old }
     requires one { IsPassOf words.now seat.old }
-    requires limits { limits_of words.now ≡ record { parts = 3; rows = 4; units = 2; attempts = 2 } }
+    requires limits { limits_of words.now ≡ record { parts = 3; rows = 4; units = 2; attempts = 2; spare = 0 } }
     requires first { (first ≡ (hand_of seat.old).next) × (first < 9) }
     requires new { ((hand_of seat.old).left ≡ 4) × ((hand_of seat.old).drafts ≡ []) }
     ensures same { IsSameSeat seat.old seat.new }

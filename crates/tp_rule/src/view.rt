@@ -8,7 +8,8 @@ use tp_words::Head;
 
 /// What a seat knows as one of the passes that it stands for.
 ///
-/// Its rows are used one after another: the next is `next`, and `left` of the run that begins there are unused. The units
+/// Its rows are used one after another: the next is `next`, and `left` of the run that begins there are unused. A run lies
+/// in the pass's part, or in the spare block that it drew last. The units
 /// of a pass are numbered from 0 here: unit `u` of pass `number` is the unit `number * limits.units + u` of the table.
 pub struct Hand {
     /// The number of the pass, below `limits.parts`.
@@ -24,6 +25,8 @@ pub struct Hand {
     pub next: u32,
     /// How many rows of the run are unused.
     pub left: u16,
+    /// The spare blocks that the pass has drawn, in ascending order.
+    pub blocks: LinkedList<u16>,
     /// The first words of the body of the next row: those that are stored.
     pub next_body: LinkedList<u64>,
     /// The outputs that are written for the open unit, and are born when it commits.
@@ -43,6 +46,8 @@ pub enum Known {
     RowHead(u32, Head),
     /// The mark of a part: it never falls.
     PartMark(u16, u16),
+    /// The counter of drawn blocks: it never falls.
+    BlocksDrawn(u16),
 }
 
 /// What a seat knows.
