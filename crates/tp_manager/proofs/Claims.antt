@@ -27,7 +27,7 @@ use Rattle.tp_manager.specs.Shown.{Spot, PassShown, shown}
 use Rattle.tp_manager.specs.Calls.{Claims, FoundNone, HasLooked, IsQuiet, Takes, claims_in, opening}
 use Rattle.tp_manager.specs.Walks.{EachRow, Steady, Sought, Walked, Rests, Took, PassedBy, with_trace}
 use Rattle.tp_manager.proofs.Walks.{grew_hand, grew_seen, has_looked, opening_is, grew_steady, walked_begins, walked_then}
-use Rattle.tp_manager.proofs.Passes.{claims_append, steady_at, task_later}
+use Rattle.tp_manager.proofs.Passes.{claims_append, steady_at, task_later, drawn_later}
 
 -- a unit that nobody claimed isn't in a pass's own claims
 pub unused_mine : (c u : ℕ) (h : List Event) → claim_of h u ≡ None → claim_of (events_by c h) u ≡ None
@@ -78,7 +78,7 @@ module _ (l : Limits) (u : ℕ) (v w : View) (s : Steady l v) (g : Chooses v u w
     idle_quiet t t' old is = record {
       mine = ap (λ (z : Hand). z.mine) idle_hand ∙ ap (λ (p : PassShown). p.mine) is;
       open_unit = ap (λ (z : Hand). z.open_unit) idle_hand ∙ ap (λ (p : PassShown). p.open_unit) is;
-      run = (ap (λ (z : Hand). z.next) idle_hand ∙ ap (λ (p : PassShown). p.next) is, ap (λ (z : Hand). z.left) idle_hand ∙ ap (λ (p : PassShown). p.left) is);
+      run = (ap (λ (z : Hand). z.next) idle_hand ∙ ap (λ (p : PassShown). p.next) is, ap (λ (z : Hand). z.left) idle_hand ∙ ap (λ (p : PassShown). p.left) is, ap (λ (z : Hand). z.blocks) idle_hand ∙ ap (λ (p : PassShown). p.blocks) is);
     }
 
     abbrev first_look : List Event
@@ -142,7 +142,7 @@ module _ (l : Limits) (u : ℕ) (v w : View) (s : Steady l v) (g : Chooses v u w
           is_born = k.born;
           of_stage = k.of_stage;
           open_unit = ap (λ (z : Hand). z.open_unit) took_hand;
-          run = (ap (λ (z : Hand). z.next) took_hand, ap (λ (z : Hand). z.left) took_hand);
+          run = (ap (λ (z : Hand). z.next) took_hand, ap (λ (z : Hand). z.left) took_hand, ap (λ (z : Hand). z.blocks) took_hand);
         }
 
 pub chose_rests : (l : Limits) (u n stage number : ℕ) (run : Run) (used : ℕ) (task : Option Task) (seat next : SeatShown) (w : View) → (s : Steady l (view_of seat)) → Chooses (view_of seat) u w → Sought l n (EachRow (PassedBy l stage) 0 (rows_of l)) w (view_of next) → (view_of seat).limits ≡ l → Rests seat number run used task → Rests next number run used task
@@ -151,6 +151,7 @@ chose_rests l u n stage number run used task seat next w s g a same r =
       steady = steady_at l (view_of next).limits (view_of next) lim a.walk.steady;
       number_is = ap (λ (z : Hand). z.number) h ∙ r.number_is;
       run_is = (ap (λ (z : Hand). z.next) h ∙ r.run_is.0, ap (λ (z : Hand). z.left) h ∙ r.run_is.1);
+      drawn = drawn_later (view_of seat) (view_of next) run.drawn (sym (same ∙ lim)) (idle_walked l u (view_of seat) w s g n stage (view_of next) a).knows r.drawn;
       used_is = ap (λ (z : Hand). z.claimed) h ∙ r.used_is;
       used_below = subst (λ (z : Limits). used ≤ z.units) (same ∙ lim) r.used_below;
       claims = ap (λ (z : Hand). claims_in z.mine) h ∙ r.claims;
@@ -170,6 +171,7 @@ took_rests l u n stage attempt root number run used task seat next w x s g k sam
       steady = steady_at l y.limits y lim k.walk.steady;
       number_is = ap (λ (z : Hand). z.number) h ∙ r.number_is;
       run_is = (ap (λ (z : Hand). z.next) h ∙ r.run_is.0, ap (λ (z : Hand). z.left) h ∙ r.run_is.1);
+      drawn = drawn_later v y run.drawn (sym (same ∙ lim)) (took_walked l u v w s g n stage attempt y x k).knows r.drawn;
       used_is = ap (λ (z : Hand). z.claimed) h ∙ ap (λ z. z + 1) r.used_is;
       used_below = subst (λ (z : Limits). used + 1 ≤ z.units) lim (omega arith);
       claims = ap (λ (z : Hand). claims_in z.mine) h ∙ (claims_append (hand v).mine (Claim (hand v).number u x.id attempt ∷ []) ∙ (let c = r.claims in omega arith));

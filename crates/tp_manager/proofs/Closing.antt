@@ -39,7 +39,7 @@ joins_both table l n k h g p m q a b = record {
     seen = b.attends.seen;
     follows = follows_then n k p m q a.attends.follows b.attends.follows;
     looks = has_looked_then n k p m q a.attends.follows b.attends.follows a.attends.looks;
-    quiet = record { mine = b.attends.quiet.mine ∙ a.attends.quiet.mine; open_unit = b.attends.quiet.open_unit ∙ a.attends.quiet.open_unit; run = (b.attends.quiet.run.0 ∙ a.attends.quiet.run.0, b.attends.quiet.run.1 ∙ a.attends.quiet.run.1) };
+    quiet = record { mine = b.attends.quiet.mine ∙ a.attends.quiet.mine; open_unit = b.attends.quiet.open_unit ∙ a.attends.quiet.open_unit; run = (b.attends.quiet.run.0 ∙ a.attends.quiet.run.0, b.attends.quiet.run.1 ∙ a.attends.quiet.run.1, b.attends.quiet.run.2 ∙ a.attends.quiet.run.2) };
   };
   at = b.at;
 }

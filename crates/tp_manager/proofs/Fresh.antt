@@ -1,5 +1,5 @@
 -- A pass that was just given out.
-use Rattle.std.proofs.Common.{◌≡◌, ℕ, zero, suc, ◌+◌, ◌-◌, ◌*◌, ◌<◌, ◌≤◌, List, [], ◌∷◌, length, replicate, slice_index, sym, refl, ap, ◌∙◌, subst, arith, None}
+use Rattle.std.proofs.Common.{◌≡◌, ℕ, zero, suc, ◌+◌, ◌-◌, ◌*◌, ◌<◌, ◌≤◌, List, [], ◌∷◌, length, replicate, slice_index, sym, refl, ap, ◌∙◌, subst, arith, None, inl}
 use Rattle.std.proofs.lemmas.List.{get_or-replicate, get_or_past, length-replicate}
 use mathlib.Core.Logic.{dite}
 use native.Mathlib.Decide.{dec_le}
@@ -104,10 +104,15 @@ module _ (seat : SeatShown) (l : Limits) (given : ℕ) (k : Keeps seat l given) 
           given = let more = still_below in omega arith;
           legal = fresh_legal;
           own = ap (λ (a : Hand). a.mine) h ∙ (sym fresh_none ∙ ap (λ n. events_by n (view_of next).seen) (sym number));
-          run = subst (λ (a : Hand). IsRun l (view_of next).seen a.number a.next a.left) (sym h) record {
+          run = subst (λ (a : Hand). IsRun l (view_of next).seen a.number a.blocks a.next a.left) (sym h) record {
+            drawn = tt;
+            first = given * l.rows;
+            end = given * l.rows + l.rows;
+            own = inl ((let more = still_below in omega arith), refl, refl);
             begins = omega arith;
             ends = refl;
             unborn = fresh_unborn;
+            usable = λ i low high. inl ((let more = still_below in omega arith), low, high);
           };
           open_own = λ u is. let none : (hand (view_of next)).open_unit ≡ None = ap (λ (a : Hand). a.open_unit) h in absurd cc;
         }
@@ -115,11 +120,12 @@ module _ (seat : SeatShown) (l : Limits) (given : ℕ) (k : Keeps seat l given) 
     fresh_known : IsKnown (view_of next).limits (view_of next)
     fresh_known x q = subst (λ (z : Limits × List Event). IsSo z.0 z.1 x) (λ i. (sym fresh_limits i, sym fresh_seen i)) (k.known x (subst (λ (v : View). Knows v x) is q))
 
-    pub fresh_rests : Rests next given (record { next = given * l.rows; left = l.rows }) 0 None
+    pub fresh_rests : Rests next given (record { next = given * l.rows; left = l.rows; drawn = 0 }) 0 None
     fresh_rests = let h = fresh_hand in record {
       steady = record { pass = (out ∙ ap (λ (a : Hand). a ∷ []) (sym out_hand), refl); shows = fresh_shows; known = fresh_known };
       number_is = ap (λ (a : Hand). a.number) h;
       run_is = (ap (λ (a : Hand). a.next) h, ap (λ (a : Hand). a.left) h);
+      drawn = (omega arith, λ some. absurd (omega arith));
       used_is = ap (λ (a : Hand). a.claimed) h;
       used_below = omega arith;
       claims = ap (λ (a : Hand). claims_in a.mine) h;

@@ -10,7 +10,7 @@ use Rattle.tp_rule.specs.declared.view.View.{View}
 use Rattle.tp_manager.specs.declared.manager.Run.{Run}
 use Rattle.tp_manager.specs.Calls.{claims_in}
 use Rattle.tp_manager.specs.Walks.{Gained, Looked, Rests}
-use Rattle.tp_manager.proofs.Passes.{claims_append, steady_at}
+use Rattle.tp_manager.proofs.Passes.{claims_append, drawn_later, steady_at}
 use Rattle.tp_manager.proofs.Walks.{walked_begins, walked_few, walked_then}
 
 module _ (l : Limits) where
@@ -18,7 +18,7 @@ module _ (l : Limits) where
   gained_looked n v w a = record {
     marks = a.marks;
     walk = a.walk;
-    run = (ap (λ (z : Hand). z.next) a.kept, ap (λ (z : Hand). z.left) a.kept);
+    run = (ap (λ (z : Hand). z.next) a.kept, ap (λ (z : Hand). z.left) a.kept, ap (λ (z : Hand). z.blocks) a.kept);
     claimed = ap (λ (z : Hand). z.claimed) a.kept;
     mine = ap (λ (z : Hand). z.mine) a.kept ∙ sym (append_nil (hand v).mine);
     drafts = λ e. ap (λ (z : Hand). z.drafts) a.kept ∙ e;
@@ -29,7 +29,7 @@ module _ (l : Limits) where
   gained_then n m es fs v w y a b = record {
     marks = a.marks ++ b.marks;
     walk = walked_then l n m a.marks b.marks v w y a.walk b.walk;
-    run = (b.run.0 ∙ a.run.0, b.run.1 ∙ a.run.1);
+    run = (b.run.0 ∙ a.run.0, b.run.1 ∙ a.run.1, b.run.2 ∙ a.run.2);
     claimed = b.claimed ∙ a.claimed;
     mine = b.mine ∙ (ap (λ z. z ++ fs) a.mine ∙ append_assoc (hand v).mine es fs);
     drafts = λ e. b.drafts (a.drafts e);
@@ -56,6 +56,7 @@ module _ (l : Limits) (seat next : SeatShown) (number : ℕ) (run : Run) (used :
     steady = steady_at l (view_of next).limits (view_of next) lim a.walk.steady;
     number_is = a.walk.number ∙ r.number_is;
     run_is = (a.run.0 ∙ r.run_is.0, a.run.1 ∙ r.run_is.1);
+    drawn = drawn_later (view_of seat) (view_of next) run.drawn (sym (same ∙ lim)) a.walk.knows r.drawn;
     used_is = a.claimed ∙ r.used_is;
     used_below = subst (λ (z : Limits). used ≤ z.units) (same ∙ lim) r.used_below;
     claims = ap claims_in a.mine ∙ (claims_append (hand (view_of seat)).mine es ∙ (let k = r.claims in omega arith));

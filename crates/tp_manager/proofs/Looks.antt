@@ -9,8 +9,8 @@ use Rattle.tp_model.specs.declared.event.Event.{Event}
 use Rattle.tp_model.specs.declared.trace.StepKind.{StepKind}
 use Rattle.tp_model.specs.History.{IsUnborn, element_of, UnitEnd, Committed, Aborted, end_of, status_of}
 use Rattle.tp_model.specs.Words.{TakenWord, claim_word, taken_status}
-use Rattle.tp_model.specs.Steps.{IsRowOf, rows_of, units_of, IsLegal}
-use Rattle.tp_model.proofs.Blocks.{blocks_apart}
+use Rattle.tp_model.specs.Steps.{IsArea, rows_of, units_of, IsLegal}
+use Rattle.tp_model.proofs.Areas.{one_area}
 use Rattle.tp_model.proofs.Bodies.{found_whole, four_words}
 use Rattle.tp_model.proofs.Bridges.{born_or_not, born_at, found_later}
 use Rattle.tp_model.proofs.Later.{committed_born, claim_stands, status_found, status_aborted}
@@ -27,12 +27,12 @@ use Rattle.tp_manager.specs.declared.looking.Birth.{Birth}
 use Rattle.tp_manager.specs.Looks.{GoesOn, HeadFound, IsThere}
 use Rattle.tp_rule.proofs.Births.{by_unit}
 
--- behind the last row of its part a scan goes on
-pub goes_end : (l k : Limits) → l ≡ k → (i next : ℕ) → (c : ℕ) × IsRowOf k c i × (next ≡ c * k.rows + k.rows) → next ≤ rows_of k → GoesOn l i next
-goes_end l k same i next t inside = let own = t.1 in let high : i < t.0 * k.rows + k.rows = own.2 in let is : next ≡ t.0 * k.rows + k.rows = t.2 in subst (λ (z : Limits). GoesOn z i next) (sym same) record {
-  on = omega arith;
+-- behind the last row of its part or spare block a scan goes on
+pub goes_end : (l k : Limits) → l ≡ k → (i next : ℕ) → (first : ℕ) × IsArea k first next × (first ≤ i) × (i < next) → next ≤ rows_of k → GoesOn l i next
+goes_end l k same i next t inside = subst (λ (z : Limits). GoesOn z i next) (sym same) record {
+  on = t.3;
   inside = inside;
-  part = λ d row. let one : t.0 ≡ d = blocks_apart k.rows t.0 d i own.1 high row.1 row.2 in subst (λ z. next ≤ z * k.rows + k.rows) one (omega arith);
+  area = λ first end other low high. let one = (one_area k t.0 next first end i t.1 other t.2 t.3 low high).1 in omega arith;
 }
 
 -- births

@@ -51,7 +51,7 @@ module _ (l : Limits) (p n : ℕ) (v w : View) (s : Steady l v) (r : Raises v p 
           given = subst (λ n. n < l.parts) (sym c) s.shows.given;
           legal = subst (IsLegal l) (sym raised_seen) s.shows.legal;
           own = ap (λ (a : Hand). a.mine) h ∙ (s.shows.own ∙ (ap (events_by (hand v).number) (sym raised_seen) ∙ ap (λ n. events_by n w.seen) (sym c)));
-          run = subst (λ (a : Hand). IsRun l w.seen a.number a.next a.left) (sym h) (subst (λ z. IsRun l z (hand v).number (hand v).next (hand v).left) (sym raised_seen) s.shows.run);
+          run = subst (λ (a : Hand). IsRun l w.seen a.number a.blocks a.next a.left) (sym h) (subst (λ z. IsRun l z (hand v).number (hand v).blocks (hand v).next (hand v).left) (sym raised_seen) s.shows.run);
           open_own = λ u is. let same : (hand v).open_unit ≡ Some u = sym (ap (λ (a : Hand). a.open_unit) h) ∙ is in
               subst (λ (z : List Event × ℕ). IsOwnOpen z.0 z.1 u) (λ i. (sym raised_seen i, sym c i)) (s.shows.open_own u same);
         };

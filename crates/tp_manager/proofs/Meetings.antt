@@ -19,7 +19,7 @@ use Rattle.tp_manager.specs.Walks.{Acted, IsKnown, Steady}
 -- a pass that has seen more, and done nothing else
 module _ (l : Limits) (v w : View) (s : Steady l v) (one : IsOnePass w) (lim : w.limits ≡ l) (legal : IsLegal l w.seen) (begins : IsPrefix v.seen w.seen) (own : (hand w).mine ≡ events_by (hand w).number w.seen)
     (open_own : (u : ℕ) → (hand w).open_unit ≡ Some u → IsOwnOpen w.seen (hand w).number u)
-    (number : (hand w).number ≡ (hand v).number) (run : IsRun l w.seen (hand w).number (hand w).next (hand w).left) (known : IsKnown l w) where
+    (number : (hand w).number ≡ (hand v).number) (run : IsRun l w.seen (hand w).number (hand w).blocks (hand w).next (hand w).left) (known : IsKnown l w) where
   pub steady_seen : Steady l w
   steady_seen = record {
     pass = (one, lim);
@@ -39,12 +39,12 @@ module _ (l : Limits) (v w x y : View) (sv : Steady l v) (sw : Steady l w) (m : 
 
   steady_first : Steady l x
   steady_first = let h = m.first_is in steady_seen l v x sv m.first_one (m.limits.0 ∙ sv.pass.1) legal m.first_saw m.mine.0 m.open_own.0 (ap (λ (a : Hand). a.number) h)
-      (subst (λ (z : Limits). IsRun z x.seen (hand x).number (hand x).next (hand x).left) sv.pass.1 m.run.0)
+      (subst (λ (z : Limits). IsRun z x.seen (hand x).number (hand x).blocks (hand x).next (hand x).left) sv.pass.1 m.run.0)
       (λ z q. subst (λ (k : Limits). IsSo k x.seen z) sv.pass.1 (m.is_so.0 z q))
 
   steady_second : Steady l y
   steady_second = let h = m.second_is in steady_seen l w y sw m.second_one (m.limits.1 ∙ sv.pass.1) (subst (IsLegal l) m.same legal) (subst (IsPrefix w.seen) m.same m.second_saw) m.mine.1 m.open_own.1
-      (ap (λ (a : Hand). a.number) h) (subst (λ (z : Limits). IsRun z y.seen (hand y).number (hand y).next (hand y).left) sv.pass.1 m.run.1)
+      (ap (λ (a : Hand). a.number) h) (subst (λ (z : Limits). IsRun z y.seen (hand y).number (hand y).blocks (hand y).next (hand y).left) sv.pass.1 m.run.1)
       (λ z q. subst (λ (k : Limits). IsSo k y.seen z) sv.pass.1 (m.is_so.1 z q))
 
   pub first_trace : (hand x).trace ≡ (hand v).trace ++ seat_load v.seen ∷ load x.seen ∷ seat_load x.seen ∷ []

@@ -1,5 +1,8 @@
 -- What is so of a pass after a call.
 use Rattle.std.proofs.Common.{◌≡◌, ℕ, ◌+◌, ◌≤◌, List, [], ◌∷◌, ◌++◌, sym, refl, ap, ◌∙◌, subst, arith, Option, Some, None}
+use Rattle.tp_rule.specs.declared.view.Known.TheVariants.{BlocksDrawn}
+use Rattle.tp_rule.specs.declared.view.Known.{Known}
+use Rattle.tp_rule.specs.Steps.{Knows}
 use mathlib.Core.List.{IsPrefix}
 use Rattle.tp_model.specs.declared.types.Limits.{Limits}
 use Rattle.tp_model.specs.declared.event.Event.{Event}
@@ -14,7 +17,7 @@ use Rattle.tp_manager.specs.declared.manager.Run.{Run}
 use Rattle.tp_manager.specs.declared.manager.Task.{Task}
 use Rattle.tp_manager.specs.Shown.{Spot, PassShown, shown}
 use Rattle.tp_manager.specs.Calls.{AtPoint, IsQuiet}
-use Rattle.tp_manager.specs.Walks.{Steady, Looked, Rests, IsTask, unit_in}
+use Rattle.tp_manager.specs.Walks.{Steady, Looked, Rests, IsTask, unit_in, RemembersDrawn}
 use Rattle.tp_manager.specs.Calls.{claims_in}
 use Rattle.tp_manager.proofs.Looks.{unborn_if}
 use Rattle.tp_manager.proofs.Walks.{walked_none, looked_begins, at_point}
@@ -30,6 +33,25 @@ claims_append (e ∷ h) m = let i = claims_append h m in omega arith
 pub steady_at : (k l : Limits) (v : View) → k ≡ l → Steady k v → Steady l v
 steady_at k l v same s = subst (λ (z : Limits). Steady z v) same s
 
+-- the counter of drawn blocks never falls
+pub drawn_later : (v w : View) (n : ℕ) → w.limits ≡ v.limits → ((x : Known) → Knows v x → Knows w x) → RemembersDrawn v n → RemembersDrawn w n
+drawn_later v w n same knows r = (subst (λ (z : Limits). n ≤ z.spare) (sym same) r.0, λ some. knows (BlocksDrawn n) (r.1 some))
+
+-- the pass has looked at it
+pub rests_drawn : (seat : SeatShown) (number : ℕ) (run : Run) (used : ℕ) (task : Option Task) (n : ℕ) → Rests seat number run used task → RemembersDrawn (view_of seat) n → Rests seat number (record run { drawn = n }) used task
+rests_drawn seat number run used task n r drawn = record {
+  steady = r.steady;
+  number_is = r.number_is;
+  run_is = r.run_is;
+  drawn = drawn;
+  used_is = r.used_is;
+  used_below = r.used_below;
+  claims = r.claims;
+  no_drafts = r.no_drafts;
+  open_is = r.open_is;
+  work = r.work;
+}
+
 module _ (l : Limits) (seat next : SeatShown) (same : (view_of seat).limits ≡ l) (number : ℕ) (run : Run) (used : ℕ) (task : Option Task) (r : Rests seat number run used task) where
   -- the pass has looked, and no more
   pub rests_looked : (n : ℕ) → Looked l n (view_of seat) (view_of next) → Rests next number run used task
@@ -37,6 +59,7 @@ module _ (l : Limits) (seat next : SeatShown) (same : (view_of seat).limits ≡ 
     steady = steady_at l (view_of next).limits (view_of next) lim a.walk.steady;
     number_is = ap (λ (z : Hand). z.number) k ∙ r.number_is;
     run_is = (ap (λ (z : Hand). z.next) k ∙ r.run_is.0, ap (λ (z : Hand). z.left) k ∙ r.run_is.1);
+    drawn = drawn_later (view_of seat) (view_of next) run.drawn (sym (same ∙ lim)) a.walk.knows r.drawn;
     used_is = ap (λ (z : Hand). z.claimed) k ∙ r.used_is;
     used_below = subst (λ (z : Limits). used ≤ z.units) (same ∙ lim) r.used_below;
     claims = ap (λ (z : Hand). claims_in z.mine) k ∙ r.claims;
@@ -51,7 +74,7 @@ module _ (t t' : Spot) (v w : View) (old : PassShown) (is : shown t v ≡ old) (
   quiet_looked = let k = a.kept in record {
     mine = ap (λ (z : Hand). z.mine) k ∙ ap (λ (p : PassShown). p.mine) is;
     open_unit = ap (λ (z : Hand). z.open_unit) k ∙ ap (λ (p : PassShown). p.open_unit) is;
-    run = (ap (λ (z : Hand). z.next) k ∙ ap (λ (p : PassShown). p.next) is, ap (λ (z : Hand). z.left) k ∙ ap (λ (p : PassShown). p.left) is);
+    run = (ap (λ (z : Hand). z.next) k ∙ ap (λ (p : PassShown). p.next) is, ap (λ (z : Hand). z.left) k ∙ ap (λ (p : PassShown). p.left) is, ap (λ (z : Hand). z.blocks) k ∙ ap (λ (p : PassShown). p.blocks) is);
   }
 
 -- a call that made no step has its entry for a point

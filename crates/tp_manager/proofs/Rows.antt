@@ -8,17 +8,18 @@ use Rattle.tp_model.specs.declared.types.Element.{Element}
 use Rattle.tp_model.specs.declared.types.Limits.{Limits}
 use Rattle.tp_model.specs.declared.event.Event.{Event}
 use Rattle.tp_model.specs.History.{births, IsUnborn, pass_of, events_by}
-use Rattle.tp_model.specs.Steps.{IsRowOf, Step, IsLegal}
+use Rattle.tp_model.specs.Steps.{IsRowOf, MayUse, Step, IsLegal}
 use Rattle.tp_model.proofs.Histories.{along, element_of-snoc}
 use Rattle.tp_model.proofs.Bridges.{by_own, by_other}
-use Rattle.tp_model.proofs.Blocks.{blocks_apart, no_birth}
+use Rattle.tp_model.proofs.Blocks.{no_birth}
+use Rattle.tp_model.proofs.Areas.{part_alone}
 
 module _ (l : Limits) (c i : ℕ) (row : IsRowOf l c i) (h : List Event) where
   abbrev StillUnborn : List Event → Type 0
   StillUnborn z = (length (events_by c h) ≤ length (events_by c z)) × (length (events_by c z) ≤ length (events_by c h) → IsUnborn z i)
 
-  other_row : (e : Event) → pass_of e ≢ c → ¬ IsRowOf l (pass_of e) i
-  other_row e not r = not (blocks_apart l.rows (pass_of e) c i r.1 r.2 row.1 row.2)
+  other_row : (x : List Event) (e : Event) → pass_of e ≢ c → ¬ MayUse l x (pass_of e) i
+  other_row x e not may = not (part_alone l x c (pass_of e) i row may)
 
   still_more : (x : List Event) (e : Event) → IsLegal l x → Step l x e → StillUnborn x → StillUnborn (x ++ e ∷ [])
   still_more x e legal step old =
@@ -27,7 +28,7 @@ module _ (l : Limits) (c i : ℕ) (row : IsRowOf l c i) (h : List Event) where
         | inr p ↦
             let same = by_other c x e p.1 in (
               subst (λ z. length (events_by c h) ≤ length z) (sym same) old.0,
-              λ high. element_of-snoc x e i ∙ (ap (λ o. option_or o (find (λ (y : Element). y.id == i) (births e))) (old.1 (subst (λ z. length z ≤ length (events_by c h)) same high)) ∙ no_birth l x e step i (other_row e p.1)),
+              λ high. element_of-snoc x e i ∙ (ap (λ o. option_or o (find (λ (y : Element). y.id == i) (births e))) (old.1 (subst (λ z. length z ≤ length (events_by c h)) same high)) ∙ no_birth l x e step i (other_row x e p.1)),
             )
       ]
 

@@ -7,7 +7,7 @@ use mathlib.Core.List.{IsPrefix}
 use Rattle.tp_model.specs.declared.event.Event.{Event}
 use Rattle.tp_model.specs.declared.types.Limits.{Limits}
 use Rattle.tp_model.specs.Passes.{opening_of}
-use Rattle.tp_model.specs.Steps.{rows_of}
+use Rattle.tp_model.specs.Steps.{part_rows}
 use Rattle.tp_model.specs.History.{IsUnborn}
 use Rattle.tp_model.proofs.Bridges.{begins_refl, begins_trans}
 use Rattle.tp_rule.specs.Views.{hand}
@@ -137,10 +137,10 @@ part_of size (suc parts) i less = dite (dec_le (parts * size) i)
     (λ past. (parts, omega arith, past, (let all : i < suc parts * size = less in omega (arith, suc-mul parts size))))
     (λ not. let t = part_of size parts i (omega arith) in let below : t.0 < parts = t.1 in (t.0, omega arith, t.2, t.3))
 
-pub all_parts : (l : Limits) (Passed : ℕ → List Event → List Event → Type 0) (a b : List Event) → EachRow (OfPart l Passed) 0 l.parts a b → EachRow Passed 0 (rows_of l) a b
+pub all_parts : (l : Limits) (Passed : ℕ → List Event → List Event → Type 0) (a b : List Event) → EachRow (OfPart l Passed) 0 l.parts a b → EachRow Passed 0 (part_rows l) a b
 all_parts l Passed a b each i low high = let t = part_of l.rows l.parts i high in each t.0 (omega arith) t.1 i t.2 t.3
 
-pub sought_all : (l : Limits) (n : ℕ) (Passed : ℕ → List Event → List Event → Type 0) (v w : View) → Sought l n (EachRow (OfPart l Passed) 0 l.parts) v w → Sought l n (EachRow Passed 0 (rows_of l)) v w
+pub sought_all : (l : Limits) (n : ℕ) (Passed : ℕ → List Event → List Event → Type 0) (v w : View) → Sought l n (EachRow (OfPart l Passed) 0 l.parts) v w → Sought l n (EachRow Passed 0 (part_rows l)) v w
 sought_all l n Passed v w s = record { marks = s.marks; walk = s.walk; kept = s.kept; step = s.step; passed = all_parts l Passed (opening_of v.seen s.marks) w.seen s.passed }
 
 -- one row is each row from it on and below the next

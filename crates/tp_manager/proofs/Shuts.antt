@@ -1,5 +1,5 @@
 -- The drafts of a pass's own unit, and the unit's end.
-use Rattle.std.proofs.Common.{◌≡◌, ℕ, suc, ◌+◌, ◌*◌, ◌<◌, ◌≤◌, List, [], ◌∷◌, ◌++◌, length, true, slice_index_or, take, sym, refl, ap, ◌∙◌, subst, ⊎_elim, arith, append_assoc, length-append, mul-le-mul_right, Option, Some, None}
+use Rattle.std.proofs.Common.{◌≡◌, ℕ, suc, ◌+◌, ◌*◌, ◌<◌, ◌≤◌, List, [], ◌∷◌, ◌++◌, length, true, slice_index_or, take, sym, refl, ap, ◌∙◌, subst, ⊎_elim, arith, append_assoc, length-append, mul-le-mul_right, Option, Some, None, inl}
 use Rattle.tp_model.specs.Drafts.{DraftView}
 use Rattle.std.specs.List.{All}
 use Rattle.std.proofs.lemmas.List.Elements.{All-head, All-tail}
@@ -30,11 +30,11 @@ use Rattle.tp_rule.specs.declared.view.View.{View}
 use Rattle.tp_manager.specs.declared.manager.Run.{Run}
 use Rattle.tp_manager.specs.declared.manager.Task.{Task}
 use Rattle.tp_manager.specs.Shown.{Spot, PassShown, shown}
-use Rattle.tp_manager.specs.Calls.{Adds, Closes, Commits, EndedByOther, HasConsumed, HasEnded, Loses, claims_in}
-use Rattle.tp_manager.specs.Bounds.{commit_steps, draft_steps}
-use Rattle.tp_manager.specs.Walks.{Rests, SameRun, Shut, Steady, Wrote, output, IsTask}
+use Rattle.tp_manager.specs.Calls.{Adds, Closes, Commits, EndedByOther, HasConsumed, HasEnded, Loses, claims_in, KeepsRun, UsesRun}
+use Rattle.tp_manager.specs.Bounds.{close_steps, draft_steps}
+use Rattle.tp_manager.specs.Walks.{Rests, SameRun, Shut, Steady, Wrote, output, IsTask, RemembersDrawn}
 use Rattle.tp_rule.proofs.Births.{claimed_inside}
-use Rattle.tp_manager.proofs.Passes.{claims_append, steady_at}
+use Rattle.tp_manager.proofs.Passes.{claims_append, steady_at, drawn_later}
 use Rattle.tp_manager.proofs.Walks.{grew_hand, grew_steady, grew_walked, walked_few, walked_none, walked_then, walked_begins}
 
 module _ (l : Limits) where
@@ -43,7 +43,7 @@ module _ (l : Limits) where
     marks = a.marks ++ b.marks;
     walk = walked_few l (draft_steps (length xs) + draft_steps (length ys)) (draft_steps (length (xs ++ ys))) _ v y (omega (arith, length-append xs ys)) g;
     seen = b.seen ∙ a.seen;
-    run = let p = a.run.0 in let q = b.run.0 in let r = a.run.1 in let s = b.run.1 in (omega (arith, length-append xs ys), omega (arith, length-append xs ys));
+    run = let p = a.run.0 in let q = b.run.0 in let r = a.run.1 in let s = b.run.1 in (omega (arith, length-append xs ys), omega (arith, length-append xs ys), b.run.2 ∙ a.run.2);
     claimed = b.claimed ∙ a.claimed;
     mine = b.mine ∙ a.mine;
     drafts = b.drafts ∙ (ap (λ z. z ++ ys) a.drafts ∙ append_assoc (hand v).drafts xs ys);
@@ -51,7 +51,7 @@ module _ (l : Limits) where
   }
 
   pub wrote_none : (v : View) → Steady l v → Wrote l [] v v
-  wrote_none v s = record { marks = []; walk = walked_none l v s; seen = refl; run = (omega arith, omega arith); claimed = refl; mine = refl; drafts = sym (append_nil (hand v).drafts); open_unit = refl }
+  wrote_none v s = record { marks = []; walk = walked_none l v s; seen = refl; run = (omega arith, omega arith, refl); claimed = refl; mine = refl; drafts = sym (append_nil (hand v).drafts); open_unit = refl }
 
   shut_by : (kind : StepKind) (f : Hand → Hand) (es : List Event) (v w : View) → looks kind ≡ true → (s : Steady l v) → (g : Grew kind f es v w) → Steady l w → (f (hand v)).trace ≡ (hand v).trace → (f (hand v)).number ≡ (hand v).number → SameRun (hand v) (f (hand v))
       → (f (hand v)).claimed ≡ (hand v).claimed → (f (hand v)).mine ≡ (hand v).mine ++ es → (f (hand v)).drafts ≡ [] → (f (hand v)).open_unit ≡ None → Shut l 1 0 es v w
@@ -61,7 +61,7 @@ module _ (l : Limits) where
     before = v.seen ++ g.between;
     begins = (g.between, refl);
     ends = g.seen;
-    run = let d : (hand w).next ≡ (hand v).next = ap (λ (a : Hand). a.next) x ∙ run.0 in let e : (hand w).left ≡ (hand v).left = ap (λ (a : Hand). a.left) x ∙ run.1 in (omega arith, omega arith);
+    run = let d : (hand w).next ≡ (hand v).next = ap (λ (a : Hand). a.next) x ∙ run.0 in let e : (hand w).left ≡ (hand v).left = ap (λ (a : Hand). a.left) x ∙ run.1 in (omega arith, omega arith, ap (λ (a : Hand). a.blocks) x ∙ run.2);
     claimed = ap (λ (a : Hand). a.claimed) x ∙ claimed;
     mine = ap (λ (a : Hand). a.mine) x ∙ mine;
     drafts = ap (λ (a : Hand). a.drafts) x ∙ drafts;
@@ -69,10 +69,10 @@ module _ (l : Limits) where
   }
 
   pub shut_hit : (kind : StepKind) (e : Event) (v w : View) → looks kind ≡ true → (s : Steady l v) → Grew kind (with_end e) (e ∷ []) v w → Shut l 1 0 (e ∷ []) v w
-  shut_hit kind e v w d s g = shut_by kind (with_end e) (e ∷ []) v w d s g (grew_steady l kind (with_end e) (e ∷ []) v w s g refl) refl refl (refl, refl) refl refl refl refl
+  shut_hit kind e v w d s g = shut_by kind (with_end e) (e ∷ []) v w d s g (grew_steady l kind (with_end e) (e ∷ []) v w s g refl) refl refl (refl, refl, refl) refl refl refl refl
 
   pub shut_miss : (kind : StepKind) (v w : View) → looks kind ≡ true → (s : Steady l v) → Grew kind with_lost [] v w → Shut l 1 0 [] v w
-  shut_miss kind v w d s g = shut_by kind with_lost [] v w d s g (grew_steady l kind with_lost [] v w s g refl) refl refl (refl, refl) refl (sym (append_nil (hand v).mine)) refl refl
+  shut_miss kind v w d s g = shut_by kind with_lost [] v w d s g (grew_steady l kind with_lost [] v w s g refl) refl refl (refl, refl, refl) refl (sym (append_nil (hand v).mine)) refl refl
 
 pub other_abort : (c u : ℕ) (h : List Event) → end_of h u ≡ Some Aborted → ¬ (In (Abort c u) h) → EndedByOther c u h
 other_abort c u h lost not = let t = aborted_by h u lost in (t.0, t.1, λ same. not (subst (λ z. In (Abort z u) h) same t.1))
@@ -90,11 +90,12 @@ abort_ended u c h before is = some (end_of h u) (abort_ends h c u (subst (λ (z 
     some (Some x) not = (x, refl)
 
 -- a pass whose unit is closed
-pub shut_rests : (l : Limits) (n k : ℕ) (es : List Event) (seat next : SeatShown) (number : ℕ) (run : Run) (used : ℕ) (run' : Run) (task : Option Task) → (view_of seat).limits ≡ l → Shut l n k es (view_of seat) (view_of next) → claims_in es ≡ 0 → run'.next ≡ run.next + k → run'.left + k ≡ run.left → Rests seat number run used task → Rests next number run' used None
-shut_rests l n k es seat next number run used run' task same t none more less r = let w : View = view_of next in let lim : l ≡ w.limits = sym t.walk.steady.pass.1 in record {
+pub shut_rests : (l : Limits) (n k : ℕ) (es : List Event) (seat next : SeatShown) (number : ℕ) (run : Run) (used : ℕ) (run' : Run) (task : Option Task) → (view_of seat).limits ≡ l → Shut l n k es (view_of seat) (view_of next) → claims_in es ≡ 0 → run'.next ≡ run.next + k → run'.left + k ≡ run.left → run'.drawn ≡ run.drawn → Rests seat number run used task → Rests next number run' used None
+shut_rests l n k es seat next number run used run' task same t none more less still r = let w : View = view_of next in let lim : l ≡ w.limits = sym t.walk.steady.pass.1 in record {
   steady = steady_at l w.limits w lim t.walk.steady;
   number_is = t.walk.number ∙ r.number_is;
   run_is = let a = t.run.0 in let b = t.run.1 in let c = r.run_is.0 in let d = r.run_is.1 in (omega arith, omega arith);
+  drawn = subst (λ z. RemembersDrawn w z) (sym still) (drawn_later (view_of seat) w run.drawn (sym (same ∙ lim)) t.walk.knows r.drawn);
   used_is = t.claimed ∙ r.used_is;
   used_below = subst (λ (z : Limits). used ≤ z.units) (same ∙ lim) r.used_below;
   claims = ap claims_in t.mine ∙ (claims_append (hand (view_of seat)).mine es ∙ (let c = r.claims in omega arith));
@@ -103,13 +104,26 @@ shut_rests l n k es seat next number run used run' task same t none more less r 
   work = tt;
 }
 
-pub shut_closes : (t t' : Spot) (v w : View) (old : PassShown) → shown t v ≡ old → (l : Limits) (n k u : ℕ) (es : List Event) → Shut l n k es v w → (hand v).open_unit ≡ Some u → (how : UnitEnd) × (end_of w.seen u ≡ Some how) → Closes u k old (shown t' w)
+pub shut_closes : (t t' : Spot) (v w : View) (old : PassShown) → shown t v ≡ old → (l : Limits) (n k u : ℕ) (es : List Event) → Shut l n k es v w → (hand v).open_unit ≡ Some u → (how : UnitEnd) × (end_of w.seen u ≡ Some how) → Closes u old (shown t' w)
 shut_closes t t' v w old is l n k u es sh held ended = record {
   was_open = sym (ap (λ (p : PassShown). p.open_unit) is) ∙ held;
   open_unit = sh.open_unit;
   ended = ended;
-  run = (sh.run.0 ∙ ap (λ (p : PassShown). p.next + k) is, sh.run.1 ∙ ap (λ (p : PassShown). p.left) is);
 }
+
+-- the rows that it has used
+pub shut_uses : (t t' : Spot) (v w : View) (old : PassShown) → shown t v ≡ old → (l : Limits) (n k : ℕ) (es : List Event) → Shut l n k es v w → UsesRun k (hand v).next old (shown t' w)
+shut_uses t t' v w old is l n k es sh = subst (λ (p : PassShown). UsesRun k (hand v).next p (shown t' w)) is (let all = sh.run.1 in record {
+  room = omega arith;
+  first_is = refl;
+  next = sh.run.0;
+  left = sh.run.1;
+  blocks = sh.run.2;
+})
+
+-- none
+pub shut_keeps : (t t' : Spot) (v w : View) (old : PassShown) → shown t v ≡ old → (l : Limits) (n : ℕ) (es : List Event) → Shut l n 0 es v w → KeepsRun old (shown t' w)
+shut_keeps t t' v w old is l n es sh = subst (λ (p : PassShown). KeepsRun p (shown t' w)) is (let a = sh.run.0 in let b = sh.run.1 in (omega arith, omega arith, sh.run.2))
 
 pub shut_adds : (t t' : Spot) (v w : View) (old : PassShown) → shown t v ≡ old → (l : Limits) (n k u : ℕ) → Shut l n k (Abort (hand v).number u ∷ []) v w → Adds (Abort old.number u) old (shown t' w)
 shut_adds t t' v w old is l n k u sh = subst (λ (p : PassShown). Adds (Abort p.number u) p (shown t' w)) is record { mine = sh.mine; before = sh.before; seen = sh.ends; begins = sh.begins }
@@ -118,14 +132,14 @@ pub shut_loses : (t t' : Spot) (v w : View) (old : PassShown) → shown t v ≡ 
 shut_loses t t' v w old is l n k u sh lost not = subst (λ (p : PassShown). Loses u p (shown t' w)) is (sh.mine ∙ append_nil (hand v).mine, other_abort (hand v).number u w.seen lost not)
 
 -- the drafts, and then the end
-pub wrote_shut : (l : Limits) (xs : List Element) (es : List Event) (v w y : View) → Wrote l xs v w → Shut l 1 0 es w y → Shut l (commit_steps (length xs)) (length xs) es v y
+pub wrote_shut : (l : Limits) (xs : List Element) (es : List Event) (v w y : View) → Wrote l xs v w → Shut l 1 0 es w y → Shut l (close_steps (length xs)) (length xs) es v y
 wrote_shut l xs es v w y wr sh = record {
   marks = wr.marks ++ sh.marks;
   walk = walked_then l (draft_steps (length xs)) 1 wr.marks sh.marks v w y wr.walk sh.walk;
   before = sh.before;
   begins = begins_trans v.seen w.seen sh.before (walked_begins l _ wr.marks v w wr.walk) sh.begins;
   ends = sh.ends;
-  run = let a = sh.run.0 in let b = wr.run.0 in let c = sh.run.1 in let d = wr.run.1 in (omega arith, omega arith);
+  run = let a = sh.run.0 in let b = wr.run.0 in let c = sh.run.1 in let d = wr.run.1 in (omega arith, omega arith, sh.run.2 ∙ wr.run.2);
   claimed = sh.claimed ∙ wr.claimed;
   mine = sh.mine ∙ ap (λ z. z ++ es) wr.mine;
   drafts = sh.drafts;
@@ -222,8 +236,10 @@ committed_answer t t' l v w y old is number run used row k ds seat same r next w
     subst (λ (p : PassShown). Commits f (length ds) ds p (shown t' y)) is record {
       unit = k.unit;
       root = k.root;
+      row = (hand v).next;
+      run = inl (let all = sh.run.1 in record { room = omega arith; first_is = refl; next = sh.run.0; left = sh.run.1; blocks = sh.run.2 });
       root_is = (work.0, work.1, work.2, subst (λ c. IsClaim v.seen c k.unit work.0 work.1) (sym num) work.3, work.4, work.5);
-      closes = record { was_open = held; open_unit = sh.open_unit; ended = commit_ended (hand w).number k.unit y.seen sh.before (hand w).drafts sh.ends; run = sh.run };
+      closes = record { was_open = held; open_unit = sh.open_unit; ended = commit_ended (hand w).number k.unit y.seen sh.before (hand w).drafts sh.ends };
       adds = record { mine = sh.mine ∙ ap (λ z. (hand v).mine ++ z ∷ []) e; before = sh.before; seen = sh.ends ∙ ap (λ z. sh.before ++ z ∷ []) e; begins = sh.begins };
       consumed = subst (λ (z : Limits). HasConsumed z (hand v).number k.unit y.seen) (sym lim) (subst (λ c. HasConsumed l c k.unit y.seen) wr.walk.number (commit_consumes l (hand w).number k.unit y.seen sh.before (hand w).drafts sh.walk.steady.shows.legal sh.ends));
       first_is = outs_first k.unit k.root row ds f a b ∙ ap (λ z. first_id (outputs k.unit k.root z ds)) (row_is l v w number run used row k ds seat same r next wr);
@@ -231,5 +247,5 @@ committed_answer t t' l v w y old is number run used row k ds seat same r next w
     }
 
 -- what a closed unit leaves
-pub closed_ended : (u k : ℕ) (old new : PassShown) → Closes u k old new → IfSome old.open_unit (HasEnded new.seen)
-closed_ended u k old new closed = subst (λ o. IfSome o (HasEnded new.seen)) (sym closed.was_open) closed.ended
+pub closed_ended : (u : ℕ) (old new : PassShown) → Closes u old new → IfSome old.open_unit (HasEnded new.seen)
+closed_ended u old new closed = subst (λ o. IfSome o (HasEnded new.seen)) (sym closed.was_open) closed.ended

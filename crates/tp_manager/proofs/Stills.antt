@@ -1,5 +1,5 @@
 -- Nothing has happened where no pass has made an event.
-use Rattle.std.proofs.Common.{◌≡◌, ◌≢◌, ℕ, suc, zero, ◌+◌, ◌-◌, ◌<◌, ◌≤◌, ◌==◌, List, [], ◌∷◌, ◌++◌, cond, length, sym, refl, ap, ◌∙◌, subst, arith, append_assoc, length-append, ne_eqb}
+use Rattle.std.proofs.Common.{◌≡◌, ◌≢◌, ℕ, suc, zero, ◌+◌, ◌-◌, ◌<◌, ◌≤◌, ◌==◌, List, [], ◌∷◌, ◌++◌, cond, length, sym, refl, ap, ◌∙◌, subst, arith, append_assoc, length-append, ne_eqb, ⊎_elim}
 use Rattle.std.proofs.lemmas.List.Elements.{filter-append}
 use mathlib.Core.List.{IsPrefix}
 use mathlib.Core.Logic.{dite}
@@ -19,7 +19,7 @@ use Rattle.tp_manager.specs.Walks.{untraced}
 
 -- each event is by a pass of the table
 by_pass : (l : Limits) (h : List Event) (e : Event) → IsLegal l h → Step l h e → pass_of e < l.parts
-by_pass l h (Enqueue c x) legal s = s.row.0
+by_pass l h (Enqueue c x) legal s = ⊎_elim (λ row. row.0) (λ spare. spare.0) s.row
 by_pass l h (Claim c u i n) legal s = s.unit.0
 by_pass l h (Commit c u outs) legal s = subst (λ n. n < l.parts) s.own (claims_inside l h legal u s.taking s.open_unit.claimed).0
 by_pass l h (Abort c u) legal s = s.pass

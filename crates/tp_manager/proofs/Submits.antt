@@ -21,14 +21,19 @@ use Rattle.tp_rule.proofs.Reading.{one_after}
 use Rattle.tp_manager.specs.declared.manager.Run.{Run}
 use Rattle.tp_manager.specs.declared.manager.Task.{Task}
 use Rattle.tp_manager.specs.Walks.{Steady, Walked, Rests, Wrote}
-use Rattle.tp_manager.specs.Bounds.{body_steps, submit_steps}
+use Rattle.tp_manager.specs.Bounds.{body_steps, next_steps}
 use Rattle.tp_manager.specs.Calls.{claims_in}
 use Rattle.tp_manager.proofs.Walks.{grew_steady, grew_hand, grew_walked, walked_then, walked_begins}
-use Rattle.tp_manager.proofs.Passes.{claims_append, steady_at, task_later}
+use Rattle.tp_manager.proofs.Passes.{claims_append, steady_at, task_later, drawn_later}
 
 -- a run whose first row is used
-pub run_on : (l : Limits) (h : List Event) (c next left : ℕ) → 0 < left → IsRun l h c next left → IsRun l h c (next + 1) (left - 1)
-run_on l h c next left some r = let low = r.begins in let high = r.ends in record {
+pub run_on : (l : Limits) (h : List Event) (c : ℕ) (blocks : List ℕ) (next left : ℕ) → 0 < left → IsRun l h c blocks next left → IsRun l h c blocks (next + 1) (left - 1)
+run_on l h c blocks next left some r = let low = r.begins in let high = r.ends in record {
+  drawn = r.drawn;
+  first = r.first;
+  end = r.end;
+  own = r.own;
+  usable = λ i more less. r.usable i (omega arith) (omega arith);
   begins = omega arith;
   ends = omega arith;
   unborn = λ i more less. r.unborn i (omega arith) (omega arith);
@@ -44,7 +49,7 @@ module _ (l : Limits) (f : Hand → Hand) (v w : View) (s : Steady l v) (is : w 
   pub stored_seen : w.seen ≡ v.seen
   stored_seen = ap (λ (z : View). z.seen) is
 
-  pub stored_steady : (f (hand v)).number ≡ (hand v).number → IsRun l v.seen (f (hand v)).number (f (hand v)).next (f (hand v)).left → (f (hand v)).mine ≡ (hand v).mine → (f (hand v)).open_unit ≡ (hand v).open_unit → Steady l w
+  pub stored_steady : (f (hand v)).number ≡ (hand v).number → IsRun l v.seen (f (hand v)).number (f (hand v)).blocks (f (hand v)).next (f (hand v)).left → (f (hand v)).mine ≡ (hand v).mine → (f (hand v)).open_unit ≡ (hand v).open_unit → Steady l w
   stored_steady number run mine open_unit =
       let h = stored_hand in
       let c : (hand w).number ≡ (hand v).number = ap (λ (a : Hand). a.number) h ∙ number in
@@ -54,7 +59,7 @@ module _ (l : Limits) (f : Hand → Hand) (v w : View) (s : Steady l v) (is : w 
           given = subst (λ n. n < l.parts) (sym c) s.shows.given;
           legal = subst (IsLegal l) (sym stored_seen) s.shows.legal;
           own = ap (λ (a : Hand). a.mine) h ∙ (mine ∙ (s.shows.own ∙ (ap (events_by (hand v).number) (sym stored_seen) ∙ ap (λ n. events_by n w.seen) (sym c))));
-          run = subst (λ (a : Hand). IsRun l w.seen a.number a.next a.left) (sym h) (subst (λ z. IsRun l z (f (hand v)).number (f (hand v)).next (f (hand v)).left) (sym stored_seen) run);
+          run = subst (λ (a : Hand). IsRun l w.seen a.number a.blocks a.next a.left) (sym h) (subst (λ z. IsRun l z (f (hand v)).number (f (hand v)).blocks (f (hand v)).next (f (hand v)).left) (sym stored_seen) run);
           open_own = λ u is. let same : (hand v).open_unit ≡ Some u = sym (ap (λ (a : Hand). a.open_unit) h ∙ open_unit) ∙ is in
               subst (λ (z : List Event × ℕ). IsOwnOpen z.0 z.1 u) (λ i. (sym stored_seen i, sym c i)) (s.shows.open_own u same);
         };
@@ -140,14 +145,14 @@ module _ (l : Limits) (body : List ℕ) (stage root u : ℕ) (v a w : View) (s :
 
   draft_steady : Steady l w
   draft_steady = let rest : (hand a).left ≡ (hand v).left = ap (λ (z : Hand). z.left) (body_hand l body v a s stored) in let before = body_steady l body v a s stored in
-      stored_steady l (with_draft D) a w before head refl (run_on l a.seen (hand a).number (hand a).next (hand a).left (omega arith) before.shows.run) refl refl
+      stored_steady l (with_draft D) a w before head refl (run_on l a.seen (hand a).number (hand a).blocks (hand a).next (hand a).left (omega arith) before.shows.run) refl refl
 
   pub draft_wrote : Wrote l (D ∷ []) v w
   draft_wrote = let h = draft_hand in record {
     marks = body_marks l body v a s stored ++ record { kind = kinds.DraftStore; seen = a.seen } ∷ [];
     walk = walked_then l body_steps 1 _ _ v a w (body_walked l body v a s stored) (stored_walked l (with_draft D) a w (body_steady l body v a s stored) head refl refl draft_steady);
     seen = ap (λ (z : View). z.seen) head ∙ body_seen l body v a s stored;
-    run = (ap (λ (z : Hand). z.next) h, (let rest : (hand w).left ≡ (hand v).left - 1 = ap (λ (z : Hand). z.left) h in omega arith));
+    run = (ap (λ (z : Hand). z.next) h, (let rest : (hand w).left ≡ (hand v).left - 1 = ap (λ (z : Hand). z.left) h in omega arith), ap (λ (z : Hand). z.blocks) h);
     claimed = ap (λ (z : Hand). z.claimed) h;
     mine = ap (λ (z : Hand). z.mine) h;
     drafts = ap (λ (z : Hand). z.drafts) h;
@@ -168,7 +173,7 @@ module _ (l : Limits) (body : List ℕ) (stage : ℕ) (v a w : View) (s : Steady
   pub made_steady : Steady l w
   made_steady = grew_steady l kinds.Publish (with_birth E) (E ∷ []) a w before_steady g refl
 
-  pub made_walked : Walked l submit_steps (body_marks l body v a s stored ++ record { kind = kinds.Publish; seen = w.seen } ∷ []) v w
+  pub made_walked : Walked l next_steps (body_marks l body v a s stored ++ record { kind = kinds.Publish; seen = w.seen } ∷ []) v w
   made_walked = walked_then l body_steps 1 _ _ v a w (body_walked l body v a s stored) (grew_walked l kinds.Publish (with_birth E) (E ∷ []) a w before_steady g refl refl refl made_steady)
 
   -- the element is born in what is seen afterwards
@@ -188,7 +193,7 @@ module _ (l : Limits) (body : List ℕ) (stage : ℕ) (v a w : View) (s : Steady
 
 pub made_rests : (l : Limits) (body : List ℕ) (stage : ℕ) (seat next : SeatShown) (a : View) → (same : (view_of seat).limits ≡ l) → (s : Steady l (view_of seat)) → (stored : a ≡ bodied body (view_of seat)) → Publishes a stage (view_of next)
     → 0 < (hand (view_of seat)).left → (number : ℕ) (run : Run) (used : ℕ) (task : Option Task) → Rests seat number run used task
-    → Rests next number (record { next = run.next + 1; left = run.left - 1 }) used task
+    → Rests next number (record { next = run.next + 1; left = run.left - 1; drawn = run.drawn }) used task
 made_rests l body stage seat next a same s stored g room number run used task r =
     let v : View = view_of seat in let w : View = view_of next in
     let h = made_all l body stage v a w s stored g room in
@@ -199,10 +204,11 @@ made_rests l body stage seat next a same s stored g room number run used task r 
       steady = steady_at l w.limits w lim steady;
       number_is = ap (λ (z : Hand). z.number) h ∙ r.number_is;
       run_is = (ap (λ (z : Hand). z.next) h ∙ ap (λ n. n + 1) r.run_is.0, ap (λ (z : Hand). z.left) h ∙ ap (λ n. n - 1) r.run_is.1);
+      drawn = drawn_later v w run.drawn (sym (same ∙ lim)) walk.knows r.drawn;
       used_is = ap (λ (z : Hand). z.claimed) h ∙ r.used_is;
       used_below = subst (λ (z : Limits). used ≤ z.units) (same ∙ lim) r.used_below;
       claims = ap (λ (z : Hand). claims_in z.mine) h ∙ (claims_append (hand v).mine (birth a stage ∷ []) ∙ (let c = r.claims in omega arith));
       no_drafts = ap (λ (z : Hand). z.drafts) h;
       open_is = ap (λ (z : Hand). z.open_unit) h ∙ r.open_is;
-      work = task_later v.seen w.seen number task (walked_begins l submit_steps _ v w walk) r.work;
+      work = task_later v.seen w.seen number task (walked_begins l next_steps _ v w walk) r.work;
     }

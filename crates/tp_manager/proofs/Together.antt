@@ -60,8 +60,8 @@ module _ (l : Limits) (v o j m w x : View) (sv : Steady l v) (join : j ≡ joine
   met_open : (a : Hand) → In a m.hands → (u : ℕ) → a.open_unit ≡ Some u → IsOwnOpen w.seen a.number u
   met_open a p u is = subst (λ h. IsOwnOpen h a.number u) (sym first_seen) (g.open_own a p u is)
 
-  met_run : (a : Hand) → In a m.hands → IsRun l w.seen a.number a.next a.left
-  met_run a p = subst (λ h. IsRun l h a.number a.next a.left) (sym first_seen) (subst (λ (z : Limits). IsRun z m.seen a.number a.next a.left) (ap (λ (z : View). z.limits) join ∙ sv.pass.1) (g.run a p))
+  met_run : (a : Hand) → In a m.hands → IsRun l w.seen a.number a.blocks a.next a.left
+  met_run a p = subst (λ h. IsRun l h a.number a.blocks a.next a.left) (sym first_seen) (subst (λ (z : Limits). IsRun z m.seen a.number a.blocks a.next a.left) (ap (λ (z : View). z.limits) join ∙ sv.pass.1) (g.run a p))
 
   in_others : (a : Hand) → In a x.hands → In a m.hands
   in_others a p = subst (In a) (sym met_hands) (there (subst (In a) second_hands p))
@@ -86,7 +86,7 @@ module _ (l : Limits) (v o j m w x : View) (sv : Steady l v) (join : j ≡ joine
       (subst (λ (z : Limits). IsLegal z w.seen) (ap (λ (z : View). z.limits) join ∙ sv.pass.1) (subst (IsLegal j.limits) (sym first_seen) g.legal)) met_begins
       (ap (λ (a : Hand). a.mine) h ∙ (met_mine A A_in ∙ ap (λ (a : Hand). events_by a.number w.seen) (sym h)))
       (λ u is. subst (λ (a : Hand). IsOwnOpen w.seen a.number u) (sym h) (met_open A A_in u (sym (ap (λ (a : Hand). a.open_unit) h) ∙ is)))
-      (ap (λ (a : Hand). a.number) h) (subst (λ (a : Hand). IsRun l w.seen a.number a.next a.left) (sym h) (met_run A A_in)) (λ z q. met_known z (subst (λ (u : View). Knows u z) first q))
+      (ap (λ (a : Hand). a.number) h) (subst (λ (a : Hand). IsRun l w.seen a.number a.blocks a.next a.left) (sym h) (met_run A A_in)) (λ z q. met_known z (subst (λ (u : View). Knows u z) first q))
 
   met_trace : (hand w).trace ≡ (hand v).trace ++ seat_load v.seen ∷ load w.seen ∷ seat_load w.seen ∷ []
   met_trace = ap (λ (a : Hand). a.trace) first_is ∙ (append_assoc ((hand v).trace ++ seat_load v.seen ∷ []) (load m.seen ∷ []) (seat_load m.seen ∷ []) ∙ (append_assoc (hand v).trace (seat_load v.seen ∷ []) (load m.seen ∷ seat_load m.seen ∷ [])
@@ -158,7 +158,7 @@ module _ (l : Limits) (p q r s t o x : View) (h g : List Event) (sp : Steady l p
   t_steady = let k = t_is in steady_seen l p t sp (t_hands ∙ ap (λ (a : Hand). a ∷ []) (sym k)) (ap (λ (z : View). z.limits) first ∙ look.limits) (subst (IsLegal l) (sym t_seen) legal) t_begins
       (ap (λ (a : Hand). a.mine) k ∙ (look.mine N N_in ∙ (ap (events_by N.number) (sym t_seen) ∙ ap (λ (a : Hand). events_by a.number t.seen) (sym k))))
       (λ u is. subst (λ (a : Hand). IsOwnOpen t.seen a.number u) (sym k) (subst (λ z. IsOwnOpen z N.number u) (sym t_seen) (look.open_own N N_in u (sym (ap (λ (a : Hand). a.open_unit) k) ∙ is))))
-      (ap (λ (a : Hand). a.number) k) (subst (λ (a : Hand). IsRun l t.seen a.number a.next a.left) (sym k) (subst (λ z. IsRun l z N.number N.next N.left) (sym t_seen) (look.run N N_in))) (λ z i. let e = first in subst (λ h. IsSo l h z) (look.seen ∙ sym t_seen) (look.known z (subst (λ (u : View). Knows u z) first i)))
+      (ap (λ (a : Hand). a.number) k) (subst (λ (a : Hand). IsRun l t.seen a.number a.blocks a.next a.left) (sym k) (subst (λ z. IsRun l z N.number N.blocks N.next N.left) (sym t_seen) (look.run N N_in))) (λ z i. let e = first in subst (λ h. IsSo l h z) (look.seen ∙ sym t_seen) (look.known z (subst (λ (u : View). Knows u z) first i)))
 
   all_known : (z : Known) → In z (q.known ++ o.known) → Knows s z
   all_known z i = look.knows z (subst (λ (u : View). Knows u z) (sym join) i)

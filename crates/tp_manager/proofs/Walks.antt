@@ -39,8 +39,8 @@ module _ (l : Limits) (kind : StepKind) (f : Hand → Hand) (es : List Event) (v
   grew_open : (u : ℕ) → (hand w).open_unit ≡ Some u → IsOwnOpen w.seen (hand w).number u
   grew_open = g.open_own (hand w) (subst (λ (hs : List Hand). In (hand w) hs) (sym grew_one.0) here)
 
-  grew_run : IsRun l w.seen (hand w).number (hand w).next (hand w).left
-  grew_run = subst (λ (z : Limits). IsRun z w.seen (hand w).number (hand w).next (hand w).left) s.pass.1 (g.run (hand w) (subst (λ (hs : List Hand). In (hand w) hs) (sym grew_one.0) here))
+  grew_run : IsRun l w.seen (hand w).number (hand w).blocks (hand w).next (hand w).left
+  grew_run = subst (λ (z : Limits). IsRun z w.seen (hand w).number (hand w).blocks (hand w).next (hand w).left) s.pass.1 (g.run (hand w) (subst (λ (hs : List Hand). In (hand w) hs) (sym grew_one.0) here))
 
   pub grew_steady : (f (hand v)).number ≡ (hand v).number → Steady l w
   grew_steady number = let h = grew_hand in record {

@@ -1,25 +1,35 @@
 -- How many atomic steps the calls make at most. Each is what the call can need, and no more.
 use Rattle.std.specs.Prelude.{ℕ, zero, suc, ◌+◌, ◌-◌, ◌*◌, ◌≤◌, List, slice_index}
 use Rattle.tp_model.specs.declared.types.Limits.{Limits}
-use Rattle.tp_model.specs.Steps.{AreLimits, rows_of, tries, changes}
+use Rattle.tp_model.specs.Steps.{AreLimits, part_rows, rows_of, tries, changes}
 use Rattle.tp_model.specs.Words.{ClaimWord, FreeWord, TakenWord, KilledWord, AgainWord}
-use Rattle.tp_model.specs.declared.types.TheConstants.{BODY_WORDS, MOST_ROUNDS}
+use Rattle.tp_model.specs.declared.types.TheConstants.{BLOCK_ROWS, BODY_WORDS, MOST_ROUNDS}
 
 -- the words of an element's body
 abbrev pub body_steps : ℕ
 body_steps = BODY_WORDS
 
--- a client's element: its body, and its head
-abbrev pub submit_steps : ℕ
-submit_steps = body_steps + 1
+-- a spare block: each exchange of the counter of drawn blocks that fails finds it higher
+abbrev pub draw_steps : Limits → ℕ
+draw_steps l = l.spare
+
+-- a client's element in the next row: its body, and its head
+abbrev pub next_steps : ℕ
+next_steps = body_steps + 1
+
+abbrev pub submit_steps : Limits → ℕ
+submit_steps l = draw_steps l + next_steps
 
 -- the drafts of k outputs, each a body and a head
 abbrev pub draft_steps : ℕ → ℕ
 draft_steps k = (body_steps + 1) * k
 
 -- those, and the unit's word
-abbrev pub commit_steps : ℕ → ℕ
-commit_steps k = draft_steps k + 1
+abbrev pub close_steps : ℕ → ℕ
+close_steps k = draft_steps k + 1
+
+abbrev pub commit_steps : Limits → ℕ → ℕ
+commit_steps l k = draw_steps l + close_steps k
 
 -- the unit's word
 abbrev pub abort_steps : ℕ
@@ -65,9 +75,18 @@ renew_steps = 3
 abbrev pub requeue_steps : ℕ
 requeue_steps = birth_steps + renew_steps
 
--- a round of a cancel: a kill at every row
+-- the load of the counter of drawn blocks, where there are so many spare blocks
+abbrev pub drawn_steps : ℕ → ℕ
+drawn_steps zero = 0
+drawn_steps (suc spare) = 1
+
+-- a scan of the spare blocks, with t steps at each row: that load, and those at every row
+abbrev pub spare_steps : Limits → ℕ → ℕ
+spare_steps l t = drawn_steps l.spare + BLOCK_ROWS * l.spare * t
+
+-- a round of a cancel: a kill at every row of the parts, and then of the spare blocks
 abbrev pub round_steps : Limits → ℕ
-round_steps l = rows_of l * kill_steps l
+round_steps l = part_rows l * kill_steps l + spare_steps l (kill_steps l)
 
 -- whether the root is born, and the mark of each part; then each round but the last finds more rows of the family than the
 -- one before it
@@ -82,11 +101,15 @@ look_steps l = birth_steps + status_steps l
 abbrev pub find_steps : Limits → ℕ
 find_steps l = 1 + l.rows * look_steps l
 
+-- in every part, and in the spare blocks
+abbrev pub listing_steps : Limits → ℕ
+listing_steps l = l.parts * find_steps l + spare_steps l (look_steps l)
+
 abbrev pub reply_steps : Limits → ℕ
-reply_steps l = l.parts * find_steps l
+reply_steps l = listing_steps l
 
 abbrev pub next_error_steps : Limits → ℕ
-next_error_steps l = l.parts * find_steps l
+next_error_steps l = listing_steps l
 
 -- what a claim makes at a row: the same look, the body, and the exchange
 abbrev pub try_steps : Limits → ℕ
@@ -96,9 +119,9 @@ try_steps l = look_steps l + body_steps + 1
 abbrev pub part_steps : Limits → ℕ
 part_steps l = 1 + l.rows * try_steps l + 1
 
--- the choice of a unit, and those in every part
+-- the choice of a unit, and those in every part and in the spare blocks
 abbrev pub claim_steps : Limits → ℕ
-claim_steps l = 1 + l.parts * part_steps l
+claim_steps l = 1 + (l.parts * part_steps l + spare_steps l (try_steps l))
 
 -- a pass that remembers marks looks at no row below them. In the first n parts so many rows are
 abbrev pub low_sum : List ℕ → ℕ → ℕ
@@ -116,10 +139,10 @@ rows_left l lows = rows_of l - low_sum lows l.parts
 
 -- so a claim, and a listing
 abbrev pub claim_steps_left : Limits → List ℕ → ℕ
-claim_steps_left l lows = 1 + rows_left l lows * try_steps l + 2 * l.parts
+claim_steps_left l lows = 1 + rows_left l lows * try_steps l + 2 * l.parts + drawn_steps l.spare
 
 abbrev pub listing_steps_left : Limits → List ℕ → ℕ
-listing_steps_left l lows = rows_left l lows * look_steps l + l.parts
+listing_steps_left l lows = rows_left l lows * look_steps l + l.parts + drawn_steps l.spare
 
 -- a meeting: the first joins, looks and parts, and the second is there at the look
 abbrev pub meet_steps : ℕ
@@ -151,18 +174,18 @@ account_steps l n = first_steps l n + 2 * led_steps * (n - 1) + kept_steps * (l.
 
 -- the bounds as round numbers over the limits
 pub record RoundBounds (l : Limits) : Type 0 where
-  pub submit : submit_steps ≤ 6
-  pub claim : claim_steps l ≤ rows_of l * (2 * changes l.attempts + 11) + 2 * l.parts + 1
-  pub claim_left : (lows : List ℕ) → claim_steps_left l lows ≤ (rows_of l - low_sum lows l.parts) * (2 * changes l.attempts + 11) + 2 * l.parts + 1
-  pub listing_left : (lows : List ℕ) → listing_steps_left l lows ≤ (rows_of l - low_sum lows l.parts) * (2 * changes l.attempts + 8) + l.parts
-  pub commit : (k : ℕ) → commit_steps k ≤ 6 * k + 3
+  pub submit : submit_steps l ≤ 6 + l.spare
+  pub claim : claim_steps l ≤ rows_of l * (2 * changes l.attempts + 11) + 2 * l.parts + 1 + drawn_steps l.spare
+  pub claim_left : (lows : List ℕ) → claim_steps_left l lows ≤ (rows_of l - low_sum lows l.parts) * (2 * changes l.attempts + 11) + 2 * l.parts + 1 + drawn_steps l.spare
+  pub listing_left : (lows : List ℕ) → listing_steps_left l lows ≤ (rows_of l - low_sum lows l.parts) * (2 * changes l.attempts + 8) + l.parts + drawn_steps l.spare
+  pub commit : (k : ℕ) → commit_steps l k ≤ 6 * k + 3 + l.spare
   pub abort : abort_steps ≤ 2
   pub kill : kill_steps l ≤ 4 * changes l.attempts + 8
   pub requeue : requeue_steps ≤ 8
   pub cancel : 1 ≤ rows_of l → cancel_steps l ≤ (rows_of l + 2) * (rows_of l * (4 * changes l.attempts + 12) + 2 * l.parts + 1)
   pub read : read_steps l ≤ 2 * changes l.attempts + 10
-  pub reply : reply_steps l ≤ rows_of l * (2 * changes l.attempts + 8) + l.parts
-  pub next_error : next_error_steps l ≤ rows_of l * (2 * changes l.attempts + 8) + l.parts
+  pub reply : reply_steps l ≤ rows_of l * (2 * changes l.attempts + 8) + l.parts + drawn_steps l.spare
+  pub next_error : next_error_steps l ≤ rows_of l * (2 * changes l.attempts + 8) + l.parts + drawn_steps l.spare
   pub meet : meet_steps ≤ 3
   pub account : AreLimits l → (n : ℕ) → n ≤ l.parts
       → account_steps l n ≤ rows_of l * (2 * changes l.attempts + 10) + 2 * l.parts

@@ -18,12 +18,13 @@ use Rattle.tp_model.specs.declared.types.Status.TheVariants.{Waiting, Held}
 use Rattle.tp_model.specs.declared.types.Status.TheVariants as statuses
 use Rattle.tp_model.specs.declared.types.Refusal.{Refusal}
 use Rattle.tp_model.specs.declared.types.Refusal.TheVariants as refusals
+use Rattle.tp_model.specs.declared.types.TheConstants.{BLOCK_ROWS}
 use Rattle.tp_model.specs.declared.event.Event.{Event}
 use Rattle.tp_model.specs.declared.event.Event.TheVariants.{Enqueue, Claim, Commit, Abort, Kill}
 use Rattle.tp_model.specs.declared.trace.TraceEntry.{TraceEntry}
 use Rattle.tp_model.specs.History.{In, IsClaim, IsUnborn, UnitEnd, claim_of, element_of, end_of, first_id, status_of}
 use Rattle.tp_model.specs.Births.{outputs, request}
-use Rattle.tp_model.specs.Steps.{IsServerStage, tries}
+use Rattle.tp_model.specs.Steps.{IsServerStage, block_first, tries}
 use Rattle.tp_model.specs.Passes.{HasLook, IsPassView, IsPoint, opening_of}
 use Rattle.tp_manager.specs.Shown.{PassShown, Rises, view_in}
 
@@ -55,13 +56,37 @@ HasLooked old new = HasLook (steps_of old new)
 abbrev pub AtPoint : PassShown → PassShown → (List Event → Type 0) → Type 0
 AtPoint old new Holds = (point : List Event) × IsPoint (opening old new) new.seen point × Holds point
 
--- the pass has used none of the rows that are left to it
+-- the pass has used none of the rows that are left to it, and has drawn no spare block
 abbrev pub KeepsRun : PassShown → PassShown → Type 0
-KeepsRun old new = (new.next ≡ old.next) × (new.left ≡ old.left)
+KeepsRun old new = (new.next ≡ old.next) × (new.left ≡ old.left) × (new.blocks ≡ old.blocks)
 
--- the pass has used k of them
-abbrev pub UsesRows : ℕ → PassShown → PassShown → Type 0
-UsesRows k old new = (new.next ≡ old.next + k) × (new.left + k ≡ old.left)
+-- the pass has used k of the rows that were left to it, from row `first` on
+pub record UsesRun (k first : ℕ) (old new : PassShown) : Type 0 where
+  pub room : k ≤ old.left
+  pub first_is : first ≡ old.next
+  pub next : new.next ≡ first + k
+  pub left : new.left + k ≡ old.left
+  pub blocks : new.blocks ≡ old.blocks
+
+-- too few were left to it: it has drawn a spare block, and used the first k rows of that; what was left stays unused
+pub record UsesBlock (k first : ℕ) (old new : PassShown) : Type 0 where
+  pub few : old.left < k
+  pub block : ℕ
+  pub first_is : first ≡ block_first old.limits block
+  pub next : new.next ≡ first + k
+  pub left : new.left + k ≡ BLOCK_ROWS
+  pub blocks : new.blocks ≡ old.blocks ++ block ∷ []
+
+-- the pass has used k rows, from row `first` on
+abbrev pub UsesRows : ℕ → ℕ → PassShown → PassShown → Type 0
+UsesRows k first old new = UsesRun k first old new ⊎ UsesBlock k first old new
+
+-- the pass has too few rows left for k more, and has found all spare blocks drawn: it has changed in nothing else but by the
+-- exchanges that failed, of which there is none where there are no spare blocks
+pub record FindsNoBlock (k : ℕ) (old new : PassShown) : Type 0 where
+  pub few : old.left < k
+  pub same : new ≡ record old { trace = new.trace; seen_blocks = old.limits.spare }
+  pub none : old.limits.spare ≡ 0 → new ≡ old
 
 -- the pass made no event, its open unit is the same, and it has used no row
 pub record IsQuiet (old new : PassShown) : Type 0 where
@@ -87,16 +112,15 @@ Reads l id old new look = AtPoint old new (IsLook l id look) × (element_of new.
 -- the pass has used its next row for a client's element, which is born
 pub record Submits (id stage : ℕ) (body : List ℕ) (old new : PassShown) : Type 0 where
   pub stage_is : IsServerStage stage
-  pub id_is : id ≡ old.next
   pub adds : Adds (Enqueue old.number (request id stage body)) old new
   pub is_born : element_of new.seen id ≡ Some (request id stage body)
   pub open_unit : new.open_unit ≡ old.open_unit
-  pub run : UsesRows 1 old new
+  pub run : UsesRows 1 id old new
 
--- why a submit was refused: the stage is no server's, or else no row is left to the pass
-abbrev pub SubmitRefused : ℕ → PassShown → Refusal → Type 0
-SubmitRefused stage old e = ((e ≡ refusals.BadStage) × ¬ IsServerStage stage)
-    ⊎ ((e ≡ refusals.Full) × IsServerStage stage × (old.left ≡ 0))
+-- why a submit was refused: the stage is no server's, or else there is no row for the pass
+abbrev pub SubmitRefused : ℕ → PassShown → PassShown → Refusal → Type 0
+SubmitRefused stage old new e = ((e ≡ refusals.BadStage) × (¬ IsServerStage stage) × (new ≡ old))
+    ⊎ ((e ≡ refusals.Full) × IsServerStage stage × FindsNoBlock 1 old new)
 
 -- how many claims there are among the events
 abbrev pub one_claim : Event → ℕ
@@ -143,12 +167,11 @@ EndedByOther c u h = (d : ℕ) × In (Abort d u) h × ¬ (d ≡ c)
 abbrev pub HasEnded : List Event → ℕ → Type 0
 HasEnded h u = (how : UnitEnd) × (end_of h u ≡ Some how)
 
--- the pass had unit u open, has none open now, has seen how u ended, and has used k rows
-pub record Closes (u k : ℕ) (old new : PassShown) : Type 0 where
+-- the pass had unit u open, has none open now, and has seen how u ended
+pub record Closes (u : ℕ) (old new : PassShown) : Type 0 where
   pub was_open : old.open_unit ≡ Some u
   pub open_unit : new.open_unit ≡ None
   pub ended : HasEnded new.seen u
-  pub run : UsesRows k old new
 
 -- the pass made no event, since another had aborted its unit
 abbrev pub Loses : ℕ → PassShown → PassShown → Type 0
@@ -156,41 +179,38 @@ Loses u old new = (new.mine ≡ old.mine) × EndedByOther old.number u new.seen
 
 -- what an abort answers
 abbrev pub Ends : PassShown → PassShown → Ended → Type 0
-Ends old new endeds.Aborted = (u : ℕ) × Closes u 0 old new × Adds (Abort old.number u) old new
-Ends old new endeds.Already = (u : ℕ) × Closes u 0 old new × Loses u old new
+Ends old new endeds.Aborted = (u : ℕ) × Closes u old new × KeepsRun old new × Adds (Abort old.number u) old new
+Ends old new endeds.Already = (u : ℕ) × Closes u old new × KeepsRun old new × Loses u old new
 
 -- the element that unit u of pass c took has this root
 abbrev pub IsRoot : List Event → ℕ → ℕ → ℕ → Type 0
 IsRoot h c u root = (i : ℕ) × (n : ℕ) × (x : Element) × IsClaim h c u i n
     × (element_of h i ≡ Some x) × (x.root ≡ root)
 
--- the outputs that these drafts become: in the next rows of the pass, made by unit u, with this root
-abbrev pub outputs_from : PassShown → ℕ → ℕ → List DraftView → List Element
-outputs_from old u root drafts = outputs u root old.next drafts
-
 -- the element that the unit took is consumed by it
 abbrev pub HasConsumed : Limits → ℕ → ℕ → List Event → Type 0
 HasConsumed l c u h = (i : ℕ) × (n : ℕ) × IsClaim h c u i n × (status_of l.attempts h i ≡ statuses.Consumed u)
 
--- the unit is committed with the drafts, which are born
+-- the unit is committed with the drafts, which are born in the rows that the pass has used for them
 pub record Commits (first count : ℕ) (drafts : List DraftView) (old new : PassShown) : Type 0 where
   pub unit : ℕ
   pub root : ℕ
+  pub row : ℕ
   pub root_is : IsRoot old.seen old.number unit root
-  pub closes : Closes unit (length drafts) old new
-  pub adds : Adds (Commit old.number unit (outputs_from old unit root drafts)) old new
+  pub closes : Closes unit old new
+  pub run : UsesRows (length drafts) row old new
+  pub adds : Adds (Commit old.number unit (outputs unit root row drafts)) old new
   pub consumed : HasConsumed old.limits old.number unit new.seen
-  pub first_is : first ≡ first_id (outputs_from old unit root drafts)
+  pub first_is : first ≡ first_id (outputs unit root row drafts)
   pub count_is : count ≡ length drafts
 
 -- what a commit answers
 abbrev pub Settles : List DraftView → PassShown → PassShown → Outcome → Type 0
-Settles drafts old new outcomes.Full = (old.left < length drafts)
-    × ((u : ℕ) × Closes u 0 old new × (Adds (Abort old.number u) old new ⊎ Loses u old new))
-Settles drafts old new outcomes.Lost = (length drafts ≤ old.left)
-    × ((u : ℕ) × Closes u (length drafts) old new × Loses u old new)
-Settles drafts old new (outcomes.Committed first count) = (length drafts ≤ old.left)
-    × Commits first count drafts old new
+Settles drafts old new outcomes.Full = (old.left < length drafts) × (new.seen_blocks ≡ old.limits.spare)
+    × ((u : ℕ) × Closes u old new × KeepsRun old new × (Adds (Abort old.number u) old new ⊎ Loses u old new))
+Settles drafts old new outcomes.Lost = (u : ℕ) × Closes u old new × (row : ℕ) × UsesRows (length drafts) row old new
+    × Loses u old new
+Settles drafts old new (outcomes.Committed first count) = Commits first count drafts old new
 
 -- the event is an Abort by pass c, between two histories, of a unit that held element i where the Abort stands
 pub record IsOfHolder (l : Limits) (c i : ℕ) (from to : List Event) (e : Event) : Type 0 where

@@ -10,5 +10,6 @@ pub mod Lists
 pub mod Finds
 pub mod Cancels
 pub mod Rounds
+pub mod Draws
 pub mod Accounts
 pub mod Together

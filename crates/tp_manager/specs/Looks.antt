@@ -4,7 +4,7 @@ use Rattle.tp_model.specs.declared.types.Element.{Element}
 use Rattle.tp_model.specs.declared.types.Limits.{Limits}
 use Rattle.tp_model.specs.declared.event.Event.{Event}
 use Rattle.tp_model.specs.History.{IsUnborn, element_of}
-use Rattle.tp_model.specs.Steps.{IsRowOf, rows_of, tries}
+use Rattle.tp_model.specs.Steps.{IsArea, rows_of, tries}
 use Rattle.tp_model.specs.Words.{ClaimWord, FreeWord, TakenWord, KilledWord, AgainWord}
 use Rattle.tp_words.specs.declared.words.Head.{Head}
 use Rattle.tp_words.specs.declared.words.Head.TheVariants.{There}
@@ -24,11 +24,11 @@ pub record HeadFound (v : View) (i : ℕ) (head : Head) : Type 0 where
   pub draft : IsUnborn v.seen i → IsDraft head
   pub knows : Knows v (RowHead i head)
 
--- a scan goes on from row i to the row `next`, which is behind it, and at most the first one behind its part
+-- a scan goes on from row i to the row `next`, which is behind it, and at most the first one behind its part or spare block
 pub record GoesOn (l : Limits) (i next : ℕ) : Type 0 where
   pub on : i < next
   pub inside : next ≤ rows_of l
-  pub part : (c : ℕ) → IsRowOf l c i → next ≤ c * l.rows + l.rows
+  pub area : (first end : ℕ) → IsArea l first end → first ≤ i → i < end → next ≤ end
 
 -- an element with this head is born in row i
 abbrev pub IsThere : List Event → ℕ → Birth → Type 0

@@ -8,7 +8,7 @@ use Rattle.tp_model.specs.declared.types.Status.TheVariants.{Consumed, Killed}
 use Rattle.tp_model.specs.declared.event.Event.{Event}
 use Rattle.tp_model.specs.History.{element_of, status_of}
 use Rattle.tp_model.specs.Families.{IsSettledFamily}
-use Rattle.tp_model.specs.Steps.{most_rows, rows_of}
+use Rattle.tp_model.specs.Steps.{most_rows, part_rows, rows_of}
 use Rattle.tp_rule.specs.Steps.{Knows}
 use Rattle.tp_rule.specs.Views.{hand}
 use Rattle.tp_rule.specs.declared.view.Known.TheVariants.{PartMark}
@@ -67,9 +67,9 @@ AreKnown l marks v = (p : ℕ) → p < l.parts → Knows v (PartMark p (slice_in
 abbrev pub row_at_mark : Limits → List ℕ → ℕ → ℕ
 row_at_mark l marks i = i / l.rows * l.rows + slice_index marks (i / l.rows)
 
--- whether a round looks at row i: it isn't below the mark of its part
+-- whether a round looks at row i: it is a spare one, or isn't below the mark of its part
 abbrev pub is_looked : Limits → List ℕ → ℕ → Bool
-is_looked l marks i = nat_le (row_at_mark l marks i) i
+is_looked l marks i = nat_le (part_rows l) i || nat_le (row_at_mark l marks i) i
 
 -- the same of the rows below `rows` that are looked at: at least as many as there were before, and at most as many as are
 -- done with after

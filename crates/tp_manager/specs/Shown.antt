@@ -23,7 +23,8 @@ pub record KeeperShown : Type 0 where
   pub seen : List Event
   pub steps : ℕ
 
--- a pass shows these, what the definitions say that a pass shows, and the mark of each part as it last loaded or set it
+-- a pass shows these, what the definitions say that a pass shows, the mark of each part as it last loaded or set it, and so how
+-- many spare blocks are drawn
 pub record PassShown : Type 0 where
   pub table : TableId
   pub limits : Limits
@@ -33,8 +34,10 @@ pub record PassShown : Type 0 where
   pub open_unit : Option ℕ
   pub next : ℕ
   pub left : ℕ
+  pub blocks : List ℕ
   pub trace : List TraceEntry
   pub lows : List ℕ
+  pub seen_blocks : ℕ
 
 -- the steps of these passes, all together
 abbrev pub steps_in : List Hand → ℕ
@@ -50,6 +53,7 @@ view_in p = record {
   open_unit = p.open_unit;
   next = p.next;
   left = p.left;
+  blocks = p.blocks;
   trace = p.trace;
 }
 
@@ -69,13 +73,14 @@ IsOf m p = (p.table ≡ m.table) × (p.limits ≡ m.limits)
 abbrev pub IsKeptBy : ManagerShown → KeeperShown → Type 0
 IsKeptBy m k = (k.table ≡ m.table) × (k.limits ≡ m.limits)
 
--- where a pass is, and the marks that it remembers
+-- where a pass is, and what it remembers of marks and of the counter of drawn blocks
 pub record Spot : Type 0 where
   pub table : TableId
   pub lows : List ℕ
+  pub drawn : ℕ
 
-abbrev pub spot : TableId → List ℕ → Spot
-spot table lows = record { table = table; lows = lows }
+abbrev pub spot : TableId → List ℕ → ℕ → Spot
+spot table lows drawn = record { table = table; lows = lows; drawn = drawn }
 
 -- a pass there that knows this
 abbrev pub shown : Spot → View → PassShown
@@ -88,6 +93,8 @@ shown at v = record {
   open_unit = (hand v).open_unit;
   next = (hand v).next;
   left = (hand v).left;
+  blocks = (hand v).blocks;
   trace = (hand v).trace;
   lows = at.lows;
+  seen_blocks = at.drawn;
 }

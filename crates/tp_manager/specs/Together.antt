@@ -34,7 +34,7 @@ pub record LooksOn (l : Limits) (h : List Event) (v w : View) : Type 0 where
   pub hands : w.hands ≡ map (noted kinds.Load h) v.hands
   pub mine : (a : Hand) → In a w.hands → a.mine ≡ events_by a.number h
   pub open_own : (a : Hand) → In a w.hands → (u : ℕ) → a.open_unit ≡ Some u → IsOwnOpen h a.number u
-  pub run : (a : Hand) → In a w.hands → IsRun l h a.number a.next a.left
+  pub run : (a : Hand) → In a w.hands → IsRun l h a.number a.blocks a.next a.left
   pub known : IsKnown l w
   pub knows : (x : Known) → Knows v x → Knows w x
 

@@ -1,23 +1,23 @@
 -- What the view of a pass keeps over some of a call's steps. In each definition l are the table's limits, v is the
 -- view before, and w the view after.
-use Rattle.std.specs.Prelude.{◌≡◌, ◌≢◌, ◌⊎◌, ℕ, ◌+◌, ◌-◌, ◌*◌, ◌<◌, ◌≤◌, List, [], ◌∷◌, ◌++◌, length, map, Option, Some, None, slice_index}
+use Rattle.std.specs.Prelude.{◌≡◌, ◌≢◌, ◌⊎◌, ℕ, ◌+◌, ◌-◌, ◌*◌, ◌<◌, ◌≤◌, List, [], ◌∷◌, ◌++◌, length, map, Option, Some, None, slice_index, false}
 use mathlib.Core.List.{IsPrefix}
 use Rattle.tp_model.specs.declared.types.Element.{Element}
 use Rattle.tp_model.specs.declared.types.Limits.{Limits}
 use Rattle.tp_model.specs.declared.event.Event.{Event}
 use Rattle.tp_model.specs.declared.trace.TraceEntry.{TraceEntry}
-use Rattle.tp_model.specs.History.{IsClaim, element_of, events_by, status_of}
+use Rattle.tp_model.specs.History.{IsClaim, IsUnborn, element_of, events_by, status_of}
 use Rattle.tp_model.specs.Drafts.{DraftView}
-use Rattle.tp_model.specs.Passes.{HasLook, PassView, IsPassView, opening_of}
-use Rattle.tp_model.specs.Steps.{AreLimits, IsLegal}
+use Rattle.tp_model.specs.Passes.{HasLook, PassView, IsPassView, looks, opening_of}
+use Rattle.tp_model.specs.Steps.{AreLimits, IsLegal, block_first, rows_of}
 use Rattle.tp_rule.specs.Views.{SeatShown, IsOnePass, fresh_from, hand, view_of}
 use Rattle.tp_rule.specs.declared.view.Hand.{Hand}
 use Rattle.tp_rule.specs.declared.view.View.{View}
 use Rattle.tp_manager.specs.declared.manager.Run.{Run}
 use Rattle.tp_manager.specs.declared.manager.Task.{Task}
-use Rattle.tp_rule.specs.Steps.{IsDone, IsSo, Knows, claimed, with_claim}
+use Rattle.tp_rule.specs.Steps.{IsDone, IsSo, Knows, claimed, with_block, with_claim}
 use Rattle.tp_rule.specs.declared.view.Known.{Known}
-use Rattle.tp_rule.specs.declared.view.Known.TheVariants.{PartMark}
+use Rattle.tp_rule.specs.declared.view.Known.TheVariants.{BlocksDrawn, PartMark}
 use Rattle.tp_manager.specs.Bounds.{draft_steps}
 use Rattle.tp_manager.specs.Shown.{Rises}
 use Rattle.tp_manager.specs.Calls.{IsWaiting, claims_in}
@@ -31,6 +31,7 @@ pass_in v = record {
   open_unit = (hand v).open_unit;
   next = (hand v).next;
   left = (hand v).left;
+  blocks = (hand v).blocks;
   trace = (hand v).trace;
 }
 
@@ -55,6 +56,11 @@ pub record Walked (l : Limits) (n : ℕ) (marks : List TraceEntry) (v w : View) 
   -- what was known is known
   pub knows : (x : Known) → Knows v x → Knows w x
 
+-- none of these steps looks
+abbrev pub AreBlind : List TraceEntry → Type 0
+AreBlind [] = Unit {0}
+AreBlind (step ∷ steps) = (looks step.kind ≡ false) × AreBlind steps
+
 -- the pass with this trace
 abbrev pub with_trace : List TraceEntry → Hand → Hand
 with_trace t a = record a { trace = t }
@@ -67,11 +73,11 @@ pub record Looked (l : Limits) (n : ℕ) (v w : View) : Type 0 where
 
 -- the pass has used none of the rows that are left to it
 abbrev pub SameRun : Hand → Hand → Type 0
-SameRun a b = (b.next ≡ a.next) × (b.left ≡ a.left)
+SameRun a b = (b.next ≡ a.next) × (b.left ≡ a.left) × (b.blocks ≡ a.blocks)
 
 -- the pass has used k of them
 abbrev pub UsedRows : ℕ → Hand → Hand → Type 0
-UsedRows k a b = (b.next ≡ a.next + k) × (b.left + k ≡ a.left)
+UsedRows k a b = (b.next ≡ a.next + k) × (b.left + k ≡ a.left) × (b.blocks ≡ a.blocks)
 
 -- at most n steps have changed nothing in the pass but that it has made these events, and let go of what it had
 pub record Gained (l : Limits) (n : ℕ) (es : List Event) (v w : View) : Type 0 where
@@ -101,11 +107,16 @@ IsTask h c None = Unit {0}
 IsTask h c (Some t) = (i : ℕ) × (n : ℕ) × (x : Element) × IsClaim h c t.unit i n
     × (element_of h i ≡ Some x) × (x.root ≡ t.root)
 
+-- the seat knows that so many spare blocks are drawn, where these are any
+abbrev pub RemembersDrawn : View → ℕ → Type 0
+RemembersDrawn v drawn = (drawn ≤ v.limits.spare) × (0 < drawn → Knows v (BlocksDrawn drawn))
+
 -- what is so of every pass between two calls
 pub record Rests (seat : SeatShown) (number : ℕ) (run : Run) (used : ℕ) (task : Option Task) : Type 0 where
   pub steady : Steady (view_of seat).limits (view_of seat)
   pub number_is : (hand (view_of seat)).number ≡ number
   pub run_is : ((hand (view_of seat)).next ≡ run.next) × ((hand (view_of seat)).left ≡ run.left)
+  pub drawn : RemembersDrawn (view_of seat) run.drawn
   pub used_is : (hand (view_of seat)).claimed ≡ used
   pub used_below : used ≤ (view_of seat).limits.units
   -- each used unit is in an own claim
@@ -184,6 +195,26 @@ pub record Took (l : Limits) (n stage u : ℕ) (v w : View) (e : Element) (attem
   pub ends : w.seen ≡ before ++ claimed v u e.id attempt ∷ []
   pub born : element_of w.seen e.id ≡ Some e
   pub of_stage : e.stage ≡ stage
+
+-- no row from row `end` on has an element
+abbrev pub NoneBehind : Limits → ℕ → View → Type 0
+NoneBehind l end v = (i : ℕ) → end ≤ i → i < rows_of l → IsUnborn v.seen i
+
+-- in at most n steps, of which none looks, the pass has drawn spare block b, whose rows are its run by now
+pub record Drew (l : Limits) (n b : ℕ) (v w : View) : Type 0 where
+  pub marks : List TraceEntry
+  pub walk : Walked l n marks v w
+  pub blind : AreBlind marks
+  pub hand_is : hand w ≡ with_trace (hand w).trace (with_block b (block_first l b) (hand v))
+  pub seen : w.seen ≡ v.seen
+
+-- in at most n steps, of which none looks, the pass has done nothing
+pub record Tried (l : Limits) (n : ℕ) (v w : View) : Type 0 where
+  pub marks : List TraceEntry
+  pub walk : Walked l n marks v w
+  pub blind : AreBlind marks
+  pub hand_is : hand w ≡ with_trace (hand w).trace (hand v)
+  pub seen : w.seen ≡ v.seen
 
 -- in at most n steps the pass has used k rows and closed its open unit, with its own events es at the end
 pub record Shut (l : Limits) (n k : ℕ) (es : List Event) (v w : View) : Type 0 where

@@ -6,18 +6,19 @@
 ghost use Rattle.std.specs.Prelude.{◌≡◌, ◌≢◌, ◌+◌, ◌*◌, ◌<◌, ◌≤◌, ℕ, MatchResult, None, true, false};
 ghost use Rattle.tp_model.specs.declared.types.Element.{Element as element};
 ghost use Rattle.tp_model.specs.History.{IsUnborn};
-ghost use Rattle.tp_model.specs.Steps.{rows_of};
+ghost use Rattle.tp_model.specs.Steps.{part_rows, rows_of};
 ghost use Rattle.tp_words.specs.Words.{head_of};
 ghost use Rattle.tp_rule.specs.Steps.{HasElement};
+ghost use Rattle.tp_rule.specs.declared.view.View.{View};
 ghost use Rattle.tp_rule.specs.Views.{hand_of, seen_by, view_of, IsSameSeat};
 ghost use Rattle.tp_rule.specs.Tables.{limits_of, IsSeatOf};
 ghost use Rattle.tp_manager.specs.Shown.{IsOf, Rises};
-ghost use Rattle.tp_manager.specs.Bounds.{cancel_steps, kill_steps, round_steps};
+ghost use Rattle.tp_manager.specs.Bounds.{cancel_steps, kill_steps, round_steps, spare_steps};
 ghost use Rattle.tp_manager.specs.Calls.{Follows, HasLooked};
 ghost use Rattle.tp_manager.specs.Cancels.{Cancels, CancelFails};
 ghost use Rattle.tp_manager.specs.Rounds.{is_looked, row_at_mark, AreKnown, CancelsIn, Tallied, TalliedAt};
 ghost use Rattle.tp_manager.specs.Looks.{GoesOn};
-ghost use Rattle.tp_manager.specs.Walks.{Looked, Remembers, Steady};
+ghost use Rattle.tp_manager.specs.Walks.{Looked, Remembers, RemembersDrawn, Steady};
 
 use crate::manager::{Manager, Pass, Shared};
 use tp_model::types::{Cancelled, Refusal};
@@ -113,7 +114,7 @@ impl Shared {
     /// The first row of this row's part that isn't below the part's mark.
     #[inline(always)]
     fn row_at_mark(&self, marks: &[u16; 32], row: u32) -> u32
-        requires row { row < rows_of (limits_of self.now.words) }
+        requires row { row < part_rows (limits_of self.now.words) }
         ensures { result ≡ row_at_mark (limits_of self.now.words) marks.now row }
     {
         let rows = self.places.limits.rows as u32;
@@ -121,20 +122,20 @@ impl Shared {
         part * rows + marks[part as usize] as u32
     }
 
-    /// Goes once through all rows that are not below the marks.
-    fn cancel_round(&self, seat: &mut Seat, root: u32, marks: &[u16; 32]) -> Tally
+    /// Goes once through the rows of the parts that are not below the marks.
+    fn cancel_parts(&self, seat: &mut Seat, root: u32, marks: &[u16; 32]) -> Tally
         requires own { IsSeatOf self.now.words seat.old }
         requires steady { Steady (limits_of self.now.words) (view_of seat.old) }
         requires free { (hand_of seat.old).open_unit ≡ None }
         requires known { AreKnown (limits_of self.now.words) marks.now (view_of seat.old) }
         ensures same { IsSameSeat seat.old seat.new }
         ensures told { let l = limits_of self.now.words in
-            Tallied l (round_steps l) root (is_looked l marks.now) (rows_of l) result.found result.killed
+            Tallied l (part_rows l * kill_steps l) root (is_looked l marks.now) (part_rows l) result.found result.killed
             (view_of seat.old) (view_of seat.new) }
     {
         let mut found = 0;
         let mut killed = 0;
-        let rows = self.places.rows();
+        let rows = self.places.part_rows();
         let mut row = 0;
         while row < rows {
             let first = self.row_at_mark(marks, row);
@@ -149,15 +150,81 @@ impl Shared {
         Tally { found, killed }
     }
 
-    /// Goes through those rows until a round finds as many elements of the family as the one before it. How many elements
-    /// it killed.
-    fn cancel_family(&self, seat: &mut Seat, root: u32, marks: &[u16; 32]) -> u32
+    /// Goes once through the spare blocks, behind a look at the parts that came to this tally, and adds to it.
+    fn cancel_blocks(
+        &self,
+        seat: &mut Seat,
+        drawn: &mut u16,
+        root: u32,
+        marks: &[u16; 32],
+        tally: Tally,
+    ) -> Tally
         requires own { IsSeatOf self.now.words seat.old }
         requires steady { Steady (limits_of self.now.words) (view_of seat.old) }
+        requires drawn { RemembersDrawn (view_of seat.old) drawn.old }
+        requires free { (hand_of seat.old).open_unit ≡ None }
+        requires few { (tally.found ≤ part_rows (limits_of self.now.words)) × (tally.killed ≤ part_rows (limits_of self.now.words)) }
+        ensures same { IsSameSeat seat.old seat.new }
+        ensures drawn { RemembersDrawn (view_of seat.new) drawn.new }
+        ensures told { let l = limits_of self.now.words in (v : View) (n : ℕ)
+            → Tallied l n root (is_looked l marks.now) (part_rows l) tally.found tally.killed v (view_of seat.old)
+            → Tallied l (n + spare_steps l (kill_steps l)) root (is_looked l marks.now) (rows_of l)
+            result.found result.killed v (view_of seat.new) }
+    {
+        let Some(end) = self.blocks_end(seat, drawn) else {
+            return tally;
+        };
+        let mut found = tally.found;
+        let mut killed = tally.killed;
+        let mut row = self.places.part_rows();
+        while row < end {
+            let tally = self.cancel_row(seat, &mut row, root);
+            found += tally.found;
+            killed += tally.killed;
+        }
+        Tally { found, killed }
+    }
+
+    /// Goes once through all rows that are not below the marks.
+    fn cancel_round(
+        &self,
+        seat: &mut Seat,
+        drawn: &mut u16,
+        root: u32,
+        marks: &[u16; 32],
+    ) -> Tally
+        requires own { IsSeatOf self.now.words seat.old }
+        requires steady { Steady (limits_of self.now.words) (view_of seat.old) }
+        requires drawn { RemembersDrawn (view_of seat.old) drawn.old }
+        requires free { (hand_of seat.old).open_unit ≡ None }
+        requires known { AreKnown (limits_of self.now.words) marks.now (view_of seat.old) }
+        ensures same { IsSameSeat seat.old seat.new }
+        ensures drawn { RemembersDrawn (view_of seat.new) drawn.new }
+        ensures told { let l = limits_of self.now.words in
+            Tallied l (round_steps l) root (is_looked l marks.now) (rows_of l) result.found result.killed
+            (view_of seat.old) (view_of seat.new) }
+    {
+        let tally = self.cancel_parts(seat, root, marks);
+        self.cancel_blocks(seat, drawn, root, marks, tally)
+    }
+
+    /// Goes through those rows until a round finds as many elements of the family as the one before it. How many elements
+    /// it killed.
+    fn cancel_family(
+        &self,
+        seat: &mut Seat,
+        drawn: &mut u16,
+        root: u32,
+        marks: &[u16; 32],
+    ) -> u32
+        requires own { IsSeatOf self.now.words seat.old }
+        requires steady { Steady (limits_of self.now.words) (view_of seat.old) }
+        requires drawn { RemembersDrawn (view_of seat.old) drawn.old }
         requires request { HasElement (seen_by seat.old) root }
         requires free { (hand_of seat.old).open_unit ≡ None }
         requires known { AreKnown (limits_of self.now.words) marks.now (view_of seat.old) }
         ensures same { IsSameSeat seat.old seat.new }
+        ensures drawn { RemembersDrawn (view_of seat.new) drawn.new }
         ensures told { let l = limits_of self.now.words in
             CancelsIn l ((rows_of l + 1) * round_steps l) root result (view_of seat.old) (view_of seat.new) }
     {
@@ -165,7 +232,7 @@ impl Shared {
         let mut found = 0;
         let mut killed = 0;
         for _past in 0..rows + 1 {
-            let tally = self.cancel_round(seat, root, marks);
+            let tally = self.cancel_round(seat, drawn, root, marks);
             killed += tally.killed;
             if tally.found == found {
                 return killed;
@@ -206,7 +273,7 @@ impl Manager {
             return Err(Refusal::NotThere);
         }
         shared.load_marks(seat, &mut pass.lows);
-        let killed = shared.cancel_family(seat, root, &pass.lows);
+        let killed = shared.cancel_family(seat, &mut pass.run.drawn, root, &pass.lows);
         Ok(Cancelled { killed })
     }
 }

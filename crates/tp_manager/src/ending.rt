@@ -1,7 +1,7 @@
 //! The end of a server's unit of work.
 ghost use Rattle.std.specs.Prelude.{◌≡◌, ◌≤◌, None, IfSome, IsSome, length};
 ghost use Rattle.tp_manager.specs.Shown.{IsOf};
-ghost use Rattle.tp_manager.specs.Bounds.{abort_steps, commit_steps};
+ghost use Rattle.tp_manager.specs.Bounds.{abort_steps, close_steps, commit_steps};
 ghost use Rattle.tp_manager.specs.Calls.{Ends, Follows, HasEnded, Settles};
 
 use crate::manager::{Manager, Pass, Run};
@@ -18,6 +18,7 @@ impl Manager {
         ensures free { pass.new.open_unit ≡ None }
         ensures ended { IfSome pass.old.open_unit (HasEnded pass.new.seen) }
         ensures answer { Ends pass.old pass.new result }
+        ensures kept { pass.new.seen_blocks ≡ pass.old.seen_blocks }
     {
         let shared = &self.shared;
         let seat = &mut pass.seat;
@@ -36,44 +37,30 @@ impl Manager {
         }
     }
 
-    /// Commits the open unit of work with at most four drafts: in one step its element is consumed and the drafts are
-    /// born, with the ids of the pass's next rows. `Full` where the pass has fewer rows left than drafts: the unit is
-    /// aborted, and no row is used. `Lost` where another caller had aborted the unit: the rows of the drafts are used
-    /// up. Whatever the answer, the pass has no unit open any more.
-    pub fn commit(&self, pass: &mut Pass, drafts: &[Draft]) -> Outcome
+    /// Commits the open unit of work with drafts for which the pass has rows left.
+    fn close(&self, pass: &mut Pass, drafts: &[Draft]) -> Outcome
         requires own { IsOf self.now pass.old }
         requires busy { IsSome pass.old.open_unit }
         requires few { length drafts.now ≤ 4 }
+        requires room { length drafts.now ≤ pass.old.left }
         ensures own { IsOf self.now pass.new }
-        ensures follows { Follows (commit_steps (length drafts.now)) pass.old pass.new }
-        ensures free { pass.new.open_unit ≡ None }
-        ensures ended { IfSome pass.old.open_unit (HasEnded pass.new.seen) }
+        ensures follows { Follows (close_steps (length drafts.now)) pass.old pass.new }
         ensures answer { Settles drafts.now pass.old pass.new result }
+        ensures kept { pass.new.seen_blocks ≡ pass.old.seen_blocks }
     {
         let shared = &self.shared;
         let seat = &mut pass.seat;
         let Some(task) = pass.task else {
             unreachable!();
         };
-        let Run { next, left } = pass.run;
+        let Run { next, left, drawn } = pass.run;
         let count = drafts.len() as u16;
-        if count > left {
-            match shared.words.abort_exchange(seat, task.unit) {
-                Ok(()) => {
-                    pass.task = None;
-                    return Outcome::Full;
-                }
-                Err(_) => {
-                    pass.task = None;
-                    return Outcome::Full;
-                }
-            }
-        }
         shared.write_all(seat, next as u32, drafts, task.root, task.unit);
         let first = if count == 0 { 0 } else { next };
         let rest = Run {
             next: next + count,
             left: left - count,
+            drawn,
         };
         if shared
             .words
@@ -90,5 +77,26 @@ impl Manager {
             pass.task = None;
             Outcome::Lost
         }
+    }
+
+    /// Commits the open unit of work with at most four drafts: in one step its element is consumed and the drafts are
+    /// born, with ids one after another: in the next rows of the pass, or of a spare block that it draws where too few are left to it.
+    /// `Full` where all blocks are drawn: the unit is aborted, and no row is used. `Lost` where another caller had aborted the unit:
+    /// the rows of the drafts are used up. Whatever the answer, the pass has no unit open any more.
+    pub fn commit(&self, pass: &mut Pass, drafts: &[Draft]) -> Outcome
+        requires own { IsOf self.now pass.old }
+        requires busy { IsSome pass.old.open_unit }
+        requires few { length drafts.now ≤ 4 }
+        ensures own { IsOf self.now pass.new }
+        ensures follows { Follows (commit_steps self.now.limits (length drafts.now)) pass.old pass.new }
+        ensures free { pass.new.open_unit ≡ None }
+        ensures ended { IfSome pass.old.open_unit (HasEnded pass.new.seen) }
+        ensures answer { Settles drafts.now pass.old pass.new result }
+    {
+        if self.has_room(pass, drafts.len() as u16) {
+            return self.close(pass, drafts);
+        }
+        self.abort(pass);
+        Outcome::Full
     }
 }

@@ -6,6 +6,7 @@ mod bounds;
 mod cancelling;
 mod claiming;
 mod drafting;
+mod drawing;
 mod ending;
 mod killing;
 mod listing;

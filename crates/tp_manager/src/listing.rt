@@ -2,16 +2,16 @@
 ghost use Rattle.std.specs.Prelude.{◌≡◌, ◌⊎◌, ◌+◌, ◌-◌, ◌*◌, ◌<◌, ◌≤◌, slice_index, IfSome, MatchOption, true, false};
 ghost use Rattle.tp_model.specs.declared.types.Element.{Element as element};
 ghost use Rattle.tp_model.specs.declared.types.Status.{Status as status};
-ghost use Rattle.tp_model.specs.Steps.{rows_of, IsRowOf};
+ghost use Rattle.tp_model.specs.Steps.{part_rows, rows_of, IsRowOf};
 ghost use Rattle.tp_rule.specs.Views.{seen_by, view_of, IsSameSeat};
 ghost use Rattle.tp_rule.specs.Tables.{limits_of, IsSeatOf};
 ghost use Rattle.tp_words.specs.Words.{head_of};
 ghost use Rattle.tp_manager.specs.Shown.{IsOf, Rises};
-ghost use Rattle.tp_manager.specs.Bounds.{listing_steps_left, look_steps, next_error_steps, reply_steps, scan_steps};
+ghost use Rattle.tp_manager.specs.Bounds.{listing_steps_left, look_steps, next_error_steps, reply_steps, scan_steps, spare_steps};
 ghost use Rattle.tp_manager.specs.Calls.{Follows, HasLooked, IsQuiet};
 ghost use Rattle.tp_manager.specs.Lists.{AllKilled, NoneParked, NextReply, NextError};
 ghost use Rattle.tp_manager.specs.Looks.{GoesOn};
-ghost use Rattle.tp_manager.specs.Walks.{Acted, EachRow, Remembers, RisesAt, Sought, Steady};
+ghost use Rattle.tp_manager.specs.Walks.{Acted, Begun, EachRow, Remembers, RemembersDrawn, RisesAt, Sought, Steady};
 ghost use Rattle.tp_manager.specs.Finds.{Finds, Hits, IsWanted, PassedOver};
 
 use crate::looking::Birth;
@@ -131,18 +131,23 @@ impl Shared {
         None
     }
 
-    /// The first row from this one on whose element is looked for.
-    fn find(&self, seat: &mut Seat, lows: &mut [u16; 32], from: u32, wanted: Wanted) -> Option<u32>
+    /// The first row of the parts, from this one on, whose element is looked for.
+    fn find_in_parts(
+        &self,
+        seat: &mut Seat,
+        lows: &mut [u16; 32],
+        from: u32,
+        wanted: Wanted,
+    ) -> Option<u32>
         requires own { IsSeatOf self.now.words seat.old }
         requires steady { Steady (limits_of self.now.words) (view_of seat.old) }
-        requires from { from < rows_of (limits_of self.now.words) }
+        requires from { from < part_rows (limits_of self.now.words) }
         requires remembers { Remembers (view_of seat.old) lows.old }
         ensures same { IsSameSeat seat.old seat.new }
         ensures remembers { Remembers (view_of seat.new) lows.new }
         ensures lows { Rises lows.old lows.new }
-        ensures inside { IfSome result (λ id. id < rows_of (limits_of self.now.words)) }
         ensures told { let l = limits_of self.now.words in
-            Finds l wanted (scan_steps l (look_steps l) 1 lows.old l.parts) from (rows_of l) (view_of seat.old) (view_of seat.new) result }
+            Finds l wanted (scan_steps l (look_steps l) 1 lows.old l.parts) from (part_rows l) (view_of seat.old) (view_of seat.new) result }
     {
         let rows = self.places.limits.rows as u32;
         let mut row = from;
@@ -156,6 +161,71 @@ impl Shared {
             }
         }
         None
+    }
+
+    /// The first row of the spare blocks, from this one on, whose element is looked for.
+    fn find_in_blocks(
+        &self,
+        seat: &mut Seat,
+        drawn: &mut u16,
+        from: u32,
+        wanted: Wanted,
+    ) -> Option<u32>
+        requires own { IsSeatOf self.now.words seat.old }
+        requires steady { Steady (limits_of self.now.words) (view_of seat.old) }
+        requires drawn { RemembersDrawn (view_of seat.old) drawn.old }
+        requires from { let l = limits_of self.now.words in (part_rows l ≤ from) × (from ≤ rows_of l) }
+        ensures same { IsSameSeat seat.old seat.new }
+        ensures drawn { RemembersDrawn (view_of seat.new) drawn.new }
+        ensures told { let l = limits_of self.now.words in
+            let n = spare_steps l (look_steps l) in let P = PassedOver l wanted in MatchOption result
+            (Begun l P n from (rows_of l) (view_of seat.old) (view_of seat.new))
+            (λ id. (from ≤ id) × (id < rows_of l) × Hits l wanted id (seen_by seat.new)
+            × Sought l n (EachRow P from id) (view_of seat.old) (view_of seat.new)) }
+    {
+        let Some(end) = self.blocks_end(seat, drawn) else {
+            return None;
+        };
+        let mut row = from;
+        while row < end {
+            let here = row;
+            if self.is_wanted_at(seat, &mut row, wanted) {
+                return Some(here);
+            }
+        }
+        None
+    }
+
+    /// The first row from this one on whose element is looked for.
+    fn find(
+        &self,
+        seat: &mut Seat,
+        lows: &mut [u16; 32],
+        drawn: &mut u16,
+        from: u32,
+        wanted: Wanted,
+    ) -> Option<u32>
+        requires own { IsSeatOf self.now.words seat.old }
+        requires steady { Steady (limits_of self.now.words) (view_of seat.old) }
+        requires from { from < rows_of (limits_of self.now.words) }
+        requires remembers { Remembers (view_of seat.old) lows.old }
+        requires drawn { RemembersDrawn (view_of seat.old) drawn.old }
+        ensures same { IsSameSeat seat.old seat.new }
+        ensures remembers { Remembers (view_of seat.new) lows.new }
+        ensures drawn { RemembersDrawn (view_of seat.new) drawn.new }
+        ensures lows { Rises lows.old lows.new }
+        ensures inside { IfSome result (λ id. id < rows_of (limits_of self.now.words)) }
+        ensures told { let l = limits_of self.now.words in let t = look_steps l in
+            Finds l wanted (scan_steps l t 1 lows.old l.parts + spare_steps l t) from (rows_of l) (view_of seat.old) (view_of seat.new) result }
+    {
+        let parts = self.places.part_rows();
+        if from >= parts {
+            return self.find_in_blocks(seat, drawn, from, wanted);
+        }
+        if let Some(id) = self.find_in_parts(seat, lows, from, wanted) {
+            return Some(id);
+        }
+        self.find_in_blocks(seat, drawn, parts, wanted)
     }
 }
 
@@ -178,7 +248,7 @@ impl Manager {
             return None;
         }
         self.shared
-            .find(seat, &mut pass.lows, from, Wanted::Reply { root })
+            .find(seat, &mut pass.lows, &mut pass.run.drawn, from, Wanted::Reply { root })
     }
 
     /// The least id from this one on of an element, of whatever stage, that was found to be parked.
@@ -198,6 +268,7 @@ impl Manager {
         if from >= self.shared.places.rows() {
             return None;
         }
-        self.shared.find(seat, &mut pass.lows, from, Wanted::Error)
+        self.shared
+            .find(seat, &mut pass.lows, &mut pass.run.drawn, from, Wanted::Error)
     }
 }

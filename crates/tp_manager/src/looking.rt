@@ -3,14 +3,14 @@ ghost use Rattle.std.specs.Prelude.{◌≡◌, ◌<◌, ◌≤◌, ℕ, slice_in
 ghost use Rattle.tp_words.specs.declared.words.Head.TheVariants.{Empty, There};
 ghost use Rattle.tp_model.specs.History.{IsUnborn, element_of, status_of};
 ghost use Rattle.tp_model.specs.declared.types.Element.{Element};
-ghost use Rattle.tp_model.specs.Steps.{rows_of, units_of};
+ghost use Rattle.tp_model.specs.Steps.{part_rows, rows_of, units_of};
 ghost use Rattle.tp_model.specs.Words.{claim_word};
 ghost use Rattle.tp_words.specs.Words.{claim_value, IsFitClaim};
 ghost use Rattle.tp_rule.specs.Views.{seen_by, view_of, IsSameSeat};
 ghost use Rattle.tp_rule.specs.declared.view.Known.TheVariants.{PartMark};
 ghost use Rattle.tp_rule.specs.Tables.{limits_of, IsSeatOf};
 ghost use Rattle.tp_rule.specs.Steps.{IsLow, Knows, NoneFrom};
-ghost use Rattle.tp_manager.specs.Walks.{Acted, Looked, Remembers, RisesAt, Steady};
+ghost use Rattle.tp_manager.specs.Walks.{Acted, Looked, NoneBehind, Remembers, RemembersDrawn, RisesAt, Steady};
 ghost use Rattle.tp_manager.specs.Bounds.{body_steps, retry_steps, status_steps};
 ghost use Rattle.tp_manager.specs.Looks.{Contains, GoesOn, HeadFound, IsThere, IsEnough};
 
@@ -74,7 +74,7 @@ impl Shared {
     }
 
     /// What the head of a row says, as a scan goes through the rows: `row` goes on to the next row, or where the
-    /// head is empty to the next part, since nothing is born in between. One step.
+    /// head is empty to the next part or spare block, since nothing is born in between. One step.
     #[inline(always)]
     pub(crate) fn head_on(&self, seat: &mut Seat, row: &mut u32) -> Head
         requires own { IsSeatOf self.now.words seat.old }
@@ -89,11 +89,32 @@ impl Shared {
         let here = *row;
         let head = self.head_at(seat, here);
         *row = if head == Head::Empty {
-            self.places.part_end(here)
+            self.places.area_end(here)
         } else {
             here + 1
         };
         head
+    }
+
+    /// The row behind the spare blocks that are drawn: nothing is born from there on. One step; none, and `None`, where there are
+    /// no spare blocks.
+    pub(crate) fn blocks_end(&self, seat: &mut Seat, drawn: &mut u16) -> Option<u32>
+        requires own { IsSeatOf self.now.words seat.old }
+        requires steady { Steady (limits_of self.now.words) (view_of seat.old) }
+        requires drawn { RemembersDrawn (view_of seat.old) drawn.old }
+        ensures same { IsSameSeat seat.old seat.new }
+        ensures drawn { RemembersDrawn (view_of seat.new) drawn.new }
+        ensures told { let l = limits_of self.now.words in MatchOption result
+            ((l.spare ≡ 0) × (seat.new ≡ seat.old))
+            (λ end. (0 < l.spare) × Acted l 1 (view_of seat.old) (view_of seat.new)
+            × (part_rows l ≤ end) × (end ≤ rows_of l) × NoneBehind l end (view_of seat.new)) }
+    {
+        if self.places.limits.spare == 0 {
+            return None;
+        }
+        let found = self.words.load_drawn(seat);
+        *drawn = found;
+        Some(self.places.block_first(found))
     }
 
     /// What the row holds whose head was just found. At most one more step.

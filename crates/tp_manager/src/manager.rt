@@ -81,11 +81,13 @@ pub(crate) struct Task {
     pub root: u16,
 }
 
-/// The rows that are left to a pass: so many, from the row `next` on.
+/// The rows that are left to a pass: so many, from the row `next` on. And how many spare blocks were drawn, as the pass last
+/// loaded or set it.
 #[derive(Clone, Copy, Debug, PartialEq, Eq)]
 pub(crate) struct Run {
     pub next: u16,
     pub left: u16,
+    pub drawn: u16,
 }
 
 /// What one caller acts through, one call at a time. A pass that is dropped leaves its open unit open: the element
@@ -108,7 +110,7 @@ impl Model for Pass {
 
     ghost use Rattle.tp_manager.specs.Walks.{Remembers, Rests};
 
-    ghost view = { λ p. shown (spot p.seat.table p.lows) p.seat.view };
+    ghost view = { λ p. shown (spot p.seat.table p.lows p.run.drawn) p.seat.view };
 
     ghost invariant = { λ p. Rests p.seat p.number p.run p.used p.task × Remembers p.seat.view p.lows };
 }
@@ -150,9 +152,9 @@ impl Keeper {
             × IsPassView pass.limits (view_in pass)) }
         ensures fresh { IfOk result (λ pass. (pass.number ≡ self.old.given) × (pass.mine ≡ [])
             × (pass.seen ≡ self.old.seen) × (pass.open_unit ≡ None)
-            × ((p : ℕ) → low_of pass p ≡ 0)) }
+            × ((p : ℕ) → low_of pass p ≡ 0) × (pass.seen_blocks ≡ 0)) }
         ensures rows { IfOk result (λ pass. (pass.next ≡ pass.number * pass.limits.rows)
-            × (pass.left ≡ pass.limits.rows)) }
+            × (pass.left ≡ pass.limits.rows) × (pass.blocks ≡ [])) }
         ensures given { IfOk result (λ pass. (self.new.given ≡ self.old.given + 1)
             × (self.new.seen ≡ self.old.seen)) }
         ensures steps { IfOk result (λ pass. length pass.trace + self.new.steps ≡ self.old.steps + 1) }
@@ -172,6 +174,7 @@ impl Keeper {
             run: Run {
                 next: number * rows,
                 left: rows,
+                drawn: 0,
             },
             used: 0,
             task: None,
@@ -200,6 +203,15 @@ impl Pass {
         }
     }
 
+    /// How many spare blocks were drawn, by all passes together, as this pass last found or made it, and 0 before. They never
+    /// get fewer.
+    pub fn seen_blocks(&self) -> u16
+        ensures answer { result ≡ self.now.seen_blocks }
+        ensures inside { result ≤ self.now.limits.spare }
+    {
+        self.run.drawn
+    }
+
     /// Whether the pass has a unit of work open: claimed, and neither committed nor aborted by its own calls.
     pub fn has_open(&self) -> bool
         ensures answer { result ≡ is_some self.now.open_unit }
@@ -210,7 +222,7 @@ impl Pass {
 }
 
 impl Manager {
-    /// How many elements the manager has room for, at most 8192.
+    /// How many elements the manager has room for, at most 10,240: as many as its passes have rows, and 8 for each spare block.
     pub fn capacity(&self) -> u32
         ensures { result ≡ rows_of self.now.limits }
     {

@@ -1,17 +1,17 @@
 //! A server's look for work.
 ghost use Rattle.std.specs.Prelude.{◌≡◌, ◌⊎◌, ◌+◌, ◌-◌, ◌*◌, ◌<◌, ◌≤◌, slice_index, MatchOption, true, false};
 ghost use Rattle.tp_model.specs.declared.types.Element.{Element as element};
-ghost use Rattle.tp_model.specs.Steps.{rows_of, IsServerStage};
+ghost use Rattle.tp_model.specs.Steps.{part_rows, rows_of, IsServerStage};
 ghost use Rattle.tp_words.specs.Words.{head_of};
 ghost use Rattle.tp_rule.specs.Views.{seen_by, view_of, IsSameSeat};
 ghost use Rattle.tp_rule.specs.Steps.{Knows};
 ghost use Rattle.tp_rule.specs.declared.view.Known.TheVariants.{PartMark};
 ghost use Rattle.tp_rule.specs.Tables.{limits_of, IsSeatOf};
 ghost use Rattle.tp_model.specs.History.{IsSettled};
-ghost use Rattle.tp_manager.specs.Bounds.{scan_steps, try_steps};
+ghost use Rattle.tp_manager.specs.Bounds.{scan_steps, spare_steps, try_steps};
 ghost use Rattle.tp_manager.specs.Shown.{Rises};
 ghost use Rattle.tp_manager.specs.Looks.{GoesOn};
-ghost use Rattle.tp_manager.specs.Walks.{AreFinished, Steady, Looked, Sought, EachRow, OfPart, PassedBy, Remembers, RisesAt, Rose, IsSpare, Took};
+ghost use Rattle.tp_manager.specs.Walks.{AreFinished, Begun, RemembersDrawn, Steady, Looked, Sought, EachRow, OfPart, PassedBy, Remembers, RisesAt, Rose, IsSpare, Took};
 
 use crate::looking::Contents;
 use crate::manager::Shared;
@@ -221,9 +221,9 @@ impl Shared {
         part
     }
 
-    /// The unit takes the first element that waits in the stage. What the pass knows finished isn't looked at again, but for
-    /// the last part, so that each call looks.
-    pub(crate) fn scan(
+    /// The unit takes the first element of a part that waits in the stage. What the pass knows finished isn't looked at again, but
+    /// for the last part, so that each call looks.
+    fn scan_parts(
         &self,
         seat: &mut Seat,
         lows: &mut [u16; 32],
@@ -240,7 +240,7 @@ impl Shared {
         ensures lows { Rises lows.old lows.new }
         ensures told { let l = limits_of self.now.words in
             let n = scan_steps l (try_steps l) 2 lows.old l.parts in MatchOption result
-            (Sought l n (EachRow (PassedBy l stage) 0 (rows_of l)) (view_of seat.old) (view_of seat.new))
+            (Sought l n (EachRow (PassedBy l stage) 0 (part_rows l)) (view_of seat.old) (view_of seat.new))
             (λ t. Took l n stage unit (view_of seat.old) (view_of seat.new) t.element t.attempt
             × (t.element.root ≡ t.root)) }
     {
@@ -251,5 +251,70 @@ impl Shared {
             }
         }
         None
+    }
+
+    /// The unit takes the first element of the spare blocks that waits in the stage.
+    fn scan_blocks(
+        &self,
+        seat: &mut Seat,
+        drawn: &mut u16,
+        stage: u8,
+        unit: u16,
+    ) -> Option<Taken>
+        requires own { IsSeatOf self.now.words seat.old }
+        requires steady { Steady (limits_of self.now.words) (view_of seat.old) }
+        requires drawn { RemembersDrawn (view_of seat.old) drawn.old }
+        requires stage { IsServerStage stage }
+        requires spare { IsSpare unit (view_of seat.old) × (unit < 65535) }
+        ensures same { IsSameSeat seat.old seat.new }
+        ensures drawn { RemembersDrawn (view_of seat.new) drawn.new }
+        ensures told { let l = limits_of self.now.words in let n = spare_steps l (try_steps l) in MatchOption result
+            (Begun l (PassedBy l stage) n (part_rows l) (rows_of l) (view_of seat.old) (view_of seat.new))
+            (λ t. Took l n stage unit (view_of seat.old) (view_of seat.new) t.element t.attempt
+            × (t.element.root ≡ t.root)) }
+    {
+        let Some(end) = self.blocks_end(seat, drawn) else {
+            return None;
+        };
+        // No mark is raised: this row is before all of them.
+        let mut low = 0;
+        let mut row = self.places.part_rows();
+        while row < end {
+            if let Some(taken) = self.try_row(seat, &mut row, &mut low, stage, unit) {
+                return Some(taken);
+            }
+        }
+        None
+    }
+
+    /// The unit takes the first element that waits in the stage.
+    pub(crate) fn scan(
+        &self,
+        seat: &mut Seat,
+        lows: &mut [u16; 32],
+        drawn: &mut u16,
+        stage: u8,
+        unit: u16,
+    ) -> Option<Taken>
+        requires own { IsSeatOf self.now.words seat.old }
+        requires steady { Steady (limits_of self.now.words) (view_of seat.old) }
+        requires remembers { Remembers (view_of seat.old) lows.old }
+        requires drawn { RemembersDrawn (view_of seat.old) drawn.old }
+        requires stage { IsServerStage stage }
+        requires spare { IsSpare unit (view_of seat.old) × (unit < 65535) }
+        ensures same { IsSameSeat seat.old seat.new }
+        ensures remembers { Remembers (view_of seat.new) lows.new }
+        ensures drawn { RemembersDrawn (view_of seat.new) drawn.new }
+        ensures lows { Rises lows.old lows.new }
+        ensures told { let l = limits_of self.now.words in let t = try_steps l in
+            let n = scan_steps l t 2 lows.old l.parts + spare_steps l t in MatchOption result
+            (Sought l n (EachRow (PassedBy l stage) 0 (rows_of l)) (view_of seat.old) (view_of seat.new))
+            (λ t. Took l n stage unit (view_of seat.old) (view_of seat.new) t.element t.attempt
+            × (t.element.root ≡ t.root)) }
+    {
+        if let Some(taken) = self.scan_parts(seat, lows, stage, unit) {
+            return Some(taken);
+        }
+        self.scan_blocks(seat, drawn, stage, unit)
     }
 }

@@ -58,14 +58,14 @@ invariant_of-self-2 c = let at = (goal.at.invariant_of-self-2 c).After-split_fir
 pub returns-clause-own : goal.returns-clause-own
 returns-clause-own c = λ k d less. let at = (goal.at.returns-clause-own c).After-split_first_mut in let words = c.manager.inside.shared.words in
     let first = first_at (table_of words) (limits_of words) c.args.passes.now c.in-Some.first.now c.in-Some.rest.now c.in-Some.ensures.cases.0 (own at) in
-    let a = all_at (table_of words) (limits_of words) (spot c.first.inside.seat.table c.first.inside.lows) (spot c.count_with.new.first.table c.first.inside.lows) (rises_same c.first.inside.lows) (view_of c.first.inside.seat) (view_of c.count_with.new.first) (view_of c.self.inside.seat) (view_of c.count_with.new.keeper)
+    let a = all_at (table_of words) (limits_of words) (spot c.first.inside.seat.table c.first.inside.lows c.first.inside.run.drawn) (spot c.count_with.new.first.table c.first.inside.lows c.first.inside.run.drawn) (rises_same c.first.inside.lows) (view_of c.first.inside.seat) (view_of c.count_with.new.first) (view_of c.self.inside.seat) (view_of c.count_with.new.keeper)
     c.args.passes.now c.in-Some.rest.now c.count_with.new.passes c.in-Some.first.now c.count_with.result c.in-Some.ensures.cases.0 c.first.view_is c.count_with.ensures.counts
     (c.count_with.ensures.same.0 ∙ (ap (λ (p : PassShown). p.table) c.first.view_is ∙ first.table_is)) k d less in
     (a.table_is ∙ table at, a.limits_are ∙ limits at)
 
 pub returns-clause-steps : goal.returns-clause-steps
 returns-clause-steps c = let at = (goal.at.returns-clause-steps c).After-split_first_mut in let words = c.manager.inside.shared.words in
-    let news : List PassShown = shown (spot c.count_with.new.first.table c.first.inside.lows) (view_of c.count_with.new.first) ∷ c.count_with.new.passes in
+    let news : List PassShown = shown (spot c.count_with.new.first.table c.first.inside.lows c.first.inside.run.drawn) (view_of c.count_with.new.first) ∷ c.count_with.new.passes in
     let after : ℕ = steps_together c.args.passes.now news + steps_in (view_of c.count_with.new.keeper).hands in
     let before : ℕ = steps_in (view_of c.self.inside.seat).hands in
     let out : c.self.inside.given ≡ length c.args.passes.now = ap (λ (k : KeeperShown). k.given) c.self.view_is ∙ sym c.requires.all.0 in
@@ -74,22 +74,22 @@ returns-clause-steps c = let at = (goal.at.returns-clause-steps c).After-split_f
     subst (λ n. after ≤ n + account_steps c.args.manager.now.limits c.args.self.now.given) (ap (λ (k : KeeperShown). k.steps) c.self.view_is)
     (subst (λ (l : Limits). after ≤ before + account_steps l c.args.self.now.given) (limits at)
     (subst (λ n. after ≤ before + account_steps (limits_of words) n) c.requires.all.0
-    (all_steps (table_of words) (limits_of words) (spot c.first.inside.seat.table c.first.inside.lows) (spot c.count_with.new.first.table c.first.inside.lows) (rises_same c.first.inside.lows) (view_of c.first.inside.seat) (view_of c.count_with.new.first) (view_of c.self.inside.seat) (view_of c.count_with.new.keeper)
+    (all_steps (table_of words) (limits_of words) (spot c.first.inside.seat.table c.first.inside.lows c.first.inside.run.drawn) (spot c.count_with.new.first.table c.first.inside.lows c.first.inside.run.drawn) (rises_same c.first.inside.lows) (view_of c.first.inside.seat) (view_of c.count_with.new.first) (view_of c.self.inside.seat) (view_of c.count_with.new.keeper)
     c.args.passes.now c.in-Some.rest.now c.count_with.new.passes c.in-Some.first.now c.count_with.result c.in-Some.ensures.cases.0 c.first.view_is c.count_with.ensures.counts (kept_by (limits_of words) (kept at ∙ sym (limits at))))))
 
 pub returns-clause-all : goal.returns-clause-all
 returns-clause-all c = let words = c.manager.inside.shared.words in
-    all_still (table_of words) (limits_of words) (spot c.first.inside.seat.table c.first.inside.lows) (spot c.count_with.new.first.table c.first.inside.lows) (rises_same c.first.inside.lows) (view_of c.first.inside.seat) (view_of c.count_with.new.first) (view_of c.self.inside.seat) (view_of c.count_with.new.keeper)
+    all_still (table_of words) (limits_of words) (spot c.first.inside.seat.table c.first.inside.lows c.first.inside.run.drawn) (spot c.count_with.new.first.table c.first.inside.lows c.first.inside.run.drawn) (rises_same c.first.inside.lows) (view_of c.first.inside.seat) (view_of c.count_with.new.first) (view_of c.self.inside.seat) (view_of c.count_with.new.keeper)
     c.args.passes.now c.in-Some.rest.now c.count_with.new.passes c.in-Some.first.now c.count_with.result c.in-Some.ensures.cases.0 c.first.view_is c.count_with.ensures.counts
     c.args.self.now c.requires.all record { table = c.count_with.new.keeper.table; limits = c.self.inside.limits; given = c.self.inside.given; seen = seen_by c.count_with.new.keeper; steps = steps_in (view_of c.count_with.new.keeper).hands }
     (ap (λ (k : KeeperShown). k.given) c.self.view_is)
 
 pub returns-clause-account : goal.returns-clause-account
 returns-clause-account c = let at = (goal.at.returns-clause-account c).After-split_first_mut in let words = c.manager.inside.shared.words in
-    let news : List PassShown = shown (spot c.count_with.new.first.table c.first.inside.lows) (view_of c.count_with.new.first) ∷ c.count_with.new.passes in
+    let news : List PassShown = shown (spot c.count_with.new.first.table c.first.inside.lows c.first.inside.run.drawn) (view_of c.count_with.new.first) ∷ c.count_with.new.passes in
     let keeper : KeeperShown = record { table = c.count_with.new.keeper.table; limits = c.self.inside.limits; given = c.self.inside.given; seen = seen_by c.count_with.new.keeper; steps = steps_in (view_of c.count_with.new.keeper).hands } in
     subst (λ (l : Limits). Accounts l c.args.self.now keeper c.args.passes.now news c.count_with.result) (limits at)
-    (accounts (table_of words) (limits_of words) (spot c.first.inside.seat.table c.first.inside.lows) (spot c.count_with.new.first.table c.first.inside.lows) (rises_same c.first.inside.lows) (view_of c.first.inside.seat) (view_of c.count_with.new.first) (view_of c.self.inside.seat) (view_of c.count_with.new.keeper)
+    (accounts (table_of words) (limits_of words) (spot c.first.inside.seat.table c.first.inside.lows c.first.inside.run.drawn) (spot c.count_with.new.first.table c.first.inside.lows c.first.inside.run.drawn) (rises_same c.first.inside.lows) (view_of c.first.inside.seat) (view_of c.count_with.new.first) (view_of c.self.inside.seat) (view_of c.count_with.new.keeper)
     c.args.passes.now c.in-Some.rest.now c.count_with.new.passes c.in-Some.first.now c.count_with.result c.in-Some.ensures.cases.0 c.first.view_is c.count_with.ensures.counts
     c.self.inside.seat c.self.inside.given c.args.self.now keeper (subst (λ (l : Limits). Keeps c.self.inside.seat l c.self.inside.given) (kept at ∙ sym (limits at)) c.self.invariant)
     (ap (λ (k : KeeperShown). k.given) c.self.view_is) refl (sym (ap (λ (k : KeeperShown). k.seen) c.self.view_is)) refl)

@@ -45,18 +45,18 @@ scan-requires-clause-steady c = chose_steady _ _ _ _ (steady (goal.at.scan-requi
 
 pub returns-in_default-clause-follows : goal.returns-in_default-clause-follows
 returns-in_default-clause-follows c = let at = (goal.at.returns-in_default-clause-follows c).After-choose_unit in let l : Limits = limits_of c.self.inside.shared.words in let told = c.in_default.ensures.told in
-    follows (spot c.pass.inside.seat.table c.pass.inside.lows) (spot c.scan.new.seat.table c.scan.new.lows) c.scan.ensures.lows (view_of c.pass.inside.seat) (view_of c.scan.new.seat) c.args.pass.now c.pass.view_is l _ _
+    follows (spot c.pass.inside.seat.table c.pass.inside.lows c.pass.inside.run.drawn) (spot c.scan.new.seat.table c.scan.new.lows c.scan.new.drawn) c.scan.ensures.lows (view_of c.pass.inside.seat) (view_of c.scan.new.seat) c.args.pass.now c.pass.view_is l _ _
     (idle_walked l _ _ (view_of c.choose_unit.new.seat) (steady at) c.choose_unit.ensures.chooses _ c.args.stage _ told) (claim_steps c.args.self.now.limits) (most l c.args.self.now.limits c.pass.inside.lows (limits at))
 
 pub returns-in_default-clause-few : goal.returns-in_default-clause-few
 returns-in_default-clause-few c = let at = (goal.at.returns-in_default-clause-few c).After-choose_unit in let l : Limits = limits_of c.self.inside.shared.words in let told = c.in_default.ensures.told in
-    follows (spot c.pass.inside.seat.table c.pass.inside.lows) (spot c.scan.new.seat.table c.scan.new.lows) c.scan.ensures.lows (view_of c.pass.inside.seat) (view_of c.scan.new.seat) c.args.pass.now c.pass.view_is l _ _
+    follows (spot c.pass.inside.seat.table c.pass.inside.lows c.pass.inside.run.drawn) (spot c.scan.new.seat.table c.scan.new.lows c.scan.new.drawn) c.scan.ensures.lows (view_of c.pass.inside.seat) (view_of c.scan.new.seat) c.args.pass.now c.pass.view_is l _ _
     (idle_walked l _ _ (view_of c.choose_unit.new.seat) (steady at) c.choose_unit.ensures.chooses _ c.args.stage _ told) (claim_steps_left c.args.self.now.limits c.args.pass.now.lows) (few at)
 
 pub returns-in_default-clause-answer : goal.returns-in_default-clause-answer
 returns-in_default-clause-answer c = let at = (goal.at.returns-in_default-clause-answer c).After-choose_unit in let l : Limits = limits_of c.self.inside.shared.words in let told = c.in_default.ensures.told in
-    subst (λ (z : Limits). Claims z c.args.stage c.args.pass.now (shown (spot c.scan.new.seat.table c.scan.new.lows) (view_of c.scan.new.seat)) claimeds.Idle) (limits at)
-    (idle_answer l _ _ (view_of c.choose_unit.new.seat) (steady at) c.choose_unit.ensures.chooses _ c.args.stage _ told _ _ _ _ c.pass.inside.seat (spot c.pass.inside.seat.table c.pass.inside.lows) (spot c.scan.new.seat.table c.scan.new.lows) c.args.pass.now refl (lim at) c.pass.view_is c.pass.invariant.0 (not at))
+    subst (λ (z : Limits). Claims z c.args.stage c.args.pass.now (shown (spot c.scan.new.seat.table c.scan.new.lows c.scan.new.drawn) (view_of c.scan.new.seat)) claimeds.Idle) (limits at)
+    (idle_answer l _ _ (view_of c.choose_unit.new.seat) (steady at) c.choose_unit.ensures.chooses _ c.args.stage _ told _ _ _ _ c.pass.inside.seat (spot c.pass.inside.seat.table c.pass.inside.lows c.pass.inside.run.drawn) (spot c.scan.new.seat.table c.scan.new.lows c.scan.new.drawn) c.args.pass.now refl (lim at) c.pass.view_is c.pass.invariant.0 (not at))
 
 pub invariant_of-pass-in_default : goal.invariant_of-pass-in_default
 invariant_of-pass-in_default c = let at = (goal.at.invariant_of-pass-in_default c).After-choose_unit in let l : Limits = limits_of c.self.inside.shared.words in
@@ -68,17 +68,17 @@ invariant_of-pass-2 c = let at = (goal.at.invariant_of-pass-2 c).After-choose_un
 
 pub returns-clause-follows : goal.returns-clause-follows
 returns-clause-follows c = let at = (goal.at.returns-clause-follows c).After-choose_unit in let l : Limits = limits_of c.self.inside.shared.words in let told = c.in-Some.ensures.told in
-    follows (spot c.pass.inside.seat.table c.pass.inside.lows) (spot c.scan.new.seat.table c.scan.new.lows) c.scan.ensures.lows (view_of c.pass.inside.seat) (view_of c.scan.new.seat) c.args.pass.now c.pass.view_is l _ _
+    follows (spot c.pass.inside.seat.table c.pass.inside.lows c.pass.inside.run.drawn) (spot c.scan.new.seat.table c.scan.new.lows c.scan.new.drawn) c.scan.ensures.lows (view_of c.pass.inside.seat) (view_of c.scan.new.seat) c.args.pass.now c.pass.view_is l _ _
     (took_walked l _ _ (view_of c.choose_unit.new.seat) (steady at) c.choose_unit.ensures.chooses _ _ _ _ _ told.0) (claim_steps c.args.self.now.limits) (most l c.args.self.now.limits c.pass.inside.lows (limits at))
 
 pub returns-clause-few : goal.returns-clause-few
 returns-clause-few c = let at = (goal.at.returns-clause-few c).After-choose_unit in let l : Limits = limits_of c.self.inside.shared.words in let told = c.in-Some.ensures.told in
-    follows (spot c.pass.inside.seat.table c.pass.inside.lows) (spot c.scan.new.seat.table c.scan.new.lows) c.scan.ensures.lows (view_of c.pass.inside.seat) (view_of c.scan.new.seat) c.args.pass.now c.pass.view_is l _ _
+    follows (spot c.pass.inside.seat.table c.pass.inside.lows c.pass.inside.run.drawn) (spot c.scan.new.seat.table c.scan.new.lows c.scan.new.drawn) c.scan.ensures.lows (view_of c.pass.inside.seat) (view_of c.scan.new.seat) c.args.pass.now c.pass.view_is l _ _
     (took_walked l _ _ (view_of c.choose_unit.new.seat) (steady at) c.choose_unit.ensures.chooses _ _ _ _ _ told.0) (claim_steps_left c.args.self.now.limits c.args.pass.now.lows) (few at)
 
 pub returns-clause-answer : goal.returns-clause-answer
 returns-clause-answer c = let at = (goal.at.returns-clause-answer c).After-choose_unit in let l : Limits = limits_of c.self.inside.shared.words in let told = c.in-Some.ensures.told in
     let u : ℕ = c.pass.inside.number * c.self.inside.shared.places.limits.units + c.pass.inside.used in
-    subst (λ (z : Limits). Takes z c.args.stage (record { unit = u; element = c.in-Some.taken.element; attempt = c.in-Some.taken.attempt }) c.args.pass.now (shown (spot c.scan.new.seat.table c.scan.new.lows) (view_of c.scan.new.seat))) (limits at)
-    (took_answer l u _ (view_of c.choose_unit.new.seat) (steady at) c.choose_unit.ensures.chooses _ c.args.stage c.in-Some.taken.attempt _ c.in-Some.taken.element told.0 _ _ _ _ c.pass.inside.seat (spot c.pass.inside.seat.table c.pass.inside.lows) (spot c.scan.new.seat.table c.scan.new.lows) c.args.pass.now refl (lim at) c.pass.view_is
+    subst (λ (z : Limits). Takes z c.args.stage (record { unit = u; element = c.in-Some.taken.element; attempt = c.in-Some.taken.attempt }) c.args.pass.now (shown (spot c.scan.new.seat.table c.scan.new.lows c.scan.new.drawn) (view_of c.scan.new.seat))) (limits at)
+    (took_answer l u _ (view_of c.choose_unit.new.seat) (steady at) c.choose_unit.ensures.chooses _ c.args.stage c.in-Some.taken.attempt _ c.in-Some.taken.element told.0 _ _ _ _ c.pass.inside.seat (spot c.pass.inside.seat.table c.pass.inside.lows c.pass.inside.run.drawn) (spot c.scan.new.seat.table c.scan.new.lows c.scan.new.drawn) c.args.pass.now refl (lim at) c.pass.view_is
     c.pass.invariant.0 (not at) (ap (λ (z : Limits). c.pass.inside.number * z.units + c.pass.inside.used) (sym c.self.inside.shared.same)))

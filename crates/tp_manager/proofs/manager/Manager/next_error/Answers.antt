@@ -26,7 +26,7 @@ whole : (c : After-find) → Acted (limits_of c.self.inside.shared.words) (scan_
 whole c = finds_acted _ wanteds.Error _ c.args.from _ _ _ c.find.result c.find.ensures.told
 
 pub returns-then-from-rows-clause-answer : goal.returns-then-from-rows-clause-answer
-returns-then-from-rows-clause-answer c = let at = (goal.at.returns-then-from-rows-clause-answer c).After-rows in let v = view_of c.pass.inside.seat in let t = (spot c.pass.inside.seat.table c.pass.inside.lows) in
+returns-then-from-rows-clause-answer c = let at = (goal.at.returns-then-from-rows-clause-answer c).After-rows in let v = view_of c.pass.inside.seat in let t = (spot c.pass.inside.seat.table c.pass.inside.lows c.pass.inside.run.drawn) in
     let out : rows_of v.limits ≤ c.args.from = subst (λ (z : Limits). rows_of z ≤ c.args.from) (sym (lim at ∙ c.self.inside.shared.same)) (subst (λ n. n ≤ c.args.from) c.rows.ensures c.if-from-rows.true) in
     subst (λ (l : Limits). NoneParked l (λ i. c.args.from ≤ i) c.args.pass.now (shown t v)) (lim at ∙ limits at) (none_beyond t v c.args.pass.now c.pass.view_is v.limits c.pass.invariant.0.steady c.args.from out)
 
@@ -35,8 +35,8 @@ invariant_of-pass-2 c = let at = goal.at.invariant_of-pass-2 c in
     (rests_looked _ c.pass.inside.seat c.find.new.seat (lim at.After-rows) _ _ _ _ c.pass.invariant.0 _ (looked _ _ _ _ (whole at.After-find)), c.find.ensures.remembers)
 
 within : (c : After-find) (m : ℕ) → scan_steps (limits_of c.self.inside.shared.words) (look_steps (limits_of c.self.inside.shared.words)) 1 c.pass.inside.lows (limits_of c.self.inside.shared.words).parts ≤ m
-    → Follows m c.args.pass.now (shown (spot c.find.new.seat.table c.find.new.lows) (view_of c.find.new.seat))
-within c m le = follows (spot c.pass.inside.seat.table c.pass.inside.lows) (spot c.find.new.seat.table c.find.new.lows) c.find.ensures.lows (view_of c.pass.inside.seat) (view_of c.find.new.seat) c.args.pass.now c.pass.view_is _ _ _ (whole c).walk m le
+    → Follows m c.args.pass.now (shown (spot c.find.new.seat.table c.find.new.lows c.find.new.drawn) (view_of c.find.new.seat))
+within c m le = follows (spot c.pass.inside.seat.table c.pass.inside.lows c.pass.inside.run.drawn) (spot c.find.new.seat.table c.find.new.lows c.find.new.drawn) c.find.ensures.lows (view_of c.pass.inside.seat) (view_of c.find.new.seat) c.args.pass.now c.pass.view_is _ _ _ (whole c).walk m le
 
 pub returns-clause-follows : goal.returns-clause-follows
 returns-clause-follows c = let at = goal.at.returns-clause-follows c in let l = limits_of c.self.inside.shared.words in
@@ -48,17 +48,17 @@ returns-clause-few c = let at = goal.at.returns-clause-few c in let l = limits_o
     (listing_few l c.pass.inside.lows (view_of c.pass.inside.seat) (subst (λ (z : Limits). IsKnown z (view_of c.pass.inside.seat)) (lim at.After-rows) c.pass.invariant.0.steady.known) c.pass.invariant.1))
 
 pub returns-then-from-rows-clause-few : goal.returns-then-from-rows-clause-few
-returns-then-from-rows-clause-few c = let at = (goal.at.returns-then-from-rows-clause-few c).After-rows in let v = view_of c.pass.inside.seat in let t = spot c.pass.inside.seat.table c.pass.inside.lows in
+returns-then-from-rows-clause-few c = let at = (goal.at.returns-then-from-rows-clause-few c).After-rows in let v = view_of c.pass.inside.seat in let t = spot c.pass.inside.seat.table c.pass.inside.lows c.pass.inside.run.drawn in
     follows t t (rises_same c.pass.inside.lows) v v c.args.pass.now c.pass.view_is v.limits 0 [] (walked_none v.limits v c.pass.invariant.0.steady) (listing_steps_left c.args.self.now.limits c.args.pass.now.lows) (omega arith)
 
 pub returns-clause-quiet : goal.returns-clause-quiet
-returns-clause-quiet c = quiet_looked (spot c.pass.inside.seat.table c.pass.inside.lows) (spot c.find.new.seat.table c.find.new.lows) (view_of c.pass.inside.seat) (view_of c.find.new.seat) c.args.pass.now c.pass.view_is _ _ (looked _ _ _ _ (whole (goal.at.returns-clause-quiet c).After-find))
+returns-clause-quiet c = quiet_looked (spot c.pass.inside.seat.table c.pass.inside.lows c.pass.inside.run.drawn) (spot c.find.new.seat.table c.find.new.lows c.find.new.drawn) (view_of c.pass.inside.seat) (view_of c.find.new.seat) c.args.pass.now c.pass.view_is _ _ (looked _ _ _ _ (whole (goal.at.returns-clause-quiet c).After-find))
 
 pub returns-clause-looks : goal.returns-clause-looks
 returns-clause-looks c = λ _. let a = whole (goal.at.returns-clause-looks c).After-find in
-    has_looked (spot c.pass.inside.seat.table c.pass.inside.lows) (spot c.find.new.seat.table c.find.new.lows) (view_of c.pass.inside.seat) (view_of c.find.new.seat) c.args.pass.now c.pass.view_is _ _ _ a.walk a.step
+    has_looked (spot c.pass.inside.seat.table c.pass.inside.lows c.pass.inside.run.drawn) (spot c.find.new.seat.table c.find.new.lows c.find.new.drawn) (view_of c.pass.inside.seat) (view_of c.find.new.seat) c.args.pass.now c.pass.view_is _ _ _ a.walk a.step
 
 pub returns-clause-answer : goal.returns-clause-answer
-returns-clause-answer c = let at = goal.at.returns-clause-answer c in let t' = (spot c.find.new.seat.table c.find.new.lows) in let y = view_of c.find.new.seat in
+returns-clause-answer c = let at = goal.at.returns-clause-answer c in let t' = (spot c.find.new.seat.table c.find.new.lows c.find.new.drawn) in let y = view_of c.find.new.seat in
     subst (λ (l : Limits). MatchOption c.find.result (NoneParked l (λ i. c.args.from ≤ i) c.args.pass.now (shown t' y)) (λ id. NextError l c.args.from id c.args.pass.now (shown t' y))) (limits at.After-rows)
-    (error_answer (spot c.pass.inside.seat.table c.pass.inside.lows) t' (view_of c.pass.inside.seat) y c.args.pass.now c.pass.view_is _ _ c.args.from c.find.result c.find.ensures.told)
+    (error_answer (spot c.pass.inside.seat.table c.pass.inside.lows c.pass.inside.run.drawn) t' (view_of c.pass.inside.seat) y c.args.pass.now c.pass.view_is _ _ c.args.from c.find.result c.find.ensures.told)

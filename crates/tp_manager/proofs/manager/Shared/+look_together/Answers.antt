@@ -55,7 +55,7 @@ returns-clause-look t c = let at = goal.at.returns-clause-look t c in let table 
     c.part.ensures.keeps c.part.ensures.parts)
     (joined_shown l (view_of c.pass.inside.seat) (view_of c.meet_seat-2.new.others) (view_of c.join.new.seat) (view_of c.look_together.new.others) (view_of c.part.new.seat) (view_of c.args.others.now) (view_of c.part.result)
     (seen_by c.meet_seat-2.new.first) (seen_by c.look_together.new.first) s c.meet_seat-2.ensures.others c.meet_seat-2.ensures.saw c.join.ensures.joins c.look_together.ensures.look.others c.look_together.ensures.look.first.walk.steady.shows.legal (more t at.After-part)
-    c.part.ensures.keeps c.part.ensures.parts table (spot c.pass.inside.seat.table c.pass.inside.lows) (spot c.part.new.seat.table c.pass.inside.lows) c.in-Some.pass.now c.pass.view_is
+    c.part.ensures.keeps c.part.ensures.parts table (spot c.pass.inside.seat.table c.pass.inside.lows c.pass.inside.run.drawn) (spot c.part.new.seat.table c.pass.inside.lows c.pass.inside.run.drawn) c.in-Some.pass.now c.pass.view_is
     (c.part.ensures.same ∙ (c.look_together.ensures.same.1 ∙ (c.join.ensures.same ∙ (c.meet_seat-2.ensures.same.1 ∙ (ap (λ (p : PassShown). p.table) c.pass.view_is ∙ (at_table t at.After-meet_seat-2).table_is)))))
     (rises_same c.pass.inside.lows))
     c.look_together.ensures.look.passes

@@ -17,8 +17,8 @@ use Rattle.tp_manager.specs.Walks.{Rests, Steady, Shut, IsTask, unit_in}
 use Rattle.tp_manager.proofs.Walks.{follows, rises_same, remembers}
 use Rattle.tp_manager.proofs.Passes.{steady_at}
 use Rattle.tp_manager.proofs.Shuts.{closed_ended, units_few, own_work, own_count, own_first, wrote_shut, committed_answer, task_claimed, abort_ended, shut_hit, shut_miss, shut_rests, shut_closes, shut_adds, shut_loses}
-use Rattle.tp_manager.proofs.manager.Manager.commit.Goals as goal
-use Rattle.tp_manager.proofs.manager.Manager.commit.Goals.{In-Some, After-write_all, then-count-eq0, else-count-eq0}
+use Rattle.tp_manager.proofs.manager.Manager.close.Goals as goal
+use Rattle.tp_manager.proofs.manager.Manager.close.Goals.{In-Some, After-write_all, then-count-eq0, else-count-eq0}
 
 lim : (c : In-Some) → (view_of c.pass.inside.seat).limits ≡ limits_of c.self.inside.shared.words
 lim c = ap (λ (p : PassShown). p.limits) c.pass.view_is ∙ (c.requires.own.1 ∙ (sym (ap (λ (m : ManagerShown). m.limits) c.self.view_is) ∙ sym c.self.inside.shared.same))
@@ -47,12 +47,12 @@ invariant_of-pass-in-Err c = let i = (goal.at.invariant_of-pass-in-Err c).In-Som
 pub returns-in-Ok-clause-follows : goal.returns-in-Ok-clause-follows
 returns-in-Ok-clause-follows c = let i = (goal.at.returns-in-Ok-clause-follows c).In-Some in let l : Limits = limits_of c.self.inside.shared.words in
     let sh = shut_hit l kinds.AbortExchange _ _ _ refl (steady i) c.in-Ok.ensures.hit in
-    follows (spot c.pass.inside.seat.table c.pass.inside.lows) (spot c.abort_exchange.new.seat.table c.pass.inside.lows) (rises_same c.pass.inside.lows) (view_of c.pass.inside.seat) (view_of c.abort_exchange.new.seat) c.args.pass.now c.pass.view_is l 1 _ sh.walk (commit_steps (length c.args.drafts.now)) (omega arith)
+    follows (spot c.pass.inside.seat.table c.pass.inside.lows c.pass.inside.run.drawn) (spot c.abort_exchange.new.seat.table c.pass.inside.lows c.pass.inside.run.drawn) (rises_same c.pass.inside.lows) (view_of c.pass.inside.seat) (view_of c.abort_exchange.new.seat) c.args.pass.now c.pass.view_is l 1 _ sh.walk (commit_steps (length c.args.drafts.now)) (omega arith)
 
 pub returns-in-Err-clause-follows : goal.returns-in-Err-clause-follows
 returns-in-Err-clause-follows c = let i = (goal.at.returns-in-Err-clause-follows c).In-Some in let l : Limits = limits_of c.self.inside.shared.words in
     let sh = shut_miss l kinds.AbortExchange _ _ refl (steady i) (c.in-Err.ensures.miss.own (held i)).0 in
-    follows (spot c.pass.inside.seat.table c.pass.inside.lows) (spot c.abort_exchange.new.seat.table c.pass.inside.lows) (rises_same c.pass.inside.lows) (view_of c.pass.inside.seat) (view_of c.abort_exchange.new.seat) c.args.pass.now c.pass.view_is l 1 _ sh.walk (commit_steps (length c.args.drafts.now)) (omega arith)
+    follows (spot c.pass.inside.seat.table c.pass.inside.lows c.pass.inside.run.drawn) (spot c.abort_exchange.new.seat.table c.pass.inside.lows c.pass.inside.run.drawn) (rises_same c.pass.inside.lows) (view_of c.pass.inside.seat) (view_of c.abort_exchange.new.seat) c.args.pass.now c.pass.view_is l 1 _ sh.walk (commit_steps (length c.args.drafts.now)) (omega arith)
 
 pub returns-in-Ok-clause-answer : goal.returns-in-Ok-clause-answer
 returns-in-Ok-clause-answer c = let i = (goal.at.returns-in-Ok-clause-answer c).In-Some in let l : Limits = limits_of c.self.inside.shared.words in let u = c.in-Some.task.unit in
@@ -61,8 +61,8 @@ returns-in-Ok-clause-answer c = let i = (goal.at.returns-in-Ok-clause-answer c).
       (let same = left_is i in let more = c.if-count-left.true in omega arith),
       (
         u,
-        shut_closes (spot c.pass.inside.seat.table c.pass.inside.lows) (spot c.abort_exchange.new.seat.table c.pass.inside.lows) v w c.args.pass.now c.pass.view_is l 1 0 u _ sh (held i) (abort_ended u (hand v).number w.seen sh.before sh.ends),
-        inl (shut_adds (spot c.pass.inside.seat.table c.pass.inside.lows) (spot c.abort_exchange.new.seat.table c.pass.inside.lows) v w c.args.pass.now c.pass.view_is l 1 0 u sh),
+        shut_closes (spot c.pass.inside.seat.table c.pass.inside.lows c.pass.inside.run.drawn) (spot c.abort_exchange.new.seat.table c.pass.inside.lows c.pass.inside.run.drawn) v w c.args.pass.now c.pass.view_is l 1 0 u _ sh (held i) (abort_ended u (hand v).number w.seen sh.before sh.ends),
+        inl (shut_adds (spot c.pass.inside.seat.table c.pass.inside.lows c.pass.inside.run.drawn) (spot c.abort_exchange.new.seat.table c.pass.inside.lows c.pass.inside.run.drawn) v w c.args.pass.now c.pass.view_is l 1 0 u sh),
       ),
     )
 
@@ -74,8 +74,8 @@ returns-in-Err-clause-answer c = let i = (goal.at.returns-in-Err-clause-answer c
       (let same = left_is i in let more = c.if-count-left.true in omega arith),
       (
         u,
-        shut_closes (spot c.pass.inside.seat.table c.pass.inside.lows) (spot c.abort_exchange.new.seat.table c.pass.inside.lows) v w c.args.pass.now c.pass.view_is l 1 0 u _ sh (held i) (Aborted, miss.1),
-        inr (shut_loses (spot c.pass.inside.seat.table c.pass.inside.lows) (spot c.abort_exchange.new.seat.table c.pass.inside.lows) v w c.args.pass.now c.pass.view_is l 1 0 u sh miss.1 miss.2),
+        shut_closes (spot c.pass.inside.seat.table c.pass.inside.lows c.pass.inside.run.drawn) (spot c.abort_exchange.new.seat.table c.pass.inside.lows c.pass.inside.run.drawn) v w c.args.pass.now c.pass.view_is l 1 0 u _ sh (held i) (Aborted, miss.1),
+        inr (shut_loses (spot c.pass.inside.seat.table c.pass.inside.lows c.pass.inside.run.drawn) (spot c.abort_exchange.new.seat.table c.pass.inside.lows c.pass.inside.run.drawn) v w c.args.pass.now c.pass.view_is l 1 0 u sh miss.1 miss.2),
       ),
     )
 
@@ -127,19 +127,19 @@ invariant_of-pass-else-commit_exchange c = let at = goal.at.invariant_of-pass-el
 pub returns-then-commit_exchange-clause-follows : goal.returns-then-commit_exchange-clause-follows
 returns-then-commit_exchange-clause-follows c = let at = goal.at.returns-then-commit_exchange-clause-follows c in let k : ℕ = length c.args.drafts.now in
     let sh = both at.After-write_all _ _ (hit at.After-write_all at.In-Some _ (c.commit_exchange.ensures.hit c.if-commit_exchange.true)) in
-    follows (spot c.pass.inside.seat.table c.pass.inside.lows) (spot c.commit_exchange.new.seat.table c.pass.inside.lows) (rises_same c.pass.inside.lows) (view_of c.pass.inside.seat) (view_of c.commit_exchange.new.seat) c.args.pass.now c.pass.view_is _ (commit_steps k) _ sh.walk (commit_steps k) (omega arith)
+    follows (spot c.pass.inside.seat.table c.pass.inside.lows c.pass.inside.run.drawn) (spot c.commit_exchange.new.seat.table c.pass.inside.lows c.pass.inside.run.drawn) (rises_same c.pass.inside.lows) (view_of c.pass.inside.seat) (view_of c.commit_exchange.new.seat) c.args.pass.now c.pass.view_is _ (commit_steps k) _ sh.walk (commit_steps k) (omega arith)
 
 pub returns-else-commit_exchange-clause-follows : goal.returns-else-commit_exchange-clause-follows
 returns-else-commit_exchange-clause-follows c = let at = goal.at.returns-else-commit_exchange-clause-follows c in let k : ℕ = length c.args.drafts.now in
     let sh = both at.After-write_all _ _ (shut_miss _ kinds.CommitExchange _ _ refl c.write_all.ensures.wrote.walk.steady (c.commit_exchange.ensures.miss c.if-commit_exchange.false).0) in
-    follows (spot c.pass.inside.seat.table c.pass.inside.lows) (spot c.commit_exchange.new.seat.table c.pass.inside.lows) (rises_same c.pass.inside.lows) (view_of c.pass.inside.seat) (view_of c.commit_exchange.new.seat) c.args.pass.now c.pass.view_is _ (commit_steps k) _ sh.walk (commit_steps k) (omega arith)
+    follows (spot c.pass.inside.seat.table c.pass.inside.lows c.pass.inside.run.drawn) (spot c.commit_exchange.new.seat.table c.pass.inside.lows c.pass.inside.run.drawn) (rises_same c.pass.inside.lows) (view_of c.pass.inside.seat) (view_of c.commit_exchange.new.seat) c.args.pass.now c.pass.view_is _ (commit_steps k) _ sh.walk (commit_steps k) (omega arith)
 
 pub returns-then-commit_exchange-clause-answer : goal.returns-then-commit_exchange-clause-answer
 returns-then-commit_exchange-clause-answer c = let at = goal.at.returns-then-commit_exchange-clause-answer c in let i = at.In-Some in let u = c.in-Some.task.unit in let l : Limits = limits_of c.self.inside.shared.words in
     let v = view_of c.pass.inside.seat in let w = view_of c.write_all.new.seat in let y = view_of c.commit_exchange.new.seat in
     let sh : Shut l _ _ (committed w u ∷ []) v y = both at.After-write_all _ _ (hit at.After-write_all i y (c.commit_exchange.ensures.hit c.if-commit_exchange.true)) in (
       (let same = left_is i in let few = c.if-count-left.false in omega arith),
-      committed_answer (spot c.pass.inside.seat.table c.pass.inside.lows) (spot c.commit_exchange.new.seat.table c.pass.inside.lows) l v w y c.args.pass.now c.pass.view_is _ _ _ _ c.in-Some.task c.args.drafts.now c.pass.inside.seat refl (rests i) refl c.write_all.ensures.wrote (lim i) (held i) c.if-count-eq0.first _ sh
+      committed_answer (spot c.pass.inside.seat.table c.pass.inside.lows c.pass.inside.run.drawn) (spot c.commit_exchange.new.seat.table c.pass.inside.lows c.pass.inside.run.drawn) l v w y c.args.pass.now c.pass.view_is _ _ _ _ c.in-Some.task c.args.drafts.now c.pass.inside.seat refl (rests i) refl c.write_all.ensures.wrote (lim i) (held i) c.if-count-eq0.first _ sh
           (λ some. elim c.if-count-eq0.branch [ then-count-eq0 w ↦ let z = w.if-count-eq0.true in absurd (omega arith) | else-count-eq0 w ↦ w.first-is ])
           (λ none. elim c.if-count-eq0.branch [ then-count-eq0 w ↦ w.first-is | else-count-eq0 w ↦ absurd (w.if-count-eq0.false none) ]),
     )
@@ -152,8 +152,8 @@ returns-else-commit_exchange-clause-answer c = let at = goal.at.returns-else-com
       (let same = left_is i in let few = c.if-count-left.false in omega arith),
       (
         u,
-        shut_closes (spot c.pass.inside.seat.table c.pass.inside.lows) (spot c.commit_exchange.new.seat.table c.pass.inside.lows) v y c.args.pass.now c.pass.view_is l _ _ u _ sh (held i) (Aborted, miss.1),
-        shut_loses (spot c.pass.inside.seat.table c.pass.inside.lows) (spot c.commit_exchange.new.seat.table c.pass.inside.lows) v y c.args.pass.now c.pass.view_is l _ _ u sh miss.1 (subst (λ k. ¬ (In (Abort k u) y.seen)) c.write_all.ensures.wrote.walk.number miss.2),
+        shut_closes (spot c.pass.inside.seat.table c.pass.inside.lows c.pass.inside.run.drawn) (spot c.commit_exchange.new.seat.table c.pass.inside.lows c.pass.inside.run.drawn) v y c.args.pass.now c.pass.view_is l _ _ u _ sh (held i) (Aborted, miss.1),
+        shut_loses (spot c.pass.inside.seat.table c.pass.inside.lows c.pass.inside.run.drawn) (spot c.commit_exchange.new.seat.table c.pass.inside.lows c.pass.inside.run.drawn) v y c.args.pass.now c.pass.view_is l _ _ u sh miss.1 (subst (λ k. ¬ (In (Abort k u) y.seen)) c.write_all.ensures.wrote.walk.number miss.2),
       ),
     )
 

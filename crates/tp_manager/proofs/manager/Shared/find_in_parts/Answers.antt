@@ -11,8 +11,8 @@ use Rattle.tp_manager.proofs.Lows.{rises_then, scan_next, scan_rises}
 use Rattle.tp_manager.proofs.Walks.{rises_same, sought_few}
 use Rattle.tp_manager.proofs.Finds.{over_widens}
 use Rattle.tp_manager.proofs.Seeks.{begun_done, begun_few, begun_on, begun_sought, rows_more}
-use Rattle.tp_manager.proofs.manager.Shared.find.Goals as goal
-use Rattle.tp_manager.proofs.manager.Shared.find.Goals.{else-row-end, then-row-end+in_default}
+use Rattle.tp_manager.proofs.manager.Shared.find_in_parts.Goals as goal
+use Rattle.tp_manager.proofs.manager.Shared.find_in_parts.Goals.{else-row-end, then-row-end+in_default}
 
 -- the end of a part is no row behind all rows
 inside : (l k : Limits) → l ≡ k → (n : ℕ) → n < k.parts → n * k.rows + k.rows ≤ rows_of l

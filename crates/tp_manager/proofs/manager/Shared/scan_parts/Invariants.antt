@@ -4,7 +4,7 @@ use Rattle.tp_rule.specs.Views.{IsSameSeat, view_of}
 use Rattle.tp_manager.specs.Bounds.{scan_steps, try_steps}
 use Rattle.tp_manager.specs.Shown.{Rises}
 use Rattle.tp_manager.specs.Walks.{Begun, OfPart, PassedBy, Remembers}
-use Rattle.tp_manager.proofs.manager.Shared.scan.Given as goal
+use Rattle.tp_manager.proofs.manager.Shared.scan_parts.Given as goal
 
 abbrev pub invariant-loop-part : goal.invariant-loop-part
 invariant-loop-part l = record {

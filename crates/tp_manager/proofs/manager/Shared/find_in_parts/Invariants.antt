@@ -6,7 +6,7 @@ use Rattle.tp_manager.specs.Bounds.{look_steps, scan_steps}
 use Rattle.tp_manager.specs.Shown.{Rises}
 use Rattle.tp_manager.specs.Finds.{PassedOver}
 use Rattle.tp_manager.specs.Walks.{Begun, Remembers}
-use Rattle.tp_manager.proofs.manager.Shared.find.Given as goal
+use Rattle.tp_manager.proofs.manager.Shared.find_in_parts.Given as goal
 
 abbrev pub invariant-loop-part : goal.invariant-loop-part
 invariant-loop-part l = record {

@@ -10,8 +10,8 @@ use Rattle.tp_manager.specs.Rounds.{is_done, is_looked, row_at_mark}
 use Rattle.tp_manager.proofs.Counts.{bit_most, count_most}
 use Rattle.tp_manager.proofs.Cancels.{below_mark, mark_inside, none_born, none_looked, swept_begins, tallied_none, tallied_few, tallied_next, tallied_on}
 use Rattle.tp_manager.proofs.Seeks.{rows_more}
-use Rattle.tp_manager.proofs.manager.Shared.cancel_round.Goals as goal
-use Rattle.tp_manager.proofs.manager.Shared.cancel_round.Goals.{After-row_at_mark-first}
+use Rattle.tp_manager.proofs.manager.Shared.cancel_parts.Goals as goal
+use Rattle.tp_manager.proofs.manager.Shared.cancel_parts.Goals.{After-row_at_mark-first}
 
 -- the row is one of the table's
 less : (c : After-row_at_mark-first) → c.loop-row.row < rows_of (limits_of c.args.self.now.words)

@@ -10,8 +10,8 @@ use Rattle.tp_manager.specs.Walks.{Steady}
 use Rattle.tp_manager.proofs.Walks.{follows, rises_same, remembers}
 use Rattle.tp_manager.proofs.Passes.{steady_at}
 use Rattle.tp_manager.proofs.Submits.{made_request, made_rests, made_walked}
-use Rattle.tp_manager.proofs.manager.Manager.submit.Goals as goal
-use Rattle.tp_manager.proofs.manager.Manager.submit.Goals.{After-publish}
+use Rattle.tp_manager.proofs.manager.Manager.submit_next.Goals as goal
+use Rattle.tp_manager.proofs.manager.Manager.submit_next.Goals.{After-publish}
 
 lim : (c : After-publish) → (view_of c.pass.inside.seat).limits ≡ limits_of c.self.inside.shared.words
 lim c = ap (λ (p : PassShown). p.limits) c.pass.view_is ∙ (c.requires.own.1 ∙ (sym (ap (λ (m : ManagerShown). m.limits) c.self.view_is) ∙ sym c.self.inside.shared.same))
@@ -30,7 +30,7 @@ invariant_of-pass-2 c = let at = (goal.at.invariant_of-pass-2 c).After-publish i
 
 pub returns-clause-follows : goal.returns-clause-follows
 returns-clause-follows c = let at = (goal.at.returns-clause-follows c).After-publish in
-    follows (spot c.pass.inside.seat.table c.pass.inside.lows) (spot c.publish.new.seat.table c.pass.inside.lows) (rises_same c.pass.inside.lows) (view_of c.pass.inside.seat) (view_of c.publish.new.seat) c.args.pass.now c.pass.view_is (limits_of c.self.inside.shared.words) submit_steps _
+    follows (spot c.pass.inside.seat.table c.pass.inside.lows c.pass.inside.run.drawn) (spot c.publish.new.seat.table c.pass.inside.lows c.pass.inside.run.drawn) (rises_same c.pass.inside.lows) (view_of c.pass.inside.seat) (view_of c.publish.new.seat) c.args.pass.now c.pass.view_is (limits_of c.self.inside.shared.words) submit_steps _
     (made_walked (limits_of c.self.inside.shared.words) c.args.body c.args.stage _ _ _ (steady at) c.store_draft_body.ensures.view c.publish.ensures.grew (room at)) submit_steps (omega arith)
 
 pub returns-clause-answer : goal.returns-clause-answer

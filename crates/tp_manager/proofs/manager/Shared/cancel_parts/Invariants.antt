@@ -4,7 +4,7 @@ use Rattle.tp_rule.specs.Tables.{limits_of}
 use Rattle.tp_rule.specs.Views.{IsSameSeat, view_of}
 use Rattle.tp_manager.specs.Bounds.{kill_steps}
 use Rattle.tp_manager.specs.Rounds.{is_looked, Tallied}
-use Rattle.tp_manager.proofs.manager.Shared.cancel_round.Given as goal
+use Rattle.tp_manager.proofs.manager.Shared.cancel_parts.Given as goal
 
 abbrev pub invariant-loop-row : goal.invariant-loop-row
 invariant-loop-row l = record {

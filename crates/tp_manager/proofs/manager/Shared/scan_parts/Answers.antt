@@ -8,7 +8,7 @@ use Rattle.tp_manager.proofs.Lows.{rises_then, scan_next, scan_rises}
 use Rattle.tp_manager.proofs.Walks.{rises_same, sought_few}
 use Rattle.tp_manager.proofs.Scans.{finished_passed, passed_widens, took_then, took_few}
 use Rattle.tp_manager.proofs.Seeks.{begun_done, begun_few, begun_looked, begun_on, one_row, part_widens, sought_all}
-use Rattle.tp_manager.proofs.manager.Shared.scan.Goals as goal
+use Rattle.tp_manager.proofs.manager.Shared.scan_parts.Goals as goal
 
 pub scan_part-requires-clause-part : goal.scan_part-requires-clause-part
 scan_part-requires-clause-part c = subst (λ (z : Limits). c.loop-part.part < z.parts) (sym c.args.self.now.same) c.loop-part-test.true

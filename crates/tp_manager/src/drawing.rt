@@ -1,0 +1,62 @@
+//! Rows from the spare blocks.
+ghost use Rattle.std.specs.Prelude.{◌≡◌, ◌-◌, ◌≤◌, [], true, false};
+ghost use Rattle.tp_rule.specs.Views.{hand_of, view_of, IsSameSeat};
+ghost use Rattle.tp_rule.specs.Tables.{limits_of, IsSeatOf};
+ghost use Rattle.tp_manager.specs.Shown.{IsOf};
+ghost use Rattle.tp_manager.specs.Bounds.{draw_steps};
+ghost use Rattle.tp_manager.specs.Draws.{Drawn, HasRoom, NoRoom};
+ghost use Rattle.tp_manager.specs.Calls.{FindsNoBlock};
+ghost use Rattle.tp_manager.specs.Walks.{Drew, RemembersDrawn, Steady, Tried};
+
+use crate::manager::{Manager, Pass, Run, Shared};
+use tp_model::types::BLOCK_ROWS;
+use tp_rule::Seat;
+
+impl Shared {
+    /// Draws a spare block, whose rows are then the run, unless all are drawn. At most a step for each spare block, since an exchange
+    /// of their counter that fails has found it higher.
+    fn draw(&self, seat: &mut Seat, run: &mut Run) -> bool
+        requires own { IsSeatOf self.now.words seat.old }
+        requires steady { Steady (limits_of self.now.words) (view_of seat.old) }
+        requires drawn { RemembersDrawn (view_of seat.old) run.old.drawn }
+        requires no_drafts { (hand_of seat.old).drafts ≡ [] }
+        ensures same { IsSameSeat seat.old seat.new }
+        ensures drawn { RemembersDrawn (view_of seat.new) run.new.drawn }
+        ensures yes { result ≡ true → Drawn (limits_of self.now.words) (view_of seat.old) (view_of seat.new) run.new }
+        ensures no { result ≡ false → let l = limits_of self.now.words in
+            Tried l (l.spare - run.old.drawn) (view_of seat.old) (view_of seat.new)
+            × (run.new ≡ record run.old { drawn = l.spare }) }
+    {
+        while run.drawn < self.places.limits.spare {
+            match self.words.draw(seat, run.drawn) {
+                Ok(()) => {
+                    *run = Run {
+                        next: self.places.block_first(run.drawn) as u16,
+                        left: BLOCK_ROWS,
+                        drawn: run.drawn + 1,
+                    };
+                    return true;
+                }
+                Err(found) => run.drawn = found,
+            }
+        }
+        false
+    }
+}
+
+impl Manager {
+    /// Whether the pass has so many rows left, at most 8: if need be it draws a spare block.
+    pub(crate) fn has_room(&self, pass: &mut Pass, rows: u16) -> bool
+        requires own { IsOf self.now pass.old }
+        requires few { rows ≤ 8 }
+        ensures own { IsOf self.now pass.new }
+        ensures yes { result ≡ true → HasRoom self.now.limits rows pass.old pass.new }
+        ensures no { result ≡ false → NoRoom self.now.limits rows pass.old pass.new }
+    {
+        if rows <= pass.run.left {
+            return true;
+        }
+        let seat = &mut pass.seat;
+        self.shared.draw(seat, &mut pass.run)
+    }
+}
