@@ -5,7 +5,7 @@ use Rattle.tp_model.specs.declared.types.Element.{Element}
 use Rattle.tp_model.specs.declared.types.Limits.{Limits}
 use Rattle.tp_model.specs.declared.event.Event.{Event}
 use Rattle.tp_model.specs.History.{In, births, pass_of}
-use Rattle.tp_model.specs.Passes.{Ascend, IsOwnArea}
+use Rattle.tp_model.specs.Passes.{Ascend, IsOwnArea, IsRun}
 use Rattle.tp_model.specs.Steps.{IsArea, IsBlockFor, IsLegal, IsPart, IsRowOf, IsRowOfBlock, MayUse, Step, part_rows, rows_of}
 use Rattle.tp_model.proofs.Blocks.{blocks_apart}
 use Rattle.tp_model.proofs.Bridges.{births_of, in_cons, in_either, in_left, in_none, in_one}
@@ -84,6 +84,19 @@ module _ (l : Limits) where
   -- the area of a row of a part is that part
   pub area_of_part : (c first end i : ℕ) → IsRowOf l c i → IsArea l first end → first ≤ i → i < end → IsPart l c first end
   area_of_part c first end i row area low high = let t = one_area first end (c * l.rows) (c * l.rows + l.rows) i area (inl (c, (row.0, refl, refl))) low high row.1 row.2 in (row.0, t.0, t.1)
+
+  -- the run of a pass that has done nothing is its part
+  pub fresh_run : (c : ℕ) → c < l.parts → IsRun l [] c [] (c * l.rows) l.rows
+  fresh_run c below = record {
+    drawn = tt;
+    first = c * l.rows;
+    end = c * l.rows + l.rows;
+    own = inl (below, refl, refl);
+    begins = omega arith;
+    ends = refl;
+    unborn = λ i low high. refl;
+    usable = λ i low high. inl (below, low, high);
+  }
 
   -- who made what is born in a block
 

@@ -27,8 +27,8 @@ pub enum StepKind {
     RequeueExchange,
     /// The compare-exchange of a part's mark, by which it is raised. It tells nothing but of the mark.
     Raise,
-    /// The compare-exchange of the counter of drawn blocks, by which a spare block is drawn. It tells nothing but of
-    /// the counter.
+    /// The compare-exchange of the counter of drawn blocks, by which a spare block is drawn. It tells nothing but
+    /// of the counter.
     Draw,
 }
 

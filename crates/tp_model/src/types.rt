@@ -71,7 +71,8 @@ pub struct Limits {
     pub units: u16,
     /// How many attempts an element has in a round before it is parked, 1 to 7.
     pub attempts: u8,
-    /// How many spare blocks of rows there are, 0 to 256. Each pass that needs more rows than its own may draw them.
+    /// How many spare blocks of rows there are, 0 to 256. Each pass that needs more rows than its own may draw
+    /// them.
     pub spare: u16,
 }
 
@@ -128,7 +129,8 @@ pub enum Outcome {
     Committed { first: u32, count: u8 },
     /// Another caller had aborted the unit of work: none of it is seen. The rows of its drafts stay unused.
     Lost,
-    /// The pass has too few rows left for the outputs, and no spare block is left: the unit of work is aborted.
+    /// The pass has too few rows left for the outputs, and no spare block is left: the unit of work is
+    /// aborted.
     Full,
 }
 

@@ -203,9 +203,9 @@ impl Words {
         was == from as u64
     }
 
-    /// Draws the next spare block, if so many are drawn as the caller believes. `Ok`: the block with that number is the
-    /// pass's, and its 8 rows are the run; what was left of the old run stays unused. `Err` has how many are drawn by now.
-    /// Nothing more is seen by it, nor has the history changed.
+    /// Draws the next spare block, if so many are drawn as the caller believes. `Ok`: the block with that number
+    /// is the pass's, and its 8 rows are the run; what was left of the old run stays unused. `Err` has how many
+    /// are drawn by now. Nothing more is seen by it, nor has the history changed.
     #[tactic(auto, using(crate::proofs::Drawing::draws_go))]
     pub fn draw(&self, seat: &mut Seat, drawn: u16) -> Result<(), u16>
         requires own { IsSeatOf self.now seat.old }

@@ -34,9 +34,10 @@ impl Words {
         self.table.load::<Load>(seat, word)
     }
 
-    /// Reads the head of a row. Where an element is born in what is then seen, it is that element's head. Where none
-    /// is, it is empty or names a unit: a draft is no element before its unit commits. The seat remembers what it found:
-    /// a head that isn't empty stays. Where it is empty, no element is born in the later rows of its part, or of its spare block, either.
+    /// Reads the head of a row. Where an element is born in what is then seen, it is that element's head. Where
+    /// none is, it is empty or names a unit: a draft is no element before its unit commits. The seat remembers
+    /// what it found: a head that isn't empty stays. Where it is empty, no element is born in the later rows of
+    /// its part, or of its spare block, either.
     #[inline(always)]
     pub fn load_head(&self, seat: &mut Seat, row: u32) -> Head
         requires own { IsSeatOf self.now seat.old }
@@ -128,8 +129,8 @@ impl Words {
         found as u16
     }
 
-    /// Reads how many spare blocks are drawn, and the seat remembers it: they never get fewer. In the blocks from that
-    /// one on no element is born.
+    /// Reads how many spare blocks are drawn, and the seat remembers it: they never get fewer. In the blocks from
+    /// that one on no element is born.
     #[inline(always)]
     pub fn load_drawn(&self, seat: &mut Seat) -> u16
         requires own { IsSeatOf self.now seat.old }

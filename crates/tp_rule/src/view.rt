@@ -8,9 +8,9 @@ use tp_words::Head;
 
 /// What a seat knows as one of the passes that it stands for.
 ///
-/// Its rows are used one after another: the next is `next`, and `left` of the run that begins there are unused. A run lies
-/// in the pass's part, or in the spare block that it drew last. The units
-/// of a pass are numbered from 0 here: unit `u` of pass `number` is the unit `number * limits.units + u` of the table.
+/// Its rows are used one after another: the next is `next`, and `left` of the run that begins there are unused. A
+/// run lies in the pass's part, or in the spare block that it drew last. The units of a pass are numbered from 0
+/// here: unit `u` of pass `number` is the unit `number * limits.units + u` of the table.
 pub struct Hand {
     /// The number of the pass, below `limits.parts`.
     pub number: u16,

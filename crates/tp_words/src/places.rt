@@ -1,5 +1,5 @@
-//! Where the words stand in the table: those of each row, then one for each unit, then one for each part, then one that
-//! counts drawn blocks. The rows of the parts come first, and behind them those of the spare blocks.
+//! Where the words stand in the table: those of each row, then one for each unit, then one for each part, then one
+//! that counts drawn blocks. The rows of the parts come first, and behind them those of the spare blocks.
 ghost use Rattle.std.specs.Prelude.{◌≡◌, ◌+◌, ◌*◌, ◌<◌, ◌≤◌, ◌↔◌, ℕ, IsOk, IfOk, Err};
 ghost use Rattle.tp_model.specs.Steps.{AreLimits};
 ghost use Rattle.tp_words.specs.Places.{PlacesDiffer, PlacesInside};

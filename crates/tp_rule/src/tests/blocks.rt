@@ -38,7 +38,8 @@ fn finds_drawn(words: &Words, seat: &mut Seat, block: u16) -> Option<u16>
     ensures one { IsPassOf words.now seat.new }
     ensures drafts { (hand_of seat.new).drafts ≡ [] }
     ensures drawn { result ≡ None → ((hand_of seat.new).next ≡ block_first (limits_of words.now) block)
-        × ((hand_of seat.new).left ≡ 8) × ((hand_of seat.new).blocks ≡ (hand_of seat.old).blocks ++ block ∷ []) }
+        × ((hand_of seat.new).left ≡ 8)
+        × ((hand_of seat.new).blocks ≡ (hand_of seat.old).blocks ++ block ∷ []) }
     ensures kept { IfSome result (λ now. ((hand_of seat.new).next ≡ (hand_of seat.old).next)
         × ((hand_of seat.new).blocks ≡ (hand_of seat.old).blocks)) }
 {
