@@ -8,7 +8,7 @@ use crate::plain::Plain;
 use tp_model::types::{BLOCK_ROWS, Limits};
 
 impl Plain {
-    /// What a pass has used when it goes on to use so many rows. A block that it draws for them is then its run.
+    /// What a pass has used when it goes on to use so many rows. A block that it draws is then its run.
     pub(crate) fn ready(&self, caller: u16, rows: usize) -> PassState
         requires { caller < self.now.limits.parts }
         ensures { result ≡ ready self.now caller rows }
