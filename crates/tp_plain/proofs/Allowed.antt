@@ -18,15 +18,15 @@ use Rattle.tp_model.specs.Drafts.{DraftView}
 use Rattle.tp_model.specs.History.{element_of, UnitClaim, UnitEnd, Committed, Aborted, end_of, rounds, status_of}
 use Rattle.tp_model.specs.Steps.{IsServerStage, IsBody, IsOpen, Step}
 use Rattle.tp_model.specs.Births.{IsWhole}
-use Rattle.tp_plain.specs.OneThread.{Answers, CallSubmit, CallClaim, CallCommit, CallAbort, CallKill, CallRequeue, CallRead, Leaves, State, extended, pass_at, next_row}
+use Rattle.tp_plain.specs.OneThread.{Answers, CallSubmit, CallClaim, CallCommit, CallAbort, CallKill, CallRequeue, CallRead, Leaves, State, extended, pass_at, next_row, ready, HasRoom}
 use Rattle.tp_plain.specs.Looks.{is_held_by, looks_after_all}
 use Rattle.tp_plain.specs.Reached.{IsReached}
-use Rattle.tp_plain.specs.Computed.{is_server_stage, submit_of, with_request, next_waiting, claim_found, claim_of_stage, abort_at, abort_of, commit_at, commit_of, unit_in_hand, kill_at, kill_found, requeue_at, requeue_found, read_found, ComputedAreAllowed}
+use Rattle.tp_plain.specs.Computed.{is_server_stage, has_room, submit_of, with_request, next_waiting, claim_found, claim_of_stage, abort_at, abort_of, commit_at, commit_of, unit_in_hand, kill_at, kill_found, requeue_at, requeue_found, read_found, ComputedAreAllowed}
 use Rattle.tp_model.proofs.Bridges.{element_of-id}
 use Rattle.tp_model.proofs.WordProofs.{rounds_by_words}
 use Rattle.tp_plain.proofs.PassStates.{may_submit}
 use Rattle.tp_plain.proofs.Claims.{idle, left_by_claim}
-use Rattle.tp_plain.proofs.UnitEnds.{aborted_of}
+use Rattle.tp_plain.proofs.UnitEnds.{aborted_of, is_full}
 use Rattle.tp_plain.proofs.Commits.{left_by_commit}
 use Rattle.tp_plain.proofs.Kills.{may_abort, may_kill_after}
 use Rattle.tp_plain.proofs.Cancels.{cancel_allowed}
@@ -43,15 +43,15 @@ is_stage stage good = and_from (nat_le 1 stage) (nat_le stage 14) (le-leb 1 stag
 
 module _ (s : State) (c : ℕ) (reached : IsReached s) (is_pass : c < s.limits.parts) where
   submit_allowed : (stage : ℕ) (body : List ℕ) → IsBody body → Answers s (CallSubmit c stage body (submit_of s c stage body).0) (submit_of s c stage body).1
-  submit_allowed stage body whole = go (is_server_stage stage) (nat_lt 0 (pass_at s c).left) refl refl
+  submit_allowed stage body whole = go (is_server_stage stage) (has_room s c 1) refl refl
     where
-      go : (staged room : Bool) → is_server_stage stage ≡ staged → nat_lt 0 (pass_at s c).left ≡ room
-          → let computed : Result ℕ Refusal × State = cond {A = Result ℕ Refusal × State} staged (cond {A = Result ℕ Refusal × State} room (Ok (next_row s c), with_request s c stage body) (Err refusal.Full, s)) (Err refusal.BadStage, s) in
+      go : (staged room : Bool) → is_server_stage stage ≡ staged → has_room s c 1 ≡ room
+          → let computed : Result ℕ Refusal × State = cond {A = Result ℕ Refusal × State} staged (cond {A = Result ℕ Refusal × State} room (Ok (next_row s c 1), with_request s c stage body) (Err refusal.Full, s)) (Err refusal.BadStage, s) in
           Answers s (CallSubmit c stage body computed.0) computed.1
       go true true staged room =
-          let below : 0 < (pass_at s c).left = leb-true 1 (pass_at s c).left room in
+          let below : HasRoom s c 1 = leb-true 1 (ready s c 1).left room in
           record { room = below; next = refl; step = may_submit s c stage body reached is_pass (stage_is stage staged) whole below; after = refl }
-      go true false staged room = ((stage_is stage staged, (let none : (pass_at s c).left ≤ 0 = ltb-false 0 (pass_at s c).left room in omega arith)), refl)
+      go true false staged room = ((stage_is stage staged, is_full s c 1 reached (omega arith) (ready s c 1) refl (let none : (ready s c 1).left ≤ 0 = ltb-false 0 (ready s c 1).left room in omega arith)), refl)
       go false room staged _ = ((λ good. let clash : false ≡ true = sym staged ∙ is_stage stage good in cc), refl)
 
   claim_allowed : (stage : ℕ) → IsServerStage stage → (pass_at s c).holding ≡ None → Answers s (CallClaim c stage (Ok (claim_of_stage s c stage).0)) (claim_of_stage s c stage).1
@@ -62,7 +62,7 @@ module _ (s : State) (c : ℕ) (reached : IsReached s) (is_pass : c < s.limits.p
       go true None room is =
           (refl, leb-true (suc (pass_at s c).claimed) s.limits.units room, idle s (looks_after_all s.limits.attempts s.history) stage reached refl is)
       go true (Some look) room is =
-          (left_by_claim s.limits s.history s.passes (looks_after_all s.limits.attempts s.history) c stage reached refl is_pass good look is
+          (left_by_claim s.limits s.history s.passes s.drawn (looks_after_all s.limits.attempts s.history) c stage reached refl is_pass good look is
           (leb-true (suc (pass_at s c).claimed) s.limits.units room) free).2
       go false found room is = (refl, ltb-false (pass_at s c).claimed s.limits.units room)
 
@@ -100,33 +100,33 @@ module _ (s : State) (c : ℕ) (reached : IsReached s) (is_pass : c < s.limits.p
 
     commit_allowed : (drafts : List DraftView) → length drafts ≤ 4 → All IsWhole drafts → Answers s (CallCommit c drafts (Ok (commit_of s c drafts).0)) (commit_of s c drafts).1
     commit_allowed drafts few staged =
-        subst P (sym in_hand) (go (nat_le (length drafts) (pass_at s c).left) (end_of s.history u) refl refl)
+        subst P (sym in_hand) (go (has_room s c (length drafts)) (end_of s.history u) refl refl)
       where
         computed : ℕ → Outcome × State
         computed v =
-            if nat_le (length drafts) (pass_at s c).left then commit_at s c v drafts (end_of s.history v) else (outcome.Full, (abort_at s c v (end_of s.history v)).1)
+            if has_room s c (length drafts) then commit_at s c v drafts (end_of s.history v) else (outcome.Full, (abort_at s c v (end_of s.history v)).1)
 
         P : ℕ → Type 0
         P v = Answers s (CallCommit c drafts (Ok (computed v).0)) (computed v).1
 
         held : (found : Option Look) → find (λ (l : Look). is_held_by u l.status) (looks_after_all s.limits.attempts s.history) ≡ found → end_of s.history u ≡ None
-            → length drafts ≤ (pass_at s c).left → Answers s (CallCommit c drafts (Ok (commit_at s c u drafts None).0)) (commit_at s c u drafts None).1
+            → HasRoom s c (length drafts) → Answers s (CallCommit c drafts (Ok (commit_at s c u drafts None).0)) (commit_at s c u drafts None).1
         held None is undecided room =
             let gone = aborted_of s (looks_after_all s.limits.attempts s.history) reached refl c u is_pass hand is in
             let clash : None ≡ Some Aborted = sym undecided ∙ gone in cc
         held (Some look) is undecided room =
-            let left = left_by_commit s.limits s.history s.passes (looks_after_all s.limits.attempts s.history) c reached refl is_pass u look is drafts staged few hand room in
+            let left = left_by_commit s (looks_after_all s.limits.attempts s.history) c reached refl is_pass u look is drafts staged few hand room in
             (u, hand, record { room = room; count_is = refl; first_is = refl; step = left.3.step; after = refl })
 
-        go : (room : Bool) (x : Option UnitEnd) → nat_le (length drafts) (pass_at s c).left ≡ room → end_of s.history u ≡ x
+        go : (room : Bool) (x : Option UnitEnd) → has_room s c (length drafts) ≡ room → end_of s.history u ≡ x
             → let computed : Outcome × State = cond {A = Outcome × State} room (commit_at s c u drafts x) (outcome.Full, (abort_at s c u x).1) in Answers s (CallCommit c drafts (Ok computed.0)) computed.1
         go true None room is =
-            held (find (λ (l : Look). is_held_by u l.status) (looks_after_all s.limits.attempts s.history)) refl is (leb-true (length drafts) (pass_at s c).left room)
+            held (find (λ (l : Look). is_held_by u l.status) (looks_after_all s.limits.attempts s.history)) refl is (leb-true (length drafts) (ready s c (length drafts)).left room)
         go true (Some (Committed first count)) room is = absurd (not_committed first count is)
-        go true (Some Aborted) room is = (u, hand, (leb-true (length drafts) (pass_at s c).left room, is, refl))
+        go true (Some Aborted) room is = (u, hand, (leb-true (length drafts) (ready s c (length drafts)).left room, is, refl))
         go false x room is =
-            let over : (pass_at s c).left < length drafts = grind (arith, nat_tests) in
-            (u, hand, (over, abort_leaves_it x is))
+            let over : (ready s c (length drafts)).left < length drafts = grind (arith, nat_tests) in
+            (u, hand, (is_full s c (length drafts) reached few (ready s c (length drafts)) refl over, abort_leaves_it x is))
 
   kill_allowed : (i : ℕ) → Answers s (CallKill c i (kill_found s c i (element_of s.history i)).0) (kill_found s c i (element_of s.history i)).1
   kill_allowed i = found (element_of s.history i) refl

@@ -181,7 +181,7 @@ abort_others l h c i u n legal held j apart =
 
 -- the state with another history
 abbrev pub at_history : State → List Event → State
-at_history s h = record { limits = s.limits; history = h; passes = s.passes }
+at_history s h = record { limits = s.limits; history = h; passes = s.passes; drawn = s.drawn }
 
 module _ (s : State) (h : List Event) (c i : ℕ) where
   -- t is what a kill of element i leaves

@@ -24,11 +24,13 @@ use Rattle.tp_plain.specs.OneThread.{State, no_pass, pass_at, Waits, Takes}
 use Rattle.tp_plain.specs.Reached.{PassFits, IsReached}
 use Rattle.tp_plain.specs.Looks.{look_at, look_after, fresh_look, waits_in, sooner, attempts_in}
 use Rattle.tp_model.proofs.Lists.{first-snoc, if_same, if_other, some_if}
-use Rattle.tp_model.proofs.Histories.{born_once, element_of-snoc, open_before}
+use Rattle.tp_model.proofs.Bridges.{in_none}
+use Rattle.tp_model.proofs.Histories.{born_once, open_before}
 use Rattle.tp_model.proofs.WordProofs.{unended}
 use Rattle.tp_model.proofs.Attempts.{waiting_below}
-use Rattle.tp_plain.proofs.PassStates.{reached_moved, run_kept}
+use Rattle.tp_plain.proofs.PassStates.{reached_moved}
 use Rattle.tp_plain.proofs.PlainLemmas.{looks_after}
+use Rattle.tp_plain.proofs.Rooms.{run_quiet}
 
 -- The least that waits.
 
@@ -167,13 +169,13 @@ module _ (s : State) (looks : List Look) (stage : ℕ) (reached : IsReached s) (
 
 -- What it leaves.
 
-fits_claim : (l : Limits) (h : List Event) (c i n : ℕ) (used : PassState) → IsLegal l h → PassFits l h c used → used.claimed < l.units → used.holding ≡ None
-    → PassFits l (h ++ Claim c (c * l.units + used.claimed) i n ∷ []) c (record { next = used.next; left = used.left; claimed = used.claimed + 1; holding = Some (c * l.units + used.claimed) })
-fits_claim l h c i n used legal fits room free =
+fits_claim : (l : Limits) (h : List Event) (drawn c i n : ℕ) (used : PassState) → IsLegal l h → PassFits l h drawn c used → used.claimed < l.units → used.holding ≡ None
+    → PassFits l (h ++ Claim c (c * l.units + used.claimed) i n ∷ []) drawn c (record { next = used.next; left = used.left; claimed = used.claimed + 1; holding = Some (c * l.units + used.claimed) })
+fits_claim l h drawn c i n used legal fits room free =
     let u = c * l.units + used.claimed in
     let e : Event = Claim c u i n in
     record {
-      run = run_kept l h (h ++ e ∷ []) c used.next used.left (λ j low high none. element_of-snoc h e j ∙ rw none refl) fits.run;
+      run = run_quiet l h drawn c used.next used.left fits.run e refl;
       claimed = omega arith;
       unclaimed = λ v low high. first-snoc (claim_by v) h e ∙ rw (fits.unclaimed v (omega arith) high) (if_other u v _ None (λ same. omega arith));
       holding = λ v t is own.
@@ -200,11 +202,11 @@ looks_changed l h e looks none legal step agree =
     ∙ (append-nil (map (look_after l.attempts e) (map (look_at l.attempts h) (born h))) ∙ ap (map (look_after l.attempts e)) (sym agree))))
 
 -- a claim, and what it leaves
-module _ (l : Limits) (h : List Event) (passes : List PassState) (looks : List Look) (c stage : ℕ)
-    (reached : IsReached (record { limits = l; history = h; passes = passes })) (agree : looks ≡ map (look_at l.attempts h) (born h))
+module _ (l : Limits) (h : List Event) (passes : List PassState) (drawn : ℕ) (looks : List Look) (c stage : ℕ)
+    (reached : IsReached (record { limits = l; history = h; passes = passes; drawn = drawn })) (agree : looks ≡ map (look_at l.attempts h) (born h))
     (is_pass : c < l.parts) (good : IsServerStage stage) (look : Look) (is : fold (sooner stage) None looks ≡ Some look) where
   abbrev pub old_state : State
-  old_state = record { limits = l; history = h; passes = passes }
+  old_state = record { limits = l; history = h; passes = passes; drawn = drawn }
 
   abbrev pub the_work : PassState → Work
   the_work x = record { unit = c * l.units + x.claimed; element = look.element; attempt = attempts_in look.status + 1 }
@@ -214,7 +216,7 @@ module _ (l : Limits) (h : List Event) (passes : List PassState) (looks : List L
 
   abbrev pub claimed_state : PassState → State
   claimed_state x =
-      record { limits = l; history = h ++ the_claim x ∷ []; passes = slice_set passes c (record { next = x.next; left = x.left; claimed = x.claimed + 1; holding = Some (c * l.units + x.claimed) }) }
+      record { limits = l; history = h ++ the_claim x ∷ []; passes = slice_set passes c (record { next = x.next; left = x.left; claimed = x.claimed + 1; holding = Some (c * l.units + x.claimed) }); drawn = drawn }
 
   abbrev pub ClaimLeft : PassState → Type 0
   ClaimLeft x =
@@ -225,7 +227,7 @@ module _ (l : Limits) (h : List Event) (passes : List PassState) (looks : List L
   pub left_by_claim : (pass_at old_state c).claimed < l.units → (pass_at old_state c).holding ≡ None → ClaimLeft (pass_at old_state c)
   left_by_claim room free =
       let x = pass_at old_state c in
-      let fits : PassFits l h c x = reached.fits c is_pass in
+      let fits : PassFits l h drawn c x = reached.fits c is_pass in
       let waits = next_waits old_state looks stage reached agree look is in
       let one_less : (attempts_in look.status + 1) - 1 ≡ attempts_in look.status = omega arith in
       let step : Step l h (the_claim x) =
@@ -239,7 +241,7 @@ module _ (l : Limits) (h : List Event) (passes : List PassState) (looks : List L
         attempt = omega arith;
         waits = rw one_less (waits.waits);
       } in (
-        reached_moved old_state (the_claim x) c _ reached step refl is_pass (fits_claim l h c look.element.id (attempts_in look.status + 1) x reached.legal fits room free),
+        reached_moved old_state (the_claim x) c _ reached step refl is_pass (fits_claim l h drawn c look.element.id (attempts_in look.status + 1) x reached.legal fits room free) refl (λ y p. absurd (in_none p)),
         looks_changed l h (the_claim x) looks refl reached.legal step agree,
         record {
           room = room;
@@ -262,14 +264,14 @@ module _ (l : Limits) (h : List Event) (passes : List PassState) (looks : List L
   claim_below = next_below old_state looks stage reached agree look is
 
 -- a claim that finds nothing
-pub idle_leaves : (l : Limits) (h : List Event) (passes : List PassState) (looks : List Look) (c stage : ℕ)
-    (reached : IsReached (record { limits = l; history = h; passes = passes })) → looks ≡ map (look_at l.attempts h) (born h) → c < l.parts
+pub idle_leaves : (l : Limits) (h : List Event) (passes : List PassState) (drawn : ℕ) (looks : List Look) (c stage : ℕ)
+    (reached : IsReached (record { limits = l; history = h; passes = passes; drawn = drawn })) → looks ≡ map (look_at l.attempts h) (born h) → c < l.parts
     → (used : PassState) → used ≡ slice_index_or passes c used → used.claimed < l.units → fold (sooner stage) None looks ≡ None
-    → ((slice_index_or passes c no_pass).claimed < l.units) × ((e : Element) (n : ℕ) → ¬ Waits (record { limits = l; history = h; passes = passes }) stage e n)
-    × (claim_of_stage (record { limits = l; history = h; passes = passes }) c stage ≡ (claimed.Idle, record { limits = l; history = h; passes = passes }))
-idle_leaves l h passes looks c stage reached agree is_pass used read room none =
+    → ((slice_index_or passes c no_pass).claimed < l.units) × ((e : Element) (n : ℕ) → ¬ Waits (record { limits = l; history = h; passes = passes; drawn = drawn }) stage e n)
+    × (claim_of_stage (record { limits = l; history = h; passes = passes; drawn = drawn }) c stage ≡ (claimed.Idle, record { limits = l; history = h; passes = passes; drawn = drawn }))
+idle_leaves l h passes drawn looks c stage reached agree is_pass used read room none =
     let there : c < length passes = rw reached.passes is_pass in
     let same : used ≡ slice_index_or passes c no_pass = get_or_read passes c used there read no_pass in
-    let s : State = record { limits = l; history = h; passes = passes } in
+    let s : State = record { limits = l; history = h; passes = passes; drawn = drawn } in
     let left = subst (λ (x : PassState). x.claimed < l.units) same room in
     (left, idle s looks stage reached agree none, claim_idle s c stage left (ap (fold (sooner stage) None) (sym agree) ∙ none))

@@ -1,7 +1,7 @@
 -- What a commit makes, and what it leaves.
-use Rattle.std.proofs.Common.{◌≡◌, ℕ, suc, ◌+◌, ◌*◌, ◌<◌, ◌≤◌, ◌==◌, nat_lt, Bool, true, false, cond, if◌then◌else◌, Option, Some, None, List, [], ◌∷◌, ◌++◌, map, length, slice_index_or, slice_set, refl, sym, ◌∙◌, ap, subst, inl, inr, arith}
+use Rattle.std.proofs.Common.{◌≡◌, ℕ, suc, ◌+◌, ◌<◌, ◌≤◌, ◌==◌, nat_lt, Bool, true, false, cond, if◌then◌else◌, Option, Some, None, List, [], ◌∷◌, ◌++◌, map, length, slice_set, refl, sym, ◌∙◌, ap, subst, inl, inr, ⊎_elim, arith}
 use Rattle.std.proofs.lemmas.Bool.{eqb-true}
-use Rattle.std.proofs.lemmas.List.{get_or_read, map-append}
+use Rattle.std.proofs.lemmas.List.{map-append}
 use Rattle.std.specs.List.{find, All, Contains}
 use Rattle.tp_model.specs.Drafts.{DraftView}
 use Rattle.tp_model.specs.declared.types.Element.{Element}
@@ -12,22 +12,24 @@ use Rattle.tp_model.specs.declared.types.Status.{Status}
 use Rattle.tp_model.specs.declared.types.Status.TheVariants.{Waiting, Held, Consumed, Parked, Killed}
 use Rattle.tp_model.specs.declared.event.Event.{Event}
 use Rattle.tp_model.specs.declared.event.Event.TheVariants.{Commit}
-use Rattle.tp_model.specs.History.{born, element_of, UnitClaim, UnitEnd, Committed, Aborted, claim_by, claim_of, end_of, first_id, status_of}
+use Rattle.tp_model.specs.History.{In, IsUnborn, born, element_of, UnitClaim, UnitEnd, Committed, Aborted, claim_by, claim_of, end_of, first_id, status_of}
 use Rattle.tp_model.specs.Words.{ClaimWord, FreeWord, TakenWord, KilledWord, AgainWord, claim_word, taken_status, word_status}
-use Rattle.tp_model.specs.Steps.{AreOutputs, IsOpen, Step, IsLegal}
+use Rattle.tp_model.specs.Steps.{AreOutputs, IsOpen, MayUse, Step, IsLegal}
+use Rattle.tp_model.proofs.Bridges.{in_cons, in_none}
 use Rattle.std.proofs.lemmas.List.Elements.{All-head, All-tail}
 use Rattle.tp_plain.specs.Computed.{commit_of}
 use Rattle.tp_model.specs.declared.types.Outcome.TheVariants as outcome
 use Rattle.tp_plain.proofs.Computations.{commit_goes}
 use Rattle.tp_model.specs.Births.{IsWhole, outputs}
-use Rattle.tp_plain.specs.OneThread.{root_of, State, no_pass, pass_at, spent, Commits}
+use Rattle.tp_plain.specs.OneThread.{root_of, State, pass_at, spent, Commits, HasRoom, ready, with_draw}
 use Rattle.tp_plain.specs.Reached.{PassFits, IsReached}
 use Rattle.tp_plain.specs.Looks.{look_at, look_after, fresh_look, is_held_by}
 use Rattle.tp_model.proofs.Lists.{first-snoc, if_other, none_if}
 use Rattle.tp_model.proofs.Outputs.{length-outputs}
-use Rattle.tp_model.proofs.Histories.{element_of-snoc, open_before, born_once}
+use Rattle.tp_model.proofs.Histories.{open_before, born_once}
 use Rattle.tp_model.proofs.WordProofs.{WordIsClaimed, word_claimed, status_by_words}
-use Rattle.tp_plain.proofs.PassStates.{reached_moved, run_used}
+use Rattle.tp_plain.proofs.PassStates.{fits_ready, reached_used}
+use Rattle.tp_plain.proofs.Rooms.{may_use, run_used}
 use Rattle.tp_plain.proofs.PlainLemmas.{find-passes, looks_after}
 use Rattle.tp_plain.proofs.Claims.{mapped, found_contains}
 use Rattle.tp_plain.proofs.UnitEnds.{open_of}
@@ -36,12 +38,11 @@ first_id-outputs : (u root id : ℕ) (ds : List DraftView) → first_id (outputs
 first_id-outputs u root id [] = refl
 first_id-outputs u root id (d ∷ ds) = sym (if_other (suc (length ds)) 0 0 id (λ e. omega arith))
 
-are_outputs : (l : Limits) (h : List Event) (c u root id : ℕ) (ds : List DraftView) → All IsWhole ds → c < l.parts → c * l.rows ≤ id → id + length ds ≤ c * l.rows + l.rows
-    → ((i : ℕ) → id ≤ i → i < c * l.rows + l.rows → element_of h i ≡ None) → AreOutputs l h c u root id (outputs u root id ds)
-are_outputs l h c u root id [] whole is_pass low high unborn = tt
-are_outputs l h c u root id (d ∷ ds) whole is_pass low high unborn = (
-  record { place = refl; row = (is_pass, low, omega arith); unborn = unborn id (omega arith) (omega arith); stage = (All-head IsWhole d ds whole).0; body = (All-head IsWhole d ds whole).1; by = refl; root_is = refl },
-  are_outputs l h c u root (id + 1) ds (All-tail IsWhole d ds whole) is_pass (omega arith) (omega arith) (λ i more less. unborn i (omega arith) less),
+are_outputs : (l : Limits) (h : List Event) (c u root id : ℕ) (ds : List DraftView) → All IsWhole ds → ((i : ℕ) → id ≤ i → i < id + length ds → MayUse l h c i × IsUnborn h i) → AreOutputs l h c u root id (outputs u root id ds)
+are_outputs l h c u root id [] whole rows = tt
+are_outputs l h c u root id (d ∷ ds) whole rows = (
+  record { place = refl; row = (rows id (omega arith) (omega arith)).0; unborn = (rows id (omega arith) (omega arith)).1; stage = (All-head IsWhole d ds whole).0; body = (All-head IsWhole d ds whole).1; by = refl; root_is = refl },
+  are_outputs l h c u root (id + 1) ds (All-tail IsWhole d ds whole) (λ i low high. rows i (omega arith) (omega arith)),
 )
 
 -- and with the first id as the history tells it
@@ -49,11 +50,11 @@ are_outputs_from : (l : Limits) (h : List Event) (c u root id : ℕ) (ds : List 
 are_outputs_from l h c u root id [] are = tt
 are_outputs_from l h c u root id (d ∷ ds) are = are
 
-none_later : (u root id : ℕ) (ds : List DraftView) (i : ℕ) → id + length ds ≤ i → find (λ (y : Element). y.id == i) (outputs u root id ds) ≡ None
-none_later u root id [] i more = refl
-none_later u root id (d ∷ ds) i more =
-    if_other id i (Some (record { id = id; stage = d.stage; root = root; body = d.body; by = Some u })) (find (λ (y : Element). y.id == i) (outputs u root (id + 1) ds)) (λ same. omega arith)
-    ∙ none_later u root (id + 1) ds i (omega arith)
+outputs_in : (u root id : ℕ) (ds : List DraftView) (x : Element) → In x (outputs u root id ds) → (id ≤ x.id) × (x.id < id + length ds)
+outputs_in u root id [] x p = absurd (in_none p)
+outputs_in u root id (d ∷ ds) x p = ⊎_elim
+    (λ now. let at = ap (λ (z : Element). z.id) now in (omega arith, omega arith))
+    (λ later. let t = outputs_in u root (id + 1) ds x later in let low = t.0 in let high = t.1 in (omega arith, omega arith)) (in_cons p)
 
 -- a unit that holds an element claimed it
 pub held_claimed : (l : Limits) (h : List Event) (i u n : ℕ) → IsLegal l h → status_of l.attempts h i ≡ Held u n → (t : UnitClaim) × (claim_of h u ≡ Some t) × (t.item ≡ i)
@@ -74,13 +75,13 @@ held_claimed l h i u n legal is = go (claim_word h i) (sym (status_by_words l h 
     go (KilledWord m v r) e c = absurd (cc (e))
     go (AgainWord r) e c = absurd (cc (e))
 
-fits_commit : (l : Limits) (h : List Event) (c u root : ℕ) (ds : List DraftView) (used : PassState) → PassFits l h c used → used.holding ≡ Some u → length ds ≤ used.left
-    → PassFits l (h ++ Commit c u (outputs u root used.next ds) ∷ []) c (spent used (length ds))
-fits_commit l h c u root ds used fits hand room =
+fits_commit : (l : Limits) (h : List Event) (drawn c u root : ℕ) (ds : List DraftView) (used : PassState) → PassFits l h drawn c used → used.holding ≡ Some u → length ds ≤ used.left
+    → PassFits l (h ++ Commit c u (outputs u root used.next ds) ∷ []) drawn c (spent used (length ds))
+fits_commit l h drawn c u root ds used fits hand room =
     let outs = outputs u root used.next ds in
     let e : Event = Commit c u outs in
     record {
-      run = run_used l h (h ++ e ∷ []) c used.next used.left (length ds) room (λ j low none. element_of-snoc h e j ∙ rw none (none_later u root used.next ds j low)) fits.run;
+      run = run_used l h drawn c used.next used.left fits.run (length ds) room e refl (λ x p. (outputs_in u root used.next ds x p).1);
       claimed = fits.claimed;
       unclaimed = λ v low high. first-snoc (claim_by v) h e ∙ rw (fits.unclaimed v low high) refl;
       holding = λ v t is own.
@@ -103,26 +104,27 @@ looks_committed l h c u outs looks legal step agree =
     ∙ ((λ i. map (look_after l.attempts (Commit c u outs)) (agree i) ++ fresh_kept l.attempts c u outs outs i)
     ∙ sym (looks_after l h (Commit c u outs) legal step))
 
-module _ (l : Limits) (h : List Event) (passes : List PassState) (looks : List Look) (c : ℕ)
-    (reached : IsReached (record { limits = l; history = h; passes = passes })) (agree : looks ≡ map (look_at l.attempts h) (born h)) (is_pass : c < l.parts)
+module _ (s : State) (looks : List Look) (c : ℕ) (reached : IsReached s) (agree : looks ≡ map (look_at s.limits.attempts s.history) (born s.history)) (is_pass : c < s.limits.parts)
     (u : ℕ) (look : Look) (is : find (λ (l : Look). is_held_by u l.status) looks ≡ Some look) (ds : List DraftView) (whole : All IsWhole ds) (few : length ds ≤ 4) where
-  abbrev pub at_first : State
-  at_first = record { limits = l; history = h; passes = passes }
+  abbrev l : Limits
+  l = s.limits
+
+  abbrev h : List Event
+  h = s.history
 
   abbrev pub the_outputs : PassState → List Element
   the_outputs x = outputs u look.element.root x.next ds
 
-  abbrev pub committed_state : PassState → State
-  committed_state x =
-      record { limits = l; history = h ++ Commit c u (the_outputs x) ∷ []; passes = slice_set passes c (spent x (length ds)) }
+  abbrev pub committed_state : PassState → ℕ → State
+  committed_state x drawn = record { limits = l; history = h ++ Commit c u (the_outputs x) ∷ []; passes = slice_set s.passes c (spent x (length ds)); drawn = drawn }
 
-  abbrev pub CommitLeft : PassState → Type 0
-  CommitLeft x =
-      IsReached (committed_state x)
+  abbrev pub CommitLeft : PassState → ℕ → Type 0
+  CommitLeft x drawn =
+      IsReached (committed_state x drawn)
       × (map (look_after l.attempts (Commit c u (the_outputs x))) (looks ++ map fresh_look (the_outputs x)) ≡ map (look_at l.attempts (h ++ Commit c u (the_outputs x) ∷ [])) (born (h ++ Commit c u (the_outputs x) ∷ [])))
-      × ((pass_at at_first c).holding ≡ Some u)
-      × Commits at_first c u ds (if length ds == 0 then 0 else x.next) (length ds) (committed_state x)
-      × (commit_of at_first c ds ≡ (outcome.Committed (if length ds == 0 then 0 else x.next) (length ds), committed_state x))
+      × ((pass_at s c).holding ≡ Some u)
+      × Commits s c u ds (if length ds == 0 then 0 else x.next) (length ds) (committed_state x drawn)
+      × (commit_of s c ds ≡ (outcome.Committed (if length ds == 0 then 0 else x.next) (length ds), committed_state x drawn))
 
   -- the element in the unit's hand
   the_item : (t : UnitClaim) → IsOpen h u t → element_of h t.item ≡ Some look.element
@@ -142,11 +144,12 @@ module _ (l : Limits) (h : List Event) (passes : List PassState) (looks : List L
       held (Parked n) e = absurd (cc (e))
       held Killed e = absurd (cc (e))
 
-  pub left_by_commit : (pass_at at_first c).holding ≡ Some u → length ds ≤ (pass_at at_first c).left → CommitLeft (pass_at at_first c)
+  pub left_by_commit : (pass_at s c).holding ≡ Some u → HasRoom s c (length ds) → CommitLeft (ready s c (length ds)) (with_draw s c (length ds)).drawn
   left_by_commit hand room =
-      let x = pass_at at_first c in
-      let fits : PassFits l h c x = reached.fits c is_pass in
-      let o = open_of at_first looks reached agree c u is_pass hand look is in
+      let x = ready s c (length ds) in
+      let drawn = (with_draw s c (length ds)).drawn in
+      let fits : PassFits l h drawn c x = fits_ready s c (length ds) reached is_pass in
+      let o = open_of s looks reached agree c u is_pass hand look is in
       let step : Step l h (Commit c u (the_outputs x)) =
       record {
         taking = o.0;
@@ -156,18 +159,19 @@ module _ (l : Limits) (h : List Event) (passes : List PassState) (looks : List L
         taken = the_item o.0 o.1;
         few = rw (length-outputs u look.element.root x.next ds) few;
         outputs = are_outputs_from l h c u look.element.root x.next ds
-            (are_outputs l h c u look.element.root x.next ds whole is_pass (let low = fits.run.begins in omega arith) (let high = fits.run.ends in omega arith) (λ i more less. fits.run.unborn i more (omega arith)));
+            (are_outputs l h c u look.element.root x.next ds whole (λ i low high. (may_use l h drawn c x.next x.left fits.run is_pass i low (omega arith), fits.run.unborn i low (omega arith))));
       } in
+      let own = fits_commit l h drawn c u look.element.root ds x fits hand room in
       let root : root_of h u ≡ look.element.root = rw (o.1.claimed, the_item o.0 o.1) refl in (
-        reached_moved at_first (Commit c u (the_outputs x)) c _ reached step refl is_pass (fits_commit l h c u look.element.root ds x fits hand room),
+        reached_used s c (length ds) reached is_pass (Commit c u (the_outputs x)) (spent x (length ds)) step refl own (omega arith)
+            (λ y p. let t = outputs_in u look.element.root x.next ds y p in let low = t.0 in let high = t.1 in (omega arith, omega arith)),
         looks_committed l h c u (the_outputs x) looks reached.legal step agree,
         hand,
         record { room = room; count_is = refl; first_is = refl; step = rw root step; after = rw root refl },
-        commit_goes at_first c u ds hand o.1.unfinished room ∙ rw root refl,
+        commit_goes s c u ds hand o.1.unfinished room ∙ rw root refl,
       )
 
-  pub commit_leaves : (used : PassState) → used ≡ slice_index_or passes c used → used.holding ≡ Some u → length ds ≤ used.left → CommitLeft used
-  commit_leaves used read hand room =
-      let there : c < length passes = rw reached.passes is_pass in
-      let same : used ≡ slice_index_or passes c no_pass = get_or_read passes c used there read no_pass in
-      subst (λ (x : PassState). x.holding ≡ Some u → length ds ≤ x.left → CommitLeft x) (sym same) left_by_commit hand room
+  pub commit_leaves : (used : PassState) (drawn : ℕ) → used ≡ ready s c (length ds) → drawn ≡ (with_draw s c (length ds)).drawn → used.holding ≡ Some u → length ds ≤ used.left → CommitLeft used drawn
+  commit_leaves used drawn at count hand room =
+      subst (λ d. CommitLeft used d) (sym count)
+      (subst (λ (x : PassState). x.holding ≡ Some u → length ds ≤ x.left → CommitLeft x (with_draw s c (length ds)).drawn) (sym at) left_by_commit hand room)

@@ -1,5 +1,5 @@
 -- What the computed answers are, case by case.
-use Rattle.std.proofs.Common.{◌≡◌, ℕ, suc, ◌+◌, ◌<◌, ◌≤◌, ◌==◌, nat_le, true, if◌then◌else◌, Some, None, Ok, Err, List, length, refl, sym, ◌∙◌, ap}
+use Rattle.std.proofs.Common.{◌≡◌, ℕ, suc, ◌<◌, nat_le, true, Some, None, Ok, Err, List, length, refl, sym, ◌∙◌, ap}
 use Rattle.std.proofs.lemmas.Bool.{le-leb, and_from}
 use Rattle.tp_model.specs.declared.types.Look.{Look}
 use Rattle.tp_model.specs.declared.types.Status.{Status}
@@ -7,20 +7,20 @@ use Rattle.tp_model.specs.declared.types.Claimed.TheVariants as claimed
 use Rattle.tp_model.specs.declared.types.Outcome.TheVariants as outcome
 use Rattle.tp_model.specs.declared.types.Ended.TheVariants as ended
 use Rattle.tp_model.specs.declared.types.Refusal.TheVariants as refusal
-use Rattle.tp_model.specs.declared.event.Event.TheVariants.{Commit, Abort}
+use Rattle.tp_model.specs.declared.event.Event.TheVariants.{Abort}
 use Rattle.tp_model.specs.Drafts.{DraftView}
 use Rattle.tp_model.specs.History.{Aborted, element_of, end_of, status_of}
 use Rattle.tp_model.specs.Steps.{IsServerStage}
-use Rattle.tp_plain.specs.OneThread.{State, pass_at, next_row, moved, with_pass, freed, spent, made_of}
-use Rattle.tp_plain.specs.Computed.{is_server_stage, submit_of, with_request, next_waiting, work_on, with_claim, claim_of_stage, abort_of, commit_of, read_of}
+use Rattle.tp_plain.specs.OneThread.{State, pass_at, HasRoom, next_row, moved, with_pass, with_draw, ready, freed, spent}
+use Rattle.tp_plain.specs.Computed.{is_server_stage, submit_of, with_request, next_waiting, work_on, with_claim, claim_of_stage, abort_of, committed_by, commit_of, read_of}
 use Rattle.tp_model.proofs.Bridges.{element_of-id}
 
 module _ (s : State) (c : ℕ) where
-  pub submit_goes : (stage : ℕ) (body : List ℕ) → IsServerStage stage → 0 < (pass_at s c).left
-      → submit_of s c stage body ≡ (Ok (next_row s c), with_request s c stage body)
+  pub submit_goes : (stage : ℕ) (body : List ℕ) → IsServerStage stage → HasRoom s c 1
+      → submit_of s c stage body ≡ (Ok (next_row s c 1), with_request s c stage body)
   submit_goes stage body good room =
       let staged : is_server_stage stage ≡ true = and_from (nat_le 1 stage) (nat_le stage 14) (le-leb 1 stage good.0) (le-leb stage 14 good.1) in
-      rw (staged, le-leb 1 (pass_at s c).left room) refl
+      rw (staged, le-leb 1 (ready s c 1).left room) refl
 
   pub claim_takes : (stage : ℕ) (look : Look) → (pass_at s c).claimed < s.limits.units → next_waiting s stage ≡ Some look
       → claim_of_stage s c stage ≡ (claimed.Work (work_on s c look), with_claim s c look)
@@ -38,14 +38,13 @@ module _ (s : State) (c : ℕ) where
         → abort_of s c ≡ (ended.Already, with_pass s c (freed (pass_at s c)))
     abort_already hand gone = rw (hand, gone) refl
 
-    pub commit_goes : (ds : List DraftView) → (pass_at s c).holding ≡ Some u → end_of s.history u ≡ None → length ds ≤ (pass_at s c).left
-        → commit_of s c ds
-        ≡ (outcome.Committed (if length ds == 0 then 0 else next_row s c) (length ds), moved s (Commit c u (made_of s c u ds)) c (spent (pass_at s c) (length ds)))
-    commit_goes ds hand undecided room = rw (le-leb (length ds) (pass_at s c).left room, hand, undecided) refl
+    pub commit_goes : (ds : List DraftView) → (pass_at s c).holding ≡ Some u → end_of s.history u ≡ None → HasRoom s c (length ds)
+        → commit_of s c ds ≡ committed_by s c u ds
+    commit_goes ds hand undecided room = rw (le-leb (length ds) (ready s c (length ds)).left room, hand, undecided) refl
 
-    pub commit_lost : (ds : List DraftView) → (pass_at s c).holding ≡ Some u → end_of s.history u ≡ Some Aborted → length ds ≤ (pass_at s c).left
-        → commit_of s c ds ≡ (outcome.Lost, with_pass s c (spent (pass_at s c) (length ds)))
-    commit_lost ds hand gone room = rw (le-leb (length ds) (pass_at s c).left room, hand, gone) refl
+    pub commit_lost : (ds : List DraftView) → (pass_at s c).holding ≡ Some u → end_of s.history u ≡ Some Aborted → HasRoom s c (length ds)
+        → commit_of s c ds ≡ (outcome.Lost, with_pass (with_draw s c (length ds)) c (spent (ready s c (length ds)) (length ds)))
+    commit_lost ds hand gone room = rw (le-leb (length ds) (ready s c (length ds)).left room, hand, gone) refl
 
 -- a read of what is born, and of what isn't
 module _ (s : State) (id : ℕ) where

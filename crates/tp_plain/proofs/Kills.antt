@@ -1,5 +1,5 @@
 -- What a kill leaves.
-use Rattle.std.proofs.Common.{◌≡◌, ℕ, ◌<◌, nat_lt, Bool, true, false, cond, if◌then◌else◌, Some, None, List, [], ◌∷◌, ◌++◌, map, refl, ◌∙◌, ap, inl, inr}
+use Rattle.std.proofs.Common.{◌≡◌, ℕ, ◌<◌, nat_lt, Bool, true, false, cond, if◌then◌else◌, Some, None, List, [], ◌∷◌, ◌++◌, map, refl, ◌∙◌, ap, subst, inl, inr}
 use Rattle.std.proofs.lemmas.Bool.Decides.{eqb_tells}
 use Rattle.tp_model.specs.declared.types.Element.{Element}
 use Rattle.tp_model.specs.declared.types.Limits.{Limits}
@@ -8,23 +8,25 @@ use Rattle.tp_plain.specs.declared.pass_state.PassState.{PassState}
 use Rattle.tp_model.specs.declared.types.Status.TheVariants.{Waiting, Held, Parked}
 use Rattle.tp_model.specs.declared.event.Event.{Event}
 use Rattle.tp_model.specs.declared.event.Event.TheVariants.{Enqueue, Claim, Commit, Abort, Kill, Requeue}
-use Rattle.tp_model.specs.History.{births, born, element_of, claim_by, aborted, status_of, pass_of}
+use Rattle.tp_model.specs.History.{In, births, born, element_of, claim_by, aborted, status_of, pass_of}
 use Rattle.tp_model.specs.Steps.{IsKillable, Step, IsLegal}
 use Rattle.tp_plain.specs.OneThread.{State, pass_at, extended}
 use Rattle.tp_plain.specs.Reached.{IsQuiet, PassFits, IsReached}
 use Rattle.tp_plain.specs.Looks.{look_at, look_after}
 use Rattle.tp_model.proofs.Lists.{first-snoc, if_same}
-use Rattle.tp_model.proofs.Histories.{legal_more, element_of-kept, element_of-snoc, open_before, status_of-snoc}
-use Rattle.tp_plain.proofs.PassStates.{fits_other, run_kept}
+use Rattle.tp_model.proofs.Bridges.{in_none, unborn_still}
+use Rattle.tp_model.proofs.Histories.{legal_more, element_of-kept, open_before, status_of-snoc}
+use Rattle.tp_plain.proofs.PassStates.{fits_other}
 use Rattle.tp_plain.proofs.Claims.{looks_changed}
+use Rattle.tp_plain.proofs.Rooms.{run_quiet}
 use Rattle.tp_plain.proofs.UnitEnds.{held_undecided}
 use Rattle.tp_plain.proofs.Commits.{held_claimed}
 
 -- an event that makes and claims nothing leaves what a pass with an empty hand has used
-fits_quiet : (l : Limits) (h : List Event) (e : Event) (c : ℕ) (used : PassState) → births e ≡ [] → ((u : ℕ) → claim_by u e ≡ None) → PassFits l h c used → used.holding ≡ None → PassFits l (h ++ e ∷ []) c used
-fits_quiet l h e c used none unclaimed fits free =
+fits_quiet : (l : Limits) (h : List Event) (drawn : ℕ) (e : Event) (c : ℕ) (used : PassState) → births e ≡ [] → ((u : ℕ) → claim_by u e ≡ None) → PassFits l h drawn c used → used.holding ≡ None → PassFits l (h ++ e ∷ []) drawn c used
+fits_quiet l h drawn e c used none unclaimed fits free =
     record {
-      run = run_kept l h (h ++ e ∷ []) c used.next used.left (λ i low high un. element_of-snoc h e i ∙ rw (un, none) refl) fits.run;
+      run = run_quiet l h drawn c used.next used.left fits.run e none;
       claimed = fits.claimed;
       unclaimed = λ u low high. first-snoc (claim_by u) h e ∙ rw (fits.unclaimed u low high) (unclaimed u);
       holding = λ u t is own. elim (open_before h e u t is) [ inl by ↦ absurd (let no = unclaimed u in cc) | inr old ↦ fits.holding u t old.0 own ];
@@ -33,13 +35,24 @@ fits_quiet l h e c used none unclaimed fits free =
 
 reached_quiet : (s : State) (e : Event) (c : ℕ) → IsReached s → Step s.limits s.history e → births e ≡ [] → ((u : ℕ) → claim_by u e ≡ None) → pass_of e ≡ c → (pass_at s c).holding ≡ None → IsReached (extended s e)
 reached_quiet s e c reached step none unclaimed by free =
-    record { limits = reached.limits; legal = legal_more s.limits s.history e reached.legal step; passes = reached.passes; fits = fits }
+    record {
+      limits = reached.limits;
+      legal = legal_more s.limits s.history e reached.legal step;
+      passes = reached.passes;
+      fits = fits;
+      apart = reached.apart;
+      drawn = reached.drawn;
+      undrawn = λ i low. unborn_still s.history e i (reached.undrawn i low) (λ x p same. nothing x p);
+    }
   where
-    fits : (d : ℕ) → d < s.limits.parts → PassFits s.limits (s.history ++ e ∷ []) d (pass_at s d)
+    nothing : (x : Element) → In x (births e) → ⊥
+    nothing x p = in_none (subst (λ xs. In x xs) none p)
+
+    fits : (d : ℕ) → d < s.limits.parts → PassFits s.limits (s.history ++ e ∷ []) s.drawn d (pass_at s d)
     fits d is_pass =
         elim (eqb_tells d c) [
-          | inl p ↦ fits_quiet s.limits s.history e d (pass_at s d) none unclaimed (reached.fits d is_pass) (ap (λ k. (pass_at s k).holding) p.1 ∙ free)
-          | inr p ↦ fits_other s.limits s.history e step d (pass_at s d) is_pass (λ same. p.1 (same ∙ by)) (reached.fits d is_pass)
+          | inl p ↦ fits_quiet s.limits s.history s.drawn e d (pass_at s d) none unclaimed (reached.fits d is_pass) (ap (λ k. (pass_at s k).holding) p.1 ∙ free)
+          | inr p ↦ fits_other s.limits s.history s.drawn e step d (pass_at s d) is_pass (λ same. p.1 (same ∙ by)) (reached.fits d is_pass) (λ x there_is low high. nothing x there_is)
         ]
 
 -- what a quiet event leaves

@@ -1,4 +1,5 @@
 pub mod Computations
+pub mod Rooms
 pub mod PassStates
 pub mod PlainLemmas
 pub mod Claims

@@ -1,8 +1,8 @@
 -- What the manager of one thread keeps.
-use Rattle.std.proofs.Common.{◌≡◌, ℕ, ◌+◌, ◌-◌, ◌<◌, ◌==◌, Bool, true, false, cond, Option, Some, None, Ok, List, [], ◌∷◌, ◌++◌, map, length, take, drop, slice_index_or, slice_set, refl, sym, ◌∙◌, ap, subst, arith}
+use Rattle.std.proofs.Common.{◌≡◌, ℕ, ◌+◌, ◌<◌, ◌≤◌, ◌==◌, Bool, true, false, cond, Option, Some, None, Ok, List, [], ◌∷◌, ◌++◌, map, length, take, drop, slice_index_or, slice_set, refl, sym, ◌∙◌, ap, subst, arith}
 use Rattle.std.specs.List.{find, Contains}
 use Rattle.std.proofs.lemmas.List.Elements.{Contains-append_right}
-use Rattle.std.proofs.lemmas.List.{map-append, get_or_read, get_or_default}
+use Rattle.std.proofs.lemmas.List.{map-append, get_or_default}
 use Rattle.std.proofs.lemmas.List.Edits.{map_over_more}
 use Rattle.std.specs.Option.{option_map}
 use Rattle.tp_model.specs.declared.types.Element.{Element}
@@ -18,11 +18,11 @@ use Rattle.tp_plain.specs.Looks.{look_at, look_after, fresh_look}
 use Rattle.tp_plain.specs.Computed.{submit_of}
 use Rattle.tp_plain.proofs.Computations.{submit_goes}
 use Rattle.tp_model.specs.Births.{request}
-use Rattle.tp_plain.specs.OneThread.{State, pass_at, no_pass, Submits}
+use Rattle.tp_plain.specs.OneThread.{State, Submits, HasRoom, ready, used_up, with_draw}
 use Rattle.tp_plain.specs.Reached.{IsReached}
 use Rattle.tp_model.proofs.Histories.{status_of-snoc, born-snoc, new_found, unborn_waits, unborn_after}
-use Rattle.tp_model.proofs.Bridges.{element_of-id}
-use Rattle.tp_plain.proofs.PassStates.{may_submit, fits_submit, reached_moved}
+use Rattle.tp_model.proofs.Bridges.{element_of-id, in_one}
+use Rattle.tp_plain.proofs.PassStates.{may_submit, fits_ready, fits_submit, reached_used}
 
 pub find-passes : {A : Type 0} (p : A → Bool) (xs : List A) (x : A) → find p xs ≡ Some x → p x ≡ true
 find-passes p [] x e = absurd cc
@@ -94,38 +94,37 @@ looks_submit l h c e looks legal step agree =
     sym (looks_after l h (Enqueue c e) legal step ∙ (λ i. (looks_kept l.attempts c e (map (look_at l.attempts h) (born h)) ∙ sym agree) i ++ fresh_look e ∷ []))
 
 -- what a submit leaves, and that it is one
-module _ (l : Limits) (h : List Event) (passes : List PassState) (looks : List Look) (c stage : ℕ) (body : List ℕ)
-    (reached : IsReached (record { limits = l; history = h; passes = passes })) (agree : looks ≡ map (look_at l.attempts h) (born h))
-    (is_pass : c < l.parts) (good : IsServerStage stage) (whole : IsBody body) where
+module _ (s : State) (looks : List Look) (c stage : ℕ) (body : List ℕ) (reached : IsReached s) (agree : looks ≡ map (look_at s.limits.attempts s.history) (born s.history))
+    (is_pass : c < s.limits.parts) (good : IsServerStage stage) (whole : IsBody body) where
   abbrev pub new_request : PassState → Element
   new_request x = request x.next stage body
 
-  abbrev pub Left : PassState → State → Type 0
-  Left x t =
-      IsReached t × (looks ++ fresh_look (new_request x) ∷ [] ≡ map (look_at l.attempts t.history) (born t.history))
-      × Submits (record { limits = l; history = h; passes = passes }) c stage body x.next t
-      × (submit_of (record { limits = l; history = h; passes = passes }) c stage body ≡ (Ok x.next, t))
+  abbrev pub left_state : PassState → ℕ → State
+  left_state x drawn = record { limits = s.limits; history = s.history ++ Enqueue c (new_request x) ∷ []; passes = slice_set s.passes c (used_up x 1); drawn = drawn }
 
-  abbrev pub left_state : PassState → State
-  left_state x =
-      record { limits = l; history = h ++ Enqueue c (new_request x) ∷ []; passes = slice_set passes c (record { next = x.next + 1; left = x.left - 1; claimed = x.claimed; holding = x.holding }) }
+  abbrev pub Left : PassState → ℕ → Type 0
+  Left x drawn =
+      let t = left_state x drawn in
+      IsReached t × (looks ++ fresh_look (new_request x) ∷ [] ≡ map (look_at s.limits.attempts t.history) (born t.history))
+      × Submits s c stage body x.next t
+      × (submit_of s c stage body ≡ (Ok x.next, t))
 
-  left_by : 0 < (slice_index_or passes c no_pass).left → Left (slice_index_or passes c no_pass) (left_state (slice_index_or passes c no_pass))
+  left_by : HasRoom s c 1 → Left (ready s c 1) (with_draw s c 1).drawn
   left_by room =
-      let s : State = record { limits = l; history = h; passes = passes } in
-      let x = pass_at s c in
-      let step = may_submit s c stage body reached is_pass good whole room in (
-        reached_moved s (Enqueue c (new_request x)) c _ reached step refl is_pass (fits_submit l h c (new_request x) x (reached.fits c is_pass) room refl),
-        looks_submit l h c (new_request x) looks reached.legal step agree,
+      let x = ready s c 1 in
+      let step = may_submit s c stage body reached is_pass good whole room in
+      let old = fits_ready s c 1 reached is_pass in
+      let fits = fits_submit s.limits s.history (with_draw s c 1).drawn c (new_request x) x old room refl in (
+        reached_used s c 1 reached is_pass (Enqueue c (new_request x)) (used_up x 1) step refl fits (omega arith)
+            (λ y p. let same = ap (λ (z : Element). z.id) (in_one p) in (omega arith, omega arith)),
+        looks_submit s.limits s.history c (new_request x) looks reached.legal step agree,
         record { room = room; next = refl; step = step; after = refl },
         submit_goes s c stage body good room,
       )
 
-  pub submit_leaves : (used : PassState) → used ≡ slice_index_or passes c used → 0 < used.left → Left used (left_state used)
-  submit_leaves used read room =
-      let there : c < length passes = rw reached.passes is_pass in
-      let is : used ≡ slice_index_or passes c no_pass = get_or_read passes c used there read no_pass in
-      subst (λ (x : PassState). 0 < x.left → Left x (left_state x)) (sym is) left_by room
+  pub submit_leaves : (used : PassState) (drawn : ℕ) → used ≡ ready s c 1 → drawn ≡ (with_draw s c 1).drawn → 1 ≤ used.left → Left used drawn
+  submit_leaves used drawn at count room =
+      subst (λ d. Left used d) (sym count) (subst (λ (x : PassState). 1 ≤ x.left → Left x (with_draw s c 1).drawn) (sym at) left_by room)
 
 -- one more element is changed
 pub map_step : {A : Type 0} (f : A → A) (xs ys : List A) (i : ℕ) (d : A) → i < length xs → length ys ≡ length xs → ys ≡ map f (take i xs) ++ drop i xs

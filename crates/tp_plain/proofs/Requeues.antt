@@ -12,12 +12,12 @@ use Rattle.tp_model.specs.History.{born, element_of, rounds, rounds_after, statu
 use Rattle.tp_model.specs.declared.types.Refusal.{Refusal}
 use Rattle.tp_model.specs.declared.types.Refusal.TheVariants as refusal
 use Rattle.tp_model.specs.declared.types.Status.TheVariants.{Parked}
-use Rattle.tp_model.proofs.Bridges.{element_of-id, is_born}
+use Rattle.tp_model.proofs.Bridges.{element_of-id, in_none, is_born, unborn_still}
 use Rattle.tp_model.proofs.Later.{births_inside}
 use Rattle.tp_plain.specs.Computed.{requeue_of}
 use Rattle.tp_model.specs.Steps.{Step, rows_of}
 use Rattle.tp_model.proofs.Lists.{if_same, if_other}
-use Rattle.tp_model.proofs.Histories.{element_of-snoc, legal_more, open_before}
+use Rattle.tp_model.proofs.Histories.{legal_more, open_before}
 use Rattle.tp_model.proofs.WordProofs.{rounds-snoc}
 use Rattle.tp_plain.specs.declared.pass_state.PassState.{PassState}
 use Rattle.tp_plain.specs.Looks.{KeepsRounds, look_after, look_at}
@@ -26,7 +26,8 @@ use Rattle.tp_plain.specs.Reached.{IsQuiet, IsReached, PassFits}
 use Rattle.tp_model.proofs.Lists.{first-snoc}
 use Rattle.tp_model.specs.History.{claim_by}
 use Rattle.tp_plain.proofs.Claims.{looks_changed}
-use Rattle.tp_plain.proofs.PassStates.{open_after, whole_before, run_kept}
+use Rattle.tp_plain.proofs.PassStates.{open_after, whole_before}
+use Rattle.tp_plain.proofs.Rooms.{run_quiet}
 
 pub rounds_fresh : (l : Limits) → KeepsRounds l [] (replicate (rows_of l) 0)
 rounds_fresh l = record { as_many = length-replicate (rows_of l) 0; each = λ i less. get_or-replicate (rows_of l) i 0 0 less }
@@ -68,11 +69,11 @@ rounds_given l h c i r kept there next k = record { as_many = length-set kept i 
         ]
 
 -- a requeue leaves what a pass has used, whatever it has in its hand
-fits_requeue : (l : Limits) (h : List Event) (c i r d : ℕ) (used : PassState) → PassFits l h d used → PassFits l (h ++ Requeue c i r ∷ []) d used
-fits_requeue l h c i r d used fits =
+fits_requeue : (l : Limits) (h : List Event) (drawn c i r d : ℕ) (used : PassState) → PassFits l h drawn d used → PassFits l (h ++ Requeue c i r ∷ []) drawn d used
+fits_requeue l h drawn c i r d used fits =
     let e : Event = Requeue c i r in
     record {
-      run = run_kept l h (h ++ e ∷ []) d used.next used.left (λ j low high none. element_of-snoc h e j ∙ rw none refl) fits.run;
+      run = run_quiet l h drawn d used.next used.left fits.run e refl;
       claimed = fits.claimed;
       unclaimed = λ u low high. first-snoc (claim_by u) h e ∙ rw (fits.unclaimed u low high) refl;
       holding = λ u t is own. elim (open_before h e u t is) [ inl by ↦ absurd (cc (by)) | inr old ↦ fits.holding u t old.0 own ];
@@ -86,7 +87,10 @@ requeue_leaves s looks c i r reached agree step = (
     limits = reached.limits;
     legal = legal_more s.limits s.history (Requeue c i r) reached.legal step;
     passes = reached.passes;
-    fits = λ d is_pass. fits_requeue s.limits s.history c i r d (pass_at s d) (reached.fits d is_pass);
+    fits = λ d is_pass. fits_requeue s.limits s.history s.drawn c i r d (pass_at s d) (reached.fits d is_pass);
+    apart = reached.apart;
+    drawn = reached.drawn;
+    undrawn = λ j low. unborn_still s.history (Requeue c i r) j (reached.undrawn j low) (λ x p same. in_none p);
   },
   looks_changed s.limits s.history (Requeue c i r) looks refl reached.legal step agree,
 )

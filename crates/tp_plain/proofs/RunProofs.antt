@@ -1,5 +1,5 @@
 -- Runs keep the history legal, and only lengthen it.
-use Rattle.std.proofs.Common.{◌≡◌, ℕ, zero, suc, Ok, Err, List, [], ◌∷◌, ◌++◌, refl, sym, ◌∙◌, ap, subst, inl, inr, append_assoc}
+use Rattle.std.proofs.Common.{◌≡◌, ℕ, zero, suc, Ok, Err, List, [], ◌∷◌, ◌++◌, refl, sym, ◌∙◌, ap, subst, inl, inr, append_assoc, slice_set}
 use Rattle.std.proofs.lemmas.List.{append-nil}
 use mathlib.Core.List.{IsPrefix}
 use Rattle.tp_model.specs.Drafts.{DraftView}
@@ -15,7 +15,7 @@ use Rattle.tp_model.specs.declared.event.Event.{Event}
 use Rattle.tp_model.specs.declared.event.Event.TheVariants.{Claim, Abort, Kill, Requeue}
 use Rattle.tp_model.specs.Families.{IsRequest, IsSettledFamily, WorksOn}
 use Rattle.tp_model.specs.Steps.{Step, IsLegal}
-use Rattle.tp_plain.specs.OneThread.{State, start, Call, CallSubmit, CallClaim, CallCommit, CallAbort, CallKill, CallCancel, CallRequeue, CallRead, extended, Kills, KillsEach, moved, with_pass, Answers, Ends, GivesUp, Claims, Run, RunsAreLegal, RunsGrow}
+use Rattle.tp_plain.specs.OneThread.{State, start, Call, CallSubmit, CallClaim, CallCommit, CallAbort, CallKill, CallCancel, CallRequeue, CallRead, extended, Kills, KillsEach, Answers, Ends, GivesUp, Claims, Run, RunsAreLegal, RunsGrow}
 use Rattle.tp_plain.specs.Cancelled.{CancelledForGood}
 use Rattle.tp_model.proofs.Bridges.{found_later}
 use Rattle.tp_model.proofs.Families.{settled_family_stays, never_worked_on}
@@ -35,16 +35,16 @@ stays s t same =
       legal = λ legal. subst (IsLegal s.limits) (sym (ap (λ (x : State). x.history) same)) legal;
     }
 
-moves : (s t : State) (e : Event) (c : ℕ) (used : PassState) → Step s.limits s.history e → t ≡ moved s e c used → Goes s t
-moves s t e c used step same =
+moves : (s t : State) (drawn : ℕ) (e : Event) (c : ℕ) (used : PassState) → Step s.limits s.history e → t ≡ record { limits = s.limits; history = s.history ++ e ∷ []; passes = slice_set s.passes c used; drawn = drawn } → Goes s t
+moves s t drawn e c used step same =
     record {
       limits = ap (λ (x : State). x.limits) same;
       more = (e ∷ [], sym (ap (λ (x : State). x.history) same));
       legal = λ legal. subst (IsLegal s.limits) (sym (ap (λ (x : State). x.history) same)) (legal_more s.limits s.history e legal step);
     }
 
-passes_alone : (s t : State) (c : ℕ) (used : PassState) → t ≡ with_pass s c used → Goes s t
-passes_alone s t c used same =
+passes_alone : (s t : State) (drawn c : ℕ) (used : PassState) → t ≡ record { limits = s.limits; history = s.history; passes = slice_set s.passes c used; drawn = drawn } → Goes s t
+passes_alone s t drawn c used same =
     record {
       limits = ap (λ (x : State). x.limits) same;
       more = ([], append-nil s.history ∙ sym (ap (λ (x : State). x.history) same));
@@ -52,18 +52,18 @@ passes_alone s t c used same =
     }
 
 goes_claim : (s : State) (c stage : ℕ) (a : Claimed) (t : State) → Claims s c stage a t → Goes s t
-goes_claim s c stage (claimed.Work w) t is = moves s t (Claim c w.unit w.element.id w.attempt) c _ is.step is.after
+goes_claim s c stage (claimed.Work w) t is = moves s t _ (Claim c w.unit w.element.id w.attempt) c _ is.step is.after
 goes_claim s c stage claimed.Idle t is = stays s t is.0
 goes_claim s c stage claimed.NoUnit t is = stays s t is.0
 
 goes_commit : (s : State) (c u : ℕ) (drafts : List DraftView) (a : Outcome) (t : State) → Ends s c u drafts a t → Goes s t
-goes_commit s c u drafts (outcome.Committed id count) t is = moves s t _ c _ is.step is.after
-goes_commit s c u drafts outcome.Lost t is = passes_alone s t c _ is.2
-goes_commit s c u drafts outcome.Full t is = elim is.1 [ inl p ↦ moves s t (Abort c u) c _ p.0 p.1 | inr p ↦ passes_alone s t c _ p.1 ]
+goes_commit s c u drafts (outcome.Committed id count) t is = moves s t _ _ c _ is.step is.after
+goes_commit s c u drafts outcome.Lost t is = passes_alone s t _ c _ is.2
+goes_commit s c u drafts outcome.Full t is = elim is.1 [ inl p ↦ moves s t _ (Abort c u) c _ p.0 p.1 | inr p ↦ passes_alone s t _ c _ p.1 ]
 
 goes_abort : (s : State) (c u : ℕ) (a : Ended) (t : State) → GivesUp s c u a t → Goes s t
-goes_abort s c u ended.Aborted t is = moves s t (Abort c u) c _ is.0 is.1
-goes_abort s c u ended.Already t is = passes_alone s t c _ is.1
+goes_abort s c u ended.Aborted t is = moves s t _ (Abort c u) c _ is.0 is.1
+goes_abort s c u ended.Already t is = passes_alone s t _ c _ is.1
 
 extends : (s t : State) (e : Event) → Step s.limits s.history e → t ≡ extended s e → Goes s t
 extends s t e step same =
@@ -92,7 +92,7 @@ goes_each s c [] t is = stays s t is
 goes_each s c (i ∷ ids) t is = goes_on s is.1 t (goes_kill s c i is.0 is.1 is.2) (goes_each is.1 c ids t is.3)
 
 goes : (s : State) (call : Call) (t : State) → Answers s call t → Goes s t
-goes s (CallSubmit c stage body (Ok id)) t is = moves s t _ c _ is.step is.after
+goes s (CallSubmit c stage body (Ok id)) t is = moves s t _ _ c _ is.step is.after
 goes s (CallSubmit c stage body (Err why)) t is = stays s t is.1
 goes s (CallClaim c stage (Ok a)) t is = goes_claim s c stage a t is
 goes s (CallClaim c stage (Err why)) t is = absurd is

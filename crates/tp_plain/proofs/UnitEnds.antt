@@ -1,8 +1,8 @@
 -- How units end: what an abort finds, and what it leaves.
-use Rattle.std.proofs.Common.{◌≡◌, ◌⊎◌, ℕ, ◌<◌, ◌≤◌, ◌==◌, nat_lt, Bool, true, false, cond, Option, Some, None, List, [], ◌∷◌, ◌++◌, map, length, slice_index_or, slice_set, refl, sym, ◌∙◌, ap, subst, inl, inr, arith, suc, ◌+◌, ◌-◌, ◌*◌, ◌≢◌, suc-mul, mul-le-mul_right}
-use Rattle.std.proofs.lemmas.Bool.{eqb-true, eq-eqb}
+use Rattle.std.proofs.Common.{◌≡◌, ◌⊎◌, ℕ, ◌<◌, ◌≤◌, ◌==◌, nat_lt, ◌&&◌, Bool, true, false, cond, Option, Some, None, List, [], ◌∷◌, ◌++◌, map, length, slice_index_or, slice_set, refl, sym, ◌∙◌, ap, subst, inl, inr, arith, ◌+◌, ◌-◌, ◌*◌, ◌≢◌, mul-le-mul_right}
+use Rattle.std.proofs.lemmas.Bool.{eqb-true, eq-eqb, ltb-false}
 use Rattle.std.proofs.lemmas.Bool.Decides.{eqb_tells}
-use Rattle.std.proofs.lemmas.List.{get_or_read, get_or-set_same, get_or-set_other, length-set}
+use Rattle.std.proofs.lemmas.List.{get_or_read, get_or-set_same, get_or-set_other, length-set, set-set}
 use Rattle.std.specs.List.{find, Contains}
 use Rattle.std.proofs.lemmas.List.Elements.{Contains-append_cases}
 use Rattle.tp_model.specs.declared.types.Element.{Element}
@@ -14,21 +14,23 @@ use Rattle.tp_model.specs.declared.types.Status.TheVariants.{Waiting, Held, Cons
 use Rattle.tp_model.specs.declared.event.Event.{Event}
 use Rattle.tp_model.specs.declared.event.Event.TheVariants.{Enqueue, Claim, Commit, Abort, Kill, Requeue}
 use Rattle.tp_model.specs.History.{born, element_of, UnitClaim, UnitEnd, Committed, Aborted, claim_by, claim_of, end_of, status_of}
-use Rattle.tp_model.specs.Passes.{IsRun}
 use Rattle.tp_model.specs.Words.{ClaimWord, FreeWord, TakenWord, KilledWord, AgainWord, claim_word, taken_status, word_status}
-use Rattle.tp_model.specs.Steps.{IsOpen, Step, IsLegal}
+use Rattle.tp_model.specs.Steps.{IsOpen, Step, IsLegal, most_rows}
+use Rattle.tp_model.specs.declared.types.TheConstants.{BLOCK_ROWS}
+use Rattle.tp_model.proofs.Areas.{area_inside}
 use Rattle.tp_plain.specs.Computed.{abort_of}
 use Rattle.tp_model.specs.declared.types.Ended.TheVariants as ended
 use Rattle.tp_plain.proofs.Computations.{abort_goes}
-use Rattle.tp_plain.specs.OneThread.{State, no_pass, pass_at, moved, with_pass, freed, spent}
-use Rattle.tp_plain.specs.Reached.{PassFits, IsReached}
+use Rattle.tp_plain.specs.OneThread.{State, no_pass, pass_at, moved, with_pass, ready, with_draw, HasRoom, IsFull, freed, spent}
+use Rattle.tp_plain.specs.Reached.{PassFits, IsReached, RunFits}
 use Rattle.tp_plain.specs.Looks.{look_at, look_after, is_held_by}
 use Rattle.tp_model.proofs.Lists.{first-snoc, option_or-some, some_if, none_if}
-use Rattle.tp_model.proofs.Histories.{by_steps, element_of-kept, element_of-snoc, open_before, open_holds}
+use Rattle.tp_model.proofs.Histories.{by_steps, element_of-kept, open_before, open_holds}
 use Rattle.tp_model.proofs.WordProofs.{status_by_words}
-use Rattle.tp_plain.proofs.PassStates.{reached_moved, run_kept, run_used}
+use Rattle.tp_plain.proofs.PassStates.{after_draw, end_at, ends_still, fits_ready, reached_moved, reached_ready, ready_at}
+use Rattle.tp_plain.proofs.Rooms.{run_area, run_passed, run_quiet}
 use Rattle.tp_plain.proofs.PlainLemmas.{find-passes}
-use Rattle.tp_model.proofs.Bridges.{element_of-id}
+use Rattle.tp_model.proofs.Bridges.{element_of-id, in_none}
 use Rattle.tp_plain.proofs.Claims.{mapped, map_contains, found_contains, looks_changed, one_of}
 
 -- a unit that holds an element is undecided
@@ -131,11 +133,11 @@ module _ (s : State) (looks : List Look) (reached : IsReached s) (agree : looks 
 
 -- What an abort leaves.
 
-fits_abort : (l : Limits) (h : List Event) (c u : ℕ) (used : PassState) → PassFits l h c used → used.holding ≡ Some u
-    → PassFits l (h ++ Abort c u ∷ []) c (freed used)
-fits_abort l h c u used fits hand =
+fits_abort : (l : Limits) (h : List Event) (drawn c u : ℕ) (used : PassState) → PassFits l h drawn c used → used.holding ≡ Some u
+    → PassFits l (h ++ Abort c u ∷ []) drawn c (freed used)
+fits_abort l h drawn c u used fits hand =
     record {
-      run = run_kept l h (h ++ Abort c u ∷ []) c used.next used.left (λ j low high none. element_of-snoc h (Abort c u) j ∙ rw none refl) fits.run;
+      run = run_quiet l h drawn c used.next used.left fits.run (Abort c u) refl;
       claimed = fits.claimed;
       unclaimed = λ v low high. first-snoc (claim_by v) h (Abort c u) ∙ rw (fits.unclaimed v low high) refl;
       holding = λ v t is own.
@@ -147,9 +149,9 @@ fits_abort l h c u used fits hand =
     }
 
 -- the hand is emptied, where its unit was aborted before
-fits_already : (l : Limits) (h : List Event) (c u next left : ℕ) (used : PassState) → PassFits l h c used → used.holding ≡ Some u → end_of h u ≡ Some Aborted → IsRun l h c next left
-    → PassFits l h c (record { next = next; left = left; claimed = used.claimed; holding = None })
-fits_already l h c u next left used fits hand gone run =
+fits_already : (l : Limits) (h : List Event) (drawn c u next left : ℕ) (used : PassState) → PassFits l h drawn c used → used.holding ≡ Some u → end_of h u ≡ Some Aborted → RunFits l h drawn c next left
+    → PassFits l h drawn c (record { next = next; left = left; claimed = used.claimed; holding = None })
+fits_already l h drawn c u next left used fits hand gone run =
     record {
       run = run;
       claimed = fits.claimed;
@@ -158,28 +160,86 @@ fits_already l h c u next left used fits hand gone run =
       held = λ v none whole. absurd (cc (none));
     }
 
--- where no row was used, or k were
-pub fits_freed : (l : Limits) (h : List Event) (c u : ℕ) (used : PassState) → used.holding ≡ Some u → PassFits l h c used → end_of h u ≡ Some Aborted → PassFits l h c (freed used)
-fits_freed l h c u used hand fits gone = fits_already l h c u used.next used.left used fits hand gone fits.run
+-- and k rows are used up
+fits_spent : (l : Limits) (h : List Event) (drawn c u k : ℕ) (used : PassState) → k ≤ used.left → PassFits l h drawn c used → used.holding ≡ Some u → end_of h u ≡ Some Aborted → PassFits l h drawn c (spent used k)
+fits_spent l h drawn c u k used few fits hand gone = fits_already l h drawn c u (used.next + k) (used.left - k) used fits hand gone (run_passed l h drawn c used.next used.left fits.run k few)
 
-pub fits_spent : (l : Limits) (h : List Event) (c u k : ℕ) (used : PassState) → k ≤ used.left → used.holding ≡ Some u → PassFits l h c used → end_of h u ≡ Some Aborted → PassFits l h c (spent used k)
-fits_spent l h c u k used few hand fits gone = fits_already l h c u (used.next + k) (used.left - k) used fits hand gone (run_used l h h c used.next used.left k few (λ i low none. none) fits.run)
-
-pub reached_with_pass : (s : State) (c : ℕ) (used : PassState) → IsReached s → c < s.limits.parts → PassFits s.limits s.history c used → IsReached (with_pass s c used)
-reached_with_pass s c used reached is_pass own =
-    record { limits = reached.limits; legal = reached.legal; passes = length-set s.passes c used ∙ reached.passes; fits = fits }
+-- after no event, where the run of pass c goes on
+pub reached_with_pass : (s : State) (c : ℕ) (used : PassState) → IsReached s → c < s.limits.parts → PassFits s.limits s.history s.drawn c used → end_at used ≡ end_at (pass_at s c) → IsReached (with_pass s c used)
+reached_with_pass s c used reached is_pass own ends =
+    record {
+      limits = reached.limits;
+      legal = reached.legal;
+      passes = length-set s.passes c used ∙ reached.passes;
+      fits = fits;
+      apart = λ a b in_a in_b same. reached.apart a b in_a in_b (sym (ends_still s c used there ends a) ∙ (same ∙ ends_still s c used there ends b));
+      drawn = reached.drawn;
+      undrawn = reached.undrawn;
+    }
   where
-    fits : (d : ℕ) → d < s.limits.parts → PassFits s.limits s.history d (slice_index_or (slice_set s.passes c used) d no_pass)
+    there : c < length s.passes
+    there = rw reached.passes is_pass
+
+    fits : (d : ℕ) → d < s.limits.parts → PassFits s.limits s.history s.drawn d (slice_index_or (slice_set s.passes c used) d no_pass)
     fits d in_parts =
         elim (eqb_tells d c) [
-          | inl p ↦ let there : c < length s.passes = rw reached.passes is_pass in rw (p.1, get_or-set_same s.passes c used no_pass there) own
+          | inl p ↦ rw (p.1, get_or-set_same s.passes c used no_pass there) own
           | inr p ↦ rw (get_or-set_other s.passes c d used no_pass p.1) (reached.fits d in_parts)
         ]
 
-module _ (l : Limits) (h : List Event) (passes : List PassState) (looks : List Look) (c : ℕ)
-    (reached : IsReached (record { limits = l; history = h; passes = passes })) (agree : looks ≡ map (look_at l.attempts h) (born h)) (is_pass : c < l.parts) where
+-- a pass that has too few rows when it goes on has no block to draw
+pub is_full : (s : State) (c k : ℕ) → IsReached s → k ≤ 4 → (used : PassState) → used ≡ ready s c k → used.left < k → IsFull s c k
+is_full s c k reached small used at over = go (nat_lt (pass_at s c).left k) (nat_lt s.drawn s.limits.spare) refl refl (subst (λ (x : PassState). x.left < k) at over)
+  where
+    go : (short some : Bool) → nat_lt (pass_at s c).left k ≡ short → nat_lt s.drawn s.limits.spare ≡ some → cond (short && some) BLOCK_ROWS (pass_at s c).left < k → IsFull s c k
+    go true true short some less = absurd (omega arith)
+    go true false short some less = let all : s.limits.spare ≤ s.drawn = ltb-false s.drawn s.limits.spare some in let most = reached.drawn in (less, omega arith)
+    go false some short more less = absurd (let room : k ≤ (pass_at s c).left = ltb-false (pass_at s c).left k short in omega arith)
+
+-- the rows from which a commit takes k, and what it leaves where another pass has aborted the unit
+module _ (s : State) (looks : List Look) (c k : ℕ) (reached : IsReached s) (agree : looks ≡ map (look_at s.limits.attempts s.history) (born s.history)) (is_pass : c < s.limits.parts) where
+  -- they are few
+  pub next_few : (used : PassState) → used ≡ ready s c k → used.next + used.left ≤ most_rows
+  next_few used at =
+      let fits = fits_ready s c k reached is_pass in
+      let inside = area_inside s.limits fits.run.first (end_at (ready s c k)) (run_area s.limits s.history (with_draw s c k).drawn c (ready s c k).next (ready s c k).left fits.run) in
+      let few : s.limits.parts ≤ 32 = reached.limits.parts.1 in
+      let rows : s.limits.rows ≤ 256 = reached.limits.rows.1 in
+      let spare : s.limits.spare ≤ 256 = reached.limits.spare in
+      let all : s.limits.parts * s.limits.rows ≤ 32 * s.limits.rows = mul-le-mul_right s.limits.rows few in
+      subst (λ (x : PassState). x.next + x.left ≤ most_rows) (sym at) (omega arith)
+
+  -- what is lost
+  pub lost_leaves : (u : ℕ) (used : PassState) (drawn : ℕ) → used ≡ ready s c k → drawn ≡ (with_draw s c k).drawn → used.holding ≡ Some u → k ≤ used.left → find (λ (l : Look). is_held_by u l.status) looks ≡ None
+      → let t : State = record { limits = s.limits; history = s.history; passes = slice_set s.passes c (spent used k); drawn = drawn } in
+      IsReached t × ((pass_at s c).holding ≡ Some u) × HasRoom s c k × (end_of s.history u ≡ Some Aborted) × (t ≡ with_pass (with_draw s c k) c (spent (ready s c k) k))
+  lost_leaves u used drawn at count hand room none =
+      let same : record { limits = s.limits; history = s.history; passes = slice_set s.passes c (spent used k); drawn = drawn } ≡ with_pass (with_draw s c k) c (spent (ready s c k) k) =
+      λ i. record { limits = s.limits; history = s.history; passes = slice_set s.passes c (spent (at i) k); drawn = count i } in
+      let hand' : (pass_at s c).holding ≡ Some u = ap (λ (x : PassState). x.holding) (sym at) ∙ hand in
+      let room' : HasRoom s c k = subst (λ (x : PassState). k ≤ x.left) at room in
+      let gone = aborted_of s looks reached agree c u is_pass hand' none in
+      let own = fits_spent s.limits s.history (with_draw s c k).drawn c u k (ready s c k) room' (fits_ready s c k reached is_pass) hand' gone in
+      let left = reached_with_pass (after_draw s c k) c (spent (ready s c k) k) (reached_ready s c k reached is_pass) is_pass own (let ends = ap end_at (ready_at s c k reached is_pass) in omega arith) in (
+        subst IsReached (sym same) (subst (λ ps. IsReached (record { limits = s.limits; history = s.history; passes = ps; drawn = (with_draw s c k).drawn })) (set-set s.passes c (ready s c k) (spent (ready s c k) k)) left),
+        hand',
+        room',
+        gone,
+        same,
+      )
+
+  -- a unit that is neither aborted nor ended otherwise, where the rows suffice
+  pub undecided_leaves : (u : ℕ) (used : PassState) → used ≡ ready s c k → used.holding ≡ Some u → k ≤ used.left → (look : Look) → find (λ (l : Look). is_held_by u l.status) looks ≡ Some look
+      → ((pass_at s c).holding ≡ Some u) × HasRoom s c k × (end_of s.history u ≢ Some Aborted)
+  undecided_leaves u used at hand room look is =
+      let hand' : (pass_at s c).holding ≡ Some u = ap (λ (x : PassState). x.holding) (sym at) ∙ hand in
+      let o = open_of s looks reached agree c u is_pass hand' look is in
+      (hand', subst (λ (x : PassState). k ≤ x.left) at room, λ gone. let clash : None ≡ Some Aborted = sym o.1.unfinished ∙ gone in cc)
+
+module _ (l : Limits) (h : List Event) (passes : List PassState) (drawn : ℕ) (looks : List Look) (c : ℕ)
+    (reached : IsReached (record { limits = l; history = h; passes = passes; drawn = drawn })) (agree : looks ≡ map (look_at l.attempts h) (born h)) (is_pass : c < l.parts) where
   abbrev pub before : State
-  before = record { limits = l; history = h; passes = passes }
+  before = record { limits = l; history = h; passes = passes; drawn = drawn }
 
   -- the unit in the hand is aborted
   pub abort_leaves : (used : PassState) → used ≡ slice_index_or passes c used → (u : ℕ) → used.holding ≡ Some u → (look : Look) → find (λ (l : Look). is_held_by u l.status) looks ≡ Some look
@@ -194,8 +254,8 @@ module _ (l : Limits) (h : List Event) (passes : List PassState) (looks : List L
       let hand' : (pass_at before c).holding ≡ Some u = rw same at hand in
       let o = open_of before looks reached agree c u is_pass hand' look is in
       let step : Step l h (Abort c u) = record { pass = is_pass; taking = o.0; open_unit = o.1 } in
-      let fits : PassFits l h c used = rw (same) (reached.fits c is_pass) in (
-        reached_moved before (Abort c u) c (freed used) reached step refl is_pass (fits_abort l h c u used fits hand),
+      let fits : PassFits l h drawn c used = rw (same) (reached.fits c is_pass) in (
+        reached_moved before (Abort c u) c (freed used) reached step refl is_pass (fits_abort l h drawn c u used fits hand) (ap end_at same) (λ x p. absurd (in_none p)),
         looks_changed l h (Abort c u) looks refl reached.legal step agree,
         step,
         hand',
@@ -203,53 +263,20 @@ module _ (l : Limits) (h : List Event) (passes : List PassState) (looks : List L
         abort_goes before c u hand' o.1.unfinished,
       )
 
-  -- the rows that are left to the pass
-  pub run_there : (used : PassState) → used ≡ slice_index_or passes c used → IsRun l h c used.next used.left
-  run_there used read =
-      let there : c < length passes = rw reached.passes is_pass in
-      let same : used ≡ pass_at before c = get_or_read passes c used there read no_pass in
-      rw same ((reached.fits c is_pass).run)
-
-  -- they are few
-  pub next_few : (used : PassState) → used ≡ slice_index_or passes c used → used.next + used.left ≤ 8192
-  next_few used read =
-      let high = (run_there used read).ends in
-      let few : l.parts ≤ 32 = reached.limits.parts.1 in
-      let rows : l.rows ≤ 256 = reached.limits.rows.1 in
-      let one : suc c * l.rows ≤ l.parts * l.rows = mul-le-mul_right l.rows is_pass in
-      let all : l.parts * l.rows ≤ 32 * l.rows = mul-le-mul_right l.rows few in omega (arith, suc-mul c l.rows)
-
-  -- a pass that was read has as many rows
-  pub left_there : (used : PassState) → used ≡ slice_index_or passes c used → (n : ℕ) → n ≤ used.left → n ≤ (pass_at before c).left
-  left_there used read n few =
-      let there : c < length passes = rw reached.passes is_pass in
-      let same : used ≡ pass_at before c = get_or_read passes c used there read no_pass in
-      subst (λ (x : PassState). n ≤ x.left) same few
-
-  -- it was aborted before; f says what the pass has used from then on
+  -- it was aborted before
   pub already_leaves : (used : PassState) → used ≡ slice_index_or passes c used → (u : ℕ) → used.holding ≡ Some u → find (λ (l : Look). is_held_by u l.status) looks ≡ None
-      → (f : PassState → PassState) → (PassFits l h c used → end_of h u ≡ Some Aborted → PassFits l h c (f used))
-      → IsReached (with_pass before c (f used))
+      → IsReached (with_pass before c (freed used))
       × (end_of h u ≡ Some Aborted) × ((pass_at before c).holding ≡ Some u)
-      × (with_pass before c (f used) ≡ with_pass before c (f (pass_at before c)))
-  already_leaves used read u hand none f own =
+      × (with_pass before c (freed used) ≡ with_pass before c (freed (pass_at before c)))
+  already_leaves used read u hand none =
       let there : c < length passes = rw reached.passes is_pass in
       let same : used ≡ pass_at before c = get_or_read passes c used there read no_pass in
       let hand' : (pass_at before c).holding ≡ Some u = rw same at hand in
       let gone = aborted_of before looks reached agree c u is_pass hand' none in
-      let fits : PassFits l h c used = rw (same) (reached.fits c is_pass) in (
-        reached_with_pass before c (f used) reached is_pass (own fits gone),
+      let fits : PassFits l h drawn c used = rw (same) (reached.fits c is_pass) in
+      let own = fits_already l h drawn c u used.next used.left used fits hand gone fits.run in (
+        reached_with_pass before c (freed used) reached is_pass own (ap end_at same),
         gone,
         hand',
-        ap (λ (x : PassState). with_pass before c (f x)) same,
+        ap (λ (x : PassState). with_pass before c (freed x)) same,
       )
-
-  -- it is neither aborted nor ended otherwise, and the rows suffice for n outputs
-  pub undecided_leaves : (used : PassState) → used ≡ slice_index_or passes c used → (u : ℕ) → used.holding ≡ Some u → (look : Look) → find (λ (l : Look). is_held_by u l.status) looks ≡ Some look
-      → (n : ℕ) → n ≤ used.left → ((pass_at before c).holding ≡ Some u) × (n ≤ (pass_at before c).left) × (end_of h u ≢ Some Aborted)
-  undecided_leaves used read u hand look is n room =
-      let there : c < length passes = rw reached.passes is_pass in
-      let same : used ≡ pass_at before c = get_or_read passes c used there read no_pass in
-      let hand' : (pass_at before c).holding ≡ Some u = rw same at hand in
-      let o = open_of before looks reached agree c u is_pass hand' look is in
-      (hand', subst (λ (x : PassState). n ≤ x.left) same room, λ gone. let clash : None ≡ Some Aborted = sym o.1.unfinished ∙ gone in cc)

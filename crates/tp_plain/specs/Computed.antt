@@ -1,5 +1,5 @@
 -- The answers of a manager of one thread, computed: what each call answers, and the state that it leaves.
-use Rattle.std.specs.Prelude.{◌≡◌, ℕ, ◌+◌, ◌-◌, ◌<◌, ◌≤◌, nat_le, nat_lt, ◌&&◌, ◌==◌, Bool, false, if◌then◌else◌, Option, Some, None, Result, Ok, Err, List, length, filter, is_some, unwrap_or}
+use Rattle.std.specs.Prelude.{◌≡◌, ℕ, ◌+◌, ◌<◌, ◌≤◌, nat_le, nat_lt, ◌&&◌, ◌==◌, Bool, false, if◌then◌else◌, Option, Some, None, Result, Ok, Err, List, length, filter, is_some, unwrap_or}
 use Rattle.std.specs.List.{fold, range_with_len, All}
 use Rattle.tp_model.specs.Steps.{rows_of, IsServerStage, IsBody}
 use Rattle.tp_plain.specs.Reached.{IsReached}
@@ -24,7 +24,7 @@ use Rattle.tp_model.specs.History.{element_of, UnitEnd, Committed, Aborted, end_
 use Rattle.tp_model.specs.declared.types.TheConstants.{MOST_ROUNDS}
 use Rattle.tp_plain.specs.Looks.{look_at, sooner, attempts_in, is_unsettled_of, looks_after_all}
 use Rattle.tp_model.specs.Births.{IsWhole, request}
-use Rattle.tp_plain.specs.OneThread.{Answers, CallSubmit, CallClaim, CallCommit, CallAbort, CallKill, CallCancel, CallRequeue, CallRead, State, pass_at, next_row, next_unit, moved, with_pass, extended, freed, spent, made_of}
+use Rattle.tp_plain.specs.OneThread.{Answers, CallSubmit, CallClaim, CallCommit, CallAbort, CallKill, CallCancel, CallRequeue, CallRead, State, pass_at, next_row, next_unit, moved, with_pass, with_draw, ready, used_up, extended, freed, spent, made_of}
 
 -- whether clients may submit to this stage
 abbrev pub is_server_stage : ℕ → Bool
@@ -32,15 +32,17 @@ is_server_stage stage = nat_le 1 stage && nat_le stage 14
 
 -- the state after a submit that goes through
 abbrev pub with_request : State → ℕ → ℕ → List ℕ → State
-with_request s c stage body =
-    let used = pass_at s c in
-    moved s (Enqueue c (request (next_row s c) stage body)) c (record { next = used.next + 1; left = used.left - 1; claimed = used.claimed; holding = used.holding })
+with_request s c stage body = moved (with_draw s c 1) (Enqueue c (request (next_row s c 1) stage body)) c (used_up (ready s c 1) 1)
+
+-- whether pass c has k rows to use
+abbrev pub has_room : State → ℕ → ℕ → Bool
+has_room s c k = nat_le k (ready s c k).left
 
 -- a submit
 abbrev pub submit_of : State → ℕ → ℕ → List ℕ → Result ℕ Refusal × State
 submit_of s c stage body =
     if is_server_stage stage
-    then (if nat_lt 0 (pass_at s c).left then (Ok (next_row s c), with_request s c stage body) else (Err refusal.Full, s))
+    then (if has_room s c 1 then (Ok (next_row s c 1), with_request s c stage body) else (Err refusal.Full, s))
     else (Err refusal.BadStage, s)
 
 -- of the waiting elements of a stage, the look at the one with the least id
@@ -80,16 +82,22 @@ abort_at s c u (Some Aborted) = (ended.Already, with_pass s c (freed (pass_at s 
 abbrev pub abort_of : State → ℕ → Ended × State
 abort_of s c = abort_at s c (unit_in_hand s c) (end_of s.history (unit_in_hand s c))
 
+-- a commit that goes through
+abbrev pub committed_by : State → ℕ → ℕ → List DraftView → Outcome × State
+committed_by s c u drafts =
+    let k = length drafts in
+    (outcome.Committed (if k == 0 then 0 else next_row s c k) k, moved (with_draw s c k) (Commit c u (made_of s c u drafts)) c (spent (ready s c k) k))
+
 -- a commit, where the rows suffice, of a unit that ended so, or is undecided
 abbrev pub commit_at : State → ℕ → ℕ → List DraftView → Option UnitEnd → Outcome × State
-commit_at s c u drafts None = (outcome.Committed (if length drafts == 0 then 0 else next_row s c) (length drafts), moved s (Commit c u (made_of s c u drafts)) c (spent (pass_at s c) (length drafts)))
-commit_at s c u drafts (Some (Committed first count)) = (outcome.Committed (if length drafts == 0 then 0 else next_row s c) (length drafts), moved s (Commit c u (made_of s c u drafts)) c (spent (pass_at s c) (length drafts)))
-commit_at s c u drafts (Some Aborted) = (outcome.Lost, with_pass s c (spent (pass_at s c) (length drafts)))
+commit_at s c u drafts None = committed_by s c u drafts
+commit_at s c u drafts (Some (Committed first count)) = committed_by s c u drafts
+commit_at s c u drafts (Some Aborted) = (outcome.Lost, with_pass (with_draw s c (length drafts)) c (spent (ready s c (length drafts)) (length drafts)))
 
 -- a commit
 abbrev pub commit_of : State → ℕ → List DraftView → Outcome × State
 commit_of s c drafts =
-    if nat_le (length drafts) (pass_at s c).left
+    if has_room s c (length drafts)
     then commit_at s c (unit_in_hand s c) drafts (end_of s.history (unit_in_hand s c))
     else (outcome.Full, (abort_of s c).1)
 

@@ -1,5 +1,5 @@
 -- Runs of a manager of one thread: which answers its calls may give, and what state they leave.
-use Rattle.std.specs.Prelude.{◌≡◌, ◌≢◌, ◌⊎◌, ◌↔◌, ℕ, zero, suc, ◌+◌, ◌-◌, ◌*◌, ◌<◌, ◌≤◌, ◌==◌, if◌then◌else◌, Option, Some, None, Result, List, [], ◌∷◌, ◌++◌, length, map, slice_index_or, slice_set, AllPairs, MatchResult}
+use Rattle.std.specs.Prelude.{◌≡◌, ◌≢◌, ◌⊎◌, ◌↔◌, ℕ, zero, suc, ◌+◌, ◌-◌, ◌*◌, ◌<◌, ◌≤◌, ◌==◌, nat_lt, ◌&&◌, Bool, if◌then◌else◌, Option, Some, None, Result, List, [], ◌∷◌, ◌++◌, length, map, slice_index_or, slice_set, AllPairs, MatchResult}
 use Rattle.std.specs.List.{range_with_len}
 use Rattle.std.specs.Option.{option_and_then, option_map_or}
 use mathlib.Core.List.{IsPrefix}
@@ -25,14 +25,16 @@ use Rattle.tp_model.specs.declared.event.Event.TheVariants.{Enqueue, Claim, Comm
 use Rattle.tp_model.specs.History.{In, element_of, status_of, rounds, IsSettled, UnitClaim, claim_of, Aborted, end_of}
 use Rattle.tp_model.specs.Families.{IsRequest, IsSettledFamily}
 use Rattle.tp_model.specs.Births.{request, outputs}
-use Rattle.tp_model.specs.Steps.{IsParked, IsServerStage, Step, IsLegal}
-use Rattle.tp_model.specs.declared.types.TheConstants.{MOST_ROUNDS}
+use Rattle.tp_model.specs.Steps.{IsParked, IsServerStage, Step, IsLegal, block_first}
+use Rattle.tp_model.specs.declared.types.TheConstants.{BLOCK_ROWS, MOST_ROUNDS}
 
--- what a manager of one thread is between two calls: its limits, its history, and what each of its passes has used
+-- what a manager of one thread is between two calls: its limits, its history, what each of its passes has used, and how many
+-- spare blocks are drawn
 pub record State : Type 0 where
   pub limits : Limits
   pub history : List Event
   pub passes : List PassState
+  pub drawn : ℕ
 
 -- no pass
 abbrev pub no_pass : PassState
@@ -44,15 +46,11 @@ fresh_pass rows c = record { next = c * rows; left = rows; claimed = 0; holding 
 
 -- a manager to which nothing happened
 abbrev pub start : Limits → State
-start l = record { limits = l; history = []; passes = map (fresh_pass l.rows) (range_with_len 0 l.parts) }
+start l = record { limits = l; history = []; passes = map (fresh_pass l.rows) (range_with_len 0 l.parts); drawn = 0 }
 
 -- what pass c has used
 abbrev pub pass_at : State → ℕ → PassState
 pass_at s c = slice_index_or s.passes c no_pass
-
--- the id of the row that pass c uses next
-abbrev pub next_row : State → ℕ → ℕ
-next_row s c = (pass_at s c).next
 
 -- the unit that pass c uses next
 abbrev pub next_unit : State → ℕ → ℕ
@@ -77,24 +75,58 @@ pub data Call : Type 0 where
 
 -- the state after an event of pass c, which has then used this
 abbrev pub moved : State → Event → ℕ → PassState → State
-moved s e c used = record { limits = s.limits; history = s.history ++ e ∷ []; passes = slice_set s.passes c used }
+moved s e c used = record { limits = s.limits; history = s.history ++ e ∷ []; passes = slice_set s.passes c used; drawn = s.drawn }
 
 -- the state after a call of pass c without an event, which has then used this
 abbrev pub with_pass : State → ℕ → PassState → State
-with_pass s c used = record { limits = s.limits; history = s.history; passes = slice_set s.passes c used }
+with_pass s c used = record { limits = s.limits; history = s.history; passes = slice_set s.passes c used; drawn = s.drawn }
+
+-- whether pass c draws the next spare block for k rows: its run has fewer, and a block is left
+abbrev pub draws : State → ℕ → ℕ → Bool
+draws s c k = nat_lt (pass_at s c).left k && nat_lt s.drawn s.limits.spare
+
+-- pass c when it goes on to use k rows: a block that it draws for them is its run, and the rest of the old run stays unused
+abbrev pub ready : State → ℕ → ℕ → PassState
+ready s c k =
+    record {
+      next = if draws s c k then block_first s.limits s.drawn else (pass_at s c).next;
+      left = if draws s c k then BLOCK_ROWS else (pass_at s c).left;
+      claimed = (pass_at s c).claimed;
+      holding = (pass_at s c).holding;
+    }
+
+-- the id of the first of k rows that pass c uses next
+abbrev pub next_row : State → ℕ → ℕ → ℕ
+next_row s c k = (ready s c k).next
+
+-- the state with that block drawn
+abbrev pub with_draw : State → ℕ → ℕ → State
+with_draw s c k = record { limits = s.limits; history = s.history; passes = s.passes; drawn = if draws s c k then s.drawn + 1 else s.drawn }
+
+-- pass c has k rows to use
+abbrev pub HasRoom : State → ℕ → ℕ → Type 0
+HasRoom s c k = k ≤ (ready s c k).left
+
+-- its run has fewer than k rows, and all spare blocks are drawn
+abbrev pub IsFull : State → ℕ → ℕ → Type 0
+IsFull s c k = ((pass_at s c).left < k) × (s.drawn ≡ s.limits.spare)
+
+-- a pass with k rows more used
+abbrev pub used_up : PassState → ℕ → PassState
+used_up used k = record { next = used.next + k; left = used.left - k; claimed = used.claimed; holding = used.holding }
 
 -- a submit went through: the pass's next row is a new request
 pub record Submits (s : State) (c stage : ℕ) (body : List ℕ) (id : ℕ) (t : State) : Type 0 where
-  pub room : 0 < (pass_at s c).left
-  pub next : id ≡ next_row s c
+  pub room : HasRoom s c 1
+  pub next : id ≡ next_row s c 1
   pub step : Step s.limits s.history (Enqueue c (request id stage body))
-  pub after : t ≡ moved s (Enqueue c (request id stage body)) c (record { next = (pass_at s c).next + 1; left = (pass_at s c).left - 1; claimed = (pass_at s c).claimed; holding = (pass_at s c).holding })
+  pub after : t ≡ moved (with_draw s c 1) (Enqueue c (request id stage body)) c (used_up (ready s c 1) 1)
 
 -- a submit is refused for its stage, then for want of a row, then for want of memory
 abbrev pub RefusesSubmit : State → ℕ → ℕ → Refusal → Type 0
-RefusesSubmit s c stage refusal.NoMemory = IsServerStage stage × (0 < (pass_at s c).left)
+RefusesSubmit s c stage refusal.NoMemory = IsServerStage stage × HasRoom s c 1
 RefusesSubmit s c stage refusal.BadStage = ¬ IsServerStage stage
-RefusesSubmit s c stage refusal.Full = IsServerStage stage × ((pass_at s c).left ≡ 0)
+RefusesSubmit s c stage refusal.Full = IsServerStage stage × IsFull s c 1
 RefusesSubmit s c stage other = ⊥
 
 -- element e of this stage waits, with this many attempts so far
@@ -124,7 +156,7 @@ freed used = record { next = used.next; left = used.left; claimed = used.claimed
 
 -- and with k rows more used
 abbrev pub spent : PassState → ℕ → PassState
-spent used k = record { next = used.next + k; left = used.left - k; claimed = used.claimed; holding = None }
+spent used k = freed (used_up used k)
 
 -- the root of the element that unit u claimed
 abbrev pub root_of : List Event → ℕ → ℕ
@@ -132,15 +164,15 @@ root_of h u = option_map_or (λ (e : Element). e.root) (option_and_then (λ (t :
 
 -- the outputs that a commit of unit u by pass c makes of these drafts
 abbrev pub made_of : State → ℕ → ℕ → List DraftView → List Element
-made_of s c u drafts = outputs u (root_of s.history u) (next_row s c) drafts
+made_of s c u drafts = outputs u (root_of s.history u) (next_row s c (length drafts)) drafts
 
 -- a commit went through: the drafts are born in the pass's next rows, with the root of the element that the unit claimed
 pub record Commits (s : State) (c u : ℕ) (drafts : List DraftView) (first count : ℕ) (t : State) : Type 0 where
-  pub room : length drafts ≤ (pass_at s c).left
+  pub room : HasRoom s c (length drafts)
   pub count_is : count ≡ length drafts
-  pub first_is : first ≡ (if length drafts == 0 then 0 else next_row s c)
+  pub first_is : first ≡ (if length drafts == 0 then 0 else next_row s c (length drafts))
   pub step : Step s.limits s.history (Commit c u (made_of s c u drafts))
-  pub after : t ≡ moved s (Commit c u (made_of s c u drafts)) c (spent (pass_at s c) (length drafts))
+  pub after : t ≡ moved (with_draw s c (length drafts)) (Commit c u (made_of s c u drafts)) c (spent (ready s c (length drafts)) (length drafts))
 
 -- the unit in hand ends by an Abort, unless another pass has aborted it
 abbrev pub Leaves : State → ℕ → ℕ → State → Type 0
@@ -148,16 +180,16 @@ Leaves s c u t =
     (Step s.limits s.history (Abort c u) × (t ≡ moved s (Abort c u) c (freed (pass_at s c))))
     ⊎ ((end_of s.history u ≡ Some Aborted) × (t ≡ with_pass s c (freed (pass_at s c))))
 
--- a commit is full where too few rows are left, then lost where another pass has aborted the unit, and else goes through
+-- a commit is full where too few rows are left and no block, then lost where another pass has aborted the unit, and else goes through
 abbrev pub Ends : State → ℕ → ℕ → List DraftView → Outcome → State → Type 0
 Ends s c u drafts (outcome.Committed first count) t = Commits s c u drafts first count t
 Ends s c u drafts outcome.Lost t =
-    (length drafts ≤ (pass_at s c).left) × (end_of s.history u ≡ Some Aborted) × (t ≡ with_pass s c (spent (pass_at s c) (length drafts)))
-Ends s c u drafts outcome.Full t = ((pass_at s c).left < length drafts) × Leaves s c u t
+    HasRoom s c (length drafts) × (end_of s.history u ≡ Some Aborted) × (t ≡ with_pass (with_draw s c (length drafts)) c (spent (ready s c (length drafts)) (length drafts)))
+Ends s c u drafts outcome.Full t = IsFull s c (length drafts) × Leaves s c u t
 
 -- a commit that is neither full nor lost is refused for want of memory alone
 abbrev pub RefusesCommit : State → ℕ → ℕ → List DraftView → Refusal → Type 0
-RefusesCommit s c u drafts refusal.NoMemory = (length drafts ≤ (pass_at s c).left) × (end_of s.history u ≢ Some Aborted)
+RefusesCommit s c u drafts refusal.NoMemory = HasRoom s c (length drafts) × (end_of s.history u ≢ Some Aborted)
 RefusesCommit s c u drafts other = ⊥
 
 -- an abort goes through, unless another pass has aborted the unit
@@ -177,7 +209,7 @@ RefusesRead s id other = ⊥
 
 -- the state with an event more, and the passes as they were
 abbrev pub extended : State → Event → State
-extended s e = record { limits = s.limits; history = s.history ++ e ∷ []; passes = s.passes }
+extended s e = record { limits = s.limits; history = s.history ++ e ∷ []; passes = s.passes; drawn = s.drawn }
 
 -- a kill by pass c went through, after so many Aborts of its own: none where nobody held the element, and else one, of the unit that held it
 abbrev pub Kills : State → ℕ → ℕ → ℕ → State → Type 0

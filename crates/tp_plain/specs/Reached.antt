@@ -1,17 +1,28 @@
 -- What holds of each state that a manager of one thread reaches.
-use Rattle.std.specs.Prelude.{◌≡◌, ◌≢◌, ℕ, ◌+◌, ◌*◌, ◌<◌, ◌≤◌, Some, None, List, length}
+use Rattle.std.specs.Prelude.{◌≡◌, ◌≢◌, ◌⊎◌, ℕ, ◌+◌, ◌*◌, ◌<◌, ◌≤◌, Some, None, List, length}
 use Rattle.tp_model.specs.declared.types.Limits.{Limits}
 use Rattle.tp_plain.specs.declared.pass_state.PassState.{PassState}
 use Rattle.tp_model.specs.declared.event.Event.{Event}
 use Rattle.tp_model.specs.declared.event.Event.TheVariants.{Enqueue, Claim, Commit, Abort, Kill, Requeue}
-use Rattle.tp_model.specs.Passes.{IsRun}
-use Rattle.tp_model.specs.History.{UnitClaim, claim_of, Aborted, end_of}
-use Rattle.tp_model.specs.Steps.{AreLimits, IsOpen, IsLegal}
+use Rattle.tp_model.specs.declared.types.Element.{Element}
+use Rattle.tp_model.specs.History.{In, births, pass_of, IsUnborn, UnitClaim, claim_of, Aborted, end_of}
+use Rattle.tp_model.specs.Steps.{AreLimits, IsBlock, IsOpen, IsLegal, IsPart, block_first}
 use Rattle.tp_plain.specs.OneThread.{State, pass_at}
 
+-- the rows from `next` on that are left to pass c, where so many spare blocks are drawn, are a run
+pub record RunFits (l : Limits) (h : List Event) (drawn c next left : ℕ) : Type 0 where
+  pub first : ℕ
+  -- it reaches to the end of an area: of the pass's part, or of a drawn block
+  pub area : IsPart l c first (next + left) ⊎ ((b : ℕ) × (b < drawn) × IsBlock l b first (next + left))
+  pub begins : first ≤ next
+  -- no row of it is born
+  pub unborn : (i : ℕ) → next ≤ i → i < next + left → IsUnborn h i
+  -- and the pass made all that is born in the area
+  pub alone : (e : Event) (x : Element) → In e h → In x (births e) → first ≤ x.id → x.id < next + left → pass_of e ≡ c
+
 -- what pass c has used, as the history says
-pub record PassFits (l : Limits) (h : List Event) (c : ℕ) (used : PassState) : Type 0 where
-  pub run : IsRun l h c used.next used.left
+pub record PassFits (l : Limits) (h : List Event) (drawn c : ℕ) (used : PassState) : Type 0 where
+  pub run : RunFits l h drawn c used.next used.left
   pub claimed : used.claimed ≤ l.units
   pub unclaimed : (u : ℕ) → c * l.units + used.claimed ≤ u → u < c * l.units + l.units → claim_of h u ≡ None
   -- a unit of the pass that is open is in its hand
@@ -24,7 +35,12 @@ pub record IsReached (s : State) : Type 0 where
   pub limits : AreLimits s.limits
   pub legal : IsLegal s.limits s.history
   pub passes : length s.passes ≡ s.limits.parts
-  pub fits : (c : ℕ) → c < s.limits.parts → PassFits s.limits s.history c (pass_at s c)
+  pub fits : (c : ℕ) → c < s.limits.parts → PassFits s.limits s.history s.drawn c (pass_at s c)
+  -- no two passes use one area
+  pub apart : (c d : ℕ) → c < s.limits.parts → d < s.limits.parts → (pass_at s c).next + (pass_at s c).left ≡ (pass_at s d).next + (pass_at s d).left → c ≡ d
+  -- and nothing is born in the blocks that are left
+  pub drawn : s.drawn ≤ s.limits.spare
+  pub undrawn : (i : ℕ) → block_first s.limits s.drawn ≤ i → IsUnborn s.history i
 
 -- an Abort or a Kill by a pass with nothing in its hand
 abbrev pub IsQuiet : State → Event → Type 0

@@ -8,3 +8,4 @@ mod looks;
 pub mod pass_state;
 pub mod plain;
 pub mod requeueing;
+mod room;

@@ -12,19 +12,23 @@ use crate::looks::{
     apply, attempts_of, first_of, fresh_looks, held_by, look_of, next_waiting, outputs_of,
 };
 use crate::pass_state::PassState;
+use crate::room::block_first;
 use std::alloc::{AllocError, Global};
 use std::marker::Model;
 use tp_model::types::{
     Body, Claimed, Draft, Element, Ended, Killed, Limits, Look, Outcome, Refusal, Status, Work,
 };
 
-/// The manager of one thread. Contracts see it as its limits, its history and what its passes have used.
+/// The manager of one thread. Contracts see it as its limits, its history, what its passes have used and how many
+/// spare blocks are drawn.
 #[derive(Drop)]
 pub struct Plain {
     alloc: Global,
     pub(crate) limits: Limits,
     pub(crate) looks: Vec<Look>,
-    passes: Vec<PassState>,
+    pub(crate) passes: Vec<PassState>,
+    // How many spare blocks are drawn. They are drawn in order.
+    pub(crate) drawn: u16,
     // For each id, how many rounds its element was given.
     pub(crate) rounds: Vec<u8>,
     pub(crate) history: History,
@@ -39,9 +43,9 @@ impl Model for Plain {
 
     ghost Value = { State };
 
-    ghost view = { λ p. record { limits = p.limits; history = p.history.events; passes = p.passes.items } };
+    ghost view = { λ p. record { limits = p.limits; history = p.history.events; passes = p.passes.items; drawn = p.drawn } };
 
-    ghost invariant = { λ p. IsReached (record { limits = p.limits; history = p.history.events; passes = p.passes.items }) × (p.looks.items ≡ map (look_at p.limits.attempts p.history.events) (born p.history.events))
+    ghost invariant = { λ p. IsReached (record { limits = p.limits; history = p.history.events; passes = p.passes.items; drawn = p.drawn }) × (p.looks.items ≡ map (look_at p.limits.attempts p.history.events) (born p.history.events))
         × KeepsRounds p.limits p.history.events p.rounds.items };
 }
 
@@ -59,8 +63,7 @@ impl Plain {
         let Ok(passes) = fresh_passes(alloc, limits.parts, limits.rows) else {
             return Err(Refusal::NoMemory);
         };
-        let rows = limits.parts as u32 * limits.rows as u32;
-        let Ok(rounds) = fresh_rounds(alloc, rows) else {
+        let Ok(rounds) = fresh_rounds(alloc, block_first(limits, limits.spare)) else {
             return Err(Refusal::NoMemory);
         };
         Ok(Plain {
@@ -68,6 +71,7 @@ impl Plain {
             limits,
             looks: Vec::new(alloc),
             passes,
+            drawn: 0,
             rounds,
             history: History::new(),
         })
@@ -77,7 +81,7 @@ impl Plain {
     pub fn capacity(&self) -> u32
         ensures { result ≡ rows_of self.now.limits }
     {
-        u32::from(self.limits.parts) * u32::from(self.limits.rows)
+        block_first(self.limits, self.limits.spare)
     }
 
     /// Whether a pass has a unit of work in its hand: claimed, and neither committed nor given up by its own calls.
@@ -88,7 +92,9 @@ impl Plain {
         self.passes[caller as usize].holding.is_some()
     }
 
-    /// A client puts a new request into a stage.
+    /// A client puts a new request into a stage. Where the run of the pass has no row left, the pass draws a block.
+    ///
+    /// `BadStage` for a stage outside 1 to 14, `Full` where no spare block is left either, and `NoMemory`.
     pub fn submit(&mut self, caller: u16, stage: u8, body: Body) -> Result<u32, Refusal>
         requires { caller < self.old.limits.parts }
         ensures answer { Answers self.old (CallSubmit caller stage body result) self.new }
@@ -99,10 +105,11 @@ impl Plain {
         if stage < 1 || stage > 14 {
             return Err(Refusal::BadStage);
         }
-        let used = self.passes[caller as usize];
+        let used = self.ready(caller, 1);
         if used.left == 0 {
             return Err(Refusal::Full);
         }
+        let drawn = self.drawn_with(caller, 1);
         let id = used.next;
         let element = Element {
             id,
@@ -124,6 +131,7 @@ impl Plain {
             claimed: used.claimed,
             holding: used.holding,
         };
+        self.drawn = drawn;
         self.history = self.history.then(&Note::Enqueue(caller, element));
         Ok(id)
     }
@@ -163,7 +171,8 @@ impl Plain {
         }))
     }
 
-    /// A pass ends the unit in its hand, and its drafts become elements.
+    /// A pass ends the unit in its hand, and its drafts become elements, in rows of one run. Where its run has too
+    /// few rows left for them, the pass draws a block.
     pub fn commit(&mut self, caller: u16, drafts: &[Draft]) -> Result<Outcome, Refusal>
         requires pass { caller < self.old.limits.parts }
         requires holding { IsSome (pass_at self.old caller).holding }
@@ -173,11 +182,12 @@ impl Plain {
         ensures free { IfOk result (λ _. (pass_at self.new caller).holding ≡ None) }
         ensures limits { self.new.limits ≡ self.old.limits }
     {
-        let used = self.passes[caller as usize];
+        let used = self.ready(caller, drafts.len());
         if drafts.len() > used.left as usize {
             let _ended = self.abort(caller);
             return Ok(Outcome::Full);
         }
+        let drawn = self.drawn_with(caller, drafts.len());
         let next = used.next + drafts.len() as u32;
         let left = used.left - drafts.len() as u16;
         let Some(unit) = used.holding else {
@@ -190,6 +200,7 @@ impl Plain {
                 claimed: used.claimed,
                 holding: None,
             };
+            self.drawn = drawn;
             return Ok(Outcome::Lost);
         };
         let first = used.next;
@@ -210,6 +221,7 @@ impl Plain {
             claimed: used.claimed,
             holding: None,
         };
+        self.drawn = drawn;
         self.history = self.history.then(&note);
         Ok(Outcome::Committed {
             first: first_of(drafts.len(), first),

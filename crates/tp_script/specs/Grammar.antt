@@ -18,31 +18,37 @@ use Rattle.tp_script.specs.Terms.{◌>>=◌, require, known, none, one, three, n
 
 -- ---- settings
 
--- a setting comes before servers and commands, and is 1 to `most`
-unfoldable pub setting_at : ℕ → List ℕ → ScriptView → Result ℕ LineFault
-setting_at most w s = do
+-- a setting comes before servers and commands, and is `least` to `most`
+unfoldable pub setting_at : ℕ → ℕ → List ℕ → ScriptView → Result ℕ LineFault
+setting_at least most w s = do
   _ ← require ((length s.servers == 0) && not (has_commands s)) Order
   n ← number_at (2 ^ 64 - 1) w
-  _ ← require (nat_le 1 n && nat_le n most) BadLimits
+  _ ← require (nat_le least n && nat_le n most) BadLimits
   Ok n
 
 -- `rows N`
 unfoldable pub rows_line : List ℕ → ScriptView → Result ScriptView LineFault
 rows_line w s = do
-  n ← setting_at 256 w s
+  n ← setting_at 1 256 w s
   Ok (record s { settings = record s.settings { rows = n } })
 
 -- `units N`
 unfoldable pub units_line : List ℕ → ScriptView → Result ScriptView LineFault
 units_line w s = do
-  n ← setting_at 1024 w s
+  n ← setting_at 1 1024 w s
   Ok (record s { settings = record s.settings { units = n } })
 
 -- `limit N`
 unfoldable pub limit_line : List ℕ → ScriptView → Result ScriptView LineFault
 limit_line w s = do
-  n ← setting_at 7 w s
+  n ← setting_at 1 7 w s
   Ok (record s { settings = record s.settings { attempts = n } })
+
+-- `spare S`
+unfoldable pub spare_line : List ℕ → ScriptView → Result ScriptView LineFault
+spare_line w s = do
+  n ← setting_at 0 256 w s
+  Ok (record s { settings = record s.settings { spare = n } })
 
 -- ---- the closing account
 
@@ -62,6 +68,7 @@ unfoldable pub keyword_line : Reach → Keyword → List (List ℕ) → ScriptVi
 keyword_line reach first.Rows ws s = one ws >>= λ w. rows_line w s
 keyword_line reach first.Units ws s = one ws >>= λ w. units_line w s
 keyword_line reach first.Limit ws s = one ws >>= λ w. limit_line w s
+keyword_line reach first.Spare ws s = one ws >>= λ w. spare_line w s
 keyword_line reach first.Server ws s = server_line reach ws s
 keyword_line reach first.Start ws s = three ws >>= λ w. start_line w s
 keyword_line reach (first.Do verb) ws s = command_at reach verb ws s >>= λ c. with_command c s
@@ -103,7 +110,7 @@ lines_from reach n (line ∷ others) s = at_line n (line_at reach line s) (λ t.
 
 -- a script without lines
 abbrev pub no_lines : ScriptView
-no_lines = record { settings = record { rows = 64; units = 256; attempts = 3 }; servers = []; commands = []; account = false }
+no_lines = record { settings = record { rows = 64; units = 256; attempts = 3; spare = 0 }; servers = []; commands = []; account = false }
 
 -- what the bytes of a script say that may go so far, or the line and number of its first fault
 unfoldable pub script : Reach → List ℕ → Result ScriptView Refused

@@ -2,7 +2,7 @@
 use Rattle.std.specs.Prelude.{ℕ, List, [], ◌∷◌, Option, option_map, find, codes}
 use Rattle.std.specs.Str.{bytes_eq}
 use Rattle.tp_script.specs.declared.keyword.Keyword.{Keyword}
-use Rattle.tp_script.specs.declared.keyword.Keyword.TheVariants.{Rows, Units, Limit, Server, Start, Do, Account}
+use Rattle.tp_script.specs.declared.keyword.Keyword.TheVariants.{Rows, Units, Limit, Spare, Server, Start, Do, Account}
 use Rattle.tp_script.specs.declared.keyword.Verb.TheVariants as verb
 use Rattle.tp_script.specs.declared.script.DeskAct.TheVariants as desk
 use Rattle.tp_script.specs.declared.reach.Reach.{Reach}
@@ -14,6 +14,7 @@ first_words =
     (codes "rows", Plain, Rows)
     ∷ (codes "units", Plain, Units)
     ∷ (codes "limit", Plain, Limit)
+    ∷ (codes "spare", Desks, Spare)
     ∷ (codes "server", Plain, Server)
     ∷ (codes "start", Plain, Start)
     ∷ (codes "submit", Plain, Do verb.Submit)

@@ -13,6 +13,7 @@ pub record SettingsView : Type 0 where
   pub rows : ℕ
   pub units : ℕ
   pub attempts : ℕ
+  pub spare : ℕ
 
 -- a server line, and what its registers begin with
 pub record ServerView : Type 0 where
@@ -34,7 +35,7 @@ passes s = 1 + length s.servers + racing s.commands
 
 -- what settings show
 abbrev pub settings_view : Settings → SettingsView
-settings_view s = record { rows = s.rows; units = s.units; attempts = s.attempts }
+settings_view s = record { rows = s.rows; units = s.units; attempts = s.attempts; spare = s.spare }
 
 -- what a server line shows
 abbrev pub server_view : ScriptServer → ServerView

@@ -1,7 +1,7 @@
 //! The lines of a script, and its settings.
 ghost use Rattle.std.specs.Prelude.{◌≡◌, ◌≤◌, ◌&&◌, map, IfOk, nat_le};
 ghost use Rattle.std.specs.List.{list_all};
-ghost use Rattle.tp_script.specs.Grammar.{setting_at, rows_line, units_line, limit_line, account_line, keyword_line, first_word, words_line, is_comment, line_at};
+ghost use Rattle.tp_script.specs.Grammar.{setting_at, rows_line, units_line, limit_line, spare_line, account_line, keyword_line, first_word, words_line, is_comment, line_at};
 ghost use Rattle.tp_script.specs.Reading.{Gives, GivesScript};
 ghost use Rattle.tp_script.specs.Script.{script_view};
 
@@ -14,17 +14,17 @@ use crate::text::words;
 use std::alloc::Global;
 
 impl Script {
-    // A setting comes before servers and commands, and is 1 to `most`.
+    // A setting comes before servers and commands, and is `least` to `most`.
     #[tactic(auto, unfolding(crate::specs::Grammar::setting_at))]
-    fn setting_at(&self, word: &[u8], most: u16) -> Result<u16, LineError>
-        ensures gives { Gives (λ n. n) result (setting_at most word.now (script_view self.now)) }
-        ensures bounds { IfOk result (λ n. (1 ≤ n) × (n ≤ most)) }
+    fn setting_at(&self, word: &[u8], least: u16, most: u16) -> Result<u16, LineError>
+        ensures gives { Gives (λ n. n) result (setting_at least most word.now (script_view self.now)) }
+        ensures bounds { IfOk result (λ n. (least ≤ n) × (n ≤ most)) }
     {
         if !self.servers.is_empty() || !self.commands.is_empty() {
             return Err(LineError::Fault(LineFault::Order));
         }
         let n = number_at(word, u64::MAX)?;
-        if !(1..=u64::from(most)).contains(&n) {
+        if !(u64::from(least)..=u64::from(most)).contains(&n) {
             return Err(LineError::Fault(LineFault::BadLimits));
         }
         Ok(n as u16)
@@ -35,7 +35,7 @@ impl Script {
     fn rows_line(&mut self, word: &[u8]) -> Result<(), LineError>
         ensures { GivesScript self.new result (rows_line word.now (script_view self.old)) }
     {
-        self.settings.rows = self.setting_at(word, 256)?;
+        self.settings.rows = self.setting_at(word, 1, 256)?;
         Ok(())
     }
 
@@ -44,7 +44,7 @@ impl Script {
     fn units_line(&mut self, word: &[u8]) -> Result<(), LineError>
         ensures { GivesScript self.new result (units_line word.now (script_view self.old)) }
     {
-        self.settings.units = self.setting_at(word, 1024)?;
+        self.settings.units = self.setting_at(word, 1, 1024)?;
         Ok(())
     }
 
@@ -53,7 +53,16 @@ impl Script {
     fn limit_line(&mut self, word: &[u8]) -> Result<(), LineError>
         ensures { GivesScript self.new result (limit_line word.now (script_view self.old)) }
     {
-        self.settings.attempts = self.setting_at(word, 7)? as u8;
+        self.settings.attempts = self.setting_at(word, 1, 7)? as u8;
+        Ok(())
+    }
+
+    // `spare S`
+    #[tactic(auto, unfolding(crate::specs::Grammar::spare_line))]
+    fn spare_line(&mut self, word: &[u8]) -> Result<(), LineError>
+        ensures { GivesScript self.new result (spare_line word.now (script_view self.old)) }
+    {
+        self.settings.spare = self.setting_at(word, 0, 256)?;
         Ok(())
     }
 
@@ -82,6 +91,7 @@ impl Script {
             Keyword::Rows => self.rows_line(one(words)?),
             Keyword::Units => self.units_line(one(words)?),
             Keyword::Limit => self.limit_line(one(words)?),
+            Keyword::Spare => self.spare_line(one(words)?),
             Keyword::Server => self.server_line(alloc, reach, words),
             Keyword::Start => self.start_line(three(words)?),
             Keyword::Do(verb) => {

@@ -11,6 +11,7 @@ pub enum Keyword {
     Rows,
     Units,
     Limit,
+    Spare,
     Server,
     Start,
     /// The line is a command.
@@ -39,10 +40,11 @@ pub enum Verb {
 }
 
 /// The first words that lines may have: how each is written, the first reach that knows it, and what the line is.
-const FIRST_WORDS: [(&str, Reach, Keyword); 24] = [
+const FIRST_WORDS: [(&str, Reach, Keyword); 25] = [
     ("rows", Plain, Keyword::Rows),
     ("units", Plain, Keyword::Units),
     ("limit", Plain, Keyword::Limit),
+    ("spare", Desks, Keyword::Spare),
     ("server", Plain, Keyword::Server),
     ("start", Plain, Keyword::Start),
     ("submit", Plain, Keyword::Do(Verb::Submit)),

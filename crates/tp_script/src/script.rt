@@ -27,9 +27,12 @@ pub struct Settings {
     pub units: u16,
     /// Attempts of each element in a round, 1 to 7.
     pub attempts: u8,
+    /// Spare blocks of rows, 0 to 256.
+    pub spare: u16,
     ghost rows_in_range: { (1 ≤ rows) × (rows ≤ 256) },
     ghost units_in_range: { (1 ≤ units) × (units ≤ 1024) },
     ghost attempts_in_range: { (1 ≤ attempts) × (attempts ≤ 7) },
+    ghost spare_in_range: { spare ≤ 256 },
 }
 
 /// How a server keeps prepared work: by changing its registers at once, or by keeping what it will write.
@@ -185,6 +188,7 @@ impl Script {
                 rows: 64,
                 units: 256,
                 attempts: 3,
+                spare: 0,
             },
             servers: Vec::new(alloc),
             commands: Vec::new(alloc),

@@ -11,7 +11,7 @@ returns-in_default-clause-answer c =
     let p = c.self.inside in
     let is_pass : c.args.caller < p.limits.parts = rw (← c.self.view_is) at c.requires.pass in
     let none : fold (sooner c.args.stage) None p.looks.items ≡ None = ap (fold (sooner c.args.stage) None) (sym c.deref.ensures.value) ∙ (sym c.next_waiting.ensures ∙ c.in_default.is) in
-    let left = idle_leaves p.limits p.history.events p.passes.items p.looks.items c.args.caller c.args.stage c.self.invariant.0 c.self.invariant.1 is_pass c.index-used.result.now c.index-used.ensures c.if-used-self.false none in
+    let left = idle_leaves p.limits p.history.events p.passes.items p.drawn p.looks.items c.args.caller c.args.stage c.self.invariant.0 c.self.invariant.1 is_pass c.index-used.result.now c.index-used.ensures c.if-used-self.false none in
     rw (← c.self.view_is) (refl, left.0, left.1)
 
 pub overflow_add-attempt : goal.overflow_add-attempt
@@ -19,7 +19,7 @@ overflow_add-attempt c =
     let p = c.self.inside in
     let is_pass : c.args.caller < p.limits.parts = rw (← c.self.view_is) at c.requires.pass in
     let is : fold (sooner c.args.stage) None p.looks.items ≡ Some c.in-Some.look = ap (fold (sooner c.args.stage) None) (sym c.deref.ensures.value) ∙ (sym c.next_waiting.ensures ∙ c.in-Some.is) in
-    let below = claim_below p.limits p.history.events p.passes.items p.looks.items c.args.caller c.args.stage c.self.invariant.0 c.self.invariant.1 is_pass c.requires.server c.in-Some.look is in
+    let below = claim_below p.limits p.history.events p.passes.items p.drawn p.looks.items c.args.caller c.args.stage c.self.invariant.0 c.self.invariant.1 is_pass c.requires.server c.in-Some.look is in
     let most = c.self.invariant.0.limits.attempts.1 in
     rw c.attempts_of-attempt.ensures (omega arith)
 
@@ -29,7 +29,7 @@ invariant_of-self c =
     let is_pass : c.args.caller < p.limits.parts = rw (← c.self.view_is) at c.requires.pass in
     let is : fold (sooner c.args.stage) None p.looks.items ≡ Some c.in-Some.look = ap (fold (sooner c.args.stage) None) (sym c.deref.ensures.value) ∙ (sym c.next_waiting.ensures ∙ c.in-Some.is) in
     let free = rw (← c.self.view_is) at c.requires.free in
-    let left = claim_leaves p.limits p.history.events p.passes.items p.looks.items c.args.caller c.args.stage c.self.invariant.0 c.self.invariant.1 is_pass c.requires.server c.in-Some.look is
+    let left = claim_leaves p.limits p.history.events p.passes.items p.drawn p.looks.items c.args.caller c.args.stage c.self.invariant.0 c.self.invariant.1 is_pass c.requires.server c.in-Some.look is
     c.index-used.result.now c.index-used.ensures c.if-used-self.false free in
     let written = whole_write p.looks.items c.apply.new.looks p.looks.len (search rules) (c.apply.auto.looks ∙ ap length c.deref_mut.ensures.value) in
     let applied = rw (c.deref_mut.ensures.value, c.attempts_of-attempt.ensures) at c.apply.ensures in
@@ -41,6 +41,6 @@ returns-clause-answer c =
     let is_pass : c.args.caller < p.limits.parts = rw (← c.self.view_is) at c.requires.pass in
     let is : fold (sooner c.args.stage) None p.looks.items ≡ Some c.in-Some.look = ap (fold (sooner c.args.stage) None) (sym c.deref.ensures.value) ∙ (sym c.next_waiting.ensures ∙ c.in-Some.is) in
     let free = rw (← c.self.view_is) at c.requires.free in
-    let left = claim_leaves p.limits p.history.events p.passes.items p.looks.items c.args.caller c.args.stage c.self.invariant.0 c.self.invariant.1 is_pass c.requires.server c.in-Some.look is
+    let left = claim_leaves p.limits p.history.events p.passes.items p.drawn p.looks.items c.args.caller c.args.stage c.self.invariant.0 c.self.invariant.1 is_pass c.requires.server c.in-Some.look is
     c.index-used.result.now c.index-used.ensures c.if-used-self.false free in
     rw (← c.self.view_is, c.then-self-inside.ensures, c.attempts_of-attempt.ensures) left.2

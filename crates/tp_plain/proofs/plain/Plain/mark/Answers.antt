@@ -9,7 +9,7 @@ use Rattle.tp_plain.proofs.plain.Plain.mark.Goals as goal
 pub invariant_of-self : goal.invariant_of-self
 invariant_of-self c =
     let p = c.self.inside in
-    let s : State = record { limits = p.limits; history = p.history.events; passes = p.passes.items } in
+    let s : State = record { limits = p.limits; history = p.history.events; passes = p.passes.items; drawn = p.drawn } in
     let step = rw (← c.self.view_is) at c.requires.step in
     let quiet = rw (← c.self.view_is) at c.requires.quiet in
     let left = mark_leaves s p.looks.items (event_of c.args.note.now) c.self.invariant.0 c.self.invariant.1 step quiet in

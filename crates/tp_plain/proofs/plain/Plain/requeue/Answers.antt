@@ -60,7 +60,7 @@ pub invariant_of-self : goal.invariant_of-self
 invariant_of-self c =
     let at = goal.at.invariant_of-self c in
     let p = c.self.inside in
-    let s : State = record { limits = p.limits; history = p.history.events; passes = p.passes.items } in
+    let s : State = record { limits = p.limits; history = p.history.events; passes = p.passes.items; drawn = p.drawn } in
     let r = round_is at.After-index-round (inside at.In-Parked) in
     let few : c.index-round.result.now < 3 = c.if-round-ge-MOST_ROUNDS.false in
     let there : c.args.id < rows_of p.limits = rw (← c.self.view_is) at (inside at.In-Parked) in
