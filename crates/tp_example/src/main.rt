@@ -34,6 +34,7 @@ fn trade(rt: &HostRuntime) -> Result<(), Trouble> {
         rows: 8,
         units: 8,
         attempts: 3,
+        spare: 0,
     };
     let (manager, mut keeper) = Keeper::new(rt.alloc(), limits)?;
     let mut client = keeper.pass(&manager)?;

@@ -134,7 +134,7 @@ reports servers (c ∷ cs) s = let step = command_step servers c s in step.0 ++ 
 
 -- a pass for the client, and one for each server
 abbrev pub limits_of : ScriptView → Limits
-limits_of s = record { parts = 1 + length s.servers; rows = s.settings.rows; units = s.settings.units; attempts = s.settings.attempts }
+limits_of s = record { parts = 1 + length s.servers; rows = s.settings.rows; units = s.settings.units; attempts = s.settings.attempts; spare = s.settings.spare }
 
 -- the registers of the server; where there is none, one register that nothing uses
 abbrev pub registers_of : List ServerView → List ℕ

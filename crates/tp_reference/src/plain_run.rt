@@ -45,6 +45,7 @@ impl PlainRun {
             rows: settings.rows,
             units: settings.units,
             attempts: settings.attempts,
+            spare: settings.spare,
         };
         let registers = first_registers(script.servers.as_slice())?;
         match Plain::new(alloc, limits) {

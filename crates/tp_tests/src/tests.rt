@@ -11,6 +11,7 @@ mod interrupted;
 mod plain;
 mod plain_cancels;
 mod plain_requeues;
+mod plain_spares;
 mod reaches;
 mod read;
 mod rows;

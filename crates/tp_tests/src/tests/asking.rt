@@ -19,6 +19,21 @@ pub(crate) fn two<R: Abort + AllocGlobal>(rt: &R, rows: u16, units: u16, attempt
         rows,
         units,
         attempts,
+        spare: 0,
+    };
+    Plain::new(rt.alloc(), limits).expect(rt, "no manager")
+}
+
+/// A manager of two passes with eight units each, and so many spare blocks.
+pub(crate) fn sparing<R: Abort + AllocGlobal>(rt: &R, rows: u16, spare: u16) -> Plain
+    ensures { result.limits.parts ≡ 2 }
+{
+    let limits = Limits {
+        parts: 2,
+        rows,
+        units: 8,
+        attempts: 3,
+        spare,
     };
     Plain::new(rt.alloc(), limits).expect(rt, "no manager")
 }

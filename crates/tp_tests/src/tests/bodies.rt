@@ -104,6 +104,7 @@ fn a_server_of_ones_own(rt: HostRuntime) -> Result<(), Fail> {
         rows: 4,
         units: 4,
         attempts: 1,
+        spare: 0,
     };
     let (manager, mut keeper) = Keeper::new(rt.alloc(), limits).ok().ok_or("a manager")?;
     let mut client = keeper.pass(&manager)?;

@@ -21,6 +21,7 @@ const LIMITS: Limits = Limits {
     rows: 64,
     units: 256,
     attempts: 3,
+    spare: 0,
 };
 
 const SCRIPT: &str =

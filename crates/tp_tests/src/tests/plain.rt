@@ -124,6 +124,7 @@ fn want_of_memory_changes_nothing(rt: HostRuntime) -> Result<(), Fail> {
         rows: 4,
         units: 4,
         attempts: 2,
+        spare: 0,
     };
     let made = match Plain::new(rt.alloc(), limits) {
         Err(Refusal::NoMemory) => Plain::new(rt.alloc(), limits),
@@ -157,6 +158,7 @@ fn limits_out_of_range(rt: HostRuntime) {
         rows: 8,
         units: 256,
         attempts: 3,
+        spare: 0,
     };
     match Plain::new(rt.alloc(), limits) {
         Ok(_) => panic!(rt; "made"),

@@ -4,7 +4,7 @@ use tp_model::types::Body;
 use tp_script::{ClientAct, Command, DeskAct, Kind, Race, Reach, StdSource, read_script_at};
 
 const SCRIPT: &str =
-    "units 3\nserver a eager 1 2 add:3\nserver b lazy 2 1 take 15:7:after\nstart a 1 5\nsubmit 9 8 7\nsubmit 9 8 7 6\nsubmit 9 8 7 6 5\nturn b\nreply 6\nclaim a\nprepare b\ncommit a\nabort b\ndrop a\nkill 5\ncancel 6\nrequeue 7\nread 4\nerrors\nbalance b 3\nsum 2\ncount\nrace 4 256 14 3 2 1 10000\ndrain\naccount\n";
+    "units 3\nspare 256\nserver a eager 1 2 add:3\nserver b lazy 2 1 take 15:7:after\nstart a 1 5\nsubmit 9 8 7\nsubmit 9 8 7 6\nsubmit 9 8 7 6 5\nturn b\nreply 6\nclaim a\nprepare b\ncommit a\nabort b\ndrop a\nkill 5\ncancel 6\nrequeue 7\nread 4\nerrors\nbalance b 3\nsum 2\ncount\nrace 4 256 14 3 2 1 10000\ndrain\naccount\n";
 
 /// The client's command.
 fn client(act: ClientAct) -> Command {
@@ -30,8 +30,13 @@ fn each_command(rt: HostRuntime) {
             assert_eq!(rt; script.passes(), 8);
             let settings = script.settings;
             assert_eq!(rt;
-                (settings.rows, settings.units, settings.attempts),
-                (64, 3, 3)
+                (
+                    settings.rows,
+                    settings.units,
+                    settings.attempts,
+                    settings.spare
+                ),
+                (64, 3, 3, 256)
             );
             assert_eq!(rt; script.servers.len(), 2);
             let b = &script.servers[1];

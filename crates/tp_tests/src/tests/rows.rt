@@ -59,6 +59,7 @@ fn outputs_by_their_recipes(rt: HostRuntime) {
 fn refusals(rt: HostRuntime) {
     for (script, want) in [
         ("kill 0", "1: 1 Syntax"),
+        ("spare 0", "1: 1 Syntax"),
         ("submit 1 0 1 1", "1: 1 Syntax"),
         ("server a eager 1 1 add:1", "1: 1 Syntax"),
         ("submit 256 0 1", "1: 2 BadNumber"),
