@@ -1,5 +1,5 @@
 -- A cancel, on its way.
-use Rattle.std.proofs.Common.{◌≡◌, ◌⊎◌, ◌≢◌, ℕ, suc, ◌+◌, ◌*◌, ◌/◌, ◌<◌, ◌≤◌, ◌==◌, ◌&&◌, ◌||◌, cond, Bool, true, false, List, [], ◌∷◌, ◌++◌, sym, refl, ap, ◌∙◌, subst, inl, inr, ⊎_elim, arith, suc-mul, mul-le-mul_right, slice_index, Option, Some, None}
+use Rattle.std.proofs.Common.{◌≡◌, ◌⊎◌, nat_le, ◌≢◌, ℕ, suc, ◌+◌, ◌*◌, ◌/◌, ◌<◌, ◌≤◌, ◌==◌, ◌&&◌, ◌||◌, cond, Bool, true, false, List, [], ◌∷◌, ◌++◌, sym, refl, ap, ◌∙◌, subst, inl, inr, ⊎_elim, arith, suc-mul, mul-le-mul_right, slice_index, Option, Some, None}
 use Rattle.std.proofs.lemmas.Bool.{eq-eqb, eqb-true}
 use Rattle.std.specs.Prelude.{is_some}
 use mathlib.Core.List.{IsPrefix}
@@ -13,11 +13,11 @@ use Rattle.tp_model.specs.declared.event.Event.{Event}
 use Rattle.tp_model.specs.declared.event.Event.TheVariants.{Kill}
 use Rattle.tp_model.specs.History.{here, there, IsUnborn, element_of, status_of, IsSettled}
 use Rattle.tp_model.specs.Families.{IsRequest, IsSettledFamily}
-use Rattle.tp_model.specs.Steps.{AreLimits, most_rows, rows_of, IsLegal}
+use Rattle.tp_model.specs.Steps.{AreLimits, part_rows, most_rows, rows_of, IsLegal}
 use Rattle.tp_model.proofs.Lists.{if_same}
 use Rattle.tp_model.proofs.Histories.{status_of-snoc}
 use Rattle.tp_model.proofs.LawProofs.{settled_stay}
-use Rattle.tp_model.proofs.Bridges.{begins_refl, begins_trans, found_later, in_either, in_none, in_one}
+use Rattle.tp_model.proofs.Bridges.{append_nil, begins_refl, begins_trans, found_later, in_either, in_none, in_one}
 use Rattle.tp_model.proofs.Families.{AllSettled, all_settled, settled_since}
 use Rattle.tp_model.proofs.Later.{births_inside}
 use Rattle.tp_words.specs.declared.words.Head.{Head}
@@ -324,6 +324,22 @@ module _ (l : Limits) (root : ℕ) where
           most = subst (λ z. f + g ≤ count_below done z) next (let q : f + g ≤ count_below done i + cond (done i) 1 0 = omega arith in q);
         }
 
+    -- a look behind changes nothing in it
+    pub tallied_looked : (n m i f k : ℕ) (v w y : View) → Tallied l n root looked i f k v w → Looked l m w y → Tallied l (n + m) root looked i f k v y
+    tallied_looked n m i f k v w y a b =
+        let sw = swept_looked m w y b in let after = swept_begins m [] w y sw in let legal : IsLegal l y.seen = sw.gained.walk.steady.shows.legal in
+        let kept = count_le (λ x. looked x && is_done l root w.seen x) (λ x. looked x && is_done l root y.seen x) i
+        (λ x below is. and_both (looked x) (is_done l root y.seen x) (and_left (looked x) (is_done l root w.seen x) is) (done_later l root x w.seen y.seen legal after (and_right (looked x) (is_done l root w.seen x) is))) in
+        let a_most = a.most in
+        record {
+          events = a.events ++ [];
+          swept = swept_then n m a.events [] v w y a.swept sw;
+          counted = ap kills_in (append_nil a.events) ∙ a.counted;
+          few = a.few;
+          least = a.least;
+          most = omega arith;
+        }
+
     -- rows of which nothing is counted add nothing
     pub tallied_on : (n i m f k : ℕ) (v y : View) → i ≤ m → ((j : ℕ) → i ≤ j → j < m → (looked j && in_family root v.seen j) ≡ true → ⊥) → Tallied l n root looked i f k v y → Tallied l n root looked m f k v y
     tallied_on n i m f k v y less none a =
@@ -400,26 +416,43 @@ settled_over (Parked n) is = absurd is
 settled_over Killed is = refl
 
 module _ (l : Limits) (marks : List ℕ) (fair : AreLimits l) where
-  -- the row at the mark is none behind all rows
-  pub mark_inside : (v : View) (i : ℕ) → IsKnown l v → AreKnown l marks v → i < rows_of l → row_at_mark l marks i ≤ rows_of l
+  -- the row at the mark is none behind all rows of the parts
+  pub mark_inside : (v : View) (i : ℕ) → IsKnown l v → AreKnown l marks v → i < part_rows l → row_at_mark l marks i ≤ part_rows l
   mark_inside v i low known less =
       let p = i / l.rows in let inside : p < l.parts = (div-lt_iff_lt-mul fair.rows.0).1 less in
       let top = (low (PartMark p (slice_index marks p)) (known p inside)).0 in let all = rows_more p l.parts l.rows inside in omega arith
 
+  -- a row of the parts is looked at where it isn't below the mark, and a spare one always
+  pub looked_part : (i : ℕ) → i < part_rows l → row_at_mark l marks i ≤ i → is_looked l marks i ≡ true
+  looked_part i less low = ⊎_elim (λ t. or_right (nat_le (part_rows l) i) (nat_le (row_at_mark l marks i) i) t.0) (λ t. absurd (let high : i < row_at_mark l marks i = t.1 in omega arith)) (leb_tells (row_at_mark l marks i) i)
+
+  pub looked_spare : (i : ℕ) → part_rows l ≤ i → is_looked l marks i ≡ true
+  looked_spare i low = ⊎_elim (λ t. ap (λ b. b || nat_le (row_at_mark l marks i) i) t.0) (λ t. absurd (let high : i < part_rows l = t.1 in omega arith)) (leb_tells (part_rows l) i)
+
+  unlooked : (i : ℕ) → i < part_rows l → i < row_at_mark l marks i → is_looked l marks i ≡ false
+  unlooked i less high = ⊎_elim (λ t. absurd (let low : part_rows l ≤ i = t.1 in omega arith))
+      (λ t. ap (λ b. b || nat_le (row_at_mark l marks i) i) t.0 ∙ ⊎_elim (λ u. absurd (let low : row_at_mark l marks i ≤ i = u.1 in omega arith)) (λ u. u.0) (leb_tells (row_at_mark l marks i) i)) (leb_tells (part_rows l) i)
+
+  unlooked_is : (i : ℕ) → is_looked l marks i ≡ false → (i < part_rows l) × (i < row_at_mark l marks i)
+  unlooked_is i off = ⊎_elim (λ t. absurd (let on : is_looked l marks i ≡ true = looked_spare i t.1 in absurd cc))
+      (λ t. (t.1, ⊎_elim (λ u. absurd (let on : is_looked l marks i ≡ true = looked_part i t.1 u.1 in absurd cc)) (λ u. u.1) (leb_tells (row_at_mark l marks i) i))) (leb_tells (part_rows l) i)
+
   -- the rows from one below the mark up to it aren't looked at
-  pub below_mark : (i j : ℕ) (v : View) → IsKnown l v → AreKnown l marks v → i < rows_of l → i ≤ j → j < row_at_mark l marks i → is_looked l marks j ≡ false
+  pub below_mark : (i j : ℕ) (v : View) → IsKnown l v → AreKnown l marks v → i < part_rows l → i ≤ j → j < row_at_mark l marks i → is_looked l marks j ≡ false
   below_mark i j v low known less from_on high =
       let p = i / l.rows in let inside : p < l.parts = (div-lt_iff_lt-mul fair.rows.0).1 less in
       let top = (low (PartMark p (slice_index marks p)) (known p inside)).0 in let first = div-mul-le_self i l.rows in
       let flip : (p + 1) * l.rows ≡ p * l.rows + l.rows = omega (arith, suc-mul p l.rows) in
       let same : j / l.rows ≡ p = div-eq_of_lt-le l.rows (omega arith) (omega arith) in
-      ⊎_elim (λ t. absurd (let low' : j / l.rows * l.rows + slice_index marks (j / l.rows) ≤ j = t.1 in let here : p * l.rows + slice_index marks p ≤ j = subst (λ z. z * l.rows + slice_index marks z ≤ j) same low' in omega arith)) (λ t. t.0) (leb_tells (row_at_mark l marks j) j)
+      let all = mark_inside v i low known less in
+      unlooked j (omega arith) (subst (λ z. j < z * l.rows + slice_index marks z) (sym same) high)
 
   -- and what is born there is over
   pub over_unlooked : (root i : ℕ) (v : View) → IsKnown l v → AreKnown l marks v → i < rows_of l → is_looked l marks i ≡ false → in_family root v.seen i ≡ true → is_done l root v.seen i ≡ true
   over_unlooked root i v low known less off is =
-      let p = i / l.rows in let inside : p < l.parts = (div-lt_iff_lt-mul fair.rows.0).1 less in let first = div-mul-le_self i l.rows in
-      let below : i < row_at_mark l marks i = ⊎_elim (λ t. let on : is_looked l marks i ≡ true = t.0 in absurd cc) (λ t. t.1) (leb_tells (row_at_mark l marks i) i) in
+      let off_is = unlooked_is i off in
+      let p = i / l.rows in let inside : p < l.parts = (div-lt_iff_lt-mul fair.rows.0).1 off_is.0 in let first = div-mul-le_self i l.rows in
+      let below : i < row_at_mark l marks i = off_is.1 in
       go (element_of v.seen i) refl ((low (PartMark p (slice_index marks p)) (known p inside)).1 i first below) is
     where
       go : (o : Option Element) → element_of v.seen i ≡ o → IsOver l v.seen i → is_member root o ≡ true → is_done l root v.seen i ≡ true

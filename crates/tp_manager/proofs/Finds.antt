@@ -12,7 +12,7 @@ use Rattle.tp_model.specs.declared.trace.TraceEntry.{TraceEntry}
 use Rattle.tp_model.specs.History.{IsSettled, IsUnborn, element_of, status_of}
 use Rattle.tp_model.specs.Passes.{opening_of}
 use Rattle.tp_model.specs.Words.{ClaimWord, FreeWord, TakenWord, KilledWord, AgainWord, round_in, kill_word, claim_word, claim_word_after}
-use Rattle.tp_model.specs.Steps.{IsLegal, IsParked, IsServerStage, Step, rows_of}
+use Rattle.tp_model.specs.Steps.{IsLegal, IsParked, IsServerStage, Step, rows_of, part_rows}
 use Rattle.tp_model.proofs.Lists.{if_same, if_other}
 use Rattle.tp_model.proofs.Histories.{by_steps, element_of-kept, legal_start}
 use Rattle.tp_model.proofs.WordProofs.{claim_word-snoc}
@@ -29,10 +29,10 @@ use Rattle.tp_manager.specs.declared.listing.Wanted.TheVariants as wanteds
 use Rattle.tp_manager.specs.Calls.{AtPoint, IsWaiting, opening}
 use Rattle.tp_manager.specs.Looks.{IsThere}
 use Rattle.tp_manager.specs.Shown.{Spot, PassShown, shown}
-use Rattle.tp_manager.specs.Walks.{Acted, EachRow, Steady, Walked}
+use Rattle.tp_manager.specs.Walks.{Acted, EachRow, Steady, Walked, Begun, Sought}
 use Rattle.tp_manager.specs.Lists.{AllKilled, IsReply, NextError, NextReply, NoneParked}
 use Rattle.tp_manager.specs.Finds.{Finds, Hits, IsWanted, PassedOver}
-use Rattle.tp_manager.proofs.Seeks.{Widens}
+use Rattle.tp_manager.proofs.Seeks.{Widens, sought_more}
 use Rattle.tp_manager.proofs.Walks.{opening_is, sought_acted, walked_none}
 
 -- units take elements of the servers' stages alone
@@ -212,3 +212,10 @@ module _ (t : Spot) (v : View) (old : PassShown) (is : shown t v ≡ old) (l : L
 
   pub killed_beyond : (root : ℕ) → AllKilled l root (λ i. from ≤ i) old (shown t v)
   killed_beyond root x p reply low = absurd (nothing x p low)
+
+-- what a look at the parts and then at the spare blocks came to
+pub find_both : (l : Limits) (wanted : Wanted) (n m from : ℕ) (v w y : View) (o : Option ℕ) → from ≤ part_rows l → Sought l n (EachRow (PassedOver l wanted) from (part_rows l)) v w
+    → MatchOption o (Begun l (PassedOver l wanted) m (part_rows l) (rows_of l) w y) (λ id. (part_rows l ≤ id) × (id < rows_of l) × Hits l wanted id y.seen × Sought l m (EachRow (PassedOver l wanted) (part_rows l) id) w y)
+    → Finds l wanted (n + m) from (rows_of l) v y o
+find_both l wanted n m from v w y None start s b = sought_more l (PassedOver l wanted) (over_widens l wanted) n m from (part_rows l) (rows_of l) v w y start (omega arith) s b
+find_both l wanted n m from v w y (Some id) start s b = let low = b.0 in (omega arith, b.1, b.2, sought_more l (PassedOver l wanted) (over_widens l wanted) n m from (part_rows l) id v w y start low s (inr b.3))

@@ -14,7 +14,6 @@ use Rattle.tp_model.proofs.Histories.{legal_empty}
 use Rattle.tp_rule.specs.Views.{SeatShown, first_hand, first_view, fresh, fresh_from, hand, view_of}
 use Rattle.tp_rule.specs.Steps.{IsSo, Knows, handed_out, handed_on, front_of, rest_of, looked, noted}
 use Rattle.tp_rule.specs.declared.view.Hand.{Hand}
-use Rattle.tp_rule.specs.declared.view.Known.TheVariants.{PartMark}
 use Rattle.tp_rule.specs.declared.view.View.{View}
 use Rattle.tp_manager.specs.Shown.{steps_in}
 use Rattle.tp_manager.specs.Walks.{IsKnown, Keeps, Rests, pass_in, untraced, with_trace}

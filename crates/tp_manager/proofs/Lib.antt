@@ -11,6 +11,8 @@ pub mod Tries
 pub mod Passes
 pub mod Submits
 pub mod Moves
+pub mod Blocks
+pub mod Rooms
 pub mod Requeues
 pub mod Scans
 pub mod Claims

@@ -17,7 +17,8 @@ use Rattle.tp_manager.specs.declared.manager.Run.{Run}
 use Rattle.tp_manager.specs.declared.manager.Task.{Task}
 use Rattle.tp_manager.specs.Shown.{Spot, PassShown, shown}
 use Rattle.tp_manager.specs.Calls.{AtPoint, IsQuiet}
-use Rattle.tp_manager.specs.Walks.{Steady, Looked, Rests, IsTask, unit_in, RemembersDrawn}
+use Rattle.tp_model.specs.declared.trace.TraceEntry.{TraceEntry}
+use Rattle.tp_manager.specs.Walks.{Steady, Looked, Rests, IsTask, unit_in, RemembersDrawn, Walked}
 use Rattle.tp_manager.specs.Calls.{claims_in}
 use Rattle.tp_manager.proofs.Looks.{unborn_if}
 use Rattle.tp_manager.proofs.Walks.{walked_none, looked_begins, at_point}
@@ -36,6 +37,9 @@ steady_at k l v same s = subst (λ (z : Limits). Steady z v) same s
 -- the counter of drawn blocks never falls
 pub drawn_later : (v w : View) (n : ℕ) → w.limits ≡ v.limits → ((x : Known) → Knows v x → Knows w x) → RemembersDrawn v n → RemembersDrawn w n
 drawn_later v w n same knows r = (subst (λ (z : Limits). n ≤ z.spare) (sym same) r.0, λ some. knows (BlocksDrawn n) (r.1 some))
+
+pub drawn_walked : (l : Limits) (n : ℕ) (ms : List TraceEntry) (v w : View) (d : ℕ) → v.limits ≡ l → Walked l n ms v w → RemembersDrawn v d → RemembersDrawn w d
+drawn_walked l n ms v w d lim a r = drawn_later v w d (a.steady.pass.1 ∙ sym lim) a.knows r
 
 -- the pass has looked at it
 pub rests_drawn : (seat : SeatShown) (number : ℕ) (run : Run) (used : ℕ) (task : Option Task) (n : ℕ) → Rests seat number run used task → RemembersDrawn (view_of seat) n → Rests seat number (record run { drawn = n }) used task

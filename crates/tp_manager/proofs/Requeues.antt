@@ -28,7 +28,7 @@ use Rattle.tp_manager.specs.Shown.{Spot, PassShown, shown}
 use Rattle.tp_manager.specs.Requeues.{IsBetween, IsPastRequeue, Renewed, RequeueFails, Requeues}
 use Rattle.tp_manager.specs.Walks.{Acted, Looked, Rests, with_trace}
 use Rattle.tp_manager.proofs.Moves.{moved}
-use Rattle.tp_manager.proofs.Passes.{claims_append, quiet_looked, steady_at, task_later}
+use Rattle.tp_manager.proofs.Passes.{drawn_later, claims_append, quiet_looked, steady_at, task_later}
 use Rattle.tp_manager.proofs.Points.{opening_kept}
 use Rattle.tp_manager.proofs.Walks.{acted_then, at_point, grew_hand, grew_walked, looked, looked_begins, grew_steady, walked_begins, walked_then}
 
@@ -140,6 +140,7 @@ rests_renewed l seat next number run used task same r n i round a = let k = a.ke
   steady = steady_at l (view_of next).limits (view_of next) lim a.walk.steady;
   number_is = ap (λ (z : Hand). z.number) k ∙ r.number_is;
   run_is = (ap (λ (z : Hand). z.next) k ∙ r.run_is.0, ap (λ (z : Hand). z.left) k ∙ r.run_is.1);
+  drawn = drawn_later (view_of seat) (view_of next) run.drawn (sym (same ∙ lim)) a.walk.knows r.drawn;
   used_is = ap (λ (z : Hand). z.claimed) k ∙ r.used_is;
   used_below = subst (λ (z : Limits). used ≤ z.units) (same ∙ lim) r.used_below;
   claims = ap (λ (z : Hand). claims_in z.mine) k ∙ (claims_append (hand (view_of seat)).mine (Requeue (hand (view_of seat)).number i round ∷ []) ∙ (let c = r.claims in omega arith));
@@ -156,7 +157,7 @@ module _ (t t' : Spot) (v x w : View) (old : PassShown) (is : shown t v ≡ old)
     high = b.high;
     adds = record { mine = ap (λ (z : Hand). z.mine) b.kept; before = b.before; seen = b.ends; begins = b.begins };
     open_unit = ap (λ (z : Hand). z.open_unit) b.kept;
-    run = (ap (λ (z : Hand). z.next) b.kept, ap (λ (z : Hand). z.left) b.kept);
+    run = (ap (λ (z : Hand). z.next) b.kept, ap (λ (z : Hand). z.left) b.kept, ap (λ (z : Hand). z.blocks) b.kept);
   }
 
   -- a history between two that a part of the call has seen, after one that looks, is a point of the call

@@ -1,5 +1,6 @@
 -- A row that was passed by, and a row whose element was taken.
-use Rattle.std.proofs.Common.{◌≡◌, ◌≢◌, ℕ, ◌+◌, ◌-◌, ◌*◌, ◌<◌, ◌≤◌, Some, List, [], ◌∷◌, ◌++◌, sym, refl, ap, ◌∙◌, subst, inl, ⊎_elim, arith, slice_index, mul-le-mul_right}
+use Rattle.std.proofs.Common.{◌≡◌, ◌≢◌, ℕ, ◌+◌, ◌-◌, ◌*◌, ◌<◌, ◌≤◌, Some, List, [], ◌∷◌, ◌++◌, sym, refl, ap, ◌∙◌, subst, inl, ⊎_elim, arith, slice_index, mul-le-mul_right, Option, None, MatchOption}
+use Rattle.tp_manager.specs.declared.scanning.Taken.{Taken}
 use mathlib.Core.List.{IsPrefix}
 use mathlib.Core.Logic.{dite}
 use native.Mathlib.Decide.{dec_le}
@@ -11,20 +12,20 @@ use Rattle.tp_model.specs.declared.event.Event.TheVariants.{Claim}
 use Rattle.tp_model.specs.declared.trace.StepKind.TheVariants as kinds
 use Rattle.tp_model.specs.History.{IsUnborn, element_of, status_of}
 use Rattle.tp_model.specs.Words.{ClaimWord, claim_word, word_status}
-use Rattle.tp_model.specs.Steps.{AreLimits, IsLegal, rows_of}
+use Rattle.tp_model.specs.Steps.{AreLimits, IsLegal, rows_of, part_rows}
 use Rattle.tp_model.proofs.WordProofs.{status_by_words}
 use Rattle.tp_model.proofs.Bridges.{begins_refl, begins_trans, found_later, waits_below, waits_later}
 use Rattle.tp_model.specs.Passes.{opening_of}
-use Rattle.tp_rule.specs.Steps.{AllowsClaim, Knows, MakesClaim, claimed, with_claim}
+use Rattle.tp_rule.specs.Steps.{AllowsClaim, MakesClaim, claimed, with_claim}
 use Rattle.tp_rule.specs.declared.view.Known.TheVariants.{PartMark}
 use Rattle.tp_rule.specs.Views.{hand}
 use Rattle.tp_rule.specs.declared.view.Hand.{Hand}
 use Rattle.tp_rule.specs.declared.view.View.{View}
 use Rattle.tp_manager.specs.Calls.{IsWaiting}
-use Rattle.tp_manager.specs.Walks.{AreFinished, EachRow, Looked, OfPart, PassedBy, Remembers, Sought, Took, with_trace}
+use Rattle.tp_manager.specs.Walks.{AreFinished, EachRow, Looked, OfPart, PassedBy, Remembers, Sought, Took, with_trace, Begun}
 use Rattle.tp_manager.proofs.Marks.{over_passed}
 use Rattle.tp_manager.proofs.Moves.{moved}
-use Rattle.tp_manager.proofs.Seeks.{Widens}
+use Rattle.tp_manager.proofs.Seeks.{Widens, sought_more}
 use Rattle.tp_manager.proofs.Walks.{grew_steady, grew_hand, grew_walked, walked_then, walked_few, looked_begins, walked_begins}
 
 held_not : (u n : ℕ) → ¬ IsWaiting (Held u n)
@@ -122,3 +123,10 @@ module _ (l : Limits) (stage : ℕ) where
 
 pub rows_some : (l : Limits) → AreLimits l → 0 < rows_of l
 rows_some l fair = let a : 1 ≤ l.parts = fair.parts.0 in let b : 1 ≤ l.rows = fair.rows.0 in let m : 1 * l.rows ≤ l.parts * l.rows = mul-le-mul_right l.rows a in omega arith
+
+-- what a look at the parts and then at the spare blocks came to
+pub scan_both : (l : Limits) (stage u n m : ℕ) (v w y : View) (o : Option Taken) → Sought l n (EachRow (PassedBy l stage) 0 (part_rows l)) v w
+    → MatchOption o (Begun l (PassedBy l stage) m (part_rows l) (rows_of l) w y) (λ (t : Taken). Took l m stage u w y t.element t.attempt × (t.element.root ≡ t.root))
+    → MatchOption o (Sought l (n + m) (EachRow (PassedBy l stage) 0 (rows_of l)) v y) (λ (t : Taken). Took l (n + m) stage u v y t.element t.attempt × (t.element.root ≡ t.root))
+scan_both l stage u n m v w y None s b = sought_more l (PassedBy l stage) (passed_widens l stage) n m 0 (part_rows l) (rows_of l) v w y (omega arith) (omega arith) s b
+scan_both l stage u n m v w y (Some t) s b = (took_then l stage u t.attempt t.element n m v w y (record { marks = s.marks; walk = s.walk; kept = s.kept }) b.0, b.1)

@@ -1,5 +1,5 @@
 -- A look at one row after another.
-use Rattle.std.proofs.Common.{◌≡◌, ◌≢◌, ℕ, zero, suc, ◌+◌, ◌*◌, ◌<◌, ◌≤◌, List, ◌++◌, sym, ap, ◌∙◌, subst, inl, inr, ⊎_elim, arith, suc-mul, mul-le-mul_right}
+use Rattle.std.proofs.Common.{◌≡◌, ◌≢◌, ℕ, zero, suc, ◌+◌, ◌*◌, ◌<◌, ◌≤◌, List, ◌++◌, sym, ap, ◌∙◌, subst, refl, inl, inr, ⊎_elim, arith, suc-mul, mul-le-mul_right}
 use Rattle.std.proofs.lemmas.Bool.Decides.{eqb_tells}
 use mathlib.Core.Logic.{dite}
 use native.Mathlib.Decide.{dec_le}
@@ -7,11 +7,12 @@ use mathlib.Core.List.{IsPrefix}
 use Rattle.tp_model.specs.declared.event.Event.{Event}
 use Rattle.tp_model.specs.declared.types.Limits.{Limits}
 use Rattle.tp_model.specs.Passes.{opening_of}
-use Rattle.tp_model.specs.Steps.{part_rows}
+use Rattle.tp_model.specs.Steps.{IsRowOf, part_rows}
 use Rattle.tp_model.specs.History.{IsUnborn}
 use Rattle.tp_model.proofs.Bridges.{begins_refl, begins_trans}
 use Rattle.tp_rule.specs.Views.{hand}
 use Rattle.tp_rule.specs.declared.view.View.{View}
+use Rattle.tp_manager.specs.Looks.{GoesOn}
 use Rattle.tp_manager.specs.Walks.{Acted, Begun, EachRow, OfPart, Looked, Sought, Steady, with_trace}
 use Rattle.tp_manager.proofs.Points.{has_more, opening_kept}
 use Rattle.tp_manager.proofs.Walks.{acted_then, looked_begins, looked_few, looked_none, opening_first, sought_by, sought_few, walked_begins, walked_few, walked_then}
@@ -137,6 +138,16 @@ part_of size (suc parts) i less = dite (dec_le (parts * size) i)
     (λ past. (parts, omega arith, past, (let all : i < suc parts * size = less in omega (arith, suc-mul parts size))))
     (λ not. let t = part_of size parts i (omega arith) in let below : t.0 < parts = t.1 in (t.0, omega arith, t.2, t.3))
 
+-- a scan that goes on from a row of a part goes no further than to the part's end
+pub part_on : (l : Limits) (i next c : ℕ) → GoesOn l i next → IsRowOf l c i → next ≤ c * l.rows + l.rows
+part_on l i next c on row = on.area (c * l.rows) (c * l.rows + l.rows) (inl (c, (row.0, refl, refl))) row.1 row.2
+
+-- a scan that goes on from a row of the parts doesn't leave them
+pub part_end : (l : Limits) (i next : ℕ) → i < part_rows l → GoesOn l i next → next ≤ part_rows l
+part_end l i next less on = let t = part_of l.rows l.parts i less in let below : t.0 < l.parts = t.1 in
+    let end = part_on l i next t.0 on (t.1, t.2, t.3) in
+    let all = rows_more t.0 l.parts l.rows below in omega arith
+
 pub all_parts : (l : Limits) (Passed : ℕ → List Event → List Event → Type 0) (a b : List Event) → EachRow (OfPart l Passed) 0 l.parts a b → EachRow Passed 0 (part_rows l) a b
 all_parts l Passed a b each i low high = let t = part_of l.rows l.parts i high in each t.0 (omega arith) t.1 i t.2 t.3
 
@@ -152,3 +163,20 @@ one_row l Passed n i v w s = record {
   step = s.step;
   passed = λ j low high. let same : i ≡ j = omega arith in subst (λ z. Passed z (opening_of v.seen s.marks) w.seen) same s.passed;
 }
+
+-- a look, and rows behind it up to row n: what is behind these was passed by then
+module _ (l : Limits) (Passed : ℕ → List Event → List Event → Type 0) (widens : Widens Passed) (m from n top : ℕ) (v w y : View) (first : Acted l 1 v w) where
+  pub sought_up : (b : Begun l Passed m from n w y) → ((i : ℕ) → n ≤ i → i < top → Passed i w.seen w.seen) → Sought l (1 + m) (EachRow Passed from top) v y
+  sought_up b behind = let rest = begun_looked l Passed widens m from n w y b first.walk.steady in
+      sought_by l (1 + m) (EachRow Passed from top) v y (acted_then l 1 m v w y first rest)
+      (λ i low high. let opened = begun_by l Passed widens (1 + m) m 0 0 v w y first rest (omega arith) in let later = looked_begins l m w y rest in
+      dite (dec_le n i)
+      (λ past. widens i _ w.seen w.seen y.seen opened later (behind i past high))
+      (λ not. ⊎_elim (λ t. absurd (let e = t.0 in omega arith))
+      (λ t. widens i _ (opening_of w.seen t.marks) y.seen y.seen (begins_trans _ w.seen _ opened t.walk.opens) (begins_refl y.seen) (t.passed i low (omega arith))) b))
+
+-- rows that were passed, and others behind them, if there are any
+pub sought_more : (l : Limits) (Passed : ℕ → List Event → List Event → Type 0) → Widens Passed → (m k from n top : ℕ) (v w y : View) → from ≤ n → n ≤ top → Sought l m (EachRow Passed from n) v w → Begun l Passed k n top w y → Sought l (m + k) (EachRow Passed from top) v y
+sought_more l Passed widens m k from n top v w y start le s b = ⊎_elim
+    (λ t. subst (λ (z : ℕ × View). Sought l (m + k) (EachRow Passed from z.0) v z.1) (λ i. (sym t.0 i, sym t.1 i)) (sought_few l m (m + k) (EachRow Passed from n) v w (omega arith) s))
+    (λ t. begun_sought l Passed widens m from k n v w y (inr s) top start t) b

@@ -15,7 +15,6 @@ use Rattle.tp_model.proofs.Bridges.{begins_refl, new_birth}
 use Rattle.tp_rule.specs.Views.{SeatShown, IsOnePass, hand, next_row, view_of}
 use Rattle.tp_rule.specs.Steps.{Drafts, IsSo, Knows, Publishes, birth, bodied, drafted, next_element, noted, unchanged, with_birth, with_body, with_draft}
 use Rattle.tp_rule.specs.declared.view.Hand.{Hand}
-use Rattle.tp_rule.specs.declared.view.Known.TheVariants.{PartMark}
 use Rattle.tp_rule.specs.declared.view.View.{View}
 use Rattle.tp_rule.proofs.Reading.{one_after}
 use Rattle.tp_manager.specs.declared.manager.Run.{Run}

@@ -15,7 +15,6 @@ use Rattle.tp_rule.specs.Views.{HasPass, IsOnePass, first_hand, hand}
 use Rattle.tp_rule.specs.Steps.{Grew, IsSo, Knows, front_of, joined, kept, looked, noted, parted, rest_of, unchanged}
 use Rattle.tp_rule.specs.declared.view.Hand.{Hand}
 use Rattle.tp_rule.specs.declared.view.Known.{Known}
-use Rattle.tp_rule.specs.declared.view.Known.TheVariants.{PartMark}
 use Rattle.tp_rule.specs.declared.view.View.{View}
 use Rattle.tp_rule.proofs.Reading.{grew_begins}
 use Rattle.tp_manager.specs.Bounds.{lead_steps, led_steps, meet_steps}

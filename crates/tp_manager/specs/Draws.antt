@@ -1,29 +1,22 @@
 -- What a pass is like after it has looked for room for rows.
-use Rattle.std.specs.Prelude.{◌≡◌, ◌⊎◌, ℕ, ◌+◌, ◌<◌, ◌≤◌, List, [], ◌∷◌, ◌++◌}
+use Rattle.std.specs.Prelude.{◌≡◌, ◌⊎◌, ℕ, ◌<◌, ◌≤◌, [], ◌∷◌, ◌++◌}
 use Rattle.tp_model.specs.declared.types.Limits.{Limits}
 use Rattle.tp_model.specs.declared.types.TheConstants.{BLOCK_ROWS}
-use Rattle.tp_model.specs.Passes.{IsPassView}
 use Rattle.tp_model.specs.Steps.{block_first}
 use Rattle.tp_rule.specs.declared.view.View.{View}
 use Rattle.tp_manager.specs.declared.manager.Run.{Run}
 use Rattle.tp_manager.specs.Bounds.{draw_steps}
-use Rattle.tp_manager.specs.Calls.{FindsNoBlock, Follows, steps_of}
+use Rattle.tp_manager.specs.Calls.{FindsNoBlock, Follows}
 use Rattle.tp_manager.specs.Shown.{PassShown}
-use Rattle.tp_manager.specs.Walks.{AreBlind, Drew}
+use Rattle.tp_manager.specs.Walks.{Drew}
 
 -- a spare block is drawn, and it is the run
 abbrev pub Drawn : Limits → View → View → Run → Type 0
 Drawn l v w run = (b : ℕ) × Drew l (draw_steps l) b v w × (run.next ≡ block_first l b) × (run.left ≡ BLOCK_ROWS)
 
--- the pass made steps of which none looks, at most so many, and has seen nothing more
-pub record Blindly (n : ℕ) (old new : PassShown) : Type 0 where
-  pub follows : Follows n old new
-  pub blind : AreBlind (steps_of old new)
-  pub seen : new.seen ≡ old.seen
-
 -- the pass has drawn spare block b, and it is its run
-abbrev pub with_block : ℕ → PassShown → PassShown → PassShown
-with_block b old new = record old {
+abbrev pub on_block : ℕ → PassShown → PassShown → PassShown
+on_block b old new = record old {
   next = block_first old.limits b;
   left = BLOCK_ROWS;
   blocks = old.blocks ++ b ∷ [];
@@ -34,8 +27,8 @@ with_block b old new = record old {
 -- the pass has rows for so many: they were left to it, or it has drawn a block
 abbrev pub HasRoom : Limits → ℕ → PassShown → PassShown → Type 0
 HasRoom l rows old new = ((rows ≤ old.left) × (new ≡ old))
-    ⊎ ((old.left < rows) × (b : ℕ) × (new ≡ with_block b old new) × Blindly (draw_steps l) old new)
+    ⊎ ((old.left < rows) × (b : ℕ) × (new ≡ on_block b old new) × Follows (draw_steps l) old new)
 
 -- it has none, and all blocks are drawn
 abbrev pub NoRoom : Limits → ℕ → PassShown → PassShown → Type 0
-NoRoom l rows old new = FindsNoBlock rows old new × Blindly (draw_steps l) old new
+NoRoom l rows old new = FindsNoBlock rows old new × Follows (draw_steps l) old new

@@ -1,6 +1,6 @@
 -- What the view of a pass keeps over some of a call's steps. In each definition l are the table's limits, v is the
 -- view before, and w the view after.
-use Rattle.std.specs.Prelude.{◌≡◌, ◌≢◌, ◌⊎◌, ℕ, ◌+◌, ◌-◌, ◌*◌, ◌<◌, ◌≤◌, List, [], ◌∷◌, ◌++◌, length, map, Option, Some, None, slice_index, false}
+use Rattle.std.specs.Prelude.{◌≡◌, ◌≢◌, ◌⊎◌, ℕ, ◌+◌, ◌-◌, ◌*◌, ◌<◌, ◌≤◌, List, [], ◌∷◌, ◌++◌, length, map, Option, Some, None, slice_index}
 use mathlib.Core.List.{IsPrefix}
 use Rattle.tp_model.specs.declared.types.Element.{Element}
 use Rattle.tp_model.specs.declared.types.Limits.{Limits}
@@ -8,7 +8,7 @@ use Rattle.tp_model.specs.declared.event.Event.{Event}
 use Rattle.tp_model.specs.declared.trace.TraceEntry.{TraceEntry}
 use Rattle.tp_model.specs.History.{IsClaim, IsUnborn, element_of, events_by, status_of}
 use Rattle.tp_model.specs.Drafts.{DraftView}
-use Rattle.tp_model.specs.Passes.{HasLook, PassView, IsPassView, looks, opening_of}
+use Rattle.tp_model.specs.Passes.{HasLook, PassView, IsPassView, opening_of}
 use Rattle.tp_model.specs.Steps.{AreLimits, IsLegal, block_first, rows_of}
 use Rattle.tp_rule.specs.Views.{SeatShown, IsOnePass, fresh_from, hand, view_of}
 use Rattle.tp_rule.specs.declared.view.Hand.{Hand}
@@ -55,11 +55,6 @@ pub record Walked (l : Limits) (n : ℕ) (marks : List TraceEntry) (v w : View) 
   pub steady : Steady l w
   -- what was known is known
   pub knows : (x : Known) → Knows v x → Knows w x
-
--- none of these steps looks
-abbrev pub AreBlind : List TraceEntry → Type 0
-AreBlind [] = Unit {0}
-AreBlind (step ∷ steps) = (looks step.kind ≡ false) × AreBlind steps
 
 -- the pass with this trace
 abbrev pub with_trace : List TraceEntry → Hand → Hand
@@ -200,19 +195,17 @@ pub record Took (l : Limits) (n stage u : ℕ) (v w : View) (e : Element) (attem
 abbrev pub NoneBehind : Limits → ℕ → View → Type 0
 NoneBehind l end v = (i : ℕ) → end ≤ i → i < rows_of l → IsUnborn v.seen i
 
--- in at most n steps, of which none looks, the pass has drawn spare block b, whose rows are its run by now
+-- in at most n steps the pass has drawn spare block b, whose rows are its run by now
 pub record Drew (l : Limits) (n b : ℕ) (v w : View) : Type 0 where
   pub marks : List TraceEntry
   pub walk : Walked l n marks v w
-  pub blind : AreBlind marks
   pub hand_is : hand w ≡ with_trace (hand w).trace (with_block b (block_first l b) (hand v))
   pub seen : w.seen ≡ v.seen
 
--- in at most n steps, of which none looks, the pass has done nothing
+-- in at most n steps the pass has done nothing, and has seen nothing more
 pub record Tried (l : Limits) (n : ℕ) (v w : View) : Type 0 where
   pub marks : List TraceEntry
   pub walk : Walked l n marks v w
-  pub blind : AreBlind marks
   pub hand_is : hand w ≡ with_trace (hand w).trace (hand v)
   pub seen : w.seen ≡ v.seen
 

@@ -186,13 +186,7 @@ impl Shared {
     }
 
     /// Goes once through all rows that are not below the marks.
-    fn cancel_round(
-        &self,
-        seat: &mut Seat,
-        drawn: &mut u16,
-        root: u32,
-        marks: &[u16; 32],
-    ) -> Tally
+    fn cancel_round(&self, seat: &mut Seat, drawn: &mut u16, root: u32, marks: &[u16; 32]) -> Tally
         requires own { IsSeatOf self.now.words seat.old }
         requires steady { Steady (limits_of self.now.words) (view_of seat.old) }
         requires drawn { RemembersDrawn (view_of seat.old) drawn.old }
@@ -210,13 +204,7 @@ impl Shared {
 
     /// Goes through those rows until a round finds as many elements of the family as the one before it. How many elements
     /// it killed.
-    fn cancel_family(
-        &self,
-        seat: &mut Seat,
-        drawn: &mut u16,
-        root: u32,
-        marks: &[u16; 32],
-    ) -> u32
+    fn cancel_family(&self, seat: &mut Seat, drawn: &mut u16, root: u32, marks: &[u16; 32]) -> u32
         requires own { IsSeatOf self.now.words seat.old }
         requires steady { Steady (limits_of self.now.words) (view_of seat.old) }
         requires drawn { RemembersDrawn (view_of seat.old) drawn.old }

@@ -28,7 +28,10 @@ impl Manager {
         }
         let unit = pass.number * units + pass.used;
         self.shared.words.choose_unit(seat, unit);
-        let Some(taken) = self.shared.scan(seat, &mut pass.lows, &mut pass.run.drawn, stage, unit) else {
+        let Some(taken) = self
+            .shared
+            .scan(seat, &mut pass.lows, &mut pass.run.drawn, stage, unit)
+        else {
             return Claimed::Idle;
         };
         pass.used += 1;

@@ -3,10 +3,8 @@ ghost use Rattle.std.specs.Prelude.{◌≡◌, ◌-◌, ◌≤◌, [], true, fal
 ghost use Rattle.tp_rule.specs.Views.{hand_of, view_of, IsSameSeat};
 ghost use Rattle.tp_rule.specs.Tables.{limits_of, IsSeatOf};
 ghost use Rattle.tp_manager.specs.Shown.{IsOf};
-ghost use Rattle.tp_manager.specs.Bounds.{draw_steps};
 ghost use Rattle.tp_manager.specs.Draws.{Drawn, HasRoom, NoRoom};
-ghost use Rattle.tp_manager.specs.Calls.{FindsNoBlock};
-ghost use Rattle.tp_manager.specs.Walks.{Drew, RemembersDrawn, Steady, Tried};
+ghost use Rattle.tp_manager.specs.Walks.{RemembersDrawn, Steady, Tried};
 
 use crate::manager::{Manager, Pass, Run, Shared};
 use tp_model::types::BLOCK_ROWS;

@@ -247,8 +247,13 @@ impl Manager {
         if from >= self.shared.places.rows() {
             return None;
         }
-        self.shared
-            .find(seat, &mut pass.lows, &mut pass.run.drawn, from, Wanted::Reply { root })
+        self.shared.find(
+            seat,
+            &mut pass.lows,
+            &mut pass.run.drawn,
+            from,
+            Wanted::Reply { root },
+        )
     }
 
     /// The least id from this one on of an element, of whatever stage, that was found to be parked.
@@ -268,7 +273,12 @@ impl Manager {
         if from >= self.shared.places.rows() {
             return None;
         }
-        self.shared
-            .find(seat, &mut pass.lows, &mut pass.run.drawn, from, Wanted::Error)
+        self.shared.find(
+            seat,
+            &mut pass.lows,
+            &mut pass.run.drawn,
+            from,
+            Wanted::Error,
+        )
     }
 }

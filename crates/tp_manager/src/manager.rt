@@ -5,6 +5,7 @@ ghost use Rattle.tp_model.specs.Passes.{IsPassView};
 ghost use Rattle.tp_rule.specs.Views.{fresh_from, view_of};
 ghost use Rattle.tp_rule.specs.Tables.{limits_of};
 ghost use Rattle.tp_rule.specs.Steps.{IsLow};
+ghost use Rattle.tp_manager.specs.Calls.{Follows};
 ghost use Rattle.tp_manager.specs.Shown.{low_of, view_in, IsOf, IsKeptBy};
 ghost use Rattle.tp_manager.specs.declared.manager.MakeFault.TheVariants as faults;
 
@@ -210,6 +211,13 @@ impl Pass {
         ensures inside { result ≤ self.now.limits.spare }
     {
         self.run.drawn
+    }
+
+    /// A call that changes nothing makes no step. The function does nothing: its contract is the law.
+    pub(crate) fn stays(&self)
+        ensures { Follows 0 self.now self.now }
+    {
+        let _number = self.number;
     }
 
     /// Whether the pass has a unit of work open: claimed, and neither committed nor aborted by its own calls.

@@ -254,13 +254,7 @@ impl Shared {
     }
 
     /// The unit takes the first element of the spare blocks that waits in the stage.
-    fn scan_blocks(
-        &self,
-        seat: &mut Seat,
-        drawn: &mut u16,
-        stage: u8,
-        unit: u16,
-    ) -> Option<Taken>
+    fn scan_blocks(&self, seat: &mut Seat, drawn: &mut u16, stage: u8, unit: u16) -> Option<Taken>
         requires own { IsSeatOf self.now.words seat.old }
         requires steady { Steady (limits_of self.now.words) (view_of seat.old) }
         requires drawn { RemembersDrawn (view_of seat.old) drawn.old }

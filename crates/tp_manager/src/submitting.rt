@@ -45,6 +45,7 @@ impl Manager {
             (λ refusal. SubmitRefused stage pass.old pass.new refusal) }
     {
         if stage == 0 || stage > 14 {
+            pass.stays();
             return Err(Refusal::BadStage);
         }
         if !self.has_room(pass, 1) {

@@ -1,5 +1,5 @@
 use Rattle.std.proofs.Common.{rules}
-use Rattle.tp_manager.proofs.RoundAccounts.{account_round}
+use Rattle.tp_manager.proofs.RoundAccounts.{account_round, cancel_round}
 use Rattle.tp_manager.proofs.bounds.round_bounds.Goals as goal
 
 pub returns : goal.returns
@@ -13,7 +13,7 @@ returns c = record {
     abort = search rules;
     kill = search rules;
     requeue = search rules;
-    cancel = search rules;
+    cancel = cancel_round l;
     read = search rules;
     reply = search rules;
     next_error = search rules;

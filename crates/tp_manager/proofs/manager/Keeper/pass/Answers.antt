@@ -1,4 +1,4 @@
-use Rattle.std.proofs.Common.{◌∙◌, ◌*◌, ap, arith, sym}
+use Rattle.std.proofs.Common.{refl, ◌∙◌, ◌*◌, ap, arith, sym}
 use Rattle.tp_model.specs.declared.types.Limits.{Limits}
 use Rattle.tp_manager.specs.Shown.{ManagerShown, KeeperShown}
 use Rattle.tp_rule.specs.declared.view.Hand.{Hand}
@@ -30,6 +30,7 @@ returns-clause-fresh c = let h = fresh_hand c.self.inside.seat c.self.inside.lim
   fresh_seen c.self.inside.seat c.self.inside.limits c.self.inside.given c.self.invariant c.if-self.false c.hand_out-seat.result c.hand_out-seat.ensures.hands_out ∙ ap (λ (s : KeeperShown). s.seen) c.self.view_is,
   ap (λ (a : Hand). a.open_unit) h,
   no_lows 32,
+  refl,
 )
 
 pub returns-clause-rows : goal.returns-clause-rows
@@ -37,4 +38,5 @@ returns-clause-rows c = let h = fresh_hand c.self.inside.seat c.self.inside.limi
     let lim = fresh_limits c.self.inside.seat c.self.inside.limits c.self.inside.given c.self.invariant c.if-self.false c.hand_out-seat.result c.hand_out-seat.ensures.hands_out in (
       ap (λ (a : Hand). a.next) h ∙ (λ i. sym (ap (λ (a : Hand). a.number) h) i * (sym lim i).rows),
       ap (λ (a : Hand). a.left) h ∙ ap (λ (l : Limits). l.rows) (sym lim),
+      ap (λ (a : Hand). a.blocks) h,
     )

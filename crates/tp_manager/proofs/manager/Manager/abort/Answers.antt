@@ -10,7 +10,7 @@ use Rattle.tp_manager.specs.Bounds.{abort_steps}
 use Rattle.tp_manager.specs.Walks.{Steady, Shut, IsTask, unit_in}
 use Rattle.tp_manager.proofs.Walks.{follows, rises_same, remembers}
 use Rattle.tp_manager.proofs.Passes.{steady_at}
-use Rattle.tp_manager.proofs.Shuts.{closed_ended, task_claimed, abort_ended, shut_hit, shut_miss, shut_rests, shut_closes, shut_adds, shut_loses}
+use Rattle.tp_manager.proofs.Shuts.{closed_ended, task_claimed, abort_ended, shut_hit, shut_miss, shut_rests, shut_closes, shut_keeps, shut_adds, shut_loses}
 use Rattle.tp_manager.proofs.manager.Manager.abort.Goals as goal
 use Rattle.tp_manager.proofs.manager.Manager.abort.Goals.{In-Some}
 
@@ -29,11 +29,11 @@ abort_exchange-requires-clause-unit c = let i = (goal.at.abort_exchange-requires
 
 pub invariant_of-pass : goal.invariant_of-pass
 invariant_of-pass c = let i = (goal.at.invariant_of-pass c).In-Some in let l : Limits = limits_of c.self.inside.shared.words in
-    (shut_rests l 1 0 _ c.pass.inside.seat c.abort_exchange.new.seat _ _ _ _ _ (lim i) (shut_hit l kinds.AbortExchange _ _ _ refl (steady i) c.in-Ok.ensures.hit) refl (omega arith) (omega arith) c.pass.invariant.0, remembers c.pass.inside.lows _ _ _ _ _ (shut_hit l kinds.AbortExchange _ _ _ refl (steady i) c.in-Ok.ensures.hit).walk c.pass.invariant.1)
+    (shut_rests l 1 0 _ c.pass.inside.seat c.abort_exchange.new.seat _ _ _ _ _ (lim i) (shut_hit l kinds.AbortExchange _ _ _ refl (steady i) c.in-Ok.ensures.hit) refl (omega arith) (omega arith) refl c.pass.invariant.0, remembers c.pass.inside.lows _ _ _ _ _ (shut_hit l kinds.AbortExchange _ _ _ refl (steady i) c.in-Ok.ensures.hit).walk c.pass.invariant.1)
 
 pub invariant_of-pass-in-Err : goal.invariant_of-pass-in-Err
 invariant_of-pass-in-Err c = let i = (goal.at.invariant_of-pass-in-Err c).In-Some in let l : Limits = limits_of c.self.inside.shared.words in
-    (shut_rests l 1 0 _ c.pass.inside.seat c.abort_exchange.new.seat _ _ _ _ _ (lim i) (shut_miss l kinds.AbortExchange _ _ refl (steady i) (c.in-Err.ensures.miss.own (held i)).0) refl (omega arith) (omega arith) c.pass.invariant.0, remembers c.pass.inside.lows _ _ _ _ _ (shut_miss l kinds.AbortExchange _ _ refl (steady i) (c.in-Err.ensures.miss.own (held i)).0).walk c.pass.invariant.1)
+    (shut_rests l 1 0 _ c.pass.inside.seat c.abort_exchange.new.seat _ _ _ _ _ (lim i) (shut_miss l kinds.AbortExchange _ _ refl (steady i) (c.in-Err.ensures.miss.own (held i)).0) refl (omega arith) (omega arith) refl c.pass.invariant.0, remembers c.pass.inside.lows _ _ _ _ _ (shut_miss l kinds.AbortExchange _ _ refl (steady i) (c.in-Err.ensures.miss.own (held i)).0).walk c.pass.invariant.1)
 
 pub returns-in-Ok-clause-follows : goal.returns-in-Ok-clause-follows
 returns-in-Ok-clause-follows c = let i = (goal.at.returns-in-Ok-clause-follows c).In-Some in let l : Limits = limits_of c.self.inside.shared.words in
@@ -51,6 +51,7 @@ returns-in-Ok-clause-answer c = let i = (goal.at.returns-in-Ok-clause-answer c).
     let sh : Shut l 1 0 (Abort (hand v).number u ∷ []) v w = shut_hit l kinds.AbortExchange _ _ _ refl (steady i) c.in-Ok.ensures.hit in (
       u,
       shut_closes (spot c.pass.inside.seat.table c.pass.inside.lows c.pass.inside.run.drawn) (spot c.abort_exchange.new.seat.table c.pass.inside.lows c.pass.inside.run.drawn) v w c.args.pass.now c.pass.view_is l 1 0 u _ sh (held i) (abort_ended u (hand v).number w.seen sh.before sh.ends),
+      shut_keeps (spot c.pass.inside.seat.table c.pass.inside.lows c.pass.inside.run.drawn) (spot c.abort_exchange.new.seat.table c.pass.inside.lows c.pass.inside.run.drawn) v w c.args.pass.now c.pass.view_is l 1 _ sh,
       shut_adds (spot c.pass.inside.seat.table c.pass.inside.lows c.pass.inside.run.drawn) (spot c.abort_exchange.new.seat.table c.pass.inside.lows c.pass.inside.run.drawn) v w c.args.pass.now c.pass.view_is l 1 0 u sh,
     )
 
@@ -61,6 +62,7 @@ returns-in-Err-clause-answer c = let i = (goal.at.returns-in-Err-clause-answer c
     let sh : Shut l 1 0 [] v w = shut_miss l kinds.AbortExchange _ _ refl (steady i) miss.0 in (
       u,
       shut_closes (spot c.pass.inside.seat.table c.pass.inside.lows c.pass.inside.run.drawn) (spot c.abort_exchange.new.seat.table c.pass.inside.lows c.pass.inside.run.drawn) v w c.args.pass.now c.pass.view_is l 1 0 u _ sh (held i) (Aborted, miss.1),
+      shut_keeps (spot c.pass.inside.seat.table c.pass.inside.lows c.pass.inside.run.drawn) (spot c.abort_exchange.new.seat.table c.pass.inside.lows c.pass.inside.run.drawn) v w c.args.pass.now c.pass.view_is l 1 _ sh,
       shut_loses (spot c.pass.inside.seat.table c.pass.inside.lows c.pass.inside.run.drawn) (spot c.abort_exchange.new.seat.table c.pass.inside.lows c.pass.inside.run.drawn) v w c.args.pass.now c.pass.view_is l 1 0 u sh miss.1 miss.2,
     )
 
@@ -68,10 +70,10 @@ pub returns-in-Ok-clause-free : goal.returns-in-Ok-clause-free
 returns-in-Ok-clause-free c = (returns-in-Ok-clause-answer c).1.open_unit
 
 pub returns-in-Ok-clause-ended : goal.returns-in-Ok-clause-ended
-returns-in-Ok-clause-ended c = closed_ended _ _ _ _ (returns-in-Ok-clause-answer c).1
+returns-in-Ok-clause-ended c = closed_ended _ _ _ (returns-in-Ok-clause-answer c).1
 
 pub returns-in-Err-clause-free : goal.returns-in-Err-clause-free
 returns-in-Err-clause-free c = (returns-in-Err-clause-answer c).1.open_unit
 
 pub returns-in-Err-clause-ended : goal.returns-in-Err-clause-ended
-returns-in-Err-clause-ended c = closed_ended _ _ _ _ (returns-in-Err-clause-answer c).1
+returns-in-Err-clause-ended c = closed_ended _ _ _ (returns-in-Err-clause-answer c).1

@@ -11,7 +11,7 @@ use Rattle.tp_manager.specs.Cancels.{Cancels}
 use Rattle.tp_manager.specs.Walks.{Rests, Acted}
 use Rattle.tp_manager.proofs.Points.{has_more}
 use Rattle.tp_manager.proofs.Walks.{acted_then, looked, looked_begins, looked_none, follows, at_point, has_looked, point_last, walked_then, rises_same, remembers}
-use Rattle.tp_manager.proofs.Passes.{quiet_looked, point_none, unborn_beyond, task_none}
+use Rattle.tp_manager.proofs.Passes.{rests_drawn, quiet_looked, point_none, unborn_beyond, task_none}
 use Rattle.tp_manager.proofs.Cancels.{rests_swept, cancels_after, cancels_shown, few_steps, unborn_no_request, made_no_request, client_request, request_later, swept_begins, some_not, none_if_not}
 use Rattle.tp_manager.proofs.manager.Manager.cancel.Goals as goal
 use Rattle.tp_manager.proofs.manager.Manager.cancel.Goals.{After-rows, After-birth_from, After-load_marks}
@@ -94,8 +94,9 @@ returns-then-is_some-clause-answer c = let at = goal.at.returns-then-is_some-cla
 pub invariant_of-pass-2 : goal.invariant_of-pass-2
 invariant_of-pass-2 c = let at = goal.at.invariant_of-pass-2 c in let l : Limits = limits_of c.self.inside.shared.words in let told = c.cancel_family-killed.ensures.told in
     let k = cancels_after l c.args.root (birth_steps + l.parts) ((rows_of l + 1) * round_steps l) (birth_steps + l.parts + (rows_of l + 1) * round_steps l) c.cancel_family-killed.result (view_of c.pass.inside.seat) (view_of c.load_marks.new.seat) (view_of c.cancel_family-killed.new.seat) (omega arith) (looked l (birth_steps + l.parts) _ _ (found at.After-load_marks)) told in (
-      subst (λ t. Rests c.cancel_family-killed.new.seat c.pass.inside.number c.pass.inside.run c.pass.inside.used t) (sym (no_task at.After-rows))
-          (rests_swept l c.pass.inside.seat c.cancel_family-killed.new.seat _ _ _ (lim at.After-rows) (rests at.After-rows) _ c.args.root k.events k.swept),
+      rests_drawn c.cancel_family-killed.new.seat _ _ _ _ c.cancel_family-killed.new.drawn
+          (subst (λ t. Rests c.cancel_family-killed.new.seat c.pass.inside.number c.pass.inside.run c.pass.inside.used t) (sym (no_task at.After-rows))
+          (rests_swept l c.pass.inside.seat c.cancel_family-killed.new.seat _ _ _ (lim at.After-rows) (rests at.After-rows) _ c.args.root k.events k.swept)) c.cancel_family-killed.ensures.drawn,
       remembers c.load_marks.new.lows _ _ _ _ _ told.swept.gained.walk c.load_marks.ensures.remembers,
     )
 

@@ -4,12 +4,12 @@ use Rattle.tp_model.specs.declared.types.Claimed.TheVariants as claimeds
 use Rattle.tp_rule.specs.Tables.{limits_of}
 use Rattle.tp_rule.specs.Views.{view_of}
 use Rattle.tp_manager.specs.Shown.{ManagerShown, PassShown, shown, spot}
-use Rattle.tp_manager.specs.Bounds.{claim_steps, claim_steps_left, part_steps, scan_steps, try_steps}
+use Rattle.tp_manager.specs.Bounds.{claim_steps, claim_steps_left, part_steps, scan_steps, spare_steps, try_steps}
 use Rattle.tp_manager.specs.Calls.{Claims, Takes}
 use Rattle.tp_manager.specs.Walks.{Remembers, Steady}
 use Rattle.tp_manager.proofs.Walks.{follows, remembers}
 use Rattle.tp_manager.proofs.Lows.{claim_few, claim_shown, scan_most}
-use Rattle.tp_manager.proofs.Passes.{steady_at}
+use Rattle.tp_manager.proofs.Passes.{drawn_walked, rests_drawn, steady_at}
 use Rattle.tp_manager.proofs.Claims.{chose_steady, chose_walked, chose_rests, idle_walked, idle_answer, took_walked, took_answer, took_rests}
 use Rattle.tp_manager.proofs.manager.Manager.claim.Goals as goal
 use Rattle.tp_manager.proofs.manager.Manager.claim.Goals.{After-choose_unit}
@@ -30,15 +30,21 @@ not c = subst (λ (z : Limits). ¬ (c.pass.inside.used ≡ z.units)) (sym c.self
 known : (c : After-choose_unit) → Remembers (view_of c.choose_unit.new.seat) c.pass.inside.lows
 known c = remembers c.pass.inside.lows _ _ _ _ _ (chose_walked _ _ _ _ (steady c) c.choose_unit.ensures.chooses) c.pass.invariant.1
 
-most : (l k : Limits) (lows : List ℕ) → l ≡ k → 1 + scan_steps l (try_steps l) 2 lows l.parts ≤ claim_steps k
-most l k lows same = subst (λ (z : Limits). 1 + scan_steps l (try_steps l) 2 lows l.parts ≤ claim_steps z) same (let all = scan_most l lows (try_steps l) 2 l.parts in let each : 2 + l.rows * try_steps l ≡ part_steps l = omega arith in subst (λ n. 1 + scan_steps l (try_steps l) 2 lows l.parts ≤ 1 + l.parts * n) each (omega arith))
+most : (l k : Limits) (lows : List ℕ) → l ≡ k → 1 + (scan_steps l (try_steps l) 2 lows l.parts + spare_steps l (try_steps l)) ≤ claim_steps k
+most l k lows same = subst (λ (z : Limits). 1 + (scan_steps l (try_steps l) 2 lows l.parts + spare_steps l (try_steps l)) ≤ claim_steps z) same
+    (let all = scan_most l lows (try_steps l) 2 l.parts in let each : 2 + l.rows * try_steps l ≡ part_steps l = omega arith in
+    subst (λ n. 1 + (scan_steps l (try_steps l) 2 lows l.parts + spare_steps l (try_steps l)) ≤ 1 + (l.parts * n + spare_steps l (try_steps l))) each (omega arith))
 
-few : (c : After-choose_unit) → 1 + scan_steps (limits_of c.self.inside.shared.words) (try_steps (limits_of c.self.inside.shared.words)) 2 c.pass.inside.lows (limits_of c.self.inside.shared.words).parts ≤ claim_steps_left c.args.self.now.limits c.args.pass.now.lows
+few : (c : After-choose_unit) → 1 + (scan_steps (limits_of c.self.inside.shared.words) (try_steps (limits_of c.self.inside.shared.words)) 2 c.pass.inside.lows (limits_of c.self.inside.shared.words).parts + spare_steps (limits_of c.self.inside.shared.words) (try_steps (limits_of c.self.inside.shared.words))) ≤ claim_steps_left c.args.self.now.limits c.args.pass.now.lows
 few c = let l : Limits = limits_of c.self.inside.shared.words in
     claim_shown l c.args.self.now.limits c.pass.inside.lows c.args.pass.now.lows _ (limits c) (ap (λ (p : PassShown). p.lows) c.pass.view_is) (claim_few l c.pass.inside.lows (view_of c.pass.inside.seat) (steady c).known c.pass.invariant.1)
 
 pub scan-requires-clause-remembers : goal.scan-requires-clause-remembers
 scan-requires-clause-remembers c = known (goal.at.scan-requires-clause-remembers c).After-choose_unit
+
+pub scan-requires-clause-drawn : goal.scan-requires-clause-drawn
+scan-requires-clause-drawn c = let at = (goal.at.scan-requires-clause-drawn c).After-choose_unit in
+    drawn_walked (limits_of c.self.inside.shared.words) _ _ _ _ c.pass.inside.run.drawn (lim at) (chose_walked _ _ _ _ (steady at) c.choose_unit.ensures.chooses) c.pass.invariant.0.drawn
 
 pub scan-requires-clause-steady : goal.scan-requires-clause-steady
 scan-requires-clause-steady c = chose_steady _ _ _ _ (steady (goal.at.scan-requires-clause-steady c).After-choose_unit) c.choose_unit.ensures.chooses
@@ -60,11 +66,11 @@ returns-in_default-clause-answer c = let at = (goal.at.returns-in_default-clause
 
 pub invariant_of-pass-in_default : goal.invariant_of-pass-in_default
 invariant_of-pass-in_default c = let at = (goal.at.invariant_of-pass-in_default c).After-choose_unit in let l : Limits = limits_of c.self.inside.shared.words in
-    (chose_rests l _ _ c.args.stage _ _ _ _ c.pass.inside.seat c.scan.new.seat (view_of c.choose_unit.new.seat) (steady at) c.choose_unit.ensures.chooses c.in_default.ensures.told (lim at) c.pass.invariant.0, c.scan.ensures.remembers)
+    (rests_drawn c.scan.new.seat _ _ _ _ c.scan.new.drawn (chose_rests l _ _ c.args.stage _ _ _ _ c.pass.inside.seat c.scan.new.seat (view_of c.choose_unit.new.seat) (steady at) c.choose_unit.ensures.chooses c.in_default.ensures.told (lim at) c.pass.invariant.0) c.scan.ensures.drawn, c.scan.ensures.remembers)
 
 pub invariant_of-pass-2 : goal.invariant_of-pass-2
 invariant_of-pass-2 c = let at = (goal.at.invariant_of-pass-2 c).After-choose_unit in let l : Limits = limits_of c.self.inside.shared.words in let told = c.in-Some.ensures.told in
-    (took_rests l _ _ c.args.stage c.in-Some.taken.attempt c.in-Some.taken.root _ _ _ _ c.pass.inside.seat c.scan.new.seat (view_of c.choose_unit.new.seat) c.in-Some.taken.element (steady at) c.choose_unit.ensures.chooses told.0 (lim at) told.1 (not at) c.pass.invariant.0, c.scan.ensures.remembers)
+    (rests_drawn c.scan.new.seat _ _ _ _ c.scan.new.drawn (took_rests l _ _ c.args.stage c.in-Some.taken.attempt c.in-Some.taken.root _ _ _ _ c.pass.inside.seat c.scan.new.seat (view_of c.choose_unit.new.seat) c.in-Some.taken.element (steady at) c.choose_unit.ensures.chooses told.0 (lim at) told.1 (not at) c.pass.invariant.0) c.scan.ensures.drawn, c.scan.ensures.remembers)
 
 pub returns-clause-follows : goal.returns-clause-follows
 returns-clause-follows c = let at = (goal.at.returns-clause-follows c).After-choose_unit in let l : Limits = limits_of c.self.inside.shared.words in let told = c.in-Some.ensures.told in

@@ -1,4 +1,4 @@
-use Rattle.std.proofs.Common.{◌≡◌, ◌<◌, ℕ, List, [], ◌∷◌, sym, ◌∙◌, ap, refl, arith, subst, Some, length, inl, inr}
+use Rattle.std.proofs.Common.{◌≡◌, ◌<◌, ℕ, List, [], ◌∷◌, sym, ◌∙◌, ap, refl, arith, subst, Some, length, inl}
 use Rattle.tp_model.specs.declared.types.Limits.{Limits}
 use Rattle.tp_model.specs.declared.event.Event.TheVariants.{Abort}
 use Rattle.tp_model.specs.declared.trace.StepKind.TheVariants as kinds
@@ -12,11 +12,11 @@ use Rattle.tp_model.specs.History.{Aborted, In}
 use Rattle.tp_rule.specs.Tables.{limits_of}
 use Rattle.tp_rule.specs.Views.{hand, view_of}
 use Rattle.tp_manager.specs.Shown.{ManagerShown, PassShown, spot}
-use Rattle.tp_manager.specs.Bounds.{commit_steps}
-use Rattle.tp_manager.specs.Walks.{Rests, Steady, Shut, IsTask, unit_in}
+use Rattle.tp_manager.specs.Bounds.{close_steps}
+use Rattle.tp_manager.specs.Walks.{Rests, Steady, Shut, unit_in}
 use Rattle.tp_manager.proofs.Walks.{follows, rises_same, remembers}
 use Rattle.tp_manager.proofs.Passes.{steady_at}
-use Rattle.tp_manager.proofs.Shuts.{closed_ended, units_few, own_work, own_count, own_first, wrote_shut, committed_answer, task_claimed, abort_ended, shut_hit, shut_miss, shut_rests, shut_closes, shut_adds, shut_loses}
+use Rattle.tp_manager.proofs.Shuts.{units_few, own_work, own_count, own_first, wrote_shut, committed_answer, task_claimed, shut_hit, shut_miss, shut_rests, shut_closes, shut_uses, shut_loses}
 use Rattle.tp_manager.proofs.manager.Manager.close.Goals as goal
 use Rattle.tp_manager.proofs.manager.Manager.close.Goals.{In-Some, After-write_all, then-count-eq0, else-count-eq0}
 
@@ -31,53 +31,6 @@ held c = c.pass.invariant.0.open_is ∙ ap unit_in c.in-Some.is
 
 left_is : (c : In-Some) → c.args.pass.now.left ≡ c.pass.inside.run.left
 left_is c = sym (ap (λ (p : PassShown). p.left) c.pass.view_is) ∙ c.pass.invariant.0.run_is.1
-
-pub abort_exchange-requires-clause-unit : goal.abort_exchange-requires-clause-unit
-abort_exchange-requires-clause-unit c = let i = (goal.at.abort_exchange-requires-clause-unit c).In-Some in
-    task_claimed (limits_of c.self.inside.shared.words) (view_of c.pass.inside.seat).seen c.pass.inside.number c.in-Some.task (steady i).shows.legal (subst (IsTask (view_of c.pass.inside.seat).seen c.pass.inside.number) c.in-Some.is c.pass.invariant.0.work)
-
-pub invariant_of-pass : goal.invariant_of-pass
-invariant_of-pass c = let i = (goal.at.invariant_of-pass c).In-Some in let l : Limits = limits_of c.self.inside.shared.words in
-    (shut_rests l 1 0 _ c.pass.inside.seat c.abort_exchange.new.seat _ _ _ _ _ (lim i) (shut_hit l kinds.AbortExchange _ _ _ refl (steady i) c.in-Ok.ensures.hit) refl (omega arith) (omega arith) c.pass.invariant.0, remembers c.pass.inside.lows _ _ _ _ _ (shut_hit l kinds.AbortExchange _ _ _ refl (steady i) c.in-Ok.ensures.hit).walk c.pass.invariant.1)
-
-pub invariant_of-pass-in-Err : goal.invariant_of-pass-in-Err
-invariant_of-pass-in-Err c = let i = (goal.at.invariant_of-pass-in-Err c).In-Some in let l : Limits = limits_of c.self.inside.shared.words in
-    (shut_rests l 1 0 _ c.pass.inside.seat c.abort_exchange.new.seat _ _ _ _ _ (lim i) (shut_miss l kinds.AbortExchange _ _ refl (steady i) (c.in-Err.ensures.miss.own (held i)).0) refl (omega arith) (omega arith) c.pass.invariant.0, remembers c.pass.inside.lows _ _ _ _ _ (shut_miss l kinds.AbortExchange _ _ refl (steady i) (c.in-Err.ensures.miss.own (held i)).0).walk c.pass.invariant.1)
-
-pub returns-in-Ok-clause-follows : goal.returns-in-Ok-clause-follows
-returns-in-Ok-clause-follows c = let i = (goal.at.returns-in-Ok-clause-follows c).In-Some in let l : Limits = limits_of c.self.inside.shared.words in
-    let sh = shut_hit l kinds.AbortExchange _ _ _ refl (steady i) c.in-Ok.ensures.hit in
-    follows (spot c.pass.inside.seat.table c.pass.inside.lows c.pass.inside.run.drawn) (spot c.abort_exchange.new.seat.table c.pass.inside.lows c.pass.inside.run.drawn) (rises_same c.pass.inside.lows) (view_of c.pass.inside.seat) (view_of c.abort_exchange.new.seat) c.args.pass.now c.pass.view_is l 1 _ sh.walk (commit_steps (length c.args.drafts.now)) (omega arith)
-
-pub returns-in-Err-clause-follows : goal.returns-in-Err-clause-follows
-returns-in-Err-clause-follows c = let i = (goal.at.returns-in-Err-clause-follows c).In-Some in let l : Limits = limits_of c.self.inside.shared.words in
-    let sh = shut_miss l kinds.AbortExchange _ _ refl (steady i) (c.in-Err.ensures.miss.own (held i)).0 in
-    follows (spot c.pass.inside.seat.table c.pass.inside.lows c.pass.inside.run.drawn) (spot c.abort_exchange.new.seat.table c.pass.inside.lows c.pass.inside.run.drawn) (rises_same c.pass.inside.lows) (view_of c.pass.inside.seat) (view_of c.abort_exchange.new.seat) c.args.pass.now c.pass.view_is l 1 _ sh.walk (commit_steps (length c.args.drafts.now)) (omega arith)
-
-pub returns-in-Ok-clause-answer : goal.returns-in-Ok-clause-answer
-returns-in-Ok-clause-answer c = let i = (goal.at.returns-in-Ok-clause-answer c).In-Some in let l : Limits = limits_of c.self.inside.shared.words in let u = c.in-Some.task.unit in
-    let v = view_of c.pass.inside.seat in let w = view_of c.abort_exchange.new.seat in
-    let sh : Shut l 1 0 (Abort (hand v).number u ∷ []) v w = shut_hit l kinds.AbortExchange _ _ _ refl (steady i) c.in-Ok.ensures.hit in (
-      (let same = left_is i in let more = c.if-count-left.true in omega arith),
-      (
-        u,
-        shut_closes (spot c.pass.inside.seat.table c.pass.inside.lows c.pass.inside.run.drawn) (spot c.abort_exchange.new.seat.table c.pass.inside.lows c.pass.inside.run.drawn) v w c.args.pass.now c.pass.view_is l 1 0 u _ sh (held i) (abort_ended u (hand v).number w.seen sh.before sh.ends),
-        inl (shut_adds (spot c.pass.inside.seat.table c.pass.inside.lows c.pass.inside.run.drawn) (spot c.abort_exchange.new.seat.table c.pass.inside.lows c.pass.inside.run.drawn) v w c.args.pass.now c.pass.view_is l 1 0 u sh),
-      ),
-    )
-
-pub returns-in-Err-clause-answer : goal.returns-in-Err-clause-answer
-returns-in-Err-clause-answer c = let i = (goal.at.returns-in-Err-clause-answer c).In-Some in let l : Limits = limits_of c.self.inside.shared.words in let u = c.in-Some.task.unit in
-    let v = view_of c.pass.inside.seat in let w = view_of c.abort_exchange.new.seat in
-    let miss = c.in-Err.ensures.miss.own (held i) in
-    let sh : Shut l 1 0 [] v w = shut_miss l kinds.AbortExchange _ _ refl (steady i) miss.0 in (
-      (let same = left_is i in let more = c.if-count-left.true in omega arith),
-      (
-        u,
-        shut_closes (spot c.pass.inside.seat.table c.pass.inside.lows c.pass.inside.run.drawn) (spot c.abort_exchange.new.seat.table c.pass.inside.lows c.pass.inside.run.drawn) v w c.args.pass.now c.pass.view_is l 1 0 u _ sh (held i) (Aborted, miss.1),
-        inr (shut_loses (spot c.pass.inside.seat.table c.pass.inside.lows c.pass.inside.run.drawn) (spot c.abort_exchange.new.seat.table c.pass.inside.lows c.pass.inside.run.drawn) v w c.args.pass.now c.pass.view_is l 1 0 u sh miss.1 miss.2),
-      ),
-    )
 
 rests : (c : In-Some) → Rests c.pass.inside.seat c.pass.inside.number c.pass.inside.run c.pass.inside.used (Some c.in-Some.task)
 rests c = subst (λ t. Rests c.pass.inside.seat c.pass.inside.number c.pass.inside.run c.pass.inside.used t) c.in-Some.is c.pass.invariant.0
@@ -111,72 +64,45 @@ hit c i y made = let l : Limits = limits_of c.self.inside.shared.words in
     shut_hit l kinds.CommitExchange _ _ _ refl c.write_all.ensures.wrote.walk.steady made
 
 both : (c : After-write_all) → (es : List Event) (y : View) → Shut (limits_of c.self.inside.shared.words) 1 0 es (view_of c.write_all.new.seat) y
-    → Shut (limits_of c.self.inside.shared.words) (commit_steps (length c.args.drafts.now)) (length c.args.drafts.now) es (view_of c.pass.inside.seat) y
+    → Shut (limits_of c.self.inside.shared.words) (close_steps (length c.args.drafts.now)) (length c.args.drafts.now) es (view_of c.pass.inside.seat) y
 both c es y sh = let row : ℕ = c.pass.inside.run.next in
-    subst (λ n. Shut (limits_of c.self.inside.shared.words) (commit_steps n) n es (view_of c.pass.inside.seat) y) (length-outputs c.in-Some.task.unit c.in-Some.task.root row c.args.drafts.now)
+    subst (λ n. Shut (limits_of c.self.inside.shared.words) (close_steps n) n es (view_of c.pass.inside.seat) y) (length-outputs c.in-Some.task.unit c.in-Some.task.root row c.args.drafts.now)
     (wrote_shut (limits_of c.self.inside.shared.words) (outputs c.in-Some.task.unit c.in-Some.task.root row c.args.drafts.now) es (view_of c.pass.inside.seat) (view_of c.write_all.new.seat) y c.write_all.ensures.wrote sh)
 
-pub invariant_of-pass-then-commit_exchange : goal.invariant_of-pass-then-commit_exchange
-invariant_of-pass-then-commit_exchange c = let at = goal.at.invariant_of-pass-then-commit_exchange c in
-    (shut_rests _ _ _ _ c.pass.inside.seat c.commit_exchange.new.seat _ _ _ _ _ (lim at.In-Some) (both at.After-write_all _ _ (hit at.After-write_all at.In-Some _ (c.commit_exchange.ensures.hit c.if-commit_exchange.true))) refl refl (let few = c.if-count-left.false in omega arith) c.pass.invariant.0, remembers c.pass.inside.lows _ _ _ _ _ (both at.After-write_all _ _ (hit at.After-write_all at.In-Some _ (c.commit_exchange.ensures.hit c.if-commit_exchange.true))).walk c.pass.invariant.1)
+pub invariant_of-pass : goal.invariant_of-pass
+invariant_of-pass c = let at = goal.at.invariant_of-pass c in
+    (shut_rests _ _ _ _ c.pass.inside.seat c.commit_exchange.new.seat _ _ _ _ _ (lim at.In-Some) (both at.After-write_all _ _ (hit at.After-write_all at.In-Some _ (c.commit_exchange.ensures.hit c.if-commit_exchange.true))) refl refl (let few = c.requires.room in let same = left_is at.In-Some in omega arith) refl c.pass.invariant.0, remembers c.pass.inside.lows _ _ _ _ _ (both at.After-write_all _ _ (hit at.After-write_all at.In-Some _ (c.commit_exchange.ensures.hit c.if-commit_exchange.true))).walk c.pass.invariant.1)
 
 pub invariant_of-pass-else-commit_exchange : goal.invariant_of-pass-else-commit_exchange
 invariant_of-pass-else-commit_exchange c = let at = goal.at.invariant_of-pass-else-commit_exchange c in
-    (shut_rests _ _ _ _ c.pass.inside.seat c.commit_exchange.new.seat _ _ _ _ _ (lim at.In-Some) (both at.After-write_all _ _ (shut_miss _ kinds.CommitExchange _ _ refl c.write_all.ensures.wrote.walk.steady (c.commit_exchange.ensures.miss c.if-commit_exchange.false).0)) refl refl (let few = c.if-count-left.false in omega arith) c.pass.invariant.0, remembers c.pass.inside.lows _ _ _ _ _ (both at.After-write_all _ _ (shut_miss _ kinds.CommitExchange _ _ refl c.write_all.ensures.wrote.walk.steady (c.commit_exchange.ensures.miss c.if-commit_exchange.false).0)).walk c.pass.invariant.1)
+    (shut_rests _ _ _ _ c.pass.inside.seat c.commit_exchange.new.seat _ _ _ _ _ (lim at.In-Some) (both at.After-write_all _ _ (shut_miss _ kinds.CommitExchange _ _ refl c.write_all.ensures.wrote.walk.steady (c.commit_exchange.ensures.miss c.if-commit_exchange.false).0)) refl refl (let few = c.requires.room in let same = left_is at.In-Some in omega arith) refl c.pass.invariant.0, remembers c.pass.inside.lows _ _ _ _ _ (both at.After-write_all _ _ (shut_miss _ kinds.CommitExchange _ _ refl c.write_all.ensures.wrote.walk.steady (c.commit_exchange.ensures.miss c.if-commit_exchange.false).0)).walk c.pass.invariant.1)
 
 pub returns-then-commit_exchange-clause-follows : goal.returns-then-commit_exchange-clause-follows
 returns-then-commit_exchange-clause-follows c = let at = goal.at.returns-then-commit_exchange-clause-follows c in let k : ℕ = length c.args.drafts.now in
     let sh = both at.After-write_all _ _ (hit at.After-write_all at.In-Some _ (c.commit_exchange.ensures.hit c.if-commit_exchange.true)) in
-    follows (spot c.pass.inside.seat.table c.pass.inside.lows c.pass.inside.run.drawn) (spot c.commit_exchange.new.seat.table c.pass.inside.lows c.pass.inside.run.drawn) (rises_same c.pass.inside.lows) (view_of c.pass.inside.seat) (view_of c.commit_exchange.new.seat) c.args.pass.now c.pass.view_is _ (commit_steps k) _ sh.walk (commit_steps k) (omega arith)
+    follows (spot c.pass.inside.seat.table c.pass.inside.lows c.pass.inside.run.drawn) (spot c.commit_exchange.new.seat.table c.pass.inside.lows c.pass.inside.run.drawn) (rises_same c.pass.inside.lows) (view_of c.pass.inside.seat) (view_of c.commit_exchange.new.seat) c.args.pass.now c.pass.view_is _ (close_steps k) _ sh.walk (close_steps k) (omega arith)
 
 pub returns-else-commit_exchange-clause-follows : goal.returns-else-commit_exchange-clause-follows
 returns-else-commit_exchange-clause-follows c = let at = goal.at.returns-else-commit_exchange-clause-follows c in let k : ℕ = length c.args.drafts.now in
     let sh = both at.After-write_all _ _ (shut_miss _ kinds.CommitExchange _ _ refl c.write_all.ensures.wrote.walk.steady (c.commit_exchange.ensures.miss c.if-commit_exchange.false).0) in
-    follows (spot c.pass.inside.seat.table c.pass.inside.lows c.pass.inside.run.drawn) (spot c.commit_exchange.new.seat.table c.pass.inside.lows c.pass.inside.run.drawn) (rises_same c.pass.inside.lows) (view_of c.pass.inside.seat) (view_of c.commit_exchange.new.seat) c.args.pass.now c.pass.view_is _ (commit_steps k) _ sh.walk (commit_steps k) (omega arith)
+    follows (spot c.pass.inside.seat.table c.pass.inside.lows c.pass.inside.run.drawn) (spot c.commit_exchange.new.seat.table c.pass.inside.lows c.pass.inside.run.drawn) (rises_same c.pass.inside.lows) (view_of c.pass.inside.seat) (view_of c.commit_exchange.new.seat) c.args.pass.now c.pass.view_is _ (close_steps k) _ sh.walk (close_steps k) (omega arith)
 
 pub returns-then-commit_exchange-clause-answer : goal.returns-then-commit_exchange-clause-answer
 returns-then-commit_exchange-clause-answer c = let at = goal.at.returns-then-commit_exchange-clause-answer c in let i = at.In-Some in let u = c.in-Some.task.unit in let l : Limits = limits_of c.self.inside.shared.words in
     let v = view_of c.pass.inside.seat in let w = view_of c.write_all.new.seat in let y = view_of c.commit_exchange.new.seat in
-    let sh : Shut l _ _ (committed w u ∷ []) v y = both at.After-write_all _ _ (hit at.After-write_all i y (c.commit_exchange.ensures.hit c.if-commit_exchange.true)) in (
-      (let same = left_is i in let few = c.if-count-left.false in omega arith),
-      committed_answer (spot c.pass.inside.seat.table c.pass.inside.lows c.pass.inside.run.drawn) (spot c.commit_exchange.new.seat.table c.pass.inside.lows c.pass.inside.run.drawn) l v w y c.args.pass.now c.pass.view_is _ _ _ _ c.in-Some.task c.args.drafts.now c.pass.inside.seat refl (rests i) refl c.write_all.ensures.wrote (lim i) (held i) c.if-count-eq0.first _ sh
-          (λ some. elim c.if-count-eq0.branch [ then-count-eq0 w ↦ let z = w.if-count-eq0.true in absurd (omega arith) | else-count-eq0 w ↦ w.first-is ])
-          (λ none. elim c.if-count-eq0.branch [ then-count-eq0 w ↦ w.first-is | else-count-eq0 w ↦ absurd (w.if-count-eq0.false none) ]),
-    )
+    let sh : Shut l _ _ (committed w u ∷ []) v y = both at.After-write_all _ _ (hit at.After-write_all i y (c.commit_exchange.ensures.hit c.if-commit_exchange.true)) in
+    committed_answer (spot c.pass.inside.seat.table c.pass.inside.lows c.pass.inside.run.drawn) (spot c.commit_exchange.new.seat.table c.pass.inside.lows c.pass.inside.run.drawn) l v w y c.args.pass.now c.pass.view_is _ _ _ _ c.in-Some.task c.args.drafts.now c.pass.inside.seat refl (rests i) refl c.write_all.ensures.wrote (lim i) (held i) c.if-count-eq0.first _ sh
+    (λ some. elim c.if-count-eq0.branch [ then-count-eq0 w ↦ let z = w.if-count-eq0.true in absurd (omega arith) | else-count-eq0 w ↦ w.first-is ])
+    (λ none. elim c.if-count-eq0.branch [ then-count-eq0 w ↦ w.first-is | else-count-eq0 w ↦ absurd (w.if-count-eq0.false none) ])
 
 pub returns-else-commit_exchange-clause-answer : goal.returns-else-commit_exchange-clause-answer
 returns-else-commit_exchange-clause-answer c = let at = goal.at.returns-else-commit_exchange-clause-answer c in let i = at.In-Some in let u = c.in-Some.task.unit in let l : Limits = limits_of c.self.inside.shared.words in
     let v = view_of c.pass.inside.seat in let w = view_of c.write_all.new.seat in let y = view_of c.commit_exchange.new.seat in
     let miss = c.commit_exchange.ensures.miss c.if-commit_exchange.false in
     let sh : Shut l _ _ [] v y = both at.After-write_all _ _ (shut_miss l kinds.CommitExchange w y refl c.write_all.ensures.wrote.walk.steady miss.0) in (
-      (let same = left_is i in let few = c.if-count-left.false in omega arith),
-      (
-        u,
-        shut_closes (spot c.pass.inside.seat.table c.pass.inside.lows c.pass.inside.run.drawn) (spot c.commit_exchange.new.seat.table c.pass.inside.lows c.pass.inside.run.drawn) v y c.args.pass.now c.pass.view_is l _ _ u _ sh (held i) (Aborted, miss.1),
-        shut_loses (spot c.pass.inside.seat.table c.pass.inside.lows c.pass.inside.run.drawn) (spot c.commit_exchange.new.seat.table c.pass.inside.lows c.pass.inside.run.drawn) v y c.args.pass.now c.pass.view_is l _ _ u sh miss.1 (subst (λ k. ¬ (In (Abort k u) y.seen)) c.write_all.ensures.wrote.walk.number miss.2),
-      ),
+      u,
+      shut_closes (spot c.pass.inside.seat.table c.pass.inside.lows c.pass.inside.run.drawn) (spot c.commit_exchange.new.seat.table c.pass.inside.lows c.pass.inside.run.drawn) v y c.args.pass.now c.pass.view_is l _ _ u _ sh (held i) (Aborted, miss.1),
+      (hand v).next,
+      inl (shut_uses (spot c.pass.inside.seat.table c.pass.inside.lows c.pass.inside.run.drawn) (spot c.commit_exchange.new.seat.table c.pass.inside.lows c.pass.inside.run.drawn) v y c.args.pass.now c.pass.view_is l _ _ _ sh),
+      shut_loses (spot c.pass.inside.seat.table c.pass.inside.lows c.pass.inside.run.drawn) (spot c.commit_exchange.new.seat.table c.pass.inside.lows c.pass.inside.run.drawn) v y c.args.pass.now c.pass.view_is l _ _ u sh miss.1 (subst (λ k. ¬ (In (Abort k u) y.seen)) c.write_all.ensures.wrote.walk.number miss.2),
     )
-
-pub returns-in-Ok-clause-free : goal.returns-in-Ok-clause-free
-returns-in-Ok-clause-free c = (returns-in-Ok-clause-answer c).1.1.open_unit
-
-pub returns-in-Ok-clause-ended : goal.returns-in-Ok-clause-ended
-returns-in-Ok-clause-ended c = closed_ended _ _ _ _ (returns-in-Ok-clause-answer c).1.1
-
-pub returns-in-Err-clause-free : goal.returns-in-Err-clause-free
-returns-in-Err-clause-free c = (returns-in-Err-clause-answer c).1.1.open_unit
-
-pub returns-in-Err-clause-ended : goal.returns-in-Err-clause-ended
-returns-in-Err-clause-ended c = closed_ended _ _ _ _ (returns-in-Err-clause-answer c).1.1
-
-pub returns-then-commit_exchange-clause-free : goal.returns-then-commit_exchange-clause-free
-returns-then-commit_exchange-clause-free c = (returns-then-commit_exchange-clause-answer c).1.closes.open_unit
-
-pub returns-then-commit_exchange-clause-ended : goal.returns-then-commit_exchange-clause-ended
-returns-then-commit_exchange-clause-ended c = closed_ended _ _ _ _ (returns-then-commit_exchange-clause-answer c).1.closes
-
-pub returns-else-commit_exchange-clause-free : goal.returns-else-commit_exchange-clause-free
-returns-else-commit_exchange-clause-free c = (returns-else-commit_exchange-clause-answer c).1.1.open_unit
-
-pub returns-else-commit_exchange-clause-ended : goal.returns-else-commit_exchange-clause-ended
-returns-else-commit_exchange-clause-ended c = closed_ended _ _ _ _ (returns-else-commit_exchange-clause-answer c).1.1

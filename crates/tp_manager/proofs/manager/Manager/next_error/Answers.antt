@@ -1,4 +1,4 @@
-use Rattle.std.proofs.Common.{[], ℕ, ◌≡◌, ◌≤◌, MatchOption, sym, ◌∙◌, ap, arith, subst}
+use Rattle.std.proofs.Common.{◌+◌, [], ℕ, ◌≡◌, ◌≤◌, MatchOption, sym, ◌∙◌, ap, arith, subst}
 use Rattle.tp_model.specs.declared.types.Limits.{Limits}
 use Rattle.tp_model.specs.Steps.{rows_of}
 use Rattle.tp_rule.specs.Tables.{limits_of}
@@ -6,12 +6,12 @@ use Rattle.tp_rule.specs.Views.{view_of}
 use Rattle.tp_manager.specs.Shown.{ManagerShown, PassShown, shown, spot}
 use Rattle.tp_manager.specs.Lists.{NoneParked, NextError}
 use Rattle.tp_manager.specs.declared.listing.Wanted.TheVariants as wanteds
-use Rattle.tp_manager.specs.Bounds.{next_error_steps, listing_steps_left, look_steps, scan_steps}
+use Rattle.tp_manager.specs.Bounds.{next_error_steps, listing_steps_left, look_steps, scan_steps, spare_steps}
 use Rattle.tp_manager.specs.Calls.{Follows}
 use Rattle.tp_manager.specs.Walks.{Acted, IsKnown}
 use Rattle.tp_manager.proofs.Lows.{listing_few, listing_shown, scan_most}
 use Rattle.tp_manager.proofs.Walks.{looked, follows, has_looked, rises_same, walked_none}
-use Rattle.tp_manager.proofs.Passes.{quiet_looked, rests_looked}
+use Rattle.tp_manager.proofs.Passes.{rests_drawn, quiet_looked, rests_looked}
 use Rattle.tp_manager.proofs.Finds.{finds_acted, error_answer, none_beyond}
 use Rattle.tp_manager.proofs.manager.Manager.next_error.Goals as goal
 use Rattle.tp_manager.proofs.manager.Manager.next_error.Goals.{After-rows, After-find}
@@ -22,7 +22,7 @@ lim c = ap (λ (p : PassShown). p.limits) c.pass.view_is ∙ (c.requires.own.1 �
 limits : (c : After-rows) → limits_of c.self.inside.shared.words ≡ c.args.self.now.limits
 limits c = c.self.inside.shared.same ∙ ap (λ (m : ManagerShown). m.limits) c.self.view_is
 
-whole : (c : After-find) → Acted (limits_of c.self.inside.shared.words) (scan_steps (limits_of c.self.inside.shared.words) (look_steps (limits_of c.self.inside.shared.words)) 1 c.pass.inside.lows (limits_of c.self.inside.shared.words).parts) (view_of c.pass.inside.seat) (view_of c.find.new.seat)
+whole : (c : After-find) → Acted (limits_of c.self.inside.shared.words) (scan_steps (limits_of c.self.inside.shared.words) (look_steps (limits_of c.self.inside.shared.words)) 1 c.pass.inside.lows (limits_of c.self.inside.shared.words).parts + spare_steps (limits_of c.self.inside.shared.words) (look_steps (limits_of c.self.inside.shared.words))) (view_of c.pass.inside.seat) (view_of c.find.new.seat)
 whole c = finds_acted _ wanteds.Error _ c.args.from _ _ _ c.find.result c.find.ensures.told
 
 pub returns-then-from-rows-clause-answer : goal.returns-then-from-rows-clause-answer
@@ -32,15 +32,15 @@ returns-then-from-rows-clause-answer c = let at = (goal.at.returns-then-from-row
 
 pub invariant_of-pass-2 : goal.invariant_of-pass-2
 invariant_of-pass-2 c = let at = goal.at.invariant_of-pass-2 c in
-    (rests_looked _ c.pass.inside.seat c.find.new.seat (lim at.After-rows) _ _ _ _ c.pass.invariant.0 _ (looked _ _ _ _ (whole at.After-find)), c.find.ensures.remembers)
+    (rests_drawn c.find.new.seat _ _ _ _ c.find.new.drawn (rests_looked _ c.pass.inside.seat c.find.new.seat (lim at.After-rows) _ _ _ _ c.pass.invariant.0 _ (looked _ _ _ _ (whole at.After-find))) c.find.ensures.drawn, c.find.ensures.remembers)
 
-within : (c : After-find) (m : ℕ) → scan_steps (limits_of c.self.inside.shared.words) (look_steps (limits_of c.self.inside.shared.words)) 1 c.pass.inside.lows (limits_of c.self.inside.shared.words).parts ≤ m
+within : (c : After-find) (m : ℕ) → scan_steps (limits_of c.self.inside.shared.words) (look_steps (limits_of c.self.inside.shared.words)) 1 c.pass.inside.lows (limits_of c.self.inside.shared.words).parts + spare_steps (limits_of c.self.inside.shared.words) (look_steps (limits_of c.self.inside.shared.words)) ≤ m
     → Follows m c.args.pass.now (shown (spot c.find.new.seat.table c.find.new.lows c.find.new.drawn) (view_of c.find.new.seat))
 within c m le = follows (spot c.pass.inside.seat.table c.pass.inside.lows c.pass.inside.run.drawn) (spot c.find.new.seat.table c.find.new.lows c.find.new.drawn) c.find.ensures.lows (view_of c.pass.inside.seat) (view_of c.find.new.seat) c.args.pass.now c.pass.view_is _ _ _ (whole c).walk m le
 
 pub returns-clause-follows : goal.returns-clause-follows
 returns-clause-follows c = let at = goal.at.returns-clause-follows c in let l = limits_of c.self.inside.shared.words in
-    within at.After-find (next_error_steps c.args.self.now.limits) (subst (λ (z : Limits). scan_steps l (look_steps l) 1 c.pass.inside.lows l.parts ≤ next_error_steps z) (limits at.After-rows) (scan_most l c.pass.inside.lows (look_steps l) 1 l.parts))
+    within at.After-find (next_error_steps c.args.self.now.limits) (subst (λ (z : Limits). scan_steps l (look_steps l) 1 c.pass.inside.lows l.parts + spare_steps l (look_steps l) ≤ next_error_steps z) (limits at.After-rows) (let all = scan_most l c.pass.inside.lows (look_steps l) 1 l.parts in omega arith))
 
 pub returns-clause-few : goal.returns-clause-few
 returns-clause-few c = let at = goal.at.returns-clause-few c in let l = limits_of c.self.inside.shared.words in

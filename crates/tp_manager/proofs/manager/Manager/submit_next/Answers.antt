@@ -1,11 +1,11 @@
-use Rattle.std.proofs.Common.{◌≡◌, ◌<◌, sym, ◌∙◌, ap, arith, rules, subst, Some}
+use Rattle.std.proofs.Common.{inl, ◌≡◌, ◌<◌, sym, ◌∙◌, ap, arith, rules, subst, Some}
 use Rattle.tp_model.specs.declared.types.Limits.{Limits}
 use Rattle.tp_rule.specs.Tables.{limits_of}
 use Rattle.tp_model.specs.Births.{request}
 use Rattle.tp_model.specs.History.{element_of}
 use Rattle.tp_rule.specs.Views.{hand, seen_by, view_of}
 use Rattle.tp_manager.specs.Shown.{ManagerShown, PassShown, spot}
-use Rattle.tp_manager.specs.Bounds.{submit_steps}
+use Rattle.tp_manager.specs.Bounds.{next_steps}
 use Rattle.tp_manager.specs.Walks.{Steady}
 use Rattle.tp_manager.proofs.Walks.{follows, rises_same, remembers}
 use Rattle.tp_manager.proofs.Passes.{steady_at}
@@ -17,29 +17,34 @@ lim : (c : After-publish) → (view_of c.pass.inside.seat).limits ≡ limits_of 
 lim c = ap (λ (p : PassShown). p.limits) c.pass.view_is ∙ (c.requires.own.1 ∙ (sym (ap (λ (m : ManagerShown). m.limits) c.self.view_is) ∙ sym c.self.inside.shared.same))
 
 room : (c : After-publish) → 0 < (hand (view_of c.pass.inside.seat)).left
-room c = let some = c.if-left-eq0.false in let is = c.pass.invariant.0.run_is.1 in omega arith
+room c = let some = c.requires.room in let is = ap (λ (p : PassShown). p.left) c.pass.view_is in omega arith
 
 steady : (c : After-publish) → Steady (limits_of c.self.inside.shared.words) (view_of c.pass.inside.seat)
 steady c = steady_at _ _ _ (lim c) c.pass.invariant.0.steady
 
-pub invariant_of-pass-2 : goal.invariant_of-pass-2
-invariant_of-pass-2 c = let at = (goal.at.invariant_of-pass-2 c).After-publish in (
+pub invariant_of-pass : goal.invariant_of-pass
+invariant_of-pass c = let at = (goal.at.invariant_of-pass c).After-publish in (
   made_rests (limits_of c.self.inside.shared.words) c.args.body c.args.stage c.pass.inside.seat c.publish.new.seat _ (lim at) (steady at) c.store_draft_body.ensures.view c.publish.ensures.grew (room at) _ _ _ _ c.pass.invariant.0,
-  remembers c.pass.inside.lows _ submit_steps _ _ _ (made_walked (limits_of c.self.inside.shared.words) c.args.body c.args.stage _ _ _ (steady at) c.store_draft_body.ensures.view c.publish.ensures.grew (room at)) c.pass.invariant.1,
+  remembers c.pass.inside.lows _ next_steps _ _ _ (made_walked (limits_of c.self.inside.shared.words) c.args.body c.args.stage _ _ _ (steady at) c.store_draft_body.ensures.view c.publish.ensures.grew (room at)) c.pass.invariant.1,
 )
 
 pub returns-clause-follows : goal.returns-clause-follows
 returns-clause-follows c = let at = (goal.at.returns-clause-follows c).After-publish in
-    follows (spot c.pass.inside.seat.table c.pass.inside.lows c.pass.inside.run.drawn) (spot c.publish.new.seat.table c.pass.inside.lows c.pass.inside.run.drawn) (rises_same c.pass.inside.lows) (view_of c.pass.inside.seat) (view_of c.publish.new.seat) c.args.pass.now c.pass.view_is (limits_of c.self.inside.shared.words) submit_steps _
-    (made_walked (limits_of c.self.inside.shared.words) c.args.body c.args.stage _ _ _ (steady at) c.store_draft_body.ensures.view c.publish.ensures.grew (room at)) submit_steps (omega arith)
+    follows (spot c.pass.inside.seat.table c.pass.inside.lows c.pass.inside.run.drawn) (spot c.publish.new.seat.table c.pass.inside.lows c.pass.inside.run.drawn) (rises_same c.pass.inside.lows) (view_of c.pass.inside.seat) (view_of c.publish.new.seat) c.args.pass.now c.pass.view_is (limits_of c.self.inside.shared.words) next_steps _
+    (made_walked (limits_of c.self.inside.shared.words) c.args.body c.args.stage _ _ _ (steady at) c.store_draft_body.ensures.view c.publish.ensures.grew (room at)) next_steps (omega arith)
 
 pub returns-clause-answer : goal.returns-clause-answer
 returns-clause-answer c = let at = (goal.at.returns-clause-answer c).After-publish in let l : Limits = limits_of c.self.inside.shared.words in record {
-  stage_is = search rules;
-  id_is = search rules;
+  stage_is = c.requires.stage;
   adds = search rules;
   is_born = let t = made_request l c.args.body c.args.stage _ _ (view_of c.publish.new.seat) (steady at) c.store_draft_body.ensures.view c.publish.ensures.grew (room at) in
       subst (λ n. element_of (seen_by c.publish.new.seat) n ≡ Some (request n c.args.stage c.args.body)) (t.1 ∙ (search rules)) t.0;
   open_unit = search rules;
-  run = let is = c.pass.invariant.0.run_is in let some = room at in (search rules, search rules);
+  run = inl record {
+    room = c.requires.room;
+    first_is = search rules;
+    next = search rules;
+    left = search rules;
+    blocks = search rules;
+  };
 }

@@ -9,7 +9,7 @@ use Rattle.tp_manager.specs.Finds.{PassedOver}
 use Rattle.tp_manager.specs.Walks.{Begun, EachRow, Sought}
 use Rattle.tp_manager.proofs.Walks.{sought_few}
 use Rattle.tp_manager.proofs.Finds.{over_low, over_widens}
-use Rattle.tp_manager.proofs.Seeks.{begun_few, begun_hit, begun_on, rows_more, sought_from}
+use Rattle.tp_manager.proofs.Seeks.{part_on, begun_few, begun_hit, begun_on, rows_more, sought_from}
 use Rattle.tp_manager.proofs.manager.Shared.find_in_part.Goals as goal
 use Rattle.tp_manager.proofs.manager.Shared.find_in_part.Goals.{After-later-start, After-is_wanted_at}
 
@@ -74,7 +74,7 @@ pub loop-row-preserved : goal.loop-row-preserved
 loop-row-preserved c = let l : Limits = limits_of c.args.self.now.words in let at = goal.at.loop-row-preserved c in let s = look_steps l in let i = c.loop-row.invariant in let start = i.start in let on = c.is_wanted_at.ensures.on.on in
     let P = PassedOver l c.args.wanted in let W = over_widens l c.args.wanted in let F = c.later-start.result in let d : ℕ = c.loop-row.row - F in record {
       start = omega arith;
-      inside = let e = first at.After-later-start in let w = wide at.After-later-start in let end = c.is_wanted_at.ensures.on.part c.args.part (near at.After-is_wanted_at) in omega arith;
+      inside = let e = first at.After-later-start in let w = wide at.After-later-start in let end = part_on l c.loop-row.row c.is_wanted_at.new.row c.args.part c.is_wanted_at.ensures.on (near at.After-is_wanted_at) in omega arith;
       same = search rules;
       begun = begun_few l P W (d * s + s) F _ c.is_wanted_at.new.row _ _ (rows_more d (c.is_wanted_at.new.row - F) s (omega arith))
           (begun_on l P W (d * s) F s c.loop-row.row _ _ _ i.begun c.is_wanted_at.new.row start (c.is_wanted_at.ensures.no c.if-is_wanted_at.false));

@@ -1,6 +1,6 @@
 use Rattle.std.proofs.Common.{◌≡◌, ◌+◌, ◌-◌, ◌*◌, ◌<◌, ◌≤◌, ℕ, List, slice_index, inl, refl, sym, ◌∙◌, ap, arith, subst, suc-mul}
 use Rattle.tp_model.specs.declared.types.Limits.{Limits}
-use Rattle.tp_model.specs.Steps.{rows_of}
+use Rattle.tp_model.specs.Steps.{part_rows}
 use Rattle.tp_rule.specs.Tables.{limits_of}
 use Rattle.tp_rule.specs.Views.{SeatShown, view_of}
 use Rattle.tp_manager.specs.Bounds.{look_steps, scan_steps}
@@ -15,8 +15,8 @@ use Rattle.tp_manager.proofs.manager.Shared.find_in_parts.Goals as goal
 use Rattle.tp_manager.proofs.manager.Shared.find_in_parts.Goals.{else-row-end, then-row-end+in_default}
 
 -- the end of a part is no row behind all rows
-inside : (l k : Limits) → l ≡ k → (n : ℕ) → n < k.parts → n * k.rows + k.rows ≤ rows_of l
-inside l k same n less = subst (λ (z : Limits). n * k.rows + k.rows ≤ rows_of z) (sym same) (rows_more n k.parts k.rows less)
+inside : (l k : Limits) → l ≡ k → (n : ℕ) → n < k.parts → n * k.rows + k.rows ≤ part_rows l
+inside l k same n less = subst (λ (z : Limits). n * k.rows + k.rows ≤ part_rows z) (sym same) (rows_more n k.parts k.rows less)
 
 pub find_in_part-requires-clause-from : goal.find_in_part-requires-clause-from
 find_in_part-requires-clause-from c = let l : Limits = limits_of c.args.self.now.words in let n = c.loop-part.part in
@@ -101,8 +101,8 @@ returns-clause-told c = let l : Limits = limits_of c.args.self.now.words in let 
     let first = c.requires.from in let high = i.inside in let reach = i.reach in let low = c.loop-part-test.false in let end = c.loop-part.auto.part-end in
     let p : l.parts ≡ c.args.self.now.places.limits.parts = ap (λ (z : Limits). z.parts) c.args.self.now.same in
     let same : n ≡ c.args.self.now.places.limits.parts = omega arith in
-    let last : n * c.args.self.now.places.limits.rows ≡ rows_of l = (λ j. same j * c.args.self.now.places.limits.rows) ∙ ap (λ (z : Limits). z.parts * z.rows) (sym c.args.self.now.same) in
-    let all : c.loop-part.row ≡ rows_of l = omega arith in
+    let last : n * c.args.self.now.places.limits.rows ≡ part_rows l = (λ j. same j * c.args.self.now.places.limits.rows) ∙ ap (λ (z : Limits). z.parts * z.rows) (sym c.args.self.now.same) in
+    let all : c.loop-part.row ≡ part_rows l = omega arith in
     sought_few l (scan_steps l s 1 lows n) (scan_steps l s 1 lows l.parts) _ _ _ (scan_rises l lows s 1 n l.parts (omega arith))
     (subst (λ m. Sought l (scan_steps l s 1 lows n) (EachRow P c.args.from m) (view_of c.args.seat.now) (view_of c.loop-part.seat)) all
     (begun_done l P (over_widens l c.args.wanted) (scan_steps l s 1 lows n) c.args.from c.loop-part.row _ _ i.begun (omega arith)))

@@ -1,5 +1,5 @@
 use Rattle.std.proofs.Common.{◌≡◌, ◌*◌, ◌≤◌, ℕ, slice_index}
-use Rattle.tp_model.specs.Steps.{rows_of}
+use Rattle.tp_model.specs.Steps.{part_rows}
 use Rattle.tp_rule.specs.Tables.{limits_of}
 use Rattle.tp_rule.specs.Views.{IsSameSeat, view_of}
 use Rattle.tp_manager.specs.Bounds.{look_steps, scan_steps}
@@ -12,7 +12,7 @@ abbrev pub invariant-loop-part : goal.invariant-loop-part
 invariant-loop-part l = record {
   from : l.from ≤ l.row;
   reach : l.part * l.rows ≤ l.row;
-  inside : l.row ≤ rows_of (limits_of l.self.words);
+  inside : l.row ≤ part_rows (limits_of l.self.words);
   same : IsSameSeat l.initial.seat l.seat;
   remembers : Remembers (view_of l.seat) l.lows;
   rises : Rises l.initial.lows l.lows;

@@ -1,7 +1,7 @@
 use Rattle.std.proofs.Common.{◌≡◌, ◌+◌, ◌*◌, ◌≤◌, ap, arith, subst}
 use Rattle.tp_model.specs.declared.types.Limits.{Limits}
 use Rattle.tp_rule.specs.Tables.{limits_of}
-use Rattle.tp_rule.specs.Views.{seen_by, view_of}
+use Rattle.tp_rule.specs.Views.{view_of}
 use Rattle.tp_manager.specs.Walks.{Looked, Rose}
 use Rattle.tp_manager.proofs.Walks.{looked_few, looked_none}
 use Rattle.tp_manager.proofs.Marks.{raised_looked, rose_low}

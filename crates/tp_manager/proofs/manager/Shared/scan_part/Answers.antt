@@ -12,7 +12,7 @@ use Rattle.tp_rule.specs.declared.view.Known.TheVariants.{PartMark}
 use Rattle.tp_manager.proofs.Lows.{rises_at_then}
 use Rattle.tp_manager.proofs.Marks.{goes_walked, over_passed, rose_then, took_looked}
 use Rattle.tp_manager.proofs.Scans.{passed_widens, took_few, took_then}
-use Rattle.tp_manager.proofs.Seeks.{begun_few, begun_looked, begun_on, rows_more, sought_from, sought_then}
+use Rattle.tp_manager.proofs.Seeks.{part_on, begun_few, begun_looked, begun_on, rows_more, sought_from, sought_then}
 use Rattle.tp_manager.proofs.manager.Shared.scan_part.Goals as goal
 use Rattle.tp_manager.proofs.manager.Shared.scan_part.Goals.{After-loop-row, After-mark_at-mark, After-try_row}
 
@@ -31,7 +31,7 @@ near : (c : After-try_row) → IsRowOf (limits_of c.args.self.now.words) c.args.
 near c = let l : Limits = limits_of c.args.self.now.words in let i = c.loop-row.invariant in let low = i.from in let less = c.loop-row-test.true in
     let a : c.args.part * l.rows ≡ c.args.part * c.args.self.now.places.limits.rows = ap (λ (z : Limits). c.args.part * z.rows) c.args.self.now.same in
     let b : l.rows ≡ c.args.self.now.places.limits.rows = ap (λ (z : Limits). z.rows) c.args.self.now.same in
-    let own : IsRowOf l c.args.part c.loop-row.row = (c.requires.part, omega arith, omega arith) in (own, c.try_row.ensures.on.part c.args.part own)
+    let own : IsRowOf l c.args.part c.loop-row.row = (c.requires.part, omega arith, omega arith) in (own, part_on l c.loop-row.row c.try_row.new.row c.args.part c.try_row.ensures.on own)
 
 -- the steps from the mark up to the row
 since : (c : After-try_row) → Looked (limits_of c.args.self.now.words) ((c.loop-row.row - (c.args.part * c.args.self.now.places.limits.rows + c.mark_at-mark.result)) * try_steps (limits_of c.args.self.now.words)) (view_of c.mark_at-mark.new.seat) (view_of c.loop-row.seat)

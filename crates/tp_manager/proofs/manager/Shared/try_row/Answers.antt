@@ -13,9 +13,7 @@ use Rattle.tp_rule.specs.Views.{seen_by, view_of}
 use Rattle.tp_rule.specs.declared.view.View.{View}
 use Rattle.tp_manager.specs.Bounds.{body_steps, status_steps, try_steps}
 use Rattle.tp_manager.specs.Walks.{EachRow, Looked, PassedBy, Rose, Sought}
-use Rattle.tp_model.specs.Steps.{IsLegal}
 use Rattle.tp_model.specs.History.{element_of}
-use mathlib.Core.List.{IsPrefix}
 use Rattle.tp_manager.proofs.Cancels.{few_rows}
 use Rattle.tp_manager.proofs.Marks.{Goes, goes_walked, rose_dead, rose_later, rose_none, rose_one}
 use Rattle.tp_manager.proofs.Walks.{acted_by, grew_legal, grew_one, grew_seen, looked, looked_begins, looked_none, looked_then, walked_none}
