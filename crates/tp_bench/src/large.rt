@@ -12,6 +12,7 @@ const LARGE: Limits = Limits {
     rows: 256,
     units: 1024,
     attempts: 3,
+    spare: 0,
 };
 
 /// So many passes submit all that they can, and are dropped.

@@ -16,6 +16,7 @@ const LIMITS: Limits = Limits {
     rows: 256,
     units: 1024,
     attempts: 3,
+    spare: 0,
 };
 
 /// When a thread began and ended its work, and how much of it was done.

@@ -15,6 +15,7 @@ const SMALL: Limits = Limits {
     rows: 256,
     units: 1024,
     attempts: 7,
+    spare: 0,
 };
 
 /// A manager and its two passes.

@@ -140,8 +140,8 @@ module _ (recipe : Recipe) (r : List ℕ) (pending : Option Pending) (start : Li
 
   -- the open unit ended without a Commit
   pub leaves : (work : Option Work) (drafts : List DraftView) → IsSteady recipe r pending start f p work drafts
-      → (n u k : ℕ) (q : PassShown) → Follows n p q → Closes u k p q → Adds (Abort p.number u) p q ⊎ Loses u p q → Leaves recipe start r f q
-  leaves work drafts s n u k q follows closes how =
+      → (n u : ℕ) (q : PassShown) → Follows n p q → Closes u p q → Adds (Abort p.number u) p q ⊎ Loses u p q → Leaves recipe start r f q
+  leaves work drafts s n u q follows closes how =
       let g : List Event = gained f.mine p.mine in
       let seen = seen_on n p q follows in
       let all : AreEnded None g q.seen = all_ended g p.seen q.seen p.open_unit u seen closes.was_open closes.ended s.ended in
@@ -206,16 +206,16 @@ claimed recipe r pending start f p q work drafts l n stage claimeds.NoUnit none 
 pub committed : (recipe : Recipe) (r r' : List ℕ) (pending : Option Pending) (start : List ℕ) (f p q : PassShown) (work : Option Work) (drafts : List DraftView) (n : ℕ) (outcome : Outcome)
     → IsSteady recipe r pending start f p work drafts → IsSome pending → Follows n p q → Settles drafts p q outcome → Some r' ≡ registers_left outcome r pending → Leaves recipe start r' f q
 committed recipe r r' pending start f p q work drafts n (outcomes.Committed first count) s some follows settles made =
-    kept recipe r pending start f p work drafts s some r' made n first count q follows settles.1
+    kept recipe r pending start f p work drafts s some r' made n first count q follows settles
 committed recipe r r' pending start f p q work drafts n outcomes.Lost s some follows settles made =
-    subst (λ x. Leaves recipe start x f q) (same_some _ _ (sym made)) (leaves recipe r pending start f p work drafts s n settles.1.0 _ q follows settles.1.1 (inr settles.1.2))
+    subst (λ x. Leaves recipe start x f q) (same_some _ _ (sym made)) (leaves recipe r pending start f p work drafts s n settles.0 q follows settles.1 (inr settles.4))
 committed recipe r r' pending start f p q work drafts n outcomes.Full s some follows settles made =
-    subst (λ x. Leaves recipe start x f q) (same_some _ _ (sym made)) (leaves recipe r pending start f p work drafts s n settles.1.0 _ q follows settles.1.1 settles.1.2)
+    subst (λ x. Leaves recipe start x f q) (same_some _ _ (sym made)) (leaves recipe r pending start f p work drafts s n settles.2.0 q follows settles.2.1 settles.2.3)
 
 -- an abort, whatever its answer
-pub gives_up : (p q : PassShown) (e : Ended) → Ends p q e → (u : ℕ) × Closes u 0 p q × (Adds (Abort p.number u) p q ⊎ Loses u p q)
-gives_up p q Aborted ends = (ends.0, ends.1, inl ends.2)
-gives_up p q Already ends = (ends.0, ends.1, inr ends.2)
+pub gives_up : (p q : PassShown) (e : Ended) → Ends p q e → (u : ℕ) × Closes u p q × (Adds (Abort p.number u) p q ⊎ Loses u p q)
+gives_up p q Aborted ends = (ends.0, ends.1, inl ends.3)
+gives_up p q Already ends = (ends.0, ends.1, inr ends.3)
 
 -- what a desk that ends leaves, whether a unit was open or not
 pub left : (recipe recipe' : Recipe) (r r' : List ℕ) (pending : Option Pending) (start : List ℕ) (f p : PassShown) (work : Option Work) (drafts : List DraftView)
@@ -232,4 +232,4 @@ left recipe recipe' r r' pending start f p work drafts s same_recipe same_r q sh
     })
     go (Some u) is up follows =
         let gives = gives_up p q up.0 up.1 in
-        leaves recipe r pending start f p work drafts s abort_steps gives.0 0 q follows gives.1 gives.2
+        leaves recipe r pending start f p work drafts s abort_steps gives.0 q follows gives.1 gives.2

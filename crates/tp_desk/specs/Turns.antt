@@ -63,7 +63,7 @@ Turns l recipe registers old new (turneds.Full element) = Works l recipe registe
 
 -- how many atomic steps a turn makes at most: those of a claim, and of a commit of four drafts
 abbrev pub turn_steps : Limits → ℕ
-turn_steps l = claim_steps l + commit_steps 4
+turn_steps l = claim_steps l + commit_steps l 4
 
 -- the registers of committed work after a commit with this answer
 abbrev pub registers_left : Outcome → List ℕ → Option Pending → Option (List ℕ)

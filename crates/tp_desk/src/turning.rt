@@ -40,7 +40,7 @@ impl Desk<'_, '_, '_> {
         ensures same { IsSameDesk self.old self.new }
         ensures recipe { recipe self.new.server.now ≡ recipe self.old.server.now }
         ensures free { self.new.work ≡ None }
-        ensures follows { Follows (commit_steps 4) self.old.pass.now self.new.pass.now }
+        ensures follows { Follows (commit_steps self.old.manager.now.limits 4) self.old.pass.now self.new.pass.now }
         ensures answer { WorksOff (recipe self.old.server.now) (registers self.old.server.now) work
             self.old.pass.now self.new.pass.now result }
         ensures steady { SteadyDesk recipe registers pending self.new }

@@ -138,7 +138,7 @@ impl<'m, 'p, 's> Desk<'m, 'p, 's> {
             ≡ registers_left result (registers self.old.server.now) (pending self.old.server.now) }
         ensures clear { pending self.new.server.now ≡ None }
         ensures free { self.new.work ≡ None }
-        ensures follows { Follows (commit_steps 4) self.old.pass.now self.new.pass.now }
+        ensures follows { Follows (commit_steps self.old.manager.now.limits 4) self.old.pass.now self.new.pass.now }
         ensures answer { IfSome self.old.work (λ work.
             Finishes (recipe self.old.server.now) (registers self.old.server.now) work self.old.pass.now self.new.pass.now result) }
         ensures steady { SteadyDesk recipe registers pending self.new }

@@ -34,6 +34,7 @@ const LIMITS: Limits = Limits {
     rows: 64,
     units: 48,
     attempts: 3,
+    spare: 0,
 };
 
 fn main(rt: HostRuntime) -> ExitCode {

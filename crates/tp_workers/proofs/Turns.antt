@@ -45,16 +45,16 @@ then : (n k m l : ℕ) (p between q : PassShown) → Adds n k p between → Adds
 then n k m l p between q a b = record { done_is = omega (arith, a.done_is, b.done_is); taken_is = omega (arith, a.taken_is, b.taken_is) }
 
 ends_adds : (p q : PassShown) (ended : Ended) → Ends p q ended → Adds 0 0 p q
-ends_adds p q endeds.Aborted (u, closes, adds) = one p q (Abort p.number u) 0 0 adds.mine refl refl
-ends_adds p q endeds.Already (u, closes, loses) = quiet p q loses.0
+ends_adds p q endeds.Aborted (u, closes, keeps, adds) = one p q (Abort p.number u) 0 0 adds.mine refl refl
+ends_adds p q endeds.Already (u, closes, keeps, loses) = quiet p q loses.0
 
 work_adds : (recipe : Recipe) (registers : List ℕ) (work : Work) (p q : PassShown) (t : Turned) → WorksOff recipe registers work p q t → Adds (turn_count t).done 0 p q
 work_adds recipe registers work p q turneds.Idle h = absurd h
 work_adds recipe registers work p q turneds.NoUnit h = absurd h
-work_adds recipe registers work p q (turneds.Done unit element first count) (a, b, (drafts, made, (room, commits))) = one p q _ 1 0 commits.adds.mine refl refl
+work_adds recipe registers work p q (turneds.Done unit element first count) (a, b, (drafts, made, commits)) = one p q _ 1 0 commits.adds.mine refl refl
 work_adds recipe registers work p q (turneds.Refused element why) (a, (declines, (ended, ends))) = ends_adds p q ended ends
-work_adds recipe registers work p q (turneds.Lost element) (a, (drafts, made, (room, (u, closes, loses)))) = quiet p q loses.0
-work_adds recipe registers work p q (turneds.Full element) (a, (drafts, made, (few, (u, closes, how)))) =
+work_adds recipe registers work p q (turneds.Lost element) (a, (drafts, made, (u, closes, row, uses, loses))) = quiet p q loses.0
+work_adds recipe registers work p q (turneds.Full element) (a, (drafts, made, (few, all_drawn, (u, closes, keeps, how)))) =
     ⊎_elim (λ adds. one p q (Abort p.number u) 0 0 adds.mine refl refl) (λ loses. quiet p q loses.0) how
 
 -- an element was claimed, and this became of it

@@ -2,6 +2,7 @@
 use Rattle.std.specs.Prelude.{◌≡◌, ℕ, ◌+◌, List, Result, MatchResult}
 use Rattle.tp_model.specs.declared.event.Event.{Event}
 use Rattle.tp_model.specs.declared.event.Event.TheVariants.{Enqueue}
+use Rattle.tp_model.specs.declared.types.Limits.{Limits}
 use Rattle.tp_model.specs.declared.types.Refusal.{Refusal}
 use Rattle.tp_model.specs.Steps.{IsServerStage}
 use Rattle.tp_model.specs.Births.{request}
@@ -25,12 +26,13 @@ pub record IsClientOf (m : ManagerShown) (x : PassShown × ClientJob) : Type 0 w
   pub job : IsClientJob x.1
 
 -- a call submitted this body or was refused, as the manager's call answers
-pub record SubmitsOnce (stage : ℕ) (body : List ℕ) (old : PassShown) (answer : Result ℕ Refusal) (new : PassShown) : Type 0 where
-  pub follows : Follows submit_steps old new
+pub record SubmitsOnce (l : Limits) (stage : ℕ) (body : List ℕ) (old : PassShown) (answer : Result ℕ Refusal) (new : PassShown)
+    : Type 0 where
+  pub follows : Follows (submit_steps l) old new
   pub open_unit : new.open_unit ≡ old.open_unit
   pub told : MatchResult answer
       (λ id. Submits id stage body old new)
-      (λ why. (new ≡ old) × SubmitRefused stage old why)
+      (λ why. SubmitRefused stage old new why)
 
 -- the event is an Enqueue of this body
 abbrev pub IsRequest : ℕ → List ℕ → Event → Type 0
@@ -39,7 +41,7 @@ IsRequest stage body e = (c : ℕ) × (id : ℕ) × (e ≡ Enqueue c (request id
 -- a client of this pass and this job made all its calls, and they left the pass so
 pub record ClientRan (m : ManagerShown) (old : PassShown × ClientJob) (counts : Shift) (new : PassShown × ClientJob)
     : Type 0 where
-  pub calls : Called (SubmitsOnce old.1.stage old.1.body) submit_count old.1.count old.0 counts new.0
+  pub calls : Called (SubmitsOnce m.limits old.1.stage old.1.body) submit_count old.1.count old.0 counts new.0
   pub gains : GainsOnly (IsRequest old.1.stage old.1.body) old.0 new.0
   pub submitted : counts.submitted + enqueues_in old.0 ≡ enqueues_in new.0
   pub number : new.0.number ≡ old.0.number

@@ -47,7 +47,7 @@ fn submit_at<G: Gate>(
 ) -> Result<u32, Refusal>
     requires own { IsOf manager.now pass.old }
     ensures own { IsOf manager.now pass.new }
-    ensures call { SubmitsOnce job.now.stage job.now.body pass.old result pass.new }
+    ensures call { SubmitsOnce manager.now.limits job.now.stage job.now.body pass.old result pass.new }
 {
     gate.pause(worker, Point::Start);
     let answer = manager.submit(pass, job.stage, job.body);

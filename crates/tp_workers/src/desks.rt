@@ -107,7 +107,7 @@ fn work_at<G: Gate>(desk: &mut Desk, work: Work, worker: u32, gate: &G) -> Turne
     ensures same { IsSameDesk desk.old desk.new }
     ensures recipe { shown recipe desk.new.server.now ≡ shown recipe desk.old.server.now }
     ensures free { desk.new.work ≡ None }
-    ensures follows { Follows (commit_steps 4) desk.old.pass.now desk.new.pass.now }
+    ensures follows { Follows (commit_steps desk.old.manager.now.limits 4) desk.old.pass.now desk.new.pass.now }
     ensures answer { WorksOff (shown recipe desk.old.server.now) (shown registers desk.old.server.now) work
         desk.old.pass.now desk.new.pass.now result }
     ensures steady { SteadyDesk (shown recipe) (shown registers) (shown pending) desk.new }

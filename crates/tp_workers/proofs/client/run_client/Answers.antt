@@ -15,7 +15,7 @@ loop-i-init g c = record {
 
 pub plus-counts-requires : goal.plus-counts-requires
 plus-counts-requires g c =
-    let before = total_submits _ _ c.loop-i._i _ _ _ c.loop-i.invariant.calls in
+    let before = total_submits _ _ _ c.loop-i._i _ _ _ c.loop-i.invariant.calls in
     let now = ap total c.of_submit.ensures ∙ one_submit c.submit_at-answer.result in
     omega arith
 
@@ -29,12 +29,12 @@ loop-i-preserved g c = record {
 pub returns-clause-ran : goal.returns-clause-ran
 returns-clause-ran g c =
     let all : c.loop-i._i ≡ c.args.job.now.count = omega arith in
-    let calls = subst (λ (n : ℕ). Called (SubmitsOnce c.args.job.now.stage c.args.job.now.body) submit_count n c.args.pass.now c.loop-i.counts c.loop-i.pass) all c.loop-i.invariant.calls in
+    let calls = subst (λ (n : ℕ). Called (SubmitsOnce c.args.manager.now.limits c.args.job.now.stage c.args.job.now.body) submit_count n c.args.pass.now c.loop-i.counts c.loop-i.pass) all c.loop-i.invariant.calls in
     record {
       calls = calls;
-      gains = submits_gained _ _ _ _ _ _ calls;
-      submitted = submits_counted _ _ _ _ _ _ calls;
-      number = submits_number _ _ _ _ _ _ calls;
+      gains = submits_gained _ _ _ _ _ _ _ calls;
+      submitted = submits_counted _ _ _ _ _ _ _ calls;
+      number = submits_number _ _ _ _ _ _ _ calls;
       same_job = refl;
       ready = record {
         pass = record { own = c.loop-i.invariant.own; free = c.loop-i.invariant.open_unit ∙ c.requires.ready.pass.free };
@@ -44,5 +44,5 @@ returns-clause-ran g c =
 
 pub returns-clause-bound : goal.returns-clause-bound
 returns-clause-bound g c =
-    let all = total_submits _ _ _ _ _ _ c.loop-i.invariant.calls in
+    let all = total_submits _ _ _ _ _ _ _ c.loop-i.invariant.calls in
     omega arith

@@ -9,5 +9,5 @@ abbrev pub invariant-loop-i : goal.invariant-loop-i
 invariant-loop-i g l = record {
   own : IsOf l.manager l.pass;
   open_unit : l.pass.open_unit ≡ l.fn.pass.open_unit;
-  calls : Called (SubmitsOnce l.job.stage l.job.body) submit_count l._i l.fn.pass l.counts l.pass;
+  calls : Called (SubmitsOnce l.manager.limits l.job.stage l.job.body) submit_count l._i l.fn.pass l.counts l.pass;
 }
