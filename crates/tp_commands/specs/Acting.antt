@@ -143,10 +143,10 @@ TellsClaim l old told.Busy new = IsSome old.work × (new ≡ old)
 TellsClaim l old other new = ⊥
 
 -- the work in hand came to this, and nothing is in hand any more
-pub record WorksOffAt (turned : Turned) (old new : DeskShown) : Type 0 where
+pub record WorksOffAt (l : Limits) (turned : Turned) (old new : DeskShown) : Type 0 where
   pub work : Work
   pub in_hand : old.work ≡ Some work
-  pub follows : Follows (commit_steps 4) old.pass new.pass
+  pub follows : Follows (commit_steps l 4) old.pass new.pass
   pub answer : WorksOff old.recipe old.registers work old.pass new.pass turned
   pub none_left : new.work ≡ None
   pub recipe_is : new.recipe ≡ old.recipe
@@ -161,19 +161,19 @@ pub record PreparesAt (old new : DeskShown) : Type 0 where
   pub server : IsSameServer old new
 
 -- a prepare, which gives up what the recipe declines
-abbrev pub TellsPrepare : DeskShown → ServerAnswer → DeskShown → Type 0
-TellsPrepare old told.Ready new = PreparesAt old new
-TellsPrepare old (told.Turned (turneds.Refused element why)) new =
-    (old.pending ≡ None) × WorksOffAt (turneds.Refused element why) old new
-TellsPrepare old told.Busy new = IsSome old.work × IsSome old.pending × (new ≡ old)
-TellsPrepare old told.NoneOpen new = (old.work ≡ None) × (new ≡ old)
-TellsPrepare old other new = ⊥
+abbrev pub TellsPrepare : Limits → DeskShown → ServerAnswer → DeskShown → Type 0
+TellsPrepare l old told.Ready new = PreparesAt old new
+TellsPrepare l old (told.Turned (turneds.Refused element why)) new =
+    (old.pending ≡ None) × WorksOffAt l (turneds.Refused element why) old new
+TellsPrepare l old told.Busy new = IsSome old.work × IsSome old.pending × (new ≡ old)
+TellsPrepare l old told.NoneOpen new = (old.work ≡ None) × (new ≡ old)
+TellsPrepare l old other new = ⊥
 
 -- a commit, of work that is prepared first where it wasn't
-abbrev pub TellsCommit : DeskShown → ServerAnswer → DeskShown → Type 0
-TellsCommit old (told.Turned turned) new = WorksOffAt turned old new
-TellsCommit old told.NoneOpen new = (old.work ≡ None) × (new ≡ old)
-TellsCommit old other new = ⊥
+abbrev pub TellsCommit : Limits → DeskShown → ServerAnswer → DeskShown → Type 0
+TellsCommit l old (told.Turned turned) new = WorksOffAt l turned old new
+TellsCommit l old told.NoneOpen new = (old.work ≡ None) × (new ≡ old)
+TellsCommit l old other new = ⊥
 
 -- an abort of the unit that holds this element, with this answer
 pub record AbortsAt (ended : Ended) (element : ℕ) (old new : DeskShown) : Type 0 where
@@ -206,8 +206,8 @@ TellsDrop old other new = ⊥
 abbrev pub Does : Limits → DeskAct → DeskShown → ServerAnswer → DeskShown → Type 0
 Does l acts.Turn old a new = TellsTurn l old a new
 Does l acts.Claim old a new = TellsClaim l old a new
-Does l acts.Prepare old a new = TellsPrepare old a new
-Does l acts.Commit old a new = TellsCommit old a new
+Does l acts.Prepare old a new = TellsPrepare l old a new
+Does l acts.Commit old a new = TellsCommit l old a new
 Does l acts.Abort old a new = TellsAbort old a new
 Does l acts.Drop old a new = TellsDrop old a new
 

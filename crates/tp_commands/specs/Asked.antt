@@ -31,11 +31,11 @@ LooksAt l id old new = id < rows_of l → HasLooked old new
 -- a submit
 abbrev pub Submitted : ℕ → List ℕ → PassShown → PassShown → Answer → Type 0
 Submitted stage body old new (answer.Submitted id) = Submits id stage body old new
-Submitted stage body old new (answer.Refused why) = (new ≡ old) × SubmitRefused stage old why
+Submitted stage body old new (answer.Refused why) = SubmitRefused stage old new why
 Submitted stage body old new other = ⊥
 
-abbrev pub TellsSubmit : ℕ → List ℕ → PassShown → PassShown → Answer → Type 0
-TellsSubmit stage body old new a = Follows submit_steps old new × Submitted stage body old new a
+abbrev pub TellsSubmit : Limits → ℕ → List ℕ → PassShown → PassShown → Answer → Type 0
+TellsSubmit l stage body old new a = Follows (submit_steps l) old new × Submitted stage body old new a
 
 -- a kill
 abbrev pub Killed : Limits → ℕ → PassShown → PassShown → Answer → Type 0
@@ -145,7 +145,7 @@ pub record FoundLine {A : Type 0} (Tells : PassShown → A → PassShown → Typ
 
 -- the line of what the client is to do
 abbrev pub TellsClient : Limits → ClientAct → PassShown → List ℕ → PassShown → Type 0
-TellsClient l (acts.Submit stage body) = AnswerLine (TellsSubmit stage body)
+TellsClient l (acts.Submit stage body) = AnswerLine (TellsSubmit l stage body)
 TellsClient l (acts.Kill id) = AnswerLine (TellsKill l id)
 TellsClient l (acts.Cancel root) = AnswerLine (TellsCancel l root)
 TellsClient l (acts.Requeue id) = AnswerLine (TellsRequeue l id)

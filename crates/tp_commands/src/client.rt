@@ -47,7 +47,7 @@ fn submit(manager: &Manager, client: &mut Pass, stage: u8, body: Body) -> Answer
     requires { IsFreePass manager.now client.old }
     ensures free { IsFreePass manager.now client.new }
     ensures number { client.new.number ≡ client.old.number }
-    ensures tells { TellsSubmit stage body client.old client.new result }
+    ensures tells { TellsSubmit manager.now.limits stage body client.old client.new result }
 {
     match manager.submit(client, stage, body) {
         Ok(id) => Answer::Submitted { id },

@@ -171,7 +171,7 @@ fn prepare(desk: &mut Desk) -> ServerAnswer
     requires steady { SteadyDesk (shown recipe) (shown registers) (shown pending) desk.old }
     ensures same { IsSameDesk desk.old desk.new }
     ensures steady { SteadyDesk (shown recipe) (shown registers) (shown pending) desk.new }
-    ensures tells { TellsPrepare (desk_shown recipe registers pending desk.old) result
+    ensures tells { TellsPrepare desk.old.manager.now.limits (desk_shown recipe registers pending desk.old) result
         (desk_shown recipe registers pending desk.new) }
 {
     let Some(work) = desk.in_hand() else {
@@ -194,7 +194,7 @@ fn commit(desk: &mut Desk) -> ServerAnswer
     requires steady { SteadyDesk (shown recipe) (shown registers) (shown pending) desk.old }
     ensures same { IsSameDesk desk.old desk.new }
     ensures steady { SteadyDesk (shown recipe) (shown registers) (shown pending) desk.new }
-    ensures tells { TellsCommit (desk_shown recipe registers pending desk.old) result
+    ensures tells { TellsCommit desk.old.manager.now.limits (desk_shown recipe registers pending desk.old) result
         (desk_shown recipe registers pending desk.new) }
 {
     let Some(work) = desk.in_hand() else {
