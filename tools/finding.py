@@ -24,12 +24,16 @@ class Log:
         self.kills, self.cancels, self.looks, self.nones, self.requeues = {}, [], [], [], {}
         # Of which call an abort or a kill may have been, and how many each call says that it made.
         self.choices, self.needs = [], {}
+        # The spare blocks that calls told of, how many were drawn in all, and a call that found none left.
+        self.blocks, self.draws, self.full = set(), 0, None
         for thread in sorted({it.thread for it in calls}):
-            self.drawn = self.used = 0
+            self.next, self.left, self.used = thread * limits["rows"], limits["rows"], 0
             self.open = None
             for call in calls:
                 if call.thread == thread:
                     getattr(self, "take_" + call.kind.lower())(call, call.told)
+        if self.full:
+            self.must(self.draws == limits["spare"], self.full, "a spare block was left")
         self.find_roots()
         self.stands = {id: self.lifetime(id) for id in self.births}
         if not set(self.claims) | set(self.kills) | set(self.requeues) <= set(self.births):
@@ -49,14 +53,31 @@ class Log:
         if not holds:
             raise Wrong(f"thread {call.thread}, {call.before} to {call.after}, {call.kind}: {why}")
 
-    def next_id(self, call):
-        return call.thread * self.limits["rows"] + self.drawn
+    def first_row(self, call, count, told):
+        """Returns the first of so many rows that the pass uses: this one is told, or None where none is."""
+        own = self.limits["parts"] * self.limits["rows"]
+        if self.left < count:
+            self.next, self.left, self.draws = None, 8, self.draws + 1
+            self.must(self.draws <= self.limits["spare"], call, "no spare block was left")
+        if self.next is None and told is not None:
+            # The run is in a block that no call has told of yet: a lost commit tells no id.
+            block, at = divmod(told - own, 8)
+            self.must(0 <= block < self.limits["spare"] and block not in self.blocks and at == 8 - self.left, call, "not a row of a new block")
+            self.blocks.add(block)
+            self.next = told
+        first, self.left = self.next, self.left - count
+        self.next = None if first is None else first + count
+        return first
+
+    def no_room(self, call, count):
+        self.full = call
+        return self.must(self.left < count, call, "there was room")
 
     def take_submit(self, call, told):
         if call.answer == ("Err", "Full"):
-            return self.must(self.drawn == self.limits["rows"], call, "there was room")
-        self.must(call.answer == ("Ok", self.next_id(call)), call, "not the next id")
-        id, self.drawn = call.answer[1], self.drawn + 1
+            return self.no_room(call, 1)
+        how, id = call.answer
+        self.must(how == "Ok" and self.first_row(call, 1, id) == id, call, "not the next id")
         self.births[id] = self.point(call, "submit", call.thread, id, told["stage"], tuple(told["body"]))
 
     def take_claim(self, call, told):
@@ -73,25 +94,25 @@ class Log:
         self.ends[self.open] = None
 
     def take_commit(self, call, told):
-        fits = self.drawn + told["drafts"] <= self.limits["rows"]
+        count = told["drafts"]
         if call.answer == "Full":
-            self.must(not fits, call, "there was room")
+            self.no_room(call, count)
             self.ends[self.open] = ("aborted by any", call)
             return
-        self.must(fits, call, "there was no room")
         if call.answer == "Lost":
+            if count:
+                self.first_row(call, count, None)
             self.ends[self.open] = ("aborted by another", call)
         else:
-            first = self.next_id(call)
+            first = self.first_row(call, count, call.answer["first"]) if count else 0
             key, *words = told["body"]
-            drafts = [(told["stage"], (key, *(word + it for word in words))) for it in range(told["drafts"])]
-            wanted = {"is": "Committed", "first": first if drafts else 0, "count": len(drafts)}
+            drafts = [(told["stage"], (key, *(word + it for word in words))) for it in range(count)]
+            wanted = {"is": "Committed", "first": first, "count": len(drafts)}
             self.must(call.answer == wanted, call, "not the drafts' ids")
             made = self.point(call, "commit", call.thread, self.open, first, drafts)
             self.ends[self.open] = ("committed", made)
             for it in range(len(drafts)):
                 self.births[first + it] = made
-        self.drawn += told["drafts"]
 
     def take_abort(self, call, told):
         if call.answer == "Aborted":

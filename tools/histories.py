@@ -102,13 +102,22 @@ class Manager:
     def __init__(self, limits):
         self.limits, self.born, self.status, self.changed = limits, {}, {}, []
         self.taken, self.open, self.rounds = {}, {}, {}
+        # Which thread's pass uses a spare block.
+        self.drawer = {}
 
     def now_is(self, id, *status):
         self.status[id] = status
         self.changed.append(id)
 
+    def may_use(self, thread, id):
+        own = self.limits["parts"] * self.limits["rows"]
+        if id < own:
+            return id // self.limits["rows"] == thread
+        block = (id - own) // 8
+        return block < self.limits["spare"] and self.drawer.setdefault(block, thread) == thread
+
     def be_born(self, thread, id, stage, root, body, by):
-        if id in self.born or id // self.limits["rows"] != thread:
+        if id in self.born or not self.may_use(thread, id):
             raise Wrong(f"{id} can't be born")
         self.born[id] = (stage, root, body, by)
         self.now_is(id, "waiting", 0)

@@ -1,69 +1,39 @@
 -- The exchange of the counter of drawn blocks.
-use Rattle.std.proofs.Common.{◌≡◌, ℕ, ◌+◌, ◌<◌, ◌≤◌, List, [], ◌∷◌, ◌++◌, Some, sym, refl, ap, ◌∙◌, subst, ⊎_elim, arith}
+use Rattle.std.proofs.Common.{◌≡◌, ℕ, ◌+◌, ◌<◌, ◌≤◌, [], ◌∷◌, ◌++◌, sym, refl, ap, ◌∙◌, subst, ⊎_elim, arith}
 use mathlib.Core.Logic.{dite}
 use native.Mathlib.Decide.{dec_le}
-use mathlib.Core.List.{IsPrefix}
 use Rattle.tp_model.specs.declared.types.Limits.{Limits}
-use Rattle.tp_model.specs.declared.event.Event.{Event}
 use Rattle.tp_model.specs.declared.trace.StepKind.TheVariants as kinds
-use Rattle.tp_model.specs.History.{here, there, events_by}
-use Rattle.tp_model.specs.Passes.{IsOwnOpen, IsRun}
-use Rattle.tp_model.specs.Steps.{IsLegal, block_first}
-use Rattle.tp_model.proofs.Bridges.{begins_refl, in_cons}
-use Rattle.tp_rule.specs.Views.{IsOnePass, hand}
+use Rattle.tp_model.specs.History.{here, there}
+use Rattle.tp_model.specs.Passes.{IsRun}
+use Rattle.tp_model.specs.Steps.{block_first}
+use Rattle.tp_model.proofs.Bridges.{in_cons}
+use Rattle.tp_rule.specs.Views.{hand}
 use Rattle.tp_rule.specs.Steps.{Draws, DrawsNone, IsSo, Knows, drew, noted, unchanged, with_block}
 use Rattle.tp_rule.specs.declared.view.Hand.{Hand}
-use Rattle.tp_rule.specs.declared.view.Known.{Known}
 use Rattle.tp_rule.specs.declared.view.Known.TheVariants.{BlocksDrawn}
 use Rattle.tp_rule.specs.declared.view.View.{View}
-use Rattle.tp_rule.proofs.Reading.{one_after}
 use Rattle.tp_manager.specs.Walks.{Drew, RemembersDrawn, Steady, Tried, Walked, with_trace}
+use Rattle.tp_manager.proofs.Unseen.{unseen_hand, unseen_limits, unseen_seen, unseen_steady, unseen_walked}
 use Rattle.tp_manager.proofs.Walks.{walked_few, walked_none, walked_then}
 
 module _ (l : Limits) (f : Hand → Hand) (n : ℕ) (v w : View) (s : Steady l v) (is : w ≡ drew f n v) where
-  drew_after : IsOnePass w × (hand w ≡ noted kinds.Draw v.seen (f (hand v))) × (w.limits ≡ v.limits)
-  drew_after = one_after kinds.Draw f v.seen (BlocksDrawn n ∷ v.known) v w s.pass.0 is
-
   pub drew_hand : hand w ≡ noted kinds.Draw v.seen (f (hand v))
-  drew_hand = drew_after.1
+  drew_hand = unseen_hand l kinds.Draw f (BlocksDrawn n ∷ v.known) v w s is
 
   pub drew_seen : w.seen ≡ v.seen
-  drew_seen = ap (λ (z : View). z.seen) is
-
-  pub drew_knows : (x : Known) → Knows v x → Knows w x
-  drew_knows x q = subst (λ (z : View). Knows z x) (sym is) (there q)
+  drew_seen = unseen_seen l kinds.Draw f (BlocksDrawn n ∷ v.known) v w s is
 
   -- so many are known to be drawn by then
   pub drew_remembers : n ≤ l.spare → RemembersDrawn w n
-  drew_remembers inside = (subst (λ (z : Limits). n ≤ z.spare) (sym (drew_after.2 ∙ s.pass.1)) inside, λ some. subst (λ (z : View). Knows z (BlocksDrawn n)) (sym is) here)
+  drew_remembers inside = (subst (λ (z : Limits). n ≤ z.spare) (sym (unseen_limits l kinds.Draw f (BlocksDrawn n ∷ v.known) v w s is)) inside, λ some. subst (λ (z : View). Knows z (BlocksDrawn n)) (sym is) here)
 
   pub drew_steady : n ≤ l.spare → (f (hand v)).number ≡ (hand v).number → IsRun l v.seen (f (hand v)).number (f (hand v)).blocks (f (hand v)).next (f (hand v)).left → (f (hand v)).mine ≡ (hand v).mine → (f (hand v)).open_unit ≡ (hand v).open_unit → Steady l w
-  drew_steady inside number run mine open_unit =
-      let h = drew_hand in
-      let c : (hand w).number ≡ (hand v).number = ap (λ (a : Hand). a.number) h ∙ number in
-      record {
-        pass = (drew_after.0, drew_after.2 ∙ s.pass.1);
-        shows = record {
-          given = subst (λ n. n < l.parts) (sym c) s.shows.given;
-          legal = subst (IsLegal l) (sym drew_seen) s.shows.legal;
-          own = ap (λ (a : Hand). a.mine) h ∙ (mine ∙ (s.shows.own ∙ (ap (events_by (hand v).number) (sym drew_seen) ∙ ap (λ n. events_by n w.seen) (sym c))));
-          run = subst (λ (a : Hand). IsRun l w.seen a.number a.blocks a.next a.left) (sym h) (subst (λ z. IsRun l z (f (hand v)).number (f (hand v)).blocks (f (hand v)).next (f (hand v)).left) (sym drew_seen) run);
-          open_own = λ u is. let same : (hand v).open_unit ≡ Some u = sym (ap (λ (a : Hand). a.open_unit) h ∙ open_unit) ∙ is in
-              subst (λ (z : List Event × ℕ). IsOwnOpen z.0 z.1 u) (λ i. (sym drew_seen i, sym c i)) (s.shows.open_own u same);
-        };
-        known = λ x q. subst (λ h. IsSo l h x) (sym drew_seen) (⊎_elim (λ e. subst (IsSo l v.seen) (sym e) inside) (λ o. s.known x o) (in_cons (subst (λ (z : View). Knows z x) is q)));
-      }
+  drew_steady inside number run mine open_unit = unseen_steady l kinds.Draw f (BlocksDrawn n ∷ v.known) v w s is number run mine open_unit
+      (λ x q. ⊎_elim (λ e. subst (IsSo l v.seen) (sym e) inside) (λ o. s.known x o) (in_cons q))
 
   pub drew_walked : (f (hand v)).number ≡ (hand v).number → (f (hand v)).trace ≡ (hand v).trace → Steady l w → Walked l 1 (record { kind = kinds.Draw; seen = v.seen } ∷ []) v w
-  drew_walked number trace steady = record {
-    traced = ap (λ (a : Hand). a.trace) drew_hand ∙ ap (λ t. t ++ record { kind = kinds.Draw; seen = v.seen } ∷ []) trace;
-    few = omega arith;
-    opens = begins_refl v.seen;
-    closes = subst (IsPrefix v.seen) (sym drew_seen) (begins_refl v.seen);
-    number = ap (λ (a : Hand). a.number) drew_hand ∙ number;
-    steady = steady;
-    knows = drew_knows;
-  }
+  drew_walked number trace steady = unseen_walked l kinds.Draw f (BlocksDrawn n ∷ v.known) v w s is refl number trace (λ x q. there q) steady
 
 module _ (l : Limits) where
   -- a block that was drawn

@@ -11,6 +11,7 @@ pub mod Tries
 pub mod Passes
 pub mod Submits
 pub mod Moves
+pub mod Unseen
 pub mod Blocks
 pub mod Rooms
 pub mod Requeues

@@ -8,19 +8,18 @@ use Rattle.tp_model.specs.declared.types.Limits.{Limits}
 use Rattle.tp_model.specs.declared.types.Status.{Status}
 use Rattle.tp_model.specs.declared.event.Event.{Event}
 use Rattle.tp_model.specs.declared.trace.StepKind.TheVariants as kinds
-use Rattle.tp_model.specs.History.{Aborted, IsSettled, element_of, events_by, status_of}
-use Rattle.tp_model.specs.Passes.{IsOwnOpen, IsRun}
+use Rattle.tp_model.specs.History.{Aborted, IsSettled, element_of, status_of}
 use Rattle.tp_model.specs.Steps.{IsLegal}
 use Rattle.tp_model.proofs.Bridges.{begins_refl, end_stays, found_later}
 use Rattle.tp_model.proofs.LawProofs.{settled_stay}
 use Rattle.tp_rule.specs.Rule.{IsSettledRow}
 use Rattle.tp_rule.specs.Steps.{AreOver, HasDead, IsDone, IsLow, IsSo, Knows, Raises, noted, unchanged}
-use Rattle.tp_rule.specs.Views.{IsOnePass, hand}
+use Rattle.tp_rule.specs.Views.{hand}
 use Rattle.tp_rule.specs.declared.view.Hand.{Hand}
 use Rattle.tp_rule.specs.declared.view.Known.{Known}
 use Rattle.tp_rule.specs.declared.view.Known.TheVariants.{PartMark, RowHead}
 use Rattle.tp_rule.specs.declared.view.View.{View}
-use Rattle.tp_rule.proofs.Reading.{one_after}
+use Rattle.tp_manager.proofs.Unseen.{unseen_hand, unseen_steady, unseen_walked}
 use Rattle.tp_manager.specs.Calls.{IsWaiting}
 use Rattle.tp_manager.specs.Looks.{IsThere}
 use Rattle.tp_manager.specs.declared.looking.Birth.{Birth}
@@ -32,44 +31,16 @@ use Rattle.tp_manager.proofs.Looks.{none_unit}
 use Rattle.tp_manager.proofs.Walks.{walked_begins, walked_then}
 
 module _ (l : Limits) (p n : ℕ) (v w : View) (s : Steady l v) (r : Raises v p n w) (new : IsLow l v.seen p n) where
-  raised_after : IsOnePass w × (hand w ≡ noted kinds.Raise v.seen (hand v)) × (w.limits ≡ v.limits)
-  raised_after = one_after kinds.Raise unchanged v.seen w.known v w s.pass.0 r.0
-
   raised_hand : hand w ≡ noted kinds.Raise v.seen (hand v)
-  raised_hand = raised_after.1
-
-  pub raised_seen : w.seen ≡ v.seen
-  raised_seen = ap (λ (z : View). z.seen) r.0
+  raised_hand = unseen_hand l kinds.Raise unchanged w.known v w s r.0
 
   raised_steady : Steady l w
-  raised_steady =
-      let h = raised_hand in
-      let c : (hand w).number ≡ (hand v).number = ap (λ (a : Hand). a.number) h in
-      record {
-        pass = (raised_after.0, raised_after.2 ∙ s.pass.1);
-        shows = record {
-          given = subst (λ n. n < l.parts) (sym c) s.shows.given;
-          legal = subst (IsLegal l) (sym raised_seen) s.shows.legal;
-          own = ap (λ (a : Hand). a.mine) h ∙ (s.shows.own ∙ (ap (events_by (hand v).number) (sym raised_seen) ∙ ap (λ n. events_by n w.seen) (sym c)));
-          run = subst (λ (a : Hand). IsRun l w.seen a.number a.blocks a.next a.left) (sym h) (subst (λ z. IsRun l z (hand v).number (hand v).blocks (hand v).next (hand v).left) (sym raised_seen) s.shows.run);
-          open_own = λ u is. let same : (hand v).open_unit ≡ Some u = sym (ap (λ (a : Hand). a.open_unit) h) ∙ is in
-              subst (λ (z : List Event × ℕ). IsOwnOpen z.0 z.1 u) (λ i. (sym raised_seen i, sym c i)) (s.shows.open_own u same);
-        };
-        known = λ x is. subst (λ h. IsSo l h x) (sym raised_seen) (⊎_elim (λ old. s.known x old) (λ e. subst (IsSo l v.seen) (sym e) new) (r.2 x is));
-      }
+  raised_steady = unseen_steady l kinds.Raise unchanged w.known v w s r.0 refl s.shows.run refl refl (λ x q. ⊎_elim (λ old. s.known x old) (λ e. subst (IsSo l v.seen) (sym e) new) (r.2 x q))
 
   pub raised_looked : Looked l 1 v w
   raised_looked = record {
     marks = record { kind = kinds.Raise; seen = v.seen } ∷ [];
-    walk = record {
-      traced = ap (λ (a : Hand). a.trace) raised_hand;
-      few = omega arith;
-      opens = begins_refl v.seen;
-      closes = subst (IsPrefix v.seen) (sym raised_seen) (begins_refl v.seen);
-      number = ap (λ (a : Hand). a.number) raised_hand;
-      steady = raised_steady;
-      knows = r.1;
-    };
+    walk = unseen_walked l kinds.Raise unchanged w.known v w s r.0 refl refl refl r.1 raised_steady;
     kept = raised_hand ∙ ap (λ t. with_trace t (hand v)) (sym (ap (λ (a : Hand). a.trace) raised_hand));
   }
 

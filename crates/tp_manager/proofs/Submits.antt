@@ -1,22 +1,21 @@
 -- Draft stores, and the birth of a client's element.
 use Rattle.std.proofs.Common.{◌≡◌, ℕ, ◌+◌, ◌-◌, ◌<◌, ◌≤◌, List, [], ◌∷◌, ◌++◌, sym, refl, ap, ◌∙◌, subst, arith, Option, Some, None}
-use mathlib.Core.List.{IsPrefix}
 use Rattle.tp_model.specs.declared.types.Element.{Element}
 use Rattle.tp_model.specs.declared.types.Limits.{Limits}
 use Rattle.tp_model.specs.declared.event.Event.{Event}
 use Rattle.tp_model.specs.declared.trace.StepKind.TheVariants as kinds
 use Rattle.tp_model.specs.declared.trace.TraceEntry.{TraceEntry}
-use Rattle.tp_model.specs.History.{element_of, events_by}
+use Rattle.tp_model.specs.History.{element_of}
 use Rattle.tp_model.specs.Births.{request}
-use Rattle.tp_model.specs.Passes.{IsOwnOpen, IsRun}
+use Rattle.tp_model.specs.Passes.{IsRun}
 use Rattle.tp_model.specs.Steps.{IsLegal, Step}
 use Rattle.tp_model.proofs.Histories.{legal_at}
-use Rattle.tp_model.proofs.Bridges.{begins_refl, new_birth}
-use Rattle.tp_rule.specs.Views.{SeatShown, IsOnePass, hand, next_row, view_of}
-use Rattle.tp_rule.specs.Steps.{Drafts, IsSo, Knows, Publishes, birth, bodied, drafted, next_element, noted, unchanged, with_birth, with_body, with_draft}
+use Rattle.tp_model.proofs.Bridges.{new_birth}
+use Rattle.tp_rule.specs.Views.{SeatShown, hand, next_row, view_of}
+use Rattle.tp_rule.specs.Steps.{Drafts, Publishes, birth, bodied, drafted, next_element, noted, unchanged, with_birth, with_body, with_draft}
 use Rattle.tp_rule.specs.declared.view.Hand.{Hand}
 use Rattle.tp_rule.specs.declared.view.View.{View}
-use Rattle.tp_rule.proofs.Reading.{one_after}
+use Rattle.tp_manager.proofs.Unseen.{unseen_hand, unseen_steady, unseen_walked}
 use Rattle.tp_manager.specs.declared.manager.Run.{Run}
 use Rattle.tp_manager.specs.declared.manager.Task.{Task}
 use Rattle.tp_manager.specs.Walks.{Steady, Walked, Rests, Wrote}
@@ -39,42 +38,14 @@ run_on l h c blocks next left some r = let low = r.begins in let high = r.ends i
 }
 
 module _ (l : Limits) (f : Hand → Hand) (v w : View) (s : Steady l v) (is : w ≡ drafted f v) where
-  stored_after : IsOnePass w × (hand w ≡ noted kinds.DraftStore v.seen (f (hand v))) × (w.limits ≡ v.limits)
-  stored_after = one_after kinds.DraftStore f v.seen v.known v w s.pass.0 is
-
   pub stored_hand : hand w ≡ noted kinds.DraftStore v.seen (f (hand v))
-  stored_hand = stored_after.1
-
-  pub stored_seen : w.seen ≡ v.seen
-  stored_seen = ap (λ (z : View). z.seen) is
+  stored_hand = unseen_hand l kinds.DraftStore f v.known v w s is
 
   pub stored_steady : (f (hand v)).number ≡ (hand v).number → IsRun l v.seen (f (hand v)).number (f (hand v)).blocks (f (hand v)).next (f (hand v)).left → (f (hand v)).mine ≡ (hand v).mine → (f (hand v)).open_unit ≡ (hand v).open_unit → Steady l w
-  stored_steady number run mine open_unit =
-      let h = stored_hand in
-      let c : (hand w).number ≡ (hand v).number = ap (λ (a : Hand). a.number) h ∙ number in
-      record {
-        pass = (stored_after.0, stored_after.2 ∙ s.pass.1);
-        shows = record {
-          given = subst (λ n. n < l.parts) (sym c) s.shows.given;
-          legal = subst (IsLegal l) (sym stored_seen) s.shows.legal;
-          own = ap (λ (a : Hand). a.mine) h ∙ (mine ∙ (s.shows.own ∙ (ap (events_by (hand v).number) (sym stored_seen) ∙ ap (λ n. events_by n w.seen) (sym c))));
-          run = subst (λ (a : Hand). IsRun l w.seen a.number a.blocks a.next a.left) (sym h) (subst (λ z. IsRun l z (f (hand v)).number (f (hand v)).blocks (f (hand v)).next (f (hand v)).left) (sym stored_seen) run);
-          open_own = λ u is. let same : (hand v).open_unit ≡ Some u = sym (ap (λ (a : Hand). a.open_unit) h ∙ open_unit) ∙ is in
-              subst (λ (z : List Event × ℕ). IsOwnOpen z.0 z.1 u) (λ i. (sym stored_seen i, sym c i)) (s.shows.open_own u same);
-        };
-        known = λ x q. subst (λ h. IsSo l h x) (sym stored_seen) (s.known x (subst (λ (z : View). Knows z x) is q));
-      }
+  stored_steady number run mine open_unit = unseen_steady l kinds.DraftStore f v.known v w s is number run mine open_unit s.known
 
   pub stored_walked : (f (hand v)).number ≡ (hand v).number → (f (hand v)).trace ≡ (hand v).trace → Steady l w → Walked l 1 (record { kind = kinds.DraftStore; seen = v.seen } ∷ []) v w
-  stored_walked number trace steady = record {
-    traced = ap (λ (a : Hand). a.trace) stored_hand ∙ ap (λ t. t ++ record { kind = kinds.DraftStore; seen = v.seen } ∷ []) trace;
-    few = omega arith;
-    opens = begins_refl v.seen;
-    closes = subst (IsPrefix v.seen) (sym stored_seen) (begins_refl v.seen);
-    number = ap (λ (a : Hand). a.number) stored_hand ∙ number;
-    steady = steady;
-    knows = λ x q. subst (λ (z : View). Knows z x) (sym is) q;
-  }
+  stored_walked number trace steady = unseen_walked l kinds.DraftStore f v.known v w s is refl number trace (λ x q. q) steady
 
 -- the stores of a row's body
 module _ (l : Limits) (body : List ℕ) (v a : View) (s : Steady l v) (stored : a ≡ bodied body v) where

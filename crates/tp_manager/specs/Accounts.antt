@@ -21,8 +21,8 @@ AreFrom c (p ∷ ps) = (p.number ≡ c) × AreFrom (c + 1) ps
 abbrev pub AreAll : KeeperShown → List PassShown → Type 0
 AreAll keeper passes = (length passes ≡ keeper.given) × AreFrom 0 passes
 
--- a pass has looked, in at most n steps, has done nothing else, and has then seen h. Its own events are those of h
--- with its number, as always (`Follows`)
+-- a pass has looked, in at most n steps, has done nothing else, and has then seen h. Its own events are those
+-- of h with its number, as always (`Follows`)
 pub record Attends (n : ℕ) (h : List Event) (old new : PassShown) : Type 0 where
   pub seen : new.seen ≡ h
   pub follows : Follows n old new
@@ -35,8 +35,8 @@ steps_together [] news = 0
 steps_together (old ∷ olds) [] = 0
 steps_together (old ∷ olds) (new ∷ news) = length (steps_of old new) + steps_together olds news
 
--- the keeper and all passes have seen one and the same legal history, which begins with what each had seen; nobody
--- else has an event in it; and the answer is its account
+-- the keeper and all passes have seen one and the same legal history, which begins with what each had seen;
+-- nobody else has an event in it; and the answer is its account
 pub record Accounts (l : Limits) (keeper keeper' : KeeperShown) (olds news : List PassShown)
     (account : Account) : Type 0 where
   pub legal : IsLegal l keeper'.seen

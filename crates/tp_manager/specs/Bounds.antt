@@ -39,11 +39,13 @@ abort_steps = 1
 abbrev pub birth_steps : ℕ
 birth_steps = 2
 
--- while an element was found taken by units that were aborted since, their words and its claim: for so many attempts
+-- while an element was found taken by units that were aborted since, their words and its claim: for so many
+-- attempts
 abbrev pub retry_steps : ℕ → ℕ
 retry_steps attempts = 2 * attempts
 
--- the status of an element: its claim, and for each attempt in all rounds the word of the unit and the claim again
+-- the status of an element: its claim, and for each attempt in all rounds the word of the unit and the claim
+-- again
 abbrev pub status_steps : Limits → ℕ
 status_steps l = 1 + retry_steps (tries l.attempts)
 
@@ -57,7 +59,8 @@ untaken_left (TakenWord n u r) = MOST_ROUNDS - r
 untaken_left (KilledWord n u r) = 0
 untaken_left (AgainWord r) = MOST_ROUNDS + 1 - r
 
--- the kill of an element whose claim was found, with so many attempts left: for each the unit's word and the claim, and the claim where it is found untaken
+-- the kill of an element whose claim was found, with so many attempts left: for each the unit's word and the
+-- claim, and the claim where it is found untaken
 abbrev pub slay_from : ℕ → ClaimWord → ℕ
 slay_from left word = retry_steps left + untaken_left word
 
@@ -88,8 +91,8 @@ spare_steps l t = drawn_steps l.spare + BLOCK_ROWS * l.spare * t
 abbrev pub round_steps : Limits → ℕ
 round_steps l = part_rows l * kill_steps l + spare_steps l (kill_steps l)
 
--- whether the root is born, and the mark of each part; then each round but the last finds more rows of the family than the
--- one before it
+-- whether the root is born, and the mark of each part; then each round but the last finds more rows of the
+-- family than the one before it
 abbrev pub cancel_steps : Limits → ℕ
 cancel_steps l = birth_steps + l.parts + (rows_of l + 1) * round_steps l
 
@@ -159,8 +162,8 @@ lead_steps n = meet_steps * n
 abbrev pub led_steps : ℕ
 led_steps = 4
 
--- the first of n passes in an account: it meets the keeper's seat, looks together with all, looks at every row, and
--- looks together with all again
+-- the first of n passes in an account: it meets the keeper's seat, looks together with all, looks at every
+-- row, and looks together with all again
 abbrev pub first_steps : Limits → ℕ → ℕ
 first_steps l n = meet_steps + 2 * lead_steps n + rows_of l * look_steps l
 
@@ -176,13 +179,16 @@ account_steps l n = first_steps l n + 2 * led_steps * (n - 1) + kept_steps * (l.
 pub record RoundBounds (l : Limits) : Type 0 where
   pub submit : submit_steps l ≤ 6 + l.spare
   pub claim : claim_steps l ≤ rows_of l * (2 * changes l.attempts + 11) + 2 * l.parts + 1 + drawn_steps l.spare
-  pub claim_left : (lows : List ℕ) → claim_steps_left l lows ≤ (rows_of l - low_sum lows l.parts) * (2 * changes l.attempts + 11) + 2 * l.parts + 1 + drawn_steps l.spare
-  pub listing_left : (lows : List ℕ) → listing_steps_left l lows ≤ (rows_of l - low_sum lows l.parts) * (2 * changes l.attempts + 8) + l.parts + drawn_steps l.spare
+  pub claim_left : (lows : List ℕ)
+      → claim_steps_left l lows ≤ rows_left l lows * (2 * changes l.attempts + 11) + 2 * l.parts + 1 + drawn_steps l.spare
+  pub listing_left : (lows : List ℕ)
+      → listing_steps_left l lows ≤ rows_left l lows * (2 * changes l.attempts + 8) + l.parts + drawn_steps l.spare
   pub commit : (k : ℕ) → commit_steps l k ≤ 6 * k + 3 + l.spare
   pub abort : abort_steps ≤ 2
   pub kill : kill_steps l ≤ 4 * changes l.attempts + 8
   pub requeue : requeue_steps ≤ 8
-  pub cancel : 1 ≤ rows_of l → cancel_steps l ≤ (rows_of l + 2) * (rows_of l * (4 * changes l.attempts + 12) + 2 * l.parts + 1)
+  pub cancel : 1 ≤ rows_of l
+      → cancel_steps l ≤ (rows_of l + 2) * (rows_of l * (4 * changes l.attempts + 12) + 2 * l.parts + 1)
   pub read : read_steps l ≤ 2 * changes l.attempts + 10
   pub reply : reply_steps l ≤ rows_of l * (2 * changes l.attempts + 8) + l.parts + drawn_steps l.spare
   pub next_error : next_error_steps l ≤ rows_of l * (2 * changes l.attempts + 8) + l.parts + drawn_steps l.spare

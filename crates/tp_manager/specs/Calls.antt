@@ -1,5 +1,5 @@
--- What the calls answer, and what they leave. In each definition `old` is what the pass shows before the call, and
--- `new` what it shows after it.
+-- What the calls answer, and what they leave. In each definition `old` is what the pass shows before the
+-- call, and `new` what it shows after it.
 use Rattle.std.specs.Prelude.{◌≡◌, ℕ, ◌+◌, ◌*◌, ◌<◌, ◌≤◌, ◌⊎◌, List, [], ◌∷◌, ◌++◌, length, drop, Some, None}
 use mathlib.Core.List.{IsPrefix}
 use Rattle.tp_model.specs.declared.types.Element.{Element}
@@ -36,8 +36,8 @@ steps_of old new = drop (length old.trace) new.trace
 abbrev pub opening : PassShown → PassShown → List Event
 opening old new = opening_of old.seen (steps_of old new)
 
--- what every call leaves: what a pass shows. It has the same number, its trace has grown by the call's steps, of which
--- there are at most n, and it has seen what it had seen, and more
+-- what every call leaves: what a pass shows. It has the same number, its trace has grown by the call's steps,
+-- of which there are at most n, and it has seen what it had seen, and more
 pub record Follows (n : ℕ) (old new : PassShown) : Type 0 where
   pub shows : IsPassView new.limits (view_in new)
   pub number : new.number ≡ old.number
@@ -68,7 +68,8 @@ pub record UsesRun (k first : ℕ) (old new : PassShown) : Type 0 where
   pub left : new.left + k ≡ old.left
   pub blocks : new.blocks ≡ old.blocks
 
--- too few were left to it: it has drawn a spare block, and used the first k rows of that; what was left stays unused
+-- too few were left to it: it has drawn a spare block, and used the first k rows of that; what was left stays
+-- unused
 pub record UsesBlock (k first : ℕ) (old new : PassShown) : Type 0 where
   pub few : old.left < k
   pub block : ℕ
@@ -81,8 +82,8 @@ pub record UsesBlock (k first : ℕ) (old new : PassShown) : Type 0 where
 abbrev pub UsesRows : ℕ → ℕ → PassShown → PassShown → Type 0
 UsesRows k first old new = UsesRun k first old new ⊎ UsesBlock k first old new
 
--- the pass has too few rows left for k more, and has found all spare blocks drawn: it has changed in nothing else but by the
--- exchanges that failed, of which there is none where there are no spare blocks
+-- the pass has too few rows left for k more, and has found all spare blocks drawn: it has changed in nothing
+-- else but by the exchanges that failed, of which there is none where there are no spare blocks
 pub record FindsNoBlock (k : ℕ) (old new : PassShown) : Type 0 where
   pub few : old.left < k
   pub same : new ≡ record old { trace = new.trace; seen_blocks = old.limits.spare }
@@ -212,7 +213,8 @@ Settles drafts old new outcomes.Lost = (u : ℕ) × Closes u old new × (row : �
     × Loses u old new
 Settles drafts old new (outcomes.Committed first count) = Commits first count drafts old new
 
--- the event is an Abort by pass c, between two histories, of a unit that held element i where the Abort stands
+-- the event is an Abort by pass c, between two histories, of a unit that held element i where the Abort
+-- stands
 pub record IsOfHolder (l : Limits) (c i : ℕ) (from to : List Event) (e : Event) : Type 0 where
   pub unit : ℕ
   pub attempt : ℕ
@@ -226,7 +228,8 @@ pub record IsOfHolder (l : Limits) (c i : ℕ) (from to : List Event) (e : Event
 abbrev pub AreOfHolders : Limits → ℕ → ℕ → List Event → List Event → List Event → Type 0
 AreOfHolders l c i from to aborts = (e : Event) → In e aborts → IsOfHolder l c i from to e
 
--- the pass has aborted so many units that held the element, at most one for each of its attempts in all rounds, and then killed it
+-- the pass has aborted so many units that held the element, at most one for each of its attempts in all
+-- rounds, and then killed it
 pub record Kills (l : Limits) (id count : ℕ) (old new : PassShown) : Type 0 where
   pub aborts : List Event
   pub counted : length aborts ≡ count
@@ -239,7 +242,8 @@ pub record Kills (l : Limits) (id count : ℕ) (old new : PassShown) : Type 0 wh
   pub open_unit : new.open_unit ≡ old.open_unit
   pub run : KeepsRun old new
 
--- the pass has aborted units that held the element, at most one for each of its attempts in all rounds, and has done nothing else
+-- the pass has aborted units that held the element, at most one for each of its attempts in all rounds, and
+-- has done nothing else
 pub record OnlyAborts (l : Limits) (id : ℕ) (old new : PassShown) : Type 0 where
   pub aborts : List Event
   pub few : length aborts ≤ tries l.attempts

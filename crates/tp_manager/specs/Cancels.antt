@@ -1,5 +1,5 @@
--- What a cancel answers. In each definition l are the table's limits, root is the id of the request, `old` is what the
--- pass shows before the call, and `new` what it shows after it.
+-- What a cancel answers. In each definition l are the table's limits, root is the id of the request, `old` is
+-- what the pass shows before the call, and `new` what it shows after it.
 use Rattle.std.specs.Prelude.{◌≡◌, ◌≢◌, ◌⊎◌, ℕ, ◌+◌, Some, List, [], ◌∷◌, ◌++◌}
 use mathlib.Core.List.{IsPrefix}
 use Rattle.tp_model.specs.declared.types.Element.{Element}
@@ -18,8 +18,8 @@ use Rattle.tp_manager.specs.Calls.{AtPoint, IsQuiet, KeepsRun}
 abbrev pub IsTarget : ℕ → ℕ → List Event → Type 0
 IsTarget root i h = (x : Element) × (element_of h i ≡ Some x) × (x.root ≡ root) × (x.stage ≢ 15)
 
--- the event is, between two histories, a Kill by pass c of an element of the family that is no reply, or an Abort by it
--- of a unit that held one where the Abort stands
+-- the event is, between two histories, a Kill by pass c of an element of the family that is no reply, or an
+-- Abort by it of a unit that held one where the Abort stands
 pub record IsOfCancel (l : Limits) (c root : ℕ) (from to : List Event) (e : Event) : Type 0 where
   pub item : ℕ
   pub before : List Event
@@ -41,8 +41,8 @@ abbrev pub kills_in : List Event → ℕ
 kills_in [] = 0
 kills_in (e ∷ h) = one_kill e + kills_in h
 
--- the pass has made these events, among them so many Kills; the root is a client's element, and its family is settled:
--- of it nothing is claimed or committed any more, and nothing is born
+-- the pass has made these events, among them so many Kills; the root is a client's element, and its family is
+-- settled: of it nothing is claimed or committed any more, and nothing is born
 pub record Cancels (l : Limits) (root killed : ℕ) (old new : PassShown) : Type 0 where
   pub events : List Event
   pub counted : kills_in events ≡ killed

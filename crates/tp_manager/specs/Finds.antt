@@ -1,5 +1,5 @@
--- What a listing finds on its way. In each definition l are the table's limits, a is the history before, and b the
--- history after.
+-- What a listing finds on its way. In each definition l are the table's limits, a is the history before, and
+-- b the history after.
 use Rattle.std.specs.Prelude.{◌≡◌, ℕ, ◌<◌, ◌≤◌, List, MatchOption, Option, Some}
 use mathlib.Core.List.{IsPrefix}
 use Rattle.tp_model.specs.declared.types.Element.{Element}
@@ -29,8 +29,8 @@ abbrev pub PassedOver : Limits → Wanted → ℕ → List Event → List Event 
 PassedOver l wanted i a b = (x : Element) → element_of a i ≡ Some x
     → (p : List Event) × IsPrefix a p × IsPrefix p b × ¬ IsWanted wanted x.stage x.root (status_of l.attempts p i)
 
--- in at most n steps, which lead from the view v to w: the first of the rows from `from` on and below `end` whose element was
--- looked for, where each before it was passed over; or none, where all were
+-- in at most n steps, which lead from the view v to w: the first of the rows from `from` on and below `end`
+-- whose element was looked for, where each before it was passed over; or none, where all were
 abbrev pub Finds : Limits → Wanted → ℕ → ℕ → ℕ → View → View → Option ℕ → Type 0
 Finds l wanted n from end v w result = MatchOption result
     (Sought l n (EachRow (PassedOver l wanted) from end) v w)

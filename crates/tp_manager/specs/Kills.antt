@@ -1,5 +1,5 @@
--- What a kill does on its way. In each definition l are the table's limits, i is the row, v is the view before, and w
--- the view after.
+-- What a kill does on its way. In each definition l are the table's limits, i is the row, v is the view
+-- before, and w the view after.
 use Rattle.std.specs.Prelude.{◌≡◌, ℕ, ◌≤◌, List, [], ◌∷◌, ◌++◌, length}
 use mathlib.Core.List.{IsPrefix}
 use Rattle.tp_model.specs.declared.types.Limits.{Limits}
@@ -35,12 +35,14 @@ IsPastKill l h i (refusals.Consumed u) = status_of l.attempts h i ≡ statuses.C
 IsPastKill l h i refusals.AlreadyKilled = status_of l.attempts h i ≡ statuses.Killed
 IsPastKill l h i other = ⊥
 
--- how many units stand in the way of a kill where this claim was found: the one that has taken the element, or none
+-- how many units stand in the way of a kill where this claim was found: the one that has taken the element,
+-- or none
 abbrev pub takers : ClaimWord → ℕ
 takers (TakenWord n u r) = 1
 takers other = 0
 
--- the element may be killed, whose claim word is this one: the unit that had taken it is aborted, in one step and by so many own Aborts, none or one
+-- the element may be killed, whose claim word is this one: the unit that had taken it is aborted, in one step
+-- and by so many own Aborts, none or one
 abbrev pub Loosened : Limits → ℕ → ClaimWord → ℕ → View → View → Type 0
 Loosened l i word count v w = (es : List Event) × (length es ≡ count) × (count ≤ takers word) × Freed l (takers word) i es v w
     × AllowsKill l w.seen word

@@ -1,5 +1,5 @@
--- What the listings answer. In each definition `old` is what the pass shows before the call, and `new` what it shows
--- after it.
+-- What the listings answer. In each definition `old` is what the pass shows before the call, and `new` what
+-- it shows after it.
 use Rattle.std.specs.Prelude.{◌≡◌, ℕ, ◌<◌, ◌≤◌, List, Some}
 use Rattle.tp_model.specs.declared.types.Element.{Element}
 use Rattle.tp_model.specs.declared.types.Limits.{Limits}
@@ -23,7 +23,8 @@ HasReply l root id h = (x : Element) × (element_of h id ≡ Some x) × IsReply 
 abbrev pub HasError : Limits → ℕ → List Event → Type 0
 HasError l id h = (x : Element) × (element_of h id ≡ Some x) × IsParked (status_of l.attempts h id)
 
--- each reply of the root that was born at the opening with one of these ids had a point at which it was killed
+-- each reply of the root that was born at the opening with one of these ids had a point at which it was
+-- killed
 abbrev pub AllKilled : Limits → ℕ → (ℕ → Type 0) → PassShown → PassShown → Type 0
 AllKilled l root Ids old new = (x : Element) → element_of (opening old new) x.id ≡ Some x → IsReply root x → Ids x.id
     → AtPoint old new (λ h. status_of l.attempts h x.id ≡ Killed)

@@ -17,14 +17,15 @@ use Rattle.tp_manager.specs.declared.looking.Birth.{Birth}
 use Rattle.tp_manager.specs.declared.looking.Contents.{Contents}
 use Rattle.tp_manager.specs.declared.looking.Contents.TheVariants.{Holds, DeadDraft, Nothing}
 
--- what the head tells that the pass found in row i: it is that of the born element, or empty or naming a unit where none
--- is born; and the pass remembers it
+-- what the head tells that the pass found in row i: it is that of the born element, or empty or naming a unit
+-- where none is born; and the pass remembers it
 pub record HeadFound (v : View) (i : ℕ) (head : Head) : Type 0 where
   pub born : (e : Element) → element_of v.seen i ≡ Some e → head ≡ head_of e
   pub draft : IsUnborn v.seen i → IsDraft head
   pub knows : Knows v (RowHead i head)
 
--- a scan goes on from row i to the row `next`, which is behind it, and at most the first one behind its part or spare block
+-- a scan goes on from row i to the row `next`, which is behind it, and at most the first one behind its part
+-- or spare block
 pub record GoesOn (l : Limits) (i next : ℕ) : Type 0 where
   pub on : i < next
   pub inside : next ≤ rows_of l
@@ -40,7 +41,8 @@ Contains v i head (Holds birth) = IsThere v.seen i birth × (head ≡ There birt
 Contains v i head DeadDraft = IsUnborn v.seen i × HasDead v i
 Contains v i head Nothing = IsUnborn v.seen i
 
--- there are at most so many attempts from this claim on, in all rounds; those of the rounds before it are over
+-- there are at most so many attempts from this claim on, in all rounds; those of the rounds before it are
+-- over
 abbrev pub IsEnough : Limits → ℕ → ClaimWord → Type 0
 IsEnough l left FreeWord = tries l.attempts ≤ left
 IsEnough l left (TakenWord n u r) = tries l.attempts < r * l.attempts + n + left

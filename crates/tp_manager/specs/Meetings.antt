@@ -1,5 +1,5 @@
--- What a meeting leaves. `a` and `b` are what the two passes show before the call, and `a'` and `b'` what they show
--- after it.
+-- What a meeting leaves. `a` and `b` are what the two passes show before the call, and `a'` and `b'` what
+-- they show after it.
 use Rattle.std.specs.Prelude.{◌≡◌, List, [], ◌∷◌, ◌++◌}
 use mathlib.Core.List.{IsPrefix}
 use Rattle.tp_model.specs.declared.event.Event.{Event}

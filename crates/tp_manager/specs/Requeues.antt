@@ -1,5 +1,6 @@
--- What a requeue answers, and what it does on its way. In each definition l are the table's limits; `old` and `new` are
--- what the pass shows before and after the call, v and w its views before and after a part of it, and i is the row.
+-- What a requeue answers, and what it does on its way. In each definition l are the table's limits; `old` and
+-- `new` are what the pass shows before and after the call, v and w its views before and after a part of it,
+-- and i is the row.
 use Rattle.std.specs.Prelude.{◌≡◌, ℕ, ◌≤◌, List, [], ◌∷◌, ◌++◌, Some}
 use mathlib.Core.List.{IsPrefix}
 use Rattle.tp_model.specs.declared.types.Element.{Element}
@@ -42,7 +43,8 @@ RequeueFails l id old new refusals.NotParked = IsQuiet old new × AtPoint old ne
 RequeueFails l id old new refusals.NoRound = IsQuiet old new × AtPoint old new (HasNoRound l id)
 RequeueFails l id old new other = ⊥
 
--- in at most n steps element i was given this round, which is the last that the pass has seen, and nothing else has changed in it but its trace
+-- in at most n steps element i was given this round, which is the last that the pass has seen, and nothing
+-- else has changed in it but its trace
 pub record Renewed (l : Limits) (n i round : ℕ) (v w : View) : Type 0 where
   pub low : 1 ≤ round
   pub high : round ≤ MOST_ROUNDS

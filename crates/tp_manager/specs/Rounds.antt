@@ -1,5 +1,5 @@
--- What a cancel does on its way. In each definition l are the table's limits, root is the id of the request, v is the
--- view before, and w the view after.
+-- What a cancel does on its way. In each definition l are the table's limits, root is the id of the request,
+-- v is the view before, and w the view after.
 use Rattle.std.specs.Prelude.{◌≡◌, ℕ, zero, suc, ◌+◌, ◌*◌, ◌/◌, ◌<◌, ◌≤◌, ◌==◌, ◌&&◌, ◌||◌, cond, Bool, true, false, Option, Some, None, List, slice_index, nat_le}
 use Rattle.tp_model.specs.declared.types.Element.{Element}
 use Rattle.tp_model.specs.declared.types.Limits.{Limits}
@@ -50,7 +50,8 @@ abbrev pub count_below : (ℕ → Bool) → ℕ → ℕ
 count_below test zero = 0
 count_below test (suc n) = count_below test n + cond (test n) 1 0
 
--- what a look at row i came to: how many elements of the family it found there, none or one, and how many it killed
+-- what a look at row i came to: how many elements of the family it found there, none or one, and how many it
+-- killed
 pub record TalliedAt (l : Limits) (n root i found killed : ℕ) (v w : View) : Type 0 where
   pub events : List Event
   pub swept : Swept l n root events v w
@@ -71,8 +72,8 @@ row_at_mark l marks i = i / l.rows * l.rows + slice_index marks (i / l.rows)
 abbrev pub is_looked : Limits → List ℕ → ℕ → Bool
 is_looked l marks i = nat_le (part_rows l) i || nat_le (row_at_mark l marks i) i
 
--- the same of the rows below `rows` that are looked at: at least as many as there were before, and at most as many as are
--- done with after
+-- the same of the rows below `rows` that are looked at: at least as many as there were before, and at most as
+-- many as are done with after
 pub record Tallied (l : Limits) (n root : ℕ) (looked : ℕ → Bool) (rows found killed : ℕ) (v w : View) : Type 0 where
   pub events : List Event
   pub swept : Swept l n root events v w

@@ -14,8 +14,8 @@ pub record ManagerShown : Type 0 where
   pub table : TableId
   pub limits : Limits
 
--- a keeper shows these, how many passes it has given out, what those to come will have seen, and how many steps they
--- have made, all together
+-- a keeper shows these, how many passes it has given out, what those to come will have seen, and how many
+-- steps they have made, all together
 pub record KeeperShown : Type 0 where
   pub table : TableId
   pub limits : Limits
@@ -23,8 +23,8 @@ pub record KeeperShown : Type 0 where
   pub seen : List Event
   pub steps : ℕ
 
--- a pass shows these, what the definitions say that a pass shows, the mark of each part as it last loaded or set it, and so how
--- many spare blocks are drawn
+-- a pass shows these, what the definitions say that a pass shows, the mark of each part as it last loaded or
+-- set it, and so how many spare blocks are drawn
 pub record PassShown : Type 0 where
   pub table : TableId
   pub limits : Limits

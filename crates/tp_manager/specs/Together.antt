@@ -43,16 +43,16 @@ pub record Joins (table : TableId) (l : Limits) (n : ℕ) (h : List Event) (old 
   pub attends : Attends n h old new
   pub at : IsAt table l new
 
--- the first pass looked together with those of another seat and with these: v and w are its view before and after,
--- v' and w' that of the other seat
+-- the first pass looked together with those of another seat and with these: v and w are its view before and
+-- after, v' and w' that of the other seat
 pub record LooksWith (table : TableId) (l : Limits) (n : ℕ) (v w v' w' : View)
     (olds news : List PassShown) : Type 0 where
   pub first : Acted l (lead_steps n) v w
   pub others : LooksOn l w.seen v' w'
   pub passes : AllZip (Joins table l led_steps w.seen) olds news
 
--- the first pass, those of another seat and these are all passes of the table, and those of the other seat have done
--- nothing
+-- the first pass, those of another seat and these are all passes of the table, and those of the other seat
+-- have done nothing
 pub record AreAllPasses (l : Limits) (v v' : View) (passes : List PassShown) : Type 0 where
   pub few : length passes + 1 ≤ l.parts
   pub first : (hand v).number ≡ 0
@@ -68,8 +68,9 @@ pub record HasSeen (l : Limits) (n : ℕ) (h : List Event) (v w : View) : Type 0
   pub known : IsKnown l w
   pub steps : steps_in w.hands ≡ steps_in v.hands + n * length v.hands
 
--- the first of n passes looked together with those of another seat and with these, counted the rows by itself, and
--- looked together with them again: nothing has happened meanwhile, so all have seen the history whose account it is
+-- the first of n passes looked together with those of another seat and with these, counted the rows by
+-- itself, and looked together with them again: nothing has happened meanwhile, so all have seen the history
+-- whose account it is
 pub record CountsWith (table : TableId) (l : Limits) (n : ℕ) (v w v' w' : View)
     (olds news : List PassShown) (account : Account) : Type 0 where
   pub first : Acted l (first_steps l n) v w

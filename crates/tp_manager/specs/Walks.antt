@@ -1,5 +1,5 @@
--- What the view of a pass keeps over some of a call's steps. In each definition l are the table's limits, v is the
--- view before, and w the view after.
+-- What the view of a pass keeps over some of a call's steps. In each definition l are the table's limits, v
+-- is the view before, and w the view after.
 use Rattle.std.specs.Prelude.{◌≡◌, ◌≢◌, ◌⊎◌, ℕ, ◌+◌, ◌-◌, ◌*◌, ◌<◌, ◌≤◌, List, [], ◌∷◌, ◌++◌, length, map, Option, Some, None, slice_index}
 use mathlib.Core.List.{IsPrefix}
 use Rattle.tp_model.specs.declared.types.Element.{Element}
@@ -74,7 +74,8 @@ SameRun a b = (b.next ≡ a.next) × (b.left ≡ a.left) × (b.blocks ≡ a.bloc
 abbrev pub UsedRows : ℕ → Hand → Hand → Type 0
 UsedRows k a b = (b.next ≡ a.next + k) × (b.left + k ≡ a.left) × (b.blocks ≡ a.blocks)
 
--- at most n steps have changed nothing in the pass but that it has made these events, and let go of what it had
+-- at most n steps have changed nothing in the pass but that it has made these events, and let go of what it
+-- had
 pub record Gained (l : Limits) (n : ℕ) (es : List Event) (v w : View) : Type 0 where
   pub marks : List TraceEntry
   pub walk : Walked l n marks v w
@@ -136,8 +137,8 @@ RisesAt p lows lows' = Rises lows lows' × ((q : ℕ) → q ≢ p → slice_inde
 abbrev pub untraced : List Hand → List Hand
 untraced hands = map (with_trace []) hands
 
--- what is so of every keeper: its seat stands for the passes that are not given out. They have done nothing but look, and
--- what they have seen is a legal history without an event of theirs
+-- what is so of every keeper: its seat stands for the passes that are not given out. They have done nothing
+-- but look, and what they have seen is a legal history without an event of theirs
 pub record Keeps (seat : SeatShown) (limits : Limits) (given : ℕ) : Type 0 where
   pub valid : AreLimits limits
   pub limits_are : (view_of seat).limits ≡ limits
@@ -160,7 +161,8 @@ EachRow Passed from end a b = (i : ℕ) → from ≤ i → i < end → Passed i 
 abbrev pub OfPart : Limits → (ℕ → List Event → List Event → Type 0) → ℕ → List Event → List Event → Type 0
 OfPart l Passed c = EachRow Passed (c * l.rows) (c * l.rows + l.rows)
 
--- at most n steps have changed nothing in the pass but its trace, one of them looks, and since that was made this is so
+-- at most n steps have changed nothing in the pass but its trace, one of them looks, and since that was made
+-- this is so
 pub record Sought (l : Limits) (n : ℕ) (Passed : List Event → List Event → Type 0) (v w : View) : Type 0 where
   pub marks : List TraceEntry
   pub walk : Walked l n marks v w
@@ -168,7 +170,8 @@ pub record Sought (l : Limits) (n : ℕ) (Passed : List Event → List Event →
   pub step : HasLook marks
   pub passed : Passed (opening_of v.seen marks) w.seen
 
--- no row from `from` on was looked at yet, or all from there on and below n were, and were passed since the first of these looked, in at most so many steps
+-- no row from `from` on was looked at yet, or all from there on and below n were, and were passed since the
+-- first of these looked, in at most so many steps
 abbrev pub Begun : Limits → (ℕ → List Event → List Event → Type 0) → ℕ → ℕ → ℕ → View → View → Type 0
 Begun l Passed steps from n v w = ((n ≡ from) × (w ≡ v)) ⊎ Sought l steps (EachRow Passed from n) v w
 

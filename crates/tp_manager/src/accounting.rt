@@ -68,8 +68,8 @@ fn count_one(account: &mut Account, stage: u8, status: Status)
 }
 
 impl Shared {
-    /// A pass meets the passes of another seat, however many: all have then seen the same, which begins with what
-    /// either seat had seen.
+    /// A pass meets the passes of another seat, however many: all have then seen the same, which begins with
+    /// what either seat had seen.
     fn meet_seat(&self, first: &mut Seat, others: &mut Seat)
         requires own { IsSeatOf self.now.words first.old × IsSeatOf self.now.words others.old }
         requires steady { Steady (limits_of self.now.words) (view_of first.old) }
@@ -85,8 +85,9 @@ impl Shared {
         *others = words.part(first);
     }
 
-    /// A pass looks together with the passes of another seat and with all of these. It meets one after another, so
-    /// that it has seen what each has; each that it met joins the other seat, and at last the pass meets that.
+    /// A pass looks together with the passes of another seat and with all of these. It meets one after
+    /// another, so that it has seen what each has; each that it met joins the other seat, and at last the
+    /// pass meets that.
     fn look_together(&self, first: &mut Seat, others: &mut Seat, passes: &mut [Pass])
         requires own { IsSeatOf self.now.words first.old × IsSeatOf self.now.words others.old }
         requires steady { Steady (limits_of self.now.words) (view_of first.old) }
@@ -130,8 +131,8 @@ impl Shared {
         count_one(account, birth.stage, status);
     }
 
-    /// The account that one pass finds as it looks at every row: that of what it has seen, if nothing has happened
-    /// meanwhile.
+    /// The account that one pass finds as it looks at every row: that of what it has seen, if nothing has
+    /// happened meanwhile.
     fn count_rows(&self, seat: &mut Seat) -> Account
         requires own { IsSeatOf self.now.words seat.old }
         requires steady { Steady (limits_of self.now.words) (view_of seat.old) }
@@ -150,8 +151,8 @@ impl Shared {
         account
     }
 
-    /// The account that a pass finds between two looks together with the passes of the keeper's seat and with these,
-    /// which are all others.
+    /// The account that a pass finds between two looks together with the passes of the keeper's seat and with
+    /// these, which are all others.
     fn count_with(&self, first: &mut Seat, keeper: &mut Seat, passes: &mut [Pass]) -> Account
         requires own { IsSeatOf self.now.words first.old × IsSeatOf self.now.words keeper.old }
         requires steady { Steady (limits_of self.now.words) (view_of first.old) }
@@ -188,9 +189,9 @@ impl Keeper {
         true
     }
 
-    /// How many elements there are of each kind of status, in all and by stage: the account of one history, which all
-    /// passes have seen then. The slice holds every pass that was given out, in order of number (`has_all` tests
-    /// this), and the keeper stands for the others. It takes no memory.
+    /// How many elements there are of each kind of status, in all and by stage: the account of one history,
+    /// which all passes have seen then. The slice holds every pass that was given out, in order of number
+    /// (`has_all` tests this), and the keeper stands for the others. It takes no memory.
     pub fn account(&mut self, manager: &Manager, passes: &mut [Pass]) -> Account
         requires keeper { IsKeptBy manager.now self.old }
         requires own { All (IsOf manager.now) passes.old }

@@ -1,8 +1,8 @@
 //! The cancel of a whole request.
 //!
-//! A round goes once through all rows that aren't below the marks, as these stood before the first round. It kills what it
-//! finds of the request's family, and counts what it found. Where two
-//! rounds in a row find the same number, the family was settled between them, and stays so: see docs/CANCEL.md.
+//! A round goes once through all rows that aren't below the marks, as these stood before the first round. It
+//! kills what it finds of the request's family, and counts what it found. Where two rounds in a row find the
+//! same number, the family was settled between them, and stays so: see docs/CANCEL.md.
 ghost use Rattle.std.specs.Prelude.{◌≡◌, ◌≢◌, ◌+◌, ◌*◌, ◌<◌, ◌≤◌, ℕ, MatchResult, None, true, false};
 ghost use Rattle.tp_model.specs.declared.types.Element.{Element as element};
 ghost use Rattle.tp_model.specs.History.{IsUnborn};
@@ -25,7 +25,8 @@ use tp_model::types::{Cancelled, Refusal};
 use tp_rule::Seat;
 use tp_words::Head;
 
-/// What a look at rows came to: how many elements of the family were found in them, and how many of these were killed.
+/// What a look at rows came to: how many elements of the family were found in them, and how many of these
+/// were killed.
 #[derive(Clone, Copy, Debug, PartialEq, Eq)]
 pub(crate) struct Tally {
     pub found: u32,
@@ -49,8 +50,8 @@ fn is_of_family(root: u32, head: Head) -> bool
 }
 
 impl Shared {
-    /// Kills the element of a row, if it is of the family, no reply, and neither consumed nor killed; `row` goes on. One
-    /// step where the head says that it is of another family.
+    /// Kills the element of a row, if it is of the family, no reply, and neither consumed nor killed; `row`
+    /// goes on. One step where the head says that it is of another family.
     fn cancel_row(&self, seat: &mut Seat, row: &mut u32, root: u32) -> Tally
         requires own { IsSeatOf self.now.words seat.old }
         requires steady { Steady (limits_of self.now.words) (view_of seat.old) }
@@ -94,8 +95,8 @@ impl Shared {
         }
     }
 
-    /// The pass looks at the marks of all parts, and remembers them: no row below them has an element of the family that isn't
-    /// consumed or killed, now or later. One step for each part.
+    /// The pass looks at the marks of all parts, and remembers them: no row below them has an element of the
+    /// family that isn't consumed or killed, now or later. One step for each part.
     fn load_marks(&self, seat: &mut Seat, lows: &mut [u16; 32])
         requires own { IsSeatOf self.now.words seat.old }
         requires steady { Steady (limits_of self.now.words) (view_of seat.old) }
@@ -150,7 +151,8 @@ impl Shared {
         Tally { found, killed }
     }
 
-    /// Goes once through the spare blocks, behind a look at the parts that came to this tally, and adds to it.
+    /// Goes once through the spare blocks, behind a look at the parts that came to this tally, and adds to
+    /// it.
     fn cancel_blocks(
         &self,
         seat: &mut Seat,
@@ -163,7 +165,8 @@ impl Shared {
         requires steady { Steady (limits_of self.now.words) (view_of seat.old) }
         requires drawn { RemembersDrawn (view_of seat.old) drawn.old }
         requires free { (hand_of seat.old).open_unit ≡ None }
-        requires few { (tally.found ≤ part_rows (limits_of self.now.words)) × (tally.killed ≤ part_rows (limits_of self.now.words)) }
+        requires few { let l = limits_of self.now.words in
+            (tally.found ≤ part_rows l) × (tally.killed ≤ part_rows l) }
         ensures same { IsSameSeat seat.old seat.new }
         ensures drawn { RemembersDrawn (view_of seat.new) drawn.new }
         ensures told { let l = limits_of self.now.words in (v : View) (n : ℕ)
@@ -202,8 +205,8 @@ impl Shared {
         self.cancel_blocks(seat, drawn, root, marks, tally)
     }
 
-    /// Goes through those rows until a round finds as many elements of the family as the one before it. How many elements
-    /// it killed.
+    /// Goes through those rows until a round finds as many elements of the family as the one before it. How
+    /// many elements it killed.
     fn cancel_family(&self, seat: &mut Seat, drawn: &mut u16, root: u32, marks: &[u16; 32]) -> u32
         requires own { IsSeatOf self.now.words seat.old }
         requires steady { Steady (limits_of self.now.words) (view_of seat.old) }
@@ -232,9 +235,10 @@ impl Shared {
 }
 
 impl Manager {
-    /// Cancels the request of a client whose element has this id: kills each element of its family that is no reply and
-    /// not consumed, and aborts the units of work that hold them on the way. When it returns, each of them is consumed or
-    /// killed, and none is born, claimed or committed any more. Replies are left alone. The pass has no unit open.
+    /// Cancels the request of a client whose element has this id: kills each element of its family that is no
+    /// reply and not consumed, and aborts the units of work that hold them on the way. When it returns, each
+    /// of them is consumed or killed, and none is born, claimed or committed any more. Replies are left
+    /// alone. The pass has no unit open.
     ///
     /// `NotThere` where no client's element with this id is born.
     pub fn cancel(&self, pass: &mut Pass, root: u32) -> Result<Cancelled, Refusal>

@@ -11,8 +11,8 @@ use tp_model::types::BLOCK_ROWS;
 use tp_rule::Seat;
 
 impl Shared {
-    /// Draws a spare block, whose rows are then the run, unless all are drawn. At most a step for each spare block, since an exchange
-    /// of their counter that fails has found it higher.
+    /// Draws a spare block, whose rows are then the run, unless all are drawn. At most a step for each spare
+    /// block, since an exchange of their counter that fails has found it higher.
     fn draw(&self, seat: &mut Seat, run: &mut Run) -> bool
         requires own { IsSeatOf self.now.words seat.old }
         requires steady { Steady (limits_of self.now.words) (view_of seat.old) }

@@ -8,8 +8,8 @@ use crate::manager::{Manager, Pass, Run};
 use tp_model::types::{Draft, Ended, Outcome};
 
 impl Manager {
-    /// Gives up the open unit of work: its element waits again, or is parked. `Already` where another caller had
-    /// aborted the unit. Either way the pass has no unit open any more.
+    /// Gives up the open unit of work: its element waits again, or is parked. `Already` where another caller
+    /// had aborted the unit. Either way the pass has no unit open any more.
     pub fn abort(&self, pass: &mut Pass) -> Ended
         requires own { IsOf self.now pass.old }
         requires busy { IsSome pass.old.open_unit }
@@ -79,10 +79,11 @@ impl Manager {
         }
     }
 
-    /// Commits the open unit of work with at most four drafts: in one step its element is consumed and the drafts are
-    /// born, with ids one after another: in the next rows of the pass, or of a spare block that it draws where too few are left to it.
-    /// `Full` where all blocks are drawn: the unit is aborted, and no row is used. `Lost` where another caller had aborted the unit:
-    /// the rows of the drafts are used up. Whatever the answer, the pass has no unit open any more.
+    /// Commits the open unit of work with at most four drafts: in one step its element is consumed and the
+    /// drafts are born, with ids one after another: in the next rows of the pass, or of a spare block that it
+    /// draws where too few are left to it. `Full` where all blocks are drawn: the unit is aborted, and no row
+    /// is used. `Lost` where another caller had aborted the unit: the rows of the drafts are used up.
+    /// Whatever the answer, the pass has no unit open any more.
     pub fn commit(&self, pass: &mut Pass, drafts: &[Draft]) -> Outcome
         requires own { IsOf self.now pass.old }
         requires busy { IsSome pass.old.open_unit }

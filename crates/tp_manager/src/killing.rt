@@ -18,7 +18,8 @@ use tp_model::types::{Killed, Refusal};
 use tp_rule::Seat;
 use tp_words::{Claim, UnitWord};
 
-/// How many units stand in the way of a kill where this claim was found: the one that has taken the element, or none.
+/// How many units stand in the way of a kill where this claim was found: the one that has taken the element,
+/// or none.
 fn takers_in(claim: Claim) -> u8
     ensures { result ≡ takers (claim_value claim) }
 {
@@ -39,9 +40,9 @@ fn takers_in(claim: Claim) -> u8
 }
 
 impl Shared {
-    /// Makes way for a kill of the element of the row, whose claim was just found: aborts the unit that took it, if it
-    /// is open. How many units it aborted, none or one; `Consumed` where the unit was committed, and `AlreadyKilled`. One
-    /// step where a unit took the element.
+    /// Makes way for a kill of the element of the row, whose claim was just found: aborts the unit that took
+    /// it, if it is open. How many units it aborted, none or one; `Consumed` where the unit was committed,
+    /// and `AlreadyKilled`. One step where a unit took the element.
     fn loosen(&self, seat: &mut Seat, row: u32, claim: Claim) -> Result<u8, Refusal>
         requires own { IsSeatOf self.now.words seat.old }
         requires steady { Steady (limits_of self.now.words) (view_of seat.old) }
@@ -77,8 +78,9 @@ impl Shared {
         }
     }
 
-    /// Kills the element of the row, whose claim was just found; there are at most so many attempts from it on. How many
-    /// units it aborted. At most two steps for each attempt, and one for each round in which the element is found untaken.
+    /// Kills the element of the row, whose claim was just found; there are at most so many attempts from it
+    /// on. How many units it aborted. At most two steps for each attempt, and one for each round in which the
+    /// element is found untaken.
     fn kill_from(&self, seat: &mut Seat, row: u32, claim: Claim, left: u8) -> Result<u8, Refusal>
         requires own { IsSeatOf self.now.words seat.old }
         requires steady { Steady (limits_of self.now.words) (view_of seat.old) }
@@ -104,7 +106,8 @@ impl Shared {
         }
     }
 
-    /// Kills the element that is born in the row. How many units it aborted, at most one for each attempt in all rounds.
+    /// Kills the element that is born in the row. How many units it aborted, at most one for each attempt in
+    /// all rounds.
     pub(crate) fn kill_row(&self, seat: &mut Seat, row: u32) -> Result<u8, Refusal>
         requires own { IsSeatOf self.now.words seat.old }
         requires steady { Steady (limits_of self.now.words) (view_of seat.old) }
@@ -121,8 +124,9 @@ impl Shared {
 }
 
 impl Manager {
-    /// Kills the element with this id, and aborts the units of work that hold it on the way. The pass has no unit open.
-    /// `NotThere` where no such element is born, `Consumed` where a unit that took it has committed, and `AlreadyKilled`.
+    /// Kills the element with this id, and aborts the units of work that hold it on the way. The pass has no
+    /// unit open. `NotThere` where no such element is born, `Consumed` where a unit that took it has
+    /// committed, and `AlreadyKilled`.
     pub fn kill(&self, pass: &mut Pass, id: u32) -> Result<Killed, Refusal>
         requires own { IsOf self.now pass.old }
         requires free { pass.old.open_unit ≡ None }

@@ -96,8 +96,8 @@ impl Shared {
         is_wanted(wanted, birth, status)
     }
 
-    /// The first row of a part, from one of its rows on, whose element is looked for. The scan starts at the part's mark, if
-    /// that is behind.
+    /// The first row of a part, from one of its rows on, whose element is looked for. The scan starts at the
+    /// part's mark, if that is behind.
     fn find_in_part(
         &self,
         seat: &mut Seat,
@@ -114,7 +114,8 @@ impl Shared {
         ensures remembers { Remembers (view_of seat.new) lows.new }
         ensures lows { RisesAt part lows.old lows.new }
         ensures told { let l = limits_of self.now.words in
-            Finds l wanted (1 + (l.rows - slice_index lows.old part) * look_steps l) from (part * l.rows + l.rows) (view_of seat.old) (view_of seat.new) result }
+            Finds l wanted (1 + (l.rows - slice_index lows.old part) * look_steps l) from (part * l.rows + l.rows)
+            (view_of seat.old) (view_of seat.new) result }
     {
         let mark = self.mark_at(seat, lows, part);
         let rows = self.places.limits.rows as u32;
@@ -147,7 +148,8 @@ impl Shared {
         ensures remembers { Remembers (view_of seat.new) lows.new }
         ensures lows { Rises lows.old lows.new }
         ensures told { let l = limits_of self.now.words in
-            Finds l wanted (scan_steps l (look_steps l) 1 lows.old l.parts) from (part_rows l) (view_of seat.old) (view_of seat.new) result }
+            Finds l wanted (scan_steps l (look_steps l) 1 lows.old l.parts) from (part_rows l)
+            (view_of seat.old) (view_of seat.new) result }
     {
         let rows = self.places.limits.rows as u32;
         let mut row = from;
@@ -216,7 +218,8 @@ impl Shared {
         ensures lows { Rises lows.old lows.new }
         ensures inside { IfSome result (λ id. id < rows_of (limits_of self.now.words)) }
         ensures told { let l = limits_of self.now.words in let t = look_steps l in
-            Finds l wanted (scan_steps l t 1 lows.old l.parts + spare_steps l t) from (rows_of l) (view_of seat.old) (view_of seat.new) result }
+            Finds l wanted (scan_steps l t 1 lows.old l.parts + spare_steps l t) from (rows_of l)
+            (view_of seat.old) (view_of seat.new) result }
     {
         let parts = self.places.part_rows();
         if from >= parts {

@@ -53,8 +53,8 @@ impl Shared {
         self.words.load_head(seat, row)
     }
 
-    /// The mark of a part, which the pass remembers: no row of the part below it has an element that isn't consumed or killed.
-    /// One step.
+    /// The mark of a part, which the pass remembers: no row of the part below it has an element that isn't
+    /// consumed or killed. One step.
     #[inline(always)]
     pub(crate) fn mark_at(&self, seat: &mut Seat, lows: &mut [u16; 32], part: u16) -> u16
         requires own { IsSeatOf self.now.words seat.old }
@@ -73,8 +73,8 @@ impl Shared {
         mark
     }
 
-    /// What the head of a row says, as a scan goes through the rows: `row` goes on to the next row, or where the
-    /// head is empty to the next part or spare block, since nothing is born in between. One step.
+    /// What the head of a row says, as a scan goes through the rows: `row` goes on to the next row, or where
+    /// the head is empty to the next part or spare block, since nothing is born in between. One step.
     #[inline(always)]
     pub(crate) fn head_on(&self, seat: &mut Seat, row: &mut u32) -> Head
         requires own { IsSeatOf self.now.words seat.old }
@@ -96,8 +96,8 @@ impl Shared {
         head
     }
 
-    /// The row behind the spare blocks that are drawn: nothing is born from there on. One step; none, and `None`, where there are
-    /// no spare blocks.
+    /// The row behind the spare blocks that are drawn: nothing is born from there on. One step; none, and
+    /// `None`, where there are no spare blocks.
     pub(crate) fn blocks_end(&self, seat: &mut Seat, drawn: &mut u16) -> Option<u32>
         requires own { IsSeatOf self.now.words seat.old }
         requires steady { Steady (limits_of self.now.words) (view_of seat.old) }
@@ -150,7 +150,8 @@ impl Shared {
         }
     }
 
-    /// Whether the row whose head was just found has a born element, and what its head says. At most one more step.
+    /// Whether the row whose head was just found has a born element, and what its head says. At most one more
+    /// step.
     #[inline(always)]
     pub(crate) fn birth_from(&self, seat: &mut Seat, row: u32, head: Head) -> Option<Birth>
         requires own { IsSeatOf self.now.words seat.old }
@@ -219,8 +220,8 @@ impl Shared {
         }
     }
 
-    /// The claim and the status of the element of a row, whose claim was just found; there are at most so many further
-    /// attempts. At most twice as many steps.
+    /// The claim and the status of the element of a row, whose claim was just found; there are at most so
+    /// many further attempts. At most twice as many steps.
     #[cycle(status)]
     #[inline(always)]
     pub(crate) fn status_from(
@@ -272,7 +273,8 @@ impl Shared {
         }
     }
 
-    /// The same, where the claim had changed: apart from `status_from`, which then has no recursion of its own.
+    /// The same, where the claim had changed: apart from `status_from`, which then has no recursion of its
+    /// own.
     #[cycle(status)]
     #[cold]
     fn status_again(&self, seat: &mut Seat, row: u32, claim: Claim, left: u8) -> (Claim, Status)
@@ -291,8 +293,8 @@ impl Shared {
         self.status_from(seat, row, claim, left)
     }
 
-    /// The claim and the status of the element of a row. At most one step, and two for each attempt that is allowed in
-    /// all rounds.
+    /// The claim and the status of the element of a row. At most one step, and two for each attempt that is
+    /// allowed in all rounds.
     #[inline(always)]
     pub(crate) fn status_at(&self, seat: &mut Seat, row: u32) -> (Claim, Status)
         requires own { IsSeatOf self.now.words seat.old }

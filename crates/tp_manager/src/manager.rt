@@ -82,8 +82,8 @@ pub(crate) struct Task {
     pub root: u16,
 }
 
-/// The rows that are left to a pass: so many, from the row `next` on. And how many spare blocks were drawn, as the pass last
-/// loaded or set it.
+/// The rows that are left to a pass: so many, from the row `next` on. And how many spare blocks were drawn,
+/// as the pass last loaded or set it.
 #[derive(Clone, Copy, Debug, PartialEq, Eq)]
 pub(crate) struct Run {
     pub next: u16,
@@ -91,8 +91,8 @@ pub(crate) struct Run {
     pub drawn: u16,
 }
 
-/// What one caller acts through, one call at a time. A pass that is dropped leaves its open unit open: the element
-/// stays held, and a kill still takes it.
+/// What one caller acts through, one call at a time. A pass that is dropped leaves its open unit open: the
+/// element stays held, and a kill still takes it.
 #[derive(Drop)]
 pub struct Pass {
     pub(crate) seat: Seat,
@@ -117,8 +117,8 @@ impl Model for Pass {
 }
 
 impl Keeper {
-    /// A manager with these limits, and the keeper of its passes. `BadLimits` where a limit is outside its range;
-    /// `NoMemory` only where the allocator refused.
+    /// A manager with these limits, and the keeper of its passes. `BadLimits` where a limit is outside its
+    /// range; `NoMemory` only where the allocator refused.
     pub fn new(alloc: Global, limits: Limits) -> Result<(Manager, Keeper), MakeFault>
         ensures keeper { IfOk result (λ made. IsKeptBy made.0 made.1 × (made.1.given ≡ 0)) }
         ensures fresh { IfOk result (λ made. (made.1.seen ≡ []) × (made.1.steps ≡ 0)) }
@@ -145,7 +145,8 @@ impl Keeper {
         }
     }
 
-    /// The next pass of the manager, the first with number 0. `NoPart` where as many are given out as there are parts.
+    /// The next pass of the manager, the first with number 0. `NoPart` where as many are given out as there
+    /// are parts.
     pub fn pass(&mut self, manager: &Manager) -> Result<Pass, MakeFault>
         requires keeper { IsKeptBy manager.now self.old }
         ensures keeper { IsKeptBy manager.now self.new }
@@ -192,8 +193,9 @@ impl Pass {
         self.number
     }
 
-    /// The mark of a part as this pass last loaded or set it, and 0 before, or where there is no such part. The mark in the table
-    /// is never below it: no element in so many first rows of the part waits, is held or is parked.
+    /// The mark of a part as this pass last loaded or set it, and 0 before, or where there is no such part.
+    /// The mark in the table is never below it: no element in so many first rows of the part waits, is held
+    /// or is parked.
     pub fn low(&self, part: u16) -> u16
         ensures answer { result ≡ low_of self.now part }
         ensures low { IsLow self.now.limits self.now.seen part result }
@@ -204,8 +206,8 @@ impl Pass {
         }
     }
 
-    /// How many spare blocks were drawn, by all passes together, as this pass last found or made it, and 0 before. They never
-    /// get fewer.
+    /// How many spare blocks were drawn, by all passes together, as this pass last found or made it, and 0
+    /// before. They never get fewer.
     pub fn seen_blocks(&self) -> u16
         ensures answer { result ≡ self.now.seen_blocks }
         ensures inside { result ≤ self.now.limits.spare }
@@ -230,7 +232,8 @@ impl Pass {
 }
 
 impl Manager {
-    /// How many elements the manager has room for, at most 10,240: as many as its passes have rows, and 8 for each spare block.
+    /// How many elements the manager has room for, at most 10,240: as many as its passes have rows, and 8 for
+    /// each spare block.
     pub fn capacity(&self) -> u32
         ensures { result ≡ rows_of self.now.limits }
     {

@@ -16,7 +16,8 @@ use tp_rule::Seat;
 use tp_words::{Claim, UnitWord};
 
 impl Shared {
-    /// Gives the element that is born in the row another round, where it is parked. Which round. At most three steps.
+    /// Gives the element that is born in the row another round, where it is parked. Which round. At most
+    /// three steps.
     fn requeue_row(&self, seat: &mut Seat, row: u32) -> Result<u8, Refusal>
         requires own { IsSeatOf self.now.words seat.old }
         requires steady { Steady (limits_of self.now.words) (view_of seat.old) }
@@ -63,9 +64,9 @@ impl Shared {
 }
 
 impl Manager {
-    /// Gives the parked element with this id another round of attempts: it waits again, with none so far. Which round, 1
-    /// to 3. `NotThere` where no such element is born, `NotParked`, and `NoRound` where it is parked and has had all its
-    /// rounds.
+    /// Gives the parked element with this id another round of attempts: it waits again, with none so far.
+    /// Which round, 1 to 3. `NotThere` where no such element is born, `NotParked`, and `NoRound` where it is
+    /// parked and has had all its rounds.
     pub fn requeue(&self, pass: &mut Pass, id: u32) -> Result<u8, Refusal>
         requires own { IsOf self.now pass.old }
         ensures own { IsOf self.now pass.new }

@@ -81,9 +81,9 @@ fn low_after(low: u32, row: u32, status: Status) -> u32
 }
 
 impl Shared {
-    /// The unit takes the element of a row, if that waits in the stage; `row` goes on, and so does `low`, the first row
-    /// that isn't known finished, where that is this one. One step where the head is not of the stage and the row isn't
-    /// that one.
+    /// The unit takes the element of a row, if that waits in the stage; `row` goes on, and so does `low`, the
+    /// first row that isn't known finished, where that is this one. One step where the head is not of the
+    /// stage and the row isn't that one.
     #[inline(always)]
     fn try_row(
         &self,
@@ -140,8 +140,8 @@ impl Shared {
         }
     }
 
-    /// Raises the mark of a part, where the first row that isn't known finished is behind it, and the pass remembers it. At most
-    /// one step.
+    /// Raises the mark of a part, where the first row that isn't known finished is behind it, and the pass
+    /// remembers it. At most one step.
     fn raise_to(&self, seat: &mut Seat, lows: &mut [u16; 32], part: u16, mark: u16, low: u32)
         requires own { IsSeatOf self.now.words seat.old }
         requires steady { Steady (limits_of self.now.words) (view_of seat.old) }
@@ -167,7 +167,8 @@ impl Shared {
         lows[part as usize] = to;
     }
 
-    /// The unit takes the first element of a part that waits in the stage. The scan starts at the part's mark, and raises it.
+    /// The unit takes the first element of a part that waits in the stage. The scan starts at the part's
+    /// mark, and raises it.
     fn scan_part(
         &self,
         seat: &mut Seat,
@@ -221,8 +222,8 @@ impl Shared {
         part
     }
 
-    /// The unit takes the first element of a part that waits in the stage. What the pass knows finished isn't looked at again, but
-    /// for the last part, so that each call looks.
+    /// The unit takes the first element of a part that waits in the stage. What the pass knows finished isn't
+    /// looked at again, but for the last part, so that each call looks.
     fn scan_parts(
         &self,
         seat: &mut Seat,

@@ -32,9 +32,9 @@ impl Manager {
         row
     }
 
-    /// Puts a client's element with this body into the queue of a stage. The answer is its id, which is also its root. `BadStage`
-    /// unless the stage is 1 to 14, which changes nothing, and then `Full` where the pass has used its rows and all spare blocks
-    /// are drawn.
+    /// Puts a client's element with this body into the queue of a stage. The answer is its id, which is also
+    /// its root. `BadStage` unless the stage is 1 to 14, which changes nothing, and then `Full` where the
+    /// pass has used its rows and all spare blocks are drawn.
     pub fn submit(&self, pass: &mut Pass, stage: u8, body: Body) -> Result<u32, Refusal>
         requires own { IsOf self.now pass.old }
         ensures own { IsOf self.now pass.new }

@@ -64,7 +64,7 @@ pub fn run_to_end<T: Threads + Sync, R: Source, W: Sink, E: Sink>(
         → StopsReading (R.has_failed reader.new) (R.asked reader.old) (R.asked reader.new))
         × (IsErrOf outcome Fault.Write → IsTrue (W.has_failed writer.new))
         × (result ≡ exit_status outcome)
-        × TellsFault outcome (E.contents faults.old) (E.contents faults.new) }
+        × TellsFault outcome (E.has_failed faults.new) (E.contents faults.old) (E.contents faults.new) }
 {
     let outcome = run(rt, alloc, reader, writer);
     write_fault(outcome, faults);

@@ -1,5 +1,5 @@
 -- The faults that end a run, and how the program ends.
-use Rattle.std.specs.Prelude.{◌≡◌, ℕ, List, Option, Result, Ok, Err, codes}
+use Rattle.std.specs.Prelude.{◌≡◌, ℕ, Bool, List, Option, Result, Ok, Err, codes}
 use Rattle.tp_report.specs.declared.fault.Exit.{Exit}
 use Rattle.tp_report.specs.declared.fault.Exit.TheVariants as exits
 use Rattle.tp_report.specs.declared.fault.Fault.{Fault}
@@ -7,7 +7,7 @@ use Rattle.tp_report.specs.declared.fault.Fault.TheVariants as faults
 use Rattle.tp_report.specs.declared.fault.RunFault.{RunFault}
 use Rattle.tp_report.specs.declared.fault.RunFault.TheVariants as runs
 use Rattle.tp_report.specs.Answer.{line}
-use Rattle.tp_report.specs.Written.{AppendsFront}
+use Rattle.tp_report.specs.Written.{AppendsUnlessFailed}
 
 -- the fault of the program that a fault of its run is
 abbrev pub fault_of : RunFault → Fault
@@ -26,7 +26,7 @@ exit_status (Ok exits.Done) = 0
 exit_status (Ok exits.Refused) = 2
 exit_status (Err fault) = 1
 
--- after a fault its line is written, as far as the writer takes it, and else nothing
-abbrev pub TellsFault : Result Exit Fault → Option (List ℕ) → Option (List ℕ) → Type 0
-TellsFault (Ok exit) before after = after ≡ before
-TellsFault (Err fault) before after = AppendsFront before after (line (fault_text fault))
+-- after a fault its line is written, or a front of it where the writer has failed, and without one nothing
+abbrev pub TellsFault : Result Exit Fault → Bool → Option (List ℕ) → Option (List ℕ) → Type 0
+TellsFault (Ok exit) failed before after = after ≡ before
+TellsFault (Err fault) failed before after = AppendsUnlessFailed failed before after (line (fault_text fault))

@@ -1,5 +1,5 @@
 -- What a writer took.
-use Rattle.std.specs.Prelude.{◌≡◌, ℕ, List, ◌++◌, Option}
+use Rattle.std.specs.Prelude.{◌≡◌, ℕ, Bool, true, false, List, ◌++◌, Option}
 use Rattle.std.specs.Io.KnownBytes.{Appends}
 
 -- the bytes are written up to this rest
@@ -9,3 +9,8 @@ IsWrittenUpTo old new bytes rest = (front : List ℕ) × (bytes ≡ front ++ res
 -- a front of the bytes is written
 abbrev pub AppendsFront : Option (List ℕ) → Option (List ℕ) → List ℕ → Type 0
 AppendsFront old new bytes = (rest : List ℕ) × IsWrittenUpTo old new bytes rest
+
+-- the bytes are written, or a front of them where the writer has failed
+abbrev pub AppendsUnlessFailed : Bool → Option (List ℕ) → Option (List ℕ) → List ℕ → Type 0
+AppendsUnlessFailed false old new bytes = Appends old new bytes
+AppendsUnlessFailed true old new bytes = AppendsFront old new bytes

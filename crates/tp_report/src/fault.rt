@@ -103,9 +103,9 @@ pub fn exit_status(outcome: Result<Exit, Fault>) -> u8
     }
 }
 
-/// Writes the line of the fault with which the program ended, if it did.
+/// Writes the line of the fault with which the program ended, if it did. Where the writer fails, a front of it is written.
 pub fn write_fault<W: Sink>(outcome: Result<Exit, Fault>, writer: &mut W)
-    ensures { TellsFault outcome (W.contents writer.old) (W.contents writer.new) }
+    ensures { TellsFault outcome (W.has_failed writer.new) (W.contents writer.old) (W.contents writer.new) }
 {
     if let Err(fault) = outcome {
         let _ = write_all(writer, fault.line().as_bytes());

@@ -10,7 +10,7 @@ use crate::script::MOST_SERVERS;
 pub enum Reach {
     /// One server at most, which takes whole turns: what a manager of one thread runs.
     Plain,
-    /// Several servers, each at a desk of its own, whose turns may be taken step by step.
+    /// Several servers, each at a desk of its own, whose turns may be taken step by step; and spare blocks of rows.
     Desks,
     /// Commands that run threads.
     Workers,

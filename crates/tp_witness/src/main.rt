@@ -28,13 +28,13 @@ use tp_manager::{Keeper, Manager, Pass};
 use tp_model::types::Limits;
 use trouble::Trouble;
 
-/// Few rows and units, so that threads meet at the same elements, and run out of both.
+/// Few rows and units, so that threads meet at the same elements and draw spare blocks, and run out of all three.
 const LIMITS: Limits = Limits {
     parts: 4,
-    rows: 64,
+    rows: 32,
     units: 48,
     attempts: 3,
-    spare: 0,
+    spare: 16,
 };
 
 fn main(rt: HostRuntime) -> ExitCode {

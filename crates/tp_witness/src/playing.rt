@@ -11,7 +11,7 @@ use tp_manager::{Manager, Pass};
 use tp_model::types::Body;
 
 /// The ids of each pass.
-const ROWS: u32 = 64;
+const ROWS: u32 = 32;
 
 /// How far from an id of its own a thread looks for an element of another's.
 const NEAR: u32 = 6;
@@ -266,7 +266,7 @@ fn look_around(manager: &Manager, pass: &mut Pass, diary: &mut Diary) -> Result<
 }
 
 /// An id that others are likely to be at: one behind the last that the thread has claimed, where they claim
-/// next, or one near the newest of some pass.
+/// next, or one near the newest of some pass, or of the spare blocks.
 fn some_id(diary: &mut Diary) -> u32 {
     let pass = diary.dice.below(4);
     let back = diary.dice.below(NEAR);
@@ -274,5 +274,10 @@ fn some_id(diary: &mut Diary) -> u32 {
         return diary.last.saturating_add(back);
     }
     let row = diary.newest.saturating_add(1).saturating_sub(back);
-    pass.wrapping_mul(ROWS).wrapping_add(row.min(ROWS))
+    if row > ROWS {
+        // All passes have used about as many rows, and they are in spare blocks by now.
+        let spare = row.saturating_sub(ROWS).wrapping_mul(4);
+        return spare.wrapping_add(pass).wrapping_add(ROWS * 4);
+    }
+    pass.wrapping_mul(ROWS).wrapping_add(row)
 }
