@@ -20,15 +20,17 @@ limits_of s = record {
   rows = s.settings.rows;
   units = s.settings.units;
   attempts = s.settings.attempts;
+  spare = s.settings.spare;
 }
 
--- the pass has seen nothing, and has done nothing: all rows of its part are left to it
+-- the pass has seen nothing, and has done nothing: all rows of its part are left to it, and it has drawn no spare block
 pub record IsNewPass (p : PassShown) : Type 0 where
   pub seen : p.seen ≡ []
   pub mine : p.mine ≡ []
   pub open_unit : p.open_unit ≡ None
   pub next : p.next ≡ p.number * p.limits.rows
   pub left : p.left ≡ p.limits.rows
+  pub blocks : p.blocks ≡ []
 
 -- the desk begins there
 pub record IsNewPlace (p : PlaceShown) : Type 0 where

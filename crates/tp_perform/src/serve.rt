@@ -64,6 +64,7 @@ fn limits_of(script: &Script) -> Limits
         rows: script.settings.rows,
         units: script.settings.units,
         attempts: script.settings.attempts,
+        spare: script.settings.spare,
     }
 }
 
