@@ -27,7 +27,7 @@ pub enum Turned {
     Lost {
         element: u32,
     },
-    /// The pass has too few rows left for the outputs: the unit was aborted.
+    /// The pass has too few rows left for the outputs, and no spare block is left: the unit was aborted.
     Full {
         element: u32,
     },

@@ -16,7 +16,7 @@ pub struct Shift {
     pub refused: u32,
     /// Turns whose unit another caller had aborted.
     pub lost: u32,
-    /// Turns whose pass had too few rows left for the outputs.
+    /// Turns whose pass had too few rows left for the outputs, and found no spare block left.
     pub full: u32,
     /// Turns that found nothing to wait.
     pub idle: u32,
@@ -24,7 +24,7 @@ pub struct Shift {
     pub nounit: u32,
     /// Calls that submitted an element.
     pub submitted: u32,
-    /// Calls that submitted none, since the pass had no row left.
+    /// Calls that submitted none, since the pass had no row left, and found no spare block left.
     pub submit_full: u32,
     /// Calls that killed an element.
     pub killed: u32,

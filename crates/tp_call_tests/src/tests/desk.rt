@@ -41,6 +41,7 @@ fn bench<R: Abort + AllocGlobal>(
         rows,
         units,
         attempts: 3,
+        spare: 0,
     };
     let (manager, client, worker) = two(rt, limits);
     Parts {

@@ -2,6 +2,7 @@
 
 mod accounts;
 mod asking;
+mod blocks;
 mod bodies;
 mod cancels;
 mod examples;
@@ -19,6 +20,7 @@ const SMALL: Limits = Limits {
     rows: 4,
     units: 2,
     attempts: 2,
+    spare: 0,
 };
 
 /// The element that a client's submit makes.

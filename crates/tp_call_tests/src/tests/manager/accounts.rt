@@ -1,9 +1,10 @@
 //! The closing account.
 
 use super::SMALL;
+use super::asking::{claims, commits, kills, submits};
 use crate::tests::fixture::kept;
 use tp_manager::{Keeper, Pass};
-use tp_model::types::{Account, Claimed, Counts, Draft, Ended, Limits, Outcome};
+use tp_model::types::{Account, Claimed, Counts, Draft, Ended, Killed, Limits, Outcome};
 
 /// Three passes with four rows and two units each, and one attempt for each element.
 const THREE: Limits = Limits {
@@ -11,6 +12,7 @@ const THREE: Limits = Limits {
     rows: 4,
     units: 2,
     attempts: 1,
+    spare: 0,
 };
 
 /// These counts.
@@ -63,20 +65,19 @@ fn held_then_killed(rt: HostRuntime) {
 
 #[test]
 fn replies_and_lost_drafts(rt: HostRuntime) {
-    let (manager, mut keeper, first, second) = kept(&rt, SMALL);
-    let mut passes = [first, second];
-    assert!(rt; manager.submit(&mut passes[0], 1, [0, 9, 0, 0]) == Ok(0));
-    assert!(rt; manager.submit(&mut passes[0], 1, [0, 7, 0, 0]) == Ok(1));
+    let (manager, mut keeper, mut first, mut second) = kept(&rt, SMALL);
+    assert!(rt; submits(&manager, &mut first, 1, [0, 9, 0, 0], Ok(0)));
+    assert!(rt; submits(&manager, &mut first, 1, [0, 7, 0, 0], Ok(1)));
     let Some(reply) = Draft::new(15, [0, 9, 0, 0]) else {
         panic!(rt; "no draft")
     };
-    assert!(rt; matches!(manager.claim(&mut passes[1], 1), Claimed::Work(_)));
-    assert!(rt;
-        manager.commit(&mut passes[1], &[reply]) == Outcome::Committed { first: 4, count: 1 }
-    );
-    assert!(rt; matches!(manager.claim(&mut passes[1], 1), Claimed::Work(_)));
-    assert!(rt; manager.kill(&mut passes[0], 1).is_ok());
-    assert!(rt; manager.commit(&mut passes[1], &[reply, reply]) == Outcome::Lost);
+    assert!(rt; claims(&manager, &mut second, 1).is_some());
+    let made = Outcome::Committed { first: 4, count: 1 };
+    assert!(rt; commits(&manager, &mut second, &[reply], made));
+    assert!(rt; claims(&manager, &mut second, 1).is_some());
+    assert!(rt; kills(&manager, &mut first, 1, Ok(Killed { units_aborted: 1 })));
+    assert!(rt; commits(&manager, &mut second, &[reply, reply], Outcome::Lost));
+    let mut passes = [first, second];
     assert!(rt; keeper.has_all(&passes));
     let account = keeper.account(&manager, &mut passes);
     let total = counts(1, 0, 1, 0, 1);

@@ -16,6 +16,7 @@ const ROUNDS: Limits = Limits {
     rows: 4,
     units: 16,
     attempts: 2,
+    spare: 0,
 };
 
 /// The second pass takes element 0 for this time in its round, by this unit, and gives it up. Until then it isn't parked.

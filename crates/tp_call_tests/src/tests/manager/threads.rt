@@ -161,6 +161,7 @@ fn four_threads(rt: HostRuntime) {
         rows: 8,
         units: 8,
         attempts: 2,
+        spare: 0,
     };
     let Ok((manager, mut keeper)) = Keeper::new(rt.alloc(), limits) else {
         panic!(rt; "no manager")

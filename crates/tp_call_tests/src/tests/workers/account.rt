@@ -62,6 +62,7 @@ fn account_after_race(rt: HostRuntime) {
         rows: 64,
         units: 256,
         attempts: 3,
+        spare: 0,
     };
     let (manager, mut keeper) = manager(&rt, limits);
     let mut passes = [

@@ -19,6 +19,7 @@ const LIMITS: Limits = Limits {
     rows: 4,
     units: 4,
     attempts: 3,
+    spare: 0,
 };
 
 /// Holds the desk at one point until the request is cancelled.

@@ -11,6 +11,7 @@ fn client_and_killer_counts(rt: HostRuntime) {
         rows: 64,
         units: 256,
         attempts: 3,
+        spare: 0,
     };
     let (manager, mut keeper) = manager(&rt, limits);
     let mut clients = [pass(&rt, &mut keeper, &manager)];

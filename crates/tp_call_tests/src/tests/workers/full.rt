@@ -15,6 +15,7 @@ const LIMITS: Limits = Limits {
     rows: 1,
     units: 1,
     attempts: 1,
+    spare: 0,
 };
 
 /// Two turns of one desk.

@@ -34,6 +34,7 @@ fn two_desks_overlap(rt: HostRuntime) {
         rows: 4,
         units: 4,
         attempts: 3,
+        spare: 0,
     };
     let (manager, mut keeper) = manager(&rt, limits);
     let mut client = pass(&rt, &mut keeper, &manager);

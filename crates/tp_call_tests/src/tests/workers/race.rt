@@ -13,6 +13,7 @@ fn race_with_killer(rt: HostRuntime) {
         rows: 64,
         units: 256,
         attempts: 3,
+        spare: 0,
     };
     let (manager, mut keeper) = manager(&rt, limits);
     let mut clients = two(&rt, &mut keeper, &manager);

@@ -159,6 +159,7 @@ fn storm(rt: HostRuntime) {
         rows: 256,
         units: 1024,
         attempts: 3,
+        spare: 0,
     };
     let (manager, mut keeper) = manager(&rt, limits);
     let mut client = pass(&rt, &mut keeper, &manager);

@@ -31,6 +31,7 @@ fn six_start_together(rt: HostRuntime) {
         rows: 4,
         units: 4,
         attempts: 3,
+        spare: 0,
     };
     let (manager, mut keeper) = manager(&rt, limits);
     let mut desks = two(&rt, &mut keeper, &manager);

@@ -15,6 +15,7 @@ fn tree_with_killers(rt: HostRuntime) {
         rows: 256,
         units: 128,
         attempts: 7,
+        spare: 0,
     };
     let (manager, mut keeper) = manager(&rt, limits);
     let mut clients = two(&rt, &mut keeper, &manager);
