@@ -58,7 +58,7 @@ abbrev pub first_number : List PassShown → ℕ
 first_number [] = 0
 first_number (p ∷ ps) = p.number
 
--- each killer is to kill the elements of all rows of these clients
+-- each killer is to kill the elements of all rows in the parts of these clients
 abbrev pub kill_job : ℕ → Race → List PassShown → KillJob
 kill_job rows plan clients =
     let first = first_number clients * rows in

@@ -33,7 +33,7 @@ fn client_job(plan: Race) -> ClientJob
     }
 }
 
-/// What each killer of a race is to do: to kill the elements of all rows of these clients.
+/// What each killer of a race is to do: to kill the elements of all rows in the parts of these clients.
 fn kill_job(plan: Race, clients: &[Pass], rows: u16) -> KillJob
     requires { rows ≤ 256 }
     ensures job { result ≡ kill_job rows plan clients.now }
