@@ -79,8 +79,8 @@ fn act_in(
     )
 }
 
-/// Has the desk at a place do what is asked, unless it was dropped: it goes on with what it laid aside, and lays aside what
-/// it has in hand then.
+/// Has the desk at a place do what is asked, unless it was dropped: it goes on with what it laid aside, and
+/// lays aside what it has in hand then.
 pub(crate) fn act_at(
     manager: &Manager,
     pass: &mut Pass,

@@ -1,4 +1,5 @@
--- What the calls of a desk answer and add, by what the manager's calls do. In each definition `old` is what the pass shows before the call, and `new` what it shows after it.
+-- What the calls of a desk answer and add, by what the manager's calls do. In each definition `old` is what
+-- the pass shows before the call, and `new` what it shows after it.
 use Rattle.std.specs.Prelude.{◌≡◌, ℕ, ◌+◌, ◌*◌, List, Option, Some, None, Ok, Err}
 use Rattle.tp_model.specs.Drafts.{DraftView}
 use Rattle.tp_model.specs.Steps.{rows_of}
@@ -52,7 +53,8 @@ pub record Works (l : Limits) (recipe : Recipe) (registers : List ℕ) (old new 
   pub takes : Takes l recipe.stage work old between
   pub off : WorksOff recipe registers work between new turned
 
--- a turn answers and adds as one claim, and where that took work, as one commit, or one abort where the recipe declines it
+-- a turn answers and adds as one claim, and where that took work, as one commit, or one abort where the
+-- recipe declines it
 abbrev pub Turns : Limits → Recipe → List ℕ → PassShown → PassShown → Turned → Type 0
 Turns l recipe registers old new turneds.Idle = Claims l recipe.stage old new claimeds.Idle
 Turns l recipe registers old new turneds.NoUnit = Claims l recipe.stage old new claimeds.NoUnit

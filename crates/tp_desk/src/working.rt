@@ -91,8 +91,8 @@ impl<'m, 'p, 's> Desk<'m, 'p, 's> {
         answer
     }
 
-    /// Has the server prepare the element in hand. Where its recipe declines the element, the unit of work is aborted and
-    /// nothing is in hand any more.
+    /// Has the server prepare the element in hand. Where its recipe declines the element, the unit of work is
+    /// aborted and nothing is in hand any more.
     pub fn prepare(&mut self) -> Result<(), Declined>
         requires steady { SteadyDesk recipe registers pending self.old }
         requires busy { IsSome self.old.work }
@@ -127,8 +127,8 @@ impl<'m, 'p, 's> Desk<'m, 'p, 's> {
         }
     }
 
-    /// Commits the prepared work: the server keeps it exactly where the manager has committed its unit, and else calls it
-    /// off. Nothing is in hand any more.
+    /// Commits the prepared work: the server keeps it exactly where the manager has committed its unit, and
+    /// else calls it off. Nothing is in hand any more.
     pub fn commit(&mut self) -> Outcome
         requires steady { SteadyDesk recipe registers pending self.old }
         requires prepared { IsSome (pending self.old.server.now) }
@@ -167,8 +167,8 @@ impl<'m, 'p, 's> Desk<'m, 'p, 's> {
         self.manager.abort(self.pass)
     }
 
-    /// Ends the desk: prepared work is called off and an open unit of work aborted, so that the lenders find a pass with
-    /// no unit open and a server with the registers of committed work. A drop does the same.
+    /// Ends the desk: prepared work is called off and an open unit of work aborted, so that the lenders find
+    /// a pass with no unit open and a server with the registers of committed work. A drop does the same.
     pub fn end(self)
         ensures free { self.exit.1.0.now.open_unit ≡ None }
         ensures clear { pending self.exit.1.1.0.now ≡ None }

@@ -1,5 +1,5 @@
-//! A small shop on the manager of requests: orders are submitted, a server of the shop's own takes them from its stock, and
-//! replies tell what was left.
+//! A small shop on the manager of requests: orders are submitted, a server of the shop's own takes them from
+//! its stock, and replies tell what was left.
 #![tactic(auto)]
 
 ghost use Rattle.std.specs.Prelude.{◌≡◌, None};

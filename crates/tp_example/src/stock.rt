@@ -12,8 +12,8 @@ use tp_server::{Act, AmountFrom, Declined, KeyFrom, Output, Recipe, Server};
 
 /// Takes each order of stage 1 from the stock. An order for more than is left is declined.
 ///
-/// The words of an order's body are which goods it asks for (0, there is one kind alone), how many, for which customer, and
-/// on which day. The reply has the same words, with what is left in place of how many.
+/// The words of an order's body are which goods it asks for (0, there is one kind alone), how many, for which
+/// customer, and on which day. The reply has the same words, with what is left in place of how many.
 #[derive(Debug, Drop)]
 pub struct Stock {
     recipe: Recipe,

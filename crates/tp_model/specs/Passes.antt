@@ -10,8 +10,9 @@ use Rattle.tp_model.specs.declared.trace.TraceEntry.{TraceEntry}
 use Rattle.tp_model.specs.History.{Committed, In, IsClaim, IsUnborn, end_of, events_by}
 use Rattle.tp_model.specs.Steps.{IsBlock, IsLegal, IsPart, MayUse}
 
--- what a pass shows: its number, the history that it has seen, its own events, its open unit, the row that it uses next, how many
--- rows are left to it from there on, the spare blocks that it has drawn, and its atomic steps
+-- what a pass shows: its number, the history that it has seen, its own events, its open unit, the row that it
+-- uses next, how many rows are left to it from there on, the spare blocks that it has drawn, and its atomic
+-- steps
 pub record PassView : Type 0 where
   pub number : ℕ
   pub seen : List Event
@@ -64,9 +65,10 @@ pub record IsPassView (l : Limits) (v : PassView) : Type 0 where
   pub run : IsRun l v.seen v.number v.blocks v.next v.left
   pub open_own : (u : ℕ) → v.open_unit ≡ Some u → IsOwnOpen v.seen v.number u
 
--- whether a step looks at the table: what it finds or changes there is tied to what is seen after it. A draft store
--- sees nothing, the load that cuts or joins seats tells nothing, the choice of a unit is told nothing of its word, and the
--- exchanges of a mark and of the counter of drawn blocks are told nothing of the history.
+-- whether a step looks at the table: what it finds or changes there is tied to what is seen after it. A draft
+-- store sees nothing, the load that cuts or joins seats tells nothing, the choice of a unit is told nothing
+-- of its word, and the exchanges of a mark and of the counter of drawn blocks are told nothing of the
+-- history.
 abbrev pub looks : StepKind → Bool
 looks DraftStore = false
 looks SeatLoad = false
@@ -79,7 +81,8 @@ looks other = true
 abbrev pub HasLook : List TraceEntry → Type 0
 HasLook steps = (step : TraceEntry) × In step steps × (looks step.kind ≡ true)
 
--- the opening of a call that makes these steps: what is seen after the first that looks, or at its entry where none does
+-- the opening of a call that makes these steps: what is seen after the first that looks, or at its entry
+-- where none does
 abbrev pub opening_of : List Event → List TraceEntry → List Event
 opening_of entry [] = entry
 opening_of entry (step ∷ steps) = if looks step.kind then step.seen else opening_of entry steps

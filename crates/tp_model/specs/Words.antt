@@ -7,7 +7,8 @@ use Rattle.tp_model.specs.declared.event.Event.{Event}
 use Rattle.tp_model.specs.declared.event.Event.TheVariants.{Claim, Kill, Requeue}
 use Rattle.tp_model.specs.History.{UnitEnd, Committed, Aborted, end_of}
 
--- never taken; taken for the n-th time in round r, by unit u; killed after that, with 0 and 0 if it was not taken in round r; or given round r, and not taken since
+-- never taken; taken for the n-th time in round r, by unit u; killed after that, with 0 and 0 if it was not
+-- taken in round r; or given round r, and not taken since
 pub data ClaimWord : Type 0 where
   FreeWord : ClaimWord
   TakenWord : ℕ → ℕ → ℕ → ClaimWord

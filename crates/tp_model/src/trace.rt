@@ -11,7 +11,8 @@ pub enum StepKind {
     Publish,
     /// The load of a word.
     Load,
-    /// The load by which what a thread steps with is cut in two, or joined with another's. It tells nothing of the table.
+    /// The load by which what a thread steps with is cut in two, or joined with another's. It tells nothing
+    /// of the table.
     SeatLoad,
     /// The look at the word of an own unit that was never claimed, which is thereby chosen for the next claim.
     UnitChoice,

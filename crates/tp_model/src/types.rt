@@ -124,8 +124,8 @@ pub enum Claimed {
 /// The answer of a commit.
 #[derive(Clone, Copy, Debug, PartialEq, Eq)]
 pub enum Outcome {
-    /// The element is consumed and the outputs are born: `count` of them, with the ids from `first` on (0 where there is
-    /// none).
+    /// The element is consumed and the outputs are born: `count` of them, with the ids from `first` on (0
+    /// where there is none).
     Committed { first: u32, count: u8 },
     /// Another caller had aborted the unit of work: none of it is seen. The rows of its drafts stay unused.
     Lost,

@@ -50,8 +50,8 @@ pub record Begins (s : ScriptView) (m : ManagerShown) (first : Scene) : Type 0 w
   pub desks : All IsNewPlace first.places
   pub each : length first.places ≡ length s.servers
 
--- All commands were performed and their lines written, and the desks ended: what they left. The client and the racers did
--- nothing behind the last command, and the servers' passes only what ends a desk.
+-- All commands were performed and their lines written, and the desks ended: what they left. The client and
+-- the racers did nothing behind the last command, and the servers' passes only what ends a desk.
 pub record Performed (s : ScriptView) (m : ManagerShown) (before : Option (List ℕ)) : Type 0 where
   pub first : Scene
   pub last : Scene

@@ -86,8 +86,8 @@ fn command_line<R: Threads + Sync>(
     }
 }
 
-/// Performs commands one after another, and writes the line of each as it comes. The racers are the passes of all races, in
-/// their order.
+/// Performs commands one after another, and writes the line of each as it comes. The racers are the passes of
+/// all races, in their order.
 fn perform_all<R: Threads + Sync, W: Sink>(
     rt: &R,
     alloc: Global,
@@ -140,11 +140,11 @@ fn perform_all<R: Threads + Sync, W: Sink>(
     Ok(())
 }
 
-/// Performs the commands of a script over the manager, each server at a desk of its own, and writes a line for each as it
-/// comes. The passes are the manager's: the client's, then one for each server, then those of each race. The servers are the
-/// script's, in their order. When the commands are done, and after a fault, all desks are ended: each server's registers are
-/// then what its recipe makes of what its pass has committed. Behind the last command nothing else is done. What was done
-/// before a fault stands.
+/// Performs the commands of a script over the manager, each server at a desk of its own, and writes a line
+/// for each as it comes. The passes are the manager's: the client's, then one for each server, then those of
+/// each race. The servers are the script's, in their order. When the commands are done, and after a fault,
+/// all desks are ended: each server's registers are then what its recipe makes of what its pass has
+/// committed. Behind the last command nothing else is done. What was done before a fault stands.
 pub fn perform<R: Threads + Sync, W: Sink>(
     rt: &R,
     alloc: Global,

@@ -18,8 +18,8 @@ use std::thread::Threads;
 use tp_report::{Exit, Fault, Sink, exit_status, fault_of, write_fault, write_refusal};
 use tp_script::{ReadFault, Source, read_script};
 
-/// Reads a script, performs it over the shared manager with a desk for each server, and writes its report: a line for each
-/// command, and the final lines. The reader is asked at most 100,000 times.
+/// Reads a script, performs it over the shared manager with a desk for each server, and writes its report: a
+/// line for each command, and the final lines. The reader is asked at most 100,000 times.
 pub fn run<T: Threads + Sync, R: Source, W: Sink>(
     rt: &T,
     alloc: Global,

@@ -130,8 +130,8 @@ pub(crate) fn run_race<R: Threads + Sync>(
     ))
 }
 
-/// Races the free servers among those from `at` on, and the ones before `front`, which are free: for that time the free ones
-/// stand in front, each with its pass.
+/// Races the free servers among those from `at` on, and the ones before `front`, which are free: for that
+/// time the free ones stand in front, each with its pass.
 fn race_free<R: Threads + Sync>(
     rt: &R,
     manager: &Manager,

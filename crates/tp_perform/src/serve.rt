@@ -166,8 +166,8 @@ fn serve_with<R: Threads + Sync, W: Sink>(
     close(alloc, script, manager, keeper, passes, writer)
 }
 
-/// Calls off prepared work. New servers have none; but what a box shows isn't known to contracts behind the loop that made
-/// it.
+/// Calls off prepared work. New servers have none; but what a box shows isn't known to contracts behind the
+/// loop that made it.
 fn settle(servers: &mut [Box<dyn Server + Send>])
     ensures unprepared { All (λ server. pending server ≡ None) servers.new }
     ensures all { length servers.new ≡ length servers.old }

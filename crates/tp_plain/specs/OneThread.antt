@@ -28,8 +28,8 @@ use Rattle.tp_model.specs.Births.{request, outputs}
 use Rattle.tp_model.specs.Steps.{IsParked, IsServerStage, Step, IsLegal, block_first}
 use Rattle.tp_model.specs.declared.types.TheConstants.{BLOCK_ROWS, MOST_ROUNDS}
 
--- what a manager of one thread is between two calls: its limits, its history, what each of its passes has used, and how many
--- spare blocks are drawn
+-- what a manager of one thread is between two calls: its limits, its history, what each of its passes has
+-- used, and how many spare blocks are drawn
 pub record State : Type 0 where
   pub limits : Limits
   pub history : List Event
@@ -85,7 +85,8 @@ with_pass s c used = record { limits = s.limits; history = s.history; passes = s
 abbrev pub draws : State → ℕ → ℕ → Bool
 draws s c k = nat_lt (pass_at s c).left k && nat_lt s.drawn s.limits.spare
 
--- pass c when it goes on to use k rows: a block that it draws for them is its run, and the rest of the old run stays unused
+-- pass c when it goes on to use k rows: a block that it draws for them is its run, and the rest of the old
+-- run stays unused
 abbrev pub ready : State → ℕ → ℕ → PassState
 ready s c k =
     record {
@@ -166,7 +167,8 @@ root_of h u = option_map_or (λ (e : Element). e.root) (option_and_then (λ (t :
 abbrev pub made_of : State → ℕ → ℕ → List DraftView → List Element
 made_of s c u drafts = outputs u (root_of s.history u) (next_row s c (length drafts)) drafts
 
--- a commit went through: the drafts are born in the pass's next rows, with the root of the element that the unit claimed
+-- a commit went through: the drafts are born in the pass's next rows, with the root of the element that the
+-- unit claimed
 pub record Commits (s : State) (c u : ℕ) (drafts : List DraftView) (first count : ℕ) (t : State) : Type 0 where
   pub room : HasRoom s c (length drafts)
   pub count_is : count ≡ length drafts
@@ -180,7 +182,8 @@ Leaves s c u t =
     (Step s.limits s.history (Abort c u) × (t ≡ moved s (Abort c u) c (freed (pass_at s c))))
     ⊎ ((end_of s.history u ≡ Some Aborted) × (t ≡ with_pass s c (freed (pass_at s c))))
 
--- a commit is full where too few rows are left and no block, then lost where another pass has aborted the unit, and else goes through
+-- a commit is full where too few rows are left and no block, then lost where another pass has aborted the
+-- unit, and else goes through
 abbrev pub Ends : State → ℕ → ℕ → List DraftView → Outcome → State → Type 0
 Ends s c u drafts (outcome.Committed first count) t = Commits s c u drafts first count t
 Ends s c u drafts outcome.Lost t =
@@ -211,7 +214,8 @@ RefusesRead s id other = ⊥
 abbrev pub extended : State → Event → State
 extended s e = record { limits = s.limits; history = s.history ++ e ∷ []; passes = s.passes; drawn = s.drawn }
 
--- a kill by pass c went through, after so many Aborts of its own: none where nobody held the element, and else one, of the unit that held it
+-- a kill by pass c went through, after so many Aborts of its own: none where nobody held the element, and
+-- else one, of the unit that held it
 abbrev pub Kills : State → ℕ → ℕ → ℕ → State → Type 0
 Kills s c i zero t = Step s.limits s.history (Kill c i) × (t ≡ extended s (Kill c i))
 Kills s c i (suc zero) t =
@@ -239,8 +243,8 @@ abbrev pub KillsEach : State → ℕ → List ℕ → State → Type 0
 KillsEach s c [] t = t ≡ s
 KillsEach s c (i ∷ ids) t = (aborts : ℕ) × (mid : State) × Kills s c i aborts mid × KillsEach mid c ids t
 
--- a cancel by pass c went through: root is a client's element; what was unsettled of its family, and no reply, is killed,
--- in ascending order of ids; and so the family is settled
+-- a cancel by pass c went through: root is a client's element; what was unsettled of its family, and no
+-- reply, is killed, in ascending order of ids; and so the family is settled
 pub record Cancels (s : State) (c root killed : ℕ) (t : State) : Type 0 where
   pub request : IsRequest s.history root
   pub ids : List ℕ

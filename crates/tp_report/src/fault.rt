@@ -103,7 +103,8 @@ pub fn exit_status(outcome: Result<Exit, Fault>) -> u8
     }
 }
 
-/// Writes the line of the fault with which the program ended, if it did. Where the writer fails, a front of it is written.
+/// Writes the line of the fault with which the program ended, if it did. Where the writer fails, a front of
+/// it is written.
 pub fn write_fault<W: Sink>(outcome: Result<Exit, Fault>, writer: &mut W)
     ensures { TellsFault outcome (W.has_failed writer.new) (W.contents writer.old) (W.contents writer.new) }
 {

@@ -1,5 +1,6 @@
--- What the steps tell, of the numbers that the table's steps take and give: a place, one or two numbers, and the number that
--- was found at the place. In each definition v is the view before the step, and w the view after it.
+-- What the steps tell, of the numbers that the table's steps take and give: a place, one or two numbers, and
+-- the number that was found at the place. In each definition v is the view before the step, and w the view
+-- after it.
 use Rattle.std.specs.Prelude.{◌≡◌, ◌≢◌, ℕ, ◌<◌, ◌≤◌, [], Some, None}
 use Rattle.tp_model.specs.Words.{TakenWord, AgainWord}
 use Rattle.tp_model.specs.declared.types.TheConstants.{BODY_WORDS}
@@ -66,7 +67,8 @@ loads_mark word first second v r w = Loads v word r w
 abbrev pub raises : Telling
 raises word old new v r w = (p : ℕ) → word ≡ mark_place v.limits p → Raises v p new w × (r ≡ old → Knows w (PartMark p new))
 
--- a load of the counter of drawn blocks, which the seat remembers, and which has not fallen; nothing is born in the blocks from it on
+-- a load of the counter of drawn blocks, which the seat remembers, and which has not fallen; nothing is born
+-- in the blocks from it on
 abbrev pub loads_drawn : Telling
 loads_drawn word first second v r w = Loads v word r w
     × (word ≡ drawn_place v.limits → Knows w (BlocksDrawn r) × (r ≤ v.limits.spare) × NoneDrawn v.limits w.seen r × ((n : ℕ) → Knows v (BlocksDrawn n) → n ≤ r))

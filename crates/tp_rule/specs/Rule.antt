@@ -1,5 +1,5 @@
--- The rule: at every moment there is one legal history behind the words.
--- It is read from the bottom of this page up. In each record l are the table's limits, h is the history, and ws are the words.
+-- The rule: at every moment there is one legal history behind the words. It is read from the bottom of this
+-- page up. In each record l are the table's limits, h is the history, and ws are the words.
 use Rattle.std.specs.Prelude.{◌≡◌, ◌≢◌, ◌⊎◌, ℕ, ◌+◌, ◌*◌, ◌<◌, ◌≤◌, List, [], ◌∷◌, length, slice_index, Option, Some, None}
 use mathlib.Core.Option.{some}
 use mathlib.Core.List.{IsPrefix}

@@ -1,5 +1,6 @@
--- What each kind of step makes of a seat's view, and what it tells. In each definition v is the view before the step, and w the view after it.
--- A view changes in two ways alone: `after` a step, and by a split or a join of seats.
+-- What each kind of step makes of a seat's view, and what it tells. In each definition v is the view before
+-- the step, and w the view after it. A view changes in two ways alone: `after` a step, and by a split or a
+-- join of seats.
 use Rattle.std.specs.Prelude.{◌≡◌, ◌≢◌, ◌⊎◌, ℕ, ◌+◌, ◌-◌, ◌*◌, ◌<◌, ◌≤◌, List, [], ◌∷◌, ◌++◌, map, take, Option, Some, None}
 use mathlib.Core.List.{IsPrefix}
 use Rattle.tp_model.specs.declared.types.Element.{Element}
@@ -28,7 +29,8 @@ use Rattle.tp_rule.specs.declared.view.View.{View}
 abbrev pub noted : StepKind → List Event → Hand → Hand
 noted kind seen a = record a { trace = a.trace ++ record { kind = kind; seen = seen } ∷ [] }
 
--- the view after a step that makes f of each pass of the seat, and after which the seat has seen `seen` and knows `known`
+-- the view after a step that makes f of each pass of the seat, and after which the seat has seen `seen` and
+-- knows `known`
 abbrev pub after : StepKind → (Hand → Hand) → List Event → List Known → View → View
 after kind f seen known v = record { limits = v.limits; seen = seen; also_seen = []; known = known; hands = map (λ a. noted kind seen (f a)) v.hands }
 
@@ -48,8 +50,9 @@ AreOver l h p n = (i : ℕ) → p * l.rows ≤ i → i < p * l.rows + n → IsOv
 abbrev pub IsLow : Limits → List Event → ℕ → ℕ → Type 0
 IsLow l h p n = (n ≤ l.rows) × AreOver l h p n
 
--- what a seat that knows x knows of the history h: a head that isn't empty is that of the element that is born in the row,
--- no row below a mark has an element that isn't consumed or killed, and no more blocks are drawn than there are
+-- what a seat that knows x knows of the history h: a head that isn't empty is that of the element that is
+-- born in the row, no row below a mark has an element that isn't consumed or killed, and no more blocks are
+-- drawn than there are
 abbrev pub IsSo : Limits → List Event → Known → Type 0
 IsSo l h (RowHead i head) = head ≢ Empty → (x : Element) → element_of h i ≡ Some x → head ≡ head_of x
 IsSo l h (PartMark p n) = IsLow l h p n
@@ -264,8 +267,8 @@ HasDead v i = (stage : ℕ) × (root : ℕ) × (u : ℕ) × Knows v (RowHead i (
 abbrev pub IsDone : View → ℕ → Type 0
 IsDone v i = IsSettledRow v.limits v.seen i ⊎ HasDead v i
 
--- the exchange of the mark of part p, after which nothing more is seen. What was known is known, and nothing but the mark n
--- besides
+-- the exchange of the mark of part p, after which nothing more is seen. What was known is known, and nothing
+-- but the mark n besides
 abbrev pub Raises : View → ℕ → ℕ → View → Type 0
 Raises v p n w = (w ≡ after kinds.Raise unchanged v.seen w.known v) × ((x : Known) → Knows v x → Knows w x)
     × ((x : Known) → Knows w x → Knows v x ⊎ (x ≡ PartMark p n))
@@ -276,7 +279,8 @@ Raises v p n w = (w ≡ after kinds.Raise unchanged v.seen w.known v) × ((x : K
 abbrev pub with_block : ℕ → ℕ → Hand → Hand
 with_block b first a = record a { first_draft = first; next = first; left = BLOCK_ROWS; next_body = []; blocks = a.blocks ++ b ∷ [] }
 
--- the view after an exchange of the counter of drawn blocks, which is n by then: that is known, and nothing more is seen
+-- the view after an exchange of the counter of drawn blocks, which is n by then: that is known, and nothing
+-- more is seen
 abbrev pub drew : (Hand → Hand) → ℕ → View → View
 drew f n v = after kinds.Draw f v.seen (BlocksDrawn n ∷ v.known) v
 
@@ -329,7 +333,8 @@ parted v = with_hands (rest_of v.hands) v
 abbrev pub joined : View → View → View
 joined v w = record { limits = v.limits; seen = v.seen; also_seen = w.seen; known = v.known ++ w.known; hands = looked v v.hands ++ w.hands }
 
--- two seats that met, where each was v and w before: both have seen the same legal history, which begins with what either had seen
+-- two seats that met, where each was v and w before: both have seen the same legal history, which begins with
+-- what either had seen
 pub record Meets (v w v' w' : View) : Type 0 where
   pub same : v'.seen ≡ w'.seen
   pub legal : IsLegal v.limits v'.seen

@@ -1,6 +1,6 @@
-//! The choice of a unit, and the exchanges. An exchange compares a whole word with what was found there before, and
-//! changes it only if it is still the same; so it acts on the state that its caller read. One that fails changes no word,
-//! and tells the word that it found.
+//! The choice of a unit, and the exchanges. An exchange compares a whole word with what was found there
+//! before, and changes it only if it is still the same; so it acts on the state that its caller read. One
+//! that fails changes no word, and tells the word that it found.
 ghost use Rattle.std.specs.Prelude.{◌≡◌, ◌+◌, ◌*◌, ◌<◌, ◌≤◌, ◌⊎◌, ℕ, [], IfErr, IfOk, length, true, false, Some, None};
 ghost use Rattle.tp_model.specs.declared.trace.StepKind.TheVariants as kinds;
 ghost use Rattle.tp_model.specs.History.{first_id};
@@ -36,10 +36,10 @@ impl Words {
         self.table.load::<UnitChoice>(seat, word);
     }
 
-    /// The spare unit takes the element of a row, for the `attempt`-th time that a unit does, if the element's claim
-    /// is still the one that was found: it was free, or its unit was aborted and the attempts are not used up, or it was
-    /// given another round. `Ok` adds the claim to the history, and the unit is the pass's open one. `Err` has the claim
-    /// as it is by now.
+    /// The spare unit takes the element of a row, for the `attempt`-th time that a unit does, if the
+    /// element's claim is still the one that was found: it was free, or its unit was aborted and the attempts
+    /// are not used up, or it was given another round. `Ok` adds the claim to the history, and the unit is
+    /// the pass's open one. `Err` has the claim as it is by now.
     pub fn claim_exchange(
         &self,
         seat: &mut Seat,
@@ -75,9 +75,9 @@ impl Words {
         }
     }
 
-    /// The open unit is committed with its drafts, if it is undecided. `true` adds the commit to the history: in this
-    /// one step the element that the unit took is consumed and all drafts are born. `false`: another pass had aborted the
-    /// unit, and its drafts are never born.
+    /// The open unit is committed with its drafts, if it is undecided. `true` adds the commit to the history:
+    /// in this one step the element that the unit took is consumed and all drafts are born. `false`: another
+    /// pass had aborted the unit, and its drafts are never born.
     pub fn commit_exchange(&self, seat: &mut Seat, unit: u16, first: u16, count: u8) -> bool
         requires own { IsSeatOf self.now seat.old }
         requires one { IsPassOf self.now seat.old }
@@ -97,10 +97,10 @@ impl Words {
         was == UNIT_UNDECIDED
     }
 
-    /// A unit that was seen claimed is aborted, if it is undecided: the pass's own open unit, or any unit where the
-    /// pass has none open. `Ok` adds the abort to the history: the element waits again, or is parked. `Err`
-    /// has the word of the unit, which had ended; one's own can only have been aborted by another pass. Either way an own
-    /// unit is open no more.
+    /// A unit that was seen claimed is aborted, if it is undecided: the pass's own open unit, or any unit
+    /// where the pass has none open. `Ok` adds the abort to the history: the element waits again, or is
+    /// parked. `Err` has the word of the unit, which had ended; one's own can only have been aborted by
+    /// another pass. Either way an own unit is open no more.
     pub fn abort_exchange(&self, seat: &mut Seat, unit: u16) -> Result<(), UnitWord>
         requires own { IsSeatOf self.now seat.old }
         requires one { IsPassOf self.now seat.old }
@@ -124,9 +124,9 @@ impl Words {
         }
     }
 
-    /// The element of a row is killed, if its claim is still the one that was found: it was free, or its unit was
-    /// aborted, or it was given another round. `Ok` adds the kill to the history, and no unit takes the element any more. `Err` has the claim as it
-    /// is by now.
+    /// The element of a row is killed, if its claim is still the one that was found: it was free, or its unit
+    /// was aborted, or it was given another round. `Ok` adds the kill to the history, and no unit takes the
+    /// element any more. `Err` has the claim as it is by now.
     pub fn kill_exchange(&self, seat: &mut Seat, row: u32, found: Claim) -> Result<(), Claim>
         requires own { IsSeatOf self.now seat.old }
         requires one { IsPassOf self.now seat.old }

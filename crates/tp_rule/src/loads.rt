@@ -111,8 +111,8 @@ impl Words {
         }
     }
 
-    /// Reads the mark of a part, and the seat remembers it: no row of the part below it has an element that isn't consumed
-    /// or killed, neither now nor at any later time.
+    /// Reads the mark of a part, and the seat remembers it: no row of the part below it has an element that
+    /// isn't consumed or killed, neither now nor at any later time.
     #[inline(always)]
     pub fn load_mark(&self, seat: &mut Seat, part: u16) -> u16
         requires own { IsSeatOf self.now seat.old }

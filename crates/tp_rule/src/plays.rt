@@ -1,4 +1,5 @@
-//! What each kind of step tells the functions of this crate, in the numbers of the table, and how seats are cut and joined.
+//! What each kind of step tells the functions of this crate, in the numbers of the table, and how seats are
+//! cut and joined.
 ghost use Rattle.tp_rule.specs.Plays.{Telling, loads, loads_head, stores_word, stores_head, publishes, chooses, exchanges_claim, exchanges_commit, exchanges_abort, exchanges_kill, exchanges_requeue, loads_mark, raises, loads_drawn, draws};
 ghost use Rattle.tp_rule.specs.Views.{spent};
 ghost use Rattle.tp_rule.specs.Steps.{handed_on, handed_out, kept, parted, joined};

@@ -280,8 +280,8 @@ fn abort_holder(words: &Words, seat: &mut Seat, row: u32, unit: u16) -> bool
     }
 }
 
-/// Tries to kill the element of the row, as if the claim were still that of its first unit. `Some` has the claim that it
-/// found instead.
+/// Tries to kill the element of the row, as if the claim were still that of its first unit. `Some` has the
+/// claim that it found instead.
 fn kill_as_first_found(words: &Words, seat: &mut Seat, row: u32, unit: u16) -> Option<Claim>
     requires own { IsSeatOf words.now seat.old }
     requires one { IsPassOf words.now seat.old }

@@ -48,13 +48,14 @@ amount_of SameAmount amount after = amount
 amount_of After amount after = after
 amount_of (FixedAmount n) amount after = n
 
--- an output's body is the element's own, with the output's key as its word 0 and the output's amount as its word at this
--- place
+-- an output's body is the element's own, with the output's key as its word 0 and the output's amount as its
+-- word at this place
 abbrev pub body_of : ℕ → List ℕ → ℕ → Output → List ℕ
 body_of word body after output =
     slice_set (slice_set body 0 (key_of output.key (key_in body))) word (amount_of output.amount (slice_index body word) after)
 
--- the draft of one output of a recipe whose amount is the word at this place, where the act leaves the register at after
+-- the draft of one output of a recipe whose amount is the word at this place, where the act leaves the
+-- register at after
 abbrev pub draft_of : ℕ → Element → ℕ → Output → DraftView
 draft_of word element after output = record { stage = output.stage; body = body_of word element.body after output }
 
@@ -80,7 +81,8 @@ abbrev pub drafts_after : Result Effect Declined → Result (List DraftView) Dec
 drafts_after (Ok e) = Ok e.drafts
 drafts_after (Err why) = Err why
 
--- the registers after the effects of the elements in order, from registers that are there only if nothing was declined yet
+-- the registers after the effects of the elements in order, from registers that are there only if nothing was
+-- declined yet
 abbrev pub fold_from : Recipe → Option (List ℕ) → List Element → Option (List ℕ)
 fold_from recipe None es = None
 fold_from recipe (Some registers) [] = Some registers

@@ -29,8 +29,8 @@ impl EagerServer {
 
     /// A server with this recipe and these registers, with nothing prepared.
     ///
-    /// It is refused as `Recipe::check` refuses the recipe, and then as `BadRegisters` where the recipe asks for more or
-    /// fewer registers than these. A refusal gives the registers up.
+    /// It is refused as `Recipe::check` refuses the recipe, and then as `BadRegisters` where the recipe asks
+    /// for more or fewer registers than these. A refusal gives the registers up.
     pub fn new(registers: Registers, recipe: Recipe) -> Result<EagerServer, BadRecipe>
         ensures refusal { IfErr result (λ why. check_with registers recipe ≡ Err why) }
         ensures made { OnOk result (check_with registers recipe ≡ Ok tt) }

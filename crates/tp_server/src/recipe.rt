@@ -39,7 +39,8 @@ pub enum AmountFrom {
     Fixed(u64),
 }
 
-/// An output that a recipe makes of each element. Its body is the element's own but for the two words that are said here.
+/// An output that a recipe makes of each element. Its body is the element's own but for the two words that
+/// are said here.
 #[derive(Clone, Copy, Debug, PartialEq, Eq)]
 pub struct Output {
     /// The stage that it goes to: 1 to 14 for servers, 15 for replies.

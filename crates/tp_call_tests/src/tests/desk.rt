@@ -15,7 +15,8 @@ use tp_manager::{Manager, Pass};
 use tp_model::types::Limits;
 use tp_server::Server;
 
-/// A manager with a client's pass, and a server with its pass. A test borrows the parts, and lets the whole go at its end.
+/// A manager with a client's pass, and a server with its pass. A test borrows the parts, and lets the whole
+/// go at its end.
 #[derive(Drop)]
 struct Parts {
     manager: Manager,

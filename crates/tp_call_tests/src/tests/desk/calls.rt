@@ -8,7 +8,8 @@ use tp_manager::{Manager, Pass};
 use tp_model::types::{Claimed, Killed, Outcome, Status, Work};
 use tp_server::Server;
 
-/// Whether a request of stage 1 with the key 0, this amount, and 8 and 9 behind it is accepted as the element with this id.
+/// Whether a request of stage 1 with the key 0, this amount, and 8 and 9 behind it is accepted as the element
+/// with this id.
 pub(crate) fn submits(manager: &Manager, client: &mut Pass, amount: u64, id: u32) -> bool
     requires { IsOf manager.now client.old }
     ensures own { IsOf manager.now client.new }

@@ -19,7 +19,8 @@ const ROUNDS: Limits = Limits {
     spare: 0,
 };
 
-/// The second pass takes element 0 for this time in its round, by this unit, and gives it up. Until then it isn't parked.
+/// The second pass takes element 0 for this time in its round, by this unit, and gives it up. Until then it
+/// isn't parked.
 fn gives_up<R: Abort>(
     rt: &R,
     manager: &Manager,

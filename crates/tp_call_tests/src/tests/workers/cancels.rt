@@ -102,8 +102,8 @@ fn turn_and_cancel<R: Threads + Sync>(
     join_mut(rt, &mut work, &mut cancels)
 }
 
-/// What a desk's turn on a request with one output comes to where the request is cancelled at this point of it: the counts of
-/// the turn, how many elements the cancel killed, and the register.
+/// What a desk's turn on a request with one output comes to where the request is cancelled at this point of
+/// it: the counts of the turn, how many elements the cancel killed, and the register.
 fn cancelled_at<R: Abort + AllocGlobal + Threads + Sync>(
     rt: &R,
     at: Point,

@@ -6,8 +6,8 @@ use tp_model::types::Limits;
 use tp_server::{Act, Server};
 use tp_workers::{KillJob, NoGate, shift};
 
-/// The root makes two outputs of each element, for the two branches, and each branch makes a reply. The passes have twice
-/// as many rows as units, so that no turn of the root lacks rows.
+/// The root makes two outputs of each element, for the two branches, and each branch makes a reply. The
+/// passes have twice as many rows as units, so that no turn of the root lacks rows.
 #[test]
 fn tree_with_killers(rt: HostRuntime) {
     let limits = Limits {
