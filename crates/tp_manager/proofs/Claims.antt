@@ -156,6 +156,7 @@ chose_rests l u n stage number run used task seat next w s g a same r =
       used_below = subst (λ (z : Limits). used ≤ z.units) (same ∙ lim) r.used_below;
       claims = ap (λ (z : Hand). claims_in z.mine) h ∙ r.claims;
       no_drafts = ap (λ (z : Hand). z.drafts) h ∙ r.no_drafts;
+      blank = ap (λ (z : Hand). z.next_body) h ∙ r.blank;
       open_is = ap (λ (z : Hand). z.open_unit) h ∙ r.open_is;
       work = task_later (view_of seat).seen (view_of next).seen number task (walked_begins l (1 + n) _ _ _ (idle_walked l u (view_of seat) w s g n stage (view_of next) a)) r.work;
     }
@@ -176,6 +177,7 @@ took_rests l u n stage attempt root number run used task seat next w x s g k sam
       used_below = subst (λ (z : Limits). used + 1 ≤ z.units) lim (omega arith);
       claims = ap (λ (z : Hand). claims_in z.mine) h ∙ (claims_append (hand v).mine (Claim (hand v).number u x.id attempt ∷ []) ∙ (let c = r.claims in omega arith));
       no_drafts = ap (λ (z : Hand). z.drafts) h ∙ r.no_drafts;
+      blank = ap (λ (z : Hand). z.next_body) h ∙ r.blank;
       open_is = ap (λ (z : Hand). z.open_unit) h;
       work = (x.id, attempt, x, subst (λ c. claim_of y.seen u ≡ Some (record { pass = c; item = x.id; attempt = attempt })) r.number_is (ap (λ z. claim_of z u) ends ∙ new_claim k.before (hand v).number u x.id attempt unused), k.born, root_is);
     }

@@ -129,6 +129,7 @@ module _ (seat : SeatShown) (l : Limits) (given : ℕ) (k : Keeps seat l given) 
       used_below = omega arith;
       claims = ap (λ (a : Hand). claims_in a.mine) h;
       no_drafts = ap (λ (a : Hand). a.drafts) h;
+      blank = ap (λ (a : Hand). a.next_body) h;
       open_is = ap (λ (a : Hand). a.open_unit) h;
       work = tt;
     }

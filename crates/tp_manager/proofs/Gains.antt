@@ -22,6 +22,7 @@ module _ (l : Limits) where
     claimed = ap (λ (z : Hand). z.claimed) a.kept;
     mine = ap (λ (z : Hand). z.mine) a.kept ∙ sym (append_nil (hand v).mine);
     drafts = λ e. ap (λ (z : Hand). z.drafts) a.kept ∙ e;
+    body = ap (λ (z : Hand). z.next_body) a.kept;
     open_unit = λ e. ap (λ (z : Hand). z.open_unit) a.kept ∙ e;
   }
 
@@ -33,6 +34,7 @@ module _ (l : Limits) where
     claimed = b.claimed ∙ a.claimed;
     mine = b.mine ∙ (ap (λ z. z ++ fs) a.mine ∙ append_assoc (hand v).mine es fs);
     drafts = λ e. b.drafts (a.drafts e);
+    body = b.body ∙ a.body;
     open_unit = λ e. b.open_unit (a.open_unit e);
   }
 
@@ -44,6 +46,7 @@ module _ (l : Limits) where
     claimed = a.claimed;
     mine = a.mine;
     drafts = a.drafts;
+    body = a.body;
     open_unit = a.open_unit;
   }
 
@@ -61,6 +64,7 @@ module _ (l : Limits) (seat next : SeatShown) (number : ℕ) (run : Run) (used :
     used_below = subst (λ (z : Limits). used ≤ z.units) (same ∙ lim) r.used_below;
     claims = ap claims_in a.mine ∙ (claims_append (hand (view_of seat)).mine es ∙ (let k = r.claims in omega arith));
     no_drafts = a.drafts r.no_drafts;
+    blank = a.body ∙ r.blank;
     open_is = a.open_unit r.open_is;
     work = tt;
   }

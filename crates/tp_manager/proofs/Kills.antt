@@ -59,6 +59,7 @@ module _ (l : Limits) where
             claimed = ap (λ (a : Hand). a.claimed) x;
             mine = ap (λ (a : Hand). a.mine) x;
             drafts = λ q. ap (λ (a : Hand). a.drafts) x;
+            body = ap (λ (a : Hand). a.next_body) x;
             open_unit = λ q. ap (λ (a : Hand). a.open_unit) x;
           };
           aborts = λ y q. record {
@@ -123,6 +124,7 @@ module _ (l : Limits) where
         claimed = ap (λ (z : Hand). z.claimed) x;
         mine = ap (λ (z : Hand). z.mine) x;
         drafts = λ q. ap (λ (z : Hand). z.drafts) x ∙ q;
+        body = ap (λ (z : Hand). z.next_body) x;
         open_unit = λ q. ap (λ (z : Hand). z.open_unit) x ∙ q;
       } in
       record {

@@ -52,6 +52,7 @@ rests_drawn seat number run used task n r drawn = record {
   used_below = r.used_below;
   claims = r.claims;
   no_drafts = r.no_drafts;
+  blank = r.blank;
   open_is = r.open_is;
   work = r.work;
 }
@@ -68,6 +69,7 @@ module _ (l : Limits) (seat next : SeatShown) (same : (view_of seat).limits ≡ 
     used_below = subst (λ (z : Limits). used ≤ z.units) (same ∙ lim) r.used_below;
     claims = ap (λ (z : Hand). claims_in z.mine) k ∙ r.claims;
     no_drafts = ap (λ (z : Hand). z.drafts) k ∙ r.no_drafts;
+    blank = ap (λ (z : Hand). z.next_body) k ∙ r.blank;
     open_is = ap (λ (z : Hand). z.open_unit) k ∙ r.open_is;
     work = task_later (view_of seat).seen (view_of next).seen number task (looked_begins l n (view_of seat) (view_of next) a) r.work;
   }

@@ -145,6 +145,7 @@ rests_renewed l seat next number run used task same r n i round a = let k = a.ke
   used_below = subst (λ (z : Limits). used ≤ z.units) (same ∙ lim) r.used_below;
   claims = ap (λ (z : Hand). claims_in z.mine) k ∙ (claims_append (hand (view_of seat)).mine (Requeue (hand (view_of seat)).number i round ∷ []) ∙ (let c = r.claims in omega arith));
   no_drafts = ap (λ (z : Hand). z.drafts) k ∙ r.no_drafts;
+  blank = ap (λ (z : Hand). z.next_body) k ∙ r.blank;
   open_is = ap (λ (z : Hand). z.open_unit) k ∙ r.open_is;
   work = task_later (view_of seat).seen (view_of next).seen number task (walked_begins l n a.marks (view_of seat) (view_of next) a.walk) r.work;
 }

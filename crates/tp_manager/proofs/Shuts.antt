@@ -47,15 +47,16 @@ module _ (l : Limits) where
     claimed = b.claimed ∙ a.claimed;
     mine = b.mine ∙ a.mine;
     drafts = b.drafts ∙ (ap (λ z. z ++ ys) a.drafts ∙ append_assoc (hand v).drafts xs ys);
+    blank = λ q. b.blank (a.blank q);
     open_unit = b.open_unit ∙ a.open_unit;
   }
 
   pub wrote_none : (v : View) → Steady l v → Wrote l [] v v
-  wrote_none v s = record { marks = []; walk = walked_none l v s; seen = refl; run = (omega arith, omega arith, refl); claimed = refl; mine = refl; drafts = sym (append_nil (hand v).drafts); open_unit = refl }
+  wrote_none v s = record { marks = []; walk = walked_none l v s; seen = refl; run = (omega arith, omega arith, refl); claimed = refl; mine = refl; drafts = sym (append_nil (hand v).drafts); blank = λ q. q; open_unit = refl }
 
   shut_by : (kind : StepKind) (f : Hand → Hand) (es : List Event) (v w : View) → looks kind ≡ true → (s : Steady l v) → (g : Grew kind f es v w) → Steady l w → (f (hand v)).trace ≡ (hand v).trace → (f (hand v)).number ≡ (hand v).number → SameRun (hand v) (f (hand v))
-      → (f (hand v)).claimed ≡ (hand v).claimed → (f (hand v)).mine ≡ (hand v).mine ++ es → (f (hand v)).drafts ≡ [] → (f (hand v)).open_unit ≡ None → Shut l 1 0 es v w
-  shut_by kind f es v w d s g steady t number run claimed mine drafts held = let x = grew_hand l kind f es v w s g in record {
+      → (f (hand v)).claimed ≡ (hand v).claimed → (f (hand v)).mine ≡ (hand v).mine ++ es → (f (hand v)).drafts ≡ [] → (f (hand v)).next_body ≡ (hand v).next_body → (f (hand v)).open_unit ≡ None → Shut l 1 0 es v w
+  shut_by kind f es v w d s g steady t number run claimed mine drafts body held = let x = grew_hand l kind f es v w s g in record {
     marks = record { kind = kind; seen = w.seen } ∷ [];
     walk = grew_walked l kind f es v w s g d t number steady;
     before = v.seen ++ g.between;
@@ -65,14 +66,15 @@ module _ (l : Limits) where
     claimed = ap (λ (a : Hand). a.claimed) x ∙ claimed;
     mine = ap (λ (a : Hand). a.mine) x ∙ mine;
     drafts = ap (λ (a : Hand). a.drafts) x ∙ drafts;
+    blank = λ q. ap (λ (a : Hand). a.next_body) x ∙ (body ∙ q);
     open_unit = ap (λ (a : Hand). a.open_unit) x ∙ held;
   }
 
   pub shut_hit : (kind : StepKind) (e : Event) (v w : View) → looks kind ≡ true → (s : Steady l v) → Grew kind (with_end e) (e ∷ []) v w → Shut l 1 0 (e ∷ []) v w
-  shut_hit kind e v w d s g = shut_by kind (with_end e) (e ∷ []) v w d s g (grew_steady l kind (with_end e) (e ∷ []) v w s g refl) refl refl (refl, refl, refl) refl refl refl refl
+  shut_hit kind e v w d s g = shut_by kind (with_end e) (e ∷ []) v w d s g (grew_steady l kind (with_end e) (e ∷ []) v w s g refl) refl refl (refl, refl, refl) refl refl refl refl refl
 
   pub shut_miss : (kind : StepKind) (v w : View) → looks kind ≡ true → (s : Steady l v) → Grew kind with_lost [] v w → Shut l 1 0 [] v w
-  shut_miss kind v w d s g = shut_by kind with_lost [] v w d s g (grew_steady l kind with_lost [] v w s g refl) refl refl (refl, refl, refl) refl (sym (append_nil (hand v).mine)) refl refl
+  shut_miss kind v w d s g = shut_by kind with_lost [] v w d s g (grew_steady l kind with_lost [] v w s g refl) refl refl (refl, refl, refl) refl (sym (append_nil (hand v).mine)) refl refl refl
 
 pub other_abort : (c u : ℕ) (h : List Event) → end_of h u ≡ Some Aborted → ¬ (In (Abort c u) h) → EndedByOther c u h
 other_abort c u h lost not = let t = aborted_by h u lost in (t.0, t.1, λ same. not (subst (λ z. In (Abort z u) h) same t.1))
@@ -100,6 +102,7 @@ shut_rests l n k es seat next number run used run' task same t none more less st
   used_below = subst (λ (z : Limits). used ≤ z.units) (same ∙ lim) r.used_below;
   claims = ap claims_in t.mine ∙ (claims_append (hand (view_of seat)).mine es ∙ (let c = r.claims in omega arith));
   no_drafts = t.drafts;
+  blank = t.blank r.blank;
   open_is = t.open_unit;
   work = tt;
 }
@@ -143,6 +146,7 @@ wrote_shut l xs es v w y wr sh = record {
   claimed = sh.claimed ∙ wr.claimed;
   mine = sh.mine ∙ ap (λ z. z ++ es) wr.mine;
   drafts = sh.drafts;
+  blank = λ q. sh.blank (wr.blank q);
   open_unit = sh.open_unit;
 }
 

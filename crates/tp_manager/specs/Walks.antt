@@ -10,7 +10,7 @@ use Rattle.tp_model.specs.History.{IsClaim, IsUnborn, element_of, events_by, sta
 use Rattle.tp_model.specs.Drafts.{DraftView}
 use Rattle.tp_model.specs.Passes.{HasLook, PassView, IsPassView, opening_of}
 use Rattle.tp_model.specs.Steps.{AreLimits, IsLegal, block_first, rows_of}
-use Rattle.tp_rule.specs.Views.{SeatShown, IsOnePass, fresh_from, hand, view_of}
+use Rattle.tp_rule.specs.Views.{SeatShown, IsOnePass, blank_body, fresh_from, hand, view_of}
 use Rattle.tp_rule.specs.declared.view.Hand.{Hand}
 use Rattle.tp_rule.specs.declared.view.View.{View}
 use Rattle.tp_manager.specs.declared.manager.Run.{Run}
@@ -56,6 +56,10 @@ pub record Walked (l : Limits) (n : ℕ) (marks : List TraceEntry) (v w : View) 
   -- what was known is known
   pub knows : (x : Known) → Knows v x → Knows w x
 
+-- no word of the body of the pass's next row is stored
+abbrev pub IsBlank : View → Type 0
+IsBlank v = (hand v).next_body ≡ blank_body
+
 -- the pass with this trace
 abbrev pub with_trace : List TraceEntry → Hand → Hand
 with_trace t a = record a { trace = t }
@@ -83,6 +87,7 @@ pub record Gained (l : Limits) (n : ℕ) (es : List Event) (v w : View) : Type 0
   pub claimed : (hand w).claimed ≡ (hand v).claimed
   pub mine : (hand w).mine ≡ (hand v).mine ++ es
   pub drafts : (hand v).drafts ≡ [] → (hand w).drafts ≡ []
+  pub body : (hand w).next_body ≡ (hand v).next_body
   pub open_unit : (hand v).open_unit ≡ None → (hand w).open_unit ≡ None
 
 -- at most n steps have changed nothing in the pass but its trace, and one of them looks
@@ -118,6 +123,8 @@ pub record Rests (seat : SeatShown) (number : ℕ) (run : Run) (used : ℕ) (tas
   -- each used unit is in an own claim
   pub claims : claims_in (hand (view_of seat)).mine ≡ used
   pub no_drafts : (hand (view_of seat)).drafts ≡ []
+  -- nothing is stored of the next row
+  pub blank : IsBlank (view_of seat)
   pub open_is : (hand (view_of seat)).open_unit ≡ unit_in task
   pub work : IsTask (view_of seat).seen number task
 
@@ -223,6 +230,7 @@ pub record Shut (l : Limits) (n k : ℕ) (es : List Event) (v w : View) : Type 0
   pub claimed : (hand w).claimed ≡ (hand v).claimed
   pub mine : (hand w).mine ≡ (hand v).mine ++ es
   pub drafts : (hand w).drafts ≡ []
+  pub blank : IsBlank v → IsBlank w
   pub open_unit : (hand w).open_unit ≡ None
 
 -- the output that a draft becomes in row i
@@ -238,4 +246,5 @@ pub record Wrote (l : Limits) (xs : List Element) (v w : View) : Type 0 where
   pub claimed : (hand w).claimed ≡ (hand v).claimed
   pub mine : (hand w).mine ≡ (hand v).mine
   pub drafts : (hand w).drafts ≡ (hand v).drafts ++ xs
+  pub blank : IsBlank v → IsBlank w
   pub open_unit : (hand w).open_unit ≡ (hand v).open_unit

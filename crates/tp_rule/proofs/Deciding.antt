@@ -155,7 +155,8 @@ module _ (k : Limits) where
         unborn = λ i l m. unborn_still h e i (r2.unborn i l m) (λ z n id. let t = in_run first_draft ds z r.run (from z n) in let b = t.1 in absurd (omega arith));
         full = r3.full;
         empty = r3.empty;
-        body_few = r3.body_few;
+        unwritten = r3.unwritten;
+        body_whole = r3.body_whole;
         body_there = r3.body_there;
         run = tt;
         written = λ z q. absurd (in_none q);

@@ -1,5 +1,5 @@
 -- Draft stores keep the rule.
-use Rattle.std.proofs.Common.{◌≡◌, ℕ, zero, suc, ◌+◌, ◌-◌, ◌<◌, ◌≤◌, ◌≢◌, List, [], ◌∷◌, ◌++◌, length, take, set, get_or, slice_index, sym, refl, ap, ◌∙◌, subst, ⊎_elim, arith, length-append, Some, None}
+use Rattle.std.proofs.Common.{◌≡◌, ℕ, ◌+◌, ◌-◌, ◌<◌, ◌≤◌, ◌≢◌, List, [], ◌∷◌, ◌++◌, length, set, get_or, slice_index, sym, refl, ap, ◌∙◌, subst, ⊎_elim, arith, length-append, length-set, get_or-set_other, get_or-set_same, Some, None}
 use mathlib.Core.Logic.{dite}
 use native.Mathlib.Decide.{ℕ_discrete}
 use Rattle.tp_model.specs.declared.event.Event.{Event}
@@ -8,41 +8,25 @@ use Rattle.tp_model.specs.declared.types.Element.{Element}
 use Rattle.tp_model.specs.declared.types.Limits.{Limits}
 use Rattle.tp_model.specs.History.{In, IsUnborn, element_of}
 use Rattle.tp_model.specs.declared.types.TheConstants.{BODY_WORDS}
-use Rattle.tp_model.specs.Steps.{IsBody, rows_of}
+use Rattle.tp_model.specs.Steps.{IsBody, block_first, rows_of}
 use Rattle.tp_model.proofs.Bridges.{begins_refl, in_either, in_one}
 use Rattle.tp_words.specs.Places.{Word, HeadWord, BodyWord, IsThere, head_place, body_place, place_of, size_of}
 use Rattle.tp_words.specs.Words.{head_of, pack_head}
 use Rattle.tp_words.specs.declared.words.Head.TheVariants.{There}
 use Rattle.tp_rule.specs.Doors.{Permits}
 use Rattle.tp_rule.specs.Plays.{stores_word, stores_head}
-use Rattle.tp_rule.specs.Rule.{HandHolds, Holds, RowsHold, Rule, Told, drawn_in}
+use Rattle.tp_rule.specs.Rule.{HandHolds, Holds, IsUnwritten, RowsHold, Rule, Told, drawn_in}
 use Rattle.tp_rule.specs.Steps.{drafted, with_word, with_draft, next_element, IsReady}
-use Rattle.tp_rule.specs.Views.{IsOnePass, hand}
+use Rattle.tp_rule.specs.Views.{IsOnePass, blank_body, hand}
 use Rattle.tp_rule.specs.declared.view.Hand.{Hand}
 use Rattle.tp_rule.specs.declared.view.View.{View}
+use Rattle.tp_rule.proofs.Blanks.{blank_there}
 use Rattle.tp_rule.proofs.Frames.{IsMine, Stays, Turn, draws_still, hand_holds, hand_quiet, me, mine_alone, mine_inside, moved, seat_holds}
 use Rattle.tp_rule.proofs.Owning.{own_drawn, own_inside}
 use Rattle.tp_rule.proofs.Parts.{in_run, run_snoc}
 use Rattle.tp_model.proofs.Areas.{ascend_wider, one_area, own_area}
 use Rattle.tp_rule.proofs.Storing.{MayHead, MayStore, body_row, drawn_rises, full_head, holds_same, left, row_left, still_left, stored}
 use Rattle.tp_rule.proofs.Tellings.{world_stored}
-
--- the words of a body, of which the m-th is stored behind those before it
-pub length_stored : (m x : ℕ) (body : List ℕ) → m ≤ length body → length (take m body ++ x ∷ []) ≡ suc m
-length_stored zero x body less = refl
-length_stored (suc m) x [] less = absurd (omega arith)
-length_stored (suc m) x (b ∷ body) less = ap suc (length_stored m x body (omega arith))
-
-pub last_stored : (m x : ℕ) (body : List ℕ) → m ≤ length body → get_or (take m body ++ x ∷ []) m 0 ≡ x
-last_stored zero x body less = refl
-last_stored (suc m) x [] less = absurd (omega arith)
-last_stored (suc m) x (b ∷ body) less = last_stored m x body (omega arith)
-
-pub first_stored : (m x j : ℕ) (body : List ℕ) → m ≤ length body → j < m → get_or (take m body ++ x ∷ []) j 0 ≡ get_or body j 0
-first_stored zero x j body less before = absurd (omega arith)
-first_stored (suc m) x j [] less before = absurd (omega arith)
-first_stored (suc m) x zero (b ∷ body) less before = refl
-first_stored (suc m) x (suc j) (b ∷ body) less before = first_stored m x j body (omega arith) (omega arith)
 
 -- a word of a body is no head, and is one of its body alone
 no_head : (i j n : ℕ) → BodyWord i j ≢ HeadWord n
@@ -69,20 +53,27 @@ module _ (k : Limits) where
     heads_left : (i : ℕ) → w ≢ HeadWord i → i < end → get_or ws (head_place i) 0 ≡ 0 → get_or stored_words (head_place i) 0 ≡ 0
     heads_left i other below empty = head_left i other below ∙ empty
 
-    word_stored : (m : ℕ) (body : List ℕ) (ds : List Element) → w ≡ BodyWord row m → m ≤ length body → 0 < rest → length ws ≡ size_of k → RowsHold h ws first end first_draft row rest body ds
-        → RowsHold h stored_words first end first_draft row rest (take m body ++ x ∷ []) ds
-    word_stored m body ds is behind room wide r = let count = r.counted in let bottom = r.begins in let top = r.ends in let own : row < rows_of k = omega arith in let at_word : IsThere k (BodyWord row m) = subst (IsThere k) is at in let few = at_word.1 in record {
+    -- no word of a body behind it is stored
+    pub unwritten_behind : body_row w ≡ Some row → row + rest ≡ end → ((i : ℕ) → row + 1 ≤ i → i < row + rest → IsUnwritten ws i)
+        → (i : ℕ) → row + 1 ≤ i → i < row + rest → IsUnwritten stored_words i
+    unwritten_behind is top old i low high j few =
+        left k ws w x at (BodyWord i j) (omega arith, few) (λ e. let same : Some i ≡ Some row = ap body_row e ∙ is in let q : i ≡ row = cc in omega arith) ∙ old i low high j few
+
+    word_stored : (m : ℕ) (body : List ℕ) (ds : List Element) → w ≡ BodyWord row m → 0 < rest → length ws ≡ size_of k → RowsHold h ws first end first_draft row rest body ds
+        → RowsHold h stored_words first end first_draft row rest (set body m x) ds
+    word_stored m body ds is room wide r = let count = r.counted in let bottom = r.begins in let top = r.ends in let own : row < rows_of k = omega arith in let at_word : IsThere k (BodyWord row m) = subst (IsThere k) is at in let few = at_word.1 in record {
       counted = r.counted;
       begins = r.begins;
       ends = r.ends;
       unborn = r.unborn;
       full = λ i l n z. r.full i l n (sym (head_left i (λ e. no_head row m i (sym is ∙ e)) (omega arith)) ∙ z);
       empty = λ i l n. heads_left i (λ e. no_head row m i (sym is ∙ e)) (omega arith) (r.empty i l n);
-      body_few = let long = length_stored m x body behind in omega arith;
-      body_there = λ _ j less. let long = length_stored m x body behind in dite (ℕ_discrete j m)
-          (λ e. ap (λ z. get_or stored_words (body_place row z) 0) e ∙ (ap (λ z. get_or stored_words (place_of k z) 0) (sym is) ∙ (stored k ws w x at wide ∙ (sym (last_stored m x body behind) ∙ ap (λ z. get_or (take m body ++ x ∷ []) z 0) (sym e)))))
-          (λ ne. let before : j < m = omega arith in left k ws w x at (BodyWord row j) (own, omega arith) (λ e. ne (same_word row j row m (e ∙ is)))
-          ∙ (r.body_there room j (omega arith) ∙ sym (first_stored m x j body behind before)));
+      unwritten = unwritten_behind (ap body_row is) top r.unwritten;
+      body_whole = length-set body m x ∙ r.body_whole;
+      body_there = λ _ j less. let long = length-set body m x in let whole = r.body_whole in dite (ℕ_discrete j m)
+          (λ e. ap (λ z. get_or stored_words (body_place row z) 0) e ∙ (ap (λ z. get_or stored_words (place_of k z) 0) (sym is) ∙ (stored k ws w x at wide ∙ (sym (get_or-set_same body m x 0 (omega arith)) ∙ ap (λ z. get_or (set body m x) z 0) (sym e)))))
+          (λ ne. left k ws w x at (BodyWord row j) (own, omega arith) (λ e. ne (same_word row j row m (e ∙ is)))
+          ∙ (r.body_there room j (omega arith) ∙ sym (get_or-set_other body m j x 0 ne)));
       run = r.run;
       written = drafts_stay body ds (ap body_row is) room r;
     }
@@ -109,7 +100,7 @@ module _ (k : Limits) where
         (λ ne. full i low (omega arith) (sym (head_left i (λ e. let q : HeadWord row ≡ HeadWord i = sym is ∙ e in ne cc) (omega arith)) ∙ none))
 
     draft_stored : (body : List ℕ) (ds : List Element) (e : Element) → w ≡ HeadWord row → e.id ≡ row → body ≡ e.body → IsBody body → x ≡ pack_head (head_of e) → 0 < rest → length ws ≡ size_of k
-        → RowsHold h ws first end first_draft row rest body ds → RowsHold h stored_words first end first_draft (row + 1) (rest - 1) [] (ds ++ e ∷ [])
+        → RowsHold h ws first end first_draft row rest body ds → RowsHold h stored_words first end first_draft (row + 1) (rest - 1) blank_body (ds ++ e ∷ [])
     draft_stored body ds e is id same whole head room wide r = let count = r.counted in let bottom = r.begins in let top = r.ends in record {
       counted = omega (arith, length-append ds (e ∷ []));
       begins = bottom;
@@ -117,8 +108,9 @@ module _ (k : Limits) where
       unborn = λ i l m. r.unborn i l (omega arith);
       full = full_before top is (λ z. full_head (head_of e) (λ q. cc) (sym head ∙ z)) room wide r.full;
       empty = λ i l m. empty_behind top is i l (omega arith) r.empty;
-      body_few = omega arith;
-      body_there = λ _ j less. absurd (omega arith);
+      unwritten = λ i l m. unwritten_behind (ap body_row is) top r.unwritten i (omega arith) (omega arith);
+      body_whole = refl;
+      body_there = λ more. blank_there stored_words (row + 1) (unwritten_behind (ap body_row is) top r.unwritten (row + 1) (omega arith) (omega arith));
       run = run_snoc first_draft ds e r.run (omega arith);
       written = λ y q. ⊎_elim (λ o. drafts_stay body ds (ap body_row is) room r y o) (λ n. subst (Holds stored_words) (sym (in_one n)) (row_full body ds e is id same whole head room wide r)) (in_either ds (e ∷ []) q);
     }
@@ -157,6 +149,7 @@ module _ (k : Limits) where
       head = λ i e. subst (MayHead k t.state.words) (row_is_next w i is (ap body_row e)) next_head;
       mark = λ p e. let q : None ≡ Some next = sym (ap body_row e) ∙ is in absurd cc;
       count = λ e. let q : None ≡ Some next = sym (ap body_row e) ∙ is in absurd cc;
+      word = λ i j e. subst (λ z. z < block_first k (drawn_in k t.state.words)) (row_is_next w i is (ap body_row e)) next_head.drawn;
     }
 
     pub next_tells : (w : Word) → body_row w ≡ Some next → (i : ℕ) → body_row w ≡ Some i → IsMine k t i
@@ -191,9 +184,9 @@ module _ (k : Limits) where
   unborn_told : (h : List Event) (row : ℕ) (x : ℕ) (part : Element → ℕ) → IsUnborn h row → (e : Element) → element_of h row ≡ Some e → x ≡ part e
   unborn_told h row x part un e p = let q : None ≡ Some e = sym un ∙ p in absurd cc
 
-  pub words_go : (v : View) (p x m : ℕ) → IsOnePass v → 0 < (hand v).left → m < BODY_WORDS → m ≤ length (hand v).next_body → p ≡ body_place (hand v).next m
+  pub words_go : (v : View) (p x m : ℕ) → IsOnePass v → 0 < (hand v).left → m < BODY_WORDS → p ≡ body_place (hand v).next m
       → Permits k v p (λ _. x) (λ _ w. stores_word p x 0 v x w)
-  words_go v p x m one room less behind place s r id at = let t : Turn k = record { state = s; rule = r; id = id; view = v; at = at; one = one } in let a : Hand = hand v in let b = hand_holds k t in let w : Word = BodyWord (next t room) m in (
+  words_go v p x m one room less place s r id at = let t : Turn k = record { state = s; rule = r; id = id; view = v; at = at; one = one } in let a : Hand = hand v in let b = hand_holds k t in let w : Word = BodyWord (next t room) m in (
     drafted (with_word m x) v,
     subst (λ q. Rule k record { words = set s.words q x; homes = s.homes; views = set s.views id (drafted (with_word m x) v) }) (sym place)
         (stores t room w x (next_there t room, less) refl (unborn_told r.history (next t room) x (λ e. slice_index e.body m) (next_unborn t room)) (with_word m x) (λ z. (refl, refl)) record {
@@ -204,7 +197,7 @@ module _ (k : Limits) where
           first = b.first;
           end = b.end;
           area = b.area;
-          rows = word_stored r.history s.words b.first b.end a.first_draft a.next a.left w x (next_there t room, less) (own_inside k a.number a.blocks b.first b.end b.area) m a.next_body a.drafts refl behind room r.world.wide b.rows;
+          rows = word_stored r.history s.words b.first b.end a.first_draft a.next a.left w x (next_there t room, less) (own_inside k a.number a.blocks b.first b.end b.area) m a.next_body a.drafts refl room r.world.wide b.rows;
           units = b.units;
         }),
     (next t room, m, less, place, refl),

@@ -17,13 +17,14 @@ use Rattle.tp_model.proofs.Bridges.{begins_refl, in_cons, in_either, in_left, in
 use Rattle.tp_words.specs.Places.{DrawnWord, drawn_place, head_place}
 use Rattle.tp_rule.specs.Doors.{Permits}
 use Rattle.tp_rule.specs.Plays.{draws, loads_drawn}
-use Rattle.tp_rule.specs.Rule.{HandHolds, Owners, RowsHold, Rule, StillSo, World, drawn_in}
+use Rattle.tp_rule.specs.Rule.{HandHolds, IsUnwritten, Owners, RowsHold, Rule, StillSo, World, drawn_in}
 use Rattle.tp_rule.specs.Steps.{NoneDrawn, after, drew, unchanged, with_block}
-use Rattle.tp_rule.specs.Views.{IsOnePass, hand}
+use Rattle.tp_rule.specs.Views.{IsOnePass, blank_body, hand}
 use Rattle.tp_rule.specs.declared.view.Hand.{Hand}
 use Rattle.tp_rule.specs.declared.view.Known.{Known}
 use Rattle.tp_rule.specs.declared.view.Known.TheVariants.{BlocksDrawn}
 use Rattle.tp_rule.specs.declared.view.View.{View}
+use Rattle.tp_rule.proofs.Blanks.{blank_there}
 use Rattle.tp_rule.proofs.Frames.{Turn, hand_holds, hand_quiet, limits_are, mine_drawn, moved, seat_holds}
 use Rattle.tp_rule.proofs.Owning.{own_inside, undrawn_for, unborn_earlier}
 use Rattle.tp_rule.proofs.Reading.{one_after}
@@ -55,17 +56,18 @@ module _ (k : Limits) where
       )
 
   -- the rows of a block that is drawn, of which none was used
-  fresh_rows : (h : List Event) (ws : List ℕ) (first : ℕ) (drafts : List Element) → drafts ≡ [] → ((i : ℕ) → first ≤ i → i < first + BLOCK_ROWS → IsUnborn h i × (get_or ws (head_place i) 0 ≡ 0))
-      → RowsHold h ws first (first + BLOCK_ROWS) first first BLOCK_ROWS [] drafts
-  fresh_rows h ws first drafts none bare = subst (λ (ds : List Element). RowsHold h ws first (first + BLOCK_ROWS) first first BLOCK_ROWS [] ds) (sym none) record {
+  fresh_rows : (h : List Event) (ws : List ℕ) (first : ℕ) (drafts : List Element) → drafts ≡ [] → ((i : ℕ) → first ≤ i → i < first + BLOCK_ROWS → IsUnborn h i × (get_or ws (head_place i) 0 ≡ 0) × IsUnwritten ws i)
+      → RowsHold h ws first (first + BLOCK_ROWS) first first BLOCK_ROWS blank_body drafts
+  fresh_rows h ws first drafts none bare = subst (λ (ds : List Element). RowsHold h ws first (first + BLOCK_ROWS) first first BLOCK_ROWS blank_body ds) (sym none) record {
     counted = omega arith;
     begins = omega arith;
     ends = refl;
     unborn = λ i low high. (bare i low high).0;
     full = λ i low high. let from : first ≤ i = low in let to : i < first = high in absurd (omega arith);
     empty = λ i low high. (bare i low high).1;
-    body_few = omega arith;
-    body_there = λ room j less. absurd (omega arith);
+    unwritten = λ i low high. (bare i (omega arith) high).2;
+    body_whole = refl;
+    body_there = λ room. blank_there ws first (bare first (omega arith) (omega arith)).2;
     run = tt;
     written = λ x q. absurd (in_none q);
   }
@@ -82,16 +84,18 @@ module _ (k : Limits) where
     first_is = ap (λ (l : Limits). block_first l b) (limits_are k t)
 
     may : MayStore k t.state.words DrawnWord (b + 1)
-    may = record { head = λ j e. absurd cc; mark = λ p e. absurd cc; count = λ e. (omega arith, omega arith) }
+    may = record { head = λ j e. absurd cc; mark = λ p e. absurd cc; count = λ e. (omega arith, omega arith); word = λ j n e. absurd cc }
 
     now : drawn_in k words_after ≡ b + 1
     now = stored k t.state.words DrawnWord (b + 1) tt t.rule.world.wide
 
-    bare : (i : ℕ) → first ≤ i → i < first + BLOCK_ROWS → IsUnborn t.rule.history i × (get_or words_after (head_place i) 0 ≡ 0)
-    bare i low high = let is = first_is in let inside : i < rows_of k = omega arith in let undrawn : block_first k (drawn_in k t.state.words) ≤ i = omega arith in (
-      undrawn_unborn t.rule.history t.state.words t.rule.world i undrawn inside,
-      (row_left k t.state.words DrawnWord (b + 1) tt i inside (λ q. cc)).0 ∙ t.rule.world.bare i undrawn inside,
-    )
+    bare : (i : ℕ) → first ≤ i → i < first + BLOCK_ROWS → IsUnborn t.rule.history i × (get_or words_after (head_place i) 0 ≡ 0) × IsUnwritten words_after i
+    bare i low high = let is = first_is in let inside : i < rows_of k = omega arith in let undrawn : block_first k (drawn_in k t.state.words) ≤ i = omega arith in
+        let same = row_left k t.state.words DrawnWord (b + 1) tt i inside (λ q. cc) in (
+          undrawn_unborn t.rule.history t.state.words t.rule.world i undrawn inside,
+          same.0 ∙ t.rule.world.bare i undrawn inside,
+          λ j few. same.1 j few ∙ t.rule.world.unwritten i undrawn inside j few,
+        )
 
     up : Ascend 0 (b + 1) ((hand t.view).blocks ++ b ∷ [])
     up = ascend_more 0 b (hand t.view).blocks (omega arith) (subst (λ n. Ascend 0 n (hand t.view).blocks) at_b (hand_holds k t).blocks)

@@ -80,8 +80,9 @@ module _ (k : Limits) where
     unborn = λ i l m. still i (omega arith) (omega arith) (r.unborn i l m);
     full = λ i l m z. r.full i l m (sym (agree i l (omega arith)).0 ∙ z);
     empty = λ i l m. (agree i (omega arith) (omega arith)).0 ∙ r.empty i l m;
-    body_few = r.body_few;
-    body_there = λ room j less. let few = r.body_few in (agree next (omega arith) (omega arith)).1 j (omega arith) ∙ r.body_there room j less;
+    unwritten = λ i l m j few. (agree i (omega arith) (omega arith)).1 j few ∙ r.unwritten i l m j few;
+    body_whole = r.body_whole;
+    body_there = λ room j less. let whole = r.body_whole in (agree next (omega arith) (omega arith)).1 j (omega arith) ∙ r.body_there room j less;
     run = r.run;
     written = λ x p. let t = in_run first_draft drafts x r.run p in let a = t.0 in let b = t.1 in holds_same ws ws' x (agree x.id (omega arith) (omega arith)) (r.written x p);
   }

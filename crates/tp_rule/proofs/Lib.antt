@@ -1,4 +1,5 @@
 pub mod Births
+pub mod Blanks
 pub mod Bodied
 pub mod Units
 pub mod Storing

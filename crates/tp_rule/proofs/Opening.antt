@@ -12,15 +12,11 @@ use Rattle.tp_model.specs.History.{In, there}
 use Rattle.tp_model.specs.declared.types.Limits.{Limits}
 use Rattle.tp_rule.specs.Rule.{HandHolds, IsApart, MarkHolds, Owners, Rule, SeatHolds, Told}
 use Rattle.tp_rule.specs.Views.{first_view, fresh, fresh_from}
+use Rattle.tp_rule.proofs.Blanks.{blank_there, zeros}
 use Rattle.tp_rule.specs.declared.view.Hand.{Hand}
 use Rattle.tp_rule.specs.declared.view.View.{View}
-use Rattle.tp_words.specs.Places.{Word, HeadWord, BodyWord, ClaimWord, UnitWord, MarkWord, DrawnWord, IsThere, head_place, claim_place, unit_place, mark_place, drawn_place, place_of, size_of}
+use Rattle.tp_words.specs.Places.{Word, HeadWord, BodyWord, ClaimWord, UnitWord, MarkWord, DrawnWord, IsThere, head_place, body_place, claim_place, unit_place, mark_place, drawn_place, place_of, size_of}
 use Rattle.tp_words.specs.declared.words.Head.TheVariants.{Empty}
-
-zeros : (n i : ℕ) → ◌≡◌ {A = ℕ} (get_or (replicate n 0) i 0) 0
-zeros zero i = refl
-zeros (suc n) zero = refl
-zeros (suc n) (suc i) = zeros n i
 
 -- the first seat stands for all passes, and no block is drawn
 abbrev first_owners : Owners
@@ -57,8 +53,9 @@ module _ (k : Limits) where
       unborn = λ i l m. refl;
       full = λ i l m. let low : c * k.rows ≤ i = l in let high : i < c * k.rows = m in absurd (omega arith);
       empty = λ i l m. zeros (size_of k) (head_place i);
-      body_few = omega arith;
-      body_there = λ room j less. absurd (omega arith);
+      unwritten = λ i low high j few. zeros (size_of k) (body_place i j);
+      body_whole = refl;
+      body_there = λ room. blank_there (replicate (size_of k) 0) (c * k.rows) (λ j few. zeros (size_of k) (body_place (c * k.rows) j));
       run = tt;
       written = λ x p. absurd (in_none p);
     };
@@ -81,6 +78,7 @@ module _ (k : Limits) where
       tells = zero_told;
       drawn = let none = zeros (size_of k) (drawn_place k) in omega arith;
       bare = λ i low high. zeros (size_of k) (head_place i);
+      unwritten = λ i low high j few. zeros (size_of k) (body_place i j);
       behind = λ first end i j area low later high zero. zeros (size_of k) (head_place j);
       marks = λ p l. subst (MarkHolds k [] (replicate (size_of k) 0) p) (sym (zeros (size_of k) (mark_place k p))) record { inside = omega arith; below = λ i low high. let up : i < p * k.rows + 0 = high in let down : p * k.rows ≤ i = low in absurd (omega arith) };
     };

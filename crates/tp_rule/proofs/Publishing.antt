@@ -17,10 +17,11 @@ use Rattle.tp_rule.specs.Doors.{Permits}
 use Rattle.tp_rule.specs.Plays.{publishes}
 use Rattle.tp_rule.specs.Rule.{RowsHold, Rule, Told, drawn_in}
 use Rattle.tp_rule.specs.Steps.{with_birth, next_element, birth, IsReady}
-use Rattle.tp_rule.specs.Views.{hand, next_row}
+use Rattle.tp_rule.specs.Views.{blank_body, hand, next_row}
 use Rattle.tp_rule.specs.declared.view.Hand.{Hand}
 use Rattle.tp_rule.specs.declared.view.View.{View}
-use Rattle.tp_rule.proofs.Drafting.{empty_behind, full_before, next, next_may, next_own, next_tells, next_there, next_unborn}
+use Rattle.tp_rule.proofs.Blanks.{blank_there}
+use Rattle.tp_rule.proofs.Drafting.{empty_behind, full_before, next, next_may, next_own, next_tells, next_there, next_unborn, unwritten_behind}
 use Rattle.tp_rule.proofs.Events.{Act, acted, units_own, view_after}
 use Rattle.tp_rule.proofs.Frames.{IsMine, Turn, hand_holds, mine_may, spares_more}
 use Rattle.tp_rule.proofs.Owning.{own_inside}
@@ -45,7 +46,7 @@ birth_told h c y (UnitWord u) n other body old = unit_later h (Enqueue c y) u n 
 
 module _ (k : Limits) (fair : AreLimits k) where
   rows_publish : (h : List Event) (ws : List ℕ) (c first end first_draft row left x : ℕ) (body : List ℕ) (y : Element) (at : IsThere k (HeadWord row)) → end ≤ rows_of k → y.id ≡ row → 0 < left → x ≢ 0 → length ws ≡ size_of k
-      → RowsHold h ws first end first_draft row left body [] → RowsHold (h ++ Enqueue c y ∷ []) (set ws (head_place row) x) first end (row + 1) (row + 1) (left - 1) [] []
+      → RowsHold h ws first end first_draft row left body [] → RowsHold (h ++ Enqueue c y ∷ []) (set ws (head_place row) x) first end (row + 1) (row + 1) (left - 1) blank_body []
   rows_publish h ws c first end first_draft row left x body y at inside id room some wide r = let count : first_draft + 0 ≡ row = r.counted in let bottom = r.begins in let top = r.ends in record {
     counted = omega arith;
     begins = omega arith;
@@ -53,8 +54,9 @@ module _ (k : Limits) (fair : AreLimits k) where
     unborn = λ i l m. unborn_still h (Enqueue c y) i (r.unborn i (omega arith) (omega arith)) (λ z n same. let t : z.id ≡ y.id = ap (λ (t : Element). t.id) (in_one n) in absurd (omega arith));
     full = full_before k h ws first end first_draft row left (HeadWord row) x at inside top refl some room wide r.full;
     empty = λ i l m. empty_behind k h ws first end first_draft row left (HeadWord row) x at inside top refl i l (omega arith) r.empty;
-    body_few = omega arith;
-    body_there = λ _ j less. absurd (omega arith);
+    unwritten = λ i l m. unwritten_behind k h ws first end first_draft row left (HeadWord row) x at inside refl top r.unwritten i (omega arith) (omega arith);
+    body_whole = refl;
+    body_there = λ more. blank_there (set ws (head_place row) x) (row + 1) (unwritten_behind k h ws first end first_draft row left (HeadWord row) x at inside refl top r.unwritten (row + 1) (omega arith) (omega arith));
     run = tt;
     written = λ z q. absurd (in_none q);
   }

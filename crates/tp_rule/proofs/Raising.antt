@@ -72,6 +72,7 @@ module _ (k : Limits) where
         head = λ j e. absurd cc;
         mark = λ q e. let same : p ≡ q = cc in subst (λ z. get_or s.words (mark_place k z) 0 ≤ to) same (omega arith);
         count = λ e. absurd cc;
+        word = λ i j e. absurd cc;
       } in
       let world : World k h ws = world_stored k h h s.words (MarkWord p) to r.world r.world.legal (begins_refl h) room tt (λ w there _. r.world.tells w there) may marked in
       let still : (z : Known) → StillSo k s.words z → StillSo k ws z = still_left k s.words (MarkWord p) to room r.world.wide may in let rises = drawn_rises k s.words (MarkWord p) to room r.world.wide may in

@@ -11,7 +11,7 @@ use Rattle.tp_words.specs.Words.{pack_head}
 use Rattle.tp_words.specs.declared.words.Head.{Head}
 use Rattle.tp_words.specs.declared.words.Head.TheVariants.{Empty, There}
 use Rattle.tp_words.proofs.PlaceLemmas.{places_differ, places_inside}
-use Rattle.tp_rule.specs.Rule.{Holds, StillSo, drawn_in}
+use Rattle.tp_rule.specs.Rule.{Holds, IsUnwritten, StillSo, drawn_in}
 use Rattle.tp_rule.specs.declared.view.Known.{Known}
 use Rattle.tp_rule.specs.declared.view.Known.TheVariants.{RowHead, PartMark, BlocksDrawn}
 
@@ -42,18 +42,20 @@ pub record MayHead (l : Limits) (ws : List ℕ) (i : ℕ) : Type 0 where
   pub full : (first end j : ℕ) → IsArea l first end → first ≤ i → i < end → first ≤ j → j < i → get_or ws (head_place j) 0 ≢ 0
   pub drawn : i < block_first l (drawn_in l ws)
 
--- the number x may be stored at the word w: a head where it may be, and no mark and no counter falls
+-- the number x may be stored at the word w: a head where it may be, no mark and no counter falls, and no word of a body is in
+-- a block that isn't drawn
 pub record MayStore (l : Limits) (ws : List ℕ) (w : Word) (x : ℕ) : Type 0 where
   pub head : (i : ℕ) → w ≡ HeadWord i → MayHead l ws i
   pub mark : (p : ℕ) → w ≡ MarkWord p → get_or ws (mark_place l p) 0 ≤ x
   pub count : w ≡ DrawnWord → (drawn_in l ws ≤ x) × (x ≤ l.spare)
+  pub word : (i j : ℕ) → w ≡ BodyWord i j → i < block_first l (drawn_in l ws)
 
 -- a claim and a unit's word may always be stored
 pub may_claim : (l : Limits) (ws : List ℕ) (i x : ℕ) → MayStore l ws (ClaimWord i) x
-may_claim l ws i x = record { head = λ j e. absurd cc; mark = λ p e. absurd cc; count = λ e. absurd cc }
+may_claim l ws i x = record { head = λ j e. absurd cc; mark = λ p e. absurd cc; count = λ e. absurd cc; word = λ j n e. absurd cc }
 
 pub may_unit : (l : Limits) (ws : List ℕ) (u x : ℕ) → MayStore l ws (UnitWord u) x
-may_unit l ws u x = record { head = λ j e. absurd cc; mark = λ p e. absurd cc; count = λ e. absurd cc }
+may_unit l ws u x = record { head = λ j e. absurd cc; mark = λ p e. absurd cc; count = λ e. absurd cc; word = λ j n e. absurd cc }
 
 module _ (l : Limits) where
   -- two words are the same or not
@@ -109,6 +111,13 @@ module _ (l : Limits) where
       bare_after bare i low there = let up = drawn_rises in same_or_other (HeadWord i) w there at
           (λ e. let inside = (may.head i (sym e)).drawn in absurd (omega arith))
           (λ other. left (HeadWord i) there other ∙ bare i (omega arith) there)
+
+      -- and no word of their bodies is stored
+      pub unwritten_after : ((i : ℕ) → block_first l (drawn_in l ws) ≤ i → i < rows_of l → IsUnwritten ws i)
+          → (i : ℕ) → block_first l (drawn_in l (set ws (place_of l w) x)) ≤ i → i < rows_of l → IsUnwritten (set ws (place_of l w) x) i
+      unwritten_after old i low there j few = let up = drawn_rises in same_or_other (BodyWord i j) w (there, few) at
+          (λ e. let inside = may.word i j (sym e) in absurd (omega arith))
+          (λ other. left (BodyWord i j) (there, few) other ∙ old i (omega arith) there j few)
 
       -- and behind an empty head in an area there are only empty ones
       pub behind_after : (first end i j : ℕ) → IsArea l first end → end ≤ rows_of l → first ≤ i → i ≤ j → j < end → (get_or ws (head_place i) 0 ≡ 0 → get_or ws (head_place j) 0 ≡ 0)

@@ -22,7 +22,7 @@ use Rattle.tp_rule.specs.declared.view.Known.{Known}
 use Rattle.tp_rule.specs.declared.view.Known.TheVariants.{RowHead, PartMark, BlocksDrawn}
 use Rattle.tp_rule.proofs.Births.{MadeBy, by_unit}
 use Rattle.tp_rule.proofs.Parts.{in_rows}
-use Rattle.tp_rule.proofs.Storing.{MayStore, bare_after, behind_after, drawn_inside, full_head, heads_kept, left, same_or_other, stored}
+use Rattle.tp_rule.proofs.Storing.{MayStore, bare_after, behind_after, drawn_inside, full_head, heads_kept, left, same_or_other, stored, unwritten_after}
 use Rattle.tp_rule.proofs.Units.{decide}
 
 -- a head's word tells the head
@@ -150,5 +150,6 @@ world_stored k h h' ws w x world legal begins at now rest may mark = record {
       });
   drawn = drawn_inside k ws w x at world.wide may world.drawn;
   bare = bare_after k ws w x at world.wide may world.bare;
+  unwritten = unwritten_after k ws w x at world.wide may world.unwritten;
   behind = λ first end i j area low later high. behind_after k ws w x at world.wide may first end i j area (area_inside k first end area) low later high (world.behind first end i j area low later high);
 }

@@ -25,7 +25,8 @@ module _ (k : Limits) where
     unborn = λ i l m. r.unborn i (omega arith) m;
     full = r.full;
     empty = r.empty;
-    body_few = r.body_few;
+    unwritten = r.unwritten;
+    body_whole = r.body_whole;
     body_there = r.body_there;
     run = tt;
     written = λ x p. absurd (in_none p);

@@ -26,6 +26,10 @@ use Rattle.tp_words.specs.declared.words.Head.TheVariants.{Empty, There}
 abbrev pub HoldsBody : List ℕ → ℕ → List ℕ → Type 0
 HoldsBody ws i body = (k : ℕ) → k < length body → slice_index ws (body_place i k) ≡ slice_index body k
 
+-- no word of the body of row i was stored, so each is 0
+abbrev pub IsUnwritten : List ℕ → ℕ → Type 0
+IsUnwritten ws i = (k : ℕ) → k < BODY_WORDS → slice_index ws (body_place i k) ≡ 0
+
 -- the head of row x.id and the words of its body hold the element x, whose body is whole
 abbrev pub Holds : List ℕ → Element → Type 0
 Holds ws x = (slice_index ws (head_place x.id) ≡ pack_head (head_of x)) × HoldsBody ws x.id x.body × IsBody x.body
@@ -58,9 +62,11 @@ pub record RowsHold (h : List Event) (ws : List ℕ) (first end first_draft next
   pub full : (i : ℕ) → first ≤ i → i < next → slice_index ws (head_place i) ≢ 0
   -- the head of each row that is left is empty
   pub empty : (i : ℕ) → next ≤ i → i < next + left → slice_index ws (head_place i) ≡ 0
-  -- the pass remembers no more words than a body has
-  pub body_few : length body ≤ BODY_WORDS
-  -- those that it remembers stand in the next row
+  -- and no word of those behind the next one was stored
+  pub unwritten : (i : ℕ) → next + 1 ≤ i → i < next + left → IsUnwritten ws i
+  -- the pass remembers the words of a whole body
+  pub body_whole : IsBody body
+  -- which stand in the next row
   pub body_there : 0 < left → HoldsBody ws next body
   -- the drafts stand in the rows from the first draft on, one after another
   pub run : AreFrom first_draft drafts
@@ -193,6 +199,8 @@ pub record World (l : Limits) (h : List Event) (ws : List ℕ) : Type 0 where
   pub drawn : drawn_in l ws ≤ l.spare
   -- the rows of blocks that aren't drawn have empty heads
   pub bare : (i : ℕ) → block_first l (drawn_in l ws) ≤ i → i < rows_of l → slice_index ws (head_place i) ≡ 0
+  -- and no word of their bodies was stored
+  pub unwritten : (i : ℕ) → block_first l (drawn_in l ws) ≤ i → i < rows_of l → IsUnwritten ws i
   -- behind an empty head there are only empty ones in its area
   pub behind : (first end i j : ℕ) → IsArea l first end → first ≤ i → i ≤ j → j < end → slice_index ws (head_place i) ≡ 0 → slice_index ws (head_place j) ≡ 0
 

@@ -1,11 +1,11 @@
 -- What each kind of step makes of a seat's view, and what it tells. In each definition v is the view before
 -- the step, and w the view after it. A view changes in two ways alone: `after` a step, and by a split or a
 -- join of seats.
-use Rattle.std.specs.Prelude.{◌≡◌, ◌≢◌, ◌⊎◌, ℕ, ◌+◌, ◌-◌, ◌*◌, ◌<◌, ◌≤◌, List, [], ◌∷◌, ◌++◌, map, take, Option, Some, None}
+use Rattle.std.specs.Prelude.{◌≡◌, ◌≢◌, ◌⊎◌, ℕ, zero, suc, ◌+◌, ◌-◌, ◌*◌, ◌<◌, ◌≤◌, List, [], ◌∷◌, ◌++◌, map, slice_set, Option, Some, None}
 use mathlib.Core.List.{IsPrefix}
 use Rattle.tp_model.specs.declared.types.Element.{Element}
 use Rattle.tp_model.specs.declared.types.Limits.{Limits}
-use Rattle.tp_model.specs.declared.types.TheConstants.{BLOCK_ROWS, MOST_ROUNDS}
+use Rattle.tp_model.specs.declared.types.TheConstants.{BLOCK_ROWS, BODY_WORDS, MOST_ROUNDS}
 use Rattle.tp_model.specs.declared.types.Status.TheVariants.{Waiting}
 use Rattle.tp_model.specs.declared.event.Event.{Event}
 use Rattle.tp_model.specs.declared.event.Event.TheVariants.{Enqueue, Claim, Commit, Abort, Kill, Requeue}
@@ -19,7 +19,7 @@ use Rattle.tp_words.specs.declared.words.Head.TheVariants.{Empty, There}
 use Rattle.tp_words.specs.Words.{IsFitClaim, head_of}
 use Rattle.tp_words.specs.Places.{IsThere, Word, place_of}
 use Rattle.tp_rule.specs.Rule.{IsSettledRow, Told}
-use Rattle.tp_rule.specs.Views.{IsOnePass, hand, next_row}
+use Rattle.tp_rule.specs.Views.{IsOnePass, blank_body, hand, next_row}
 use Rattle.tp_rule.specs.declared.view.Hand.{Hand}
 use Rattle.tp_rule.specs.declared.view.Known.{Known}
 use Rattle.tp_rule.specs.declared.view.Known.TheVariants.{RowHead, PartMark, BlocksDrawn}
@@ -107,17 +107,36 @@ Loads v word r w = Grew kinds.Load unchanged [] v w × Found v.limits w.seen wor
 abbrev pub drafted : (Hand → Hand) → View → View
 drafted f v = after kinds.DraftStore f v.seen v.known v
 
--- word k of the body of the next row is stored: those before it stand, and those behind it don't count any more
+-- word k of the body of the next row is stored
 abbrev pub with_word : ℕ → ℕ → Hand → Hand
-with_word k x a = record a { next_body = take k a.next_body ++ x ∷ [] }
+with_word k x a = record a { next_body = slice_set a.next_body k x }
+
+-- the store of word k of that body, which is left out where the word is 0
+pub record Fills (v : View) (k x : ℕ) (w : View) : Type 0 where
+  pub does : (w ≡ drafted (with_word k x) v) ⊎ ((w ≡ v) × (x ≡ 0))
 
 -- the body of the next row is stored
 abbrev pub with_body : List ℕ → Hand → Hand
 with_body body a = record a { next_body = body }
 
--- the view after the four words of the body of the next row are stored, one after another
-abbrev pub bodied : List ℕ → View → View
-bodied body v = drafted (with_body body) (drafted unchanged (drafted unchanged (drafted unchanged v)))
+-- the view after n stores to the body of the next row, whatever they stored
+abbrev pub stored : ℕ → View → View
+stored zero v = v
+stored (suc n) v = drafted unchanged (stored n v)
+
+-- and where there are any, by the last of them this body stands there
+abbrev pub bodied : ℕ → List ℕ → View → View
+bodied zero body v = v
+bodied (suc n) body v = drafted (with_body body) (stored n v)
+
+-- the body of the next row is stored, in at most one store for each of its words
+pub record Bodied (body : List ℕ) (v w : View) : Type 0 where
+  pub stores : ℕ
+  pub few : stores ≤ BODY_WORDS
+  pub view : w ≡ bodied stores body v
+  -- so nothing else has changed in the pass but its trace
+  pub pass : IsOnePass w × (w.limits ≡ v.limits)
+  pub hand_is : hand w ≡ record (hand v) { trace = (hand w).trace; next_body = body }
 
 -- the element that the next row holds once its head is stored
 abbrev pub next_element : View → ℕ → ℕ → Option ℕ → Element
@@ -125,9 +144,9 @@ next_element v stage root by = record { id = next_row v; stage = stage; root = r
 
 -- the next row has become a draft of the open unit
 abbrev pub with_draft : Element → Hand → Hand
-with_draft x a = record a { next = a.next + 1; left = a.left - 1; next_body = []; drafts = a.drafts ++ x ∷ [] }
+with_draft x a = record a { next = a.next + 1; left = a.left - 1; next_body = blank_body; drafts = a.drafts ++ x ∷ [] }
 
--- the body of the next row is stored
+-- a whole body stands in the next row
 abbrev pub IsReady : View → Type 0
 IsReady v = IsOnePass v × IsBody (hand v).next_body
 
@@ -143,7 +162,7 @@ birth v stage = Enqueue (hand v).number (next_element v stage (next_row v) None)
 
 -- the next row is born
 abbrev pub with_birth : Event → Hand → Hand
-with_birth e a = record a { mine = a.mine ++ e ∷ []; first_draft = a.next + 1; next = a.next + 1; left = a.left - 1; next_body = []; drafts = [] }
+with_birth e a = record a { mine = a.mine ++ e ∷ []; first_draft = a.next + 1; next = a.next + 1; left = a.left - 1; next_body = blank_body; drafts = [] }
 
 abbrev pub Publishes : View → ℕ → View → Type 0
 Publishes v stage w = Grew kinds.Publish (with_birth (birth v stage)) (birth v stage ∷ []) v w
@@ -277,7 +296,7 @@ Raises v p n w = (w ≡ after kinds.Raise unchanged v.seen w.known v) × ((x : K
 
 -- spare block b, which begins with row `first`, is drawn, and its rows are the run
 abbrev pub with_block : ℕ → ℕ → Hand → Hand
-with_block b first a = record a { first_draft = first; next = first; left = BLOCK_ROWS; next_body = []; blocks = a.blocks ++ b ∷ [] }
+with_block b first a = record a { first_draft = first; next = first; left = BLOCK_ROWS; next_body = blank_body; blocks = a.blocks ++ b ∷ [] }
 
 -- the view after an exchange of the counter of drawn blocks, which is n by then: that is known, and nothing
 -- more is seen

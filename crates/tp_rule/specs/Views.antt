@@ -1,10 +1,11 @@
 -- What a seat is, and what its view says.
-use Rattle.std.specs.Prelude.{◌≡◌, ℕ, zero, suc, ◌+◌, ◌*◌, ◌<◌, List, [], ◌∷◌, None}
+use Rattle.std.specs.Prelude.{◌≡◌, ℕ, zero, suc, ◌+◌, ◌*◌, ◌<◌, List, [], ◌∷◌, replicate, None}
 use Rattle.atomic_table.specs.Seated.{TableId}
 use Rattle.tp_model.specs.History.{In}
 use Rattle.tp_model.specs.Steps.{rows_of, units_of}
 use Rattle.tp_model.specs.declared.event.Event.{Event}
 use Rattle.tp_model.specs.declared.types.Limits.{Limits}
+use Rattle.tp_model.specs.declared.types.TheConstants.{BODY_WORDS}
 use Rattle.tp_rule.specs.declared.view.Hand.{Hand}
 use Rattle.tp_rule.specs.declared.view.View.{View}
 
@@ -21,9 +22,13 @@ view_of seat = seat.view
 abbrev pub IsSameSeat : SeatShown → SeatShown → Type 0
 IsSameSeat old new = new.table ≡ old.table
 
+-- the words that stand in a row before any is stored
+abbrev pub blank_body : List ℕ
+blank_body = replicate BODY_WORDS 0
+
 -- the pass c of a table with these limits, which has done nothing: all rows of its part are left
 abbrev pub fresh : Limits → ℕ → Hand
-fresh l c = record { number = c; mine = []; trace = []; first_draft = c * l.rows; next = c * l.rows; left = l.rows; blocks = []; next_body = []; drafts = []; claimed = 0; spare_unit = None; open_unit = None }
+fresh l c = record { number = c; mine = []; trace = []; first_draft = c * l.rows; next = c * l.rows; left = l.rows; blocks = []; next_body = blank_body; drafts = []; claimed = 0; spare_unit = None; open_unit = None }
 
 -- so many passes from c on, which have done nothing
 abbrev pub fresh_from : Limits → ℕ → ℕ → List Hand

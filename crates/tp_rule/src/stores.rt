@@ -1,9 +1,9 @@
 //! Stores to a pass's own rows: draft stores, which nobody sees, and publish.
-ghost use Rattle.std.specs.Prelude.{◌≡◌, ◌<◌, ◌≤◌, [], length, Some};
+ghost use Rattle.std.specs.Prelude.{◌≡◌, ◌<◌, [], Some};
 ghost use Rattle.tp_model.specs.declared.types.TheConstants.{BODY_WORDS};
 ghost use Rattle.tp_model.specs.Steps.{IsBody, IsServerStage, IsStage};
-ghost use Rattle.tp_rule.specs.Views.{hand_of, view_of, IsNextRow, IsOnePass, IsSameSeat};
-ghost use Rattle.tp_rule.specs.Steps.{bodied, drafted, with_word, Drafts, Publishes, IsReady};
+ghost use Rattle.tp_rule.specs.Views.{blank_body, hand_of, view_of, IsNextRow, IsOnePass, IsSameSeat};
+ghost use Rattle.tp_rule.specs.Steps.{drafted, with_word, Bodied, Drafts, Fills, Publishes, IsReady};
 
 use crate::plays::{DraftHead, DraftWord, Publish};
 use crate::seat::Seat;
@@ -14,13 +14,13 @@ use tp_words::Head;
 impl Words {
     ghost use Rattle.tp_rule.specs.Tables.{limits_of, IsPassOf, IsSeatOf};
 
-    /// Stores a word of the body of the row that the pass draws next; those before it are stored. The row is not born,
-    /// so the history does not change, and the seat sees nothing new.
+    /// Stores a word of the body of the row that the pass draws next. The row is not born, so the history does not
+    /// change, and the seat sees nothing new.
     fn store_draft_word(&self, seat: &mut Seat, row: u32, word: usize, number: u64)
         requires own { IsSeatOf self.now seat.old }
         requires one { IsOnePass (view_of seat.old) }
         requires next { IsNextRow (limits_of self.now) (view_of seat.old) row }
-        requires word { (word < BODY_WORDS) × (word ≤ length (hand_of seat.old).next_body) }
+        requires word { word < BODY_WORDS }
         ensures same { IsSameSeat seat.old seat.new }
         ensures view { view_of seat.new ≡ drafted (with_word word number) (view_of seat.old) }
     {
@@ -28,20 +28,38 @@ impl Words {
         self.table.store::<DraftWord>(seat, place, number);
     }
 
-    /// Stores the body of the row that the pass draws next, word by word. Four steps.
-    #[tactic(auto, using(crate::proofs::Bodied::body_stored))]
+    /// The same, unless the word is 0: a row is used once, and its words are 0 before.
+    #[inline(always)]
+    fn fill_draft_word(&self, seat: &mut Seat, row: u32, word: usize, number: u64)
+        requires own { IsSeatOf self.now seat.old }
+        requires one { IsOnePass (view_of seat.old) }
+        requires next { IsNextRow (limits_of self.now) (view_of seat.old) row }
+        requires word { word < BODY_WORDS }
+        ensures same { IsSameSeat seat.old seat.new }
+        ensures one { IsOnePass (view_of seat.new) }
+        ensures next { IsNextRow (limits_of self.now) (view_of seat.new) row }
+        ensures view { Fills (view_of seat.old) word number (view_of seat.new) }
+    {
+        if number != 0 {
+            self.store_draft_word(seat, row, word, number);
+        }
+    }
+
+    /// Stores the body of the row that the pass draws next, of which no word is stored: each word that isn't 0. At most
+    /// four steps.
     pub fn store_draft_body(&self, seat: &mut Seat, row: u32, body: Body)
         requires own { IsSeatOf self.now seat.old }
         requires one { IsOnePass (view_of seat.old) }
         requires next { IsNextRow (limits_of self.now) (view_of seat.old) row }
+        requires blank { (hand_of seat.old).next_body ≡ blank_body }
         ensures same { IsSameSeat seat.old seat.new }
-        ensures view { view_of seat.new ≡ bodied body (view_of seat.old) }
+        ensures view { Bodied body (view_of seat.old) (view_of seat.new) }
         ensures whole { IsBody body }
     {
-        self.store_draft_word(seat, row, 0, body[0]);
-        self.store_draft_word(seat, row, 1, body[1]);
-        self.store_draft_word(seat, row, 2, body[2]);
-        self.store_draft_word(seat, row, 3, body[3]);
+        self.fill_draft_word(seat, row, 3, body[3]);
+        self.fill_draft_word(seat, row, 2, body[2]);
+        self.fill_draft_word(seat, row, 1, body[1]);
+        self.fill_draft_word(seat, row, 0, body[0]);
     }
 
     /// Stores the head of the row that the pass draws next, whose body is stored. It names the pass's open

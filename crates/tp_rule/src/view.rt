@@ -27,7 +27,7 @@ pub struct Hand {
     pub left: u16,
     /// The spare blocks that the pass has drawn, in ascending order.
     pub blocks: LinkedList<u16>,
-    /// The first words of the body of the next row: those that are stored.
+    /// The words that stand in the body of the next row: 0 where none is stored yet.
     pub next_body: LinkedList<u64>,
     /// The outputs that are written for the open unit, and are born when it commits.
     pub drafts: LinkedList<Element>,
