@@ -25,6 +25,7 @@ impl Words {
 
     /// Looks at the word of the pass's next unit, which is thereby the spare one: the next claim is made with it. The
     /// history does not change.
+    #[inline(always)]
     pub fn choose_unit(&self, seat: &mut Seat, unit: u16)
         requires own { IsSeatOf self.now seat.old }
         requires one { IsPassOf self.now seat.old }
@@ -40,6 +41,7 @@ impl Words {
     /// element's claim is still the one that was found: it was free, or its unit was aborted and the attempts
     /// are not used up, or it was given another round. `Ok` adds the claim to the history, and the unit is
     /// the pass's open one. `Err` has the claim as it is by now.
+    #[inline(always)]
     pub fn claim_exchange(
         &self,
         seat: &mut Seat,
@@ -69,15 +71,13 @@ impl Words {
         if was == free {
             return Ok(());
         }
-        match Claim::unpack(was) {
-            Some(now) => Err(now),
-            None => unreachable!(),
-        }
+        Err(Claim::read(was))
     }
 
     /// The open unit is committed with its drafts, if it is undecided. `true` adds the commit to the history:
     /// in this one step the element that the unit took is consumed and all drafts are born. `false`: another
     /// pass had aborted the unit, and its drafts are never born.
+    #[inline(always)]
     pub fn commit_exchange(&self, seat: &mut Seat, unit: u16, first: u16, count: u8) -> bool
         requires own { IsSeatOf self.now seat.old }
         requires one { IsPassOf self.now seat.old }
@@ -101,6 +101,7 @@ impl Words {
     /// where the pass has none open. `Ok` adds the abort to the history: the element waits again, or is
     /// parked. `Err` has the word of the unit, which had ended; one's own can only have been aborted by
     /// another pass. Either way an own unit is open no more.
+    #[inline(always)]
     pub fn abort_exchange(&self, seat: &mut Seat, unit: u16) -> Result<(), UnitWord>
         requires own { IsSeatOf self.now seat.old }
         requires one { IsPassOf self.now seat.old }
@@ -118,15 +119,13 @@ impl Words {
         if was == UNIT_UNDECIDED {
             return Ok(());
         }
-        match UnitWord::unpack(was) {
-            Some(found) => Err(found),
-            None => unreachable!(),
-        }
+        Err(UnitWord::read(was))
     }
 
     /// The element of a row is killed, if its claim is still the one that was found: it was free, or its unit
     /// was aborted, or it was given another round. `Ok` adds the kill to the history, and no unit takes the
     /// element any more. `Err` has the claim as it is by now.
+    #[inline(always)]
     pub fn kill_exchange(&self, seat: &mut Seat, row: u32, found: Claim) -> Result<(), Claim>
         requires own { IsSeatOf self.now seat.old }
         requires one { IsPassOf self.now seat.old }
@@ -147,10 +146,7 @@ impl Words {
         if was == alive {
             return Ok(());
         }
-        match Claim::unpack(was) {
-            Some(now) => Err(now),
-            None => unreachable!(),
-        }
+        Err(Claim::read(was))
     }
 
     /// The parked element of a row is given its next round, if its claim is still the one that was found: its unit was
@@ -177,10 +173,7 @@ impl Words {
         if was == parked {
             return Ok(());
         }
-        match Claim::unpack(was) {
-            Some(now) => Err(now),
-            None => unreachable!(),
-        }
+        Err(Claim::read(was))
     }
 
     /// The mark of a part is raised over rows that the seat knows finished, if it is still the one that was found.

@@ -52,10 +52,7 @@ impl Words {
     {
         let word = self.places.head(row);
         let found = self.table.load::<LoadHead>(seat, word);
-        match Head::unpack(found) {
-            Some(head) => head,
-            None => unreachable!(),
-        }
+        Head::read(found)
     }
 
     /// Reads a word of the body of a row: that of its element, where one is born.
@@ -87,10 +84,7 @@ impl Words {
     {
         let word = self.places.claim(row);
         let found = self.load(seat, word);
-        match Claim::unpack(found) {
-            Some(claim) => claim,
-            None => unreachable!(),
-        }
+        Claim::read(found)
     }
 
     /// Reads the word of a unit: how it ended, or that it is undecided.
@@ -105,10 +99,7 @@ impl Words {
     {
         let word = self.places.unit(unit);
         let found = self.load(seat, word);
-        match UnitWord::unpack(found) {
-            Some(word) => word,
-            None => unreachable!(),
-        }
+        UnitWord::read(found)
     }
 
     /// Reads the mark of a part, and the seat remembers it: no row of the part below it has an element that

@@ -2,7 +2,7 @@
 //! that counts drawn blocks. The rows of the parts come first, and behind them those of the spare blocks.
 ghost use Rattle.std.specs.Prelude.{◌≡◌, ◌+◌, ◌*◌, ◌<◌, ◌≤◌, ◌↔◌, ℕ, IsOk, IfOk, Err};
 ghost use Rattle.tp_model.specs.Steps.{AreLimits};
-ghost use Rattle.tp_words.specs.Places.{PlacesDiffer, PlacesInside};
+ghost use Rattle.tp_words.specs.Places.{mark_place as marks_from, unit_place as units_from, PlacesDiffer, PlacesInside};
 
 use tp_model::types::{BLOCK_ROWS, BODY_WORDS, Limits, Refusal};
 
@@ -14,7 +14,12 @@ pub const ROW_WORDS: usize = BODY_WORDS + 2;
 pub struct Places {
     /// What the table has room for, each limit in its range.
     pub limits: Limits,
+    /// The places of the first unit's word and of the first mark, reckoned once: nearly every step asks for one.
+    first_unit: u32,
+    first_mark: u32,
     pub ghost valid: { AreLimits limits },
+    ghost units: { first_unit ≡ units_from limits 0 },
+    ghost marks: { first_mark ≡ marks_from limits 0 },
 }
 
 impl Places {
@@ -29,11 +34,18 @@ impl Places {
         ensures ok { IfOk result (λ p. p.limits ≡ limits) }
         ensures bad { (result ≡ Err Refusal.BadLimits) ↔ (¬ AreLimits limits) }
     {
-        if limits.is_valid() {
-            Ok(Places { limits })
-        } else {
-            Err(Refusal::BadLimits)
+        if !limits.is_valid() {
+            return Err(Refusal::BadLimits);
         }
+        let parts = limits.parts as u32;
+        let rows = parts * limits.rows as u32 + BLOCK_ROWS as u32 * limits.spare as u32;
+        let first_unit = ROW_WORDS as u32 * rows;
+        let first_mark = first_unit + parts * limits.units as u32;
+        Ok(Places {
+            limits,
+            first_unit,
+            first_mark,
+        })
     }
 
     /// How many rows the parts have, at most 8192.
@@ -122,7 +134,7 @@ impl Places {
         ensures place { result ≡ unit_place self.now.limits unit }
         ensures inside { result < size_of self.now.limits }
     {
-        ROW_WORDS * self.rows() as usize + unit as usize
+        self.first_unit as usize + unit as usize
     }
 
     /// The place of the mark of a part.
@@ -132,8 +144,7 @@ impl Places {
         ensures place { result ≡ mark_place self.now.limits part }
         ensures inside { result < size_of self.now.limits }
     {
-        let units = self.limits.parts as usize * self.limits.units as usize;
-        ROW_WORDS * self.rows() as usize + units + part as usize
+        self.first_mark as usize + part as usize
     }
 
     /// The place of the counter of drawn blocks.
@@ -142,8 +153,7 @@ impl Places {
         ensures place { result ≡ drawn_place self.now.limits }
         ensures inside { result < size_of self.now.limits }
     {
-        let parts = self.limits.parts as usize;
-        ROW_WORDS * self.rows() as usize + parts * self.limits.units as usize + parts
+        self.first_mark as usize + self.limits.parts as usize
     }
 }
 

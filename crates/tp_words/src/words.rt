@@ -1,7 +1,8 @@
 //! The words as typed values, and as numbers.
 //!
 //! Each of the three types can hold more than the words tell; `pack` asks for a value that a word can tell, and
-//! `unpack` answers such values alone. `unpack` undoes `pack`, and `pack` undoes `unpack`.
+//! `unpack` answers such values alone. `unpack` undoes `pack`, and `pack` undoes `unpack`. `read` is the same for a number
+//! of which it is proved that it is such a word.
 ghost use Rattle.std.specs.Prelude.{◌≡◌, ◌↔◌, IfSome, IsSome, Option, Some};
 ghost use Rattle.std.specs.Option.{option_map};
 ghost use Rattle.tp_model.specs.History.{UnitEnd};
@@ -76,6 +77,24 @@ impl Head {
                 };
                 HEAD_PRESENT + HEAD_STAGE * stage as u64 + HEAD_ROOT * root as u64 + HEAD_BY * by
             }
+        }
+    }
+
+    /// What a head word tells.
+    #[inline(always)]
+    pub fn read(word: u64) -> Head
+        requires { (h : Head) × IsFitHead h × (word ≡ pack_head h) }
+        ensures of_pack { (h : Head) → IsFitHead h → word ≡ pack_head h → result ≡ h }
+        ensures to_pack { IsFitHead result × (word ≡ pack_head result) }
+    {
+        if word == HEAD_EMPTY {
+            return Head::Empty;
+        }
+        let by = word / HEAD_BY;
+        Head::There {
+            stage: (word % HEAD_ROOT / HEAD_STAGE) as u8,
+            root: (word % HEAD_BY / HEAD_ROOT) as u16,
+            by: if by == 0 { None } else { Some((by - 1) as u16) },
         }
     }
 
@@ -210,6 +229,35 @@ impl Claim {
         }
     }
 
+    /// What a claim word tells.
+    #[inline(always)]
+    pub fn read(word: u64) -> Claim
+        requires { (w : ClaimWord) × IsFitClaim w × (word ≡ pack_claim w) }
+        ensures of_pack { (w : ClaimWord) → IsFitClaim w → word ≡ pack_claim w → claim_value result ≡ w }
+    {
+        let kind = word % CLAIM_ATTEMPT;
+        let attempt = (word % CLAIM_UNIT / CLAIM_ATTEMPT) as u8;
+        let unit = (word % CLAIM_ROUND / CLAIM_UNIT) as u16;
+        let round = (word / CLAIM_ROUND) as u8;
+        if kind == CLAIM_FREE {
+            Claim::Free
+        } else if kind == CLAIM_TAKEN {
+            Claim::Taken {
+                attempt,
+                unit,
+                round,
+            }
+        } else if kind == CLAIM_KILLED {
+            Claim::Killed {
+                attempt,
+                unit,
+                round,
+            }
+        } else {
+            Claim::Again { round }
+        }
+    }
+
     /// What the word tells, or `None` for a number that is no claim word.
     #[inline(always)]
     pub fn unpack(word: u64) -> Option<Claim>
@@ -264,6 +312,24 @@ impl UnitWord {
                 UNIT_COMMITTED + UNIT_COUNT * count as u64 + UNIT_FIRST * first as u64
             }
             UnitWord::Aborted => UNIT_ABORTED,
+        }
+    }
+
+    /// What a unit's word tells.
+    #[inline(always)]
+    pub fn read(word: u64) -> UnitWord
+        requires { (w : Option UnitEnd) × IsFitUnit w × (word ≡ pack_unit w) }
+        ensures of_pack { (w : Option UnitEnd) → IsFitUnit w → word ≡ pack_unit w → unit_value result ≡ w }
+    {
+        if word == UNIT_UNDECIDED {
+            UnitWord::Undecided
+        } else if word == UNIT_ABORTED {
+            UnitWord::Aborted
+        } else {
+            UnitWord::Committed {
+                first: (word / UNIT_FIRST) as u16,
+                count: (word % UNIT_FIRST / UNIT_COUNT) as u8,
+            }
         }
     }
 

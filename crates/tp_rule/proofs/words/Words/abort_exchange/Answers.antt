@@ -20,11 +20,11 @@ decided c = search rules
 says : (c : Else-was-eq-UNIT_UNDECIDED) → Told (seen_by c.compare_exchange-was.new.seat) (UnitWord c.args.unit) c.compare_exchange-was.result
 says c = found_told _ _ _ (UnitWord c.args.unit) _ _ c.requires.one.1 c.requires.unit.1 c.unit-word.ensures.place (c.compare_exchange-was.ensures.told.5 (decided c))
 
-pub unreachable-requires : goal.unreachable-requires
-unreachable-requires c = let t = says (goal.at.unreachable-requires c).Else-was-eq-UNIT_UNDECIDED in map_none unit_value _ _ c.in-None.is (c.unpack.ensures.of_pack _ t.1 t.0)
+pub read-requires : goal.read-requires
+read-requires c = let t = says (goal.at.read-requires c).Else-was-eq-UNIT_UNDECIDED in (_, t.1, t.0)
 
 pub returns-clause-miss : goal.returns-clause-miss
-returns-clause-miss c = let at = (goal.at.returns-clause-miss c).Else-was-eq-UNIT_UNDECIDED in let t = says at in let now = map_some unit_value _ _ _ c.in-Some.is (c.unpack.ensures.of_pack _ t.1 t.0) in let told = c.compare_exchange-was.ensures.told in
+returns-clause-miss c = let at = (goal.at.returns-clause-miss c).Else-was-eq-UNIT_UNDECIDED in let t = says at in let now = c.read.ensures.of_pack _ t.1 t.0 in let told = c.compare_exchange-was.ensures.told in
     let same : c.compare_exchange-was.ensures.told.0 ≡ c.args.unit = search rules in record {
       ended = λ none. decided at (t.0 ∙ ap pack_unit (sym now ∙ none));
       found_is = now;

@@ -23,11 +23,11 @@ misses c = c.compare_exchange-was.ensures.told.1 c.if-was-free.false
 says : (c : Else-was-free) → Told (seen_by c.compare_exchange-was.new.seat) (ClaimWord c.args.row) c.compare_exchange-was.result
 says c = missed_told kinds.ClaimExchange _ _ _ (ClaimWord c.args.row) _ _ c.requires.one.1 c.requires.row.0 c.claim-word.ensures.place (misses c)
 
-pub unreachable-requires : goal.unreachable-requires
-unreachable-requires c = let t = says (goal.at.unreachable-requires c).Else-was-free in map_none claim_value _ _ c.in-None.is (c.unpack.ensures.of_pack _ t.1 t.0)
+pub read-requires : goal.read-requires
+read-requires c = let t = says (goal.at.read-requires c).Else-was-free in (_, t.1, t.0)
 
 pub returns-clause-miss : goal.returns-clause-miss
-returns-clause-miss c = let at = (goal.at.returns-clause-miss c).Else-was-free in let t = says at in let now = map_some claim_value _ _ _ c.in-Some.is (c.unpack.ensures.of_pack _ t.1 t.0) in (
+returns-clause-miss c = let at = (goal.at.returns-clause-miss c).Else-was-free in let t = says at in let now = c.read.ensures.of_pack _ t.1 t.0 in (
   (misses at).0,
   (λ same. c.if-was-free.false (t.0 ∙ (ap pack_claim (sym now ∙ same) ∙ sym c.pack-free.ensures))),
   now,

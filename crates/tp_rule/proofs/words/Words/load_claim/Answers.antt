@@ -14,11 +14,11 @@ load-found-requires-clause-pass c = one_has c.args.seat.now.view c.requires.one.
 says : (c : After-load-found) → Told (seen_by c.load-found.new.seat) (ClaimWord c.args.row) c.load-found.result
 says c = told _ _ _ (ClaimWord c.args.row) _ _ c.requires.one.1 c.requires.row c.claim-word.ensures.place c.load-found.ensures.looks
 
-pub unreachable-requires : goal.unreachable-requires
-unreachable-requires c = let t = says (goal.at.unreachable-requires c).After-load-found in map_none claim_value _ _ c.in-None.is (c.unpack.ensures.of_pack _ t.1 t.0)
+pub read-requires : goal.read-requires
+read-requires c = let t = says (goal.at.read-requires c).After-load-found in (_, t.1, t.0)
 
 pub returns-clause-claim : goal.returns-clause-claim
-returns-clause-claim c = let t = says (goal.at.returns-clause-claim c).After-load-found in map_some claim_value _ _ _ c.in-Some.is (c.unpack.ensures.of_pack _ t.1 t.0)
+returns-clause-claim c = let t = says (goal.at.returns-clause-claim c).After-load-found in c.read.ensures.of_pack _ t.1 t.0
 
 pub returns-clause-fits : goal.returns-clause-fits
-returns-clause-fits c = let t = says (goal.at.returns-clause-fits c).After-load-found in subst IsFitClaim (sym (map_some claim_value _ _ _ c.in-Some.is (c.unpack.ensures.of_pack _ t.1 t.0))) t.1
+returns-clause-fits c = let t = says (goal.at.returns-clause-fits c).After-load-found in subst IsFitClaim (sym ((c.read.ensures.of_pack _ t.1 t.0))) t.1

@@ -22,18 +22,15 @@ load-found-requires-clause-permits c = let room : c.args.row < rows_of (key_of c
 says : (c : After-load-found) → HeadTold (seen_by c.load-found.new.seat) c.args.row c.load-found.result
 says c = told _ _ _ (HeadWord c.args.row) _ _ c.requires.one.1 c.requires.row c.head-word.ensures.place c.load-found.ensures.told.0
 
-pub unreachable-requires : goal.unreachable-requires
-unreachable-requires c = let t = says (goal.at.unreachable-requires c).After-load-found in not_none _ _ c.in-None.is (c.unpack.ensures.of_pack t.head t.fit t.packed)
+pub read-requires : goal.read-requires
+read-requires c = let t = says (goal.at.read-requires c).After-load-found in (t.head, t.fit, t.packed)
 
 pub returns-clause-born : goal.returns-clause-born
-returns-clause-born c = let t = says (goal.at.returns-clause-born c).After-load-found in λ e p. of_some _ _ _ c.in-Some.is (c.unpack.ensures.of_pack t.head t.fit t.packed) ∙ t.born e p
+returns-clause-born c = let t = says (goal.at.returns-clause-born c).After-load-found in λ e p. c.read.ensures.of_pack t.head t.fit t.packed ∙ t.born e p
 
 pub returns-clause-draft : goal.returns-clause-draft
-returns-clause-draft c = let t = says (goal.at.returns-clause-draft c).After-load-found in λ un. subst IsDraft (sym (of_some _ _ _ c.in-Some.is (c.unpack.ensures.of_pack t.head t.fit t.packed))) (t.draft un)
-
-empty_word : (o : Option Head) (head : Head) (word : ℕ) → o ≡ Some head → IfSome o (λ h. IsFitHead h × (word ≡ pack_head h)) → head ≡ Empty → word ≡ 0
-empty_word o head word is t empty = let p = subst (λ z. IfSome z (λ h. IsFitHead h × (word ≡ pack_head h))) is t in p.1 ∙ ap pack_head empty
+returns-clause-draft c = let t = says (goal.at.returns-clause-draft c).After-load-found in λ un. subst IsDraft (sym (c.read.ensures.of_pack t.head t.fit t.packed)) (t.draft un)
 
 pub returns-clause-none : goal.returns-clause-none
-returns-clause-none c = λ is. let zero : c.load-found.result ≡ 0 = empty_word _ c.in-Some.head _ c.in-Some.is c.unpack.ensures.to_pack is in
+returns-clause-none c = λ is. let zero : c.load-found.result ≡ 0 = c.read.ensures.to_pack.1 ∙ ap pack_head is in
     subst (λ l. NoneFrom l (seen_by c.load-found.new.seat) c.args.row) c.requires.one.1 (c.load-found.ensures.told.2 c.args.row c.head-word.ensures.place zero)

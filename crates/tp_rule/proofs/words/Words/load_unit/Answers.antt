@@ -13,8 +13,8 @@ load-found-requires-clause-pass c = one_has c.args.seat.now.view c.requires.one.
 says : (c : After-load-found) → Told (seen_by c.load-found.new.seat) (UnitWord c.args.unit) c.load-found.result
 says c = told _ _ _ (UnitWord c.args.unit) _ _ c.requires.one.1 c.requires.unit c.unit-word.ensures.place c.load-found.ensures.looks
 
-pub unreachable-requires : goal.unreachable-requires
-unreachable-requires c = let t = says (goal.at.unreachable-requires c).After-load-found in map_none unit_value _ _ c.in-None.is (c.unpack.ensures.of_pack _ t.1 t.0)
+pub read-requires : goal.read-requires
+read-requires c = let t = says (goal.at.read-requires c).After-load-found in (_, t.1, t.0)
 
 pub returns-clause-end : goal.returns-clause-end
-returns-clause-end c = let t = says (goal.at.returns-clause-end c).After-load-found in map_some unit_value _ _ _ c.in-Some.is (c.unpack.ensures.of_pack _ t.1 t.0)
+returns-clause-end c = let t = says (goal.at.returns-clause-end c).After-load-found in c.read.ensures.of_pack _ t.1 t.0
