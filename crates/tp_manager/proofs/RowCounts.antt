@@ -17,8 +17,16 @@ use Rattle.tp_model.proofs.Stages.{account_last, born_staged}
 use Rattle.tp_words.specs.Words.{head_of}
 use Rattle.tp_words.specs.declared.words.Head.TheVariants.{There}
 use Rattle.tp_manager.specs.Looks.{IsThere}
-use Rattle.tp_manager.specs.Together.{account_below, no_counts, with_one}
+use Rattle.tp_manager.specs.Together.{IsWithin, account_below, no_counts, with_one}
 use Rattle.tp_manager.specs.declared.looking.Birth.{Birth}
+
+-- what is within a bound is within a greater one
+pub within_more : (n m : ℕ) (a : Account) → n ≤ m → IsWithin n a → IsWithin m a
+within_more n m a le w = record {
+  total = let few = w.total in omega arith;
+  stages = λ k c less. let few = w.stages k c less in omega arith;
+  wide = w.wide;
+}
 
 -- the element whose head this is has its stage
 same_stage : (x : Element) (b : Birth) → head_of x ≡ There b.stage b.root b.by → x.stage ≡ b.stage

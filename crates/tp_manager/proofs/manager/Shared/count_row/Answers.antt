@@ -8,7 +8,9 @@ use Rattle.tp_manager.specs.Together.{account_below, with_one}
 use Rattle.tp_manager.specs.Walks.{Acted}
 use Rattle.tp_manager.proofs.Walks.{acted_then, looked, looked_begins, looked_few}
 use Rattle.tp_manager.proofs.Looks.{there_later, unborn_before}
-use Rattle.tp_manager.proofs.RowCounts.{none_counted, none_more, one_counted, stage_there}
+use Rattle.tp_manager.proofs.RowCounts.{none_counted, none_more, one_counted, stage_there, within_more}
+use Rattle.tp_rule.proofs.Parts.{fair_rows}
+use Rattle.tp_model.specs.Steps.{most_rows}
 use Rattle.tp_manager.proofs.manager.Shared.count_row.Goals as goal
 use Rattle.tp_manager.proofs.manager.Shared.count_row.Goals.{After-head_on-head, After-birth_from}
 
@@ -32,6 +34,14 @@ returns-in_default-clause-counted c = λ before same. let l : Limits = limits_of
 
 pub count_one-requires-clause-stage : goal.count_one-requires-clause-stage
 count_one-requires-clause-stage c = stage_there (limits_of c.args.self.now.words) (seen_by c.birth_from.new.seat) c.args.row.now c.in-Some.birth c.birth_from.ensures.looked.walk.steady.shows.legal c.in-Some.ensures.told.0
+
+pub count_one-requires-clause-few : goal.count_one-requires-clause-few
+count_one-requires-clause-few c = let few = fair_rows (limits_of c.args.self.now.words) c.args.self.now.words.places.valid in let row = c.requires.row in
+    within_more c.args.row.now most_rows c.args.account.now (omega arith) c.requires.few
+
+pub returns-clause-few : goal.returns-clause-few
+returns-clause-few c = let on = c.head_on-head.ensures.on.on in
+    within_more (c.args.row.now + 1) c.head_on-head.new.row c.count_one.new.account (omega arith) (c.count_one.ensures.within c.args.row.now c.requires.few)
 
 pub returns-clause-looked : goal.returns-clause-looked
 returns-clause-looked c = let l : Limits = limits_of c.args.self.now.words in
