@@ -20,6 +20,7 @@ use tp_words::{Claim, UnitWord};
 
 /// How many units stand in the way of a kill where this claim was found: the one that has taken the element,
 /// or none.
+#[inline(always)]
 fn takers_in(claim: Claim) -> u8
     ensures { result ≡ takers (claim_value claim) }
 {
@@ -43,6 +44,7 @@ impl Shared {
     /// Makes way for a kill of the element of the row, whose claim was just found: aborts the unit that took
     /// it, if it is open. How many units it aborted, none or one; `Consumed` where the unit was committed,
     /// and `AlreadyKilled`. One step where a unit took the element.
+    #[inline(always)]
     fn loosen(&self, seat: &mut Seat, row: u32, claim: Claim) -> Result<u8, Refusal>
         requires own { IsSeatOf self.now.words seat.old }
         requires steady { Steady (limits_of self.now.words) (view_of seat.old) }
@@ -81,6 +83,8 @@ impl Shared {
     /// Kills the element of the row, whose claim was just found; there are at most so many attempts from it
     /// on. How many units it aborted. At most two steps for each attempt, and one for each round in which the
     /// element is found untaken.
+    #[cycle(kill)]
+    #[inline(always)]
     fn kill_from(&self, seat: &mut Seat, row: u32, claim: Claim, left: u8) -> Result<u8, Refusal>
         requires own { IsSeatOf self.now.words seat.old }
         requires steady { Steady (limits_of self.now.words) (view_of seat.old) }
@@ -98,7 +102,7 @@ impl Shared {
             Err(refusal) => Err(refusal),
             Ok(count) => match self.words.kill_exchange(seat, row, claim) {
                 Ok(()) => Ok(count),
-                Err(now) => match self.kill_from(seat, row, now, left - takers_in(claim)) {
+                Err(now) => match self.kill_again(seat, row, now, left - takers_in(claim)) {
                     Ok(more) => Ok(count + more),
                     Err(refusal) => Err(refusal),
                 },
@@ -106,8 +110,28 @@ impl Shared {
         }
     }
 
+    /// The same, where the claim had changed: apart from `kill_from`, which then has no recursion of its own.
+    #[cycle(kill)]
+    #[cold]
+    fn kill_again(&self, seat: &mut Seat, row: u32, claim: Claim, left: u8) -> Result<u8, Refusal>
+        requires own { IsSeatOf self.now.words seat.old }
+        requires steady { Steady (limits_of self.now.words) (view_of seat.old) }
+        requires row { (row < rows_of (limits_of self.now.words)) × HasElement (seen_by seat.old) row }
+        requires found { (claim_value claim ≡ claim_word (seen_by seat.old) row)
+            × IsFitClaim (claim_value claim) }
+        requires free { (hand_of seat.old).open_unit ≡ None }
+        requires enough { IsEnough (limits_of self.now.words) left (claim_value claim) }
+        ensures same { IsSameSeat seat.old seat.new }
+        ensures told { let l = limits_of self.now.words in let n = slay_from left (claim_value claim) in MatchResult result
+            (λ count. KillsIn l n row left count (view_of seat.old) (view_of seat.new))
+            (λ refusal. FailsIn l n row left refusal (view_of seat.old) (view_of seat.new)) }
+    {
+        self.kill_from(seat, row, claim, left)
+    }
+
     /// Kills the element that is born in the row. How many units it aborted, at most one for each attempt in
     /// all rounds.
+    #[inline(always)]
     pub(crate) fn kill_row(&self, seat: &mut Seat, row: u32) -> Result<u8, Refusal>
         requires own { IsSeatOf self.now.words seat.old }
         requires steady { Steady (limits_of self.now.words) (view_of seat.old) }
