@@ -22,9 +22,9 @@ use tp_words::Head;
 /// An element that a unit took.
 #[derive(Clone, Copy, Debug, PartialEq, Eq)]
 pub(crate) struct Taken {
-    pub element: Element,
-    pub root: u16,
     pub attempt: u8,
+    pub root: u16,
+    pub element: Element,
 }
 
 #[inline(always)]

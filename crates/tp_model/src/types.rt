@@ -13,16 +13,16 @@ pub type Body = [u64; BODY_WORDS];
 /// A request, or a further request or reply that a server's unit of work made of one.
 #[derive(Clone, Copy, Debug, PartialEq, Eq)]
 pub struct Element {
-    /// Its identifier: the number of its row, below the manager's capacity.
-    pub id: u32,
     /// The stage whose servers take it, 1 to 14, or 15 for a reply.
     pub stage: u8,
+    /// The unit of work that made it, or `None` where a client submitted it.
+    pub by: Option<u16>,
+    /// Its identifier: the number of its row, below the manager's capacity.
+    pub id: u32,
     /// The id of the client's element that it goes back to; its own id where a client submitted it.
     pub root: u32,
     /// Its body.
     pub body: Body,
-    /// The unit of work that made it, or `None` where a client submitted it.
-    pub by: Option<u16>,
 }
 
 /// How an element stands.
@@ -52,12 +52,12 @@ pub struct Look {
 /// What a claim hands out: an element, and the unit of work that holds it from now on.
 #[derive(Clone, Copy, Debug, PartialEq, Eq)]
 pub struct Work {
+    /// How many units have taken the element in its round, this one included: 1 to the attempt limit.
+    pub attempt: u8,
     /// The unit of work, one of the pass's own.
     pub unit: u16,
     /// The element that it holds.
     pub element: Element,
-    /// How many units have taken the element in its round, this one included: 1 to the attempt limit.
-    pub attempt: u8,
 }
 
 /// The limits that a manager is made with.
@@ -201,8 +201,8 @@ pub enum Refusal {
 /// An output of a unit of work before it is born. Its stage is 1 to 15.
 #[derive(Clone, Copy, Debug, PartialEq, Eq)]
 pub struct Draft {
-    stage: u8,
     body: Body,
+    stage: u8,
 }
 
 impl Model for Draft {
