@@ -27,7 +27,7 @@ use Rattle.tp_manager.specs.Shown.{Spot, PassShown, shown}
 use Rattle.tp_manager.specs.Calls.{Claims, FoundNone, HasLooked, IsQuiet, Takes, claims_in, opening}
 use Rattle.tp_manager.specs.Walks.{EachRow, Steady, Sought, Walked, Rests, Took, PassedBy, with_trace}
 use Rattle.tp_manager.proofs.Walks.{grew_hand, grew_seen, has_looked, opening_is, grew_steady, walked_begins, walked_then}
-use Rattle.tp_manager.proofs.Passes.{claims_append, steady_at, task_later, drawn_later}
+use Rattle.tp_manager.proofs.Passes.{claims_append, done_walked, steady_at, task_later, drawn_later}
 
 -- a unit that nobody claimed isn't in a pass's own claims
 pub unused_mine : (c u : ℕ) (h : List Event) → claim_of h u ≡ None → claim_of (events_by c h) u ≡ None
@@ -152,6 +152,7 @@ chose_rests l u n stage number run used task seat next w s g a same r =
       number_is = ap (λ (z : Hand). z.number) h ∙ r.number_is;
       run_is = (ap (λ (z : Hand). z.next) h ∙ r.run_is.0, ap (λ (z : Hand). z.left) h ∙ r.run_is.1);
       drawn = drawn_later (view_of seat) (view_of next) run.drawn (sym (same ∙ lim)) (idle_walked l u (view_of seat) w s g n stage (view_of next) a).knows r.drawn;
+      done = done_walked l (1 + n) _ (view_of seat) (view_of next) run.done same (idle_walked l u (view_of seat) w s g n stage (view_of next) a) r.done;
       used_is = ap (λ (z : Hand). z.claimed) h ∙ r.used_is;
       used_below = subst (λ (z : Limits). used ≤ z.units) (same ∙ lim) r.used_below;
       claims = ap (λ (z : Hand). claims_in z.mine) h ∙ r.claims;
@@ -161,9 +162,9 @@ chose_rests l u n stage number run used task seat next w s g a same r =
       work = task_later (view_of seat).seen (view_of next).seen number task (walked_begins l (1 + n) _ _ _ (idle_walked l u (view_of seat) w s g n stage (view_of next) a)) r.work;
     }
 
-pub took_rests : (l : Limits) (u n stage attempt root number : ℕ) (run : Run) (used : ℕ) (task : Option Task) (seat next : SeatShown) (w : View) (x : Element) → (s : Steady l (view_of seat)) → Chooses (view_of seat) u w → Took l n stage u w (view_of next) x attempt → (view_of seat).limits ≡ l
-    → x.root ≡ root → ¬ (used ≡ l.units) → Rests seat number run used task → Rests next number run (used + 1) (Some (record { unit = u; root = root }))
-took_rests l u n stage attempt root number run used task seat next w x s g k same root_is not r =
+pub took_rests : (l : Limits) (u n stage attempt root row number : ℕ) (run : Run) (used : ℕ) (task : Option Task) (seat next : SeatShown) (w : View) (x : Element) → (s : Steady l (view_of seat)) → Chooses (view_of seat) u w → Took l n stage u w (view_of next) x attempt → (view_of seat).limits ≡ l
+    → x.root ≡ root → x.id ≡ row → ¬ (used ≡ l.units) → Rests seat number run used task → Rests next number run (used + 1) (Some (record { unit = u; root = root; row = row }))
+took_rests l u n stage attempt root row number run used task seat next w x s g k same root_is row_is not r =
     let v : View = view_of seat in let y : View = view_of next in
     let h = took_hand l u v w s g n stage attempt y x k in let lim : l ≡ y.limits = sym k.walk.steady.pass.1 in
     let ends = took_ends l u v w s g n stage attempt y x k in let unused = (took_step l u v w s g n stage attempt y x k).unused in
@@ -173,11 +174,12 @@ took_rests l u n stage attempt root number run used task seat next w x s g k sam
       number_is = ap (λ (z : Hand). z.number) h ∙ r.number_is;
       run_is = (ap (λ (z : Hand). z.next) h ∙ r.run_is.0, ap (λ (z : Hand). z.left) h ∙ r.run_is.1);
       drawn = drawn_later v y run.drawn (sym (same ∙ lim)) (took_walked l u v w s g n stage attempt y x k).knows r.drawn;
+      done = done_walked l (1 + n) _ v y run.done same (took_walked l u v w s g n stage attempt y x k) r.done;
       used_is = ap (λ (z : Hand). z.claimed) h ∙ ap (λ z. z + 1) r.used_is;
       used_below = subst (λ (z : Limits). used + 1 ≤ z.units) lim (omega arith);
       claims = ap (λ (z : Hand). claims_in z.mine) h ∙ (claims_append (hand v).mine (Claim (hand v).number u x.id attempt ∷ []) ∙ (let c = r.claims in omega arith));
       no_drafts = ap (λ (z : Hand). z.drafts) h ∙ r.no_drafts;
       blank = ap (λ (z : Hand). z.next_body) h ∙ r.blank;
       open_is = ap (λ (z : Hand). z.open_unit) h;
-      work = (x.id, attempt, x, subst (λ c. claim_of y.seen u ≡ Some (record { pass = c; item = x.id; attempt = attempt })) r.number_is (ap (λ z. claim_of z u) ends ∙ new_claim k.before (hand v).number u x.id attempt unused), k.born, root_is);
+      work = (x.id, attempt, x, subst (λ c. claim_of y.seen u ≡ Some (record { pass = c; item = x.id; attempt = attempt })) r.number_is (ap (λ z. claim_of z u) ends ∙ new_claim k.before (hand v).number u x.id attempt unused), k.born, root_is, row_is);
     }

@@ -10,7 +10,7 @@ use Rattle.tp_rule.specs.declared.view.View.{View}
 use Rattle.tp_manager.specs.declared.manager.Run.{Run}
 use Rattle.tp_manager.specs.Calls.{claims_in}
 use Rattle.tp_manager.specs.Walks.{Gained, Looked, Rests}
-use Rattle.tp_manager.proofs.Passes.{claims_append, drawn_later, steady_at}
+use Rattle.tp_manager.proofs.Passes.{claims_append, done_walked, drawn_later, steady_at}
 use Rattle.tp_manager.proofs.Walks.{walked_begins, walked_few, walked_then}
 
 module _ (l : Limits) where
@@ -60,6 +60,7 @@ module _ (l : Limits) (seat next : SeatShown) (number : ℕ) (run : Run) (used :
     number_is = a.walk.number ∙ r.number_is;
     run_is = (a.run.0 ∙ r.run_is.0, a.run.1 ∙ r.run_is.1);
     drawn = drawn_later (view_of seat) (view_of next) run.drawn (sym (same ∙ lim)) a.walk.knows r.drawn;
+    done = done_walked l n a.marks (view_of seat) (view_of next) run.done same a.walk r.done;
     used_is = a.claimed ∙ r.used_is;
     used_below = subst (λ (z : Limits). used ≤ z.units) (same ∙ lim) r.used_below;
     claims = ap claims_in a.mine ∙ (claims_append (hand (view_of seat)).mine es ∙ (let k = r.claims in omega arith));

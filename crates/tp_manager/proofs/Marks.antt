@@ -1,5 +1,5 @@
 -- The exchange of a mark, and rows that were seen finished.
-use Rattle.std.proofs.Common.{◌≡◌, ◌⊎◌, ℕ, ◌+◌, ◌*◌, ◌<◌, ◌≤◌, Some, None, List, [], ◌∷◌, ◌++◌, sym, refl, ap, ◌∙◌, subst, inl, inr, ⊎_elim, arith}
+use Rattle.std.proofs.Common.{◌≡◌, ◌⊎◌, ℕ, ◌+◌, ◌*◌, ◌<◌, ◌≤◌, Option, Some, None, List, [], ◌∷◌, ◌++◌, sym, refl, ap, ◌∙◌, subst, inl, inr, ⊎_elim, arith}
 use mathlib.Core.Logic.{dite}
 use native.Mathlib.Decide.{dec_le}
 use mathlib.Core.List.{IsPrefix}
@@ -23,7 +23,7 @@ use Rattle.tp_manager.proofs.Unseen.{unseen_hand, unseen_steady, unseen_walked}
 use Rattle.tp_manager.specs.Calls.{IsWaiting}
 use Rattle.tp_manager.specs.Looks.{IsThere}
 use Rattle.tp_manager.specs.declared.looking.Birth.{Birth}
-use Rattle.tp_manager.specs.Walks.{Looked, PassedBy, Rose, Steady, Took, Walked, with_trace}
+use Rattle.tp_manager.specs.Walks.{Looked, PassedBy, RemembersDone, Rose, Steady, Took, Walked, with_trace}
 use Rattle.tp_words.specs.declared.words.Head.TheVariants.{There}
 use Rattle.tp_words.specs.Words.{head_of}
 use Rattle.tp_model.specs.declared.trace.TraceEntry.{TraceEntry}
@@ -71,7 +71,7 @@ module _ (l : Limits) where
   pub rose_none : (v : View) (a : ℕ) → Rose v a a
   rose_none v a = (omega arith, λ i low high. absurd (omega arith))
 
-  settled_row : (h g : List Event) (i : ℕ) → IsLegal l g → IsPrefix h g → IsSettledRow l h i → IsSettledRow l g i
+  pub settled_row : (h g : List Event) (i : ℕ) → IsLegal l g → IsPrefix h g → IsSettledRow l h i → IsSettledRow l g i
   settled_row h g i legal begins s = (s.0, found_later h g begins i s.0 s.1, subst IsSettled (sym (settled_stay l h g i legal begins s.2)) s.2)
 
   -- what a seat knows finished it knows later too
@@ -125,3 +125,20 @@ module _ (l : Limits) where
   -- what is over is passed by
   pub over_passed : (stage : ℕ) (h : List Event) (p n i : ℕ) → AreOver l h p n → p * l.rows ≤ i → i < p * l.rows + n → PassedBy l stage i h h
   over_passed stage h p n i over low high x born st = (h, begins_refl h, begins_refl h, not_waiting (status_of l.attempts h i) (over i low high x born))
+
+  -- a scan that begins at row x, or behind it where that row is done
+  abbrev pub IsPast : ℕ → ℕ → ℕ → Option ℕ → Type 0
+  IsPast b x end done = (b ≡ x) ⊎ ((b ≡ x + 1) × (x < end) × (done ≡ Some x))
+
+  pub past_near : (b x end : ℕ) (done : Option ℕ) → x ≤ end → IsPast b x end done → (x ≤ b) × (b ≤ x + 1) × (b ≤ end)
+  past_near b x end done inside past = ⊎_elim (λ e. (omega arith, omega arith, omega arith)) (λ t. let e = t.0 in let less = t.1 in (omega arith, omega arith, omega arith)) past
+
+  past_done : (v : View) (b x end : ℕ) (done : Option ℕ) → RemembersDone v done → IsPast b x end done → (i : ℕ) → x ≤ i → i < b → IsSettledRow v.limits v.seen i
+  past_done v b x end done old past i low high = ⊎_elim (λ e. absurd (omega arith)) (λ t. let e = t.0 in let same : x ≡ i = omega arith in old i (t.2 ∙ ap Some same)) past
+
+  pub rose_past : (v : View) (b x end : ℕ) (done : Option ℕ) → RemembersDone v done → IsPast b x end done → x ≤ b → Rose v x b
+  rose_past v b x end done old past le = (le, λ i low high. inl (past_done v b x end done old past i low high))
+
+  pub done_passed : (stage : ℕ) (v : View) (b x end : ℕ) (done : Option ℕ) → v.limits ≡ l → RemembersDone v done → IsPast b x end done → (i : ℕ) → x ≤ i → i < b → PassedBy l stage i v.seen v.seen
+  done_passed stage v b x end done same old past i low high y born st = let t = subst (λ (z : Limits). IsSettledRow z v.seen i) same (past_done v b x end done old past i low high) in
+      (v.seen, begins_refl v.seen, begins_refl v.seen, not_waiting (status_of l.attempts v.seen i) t.2)

@@ -18,14 +18,16 @@ use Rattle.tp_manager.specs.declared.manager.Task.{Task}
 use Rattle.tp_manager.specs.Shown.{Spot, PassShown, shown}
 use Rattle.tp_manager.specs.Calls.{AtPoint, IsQuiet}
 use Rattle.tp_model.specs.declared.trace.TraceEntry.{TraceEntry}
-use Rattle.tp_manager.specs.Walks.{Steady, Looked, Rests, IsTask, unit_in, RemembersDrawn, Walked}
+use Rattle.tp_manager.specs.Walks.{Steady, Looked, Rests, IsTask, unit_in, RemembersDone, RemembersDrawn, Walked}
 use Rattle.tp_manager.specs.Calls.{claims_in}
 use Rattle.tp_manager.proofs.Looks.{unborn_if}
-use Rattle.tp_manager.proofs.Walks.{walked_none, looked_begins, at_point}
+use Rattle.tp_manager.proofs.Marks.{settled_row}
+use Rattle.tp_rule.specs.Rule.{IsSettledRow}
+use Rattle.tp_manager.proofs.Walks.{walked_begins, walked_none, looked_begins, at_point}
 
 pub task_later : (h g : List Event) (c : ℕ) (task : Option Task) → IsPrefix h g → IsTask h c task → IsTask g c task
 task_later h g c None b t = tt
-task_later h g c (Some k) b t = (t.0, t.1, t.2, claim_later h g b c k.unit t.0 t.1 t.3, found_later h g b t.0 t.2 t.4, t.5)
+task_later h g c (Some k) b t = (t.0, t.1, t.2, claim_later h g b c k.unit t.0 t.1 t.3, found_later h g b t.0 t.2 t.4, t.5, t.6)
 
 pub claims_append : (h m : List Event) → claims_in (h ++ m) ≡ claims_in h + claims_in m
 claims_append [] m = omega arith
@@ -41,6 +43,11 @@ drawn_later v w n same knows r = (subst (λ (z : Limits). n ≤ z.spare) (sym sa
 pub drawn_walked : (l : Limits) (n : ℕ) (ms : List TraceEntry) (v w : View) (d : ℕ) → v.limits ≡ l → Walked l n ms v w → RemembersDrawn v d → RemembersDrawn w d
 drawn_walked l n ms v w d lim a r = drawn_later v w d (a.steady.pass.1 ∙ sym lim) a.knows r
 
+-- what is consumed or killed stays so
+pub done_walked : (l : Limits) (n : ℕ) (ms : List TraceEntry) (v w : View) (done : Option ℕ) → v.limits ≡ l → Walked l n ms v w → RemembersDone v done → RemembersDone w done
+done_walked l n ms v w done same a old = λ i is. subst (λ (z : Limits). IsSettledRow z w.seen i) (sym a.steady.pass.1)
+    (settled_row l v.seen w.seen i a.steady.shows.legal (walked_begins l n ms v w a) (subst (λ (z : Limits). IsSettledRow z v.seen i) same (old i is)))
+
 -- the pass has looked at it
 pub rests_drawn : (seat : SeatShown) (number : ℕ) (run : Run) (used : ℕ) (task : Option Task) (n : ℕ) → Rests seat number run used task → RemembersDrawn (view_of seat) n → Rests seat number (record run { drawn = n }) used task
 rests_drawn seat number run used task n r drawn = record {
@@ -48,6 +55,7 @@ rests_drawn seat number run used task n r drawn = record {
   number_is = r.number_is;
   run_is = r.run_is;
   drawn = drawn;
+  done = r.done;
   used_is = r.used_is;
   used_below = r.used_below;
   claims = r.claims;
@@ -65,6 +73,7 @@ module _ (l : Limits) (seat next : SeatShown) (same : (view_of seat).limits ≡ 
     number_is = ap (λ (z : Hand). z.number) k ∙ r.number_is;
     run_is = (ap (λ (z : Hand). z.next) k ∙ r.run_is.0, ap (λ (z : Hand). z.left) k ∙ r.run_is.1);
     drawn = drawn_later (view_of seat) (view_of next) run.drawn (sym (same ∙ lim)) a.walk.knows r.drawn;
+    done = done_walked l n a.marks (view_of seat) (view_of next) run.done same a.walk r.done;
     used_is = ap (λ (z : Hand). z.claimed) k ∙ r.used_is;
     used_below = subst (λ (z : Limits). used ≤ z.units) (same ∙ lim) r.used_below;
     claims = ap (λ (z : Hand). claims_in z.mine) k ∙ r.claims;

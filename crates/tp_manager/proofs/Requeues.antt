@@ -28,7 +28,7 @@ use Rattle.tp_manager.specs.Shown.{Spot, PassShown, shown}
 use Rattle.tp_manager.specs.Requeues.{IsBetween, IsPastRequeue, Renewed, RequeueFails, Requeues}
 use Rattle.tp_manager.specs.Walks.{Acted, Looked, Rests, with_trace}
 use Rattle.tp_manager.proofs.Moves.{moved}
-use Rattle.tp_manager.proofs.Passes.{drawn_later, claims_append, quiet_looked, steady_at, task_later}
+use Rattle.tp_manager.proofs.Passes.{done_walked, drawn_later, claims_append, quiet_looked, steady_at, task_later}
 use Rattle.tp_manager.proofs.Points.{opening_kept}
 use Rattle.tp_manager.proofs.Walks.{acted_then, at_point, grew_hand, grew_walked, looked, looked_begins, grew_steady, walked_begins, walked_then}
 
@@ -141,6 +141,7 @@ rests_renewed l seat next number run used task same r n i round a = let k = a.ke
   number_is = ap (λ (z : Hand). z.number) k ∙ r.number_is;
   run_is = (ap (λ (z : Hand). z.next) k ∙ r.run_is.0, ap (λ (z : Hand). z.left) k ∙ r.run_is.1);
   drawn = drawn_later (view_of seat) (view_of next) run.drawn (sym (same ∙ lim)) a.walk.knows r.drawn;
+  done = done_walked l n a.marks (view_of seat) (view_of next) run.done same a.walk r.done;
   used_is = ap (λ (z : Hand). z.claimed) k ∙ r.used_is;
   used_below = subst (λ (z : Limits). used ≤ z.units) (same ∙ lim) r.used_below;
   claims = ap (λ (z : Hand). claims_in z.mine) k ∙ (claims_append (hand (view_of seat)).mine (Requeue (hand (view_of seat)).number i round ∷ []) ∙ (let c = r.claims in omega arith));

@@ -8,11 +8,11 @@ use Rattle.tp_model.specs.declared.types.Limits.{Limits}
 use Rattle.tp_model.specs.declared.event.Event.{Event}
 use Rattle.tp_model.specs.declared.event.Event.TheVariants.{Abort, Commit}
 use Rattle.tp_model.specs.declared.trace.StepKind.{StepKind}
-use Rattle.tp_model.specs.History.{Aborted, Committed, In, UnitEnd, committed as committed_status, end_by, end_of, first_id, element_of, IsClaim, claim_of, status_of}
+use Rattle.tp_model.specs.History.{Aborted, Committed, In, UnitEnd, committed as committed_status, end_by, end_of, first_id, element_of, IsClaim, claim_of, status_of, IsSettled, UnitClaim}
 use Rattle.tp_model.specs.Births.{IsWhole, outputs}
 use Rattle.tp_model.specs.Passes.{looks}
 use Rattle.tp_model.specs.Steps.{AreLimits, IsLegal, Step, units_of}
-use Rattle.tp_model.proofs.Bridges.{append_nil, begins_trans, claim_kept, in_cons, in_none}
+use Rattle.tp_model.proofs.Bridges.{append_nil, begins_trans, claim_kept, claim_later, found_later, in_cons, in_none}
 use Rattle.std.specs.Prelude.{IfSome}
 use Rattle.std.specs.Option.{option_or}
 use Rattle.tp_model.proofs.Lists.{if_same}
@@ -32,7 +32,8 @@ use Rattle.tp_manager.specs.declared.manager.Task.{Task}
 use Rattle.tp_manager.specs.Shown.{Spot, PassShown, shown}
 use Rattle.tp_manager.specs.Calls.{Adds, Closes, Commits, EndedByOther, HasConsumed, HasEnded, Loses, claims_in, KeepsRun, UsesRun}
 use Rattle.tp_manager.specs.Bounds.{close_steps, draft_steps}
-use Rattle.tp_manager.specs.Walks.{Rests, SameRun, Shut, Steady, Wrote, output, IsTask, RemembersDrawn}
+use Rattle.tp_manager.specs.Walks.{Rests, SameRun, Shut, Steady, Wrote, output, IsTask, RemembersDone, RemembersDrawn}
+use Rattle.tp_rule.specs.Rule.{IsSettledRow}
 use Rattle.tp_rule.proofs.Births.{claimed_inside}
 use Rattle.tp_manager.proofs.Passes.{claims_append, steady_at, drawn_later}
 use Rattle.tp_manager.proofs.Walks.{grew_hand, grew_steady, grew_walked, walked_few, walked_none, walked_then, walked_begins}
@@ -92,12 +93,13 @@ abort_ended u c h before is = some (end_of h u) (abort_ends h c u (subst (λ (z 
     some (Some x) not = (x, refl)
 
 -- a pass whose unit is closed
-pub shut_rests : (l : Limits) (n k : ℕ) (es : List Event) (seat next : SeatShown) (number : ℕ) (run : Run) (used : ℕ) (run' : Run) (task : Option Task) → (view_of seat).limits ≡ l → Shut l n k es (view_of seat) (view_of next) → claims_in es ≡ 0 → run'.next ≡ run.next + k → run'.left + k ≡ run.left → run'.drawn ≡ run.drawn → Rests seat number run used task → Rests next number run' used None
-shut_rests l n k es seat next number run used run' task same t none more less still r = let w : View = view_of next in let lim : l ≡ w.limits = sym t.walk.steady.pass.1 in record {
+pub shut_rests : (l : Limits) (n k : ℕ) (es : List Event) (seat next : SeatShown) (number : ℕ) (run : Run) (used : ℕ) (run' : Run) (task : Option Task) → (view_of seat).limits ≡ l → Shut l n k es (view_of seat) (view_of next) → claims_in es ≡ 0 → run'.next ≡ run.next + k → run'.left + k ≡ run.left → run'.drawn ≡ run.drawn → RemembersDone (view_of next) run'.done → Rests seat number run used task → Rests next number run' used None
+shut_rests l n k es seat next number run used run' task same t none more less still done r = let w : View = view_of next in let lim : l ≡ w.limits = sym t.walk.steady.pass.1 in record {
   steady = steady_at l w.limits w lim t.walk.steady;
   number_is = t.walk.number ∙ r.number_is;
   run_is = let a = t.run.0 in let b = t.run.1 in let c = r.run_is.0 in let d = r.run_is.1 in (omega arith, omega arith);
   drawn = subst (λ z. RemembersDrawn w z) (sym still) (drawn_later (view_of seat) w run.drawn (sym (same ∙ lim)) t.walk.knows r.drawn);
+  done = done;
   used_is = t.claimed ∙ r.used_is;
   used_below = subst (λ (z : Limits). used ≤ z.units) (same ∙ lim) r.used_below;
   claims = ap claims_in t.mine ∙ (claims_append (hand (view_of seat)).mine es ∙ (let c = r.claims in omega arith));
@@ -229,6 +231,26 @@ commit_consumes l c u h before outs legal is = let whole = subst (IsLegal l) is 
       subst (λ z. IsClaim z c u t.item t.attempt) (sym is) (claim_kept before (Commit c u outs ∷ []) c u t.item t.attempt claim),
       ap (λ z. status_of l.attempts z t.item) is ∙ (status_of-snoc l.attempts before (Commit c u outs) t.item ∙ (ap (committed_status u) held ∙ if_same u u (Consumed u) (Held u t.attempt) refl)),
     )
+
+-- a unit takes one element
+one_item : (h : List Event) (u c d i j n m : ℕ) → IsClaim h c u i n → IsClaim h d u j m → i ≡ j
+one_item h u c d i j n m p q = ap item_in (sym p ∙ q)
+  where
+    item_in : Option UnitClaim → ℕ
+    item_in None = 0
+    item_in (Some t) = t.item
+
+some_row : (a b : ℕ) → Some a ≡ Some b → a ≡ b
+some_row a b e = cc
+
+-- the element of a committed unit is consumed, in the row of the pass's task
+pub shut_done : (l : Limits) (n k c : ℕ) (outs : List Element) (v y : View) (number : ℕ) (t : Task) → Shut l n k (Commit c t.unit outs ∷ []) v y → IsTask v.seen number (Some t) → RemembersDone y (Some t.row)
+shut_done l n k c outs v y number t sh work = λ i is. let legal = sh.walk.steady.shows.legal in let begins = walked_begins l n sh.marks v y sh.walk in
+    let end = commit_consumes l c t.unit y.seen sh.before outs legal sh.ends in
+    let taken : claim_of y.seen t.unit ≡ Some (record { pass = number; item = work.0; attempt = work.1 }) = claim_later v.seen y.seen begins number t.unit work.0 work.1 work.3 in
+    let same : end.0 ≡ work.0 = one_item y.seen t.unit c number end.0 work.0 end.1 work.1 end.2 taken in let row : t.row ≡ i = some_row t.row i is in let here : work.0 ≡ i = work.6 ∙ row in
+    subst (λ (z : Limits). IsSettledRow z y.seen i) (sym sh.walk.steady.pass.1) (subst (IsSettledRow l y.seen) here
+    (work.2, found_later v.seen y.seen begins work.0 work.2 work.4, subst (λ z. IsSettled (status_of l.attempts y.seen z)) same (subst IsSettled (sym end.3) tt)))
 
 -- the answer of a commit that was made
 pub committed_answer : (t t' : Spot) (l : Limits) (v w y : View) (old : PassShown) → shown t v ≡ old → (number : ℕ) (run : Run) (used row : ℕ) (k : Task) (ds : List DraftView) (seat : SeatShown) → view_of seat ≡ v → Rests seat number run used (Some k) → row ≡ run.next

@@ -25,7 +25,7 @@ use Rattle.tp_manager.specs.Bounds.{body_steps, next_steps}
 use Rattle.tp_manager.specs.Calls.{Adds, claims_in}
 use Rattle.tp_manager.specs.Shown.{PassShown, Spot, shown}
 use Rattle.tp_manager.proofs.Walks.{grew_steady, grew_hand, grew_walked, walked_begins, walked_few, walked_none, walked_then}
-use Rattle.tp_manager.proofs.Passes.{claims_append, steady_at, task_later, drawn_later}
+use Rattle.tp_manager.proofs.Passes.{claims_append, done_walked, steady_at, task_later, drawn_later}
 
 -- a run whose first row is used
 pub run_on : (l : Limits) (h : List Event) (c : ℕ) (blocks : List ℕ) (next left : ℕ) → 0 < left → IsRun l h c blocks next left → IsRun l h c blocks (next + 1) (left - 1)
@@ -176,7 +176,7 @@ module _ (l : Limits) (body : List ℕ) (stage : ℕ) (v a w : View) (s : Steady
 
 pub made_rests : (l : Limits) (body : List ℕ) (stage : ℕ) (seat next : SeatShown) (a : View) → (same : (view_of seat).limits ≡ l) → (s : Steady l (view_of seat)) → (whole : Bodied body (view_of seat) a) → Publishes a stage (view_of next)
     → 0 < (hand (view_of seat)).left → (number : ℕ) (run : Run) (used : ℕ) (task : Option Task) → Rests seat number run used task
-    → Rests next number (record { next = run.next + 1; left = run.left - 1; drawn = run.drawn }) used task
+    → Rests next number (record { next = run.next + 1; left = run.left - 1; drawn = run.drawn; done = run.done }) used task
 made_rests l body stage seat next a same s whole g room number run used task r =
     let v : View = view_of seat in let w : View = view_of next in
     let h = made_all l body stage v a w s whole g room in
@@ -188,6 +188,7 @@ made_rests l body stage seat next a same s whole g room number run used task r =
       number_is = ap (λ (z : Hand). z.number) h ∙ r.number_is;
       run_is = (ap (λ (z : Hand). z.next) h ∙ ap (λ n. n + 1) r.run_is.0, ap (λ (z : Hand). z.left) h ∙ ap (λ n. n - 1) r.run_is.1);
       drawn = drawn_later v w run.drawn (sym (same ∙ lim)) walk.knows r.drawn;
+      done = done_walked l next_steps _ v w run.done same walk r.done;
       used_is = ap (λ (z : Hand). z.claimed) h ∙ r.used_is;
       used_below = subst (λ (z : Limits). used ≤ z.units) (same ∙ lim) r.used_below;
       claims = ap (λ (z : Hand). claims_in z.mine) h ∙ (claims_append (hand v).mine (birth a stage ∷ []) ∙ (let c = r.claims in omega arith));

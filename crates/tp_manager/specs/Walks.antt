@@ -10,6 +10,7 @@ use Rattle.tp_model.specs.History.{IsClaim, IsUnborn, element_of, events_by, sta
 use Rattle.tp_model.specs.Drafts.{DraftView}
 use Rattle.tp_model.specs.Passes.{HasLook, PassView, IsPassView, opening_of}
 use Rattle.tp_model.specs.Steps.{AreLimits, IsLegal, block_first, rows_of}
+use Rattle.tp_rule.specs.Rule.{IsSettledRow}
 use Rattle.tp_rule.specs.Views.{SeatShown, IsOnePass, blank_body, fresh_from, hand, view_of}
 use Rattle.tp_rule.specs.declared.view.Hand.{Hand}
 use Rattle.tp_rule.specs.declared.view.View.{View}
@@ -102,15 +103,19 @@ abbrev pub unit_in : Option Task → Option ℕ
 unit_in None = None
 unit_in (Some t) = Some t.unit
 
--- pass c took an element of this root with this unit
+-- pass c took an element of this root and in this row with this unit
 abbrev pub IsTask : List Event → ℕ → Option Task → Type 0
 IsTask h c None = Unit {0}
 IsTask h c (Some t) = (i : ℕ) × (n : ℕ) × (x : Element) × IsClaim h c t.unit i n
-    × (element_of h i ≡ Some x) × (x.root ≡ t.root)
+    × (element_of h i ≡ Some x) × (x.root ≡ t.root) × (i ≡ t.row)
 
 -- the seat knows that so many spare blocks are drawn, where these are any
 abbrev pub RemembersDrawn : View → ℕ → Type 0
 RemembersDrawn v drawn = (drawn ≤ v.limits.spare) × (0 < drawn → Knows v (BlocksDrawn drawn))
+
+-- the element of the row that is done is consumed or killed in what the seat has seen
+abbrev pub RemembersDone : View → Option ℕ → Type 0
+RemembersDone v done = (i : ℕ) → done ≡ Some i → IsSettledRow v.limits v.seen i
 
 -- what is so of every pass between two calls
 pub record Rests (seat : SeatShown) (number : ℕ) (run : Run) (used : ℕ) (task : Option Task) : Type 0 where
@@ -118,6 +123,7 @@ pub record Rests (seat : SeatShown) (number : ℕ) (run : Run) (used : ℕ) (tas
   pub number_is : (hand (view_of seat)).number ≡ number
   pub run_is : ((hand (view_of seat)).next ≡ run.next) × ((hand (view_of seat)).left ≡ run.left)
   pub drawn : RemembersDrawn (view_of seat) run.drawn
+  pub done : RemembersDone (view_of seat) run.done
   pub used_is : (hand (view_of seat)).claimed ≡ used
   pub used_below : used ≤ (view_of seat).limits.units
   -- each used unit is in an own claim

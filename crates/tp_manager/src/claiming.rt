@@ -28,9 +28,14 @@ impl Manager {
         }
         let unit = pass.number * units + pass.used;
         self.shared.words.choose_unit(seat, unit);
-        let Some(taken) = self
-            .shared
-            .scan(seat, &mut pass.lows, &mut pass.run.drawn, stage, unit)
+        let Some(taken) = self.shared.scan(
+            seat,
+            &mut pass.lows,
+            &mut pass.run.drawn,
+            pass.run.done,
+            stage,
+            unit,
+        )
         else {
             return Claimed::Idle;
         };
@@ -38,6 +43,7 @@ impl Manager {
         pass.task = Some(Task {
             unit,
             root: taken.root,
+            row: taken.element.id as u16,
         });
         Claimed::Work(Work {
             unit,

@@ -20,6 +20,7 @@ impl Shared {
         requires no_drafts { (hand_of seat.old).drafts ≡ [] }
         ensures same { IsSameSeat seat.old seat.new }
         ensures drawn { RemembersDrawn (view_of seat.new) run.new.drawn }
+        ensures done { run.new.done ≡ run.old.done }
         ensures yes { result ≡ true → Drawn (limits_of self.now.words) (view_of seat.old) (view_of seat.new) run.new }
         ensures no { result ≡ false → let l = limits_of self.now.words in
             Tried l (l.spare - run.old.drawn) (view_of seat.old) (view_of seat.new)
@@ -32,6 +33,7 @@ impl Shared {
                         next: self.places.block_first(run.drawn) as u16,
                         left: BLOCK_ROWS,
                         drawn: run.drawn + 1,
+                        done: run.done,
                     };
                     return true;
                 }

@@ -53,27 +53,39 @@ impl Manager {
         let Some(task) = pass.task else {
             unreachable!();
         };
-        let Run { next, left, drawn } = pass.run;
+        let Run {
+            next,
+            left,
+            drawn,
+            done,
+        } = pass.run;
         let count = drafts.len() as u16;
         shared.write_all(seat, next as u32, drafts, task.root, task.unit);
         let first = if count == 0 { 0 } else { next };
-        let rest = Run {
-            next: next + count,
-            left: left - count,
-            drawn,
-        };
+        let next = next + count;
+        let left = left - count;
         if shared
             .words
             .commit_exchange(seat, task.unit, first, count as u8)
         {
-            pass.run = rest;
+            pass.run = Run {
+                next,
+                left,
+                drawn,
+                done: Some(task.row),
+            };
             pass.task = None;
             Outcome::Committed {
                 first: first as u32,
                 count: count as u8,
             }
         } else {
-            pass.run = rest;
+            pass.run = Run {
+                next,
+                left,
+                drawn,
+                done,
+            };
             pass.task = None;
             Outcome::Lost
         }

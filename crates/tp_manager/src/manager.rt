@@ -75,20 +75,22 @@ impl Model for Keeper {
     ghost invariant = { λ k. Keeps k.seat k.limits k.given };
 }
 
-/// The unit of work that a pass has open, and the root of the element that it took.
+/// The unit of work that a pass has open, and the root and the row of the element that it took.
 #[derive(Clone, Copy, Debug, PartialEq, Eq)]
 pub(crate) struct Task {
     pub unit: u16,
     pub root: u16,
+    pub row: u16,
 }
 
 /// The rows that are left to a pass: so many, from the row `next` on. And how many spare blocks were drawn,
-/// as the pass last loaded or set it.
+/// as the pass last loaded or set it, and the row of the element that it has consumed last.
 #[derive(Clone, Copy, Debug, PartialEq, Eq)]
 pub(crate) struct Run {
     pub next: u16,
     pub left: u16,
     pub drawn: u16,
+    pub done: Option<u16>,
 }
 
 /// What one caller acts through, one call at a time. A pass that is dropped leaves its open unit open: the
@@ -177,6 +179,7 @@ impl Keeper {
                 next: number * rows,
                 left: rows,
                 drawn: 0,
+                done: None,
             },
             used: 0,
             task: None,

@@ -11,7 +11,7 @@ ghost use Rattle.tp_model.specs.History.{IsSettled};
 ghost use Rattle.tp_manager.specs.Bounds.{scan_steps, spare_steps, try_steps};
 ghost use Rattle.tp_manager.specs.Shown.{Rises};
 ghost use Rattle.tp_manager.specs.Looks.{GoesOn};
-ghost use Rattle.tp_manager.specs.Walks.{AreFinished, Begun, RemembersDrawn, Steady, Looked, Sought, EachRow, OfPart, PassedBy, Remembers, RisesAt, Rose, IsSpare, Took};
+ghost use Rattle.tp_manager.specs.Walks.{AreFinished, Begun, RemembersDone, RemembersDrawn, Steady, Looked, Sought, EachRow, OfPart, PassedBy, Remembers, RisesAt, Rose, IsSpare, Took};
 
 use crate::looking::Contents;
 use crate::manager::Shared;
@@ -57,6 +57,18 @@ fn past(low: u32, row: u32) -> u32
     ensures { (result ≡ low) ⊎ ((result ≡ low + 1) × (low ≡ row)) }
 {
     if low == row { low + 1 } else { low }
+}
+
+/// The row behind this one, where this is the row that is done and not the end.
+#[inline(always)]
+fn past_done(row: u32, end: u32, done: Option<u16>) -> u32
+    requires { row ≤ end }
+    ensures { (result ≡ row) ⊎ ((result ≡ row + 1) × (row < end) × (done ≡ Some row)) }
+{
+    match done {
+        Some(known) if row < end && known as u32 == row => row + 1,
+        _ => row,
+    }
 }
 
 /// The first row that isn't known finished: this one's element stands so.
@@ -168,12 +180,13 @@ impl Shared {
     }
 
     /// The unit takes the first element of a part that waits in the stage. The scan starts at the part's
-    /// mark, and raises it.
+    /// mark, behind the row that the pass has consumed last where that comes first, and raises the mark.
     fn scan_part(
         &self,
         seat: &mut Seat,
         lows: &mut [u16; 32],
         part: u16,
+        done: Option<u16>,
         stage: u8,
         unit: u16,
     ) -> Option<Taken>
@@ -181,6 +194,7 @@ impl Shared {
         requires steady { Steady (limits_of self.now.words) (view_of seat.old) }
         requires remembers { Remembers (view_of seat.old) lows.old }
         requires part { part < (limits_of self.now.words).parts }
+        requires done { RemembersDone (view_of seat.old) done }
         requires stage { IsServerStage stage }
         requires spare { IsSpare unit (view_of seat.old) × (unit < 65535) }
         ensures same { IsSameSeat seat.old seat.new }
@@ -196,8 +210,9 @@ impl Shared {
         let rows = self.places.limits.rows as u32;
         let first = part as u32 * rows;
         let end = first + rows;
-        let mut low = first + mark as u32;
-        let mut row = low;
+        let begin = past_done(first + mark as u32, end, done);
+        let mut low = begin;
+        let mut row = begin;
         while row < end {
             if let Some(taken) = self.try_row(seat, &mut row, &mut low, stage, unit) {
                 self.raise_to(seat, lows, part, mark, low);
@@ -228,12 +243,14 @@ impl Shared {
         &self,
         seat: &mut Seat,
         lows: &mut [u16; 32],
+        done: Option<u16>,
         stage: u8,
         unit: u16,
     ) -> Option<Taken>
         requires own { IsSeatOf self.now.words seat.old }
         requires steady { Steady (limits_of self.now.words) (view_of seat.old) }
         requires remembers { Remembers (view_of seat.old) lows.old }
+        requires done { RemembersDone (view_of seat.old) done }
         requires stage { IsServerStage stage }
         requires spare { IsSpare unit (view_of seat.old) × (unit < 65535) }
         ensures same { IsSameSeat seat.old seat.new }
@@ -247,7 +264,7 @@ impl Shared {
     {
         let first = self.first_open(lows);
         for part in first..self.places.limits.parts {
-            if let Some(taken) = self.scan_part(seat, lows, part, stage, unit) {
+            if let Some(taken) = self.scan_part(seat, lows, part, done, stage, unit) {
                 return Some(taken);
             }
         }
@@ -288,6 +305,7 @@ impl Shared {
         seat: &mut Seat,
         lows: &mut [u16; 32],
         drawn: &mut u16,
+        done: Option<u16>,
         stage: u8,
         unit: u16,
     ) -> Option<Taken>
@@ -295,6 +313,7 @@ impl Shared {
         requires steady { Steady (limits_of self.now.words) (view_of seat.old) }
         requires remembers { Remembers (view_of seat.old) lows.old }
         requires drawn { RemembersDrawn (view_of seat.old) drawn.old }
+        requires done { RemembersDone (view_of seat.old) done }
         requires stage { IsServerStage stage }
         requires spare { IsSpare unit (view_of seat.old) × (unit < 65535) }
         ensures same { IsSameSeat seat.old seat.new }
@@ -307,7 +326,7 @@ impl Shared {
             (λ t. Took l n stage unit (view_of seat.old) (view_of seat.new) t.element t.attempt
             × (t.element.root ≡ t.root)) }
     {
-        if let Some(taken) = self.scan_parts(seat, lows, stage, unit) {
+        if let Some(taken) = self.scan_parts(seat, lows, done, stage, unit) {
             return Some(taken);
         }
         self.scan_blocks(seat, drawn, stage, unit)

@@ -20,7 +20,12 @@ impl Manager {
         ensures answer { Submits result stage body pass.old pass.new }
     {
         let seat = &mut pass.seat;
-        let Run { next, left, drawn } = pass.run;
+        let Run {
+            next,
+            left,
+            drawn,
+            done,
+        } = pass.run;
         let row = next as u32;
         self.shared.words.store_draft_body(seat, row, body);
         self.shared.words.publish(seat, row, stage);
@@ -28,6 +33,7 @@ impl Manager {
             next: next + 1,
             left: left - 1,
             drawn,
+            done,
         };
         row
     }

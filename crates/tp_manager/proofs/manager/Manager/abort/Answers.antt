@@ -9,7 +9,7 @@ use Rattle.tp_manager.specs.Shown.{ManagerShown, PassShown, spot}
 use Rattle.tp_manager.specs.Bounds.{abort_steps}
 use Rattle.tp_manager.specs.Walks.{Steady, Shut, IsTask, unit_in}
 use Rattle.tp_manager.proofs.Walks.{follows, rises_same, remembers}
-use Rattle.tp_manager.proofs.Passes.{steady_at}
+use Rattle.tp_manager.proofs.Passes.{done_walked, steady_at}
 use Rattle.tp_manager.proofs.Shuts.{closed_ended, task_claimed, abort_ended, shut_hit, shut_miss, shut_rests, shut_closes, shut_keeps, shut_adds, shut_loses}
 use Rattle.tp_manager.proofs.manager.Manager.abort.Goals as goal
 use Rattle.tp_manager.proofs.manager.Manager.abort.Goals.{In-Some}
@@ -28,12 +28,18 @@ abort_exchange-requires-clause-unit c = let i = (goal.at.abort_exchange-requires
     task_claimed (limits_of c.self.inside.shared.words) (view_of c.pass.inside.seat).seen c.pass.inside.number c.in-Some.task (steady i).shows.legal (subst (IsTask (view_of c.pass.inside.seat).seen c.pass.inside.number) c.in-Some.is c.pass.invariant.0.work)
 
 pub invariant_of-pass : goal.invariant_of-pass
-invariant_of-pass c = let i = (goal.at.invariant_of-pass c).In-Some in let l : Limits = limits_of c.self.inside.shared.words in
-    (shut_rests l 1 0 _ c.pass.inside.seat c.abort_exchange.new.seat _ _ _ _ _ (lim i) (shut_hit l kinds.AbortExchange _ _ _ refl (steady i) c.in-Ok.ensures.hit) refl (omega arith) (omega arith) refl c.pass.invariant.0, remembers c.pass.inside.lows _ _ _ _ _ (shut_hit l kinds.AbortExchange _ _ _ refl (steady i) c.in-Ok.ensures.hit).walk c.pass.invariant.1)
+invariant_of-pass c = let i = (goal.at.invariant_of-pass c).In-Some in let l : Limits = limits_of c.self.inside.shared.words in (
+  shut_rests l 1 0 _ c.pass.inside.seat c.abort_exchange.new.seat _ _ _ _ _ (lim i) (shut_hit l kinds.AbortExchange _ _ _ refl (steady i) c.in-Ok.ensures.hit) refl (omega arith) (omega arith) refl
+      (done_walked l _ _ _ _ c.pass.inside.run.done (lim i) (shut_hit l kinds.AbortExchange _ _ _ refl (steady i) c.in-Ok.ensures.hit).walk c.pass.invariant.0.done) c.pass.invariant.0,
+  remembers c.pass.inside.lows _ _ _ _ _ (shut_hit l kinds.AbortExchange _ _ _ refl (steady i) c.in-Ok.ensures.hit).walk c.pass.invariant.1,
+)
 
 pub invariant_of-pass-in-Err : goal.invariant_of-pass-in-Err
-invariant_of-pass-in-Err c = let i = (goal.at.invariant_of-pass-in-Err c).In-Some in let l : Limits = limits_of c.self.inside.shared.words in
-    (shut_rests l 1 0 _ c.pass.inside.seat c.abort_exchange.new.seat _ _ _ _ _ (lim i) (shut_miss l kinds.AbortExchange _ _ refl (steady i) (c.in-Err.ensures.miss.own (held i)).0) refl (omega arith) (omega arith) refl c.pass.invariant.0, remembers c.pass.inside.lows _ _ _ _ _ (shut_miss l kinds.AbortExchange _ _ refl (steady i) (c.in-Err.ensures.miss.own (held i)).0).walk c.pass.invariant.1)
+invariant_of-pass-in-Err c = let i = (goal.at.invariant_of-pass-in-Err c).In-Some in let l : Limits = limits_of c.self.inside.shared.words in (
+  shut_rests l 1 0 _ c.pass.inside.seat c.abort_exchange.new.seat _ _ _ _ _ (lim i) (shut_miss l kinds.AbortExchange _ _ refl (steady i) (c.in-Err.ensures.miss.own (held i)).0) refl (omega arith) (omega arith) refl
+      (done_walked l _ _ _ _ c.pass.inside.run.done (lim i) (shut_miss l kinds.AbortExchange _ _ refl (steady i) (c.in-Err.ensures.miss.own (held i)).0).walk c.pass.invariant.0.done) c.pass.invariant.0,
+  remembers c.pass.inside.lows _ _ _ _ _ (shut_miss l kinds.AbortExchange _ _ refl (steady i) (c.in-Err.ensures.miss.own (held i)).0).walk c.pass.invariant.1,
+)
 
 pub returns-in-Ok-clause-follows : goal.returns-in-Ok-clause-follows
 returns-in-Ok-clause-follows c = let i = (goal.at.returns-in-Ok-clause-follows c).In-Some in let l : Limits = limits_of c.self.inside.shared.words in

@@ -11,7 +11,7 @@ use Rattle.tp_manager.specs.Cancels.{Cancels}
 use Rattle.tp_manager.specs.Walks.{Rests, Acted}
 use Rattle.tp_manager.proofs.Points.{has_more}
 use Rattle.tp_manager.proofs.Walks.{acted_then, looked, looked_begins, looked_none, follows, at_point, has_looked, point_last, walked_then, rises_same, remembers}
-use Rattle.tp_manager.proofs.Passes.{rests_drawn, quiet_looked, point_none, unborn_beyond, task_none}
+use Rattle.tp_manager.proofs.Passes.{rests_drawn, rests_looked, quiet_looked, point_none, unborn_beyond, task_none}
 use Rattle.tp_manager.proofs.Cancels.{rests_swept, cancels_after, cancels_shown, few_steps, unborn_no_request, made_no_request, client_request, request_later, swept_begins, some_not, none_if_not}
 use Rattle.tp_manager.proofs.manager.Manager.cancel.Goals as goal
 use Rattle.tp_manager.proofs.manager.Manager.cancel.Goals.{After-rows, After-birth_from, After-load_marks}
@@ -90,6 +90,14 @@ returns-then-is_some-clause-answer c = let at = goal.at.returns-then-is_some-cla
       at_point (spot c.pass.inside.seat.table c.pass.inside.lows c.pass.inside.run.drawn) (spot c.birth_from.new.seat.table c.pass.inside.lows c.pass.inside.run.drawn) v x c.args.pass.now c.pass.view_is l birth_steps a.marks a.walk (λ z. ¬ IsRequest z c.args.root) (seen_by c.birth_from.new.seat) (point_last l birth_steps a.marks v x a.walk)
           (made_no_request (seen_by c.birth_from.new.seat) c.args.root c.in-Some.birth c.in-Some.ensures.told.0 (some_not c.in-Some.birth.by c.is_some.result c.is_some.ensures c.if-is_some.true)),
     )
+
+pub invariant_of-pass-in_default : goal.invariant_of-pass-in_default
+invariant_of-pass-in_default c = let at = goal.at.invariant_of-pass-in_default c in
+    (rests_looked _ c.pass.inside.seat c.birth_from.new.seat (lim at.After-rows) _ _ _ _ c.pass.invariant.0 birth_steps (looked _ _ _ _ (born at.After-birth_from)), remembers c.pass.inside.lows _ _ _ _ _ (born at.After-birth_from).walk c.pass.invariant.1)
+
+pub invariant_of-pass-then-is_some : goal.invariant_of-pass-then-is_some
+invariant_of-pass-then-is_some c = let at = goal.at.invariant_of-pass-then-is_some c in
+    (rests_looked _ c.pass.inside.seat c.birth_from.new.seat (lim at.After-rows) _ _ _ _ c.pass.invariant.0 birth_steps (looked _ _ _ _ (born at.After-birth_from)), remembers c.pass.inside.lows _ _ _ _ _ (born at.After-birth_from).walk c.pass.invariant.1)
 
 pub invariant_of-pass-2 : goal.invariant_of-pass-2
 invariant_of-pass-2 c = let at = goal.at.invariant_of-pass-2 c in let l : Limits = limits_of c.self.inside.shared.words in let told = c.cancel_family-killed.ensures.told in

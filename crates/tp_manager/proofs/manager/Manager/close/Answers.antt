@@ -15,8 +15,8 @@ use Rattle.tp_manager.specs.Shown.{ManagerShown, PassShown, spot}
 use Rattle.tp_manager.specs.Bounds.{close_steps}
 use Rattle.tp_manager.specs.Walks.{Rests, Steady, Shut, unit_in}
 use Rattle.tp_manager.proofs.Walks.{follows, rises_same, remembers}
-use Rattle.tp_manager.proofs.Passes.{steady_at}
-use Rattle.tp_manager.proofs.Shuts.{units_few, own_work, own_count, own_first, wrote_shut, committed_answer, task_claimed, shut_hit, shut_miss, shut_rests, shut_closes, shut_uses, shut_loses}
+use Rattle.tp_manager.proofs.Passes.{done_walked, steady_at}
+use Rattle.tp_manager.proofs.Shuts.{units_few, own_work, own_count, own_first, wrote_shut, committed_answer, task_claimed, shut_done, shut_hit, shut_miss, shut_rests, shut_closes, shut_uses, shut_loses}
 use Rattle.tp_manager.proofs.manager.Manager.close.Goals as goal
 use Rattle.tp_manager.proofs.manager.Manager.close.Goals.{In-Some, After-write_all, then-count-eq0, else-count-eq0}
 
@@ -70,12 +70,18 @@ both c es y sh = let row : ℕ = c.pass.inside.run.next in
     (wrote_shut (limits_of c.self.inside.shared.words) (outputs c.in-Some.task.unit c.in-Some.task.root row c.args.drafts.now) es (view_of c.pass.inside.seat) (view_of c.write_all.new.seat) y c.write_all.ensures.wrote sh)
 
 pub invariant_of-pass : goal.invariant_of-pass
-invariant_of-pass c = let at = goal.at.invariant_of-pass c in
-    (shut_rests _ _ _ _ c.pass.inside.seat c.commit_exchange.new.seat _ _ _ _ _ (lim at.In-Some) (both at.After-write_all _ _ (hit at.After-write_all at.In-Some _ (c.commit_exchange.ensures.hit c.if-commit_exchange.true))) refl refl (let few = c.requires.room in let same = left_is at.In-Some in omega arith) refl c.pass.invariant.0, remembers c.pass.inside.lows _ _ _ _ _ (both at.After-write_all _ _ (hit at.After-write_all at.In-Some _ (c.commit_exchange.ensures.hit c.if-commit_exchange.true))).walk c.pass.invariant.1)
+invariant_of-pass c = let at = goal.at.invariant_of-pass c in (
+  shut_rests _ _ _ _ c.pass.inside.seat c.commit_exchange.new.seat _ _ _ _ _ (lim at.In-Some) (both at.After-write_all _ _ (hit at.After-write_all at.In-Some _ (c.commit_exchange.ensures.hit c.if-commit_exchange.true))) refl refl (let few = c.requires.room in let same = left_is at.In-Some in omega arith) refl
+      (shut_done _ _ _ _ _ _ _ c.pass.inside.number c.in-Some.task (both at.After-write_all _ _ (hit at.After-write_all at.In-Some _ (c.commit_exchange.ensures.hit c.if-commit_exchange.true))) (rests at.In-Some).work) c.pass.invariant.0,
+  remembers c.pass.inside.lows _ _ _ _ _ (both at.After-write_all _ _ (hit at.After-write_all at.In-Some _ (c.commit_exchange.ensures.hit c.if-commit_exchange.true))).walk c.pass.invariant.1,
+)
 
 pub invariant_of-pass-else-commit_exchange : goal.invariant_of-pass-else-commit_exchange
-invariant_of-pass-else-commit_exchange c = let at = goal.at.invariant_of-pass-else-commit_exchange c in
-    (shut_rests _ _ _ _ c.pass.inside.seat c.commit_exchange.new.seat _ _ _ _ _ (lim at.In-Some) (both at.After-write_all _ _ (shut_miss _ kinds.CommitExchange _ _ refl c.write_all.ensures.wrote.walk.steady (c.commit_exchange.ensures.miss c.if-commit_exchange.false).0)) refl refl (let few = c.requires.room in let same = left_is at.In-Some in omega arith) refl c.pass.invariant.0, remembers c.pass.inside.lows _ _ _ _ _ (both at.After-write_all _ _ (shut_miss _ kinds.CommitExchange _ _ refl c.write_all.ensures.wrote.walk.steady (c.commit_exchange.ensures.miss c.if-commit_exchange.false).0)).walk c.pass.invariant.1)
+invariant_of-pass-else-commit_exchange c = let at = goal.at.invariant_of-pass-else-commit_exchange c in (
+  shut_rests _ _ _ _ c.pass.inside.seat c.commit_exchange.new.seat _ _ _ _ _ (lim at.In-Some) (both at.After-write_all _ _ (shut_miss _ kinds.CommitExchange _ _ refl c.write_all.ensures.wrote.walk.steady (c.commit_exchange.ensures.miss c.if-commit_exchange.false).0)) refl refl (let few = c.requires.room in let same = left_is at.In-Some in omega arith) refl
+      (done_walked _ _ _ _ _ c.pass.inside.run.done (lim at.In-Some) (both at.After-write_all _ _ (shut_miss _ kinds.CommitExchange _ _ refl c.write_all.ensures.wrote.walk.steady (c.commit_exchange.ensures.miss c.if-commit_exchange.false).0)).walk c.pass.invariant.0.done) c.pass.invariant.0,
+  remembers c.pass.inside.lows _ _ _ _ _ (both at.After-write_all _ _ (shut_miss _ kinds.CommitExchange _ _ refl c.write_all.ensures.wrote.walk.steady (c.commit_exchange.ensures.miss c.if-commit_exchange.false).0)).walk c.pass.invariant.1,
+)
 
 pub returns-then-commit_exchange-clause-follows : goal.returns-then-commit_exchange-clause-follows
 returns-then-commit_exchange-clause-follows c = let at = goal.at.returns-then-commit_exchange-clause-follows c in let k : ℕ = length c.args.drafts.now in

@@ -1,4 +1,4 @@
-use Rattle.std.proofs.Common.{◌≡◌, ◌+◌, ◌-◌, ◌*◌, ◌≤◌, ℕ, List, slice_index, sym, ◌∙◌, ap, subst, arith, rules, mul-le-mul_right}
+use Rattle.std.proofs.Common.{◌≡◌, ◌+◌, ◌-◌, ◌*◌, ◌≤◌, ℕ, List, inl, slice_index, refl, sym, ◌∙◌, ap, subst, arith, rules, mul-le-mul_right}
 use Rattle.tp_model.specs.declared.types.Limits.{Limits}
 use Rattle.tp_model.specs.declared.trace.TraceEntry.{TraceEntry}
 use Rattle.tp_model.specs.Steps.{IsRowOf}
@@ -6,15 +6,18 @@ use Rattle.tp_model.proofs.Bridges.{begins_refl}
 use Rattle.tp_rule.specs.Tables.{limits_of}
 use Rattle.tp_rule.specs.Views.{seen_by, view_of}
 use Rattle.tp_manager.specs.Bounds.{try_steps}
-use Rattle.tp_manager.specs.Walks.{EachRow, Looked, OfPart, PassedBy, Remembers, RisesAt, Rose, Sought, Walked}
+use Rattle.tp_manager.specs.Walks.{EachRow, Looked, OfPart, PassedBy, Remembers, RemembersDone, RisesAt, Rose, Sought, Walked}
 use Rattle.tp_manager.proofs.Walks.{looked, looked_then, remembers, sought_few}
 use Rattle.tp_rule.specs.declared.view.Known.TheVariants.{PartMark}
+use mathlib.Core.Logic.{dite}
+use native.Mathlib.Decide.{dec_le}
 use Rattle.tp_manager.proofs.Lows.{rises_at_then}
-use Rattle.tp_manager.proofs.Marks.{goes_walked, over_passed, rose_then, took_looked}
+use Rattle.tp_manager.proofs.Passes.{done_walked}
+use Rattle.tp_manager.proofs.Marks.{done_passed, goes_walked, over_passed, past_near, rose_past, rose_then, took_looked}
 use Rattle.tp_manager.proofs.Scans.{passed_widens, took_few, took_then}
 use Rattle.tp_manager.proofs.Seeks.{part_on, begun_few, begun_looked, begun_on, rows_more, sought_from, sought_then}
 use Rattle.tp_manager.proofs.manager.Shared.scan_part.Goals as goal
-use Rattle.tp_manager.proofs.manager.Shared.scan_part.Goals.{After-loop-row, After-mark_at-mark, After-try_row}
+use Rattle.tp_manager.proofs.manager.Shared.scan_part.Goals.{After-loop-row, After-mark_at-mark, After-past_done-begin, After-try_row}
 
 -- where the part begins, and where the scan does
 first : (c : After-mark_at-mark) → c.args.part * (limits_of c.args.self.now.words).rows ≡ c.args.part * c.args.self.now.places.limits.rows
@@ -23,8 +26,17 @@ first c = ap (λ (z : Limits). c.args.part * z.rows) c.args.self.now.same
 wide : (c : After-mark_at-mark) → (limits_of c.args.self.now.words).rows ≡ c.args.self.now.places.limits.rows
 wide c = ap (λ (z : Limits). z.rows) c.args.self.now.same
 
-abbrev from : (c : After-mark_at-mark) → ℕ
+abbrev from : (c : After-past_done-begin) → ℕ
 from c = c.args.part * c.args.self.now.places.limits.rows + c.mark_at-mark.result
+
+-- what the pass remembers as done is so behind the load of the mark
+still_done : (c : After-mark_at-mark) → RemembersDone (view_of c.mark_at-mark.new.seat) c.args.done
+still_done c = done_walked _ 1 _ _ _ c.args.done c.requires.steady.pass.1 c.mark_at-mark.ensures.acted.walk c.requires.done
+
+-- the scan begins at the mark, or one row behind it
+begins : (c : After-past_done-begin) → (from c ≤ c.past_done-begin.result) × (c.past_done-begin.result ≤ from c + 1) × (c.past_done-begin.result ≤ c.args.part * c.args.self.now.places.limits.rows + c.args.self.now.places.limits.rows)
+begins c = let inside = c.mark_at-mark.ensures.low.0 in let w = ap (λ (z : Limits). z.rows) c.args.self.now.same in
+    past_near (limits_of c.args.self.now.words) c.past_done-begin.result (from c) _ c.args.done (omega arith) c.past_done-begin.ensures
 
 -- the row is of the part, and so is what comes next, but for the part's end
 near : (c : After-try_row) → IsRowOf (limits_of c.args.self.now.words) c.args.part c.loop-row.row × (c.try_row.new.row ≤ c.args.part * (limits_of c.args.self.now.words).rows + (limits_of c.args.self.now.words).rows)
@@ -34,7 +46,7 @@ near c = let l : Limits = limits_of c.args.self.now.words in let i = c.loop-row.
     let own : IsRowOf l c.args.part c.loop-row.row = (c.requires.part, omega arith, omega arith) in (own, part_on l c.loop-row.row c.try_row.new.row c.args.part c.try_row.ensures.on own)
 
 -- the steps from the mark up to the row
-since : (c : After-try_row) → Looked (limits_of c.args.self.now.words) ((c.loop-row.row - (c.args.part * c.args.self.now.places.limits.rows + c.mark_at-mark.result)) * try_steps (limits_of c.args.self.now.words)) (view_of c.mark_at-mark.new.seat) (view_of c.loop-row.seat)
+since : (c : After-try_row) → Looked (limits_of c.args.self.now.words) ((c.loop-row.row - c.past_done-begin.result) * try_steps (limits_of c.args.self.now.words)) (view_of c.mark_at-mark.new.seat) (view_of c.loop-row.seat)
 since c = let l : Limits = limits_of c.args.self.now.words in
     begun_looked l (PassedBy l c.args.stage) (passed_widens l c.args.stage) _ _ c.loop-row.row _ _ c.loop-row.invariant.begun c.mark_at-mark.ensures.acted.walk.steady
 
@@ -45,7 +57,7 @@ rose c n ms a = let l : Limits = limits_of c.args.self.now.words in let v = view
     rose_then l v (view_of c.try_row.new.seat) _ c.loop-row.low c.try_row.new.low (goes_walked l n ms v _ (since c).walk.steady.pass.1 a) c.loop-row.invariant.rose c.try_row.ensures.low.1
 
 -- the steps up to the row
-before : (c : After-try_row) → Looked (limits_of c.args.self.now.words) (1 + (c.loop-row.row - (c.args.part * c.args.self.now.places.limits.rows + c.mark_at-mark.result)) * try_steps (limits_of c.args.self.now.words)) (view_of c.args.seat.now) (view_of c.loop-row.seat)
+before : (c : After-try_row) → Looked (limits_of c.args.self.now.words) (1 + (c.loop-row.row - c.past_done-begin.result) * try_steps (limits_of c.args.self.now.words)) (view_of c.args.seat.now) (view_of c.loop-row.seat)
 before c = looked_then (limits_of c.args.self.now.words) 1 _ _ _ _ (looked (limits_of c.args.self.now.words) 1 _ _ c.mark_at-mark.ensures.acted) (since c)
 
 -- the pass remembered no more than was found
@@ -72,8 +84,8 @@ pub returns-in-Some-clause-lows : goal.returns-in-Some-clause-lows
 returns-in-Some-clause-lows c = rises_at_then c.args.part c.args.lows.now c.mark_at-mark.new.lows c.raise_to.new.lows c.mark_at-mark.ensures.lows.1 (subst (λ lows. RisesAt c.args.part lows c.raise_to.new.lows) c.loop-row.invariant.lows c.raise_to.ensures.lows)
 
 pub returns-in-Some-clause-told : goal.returns-in-Some-clause-told
-returns-in-Some-clause-told c = let l : Limits = limits_of c.args.self.now.words in let s = try_steps l in let at = goal.at.returns-in-Some-clause-told c in let n = near at.After-try_row in let start = c.loop-row.invariant.from in
-    let e = first at.After-mark_at-mark in let high = n.0.2 in let d : ℕ = c.loop-row.row - (c.args.part * c.args.self.now.places.limits.rows + c.mark_at-mark.result) in
+returns-in-Some-clause-told c = let l : Limits = limits_of c.args.self.now.words in let s = try_steps l in let at = goal.at.returns-in-Some-clause-told c in let n = near at.After-try_row in let start = c.loop-row.invariant.from in let behind = (begins at.After-past_done-begin).0 in
+    let e = first at.After-mark_at-mark in let high = n.0.2 in let d : ℕ = c.loop-row.row - c.past_done-begin.result in
     let low = above at.After-mark_at-mark in
     let room : d * s + s ≤ (l.rows - slice_index c.args.lows.now c.args.part) * s = rows_more d (l.rows - slice_index c.args.lows.now c.args.part) s (omega arith) in (
       took_few l c.args.stage c.args.unit c.in-Some.taken.attempt c.in-Some.taken.element ((1 + d * s) + s + 1) (2 + (l.rows - slice_index c.args.lows.now c.args.part) * s) _ _ (omega arith)
@@ -82,9 +94,20 @@ returns-in-Some-clause-told c = let l : Limits = limits_of c.args.self.now.words
       c.in-Some.ensures.told.1,
     )
 
+pub loop-row-init : goal.loop-row-init
+loop-row-init c = let at = goal.at.loop-row-init c in let b = begins at.After-past_done-begin in let inside = b.2 in record {
+  same = refl;
+  lows = refl;
+  from = omega arith;
+  inside = inside;
+  low = omega arith;
+  rose = rose_past (limits_of c.args.self.now.words) (view_of c.mark_at-mark.new.seat) c.past_done-begin.result (from at.After-past_done-begin) _ c.args.done (still_done at.After-mark_at-mark) c.past_done-begin.ensures b.0;
+  begun = inl (refl, refl);
+}
+
 pub loop-row-preserved : goal.loop-row-preserved
 loop-row-preserved c = let l : Limits = limits_of c.args.self.now.words in let at = goal.at.loop-row-preserved c in let t = c.in_default.ensures.told in let i = c.loop-row.invariant in let on = c.try_row.ensures.on.on in let n = near at.After-try_row in
-    let s = try_steps l in let P = PassedBy l c.args.stage in let F : ℕ = c.args.part * c.args.self.now.places.limits.rows + c.mark_at-mark.result in let d : ℕ = c.loop-row.row - F in
+    let s = try_steps l in let P = PassedBy l c.args.stage in let F : ℕ = c.past_done-begin.result in let d : ℕ = c.loop-row.row - F in
     let start = i.from in let e = first at.After-mark_at-mark in let w = wide at.After-mark_at-mark in let top = n.1 in record {
       same = search rules;
       lows = i.lows;
@@ -96,7 +119,7 @@ loop-row-preserved c = let l : Limits = limits_of c.args.self.now.words in let a
     }
 
 -- the steps from the mark to the end of the part
-all_since : (c : After-loop-row) → Looked (limits_of c.args.self.now.words) ((c.loop-row.row - (c.args.part * c.args.self.now.places.limits.rows + c.mark_at-mark.result)) * try_steps (limits_of c.args.self.now.words)) (view_of c.mark_at-mark.new.seat) (view_of c.loop-row.seat)
+all_since : (c : After-loop-row) → Looked (limits_of c.args.self.now.words) ((c.loop-row.row - c.past_done-begin.result) * try_steps (limits_of c.args.self.now.words)) (view_of c.mark_at-mark.new.seat) (view_of c.loop-row.seat)
 all_since c = let l : Limits = limits_of c.args.self.now.words in
     begun_looked l (PassedBy l c.args.stage) (passed_widens l c.args.stage) _ _ c.loop-row.row _ _ c.loop-row.invariant.begun c.mark_at-mark.ensures.acted.walk.steady
 
@@ -118,11 +141,13 @@ returns-clause-lows c = rises_at_then c.args.part c.args.lows.now c.mark_at-mark
 pub returns-clause-told : goal.returns-clause-told
 returns-clause-told c = let l : Limits = limits_of c.args.self.now.words in let s = try_steps l in let at = (goal.at.returns-clause-told c).After-mark_at-mark in let i = c.loop-row.invariant in
     let high = i.inside in let low = c.loop-row-test.false in let e = first at in let w = wide at in let up = above at in
-    let P = PassedBy l c.args.stage in let F : ℕ = c.args.part * c.args.self.now.places.limits.rows + c.mark_at-mark.result in let d : ℕ = c.loop-row.row - F in
+    let P = PassedBy l c.args.stage in let F : ℕ = c.past_done-begin.result in let X : ℕ = from (goal.at.returns-clause-told c).After-past_done-begin in let near_mark = begins (goal.at.returns-clause-told c).After-past_done-begin in let behind = near_mark.0 in let d : ℕ = c.loop-row.row - F in
     let all : c.loop-row.row ≡ c.args.part * l.rows + l.rows = omega arith in
     let few : d * s ≤ (l.rows - slice_index c.args.lows.now c.args.part) * s = mul-le-mul_right s (omega arith) in
     let sought = sought_from l P (passed_widens l c.args.stage) (d * s) (c.args.part * l.rows) F c.loop-row.row (view_of c.args.seat.now) (view_of c.mark_at-mark.new.seat) (view_of c.loop-row.seat) c.mark_at-mark.ensures.acted i.begun
-    (λ j from_on below. over_passed l c.args.stage (seen_by c.mark_at-mark.new.seat) c.args.part c.mark_at-mark.result j c.mark_at-mark.ensures.low.1 from_on (omega arith)) in
+    (λ j from_on below. dite (dec_le X j)
+    (λ past. done_passed l c.args.stage (view_of c.mark_at-mark.new.seat) F X _ c.args.done c.mark_at-mark.ensures.acted.walk.steady.pass.1 (still_done at) c.past_done-begin.ensures j past below)
+    (λ not. over_passed l c.args.stage (seen_by c.mark_at-mark.new.seat) c.args.part c.mark_at-mark.result j c.mark_at-mark.ensures.low.1 from_on (omega arith))) in
     sought_few l ((1 + d * s) + 1) (2 + (l.rows - slice_index c.args.lows.now c.args.part) * s) _ _ _ (omega arith)
     (sought_then l (1 + d * s) 1 (OfPart l P c.args.part) _ _ _ (λ a b g later each j p q. passed_widens l c.args.stage j a a b g (begins_refl a) later (each j p q))
     (subst (λ n. Sought l (1 + d * s) (EachRow P (c.args.part * l.rows) n) (view_of c.args.seat.now) (view_of c.loop-row.seat)) all sought) c.raise_to-2.ensures.looked)

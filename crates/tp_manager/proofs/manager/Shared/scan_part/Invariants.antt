@@ -9,11 +9,11 @@ abbrev pub invariant-loop-row : goal.invariant-loop-row
 invariant-loop-row l = record {
   same : IsSameSeat l.initial.seat l.seat;
   lows : l.lows ≡ l.initial.lows;
-  from : l.first + l.mark ≤ l.row;
+  from : l.begin ≤ l.row;
   inside : l.row ≤ l.end;
   low : l.low ≤ l.row;
   rose : Rose (view_of l.seat) (l.first + l.mark) l.low;
-  begun : Begun (limits_of l.self.words) (PassedBy (limits_of l.self.words) l.stage) ((l.row - (l.first + l.mark)) * try_steps (limits_of l.self.words)) (l.first + l.mark) l.row (view_of l.initial.seat) (view_of l.seat);
+  begun : Begun (limits_of l.self.words) (PassedBy (limits_of l.self.words) l.stage) ((l.row - l.begin) * try_steps (limits_of l.self.words)) l.begin l.row (view_of l.initial.seat) (view_of l.seat);
 }
 
 abbrev pub decreases-loop-row : goal.decreases-loop-row

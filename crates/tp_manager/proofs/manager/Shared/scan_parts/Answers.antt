@@ -8,10 +8,16 @@ use Rattle.tp_manager.proofs.Lows.{rises_then, scan_next, scan_rises}
 use Rattle.tp_manager.proofs.Walks.{rises_same, sought_few}
 use Rattle.tp_manager.proofs.Scans.{finished_passed, passed_widens, took_then, took_few}
 use Rattle.tp_manager.proofs.Seeks.{begun_done, begun_few, begun_looked, begun_on, one_row, part_widens, sought_all}
+use Rattle.tp_manager.proofs.Passes.{done_walked}
 use Rattle.tp_manager.proofs.manager.Shared.scan_parts.Goals as goal
 
 pub scan_part-requires-clause-part : goal.scan_part-requires-clause-part
 scan_part-requires-clause-part c = subst (λ (z : Limits). c.loop-part.part < z.parts) (sym c.args.self.now.same) c.loop-part-test.true
+
+pub scan_part-requires-clause-done : goal.scan_part-requires-clause-done
+scan_part-requires-clause-done c = let l : Limits = limits_of c.args.self.now.words in let s = try_steps l in let n = c.loop-part.part in
+    let gone = begun_looked l (OfPart l (PassedBy l c.args.stage)) (part_widens l (PassedBy l c.args.stage) (passed_widens l c.args.stage)) (scan_steps l s 2 c.args.lows.now n) c.first_open-first.result n _ _ c.loop-part.invariant.begun c.requires.steady in
+    done_walked l _ gone.marks _ _ c.args.done c.requires.steady.pass.1 gone.walk c.requires.done
 
 pub loop-part-init : goal.loop-part-init
 loop-part-init c = record {
