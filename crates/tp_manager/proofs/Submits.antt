@@ -15,6 +15,7 @@ use Rattle.tp_model.proofs.Histories.{legal_at}
 use Rattle.tp_model.proofs.Bridges.{new_birth}
 use Rattle.tp_rule.specs.Views.{SeatShown, hand, next_row, view_of}
 use Rattle.tp_rule.specs.Steps.{Bodied, Drafts, Publishes, birth, bodied, drafted, next_element, noted, stored, unchanged, with_birth, with_body, with_draft}
+use Rattle.tp_rule.proofs.Bodied.{bodied_seen}
 use Rattle.tp_rule.specs.declared.view.Hand.{Hand}
 use Rattle.tp_rule.specs.declared.view.View.{View}
 use Rattle.tp_manager.proofs.Unseen.{unseen_hand, unseen_steady, unseen_walked}
@@ -56,10 +57,6 @@ module _ (l : Limits) (v : View) (s : Steady l v) where
   many_steady zero = s
   many_steady (suc n) = let before = many_steady n in stored_steady l unchanged (stored n v) (stored (suc n) v) before refl refl before.shows.run refl refl
 
-  many_seen : (n : ℕ) → (stored n v).seen ≡ v.seen
-  many_seen zero = refl
-  many_seen (suc n) = many_seen n
-
   abbrev many_marks : ℕ → List TraceEntry
   many_marks zero = []
   many_marks (suc n) = many_marks n ++ record { kind = kinds.DraftStore; seen = (stored n v).seen } ∷ []
@@ -95,12 +92,8 @@ module _ (l : Limits) (body : List ℕ) (v a : View) (s : Steady l v) (whole : B
   pub body_walked : Walked l body_steps body_marks v a
   body_walked = walked_few l whole.stores body_steps _ v a whole.few (walked_by whole.stores whole.view)
 
-  seen_by : (n : ℕ) → a ≡ bodied n body v → a.seen ≡ v.seen
-  seen_by zero is = ap (λ (z : View). z.seen) is
-  seen_by (suc n) is = ap (λ (z : View). z.seen) is ∙ many_seen l v s n
-
   pub body_seen : a.seen ≡ v.seen
-  body_seen = seen_by whole.stores whole.view
+  body_seen = bodied_seen whole.stores body v a whole.view
 
 -- a draft of unit u: its body, and then its head
 module _ (l : Limits) (body : List ℕ) (stage root u : ℕ) (v a w : View) (s : Steady l v) (whole : Bodied body v a) (head : Drafts a stage root u w) (room : 0 < (hand v).left) where

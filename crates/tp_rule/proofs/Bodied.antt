@@ -5,7 +5,7 @@ use Rattle.tp_model.specs.declared.trace.TraceEntry.{TraceEntry}
 use Rattle.tp_model.specs.declared.types.TheConstants.{BODY_WORDS}
 use Rattle.tp_model.specs.Steps.{IsBody}
 use Rattle.tp_model.proofs.Bodies.{four_words}
-use Rattle.tp_rule.specs.Steps.{Bodied, Fills, drafted, noted, stored, unchanged, with_body, with_word}
+use Rattle.tp_rule.specs.Steps.{Bodied, Fills, bodied, drafted, noted, stored, unchanged, with_body, with_word}
 use Rattle.tp_rule.specs.Views.{IsOnePass, blank_body, hand}
 use Rattle.tp_rule.specs.declared.view.Hand.{Hand}
 use Rattle.tp_rule.specs.declared.view.View.{View}
@@ -42,6 +42,15 @@ stored_one (suc n) v one = (one_after kinds.DraftStore unchanged (stored n v).se
 stored_limits : (n : ℕ) (v : View) → (stored n v).limits ≡ v.limits
 stored_limits zero v = refl
 stored_limits (suc n) v = stored_limits n v
+
+stored_seen : (n : ℕ) (v : View) → (stored n v).seen ≡ v.seen
+stored_seen zero v = refl
+stored_seen (suc n) v = stored_seen n v
+
+-- the stores of a body see nothing new
+pub bodied_seen : (n : ℕ) (body : List ℕ) (v w : View) → w ≡ bodied n body v → w.seen ≡ v.seen
+bodied_seen zero body v w is = ap (λ (z : View). z.seen) is
+bodied_seen (suc n) body v w is = ap (λ (z : View). z.seen) is ∙ stored_seen n v
 
 -- they change nothing in the pass but its trace
 stored_kept : (n : ℕ) (v : View) → IsOnePass v → hand (stored n v) ≡ with_trace (hand (stored n v)).trace (hand v)

@@ -4,7 +4,7 @@ ghost use Rattle.tp_model.specs.declared.trace.StepKind.TheVariants as kinds;
 ghost use Rattle.tp_model.specs.declared.types.Element.{Element};
 ghost use Rattle.tp_model.specs.History.{Aborted, element_of, end_of, first_id};
 ghost use Rattle.tp_model.specs.Steps.{rows_of, units_of, IsServerStage};
-ghost use Rattle.tp_rule.specs.Views.{hand_of, seen_by, view_of, first_view, fresh_from, IsNextRow, IsNextUnit, IsSameSeat};
+ghost use Rattle.tp_rule.specs.Views.{blank_body, hand_of, seen_by, view_of, first_view, fresh_from, IsNextRow, IsNextUnit, IsSameSeat};
 ghost use Rattle.tp_rule.specs.Steps.{HasWork, IsOwnWork, noted};
 ghost use Rattle.tp_rule.specs.Tables.{limits_of, IsSeatOf, IsPassOf};
 
@@ -47,6 +47,7 @@ fn pass(words: &Words, keeper: &mut Seat, number: u16) -> Seat
     ensures number { (hand_of result).number ≡ number }
     ensures rows { let l = limits_of words.now in ((hand_of result).next ≡ number * l.rows)
         × ((hand_of result).left ≡ l.rows) × ((hand_of result).drafts ≡ []) }
+    ensures blank { (hand_of result).next_body ≡ blank_body }
     ensures units { ((hand_of result).claimed ≡ 0) × ((hand_of result).open_unit ≡ None) }
 {
     words.hand_out(keeper)
@@ -58,12 +59,14 @@ fn submit(words: &Words, seat: &mut Seat, row: u32, body: Body)
     requires one { IsPassOf words.now seat.old }
     requires next { IsNextRow (limits_of words.now) (view_of seat.old) row }
     requires no_drafts { (hand_of seat.old).drafts ≡ [] }
+    requires blank { (hand_of seat.old).next_body ≡ blank_body }
     ensures same { IsSameSeat seat.old seat.new }
     ensures one { IsPassOf words.now seat.new }
     ensures number { (hand_of seat.new).number ≡ (hand_of seat.old).number }
     ensures used { ((hand_of seat.new).next ≡ (hand_of seat.old).next + 1)
         × ((hand_of seat.new).left ≡ (hand_of seat.old).left - 1) }
     ensures drafts { (hand_of seat.new).drafts ≡ [] }
+    ensures blank { (hand_of seat.new).next_body ≡ blank_body }
     ensures claimed { (hand_of seat.new).claimed ≡ (hand_of seat.old).claimed }
     ensures open_unit { (hand_of seat.new).open_unit ≡ (hand_of seat.old).open_unit }
 {
@@ -102,6 +105,7 @@ fn claim(words: &Words, seat: &mut Seat, row: u32, unit: u16) -> bool
     ensures number { (hand_of seat.new).number ≡ (hand_of seat.old).number }
     ensures rows { ((hand_of seat.new).next ≡ (hand_of seat.old).next)
         × ((hand_of seat.new).left ≡ (hand_of seat.old).left) × ((hand_of seat.new).drafts ≡ []) }
+    ensures body { (hand_of seat.new).next_body ≡ (hand_of seat.old).next_body }
     ensures won { result ≡ true → (hand_of seat.new).open_unit ≡ Some unit }
     ensures work { result ≡ true → (work : IsOwnWork (view_of seat.new) unit) × (work.item.root ≡ 0) }
 {
@@ -121,6 +125,7 @@ fn draft_reply(words: &Words, seat: &mut Seat, row: u32, unit: u16)
     requires one { IsPassOf words.now seat.old }
     requires next { IsNextRow (limits_of words.now) (view_of seat.old) row × (unit < 65535) }
     requires no_drafts { (hand_of seat.old).drafts ≡ [] }
+    requires blank { (hand_of seat.old).next_body ≡ blank_body }
     requires open_unit { (hand_of seat.old).open_unit ≡ Some unit }
     requires work { (work : IsOwnWork (view_of seat.old) unit) × (work.item.root ≡ 0) }
     ensures same { IsSameSeat seat.old seat.new }
@@ -360,7 +365,8 @@ fn fill(words: &Words, seat: &mut Seat, first: u32, body: Body)
     requires one { IsPassOf words.now seat.old }
     requires limits { limits_of words.now ≡ record { parts = 3; rows = 4; units = 2; attempts = 2; spare = 0 } }
     requires first { (first ≡ (hand_of seat.old).next) × (first < 9) }
-    requires new { ((hand_of seat.old).left ≡ 4) × ((hand_of seat.old).drafts ≡ []) }
+    requires new { ((hand_of seat.old).left ≡ 4) × ((hand_of seat.old).drafts ≡ [])
+        × ((hand_of seat.old).next_body ≡ blank_body) }
     ensures same { IsSameSeat seat.old seat.new }
 {
     for i in 0..4u32 {

@@ -32,6 +32,26 @@ fn heads(rt: HostRuntime) {
 }
 
 #[test]
+fn words_are_read(rt: HostRuntime) {
+    let reply = Head::There {
+        stage: 15,
+        root: 0,
+        by: Some(256),
+    };
+    assert!(rt; reply.pack() == 538968095);
+    assert!(rt; Head::read(reply.pack()) == reply);
+    let taken = Claim::Taken {
+        attempt: 2,
+        unit: 512,
+        round: 1,
+    };
+    assert!(rt; taken.pack() == 4227081);
+    assert!(rt; Claim::read(taken.pack()) == taken);
+    assert!(rt; UnitWord::Aborted.pack() == 2);
+    assert!(rt; UnitWord::read(UnitWord::Aborted.pack()) == UnitWord::Aborted);
+}
+
+#[test]
 fn refused_heads(rt: HostRuntime) {
     // Present, but of stage 0.
     assert!(rt; Head::unpack(1).is_none());

@@ -1,7 +1,7 @@
 //! Spare blocks that passes draw.
 ghost use Rattle.std.specs.Prelude.{◌≡◌, ◌-◌, ◌<◌, [], ◌∷◌, ◌++◌, IfSome, None};
 ghost use Rattle.tp_model.specs.Steps.{block_first};
-ghost use Rattle.tp_rule.specs.Views.{hand_of, view_of, first_view, fresh_from, IsSameSeat};
+ghost use Rattle.tp_rule.specs.Views.{blank_body, hand_of, view_of, first_view, fresh_from, IsSameSeat};
 ghost use Rattle.tp_rule.specs.Tables.{limits_of, IsSeatOf, IsPassOf};
 
 use super::{pass, reads_back, submit};
@@ -37,6 +37,7 @@ fn finds_drawn(words: &Words, seat: &mut Seat, block: u16) -> Option<u16>
     ensures same { IsSameSeat seat.old seat.new }
     ensures one { IsPassOf words.now seat.new }
     ensures drafts { (hand_of seat.new).drafts ≡ [] }
+    ensures blank { (hand_of seat.old).next_body ≡ blank_body → (hand_of seat.new).next_body ≡ blank_body }
     ensures drawn { result ≡ None → ((hand_of seat.new).next ≡ block_first (limits_of words.now) block)
         × ((hand_of seat.new).left ≡ 8)
         × ((hand_of seat.new).blocks ≡ (hand_of seat.old).blocks ++ block ∷ []) }
