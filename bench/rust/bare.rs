@@ -26,12 +26,10 @@ fn table(n: usize) -> Vec<AtomicU64> {
 const ROW: usize = 6;
 const CLAIM: usize = 5;
 
+// One word of the body isn't 0, and the others need no store: a row is used once.
 #[inline(always)]
 fn store_body(t: &[AtomicU64], i: usize, amount: u64, order: Ordering) {
-    t[ROW * i + 1].store(0, order);
     t[ROW * i + 2].store(amount, order);
-    t[ROW * i + 3].store(0, order);
-    t[ROW * i + 4].store(0, order);
 }
 #[inline(always)]
 fn load_body(t: &[AtomicU64], i: usize, order: Ordering) -> u64 {
@@ -44,6 +42,15 @@ fn load_body(t: &[AtomicU64], i: usize, order: Ordering) -> u64 {
 fn submits_seqcst(t: &[AtomicU64], first: usize) {
     for i in first..first + 256 {
         store_body(t, i, i as u64, SeqCst);
+        t[ROW * i].store(3, SeqCst);
+    }
+}
+#[inline(never)]
+fn submits_full(t: &[AtomicU64], first: usize) {
+    for i in first..first + 256 {
+        for word in 1..=4 {
+            t[ROW * i + word].store(i as u64, SeqCst);
+        }
         t[ROW * i].store(3, SeqCst);
     }
 }
@@ -162,6 +169,8 @@ fn small() {
     timed!("read_waiting", 0, 256, reads(&t));
     timed!("kill_waiting", 0, 256, kills(&t));
     timed!("read_killed", 0, 256, reads(&t));
+    let t = table(ROW * 512 + 2048);
+    timed!("submit_full", 0, 256, submits_full(&t, 0));
     let t = table(ROW * 512 + 2048);
     timed!("submit_relaxed_release", 0, 256, submits_release(&t, 0));
     let t = table(ROW * 512 + 2048);

@@ -186,6 +186,14 @@ fn small() {
     let m = Manager::new(2, 256, 7);
     timed!("submit", 0, 256, submits(&m, 0, 1, 256));
     timed!(
+        "submit_full",
+        0,
+        256,
+        (0..256)
+            .filter(|&i| m.submit(1, 2, [7, i, 7, 7]).is_some())
+            .count()
+    );
+    timed!(
         "read_waiting",
         0,
         256,

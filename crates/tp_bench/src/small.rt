@@ -3,7 +3,8 @@ ghost use Rattle.std.specs.Prelude.{◌≡◌, None, IfSome};
 ghost use Rattle.tp_manager.specs.Shown.{IsOf, IsKeptBy};
 
 use crate::calls::{
-    aborts, bare_turns, errors, kept, kills, now, pass, reads, replies, submits, turns,
+    aborts, bare_turns, errors, kept, kills, now, pass, reads, replies, submits, submits_with,
+    turns,
 };
 use std::alloc::Global;
 use std::io;
@@ -48,7 +49,10 @@ fn of_clients(
     let t3 = now(rt);
     let d = reads(manager, other, 0, 256);
     let t4 = now(rt);
+    let e = submits_with(manager, other, 1, 256, 7);
+    let t5 = now(rt);
     println!(rt; "submit 0 {} {a}", t1.wrapping_sub(t0))?;
+    println!(rt; "submit_full 0 {} {e}", t5.wrapping_sub(t4))?;
     println!(rt; "read_waiting 0 {} 256 {b}", t2.wrapping_sub(t1))?;
     println!(rt; "kill_waiting 0 {} {c}", t3.wrapping_sub(t2))?;
     println!(rt; "read_killed 0 {} 256 {d}", t4.wrapping_sub(t3))
