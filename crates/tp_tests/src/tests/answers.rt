@@ -1,5 +1,6 @@
 //! The line of each answer.
 
+use std::process::Abort;
 use std::test::Fail;
 use tp_desk::Turned;
 use tp_model::types::{Counts, Element, Look, Refusal, Status};
@@ -49,6 +50,13 @@ const NO_WORD_THREE: Element = Element {
     by: None,
 };
 
+/// The answer's line is this.
+fn is_told<R: Abort + AllocGlobal>(rt: &R, answer: Answer<'_>, want: &str) -> Result<(), Fail> {
+    let text = line(rt.alloc(), answer)?;
+    assert_eq!(rt; text.as_str(), want);
+    Ok(())
+}
+
 /// The answer of server `a`.
 fn of_a(answer: ServerAnswer) -> Answer<'static> {
     Answer::Server { name: "a", answer }
@@ -92,8 +100,7 @@ fn lines_of_servers(rt: HostRuntime) -> Result<(), Fail> {
         (of_a(ServerAnswer::Dropped), "a dropped\n"),
         (of_a(ServerAnswer::Ended), "a ended\n"),
     ] {
-        let text = line(rt.alloc(), answer)?;
-        assert_eq!(rt; text.as_str(), want);
+        is_told(&rt, answer, want)?;
     }
     Ok(())
 }
@@ -145,8 +152,7 @@ fn lines_of_elements(rt: HostRuntime) -> Result<(), Fail> {
             "6 stage 2 root 6 key 3 amount 2 more 1 0 by client killed\n",
         ),
     ] {
-        let text = line(rt.alloc(), Answer::Read(Look { element, status }))?;
-        assert_eq!(rt; text.as_str(), want);
+        is_told(&rt, Answer::Read(Look { element, status }), want)?;
     }
     for (refusal, want) in [
         (Refusal::BadStage, "refused 3 BadStage\n"),
@@ -157,8 +163,7 @@ fn lines_of_elements(rt: HostRuntime) -> Result<(), Fail> {
         (Refusal::NotParked, "refused 8 NotParked\n"),
         (Refusal::NoRound, "refused 9 NoRound\n"),
     ] {
-        let text = line(rt.alloc(), Answer::Refused(refusal))?;
-        assert_eq!(rt; text.as_str(), want);
+        is_told(&rt, Answer::Refused(refusal), want)?;
     }
     Ok(())
 }
@@ -233,8 +238,7 @@ fn other_lines(rt: HostRuntime) -> Result<(), Fail> {
             "final a 1 18446744073709551615\n",
         ),
     ] {
-        let text = line(rt.alloc(), answer)?;
-        assert_eq!(rt; text.as_str(), want);
+        is_told(&rt, answer, want)?;
     }
     let refused = Refused {
         line: 2,
