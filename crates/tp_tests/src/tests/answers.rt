@@ -169,10 +169,42 @@ fn lines_of_elements(rt: HostRuntime) -> Result<(), Fail> {
 }
 
 #[test]
-fn other_lines(rt: HostRuntime) -> Result<(), Fail> {
+fn lines_of_lists(rt: HostRuntime) -> Result<(), Fail> {
     let replies = [REPLY, REQUEST, WHOLE, NO_WORD_TWO, NO_WORD_THREE];
     let ids = [0, 5, 4294967295];
     let registers = [1, 18446744073709551615];
+    for (answer, want) in [
+        (
+            Answer::Replies {
+                root: 0,
+                replies: &[],
+            },
+            "replies 0\n",
+        ),
+        (
+            Answer::Replies {
+                root: 0,
+                replies: &replies,
+            },
+            "replies 0 8:7:18446744073709551615 0:0:11 4:0:5:7:9 5:3:2:0:1 6:3:2:1:0\n",
+        ),
+        (Answer::Errors(&[]), "errors\n"),
+        (Answer::Errors(&ids), "errors 0 5 4294967295\n"),
+        (
+            Answer::Final {
+                name: "a",
+                registers: &registers,
+            },
+            "final a 1 18446744073709551615\n",
+        ),
+    ] {
+        is_told(&rt, answer, want)?;
+    }
+    Ok(())
+}
+
+#[test]
+fn other_lines(rt: HostRuntime) -> Result<(), Fail> {
     let counts = Counts {
         waiting: 1,
         held: 2,
@@ -189,28 +221,12 @@ fn other_lines(rt: HostRuntime) -> Result<(), Fail> {
     };
     for (answer, want) in [
         (Answer::Submitted { id: 3 }, "submitted 3\n"),
-        (
-            Answer::Replies {
-                root: 0,
-                replies: &[],
-            },
-            "replies 0\n",
-        ),
-        (
-            Answer::Replies {
-                root: 0,
-                replies: &replies,
-            },
-            "replies 0 8:7:18446744073709551615 0:0:11 4:0:5:7:9 5:3:2:0:1 6:3:2:1:0\n",
-        ),
         (Answer::Killed { id: 0, aborted: 1 }, "killed 0 aborted 1\n"),
         (
             Answer::Cancelled { root: 0, killed: 2 },
             "cancelled 0 killed 2\n",
         ),
         (Answer::Requeued { id: 0, round: 3 }, "requeued 0 round 3\n"),
-        (Answer::Errors(&[]), "errors\n"),
-        (Answer::Errors(&ids), "errors 0 5 4294967295\n"),
         (balance(Some(5)), "balance a 1 5\n"),
         (balance(None), "balance a 1 none\n"),
         (
@@ -230,13 +246,6 @@ fn other_lines(rt: HostRuntime) -> Result<(), Fail> {
         ),
         (Answer::Raced { submitted: 200 }, "race submitted 200\n"),
         (Answer::Drained, "drained\n"),
-        (
-            Answer::Final {
-                name: "a",
-                registers: &registers,
-            },
-            "final a 1 18446744073709551615\n",
-        ),
     ] {
         is_told(&rt, answer, want)?;
     }
