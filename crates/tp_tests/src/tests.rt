@@ -10,6 +10,7 @@ mod faults;
 mod interrupted;
 mod plain;
 mod plain_cancels;
+mod plain_plays;
 mod plain_requeues;
 mod plain_spares;
 mod reaches;

@@ -3,9 +3,11 @@ ghost use Rattle.std.specs.Prelude.{◌≡◌, None};
 ghost use Rattle.tp_manager.specs.Shown.{IsOf};
 
 mod asides;
+mod asking;
 mod calls;
 mod drops;
 mod lender;
+mod plays;
 mod router;
 mod turns;
 

@@ -8,11 +8,14 @@ mod cancels;
 mod examples;
 mod kills;
 mod marks;
+mod plays;
 mod refusals;
 mod requeues;
+mod spares;
 mod threads;
 
-use tp_model::types::{Body, Element, Limits};
+use std::process::Abort;
+use tp_model::types::{Body, Claimed, Draft, Element, Limits, Outcome, Status, Work};
 
 /// Two passes with four rows and two units each, and two attempts for each element.
 const SMALL: Limits = Limits {
@@ -23,6 +26,12 @@ const SMALL: Limits = Limits {
     spare: 0,
 };
 
+/// How a new element stands.
+const NEW: Status = Status::Waiting { attempts: 0 };
+
+/// A commit with no outputs.
+const NOTHING: Outcome = Outcome::Committed { first: 0, count: 0 };
+
 /// The element that a client's submit makes.
 fn request(id: u32, stage: u8, body: Body) -> Element {
     Element {
@@ -32,4 +41,28 @@ fn request(id: u32, stage: u8, body: Body) -> Element {
         body,
         by: None,
     }
+}
+
+/// What a claim answers that takes this element for this time, by this unit.
+fn work(unit: u16, attempt: u8, element: Element) -> Claimed {
+    Claimed::Work(Work {
+        unit,
+        element,
+        attempt,
+    })
+}
+
+/// The element that this unit's commit makes.
+fn output(id: u32, stage: u8, root: u32, body: Body, unit: u16) -> Element {
+    Element {
+        id,
+        stage,
+        root,
+        body,
+        by: Some(unit),
+    }
+}
+
+fn draft(rt: &impl Abort, stage: u8, body: Body) -> Draft {
+    Draft::new(stage, body).expect(rt, "a draft")
 }

@@ -1,7 +1,12 @@
 //! Worked rows at both kinds of server, plain and boxed, and at the edges of a recipe.
 mod fold;
+mod plays;
 mod till;
 
+use crate::tests::server::plays::Call::{
+    Balance, Commits, Does, IsPrepared, Outputs, Prepares, Stage, Undoes,
+};
+use crate::tests::server::plays::play;
 use crate::tests::server::till::Till;
 use arrayvec::ArrayVec;
 use std::process::Abort;
@@ -67,41 +72,36 @@ fn reply_after() -> Output {
 
 /// Registers `[5]`, Add, output `15:same:after`.
 fn prepare_undo_commit(rt: &impl Abort, server: &mut (dyn Server + Send)) {
-    assert!(rt; !server.is_prepared());
-    let Ok(drafts) = server.prepare(&element(0, 7)) else {
-        panic!(rt; "declined")
-    };
-    assert!(rt; drafts.as_slice() == [draft(rt, 15, 0, 12)].as_slice());
-    assert!(rt; server.is_prepared());
-    assert!(rt; server.balance(0) == Some(5));
-    server.undo();
-    assert!(rt; !server.is_prepared());
-    assert!(rt; server.balance(0) == Some(5));
-    let Ok(again) = server.prepare(&element(0, 7)) else {
-        panic!(rt; "declined")
-    };
-    assert!(rt; again.as_slice() == [draft(rt, 15, 0, 12)].as_slice());
-    server.commit();
-    assert!(rt; !server.is_prepared());
-    assert!(rt; server.balance(0) == Some(12));
-    assert!(rt; server.balance(1) == None);
+    let reply = [draft(rt, 15, 0, 12)];
+    let calls = [
+        IsPrepared(false),
+        Prepares(0, 7, Ok(&reply)),
+        IsPrepared(true),
+        Balance(0, Some(5)),
+        Undoes,
+        IsPrepared(false),
+        Balance(0, Some(5)),
+        Prepares(0, 7, Ok(&reply)),
+        Commits,
+        IsPrepared(false),
+        Balance(0, Some(12)),
+        Balance(1, None),
+    ];
+    play(rt, server, &calls);
 }
 
 /// Registers `[12]`, Take.
 fn declines(rt: &impl Abort, server: &mut (dyn Server + Send)) {
-    assert!(rt; !server.is_prepared());
-    let Err(why) = server.prepare(&element(0, 13)) else {
-        panic!(rt; "not declined")
-    };
-    assert!(rt; why == Declined::Short);
-    assert!(rt; !server.is_prepared());
-    assert!(rt; server.balance(0) == Some(12));
-    let Err(other) = server.prepare(&element(1, 13)) else {
-        panic!(rt; "not declined")
-    };
-    assert!(rt; other == Declined::NoRegister);
-    assert!(rt; !server.is_prepared());
-    assert!(rt; server.balance(0) == Some(12));
+    let calls = [
+        IsPrepared(false),
+        Prepares(0, 13, Err(Declined::Short)),
+        IsPrepared(false),
+        Balance(0, Some(12)),
+        Prepares(1, 13, Err(Declined::NoRegister)),
+        IsPrepared(false),
+        Balance(0, Some(12)),
+    ];
+    play(rt, server, &calls);
 }
 
 #[test]
@@ -146,56 +146,47 @@ fn lazy_boxed(rt: HostRuntime) -> Result<(), Fail> {
     Ok(())
 }
 
-/// The draft that a server makes of the element, or why it declines it; the work is committed.
-fn done(
-    server: &mut (dyn Server + Send),
-    key: u64,
-    amount: u64,
-) -> Option<Result<ArrayVec<Draft, 4>, Declined>> {
-    if server.is_prepared() {
-        return None;
-    }
-    match server.prepare(&element(key, amount)) {
-        Ok(drafts) => {
-            server.commit();
-            Some(Ok(drafts))
-        }
-        Err(why) => Some(Err(why)),
-    }
-}
-
 /// Registers `[1, 5]`, Add: up to the largest number and no further, at the last register and past it.
 fn add_edges(rt: &impl Abort, server: &mut (dyn Server + Send)) {
-    assert!(rt; done(server, 0, MAX) == Some(Err(Declined::TooLarge)));
-    assert!(rt; server.balance(0) == Some(1));
-    assert!(rt; done(server, 0, MAX - 1) == Some(Ok(ArrayVec::new())));
-    assert!(rt; server.balance(0) == Some(MAX));
-    assert!(rt; done(server, 0, 1) == Some(Err(Declined::TooLarge)));
-    assert!(rt; done(server, 1, 2) == Some(Ok(ArrayVec::new())));
-    assert!(rt; server.balance(1) == Some(7));
-    assert!(rt; server.balance(0) == Some(MAX));
-    assert!(rt; done(server, 2, MAX) == Some(Err(Declined::NoRegister)));
-    assert!(rt; done(server, MAX, 0) == Some(Err(Declined::NoRegister)));
-    assert!(rt; server.balance(2) == None);
+    let calls = [
+        Does(0, MAX, Err(Declined::TooLarge)),
+        Balance(0, Some(1)),
+        Does(0, MAX - 1, Ok(&[])),
+        Balance(0, Some(MAX)),
+        Does(0, 1, Err(Declined::TooLarge)),
+        Does(1, 2, Ok(&[])),
+        Balance(1, Some(7)),
+        Balance(0, Some(MAX)),
+        Does(2, MAX, Err(Declined::NoRegister)),
+        Does(MAX, 0, Err(Declined::NoRegister)),
+        Balance(2, None),
+    ];
+    play(rt, server, &calls);
 }
 
 /// Registers `[3, 5]`, Take: down to 0 and no further, at the last register and past it.
 fn take_edges(rt: &impl Abort, server: &mut (dyn Server + Send)) {
-    assert!(rt; done(server, 0, 4) == Some(Err(Declined::Short)));
-    assert!(rt; done(server, 0, 3) == Some(Ok(ArrayVec::new())));
-    assert!(rt; server.balance(0) == Some(0));
-    assert!(rt; done(server, 0, 1) == Some(Err(Declined::Short)));
-    assert!(rt; done(server, 1, 5) == Some(Ok(ArrayVec::new())));
-    assert!(rt; server.balance(1) == Some(0));
-    assert!(rt; done(server, 2, 1) == Some(Err(Declined::NoRegister)));
+    let calls = [
+        Does(0, 4, Err(Declined::Short)),
+        Does(0, 3, Ok(&[])),
+        Balance(0, Some(0)),
+        Does(0, 1, Err(Declined::Short)),
+        Does(1, 5, Ok(&[])),
+        Balance(1, Some(0)),
+        Does(2, 1, Err(Declined::NoRegister)),
+    ];
+    play(rt, server, &calls);
 }
 
 /// Registers `[3, 5]`, Pass: nothing changes, and the register has to be there.
 fn pass_edges(rt: &impl Abort, server: &mut (dyn Server + Send)) {
-    assert!(rt; done(server, 1, MAX) == Some(Ok(ArrayVec::new())));
-    assert!(rt; server.balance(1) == Some(5));
-    assert!(rt; done(server, 2, 0) == Some(Err(Declined::NoRegister)));
-    assert!(rt; server.balance(0) == Some(3));
+    let calls = [
+        Does(1, MAX, Ok(&[])),
+        Balance(1, Some(5)),
+        Does(2, 0, Err(Declined::NoRegister)),
+        Balance(0, Some(3)),
+    ];
+    play(rt, server, &calls);
 }
 
 #[test]
@@ -225,15 +216,19 @@ fn pass_leaves_registers(rt: HostRuntime) -> Result<(), Fail> {
 
 /// Registers `[0, 20]`, Take, and four outputs with each way to a key and to an amount.
 fn four_outputs(rt: &impl Abort, server: &mut (dyn Server + Send)) {
-    let mut wanted: ArrayVec<Draft, 4> = ArrayVec::new();
-    wanted.push(draft(rt, 2, 1, 8));
-    wanted.push(draft(rt, 15, 9, 12));
-    wanted.push(draft(rt, 3, 1, 100));
-    wanted.push(draft(rt, 1, 0, 12));
-    assert!(rt; done(server, 1, 8) == Some(Ok(wanted)));
-    assert!(rt; server.balance(1) == Some(12));
-    assert!(rt; server.stage() == 1);
-    assert!(rt; server.recipe().outputs.len() == 4);
+    let wanted = [
+        draft(rt, 2, 1, 8),
+        draft(rt, 15, 9, 12),
+        draft(rt, 3, 1, 100),
+        draft(rt, 1, 0, 12),
+    ];
+    let calls = [
+        Does(1, 8, Ok(&wanted)),
+        Balance(1, Some(12)),
+        Stage(1),
+        Outputs(4),
+    ];
+    play(rt, server, &calls);
 }
 
 #[test]
@@ -255,21 +250,34 @@ fn outputs_in_order(rt: HostRuntime) -> Result<(), Fail> {
     Ok(())
 }
 
+/// An empty till of stage 3, and its first use.
+fn first_use(rt: &impl Abort, till: &mut (dyn Server + Send)) {
+    let reply = [draft(rt, 15, 0, 5)];
+    let calls = [Stage(3), Does(0, 5, Ok(&reply))];
+    play(rt, till, &calls);
+    assert!(rt; till.recipe().check() == Ok(()));
+}
+
+/// The same till, once it has been used up to 12.
+fn last_use(rt: &impl Abort, till: &mut (dyn Server + Send)) {
+    let calls = [
+        Stage(3),
+        Does(1, 0, Err(Declined::NoRegister)),
+        Does(0, MAX, Err(Declined::TooLarge)),
+        Balance(0, Some(12)),
+    ];
+    play(rt, till, &calls);
+}
+
 #[test]
 fn a_server_of_ones_own(rt: HostRuntime) -> Result<(), Fail> {
     assert!(rt; Till::new(0).is_none());
     assert!(rt; Till::new(15).is_none());
     let till = Till::new(3).ok_or("a till")?;
     let mut boxed: Box<dyn Server + Send> = Box::new(rt.alloc(), till)?;
-    let mut reply: ArrayVec<Draft, 4> = ArrayVec::new();
-    reply.push(draft(&rt, 15, 0, 5));
-    assert!(rt; done(&mut *boxed, 0, 5) == Some(Ok(reply)));
+    first_use(&rt, &mut *boxed);
     prepare_undo_commit(&rt, &mut *boxed);
-    assert!(rt; boxed.stage() == 3);
-    assert!(rt; boxed.recipe().check() == Ok(()));
-    assert!(rt; done(&mut *boxed, 1, 0) == Some(Err(Declined::NoRegister)));
-    assert!(rt; done(&mut *boxed, 0, MAX) == Some(Err(Declined::TooLarge)));
-    assert!(rt; boxed.balance(0) == Some(12));
+    last_use(&rt, &mut *boxed);
     Ok(())
 }
 
@@ -376,36 +384,29 @@ fn unused_outputs(rt: HostRuntime) {
     assert!(rt; Output::default() == output(15, KeyFrom::Same, AmountFrom::Same));
 }
 
-#[test]
-fn an_effect_changes_nothing(rt: HostRuntime) -> Result<(), Fail> {
-    let mut registers = Registers::new(2).ok_or("registers")?;
-    registers.set(1, 5);
-    let mut outputs = ArrayVec::new();
-    outputs.push(Output {
-        stage: 15,
-        key: KeyFrom::Same,
-        amount: AmountFrom::After,
-    });
-    let recipe = Recipe {
-        stage: 1,
-        registers: 2,
-        act: Act::Add,
-        word: 1,
-        outputs,
-    };
-    recipe.check()?;
-    let prepared = recipe.effect(&registers, &element(1, 7))?;
-    assert_eq!(rt; prepared.after, 12);
-    assert_eq!(rt;
-        prepared.drafts.as_slice(),
-        [draft(&rt, 15, 1, 12)].as_slice()
-    );
+/// Registers `[0, 5]`, Add, output `15:same:after`: the effect tells what is in the register then, and a key past the
+/// last has none.
+fn has_effect(rt: &impl Abort, recipe: &Recipe, registers: &Registers) {
+    assert!(rt; recipe.check() == Ok(()));
+    match recipe.effect(registers, &element(1, 7)) {
+        Ok(prepared) => {
+            assert!(rt; prepared.after == 12);
+            assert!(rt; prepared.drafts.as_slice() == [draft(rt, 15, 1, 12)].as_slice());
+        }
+        Err(_) => panic!(rt; "declined"),
+    }
     assert!(rt;
         matches!(
-            recipe.effect(&registers, &element(2, 7)),
+            recipe.effect(registers, &element(2, 7)),
             Err(Declined::NoRegister)
         )
     );
+}
+
+#[test]
+fn an_effect_changes_nothing(rt: HostRuntime) -> Result<(), Fail> {
+    let registers = registers(&rt, &[0, 5]);
+    has_effect(&rt, &recipe(2, Act::Add, &[reply_after()]), &registers);
     let copy = registers.clone()?;
     assert_eq!(rt; copy.as_slice(), [0, 5].as_slice());
     assert_eq!(rt; registers.as_slice(), [0, 5].as_slice());

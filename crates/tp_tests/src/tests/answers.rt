@@ -1,5 +1,6 @@
 //! The line of each answer.
 
+use std::process::Abort;
 use std::test::Fail;
 use tp_desk::Turned;
 use tp_model::types::{Counts, Element, Look, Refusal, Status};
@@ -49,6 +50,13 @@ const NO_WORD_THREE: Element = Element {
     by: None,
 };
 
+/// The answer's line is this.
+fn is_told<R: Abort + AllocGlobal>(rt: &R, answer: Answer<'_>, want: &str) -> Result<(), Fail> {
+    let text = line(rt.alloc(), answer)?;
+    assert_eq!(rt; text.as_str(), want);
+    Ok(())
+}
+
 /// The answer of server `a`.
 fn of_a(answer: ServerAnswer) -> Answer<'static> {
     Answer::Server { name: "a", answer }
@@ -92,8 +100,7 @@ fn lines_of_servers(rt: HostRuntime) -> Result<(), Fail> {
         (of_a(ServerAnswer::Dropped), "a dropped\n"),
         (of_a(ServerAnswer::Ended), "a ended\n"),
     ] {
-        let text = line(rt.alloc(), answer)?;
-        assert_eq!(rt; text.as_str(), want);
+        is_told(&rt, answer, want)?;
     }
     Ok(())
 }
@@ -145,8 +152,7 @@ fn lines_of_elements(rt: HostRuntime) -> Result<(), Fail> {
             "6 stage 2 root 6 key 3 amount 2 more 1 0 by client killed\n",
         ),
     ] {
-        let text = line(rt.alloc(), Answer::Read(Look { element, status }))?;
-        assert_eq!(rt; text.as_str(), want);
+        is_told(&rt, Answer::Read(Look { element, status }), want)?;
     }
     for (refusal, want) in [
         (Refusal::BadStage, "refused 3 BadStage\n"),
@@ -157,17 +163,48 @@ fn lines_of_elements(rt: HostRuntime) -> Result<(), Fail> {
         (Refusal::NotParked, "refused 8 NotParked\n"),
         (Refusal::NoRound, "refused 9 NoRound\n"),
     ] {
-        let text = line(rt.alloc(), Answer::Refused(refusal))?;
-        assert_eq!(rt; text.as_str(), want);
+        is_told(&rt, Answer::Refused(refusal), want)?;
+    }
+    Ok(())
+}
+
+#[test]
+fn lines_of_lists(rt: HostRuntime) -> Result<(), Fail> {
+    let replies = [REPLY, REQUEST, WHOLE, NO_WORD_TWO, NO_WORD_THREE];
+    let ids = [0, 5, 4294967295];
+    let registers = [1, 18446744073709551615];
+    for (answer, want) in [
+        (
+            Answer::Replies {
+                root: 0,
+                replies: &[],
+            },
+            "replies 0\n",
+        ),
+        (
+            Answer::Replies {
+                root: 0,
+                replies: &replies,
+            },
+            "replies 0 8:7:18446744073709551615 0:0:11 4:0:5:7:9 5:3:2:0:1 6:3:2:1:0\n",
+        ),
+        (Answer::Errors(&[]), "errors\n"),
+        (Answer::Errors(&ids), "errors 0 5 4294967295\n"),
+        (
+            Answer::Final {
+                name: "a",
+                registers: &registers,
+            },
+            "final a 1 18446744073709551615\n",
+        ),
+    ] {
+        is_told(&rt, answer, want)?;
     }
     Ok(())
 }
 
 #[test]
 fn other_lines(rt: HostRuntime) -> Result<(), Fail> {
-    let replies = [REPLY, REQUEST, WHOLE, NO_WORD_TWO, NO_WORD_THREE];
-    let ids = [0, 5, 4294967295];
-    let registers = [1, 18446744073709551615];
     let counts = Counts {
         waiting: 1,
         held: 2,
@@ -184,28 +221,12 @@ fn other_lines(rt: HostRuntime) -> Result<(), Fail> {
     };
     for (answer, want) in [
         (Answer::Submitted { id: 3 }, "submitted 3\n"),
-        (
-            Answer::Replies {
-                root: 0,
-                replies: &[],
-            },
-            "replies 0\n",
-        ),
-        (
-            Answer::Replies {
-                root: 0,
-                replies: &replies,
-            },
-            "replies 0 8:7:18446744073709551615 0:0:11 4:0:5:7:9 5:3:2:0:1 6:3:2:1:0\n",
-        ),
         (Answer::Killed { id: 0, aborted: 1 }, "killed 0 aborted 1\n"),
         (
             Answer::Cancelled { root: 0, killed: 2 },
             "cancelled 0 killed 2\n",
         ),
         (Answer::Requeued { id: 0, round: 3 }, "requeued 0 round 3\n"),
-        (Answer::Errors(&[]), "errors\n"),
-        (Answer::Errors(&ids), "errors 0 5 4294967295\n"),
         (balance(Some(5)), "balance a 1 5\n"),
         (balance(None), "balance a 1 none\n"),
         (
@@ -225,16 +246,8 @@ fn other_lines(rt: HostRuntime) -> Result<(), Fail> {
         ),
         (Answer::Raced { submitted: 200 }, "race submitted 200\n"),
         (Answer::Drained, "drained\n"),
-        (
-            Answer::Final {
-                name: "a",
-                registers: &registers,
-            },
-            "final a 1 18446744073709551615\n",
-        ),
     ] {
-        let text = line(rt.alloc(), answer)?;
-        assert_eq!(rt; text.as_str(), want);
+        is_told(&rt, answer, want)?;
     }
     let refused = Refused {
         line: 2,

@@ -160,3 +160,17 @@ pub(crate) fn stands(plain: &Plain, id: u32, status: Status) -> bool {
         Err(_) => false,
     }
 }
+
+/// A draft for the stage of a body with this amount.
+pub(crate) fn draft<R: Abort>(rt: &R, stage: u8, amount: u64) -> Draft {
+    Draft::new(stage, body(amount)).expect(rt, "no draft")
+}
+
+/// What a claim answers that takes a client's element with this amount for this time, by this unit.
+pub(crate) fn took(unit: u16, attempt: u8, id: u32, amount: u64) -> Claimed {
+    Claimed::Work(Work {
+        unit,
+        element: request(id, amount),
+        attempt,
+    })
+}

@@ -5,7 +5,7 @@ ghost use Rattle.tp_manager.specs.Shown.{IsOf};
 use super::accounts::Accounts;
 use super::performed;
 use arrayvec::ArrayVec;
-use std::test::Fail;
+use std::process::Abort;
 use tp_desk::{Desk, Turned};
 use tp_manager::{Keeper, Manager, Pass};
 use tp_model::types::{Body, Limits};
@@ -96,9 +96,42 @@ fn turn(manager: &Manager, worker: &mut Pass, server: &mut Box<dyn Server + Send
     turned
 }
 
-// Account 1 holds 7: payee 71 is paid 4 of it, and 72 asks for more than the 3 that are left.
+/// A boxed server with two accounts that hold so much.
+fn accounts<R: Abort + AllocGlobal>(rt: &R, held: [u64; 2]) -> Box<dyn Server + Send>
+    ensures { pending result ≡ None }
+{
+    Box::new(rt.alloc(), Accounts::new(held)).expect(rt, "no memory")
+}
+
+/// Account 1 holds 7: payee 71 is paid 4 of it, and 72 asks for more than the 3 that are left.
+fn pays_twice<R: Abort>(
+    rt: &R,
+    manager: &Manager,
+    client: &mut Pass,
+    worker: &mut Pass,
+    server: &mut Box<dyn Server + Send>,
+)
+    requires client { IsOf manager.now client.old }
+    requires worker { IsOf manager.now worker.old }
+    requires free { worker.old.open_unit ≡ None }
+    requires unprepared { pending server.old ≡ None }
+{
+    let done = Turned::Done {
+        unit: 4,
+        element: 0,
+        first: 4,
+        count: 1,
+    };
+    let first = paid(manager, client, worker, server, [1, 71, 4, 9]);
+    assert_eq!(rt; first, Some((done, Some([1, 71, 3, 9]))));
+    let second = paid(manager, client, worker, server, [1, 72, 4, 10]);
+    let (turned, reply) = second.expect(rt, "no turn");
+    assert!(rt; matches!(turned, Turned::Refused { .. }));
+    assert_eq!(rt; reply, None);
+}
+
 #[test]
-fn a_server_of_ones_own(rt: HostRuntime) -> Result<(), Fail> {
+fn a_server_of_ones_own(rt: HostRuntime) {
     let limits = Limits {
         parts: 2,
         rows: 4,
@@ -106,37 +139,18 @@ fn a_server_of_ones_own(rt: HostRuntime) -> Result<(), Fail> {
         attempts: 1,
         spare: 0,
     };
-    let (manager, mut keeper) = Keeper::new(rt.alloc(), limits).ok().ok_or("a manager")?;
-    let mut client = keeper.pass(&manager)?;
-    let mut worker = keeper.pass(&manager)?;
-    let mut server: Box<dyn Server + Send> = Box::new(rt.alloc(), Accounts::new([5, 7]))?;
-    let first = paid(
-        &manager,
-        &mut client,
-        &mut worker,
-        &mut server,
-        [1, 71, 4, 9],
-    );
-    let done = Turned::Done {
-        unit: 4,
-        element: 0,
-        first: 4,
-        count: 1,
-    };
-    assert_eq!(rt; first, Some((done, Some([1, 71, 3, 9]))));
-    let second = paid(
-        &manager,
-        &mut client,
-        &mut worker,
-        &mut server,
-        [1, 72, 4, 10],
-    );
-    let (turned, reply) = second.ok_or("a turn")?;
-    assert!(rt; matches!(turned, Turned::Refused { .. }));
-    assert_eq!(rt; reply, None);
+    let (manager, mut keeper) = Keeper::new(rt.alloc(), limits).expect(&rt, "no manager");
+    let mut client = keeper.pass(&manager).expect(&rt, "no pass");
+    let mut worker = keeper.pass(&manager).expect(&rt, "no pass");
+    let mut server = accounts(&rt, [5, 7]);
+    pays_twice(&rt, &manager, &mut client, &mut worker, &mut server);
     assert_eq!(rt;
         (server.balance(0), server.balance(1), server.balance(2)),
         (Some(5), Some(3), None)
     );
-    Ok(())
+    drop(server);
+    drop(worker);
+    drop(client);
+    drop(keeper);
+    drop(manager);
 }

@@ -1,60 +1,57 @@
 //! Worked rows through the manager of one thread, and each of its calls once.
 
-use super::asking::{
-    aborts, body, claim, commits, kills, reads, request, stands, submits, two, work,
+use super::asking::{body, commits, draft, reads, request, stands, submits, took, two, work};
+use super::plain_plays::Call::{
+    Aborts, Capacity, Claims, Commits, HasOpen, Kills, Reads, Stands, Submits, SubmitsBody, Takes,
 };
+use super::plain_plays::{CLIENT, SERVER, plays};
 use std::test::Fail;
 use tp_model::types::{
-    Claimed, Draft, Element, Ended, Killed, Limits, Look, Outcome, Refusal, Status, Work,
+    Claimed, Draft, Element, Ended, Killed, Limits, Look, Outcome, Refusal, Status,
 };
 use tp_plain::laws;
 use tp_plain::plain::Plain;
 
 #[test]
 fn a_request_and_its_reply(rt: HostRuntime) {
-    let mut plain = two(&rt, 8, 256, 3);
-    assert_eq!(rt; plain.capacity(), 16);
-    assert!(rt; submits(&mut plain, 0, 1, 10, Ok(0)));
-    assert!(rt; !plain.has_open(1));
-    let taken = Work {
-        unit: 256,
-        element: request(0, 10),
-        attempt: 1,
+    let body = [5, 10, 6, 7];
+    let reply = [Draft::new(15, body).expect(&rt, "no draft")];
+    let element = Element {
+        id: 8,
+        stage: 15,
+        root: 0,
+        body,
+        by: Some(256),
     };
-    assert_eq!(rt; work(&mut plain, 1, 1), Some(taken));
-    assert!(rt; plain.has_open(1));
-    let draft = Draft::new(15, [5, 10, 6, 7]).expect(&rt, "no draft");
-    let done = Outcome::Committed { first: 8, count: 1 };
-    assert!(rt; commits(&mut plain, 1, &[draft], Ok(done)));
-    let reply = Look {
-        element: Element {
-            id: 8,
-            stage: 15,
-            root: 0,
-            body: [5, 10, 6, 7],
-            by: Some(256),
-        },
+    let waits = Look {
+        element,
         status: Status::Waiting { attempts: 0 },
     };
-    assert!(rt; reads(&plain, 8, Ok(reply)));
     let consumed = Look {
         element: request(0, 10),
         status: Status::Consumed { unit: 256 },
     };
-    assert!(rt; reads(&plain, 0, Ok(consumed)));
-    assert!(rt; reads(&plain, 1, Err(Refusal::NotThere)));
-    assert_eq!(rt; claim(&mut plain, 1, 1), Some(Claimed::Idle));
-    assert!(rt; kills(&mut plain, 0, 0, Err(Refusal::Consumed { unit: 256 })));
+    let calls = [
+        (CLIENT, Capacity(16)),
+        (CLIENT, Submits(1, 10, Ok(0))),
+        (SERVER, HasOpen(false)),
+        (SERVER, Claims(1, took(256, 1, 0, 10))),
+        (SERVER, HasOpen(true)),
+        (
+            SERVER,
+            Commits(&reply, Outcome::Committed { first: 8, count: 1 }),
+        ),
+        (CLIENT, Reads(8, Ok(waits))),
+        (CLIENT, Reads(0, Ok(consumed))),
+        (CLIENT, Reads(1, Err(Refusal::NotThere))),
+        (SERVER, Claims(1, Claimed::Idle)),
+        (CLIENT, Kills(0, Err(Refusal::Consumed { unit: 256 }))),
+    ];
+    plays(&rt, two(&rt, 8, 256, 3), &calls);
 }
 
 #[test]
 fn refused_submits(rt: HostRuntime) {
-    let mut plain = two(&rt, 2, 2, 2);
-    assert!(rt; submits(&mut plain, 0, 1, 9, Ok(0)));
-    assert!(rt; submits(&mut plain, 0, 0, 9, Err(Refusal::BadStage)));
-    assert_eq!(rt; plain.submit(0, 14, [3, 4, 5, 6]), Ok(1));
-    assert!(rt; submits(&mut plain, 0, 1, 9, Err(Refusal::Full)));
-    assert!(rt; submits(&mut plain, 0, 15, 9, Err(Refusal::BadStage)));
     let second = Look {
         element: Element {
             id: 1,
@@ -65,55 +62,67 @@ fn refused_submits(rt: HostRuntime) {
         },
         status: Status::Waiting { attempts: 0 },
     };
-    assert!(rt; reads(&plain, 1, Ok(second)));
+    let calls = [
+        (CLIENT, Submits(1, 9, Ok(0))),
+        (CLIENT, Submits(0, 9, Err(Refusal::BadStage))),
+        (CLIENT, SubmitsBody(14, [3, 4, 5, 6], Ok(1))),
+        (CLIENT, Submits(1, 9, Err(Refusal::Full))),
+        (CLIENT, Submits(15, 9, Err(Refusal::BadStage))),
+        (CLIENT, Reads(1, Ok(second))),
+    ];
+    plays(&rt, two(&rt, 2, 2, 2), &calls);
 }
 
 #[test]
 fn attempts_and_units(rt: HostRuntime) {
-    let mut plain = two(&rt, 4, 2, 2);
-    assert!(rt; submits(&mut plain, 0, 1, 9, Ok(0)));
-    let first = work(&mut plain, 1, 1).expect(&rt, "no work");
-    assert!(rt; first.unit == 2 && first.attempt == 1);
-    assert!(rt; aborts(&mut plain, 1, Ended::Aborted));
-    assert!(rt; stands(&plain, 0, Status::Waiting { attempts: 1 }));
-    let second = work(&mut plain, 1, 1).expect(&rt, "no work");
-    assert!(rt; second.unit == 3 && second.attempt == 2);
-    assert!(rt; aborts(&mut plain, 1, Ended::Aborted));
-    assert!(rt; stands(&plain, 0, Status::Parked { attempts: 2 }));
-    assert_eq!(rt; claim(&mut plain, 1, 1), Some(Claimed::NoUnit));
-    assert_eq!(rt; claim(&mut plain, 0, 1), Some(Claimed::Idle));
+    let calls = [
+        (CLIENT, Submits(1, 9, Ok(0))),
+        (SERVER, Claims(1, took(2, 1, 0, 9))),
+        (SERVER, Aborts(Ended::Aborted)),
+        (CLIENT, Stands(0, Status::Waiting { attempts: 1 })),
+        (SERVER, Claims(1, took(3, 2, 0, 9))),
+        (SERVER, Aborts(Ended::Aborted)),
+        (CLIENT, Stands(0, Status::Parked { attempts: 2 })),
+        (SERVER, Claims(1, Claimed::NoUnit)),
+        (CLIENT, Claims(1, Claimed::Idle)),
+    ];
+    plays(&rt, two(&rt, 4, 2, 2), &calls);
 }
 
 #[test]
 fn full_then_committed(rt: HostRuntime) {
-    let mut plain = two(&rt, 1, 2, 2);
-    let draft = Draft::new(15, body(9)).expect(&rt, "no draft");
-    assert!(rt; submits(&mut plain, 0, 1, 9, Ok(0)));
-    assert!(rt; work(&mut plain, 1, 1).is_some());
-    assert!(rt; commits(&mut plain, 1, &[draft, draft], Ok(Outcome::Full)));
-    assert!(rt; stands(&plain, 0, Status::Waiting { attempts: 1 }));
-    let again = work(&mut plain, 1, 1).expect(&rt, "no work");
-    assert!(rt; again.unit == 3 && again.attempt == 2);
-    let done = Outcome::Committed { first: 1, count: 1 };
-    assert!(rt; commits(&mut plain, 1, &[draft], Ok(done)));
+    let replies = [draft(&rt, 15, 9), draft(&rt, 15, 9)];
+    let calls = [
+        (CLIENT, Submits(1, 9, Ok(0))),
+        (SERVER, Takes(1, 0)),
+        (SERVER, Commits(&replies, Outcome::Full)),
+        (CLIENT, Stands(0, Status::Waiting { attempts: 1 })),
+        (SERVER, Claims(1, took(3, 2, 0, 9))),
+        (
+            SERVER,
+            Commits(&replies[..1], Outcome::Committed { first: 1, count: 1 }),
+        ),
+    ];
+    plays(&rt, two(&rt, 1, 2, 2), &calls);
 }
 
 #[test]
 fn killed_in_the_hand(rt: HostRuntime) {
-    let mut plain = two(&rt, 4, 4, 2);
-    assert!(rt; submits(&mut plain, 0, 1, 9, Ok(0)));
-    assert!(rt; submits(&mut plain, 0, 1, 8, Ok(1)));
-    assert!(rt; kills(&mut plain, 0, 7, Err(Refusal::NotThere)));
-    assert!(rt; work(&mut plain, 1, 1).is_some());
-    assert!(rt; kills(&mut plain, 0, 0, Ok(Killed { units_aborted: 1 })));
-    assert!(rt; kills(&mut plain, 0, 0, Err(Refusal::AlreadyKilled)));
-    assert!(rt; stands(&plain, 0, Status::Killed));
-    let draft = Draft::new(2, body(9)).expect(&rt, "no draft");
-    assert!(rt; commits(&mut plain, 1, &[draft], Ok(Outcome::Lost)));
-    let again = work(&mut plain, 1, 1).expect(&rt, "no work");
-    assert_eq!(rt; again.element.id, 1);
-    assert!(rt; kills(&mut plain, 0, 1, Ok(Killed { units_aborted: 1 })));
-    assert!(rt; aborts(&mut plain, 1, Ended::Already));
+    let drafts = [draft(&rt, 2, 9)];
+    let calls = [
+        (CLIENT, Submits(1, 9, Ok(0))),
+        (CLIENT, Submits(1, 8, Ok(1))),
+        (CLIENT, Kills(7, Err(Refusal::NotThere))),
+        (SERVER, Takes(1, 0)),
+        (CLIENT, Kills(0, Ok(Killed { units_aborted: 1 }))),
+        (CLIENT, Kills(0, Err(Refusal::AlreadyKilled))),
+        (CLIENT, Stands(0, Status::Killed)),
+        (SERVER, Commits(&drafts, Outcome::Lost)),
+        (SERVER, Takes(1, 1)),
+        (CLIENT, Kills(1, Ok(Killed { units_aborted: 1 }))),
+        (SERVER, Aborts(Ended::Already)),
+    ];
+    plays(&rt, two(&rt, 4, 4, 2), &calls);
 }
 
 // For a run in which one allocation fails: that call is refused, nothing is changed, and asked again it goes through.

@@ -1,6 +1,8 @@
 //! Spare blocks of rows, drawn by the passes of the manager of one thread.
 
-use super::asking::{body, commits, kills, reads, sparing, stands, submits, work};
+use super::asking::{body, commits, draft, reads, sparing, submits, work};
+use super::plain_plays::Call::{Capacity, Commits, Kills, Reads, Stands, Submits, Takes};
+use super::plain_plays::{CLIENT, SERVER, plays};
 use std::test::Fail;
 use tp_model::types::{Draft, Killed, Limits, Outcome, Refusal, Status};
 use tp_plain::plain::Plain;
@@ -8,57 +10,72 @@ use tp_plain::plain::Plain;
 // Two rows for each pass, and two blocks, of the rows 4 to 11 and 12 to 19.
 #[test]
 fn blocks_in_order(rt: HostRuntime) {
-    let mut plain = sparing(&rt, 2, 2);
-    assert_eq!(rt; plain.capacity(), 20);
-    let draft = Draft::new(15, body(9)).expect(&rt, "no draft");
-    assert!(rt; submits(&mut plain, 0, 1, 9, Ok(0)));
-    assert!(rt; submits(&mut plain, 0, 1, 9, Ok(1)));
-    assert!(rt; work(&mut plain, 1, 1).is_some());
-    let three = Outcome::Committed { first: 4, count: 3 };
-    assert!(rt; commits(&mut plain, 1, &[draft, draft, draft], Ok(three)));
-    assert!(rt; reads(&plain, 2, Err(Refusal::NotThere)));
-    assert!(rt; submits(&mut plain, 0, 1, 9, Ok(12)));
-    assert!(rt; work(&mut plain, 1, 1).is_some());
-    let four = Outcome::Committed { first: 7, count: 4 };
-    assert!(rt; commits(&mut plain, 1, &[draft, draft, draft, draft], Ok(four)));
-    assert!(rt; work(&mut plain, 1, 1).is_some());
-    assert!(rt; commits(&mut plain, 1, &[draft, draft], Ok(Outcome::Full)));
-    assert!(rt; stands(&plain, 12, Status::Waiting { attempts: 1 }));
-    assert!(rt; work(&mut plain, 1, 1).is_some());
+    let reply = draft(&rt, 15, 9);
+    let drafts = [reply, reply, reply, reply];
     let one = Outcome::Committed {
         first: 11,
         count: 1,
     };
-    assert!(rt; commits(&mut plain, 1, &[draft], Ok(one)));
-    assert!(rt; submits(&mut plain, 1, 1, 9, Err(Refusal::Full)));
-    assert!(rt; submits(&mut plain, 0, 1, 9, Ok(13)));
-    assert!(rt; work(&mut plain, 1, 1).is_some());
-    let none = Outcome::Committed { first: 0, count: 0 };
-    assert!(rt; commits(&mut plain, 1, &[], Ok(none)));
+    let calls = [
+        (CLIENT, Capacity(20)),
+        (CLIENT, Submits(1, 9, Ok(0))),
+        (CLIENT, Submits(1, 9, Ok(1))),
+        (SERVER, Takes(1, 0)),
+        (
+            SERVER,
+            Commits(&drafts[..3], Outcome::Committed { first: 4, count: 3 }),
+        ),
+        (CLIENT, Reads(2, Err(Refusal::NotThere))),
+        (CLIENT, Submits(1, 9, Ok(12))),
+        (SERVER, Takes(1, 1)),
+        (
+            SERVER,
+            Commits(&drafts, Outcome::Committed { first: 7, count: 4 }),
+        ),
+        (SERVER, Takes(1, 12)),
+        (SERVER, Commits(&drafts[..2], Outcome::Full)),
+        (CLIENT, Stands(12, Status::Waiting { attempts: 1 })),
+        (SERVER, Takes(1, 12)),
+        (SERVER, Commits(&drafts[..1], one)),
+        (SERVER, Submits(1, 9, Err(Refusal::Full))),
+        (CLIENT, Submits(1, 9, Ok(13))),
+        (SERVER, Takes(1, 13)),
+        (
+            SERVER,
+            Commits(&[], Outcome::Committed { first: 0, count: 0 }),
+        ),
+    ];
+    plays(&rt, sparing(&rt, 2, 2), &calls);
 }
 
 #[test]
 fn full_where_the_block_is_drawn(rt: HostRuntime) {
-    let mut plain = sparing(&rt, 1, 1);
-    let draft = Draft::new(15, body(9)).expect(&rt, "no draft");
-    assert!(rt; submits(&mut plain, 0, 1, 9, Ok(0)));
-    assert!(rt; work(&mut plain, 1, 1).is_some());
-    let done = Outcome::Committed { first: 2, count: 2 };
-    assert!(rt; commits(&mut plain, 1, &[draft, draft], Ok(done)));
-    assert!(rt; submits(&mut plain, 0, 1, 9, Err(Refusal::Full)));
-    assert!(rt; submits(&mut plain, 1, 1, 9, Ok(4)));
+    let drafts = [draft(&rt, 15, 9), draft(&rt, 15, 9)];
+    let calls = [
+        (CLIENT, Submits(1, 9, Ok(0))),
+        (SERVER, Takes(1, 0)),
+        (
+            SERVER,
+            Commits(&drafts, Outcome::Committed { first: 2, count: 2 }),
+        ),
+        (CLIENT, Submits(1, 9, Err(Refusal::Full))),
+        (SERVER, Submits(1, 9, Ok(4))),
+    ];
+    plays(&rt, sparing(&rt, 1, 1), &calls);
 }
 
 #[test]
 fn lost_rows_of_a_block(rt: HostRuntime) {
-    let mut plain = sparing(&rt, 1, 1);
-    let draft = Draft::new(15, body(9)).expect(&rt, "no draft");
-    assert!(rt; submits(&mut plain, 0, 1, 9, Ok(0)));
-    assert!(rt; work(&mut plain, 1, 1).is_some());
-    assert!(rt; kills(&mut plain, 0, 0, Ok(Killed { units_aborted: 1 })));
-    assert!(rt; commits(&mut plain, 1, &[draft, draft], Ok(Outcome::Lost)));
-    assert!(rt; reads(&plain, 2, Err(Refusal::NotThere)));
-    assert!(rt; submits(&mut plain, 1, 1, 9, Ok(4)));
+    let drafts = [draft(&rt, 15, 9), draft(&rt, 15, 9)];
+    let calls = [
+        (CLIENT, Submits(1, 9, Ok(0))),
+        (SERVER, Takes(1, 0)),
+        (CLIENT, Kills(0, Ok(Killed { units_aborted: 1 }))),
+        (SERVER, Commits(&drafts, Outcome::Lost)),
+        (CLIENT, Reads(2, Err(Refusal::NotThere))),
+        (SERVER, Submits(1, 9, Ok(4))),
+    ];
+    plays(&rt, sparing(&rt, 1, 1), &calls);
 }
 
 // For a run in which one allocation fails: the call that is refused draws no block, and asked again it draws the first.

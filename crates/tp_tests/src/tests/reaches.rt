@@ -1,10 +1,11 @@
 //! How far scripts may go.
 
+use std::process::Abort;
 use std::test::Fail;
 use tp_script::{LineFault, Reach, ReadFault, Refused, StdSource, read_script, read_script_at};
 
 /// Why a script isn't read that may go so far.
-fn read(rt: &HostRuntime, reach: Reach, script: &[u8]) -> Result<(), ReadFault> {
+fn read<R: AllocGlobal>(rt: &R, reach: Reach, script: &[u8]) -> Result<(), ReadFault> {
     let mut source = StdSource::new(script);
     match read_script_at(rt.alloc(), reach, &mut source) {
         Ok(_) => Ok(()),
@@ -13,11 +14,39 @@ fn read(rt: &HostRuntime, reach: Reach, script: &[u8]) -> Result<(), ReadFault> 
 }
 
 /// A script with the line behind a server's.
-fn behind_a_server(rt: &HostRuntime, line: &str) -> Result<Vec<u8>, Fail> {
+fn behind_a_server<R: AllocGlobal>(rt: &R, line: &str) -> Result<Vec<u8>, Fail> {
     let mut script = Vec::new(rt.alloc());
     script.extend_from_slice("server a eager 1 1 add\n".as_bytes())?;
     script.extend_from_slice(line.as_bytes())?;
     Ok(script)
+}
+
+/// What reading the line behind a server's comes to where a script may go so far: plain, to desks, or to the end.
+fn is_read<R: Abort + AllocGlobal>(
+    rt: &R,
+    line: &str,
+    plain: Result<(), ReadFault>,
+    desks: Result<(), ReadFault>,
+) -> Result<(), Fail> {
+    let script = behind_a_server(rt, line)?;
+    assert_eq!(rt;
+        read(rt, Reach::Plain, script.as_slice()),
+        plain,
+        "at {line:?}"
+    );
+    assert_eq!(rt;
+        read(rt, Reach::Desks, script.as_slice()),
+        desks,
+        "at {line:?}"
+    );
+    assert_eq!(rt;
+        read(rt, Reach::Workers, script.as_slice()),
+        Ok(()),
+        "at {line:?}"
+    );
+    let mut source = StdSource::new(script.as_slice());
+    assert!(rt; read_script(rt.alloc(), &mut source).is_ok(), "at {line:?}");
+    Ok(())
 }
 
 #[test]
@@ -50,24 +79,7 @@ fn reaches(rt: HostRuntime) -> Result<(), Fail> {
         ("race 1 1 1 0 1 1 1", unknown, unknown),
         ("drain", unknown, unknown),
     ] {
-        let script = behind_a_server(&rt, line)?;
-        assert_eq!(rt;
-            read(&rt, Reach::Plain, script.as_slice()),
-            plain,
-            "at {line:?}"
-        );
-        assert_eq!(rt;
-            read(&rt, Reach::Desks, script.as_slice()),
-            desks,
-            "at {line:?}"
-        );
-        assert_eq!(rt;
-            read(&rt, Reach::Workers, script.as_slice()),
-            Ok(()),
-            "at {line:?}"
-        );
-        let mut source = StdSource::new(script.as_slice());
-        assert!(rt; read_script(rt.alloc(), &mut source).is_ok(), "at {line:?}");
+        is_read(&rt, line, plain, desks)?;
     }
     Ok(())
 }

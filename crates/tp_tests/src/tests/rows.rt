@@ -1,7 +1,25 @@
 //! Worked scripts with their reports, and the refused ones with the line that says so.
 
 use super::{agreed, written};
+use std::process::Abort;
+use std::thread::Threads;
 use tp_report::Exit;
+
+/// The script's report over either manager is this.
+fn is_reported<R: Abort + AllocGlobal + Threads + Sync>(rt: &R, script: &str, want: &str) {
+    let (answer, held) = agreed(rt, script);
+    assert_eq!(rt; answer, Ok(Exit::Done), "at {script:?}");
+    assert_eq!(rt; held.as_slice(), want.as_bytes(), "at {script:?}");
+}
+
+/// The script is refused, and this is what its one line says behind `refused line`.
+fn is_refused<R: Abort + AllocGlobal>(rt: &R, script: &str, want: &str) {
+    let (answer, held) = written(rt, script.as_bytes());
+    assert_eq!(rt; answer, Ok(Exit::Refused), "at {script:?}");
+    let text = str::from_utf8(held.as_slice()).unwrap_or("no text");
+    let rest = text.strip_prefix("refused line ").unwrap_or("no refusal");
+    assert_eq!(rt; rest.strip_suffix("\n"), Some(want), "at {script:?}");
+}
 
 #[test]
 fn reports(rt: HostRuntime) {
@@ -30,18 +48,14 @@ fn reports(rt: HostRuntime) {
             "submitted 0\na full 0\na full 0\nreplies 0\nfinal a 0\n",
         ),
     ] {
-        let (answer, held) = agreed(&rt, script);
-        assert_eq!(rt; answer, Ok(Exit::Done), "at {script:?}");
-        assert_eq!(rt; held.as_slice(), want.as_bytes(), "at {script:?}");
+        is_reported(&rt, script, want);
     }
 }
 
 #[test]
 fn settings_hold_as_last_given(rt: HostRuntime) {
     let script = "# two rows, then one\nrows 2\n\n  rows   1  \nsubmit 1 0 7\nsubmit 1 0 7\n";
-    let (answer, held) = agreed(&rt, script);
-    assert_eq!(rt; answer, Ok(Exit::Done));
-    assert_eq!(rt; held.as_slice(), "submitted 0\nrefused 7 Full\n".as_bytes());
+    is_reported(&rt, script, "submitted 0\nrefused 7 Full\n");
 }
 
 #[test]
@@ -49,9 +63,7 @@ fn outputs_by_their_recipes(rt: HostRuntime) {
     let script =
         "rows 4\nserver a lazy 2 2 take 15:same:same 15:7:after 3:same:9\nstart a 1 5\nsubmit 2 1 2\nturn a\nreply 0\n";
     let want = "submitted 0\na done 0 unit 256 outputs 4 3\nreplies 0 4:1:2 5:7:3\nfinal a 0 3\n";
-    let (answer, held) = agreed(&rt, script);
-    assert_eq!(rt; answer, Ok(Exit::Done));
-    assert_eq!(rt; held.as_slice(), want.as_bytes());
+    is_reported(&rt, script, want);
 }
 
 // What is read, and what isn't, is the grammar of all reaches but for this, and rows/READ.tsv has its edges.
@@ -72,10 +84,6 @@ fn refusals(rt: HostRuntime) {
         ("turn a", "1: 5 BadName"),
         ("submit 1 0 1\nrows 1", "2: 7 Order"),
     ] {
-        let (answer, held) = written(&rt, script.as_bytes());
-        assert_eq!(rt; answer, Ok(Exit::Refused), "at {script:?}");
-        let text = str::from_utf8(held.as_slice()).unwrap_or("no text");
-        let rest = text.strip_prefix("refused line ").unwrap_or("no refusal");
-        assert_eq!(rt; rest.strip_suffix("\n"), Some(want), "at {script:?}");
+        is_refused(&rt, script, want);
     }
 }

@@ -94,11 +94,6 @@ pub(crate) fn sit<'m, 'p, 's>(
     Desk::new(manager, pass, server)
 }
 
-/// Lets a desk go, in whatever state it is.
-pub(crate) fn let_go(desk: Desk) {
-    drop(desk);
-}
-
 /// Ends a desk.
 pub(crate) fn end(desk: Desk) {
     desk.end();

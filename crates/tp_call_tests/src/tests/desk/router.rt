@@ -5,12 +5,13 @@ ghost use Rattle.tp_server.specs.declared.recipe.Act.TheVariants.{Pass};
 ghost use Rattle.tp_server.specs.declared.recipe.KeyFrom.TheVariants.{Same};
 ghost use Rattle.tp_server.specs.declared.recipe.AmountFrom.TheVariants.{Same as SameAmount};
 
-use crate::tests::desk::calls::{end, sit, submits};
-use crate::tests::desk::{bench, clear};
+use super::plays::Asks::{Reads, Submits};
+use super::plays::Does::Turns;
+use super::plays::Step::{Asked, Ended};
+use super::plays::plays;
 use arrayvec::ArrayVec;
-use std::test::Fail;
 use tp_desk::Turned;
-use tp_model::types::{Draft, Element, Status};
+use tp_model::types::{Draft, Element, Look, Status};
 use tp_server::{Act, AmountFrom, Declined, KeyFrom, Output, Recipe, Server};
 
 /// Passes each element of stage 1 with the key 0 on to stage 2.
@@ -99,25 +100,31 @@ impl Server for Router {
 }
 
 #[test]
-fn routed(rt: HostRuntime) -> Result<(), Fail> {
-    let router: Box<dyn Server + Send> = Box::new(rt.alloc(), Router::new())?;
-    let mut at = bench(&rt, 4, 8, router);
-    assert!(rt; submits(&at.manager, &mut at.client, 7, 0));
-    let mut desk = sit(&at.manager, &mut at.worker, &mut at.server);
+fn routed(rt: HostRuntime) {
+    let router: Box<dyn Server + Send> = Box::new(rt.alloc(), Router::new()).expect(
+        &rt,
+        "no memory",
+    );
     let done = Turned::Done {
         unit: 8,
         element: 0,
         first: 4,
         count: 1,
     };
-    assert!(rt; desk.turn() == done);
-    end(desk);
-    let Ok(look) = at.manager.read(&mut at.client, 4) else {
-        panic!(rt; "no output")
+    let output = Look {
+        element: Element {
+            id: 4,
+            stage: 2,
+            root: 0,
+            body: [0, 7, 8, 9],
+            by: Some(8),
+        },
+        status: Status::Waiting { attempts: 0 },
     };
-    assert!(rt; look.element.stage == 2 && look.element.body == [0, 7, 8, 9]);
-    assert!(rt; look.element.root == 0 && look.element.by == Some(8));
-    assert!(rt; look.status == Status::Waiting { attempts: 0 });
-    clear(at);
-    Ok(())
+    let steps = [
+        Asked(Submits(7, 0)),
+        Ended(&[Turns(done)]),
+        Asked(Reads(4, Ok(output))),
+    ];
+    plays(&rt, 4, 8, router, &steps);
 }

@@ -1,10 +1,15 @@
 //! Turns and their parts, with each answer.
 
-use crate::tests::desk::calls::{claims, commits, end, kills, prepares, sit, submits};
-use crate::tests::desk::{bench, clear};
+use super::plays::Asks::{Kills, NextError, Reads, Submits};
+use super::plays::Does::{
+    Aborts, Balance, Claims, Client, Commits, HasOpen, InHand, IsPrepared, Prepares, Stage, Takes,
+    Turns,
+};
+use super::plays::Step::{Asked, Ended};
+use super::plays::plays;
 use crate::tests::fixture::{eager, lazy, recipe};
 use tp_desk::Turned;
-use tp_model::types::{Ended, Outcome, Status};
+use tp_model::types::{Claimed, Element, Ended as HowEnded, Look, Outcome, Refusal, Status, Work};
 use tp_server::{Act, AmountFrom, Declined, KeyFrom, Output, Server};
 
 /// A reply with the register's new value.
@@ -16,74 +21,82 @@ const REPLY: Output = Output {
 
 #[test]
 fn outputs_appear_at_commit(rt: HostRuntime) {
+    let work = Work {
+        unit: 8,
+        element: Element {
+            id: 0,
+            stage: 1,
+            root: 0,
+            body: [0, 3, 8, 9],
+            by: None,
+        },
+        attempt: 1,
+    };
+    let reply = Look {
+        element: Element {
+            id: 4,
+            stage: 15,
+            by: Some(8),
+            ..work.element
+        },
+        status: Status::Waiting { attempts: 0 },
+    };
+    let calls = [
+        Stage(1),
+        Claims(Claimed::Work(work)),
+        InHand(Some(work)),
+        HasOpen(true),
+        Prepares(Ok(())),
+        Client(Reads(4, Err(Refusal::NotThere))),
+        Commits(Outcome::Committed { first: 4, count: 1 }),
+        Balance(0, Some(3)),
+        Balance(1, None),
+        Client(Reads(4, Ok(reply))),
+    ];
     let server = eager(&rt, recipe(1, Act::Add, &[REPLY]));
-    let mut at = bench(&rt, 4, 8, server);
-    assert!(rt; submits(&at.manager, &mut at.client, 3, 0));
-    let mut desk = sit(&at.manager, &mut at.worker, &mut at.server);
-    assert!(rt; desk.recipe().stage == 1);
-    let Some(work) = claims(&mut desk) else {
-        panic!(rt; "no work")
-    };
-    assert!(rt; work.unit == 8 && work.attempt == 1 && work.element.body == [0, 3, 8, 9]);
-    assert!(rt; desk.in_hand() == Some(work) && desk.has_open());
-    assert!(rt; prepares(&mut desk));
-    assert!(rt; at.manager.read(&mut at.client, 4).is_err());
-    assert!(rt; commits(&mut desk, Outcome::Committed { first: 4, count: 1 }));
-    assert!(rt; desk.balance(0) == Some(3) && desk.balance(1) == None);
-    let Ok(look) = at.manager.read(&mut at.client, 4) else {
-        panic!(rt; "no reply")
-    };
-    assert!(rt; look.element.root == 0 && look.element.body == [0, 3, 8, 9]);
-    assert!(rt; look.status == Status::Waiting { attempts: 0 });
-    end(desk);
-    clear(at);
+    plays(&rt, 4, 8, server, &[Asked(Submits(3, 0)), Ended(&calls)]);
 }
 
 #[test]
 fn a_kill_beats_the_commit(rt: HostRuntime) {
+    let calls = [
+        Takes(0),
+        Prepares(Ok(())),
+        Client(Kills(0, 1)),
+        Commits(Outcome::Lost),
+        Balance(0, Some(0)),
+        IsPrepared(false),
+    ];
     let server = eager(&rt, recipe(1, Act::Add, &[]));
-    let mut at = bench(&rt, 4, 8, server);
-    assert!(rt; submits(&at.manager, &mut at.client, 5, 0));
-    let mut desk = sit(&at.manager, &mut at.worker, &mut at.server);
-    assert!(rt; claims(&mut desk).is_some());
-    assert!(rt; prepares(&mut desk));
-    assert!(rt; kills(&at.manager, &mut at.client, 0, 1));
-    assert!(rt; commits(&mut desk, Outcome::Lost));
-    assert!(rt; desk.balance(0) == Some(0) && !desk.is_prepared());
-    end(desk);
-    clear(at);
+    plays(&rt, 4, 8, server, &[Asked(Submits(5, 0)), Ended(&calls)]);
 }
 
 #[test]
 fn declined_and_given_up(rt: HostRuntime) {
-    let server = lazy(&rt, recipe(1, Act::Take, &[]));
-    let mut at = bench(&rt, 4, 8, server);
-    assert!(rt; submits(&at.manager, &mut at.client, 1, 0));
-    let mut desk = sit(&at.manager, &mut at.worker, &mut at.server);
-    assert!(rt; claims(&mut desk).is_some());
-    assert!(rt; desk.prepare() == Err(Declined::Short));
-    assert!(rt; !desk.has_open());
-    assert!(rt; claims(&mut desk).is_some());
-    assert!(rt; desk.abort() == Ended::Aborted);
     let refused = Turned::Refused {
         element: 0,
         why: Declined::Short,
     };
-    assert!(rt; desk.turn() == refused);
-    assert!(rt; desk.turn() == Turned::Idle);
-    end(desk);
-    assert!(rt; at.manager.next_error(&mut at.client, 0) == Some(0));
-    clear(at);
+    let calls = [
+        Takes(0),
+        Prepares(Err(Declined::Short)),
+        HasOpen(false),
+        Takes(0),
+        Aborts(HowEnded::Aborted),
+        Turns(refused),
+        Turns(Turned::Idle),
+    ];
+    let steps = [
+        Asked(Submits(1, 0)),
+        Ended(&calls),
+        Asked(NextError(0, Some(0))),
+    ];
+    plays(&rt, 4, 8, lazy(&rt, recipe(1, Act::Take, &[])), &steps);
 }
 
 #[test]
 fn full_then_no_unit(rt: HostRuntime) {
+    let calls = [Turns(Turned::Full { element: 0 }), Turns(Turned::NoUnit)];
     let server = eager(&rt, recipe(1, Act::Pass, &[REPLY, REPLY]));
-    let mut at = bench(&rt, 1, 1, server);
-    assert!(rt; submits(&at.manager, &mut at.client, 1, 0));
-    let mut desk = sit(&at.manager, &mut at.worker, &mut at.server);
-    assert!(rt; desk.turn() == Turned::Full { element: 0 });
-    assert!(rt; desk.turn() == Turned::NoUnit);
-    end(desk);
-    clear(at);
+    plays(&rt, 1, 1, server, &[Asked(Submits(1, 0)), Ended(&calls)]);
 }

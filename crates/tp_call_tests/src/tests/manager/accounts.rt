@@ -1,10 +1,14 @@
 //! The closing account.
+ghost use Rattle.std.specs.Prelude.{All};
+ghost use Rattle.tp_manager.specs.Shown.{IsKeptBy, IsOf};
 
-use super::SMALL;
-use super::asking::{claims, commits, kills, submits};
+use super::plays::Call::{Aborts, Commits, Kills, Submits, Takes};
+use super::plays::{CLIENT, Call, SERVER, play, play_one};
+use super::{SMALL, draft};
 use crate::tests::fixture::kept;
-use tp_manager::{Keeper, Pass};
-use tp_model::types::{Account, Claimed, Counts, Draft, Ended, Killed, Limits, Outcome};
+use std::process::Abort;
+use tp_manager::{Keeper, Manager, Pass};
+use tp_model::types::{Account, Counts, Killed, Limits, Outcome};
 
 /// Three passes with four rows and two units each, and one attempt for each element.
 const THREE: Limits = Limits {
@@ -26,12 +30,12 @@ fn counts(waiting: u32, held: u32, consumed: u32, parked: u32, killed: u32) -> C
     }
 }
 
-/// An account is of these counts, of which those of stage 1 and of the replies are these, and there are no others.
-fn is_account(account: Account, total: Counts, first: Counts, replies: Counts) -> bool {
+/// An account of these counts, of which those of stage 1 and of the replies are these, and there are no others.
+fn of(total: Counts, first: Counts, replies: Counts) -> Account {
     let mut stages = [counts(0, 0, 0, 0, 0); 15];
     stages[0] = first;
     stages[14] = replies;
-    account == Account { total, stages }
+    Account { total, stages }
 }
 
 #[test]
@@ -41,77 +45,149 @@ fn nothing_happened(rt: HostRuntime) {
     };
     let none = counts(0, 0, 0, 0, 0);
     assert!(rt; keeper.has_all(&[]));
-    assert!(rt; is_account(keeper.account(&manager, &mut []), none, none, none));
+    assert!(rt; keeper.account(&manager, &mut []) == of(none, none, none));
     assert!(rt; keeper.pass(&manager).is_ok());
     assert!(rt; !keeper.has_all(&[]));
 }
 
+/// The closing account, if these are all passes of the keeper.
+fn accounted(manager: &Manager, keeper: &mut Keeper, passes: &mut [Pass]) -> Option<Account>
+    requires kept { IsKeptBy manager.now keeper.old }
+    requires own { All (IsOf manager.now) passes.old }
+    ensures kept { IsKeptBy manager.now keeper.new }
+    ensures own { All (IsOf manager.now) passes.new }
+{
+    if keeper.has_all(passes) {
+        Some(keeper.account(manager, passes))
+    } else {
+        None
+    }
+}
+
+/// Plays parts of a table, behind each of which the closing account is this.
+fn accounts<R: Abort>(
+    rt: &R,
+    manager: &Manager,
+    keeper: &mut Keeper,
+    passes: &mut [Pass],
+    parts: &[(&[(usize, Call<'_>)], Account)],
+)
+    requires kept { IsKeptBy manager.now keeper.old }
+    requires own { All (IsOf manager.now) passes.old }
+    ensures kept { IsKeptBy manager.now keeper.new }
+    ensures own { All (IsOf manager.now) passes.new }
+{
+    for (i, (calls, account)) in parts.iter().enumerate() {
+        play(rt, manager, passes, calls);
+        assert!(rt;
+            accounted(manager, keeper, passes) == Some(*account),
+            "behind part {i}"
+        );
+    }
+}
+
+/// The same over a manager with these limits.
+pub(super) fn accounts_of<R: Abort + AllocGlobal>(
+    rt: &R,
+    limits: Limits,
+    parts: &[(&[(usize, Call<'_>)], Account)],
+) {
+    let (manager, mut keeper, client, server) = kept(rt, limits);
+    let mut passes = [client, server];
+    accounts(rt, &manager, &mut keeper, &mut passes, parts);
+    drop(passes);
+    drop(keeper);
+    drop(manager);
+}
+
 #[test]
 fn held_then_killed(rt: HostRuntime) {
-    let (manager, mut keeper, first, second) = kept(&rt, SMALL);
-    let mut passes = [first, second];
     let none = counts(0, 0, 0, 0, 0);
-    assert!(rt; manager.submit(&mut passes[0], 1, [0, 9, 0, 0]) == Ok(0));
-    assert!(rt; manager.submit(&mut passes[0], 1, [0, 7, 0, 0]) == Ok(1));
-    assert!(rt; matches!(manager.claim(&mut passes[1], 1), Claimed::Work(_)));
     let held = counts(1, 1, 0, 0, 0);
-    assert!(rt; keeper.has_all(&passes));
-    assert!(rt; is_account(keeper.account(&manager, &mut passes), held, held, none));
-    assert!(rt; manager.kill(&mut passes[0], 0).is_ok());
     let killed = counts(1, 0, 0, 0, 1);
-    assert!(rt; keeper.has_all(&passes));
-    assert!(rt; is_account(keeper.account(&manager, &mut passes), killed, killed, none));
+    let first = [
+        (CLIENT, Submits(1, [0, 9, 0, 0], Ok(0))),
+        (CLIENT, Submits(1, [0, 7, 0, 0], Ok(1))),
+        (SERVER, Takes(1, 0)),
+    ];
+    let then = [(CLIENT, Kills(0, Ok(Killed { units_aborted: 1 })))];
+    let parts = [
+        (first.as_slice(), of(held, held, none)),
+        (then.as_slice(), of(killed, killed, none)),
+    ];
+    accounts_of(&rt, SMALL, &parts);
 }
 
 #[test]
 fn replies_and_lost_drafts(rt: HostRuntime) {
-    let (manager, mut keeper, mut first, mut second) = kept(&rt, SMALL);
-    assert!(rt; submits(&manager, &mut first, 1, [0, 9, 0, 0], Ok(0)));
-    assert!(rt; submits(&manager, &mut first, 1, [0, 7, 0, 0], Ok(1)));
-    let Some(reply) = Draft::new(15, [0, 9, 0, 0]) else {
-        panic!(rt; "no draft")
-    };
-    assert!(rt; claims(&manager, &mut second, 1).is_some());
-    let made = Outcome::Committed { first: 4, count: 1 };
-    assert!(rt; commits(&manager, &mut second, &[reply], made));
-    assert!(rt; claims(&manager, &mut second, 1).is_some());
-    assert!(rt; kills(&manager, &mut first, 1, Ok(Killed { units_aborted: 1 })));
-    assert!(rt; commits(&manager, &mut second, &[reply, reply], Outcome::Lost));
-    let mut passes = [first, second];
-    assert!(rt; keeper.has_all(&passes));
-    let account = keeper.account(&manager, &mut passes);
-    let total = counts(1, 0, 1, 0, 1);
-    assert!(rt; is_account(account, total, counts(0, 0, 1, 0, 1), counts(1, 0, 0, 0, 0)));
+    let replies = [draft(&rt, 15, [0, 9, 0, 0]), draft(&rt, 15, [0, 9, 0, 0])];
+    let calls = [
+        (CLIENT, Submits(1, [0, 9, 0, 0], Ok(0))),
+        (CLIENT, Submits(1, [0, 7, 0, 0], Ok(1))),
+        (SERVER, Takes(1, 0)),
+        (
+            SERVER,
+            Commits(&replies[..1], Outcome::Committed { first: 4, count: 1 }),
+        ),
+        (SERVER, Takes(1, 1)),
+        (CLIENT, Kills(1, Ok(Killed { units_aborted: 1 }))),
+        (SERVER, Commits(&replies, Outcome::Lost)),
+    ];
+    let wanted = of(
+        counts(1, 0, 1, 0, 1),
+        counts(0, 0, 1, 0, 1),
+        counts(1, 0, 0, 0, 0),
+    );
+    accounts_of(&rt, SMALL, &[(&calls, wanted)]);
+}
+
+/// A third pass comes: the two that were all are all no longer, and it has rows of its own.
+fn third_comes<R: Abort>(rt: &R, manager: &Manager, keeper: &mut Keeper, passes: &[Pass])
+    requires { IsKeptBy manager.now keeper.old }
+{
+    let mut third = keeper.pass(manager).expect(rt, "no pass");
+    assert!(rt; third.number() == 2);
+    assert!(rt; !keeper.has_all(passes));
+    let calls = [
+        Submits(1, [0, 5, 0, 0], Ok(8)),
+        Kills(0, Ok(Killed { units_aborted: 0 })),
+    ];
+    play_one(rt, manager, &mut third, &calls);
 }
 
 #[test]
 fn a_pass_comes_after(rt: HostRuntime) {
     let (manager, mut keeper, first, second) = kept(&rt, THREE);
     let mut passes = [first, second];
-    let none = counts(0, 0, 0, 0, 0);
-    assert!(rt; manager.submit(&mut passes[0], 1, [0, 9, 0, 0]) == Ok(0));
-    assert!(rt; matches!(manager.claim(&mut passes[1], 1), Claimed::Work(_)));
-    assert!(rt; manager.abort(&mut passes[1]) == Ended::Aborted);
+    let calls = [
+        (CLIENT, Submits(1, [0, 9, 0, 0], Ok(0))),
+        (SERVER, Takes(1, 0)),
+        (SERVER, Aborts),
+    ];
     let parked = counts(0, 0, 0, 1, 0);
-    assert!(rt; keeper.has_all(&passes));
-    assert!(rt; is_account(keeper.account(&manager, &mut passes), parked, parked, none));
-    let Ok(mut third) = keeper.pass(&manager) else {
-        panic!(rt; "no pass")
-    };
-    assert!(rt; third.number() == 2);
-    assert!(rt; !keeper.has_all(&passes));
-    assert!(rt; manager.submit(&mut third, 1, [0, 5, 0, 0]) == Ok(8));
-    assert!(rt; manager.kill(&mut third, 0).is_ok());
+    let wanted = of(parked, parked, counts(0, 0, 0, 0, 0));
+    accounts(&rt, &manager, &mut keeper, &mut passes, &[(&calls, wanted)]);
+    third_comes(&rt, &manager, &mut keeper, &passes);
+    drop(passes);
+    drop(keeper);
+    drop(manager);
+}
+
+/// Whether these passes are all of the keeper's, and neither those behind the first are nor the first alone is.
+fn are_all(keeper: &Keeper, passes: &[Pass; 2]) -> bool {
+    let all: &[Pass] = passes;
+    keeper.has_all(all) && !keeper.has_all(&all[1..]) && !keeper.has_all(&all[..1])
 }
 
 #[test]
 fn has_all_in_order(rt: HostRuntime) {
-    let (_, keeper, first, second) = kept(&rt, SMALL);
+    let (manager, keeper, first, second) = kept(&rt, SMALL);
     let passes = [first, second];
-    let all: &[Pass] = &passes;
-    assert!(rt; keeper.has_all(all));
-    assert!(rt; !keeper.has_all(&all[1..]));
-    assert!(rt; !keeper.has_all(&all[..1]));
-    let (_, keeper, first, second) = kept(&rt, SMALL);
-    assert!(rt; !keeper.has_all(&[second, first]));
+    assert!(rt; are_all(&keeper, &passes));
+    let [first, second] = passes;
+    let turned = [second, first];
+    assert!(rt; !keeper.has_all(&turned));
+    drop(turned);
+    drop(keeper);
+    drop(manager);
 }

@@ -1,15 +1,14 @@
-//! Calls with the answers that they are to give, each telling what the next call needs and no more.
-ghost use Rattle.std.specs.Prelude.{◌≡◌, ◌≤◌, None, IsSome, OnSome, length};
-ghost use Rattle.tp_model.specs.Steps.{IsServerStage};
+//! Each call of the manager with the answer that it is to give. A call that the pass may not make now isn't made, and
+//! gives no answer.
 ghost use Rattle.tp_manager.specs.Shown.{IsOf};
 
 use tp_manager::{Manager, Pass};
 use tp_model::types::{
-    Body, Cancelled, Claimed, Draft, Element, Ended, Killed, Look, Outcome, Refusal, Status, Work,
+    Body, Cancelled, Claimed, Draft, Ended, Killed, Look, Outcome, Refusal, Status,
 };
 
 /// Whether a submit answers this.
-pub(crate) fn submits(
+pub(super) fn submits(
     manager: &Manager,
     pass: &mut Pass,
     stage: u8,
@@ -17,117 +16,121 @@ pub(crate) fn submits(
     answer: Result<u32, Refusal>,
 ) -> bool
     requires { IsOf manager.now pass.old }
-    ensures own { IsOf manager.now pass.new }
-    ensures same { pass.new.open_unit ≡ pass.old.open_unit }
+    ensures { IsOf manager.now pass.new }
 {
     manager.submit(pass, stage, body) == answer
 }
 
-/// The work that a claim takes.
-pub(crate) fn claims(manager: &Manager, pass: &mut Pass, stage: u8) -> Option<Work>
-    requires own { IsOf manager.now pass.old }
-    requires stage { IsServerStage stage }
-    requires free { pass.old.open_unit ≡ None }
-    ensures own { IsOf manager.now pass.new }
-    ensures busy { OnSome result (IsSome pass.new.open_unit) }
-    ensures free { result ≡ None → pass.new.open_unit ≡ None }
+/// What a claim answers.
+fn claim(manager: &Manager, pass: &mut Pass, stage: u8) -> Option<Claimed>
+    requires { IsOf manager.now pass.old }
+    ensures { IsOf manager.now pass.new }
 {
-    match manager.claim(pass, stage) {
-        Claimed::Work(work) => Some(work),
-        Claimed::Idle => None,
-        Claimed::NoUnit => None,
+    if pass.has_open() || stage < 1 || stage > 14 {
+        return None;
+    }
+    Some(manager.claim(pass, stage))
+}
+
+/// Whether a claim answers this.
+pub(super) fn claims(manager: &Manager, pass: &mut Pass, stage: u8, answer: Claimed) -> bool
+    requires { IsOf manager.now pass.old }
+    ensures { IsOf manager.now pass.new }
+{
+    claim(manager, pass, stage) == Some(answer)
+}
+
+/// Whether a claim takes the element with this id.
+pub(super) fn takes(manager: &Manager, pass: &mut Pass, stage: u8, id: u32) -> bool
+    requires { IsOf manager.now pass.old }
+    ensures { IsOf manager.now pass.new }
+{
+    match claim(manager, pass, stage) {
+        Some(Claimed::Work(work)) => work.element.id == id,
+        _ => false,
     }
 }
 
 /// Whether the pass's own abort ends its unit.
-pub(crate) fn aborts(manager: &Manager, pass: &mut Pass) -> bool
-    requires own { IsOf manager.now pass.old }
-    requires busy { IsSome pass.old.open_unit }
-    ensures own { IsOf manager.now pass.new }
-    ensures free { pass.new.open_unit ≡ None }
+pub(super) fn aborts(manager: &Manager, pass: &mut Pass) -> bool
+    requires { IsOf manager.now pass.old }
+    ensures { IsOf manager.now pass.new }
 {
-    manager.abort(pass) == Ended::Aborted
+    pass.has_open() && manager.abort(pass) == Ended::Aborted
 }
 
 /// Whether a commit has this outcome.
-pub(crate) fn commits(
+pub(super) fn commits(
     manager: &Manager,
     pass: &mut Pass,
     drafts: &[Draft],
     outcome: Outcome,
 ) -> bool
-    requires own { IsOf manager.now pass.old }
-    requires busy { IsSome pass.old.open_unit }
-    requires few { length drafts.now ≤ 4 }
-    ensures own { IsOf manager.now pass.new }
-    ensures free { pass.new.open_unit ≡ None }
+    requires { IsOf manager.now pass.old }
+    ensures { IsOf manager.now pass.new }
 {
-    manager.commit(pass, drafts) == outcome
+    pass.has_open() && drafts.len() <= 4 && manager.commit(pass, drafts) == outcome
 }
 
 /// Whether a kill answers this.
-pub(crate) fn kills(
+pub(super) fn kills(
     manager: &Manager,
     pass: &mut Pass,
     id: u32,
     answer: Result<Killed, Refusal>,
 ) -> bool
-    requires own { IsOf manager.now pass.old }
-    requires free { pass.old.open_unit ≡ None }
-    ensures own { IsOf manager.now pass.new }
-    ensures free { pass.new.open_unit ≡ None }
+    requires { IsOf manager.now pass.old }
+    ensures { IsOf manager.now pass.new }
 {
-    manager.kill(pass, id) == answer
+    !pass.has_open() && manager.kill(pass, id) == answer
 }
 
 /// Whether a cancel answers this.
-pub(crate) fn cancels(
+pub(super) fn cancels(
     manager: &Manager,
     pass: &mut Pass,
     root: u32,
     answer: Result<Cancelled, Refusal>,
 ) -> bool
-    requires own { IsOf manager.now pass.old }
-    requires free { pass.old.open_unit ≡ None }
-    ensures own { IsOf manager.now pass.new }
-    ensures free { pass.new.open_unit ≡ None }
+    requires { IsOf manager.now pass.old }
+    ensures { IsOf manager.now pass.new }
 {
-    manager.cancel(pass, root) == answer
+    !pass.has_open() && manager.cancel(pass, root) == answer
 }
 
 /// Whether a requeue answers this.
-pub(crate) fn requeues(
+pub(super) fn requeues(
     manager: &Manager,
     pass: &mut Pass,
     id: u32,
     answer: Result<u8, Refusal>,
 ) -> bool
     requires { IsOf manager.now pass.old }
-    ensures own { IsOf manager.now pass.new }
-    ensures same { pass.new.open_unit ≡ pass.old.open_unit }
+    ensures { IsOf manager.now pass.new }
 {
     manager.requeue(pass, id) == answer
 }
 
 /// Whether a read answers this.
-pub(crate) fn reads(
+pub(super) fn reads(
     manager: &Manager,
     pass: &mut Pass,
     id: u32,
     answer: Result<Look, Refusal>,
 ) -> bool
     requires { IsOf manager.now pass.old }
-    ensures own { IsOf manager.now pass.new }
-    ensures same { pass.new.open_unit ≡ pass.old.open_unit }
+    ensures { IsOf manager.now pass.new }
 {
     manager.read(pass, id) == answer
 }
 
-/// Whether a read finds the element with this status.
-pub(crate) fn finds(manager: &Manager, pass: &mut Pass, element: Element, status: Status) -> bool
+/// Whether a read finds this status.
+pub(super) fn stands(manager: &Manager, pass: &mut Pass, id: u32, status: Status) -> bool
     requires { IsOf manager.now pass.old }
-    ensures own { IsOf manager.now pass.new }
-    ensures same { pass.new.open_unit ≡ pass.old.open_unit }
+    ensures { IsOf manager.now pass.new }
 {
-    manager.read(pass, element.id) == Ok(Look { element, status })
+    match manager.read(pass, id) {
+        Ok(look) => look.status == status,
+        Err(_) => false,
+    }
 }

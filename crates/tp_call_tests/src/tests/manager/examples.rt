@@ -1,75 +1,65 @@
 //! Requests that are worked off, and what two passes tell each other.
+ghost use Rattle.tp_manager.specs.Shown.{IsOf};
 
-use super::asking::{aborts, claims, commits, finds, submits};
-use super::{SMALL, request};
+use super::plays::Call::{Aborts, Capacity, Claims, Commits, Finds, NextError, Submits, Takes};
+use super::plays::{CLIENT, SERVER, play_one, plays};
+use super::{NEW, NOTHING, SMALL, draft, output, request, work};
 use crate::tests::fixture::two;
-use tp_model::types::{Draft, Limits, Outcome, Status};
+use std::process::Abort;
+use tp_manager::{Manager, Pass};
+use tp_model::types::{Body, Limits, Outcome, Status};
+
+const BODY: Body = [0, 9, 0, 0];
+
+const ANSWER: Body = [0, 10, 0, 0];
 
 #[test]
 fn example(rt: HostRuntime) {
-    let (manager, mut client, mut server) = two(&rt, SMALL);
-    assert!(rt; manager.capacity() == 8);
-    assert!(rt; submits(&manager, &mut client, 1, [0, 9, 0, 0], Ok(0)));
-    let Some(work) = claims(&manager, &mut server, 1) else {
-        panic!(rt; "no work");
-    };
-    assert!(rt; work.element.body == [0, 9, 0, 0]);
-    let Some(reply) = Draft::new(15, [0, 10, 0, 0]) else {
-        panic!(rt; "no draft");
-    };
-    assert!(rt;
-        commits(
-            &manager,
-            &mut server,
-            &[reply],
-            Outcome::Committed { first: 4, count: 1 }
-        )
+    let reply = [draft(&rt, 15, ANSWER)];
+    let calls = [
+        (CLIENT, Capacity(8)),
+        (CLIENT, Submits(1, BODY, Ok(0))),
+        (SERVER, Claims(1, work(2, 1, request(0, 1, BODY)))),
+        (
+            SERVER,
+            Commits(&reply, Outcome::Committed { first: 4, count: 1 }),
+        ),
+        (CLIENT, Finds(output(4, 15, 0, ANSWER, 2), NEW)),
+    ];
+    plays(&rt, SMALL, &calls);
+}
+
+/// Two passes meet once the first has submitted an element, and again once the second has consumed it.
+fn meet_twice<R: Abort>(rt: &R, manager: &Manager, first: &mut Pass, second: &mut Pass)
+    requires { IsOf manager.now first.old × IsOf manager.now second.old }
+{
+    let element = request(0, 1, BODY);
+    play_one(
+        rt,
+        manager,
+        first,
+        &[Submits(1, BODY, Ok(0)), Finds(element, NEW)],
     );
-    let Ok(look) = manager.read(&mut client, 4) else {
-        panic!(rt; "no reply");
-    };
-    assert!(rt; look.element.root == 0 && look.element.body == [0, 10, 0, 0]);
-    assert!(rt; look.status == Status::Waiting { attempts: 0 });
-    drop(server);
-    drop(client);
-    drop(manager);
+    manager.meet(first, second);
+    play_one(
+        rt,
+        manager,
+        second,
+        &[Claims(1, work(2, 1, element)), Commits(&[], NOTHING)],
+    );
+    manager.meet(second, first);
+    play_one(
+        rt,
+        manager,
+        first,
+        &[Finds(element, Status::Consumed { unit: 2 })],
+    );
 }
 
 #[test]
 fn two_passes_meet(rt: HostRuntime) {
     let (manager, mut first, mut second) = two(&rt, SMALL);
-    let element = request(0, 1, [0, 9, 0, 0]);
-    assert!(rt; submits(&manager, &mut first, 1, [0, 9, 0, 0], Ok(0)));
-    assert!(rt;
-        finds(
-            &manager,
-            &mut first,
-            element,
-            Status::Waiting { attempts: 0 }
-        )
-    );
-    manager.meet(&mut first, &mut second);
-    let Some(work) = claims(&manager, &mut second, 1) else {
-        panic!(rt; "no work")
-    };
-    assert!(rt; work.element == element && work.attempt == 1);
-    assert!(rt;
-        commits(
-            &manager,
-            &mut second,
-            &[],
-            Outcome::Committed { first: 0, count: 0 }
-        )
-    );
-    manager.meet(&mut second, &mut first);
-    assert!(rt;
-        finds(
-            &manager,
-            &mut first,
-            element,
-            Status::Consumed { unit: work.unit }
-        )
-    );
+    meet_twice(&rt, &manager, &mut first, &mut second);
     drop(second);
     drop(first);
     drop(manager);
@@ -81,16 +71,13 @@ fn next_error(rt: HostRuntime) {
         attempts: 1,
         ..SMALL
     };
-    let (manager, mut first, mut second) = two(&rt, limits);
-    assert!(rt; submits(&manager, &mut first, 1, [0, 9, 0, 0], Ok(0)));
-    assert!(rt; manager.next_error(&mut first, 0).is_none());
-    let Some(_work) = claims(&manager, &mut second, 1) else {
-        panic!(rt; "no work")
-    };
-    assert!(rt; aborts(&manager, &mut second));
-    assert!(rt; manager.next_error(&mut first, 0) == Some(0));
-    assert!(rt; manager.next_error(&mut first, 1).is_none());
-    drop(second);
-    drop(first);
-    drop(manager);
+    let calls = [
+        (CLIENT, Submits(1, BODY, Ok(0))),
+        (CLIENT, NextError(0, None)),
+        (SERVER, Takes(1, 0)),
+        (SERVER, Aborts),
+        (CLIENT, NextError(0, Some(0))),
+        (CLIENT, NextError(1, None)),
+    ];
+    plays(&rt, limits, &calls);
 }

@@ -1,52 +1,26 @@
 //! Calls that find a limit reached: no row, no unit, no attempt, no pass left.
+ghost use Rattle.tp_manager.specs.Shown.{IsKeptBy};
 
-use super::asking::{aborts, claims, commits, finds, reads, submits};
-use super::{SMALL, request};
-use crate::tests::fixture::{kept, two};
-use tp_manager::MakeFault;
-use tp_model::types::{Claimed, Draft, Element, Limits, Outcome, Refusal, Status};
+use super::plays::Call::{Aborts, Claims, Commits, Finds, HasOpen, NextError, Reads, Submits};
+use super::plays::{CLIENT, SERVER, plays};
+use super::{NEW, SMALL, draft, output, request, work};
+use crate::tests::fixture::kept;
+use tp_manager::{Keeper, MakeFault, Manager};
+use tp_model::types::{Body, Claimed, Limits, Outcome, Refusal, Status};
+
+const BODY: Body = [0, 9, 0, 0];
+
+/// Whether the keeper refuses another pass for want of a part.
+fn has_no_part(manager: &Manager, keeper: &mut Keeper) -> bool
+    requires { IsKeptBy manager.now keeper.old }
+{
+    matches!(keeper.pass(manager), Err(MakeFault::NoPart))
+}
 
 #[test]
-fn rows_used_up(rt: HostRuntime) {
-    let limits = Limits { rows: 2, ..SMALL };
-    let (manager, mut keeper, mut first, mut second) = kept(&rt, limits);
-    assert!(rt; matches!(keeper.pass(&manager), Err(MakeFault::NoPart)));
-    assert!(rt; submits(&manager, &mut first, 1, [0, 9, 0, 0], Ok(0)));
-    assert!(rt;
-        submits(
-            &manager,
-            &mut first,
-            15,
-            [0, 9, 0, 0],
-            Err(Refusal::BadStage)
-        )
-    );
-    assert!(rt; submits(&manager, &mut first, 14, [3, 4, 0, 0], Ok(1)));
-    assert!(rt; submits(&manager, &mut first, 1, [0, 1, 0, 0], Err(Refusal::Full)));
-    assert!(rt;
-        submits(
-            &manager,
-            &mut first,
-            0,
-            [0, 1, 0, 0],
-            Err(Refusal::BadStage)
-        )
-    );
-    assert!(rt;
-        submits(
-            &manager,
-            &mut first,
-            15,
-            [0, 1, 0, 0],
-            Err(Refusal::BadStage)
-        )
-    );
-    let waiting = Status::Waiting { attempts: 0 };
-    assert!(rt; finds(&manager, &mut first, request(0, 1, [0, 9, 0, 0]), waiting));
-    assert!(rt; finds(&manager, &mut first, request(1, 14, [3, 4, 0, 0]), waiting));
-    assert!(rt; reads(&manager, &mut first, 2, Err(Refusal::NotThere)));
-    // The rows of another pass are its own.
-    assert!(rt; submits(&manager, &mut second, 1, [0, 1, 0, 0], Ok(2)));
+fn passes_used_up(rt: HostRuntime) {
+    let (manager, mut keeper, first, second) = kept(&rt, SMALL);
+    assert!(rt; has_no_part(&manager, &mut keeper));
     drop(second);
     drop(first);
     drop(keeper);
@@ -54,98 +28,62 @@ fn rows_used_up(rt: HostRuntime) {
 }
 
 #[test]
+fn rows_used_up(rt: HostRuntime) {
+    let limits = Limits { rows: 2, ..SMALL };
+    let calls = [
+        (CLIENT, Submits(1, BODY, Ok(0))),
+        (CLIENT, Submits(15, BODY, Err(Refusal::BadStage))),
+        (CLIENT, Submits(14, [3, 4, 0, 0], Ok(1))),
+        (CLIENT, Submits(1, [0, 1, 0, 0], Err(Refusal::Full))),
+        (CLIENT, Submits(0, [0, 1, 0, 0], Err(Refusal::BadStage))),
+        (CLIENT, Submits(15, [0, 1, 0, 0], Err(Refusal::BadStage))),
+        (CLIENT, Finds(request(0, 1, BODY), NEW)),
+        (CLIENT, Finds(request(1, 14, [3, 4, 0, 0]), NEW)),
+        (CLIENT, Reads(2, Err(Refusal::NotThere))),
+        // The rows of another pass are its own.
+        (SERVER, Submits(1, [0, 1, 0, 0], Ok(2))),
+    ];
+    plays(&rt, limits, &calls);
+}
+
+#[test]
 fn attempts_and_units(rt: HostRuntime) {
-    let (manager, mut first, mut second) = two(&rt, SMALL);
-    let element = request(0, 1, [0, 9, 0, 0]);
-    assert!(rt; submits(&manager, &mut first, 1, [0, 9, 0, 0], Ok(0)));
-    let Some(work) = claims(&manager, &mut second, 1) else {
-        panic!(rt; "no work");
-    };
-    assert!(rt; work.unit == 2 && work.attempt == 1 && work.element == element);
-    assert!(rt; aborts(&manager, &mut second));
-    assert!(rt;
-        finds(
-            &manager,
-            &mut second,
-            element,
-            Status::Waiting { attempts: 1 }
-        )
-    );
-    let Some(again) = claims(&manager, &mut second, 1) else {
-        panic!(rt; "no work");
-    };
-    assert!(rt; again.unit == 3 && again.attempt == 2 && again.element == element);
-    assert!(rt; aborts(&manager, &mut second));
-    assert!(rt;
-        finds(
-            &manager,
-            &mut second,
-            element,
-            Status::Parked { attempts: 2 }
-        )
-    );
-    assert!(rt; matches!(manager.claim(&mut second, 1), Claimed::NoUnit));
-    assert!(rt; matches!(manager.claim(&mut first, 1), Claimed::Idle));
-    assert!(rt; manager.next_error(&mut first, 0) == Some(0));
-    assert!(rt; manager.next_error(&mut first, 1).is_none());
-    drop(second);
-    drop(first);
-    drop(manager);
+    let element = request(0, 1, BODY);
+    let calls = [
+        (CLIENT, Submits(1, BODY, Ok(0))),
+        (SERVER, Claims(1, work(2, 1, element))),
+        (SERVER, Aborts),
+        (SERVER, Finds(element, Status::Waiting { attempts: 1 })),
+        (SERVER, Claims(1, work(3, 2, element))),
+        (SERVER, Aborts),
+        (SERVER, Finds(element, Status::Parked { attempts: 2 })),
+        (SERVER, Claims(1, Claimed::NoUnit)),
+        (CLIENT, Claims(1, Claimed::Idle)),
+        (CLIENT, NextError(0, Some(0))),
+        (CLIENT, NextError(1, None)),
+    ];
+    plays(&rt, SMALL, &calls);
 }
 
 #[test]
 fn full_then_committed(rt: HostRuntime) {
     let limits = Limits { rows: 1, ..SMALL };
-    let (manager, mut first, mut second) = two(&rt, limits);
-    let element = request(0, 1, [0, 9, 0, 0]);
-    assert!(rt; submits(&manager, &mut first, 1, [0, 9, 0, 0], Ok(0)));
-    let Some(work) = claims(&manager, &mut second, 1) else {
-        panic!(rt; "no work");
-    };
-    assert!(rt; work.unit == 2 && work.attempt == 1);
-    let Some(reply) = Draft::new(15, [0, 9, 0, 0]) else {
-        panic!(rt; "no draft");
-    };
-    assert!(rt; commits(&manager, &mut second, &[reply, reply], Outcome::Full));
-    assert!(rt; !second.has_open());
-    assert!(rt;
-        finds(
-            &manager,
-            &mut first,
-            element,
-            Status::Waiting { attempts: 1 }
-        )
-    );
-    assert!(rt; reads(&manager, &mut first, 1, Err(Refusal::NotThere)));
-    let Some(again) = claims(&manager, &mut second, 1) else {
-        panic!(rt; "no work");
-    };
-    assert!(rt; again.unit == 3 && again.attempt == 2);
-    assert!(rt;
-        commits(
-            &manager,
-            &mut second,
-            &[reply],
-            Outcome::Committed { first: 1, count: 1 }
-        )
-    );
-    assert!(rt; finds(&manager, &mut first, element, Status::Consumed { unit: 3 }));
-    let output = Element {
-        id: 1,
-        stage: 15,
-        root: 0,
-        body: [0, 9, 0, 0],
-        by: Some(3),
-    };
-    assert!(rt;
-        finds(
-            &manager,
-            &mut first,
-            output,
-            Status::Waiting { attempts: 0 }
-        )
-    );
-    drop(second);
-    drop(first);
-    drop(manager);
+    let element = request(0, 1, BODY);
+    let replies = [draft(&rt, 15, BODY), draft(&rt, 15, BODY)];
+    let calls = [
+        (CLIENT, Submits(1, BODY, Ok(0))),
+        (SERVER, Claims(1, work(2, 1, element))),
+        (SERVER, Commits(&replies, Outcome::Full)),
+        (SERVER, HasOpen(false)),
+        (CLIENT, Finds(element, Status::Waiting { attempts: 1 })),
+        (CLIENT, Reads(1, Err(Refusal::NotThere))),
+        (SERVER, Claims(1, work(3, 2, element))),
+        (
+            SERVER,
+            Commits(&replies[..1], Outcome::Committed { first: 1, count: 1 }),
+        ),
+        (CLIENT, Finds(element, Status::Consumed { unit: 3 })),
+        (CLIENT, Finds(output(1, 15, 0, BODY, 3), NEW)),
+    ];
+    plays(&rt, limits, &calls);
 }

@@ -1,14 +1,16 @@
 //! Parked elements that are given another round, and elements that aren't.
-
-ghost use Rattle.std.specs.Prelude.{◌≡◌, ◌<◌, None};
+ghost use Rattle.std.specs.Prelude.{◌<◌, All};
 ghost use Rattle.tp_manager.specs.Shown.{IsOf};
 
-use super::asking::{aborts, claims, commits, finds, kills, requeues, submits};
-use super::request;
+use super::plays::Call::{
+    Aborts, Claims, Commits, Finds, HasOpen, Kills, NextError, Requeues, Submits, Takes,
+};
+use super::plays::{CLIENT, SERVER, play, plays};
+use super::{NEW, NOTHING, request, work};
 use crate::tests::fixture::two;
 use std::process::Abort;
 use tp_manager::{Manager, Pass};
-use tp_model::types::{Killed, Limits, Outcome, Refusal, Status};
+use tp_model::types::{Body, Claimed, Killed, Limits, Refusal, Status};
 
 /// Two passes with four rows and sixteen units each, and two attempts in each round.
 const ROUNDS: Limits = Limits {
@@ -19,144 +21,113 @@ const ROUNDS: Limits = Limits {
     spare: 0,
 };
 
-/// The second pass takes element 0 for this time in its round, by this unit, and gives it up. Until then it
-/// isn't parked.
-fn gives_up<R: Abort>(
-    rt: &R,
-    manager: &Manager,
-    first: &mut Pass,
-    second: &mut Pass,
-    attempt: u8,
-    unit: u16,
-)
-    requires own { IsOf manager.now first.old × IsOf manager.now second.old }
-    requires free { (first.old.open_unit ≡ None) × (second.old.open_unit ≡ None) }
-    ensures own { IsOf manager.now first.new × IsOf manager.now second.new }
-    ensures free { (first.new.open_unit ≡ None) × (second.new.open_unit ≡ None) }
-{
-    assert!(rt; requeues(manager, first, 0, Err(Refusal::NotParked)));
-    let work = claims(manager, second, 1).expect(rt, "no work");
-    assert!(rt; work.attempt == attempt);
-    assert!(rt; work.unit == unit);
-    assert!(rt; requeues(manager, first, 0, Err(Refusal::NotParked)));
-    assert!(rt; aborts(manager, second));
-}
+const BODY: Body = [0, 9, 0, 0];
 
-/// A round of element 0: two units take it and give it up, of which this is the first, and then it is parked.
-fn parks<R: Abort>(rt: &R, manager: &Manager, first: &mut Pass, second: &mut Pass, unit: u16)
-    requires own { IsOf manager.now first.old × IsOf manager.now second.old }
-    requires free { (first.old.open_unit ≡ None) × (second.old.open_unit ≡ None) }
+const PARKED: Status = Status::Parked { attempts: 2 };
+
+/// A round of element 0: two units take it and give it up, of which this is the first, and then it is parked, and not
+/// before.
+fn parks<R: Abort>(rt: &R, manager: &Manager, passes: &mut [Pass], unit: u16)
+    requires own { All (IsOf manager.now) passes.old }
     requires few { unit < 65535 }
-    ensures own { IsOf manager.now first.new × IsOf manager.now second.new }
-    ensures free { (first.new.open_unit ≡ None) × (second.new.open_unit ≡ None) }
+    ensures { All (IsOf manager.now) passes.new }
 {
-    gives_up(rt, manager, first, second, 1, unit);
-    gives_up(rt, manager, first, second, 2, unit + 1);
-    let parked = Status::Parked { attempts: 2 };
-    assert!(rt; finds(manager, first, request(0, 1, [0, 9, 0, 0]), parked));
-    assert!(rt; manager.next_error(first, 0) == Some(0));
+    let element = request(0, 1, BODY);
+    let calls = [
+        (CLIENT, Requeues(0, Err(Refusal::NotParked))),
+        (SERVER, Claims(1, work(unit, 1, element))),
+        (CLIENT, Requeues(0, Err(Refusal::NotParked))),
+        (SERVER, Aborts),
+        (CLIENT, Requeues(0, Err(Refusal::NotParked))),
+        (SERVER, Claims(1, work(unit + 1, 2, element))),
+        (CLIENT, Requeues(0, Err(Refusal::NotParked))),
+        (SERVER, Aborts),
+        (CLIENT, Finds(element, PARKED)),
+        (CLIENT, NextError(0, Some(0))),
+    ];
+    play(rt, manager, passes, &calls);
 }
 
 /// Element 0 is given this round, and waits as a new one does.
-fn goes_on<R: Abort>(rt: &R, manager: &Manager, first: &mut Pass, second: &mut Pass, round: u8)
-    requires own { IsOf manager.now first.old × IsOf manager.now second.old }
-    requires free { (first.old.open_unit ≡ None) × (second.old.open_unit ≡ None) }
-    ensures own { IsOf manager.now first.new × IsOf manager.now second.new }
-    ensures free { (first.new.open_unit ≡ None) × (second.new.open_unit ≡ None) }
+fn goes_on<R: Abort>(rt: &R, manager: &Manager, passes: &mut [Pass], round: u8)
+    requires { All (IsOf manager.now) passes.old }
+    ensures { All (IsOf manager.now) passes.new }
 {
-    assert!(rt; requeues(manager, first, 0, Ok(round)));
-    let waits = Status::Waiting { attempts: 0 };
-    assert!(rt; finds(manager, second, request(0, 1, [0, 9, 0, 0]), waits));
-    assert!(rt; manager.next_error(second, 0).is_none());
+    let calls = [
+        (CLIENT, Requeues(0, Ok(round))),
+        (SERVER, Finds(request(0, 1, BODY), NEW)),
+        (SERVER, NextError(0, None)),
+    ];
+    play(rt, manager, passes, &calls);
 }
 
 #[test]
 fn three_rounds(rt: HostRuntime) {
-    let (manager, mut first, mut second) = two(&rt, ROUNDS);
-    assert!(rt; submits(&manager, &mut first, 1, [0, 9, 0, 0], Ok(0)));
-    parks(&rt, &manager, &mut first, &mut second, 16);
-    goes_on(&rt, &manager, &mut first, &mut second, 1);
-    parks(&rt, &manager, &mut first, &mut second, 18);
-    goes_on(&rt, &manager, &mut first, &mut second, 2);
-    parks(&rt, &manager, &mut first, &mut second, 20);
-    goes_on(&rt, &manager, &mut first, &mut second, 3);
-    parks(&rt, &manager, &mut first, &mut second, 22);
-    assert!(rt; requeues(&manager, &mut first, 0, Err(Refusal::NoRound)));
-    let parked = Status::Parked { attempts: 2 };
-    assert!(rt; finds(&manager, &mut first, request(0, 1, [0, 9, 0, 0]), parked));
-    assert!(rt; kills(&manager, &mut first, 0, Ok(Killed { units_aborted: 0 })));
-    assert!(rt; requeues(&manager, &mut first, 0, Err(Refusal::NotParked)));
-    drop(second);
-    drop(first);
-    drop(manager);
+    let (manager, client, server) = two(&rt, ROUNDS);
+    let mut passes = [client, server];
+    play(
+        &rt,
+        &manager,
+        &mut passes,
+        &[(CLIENT, Submits(1, BODY, Ok(0)))],
+    );
+    parks(&rt, &manager, &mut passes, 16);
+    goes_on(&rt, &manager, &mut passes, 1);
+    parks(&rt, &manager, &mut passes, 18);
+    goes_on(&rt, &manager, &mut passes, 2);
+    parks(&rt, &manager, &mut passes, 20);
+    goes_on(&rt, &manager, &mut passes, 3);
+    parks(&rt, &manager, &mut passes, 22);
+    let calls = [
+        (CLIENT, Requeues(0, Err(Refusal::NoRound))),
+        (CLIENT, Finds(request(0, 1, BODY), PARKED)),
+        (CLIENT, Kills(0, Ok(Killed { units_aborted: 0 }))),
+        (CLIENT, Requeues(0, Err(Refusal::NotParked))),
+    ];
+    play(&rt, &manager, &mut passes, &calls);
 }
 
 #[test]
 fn nothing_to_requeue(rt: HostRuntime) {
-    let (manager, mut first, mut second) = two(&rt, ROUNDS);
-    assert!(rt; requeues(&manager, &mut first, 0, Err(Refusal::NotThere)));
-    assert!(rt; requeues(&manager, &mut first, 8, Err(Refusal::NotThere)));
-    assert!(rt; submits(&manager, &mut first, 1, [0, 9, 0, 0], Ok(0)));
-    assert!(rt; requeues(&manager, &mut first, 0, Err(Refusal::NotParked)));
-    let Some(_work) = claims(&manager, &mut second, 1) else {
-        panic!(rt; "no work");
-    };
-    assert!(rt;
-        commits(
-            &manager,
-            &mut second,
-            &[],
-            Outcome::Committed { first: 0, count: 0 }
-        )
-    );
-    assert!(rt; requeues(&manager, &mut first, 0, Err(Refusal::NotParked)));
-    assert!(rt;
-        finds(
-            &manager,
-            &mut first,
-            request(0, 1, [0, 9, 0, 0]),
-            Status::Consumed { unit: 16 }
-        )
-    );
-    drop(second);
-    drop(first);
-    drop(manager);
+    let calls = [
+        (CLIENT, Requeues(0, Err(Refusal::NotThere))),
+        (CLIENT, Requeues(8, Err(Refusal::NotThere))),
+        (CLIENT, Submits(1, BODY, Ok(0))),
+        (CLIENT, Requeues(0, Err(Refusal::NotParked))),
+        (SERVER, Takes(1, 0)),
+        (SERVER, Commits(&[], NOTHING)),
+        (CLIENT, Requeues(0, Err(Refusal::NotParked))),
+        (
+            CLIENT,
+            Finds(request(0, 1, BODY), Status::Consumed { unit: 16 }),
+        ),
+    ];
+    plays(&rt, ROUNDS, &calls);
 }
 
 /// A pass may have a unit of work open while it gives another element a round, and keeps it open. What is killed before
 /// it is taken again stays killed.
 #[test]
 fn requeue_with_an_open_unit(rt: HostRuntime) {
-    let (manager, mut first, mut second) = two(&rt, ROUNDS);
-    assert!(rt; submits(&manager, &mut first, 1, [0, 9, 0, 0], Ok(0)));
-    assert!(rt; submits(&manager, &mut first, 2, [0, 7, 0, 0], Ok(1)));
-    gives_up(&rt, &manager, &mut first, &mut second, 1, 16);
-    gives_up(&rt, &manager, &mut first, &mut second, 2, 17);
-    let Some(work) = claims(&manager, &mut second, 2) else {
-        panic!(rt; "no work");
-    };
-    assert!(rt; work.element.id == 1);
-    assert!(rt; manager.requeue(&mut second, 0) == Ok(1));
-    assert!(rt; second.has_open());
-    assert!(rt;
-        commits(
-            &manager,
-            &mut second,
-            &[],
-            Outcome::Committed { first: 0, count: 0 }
-        )
-    );
-    assert!(rt; kills(&manager, &mut first, 0, Ok(Killed { units_aborted: 0 })));
-    assert!(rt;
-        finds(
-            &manager,
-            &mut second,
-            request(0, 1, [0, 9, 0, 0]),
-            Status::Killed
-        )
-    );
-    assert!(rt; claims(&manager, &mut second, 1).is_none());
-    drop(second);
-    drop(first);
-    drop(manager);
+    let element = request(0, 1, BODY);
+    let calls = [
+        (CLIENT, Submits(1, BODY, Ok(0))),
+        (CLIENT, Submits(2, [0, 7, 0, 0], Ok(1))),
+        (CLIENT, Requeues(0, Err(Refusal::NotParked))),
+        (SERVER, Claims(1, work(16, 1, element))),
+        (CLIENT, Requeues(0, Err(Refusal::NotParked))),
+        (SERVER, Aborts),
+        (CLIENT, Requeues(0, Err(Refusal::NotParked))),
+        (SERVER, Claims(1, work(17, 2, element))),
+        (CLIENT, Requeues(0, Err(Refusal::NotParked))),
+        (SERVER, Aborts),
+        (SERVER, Takes(2, 1)),
+        (SERVER, Requeues(0, Ok(1))),
+        (SERVER, HasOpen(true)),
+        (SERVER, Commits(&[], NOTHING)),
+        (CLIENT, Kills(0, Ok(Killed { units_aborted: 0 }))),
+        (SERVER, Finds(element, Status::Killed)),
+        (SERVER, Claims(1, Claimed::Idle)),
+    ];
+    plays(&rt, ROUNDS, &calls);
 }

@@ -3,9 +3,9 @@ ghost use Rattle.std.specs.Prelude.{◌≡◌, ◌+◌, None};
 ghost use Rattle.tp_manager.specs.Shown.{IsOf};
 
 use super::SMALL;
-use crate::tests::fixture::two;
+use crate::tests::fixture::{kept, two};
 use std::thread::{Threads, join_mut};
-use tp_manager::{Keeper, Manager, Pass};
+use tp_manager::{Manager, Pass};
 use tp_model::types::{Claimed, Limits, Outcome, Refusal, Status};
 
 /// Submits until the rows are used up, and answers how many ids came, each of them the next one.
@@ -163,24 +163,10 @@ fn four_threads(rt: HostRuntime) {
         attempts: 2,
         spare: 0,
     };
-    let Ok((manager, mut keeper)) = Keeper::new(rt.alloc(), limits) else {
-        panic!(rt; "no manager")
-    };
-    let Ok(mut first) = keeper.pass(&manager) else {
-        panic!(rt; "no manager")
-    };
-    let Ok(mut second) = keeper.pass(&manager) else {
-        panic!(rt; "no manager")
-    };
-    let Ok(mut third) = keeper.pass(&manager) else {
-        panic!(rt; "no manager")
-    };
-    let Ok(mut fourth) = keeper.pass(&manager) else {
-        panic!(rt; "no manager")
-    };
-    let Ok(mut watcher) = keeper.pass(&manager) else {
-        panic!(rt; "no manager")
-    };
+    let (manager, mut keeper, mut first, mut second) = kept(&rt, limits);
+    let mut third = keeper.pass(&manager).expect(&rt, "no pass");
+    let mut fourth = keeper.pass(&manager).expect(&rt, "no pass");
+    let mut watcher = keeper.pass(&manager).expect(&rt, "no pass");
     let (a, b) = join_mut(
         &rt,
         &mut || pair(&rt, &manager, &mut first, &mut second),

@@ -1,8 +1,66 @@
 //! What a client and killers count, one after another. All counts that aren't named are 0.
+ghost use Rattle.std.specs.Prelude.{◌≡◌, All, length};
+ghost use Rattle.tp_workers.specs.Free.{IsFreePass};
 
 use crate::tests::workers::{client, manager, pass};
+use std::process::Abort;
+use std::thread::Threads;
+use tp_manager::{Manager, Pass};
 use tp_model::types::{Limits, Refusal, Status};
 use tp_workers::{KillJob, NoGate, Shift, shift};
+
+/// A shift of one client alone, which submits three times.
+pub(super) fn submits_three<R: Threads + Sync>(
+    rt: &R,
+    manager: &Manager,
+    clients: &mut [Pass],
+) -> Shift
+    requires one { length clients.old ≡ 1 }
+    requires free { All (IsFreePass manager.now) clients.old }
+{
+    shift(
+        rt,
+        manager,
+        &mut [],
+        &mut [],
+        clients,
+        &mut [client(1, 3)],
+        &mut [],
+        &mut [],
+        0,
+        &NoGate,
+    )
+}
+
+/// A shift of one killer alone, which kills the elements 0 to 3.
+fn kills_four<R: Threads + Sync>(rt: &R, manager: &Manager, killers: &mut [Pass]) -> Shift
+    requires one { length killers.old ≡ 1 }
+    requires free { All (IsFreePass manager.now) killers.old }
+    ensures one { length killers.new ≡ 1 }
+    ensures free { All (IsFreePass manager.now) killers.new }
+{
+    shift(
+        rt,
+        manager,
+        &mut [],
+        &mut [],
+        &mut [],
+        &mut [],
+        killers,
+        &mut [KillJob { first: 0, end: 4 }],
+        0,
+        &NoGate,
+    )
+}
+
+/// The third element waits, and there is no fourth.
+fn are_three<R: Abort>(rt: &R, manager: &Manager, reader: &mut Pass)
+    requires { IsFreePass manager.now reader.old }
+{
+    let look = manager.read(reader, 2).expect(rt, "no third element");
+    assert!(rt; look.status == Status::Waiting { attempts: 0 });
+    assert!(rt; manager.read(reader, 3) == Err(Refusal::NotThere));
+}
 
 #[test]
 fn client_and_killer_counts(rt: HostRuntime) {
@@ -17,41 +75,14 @@ fn client_and_killer_counts(rt: HostRuntime) {
     let mut clients = [pass(&rt, &mut keeper, &manager)];
     let mut killers = [pass(&rt, &mut keeper, &manager)];
     let mut reader = pass(&rt, &mut keeper, &manager);
-    let counts = shift(
-        &rt,
-        &manager,
-        &mut [],
-        &mut [],
-        &mut clients,
-        &mut [client(1, 3)],
-        &mut [],
-        &mut [],
-        0,
-        &NoGate,
-    );
+    let counts = submits_three(&rt, &manager, &mut clients);
     let wanted = Shift {
         submitted: 3,
         ..Shift::default()
     };
     assert_eq!(rt; counts, wanted);
-    let Ok(look) = manager.read(&mut reader, 2) else {
-        panic!(rt; "no third element")
-    };
-    assert!(rt; look.status == Status::Waiting { attempts: 0 });
-    assert!(rt; manager.read(&mut reader, 3) == Err(Refusal::NotThere));
-    let mut jobs = [KillJob { first: 0, end: 4 }];
-    let counts = shift(
-        &rt,
-        &manager,
-        &mut [],
-        &mut [],
-        &mut [],
-        &mut [],
-        &mut killers,
-        &mut jobs,
-        0,
-        &NoGate,
-    );
+    are_three(&rt, &manager, &mut reader);
+    let counts = kills_four(&rt, &manager, &mut killers);
     let wanted = Shift {
         killed: 3,
         missing: 1,
@@ -60,18 +91,7 @@ fn client_and_killer_counts(rt: HostRuntime) {
     assert_eq!(rt; counts, wanted);
 
     // The same job once more, by the same pass.
-    let counts = shift(
-        &rt,
-        &manager,
-        &mut [],
-        &mut [],
-        &mut [],
-        &mut [],
-        &mut killers,
-        &mut jobs,
-        0,
-        &NoGate,
-    );
+    let counts = kills_four(&rt, &manager, &mut killers);
     let wanted = Shift {
         already: 3,
         missing: 1,

@@ -3,7 +3,8 @@ ghost use Rattle.std.specs.Prelude.{◌≡◌, None};
 ghost use Rattle.tp_workers.specs.Free.{IsFreePass};
 
 use crate::tests::fixture::{eager, lazy, output, recipe};
-use crate::tests::workers::{client, manager, pass};
+use crate::tests::workers::counts::submits_three;
+use crate::tests::workers::{manager, pass};
 use std::thread::Threads;
 use tp_manager::{Manager, Pass};
 use tp_model::types::Limits;
@@ -46,18 +47,7 @@ fn two_turns<R: Threads + Sync>(
 fn full_then_no_unit(rt: HostRuntime) {
     let (manager, mut keeper) = manager(&rt, LIMITS);
     let mut clients = [pass(&rt, &mut keeper, &manager)];
-    let counts = shift(
-        &rt,
-        &manager,
-        &mut [],
-        &mut [],
-        &mut clients,
-        &mut [client(1, 3)],
-        &mut [],
-        &mut [],
-        0,
-        &NoGate,
-    );
+    let counts = submits_three(&rt, &manager, &mut clients);
     let wanted = Shift {
         submitted: 1,
         submit_full: 2,

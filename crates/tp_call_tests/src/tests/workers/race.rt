@@ -1,10 +1,69 @@
 //! A race of clients, servers and a killer, then rounds until nothing waits.
+ghost use Rattle.std.specs.Prelude.{◌≡◌, None, All, length};
+ghost use Rattle.tp_manager.specs.Shown.{IsOf};
+ghost use Rattle.tp_workers.specs.Free.{IsFreePass};
 
 use crate::tests::fixture::{eager, lazy, recipe};
 use crate::tests::workers::{client, manager, pair, pass, survey, two};
+use std::process::Abort;
+use std::thread::Threads;
+use tp_manager::{Manager, Pass};
 use tp_model::types::Limits;
 use tp_server::{Act, Server};
-use tp_workers::{KillJob, NoGate, drain, shift};
+use tp_workers::{Drained, KillJob, NoGate, Shift, drain, shift};
+
+/// Two desks, two clients and a killer race, then the desks drain.
+fn raced<R: Threads + Sync>(
+    rt: &R,
+    manager: &Manager,
+    desks: &mut [Pass],
+    servers: &mut [Box<dyn Server + Send>],
+    clients: &mut [Pass],
+    killers: &mut [Pass],
+) -> (Shift, Drained)
+    requires many { (length desks.old ≡ 2) × (length servers.old ≡ 2) × (length clients.old ≡ 2) × (length killers.old ≡ 1) }
+    requires desks { All (IsFreePass manager.now) desks.old }
+    requires servers { All (λ server. pending server ≡ None) servers.old }
+    requires clients { All (IsFreePass manager.now) clients.old }
+    requires killers { All (IsFreePass manager.now) killers.old }
+{
+    let counts = shift(
+        rt,
+        manager,
+        desks,
+        servers,
+        clients,
+        &mut [client(1, 50), client(1, 50)],
+        killers,
+        &mut [KillJob { first: 0, end: 128 }],
+        100,
+        &NoGate,
+    );
+    let drained = drain(manager, desks, servers);
+    (counts, drained)
+}
+
+/// What the race and the rounds count, how the elements stand, and the registers add up.
+fn adds_up<R: Abort>(
+    rt: &R,
+    manager: &Manager,
+    reader: &mut Pass,
+    counts: Shift,
+    drained: Drained,
+    registers: (Option<u64>, Option<u64>),
+)
+    requires { IsOf manager.now reader.old }
+{
+    let all = survey(manager, reader, 1, 128);
+    assert_eq!(rt; counts.submitted, 100);
+    assert_eq!(rt; all.consumed.wrapping_add(all.killed), 100);
+    assert_eq!(rt; counts.killed, all.killed);
+    assert_eq!(rt; counts.done.wrapping_add(drained.done), all.consumed);
+    let (Some(x), Some(y)) = registers else {
+        panic!(rt; "no register")
+    };
+    assert_eq!(rt; x.wrapping_add(y), all.consumed as u64);
+}
 
 #[test]
 fn race_with_killer(rt: HostRuntime) {
@@ -23,28 +82,16 @@ fn race_with_killer(rt: HostRuntime) {
     let a = eager(&rt, recipe(1, Act::Add, &[]));
     let b = lazy(&rt, recipe(1, Act::Add, &[]));
     let mut servers = pair(a, b);
-    let counts = shift(
+    let (counts, drained) = raced(
         &rt,
         &manager,
         &mut desks,
         &mut servers,
         &mut clients,
-        &mut [client(1, 50), client(1, 50)],
         &mut killers,
-        &mut [KillJob { first: 0, end: 128 }],
-        100,
-        &NoGate,
     );
-    let drained = drain(&manager, &mut desks, &mut servers);
-    let all = survey(&manager, &mut reader, 1, 128);
-    assert_eq!(rt; counts.submitted, 100);
-    assert_eq!(rt; all.consumed.wrapping_add(all.killed), 100);
-    assert_eq!(rt; counts.killed, all.killed);
-    assert_eq!(rt; counts.done.wrapping_add(drained.done), all.consumed);
-    let (Some(x), Some(y)) = (servers[0].balance(0), servers[1].balance(0)) else {
-        panic!(rt; "no register")
-    };
-    assert_eq!(rt; x.wrapping_add(y), all.consumed as u64);
+    let registers = (servers[0].balance(0), servers[1].balance(0));
+    adds_up(&rt, &manager, &mut reader, counts, drained, registers);
     drop(servers);
     drop(reader);
     drop(killers);

@@ -1,10 +1,87 @@
 //! Three servers in a tree of outputs, two clients and two killers at once, with many turns.
+ghost use Rattle.std.specs.Prelude.{◌≡◌, None, All, length};
+ghost use Rattle.tp_manager.specs.Shown.{IsOf};
+ghost use Rattle.tp_workers.specs.Free.{IsFreePass};
 
 use crate::tests::fixture::{eager, lazy, output, recipe};
 use crate::tests::workers::{client, manager, pass, survey, three, three_passes, two};
+use std::process::Abort;
+use std::thread::Threads;
+use tp_manager::{Manager, Pass};
 use tp_model::types::Limits;
 use tp_server::{Act, Server};
-use tp_workers::{KillJob, NoGate, shift};
+use tp_workers::{KillJob, NoGate, Shift, shift};
+
+/// All work at once: the desks with so many turns, the clients and the killers.
+fn all_work<R: Threads + Sync>(
+    rt: &R,
+    manager: &Manager,
+    desks: &mut [Pass],
+    servers: &mut [Box<dyn Server + Send>],
+    clients: &mut [Pass],
+    killers: &mut [Pass],
+) -> Shift
+    requires many { (length desks.old ≡ 3) × (length servers.old ≡ 3) × (length clients.old ≡ 2) × (length killers.old ≡ 2) }
+    requires desks { All (IsFreePass manager.now) desks.old }
+    requires servers { All (λ server. pending server ≡ None) servers.old }
+    requires clients { All (IsFreePass manager.now) clients.old }
+    requires killers { All (IsFreePass manager.now) killers.old }
+{
+    let low = KillJob { first: 0, end: 512 };
+    let high = KillJob {
+        first: 512,
+        end: 768,
+    };
+    shift(
+        rt,
+        manager,
+        desks,
+        servers,
+        clients,
+        &mut [client(1, 40), client(3, 40)],
+        killers,
+        &mut [low, high],
+        200,
+        &NoGate,
+    )
+}
+
+/// What the shift counts, how the elements stand, and the three registers add up.
+fn adds_up<R: Abort>(
+    rt: &R,
+    manager: &Manager,
+    reader: &mut Pass,
+    counts: Shift,
+    registers: [Option<u64>; 3],
+)
+    requires { IsOf manager.now reader.old }
+{
+    let requests = survey(manager, reader, 1, 2048);
+    let left = survey(manager, reader, 2, 2048);
+    let right = survey(manager, reader, 3, 2048);
+    let replies = survey(manager, reader, 15, 2048);
+    assert!(rt; counts.submitted == 80 && requests.all() == 80);
+
+    // What was taken is consumed once, and each consumed element has its outputs.
+    assert!(rt; left.all() == requests.consumed && right.all() == requests.consumed);
+    assert_eq!(rt; replies.waiting, left.consumed.wrapping_add(right.consumed));
+    assert_eq!(rt;
+        counts.done,
+        replies.waiting.wrapping_add(requests.consumed)
+    );
+    assert!(rt; replies.all() == replies.waiting);
+
+    // Nothing is held or parked, and what the killers killed stays so.
+    assert!(rt; requests.other == 0 && left.other == 0 && right.other == 0);
+    let killed = requests
+        .killed
+        .wrapping_add(left.killed)
+        .wrapping_add(right.killed);
+    assert_eq!(rt; counts.killed, killed);
+
+    // Each register is the sum of what its server consumed.
+    assert!(rt; registers == [Some(requests.amount), Some(left.amount), Some(right.amount)]);
+}
 
 /// The root makes two outputs of each element, for the two branches, and each branch makes a reply. The
 /// passes have twice as many rows as units, so that no turn of the root lacks rows.
@@ -27,50 +104,20 @@ fn tree_with_killers(rt: HostRuntime) {
     let b = lazy(&rt, recipe(2, Act::Add, &[output(15)]));
     let c = eager(&rt, recipe(3, Act::Add, &[output(15)]));
     let mut servers = three(a, b, c);
-    let low = KillJob { first: 0, end: 512 };
-    let high = KillJob {
-        first: 512,
-        end: 768,
-    };
-    let counts = shift(
+    let counts = all_work(
         &rt,
         &manager,
         &mut desks,
         &mut servers,
         &mut clients,
-        &mut [client(1, 40), client(3, 40)],
         &mut killers,
-        &mut [low, high],
-        200,
-        &NoGate,
     );
-    let requests = survey(&manager, &mut reader, 1, 2048);
-    let left = survey(&manager, &mut reader, 2, 2048);
-    let right = survey(&manager, &mut reader, 3, 2048);
-    let replies = survey(&manager, &mut reader, 15, 2048);
-    assert!(rt; counts.submitted == 80 && requests.all() == 80);
-
-    // What was taken is consumed once, and each consumed element has its outputs.
-    assert!(rt; left.all() == requests.consumed && right.all() == requests.consumed);
-    assert_eq!(rt; replies.waiting, left.consumed.wrapping_add(right.consumed));
-    assert_eq!(rt;
-        counts.done,
-        replies.waiting.wrapping_add(requests.consumed)
-    );
-    assert!(rt; replies.all() == replies.waiting);
-
-    // Nothing is held or parked, and what the killers killed stays so.
-    assert!(rt; requests.other == 0 && left.other == 0 && right.other == 0);
-    let killed = requests
-        .killed
-        .wrapping_add(left.killed)
-        .wrapping_add(right.killed);
-    assert_eq!(rt; counts.killed, killed);
-
-    // Each register is the sum of what its server consumed.
-    assert!(rt; servers[0].balance(0) == Some(requests.amount));
-    assert!(rt; servers[1].balance(0) == Some(left.amount));
-    assert!(rt; servers[2].balance(0) == Some(right.amount));
+    let registers = [
+        servers[0].balance(0),
+        servers[1].balance(0),
+        servers[2].balance(0),
+    ];
+    adds_up(&rt, &manager, &mut reader, counts, registers);
     drop(servers);
     drop(reader);
     drop(desks);

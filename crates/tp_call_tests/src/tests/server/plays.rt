@@ -1,0 +1,84 @@
+//! Tests as tables: calls of a server with the answers that they are to give, played one after another.
+
+use crate::tests::server::element;
+use std::process::Abort;
+use tp_model::types::Draft;
+use tp_server::{Declined, Server};
+
+/// A call, and behind what it is given what it is to answer.
+#[derive(Clone, Copy)]
+pub(super) enum Call<'a> {
+    /// The preparation of an element with this key and amount.
+    Prepares(u64, u64, Result<&'a [Draft], Declined>),
+    /// The same, which is committed where it isn't declined.
+    Does(u64, u64, Result<&'a [Draft], Declined>),
+    /// What is prepared is undone.
+    Undoes,
+    /// What is prepared is committed.
+    Commits,
+    /// Whether something is prepared.
+    IsPrepared(bool),
+    /// A register.
+    Balance(u64, Option<u64>),
+    /// The stage.
+    Stage(u8),
+    /// How many outputs the recipe has.
+    Outputs(usize),
+}
+
+/// Whether a preparation answers this. While another is prepared it isn't asked for.
+fn prepares(
+    server: &mut (dyn Server + Send),
+    key: u64,
+    amount: u64,
+    answer: Result<&[Draft], Declined>,
+) -> bool {
+    if server.is_prepared() {
+        return false;
+    }
+    match server.prepare(&element(key, amount)) {
+        Ok(drafts) => answer == Ok(drafts.as_slice()),
+        Err(why) => answer == Err(why),
+    }
+}
+
+/// Commits what is prepared, if something is.
+fn commit(server: &mut (dyn Server + Send)) -> bool {
+    let is_prepared = server.is_prepared();
+    if is_prepared {
+        server.commit();
+    }
+    is_prepared
+}
+
+/// Undoes what is prepared, if something is.
+fn undo(server: &mut (dyn Server + Send)) -> bool {
+    let is_prepared = server.is_prepared();
+    if is_prepared {
+        server.undo();
+    }
+    is_prepared
+}
+
+/// Whether the call gives its answer.
+fn answers(server: &mut (dyn Server + Send), call: Call<'_>) -> bool {
+    match call {
+        Call::Prepares(key, amount, answer) => prepares(server, key, amount, answer),
+        Call::Does(key, amount, answer) => {
+            prepares(server, key, amount, answer) && commit(server) == answer.is_ok()
+        }
+        Call::Undoes => undo(server),
+        Call::Commits => commit(server),
+        Call::IsPrepared(answer) => server.is_prepared() == answer,
+        Call::Balance(k, answer) => server.balance(k) == answer,
+        Call::Stage(answer) => server.stage() == answer,
+        Call::Outputs(answer) => server.recipe().outputs.len() == answer,
+    }
+}
+
+/// Plays calls, and stops at the first that gives another answer.
+pub(super) fn play(rt: &impl Abort, server: &mut (dyn Server + Send), calls: &[Call<'_>]) {
+    for (i, call) in calls.iter().enumerate() {
+        assert!(rt; answers(server, *call), "at call {i}");
+    }
+}
