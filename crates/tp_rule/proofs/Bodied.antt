@@ -1,5 +1,5 @@
 -- The stores of a body, one after another.
-use Rattle.std.proofs.Common.{◌≡◌, ℕ, zero, suc, ◌+◌, ◌≤◌, List, [], ◌∷◌, set, slice_index, refl, sym, ap, ◌∙◌, subst, ⊎_elim, arith}
+use Rattle.std.proofs.Common.{◌≡◌, ℕ, zero, suc, ◌≤◌, List, [], ◌∷◌, set, slice_index, refl, sym, ap, ◌∙◌, subst, ⊎_elim, arith}
 use Rattle.tp_model.specs.declared.trace.StepKind.TheVariants as kinds
 use Rattle.tp_model.specs.declared.trace.TraceEntry.{TraceEntry}
 use Rattle.tp_model.specs.declared.types.TheConstants.{BODY_WORDS}

@@ -2,11 +2,11 @@ use Rattle.std.proofs.Common.{◌≡◌, ◌≢◌, rules, sym, ◌∙◌, ap, s
 use Rattle.tp_model.specs.declared.trace.StepKind.TheVariants as kinds
 use Rattle.tp_rule.specs.Steps.{Loses}
 use Rattle.tp_words.specs.Places.{UnitWord}
-use Rattle.tp_words.specs.Words.{pack_unit, unit_value}
+use Rattle.tp_words.specs.Words.{pack_unit}
 use Rattle.tp_rule.specs.Rule.{Told}
 use Rattle.tp_rule.specs.Views.{seen_by, view_of}
 use Rattle.tp_rule.proofs.Deciding.{aborts_go}
-use Rattle.tp_rule.proofs.Reading.{found_told, map_none, map_some}
+use Rattle.tp_rule.proofs.Reading.{found_told}
 use Rattle.tp_rule.proofs.words.Words.abort_exchange.Goals as goal
 use Rattle.tp_rule.proofs.words.Words.abort_exchange.Goals.{Else-was-eq-UNIT_UNDECIDED}
 

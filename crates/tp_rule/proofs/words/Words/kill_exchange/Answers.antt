@@ -8,7 +8,7 @@ use Rattle.tp_rule.specs.Rule.{Told}
 use Rattle.tp_rule.specs.Views.{seen_by, view_of}
 use Rattle.tp_rule.specs.Steps.{Misses, AllowsKill}
 use Rattle.tp_rule.proofs.Killing.{kills_go}
-use Rattle.tp_rule.proofs.Reading.{map_none, map_some, missed_told}
+use Rattle.tp_rule.proofs.Reading.{missed_told}
 use Rattle.tp_rule.proofs.words.Words.kill_exchange.Goals as goal
 use Rattle.tp_rule.proofs.words.Words.kill_exchange.Goals.{Else-was-alive}
 

@@ -1,10 +1,10 @@
 use Rattle.std.proofs.Common.{sym, subst}
 use Rattle.tp_words.specs.Places.{ClaimWord}
-use Rattle.tp_words.specs.Words.{claim_value, IsFitClaim}
+use Rattle.tp_words.specs.Words.{IsFitClaim}
 use Rattle.tp_rule.specs.Rule.{Told}
 use Rattle.tp_rule.specs.Views.{seen_by}
 use Rattle.tp_rule.proofs.Seats.{one_has}
-use Rattle.tp_rule.proofs.Reading.{told, map_some, map_none}
+use Rattle.tp_rule.proofs.Reading.{told}
 use Rattle.tp_rule.proofs.words.Words.load_claim.Goals as goal
 use Rattle.tp_rule.proofs.words.Words.load_claim.Goals.{After-load-found}
 

@@ -1,16 +1,14 @@
-use Rattle.std.proofs.Common.{◌≡◌, ◌<◌, ℕ, Option, Some, IfSome, rules, sym, ◌∙◌, ap, subst}
+use Rattle.std.proofs.Common.{◌≡◌, ◌<◌, rules, sym, ◌∙◌, ap, subst}
 use Rattle.tp_model.specs.Steps.{rows_of}
 use Rattle.tp_rule.specs.Doors.{Permits, key_of}
 use Rattle.tp_rule.specs.Plays.{loads_head}
 use Rattle.tp_words.specs.Places.{HeadWord}
-use Rattle.tp_words.specs.Words.{IsFitHead, pack_head}
-use Rattle.tp_words.specs.declared.words.Head.{Head}
-use Rattle.tp_words.specs.declared.words.Head.TheVariants.{Empty}
+use Rattle.tp_words.specs.Words.{pack_head}
 use Rattle.tp_rule.specs.Steps.{NoneFrom}
 use Rattle.tp_rule.specs.Rule.{HeadTold, IsDraft}
 use Rattle.tp_rule.specs.Views.{seen_by}
 use Rattle.tp_rule.proofs.Seats.{looks_head, one_has}
-use Rattle.tp_rule.proofs.Reading.{told, of_some, not_none}
+use Rattle.tp_rule.proofs.Reading.{told}
 use Rattle.tp_rule.proofs.words.Words.load_head.Goals as goal
 use Rattle.tp_rule.proofs.words.Words.load_head.Goals.{After-load-found}
 

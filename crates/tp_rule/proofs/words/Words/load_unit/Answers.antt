@@ -1,9 +1,8 @@
 use Rattle.tp_words.specs.Places.{UnitWord}
-use Rattle.tp_words.specs.Words.{unit_value}
 use Rattle.tp_rule.specs.Rule.{Told}
 use Rattle.tp_rule.specs.Views.{seen_by}
 use Rattle.tp_rule.proofs.Seats.{one_has}
-use Rattle.tp_rule.proofs.Reading.{told, map_some, map_none}
+use Rattle.tp_rule.proofs.Reading.{told}
 use Rattle.tp_rule.proofs.words.Words.load_unit.Goals as goal
 use Rattle.tp_rule.proofs.words.Words.load_unit.Goals.{After-load-found}
 
