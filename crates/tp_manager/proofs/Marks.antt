@@ -128,17 +128,17 @@ module _ (l : Limits) where
 
   -- a scan that begins at row x, or behind it where that row is done
   abbrev pub IsPast : ℕ → ℕ → ℕ → Option ℕ → Type 0
-  IsPast b x end done = (b ≡ x) ⊎ ((b ≡ x + 1) × (x < end) × (done ≡ Some x))
+  IsPast b x end last = (b ≡ x) ⊎ ((b ≡ x + 1) × (x < end) × (last ≡ Some x))
 
-  pub past_near : (b x end : ℕ) (done : Option ℕ) → x ≤ end → IsPast b x end done → (x ≤ b) × (b ≤ x + 1) × (b ≤ end)
-  past_near b x end done inside past = ⊎_elim (λ e. (omega arith, omega arith, omega arith)) (λ t. let e = t.0 in let less = t.1 in (omega arith, omega arith, omega arith)) past
+  pub past_near : (b x end : ℕ) (last : Option ℕ) → x ≤ end → IsPast b x end last → (x ≤ b) × (b ≤ x + 1) × (b ≤ end)
+  past_near b x end last inside past = ⊎_elim (λ e. (omega arith, omega arith, omega arith)) (λ t. let e = t.0 in let less = t.1 in (omega arith, omega arith, omega arith)) past
 
-  past_done : (v : View) (b x end : ℕ) (done : Option ℕ) → RemembersDone v done → IsPast b x end done → (i : ℕ) → x ≤ i → i < b → IsSettledRow v.limits v.seen i
-  past_done v b x end done old past i low high = ⊎_elim (λ e. absurd (omega arith)) (λ t. let e = t.0 in let same : x ≡ i = omega arith in old i (t.2 ∙ ap Some same)) past
+  past_done : (v : View) (b x end : ℕ) (last : Option ℕ) → RemembersDone v last → IsPast b x end last → (i : ℕ) → x ≤ i → i < b → IsSettledRow v.limits v.seen i
+  past_done v b x end last old past i low high = ⊎_elim (λ e. absurd (omega arith)) (λ t. let e = t.0 in let same : x ≡ i = omega arith in old i (t.2 ∙ ap Some same)) past
 
-  pub rose_past : (v : View) (b x end : ℕ) (done : Option ℕ) → RemembersDone v done → IsPast b x end done → x ≤ b → Rose v x b
-  rose_past v b x end done old past le = (le, λ i low high. inl (past_done v b x end done old past i low high))
+  pub rose_past : (v : View) (b x end : ℕ) (last : Option ℕ) → RemembersDone v last → IsPast b x end last → x ≤ b → Rose v x b
+  rose_past v b x end last old past le = (le, λ i low high. inl (past_done v b x end last old past i low high))
 
-  pub done_passed : (stage : ℕ) (v : View) (b x end : ℕ) (done : Option ℕ) → v.limits ≡ l → RemembersDone v done → IsPast b x end done → (i : ℕ) → x ≤ i → i < b → PassedBy l stage i v.seen v.seen
-  done_passed stage v b x end done same old past i low high y born st = let t = subst (λ (z : Limits). IsSettledRow z v.seen i) same (past_done v b x end done old past i low high) in
+  pub done_passed : (stage : ℕ) (v : View) (b x end : ℕ) (last : Option ℕ) → v.limits ≡ l → RemembersDone v last → IsPast b x end last → (i : ℕ) → x ≤ i → i < b → PassedBy l stage i v.seen v.seen
+  done_passed stage v b x end last same old past i low high y born st = let t = subst (λ (z : Limits). IsSettledRow z v.seen i) same (past_done v b x end last old past i low high) in
       (v.seen, begins_refl v.seen, begins_refl v.seen, not_waiting (status_of l.attempts v.seen i) t.2)

@@ -44,8 +44,8 @@ pub drawn_walked : (l : Limits) (n : ℕ) (ms : List TraceEntry) (v w : View) (d
 drawn_walked l n ms v w d lim a r = drawn_later v w d (a.steady.pass.1 ∙ sym lim) a.knows r
 
 -- what is consumed or killed stays so
-pub done_walked : (l : Limits) (n : ℕ) (ms : List TraceEntry) (v w : View) (done : Option ℕ) → v.limits ≡ l → Walked l n ms v w → RemembersDone v done → RemembersDone w done
-done_walked l n ms v w done same a old = λ i is. subst (λ (z : Limits). IsSettledRow z w.seen i) (sym a.steady.pass.1)
+pub done_walked : (l : Limits) (n : ℕ) (ms : List TraceEntry) (v w : View) (last : Option ℕ) → v.limits ≡ l → Walked l n ms v w → RemembersDone v last → RemembersDone w last
+done_walked l n ms v w last same a old = λ i is. subst (λ (z : Limits). IsSettledRow z w.seen i) (sym a.steady.pass.1)
     (settled_row l v.seen w.seen i a.steady.shows.legal (walked_begins l n ms v w a) (subst (λ (z : Limits). IsSettledRow z v.seen i) same (old i is)))
 
 -- the pass has looked at it

@@ -115,7 +115,7 @@ RemembersDrawn v drawn = (drawn ≤ v.limits.spare) × (0 < drawn → Knows v (B
 
 -- the element of the row that is done is consumed or killed in what the seat has seen
 abbrev pub RemembersDone : View → Option ℕ → Type 0
-RemembersDone v done = (i : ℕ) → done ≡ Some i → IsSettledRow v.limits v.seen i
+RemembersDone v last = (i : ℕ) → last ≡ Some i → IsSettledRow v.limits v.seen i
 
 -- what is so of every pass between two calls
 pub record Rests (seat : SeatShown) (number : ℕ) (run : Run) (used : ℕ) (task : Option Task) : Type 0 where
