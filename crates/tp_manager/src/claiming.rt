@@ -43,7 +43,7 @@ impl Manager {
         pass.task = Some(Task {
             unit,
             root: taken.root,
-            row: taken.element.id as u16,
+            row: taken.element.id,
         });
         Claimed::Work(Work {
             unit,

@@ -4,7 +4,7 @@ ghost use Rattle.tp_manager.specs.Shown.{IsOf};
 ghost use Rattle.tp_manager.specs.Bounds.{abort_steps, close_steps, commit_steps};
 ghost use Rattle.tp_manager.specs.Calls.{Ends, Follows, HasEnded, Settles};
 
-use crate::manager::{Manager, Pass, Run};
+use crate::manager::{Manager, Pass};
 use tp_model::types::{Draft, Ended, Outcome};
 
 impl Manager {
@@ -53,39 +53,23 @@ impl Manager {
         let Some(task) = pass.task else {
             unreachable!();
         };
-        let Run {
-            next,
-            left,
-            drawn,
-            done,
-        } = pass.run;
+        let next = pass.run.next;
         let count = drafts.len() as u16;
         shared.write_all(seat, next as u32, drafts, task.root, task.unit);
         let first = if count == 0 { 0 } else { next };
-        let next = next + count;
-        let left = left - count;
+        pass.run.next = next + count;
+        pass.run.left -= count;
         if shared
             .words
             .commit_exchange(seat, task.unit, first, count as u8)
         {
-            pass.run = Run {
-                next,
-                left,
-                drawn,
-                done: Some(task.row),
-            };
+            pass.run.done = Some(task.row);
             pass.task = None;
             Outcome::Committed {
                 first: first as u32,
                 count: count as u8,
             }
         } else {
-            pass.run = Run {
-                next,
-                left,
-                drawn,
-                done,
-            };
             pass.task = None;
             Outcome::Lost
         }

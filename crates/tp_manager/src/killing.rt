@@ -16,7 +16,7 @@ ghost use Rattle.tp_manager.specs.Kills.{takers, IsPastKill, Loosened, KillsIn, 
 use crate::manager::{Manager, Pass, Shared};
 use tp_model::types::{Killed, Refusal};
 use tp_rule::Seat;
-use tp_words::{Claim, UnitWord};
+use tp_words::{Claim, FoundClaim, UnitWord};
 
 /// How many units stand in the way of a kill where this claim was found: the one that has taken the element,
 /// or none.
@@ -85,24 +85,30 @@ impl Shared {
     /// element is found untaken.
     #[cycle(kill)]
     #[inline(always)]
-    fn kill_from(&self, seat: &mut Seat, row: u32, claim: Claim, left: u8) -> Result<u8, Refusal>
+    fn kill_from(
+        &self,
+        seat: &mut Seat,
+        row: u32,
+        claim: FoundClaim,
+        left: u8,
+    ) -> Result<u8, Refusal>
         requires own { IsSeatOf self.now.words seat.old }
         requires steady { Steady (limits_of self.now.words) (view_of seat.old) }
         requires row { (row < rows_of (limits_of self.now.words)) × HasElement (seen_by seat.old) row }
-        requires found { (claim_value claim ≡ claim_word (seen_by seat.old) row)
-            × IsFitClaim (claim_value claim) }
+        requires found { (claim_value claim.tells ≡ claim_word (seen_by seat.old) row)
+            × IsFitClaim (claim_value claim.tells) }
         requires free { (hand_of seat.old).open_unit ≡ None }
-        requires enough { IsEnough (limits_of self.now.words) left (claim_value claim) }
+        requires enough { IsEnough (limits_of self.now.words) left (claim_value claim.tells) }
         ensures same { IsSameSeat seat.old seat.new }
-        ensures told { let l = limits_of self.now.words in let n = slay_from left (claim_value claim) in MatchResult result
+        ensures told { let l = limits_of self.now.words in let n = slay_from left (claim_value claim.tells) in MatchResult result
             (λ count. KillsIn l n row left count (view_of seat.old) (view_of seat.new))
             (λ refusal. FailsIn l n row left refusal (view_of seat.old) (view_of seat.new)) }
     {
-        match self.loosen(seat, row, claim) {
+        match self.loosen(seat, row, claim.tells) {
             Err(refusal) => Err(refusal),
             Ok(count) => match self.words.kill_exchange(seat, row, claim) {
                 Ok(()) => Ok(count),
-                Err(now) => match self.kill_again(seat, row, now, left - takers_in(claim)) {
+                Err(now) => match self.kill_again(seat, row, now, left - takers_in(claim.tells)) {
                     Ok(more) => Ok(count + more),
                     Err(refusal) => Err(refusal),
                 },
@@ -113,16 +119,22 @@ impl Shared {
     /// The same, where the claim had changed: apart from `kill_from`, which then has no recursion of its own.
     #[cycle(kill)]
     #[cold]
-    fn kill_again(&self, seat: &mut Seat, row: u32, claim: Claim, left: u8) -> Result<u8, Refusal>
+    fn kill_again(
+        &self,
+        seat: &mut Seat,
+        row: u32,
+        claim: FoundClaim,
+        left: u8,
+    ) -> Result<u8, Refusal>
         requires own { IsSeatOf self.now.words seat.old }
         requires steady { Steady (limits_of self.now.words) (view_of seat.old) }
         requires row { (row < rows_of (limits_of self.now.words)) × HasElement (seen_by seat.old) row }
-        requires found { (claim_value claim ≡ claim_word (seen_by seat.old) row)
-            × IsFitClaim (claim_value claim) }
+        requires found { (claim_value claim.tells ≡ claim_word (seen_by seat.old) row)
+            × IsFitClaim (claim_value claim.tells) }
         requires free { (hand_of seat.old).open_unit ≡ None }
-        requires enough { IsEnough (limits_of self.now.words) left (claim_value claim) }
+        requires enough { IsEnough (limits_of self.now.words) left (claim_value claim.tells) }
         ensures same { IsSameSeat seat.old seat.new }
-        ensures told { let l = limits_of self.now.words in let n = slay_from left (claim_value claim) in MatchResult result
+        ensures told { let l = limits_of self.now.words in let n = slay_from left (claim_value claim.tells) in MatchResult result
             (λ count. KillsIn l n row left count (view_of seat.old) (view_of seat.new))
             (λ refusal. FailsIn l n row left refusal (view_of seat.old) (view_of seat.new)) }
     {

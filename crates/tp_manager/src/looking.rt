@@ -17,7 +17,7 @@ ghost use Rattle.tp_manager.specs.Looks.{Contains, GoesOn, HeadFound, IsThere, I
 use crate::manager::Shared;
 use tp_model::types::{Body, Element, Status};
 use tp_rule::Seat;
-use tp_words::{Claim, Head, UnitWord};
+use tp_words::{Claim, FoundClaim, Head, UnitWord};
 
 /// What the head of a born element says.
 #[derive(Clone, Copy, Debug, PartialEq, Eq)]
@@ -228,22 +228,22 @@ impl Shared {
         &self,
         seat: &mut Seat,
         row: u32,
-        claim: Claim,
+        claim: FoundClaim,
         left: u8,
-    ) -> (Claim, Status)
+    ) -> (FoundClaim, Status)
         requires own { IsSeatOf self.now.words seat.old }
         requires steady { Steady (limits_of self.now.words) (view_of seat.old) }
         requires row { row < rows_of (limits_of self.now.words) }
-        requires found { (claim_value claim ≡ claim_word (seen_by seat.old) row)
-            × IsFitClaim (claim_value claim) }
-        requires enough { IsEnough (limits_of self.now.words) left (claim_value claim) }
+        requires found { (claim_value claim.tells ≡ claim_word (seen_by seat.old) row)
+            × IsFitClaim (claim_value claim.tells) }
+        requires enough { IsEnough (limits_of self.now.words) left (claim_value claim.tells) }
         ensures same { IsSameSeat seat.old seat.new }
         ensures looked { Looked (limits_of self.now.words) (retry_steps left) (view_of seat.old) (view_of seat.new) }
-        ensures claim { (claim_value result.0 ≡ claim_word (seen_by seat.new) row)
-            × IsFitClaim (claim_value result.0) }
+        ensures claim { (claim_value result.0.tells ≡ claim_word (seen_by seat.new) row)
+            × IsFitClaim (claim_value result.0.tells) }
         ensures status { result.1 ≡ status_of (limits_of self.now.words).attempts (seen_by seat.new) row }
     {
-        match claim {
+        match claim.tells {
             Claim::Free => (claim, Status::Waiting { attempts: 0 }),
             Claim::Again { round: _ } => (claim, Status::Waiting { attempts: 0 }),
             Claim::Killed {
@@ -260,7 +260,7 @@ impl Shared {
                 UnitWord::Committed { first: _, count: _ } => (claim, Status::Consumed { unit }),
                 UnitWord::Aborted => {
                     let again = self.words.load_claim(seat, row);
-                    if again != claim {
+                    if again.tells != claim.tells {
                         return self.status_again(seat, row, again, left - 1);
                     }
                     if attempt < self.places.limits.attempts {
@@ -277,17 +277,23 @@ impl Shared {
     /// own.
     #[cycle(status)]
     #[cold]
-    fn status_again(&self, seat: &mut Seat, row: u32, claim: Claim, left: u8) -> (Claim, Status)
+    fn status_again(
+        &self,
+        seat: &mut Seat,
+        row: u32,
+        claim: FoundClaim,
+        left: u8,
+    ) -> (FoundClaim, Status)
         requires own { IsSeatOf self.now.words seat.old }
         requires steady { Steady (limits_of self.now.words) (view_of seat.old) }
         requires row { row < rows_of (limits_of self.now.words) }
-        requires found { (claim_value claim ≡ claim_word (seen_by seat.old) row)
-            × IsFitClaim (claim_value claim) }
-        requires enough { IsEnough (limits_of self.now.words) left (claim_value claim) }
+        requires found { (claim_value claim.tells ≡ claim_word (seen_by seat.old) row)
+            × IsFitClaim (claim_value claim.tells) }
+        requires enough { IsEnough (limits_of self.now.words) left (claim_value claim.tells) }
         ensures same { IsSameSeat seat.old seat.new }
         ensures looked { Looked (limits_of self.now.words) (retry_steps left) (view_of seat.old) (view_of seat.new) }
-        ensures claim { (claim_value result.0 ≡ claim_word (seen_by seat.new) row)
-            × IsFitClaim (claim_value result.0) }
+        ensures claim { (claim_value result.0.tells ≡ claim_word (seen_by seat.new) row)
+            × IsFitClaim (claim_value result.0.tells) }
         ensures status { result.1 ≡ status_of (limits_of self.now.words).attempts (seen_by seat.new) row }
     {
         self.status_from(seat, row, claim, left)
@@ -296,15 +302,15 @@ impl Shared {
     /// The claim and the status of the element of a row. At most one step, and two for each attempt that is
     /// allowed in all rounds.
     #[inline(always)]
-    pub(crate) fn status_at(&self, seat: &mut Seat, row: u32) -> (Claim, Status)
+    pub(crate) fn status_at(&self, seat: &mut Seat, row: u32) -> (FoundClaim, Status)
         requires own { IsSeatOf self.now.words seat.old }
         requires steady { Steady (limits_of self.now.words) (view_of seat.old) }
         requires row { row < rows_of (limits_of self.now.words) }
         ensures same { IsSameSeat seat.old seat.new }
         ensures acted { let l = limits_of self.now.words in
             Acted l (status_steps l) (view_of seat.old) (view_of seat.new) }
-        ensures claim { (claim_value result.0 ≡ claim_word (seen_by seat.new) row)
-            × IsFitClaim (claim_value result.0) }
+        ensures claim { (claim_value result.0.tells ≡ claim_word (seen_by seat.new) row)
+            × IsFitClaim (claim_value result.0.tells) }
         ensures status { result.1 ≡ status_of (limits_of self.now.words).attempts (seen_by seat.new) row }
     {
         let claim = self.words.load_claim(seat, row);

@@ -80,7 +80,7 @@ impl Model for Keeper {
 pub(crate) struct Task {
     pub unit: u16,
     pub root: u16,
-    pub row: u16,
+    pub row: u32,
 }
 
 /// The rows that are left to a pass: so many, from the row `next` on. And how many spare blocks were drawn,
@@ -90,7 +90,7 @@ pub(crate) struct Run {
     pub next: u16,
     pub left: u16,
     pub drawn: u16,
-    pub done: Option<u16>,
+    pub done: Option<u32>,
 }
 
 /// What one caller acts through, one call at a time. A pass that is dropped leaves its open unit open: the

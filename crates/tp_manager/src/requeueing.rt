@@ -29,7 +29,7 @@ impl Shared {
             × IsPastRequeue l row (seen_by seat.old) (seen_by seat.new) refusal) }
     {
         let claim = self.words.load_claim(seat, row);
-        match claim {
+        match claim.tells {
             Claim::Free => Err(Refusal::NotParked),
             Claim::Again { round: _ } => Err(Refusal::NotParked),
             Claim::Killed {

@@ -61,12 +61,12 @@ fn past(low: u32, row: u32) -> u32
 
 /// The row behind this one, where this is the row that is done and not the end.
 #[inline(always)]
-fn past_done(row: u32, end: u32, done: Option<u16>) -> u32
+fn past_done(row: u32, end: u32, done: Option<u32>) -> u32
     requires { row ≤ end }
     ensures { (result ≡ row) ⊎ ((result ≡ row + 1) × (row < end) × (done ≡ Some row)) }
 {
     match done {
-        Some(known) if row < end && known as u32 == row => row + 1,
+        Some(known) if row < end && known == row => row + 1,
         _ => row,
     }
 }
@@ -133,13 +133,13 @@ impl Shared {
             Contents::Nothing => return None,
         };
         let (claim, status) = self.status_at(seat, here);
-        *low = low_after(*low, here, status);
+        let Status::Waiting { attempts } = status else {
+            *low = low_after(*low, here, status);
+            return None;
+        };
         if birth.stage != stage {
             return None;
         }
-        let Status::Waiting { attempts } = status else {
-            return None;
-        };
         let element = self.element_at(seat, here, birth);
         let attempt = attempts + 1;
         match self.words.claim_exchange(seat, here, claim, attempt, unit) {
@@ -186,7 +186,7 @@ impl Shared {
         seat: &mut Seat,
         lows: &mut [u16; 32],
         part: u16,
-        done: Option<u16>,
+        done: Option<u32>,
         stage: u8,
         unit: u16,
     ) -> Option<Taken>
@@ -230,11 +230,13 @@ impl Shared {
         ensures finished { AreFinished (limits_of self.now.words) lows.now result }
     {
         let limits = self.places.limits;
-        let mut part = 0;
-        while part + 1 < limits.parts && lows[part as usize] == limits.rows {
-            part += 1;
+        let last = limits.parts - 1;
+        for part in 0..last {
+            if lows[part as usize] != limits.rows {
+                return part;
+            }
         }
-        part
+        last
     }
 
     /// The unit takes the first element of a part that waits in the stage. What the pass knows finished isn't
@@ -243,7 +245,7 @@ impl Shared {
         &self,
         seat: &mut Seat,
         lows: &mut [u16; 32],
-        done: Option<u16>,
+        done: Option<u32>,
         stage: u8,
         unit: u16,
     ) -> Option<Taken>
@@ -305,7 +307,7 @@ impl Shared {
         seat: &mut Seat,
         lows: &mut [u16; 32],
         drawn: &mut u16,
-        done: Option<u16>,
+        done: Option<u32>,
         stage: u8,
         unit: u16,
     ) -> Option<Taken>

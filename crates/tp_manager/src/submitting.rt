@@ -5,7 +5,7 @@ ghost use Rattle.tp_manager.specs.Shown.{IsOf};
 ghost use Rattle.tp_manager.specs.Bounds.{next_steps, submit_steps};
 ghost use Rattle.tp_manager.specs.Calls.{Follows, Submits, SubmitRefused};
 
-use crate::manager::{Manager, Pass, Run};
+use crate::manager::{Manager, Pass};
 use tp_model::types::{Body, Refusal};
 
 impl Manager {
@@ -20,21 +20,11 @@ impl Manager {
         ensures answer { Submits result stage body pass.old pass.new }
     {
         let seat = &mut pass.seat;
-        let Run {
-            next,
-            left,
-            drawn,
-            done,
-        } = pass.run;
-        let row = next as u32;
+        let row = pass.run.next as u32;
         self.shared.words.store_draft_body(seat, row, body);
         self.shared.words.publish(seat, row, stage);
-        pass.run = Run {
-            next: next + 1,
-            left: left - 1,
-            drawn,
-            done,
-        };
+        pass.run.next += 1;
+        pass.run.left -= 1;
         row
     }
 

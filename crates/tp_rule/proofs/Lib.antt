@@ -20,7 +20,6 @@ pub mod Claiming
 pub mod Deciding
 pub mod Killing
 pub mod Requeueing
-pub mod Doors
 pub mod Meetings
 pub mod Raising
 pub mod Drawing

@@ -1,10 +1,10 @@
 -- What the one door to the table shows of a seat, and what it asks of a step.
-use Rattle.std.specs.Prelude.{◌≡◌, ℕ, [], Option, Some, None, slice_index, slice_set}
+use Rattle.std.specs.Prelude.{◌≡◌, ℕ, List, [], ◌∷◌, slice_index, slice_set}
 use mathlib.Core.Option.{some}
 use lib.ListN.{get_elem?}
 use Rattle.atomic_table.specs.Seated.{TableId}
 use Rattle.atomic_table.specs.Table.{State, Splits, Joins}
-use Rattle.atomic_table.specs.declared.shared.Seat.{Seat}
+use Rattle.atomic_table.specs.declared.badge.Badge.{Badge}
 use Rattle.tp_model.specs.declared.types.Limits.{Limits}
 use Rattle.tp_rule.specs.Rule.{Rule}
 use Rattle.tp_rule.specs.Views.{SeatShown, no_seat, spent}
@@ -19,15 +19,19 @@ id_of t = t.table.shared.table_id
 abbrev pub key_of : SharedTable → Limits
 key_of t = t.table.shared.key
 
--- what a seat shows, which has this place at a table
-abbrev pub shown_by : Option (Seat (Unit {0}) View) → SeatShown
-shown_by None = no_seat
-shown_by (Some at) = record { table = at.table_id; view = at.me.0 }
+-- what a seat shows at this table, with its view if it has one
+abbrev pub shown_at : TableId → List View → SeatShown
+shown_at table [] = no_seat
+shown_at table (v ∷ more) = record { table = table; view = v }
 
--- a place at a table holds no slots, since the table has none
-abbrev pub IsBare : Option (Seat (Unit {0}) View) → Type 0
-IsBare None = Unit {0}
-IsBare (Some at) = at.me.1 ≡ []
+-- what a seat shows
+abbrev pub shown_by : Badge View → SeatShown
+shown_by badge = shown_at badge.table_id badge.views
+
+-- a seat has one view, or none
+abbrev pub IsSole : List View → Type 0
+IsSole [] = Unit {0}
+IsSole (v ∷ more) = more ≡ []
 
 -- Whatever the table is when the word changes, there is a new view of the seat with which the rule holds again, and which
 -- tells so much of the number that was found.

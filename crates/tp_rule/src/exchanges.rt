@@ -18,7 +18,7 @@ use crate::plays::{
 use crate::seat::Seat;
 use crate::words::Words;
 use tp_words::bits::{UNIT_ABORTED, UNIT_UNDECIDED};
-use tp_words::{Claim, UnitWord};
+use tp_words::{Claim, FoundClaim, UnitWord};
 
 impl Words {
     ghost use Rattle.tp_rule.specs.Tables.{limits_of, IsSeatOf, IsPassOf};
@@ -46,32 +46,32 @@ impl Words {
         &self,
         seat: &mut Seat,
         row: u32,
-        found: Claim,
+        found: FoundClaim,
         attempt: u8,
         unit: u16,
-    ) -> Result<(), Claim>
+    ) -> Result<(), FoundClaim>
         requires own { IsSeatOf self.now seat.old }
         requires one { IsPassOf self.now seat.old }
         requires row { (row < rows_of (limits_of self.now)) × HasWork (seen_by seat.old) row }
         requires spare { ((hand_of seat.old).spare_unit ≡ Some unit) × (unit < 65535) }
         requires none_open { (hand_of seat.old).open_unit ≡ None }
-        requires fits { IsFitClaim (claim_value found) }
-        requires found { AllowsClaim (limits_of self.now) (seen_by seat.old) (claim_value found) attempt }
+        requires fits { IsFitClaim (claim_value found.tells) }
+        requires found { AllowsClaim (limits_of self.now) (seen_by seat.old) (claim_value found.tells) attempt }
         ensures same { IsSameSeat seat.old seat.new }
         ensures hit { IfOk result (λ done. MakesClaim (view_of seat.old) unit row attempt (view_of seat.new)) }
-        ensures miss { IfErr result (λ now. FindsOther kinds.ClaimExchange (view_of seat.old) row (claim_value found)
-            (claim_value now) (view_of seat.new)) }
+        ensures miss { IfErr result (λ now. FindsOther kinds.ClaimExchange (view_of seat.old) row (claim_value found.tells)
+            (claim_value now.tells) (view_of seat.new)) }
     {
         let word = self.places.claim(row);
-        let free = found.pack();
-        let taken = found.taken(attempt, unit).pack();
+        let free = found.word();
+        let taken = found.taken(attempt, unit);
         let was = self
             .table
             .compare_exchange::<ClaimExchange>(seat, word, free, taken);
         if was == free {
             return Ok(());
         }
-        Err(Claim::read(was))
+        Err(FoundClaim::read(was))
     }
 
     /// The open unit is committed with its drafts, if it is undecided. `true` adds the commit to the history:
@@ -126,46 +126,56 @@ impl Words {
     /// was aborted, or it was given another round. `Ok` adds the kill to the history, and no unit takes the
     /// element any more. `Err` has the claim as it is by now.
     #[inline(always)]
-    pub fn kill_exchange(&self, seat: &mut Seat, row: u32, found: Claim) -> Result<(), Claim>
+    pub fn kill_exchange(
+        &self,
+        seat: &mut Seat,
+        row: u32,
+        found: FoundClaim,
+    ) -> Result<(), FoundClaim>
         requires own { IsSeatOf self.now seat.old }
         requires one { IsPassOf self.now seat.old }
         requires row { (row < rows_of (limits_of self.now)) × HasElement (seen_by seat.old) row }
-        requires fits { IsFitClaim (claim_value found) }
-        requires found { AllowsKill (limits_of self.now) (seen_by seat.old) (claim_value found) }
+        requires fits { IsFitClaim (claim_value found.tells) }
+        requires found { AllowsKill (limits_of self.now) (seen_by seat.old) (claim_value found.tells) }
         ensures same { IsSameSeat seat.old seat.new }
         ensures hit { IfOk result (λ done. MakesKill (view_of seat.old) row (view_of seat.new)) }
-        ensures miss { IfErr result (λ now. FindsOther kinds.KillExchange (view_of seat.old) row (claim_value found)
-            (claim_value now) (view_of seat.new)) }
+        ensures miss { IfErr result (λ now. FindsOther kinds.KillExchange (view_of seat.old) row (claim_value found.tells)
+            (claim_value now.tells) (view_of seat.new)) }
     {
         let word = self.places.claim(row);
-        let alive = found.pack();
-        let killed = found.killed().pack();
+        let alive = found.word();
+        let killed = found.killed();
         let was = self
             .table
             .compare_exchange::<KillExchange>(seat, word, alive, killed);
         if was == alive {
             return Ok(());
         }
-        Err(Claim::read(was))
+        Err(FoundClaim::read(was))
     }
 
     /// The parked element of a row is given its next round, if its claim is still the one that was found: its unit was
     /// aborted, the attempts are used up, and there is a round left. `Ok` adds the requeue to the history, and the
     /// element waits again. `Err` has the claim as it is by now.
-    pub fn requeue_exchange(&self, seat: &mut Seat, row: u32, found: Claim) -> Result<(), Claim>
+    pub fn requeue_exchange(
+        &self,
+        seat: &mut Seat,
+        row: u32,
+        found: FoundClaim,
+    ) -> Result<(), FoundClaim>
         requires own { IsSeatOf self.now seat.old }
         requires one { IsPassOf self.now seat.old }
         requires row { (row < rows_of (limits_of self.now)) × HasElement (seen_by seat.old) row }
-        requires fits { IsFitClaim (claim_value found) }
-        requires found { AllowsRequeue (limits_of self.now) (seen_by seat.old) (claim_value found) }
+        requires fits { IsFitClaim (claim_value found.tells) }
+        requires found { AllowsRequeue (limits_of self.now) (seen_by seat.old) (claim_value found.tells) }
         ensures same { IsSameSeat seat.old seat.new }
-        ensures hit { IfOk result (λ done. MakesRequeue (view_of seat.old) row (round_in (claim_value found) + 1) (view_of seat.new)) }
-        ensures miss { IfErr result (λ now. FindsOther kinds.RequeueExchange (view_of seat.old) row (claim_value found)
-            (claim_value now) (view_of seat.new)) }
+        ensures hit { IfOk result (λ done. MakesRequeue (view_of seat.old) row (round_in (claim_value found.tells) + 1) (view_of seat.new)) }
+        ensures miss { IfErr result (λ now. FindsOther kinds.RequeueExchange (view_of seat.old) row (claim_value found.tells)
+            (claim_value now.tells) (view_of seat.new)) }
     {
         let word = self.places.claim(row);
-        let parked = found.pack();
-        let round = found.round() + 1;
+        let parked = found.word();
+        let round = found.tells.round() + 1;
         let again = Claim::Again { round }.pack();
         let was = self
             .table
@@ -173,7 +183,7 @@ impl Words {
         if was == parked {
             return Ok(());
         }
-        Err(Claim::read(was))
+        Err(FoundClaim::read(was))
     }
 
     /// The mark of a part is raised over rows that the seat knows finished, if it is still the one that was found.

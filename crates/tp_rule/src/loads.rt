@@ -17,7 +17,7 @@ ghost use Rattle.tp_rule.specs.declared.view.Known.TheVariants.{RowHead, PartMar
 use crate::plays::{Load, LoadDrawn, LoadHead, LoadMark};
 use crate::seat::Seat;
 use crate::words::Words;
-use tp_words::{Claim, Head, UnitWord};
+use tp_words::{FoundClaim, Head, UnitWord};
 
 impl Words {
     ghost use Rattle.tp_rule.specs.Tables.{limits_of, IsSeatOf, IsPassOf};
@@ -73,18 +73,18 @@ impl Words {
 
     /// Reads the claim of a row: which unit took its element last, for which time, and whether it was killed.
     #[inline(always)]
-    pub fn load_claim(&self, seat: &mut Seat, row: u32) -> Claim
+    pub fn load_claim(&self, seat: &mut Seat, row: u32) -> FoundClaim
         requires own { IsSeatOf self.now seat.old }
         requires one { IsPassOf self.now seat.old }
         requires row { row < rows_of (limits_of self.now) }
         ensures same { IsSameSeat seat.old seat.new }
         ensures grew { Grew kinds.Load unchanged [] (view_of seat.old) (view_of seat.new) }
-        ensures claim { claim_value result ≡ claim_word (seen_by seat.new) row }
-        ensures fits { IsFitClaim (claim_value result) }
+        ensures claim { claim_value result.tells ≡ claim_word (seen_by seat.new) row }
+        ensures fits { IsFitClaim (claim_value result.tells) }
     {
         let word = self.places.claim(row);
         let found = self.load(seat, word);
-        Claim::read(found)
+        FoundClaim::read(found)
     }
 
     /// Reads the word of a unit: how it ended, or that it is undecided.

@@ -13,27 +13,52 @@ ghost use Rattle.tp_rule.specs.Doors.{Permits, MayCut, MayJoin};
 use crate::plays::Effect;
 use crate::rule::OneHistory;
 use crate::view::View;
-use atomic_table::{Join, Play, Split, Table};
+use atomic_table::{Badge, Join, Play, Split, Table};
 use std::alloc::{AllocError, Global};
 use std::marker::{Model, PhantomData};
+use std::mem;
 use tp_model::types::Limits;
 
-/// What a thread steps with: it stands for one or more passes, or for none, and knows what its view says. All that is
-/// there of it when the program runs is whether it is an empty seat, one that was joined to another.
+/// What a thread steps with: it stands for one or more passes, or for none, and knows what its view says. When the
+/// program runs it has no bytes. One that was joined to another is empty.
 #[derive(Drop)]
 pub struct Seat {
-    place: Option<atomic_table::Seat<(), View>>,
+    badge: Badge<View>,
 }
 
 impl Model for Seat {
     ghost use Rattle.tp_rule.specs.Views.{SeatShown};
-    ghost use Rattle.tp_rule.specs.Doors.{shown_by, IsBare};
+    ghost use Rattle.tp_rule.specs.Doors.{shown_by, IsSole};
 
     ghost Value = { SeatShown };
 
-    ghost view = { λ s. shown_by s.place };
+    ghost view = { λ s. shown_by s.badge };
 
-    ghost invariant = { λ s. IsBare s.place };
+    ghost invariant = { λ s. IsSole s.badge.views };
+}
+
+impl Seat {
+    /// The seat of this place at a table.
+    #[inline(always)]
+    fn of(place: atomic_table::Seat<(), View>) -> Seat
+        requires bare { place.me.1 ≡ [] }
+        ensures { result ≡ record { table = place.table_id; view = place.me.0 } }
+    {
+        Seat {
+            badge: place.into_badge(),
+        }
+    }
+
+    /// Takes out the place at a table, and leaves an empty seat.
+    #[inline(always)]
+    fn take(&mut self) -> atomic_table::Seat<(), View>
+        requires seated { 0 < self.old.table.words }
+        ensures table { result.table_id ≡ self.old.table }
+        ensures me { result.me ≡ (self.old.view, []) }
+        ensures leaves { self.new ≡ no_seat }
+    {
+        mem::replace(&mut self.badge, Badge::blank()).into_seat()
+    }
 }
 
 /// What a step with this effect tells the table, which has slots too: that it leaves those alone.
@@ -67,7 +92,7 @@ impl SharedTable {
         ensures seat { IfOk result (λ made. made.1 ≡ record { table = id_of made.0; view = first_view limits.now }) }
     {
         let (table, place) = Table::of_words(alloc, words, limits)?;
-        Ok((SharedTable { table }, Seat { place: Some(place) }))
+        Ok((SharedTable { table }, Seat::of(place)))
     }
 
     /// Loads a word, with this effect.
@@ -79,10 +104,10 @@ impl SharedTable {
         ensures same { seat.new.table ≡ seat.old.table }
         ensures told { E.told word 0 0 seat.old.view result seat.new.view }
     {
-        let Some(place) = &mut seat.place else {
-            unreachable!();
-        };
-        self.table.shared.load::<Alone<E>>(place, word)
+        let mut place = seat.take();
+        let found = self.table.shared.load::<Alone<E>>(&mut place, word);
+        *seat = Seat::of(place);
+        found
     }
 
     /// Stores a word, with this effect.
@@ -95,10 +120,9 @@ impl SharedTable {
         ensures same { seat.new.table ≡ seat.old.table }
         ensures told { E.told word new 0 seat.old.view new seat.new.view }
     {
-        let Some(place) = &mut seat.place else {
-            unreachable!();
-        };
-        self.table.shared.store::<Alone<E>>(place, word, new);
+        let mut place = seat.take();
+        self.table.shared.store::<Alone<E>>(&mut place, word, new);
+        *seat = Seat::of(place);
     }
 
     /// Changes a word from `old` to `new` if it is `old`, with this effect. The answer is the word as it was.
@@ -117,12 +141,13 @@ impl SharedTable {
         ensures same { seat.new.table ≡ seat.old.table }
         ensures told { E.told word old new seat.old.view result seat.new.view }
     {
-        let Some(place) = &mut seat.place else {
-            unreachable!();
-        };
-        self.table
+        let mut place = seat.take();
+        let found = self
+            .table
             .shared
-            .compare_exchange::<Alone<E>>(place, word, old, new)
+            .compare_exchange::<Alone<E>>(&mut place, word, old, new);
+        *seat = Seat::of(place);
+        found
     }
 
     /// Cuts a seat in two, by a load.
@@ -133,12 +158,10 @@ impl SharedTable {
         ensures keeps { seat.new ≡ record { table = seat.old.table; view = C.left seat.old.view } }
         ensures parts { result ≡ record { table = seat.old.table; view = C.right seat.old.view } }
     {
-        let Some(place) = &mut seat.place else {
-            unreachable!();
-        };
-        Seat {
-            place: Some(self.table.shared.split_seat::<C>(place)),
-        }
+        let mut place = seat.take();
+        let other = self.table.shared.split_seat::<C>(&mut place);
+        *seat = Seat::of(place);
+        Seat::of(other)
     }
 
     /// Joins two seats, by a load. The second is an empty one afterwards.
@@ -150,12 +173,9 @@ impl SharedTable {
         ensures joins { seat.new ≡ record { table = seat.old.table; view = J.both seat.old.view other.old.view } }
         ensures leaves { other.new ≡ no_seat }
     {
-        let Some(place) = &mut seat.place else {
-            unreachable!();
-        };
-        let Some(last) = other.place.take() else {
-            unreachable!();
-        };
-        self.table.shared.join_seat::<J>(place, last);
+        let mut place = seat.take();
+        let last = other.take();
+        self.table.shared.join_seat::<J>(&mut place, last);
+        *seat = Seat::of(place);
     }
 }

@@ -14,7 +14,7 @@ use crate::{Seat, Words};
 use std::alloc::Global;
 use std::thread::join_mut;
 use tp_model::types::{Body, Limits};
-use tp_words::{Claim, Head, Places, UnitWord};
+use tp_words::{Claim, FoundClaim, Head, Places, UnitWord};
 
 /// Words for three passes of four rows and two units each, with two attempts, and the keeper's seat.
 fn small(alloc: Global) -> Option<(Words, Seat)>
@@ -113,7 +113,7 @@ fn claim(words: &Words, seat: &mut Seat, row: u32, unit: u16) -> bool
     if !shows_request(words, seat, row) {
         return false;
     }
-    match words.claim_exchange(seat, row, Claim::Free, 1, unit) {
+    match words.claim_exchange(seat, row, FoundClaim::of(Claim::Free), 1, unit) {
         Ok(()) => true,
         Err(_) => false,
     }
@@ -254,7 +254,7 @@ fn claim_again(words: &Words, seat: &mut Seat, row: u32, aborted: u16, unit: u16
         unit: aborted,
         round: 0,
     };
-    match words.claim_exchange(seat, row, found, 2, unit) {
+    match words.claim_exchange(seat, row, FoundClaim::of(found), 2, unit) {
         Ok(()) => true,
         Err(_) => false,
     }
@@ -276,7 +276,7 @@ fn abort_holder(words: &Words, seat: &mut Seat, row: u32, unit: u16) -> bool
         unit,
         round: 0,
     };
-    if words.load_claim(seat, row) != held {
+    if words.load_claim(seat, row).tells != held {
         return false;
     }
     match words.abort_exchange(seat, unit) {
@@ -303,9 +303,9 @@ fn kill_as_first_found(words: &Words, seat: &mut Seat, row: u32, unit: u16) -> O
         unit,
         round: 0,
     };
-    match words.kill_exchange(seat, row, found) {
+    match words.kill_exchange(seat, row, FoundClaim::of(found)) {
         Ok(()) => None,
-        Err(now) => Some(now),
+        Err(now) => Some(now.tells),
     }
 }
 
@@ -330,7 +330,7 @@ fn stale_kill_exchange(rt: HostRuntime) {
         round: 0,
     };
     assert!(rt; kill_as_first_found(&words, &mut killer, 0, 2) == Some(second_claim));
-    assert!(rt; words.load_claim(&mut killer, 0) == second_claim);
+    assert!(rt; words.load_claim(&mut killer, 0).tells == second_claim);
 }
 
 /// After two passes met, each can act on what the other has seen.
@@ -346,7 +346,7 @@ fn two_passes_meet(rt: HostRuntime) {
     words.meet(&mut client, &mut server);
     assert!(rt; claim(&words, &mut server, 0, 2));
     assert!(rt;
-        words.load_claim(&mut client, 0)
+        words.load_claim(&mut client, 0).tells
             == Claim::Taken {
                 attempt: 1,
                 unit: 2,

@@ -8,4 +8,4 @@ mod tests;
 mod words;
 
 pub use places::{Places, places_differ};
-pub use words::{Claim, Head, UnitWord};
+pub use words::{Claim, FoundClaim, Head, UnitWord};

@@ -1,7 +1,7 @@
 //! Worked values with their words, and numbers that are no words.
 ghost use Rattle.std.specs.Prelude.{◌≡◌};
 
-use crate::{Claim, Head, Places, UnitWord};
+use crate::{Claim, FoundClaim, Head, Places, UnitWord};
 use tp_model::types::{Limits, Refusal};
 
 #[test]
@@ -47,6 +47,9 @@ fn words_are_read(rt: HostRuntime) {
     };
     assert!(rt; taken.pack() == 4227081);
     assert!(rt; Claim::read(taken.pack()) == taken);
+    let found = FoundClaim::read(taken.pack());
+    assert!(rt; found.word() == 4227081);
+    assert!(rt; found.tells == taken);
     assert!(rt; UnitWord::Aborted.pack() == 2);
     assert!(rt; UnitWord::read(UnitWord::Aborted.pack()) == UnitWord::Aborted);
 }
@@ -91,7 +94,7 @@ fn claims(rt: HostRuntime) {
     };
     assert!(rt; never_taken.pack() == 2);
     assert!(rt; Claim::unpack(2) == Some(never_taken));
-    assert!(rt; Claim::Free.killed() == never_taken);
+    assert!(rt; FoundClaim::of(Claim::Free).killed() == 2);
     let killed = Claim::Killed {
         attempt: 1,
         unit: 256,
@@ -99,7 +102,7 @@ fn claims(rt: HostRuntime) {
     };
     assert!(rt; killed.pack() == 16390);
     assert!(rt; Claim::unpack(16390) == Some(killed));
-    assert!(rt; first.killed() == killed);
+    assert!(rt; FoundClaim::of(first).killed() == 16390);
     assert!(rt; Claim::Free.pack() == 0);
     assert!(rt; Claim::unpack(0) == Some(Claim::Free));
 }
@@ -148,7 +151,7 @@ fn claims_with_rounds(rt: HostRuntime) {
     };
     assert!(rt; first.pack() == 4194309);
     assert!(rt; Claim::unpack(4194309) == Some(first));
-    assert!(rt; again.taken(1, 0) == first);
+    assert!(rt; FoundClaim::of(again).taken(1, 0) == 4194309);
     let killed = Claim::Killed {
         attempt: 0,
         unit: 0,
@@ -156,11 +159,11 @@ fn claims_with_rounds(rt: HostRuntime) {
     };
     assert!(rt; killed.pack() == 4194306);
     assert!(rt; Claim::unpack(4194306) == Some(killed));
-    assert!(rt; again.killed() == killed);
+    assert!(rt; FoundClaim::of(again).killed() == 4194306);
     assert!(rt; Claim::Free.round() == 0);
     assert!(rt; again.round() == 1);
     assert!(rt; second.round() == 1);
-    assert!(rt; last.killed().round() == 3);
+    assert!(rt; FoundClaim::of(last).killed() == 12582914);
 }
 
 #[test]

@@ -6,7 +6,8 @@
 ghost use Rattle.std.specs.Prelude.{◌≡◌, ◌↔◌, IfSome, IsSome, Option, Some};
 ghost use Rattle.std.specs.Option.{option_map};
 ghost use Rattle.tp_model.specs.History.{UnitEnd};
-ghost use Rattle.tp_model.specs.Words.{ClaimWord, TakenWord, AgainWord, kill_word, round_in};
+ghost use Rattle.tp_model.specs.Words.{ClaimWord, TakenWord, kill_word, round_in};
+ghost use Rattle.tp_words.specs.Words.{pack_claim, claim_value, IsFitClaim};
 
 use crate::bits::{
     CLAIM_AGAIN, CLAIM_ATTEMPT, CLAIM_FREE, CLAIM_KILLED, CLAIM_ROUND, CLAIM_TAKEN, CLAIM_UNIT,
@@ -44,6 +45,15 @@ pub enum Claim {
     Killed { attempt: u8, unit: u16, round: u8 },
     /// The element was given another round, 1 to 3, and was not taken since.
     Again { round: u8 },
+}
+
+/// A claim as it was found: the word, which an exchange compares, and what it tells.
+#[derive(Clone, Copy, Debug, PartialEq, Eq)]
+pub struct FoundClaim {
+    word: u64,
+    /// What the word tells.
+    pub tells: Claim,
+    pub ghost same: { word ≡ pack_claim (claim_value tells) },
 }
 
 /// What the word of a unit tells.
@@ -124,7 +134,7 @@ impl Head {
 }
 
 impl Claim {
-    ghost use Rattle.tp_words.specs.Words.{pack_claim, claim_value, IsFitClaim, IsClaimWord};
+    ghost use Rattle.tp_words.specs.Words.{IsClaimWord};
 
     /// The word that tells this.
     #[inline(always)]
@@ -179,69 +189,20 @@ impl Claim {
         }
     }
 
-    /// The claim after a unit has taken the element: the round stays.
-    #[inline(always)]
-    pub fn taken(self, attempt: u8, unit: u16) -> Claim
-        ensures { claim_value result ≡ TakenWord attempt unit (round_in (claim_value self)) }
-    {
-        Claim::Taken {
-            attempt,
-            unit,
-            round: self.round(),
-        }
-    }
-
-    /// The claim after a kill: the attempt, the unit and the round stay.
-    pub fn killed(self) -> Claim
-        requires { IsFitClaim (claim_value self) }
-        ensures value { claim_value result ≡ kill_word (claim_value self) }
-        ensures fits { IsFitClaim (claim_value result) }
-    {
-        match self {
-            Claim::Free => Claim::Killed {
-                attempt: 0,
-                unit: 0,
-                round: 0,
-            },
-            Claim::Taken {
-                attempt,
-                unit,
-                round,
-            } => Claim::Killed {
-                attempt,
-                unit,
-                round,
-            },
-            Claim::Killed {
-                attempt,
-                unit,
-                round,
-            } => Claim::Killed {
-                attempt,
-                unit,
-                round,
-            },
-            Claim::Again { round } => Claim::Killed {
-                attempt: 0,
-                unit: 0,
-                round,
-            },
-        }
-    }
-
     /// What a claim word tells.
     #[inline(always)]
     pub fn read(word: u64) -> Claim
         requires { (w : ClaimWord) × IsFitClaim w × (word ≡ pack_claim w) }
         ensures of_pack { (w : ClaimWord) → IsFitClaim w → word ≡ pack_claim w → claim_value result ≡ w }
     {
+        if word == CLAIM_FREE {
+            return Claim::Free;
+        }
         let kind = word % CLAIM_ATTEMPT;
         let attempt = (word % CLAIM_UNIT / CLAIM_ATTEMPT) as u8;
         let unit = (word % CLAIM_ROUND / CLAIM_UNIT) as u16;
         let round = (word / CLAIM_ROUND) as u8;
-        if kind == CLAIM_FREE {
-            Claim::Free
-        } else if kind == CLAIM_TAKEN {
+        if kind == CLAIM_TAKEN {
             Claim::Taken {
                 attempt,
                 unit,
@@ -294,6 +255,59 @@ impl Claim {
         } else {
             None
         }
+    }
+}
+
+impl FoundClaim {
+    /// What was found, of which it is proved that it is a claim word.
+    #[inline(always)]
+    pub fn read(word: u64) -> FoundClaim
+        requires { (w : ClaimWord) × IsFitClaim w × (word ≡ pack_claim w) }
+        ensures of_pack { (w : ClaimWord) → IsFitClaim w → word ≡ pack_claim w → claim_value result.tells ≡ w }
+    {
+        FoundClaim {
+            word,
+            tells: Claim::read(word),
+        }
+    }
+
+    /// As if this claim had been found.
+    pub fn of(tells: Claim) -> FoundClaim
+        requires { IsFitClaim (claim_value tells) }
+        ensures { result.tells ≡ tells }
+    {
+        FoundClaim {
+            word: tells.pack(),
+            tells,
+        }
+    }
+
+    /// The word that was found.
+    #[inline(always)]
+    pub fn word(self) -> u64
+        ensures { result ≡ pack_claim (claim_value self.tells) }
+    {
+        self.word
+    }
+
+    /// The word after a unit has taken the element: the round stays. `attempt` is 1 to 7, `unit` at most 65534.
+    #[inline(always)]
+    pub fn taken(self, attempt: u8, unit: u16) -> u64
+        requires found { IsFitClaim (claim_value self.tells) }
+        requires fits { IsFitClaim (TakenWord attempt unit 0) }
+        ensures { result ≡ pack_claim (TakenWord attempt unit (round_in (claim_value self.tells))) }
+    {
+        let round = self.word / CLAIM_ROUND * CLAIM_ROUND;
+        round + CLAIM_UNIT * unit as u64 + CLAIM_ATTEMPT * attempt as u64 + CLAIM_TAKEN
+    }
+
+    /// The word after a kill: the attempt, the unit and the round stay.
+    #[inline(always)]
+    pub fn killed(self) -> u64
+        requires { IsFitClaim (claim_value self.tells) }
+        ensures { result ≡ pack_claim (kill_word (claim_value self.tells)) }
+    {
+        self.word / CLAIM_ATTEMPT * CLAIM_ATTEMPT + CLAIM_KILLED
     }
 }
 

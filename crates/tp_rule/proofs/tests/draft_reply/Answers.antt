@@ -1,4 +1,4 @@
-use Rattle.std.proofs.Common.{ap, sym, ◌∙◌, ◌≡◌, ℕ, rules}
+use Rattle.std.proofs.Common.{ap, sym, ◌∙◌, ◌≡◌, rules}
 use Rattle.tp_model.specs.declared.types.Element.{Element}
 use Rattle.tp_rule.specs.Views.{view_of}
 use Rattle.tp_rule.specs.declared.view.Hand.{Hand}

@@ -10,9 +10,6 @@ use Rattle.tp_manager.specs.Walks.{Remembers, Steady}
 use Rattle.tp_manager.proofs.Walks.{follows, remembers}
 use Rattle.tp_manager.proofs.Lows.{claim_few, claim_shown, scan_most}
 use Rattle.tp_manager.proofs.Passes.{done_walked, drawn_walked, rests_drawn, steady_at}
-use Rattle.tp_model.proofs.Bridges.{is_born}
-use Rattle.tp_model.proofs.Later.{births_inside}
-use Rattle.tp_rule.proofs.Parts.{fair_rows}
 use Rattle.tp_manager.proofs.Claims.{chose_steady, chose_walked, chose_rests, idle_walked, idle_answer, took_walked, took_answer, took_rests}
 use Rattle.tp_manager.proofs.manager.Manager.claim.Goals as goal
 use Rattle.tp_manager.proofs.manager.Manager.claim.Goals.{After-choose_unit}
@@ -70,10 +67,6 @@ returns-in_default-clause-answer c = let at = (goal.at.returns-in_default-clause
 pub scan-requires-clause-done : goal.scan-requires-clause-done
 scan-requires-clause-done c = let at = (goal.at.scan-requires-clause-done c).After-choose_unit in
     done_walked _ 1 _ _ _ c.pass.inside.run.done (lim at) (chose_walked _ _ _ (view_of c.choose_unit.new.seat) (steady at) c.choose_unit.ensures.chooses) c.pass.invariant.0.done
-
-pub overflow_cast-pass : goal.overflow_cast-pass
-overflow_cast-pass c = let l : Limits = limits_of c.self.inside.shared.words in let t = c.in-Some.ensures.told.0 in
-    let few = fair_rows l c.self.inside.shared.words.places.valid in let inside = births_inside l (view_of c.scan.new.seat).seen t.walk.steady.shows.legal c.in-Some.taken.element (is_born (view_of c.scan.new.seat).seen c.in-Some.taken.element.id c.in-Some.taken.element t.born) in omega arith
 
 pub invariant_of-pass-in_default : goal.invariant_of-pass-in_default
 invariant_of-pass-in_default c = let at = (goal.at.invariant_of-pass-in_default c).After-choose_unit in let l : Limits = limits_of c.self.inside.shared.words in

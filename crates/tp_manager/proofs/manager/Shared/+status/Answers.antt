@@ -40,8 +40,8 @@ status_from-overflow_sub-left t c = some t (goal.at.status_from-overflow_sub-lef
 
 pub status_from-status_again-requires : goal.status_from-status_again-requires
 status_from-status_again-requires t c = let at = goal.at.status_from-status_again-requires t c in let i = at.In-Taken in let s = some t i in let b = two t at.After-load_claim-again (one t at.After-load_unit) in let again = c.load_claim-again.ensures in
-    let differs : c.load_claim-again.result ≢ c.args.claim = search rules in
-    let not : claim_word (seen_by c.load_claim-again.new.seat) c.args.row ≢ TakenWord c.in-Taken.attempt c.in-Taken.unit c.in-Taken.round = λ same. differs (claim_is c.load_claim-again.result c.in-Taken.attempt c.in-Taken.unit c.in-Taken.round (again.claim ∙ same) ∙ sym c.in-Taken.is) in (
+    let differs : c.load_claim-again.result.tells ≢ c.args.claim.tells = search rules in
+    let not : claim_word (seen_by c.load_claim-again.new.seat) c.args.row ≢ TakenWord c.in-Taken.attempt c.in-Taken.unit c.in-Taken.round = λ same. differs (claim_is c.load_claim-again.result.tells c.in-Taken.attempt c.in-Taken.unit c.in-Taken.round (again.claim ∙ same) ∙ sym c.in-Taken.is) in (
       search rules,
       (
         search rules,
@@ -89,7 +89,7 @@ status_from-returns-in-Committed-clause-looked t c = let at = goal.at.status_fro
 
 pub status_from-returns-in-Undecided-clause-claim : goal.status_from-returns-in-Undecided-clause-claim
 status_from-returns-in-Undecided-clause-claim t c = let at = goal.at.status_from-returns-in-Undecided-clause-claim t c in let o = one t at.After-load_unit in
-    (held_still (limits_of c.args.self.now.words) _ _ o.walk.steady.shows.legal (looked_begins _ 1 _ _ o) c.args.row _ _ (taken t at.In-Taken) (sym (ap unit_value c.in-Undecided.is) ∙ c.load_unit.ensures.end), search rules)
+    (ap claim_value c.in-Taken.is ∙ held_still (limits_of c.args.self.now.words) _ _ o.walk.steady.shows.legal (looked_begins _ 1 _ _ o) c.args.row _ _ (taken t at.In-Taken) (sym (ap unit_value c.in-Undecided.is) ∙ c.load_unit.ensures.end), search rules)
 
 pub status_from-returns-in-Undecided-clause-status : goal.status_from-returns-in-Undecided-clause-status
 status_from-returns-in-Undecided-clause-status t c = let at = goal.at.status_from-returns-in-Undecided-clause-status t c in let o = one t at.After-load_unit in
@@ -97,7 +97,7 @@ status_from-returns-in-Undecided-clause-status t c = let at = goal.at.status_fro
 
 pub status_from-returns-in-Committed-clause-claim : goal.status_from-returns-in-Committed-clause-claim
 status_from-returns-in-Committed-clause-claim t c = let at = goal.at.status_from-returns-in-Committed-clause-claim t c in let o = one t at.After-load_unit in
-    (consumed_still (limits_of c.args.self.now.words) _ _ o.walk.steady.shows.legal (looked_begins _ 1 _ _ o) c.args.row _ _ _ _ (taken t at.In-Taken) (sym (ap unit_value c.in-Committed.is) ∙ c.load_unit.ensures.end), search rules)
+    (ap claim_value c.in-Taken.is ∙ consumed_still (limits_of c.args.self.now.words) _ _ o.walk.steady.shows.legal (looked_begins _ 1 _ _ o) c.args.row _ _ _ _ (taken t at.In-Taken) (sym (ap unit_value c.in-Committed.is) ∙ c.load_unit.ensures.end), search rules)
 
 pub status_from-returns-in-Committed-clause-status : goal.status_from-returns-in-Committed-clause-status
 status_from-returns-in-Committed-clause-status t c = let at = goal.at.status_from-returns-in-Committed-clause-status t c in let o = one t at.After-load_unit in
@@ -108,7 +108,7 @@ status_from-returns-then-attempt-self-clause-looked t c = let at = goal.at.statu
 
 pub status_from-returns-then-attempt-self-clause-status : goal.status_from-returns-then-attempt-self-clause-status
 status_from-returns-then-attempt-self-clause-status t c = let at = goal.at.status_from-returns-then-attempt-self-clause-status t c in let o = one t at.After-load_unit in let b = two t at.After-load_claim-again o in let l : Limits = limits_of c.args.self.now.words in
-    let same : c.load_claim-again.result ≡ c.args.claim = search rules in
+    let same : c.load_claim-again.result.tells ≡ c.args.claim.tells = search rules in
     (returned l (seen_by c.load_unit.new.seat) (seen_by c.load_claim-again.new.seat) b.walk.steady.shows.legal (grew_begins _ _ _ _ _ c.load_claim-again.ensures.grew) c.args.row c.in-Taken.attempt c.in-Taken.unit
     (sym c.load_unit.ensures.end ∙ ap unit_value c.in-Aborted.is) (sym c.load_claim-again.ensures.claim ∙ (ap claim_value same ∙ ap claim_value c.in-Taken.is))).0
     (subst (λ (z : Limits). c.in-Taken.attempt < z.attempts) (sym c.args.self.now.same) c.if-attempt-self.true)
@@ -118,7 +118,7 @@ status_from-returns-else-attempt-self-clause-looked t c = let at = goal.at.statu
 
 pub status_from-returns-else-attempt-self-clause-status : goal.status_from-returns-else-attempt-self-clause-status
 status_from-returns-else-attempt-self-clause-status t c = let at = goal.at.status_from-returns-else-attempt-self-clause-status t c in let o = one t at.After-load_unit in let b = two t at.After-load_claim-again o in let l : Limits = limits_of c.args.self.now.words in
-    let same : c.load_claim-again.result ≡ c.args.claim = search rules in
+    let same : c.load_claim-again.result.tells ≡ c.args.claim.tells = search rules in
     (returned l (seen_by c.load_unit.new.seat) (seen_by c.load_claim-again.new.seat) b.walk.steady.shows.legal (grew_begins _ _ _ _ _ c.load_claim-again.ensures.grew) c.args.row c.in-Taken.attempt c.in-Taken.unit
     (sym c.load_unit.ensures.end ∙ ap unit_value c.in-Aborted.is) (sym c.load_claim-again.ensures.claim ∙ (ap claim_value same ∙ ap claim_value c.in-Taken.is))).1
     (subst (λ (z : Limits). z.attempts ≤ c.in-Taken.attempt) (sym c.args.self.now.same) c.if-attempt-self.false)

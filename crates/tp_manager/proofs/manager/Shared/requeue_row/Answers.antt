@@ -5,7 +5,9 @@ use Rattle.tp_model.specs.Words.{TakenWord, claim_word}
 use Rattle.tp_model.proofs.Bridges.{begins_refl, begins_trans, found_later, status_again, status_free, status_killed}
 use Rattle.tp_model.proofs.Later.{unit_inside}
 use Rattle.tp_words.specs.Words.{claim_value, unit_value}
+use Rattle.tp_words.specs.declared.words.Claim.{Claim}
 use Rattle.tp_rule.specs.Tables.{limits_of}
+use Rattle.tp_rule.specs.Steps.{AllowsRequeue}
 use Rattle.tp_rule.specs.Views.{seen_by, view_of}
 use Rattle.tp_manager.specs.Bounds.{renew_steps}
 use Rattle.tp_manager.specs.Walks.{Looked}
@@ -93,6 +95,11 @@ pub requeue_exchange-requires-clause-row : goal.requeue_exchange-requires-clause
 requeue_exchange-requires-clause-row c = let at = goal.at.requeue_exchange-requires-clause-row c in let o = one at.After-load_claim-claim in let all = looked_then _ 1 1 _ _ _ o (two at.After-load_unit o) in let b = c.requires.row.1 in
     (c.requires.row.0, (b.0, found_later _ _ (looked_begins _ 2 _ _ all) c.args.row b.0 b.1))
 
+pub requeue_exchange-requires-clause-found : goal.requeue_exchange-requires-clause-found
+requeue_exchange-requires-clause-found c = let l : Limits = limits_of c.args.self.now.words in let h = seen_by c.load_unit.new.seat in
+    let parked : AllowsRequeue l h (TakenWord c.in-Taken.attempt c.in-Taken.unit c.in-Taken.round) = search rules in
+    subst (λ (x : Claim). AllowsRequeue l h (claim_value x)) (sym c.in-Taken.is) parked
+
 pub returns-in-Ok-clause-told : goal.returns-in-Ok-clause-told
 returns-in-Ok-clause-told c = let l : Limits = limits_of c.args.self.now.words in let at = goal.at.returns-in-Ok-clause-told c in let o = one at.After-load_claim-claim in let all = looked_then l 1 1 _ _ _ o (two at.After-load_unit o) in
     let few : c.in-Taken.round < 3 = c.if-round-ge-MOST_ROUNDS.false in
@@ -101,7 +108,7 @@ returns-in-Ok-clause-told c = let l : Limits = limits_of c.args.self.now.words i
 pub returns-in-Err-clause-told : goal.returns-in-Err-clause-told
 returns-in-Err-clause-told c = let l : Limits = limits_of c.args.self.now.words in let at = goal.at.returns-in-Err-clause-told c in let o = one at.After-load_claim-claim in let t = two at.After-load_unit o in let miss = c.in-Err.ensures.miss in
     let e = looked l 1 _ _ (acted_by l kinds.RequeueExchange (view_of c.load_unit.new.seat) (view_of c.requeue_exchange.new.seat) t.walk.steady refl miss.0) in let rest = looked_then l 1 1 _ _ _ t e in
-    let p = gone_on l (seen_by c.load_claim-claim.new.seat) (seen_by c.requeue_exchange.new.seat) c.args.row (claim_value c.load_claim-claim.result) rest.walk.steady.shows.legal (looked_begins l 2 _ _ rest) c.load_claim-claim.ensures.claim (λ same. miss.1 (miss.2 ∙ (same ∙ ap claim_value c.in-Taken.is))) in (
+    let p = gone_on l (seen_by c.load_claim-claim.new.seat) (seen_by c.requeue_exchange.new.seat) c.args.row (claim_value c.load_claim-claim.result.tells) rest.walk.steady.shows.legal (looked_begins l 2 _ _ rest) c.load_claim-claim.ensures.claim (λ same. miss.1 (miss.2 ∙ same)) in (
       looked_then l 1 2 _ _ _ o rest,
       (p.0, begins_trans _ _ _ (looked_begins l 1 _ _ o) p.1, p.2, p.3),
     )

@@ -28,7 +28,7 @@ status_from-requires-clause-steady c = (one (goal.at.status_from-requires-clause
 
 pub status_from-requires-clause-enough : goal.status_from-requires-clause-enough
 status_from-requires-clause-enough c = let l : Limits = limits_of c.args.self.now.words in let o = one (goal.at.status_from-requires-clause-enough c).After-load_claim-claim in
-    tried l c.args.self.now.places.limits c.args.self.now.same c.tries.result c.tries.ensures (λ n. IsEnough l n (claim_value c.load_claim-claim.result)) (subst (IsEnough l (tries l.attempts)) (sym c.load_claim-claim.ensures.claim) (enough_first l c.args.self.now.words.places.valid (seen_by c.load_claim-claim.new.seat) c.args.row o.walk.steady.shows.legal))
+    tried l c.args.self.now.places.limits c.args.self.now.same c.tries.result c.tries.ensures (λ n. IsEnough l n (claim_value c.load_claim-claim.result.tells)) (subst (IsEnough l (tries l.attempts)) (sym c.load_claim-claim.ensures.claim) (enough_first l c.args.self.now.words.places.valid (seen_by c.load_claim-claim.new.seat) c.args.row o.walk.steady.shows.legal))
 
 pub returns-clause-acted : goal.returns-clause-acted
 returns-clause-acted c = let l : Limits = limits_of c.args.self.now.words in let o = one (goal.at.returns-clause-acted c).After-load_claim-claim in

@@ -16,12 +16,12 @@ use Rattle.tp_manager.specs.Walks.{EachRow, Looked, PassedBy, Rose, Sought}
 use Rattle.tp_model.specs.History.{element_of}
 use Rattle.tp_manager.proofs.Cancels.{few_rows}
 use Rattle.tp_manager.proofs.Marks.{Goes, goes_walked, rose_dead, rose_later, rose_none, rose_one}
-use Rattle.tp_manager.proofs.Walks.{acted_by, grew_legal, grew_one, grew_seen, looked, looked_begins, looked_none, looked_then, walked_none}
+use Rattle.tp_manager.proofs.Walks.{acted_by, looked, looked_begins, looked_none, looked_then, walked_none}
 use Rattle.tp_manager.proofs.Looks.{there_later}
 use Rattle.tp_manager.proofs.Scans.{allows, few_attempts, none_passed, pass_missed, pass_other, pass_status, pass_unborn, passed_widens, took_by, took_few}
 use Rattle.tp_manager.proofs.Seeks.{sought_on}
 use Rattle.tp_manager.proofs.manager.Shared.try_row.Goals as goal
-use Rattle.tp_manager.proofs.manager.Shared.try_row.Goals.{After-head_on-head, After-status_at-claim, After-low_after}
+use Rattle.tp_manager.proofs.manager.Shared.try_row.Goals.{After-head_on-head, After-status_at-status, After-low_after}
 
 -- what is passed where the row's own element is
 passed : (c : After-head_on-head) (m : ℕ) (y : View) → Looked (limits_of c.args.self.now.words) m (view_of c.head_on-head.new.seat) y → 1 + m ≤ try_steps (limits_of c.args.self.now.words)
@@ -31,26 +31,26 @@ passed c m y rest le own = let l : Limits = limits_of c.args.self.now.words in l
     sought_on l (PassedBy l c.args.stage) (passed_widens l c.args.stage) (try_steps l) m c.args.row.now c.head_on-head.new.row (view_of c.args.seat.now) (view_of c.head_on-head.new.seat) y e.acted rest le (none_passed l c.args.stage) e.none own
 
 -- the steps from the head to the status
-found : (c : After-status_at-claim) → Looked (limits_of c.args.self.now.words) (1 + status_steps (limits_of c.args.self.now.words)) (view_of c.head_on-head.new.seat) (view_of c.status_at-claim.new.seat)
-found c = looked_then _ 1 _ _ _ _ c.contents_from.ensures.looked (looked _ _ _ _ c.status_at-claim.ensures.acted)
+found : (c : After-status_at-status) → Looked (limits_of c.args.self.now.words) (1 + status_steps (limits_of c.args.self.now.words)) (view_of c.head_on-head.new.seat) (view_of c.status_at-status.new.seat)
+found c = looked_then _ 1 _ _ _ _ c.contents_from.ensures.looked (looked _ _ _ _ c.status_at-status.ensures.acted)
 
 head_stage : (e : Element) (b : Birth) → head_of e ≡ There b.stage b.root b.by → b.stage ≡ e.stage
 head_stage e b p = cc
 
 -- nothing happens behind the status
-at_once : (c : After-low_after) → Goes (limits_of c.args.self.now.words) (view_of c.status_at-claim.new.seat) (view_of c.status_at-claim.new.seat)
-at_once c = let l : Limits = limits_of c.args.self.now.words in let s = c.status_at-claim.ensures.acted.walk.steady in goes_walked l 0 [] _ _ s.pass.1 (walked_none l _ s)
+at_once : (c : After-low_after) → Goes (limits_of c.args.self.now.words) (view_of c.status_at-status.new.seat) (view_of c.status_at-status.new.seat)
+at_once c = let l : Limits = limits_of c.args.self.now.words in let s = c.status_at-status.ensures.acted.walk.steady in goes_walked l 0 [] _ _ s.pass.1 (walked_none l _ s)
 
 -- nothing more is known finished
 still_low : (c : After-head_on-head) (y : View) → (c.args.low.now ≤ c.head_on-head.new.row) × Rose y c.args.low.now c.args.low.now
 still_low c y = let on = c.head_on-head.ensures.on.on in let low = c.requires.low in (omega arith, rose_none (limits_of c.args.self.now.words) y c.args.low.now)
 
 -- or this row is
-more_low : (c : After-low_after) (y : View) → Goes (limits_of c.args.self.now.words) (view_of c.status_at-claim.new.seat) y → (c.low_after.result ≤ c.head_on-head.new.row) × Rose y c.args.low.now c.low_after.result
-more_low c y goes = let l : Limits = limits_of c.args.self.now.words in let on = c.head_on-head.ensures.on.on in let low = c.requires.low in let v = view_of c.status_at-claim.new.seat in
-    let there = there_later _ _ c.args.row.now c.in-Holds.birth (looked_begins l _ _ _ (looked l _ _ _ c.status_at-claim.ensures.acted)) c.in-Holds.ensures.told.0 in (
+more_low : (c : After-low_after) (y : View) → Goes (limits_of c.args.self.now.words) (view_of c.status_at-status.new.seat) y → (c.low_after.result ≤ c.head_on-head.new.row) × Rose y c.args.low.now c.low_after.result
+more_low c y goes = let l : Limits = limits_of c.args.self.now.words in let on = c.head_on-head.ensures.on.on in let low = c.requires.low in let v = view_of c.status_at-status.new.seat in
+    let there = there_later _ _ c.args.row.now c.in-Holds.birth (looked_begins l _ _ _ (looked l _ _ _ c.status_at-status.ensures.acted)) c.in-Holds.ensures.told.0 in (
       low_near c.args.low.now c.low_after.result c.args.row.now c.head_on-head.new.row low on c.low_after.ensures,
-      rose_later l v y _ _ goes (rose_one l v c.args.low.now c.low_after.result c.args.row.now c.in-Holds.birth c.status_at-claim.result.1 goes.limits.0 there c.status_at-claim.ensures.status c.low_after.ensures),
+      rose_later l v y _ _ goes (rose_one l v c.args.low.now c.low_after.result c.args.row.now c.in-Holds.birth c.status_at-status.result.1 goes.limits.0 there c.status_at-status.ensures.status c.low_after.ensures),
     )
   where
     low_near : {S : Type 0} (low now row next : ℕ) → low ≤ row → row < next → (now ≡ low) ⊎ ((now ≡ low + 1) × (low ≡ row) × S) → now ≤ next
@@ -88,47 +88,47 @@ pub low_after-requires : goal.low_after-requires
 low_after-requires c = let few = few_rows (limits_of c.args.self.now.words) c.args.self.now.words.places.valid in let less = c.requires.row in omega arith
 
 pub returns-then-birth-stage-clause-told : goal.returns-then-birth-stage-clause-told
-returns-then-birth-stage-clause-told c = let l : Limits = limits_of c.args.self.now.words in let at = goal.at.returns-then-birth-stage-clause-told c in let b = found at.After-status_at-claim in let h = seen_by c.status_at-claim.new.seat in
-    let there = there_later _ _ c.args.row.now c.in-Holds.birth (looked_begins l _ _ _ (looked l _ _ _ c.status_at-claim.ensures.acted)) c.in-Holds.ensures.told.0 in
-    passed at.After-head_on-head _ (view_of c.status_at-claim.new.seat) b (omega arith)
+returns-then-birth-stage-clause-told c = let l : Limits = limits_of c.args.self.now.words in let at = goal.at.returns-then-birth-stage-clause-told c in let b = found at.After-status_at-status in let h = seen_by c.status_at-status.new.seat in
+    let there = there_later _ _ c.args.row.now c.in-Holds.birth (looked_begins l _ _ _ (looked l _ _ _ c.status_at-status.ensures.acted)) c.in-Holds.ensures.told.0 in
+    passed at.After-head_on-head _ (view_of c.status_at-status.new.seat) b (omega arith)
     (pass_other l c.args.stage c.args.row.now _ h h (looked_begins l _ _ _ b) (λ x p st. c.if-birth-stage.true (head_stage there.0 c.in-Holds.birth there.2 ∙ (ap (λ (e : Element). e.stage) (one h c.args.row.now there.0 x there.1 p) ∙ st))))
   where
     one : (h : List Event) (i : ℕ) (x y : Element) → element_of h i ≡ Some x → element_of h i ≡ Some y → x ≡ y
     one h i x y p q = cc
 
 pub returns-then-birth-stage-clause-low : goal.returns-then-birth-stage-clause-low
-returns-then-birth-stage-clause-low c = let at = (goal.at.returns-then-birth-stage-clause-low c).After-low_after in more_low at (view_of c.status_at-claim.new.seat) (at_once at)
+returns-then-birth-stage-clause-low c = still_low (goal.at.returns-then-birth-stage-clause-low c).After-head_on-head (view_of c.status_at-status.new.seat)
 
 pub returns-in_default : goal.returns-in_default
-returns-in_default c = let l : Limits = limits_of c.args.self.now.words in let at = goal.at.returns-in_default c in let b = found at.After-status_at-claim in let h = seen_by c.status_at-claim.new.seat in let s = c.status_at-claim.ensures.status in let not = c.in_default.not-Waiting in record {
+returns-in_default c = let l : Limits = limits_of c.args.self.now.words in let at = goal.at.returns-in_default c in let b = found at.After-status_at-status in let h = seen_by c.status_at-status.new.seat in let s = c.status_at-status.ensures.status in let not = c.in_default.not-Waiting in record {
   same = search rules;
   on = c.head_on-head.ensures.on;
-  low = more_low at.After-low_after (view_of c.status_at-claim.new.seat) (at_once at.After-low_after);
-  told = passed at.After-head_on-head _ (view_of c.status_at-claim.new.seat) b (omega arith)
-      (pass_status l c.args.stage c.args.row.now _ h h (looked_begins l _ _ _ b) (begins_refl h) (λ x. let is : c.status_at-claim.result.1 ≡ Waiting x.0 = s ∙ x.1 in not x.0 is));
+  low = more_low at.After-low_after (view_of c.status_at-status.new.seat) (at_once at.After-low_after);
+  told = passed at.After-head_on-head _ (view_of c.status_at-status.new.seat) b (omega arith)
+      (pass_status l c.args.stage c.args.row.now _ h h (looked_begins l _ _ _ b) (begins_refl h) (λ x. let is : c.status_at-status.result.1 ≡ Waiting x.0 = s ∙ x.1 in not x.0 is));
 }
 
 pub element_at-element-requires-clause-there : goal.element_at-element-requires-clause-there
-element_at-element-requires-clause-there c = there_later (seen_by c.contents_from.new.seat) (seen_by c.status_at-claim.new.seat) c.args.row.now c.in-Holds.birth (looked_begins _ _ _ _ (looked _ _ _ _ c.status_at-claim.ensures.acted)) c.in-Holds.ensures.told.0
+element_at-element-requires-clause-there c = there_later (seen_by c.contents_from.new.seat) (seen_by c.status_at-status.new.seat) c.args.row.now c.in-Holds.birth (looked_begins _ _ _ _ (looked _ _ _ _ c.status_at-status.ensures.acted)) c.in-Holds.ensures.told.0
 
 pub overflow_add-attempt : goal.overflow_add-attempt
-overflow_add-attempt c = let few = few_attempts (limits_of c.args.self.now.words) c.args.stage c.args.row.now c.args.self.now.words.places.valid (seen_by c.status_at-claim.new.seat) c.in-Waiting.attempts c.status_at-claim.ensures.acted.walk.steady.shows.legal
-    (sym c.status_at-claim.ensures.status ∙ c.in-Waiting.is) in omega arith
+overflow_add-attempt c = let few = few_attempts (limits_of c.args.self.now.words) c.args.stage c.args.row.now c.args.self.now.words.places.valid (seen_by c.status_at-status.new.seat) c.in-Waiting.attempts c.status_at-status.ensures.acted.walk.steady.shows.legal
+    (sym c.status_at-status.ensures.status ∙ c.in-Waiting.is) in omega arith
 
 pub claim_exchange-requires-clause-found : goal.claim_exchange-requires-clause-found
-claim_exchange-requires-clause-found c = allows (limits_of c.args.self.now.words) c.args.stage c.args.row.now (seen_by c.status_at-claim.new.seat) (seen_by c.element_at-element.new.seat) _ c.in-Waiting.attempts c.status_at-claim.ensures.acted.walk.steady.shows.legal
-    (looked_begins _ _ _ _ c.element_at-element.ensures.looked) c.status_at-claim.ensures.claim.0 (sym c.status_at-claim.ensures.status ∙ c.in-Waiting.is)
+claim_exchange-requires-clause-found c = allows (limits_of c.args.self.now.words) c.args.stage c.args.row.now (seen_by c.status_at-status.new.seat) (seen_by c.element_at-element.new.seat) _ c.in-Waiting.attempts c.status_at-status.ensures.acted.walk.steady.shows.legal
+    (looked_begins _ _ _ _ c.element_at-element.ensures.looked) c.status_at-status.ensures.claim.0 (sym c.status_at-status.ensures.status ∙ c.in-Waiting.is)
 
 pub returns-in-Err-clause-told : goal.returns-in-Err-clause-told
-returns-in-Err-clause-told c = let l : Limits = limits_of c.args.self.now.words in let at = goal.at.returns-in-Err-clause-told c in let m = found at.After-status_at-claim in let e = c.element_at-element.ensures.looked in let miss = c.in-Err.ensures.miss in
+returns-in-Err-clause-told c = let l : Limits = limits_of c.args.self.now.words in let at = goal.at.returns-in-Err-clause-told c in let m = found at.After-status_at-status in let e = c.element_at-element.ensures.looked in let miss = c.in-Err.ensures.miss in
     let a = looked_then l _ body_steps _ _ _ m e in
     let b = acted_by l kinds.ClaimExchange _ _ a.walk.steady refl miss.0 in
     passed at.After-head_on-head _ (view_of c.claim_exchange.new.seat) (looked_then l _ 1 _ _ _ a (looked l 1 _ _ b)) (omega arith)
-    (pass_missed l c.args.stage c.args.row.now _ (seen_by c.status_at-claim.new.seat) (seen_by c.claim_exchange.new.seat) _ b.walk.steady.shows.legal (looked_begins l _ _ _ m)
-    (begins_trans _ _ _ (looked_begins l _ _ _ e) (looked_begins l 1 _ _ (looked l 1 _ _ b))) c.status_at-claim.ensures.claim.0 (λ same. miss.1 (miss.2 ∙ same)))
+    (pass_missed l c.args.stage c.args.row.now _ (seen_by c.status_at-status.new.seat) (seen_by c.claim_exchange.new.seat) _ b.walk.steady.shows.legal (looked_begins l _ _ _ m)
+    (begins_trans _ _ _ (looked_begins l _ _ _ e) (looked_begins l 1 _ _ (looked l 1 _ _ b))) c.status_at-status.ensures.claim.0 (λ same. miss.1 (miss.2 ∙ same)))
 
 pub returns-in-Ok-clause-told : goal.returns-in-Ok-clause-told
-returns-in-Ok-clause-told c = let l : Limits = limits_of c.args.self.now.words in let m = found (goal.at.returns-in-Ok-clause-told c).After-status_at-claim in let e = c.element_at-element.ensures in
+returns-in-Ok-clause-told c = let l : Limits = limits_of c.args.self.now.words in let m = found (goal.at.returns-in-Ok-clause-told c).After-status_at-status in let e = c.element_at-element.ensures in
     let a = looked_then l _ body_steps _ _ _ (looked_then l 1 _ _ _ _ (looked l 1 _ _ c.head_on-head.ensures.acted) m) e.looked in
     let staged : c.element_at-element.result.stage ≡ c.args.stage = e.head.0 ∙ c.if-birth-stage.false in (
       took_few l c.args.stage c.args.unit (c.in-Waiting.attempts + 1) c.element_at-element.result _ (try_steps l) _ _ (omega arith)
@@ -137,15 +137,7 @@ returns-in-Ok-clause-told c = let l : Limits = limits_of c.args.self.now.words i
     )
 
 pub returns-in-Err-clause-low : goal.returns-in-Err-clause-low
-returns-in-Err-clause-low c = let l : Limits = limits_of c.args.self.now.words in let at = goal.at.returns-in-Err-clause-low c in let e = c.element_at-element.ensures.looked in let miss = c.in-Err.ensures.miss in
-    let b = acted_by l kinds.ClaimExchange _ _ e.walk.steady refl miss.0 in
-    more_low at.After-low_after (view_of c.claim_exchange.new.seat) (goes_walked l _ _ _ _ (at_once at.After-low_after).limits.0 (looked_then l body_steps 1 _ _ _ e (looked l 1 _ _ b)).walk)
+returns-in-Err-clause-low c = still_low (goal.at.returns-in-Err-clause-low c).After-head_on-head (view_of c.claim_exchange.new.seat)
 
 pub returns-in-Ok-clause-low : goal.returns-in-Ok-clause-low
-returns-in-Ok-clause-low c = let l : Limits = limits_of c.args.self.now.words in let at = goal.at.returns-in-Ok-clause-low c in let e = c.element_at-element.ensures.looked in let s = e.walk.steady in let g = c.in-Ok.ensures.hit in
-    more_low at.After-low_after (view_of c.claim_exchange.new.seat) record {
-      limits = ((at_once at.After-low_after).limits.0, (grew_one l kinds.ClaimExchange _ _ _ _ s g).2 ∙ s.pass.1);
-      legal = grew_legal l kinds.ClaimExchange _ _ _ _ s g;
-      begins = begins_trans _ _ _ (looked_begins l _ _ _ e) (grew_seen l kinds.ClaimExchange _ _ _ _ s g);
-      knows = λ x q. g.knows x (e.walk.knows x q);
-    }
+returns-in-Ok-clause-low c = still_low (goal.at.returns-in-Ok-clause-low c).After-head_on-head (view_of c.claim_exchange.new.seat)

@@ -14,8 +14,8 @@ use Rattle.tp_rule.proofs.words.Words.claim_exchange.Goals.{Else-was-free}
 
 pub compare_exchange-was-requires-clause-permits : goal.compare_exchange-was-requires-clause-permits
 compare_exchange-was-requires-clause-permits c = let keyed : c.args.self.now.places.limits ≡ key_of c.args.self.now.table = search rules in
-    claims_go _ _ _ _ _ c.args.row c.args.unit c.args.attempt (claim_value c.args.found) (search rules) c.requires.one.0 (search rules) (search rules) (search rules) c.requires.row.1 c.requires.spare.0 c.requires.none_open
-    c.requires.fits (subst (λ (l : Limits). AllowsClaim l c.args.seat.now.view.seen (claim_value c.args.found) c.args.attempt) keyed c.requires.found) (search rules) (search rules)
+    claims_go _ _ _ _ _ c.args.row c.args.unit c.args.attempt (claim_value c.args.found.tells) (search rules) c.requires.one.0 (search rules) (search rules) (search rules) c.requires.row.1 c.requires.spare.0 c.requires.none_open
+    c.requires.fits (subst (λ (l : Limits). AllowsClaim l c.args.seat.now.view.seen (claim_value c.args.found.tells) c.args.attempt) keyed c.requires.found) (search rules) (search rules)
 
 misses : (c : Else-was-free) → Misses kinds.ClaimExchange (view_of c.args.seat.now) c.claim-word.result c.compare_exchange-was.result (view_of c.compare_exchange-was.new.seat)
 misses c = c.compare_exchange-was.ensures.told.1 c.if-was-free.false
@@ -29,7 +29,7 @@ read-requires c = let t = says (goal.at.read-requires c).Else-was-free in (_, t.
 pub returns-clause-miss : goal.returns-clause-miss
 returns-clause-miss c = let at = (goal.at.returns-clause-miss c).Else-was-free in let t = says at in let now = c.read.ensures.of_pack _ t.1 t.0 in (
   (misses at).0,
-  (λ same. c.if-was-free.false (t.0 ∙ (ap pack_claim (sym now ∙ same) ∙ sym c.pack-free.ensures))),
+  (λ same. c.if-was-free.false (t.0 ∙ (ap pack_claim (sym now ∙ same) ∙ sym c.word-free.ensures))),
   now,
   subst IsFitClaim (sym now) t.1,
 )

@@ -14,8 +14,8 @@ use Rattle.tp_rule.proofs.words.Words.kill_exchange.Goals.{Else-was-alive}
 
 pub compare_exchange-was-requires-clause-permits : goal.compare_exchange-was-requires-clause-permits
 compare_exchange-was-requires-clause-permits c = let keyed : c.args.self.now.places.limits ≡ key_of c.args.self.now.table = search rules in
-    kills_go _ _ _ _ _ c.args.row (claim_value c.args.found) c.requires.one.0 (search rules) (search rules) c.requires.row.1 c.requires.fits
-    (subst (λ (l : Limits). AllowsKill l c.args.seat.now.view.seen (claim_value c.args.found)) keyed c.requires.found) (search rules) (search rules)
+    kills_go _ _ _ _ _ c.args.row (claim_value c.args.found.tells) c.requires.one.0 (search rules) (search rules) c.requires.row.1 c.requires.fits
+    (subst (λ (l : Limits). AllowsKill l c.args.seat.now.view.seen (claim_value c.args.found.tells)) keyed c.requires.found) (search rules) (search rules)
 
 misses : (c : Else-was-alive) → Misses kinds.KillExchange (view_of c.args.seat.now) c.claim-word.result c.compare_exchange-was.result (view_of c.compare_exchange-was.new.seat)
 misses c = c.compare_exchange-was.ensures.told.1 c.if-was-alive.false
@@ -29,7 +29,7 @@ read-requires c = let t = says (goal.at.read-requires c).Else-was-alive in (_, t
 pub returns-clause-miss : goal.returns-clause-miss
 returns-clause-miss c = let at = (goal.at.returns-clause-miss c).Else-was-alive in let t = says at in let now = c.read.ensures.of_pack _ t.1 t.0 in (
   (misses at).0,
-  (λ same. c.if-was-alive.false (t.0 ∙ (ap pack_claim (sym now ∙ same) ∙ sym c.pack-alive.ensures))),
+  (λ same. c.if-was-alive.false (t.0 ∙ (ap pack_claim (sym now ∙ same) ∙ sym c.word-alive.ensures))),
   now,
   subst IsFitClaim (sym now) t.1,
 )

@@ -14,8 +14,8 @@ use Rattle.tp_rule.proofs.words.Words.requeue_exchange.Goals.{Else-was-parked}
 
 pub compare_exchange-was-requires-clause-permits : goal.compare_exchange-was-requires-clause-permits
 compare_exchange-was-requires-clause-permits c = let keyed : c.args.self.now.places.limits ≡ key_of c.args.self.now.table = search rules in
-    requeues_go _ _ _ _ _ c.args.row (claim_value c.args.found) c.requires.one.0 (search rules) (search rules) c.requires.row.1 c.requires.fits
-    (subst (λ (l : Limits). AllowsRequeue l c.args.seat.now.view.seen (claim_value c.args.found)) keyed c.requires.found) (search rules) (search rules)
+    requeues_go _ _ _ _ _ c.args.row (claim_value c.args.found.tells) c.requires.one.0 (search rules) (search rules) c.requires.row.1 c.requires.fits
+    (subst (λ (l : Limits). AllowsRequeue l c.args.seat.now.view.seen (claim_value c.args.found.tells)) keyed c.requires.found) (search rules) (search rules)
 
 misses : (c : Else-was-parked) → Misses kinds.RequeueExchange (view_of c.args.seat.now) c.claim-word.result c.compare_exchange-was.result (view_of c.compare_exchange-was.new.seat)
 misses c = c.compare_exchange-was.ensures.told.1 c.if-was-parked.false
@@ -29,7 +29,7 @@ read-requires c = let t = says (goal.at.read-requires c).Else-was-parked in (_, 
 pub returns-clause-miss : goal.returns-clause-miss
 returns-clause-miss c = let at = (goal.at.returns-clause-miss c).Else-was-parked in let t = says at in let now = c.read.ensures.of_pack _ t.1 t.0 in (
   (misses at).0,
-  (λ same. c.if-was-parked.false (t.0 ∙ (ap pack_claim (sym now ∙ same) ∙ sym c.pack-parked.ensures))),
+  (λ same. c.if-was-parked.false (t.0 ∙ (ap pack_claim (sym now ∙ same) ∙ sym c.word-parked.ensures))),
   now,
   subst IsFitClaim (sym now) t.1,
 )
