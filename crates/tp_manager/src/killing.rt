@@ -100,7 +100,8 @@ impl Shared {
         requires free { (hand_of seat.old).open_unit ≡ None }
         requires enough { IsEnough (limits_of self.now.words) left (claim_value claim.tells) }
         ensures same { IsSameSeat seat.old seat.new }
-        ensures told { let l = limits_of self.now.words in let n = slay_from left (claim_value claim.tells) in MatchResult result
+        ensures told { let l = limits_of self.now.words in let n = slay_from left (claim_value claim.tells) in
+            MatchResult result
             (λ count. KillsIn l n row left count (view_of seat.old) (view_of seat.new))
             (λ refusal. FailsIn l n row left refusal (view_of seat.old) (view_of seat.new)) }
     {
@@ -134,7 +135,8 @@ impl Shared {
         requires free { (hand_of seat.old).open_unit ≡ None }
         requires enough { IsEnough (limits_of self.now.words) left (claim_value claim.tells) }
         ensures same { IsSameSeat seat.old seat.new }
-        ensures told { let l = limits_of self.now.words in let n = slay_from left (claim_value claim.tells) in MatchResult result
+        ensures told { let l = limits_of self.now.words in let n = slay_from left (claim_value claim.tells) in
+            MatchResult result
             (λ count. KillsIn l n row left count (view_of seat.old) (view_of seat.new))
             (λ refusal. FailsIn l n row left refusal (view_of seat.old) (view_of seat.new)) }
     {

@@ -56,11 +56,12 @@ impl Words {
         requires spare { ((hand_of seat.old).spare_unit ≡ Some unit) × (unit < 65535) }
         requires none_open { (hand_of seat.old).open_unit ≡ None }
         requires fits { IsFitClaim (claim_value found.tells) }
-        requires found { AllowsClaim (limits_of self.now) (seen_by seat.old) (claim_value found.tells) attempt }
+        requires found { AllowsClaim (limits_of self.now) (seen_by seat.old)
+            (claim_value found.tells) attempt }
         ensures same { IsSameSeat seat.old seat.new }
         ensures hit { IfOk result (λ done. MakesClaim (view_of seat.old) unit row attempt (view_of seat.new)) }
-        ensures miss { IfErr result (λ now. FindsOther kinds.ClaimExchange (view_of seat.old) row (claim_value found.tells)
-            (claim_value now.tells) (view_of seat.new)) }
+        ensures miss { IfErr result (λ now. FindsOther kinds.ClaimExchange (view_of seat.old) row
+            (claim_value found.tells) (claim_value now.tells) (view_of seat.new)) }
     {
         let word = self.places.claim(row);
         let free = found.word();
@@ -139,8 +140,8 @@ impl Words {
         requires found { AllowsKill (limits_of self.now) (seen_by seat.old) (claim_value found.tells) }
         ensures same { IsSameSeat seat.old seat.new }
         ensures hit { IfOk result (λ done. MakesKill (view_of seat.old) row (view_of seat.new)) }
-        ensures miss { IfErr result (λ now. FindsOther kinds.KillExchange (view_of seat.old) row (claim_value found.tells)
-            (claim_value now.tells) (view_of seat.new)) }
+        ensures miss { IfErr result (λ now. FindsOther kinds.KillExchange (view_of seat.old) row
+            (claim_value found.tells) (claim_value now.tells) (view_of seat.new)) }
     {
         let word = self.places.claim(row);
         let alive = found.word();
@@ -169,9 +170,10 @@ impl Words {
         requires fits { IsFitClaim (claim_value found.tells) }
         requires found { AllowsRequeue (limits_of self.now) (seen_by seat.old) (claim_value found.tells) }
         ensures same { IsSameSeat seat.old seat.new }
-        ensures hit { IfOk result (λ done. MakesRequeue (view_of seat.old) row (round_in (claim_value found.tells) + 1) (view_of seat.new)) }
-        ensures miss { IfErr result (λ now. FindsOther kinds.RequeueExchange (view_of seat.old) row (claim_value found.tells)
-            (claim_value now.tells) (view_of seat.new)) }
+        ensures hit { IfOk result (λ done. MakesRequeue (view_of seat.old) row
+            (round_in (claim_value found.tells) + 1) (view_of seat.new)) }
+        ensures miss { IfErr result (λ now. FindsOther kinds.RequeueExchange (view_of seat.old) row
+            (claim_value found.tells) (claim_value now.tells) (view_of seat.new)) }
     {
         let word = self.places.claim(row);
         let parked = found.word();

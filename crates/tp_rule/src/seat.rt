@@ -19,8 +19,8 @@ use std::marker::{Model, PhantomData};
 use std::mem;
 use tp_model::types::Limits;
 
-/// What a thread steps with: it stands for one or more passes, or for none, and knows what its view says. When the
-/// program runs it has no bytes. One that was joined to another is empty.
+/// What a thread steps with: it stands for one or more passes, or for none, and knows what its view says. When
+/// the program runs it has no bytes. One that was joined to another is empty.
 #[derive(Drop)]
 pub struct Seat {
     badge: Badge<View>,

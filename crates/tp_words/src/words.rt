@@ -263,7 +263,8 @@ impl FoundClaim {
     #[inline(always)]
     pub fn read(word: u64) -> FoundClaim
         requires { (w : ClaimWord) × IsFitClaim w × (word ≡ pack_claim w) }
-        ensures of_pack { (w : ClaimWord) → IsFitClaim w → word ≡ pack_claim w → claim_value result.tells ≡ w }
+        ensures of_pack { (w : ClaimWord) → IsFitClaim w → word ≡ pack_claim w
+            → claim_value result.tells ≡ w }
     {
         FoundClaim {
             word,
@@ -290,7 +291,8 @@ impl FoundClaim {
         self.word
     }
 
-    /// The word after a unit has taken the element: the round stays. `attempt` is 1 to 7, `unit` at most 65534.
+    /// The word after a unit has taken the element: the round stays. `attempt` is 1 to 7, `unit` at most
+    /// 65534.
     #[inline(always)]
     pub fn taken(self, attempt: u8, unit: u16) -> u64
         requires found { IsFitClaim (claim_value self.tells) }
