@@ -1,8 +1,8 @@
 //! The words as typed values, and as numbers.
 //!
-//! Each of the three types can hold more than the words tell; `pack` asks for a value that a word can tell, and
-//! `unpack` answers such values alone. `unpack` undoes `pack`, and `pack` undoes `unpack`. `read` is the same for a number
-//! of which it is proved that it is such a word.
+//! `Head`, `Claim` and `UnitWord` can each hold more than the words tell; `pack` asks for a value that a word can tell,
+//! and `unpack` answers such values alone. `unpack` undoes `pack`, and `pack` undoes `unpack`. `read` is the same for a
+//! number of which it is proved that it is such a word. A `FoundClaim` is a claim beside the word that tells it.
 ghost use Rattle.std.specs.Prelude.{◌≡◌, ◌↔◌, IfSome, IsSome, Option, Some};
 ghost use Rattle.std.specs.Option.{option_map};
 ghost use Rattle.tp_model.specs.History.{UnitEnd};
