@@ -3,5 +3,8 @@
 mod desk;
 mod fixture;
 mod manager;
+mod model;
+mod rule;
 mod server;
+mod words;
 mod workers;

@@ -4,7 +4,5 @@
 pub mod event;
 pub mod laws;
 pub mod remembered;
-#[cfg(test)]
-mod tests;
 pub mod trace;
 pub mod types;

@@ -12,8 +12,6 @@ mod plays;
 mod rule;
 mod seat;
 mod stores;
-#[cfg(test)]
-mod tests;
 mod view;
 mod words;
 

@@ -3,8 +3,6 @@
 
 pub mod bits;
 mod places;
-#[cfg(test)]
-mod tests;
 mod words;
 
 pub use places::{Places, places_differ};

@@ -5,9 +5,9 @@ ghost use Rattle.tp_rule.specs.Views.{blank_body, hand_of, view_of, first_view, 
 ghost use Rattle.tp_rule.specs.Tables.{limits_of, IsSeatOf, IsPassOf};
 
 use super::{pass, reads_back, submit};
-use crate::{Seat, Words};
 use std::alloc::Global;
 use tp_model::types::Limits;
+use tp_rule::{Seat, Words};
 use tp_words::{Head, Places};
 
 /// Words for three passes of one row each, with two spare blocks, and the keeper's seat.

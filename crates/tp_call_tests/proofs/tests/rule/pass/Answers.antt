@@ -3,7 +3,7 @@ use Rattle.tp_rule.specs.declared.view.View.{View}
 use Rattle.tp_rule.specs.Tables.{limits_of}
 use Rattle.tp_rule.specs.Views.{fresh_from}
 use Rattle.tp_rule.specs.Steps.{rest_of}
-use Rattle.tp_rule.proofs.tests.pass.Goals as goal
+use Rattle.tp_call_tests.proofs.tests.rule.pass.Goals as goal
 
 pub returns-clause-left : goal.returns-clause-left
 returns-clause-left c = let small : c.args.number < 3 = c.requires.left.0 in let count : 3 - c.args.number ≡ suc (3 - (c.args.number + 1)) = omega arith in

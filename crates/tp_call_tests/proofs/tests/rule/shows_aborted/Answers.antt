@@ -3,7 +3,7 @@ use Rattle.tp_model.specs.declared.trace.StepKind.TheVariants as kinds
 use Rattle.tp_model.proofs.Bridges.{found_later}
 use Rattle.tp_rule.specs.Steps.{unchanged}
 use Rattle.tp_rule.proofs.Reading.{grew_begins}
-use Rattle.tp_rule.proofs.tests.shows_aborted.Goals as goal
+use Rattle.tp_call_tests.proofs.tests.rule.shows_aborted.Goals as goal
 
 pub returns-clause-work : goal.returns-clause-work
 returns-clause-work c = λ yes. let shown = c.shows_request.ensures.there c.if-not-shows_request.false in

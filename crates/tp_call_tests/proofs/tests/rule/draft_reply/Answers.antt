@@ -4,7 +4,7 @@ use Rattle.tp_rule.specs.Views.{view_of}
 use Rattle.tp_rule.specs.declared.view.Hand.{Hand}
 use Rattle.tp_rule.proofs.Bodied.{bodied_seen}
 use Rattle.tp_rule.proofs.Working.{drafted_work, work_stays}
-use Rattle.tp_rule.proofs.tests.draft_reply.Goals as goal
+use Rattle.tp_call_tests.proofs.tests.rule.draft_reply.Goals as goal
 
 pub returns-clause-work : goal.returns-clause-work
 returns-clause-work c = let b = c.store_draft_body.ensures.view in let v = view_of c.args.seat.now in let a = view_of c.store_draft_body.new.seat in

@@ -10,10 +10,10 @@ ghost use Rattle.tp_rule.specs.Tables.{limits_of, IsSeatOf, IsPassOf};
 
 mod blocks;
 
-use crate::{Seat, Words};
 use std::alloc::Global;
 use std::thread::join_mut;
 use tp_model::types::{Body, Limits};
+use tp_rule::{Seat, Words};
 use tp_words::{Claim, FoundClaim, Head, Places, UnitWord};
 
 /// Words for three passes of four rows and two units each, with two attempts, and the keeper's seat.

@@ -1,7 +1,7 @@
 use Rattle.std.proofs.Common.{◌≡◌, ◌+◌, []}
 use Rattle.tp_rule.specs.Views.{blank_body, hand_of, IsSameSeat}
 use Rattle.tp_rule.specs.Tables.{IsPassOf}
-use Rattle.tp_rule.proofs.tests.fill.Given as goal
+use Rattle.tp_call_tests.proofs.tests.rule.fill.Given as goal
 
 -- so many rows are drawn, and nothing is drafted
 abbrev pub invariant-loop-i : goal.invariant-loop-i

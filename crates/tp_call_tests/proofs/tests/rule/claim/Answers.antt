@@ -1,7 +1,7 @@
 use Rattle.std.proofs.Common.{◌∙◌, ap, rules}
 use Rattle.tp_model.specs.declared.types.Element.{Element}
 use Rattle.tp_rule.proofs.Working.{claimed_work}
-use Rattle.tp_rule.proofs.tests.claim.Goals as goal
+use Rattle.tp_call_tests.proofs.tests.rule.claim.Goals as goal
 
 pub returns-in-Ok-clause-work : goal.returns-in-Ok-clause-work
 returns-in-Ok-clause-work c = λ _. let shown = c.shows_request.ensures.there c.if-not-shows_request.false in let looked = c.shows_request.ensures.looked in

@@ -1,8 +1,8 @@
 //! Worked values with their words, and numbers that are no words.
 ghost use Rattle.std.specs.Prelude.{◌≡◌};
 
-use crate::{Claim, FoundClaim, Head, Places, UnitWord};
 use tp_model::types::{Limits, Refusal};
+use tp_words::{Claim, FoundClaim, Head, Places, UnitWord};
 
 #[test]
 fn heads(rt: HostRuntime) {

@@ -1,4 +1,4 @@
-use Rattle.tp_rule.proofs.tests.output_born_at_exchange.Goals as goal
+use Rattle.tp_call_tests.proofs.tests.rule.output_born_at_exchange.Goals as goal
 
 pub draft_reply-requires-clause-work : goal.draft_reply-requires-clause-work
 draft_reply-requires-clause-work o c = c.claim.ensures.work c.if-not-claim.false
