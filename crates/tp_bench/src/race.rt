@@ -1,5 +1,5 @@
 //! Threads side by side, each with a pass of its own. A round's time is from the first start to the last end.
-ghost use Rattle.std.specs.Prelude.{◌≡◌, None};
+ghost use Rattle.std.specs.Prelude.{◌≡◌, None, IfSome};
 ghost use Rattle.tp_manager.specs.Shown.{IsOf, IsKeptBy};
 ghost use denote.Param.Send.{IsSync};
 
@@ -182,6 +182,62 @@ fn fill_from(manager: &Manager, mut client: Pass, stage: u8)
     submits(manager, &mut client, stage, 256);
 }
 
+/// As many clients as there are threads that serve fill their rows.
+fn fill_all(manager: &Manager, keeper: &mut Keeper, own: bool, threads: u32)
+    requires kept { IsKeptBy manager.now keeper.old }
+    ensures kept { IsKeptBy manager.now keeper.new }
+{
+    fill(manager, keeper, 1);
+    if threads >= 2 {
+        fill(manager, keeper, stage_of(own, 2));
+    }
+    if threads >= 4 {
+        fill(manager, keeper, stage_of(own, 3));
+        fill(manager, keeper, stage_of(own, 4));
+    }
+}
+
+/// Two passes of a manager.
+fn pair(manager: &Manager, keeper: &mut Keeper) -> Option<(Pass, Pass)>
+    requires kept { IsKeptBy manager.now keeper.old }
+    ensures kept { IsKeptBy manager.now keeper.new }
+    ensures own { IfSome result (λ made. IsOf manager.now made.0 × IsOf manager.now made.1) }
+    ensures free { IfSome result (λ made. (made.0.open_unit ≡ None) × (made.1.open_unit ≡ None)) }
+{
+    let first = pass(keeper, manager)?;
+    let second = pass(keeper, manager)?;
+    Some((first, second))
+}
+
+/// The work of one, two or four threads.
+fn spread<R: Threads + Sync>(
+    th: &R,
+    rt: &HostRuntime,
+    manager: &Manager,
+    e: &mut Pass,
+    f: &mut Pass,
+    g: &mut Pass,
+    h: &mut Pass,
+    own: bool,
+    kind: Kind,
+    threads: u32,
+) -> Span
+    requires own { IsOf manager.now e.old × IsOf manager.now f.old × IsOf manager.now g.old
+        × IsOf manager.now h.old }
+    requires free { (e.old.open_unit ≡ None) × (f.old.open_unit ≡ None) × (g.old.open_unit ≡ None)
+        × (h.old.open_unit ≡ None) }
+{
+    let gate = AtomicU64::new(0);
+    let (second, third, fourth) = (stage_of(own, 2), stage_of(own, 3), stage_of(own, 4));
+    match threads {
+        1 => work(rt, &gate, 1, manager, e, 1, kind),
+        2 => two(th, rt, &gate, 2, manager, e, f, 1, second, kind),
+        _ => four(
+            th, rt, &gate, manager, e, f, g, h, second, third, fourth, kind,
+        ),
+    }
+}
+
 /// One, two or four threads; where they serve, as many clients have filled their rows before.
 fn run<R: Threads + Sync>(
     th: &R,
@@ -195,49 +251,17 @@ fn run<R: Threads + Sync>(
         return Ok(());
     };
     if !matches!(kind, Kind::Submit) {
-        fill(&manager, &mut keeper, 1);
-        if threads >= 2 {
-            fill(&manager, &mut keeper, stage_of(own, 2));
-        }
-        if threads >= 4 {
-            fill(&manager, &mut keeper, stage_of(own, 3));
-            fill(&manager, &mut keeper, stage_of(own, 4));
-        }
+        fill_all(&manager, &mut keeper, own, threads);
     }
-    let Some(mut e) = pass(&mut keeper, &manager) else {
+    let Some((mut e, mut f)) = pair(&manager, &mut keeper) else {
         return Ok(());
     };
-    let Some(mut f) = pass(&mut keeper, &manager) else {
+    let Some((mut g, mut h)) = pair(&manager, &mut keeper) else {
         return Ok(());
     };
-    let Some(mut g) = pass(&mut keeper, &manager) else {
-        return Ok(());
-    };
-    let Some(mut h) = pass(&mut keeper, &manager) else {
-        return Ok(());
-    };
-    let gate = AtomicU64::new(0);
-    let span = if threads == 1 {
-        work(rt, &gate, 1, &manager, &mut e, 1, kind)
-    } else if threads == 2 {
-        two(
-            th,
-            rt,
-            &gate,
-            2,
-            &manager,
-            &mut e,
-            &mut f,
-            1,
-            stage_of(own, 2),
-            kind,
-        )
-    } else {
-        let (second, third, fourth) = (stage_of(own, 2), stage_of(own, 3), stage_of(own, 4));
-        four(
-            th, rt, &gate, &manager, &mut e, &mut f, &mut g, &mut h, second, third, fourth, kind,
-        )
-    };
+    let span = spread(
+        th, rt, &manager, &mut e, &mut f, &mut g, &mut h, own, kind, threads,
+    );
     show(rt, own, kind, threads, span)
 }
 
