@@ -6,7 +6,7 @@ use Rattle.std.specs.declared.dyn_box.DynBox.{DynBox}
 use Rattle.std.proofs.lemmas.List.{length-map, get_or-map, ext_get_or, map-append, map-set}
 use Rattle.std.proofs.lemmas.Bool.Decides.{eqb_tells}
 use Rattle.std.proofs.lemmas.List.Edits.{length-swap, swapped_from_swap}
-use Rattle.tp_server.specs.declared.recipe.Recipe.{Recipe}
+use Rattle.tp_server.specs.Behaviour.{Behaviour}
 use Rattle.tp_server.specs.Pending.{Pending}
 use Rattle.tp_manager.specs.Shown.{PassShown}
 use Rattle.tp_workers.specs.Free.{numbers}
@@ -90,12 +90,12 @@ firsts_more ps ss os p s o long same one =
 
 -- ---- what was left
 
-module _ {X : Type 0} {F : X → Type 0} (recipe : DynBox X Global F → Recipe) (registers : DynBox X Global F → List ℕ) (pending : DynBox X Global F → Option Pending) where
+module _ {X : Type 0} {F : X → Type 0} (behaviour : DynBox X Global F → Behaviour) (registers : DynBox X Global F → List ℕ) (pending : DynBox X Global F → Option Pending) where
   abbrev Box : Type 0
   Box = DynBox X Global F
 
   -- without a pass there is no desk
-  pub left_none : (ps : List PassShown) (ss : List Box) (os : List (Place X F)) → AllLie recipe registers pending ps ss os → ps ≡ [] → AllLeft recipe registers (firsts os) ps ss
+  pub left_none : (ps : List PassShown) (ss : List Box) (os : List (Place X F)) → AllLie behaviour registers pending ps ss os → ps ≡ [] → AllLeft behaviour registers (firsts os) ps ss
   left_none [] [] [] all e = tt
   left_none [] [] (o ∷ os) all e = absurd all
   left_none [] (s ∷ ss) os all e = absurd all
@@ -103,11 +103,11 @@ module _ {X : Type 0} {F : X → Type 0} (recipe : DynBox X Global F → Recipe)
 
   -- the first of the places, and the others
   pub left_more : (os : List (Place X F)) (o : Place X F) (os' : List (Place X F)) (p : PassShown) (ps : List PassShown) (s : Box) (ss : List Box)
-      → os ≡ o ∷ os' → IsLeft recipe registers (first_of o) p s → AllLeft recipe registers (firsts os') ps ss → AllLeft recipe registers (firsts os) (p ∷ ps) (s ∷ ss)
-  left_more os o os' p ps s ss is one others = subst (λ zs. AllLeft recipe registers (firsts zs) (p ∷ ps) (s ∷ ss)) (sym is) (one, others)
+      → os ≡ o ∷ os' → IsLeft behaviour registers (first_of o) p s → AllLeft behaviour registers (firsts os') ps ss → AllLeft behaviour registers (firsts os) (p ∷ ps) (s ∷ ss)
+  left_more os o os' p ps s ss is one others = subst (λ zs. AllLeft behaviour registers (firsts zs) (p ∷ ps) (s ∷ ss)) (sym is) (one, others)
 
   -- who ends as a desk's pass has the number with which it began
-  pub left_numbers : (ps : List PassShown) (ss : List Box) (qs : List PassShown) (ts : List Box) → length ps ≡ length ss → AllLeft recipe registers (all_firsts ps ss) qs ts → numbers qs ≡ numbers ps
+  pub left_numbers : (ps : List PassShown) (ss : List Box) (qs : List PassShown) (ts : List Box) → length ps ≡ length ss → AllLeft behaviour registers (all_firsts ps ss) qs ts → numbers qs ≡ numbers ps
   left_numbers [] [] [] [] long all = refl
   left_numbers [] [] [] (t ∷ ts) long all = absurd all
   left_numbers [] [] (q ∷ qs) ts long all = absurd all
@@ -118,7 +118,7 @@ module _ {X : Type 0} {F : X → Type 0} (recipe : DynBox X Global F → Recipe)
   left_numbers (p ∷ ps) (s ∷ ss) (q ∷ qs) (t ∷ ts) long all = let n : q.number ≡ p.number = all.0.serves.number in
       ap (λ z. z ∷ numbers qs) n ∙ ap (λ zs. p.number ∷ zs) (left_numbers ps ss qs ts (omega (arith, long)) all.1)
 
-  left_length : (ps : List PassShown) (ss : List Box) (qs : List PassShown) (ts : List Box) → length ps ≡ length ss → AllLeft recipe registers (all_firsts ps ss) qs ts → length qs ≡ length ps
+  left_length : (ps : List PassShown) (ss : List Box) (qs : List PassShown) (ts : List Box) → length ps ≡ length ss → AllLeft behaviour registers (all_firsts ps ss) qs ts → length qs ≡ length ps
   left_length ps ss qs ts long all = sym (length-map qs (λ p. p.number)) ∙ (ap length (left_numbers ps ss qs ts long all) ∙ length-map ps (λ p. p.number))
 
   -- the servers' passes among all
@@ -129,11 +129,11 @@ module _ {X : Type 0} {F : X → Type 0} (recipe : DynBox X Global F → Recipe)
   workers_are (suc n) client (w ∷ ws) rs long = ap (λ zs. w ∷ zs) (workers_are n client ws rs (omega (arith, long)))
 
   module _ (olds : List PassShown) (client client' : PassShown) (others ws rs qs rs' : List PassShown) (ss ts : List Box) (fs : List (Option (PassShown × Box)))
-      (all : olds ≡ client ∷ others) (parts : others ≡ ws ++ rs) (long : length ws ≡ length ss) (began : fs ≡ all_firsts ws ss) (left : AllLeft recipe registers fs qs ts) where
-    left_of : AllLeft recipe registers (all_firsts ws ss) qs ts
-    left_of = subst (λ zs. AllLeft recipe registers zs qs ts) began left
+      (all : olds ≡ client ∷ others) (parts : others ≡ ws ++ rs) (long : length ws ≡ length ss) (began : fs ≡ all_firsts ws ss) (left : AllLeft behaviour registers fs qs ts) where
+    left_of : AllLeft behaviour registers (all_firsts ws ss) qs ts
+    left_of = subst (λ zs. AllLeft behaviour registers zs qs ts) began left
 
-    pub left_in : AllLeft recipe registers (all_firsts (workers (length ss) olds) ss) (workers (length ss) (client' ∷ (qs ++ rs'))) ts
+    pub left_in : AllLeft behaviour registers (all_firsts (workers (length ss) olds) ss) (workers (length ss) (client' ∷ (qs ++ rs'))) ts
     left_in =
         let first : workers (length ss) olds ≡ ws = ap (workers (length ss)) (all ∙ ap (λ zs. client ∷ zs) parts) ∙ workers_are (length ss) client ws rs long in
         let last : workers (length ss) (client' ∷ (qs ++ rs')) ≡ qs = workers_are (length ss) client' qs rs' (left_length ws ss qs ts long left_of ∙ long) in

@@ -7,7 +7,7 @@ use Rattle.std.proofs.lemmas.List.{take-set, take-set-le, take_more}
 use Rattle.std.proofs.lemmas.List.Edits.{length-swap, swap_is, swapped_from_swap}
 use Rattle.std.proofs.lemmas.List.Elements.{All-append, All-cons, All-head, All-nil, All-tail}
 use Rattle.tp_model.specs.declared.types.Work.{Work}
-use Rattle.tp_server.specs.declared.recipe.Recipe.{Recipe}
+use Rattle.tp_server.specs.Behaviour.{Behaviour}
 use Rattle.tp_server.specs.Pending.{Pending}
 use Rattle.tp_manager.specs.Shown.{IsOf, ManagerShown, PassShown}
 use Rattle.tp_desk.specs.declared.aside.Aside.{Aside}
@@ -21,12 +21,12 @@ use Rattle.tp_workers.specs.Ran.{RanAll}
 use Rattle.tp_commands.specs.declared.place.Place.{Place}
 use Rattle.tp_commands.specs.Places.{AllLie, IsFreeAt, Lies}
 
-module _ {X : Type 0} {F : X → Type 0} (recipe : DynBox X Global F → Recipe) (registers : DynBox X Global F → List ℕ) (pending : DynBox X Global F → Option Pending) where
+module _ {X : Type 0} {F : X → Type 0} (behaviour : DynBox X Global F → Behaviour) (registers : DynBox X Global F → List ℕ) (pending : DynBox X Global F → Option Pending) where
   abbrev Box : Type 0
   Box = DynBox X Global F
 
   abbrev Lie : List PassShown → List Box → List (Place X F) → Type 0
-  Lie ps ss os = AllLie recipe registers pending ps ss os
+  Lie ps ss os = AllLie behaviour registers pending ps ss os
 
   -- the lists are as long as each other
   pub lie_passes : (ps : List PassShown) (ss : List Box) (os : List (Place X F)) → Lie ps ss os → length ps ≡ length os
@@ -47,7 +47,7 @@ module _ {X : Type 0} {F : X → Type 0} (recipe : DynBox X Global F → Recipe)
 
   -- one of them
   pub lie_at : (ps : List PassShown) (ss : List Box) (os : List (Place X F)) (i : ℕ) (p : PassShown) (s : Box) (o : Place X F)
-      → i < length os → Lie ps ss os → Lies recipe registers pending (get_or ps i p) (get_or ss i s) (get_or os i o).aside
+      → i < length os → Lie ps ss os → Lies behaviour registers pending (get_or ps i p) (get_or ss i s) (get_or os i o).aside
   lie_at [] [] [] i p s o within all = absurd (omega (arith, within))
   lie_at [] [] (z ∷ os) i p s o within all = absurd all
   lie_at [] (y ∷ ss) os i p s o within all = absurd all
@@ -57,7 +57,7 @@ module _ {X : Type 0} {F : X → Type 0} (recipe : DynBox X Global F → Recipe)
   lie_at (x ∷ ps) (y ∷ ss) (z ∷ os) (suc i) p s o within all = lie_at ps ss os i p s o (omega (arith, within)) all.1
 
   pub lie_set : (ps : List PassShown) (ss : List Box) (os : List (Place X F)) (i : ℕ) (p : PassShown) (s : Box) (o : Place X F)
-      → Lies recipe registers pending p s o.aside → Lie ps ss os → Lie (slice_set ps i p) (slice_set ss i s) (slice_set os i o)
+      → Lies behaviour registers pending p s o.aside → Lie ps ss os → Lie (slice_set ps i p) (slice_set ss i s) (slice_set os i o)
   lie_set [] [] [] i p s o one all = all
   lie_set [] [] (z ∷ os) i p s o one all = absurd all
   lie_set [] (y ∷ ss) os i p s o one all = absurd all
@@ -68,7 +68,7 @@ module _ {X : Type 0} {F : X → Type 0} (recipe : DynBox X Global F → Recipe)
 
   -- the first, and the others
   pub lie_parts : (ps : List PassShown) (ss : List Box) (os : List (Place X F)) (p : PassShown) (ps' : List PassShown) (s : Box) (ss' : List Box) (o : Place X F) (os' : List (Place X F))
-      → ps ≡ p ∷ ps' → ss ≡ s ∷ ss' → os ≡ o ∷ os' → Lie ps ss os → Lies recipe registers pending p s o.aside × Lie ps' ss' os'
+      → ps ≡ p ∷ ps' → ss ≡ s ∷ ss' → os ≡ o ∷ os' → Lie ps ss os → Lies behaviour registers pending p s o.aside × Lie ps' ss' os'
   lie_parts ps ss os p ps' s ss' o os' e f h all =
       subst (λ x. Lie (p ∷ ps') (s ∷ ss') x) h (subst (λ x. Lie (p ∷ ps') x os) f (subst (λ x. Lie x ss os) e all))
 
@@ -112,11 +112,11 @@ module _ {X : Type 0} {F : X → Type 0} (recipe : DynBox X Global F → Recipe)
   lie_append (p ∷ ps) (s ∷ ss) (o ∷ os) qs ts ns all more = (all.0, lie_append ps ss os qs ts ns all.1 more)
 
   -- where nothing is in hand, the pass has no unit open, and the server nothing prepared
-  free_at : (p : PassShown) (s : Box) (a : Option (Aside X F)) → Lies recipe registers pending p s a → IfSome a (λ x. x.work ≡ None) → (p.open_unit ≡ None) × (pending s ≡ None)
+  free_at : (p : PassShown) (s : Box) (a : Option (Aside X F)) → Lies behaviour registers pending p s a → IfSome a (λ x. x.work ≡ None) → (p.open_unit ≡ None) × (pending s ≡ None)
   free_at p s None lies none = absurd lies
   free_at p s (Some a) lies none =
-      let idle : InHand (recipe s) (registers s) (pending s) None a.drafts.items a.first_pass.value p =
-      subst (λ (o : Option Work). InHand (recipe s) (registers s) (pending s) o a.drafts.items a.first_pass.value p) none lies.in_hand in
+      let idle : InHand (behaviour s) (registers s) (pending s) None a.drafts.items a.first_pass.value p =
+      subst (λ (o : Option Work). InHand (behaviour s) (registers s) (pending s) o a.drafts.items a.first_pass.value p) none lies.in_hand in
       (idle.open_unit, idle.unprepared)
 
   pub lie_free : (m : ManagerShown) (ps : List PassShown) (ss : List Box) (os : List (Place X F)) → Lie ps ss os → All IsFreeAt os → All (IsOf m) ps → All (IsFreePass m) ps
@@ -139,15 +139,15 @@ module _ {X : Type 0} {F : X → Type 0} (recipe : DynBox X Global F → Recipe)
 
   -- what a shift or a drain leaves of a place where nothing is in hand
   pub record Worked (m : ManagerShown) (old : PassShown × Box) (new : PassShown × Box) : Type 0 where
-    pub leaves : Leaves (recipe old.1) (registers old.1) (registers new.1) old.0 new.0
-    pub recipe_is : recipe new.1 ≡ recipe old.1
-    pub ready : IsDeskOf recipe registers pending m new
+    pub leaves : Leaves (behaviour old.1) (registers old.1) (registers new.1) old.0 new.0
+    pub behaviour_is : behaviour new.1 ≡ behaviour old.1
+    pub ready : IsDeskOf behaviour registers pending m new
 
-  still_at : (m : ManagerShown) (p q : PassShown) (s t : Box) (a : Option (Aside X F)) → Lies recipe registers pending p s a → IfSome a (λ x. x.work ≡ None) → Worked m (p, s) (q, t) → Lies recipe registers pending q t a
+  still_at : (m : ManagerShown) (p q : PassShown) (s t : Box) (a : Option (Aside X F)) → Lies behaviour registers pending p s a → IfSome a (λ x. x.work ≡ None) → Worked m (p, s) (q, t) → Lies behaviour registers pending q t a
   still_at m p q s t None lies none w = absurd lies
   still_at m p q s t (Some a) lies none w =
-      still_steady (recipe s) (recipe t) (registers a.first_server.value) (registers s) (registers t) (pending s) (pending t) a.first_pass.value p q a.work a.drafts.items
-      lies none w.leaves w.recipe_is w.ready.pass.free w.ready.unprepared
+      still_steady (behaviour s) (behaviour t) (registers a.first_server.value) (registers s) (registers t) (pending s) (pending t) a.first_pass.value p q a.work a.drafts.items
+      lies none w.leaves w.behaviour_is w.ready.pass.free w.ready.unprepared
 
   pub lie_worked : (m : ManagerShown) (R : PassShown × Box → Shift → PassShown × Box → Type 0) → ((x : PassShown × Box) (c : Shift) (y : PassShown × Box) → R x c y → Worked m x y)
       → (ps : List PassShown) (ss : List Box) (os : List (Place X F)) (c : Shift) (qs : List PassShown) (ts : List Box)

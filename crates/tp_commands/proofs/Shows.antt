@@ -6,7 +6,7 @@ use Rattle.std.proofs.lemmas.List.{take_more}
 use Rattle.std.proofs.lemmas.List.Sums.{sum_by-cons, sum_by-append}
 use Rattle.std.proofs.lemmas.Slice.Zip.{get_or-zip}
 use Rattle.tp_workers.proofs.Shifts.{zip_length}
-use Rattle.tp_server.specs.declared.recipe.Recipe.{Recipe}
+use Rattle.tp_server.specs.Behaviour.{Behaviour}
 use Rattle.tp_server.specs.Pending.{Pending}
 use Rattle.tp_manager.specs.Shown.{PassShown}
 use Rattle.tp_commands.specs.declared.place.Place.{Place}
@@ -23,14 +23,14 @@ sum_next f xs i d within =
     let one = sum_by-cons f (get_or xs i d) [] in
     omega (arith, whole, parts, one)
 
-module _ {X : Type 0} {F : X → Type 0} (recipe : DynBox X Global F → Recipe) (registers : DynBox X Global F → List ℕ) (pending : DynBox X Global F → Option Pending) where
+module _ {X : Type 0} {F : X → Type 0} (behaviour : DynBox X Global F → Behaviour) (registers : DynBox X Global F → List ℕ) (pending : DynBox X Global F → Option Pending) where
   abbrev Box : Type 0
   Box = DynBox X Global F
 
   -- one of them
   pub shown_at : (ps : List PassShown) (ss : List Box) (os : List (Place X F)) (i : ℕ) (p : PassShown) (s : Box) (o : Place X F)
-      → i < length os → AllLie recipe registers pending ps ss os
-      → slice_get (places_shown recipe registers pending ps ss os) i ≡ Some (place_shown recipe registers pending (get_or ps i p) (get_or ss i s) (get_or os i o))
+      → i < length os → AllLie behaviour registers pending ps ss os
+      → slice_get (places_shown behaviour registers pending ps ss os) i ≡ Some (place_shown behaviour registers pending (get_or ps i p) (get_or ss i s) (get_or os i o))
   shown_at [] [] [] i p s o within all = absurd (omega (arith, within))
   shown_at [] [] (z ∷ os) i p s o within all = absurd all
   shown_at [] (y ∷ ss) os i p s o within all = absurd all
@@ -40,15 +40,15 @@ module _ {X : Type 0} {F : X → Type 0} (recipe : DynBox X Global F → Recipe)
   shown_at (x ∷ ps) (y ∷ ss) (z ∷ os) (suc i) p s o within all = shown_at ps ss os i p s o (omega (arith, within)) all.1
 
   pub shown_set : (ps : List PassShown) (ss : List Box) (os : List (Place X F)) (i : ℕ) (p : PassShown) (s : Box) (o : Place X F)
-      → AllLie recipe registers pending ps ss os
-      → places_shown recipe registers pending (slice_set ps i p) (slice_set ss i s) (slice_set os i o) ≡ slice_set (places_shown recipe registers pending ps ss os) i (place_shown recipe registers pending p s o)
+      → AllLie behaviour registers pending ps ss os
+      → places_shown behaviour registers pending (slice_set ps i p) (slice_set ss i s) (slice_set os i o) ≡ slice_set (places_shown behaviour registers pending ps ss os) i (place_shown behaviour registers pending p s o)
   shown_set [] [] [] i p s o all = refl
   shown_set [] [] (z ∷ os) i p s o all = absurd all
   shown_set [] (y ∷ ss) os i p s o all = absurd all
   shown_set (x ∷ ps) [] os i p s o all = absurd all
   shown_set (x ∷ ps) (y ∷ ss) [] i p s o all = absurd all
   shown_set (x ∷ ps) (y ∷ ss) (z ∷ os) zero p s o all = refl
-  shown_set (x ∷ ps) (y ∷ ss) (z ∷ os) (suc i) p s o all = ap (λ zs. place_shown recipe registers pending x y z ∷ zs) (shown_set ps ss os i p s o all.1)
+  shown_set (x ∷ ps) (y ∷ ss) (z ∷ os) (suc i) p s o all = ap (λ zs. place_shown behaviour registers pending x y z ∷ zs) (shown_set ps ss os i p s o all.1)
 
   pub value_next : (k : ℕ) (ss : List Box) (os : List (Place X F)) (i : ℕ) (s : Box) (o : Place X F) → length ss ≡ length os → i < length os
       → sum_by (value_at registers k) (take (i + 1) (zip ss os)) ≡ sum_by (value_at registers k) (take i (zip ss os)) + value_at registers k (get_or ss i s, get_or os i o)
@@ -57,8 +57,8 @@ module _ {X : Type 0} {F : X → Type 0} (recipe : DynBox X Global F → Recipe)
       sum_next (value_at registers k) (zip ss os) i (s, o) (omega (arith, both, long, within)) ∙ ap (λ x. sum_by (value_at registers k) (take i (zip ss os)) + value_at registers k x) (get_or-zip ss os i (s, o) (omega (arith, long, within)) within)
 
   -- what they add to the sum of a register
-  pub shown_sum : (k : ℕ) (ps : List PassShown) (ss : List Box) (os : List (Place X F)) → AllLie recipe registers pending ps ss os
-      → sum_by (value_at registers k) (zip ss os) ≡ register_sum k (places_shown recipe registers pending ps ss os)
+  pub shown_sum : (k : ℕ) (ps : List PassShown) (ss : List Box) (os : List (Place X F)) → AllLie behaviour registers pending ps ss os
+      → sum_by (value_at registers k) (zip ss os) ≡ register_sum k (places_shown behaviour registers pending ps ss os)
   shown_sum k [] [] [] all = refl
   shown_sum k [] [] (z ∷ os) all = absurd all
   shown_sum k [] (y ∷ ss) os all = absurd all
@@ -67,29 +67,29 @@ module _ {X : Type 0} {F : X → Type 0} (recipe : DynBox X Global F → Recipe)
   shown_sum k (x ∷ ps) (y ∷ ss) (z ∷ os) all =
       sum_by-cons (value_at registers k) (y, z) (zip ss os)
       ∙ (ap (λ n. value_at registers k (y, z) + n) (shown_sum k ps ss os all.1)
-      ∙ sym (sum_by-cons (λ p. counted_value p.is_dropped (slice_get p.desk.registers k)) (place_shown recipe registers pending x y z) (places_shown recipe registers pending ps ss os)))
+      ∙ sym (sum_by-cons (λ p. counted_value p.is_dropped (slice_get p.desk.registers k)) (place_shown behaviour registers pending x y z) (places_shown behaviour registers pending ps ss os)))
 
   -- those in front, and the others
-  pub shown_append : (ps : List PassShown) (ss : List Box) (os : List (Place X F)) (qs : List PassShown) (ts : List Box) (ns : List (Place X F)) → AllLie recipe registers pending ps ss os
-      → places_shown recipe registers pending (ps ++ qs) (ss ++ ts) (os ++ ns) ≡ places_shown recipe registers pending ps ss os ++ places_shown recipe registers pending qs ts ns
+  pub shown_append : (ps : List PassShown) (ss : List Box) (os : List (Place X F)) (qs : List PassShown) (ts : List Box) (ns : List (Place X F)) → AllLie behaviour registers pending ps ss os
+      → places_shown behaviour registers pending (ps ++ qs) (ss ++ ts) (os ++ ns) ≡ places_shown behaviour registers pending ps ss os ++ places_shown behaviour registers pending qs ts ns
   shown_append [] [] [] qs ts ns all = refl
   shown_append [] [] (z ∷ os) qs ts ns all = absurd all
   shown_append [] (y ∷ ss) os qs ts ns all = absurd all
   shown_append (x ∷ ps) [] os qs ts ns all = absurd all
   shown_append (x ∷ ps) (y ∷ ss) [] qs ts ns all = absurd all
-  shown_append (x ∷ ps) (y ∷ ss) (z ∷ os) qs ts ns all = ap (λ zs. place_shown recipe registers pending x y z ∷ zs) (shown_append ps ss os qs ts ns all.1)
+  shown_append (x ∷ ps) (y ∷ ss) (z ∷ os) qs ts ns all = ap (λ zs. place_shown behaviour registers pending x y z ∷ zs) (shown_append ps ss os qs ts ns all.1)
 
   -- desks that begin, and one more
   new_more : (ps : List PassShown) (ss : List Box) (p : PassShown) (s : Box) → length ps ≡ length ss
-      → new_places recipe registers pending (ps ++ p ∷ []) (ss ++ s ∷ []) ≡ new_places recipe registers pending ps ss ++ new_place recipe registers pending p s ∷ []
+      → new_places behaviour registers pending (ps ++ p ∷ []) (ss ++ s ∷ []) ≡ new_places behaviour registers pending ps ss ++ new_place behaviour registers pending p s ∷ []
   new_more [] [] p s long = refl
   new_more [] (y ∷ ss) p s long = absurd (omega (arith, long))
   new_more (x ∷ ps) [] p s long = absurd (omega (arith, long))
-  new_more (x ∷ ps) (y ∷ ss) p s long = ap (λ zs. new_place recipe registers pending x y ∷ zs) (new_more ps ss p s (omega (arith, long)))
+  new_more (x ∷ ps) (y ∷ ss) p s long = ap (λ zs. new_place behaviour registers pending x y ∷ zs) (new_more ps ss p s (omega (arith, long)))
 
-  pub shown_more : (ps : List PassShown) (ss : List Box) (os : List (Place X F)) (p : PassShown) (s : Box) (o : Place X F) → AllLie recipe registers pending ps ss os → length ps ≡ length ss
-      → places_shown recipe registers pending ps ss os ≡ new_places recipe registers pending ps ss → place_shown recipe registers pending p s o ≡ new_place recipe registers pending p s
-      → places_shown recipe registers pending (ps ++ p ∷ []) (ss ++ s ∷ []) (os ++ o ∷ []) ≡ new_places recipe registers pending (ps ++ p ∷ []) (ss ++ s ∷ [])
+  pub shown_more : (ps : List PassShown) (ss : List Box) (os : List (Place X F)) (p : PassShown) (s : Box) (o : Place X F) → AllLie behaviour registers pending ps ss os → length ps ≡ length ss
+      → places_shown behaviour registers pending ps ss os ≡ new_places behaviour registers pending ps ss → place_shown behaviour registers pending p s o ≡ new_place behaviour registers pending p s
+      → places_shown behaviour registers pending (ps ++ p ∷ []) (ss ++ s ∷ []) (os ++ o ∷ []) ≡ new_places behaviour registers pending (ps ++ p ∷ []) (ss ++ s ∷ [])
   shown_more ps ss os p s o all long same one =
-      shown_append ps ss os (p ∷ []) (s ∷ []) (o ∷ []) all ∙ (ap (λ zs. zs ++ place_shown recipe registers pending p s o ∷ []) same
-      ∙ (ap (λ z. new_places recipe registers pending ps ss ++ z ∷ []) one ∙ sym (new_more ps ss p s long)))
+      shown_append ps ss os (p ∷ []) (s ∷ []) (o ∷ []) all ∙ (ap (λ zs. zs ++ place_shown behaviour registers pending p s o ∷ []) same
+      ∙ (ap (λ z. new_places behaviour registers pending ps ss ++ z ∷ []) one ∙ sym (new_more ps ss p s long)))

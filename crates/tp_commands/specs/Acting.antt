@@ -11,7 +11,7 @@ use Rattle.tp_model.specs.declared.types.Ended.{Ended}
 use Rattle.tp_model.specs.declared.types.Ended.TheVariants as endeds
 use Rattle.tp_model.specs.declared.types.Limits.{Limits}
 use Rattle.tp_model.specs.declared.types.Work.{Work}
-use Rattle.tp_server.specs.declared.recipe.Recipe.{Recipe}
+use Rattle.tp_server.specs.Behaviour.{Behaviour}
 use Rattle.tp_server.specs.Pending.{Pending}
 use Rattle.tp_manager.specs.Bounds.{abort_steps, claim_steps, commit_steps}
 use Rattle.tp_manager.specs.Calls.{Claims, Ends, Follows}
@@ -36,7 +36,7 @@ use Rattle.tp_commands.specs.declared.place.Place.{Place}
 -- a desk shows what its pass and its server show, and the work that it has in hand
 pub record DeskShown : Type 0 where
   pub pass : PassShown
-  pub recipe : Recipe
+  pub behaviour : Behaviour
   pub registers : List ℕ
   pub pending : Option Pending
   pub work : Option Work
@@ -50,21 +50,21 @@ pub record PlaceShown : Type 0 where
 -- the desk is steady: its registers are the fold of what it has committed since it began
 abbrev pub IsSteadyPlace : PlaceShown → Type 0
 IsSteadyPlace p = IfSome p.began (λ began. let d = p.desk in
-    (drafts : List DraftView) × IsSteady d.recipe d.registers d.pending began.1 began.0 d.pass d.work drafts)
+    (drafts : List DraftView) × IsSteady d.behaviour d.registers d.pending began.1 began.0 d.pass d.work drafts)
 
 -- what was laid aside
 abbrev pub work_in : {X : Type 0} {F : X → Type 0} → Option (Aside X F) → Option Work
 work_in None = None
 work_in (Some aside) = aside.work
 
-module _ {X : Type 0} {F : X → Type 0} (recipe : DynBox X Global F → Recipe)
+module _ {X : Type 0} {F : X → Type 0} (behaviour : DynBox X Global F → Behaviour)
     (registers : DynBox X Global F → List ℕ) (pending : DynBox X Global F → Option Pending) where
   -- a desk that begins
   abbrev pub new_place : PassShown → DynBox X Global F → PlaceShown
   new_place pass server = record {
     desk = record {
       pass = pass;
-      recipe = recipe server;
+      behaviour = behaviour server;
       registers = registers server;
       pending = pending server;
       work = None;
@@ -83,7 +83,7 @@ module _ {X : Type 0} {F : X → Type 0} (recipe : DynBox X Global F → Recipe)
   place_shown pass server place = record {
     desk = record {
       pass = pass;
-      recipe = recipe server;
+      behaviour = behaviour server;
       registers = registers server;
       pending = pending server;
       work = work_in place.aside;
@@ -98,12 +98,12 @@ module _ {X : Type 0} {F : X → Type 0} (recipe : DynBox X Global F → Recipe)
   places_shown ps ss os = []
 
 -- the desk at work. Where no box is in sight, a server's members are told of a pair.
-module _ {X : Type 0} {F : X → Type 0} (recipe : (x : X) × F x → Recipe) (registers : (x : X) × F x → List ℕ)
+module _ {X : Type 0} {F : X → Type 0} (behaviour : (x : X) × F x → Behaviour) (registers : (x : X) × F x → List ℕ)
     (pending : (x : X) × F x → Option Pending) where
   abbrev pub desk_shown : Desk X F → DeskShown
   desk_shown d = record {
     pass = d.pass.now;
-    recipe = shown recipe d.server.now;
+    behaviour = shown behaviour d.server.now;
     registers = shown registers d.server.now;
     pending = shown pending d.server.now;
     work = d.work;
@@ -113,11 +113,11 @@ module _ {X : Type 0} {F : X → Type 0} (recipe : (x : X) × F x → Recipe) (r
 
 -- what a pass and its server show of a desk
 abbrev pub place_of : DeskShown → workers.Place
-place_of d = record { pass = d.pass; recipe = d.recipe; registers = d.registers }
+place_of d = record { pass = d.pass; behaviour = d.behaviour; registers = d.registers }
 
 -- the server is as it was
 abbrev pub IsSameServer : DeskShown → DeskShown → Type 0
-IsSameServer old new = (new.recipe ≡ old.recipe) × (new.registers ≡ old.registers)
+IsSameServer old new = (new.behaviour ≡ old.behaviour) × (new.registers ≡ old.registers)
 
 -- a turn
 abbrev pub TellsTurn : Limits → DeskShown → ServerAnswer → DeskShown → Type 0
@@ -130,7 +130,7 @@ TellsTurn l old other new = ⊥
 pub record ClaimsAt (l : Limits) (claimed : Claimed) (old new : DeskShown) : Type 0 where
   pub idle : old.work ≡ None
   pub follows : Follows (claim_steps l) old.pass new.pass
-  pub answer : Claims l old.recipe.stage old.pass new.pass claimed
+  pub answer : Claims l old.behaviour.stage old.pass new.pass claimed
   pub work : new.work ≡ work_of claimed
   pub server : IsSameServer old new
 
@@ -147,9 +147,9 @@ pub record WorksOffAt (l : Limits) (turned : Turned) (old new : DeskShown) : Typ
   pub work : Work
   pub in_hand : old.work ≡ Some work
   pub follows : Follows (commit_steps l 4) old.pass new.pass
-  pub answer : WorksOff old.recipe old.registers work old.pass new.pass turned
+  pub answer : WorksOff old.behaviour old.registers work old.pass new.pass turned
   pub none_left : new.work ≡ None
-  pub recipe_is : new.recipe ≡ old.recipe
+  pub behaviour_is : new.behaviour ≡ old.behaviour
 
 -- the work in hand, which wasn't prepared, is prepared now
 pub record PreparesAt (old new : DeskShown) : Type 0 where
@@ -160,7 +160,7 @@ pub record PreparesAt (old new : DeskShown) : Type 0 where
   pub pass : new.pass ≡ old.pass
   pub server : IsSameServer old new
 
--- a prepare, which gives up what the recipe declines
+-- a prepare, which gives up what the server declines
 abbrev pub TellsPrepare : Limits → DeskShown → ServerAnswer → DeskShown → Type 0
 TellsPrepare l old told.Ready new = PreparesAt old new
 TellsPrepare l old (told.Turned (turneds.Refused element why)) new =

@@ -3,7 +3,7 @@ use Rattle.std.specs.Prelude.{◌≡◌, ℕ, Bool, false, ◌&&◌, not, is_som
 use Rattle.std.specs.Option.{option_map}
 use Rattle.std.specs.declared.alloc.Global.{Global}
 use Rattle.std.specs.declared.dyn_box.DynBox.{DynBox}
-use Rattle.tp_server.specs.declared.recipe.Recipe.{Recipe}
+use Rattle.tp_server.specs.Behaviour.{Behaviour}
 use Rattle.tp_server.specs.Pending.{Pending}
 use Rattle.tp_manager.specs.Shown.{PassShown}
 use Rattle.tp_desk.specs.declared.aside.Aside.{Aside}
@@ -38,11 +38,11 @@ all_firsts passes servers = map Some (zip passes servers)
 abbrev pub workers : ℕ → List PassShown → List PassShown
 workers many passes = take many (drop 1 passes)
 
-module _ {X : Type 0} {F : X → Type 0} (recipe : DynBox X Global F → Recipe) (registers : DynBox X Global F → List ℕ) (pending : DynBox X Global F → Option Pending) where
+module _ {X : Type 0} {F : X → Type 0} (behaviour : DynBox X Global F → Behaviour) (registers : DynBox X Global F → List ℕ) (pending : DynBox X Global F → Option Pending) where
   -- a desk lies aside, with which this pass and this server are steady
   abbrev pub Lies : PassShown → DynBox X Global F → Option (Aside X F) → Type 0
   Lies pass server None = ⊥
-  Lies pass server (Some aside) = SteadyAside recipe registers pending aside pass server
+  Lies pass server (Some aside) = SteadyAside behaviour registers pending aside pass server
 
   -- so it is at each place, for lists that are as long as each other
   abbrev pub AllLie : List PassShown → List (DynBox X Global F) → List (Place X F) → Type 0
@@ -53,12 +53,12 @@ module _ {X : Type 0} {F : X → Type 0} (recipe : DynBox X Global F → Recipe)
   AllLie (p ∷ ps) (s ∷ ss) [] = ⊥
   AllLie (p ∷ ps) (s ∷ ss) (o ∷ os) = Lies p s o.aside × AllLie ps ss os
 
-module _ {X : Type 0} {F : X → Type 0} (recipe : DynBox X Global F → Recipe) (registers : DynBox X Global F → List ℕ) where
-  -- this pass and this server are left as by the end of one desk that began so: the registers are what the recipe makes of
+module _ {X : Type 0} {F : X → Type 0} (behaviour : DynBox X Global F → Behaviour) (registers : DynBox X Global F → List ℕ) where
+  -- this pass and this server are left as by the end of one desk that began so: the registers are what the behaviour makes of
   -- what the pass has committed since
   abbrev pub IsLeft : Option (PassShown × DynBox X Global F) → PassShown → DynBox X Global F → Type 0
   IsLeft None pass server = ⊥
-  IsLeft (Some first) pass server = Leaves (recipe server) (registers first.1) (registers server) first.0 pass
+  IsLeft (Some first) pass server = Leaves (behaviour server) (registers first.1) (registers server) first.0 pass
 
   -- so it is of each, for lists that are as long as each other
   abbrev pub AllLeft : List (Option (PassShown × DynBox X Global F)) → List PassShown → List (DynBox X Global F) → Type 0

@@ -31,17 +31,17 @@ pub fn desk_line(
     act: DeskAct,
 ) -> Result<String, AllocError>
     requires own { All (IsOf manager.now) passes.old }
-    requires lie { AllLie recipe registers pending passes.old servers.old places.old }
+    requires lie { AllLie behaviour registers pending passes.old servers.old places.old }
     requires as_many { length places.old ≡ length named.now }
     requires in_range { server < length named.now }
     ensures own { All (IsOf manager.now) passes.new }
-    ensures lie { AllLie recipe registers pending passes.new servers.new places.new }
+    ensures lie { AllLie behaviour registers pending passes.new servers.new places.new }
     ensures as_many { length places.new ≡ length places.old }
     ensures began { firsts places.new ≡ firsts places.old }
     ensures tells { IfOk result (λ text. (answer : ServerAnswer)
         × DoesIn manager.now.limits act server
-        (places_shown recipe registers pending passes.old servers.old places.old) answer
-        (places_shown recipe registers pending passes.new servers.new places.new)
+        (places_shown behaviour registers pending passes.old servers.old places.old) answer
+        (places_shown behaviour registers pending passes.new servers.new places.new)
         × IfSome (slice_get named.now server)
         (λ it. string_bytes text ≡ line (named_text (string_bytes it.name) answer))) }
     ensures line { IfOk result (λ text. IsLine (string_bytes text)) }
@@ -60,15 +60,15 @@ fn act_in(
     act: DeskAct,
 ) -> ServerAnswer
     requires own { All (IsOf manager.now) passes.old }
-    requires lie { AllLie recipe registers pending passes.old servers.old places.old }
+    requires lie { AllLie behaviour registers pending passes.old servers.old places.old }
     requires within { at < length places.old }
     ensures own { All (IsOf manager.now) passes.new }
-    ensures lie { AllLie recipe registers pending passes.new servers.new places.new }
+    ensures lie { AllLie behaviour registers pending passes.new servers.new places.new }
     ensures as_many { length places.new ≡ length places.old }
     ensures began { firsts places.new ≡ firsts places.old }
     ensures tells { DoesIn manager.now.limits act at
-        (places_shown recipe registers pending passes.old servers.old places.old) result
-        (places_shown recipe registers pending passes.new servers.new places.new) }
+        (places_shown behaviour registers pending passes.old servers.old places.old) result
+        (places_shown behaviour registers pending passes.new servers.new places.new) }
 {
     act_at(
         manager,
@@ -89,13 +89,13 @@ pub(crate) fn act_at(
     act: DeskAct,
 ) -> ServerAnswer
     requires own { IsOf manager.now pass.old }
-    requires lies { Lies recipe registers pending pass.old server.old place.old.aside }
+    requires lies { Lies behaviour registers pending pass.old server.old place.old.aside }
     ensures own { IsOf manager.now pass.new }
-    ensures lies { Lies recipe registers pending pass.new server.new place.new.aside }
+    ensures lies { Lies behaviour registers pending pass.new server.new place.new.aside }
     ensures began { first_of place.new ≡ first_of place.old }
     ensures tells { DoesAt manager.now.limits act
-        (place_shown recipe registers pending pass.old server.old place.old) result
-        (place_shown recipe registers pending pass.new server.new place.new) }
+        (place_shown behaviour registers pending pass.old server.old place.old) result
+        (place_shown behaviour registers pending pass.new server.new place.new) }
 {
     if place.is_dropped {
         return ServerAnswer::Ended;
@@ -114,11 +114,11 @@ pub(crate) fn act_at(
 
 /// Has the desk do what is asked.
 fn act_by(desk: &mut Desk, act: DeskAct) -> ServerAnswer
-    requires steady { SteadyDesk (shown recipe) (shown registers) (shown pending) desk.old }
+    requires steady { SteadyDesk (shown behaviour) (shown registers) (shown pending) desk.old }
     ensures same { IsSameDesk desk.old desk.new }
-    ensures steady { SteadyDesk (shown recipe) (shown registers) (shown pending) desk.new }
-    ensures tells { Does desk.old.manager.now.limits act (desk_shown recipe registers pending desk.old) result
-        (desk_shown recipe registers pending desk.new) }
+    ensures steady { SteadyDesk (shown behaviour) (shown registers) (shown pending) desk.new }
+    ensures tells { Does desk.old.manager.now.limits act (desk_shown behaviour registers pending desk.old) result
+        (desk_shown behaviour registers pending desk.new) }
 {
     match act {
         DeskAct::Turn => turn(desk),
@@ -132,11 +132,11 @@ fn act_by(desk: &mut Desk, act: DeskAct) -> ServerAnswer
 
 /// `turn NAME`
 fn turn(desk: &mut Desk) -> ServerAnswer
-    requires steady { SteadyDesk (shown recipe) (shown registers) (shown pending) desk.old }
+    requires steady { SteadyDesk (shown behaviour) (shown registers) (shown pending) desk.old }
     ensures same { IsSameDesk desk.old desk.new }
-    ensures steady { SteadyDesk (shown recipe) (shown registers) (shown pending) desk.new }
-    ensures tells { TellsTurn desk.old.manager.now.limits (desk_shown recipe registers pending desk.old) result
-        (desk_shown recipe registers pending desk.new) }
+    ensures steady { SteadyDesk (shown behaviour) (shown registers) (shown pending) desk.new }
+    ensures tells { TellsTurn desk.old.manager.now.limits (desk_shown behaviour registers pending desk.old) result
+        (desk_shown behaviour registers pending desk.new) }
 {
     if desk.has_open() {
         return ServerAnswer::Busy;
@@ -146,11 +146,11 @@ fn turn(desk: &mut Desk) -> ServerAnswer
 
 /// `claim NAME`
 fn claim(desk: &mut Desk) -> ServerAnswer
-    requires steady { SteadyDesk (shown recipe) (shown registers) (shown pending) desk.old }
+    requires steady { SteadyDesk (shown behaviour) (shown registers) (shown pending) desk.old }
     ensures same { IsSameDesk desk.old desk.new }
-    ensures steady { SteadyDesk (shown recipe) (shown registers) (shown pending) desk.new }
-    ensures tells { TellsClaim desk.old.manager.now.limits (desk_shown recipe registers pending desk.old) result
-        (desk_shown recipe registers pending desk.new) }
+    ensures steady { SteadyDesk (shown behaviour) (shown registers) (shown pending) desk.new }
+    ensures tells { TellsClaim desk.old.manager.now.limits (desk_shown behaviour registers pending desk.old) result
+        (desk_shown behaviour registers pending desk.new) }
 {
     if desk.has_open() {
         return ServerAnswer::Busy;
@@ -168,11 +168,11 @@ fn claim(desk: &mut Desk) -> ServerAnswer
 
 /// `prepare NAME`
 fn prepare(desk: &mut Desk) -> ServerAnswer
-    requires steady { SteadyDesk (shown recipe) (shown registers) (shown pending) desk.old }
+    requires steady { SteadyDesk (shown behaviour) (shown registers) (shown pending) desk.old }
     ensures same { IsSameDesk desk.old desk.new }
-    ensures steady { SteadyDesk (shown recipe) (shown registers) (shown pending) desk.new }
-    ensures tells { TellsPrepare desk.old.manager.now.limits (desk_shown recipe registers pending desk.old) result
-        (desk_shown recipe registers pending desk.new) }
+    ensures steady { SteadyDesk (shown behaviour) (shown registers) (shown pending) desk.new }
+    ensures tells { TellsPrepare desk.old.manager.now.limits (desk_shown behaviour registers pending desk.old) result
+        (desk_shown behaviour registers pending desk.new) }
 {
     let Some(work) = desk.in_hand() else {
         return ServerAnswer::NoneOpen;
@@ -191,11 +191,11 @@ fn prepare(desk: &mut Desk) -> ServerAnswer
 
 /// `commit NAME`: work that isn't prepared is prepared first.
 fn commit(desk: &mut Desk) -> ServerAnswer
-    requires steady { SteadyDesk (shown recipe) (shown registers) (shown pending) desk.old }
+    requires steady { SteadyDesk (shown behaviour) (shown registers) (shown pending) desk.old }
     ensures same { IsSameDesk desk.old desk.new }
-    ensures steady { SteadyDesk (shown recipe) (shown registers) (shown pending) desk.new }
-    ensures tells { TellsCommit desk.old.manager.now.limits (desk_shown recipe registers pending desk.old) result
-        (desk_shown recipe registers pending desk.new) }
+    ensures steady { SteadyDesk (shown behaviour) (shown registers) (shown pending) desk.new }
+    ensures tells { TellsCommit desk.old.manager.now.limits (desk_shown behaviour registers pending desk.old) result
+        (desk_shown behaviour registers pending desk.new) }
 {
     let Some(work) = desk.in_hand() else {
         return ServerAnswer::NoneOpen;
@@ -216,11 +216,11 @@ fn commit(desk: &mut Desk) -> ServerAnswer
 
 /// `abort NAME`
 fn abort(desk: &mut Desk) -> ServerAnswer
-    requires steady { SteadyDesk (shown recipe) (shown registers) (shown pending) desk.old }
+    requires steady { SteadyDesk (shown behaviour) (shown registers) (shown pending) desk.old }
     ensures same { IsSameDesk desk.old desk.new }
-    ensures steady { SteadyDesk (shown recipe) (shown registers) (shown pending) desk.new }
-    ensures tells { TellsAbort (desk_shown recipe registers pending desk.old) result
-        (desk_shown recipe registers pending desk.new) }
+    ensures steady { SteadyDesk (shown behaviour) (shown registers) (shown pending) desk.new }
+    ensures tells { TellsAbort (desk_shown behaviour registers pending desk.old) result
+        (desk_shown behaviour registers pending desk.new) }
 {
     let Some(work) = desk.in_hand() else {
         return ServerAnswer::NoneOpen;
@@ -234,11 +234,11 @@ fn abort(desk: &mut Desk) -> ServerAnswer
 
 /// `drop NAME`: what is in hand is given up, as by a drop of the desk.
 fn give_up(desk: &mut Desk) -> ServerAnswer
-    requires steady { SteadyDesk (shown recipe) (shown registers) (shown pending) desk.old }
+    requires steady { SteadyDesk (shown behaviour) (shown registers) (shown pending) desk.old }
     ensures same { IsSameDesk desk.old desk.new }
-    ensures steady { SteadyDesk (shown recipe) (shown registers) (shown pending) desk.new }
-    ensures tells { TellsDrop (desk_shown recipe registers pending desk.old) result
-        (desk_shown recipe registers pending desk.new) }
+    ensures steady { SteadyDesk (shown behaviour) (shown registers) (shown pending) desk.new }
+    ensures tells { TellsDrop (desk_shown behaviour registers pending desk.old) result
+        (desk_shown behaviour registers pending desk.new) }
 {
     if desk.has_open() {
         let _ = desk.abort();

@@ -45,10 +45,10 @@ pub fn places_for(
     requires clear { All (λ server. pending server ≡ None) servers.now }
     requires paired { length passes.now ≡ length servers.now }
     requires few { length servers.now ≤ MOST_SERVERS }
-    ensures lie { AllLie recipe registers pending passes.now servers.now result.items }
+    ensures lie { AllLie behaviour registers pending passes.now servers.now result.items }
     ensures began { firsts result.items ≡ all_firsts passes.now servers.now }
-    ensures shown { places_shown recipe registers pending passes.now servers.now result.items
-        ≡ new_places recipe registers pending passes.now servers.now }
+    ensures shown { places_shown behaviour registers pending passes.now servers.now result.items
+        ≡ new_places behaviour registers pending passes.now servers.now }
 {
     let mut places = ArrayVec::new();
     for i in 0..servers.len() {
@@ -68,11 +68,11 @@ pub fn end_all(
     places: &mut [Place],
 )
     requires own { All (IsOf manager.now) passes.old }
-    requires lie { AllLie recipe registers pending passes.old servers.old places.old }
+    requires lie { AllLie behaviour registers pending passes.old servers.old places.old }
     ensures free { All (IsFreePass manager.now) passes.new }
     ensures clear { All (λ server. pending server ≡ None) servers.new }
-    ensures left { AllLeft recipe registers (firsts places.old) passes.new servers.new }
-    ensures ended { AllEnded (places_shown recipe registers pending passes.old servers.old places.old)
+    ensures left { AllLeft behaviour registers (firsts places.old) passes.new servers.new }
+    ensures ended { AllEnded (places_shown behaviour registers pending passes.old servers.old places.old)
         passes.new (map (λ server. registers server) servers.new) }
 {
     let Some((pass, passes)) = passes.split_first_mut() else {
@@ -96,11 +96,11 @@ fn end_at(
     place: &mut Place,
 )
     requires own { IsOf manager.now pass.old }
-    requires lies { Lies recipe registers pending pass.old server.old place.old.aside }
+    requires lies { Lies behaviour registers pending pass.old server.old place.old.aside }
     ensures free { IsFreePass manager.now pass.new }
     ensures clear { pending server.new ≡ None }
-    ensures left { IsLeft recipe registers (first_of place.old) pass.new server.new }
-    ensures ended { EndsAt (place_shown recipe registers pending pass.old server.old place.old)
+    ensures left { IsLeft behaviour registers (first_of place.old) pass.new server.new }
+    ensures ended { EndsAt (place_shown behaviour registers pending pass.old server.old place.old)
         pass.new (registers server.new) }
 {
     let Some(aside) = place.aside.take() else {

@@ -1,3 +1,5 @@
 pub mod Serves
 pub mod Keeping
 pub mod Steps
+pub mod Recipes
+pub mod Books

@@ -2,21 +2,22 @@
 use Rattle.std.proofs.Common.{◌≡◌, ℕ, List, [], ◌∷◌, ◌++◌, Option, Some, None, length, drop, inl, inr, ⊎_elim, refl, sym, ◌∙◌, ap, subst, append_assoc}
 use Rattle.std.proofs.lemmas.Option.{option_and_then_some}
 use Rattle.std.proofs.lemmas.List.Elements.{filter_map-append}
-use Rattle.std.specs.List.{filter_map}
+use Rattle.std.specs.List.{filter_map, cons_option}
+use Rattle.std.specs.Option.{option_map}
 use mathlib.Core.List.{IsPrefix}
 use Rattle.tp_model.specs.declared.types.Element.{Element}
 use Rattle.tp_model.specs.declared.event.Event.{Event}
 use Rattle.tp_model.specs.declared.event.Event.TheVariants.{Enqueue, Claim, Commit, Abort, Kill, Requeue}
-use Rattle.tp_model.specs.Counts.{taken, taken_by}
+use Rattle.tp_model.specs.Counts.{taken_by}
 use Rattle.tp_model.specs.History.{In, here, there, UnitClaim, claim_by, claim_of, element_of}
 use Rattle.tp_model.proofs.Bridges.{begins_trans, in_either, in_none}
 use Rattle.tp_model.proofs.Histories.{element_of-kept}
 use Rattle.tp_model.proofs.Lists.{first-kept, option_or-some, first-snoc, first-append, option_or-none}
-use Rattle.tp_server.specs.declared.recipe.Recipe.{Recipe}
-use Rattle.tp_server.specs.Effect.{effect_of, fold_from, fold_of, registers_after}
+use Rattle.tp_server.specs.Behaviour.{Behaviour, Done, Folds}
+use Rattle.tp_server.proofs.Made.{folds-append}
 use Rattle.tp_manager.specs.Calls.{HasEnded}
 use Rattle.tp_manager.specs.Shown.{PassShown}
-use Rattle.tp_desk.specs.Serving.{AreEnded, AreFresh, AreTaken, Leaves, Serves, gained}
+use Rattle.tp_desk.specs.Serving.{AreEnded, AreFresh, AreTaken, Leaves, Serves, done, done_by, done_with, gained}
 
 dropped : (a more : List Event) → drop (length a) (a ++ more) ≡ more
 dropped [] more = refl
@@ -46,24 +47,26 @@ kept g more h news (Abort c u) x is = is
 kept g more h news (Kill c i) x is = is
 kept g more h news (Requeue c i k) x is = is
 
+-- a unit that took the same element did the same work
+same_work : (outs : List Element) (a b : Option Element) → a ≡ b → (xs ys : List Done) → xs ≡ ys
+    → cons_option (option_map (done_with outs) a) xs ≡ cons_option (option_map (done_with outs) b) ys
+same_work outs a b same xs ys others =
+    ap (λ (o : Option Element). cons_option (option_map (done_with outs) o) xs) same
+    ∙ ap (λ (l : List Done). cons_option (option_map (done_with outs) b) l) others
+
 -- and so did all units that were committed
 all_kept : (g more h news es : List Event) → ((c u : ℕ) (outs : List Element) → In (Commit c u outs) es → (x : Element) × (taken_by g h (Commit c u outs) ≡ Some x))
-    → filter_map (taken_by (g ++ more) (h ++ news)) es ≡ filter_map (taken_by g h) es
+    → filter_map (done_by (g ++ more) (h ++ news)) es ≡ filter_map (done_by g h) es
 all_kept g more h news [] all = refl
 all_kept g more h news (Enqueue c y ∷ es) all = all_kept g more h news es (λ c u outs p. all c u outs (there p))
 all_kept g more h news (Claim c u i n ∷ es) all = all_kept g more h news es (λ c u outs p. all c u outs (there p))
 all_kept g more h news (Commit c u outs ∷ es) all =
     let one = all c u outs here in
     let after : taken_by (g ++ more) (h ++ news) (Commit c u outs) ≡ Some one.0 = kept g more h news (Commit c u outs) one.0 one.1 in
-    rw (after, one.1) (ap (λ (xs : List Element). one.0 ∷ xs) (all_kept g more h news es (λ c u outs p. all c u outs (there p))))
+    same_work outs _ _ (after ∙ sym one.1) _ _ (all_kept g more h news es (λ c u outs p. all c u outs (there p)))
 all_kept g more h news (Abort c u ∷ es) all = all_kept g more h news es (λ c u outs p. all c u outs (there p))
 all_kept g more h news (Kill c i ∷ es) all = all_kept g more h news es (λ c u outs p. all c u outs (there p))
 all_kept g more h news (Requeue c i k ∷ es) all = all_kept g more h news es (λ c u outs p. all c u outs (there p))
-
-fold_from-append : (recipe : Recipe) (o : Option (List ℕ)) (xs ys : List Element) → fold_from recipe o (xs ++ ys) ≡ fold_from recipe (fold_from recipe o xs) ys
-fold_from-append recipe None xs ys = refl
-fold_from-append recipe (Some s) [] ys = refl
-fold_from-append recipe (Some s) (x ∷ xs) ys = fold_from-append recipe (registers_after (effect_of recipe s x)) xs ys
 
 -- no claim among all is none among the first
 unclaimed_before : (a b : List Event) (u : ℕ) → IsPrefix a b → claim_of b u ≡ None → claim_of a u ≡ None
@@ -71,22 +74,22 @@ unclaimed_before a b u p none =
     (option_or-none (claim_of a u) (claim_of (gained a b) u) (sym (first-append (claim_by u) a (gained a b)) ∙ (sym (ap (λ (l : List Event). claim_of l u) (whole a b p)) ∙ none))).0
 
 -- the pass made these events more, which consumed these elements
-pub serves_more : (recipe : Recipe) (start r r' : List ℕ) (f p q : PassShown) (more : List Event) (es : List Element)
+pub serves_more : (behaviour : Behaviour) (start r r' : List ℕ) (f p q : PassShown) (more : List Event) (es : List Done)
     → q.number ≡ p.number → IsPrefix p.seen q.seen → q.mine ≡ p.mine ++ more
-    → filter_map (taken_by (gained f.mine p.mine ++ more) q.seen) more ≡ es
+    → filter_map (done_by (gained f.mine p.mine ++ more) q.seen) more ≡ es
     → ((c u : ℕ) (outs : List Element) → In (Commit c u outs) more → (x : Element) × (taken_by (gained f.mine p.mine ++ more) q.seen (Commit c u outs) ≡ Some x))
-    → fold_from recipe (Some r) es ≡ Some r'
+    → Folds behaviour r es r'
     → AreFresh p.mine more
-    → Serves recipe start r f p → Serves recipe start r' f q
-serves_more recipe start r r' f p q more es number seen adds took all folds fresh_more s =
+    → Serves behaviour start r f p → Serves behaviour start r' f q
+serves_more behaviour start r r' f p q more es number seen adds took all folds fresh_more s =
     let g : List Event = gained f.mine p.mine in
     let now : gained f.mine q.mine ≡ g ++ more = ap (gained f.mine) adds ∙ gained_more f.mine p.mine more s.mine in
-    let same : filter_map (taken_by (g ++ more) q.seen) g ≡ taken g p.seen =
-    subst (λ (h : List Event). filter_map (taken_by (g ++ more) h) g ≡ taken g p.seen) seen.1 (all_kept g more p.seen seen.0 g s.claimed) in
-    let total : taken (g ++ more) q.seen ≡ taken g p.seen ++ es =
-    filter_map-append (taken_by (g ++ more) q.seen) g more ∙ (ap (λ (xs : List Element). xs ++ filter_map (taken_by (g ++ more) q.seen) more) same ∙ ap (λ (xs : List Element). taken g p.seen ++ xs) took) in
-    let folded : fold_of recipe start (taken (g ++ more) q.seen) ≡ Some r' =
-    ap (fold_of recipe start) total ∙ (fold_from-append recipe (Some start) (taken g p.seen) es ∙ (ap (λ (o : Option (List ℕ)). fold_from recipe o es) s.folded ∙ folds)) in
+    let same : filter_map (done_by (g ++ more) q.seen) g ≡ done g p.seen =
+    subst (λ (h : List Event). filter_map (done_by (g ++ more) h) g ≡ done g p.seen) seen.1 (all_kept g more p.seen seen.0 g s.claimed) in
+    let total : done (g ++ more) q.seen ≡ done g p.seen ++ es =
+    filter_map-append (done_by (g ++ more) q.seen) g more ∙ (ap (λ (xs : List Done). xs ++ filter_map (done_by (g ++ more) q.seen) more) same ∙ ap (λ (xs : List Done). done g p.seen ++ xs) took) in
+    let folded : Folds behaviour start (done (g ++ more) q.seen) r' =
+    subst (λ (ds : List Done). Folds behaviour start ds r') (sym total) (folds-append behaviour start r r' (done g p.seen) es s.folded folds) in
     let claimed : AreTaken (g ++ more) q.seen = λ c u outs at.
     ⊎_elim (λ before. let one = s.claimed c u outs before in
     (one.0, subst (λ (h : List Event). taken_by (g ++ more) h (Commit c u outs) ≡ Some one.0) seen.1 (kept g more p.seen seen.0 (Commit c u outs) one.0 one.1)))
@@ -100,7 +103,7 @@ serves_more recipe start r r' f p q more es number seen adds took all folds fres
       mine = subst (IsPrefix f.mine) (sym adds) (begun_more f.mine p.mine more s.mine);
       claimed = subst (λ (l : List Event). AreTaken l q.seen) (sym now) claimed;
       fresh = subst (AreFresh f.mine) (sym now) fresh;
-      folded = subst (λ (l : List Event). fold_of recipe start (taken l q.seen) ≡ Some r') (sym now) folded;
+      folded = subst (λ (l : List Event). Folds behaviour start (done l q.seen) r') (sym now) folded;
     }
 
 -- a unit that ended has ended in a longer history
@@ -142,25 +145,25 @@ taken_later g more h fresh c u outs x is =
     let both : claim_of (g ++ more) u ≡ Some t = first-append (claim_by u) g more ∙ rw (none) claimed in
     rw (both) found)
 
-all_later : (g more h es : List Event) → AreFresh g more → ((c u : ℕ) (outs : List Element) → In (Commit c u outs) es → (x : Element) × (taken_by more h (Commit c u outs) ≡ Some x)) → filter_map (taken_by (g ++ more) h) es ≡ filter_map (taken_by more h) es
+all_later : (g more h es : List Event) → AreFresh g more → ((c u : ℕ) (outs : List Element) → In (Commit c u outs) es → (x : Element) × (taken_by more h (Commit c u outs) ≡ Some x)) → filter_map (done_by (g ++ more) h) es ≡ filter_map (done_by more h) es
 all_later g more h [] fresh all = refl
 all_later g more h (Enqueue c y ∷ es) fresh all = all_later g more h es fresh (λ c u outs p. all c u outs (there p))
 all_later g more h (Claim c u i n ∷ es) fresh all = all_later g more h es fresh (λ c u outs p. all c u outs (there p))
 all_later g more h (Commit c u outs ∷ es) fresh all =
     let one = all c u outs here in
     let after : taken_by (g ++ more) h (Commit c u outs) ≡ Some one.0 = taken_later g more h fresh c u outs one.0 one.1 in
-    rw (after, one.1) (ap (λ (xs : List Element). one.0 ∷ xs) (all_later g more h es fresh (λ c u outs p. all c u outs (there p))))
+    same_work outs _ _ (after ∙ sym one.1) _ _ (all_later g more h es fresh (λ c u outs p. all c u outs (there p)))
 all_later g more h (Abort c u ∷ es) fresh all = all_later g more h es fresh (λ c u outs p. all c u outs (there p))
 all_later g more h (Kill c i ∷ es) fresh all = all_later g more h es fresh (λ c u outs p. all c u outs (there p))
 all_later g more h (Requeue c i k ∷ es) fresh all = all_later g more h es fresh (λ c u outs p. all c u outs (there p))
 
 -- what was served goes on from what was served before
-pub serves_then : (recipe : Recipe) (start r r' : List ℕ) (f p q : PassShown) → Serves recipe start r f p → Serves recipe r r' p q → Serves recipe start r' f q
-serves_then recipe start r r' f p q a b =
+pub serves_then : (behaviour : Behaviour) (start r r' : List ℕ) (f p q : PassShown) → Serves behaviour start r f p → Serves behaviour r r' p q → Serves behaviour start r' f q
+serves_then behaviour start r r' f p q a b =
     let g : List Event = gained f.mine p.mine in
     let more : List Event = gained p.mine q.mine in
     let fresh : AreFresh g more = λ u t claimed. fresh_gained f.mine p.mine u a.mine (b.fresh u t claimed) in
-    serves_more recipe start r r' f p q more (taken more q.seen) b.number b.seen (whole p.mine q.mine b.mine) (all_later g more q.seen more fresh b.claimed)
+    serves_more behaviour start r r' f p q more (done more q.seen) b.number b.seen (whole p.mine q.mine b.mine) (all_later g more q.seen more fresh b.claimed)
     (λ c u outs at. let one = b.claimed c u outs at in (one.0, taken_later g more q.seen fresh c u outs one.0 one.1)) b.folded b.fresh a
 
 -- and the units of both have ended
@@ -175,11 +178,11 @@ ended_then f p q first mine seen a b =
     (option_or-some (claim_of g u) (claim_of more u) t (sym (first-append (claim_by u) g more) ∙ claimed)))
 
 -- what a desk leaves goes on from what another left before
-pub leaves_then : (recipe : Recipe) (start r r' : List ℕ) (f p q : PassShown) → Serves recipe start r f p
-    → AreEnded None (gained f.mine p.mine) p.seen → Leaves recipe r r' p q → Leaves recipe start r' f q
-leaves_then recipe start r r' f p q serves ended b = record {
+pub leaves_then : (behaviour : Behaviour) (start r r' : List ℕ) (f p q : PassShown) → Serves behaviour start r f p
+    → AreEnded None (gained f.mine p.mine) p.seen → Leaves behaviour r r' p q → Leaves behaviour start r' f q
+leaves_then behaviour start r r' f p q serves ended b = record {
   shows = b.shows;
-  serves = serves_then recipe start r r' f p q serves b.serves;
+  serves = serves_then behaviour start r r' f p q serves b.serves;
   ended = ended_then f p q serves.mine b.serves.mine b.serves.seen ended b.ended;
 }
 
@@ -196,14 +199,14 @@ append_none (x ∷ l) = ap (λ (m : List Event). x ∷ m) (append_none l)
 none_is : (u : ℕ) (t : UnitClaim) → claim_of [] u ≡ Some t → ⊥
 none_is u t e = cc
 
-pub serves_none : (recipe : Recipe) (start : List ℕ) (p : PassShown) → Serves recipe start start p p
-serves_none recipe start p = record {
+pub serves_none : (behaviour : Behaviour) (start : List ℕ) (p : PassShown) → Serves behaviour start start p p
+serves_none behaviour start p = record {
   number = refl;
   seen = ([], append_none p.seen);
   mine = ([], append_none p.mine);
   claimed = subst (λ (l : List Event). AreTaken l p.seen) (sym (gained_none p.mine)) (λ c u outs at. absurd (in_none at));
   fresh = subst (AreFresh p.mine) (sym (gained_none p.mine)) (λ u t claimed. absurd (none_is u t claimed));
-  folded = subst (λ (l : List Event). fold_of recipe start (taken l p.seen) ≡ Some start) (sym (gained_none p.mine)) refl;
+  folded = subst (λ (l : List Event). Folds behaviour start (done l p.seen) start) (sym (gained_none p.mine)) refl;
 }
 
 pub ended_none : (p : PassShown) → AreEnded None (gained p.mine p.mine) p.seen

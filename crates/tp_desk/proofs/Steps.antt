@@ -3,12 +3,12 @@ use Rattle.std.proofs.Common.{ℕ, List, refl}
 use Rattle.tp_model.specs.declared.types.Outcome.{Outcome}
 use Rattle.tp_model.specs.declared.types.Outcome.TheVariants as outcomes
 use Rattle.tp_model.specs.declared.types.Work.{Work}
-use Rattle.tp_server.specs.declared.recipe.Recipe.{Recipe}
+use Rattle.tp_server.specs.Behaviour.{Behaviour}
 use Rattle.tp_desk.specs.Turns.{Finishes, WorksOff, settled}
 use Rattle.tp_manager.specs.Shown.{PassShown}
 
 -- work whose commit had this answer came to what the turn answers
-pub works_off : (recipe : Recipe) (registers : List ℕ) (work : Work) (p q : PassShown) (outcome : Outcome) → Finishes recipe registers work p q outcome → WorksOff recipe registers work p q (settled work outcome)
-works_off recipe registers work p q (outcomes.Committed first count) h = (refl, refl, h)
-works_off recipe registers work p q outcomes.Lost h = (refl, h)
-works_off recipe registers work p q outcomes.Full h = (refl, h)
+pub works_off : (behaviour : Behaviour) (registers : List ℕ) (work : Work) (p q : PassShown) (outcome : Outcome) → Finishes behaviour registers work p q outcome → WorksOff behaviour registers work p q (settled work outcome)
+works_off behaviour registers work p q (outcomes.Committed first count) h = (refl, refl, h)
+works_off behaviour registers work p q outcomes.Lost h = (refl, h)
+works_off behaviour registers work p q outcomes.Full h = (refl, h)

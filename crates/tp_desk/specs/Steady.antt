@@ -1,19 +1,19 @@
 -- What holds of a desk between its calls, and what no call changes. The first three arguments say of a box what its server
--- shows: its recipe, the registers of its committed work, and its prepared work.
+-- shows: its behaviour, the registers of its committed work, and its prepared work.
 use Rattle.std.specs.Prelude.{◌≡◌, ℕ, List, Option}
 use Rattle.std.specs.declared.alloc.Global.{Global}
 use Rattle.std.specs.declared.dyn_box.DynBox.{DynBox}
-use Rattle.tp_server.specs.declared.recipe.Recipe.{Recipe}
+use Rattle.tp_server.specs.Behaviour.{Behaviour}
 use Rattle.tp_server.specs.Pending.{Pending}
 use Rattle.tp_desk.specs.declared.desk.Desk.{Desk}
 use Rattle.tp_desk.specs.InHand.{IsSteady}
 
 module _ {X : Type 0} {F : X → Type 0} where
   -- the desk is steady
-  abbrev pub SteadyDesk : (DynBox X Global F → Recipe) → (DynBox X Global F → List ℕ)
+  abbrev pub SteadyDesk : (DynBox X Global F → Behaviour) → (DynBox X Global F → List ℕ)
       → (DynBox X Global F → Option Pending) → Desk X F → Type 0
-  SteadyDesk recipe registers pending d =
-      IsSteady (recipe d.server.now) (registers d.server.now) (pending d.server.now) (registers d.first_server.value)
+  SteadyDesk behaviour registers pending d =
+      IsSteady (behaviour d.server.now) (registers d.server.now) (pending d.server.now) (registers d.first_server.value)
       d.first_pass.value d.pass.now d.work d.drafts.items
 
   -- What a boxed server shows. In crates above, where a desk's fields can't be seen, its members are told of a pair.

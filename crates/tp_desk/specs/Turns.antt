@@ -1,8 +1,7 @@
 -- What the calls of a desk answer and add, by what the manager's calls do. In each definition `old` is what
 -- the pass shows before the call, and `new` what it shows after it.
-use Rattle.std.specs.Prelude.{◌≡◌, ℕ, ◌+◌, ◌*◌, List, Option, Some, None, Ok, Err}
+use Rattle.std.specs.Prelude.{◌≡◌, ℕ, ◌+◌, List, Option, Some, None, Err}
 use Rattle.tp_model.specs.Drafts.{DraftView}
-use Rattle.tp_model.specs.Steps.{rows_of}
 use Rattle.tp_model.specs.declared.types.Claimed.TheVariants as claimeds
 use Rattle.tp_model.specs.declared.types.Ended.{Ended}
 use Rattle.tp_model.specs.declared.types.Limits.{Limits}
@@ -10,8 +9,7 @@ use Rattle.tp_model.specs.declared.types.Outcome.{Outcome}
 use Rattle.tp_model.specs.declared.types.Outcome.TheVariants as outcomes
 use Rattle.tp_model.specs.declared.types.Work.{Work}
 use Rattle.tp_server.specs.declared.recipe.Declined.{Declined}
-use Rattle.tp_server.specs.declared.recipe.Recipe.{Recipe}
-use Rattle.tp_server.specs.Effect.{drafts_after, effect_of}
+use Rattle.tp_server.specs.Behaviour.{Allows, Behaviour, Makes}
 use Rattle.tp_server.specs.Pending.{Pending, registers_of}
 use Rattle.tp_manager.specs.Bounds.{claim_steps, commit_steps}
 use Rattle.tp_manager.specs.Calls.{Claims, Ends, Settles, Takes}
@@ -20,16 +18,17 @@ use Rattle.tp_desk.specs.declared.turned.Turned.{Turned}
 use Rattle.tp_desk.specs.declared.turned.Turned.TheVariants as turneds
 
 -- the work was committed with the drafts of its effect, and this is the answer
-abbrev pub Finishes : Recipe → List ℕ → Work → PassShown → PassShown → Outcome → Type 0
-Finishes recipe registers work old new outcome = (drafts : List DraftView) × (drafts_after (effect_of recipe registers work.element) ≡ Ok drafts) × Settles drafts old new outcome
+abbrev pub Finishes : Behaviour → List ℕ → Work → PassShown → PassShown → Outcome → Type 0
+Finishes behaviour registers work old new outcome =
+    (drafts : List DraftView) × Makes behaviour registers work.element drafts × Settles drafts old new outcome
 
 -- the unit was given up, by an abort that answered one thing or the other
 abbrev pub GivesUp : PassShown → PassShown → Type 0
 GivesUp old new = (ended : Ended) × Ends old new ended
 
--- the recipe declines the work, and the unit was given up
-abbrev pub Declines : Recipe → List ℕ → Work → Declined → PassShown → PassShown → Type 0
-Declines recipe registers work why old new = (effect_of recipe registers work.element ≡ Err why) × GivesUp old new
+-- the server declines the work, and the unit was given up
+abbrev pub Declines : Behaviour → List ℕ → Work → Declined → PassShown → PassShown → Type 0
+Declines behaviour registers work why old new = Allows behaviour registers work.element (Err why) × GivesUp old new
 
 -- the answer of a turn whose commit had this answer
 abbrev pub settled : Work → Outcome → Turned
@@ -38,30 +37,38 @@ settled work outcomes.Lost = turneds.Lost work.element.id
 settled work outcomes.Full = turneds.Full work.element.id
 
 -- what becomes of work that was claimed
-abbrev pub WorksOff : Recipe → List ℕ → Work → PassShown → PassShown → Turned → Type 0
-WorksOff recipe registers work old new turneds.Idle = ⊥
-WorksOff recipe registers work old new turneds.NoUnit = ⊥
-WorksOff recipe registers work old new (turneds.Done unit element first count) = (unit ≡ work.unit) × (element ≡ work.element.id) × Finishes recipe registers work old new (outcomes.Committed first count)
-WorksOff recipe registers work old new (turneds.Refused element why) = (element ≡ work.element.id) × Declines recipe registers work why old new
-WorksOff recipe registers work old new (turneds.Lost element) = (element ≡ work.element.id) × Finishes recipe registers work old new outcomes.Lost
-WorksOff recipe registers work old new (turneds.Full element) = (element ≡ work.element.id) × Finishes recipe registers work old new outcomes.Full
+abbrev pub WorksOff : Behaviour → List ℕ → Work → PassShown → PassShown → Turned → Type 0
+WorksOff behaviour registers work old new turneds.Idle = ⊥
+WorksOff behaviour registers work old new turneds.NoUnit = ⊥
+WorksOff behaviour registers work old new (turneds.Done unit element first count) =
+    (unit ≡ work.unit) × (element ≡ work.element.id)
+    × Finishes behaviour registers work old new (outcomes.Committed first count)
+WorksOff behaviour registers work old new (turneds.Refused element why) =
+    (element ≡ work.element.id) × Declines behaviour registers work why old new
+WorksOff behaviour registers work old new (turneds.Lost element) =
+    (element ≡ work.element.id) × Finishes behaviour registers work old new outcomes.Lost
+WorksOff behaviour registers work old new (turneds.Full element) =
+    (element ≡ work.element.id) × Finishes behaviour registers work old new outcomes.Full
 
 -- an element was claimed, and this became of it
-pub record Works (l : Limits) (recipe : Recipe) (registers : List ℕ) (old new : PassShown) (turned : Turned) : Type 0 where
+pub record Works (l : Limits) (behaviour : Behaviour) (registers : List ℕ) (old new : PassShown) (turned : Turned)
+    : Type 0 where
   pub work : Work
   pub between : PassShown
-  pub takes : Takes l recipe.stage work old between
-  pub off : WorksOff recipe registers work between new turned
+  pub takes : Takes l behaviour.stage work old between
+  pub off : WorksOff behaviour registers work between new turned
 
 -- a turn answers and adds as one claim, and where that took work, as one commit, or one abort where the
--- recipe declines it
-abbrev pub Turns : Limits → Recipe → List ℕ → PassShown → PassShown → Turned → Type 0
-Turns l recipe registers old new turneds.Idle = Claims l recipe.stage old new claimeds.Idle
-Turns l recipe registers old new turneds.NoUnit = Claims l recipe.stage old new claimeds.NoUnit
-Turns l recipe registers old new (turneds.Done unit element first count) = Works l recipe registers old new (turneds.Done unit element first count)
-Turns l recipe registers old new (turneds.Refused element why) = Works l recipe registers old new (turneds.Refused element why)
-Turns l recipe registers old new (turneds.Lost element) = Works l recipe registers old new (turneds.Lost element)
-Turns l recipe registers old new (turneds.Full element) = Works l recipe registers old new (turneds.Full element)
+-- server declines it
+abbrev pub Turns : Limits → Behaviour → List ℕ → PassShown → PassShown → Turned → Type 0
+Turns l behaviour registers old new turneds.Idle = Claims l behaviour.stage old new claimeds.Idle
+Turns l behaviour registers old new turneds.NoUnit = Claims l behaviour.stage old new claimeds.NoUnit
+Turns l behaviour registers old new (turneds.Done unit element first count) =
+    Works l behaviour registers old new (turneds.Done unit element first count)
+Turns l behaviour registers old new (turneds.Refused element why) =
+    Works l behaviour registers old new (turneds.Refused element why)
+Turns l behaviour registers old new (turneds.Lost element) = Works l behaviour registers old new (turneds.Lost element)
+Turns l behaviour registers old new (turneds.Full element) = Works l behaviour registers old new (turneds.Full element)
 
 -- how many atomic steps a turn makes at most: those of a claim, and of a commit of four drafts
 abbrev pub turn_steps : Limits → ℕ

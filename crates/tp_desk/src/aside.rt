@@ -27,7 +27,7 @@ impl Aside {
         ensures work { result.work ≡ None }
         ensures first_pass { result.first_pass.value ≡ pass.now }
         ensures first_server { result.first_server.value ≡ server.now }
-        ensures steady { SteadyAside recipe registers pending result pass.now server.now }
+        ensures steady { SteadyAside behaviour registers pending result pass.now server.now }
     {
         let first_pass = Remembered::of(pass);
         let first_server = Remembered::of(server);

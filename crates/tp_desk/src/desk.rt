@@ -13,7 +13,7 @@ use arrayvec::ArrayVec;
 use tp_manager::{Manager, Pass};
 use tp_model::remembered::Remembered;
 use tp_model::types::{Draft, Work};
-use tp_server::{Recipe, Server};
+use tp_server::Server;
 
 /// Where a pass and a boxed server are at work, for as long as it borrows them.
 pub struct Desk<'m, 'p, 's> {
@@ -49,11 +49,11 @@ impl Desk<'_, '_, '_> {
         self.server.is_prepared()
     }
 
-    /// What the server does with an element.
-    pub fn recipe(&self) -> &Recipe
-        ensures { result.now ≡ recipe self.now.server.now }
+    /// The stage whose elements the server takes, 1 to 14.
+    pub fn stage(&self) -> u8
+        ensures { result ≡ (behaviour self.now.server.now).stage }
     {
-        self.server.recipe()
+        self.server.stage()
     }
 
     /// The server's register of committed work with this number, counted from 0, or `None` past the last one. Prepared
@@ -77,8 +77,8 @@ impl Desk<'_, '_, '_> {
         ensures work { result.work ≡ self.entry.work }
         ensures drafts { result.drafts.items ≡ self.entry.drafts.items }
         ensures same_first { (result.first_pass ≡ self.entry.first_pass) × (result.first_server ≡ self.entry.first_server) }
-        ensures steady { SteadyDesk recipe registers pending self.entry
-            → SteadyAside recipe registers pending result self.exit.1.0.now self.exit.1.1.0.now }
+        ensures steady { SteadyDesk behaviour registers pending self.entry
+            → SteadyAside behaviour registers pending result self.exit.1.0.now self.exit.1.1.0.now }
     {
         let Desk {
             manager: _,
@@ -105,12 +105,12 @@ impl Drop for Desk<'_, '_, '_> {
         ensures free { self.exit.1.0.now.open_unit ≡ None }
         ensures clear { pending self.exit.1.1.0.now ≡ None }
         ensures own { IsOf self.entry.manager.now self.exit.1.0.now }
-        ensures recipe { recipe self.exit.1.1.0.now ≡ recipe self.entry.server.now }
+        ensures behaviour { behaviour self.exit.1.1.0.now ≡ behaviour self.entry.server.now }
         ensures registers { registers self.exit.1.1.0.now ≡ registers self.entry.server.now }
         ensures adds { EndsOpen self.entry.pass.now.open_unit self.entry.pass.now self.exit.1.0.now }
         ensures follows { IfSome self.entry.pass.now.open_unit (λ _. Follows abort_steps self.entry.pass.now self.exit.1.0.now) }
-        ensures leaves { SteadyDesk recipe registers pending self.entry
-            → Leaves (recipe self.exit.1.1.0.now) (registers self.entry.first_server.value)
+        ensures leaves { SteadyDesk behaviour registers pending self.entry
+            → Leaves (behaviour self.exit.1.1.0.now) (registers self.entry.first_server.value)
             (registers self.exit.1.1.0.now) self.entry.first_pass.value self.exit.1.0.now }
     {
         let Desk {

@@ -6,6 +6,7 @@ mod aside;
 mod boxed;
 mod closing;
 mod desk;
+pub mod laws;
 mod turned;
 mod turning;
 mod working;

@@ -18,7 +18,7 @@ pub enum Turned {
         first: u32,
         count: u8,
     },
-    /// The recipe declined the element, and its unit was aborted.
+    /// The server declined the element, and its unit was aborted.
     Refused {
         element: u32,
         why: Declined,

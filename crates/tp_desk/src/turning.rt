@@ -12,18 +12,18 @@ use tp_model::types::{Claimed, Work};
 
 impl Desk<'_, '_, '_> {
     /// Takes an element in hand, does its work and commits it: one claim, and where it took an element, one commit, or
-    /// one abort where the recipe declines it.
+    /// one abort where the server declines it.
     pub fn turn(&mut self) -> Turned
-        requires steady { SteadyDesk recipe registers pending self.old }
+        requires steady { SteadyDesk behaviour registers pending self.old }
         requires free { self.old.work ≡ None }
         ensures same { IsSameDesk self.old self.new }
-        ensures recipe { recipe self.new.server.now ≡ recipe self.old.server.now }
+        ensures behaviour { behaviour self.new.server.now ≡ behaviour self.old.server.now }
         ensures free { self.new.work ≡ None }
         ensures limits { AreLimits self.old.manager.now.limits }
         ensures follows { Follows (turn_steps self.old.manager.now.limits) self.old.pass.now self.new.pass.now }
-        ensures answer { Turns self.old.manager.now.limits (recipe self.old.server.now) (registers self.old.server.now)
+        ensures answer { Turns self.old.manager.now.limits (behaviour self.old.server.now) (registers self.old.server.now)
             self.old.pass.now self.new.pass.now result }
-        ensures steady { SteadyDesk recipe registers pending self.new }
+        ensures steady { SteadyDesk behaviour registers pending self.new }
     {
         match self.claim() {
             Claimed::Idle => Turned::Idle,
@@ -34,16 +34,16 @@ impl Desk<'_, '_, '_> {
 
     /// Does the work in hand and commits it.
     fn work_off(&mut self, work: Work) -> Turned
-        requires steady { SteadyDesk recipe registers pending self.old }
+        requires steady { SteadyDesk behaviour registers pending self.old }
         requires taken { self.old.work ≡ Some work }
         requires unprepared { pending self.old.server.now ≡ None }
         ensures same { IsSameDesk self.old self.new }
-        ensures recipe { recipe self.new.server.now ≡ recipe self.old.server.now }
+        ensures behaviour { behaviour self.new.server.now ≡ behaviour self.old.server.now }
         ensures free { self.new.work ≡ None }
         ensures follows { Follows (commit_steps self.old.manager.now.limits 4) self.old.pass.now self.new.pass.now }
-        ensures answer { WorksOff (recipe self.old.server.now) (registers self.old.server.now) work
+        ensures answer { WorksOff (behaviour self.old.server.now) (registers self.old.server.now) work
             self.old.pass.now self.new.pass.now result }
-        ensures steady { SteadyDesk recipe registers pending self.new }
+        ensures steady { SteadyDesk behaviour registers pending self.new }
     {
         match self.prepare() {
             Err(why) => Turned::Refused {

@@ -3,8 +3,7 @@ ghost use Rattle.std.specs.Prelude.{◌≡◌, None, Some, IsSome, IfErr, IfSome
 ghost use Rattle.tp_model.specs.Steps.{AreLimits};
 ghost use Rattle.tp_manager.specs.Shown.{IsOf};
 ghost use Rattle.tp_manager.specs.Calls.{Claims, Ends, Follows};
-ghost use Rattle.tp_server.specs.Effect.{effect_of};
-ghost use Rattle.tp_server.specs.Pending.{pending_after};
+ghost use Rattle.tp_server.specs.Behaviour.{IsMade};
 ghost use Rattle.tp_desk.specs.InHand.{work_of};
 ghost use Rattle.tp_desk.specs.Serving.{Leaves};
 ghost use Rattle.tp_desk.specs.Aside.{SteadyAside};
@@ -37,7 +36,7 @@ impl<'m, 'p, 's> Desk<'m, 'p, 's> {
         ensures first_pass { result.first_pass.value ≡ pass.old }
         ensures first_server { result.first_server.value ≡ server.old }
         ensures free { result.work ≡ None }
-        ensures steady { SteadyDesk recipe registers pending result }
+        ensures steady { SteadyDesk behaviour registers pending result }
     {
         let nothing = Aside::nothing(pass, server);
         Desk::resume(manager, pass, server, nothing)
@@ -51,7 +50,7 @@ impl<'m, 'p, 's> Desk<'m, 'p, 's> {
         aside: Aside,
     ) -> Desk<'m, 'p, 's>
         requires own { IsOf manager.now pass.old }
-        requires steady { SteadyAside recipe registers pending aside pass.old server.old }
+        requires steady { SteadyAside behaviour registers pending aside pass.old server.old }
         ensures manager { result.manager.now ≡ manager.now }
         ensures same_pass { result.pass.ghost_name ≡ pass.entry.ghost_name }
         ensures same_server { result.server.ghost_name ≡ server.entry.ghost_name }
@@ -60,7 +59,7 @@ impl<'m, 'p, 's> Desk<'m, 'p, 's> {
         ensures work { result.work ≡ aside.work }
         ensures drafts { result.drafts.items ≡ aside.drafts.items }
         ensures same_first { (result.first_pass ≡ aside.first_pass) × (result.first_server ≡ aside.first_server) }
-        ensures steady { SteadyDesk recipe registers pending result }
+        ensures steady { SteadyDesk behaviour registers pending result }
     {
         Desk {
             manager,
@@ -73,17 +72,17 @@ impl<'m, 'p, 's> Desk<'m, 'p, 's> {
         }
     }
 
-    /// Takes an element that waits in the recipe's stage in hand. Nothing is in hand yet.
+    /// Takes an element that waits in the server's stage in hand. Nothing is in hand yet.
     pub fn claim(&mut self) -> Claimed
-        requires steady { SteadyDesk recipe registers pending self.old }
+        requires steady { SteadyDesk behaviour registers pending self.old }
         requires free { self.old.work ≡ None }
         ensures same { IsSameDesk self.old self.new }
         ensures server { self.new.server.now ≡ self.old.server.now }
         ensures limits { AreLimits self.old.manager.now.limits }
         ensures follows { Follows (claim_steps self.old.manager.now.limits) self.old.pass.now self.new.pass.now }
-        ensures answer { Claims self.old.manager.now.limits (recipe self.old.server.now).stage self.old.pass.now self.new.pass.now result }
+        ensures answer { Claims self.old.manager.now.limits (behaviour self.old.server.now).stage self.old.pass.now self.new.pass.now result }
         ensures work { self.new.work ≡ work_of result }
-        ensures steady { SteadyDesk recipe registers pending self.new }
+        ensures steady { SteadyDesk behaviour registers pending self.new }
     {
         let stage = self.server.stage();
         let answer = self.manager.claim(self.pass, stage);
@@ -91,25 +90,25 @@ impl<'m, 'p, 's> Desk<'m, 'p, 's> {
         answer
     }
 
-    /// Has the server prepare the element in hand. Where its recipe declines the element, the unit of work is
+    /// Has the server prepare the element in hand. Where it declines the element, the unit of work is
     /// aborted and nothing is in hand any more.
     pub fn prepare(&mut self) -> Result<(), Declined>
-        requires steady { SteadyDesk recipe registers pending self.old }
+        requires steady { SteadyDesk behaviour registers pending self.old }
         requires busy { IsSome self.old.work }
         requires unprepared { pending self.old.server.now ≡ None }
         ensures same { IsSameDesk self.old self.new }
-        ensures recipe { recipe self.new.server.now ≡ recipe self.old.server.now }
+        ensures behaviour { behaviour self.new.server.now ≡ behaviour self.old.server.now }
         ensures registers { registers self.new.server.now ≡ registers self.old.server.now }
-        ensures pending { IfSome self.old.work (λ work. pending self.new.server.now ≡ pending_after work.element
-            (effect_of (recipe self.old.server.now) (registers self.old.server.now) work.element)) }
+        ensures made { OnOk result (IfSome self.old.work (λ work. IsMade (behaviour self.old.server.now)
+            (registers self.old.server.now) work.element (pending self.new.server.now) self.new.drafts.items)) }
         ensures ready { OnOk result ((self.new.pass.now ≡ self.old.pass.now) × (self.new.work ≡ self.old.work)
             × IsSome (pending self.new.server.now)) }
         ensures free { OnErr result (self.new.work ≡ None) }
         ensures clear { OnErr result (pending self.new.server.now ≡ None) }
         ensures follows { OnErr result (Follows abort_steps self.old.pass.now self.new.pass.now) }
         ensures answer { IfErr result (λ why. IfSome self.old.work (λ work.
-            Declines (recipe self.old.server.now) (registers self.old.server.now) work why self.old.pass.now self.new.pass.now)) }
-        ensures steady { SteadyDesk recipe registers pending self.new }
+            Declines (behaviour self.old.server.now) (registers self.old.server.now) work why self.old.pass.now self.new.pass.now)) }
+        ensures steady { SteadyDesk behaviour registers pending self.new }
     {
         let Some(work) = self.work else {
             unreachable!();
@@ -130,18 +129,18 @@ impl<'m, 'p, 's> Desk<'m, 'p, 's> {
     /// Commits the prepared work: the server keeps it exactly where the manager has committed its unit, and
     /// else calls it off. Nothing is in hand any more.
     pub fn commit(&mut self) -> Outcome
-        requires steady { SteadyDesk recipe registers pending self.old }
+        requires steady { SteadyDesk behaviour registers pending self.old }
         requires prepared { IsSome (pending self.old.server.now) }
         ensures same { IsSameDesk self.old self.new }
-        ensures recipe { recipe self.new.server.now ≡ recipe self.old.server.now }
+        ensures behaviour { behaviour self.new.server.now ≡ behaviour self.old.server.now }
         ensures registers { Some (registers self.new.server.now)
             ≡ registers_left result (registers self.old.server.now) (pending self.old.server.now) }
         ensures clear { pending self.new.server.now ≡ None }
         ensures free { self.new.work ≡ None }
         ensures follows { Follows (commit_steps self.old.manager.now.limits 4) self.old.pass.now self.new.pass.now }
         ensures answer { IfSome self.old.work (λ work.
-            Finishes (recipe self.old.server.now) (registers self.old.server.now) work self.old.pass.now self.new.pass.now result) }
-        ensures steady { SteadyDesk recipe registers pending self.new }
+            Finishes (behaviour self.old.server.now) (registers self.old.server.now) work self.old.pass.now self.new.pass.now result) }
+        ensures steady { SteadyDesk behaviour registers pending self.new }
     {
         let outcome = self.manager.commit(self.pass, self.drafts.as_slice());
         self.work = None;
@@ -151,16 +150,16 @@ impl<'m, 'p, 's> Desk<'m, 'p, 's> {
 
     /// Gives up the element in hand: prepared work is called off, and the unit of work is aborted.
     pub fn abort(&mut self) -> Ended
-        requires steady { SteadyDesk recipe registers pending self.old }
+        requires steady { SteadyDesk behaviour registers pending self.old }
         requires busy { IsSome self.old.work }
         ensures same { IsSameDesk self.old self.new }
-        ensures recipe { recipe self.new.server.now ≡ recipe self.old.server.now }
+        ensures behaviour { behaviour self.new.server.now ≡ behaviour self.old.server.now }
         ensures registers { registers self.new.server.now ≡ registers self.old.server.now }
         ensures clear { pending self.new.server.now ≡ None }
         ensures free { self.new.work ≡ None }
         ensures follows { Follows abort_steps self.old.pass.now self.new.pass.now }
         ensures answer { Ends self.old.pass.now self.new.pass.now result }
-        ensures steady { SteadyDesk recipe registers pending self.new }
+        ensures steady { SteadyDesk behaviour registers pending self.new }
     {
         boxed::clear(self.server);
         self.work = None;
@@ -173,12 +172,12 @@ impl<'m, 'p, 's> Desk<'m, 'p, 's> {
         ensures free { self.exit.1.0.now.open_unit ≡ None }
         ensures clear { pending self.exit.1.1.0.now ≡ None }
         ensures own { IsOf self.entry.manager.now self.exit.1.0.now }
-        ensures recipe { recipe self.exit.1.1.0.now ≡ recipe self.entry.server.now }
+        ensures behaviour { behaviour self.exit.1.1.0.now ≡ behaviour self.entry.server.now }
         ensures registers { registers self.exit.1.1.0.now ≡ registers self.entry.server.now }
         ensures adds { EndsOpen self.entry.pass.now.open_unit self.entry.pass.now self.exit.1.0.now }
         ensures follows { IfSome self.entry.pass.now.open_unit (λ _. Follows abort_steps self.entry.pass.now self.exit.1.0.now) }
-        ensures leaves { SteadyDesk recipe registers pending self.entry
-            → Leaves (recipe self.exit.1.1.0.now) (registers self.entry.first_server.value)
+        ensures leaves { SteadyDesk behaviour registers pending self.entry
+            → Leaves (behaviour self.exit.1.1.0.now) (registers self.entry.first_server.value)
             (registers self.exit.1.1.0.now) self.entry.first_pass.value self.exit.1.0.now }
     {
         drop(self);

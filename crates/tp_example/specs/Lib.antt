@@ -1,1 +1,3 @@
 pub mod Sales
+pub mod Shop
+pub mod Quotes

@@ -5,13 +5,16 @@
 ghost use Rattle.std.specs.Prelude.{◌≡◌, None};
 ghost use Rattle.tp_manager.specs.Shown.{IsOf};
 
+mod quotes;
 mod sales;
 mod stock;
 mod trouble;
 
+use quotes::{Prices, Quotes};
 use sales::sell;
 use std::process::ExitCode;
 use stock::Stock;
+use tp_desk::Desk;
 use tp_manager::{Keeper, Manager, Pass};
 use tp_model::types::Limits;
 use tp_server::Server;
@@ -53,14 +56,17 @@ fn orders(
     requires shop { IsOf manager.now shop.old }
     requires free { (client.old.open_unit ≡ None) × (shop.old.open_unit ≡ None) }
 {
-    // Which goods, how many, for which customer, on which day.
+    // Which goods, how many, for which customer, at which price.
     let first = manager.submit(client, 1, [0, 5, 71, 3])?;
     let second = manager.submit(client, 1, [0, 9, 72, 3])?;
     let third = manager.submit(client, 1, [0, 4, 73, 4])?;
+    let question = manager.submit(client, 3, [0, 0, 74, 0])?;
     open_shop(rt, manager, shop, 12)?;
+    give_quotes(rt, manager, shop)?;
     tell(rt, manager, client, first)?;
     tell(rt, manager, client, second)?;
     tell(rt, manager, client, third)?;
+    tell_price(rt, manager, client, question)?;
     if let Some(id) = manager.next_error(client, 0) {
         println!(rt; "order {id} is parked")?;
     }
@@ -77,6 +83,7 @@ fn open_shop(
     requires own { IsOf manager.now pass.old }
     requires free { pass.old.open_unit ≡ None }
     ensures own { IsOf manager.now pass.new }
+    ensures free { pass.new.open_unit ≡ None }
 {
     let mut stock: Box<dyn Server + Send> = Box::new(rt.alloc(), Stock::new(goods))?;
     let sales = sell(manager, pass, &mut stock, 8);
@@ -84,6 +91,32 @@ fn open_shop(
     if let Some(left) = stock.balance(0) {
         println!(rt; "{left} of {goods} in stock")?;
     }
+    if let Some(takings) = stock.balance(1) {
+        println!(rt; "{takings} in the till")?;
+    }
+    Ok(())
+}
+
+/// The prices of the day.
+#[derive(Debug, Drop)]
+struct PriceList;
+
+impl Prices for PriceList {
+    fn price(&self, goods: u64) -> Option<u64> {
+        if goods == 0 { Some(3) } else { None }
+    }
+}
+
+/// Answers one question for a price.
+fn give_quotes(rt: &HostRuntime, manager: &Manager, pass: &mut Pass) -> Result<(), Trouble>
+    requires own { IsOf manager.now pass.old }
+    requires free { pass.old.open_unit ≡ None }
+    ensures own { IsOf manager.now pass.new }
+{
+    let mut quotes: Box<dyn Server + Send> = Box::new(rt.alloc(), Quotes::new(PriceList))?;
+    let mut desk = Desk::new(manager, pass, &mut quotes);
+    let _ = desk.turn();
+    desk.end();
     Ok(())
 }
 
@@ -95,10 +128,30 @@ fn tell(rt: &HostRuntime, manager: &Manager, client: &mut Pass, order: u32) -> R
     match manager.reply(client, order, 0) {
         Some(id) => {
             let reply = manager.read(client, id)?;
-            let [_goods, left, customer, day] = reply.element.body;
-            println!(rt; "order {order} of customer {customer}, day {day}: {left} left")?;
+            let [_goods, left, customer, cost] = reply.element.body;
+            println!(rt; "order {order} of customer {customer}: {cost} to pay, {left} left")?;
         }
         None => println!(rt; "order {order}: no reply")?,
+    }
+    Ok(())
+}
+
+/// The price that was asked for.
+fn tell_price(
+    rt: &HostRuntime,
+    manager: &Manager,
+    client: &mut Pass,
+    question: u32,
+) -> Result<(), Trouble>
+    requires own { IsOf manager.now client.old }
+    ensures own { IsOf manager.now client.new }
+{
+    match manager.reply(client, question, 0) {
+        Some(id) => {
+            let reply = manager.read(client, id)?;
+            println!(rt; "question {question}: {} each", reply.element.body[1])?;
+        }
+        None => println!(rt; "question {question}: no reply")?,
     }
     Ok(())
 }

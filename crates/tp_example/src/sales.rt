@@ -2,15 +2,16 @@
 ghost use Rattle.std.specs.Prelude.{◌≡◌, None};
 ghost use Rattle.tp_model.specs.Counts.{taken};
 ghost use Rattle.tp_manager.specs.Shown.{IsOf};
-ghost use Rattle.tp_server.specs.declared.recipe.Act.TheVariants.{Take};
 ghost use Rattle.tp_desk.specs.Serving.{Leaves, gained};
-ghost use Rattle.tp_example.specs.Sales.{AddsUp};
+ghost use Rattle.tp_server.specs.Books.{Lowers, Raises};
+ghost use Rattle.tp_example.specs.Sales.{AddsUp, goods_in, money_in};
+ghost use Rattle.tp_example.specs.Shop.{cost, how_many, shop};
 
 use tp_desk::{Desk, Turned};
 use tp_manager::{Manager, Pass};
 use tp_server::Server;
 
-/// How many turns sold something, and how many found too little in stock.
+/// How many turns sold something, and how many declined an order.
 #[derive(Clone, Copy, Debug, PartialEq, Eq)]
 pub struct Sales {
     pub sold: u32,
@@ -28,14 +29,15 @@ pub fn sell(
     requires own { IsOf manager.now pass.old }
     requires free { pass.old.open_unit ≡ None }
     requires unprepared { pending stock.old ≡ None }
-    requires takes { (recipe stock.old).act ≡ Take }
+    requires is_shop { behaviour stock.old ≡ shop }
     ensures own { IsOf manager.now pass.new }
     ensures free { pass.new.open_unit ≡ None }
     ensures unprepared { pending stock.new ≡ None }
-    ensures recipe { recipe stock.new ≡ recipe stock.old }
-    ensures adds_up { AddsUp (recipe stock.new).word (registers stock.old) (registers stock.new)
+    ensures behaviour { behaviour stock.new ≡ behaviour stock.old }
+    ensures adds_up { AddsUp (registers stock.old) (registers stock.new)
         (taken (gained pass.old.mine pass.new.mine) pass.new.seen) }
 {
+    each_sale();
     work_off(manager, pass, stock, turns)
 }
 
@@ -52,8 +54,8 @@ fn work_off(
     ensures own { IsOf manager.now pass.new }
     ensures free { pass.new.open_unit ≡ None }
     ensures unprepared { pending stock.new ≡ None }
-    ensures recipe { recipe stock.new ≡ recipe stock.old }
-    ensures leaves { Leaves (recipe stock.new) (registers stock.old) (registers stock.new) pass.old pass.new }
+    ensures behaviour { behaviour stock.new ≡ behaviour stock.old }
+    ensures leaves { Leaves (behaviour stock.new) (registers stock.old) (registers stock.new) pass.old pass.new }
 {
     let mut sales = Sales { sold: 0, short: 0 };
     let mut desk = Desk::new(manager, pass, stock);
@@ -70,3 +72,9 @@ fn work_off(
     desk.end();
     sales
 }
+
+/// Each order that is sold takes from the stock what it asks for, and adds what it costs to the takings.
+fn each_sale()
+    ensures goods { Lowers shop goods_in how_many }
+    ensures money { Raises shop money_in cost }
+{}

@@ -1,76 +1,70 @@
-//! A server of one's own: a stock of goods, from which orders take.
-ghost use Rattle.std.specs.Prelude.{◌≡◌, ℕ, List, Option, [], ◌∷◌, Ok, Some, None};
-ghost use Rattle.std.specs.Option.{option_map};
-ghost use Rattle.tp_server.specs.Check.{check_of};
-ghost use Rattle.tp_server.specs.declared.recipe.Act.TheVariants.{Take};
-ghost use Rattle.tp_server.specs.declared.recipe.KeyFrom.TheVariants.{Same};
-ghost use Rattle.tp_server.specs.declared.recipe.AmountFrom.TheVariants.{After};
+//! A server of one's own: a stock of goods, from which orders take, and what was taken for them.
+ghost use Rattle.std.specs.Prelude.{◌≡◌, [], ◌∷◌, None};
+ghost use Rattle.tp_example.specs.Shop.{route, shop};
 
 use arrayvec::ArrayVec;
-use tp_model::types::{Draft, Element};
-use tp_server::{Act, AmountFrom, Declined, KeyFrom, Output, Recipe, Server};
+use tp_model::types::{Body, Draft, Element};
+use tp_server::{Declined, Server};
 
-/// Takes each order of stage 1 from the stock. An order for more than is left is declined.
+/// Sells each order of stage 1 from the stock. An order for nothing is declined for a reason of the shop's own, and one for
+/// more than is left as `Short`.
 ///
-/// The words of an order's body are which goods it asks for (0, there is one kind alone), how many, for which
-/// customer, and on which day. The reply has the same words, with what is left in place of how many.
+/// The words of an order's body are which goods it asks for, how many, for which customer, and at which price. The output
+/// has the goods and the customer, what is left in place of how many, and what they cost in place of the price. It goes to
+/// the packers of stage 2 where the order is for six or more, and else it is the reply.
 #[derive(Debug, Drop)]
 pub struct Stock {
-    recipe: Recipe,
     left: u64,
-    /// The order whose work is prepared, and what it will leave.
-    prepared: Option<(Element, u64)>,
-    ghost checked: { check_of recipe ≡ Ok tt },
-    ghost one: { recipe.registers ≡ 1 },
-    ghost takes: { recipe.act ≡ Take },
-    ghost how_many: { recipe.word ≡ 1 },
-    ghost replies: { recipe.outputs.items ≡ record { stage = 15; key = Same; amount = After } ∷ [] },
+    takings: u64,
+    /// The sale that is prepared.
+    prepared: Option<Sale>,
+}
+
+/// An order, what it leaves, and what was taken with it.
+#[derive(Clone, Copy, Debug)]
+struct Sale {
+    order: Element,
+    left: u64,
+    takings: u64,
 }
 
 impl Stock {
     pub fn new(left: u64) -> Stock
-        ensures takes { (⟦<Stock as Server>⟧.recipe result).act ≡ Take }
-        ensures registers { ⟦<Stock as Server>⟧.registers result ≡ left ∷ [] }
+        ensures behaviour { ⟦<Stock as Server>⟧.behaviour result ≡ shop }
+        ensures registers { ⟦<Stock as Server>⟧.registers result ≡ left ∷ 0 ∷ [] }
         ensures unprepared { ⟦<Stock as Server>⟧.pending result ≡ None }
     {
-        let mut outputs = ArrayVec::new();
-        outputs.push(Output {
-            stage: 15,
-            key: KeyFrom::Same,
-            amount: AmountFrom::After,
-        });
-        let recipe = Recipe {
-            stage: 1,
-            registers: 1,
-            act: Act::Take,
-            word: 1,
-            outputs,
-        };
         Stock {
-            recipe,
             left,
+            takings: 0,
             prepared: None,
         }
     }
 }
 
 impl Server for Stock {
-    ghost recipe = { λ s. s.recipe };
+    ghost use Rattle.std.specs.Option.{option_map};
 
-    ghost registers = { λ s. s.left ∷ [] };
+    ghost behaviour = { λ s. shop };
 
-    ghost pending = { λ s. option_map (λ p. record { prepared_for = p.0; registers = p.1 ∷ [] }) s.prepared };
+    ghost registers = { λ s. s.left ∷ s.takings ∷ [] };
+
+    ghost pending = { λ s. option_map (λ p. record { prepared_for = p.order; registers = p.left ∷ p.takings ∷ [] }) s.prepared };
 
     fn stage(&self) -> u8 {
-        self.recipe.stage
+        1
     }
 
-    fn recipe(&self) -> &Recipe {
-        &self.recipe
+    fn count(&self) -> u64 {
+        2
     }
 
     fn balance(&self, k: u64) -> Option<u64> {
-        if k == 0 { Some(self.left) } else { None }
+        match k {
+            0 => Some(self.left),
+            1 => Some(self.takings),
+            _ => None,
+        }
     }
 
     fn is_prepared(&self) -> bool {
@@ -78,31 +72,50 @@ impl Server for Stock {
     }
 
     fn prepare(&mut self, order: &Element) -> Result<ArrayVec<Draft, 4>, Declined> {
-        let [goods, how_many, customer, day] = order.body;
-        if goods != 0 {
-            return Err(Declined::NoRegister);
+        let [goods, how_many, customer, price] = order.body;
+        if how_many == 0 {
+            return Err(Declined::Own(1));
         }
         if how_many > self.left {
             return Err(Declined::Short);
         }
-        let after = self.left - how_many;
-        let mut replies = ArrayVec::new();
-        match Draft::new(15, [goods, after, customer, day]) {
-            Some(reply) => replies.push(reply),
-            None => unreachable!(),
-        }
-        self.prepared = Some((*order, after));
-        Ok(replies)
+        let Some(cost) = how_many.checked_mul(price) else {
+            return Err(Declined::TooLarge);
+        };
+        let Some(takings) = self.takings.checked_add(cost) else {
+            return Err(Declined::TooLarge);
+        };
+        let left = self.left - how_many;
+        let mut outputs = ArrayVec::new();
+        outputs.push(output(how_many, [goods, left, customer, cost]));
+        self.prepared = Some(Sale {
+            order: *order,
+            left,
+            takings,
+        });
+        Ok(outputs)
     }
 
     fn commit(&mut self) {
-        if let Some((_, after)) = self.prepared {
-            self.left = after;
+        if let Some(sale) = self.prepared {
+            self.left = sale.left;
+            self.takings = sale.takings;
         }
         self.prepared = None;
     }
 
     fn undo(&mut self) {
         self.prepared = None;
+    }
+}
+
+/// An output of an order for so many, to the packers or as the reply.
+fn output(how_many: u64, body: Body) -> Draft
+    ensures { result ≡ record { stage = route how_many; body = body } }
+{
+    let stage = if how_many >= 6 { 2 } else { 15 };
+    match Draft::new(stage, body) {
+        Some(draft) => draft,
+        None => unreachable!(),
     }
 }

@@ -4,7 +4,7 @@ use Rattle.std.specs.declared.alloc.Global.{Global}
 use Rattle.std.specs.declared.dyn_box.DynBox.{DynBox}
 use Rattle.std.proofs.lemmas.List.{length-take-le}
 use Rattle.std.proofs.lemmas.List.Elements.{All-cons, All-nil}
-use Rattle.tp_server.specs.declared.recipe.Recipe.{Recipe}
+use Rattle.tp_server.specs.Behaviour.{Behaviour}
 use Rattle.tp_server.specs.Pending.{Pending}
 use Rattle.tp_manager.specs.Accounts.{AreFrom}
 use Rattle.tp_manager.specs.Shown.{ManagerShown, PassShown}
@@ -16,34 +16,34 @@ use Rattle.tp_perform.specs.Reported.{Begins, IsNewPass, IsNewPlace, Performed, 
 use Rattle.tp_perform.specs.Told.{ArePasses, IsFirstScene, Scene, ToldAll}
 use Rattle.tp_commands.specs.Acting.{AllEnded}
 
-module _ {X : Type 0} {F : X → Type 0} (recipe : DynBox X Global F → Recipe) (registers : DynBox X Global F → List ℕ) (pending : DynBox X Global F → Option Pending) where
+module _ {X : Type 0} {F : X → Type 0} (behaviour : DynBox X Global F → Behaviour) (registers : DynBox X Global F → List ℕ) (pending : DynBox X Global F → Option Pending) where
   abbrev Box : Type 0
   Box = DynBox X Global F
 
-  new_passes : (ps : List PassShown) (ss : List Box) → length ps ≡ length ss → map (λ p. p.desk.pass) (new_places recipe registers pending ps ss) ≡ ps
+  new_passes : (ps : List PassShown) (ss : List Box) → length ps ≡ length ss → map (λ p. p.desk.pass) (new_places behaviour registers pending ps ss) ≡ ps
   new_passes [] [] long = refl
   new_passes [] (s ∷ ss) long = absurd (omega (arith, long))
   new_passes (p ∷ ps) [] long = absurd (omega (arith, long))
   new_passes (p ∷ ps) (s ∷ ss) long = ap (λ qs. p ∷ qs) (new_passes ps ss (omega (arith, long)))
 
-  new_length : (ps : List PassShown) (ss : List Box) → length ps ≡ length ss → length (new_places recipe registers pending ps ss) ≡ length ss
+  new_length : (ps : List PassShown) (ss : List Box) → length ps ≡ length ss → length (new_places behaviour registers pending ps ss) ≡ length ss
   new_length [] [] long = refl
   new_length [] (s ∷ ss) long = absurd (omega (arith, long))
   new_length (p ∷ ps) [] long = absurd (omega (arith, long))
   new_length (p ∷ ps) (s ∷ ss) long = ap suc (new_length ps ss (omega (arith, long)))
 
-  all_new : (ps : List PassShown) (ss : List Box) → All IsNewPlace (new_places recipe registers pending ps ss)
+  all_new : (ps : List PassShown) (ss : List Box) → All IsNewPlace (new_places behaviour registers pending ps ss)
   all_new [] [] = All-nil IsNewPlace
   all_new [] (s ∷ ss) = All-nil IsNewPlace
   all_new (p ∷ ps) [] = All-nil IsNewPlace
-  all_new (p ∷ ps) (s ∷ ss) = All-cons IsNewPlace (new_place recipe registers pending p s) (new_places recipe registers pending ps ss) (record { began = refl; work = refl; kept = refl }) (all_new ps ss)
+  all_new (p ∷ ps) (s ∷ ss) = All-cons IsNewPlace (new_place behaviour registers pending p s) (new_places behaviour registers pending ps ss) (record { began = refl; work = refl; kept = refl }) (all_new ps ss)
 
   -- the servers' passes are as many as the servers
   workers_length : (n : ℕ) (olds : List PassShown) → 1 + n ≤ length olds → length (workers n olds) ≡ n
   workers_length n [] few = absurd (omega (arith, few))
   workers_length n (p ∷ ps) few = length-take-le n ps (omega (arith, few))
 
-  pub begins_of : (s : ScriptView) (m : ManagerShown) (olds : List PassShown) (ss : List Box) (first : Scene) → IsFirstScene recipe registers pending olds ss first → length ss ≡ length s.servers
+  pub begins_of : (s : ScriptView) (m : ManagerShown) (olds : List PassShown) (ss : List Box) (first : Scene) → IsFirstScene behaviour registers pending olds ss first → length ss ≡ length s.servers
       → m.limits ≡ limits_of s → length olds ≡ passes s → AreFrom 0 olds → All (IsFreePass m) olds → All IsNewPass olds → Begins s m first
   begins_of s m olds ss first is all limits many numbered own new =
       let long = workers_length (length ss) olds (omega (arith, many, all)) in

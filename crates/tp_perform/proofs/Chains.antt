@@ -4,7 +4,7 @@ use Rattle.std.proofs.lemmas.Option.{slice_get-get_or}
 use Rattle.std.specs.declared.alloc.Global.{Global}
 use Rattle.std.specs.declared.dyn_box.DynBox.{DynBox}
 use Rattle.std.proofs.lemmas.List.Elements.{All-cons, All-nil}
-use Rattle.tp_server.specs.declared.recipe.Recipe.{Recipe}
+use Rattle.tp_server.specs.Behaviour.{Behaviour}
 use Rattle.tp_server.specs.Pending.{Pending}
 use Rattle.tp_desk.specs.declared.aside.Aside.{Aside}
 use Rattle.tp_manager.specs.Shown.{ManagerShown, PassShown}
@@ -54,34 +54,34 @@ module _ (m : ManagerShown) (s : ScriptView) (old : Scene) where
     })
 
 -- places that lie aside are steady
-module _ {X : Type 0} {F : X → Type 0} (recipe : DynBox X Global F → Recipe) (registers : DynBox X Global F → List ℕ) (pending : DynBox X Global F → Option Pending) where
+module _ {X : Type 0} {F : X → Type 0} (behaviour : DynBox X Global F → Behaviour) (registers : DynBox X Global F → List ℕ) (pending : DynBox X Global F → Option Pending) where
   abbrev Box : Type 0
   Box = DynBox X Global F
 
-  steady_at : (p : PassShown) (s : Box) (o : Place X F) → (a : Option (Aside X F)) → o.aside ≡ a → Lies recipe registers pending p s a → IsSteadyPlace (place_shown recipe registers pending p s o)
+  steady_at : (p : PassShown) (s : Box) (o : Place X F) → (a : Option (Aside X F)) → o.aside ≡ a → Lies behaviour registers pending p s a → IsSteadyPlace (place_shown behaviour registers pending p s o)
   steady_at p s o None is lies = absurd lies
   steady_at p s o (Some a) is lies = rw is (a.drafts.items, lies)
 
-  pub all_steady : (ps : List PassShown) (ss : List Box) (os : List (Place X F)) → AllLie recipe registers pending ps ss os → All IsSteadyPlace (places_shown recipe registers pending ps ss os)
+  pub all_steady : (ps : List PassShown) (ss : List Box) (os : List (Place X F)) → AllLie behaviour registers pending ps ss os → All IsSteadyPlace (places_shown behaviour registers pending ps ss os)
   all_steady [] [] [] all = All-nil IsSteadyPlace
   all_steady [] [] (o ∷ os) all = absurd all
   all_steady [] (s ∷ ss) os all = absurd all
   all_steady (p ∷ ps) [] os all = absurd all
   all_steady (p ∷ ps) (s ∷ ss) [] all = absurd all
-  all_steady (p ∷ ps) (s ∷ ss) (o ∷ os) all = All-cons IsSteadyPlace (place_shown recipe registers pending p s o) (places_shown recipe registers pending ps ss os) (steady_at p s o o.aside refl all.0) (all_steady ps ss os all.1)
+  all_steady (p ∷ ps) (s ∷ ss) (o ∷ os) all = All-cons IsSteadyPlace (place_shown behaviour registers pending p s o) (places_shown behaviour registers pending ps ss os) (steady_at p s o o.aside refl all.0) (all_steady ps ss os all.1)
 
   -- the scene before the first command
   pub is_first : (olds : List PassShown) (client : PassShown) (others ws rs : List PassShown) (ss : List Box) (os : List (Place X F)) → olds ≡ client ∷ others → others ≡ ws ++ rs → length ws ≡ length ss
-      → places_shown recipe registers pending ws ss os ≡ new_places recipe registers pending ws ss → IsFirstScene recipe registers pending olds ss (scene recipe registers pending client ws ss os rs)
+      → places_shown behaviour registers pending ws ss os ≡ new_places behaviour registers pending ws ss → IsFirstScene behaviour registers pending olds ss (scene behaviour registers pending client ws ss os rs)
   is_first olds client others ws rs ss os all parts long shown =
-      let these : workers (length ss) olds ≡ ws = ap (workers (length ss)) (all ∙ ap (λ zs. client ∷ zs) parts) ∙ workers_are recipe registers pending (length ss) client ws rs long in
-      (all ∙ (ap (λ zs. client ∷ zs) parts ∙ ap (λ zs. client ∷ (zs ++ rs)) (sym these)), shown ∙ ap (λ zs. new_places recipe registers pending zs ss) (sym these))
+      let these : workers (length ss) olds ≡ ws = ap (workers (length ss)) (all ∙ ap (λ zs. client ∷ zs) parts) ∙ workers_are behaviour registers pending (length ss) client ws rs long in
+      (all ∙ (ap (λ zs. client ∷ zs) parts ∙ ap (λ zs. client ∷ (zs ++ rs)) (sym these)), shown ∙ ap (λ zs. new_places behaviour registers pending zs ss) (sym these))
 
   -- which passes are whose at the end
   pub passes_in : (n : ℕ) (client : PassShown) (qs rs : List PassShown) → length qs ≡ n → client ∷ (qs ++ rs) ≡ client ∷ (workers n (client ∷ (qs ++ rs)) ++ rs)
-  passes_in n client qs rs long = ap (λ zs. client ∷ (zs ++ rs)) (sym (workers_are recipe registers pending n client qs rs long))
+  passes_in n client qs rs long = ap (λ zs. client ∷ (zs ++ rs)) (sym (workers_are behaviour registers pending n client qs rs long))
 
   -- what its servers' passes are among all at the end
   pub ended_in : (n : ℕ) (places : List PlaceShown) (client : PassShown) (qs rs : List PassShown) (registers_left : List (List ℕ)) → length qs ≡ n → AllEnded places qs registers_left
       → AllEnded places (workers n (client ∷ (qs ++ rs))) registers_left
-  ended_in n places client qs rs left long all = subst (λ zs. AllEnded places zs left) (sym (workers_are recipe registers pending n client qs rs long)) all
+  ended_in n places client qs rs left long all = subst (λ zs. AllEnded places zs left) (sym (workers_are behaviour registers pending n client qs rs long)) all

@@ -7,7 +7,7 @@ use Rattle.std.proofs.lemmas.Bool.Decides.{eqb_tells}
 use Rattle.std.proofs.lemmas.List.{get_or-drop, get_or_default, length-drop, take-append-drop}
 use Rattle.std.proofs.lemmas.List.Edits.{length-swap, swapped_from_swap}
 use Rattle.std.proofs.lemmas.List.Elements.{All-head, All-tail, AllZip-get_or}
-use Rattle.tp_server.specs.declared.recipe.Recipe.{Recipe}
+use Rattle.tp_server.specs.Behaviour.{Behaviour}
 use Rattle.tp_server.specs.Pending.{Pending}
 use Rattle.tp_manager.specs.Shown.{PassShown}
 use Rattle.tp_desk.specs.declared.aside.Aside.{Aside}
@@ -95,27 +95,27 @@ module _ {X : Type 0} {F : X → Type 0} (os : List (Place X F)) (front at : ℕ
       let long = length-drop front os in
       ap is_free_at (get_or-drop front os i d) ∙ before (front + i) d (omega arith) (omega (arith, long, within, end))
 
-module _ {X : Type 0} {F : X → Type 0} (recipe : DynBox X Global F → Recipe) (registers : DynBox X Global F → List ℕ) (pending : DynBox X Global F → Option Pending) where
+module _ {X : Type 0} {F : X → Type 0} (behaviour : DynBox X Global F → Behaviour) (registers : DynBox X Global F → List ℕ) (pending : DynBox X Global F → Option Pending) where
   abbrev Box : Type 0
   Box = DynBox X Global F
 
   abbrev Lie : List PassShown → List Box → List (Place X F) → Type 0
-  Lie ps ss os = AllLie recipe registers pending ps ss os
+  Lie ps ss os = AllLie behaviour registers pending ps ss os
 
   abbrev Show : List PassShown → List Box → List (Place X F) → List PlaceShown
-  Show ps ss os = places_shown recipe registers pending ps ss os
+  Show ps ss os = places_shown behaviour registers pending ps ss os
 
   -- what a place shows of being free
-  shown_free : (p : PassShown) (s : Box) (o : Place X F) → Lies recipe registers pending p s o.aside → is_free (place_shown recipe registers pending p s o) ≡ is_free_at o
+  shown_free : (p : PassShown) (s : Box) (o : Place X F) → Lies behaviour registers pending p s o.aside → is_free (place_shown behaviour registers pending p s o) ≡ is_free_at o
   shown_free p s o lies = ap (λ b. not o.is_dropped && b) (go o.aside lies)
     where
-      go : (a : Option (Aside X F)) → Lies recipe registers pending p s a → not (is_some (work_in a)) ≡ has_none a
+      go : (a : Option (Aside X F)) → Lies behaviour registers pending p s a → not (is_some (work_in a)) ≡ has_none a
       go None lies = absurd lies
       go (Some a) lies = refl
 
   -- two of them in each other's place
   shown_get : (ps : List PassShown) (ss : List Box) (os : List (Place X F)) (i : ℕ) (p : PassShown) (s : Box) (o : Place X F) → i < length os → Lie ps ss os
-      → get_or (Show ps ss os) i (place_shown recipe registers pending p s o) ≡ place_shown recipe registers pending (get_or ps i p) (get_or ss i s) (get_or os i o)
+      → get_or (Show ps ss os) i (place_shown behaviour registers pending p s o) ≡ place_shown behaviour registers pending (get_or ps i p) (get_or ss i s) (get_or os i o)
   shown_get [] [] [] i p s o within all = absurd (omega (arith, within))
   shown_get [] [] (z ∷ os) i p s o within all = absurd all
   shown_get [] (y ∷ ss) os i p s o within all = absurd all
@@ -132,10 +132,10 @@ module _ {X : Type 0} {F : X → Type 0} (recipe : DynBox X Global F → Recipe)
   shown_swap (p ∷ ps) [] os a b within also all = absurd all
   shown_swap (p ∷ ps) (s ∷ ss) [] a b within also all = absurd all
   shown_swap (p ∷ ps) (s ∷ ss) (o ∷ os) a b within also all =
-      shown_set recipe registers pending _ _ _ b _ _ _ (lie_set recipe registers pending (p ∷ ps) (s ∷ ss) (o ∷ os) a _ _ _ (lie_at recipe registers pending (p ∷ ps) (s ∷ ss) (o ∷ os) b p s o also all) all)
-      ∙ (ap (λ zs. slice_set zs b (place_shown recipe registers pending (get_or (p ∷ ps) a p) (get_or (s ∷ ss) a s) (get_or (o ∷ os) a o))) (shown_set recipe registers pending (p ∷ ps) (s ∷ ss) (o ∷ os) a _ _ _ all)
-      ∙ (ap (λ z. slice_set (slice_set (Show (p ∷ ps) (s ∷ ss) (o ∷ os)) a z) b (place_shown recipe registers pending (get_or (p ∷ ps) a p) (get_or (s ∷ ss) a s) (get_or (o ∷ os) a o))) (sym (shown_get (p ∷ ps) (s ∷ ss) (o ∷ os) b p s o also all))
-      ∙ ap (λ z. slice_set (slice_set (Show (p ∷ ps) (s ∷ ss) (o ∷ os)) a (get_or (Show (p ∷ ps) (s ∷ ss) (o ∷ os)) b (place_shown recipe registers pending p s o))) b z) (sym (shown_get (p ∷ ps) (s ∷ ss) (o ∷ os) a p s o within all))))
+      shown_set behaviour registers pending _ _ _ b _ _ _ (lie_set behaviour registers pending (p ∷ ps) (s ∷ ss) (o ∷ os) a _ _ _ (lie_at behaviour registers pending (p ∷ ps) (s ∷ ss) (o ∷ os) b p s o also all) all)
+      ∙ (ap (λ zs. slice_set zs b (place_shown behaviour registers pending (get_or (p ∷ ps) a p) (get_or (s ∷ ss) a s) (get_or (o ∷ os) a o))) (shown_set behaviour registers pending (p ∷ ps) (s ∷ ss) (o ∷ os) a _ _ _ all)
+      ∙ (ap (λ z. slice_set (slice_set (Show (p ∷ ps) (s ∷ ss) (o ∷ os)) a z) b (place_shown behaviour registers pending (get_or (p ∷ ps) a p) (get_or (s ∷ ss) a s) (get_or (o ∷ os) a o))) (sym (shown_get (p ∷ ps) (s ∷ ss) (o ∷ os) b p s o also all))
+      ∙ ap (λ z. slice_set (slice_set (Show (p ∷ ps) (s ∷ ss) (o ∷ os)) a (get_or (Show (p ∷ ps) (s ∷ ss) (o ∷ os)) b (place_shown behaviour registers pending p s o))) b z) (sym (shown_get (p ∷ ps) (s ∷ ss) (o ∷ os) a p s o within all))))
 
   pub shown_length : (ps : List PassShown) (ss : List Box) (os : List (Place X F)) → Lie ps ss os → length (Show ps ss os) ≡ length os
   shown_length [] [] [] all = refl
@@ -153,22 +153,22 @@ module _ {X : Type 0} {F : X → Type 0} (recipe : DynBox X Global F → Recipe)
   stay_put Did (p ∷ ps) [] os all busy = absurd all
   stay_put Did (p ∷ ps) (s ∷ ss) [] all busy = absurd all
   stay_put Did (p ∷ ps) (s ∷ ss) (o ∷ os) all busy =
-      let this = place_shown recipe registers pending p s o in
+      let this = place_shown behaviour registers pending p s o in
       (subst (λ b. TakesPart b Did this this) (sym (shown_free p s o all.0 ∙ All-head (λ o. is_free_at o ≡ false) o os busy)) refl, stay_put Did ps ss os all.1 (All-tail (λ o. is_free_at o ≡ false) o os busy))
 
   -- those that do
-  took : (Did : workers.Place → workers.Place → Type 0) (p q : PassShown) (s t : Box) (o : Place X F) → Lies recipe registers pending p s o.aside → is_free_at o ≡ true
-      → Did (workers.place recipe registers pending (p, s)) (workers.place recipe registers pending (q, t))
-      → TakesPart (is_free (place_shown recipe registers pending p s o)) Did (place_shown recipe registers pending p s o) (place_shown recipe registers pending q t o)
-  took Did p q s t o lies free did = subst (λ b. TakesPart b Did (place_shown recipe registers pending p s o) (place_shown recipe registers pending q t o)) (sym (shown_free p s o lies ∙ free))
+  took : (Did : workers.Place → workers.Place → Type 0) (p q : PassShown) (s t : Box) (o : Place X F) → Lies behaviour registers pending p s o.aside → is_free_at o ≡ true
+      → Did (workers.place behaviour registers pending (p, s)) (workers.place behaviour registers pending (q, t))
+      → TakesPart (is_free (place_shown behaviour registers pending p s o)) Did (place_shown behaviour registers pending p s o) (place_shown behaviour registers pending q t o)
+  took Did p q s t o lies free did = subst (λ b. TakesPart b Did (place_shown behaviour registers pending p s o) (place_shown behaviour registers pending q t o)) (sym (shown_free p s o lies ∙ free))
       (record { did = did; none_left = go o.aside lies (free_now o free); began = refl; kept = refl })
     where
-      go : (a : Option (Aside X F)) → Lies recipe registers pending p s a → IfSome a (λ x. x.work ≡ None) → work_in a ≡ None
+      go : (a : Option (Aside X F)) → Lies behaviour registers pending p s a → IfSome a (λ x. x.work ≡ None) → work_in a ≡ None
       go None lies none = absurd lies
       go (Some a) lies none = none
 
   pub took_part : (R : PassShown × Box → Shift → PassShown × Box → Type 0) (Did : workers.Place → workers.Place → Type 0)
-      → ((x : PassShown × Box) (c : Shift) (y : PassShown × Box) → R x c y → Did (workers.place recipe registers pending x) (workers.place recipe registers pending y))
+      → ((x : PassShown × Box) (c : Shift) (y : PassShown × Box) → R x c y → Did (workers.place behaviour registers pending x) (workers.place behaviour registers pending y))
       → (ps : List PassShown) (ss : List Box) (os : List (Place X F)) (c : Shift) (qs : List PassShown) (ts : List Box)
       → Lie ps ss os → All (λ o. is_free_at o ≡ true) os → length qs ≡ length ps → length ts ≡ length ss → RanAll R (zip ps ss) c (zip qs ts) → AllTakePart Did (Show ps ss os) (Show qs ts os)
   took_part R Did did [] [] [] c [] [] all free e k h = tt
@@ -187,7 +187,7 @@ module _ {X : Type 0} {F : X → Type 0} (recipe : DynBox X Global F → Recipe)
 
   -- those in front took part, and the others didn't
   pub parts_front : (R : PassShown × Box → Shift → PassShown × Box → Type 0) (Did : workers.Place → workers.Place → Type 0)
-      → ((x : PassShown × Box) (c : Shift) (y : PassShown × Box) → R x c y → Did (workers.place recipe registers pending x) (workers.place recipe registers pending y))
+      → ((x : PassShown × Box) (c : Shift) (y : PassShown × Box) → R x c y → Did (workers.place behaviour registers pending x) (workers.place behaviour registers pending y))
       → (n : ℕ) (ps : List PassShown) (ss : List Box) (os : List (Place X F)) (ps' ps'' : List PassShown) (ss' ss'' : List Box) (c : Shift) (qs : List PassShown) (ts : List Box)
       → ps ≡ ps' ++ ps'' → ss ≡ ss' ++ ss'' → Lie ps' ss' (take n os) → Lie ps'' ss'' (drop n os) → Lie qs ts (take n os)
       → All (λ o. is_free_at o ≡ true) (take n os) → All (λ o. is_free_at o ≡ false) (drop n os)
@@ -195,9 +195,9 @@ module _ {X : Type 0} {F : X → Type 0} (recipe : DynBox X Global F → Recipe)
   parts_front R Did did n ps ss os ps' ps'' ss' ss'' c qs ts first second before after worked free busy e k ran =
       let whole : take n os ++ drop n os ≡ os = take-append-drop n os in
       let old : Show ps ss os ≡ Show ps' ss' (take n os) ++ Show ps'' ss'' (drop n os) =
-      (λ i. Show (first i) (second i) (sym whole i)) ∙ shown_append recipe registers pending ps' ss' (take n os) ps'' ss'' (drop n os) before in
+      (λ i. Show (first i) (second i) (sym whole i)) ∙ shown_append behaviour registers pending ps' ss' (take n os) ps'' ss'' (drop n os) before in
       let new : Show (qs ++ ps'') (ts ++ ss'') os ≡ Show qs ts (take n os) ++ Show ps'' ss'' (drop n os) =
-      ap (Show (qs ++ ps'') (ts ++ ss'')) (sym whole) ∙ shown_append recipe registers pending qs ts (take n os) ps'' ss'' (drop n os) worked in
+      ap (Show (qs ++ ps'') (ts ++ ss'')) (sym whole) ∙ shown_append behaviour registers pending qs ts (take n os) ps'' ss'' (drop n os) worked in
       let both = all_zip_append (λ (o n : PlaceShown). TakesPart (is_free o) Did o n) (Show ps' ss' (take n os)) (Show qs ts (take n os)) (Show ps'' ss'' (drop n os)) (Show ps'' ss'' (drop n os))
       (took_part R Did did ps' ss' (take n os) c qs ts before free e k ran) (stay_put Did ps'' ss'' (drop n os) after busy) in
       subst (λ zs. AllTakePart Did (Show ps ss os) zs) (sym new) (subst (λ zs. AllTakePart Did zs (Show qs ts (take n os) ++ Show ps'' ss'' (drop n os))) (sym old) both)

@@ -5,7 +5,7 @@ use Rattle.std.specs.declared.alloc.Global.{Global}
 use Rattle.std.specs.declared.dyn_box.DynBox.{DynBox}
 use Rattle.std.proofs.lemmas.Result.{IfOk-weaker}
 use Rattle.tp_model.specs.declared.types.Limits.{Limits}
-use Rattle.tp_server.specs.declared.recipe.Recipe.{Recipe}
+use Rattle.tp_server.specs.Behaviour.{Behaviour}
 use Rattle.tp_server.specs.Pending.{Pending}
 use Rattle.tp_manager.specs.Shown.{ManagerShown, PassShown}
 use Rattle.tp_report.specs.Answer.{line, named_text}
@@ -46,16 +46,16 @@ module _ {T E : Type 0} (r : Result T E) (bytes : T → List ℕ) (old new : Sce
       record { answer = is.0; does = is.1; server = server_view it.0; named = it.1; text_is = it.2; others = others }) text
 
   -- the register of a server
-  module _ {X : Type 0} {F : X → Type 0} (recipe : DynBox X Global F → Recipe) (registers : DynBox X Global F → List ℕ) (pending : DynBox X Global F → Option Pending)
+  module _ {X : Type 0} {F : X → Type 0} (behaviour : DynBox X Global F → Behaviour) (registers : DynBox X Global F → List ℕ) (pending : DynBox X Global F → Option Pending)
       (ps : List PassShown) (ss : List (DynBox X Global F)) (os : List (Place X F)) where
     pub balance_told : (servers : List ScriptServer) (at k : ℕ) (p : PassShown) (s : DynBox X Global F) (o : Place X F) (it : ScriptServer)
-        → at < length servers → at < length os → AllLie recipe registers pending ps ss os → it ≡ get_or servers at it
-        → places_shown recipe registers pending ps ss os ≡ old.places → new ≡ old
+        → at < length servers → at < length os → AllLie behaviour registers pending ps ss os → it ≡ get_or servers at it
+        → places_shown behaviour registers pending ps ss os ≡ old.places → new ≡ old
         → IfOk r (λ text. TellsBalance (string_bytes it.name) k (registers (get_or ss at s)) (get_or os at o).is_dropped (bytes text)) → IfOk r (λ text. BalanceLine (map server_view servers) at k old (bytes text) new)
     balance_told servers at k p s o it within inside lie it_is places same text =
-        let there = shown_at recipe registers pending ps ss os at p s o inside lie in
+        let there = shown_at behaviour registers pending ps ss os at p s o inside lie in
         IfOk-weaker r _ _ (λ text is. record {
-          place = place_shown recipe registers pending (get_or ps at p) (get_or ss at s) (get_or os at o);
+          place = place_shown behaviour registers pending (get_or ps at p) (get_or ss at s) (get_or os at o);
           there = ap (λ xs. slice_get xs at) (sym places) ∙ there;
           server = server_view it;
           named = named_is servers at it within it_is;

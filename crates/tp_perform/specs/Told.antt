@@ -4,7 +4,7 @@ use Rattle.std.specs.Io.KnownBytes.{Appends}
 use Rattle.std.specs.declared.alloc.Global.{Global}
 use Rattle.std.specs.declared.dyn_box.DynBox.{DynBox}
 use Rattle.tp_model.specs.declared.types.Limits.{Limits}
-use Rattle.tp_server.specs.declared.recipe.Recipe.{Recipe}
+use Rattle.tp_server.specs.Behaviour.{Behaviour}
 use Rattle.tp_server.specs.Pending.{Pending}
 use Rattle.tp_manager.specs.Shown.{ManagerShown, PassShown}
 use Rattle.tp_workers.specs.Drained.{EndsIdle}
@@ -32,13 +32,13 @@ pub record Scene : Type 0 where
   pub places : List PlaceShown
   pub racers : List PassShown
 
-module _ {X : Type 0} {F : X → Type 0} (recipe : DynBox X Global F → Recipe)
+module _ {X : Type 0} {F : X → Type 0} (behaviour : DynBox X Global F → Behaviour)
     (registers : DynBox X Global F → List ℕ) (pending : DynBox X Global F → Option Pending) where
   abbrev pub scene : PassShown → List PassShown → List (DynBox X Global F) → List (Place X F) → List PassShown
       → Scene
   scene client passes servers places racers = record {
     client = client;
-    places = places_shown recipe registers pending passes servers places;
+    places = places_shown behaviour registers pending passes servers places;
     racers = racers;
   }
 
@@ -138,9 +138,9 @@ ToldFront m s old before after = (n : ℕ) × (text : List ℕ) × (new : Scene)
 abbrev pub ArePasses : ℕ → Scene → List PassShown → Type 0
 ArePasses servers s passes = passes ≡ s.client ∷ (workers servers passes ++ s.racers)
 
-module _ {X : Type 0} {F : X → Type 0} (recipe : DynBox X Global F → Recipe)
+module _ {X : Type 0} {F : X → Type 0} (behaviour : DynBox X Global F → Behaviour)
     (registers : DynBox X Global F → List ℕ) (pending : DynBox X Global F → Option Pending) where
   -- the scene before the first command: of the client's pass, new desks of the servers', and the passes of races
   abbrev pub IsFirstScene : List PassShown → List (DynBox X Global F) → Scene → Type 0
   IsFirstScene passes servers s = ArePasses (length servers) s passes
-      × (s.places ≡ new_places recipe registers pending (workers (length servers) passes) servers)
+      × (s.places ≡ new_places behaviour registers pending (workers (length servers) passes) servers)

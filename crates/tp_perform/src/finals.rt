@@ -14,17 +14,17 @@ use tp_script::Script;
 use tp_server::Server;
 
 /// How many registers a server has.
-fn register_count(server: &Box<dyn Server + Send>) -> u8
+fn register_count(server: &Box<dyn Server + Send>) -> u64
     ensures { result ≡ length (registers server.now) }
 {
-    server.recipe().registers
+    server.count()
 }
 
 /// A server's register of committed work, or `None` past the last one.
-fn register(server: &Box<dyn Server + Send>, k: u8) -> Option<u64>
+fn register(server: &Box<dyn Server + Send>, k: u64) -> Option<u64>
     ensures { result ≡ slice_get (registers server.now) k }
 {
-    server.balance(u64::from(k))
+    server.balance(k)
 }
 
 /// The final line of the server of this name: its registers of committed work, in order.

@@ -35,7 +35,7 @@ fn command_line<R: Threads + Sync>(
 ) -> Result<String, AllocError>
     requires client { IsFreePass manager.now client.old }
     requires own { All (IsOf manager.now) passes.old }
-    requires lie { AllLie recipe registers pending passes.old servers.old places.old }
+    requires lie { AllLie behaviour registers pending passes.old servers.old places.old }
     requires as_many { length places.old ≡ length script.now.servers.items }
     requires racers { All (IsFreePass manager.now) racers.old }
     requires enough { length racers.old ≡ racers_of command }
@@ -43,16 +43,16 @@ fn command_line<R: Threads + Sync>(
     ensures client { IsFreePass manager.now client.new }
     ensures client_number { client.new.number ≡ client.old.number }
     ensures own { All (IsOf manager.now) passes.new }
-    ensures lie { AllLie recipe registers pending passes.new servers.new places.new }
+    ensures lie { AllLie behaviour registers pending passes.new servers.new places.new }
     ensures as_many { length places.new ≡ length places.old }
     ensures began { firsts places.new ≡ firsts places.old }
     ensures racers { All (IsFreePass manager.now) racers.new }
     ensures racers_numbered { numbers racers.new ≡ numbers racers.old }
     ensures tells { IfOk result (λ text.
         TellsCommand manager.now (script_view script.now) command
-        (scene recipe registers pending client.old passes.old servers.old places.old racers.old)
+        (scene behaviour registers pending client.old passes.old servers.old places.old racers.old)
         (string_bytes text)
-        (scene recipe registers pending client.new passes.new servers.new places.new racers.new)) }
+        (scene behaviour registers pending client.new passes.new servers.new places.new racers.new)) }
     ensures line { IfOk result (λ text. IsLine (string_bytes text)) }
 {
     let named = script.servers.as_slice();
@@ -102,23 +102,23 @@ fn perform_all<R: Threads + Sync, W: Sink>(
 ) -> Result<(), RunFault>
     requires client { IsFreePass manager.now client.old }
     requires own { All (IsOf manager.now) passes.old }
-    requires lie { AllLie recipe registers pending passes.old servers.old places.old }
+    requires lie { AllLie behaviour registers pending passes.old servers.old places.old }
     requires as_many { length places.old ≡ length script.now.servers.items }
     requires racers { All (IsFreePass manager.now) racers.old }
     requires enough { length racers.old ≡ racing script.now.commands.items }
     ensures client { IsFreePass manager.now client.new }
     ensures client_number { client.new.number ≡ client.old.number }
     ensures own { All (IsOf manager.now) passes.new }
-    ensures lie { AllLie recipe registers pending passes.new servers.new places.new }
+    ensures lie { AllLie behaviour registers pending passes.new servers.new places.new }
     ensures began { firsts places.new ≡ firsts places.old }
     ensures racers { All (IsFreePass manager.now) racers.new }
     ensures racers_numbered { numbers racers.new ≡ numbers racers.old }
     ensures told { OnOk result (ToldAll manager.now (script_view script.now)
-        (scene recipe registers pending client.old passes.old servers.old places.old racers.old)
-        (scene recipe registers pending client.new passes.new servers.new places.new racers.new)
+        (scene behaviour registers pending client.old passes.old servers.old places.old racers.old)
+        (scene behaviour registers pending client.new passes.new servers.new places.new racers.new)
         (W.contents writer.old) (W.contents writer.new)) }
     ensures told_front { OnErr result (ToldFront manager.now (script_view script.now)
-        (scene recipe registers pending client.old passes.old servers.old places.old racers.old)
+        (scene behaviour registers pending client.old passes.old servers.old places.old racers.old)
         (W.contents writer.old) (W.contents writer.new)) }
     ensures done { OnOk result (Writes (length script.now.commands.items)
         (W.contents writer.old) (W.contents writer.new)) }
@@ -143,7 +143,7 @@ fn perform_all<R: Threads + Sync, W: Sink>(
 /// Performs the commands of a script over the manager, each server at a desk of its own, and writes a line
 /// for each as it comes. The passes are the manager's: the client's, then one for each server, then those of
 /// each race. The servers are the script's, in their order. When the commands are done, and after a fault,
-/// all desks are ended: each server's registers are then what its recipe makes of what its pass has
+/// all desks are ended: each server's registers are then what its behaviour makes of what its pass has
 /// committed. Behind the last command nothing else is done. What was done before a fault stands.
 pub fn perform<R: Threads + Sync, W: Sink>(
     rt: &R,
@@ -161,17 +161,17 @@ pub fn perform<R: Threads + Sync, W: Sink>(
     ensures passes { All (IsFreePass manager.now) passes.new }
     ensures numbered { numbers passes.new ≡ numbers passes.old }
     ensures servers { All (λ server. pending server ≡ None) servers.new }
-    ensures left { let many = length servers.old in AllLeft recipe registers
+    ensures left { let many = length servers.old in AllLeft behaviour registers
         (all_firsts (workers many passes.old) servers.old) (workers many passes.new) servers.new }
     ensures told { OnOk result ((first : Scene) × (last : Scene)
-        × IsFirstScene recipe registers pending passes.old servers.old first
+        × IsFirstScene behaviour registers pending passes.old servers.old first
         × ToldAll manager.now (script_view script.now) first last
         (W.contents writer.old) (W.contents writer.new)
         × ArePasses (length servers.old) last passes.new
         × AllEnded last.places (workers (length servers.old) passes.new)
         (map (λ server. registers server) servers.new)) }
     ensures told_front { OnErr result ((first : Scene)
-        × IsFirstScene recipe registers pending passes.old servers.old first
+        × IsFirstScene behaviour registers pending passes.old servers.old first
         × ToldFront manager.now (script_view script.now) first
         (W.contents writer.old) (W.contents writer.new)) }
     ensures done { OnOk result (Writes (length script.now.commands.items)

@@ -92,7 +92,7 @@ pub(crate) fn run_race<R: Threads + Sync>(
     plan: Race,
 ) -> Result<u32, AllocError>
     requires own { All (IsOf manager.now) passes.old }
-    requires lie { AllLie recipe registers pending passes.old servers.old places.old }
+    requires lie { AllLie behaviour registers pending passes.old servers.old places.old }
     requires few { length places.old ≤ MOST_SERVERS }
     requires racers { All (IsFreePass manager.now) racers.old }
     requires enough { plan.clients ≤ length racers.old }
@@ -100,14 +100,14 @@ pub(crate) fn run_race<R: Threads + Sync>(
     requires rows { rows ≤ 256 }
     requires stage { IsServerStage plan.stage }
     ensures own { All (IsOf manager.now) passes.new }
-    ensures lie { AllLie recipe registers pending passes.new servers.new places.new }
+    ensures lie { AllLie behaviour registers pending passes.new servers.new places.new }
     ensures racers { All (IsFreePass manager.now) racers.new }
     ensures began { firsts places.new ≡ firsts places.old }
     ensures racers_numbered { numbers racers.new ≡ numbers racers.old }
     ensures as_many { (length places.new ≡ length places.old) × (length racers.new ≡ length racers.old) }
     ensures raced { IfOk result (λ submitted. Races manager.now rows plan racers.old submitted racers.new
-        (places_shown recipe registers pending passes.old servers.old places.old)
-        (places_shown recipe registers pending passes.new servers.new places.new)) }
+        (places_shown behaviour registers pending passes.old servers.old places.old)
+        (places_shown behaviour registers pending passes.new servers.new places.new)) }
 {
     let (clients, killers) = racers.split_at_mut(usize::from(plan.clients));
     let job = client_job(plan);
@@ -147,7 +147,7 @@ fn race_free<R: Threads + Sync>(
     at: usize,
 ) -> u32
     requires own { All (IsOf manager.now) passes.old }
-    requires lie { AllLie recipe registers pending passes.old servers.old places.old }
+    requires lie { AllLie behaviour registers pending passes.old servers.old places.old }
     requires few { length places.old ≤ MOST_SERVERS }
     requires free { All (λ place. is_free_at place ≡ true) (take front places.old) }
     requires within { (front ≤ at) × (at ≤ length places.old) }
@@ -162,10 +162,10 @@ fn race_free<R: Threads + Sync>(
     requires ids { sum_by size_of_range kills.old < 2 ^ 32 }
     requires turns { turns < 2 ^ 16 }
     ensures own { All (IsOf manager.now) passes.new }
-    ensures lie { AllLie recipe registers pending passes.new servers.new places.new }
+    ensures lie { AllLie behaviour registers pending passes.new servers.new places.new }
     ensures desks { AllTakePart (TookTurns manager.now.limits turns)
-        (places_shown recipe registers pending passes.old servers.old places.old)
-        (places_shown recipe registers pending passes.new servers.new places.new) }
+        (places_shown behaviour registers pending passes.old servers.old places.old)
+        (places_shown behaviour registers pending passes.new servers.new places.new) }
     ensures ran { RacersRan manager.now jobs.old kills.old
         clients.old killers.old result clients.new killers.new }
     ensures clients { All (IsFreePass manager.now) clients.new }
@@ -231,7 +231,7 @@ fn race_front<R: Threads + Sync>(
     front: usize,
 ) -> u32
     requires own { All (IsOf manager.now) passes.old }
-    requires lie { AllLie recipe registers pending passes.old servers.old places.now }
+    requires lie { AllLie behaviour registers pending passes.old servers.old places.now }
     requires few { length places.now ≤ MOST_SERVERS }
     requires free { All (λ place. is_free_at place ≡ true) (take front places.now) }
     requires within { front ≤ length places.now }
@@ -246,10 +246,10 @@ fn race_front<R: Threads + Sync>(
     requires ids { sum_by size_of_range kills.old < 2 ^ 32 }
     requires turns { turns < 2 ^ 16 }
     ensures own { All (IsOf manager.now) passes.new }
-    ensures lie { AllLie recipe registers pending passes.new servers.new places.now }
+    ensures lie { AllLie behaviour registers pending passes.new servers.new places.now }
     ensures desks { AllTakePart (TookTurns manager.now.limits turns)
-        (places_shown recipe registers pending passes.old servers.old places.now)
-        (places_shown recipe registers pending passes.new servers.new places.now) }
+        (places_shown behaviour registers pending passes.old servers.old places.now)
+        (places_shown behaviour registers pending passes.new servers.new places.now) }
     ensures ran { RacersRan manager.now jobs.old kills.old
         clients.old killers.old result clients.new killers.new }
     ensures clients { All (IsFreePass manager.now) clients.new }
@@ -276,13 +276,13 @@ fn swap_places(
     b: usize,
 )
     requires own { All (IsOf manager.now) passes.old }
-    requires lie { AllLie recipe registers pending passes.old servers.old places.old }
+    requires lie { AllLie behaviour registers pending passes.old servers.old places.old }
     requires within { (a ≤ b) × (b < length places.old) }
     ensures own { All (IsOf manager.now) passes.new }
-    ensures lie { AllLie recipe registers pending passes.new servers.new places.new }
+    ensures lie { AllLie behaviour registers pending passes.new servers.new places.new }
     ensures swapped { places.new ≡ swap places.old a b }
-    ensures shown { places_shown recipe registers pending passes.new servers.new places.new
-        ≡ swap (places_shown recipe registers pending passes.old servers.old places.old) a b }
+    ensures shown { places_shown behaviour registers pending passes.new servers.new places.new
+        ≡ swap (places_shown behaviour registers pending passes.old servers.old places.old) a b }
     ensures as_many { length places.new ≡ length places.old }
 {
     passes.swap(a, b);
@@ -298,13 +298,13 @@ pub(crate) fn drain_all(
     places: &mut [Place],
 )
     requires own { All (IsOf manager.now) passes.old }
-    requires lie { AllLie recipe registers pending passes.old servers.old places.old }
+    requires lie { AllLie behaviour registers pending passes.old servers.old places.old }
     requires few { length places.old ≤ MOST_SERVERS }
     ensures own { All (IsOf manager.now) passes.new }
-    ensures lie { AllLie recipe registers pending passes.new servers.new places.new }
+    ensures lie { AllLie behaviour registers pending passes.new servers.new places.new }
     ensures desks { AllTakePart (EndsIdle manager.now.limits)
-        (places_shown recipe registers pending passes.old servers.old places.old)
-        (places_shown recipe registers pending passes.new servers.new places.new) }
+        (places_shown behaviour registers pending passes.old servers.old places.old)
+        (places_shown behaviour registers pending passes.new servers.new places.new) }
     ensures began { firsts places.new ≡ firsts places.old }
     ensures as_many { length places.new ≡ length places.old }
 {
@@ -321,16 +321,16 @@ fn drain_free(
     at: usize,
 )
     requires own { All (IsOf manager.now) passes.old }
-    requires lie { AllLie recipe registers pending passes.old servers.old places.old }
+    requires lie { AllLie behaviour registers pending passes.old servers.old places.old }
     requires few { length places.old ≤ MOST_SERVERS }
     requires free { All (λ place. is_free_at place ≡ true) (take front places.old) }
     requires within { (front ≤ at) × (at ≤ length places.old) }
     requires passed { ArePassed front at places.old }
     ensures own { All (IsOf manager.now) passes.new }
-    ensures lie { AllLie recipe registers pending passes.new servers.new places.new }
+    ensures lie { AllLie behaviour registers pending passes.new servers.new places.new }
     ensures desks { AllTakePart (EndsIdle manager.now.limits)
-        (places_shown recipe registers pending passes.old servers.old places.old)
-        (places_shown recipe registers pending passes.new servers.new places.new) }
+        (places_shown behaviour registers pending passes.old servers.old places.old)
+        (places_shown behaviour registers pending passes.new servers.new places.new) }
     ensures began { firsts places.new ≡ firsts places.old }
     ensures as_many { length places.new ≡ length places.old }
 {
@@ -356,16 +356,16 @@ fn drain_front(
     front: usize,
 )
     requires own { All (IsOf manager.now) passes.old }
-    requires lie { AllLie recipe registers pending passes.old servers.old places.now }
+    requires lie { AllLie behaviour registers pending passes.old servers.old places.now }
     requires few { length places.now ≤ MOST_SERVERS }
     requires free { All (λ place. is_free_at place ≡ true) (take front places.now) }
     requires within { front ≤ length places.now }
     requires passed { ArePassed front (length places.now) places.now }
     ensures own { All (IsOf manager.now) passes.new }
-    ensures lie { AllLie recipe registers pending passes.new servers.new places.now }
+    ensures lie { AllLie behaviour registers pending passes.new servers.new places.now }
     ensures desks { AllTakePart (EndsIdle manager.now.limits)
-        (places_shown recipe registers pending passes.old servers.old places.now)
-        (places_shown recipe registers pending passes.new servers.new places.now) }
+        (places_shown behaviour registers pending passes.old servers.old places.now)
+        (places_shown behaviour registers pending passes.new servers.new places.now) }
 {
     let (desks, _others) = passes.split_at_mut(front);
     let (boxes, _rest) = servers.split_at_mut(front);

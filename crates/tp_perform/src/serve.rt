@@ -5,6 +5,7 @@ ghost use Rattle.tp_manager.specs.Shown.{IsKeptBy, ManagerShown};
 ghost use Rattle.tp_report.specs.Lines.{Writes, WritesFront};
 ghost use Rattle.tp_workers.specs.Free.{IsFreePass};
 ghost use Rattle.tp_perform.specs.Performing.{line_count};
+ghost use Rattle.tp_server.specs.Behaviour.{behaviour_of};
 ghost use Rattle.tp_perform.specs.Reported.{IsNewPass, Reported, ReportedFront, limits_of};
 ghost use Rattle.tp_script.specs.Script.{passes as passes_of, script_view};
 
@@ -181,7 +182,7 @@ fn settle(servers: &mut [Box<dyn Server + Send>])
 
 /// A server of a script that changes its registers as it prepares.
 fn eager(server: &ScriptServer) -> Result<EagerServer, AllocError>
-    ensures recipe { IfOk result (λ made. ⟦<EagerServer as Server>⟧.recipe made ≡ server.now.recipe) }
+    ensures behaviour { IfOk result (λ made. ⟦<EagerServer as Server>⟧.behaviour made ≡ behaviour_of server.now.recipe) }
     ensures registers { IfOk result (λ made. ⟦<EagerServer as Server>⟧.registers made ≡ server.now.registers) }
     ensures unprepared { IfOk result (λ made. ⟦<EagerServer as Server>⟧.pending made ≡ None) }
 {
@@ -193,7 +194,7 @@ fn eager(server: &ScriptServer) -> Result<EagerServer, AllocError>
 
 /// A server of a script that keeps what it will write.
 fn lazy(server: &ScriptServer) -> Result<LazyServer, AllocError>
-    ensures recipe { IfOk result (λ made. ⟦<LazyServer as Server>⟧.recipe made ≡ server.now.recipe) }
+    ensures behaviour { IfOk result (λ made. ⟦<LazyServer as Server>⟧.behaviour made ≡ behaviour_of server.now.recipe) }
     ensures registers { IfOk result (λ made. ⟦<LazyServer as Server>⟧.registers made ≡ server.now.registers) }
     ensures unprepared { IfOk result (λ made. ⟦<LazyServer as Server>⟧.pending made ≡ None) }
 {

@@ -1,1 +1,3 @@
-pub mod Pending
+pub mod Books
+pub mod Made
+pub mod Recipes

@@ -1,3 +1,5 @@
+pub mod Behaviour
+pub mod Books
 pub mod Check
 pub mod Effect
 pub mod Entries

@@ -25,6 +25,7 @@ pub struct EagerServer {
 }
 
 impl EagerServer {
+    ghost use Rattle.tp_server.specs.Behaviour.{behaviour_of};
     ghost use Rattle.tp_server.specs.Check.{check_with};
 
     /// A server with this recipe and these registers, with nothing prepared.
@@ -34,7 +35,7 @@ impl EagerServer {
     pub fn new(registers: Registers, recipe: Recipe) -> Result<EagerServer, BadRecipe>
         ensures refusal { IfErr result (λ why. check_with registers recipe ≡ Err why) }
         ensures made { OnOk result (check_with registers recipe ≡ Ok tt) }
-        ensures recipe { IfOk result (λ s. ⟦<EagerServer as Server>⟧.recipe s ≡ recipe) }
+        ensures behaviour { IfOk result (λ s. ⟦<EagerServer as Server>⟧.behaviour s ≡ behaviour_of recipe) }
         ensures registers { IfOk result (λ s. ⟦<EagerServer as Server>⟧.registers s ≡ registers) }
         ensures not_prepared { IfOk result (λ s. ⟦<EagerServer as Server>⟧.pending s ≡ None) }
     {
@@ -45,12 +46,20 @@ impl EagerServer {
             undo: None,
         })
     }
+
+    /// What the server does with an element.
+    pub fn recipe(&self) -> &Recipe
+        ensures { ⟦<EagerServer as Server>⟧.behaviour self.now ≡ behaviour_of result.now }
+    {
+        &self.recipe
+    }
 }
 
 impl Server for EagerServer {
+    ghost use Rattle.tp_server.specs.Behaviour.{behaviour_of};
     ghost use Rattle.tp_server.specs.Entries.{restored, where_kept};
 
-    ghost recipe = { λ s. s.recipe };
+    ghost behaviour = { λ s. behaviour_of s.recipe };
 
     ghost registers = { λ s. restored s.registers s.undo };
 
@@ -60,8 +69,8 @@ impl Server for EagerServer {
         self.recipe.stage
     }
 
-    fn recipe(&self) -> &Recipe {
-        &self.recipe
+    fn count(&self) -> u64 {
+        u64::from(self.registers.len())
     }
 
     fn balance(&self, k: u64) -> Option<u64> {

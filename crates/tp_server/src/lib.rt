@@ -1,10 +1,11 @@
-//! Servers of a request manager: what a server does with an element is a recipe over a few registers, and it does it in
-//! two steps, so that the work can still be called off. Nothing here takes memory.
+//! Servers of a request manager. A server says what it does with an element as a function of its registers (`Behaviour`), and does it
+//! in two steps, so that the work can still be called off. Two kinds are built in, which follow a recipe. Nothing here takes memory.
 #![tactic(auto)]
 
 mod eager;
 mod effect;
 mod entry;
+pub mod laws;
 mod lazy;
 mod prepared;
 mod recipe;

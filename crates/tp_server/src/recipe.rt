@@ -122,6 +122,8 @@ pub enum Declined {
     TooLarge,
     /// The act takes, and the register holds less than the element's amount.
     Short,
+    /// A reason of the server's own, by a number of its own. No recipe declines so.
+    Own(u16),
 }
 
 /// Its bare name, as `NoRegister`.
@@ -135,6 +137,7 @@ impl fmt::Display for Declined {
             Declined::NoRegister => f.write_str("NoRegister"),
             Declined::TooLarge => f.write_str("TooLarge"),
             Declined::Short => f.write_str("Short"),
+            Declined::Own(reason) => write!(f, "Own({reason})"),
         }
     }
 }

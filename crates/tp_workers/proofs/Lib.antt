@@ -9,3 +9,4 @@ pub mod Killers
 pub mod Sums
 pub mod Shifts
 pub mod Drains
+pub mod CrewLemmas

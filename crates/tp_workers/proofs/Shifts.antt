@@ -5,7 +5,7 @@ use Rattle.std.proofs.lemmas.List.Sums.{sum_by-cons}
 use Rattle.tp_model.specs.declared.types.Killed.{Killed}
 use Rattle.tp_model.specs.declared.types.Refusal.{Refusal}
 use Rattle.tp_model.specs.declared.types.Refusal.TheVariants as refusals
-use Rattle.tp_server.specs.declared.recipe.Recipe.{Recipe}
+use Rattle.tp_server.specs.Behaviour.{Behaviour}
 use Rattle.tp_server.specs.Pending.{Pending}
 use Rattle.tp_manager.specs.Shown.{ManagerShown, PassShown}
 use Rattle.tp_desk.specs.declared.turned.Turned.{Turned}
@@ -158,19 +158,19 @@ module _ (m : ManagerShown) where
   pub ids_sum : (xs : List PassShown) (us : List KillJob) (s : Shift) (ys : List PassShown) (vs : List KillJob) → length xs ≡ length us → RanEach (KillerRan m) xs us s ys vs → s.killed + s.late + s.already + s.missing ≡ sum_by size_of_range us
   ids_sum xs us s ys vs e h = ran_asked (KillerRan m) (λ t. t.killed + t.late + t.already + t.missing) (λ x. size_of_range x.1) refl (λ a b. omega arith) killer_calls (zip xs us) s (zip ys vs) h.ran ∙ sum_second size_of_range xs us e
 
-module _ {B : Type 0} (recipe : B → Recipe) (registers : B → List ℕ) (pending : B → Option Pending) (m : ManagerShown) (turns : ℕ) where
-  desk_counts : (x : PassShown × B) (s : Shift) (y : PassShown × B) → DeskRan recipe registers pending m turns x s y → s ≡ desk_part s
+module _ {B : Type 0} (behaviour : B → Behaviour) (registers : B → List ℕ) (pending : B → Option Pending) (m : ManagerShown) (turns : ℕ) where
+  desk_counts : (x : PassShown × B) (s : Shift) (y : PassShown × B) → DeskRan behaviour registers pending m turns x s y → s ≡ desk_part s
   desk_counts x s y r = called_counts _ turn_count (λ t. t ≡ desk_part t) refl (λ a b p q. ap₂ plus p q) turn_part r.turns_taken.taken _ _ s r.turns_taken.calls
 
   -- the counts of desks stand in the desks' part
-  pub desks_part : (xs : List PassShown) (us : List B) (s : Shift) (ys : List PassShown) (vs : List B) → RanEach (DeskRan recipe registers pending m turns) xs us s ys vs → RanEach (DeskRan recipe registers pending m turns) xs us (desk_part s) ys vs
+  pub desks_part : (xs : List PassShown) (us : List B) (s : Shift) (ys : List PassShown) (vs : List B) → RanEach (DeskRan behaviour registers pending m turns) xs us s ys vs → RanEach (DeskRan behaviour registers pending m turns) xs us (desk_part s) ys vs
   desks_part xs us s ys vs h =
-      subst (λ (t : Shift). RanEach (DeskRan recipe registers pending m turns) xs us t ys vs) (ran_keeps (DeskRan recipe registers pending m turns) (λ t. t ≡ desk_part t) refl (λ a b p q. ap₂ plus p q) desk_counts (zip xs us) s (zip ys vs) h.ran) h
+      subst (λ (t : Shift). RanEach (DeskRan behaviour registers pending m turns) xs us t ys vs) (ran_keeps (DeskRan behaviour registers pending m turns) (λ t. t ≡ desk_part t) refl (λ a b p q. ap₂ plus p q) desk_counts (zip xs us) s (zip ys vs) h.ran) h
 
-  desk_turns : (x : PassShown × B) (s : Shift) (y : PassShown × B) → DeskRan recipe registers pending m turns x s y → s.nounit ≡ 0 → total s ≡ turns
+  desk_turns : (x : PassShown × B) (s : Shift) (y : PassShown × B) → DeskRan behaviour registers pending m turns x s y → s.nounit ≡ 0 → total s ≡ turns
   desk_turns x s y r e = called_total _ turn_count one_turn r.turns_taken.taken _ _ s r.turns_taken.calls ∙ r.turns_taken.all_taken e
 
-  turns_taken : (xs : List (PassShown × B)) (s : Shift) (ys : List (PassShown × B)) → RanAll (DeskRan recipe registers pending m turns) xs s ys → s.nounit ≡ 0 → total s ≡ turns * length xs
+  turns_taken : (xs : List (PassShown × B)) (s : Shift) (ys : List (PassShown × B)) → RanAll (DeskRan behaviour registers pending m turns) xs s ys → s.nounit ≡ 0 → total s ≡ turns * length xs
   turns_taken [] s [] h e = ap total h ∙ omega arith
   turns_taken [] s (y ∷ ys) h e = absurd h
   turns_taken (x ∷ xs) s [] h e = absurd h
@@ -182,13 +182,13 @@ module _ {B : Type 0} (recipe : B → Recipe) (registers : B → List ℕ) (pend
       all ∙ ap₂ ◌+◌ one rest ∙ one_more turns (length xs)
 
   -- all turns were taken, where no desk was out of units
-  pub turns_sum : (xs : List (PassShown × B)) (s : Shift) (ys : List (PassShown × B)) → RanAll (DeskRan recipe registers pending m turns) xs s ys → s.nounit ≡ 0 → s.done + s.refused + s.lost + s.full + s.idle ≡ turns * length xs
+  pub turns_sum : (xs : List (PassShown × B)) (s : Shift) (ys : List (PassShown × B)) → RanAll (DeskRan behaviour registers pending m turns) xs s ys → s.nounit ≡ 0 → s.done + s.refused + s.lost + s.full + s.idle ≡ turns * length xs
   turns_sum xs s ys h e =
       let t : total s ≡ turns * length xs = turns_taken xs s ys h e in
-      let part : total s ≡ total (desk_part s) = ap total (ran_keeps (DeskRan recipe registers pending m turns) (λ u. u ≡ desk_part u) refl (λ a b p q. ap₂ plus p q) desk_counts xs s ys h) in
+      let part : total s ≡ total (desk_part s) = ap total (ran_keeps (DeskRan behaviour registers pending m turns) (λ u. u ≡ desk_part u) refl (λ a b p q. ap₂ plus p q) desk_counts xs s ys h) in
       omega arith
 
-  pub turns_all : (xs : List PassShown) (us : List B) (s : Shift) (ys : List PassShown) (vs : List B) → length xs ≡ length us → RanEach (DeskRan recipe registers pending m turns) xs us s ys vs → s.nounit ≡ 0 → s.done + s.refused + s.lost + s.full + s.idle ≡ turns * length xs
+  pub turns_all : (xs : List PassShown) (us : List B) (s : Shift) (ys : List PassShown) (vs : List B) → length xs ≡ length us → RanEach (DeskRan behaviour registers pending m turns) xs us s ys vs → s.nounit ≡ 0 → s.done + s.refused + s.lost + s.full + s.idle ≡ turns * length xs
   turns_all xs us s ys vs e h none =
       turns_sum (zip xs us) s (zip ys vs) h.ran none ∙ ap (λ (n : ℕ). turns * n) (zip_length xs us e)
 
@@ -247,12 +247,12 @@ module _ (m : ManagerShown) where
       → (xs : List PassShown) (us : List U) (s : Shift) (ys : List PassShown) (vs : List U) → length xs ≡ length us → RanEach R xs us s ys vs → numbers ys ≡ numbers xs
   same_numbers R each xs us s ys vs e r = same_first (λ (p : PassShown). p.number) R each xs us s ys vs e (each_paired R xs us s ys vs e r) r.ran
 
-  module _ {B : Type 0} (recipe : B → Recipe) (registers : B → List ℕ) (pending : B → Option Pending) where
-    pub desks_ready : (xs : List PassShown) (us : List B) → length xs ≡ length us → All (IsFreePass m) xs → All (λ b. pending b ≡ None) us → All (IsDeskOf recipe registers pending m) (zip xs us)
-    desks_ready xs us e free clear = all_both (IsFreePass m) (λ b. pending b ≡ None) (IsDeskOf recipe registers pending m) (λ x y a b. record { pass = a; unprepared = b }) xs us e free clear
+  module _ {B : Type 0} (behaviour : B → Behaviour) (registers : B → List ℕ) (pending : B → Option Pending) where
+    pub desks_ready : (xs : List PassShown) (us : List B) → length xs ≡ length us → All (IsFreePass m) xs → All (λ b. pending b ≡ None) us → All (IsDeskOf behaviour registers pending m) (zip xs us)
+    desks_ready xs us e free clear = all_both (IsFreePass m) (λ b. pending b ≡ None) (IsDeskOf behaviour registers pending m) (λ x y a b. record { pass = a; unprepared = b }) xs us e free clear
 
     -- servers that a run leaves with nothing prepared
-    pub servers_clear : (R : PassShown × B → Shift → PassShown × B → Type 0) → ((x : PassShown × B) (t : Shift) (y : PassShown × B) → R x t y → IsDeskOf recipe registers pending m y)
+    pub servers_clear : (R : PassShown × B → Shift → PassShown × B → Type 0) → ((x : PassShown × B) (t : Shift) (y : PassShown × B) → R x t y → IsDeskOf behaviour registers pending m y)
         → (xs : List PassShown) (us : List B) (s : Shift) (ys : List PassShown) (vs : List B) → length xs ≡ length us → RanEach R xs us s ys vs → All (λ b. pending b ≡ None) vs
     servers_clear R each xs us s ys vs e r =
         all_second (λ b. pending b ≡ None) ys vs (each_paired R xs us s ys vs e r)

@@ -10,7 +10,7 @@ use Rattle.tp_model.specs.declared.types.Ended.{Ended}
 use Rattle.tp_model.specs.declared.types.Ended.TheVariants as endeds
 use Rattle.tp_model.specs.declared.types.Limits.{Limits}
 use Rattle.tp_model.specs.declared.types.Work.{Work}
-use Rattle.tp_server.specs.declared.recipe.Recipe.{Recipe}
+use Rattle.tp_server.specs.Behaviour.{Behaviour}
 use Rattle.tp_server.specs.Pending.{Pending}
 use Rattle.tp_manager.specs.Calls.{Ends, claims_in, one_claim}
 use Rattle.tp_manager.specs.Shown.{ManagerShown, PassShown}
@@ -48,40 +48,40 @@ ends_adds : (p q : PassShown) (ended : Ended) → Ends p q ended → Adds 0 0 p 
 ends_adds p q endeds.Aborted (u, closes, keeps, adds) = one p q (Abort p.number u) 0 0 adds.mine refl refl
 ends_adds p q endeds.Already (u, closes, keeps, loses) = quiet p q loses.0
 
-work_adds : (recipe : Recipe) (registers : List ℕ) (work : Work) (p q : PassShown) (t : Turned) → WorksOff recipe registers work p q t → Adds (turn_count t).done 0 p q
-work_adds recipe registers work p q turneds.Idle h = absurd h
-work_adds recipe registers work p q turneds.NoUnit h = absurd h
-work_adds recipe registers work p q (turneds.Done unit element first count) (a, b, (drafts, made, commits)) = one p q _ 1 0 commits.adds.mine refl refl
-work_adds recipe registers work p q (turneds.Refused element why) (a, (declines, (ended, ends))) = ends_adds p q ended ends
-work_adds recipe registers work p q (turneds.Lost element) (a, (drafts, made, (u, closes, row, uses, loses))) = quiet p q loses.0
-work_adds recipe registers work p q (turneds.Full element) (a, (drafts, made, (few, all_drawn, (u, closes, keeps, how)))) =
+work_adds : (behaviour : Behaviour) (registers : List ℕ) (work : Work) (p q : PassShown) (t : Turned) → WorksOff behaviour registers work p q t → Adds (turn_count t).done 0 p q
+work_adds behaviour registers work p q turneds.Idle h = absurd h
+work_adds behaviour registers work p q turneds.NoUnit h = absurd h
+work_adds behaviour registers work p q (turneds.Done unit element first count) (a, b, (drafts, made, commits)) = one p q _ 1 0 commits.adds.mine refl refl
+work_adds behaviour registers work p q (turneds.Refused element why) (a, (declines, (ended, ends))) = ends_adds p q ended ends
+work_adds behaviour registers work p q (turneds.Lost element) (a, (drafts, made, (u, closes, row, uses, loses))) = quiet p q loses.0
+work_adds behaviour registers work p q (turneds.Full element) (a, (drafts, made, (few, all_drawn, (u, closes, keeps, how)))) =
     ⊎_elim (λ adds. one p q (Abort p.number u) 0 0 adds.mine refl refl) (λ loses. quiet p q loses.0) how
 
 -- an element was claimed, and this became of it
-works_adds : (l : Limits) (recipe : Recipe) (registers : List ℕ) (p q : PassShown) (t : Turned) → Works l recipe registers p q t → Adds ((turn_count t).done + 0) 1 p q
-works_adds l recipe registers p q t h =
-    then 0 1 (turn_count t).done 0 p h.between q (one p h.between _ 0 1 h.takes.adds.mine refl refl) (work_adds recipe registers h.work h.between q t h.off)
+works_adds : (l : Limits) (behaviour : Behaviour) (registers : List ℕ) (p q : PassShown) (t : Turned) → Works l behaviour registers p q t → Adds ((turn_count t).done + 0) 1 p q
+works_adds l behaviour registers p q t h =
+    then 0 1 (turn_count t).done 0 p h.between q (one p h.between _ 0 1 h.takes.adds.mine refl refl) (work_adds behaviour registers h.work h.between q t h.off)
 
-turn_adds : (l : Limits) (recipe : Recipe) (registers : List ℕ) (p q : PassShown) (t : Turned) → Turns l recipe registers p q t → Adds (turn_count t).done (claimed (turn_count t)) p q
-turn_adds l recipe registers p q turneds.Idle h = quiet p q h.1.mine
-turn_adds l recipe registers p q turneds.NoUnit h = quiet p q (ap (λ (s : PassShown). s.mine) h.1)
-turn_adds l recipe registers p q (turneds.Done unit element first count) h = works_adds l recipe registers p q (turneds.Done unit element first count) h
-turn_adds l recipe registers p q (turneds.Refused element why) h = works_adds l recipe registers p q (turneds.Refused element why) h
-turn_adds l recipe registers p q (turneds.Lost element) h = works_adds l recipe registers p q (turneds.Lost element) h
-turn_adds l recipe registers p q (turneds.Full element) h = works_adds l recipe registers p q (turneds.Full element) h
+turn_adds : (l : Limits) (behaviour : Behaviour) (registers : List ℕ) (p q : PassShown) (t : Turned) → Turns l behaviour registers p q t → Adds (turn_count t).done (claimed (turn_count t)) p q
+turn_adds l behaviour registers p q turneds.Idle h = quiet p q h.1.mine
+turn_adds l behaviour registers p q turneds.NoUnit h = quiet p q (ap (λ (s : PassShown). s.mine) h.1)
+turn_adds l behaviour registers p q (turneds.Done unit element first count) h = works_adds l behaviour registers p q (turneds.Done unit element first count) h
+turn_adds l behaviour registers p q (turneds.Refused element why) h = works_adds l behaviour registers p q (turneds.Refused element why) h
+turn_adds l behaviour registers p q (turneds.Lost element) h = works_adds l behaviour registers p q (turneds.Lost element) h
+turn_adds l behaviour registers p q (turneds.Full element) h = works_adds l behaviour registers p q (turneds.Full element) h
 
 -- a turn uses up the units that it claims
-pub turn_claims : (l : Limits) (recipe : Recipe) (registers : List ℕ) (p q : PassShown) (t : Turned) → Turns l recipe registers p q t → claimed (turn_count t) + claims_in p.mine ≡ claims_in q.mine
-turn_claims l recipe registers p q t h = (turn_adds l recipe registers p q t h).taken_is
+pub turn_claims : (l : Limits) (behaviour : Behaviour) (registers : List ℕ) (p q : PassShown) (t : Turned) → Turns l behaviour registers p q t → claimed (turn_count t) + claims_in p.mine ≡ claims_in q.mine
+turn_claims l behaviour registers p q t h = (turn_adds l behaviour registers p q t h).taken_is
 
 -- a turn claims an element only where a unit is left
-pub turn_room : (l : Limits) (recipe : Recipe) (registers : List ℕ) (p q : PassShown) (t : Turned) → Turns l recipe registers p q t → claimed (turn_count t) + claims_in p.mine ≤ l.units
-turn_room l recipe registers p q turneds.Idle h = omega (arith, h.0)
-turn_room l recipe registers p q turneds.NoUnit h = omega (arith, h.0)
-turn_room l recipe registers p q (turneds.Done unit element first count) h = omega (arith, h.takes.room)
-turn_room l recipe registers p q (turneds.Refused element why) h = omega (arith, h.takes.room)
-turn_room l recipe registers p q (turneds.Lost element) h = omega (arith, h.takes.room)
-turn_room l recipe registers p q (turneds.Full element) h = omega (arith, h.takes.room)
+pub turn_room : (l : Limits) (behaviour : Behaviour) (registers : List ℕ) (p q : PassShown) (t : Turned) → Turns l behaviour registers p q t → claimed (turn_count t) + claims_in p.mine ≤ l.units
+turn_room l behaviour registers p q turneds.Idle h = omega (arith, h.0)
+turn_room l behaviour registers p q turneds.NoUnit h = omega (arith, h.0)
+turn_room l behaviour registers p q (turneds.Done unit element first count) h = omega (arith, h.takes.room)
+turn_room l behaviour registers p q (turneds.Refused element why) h = omega (arith, h.takes.room)
+turn_room l behaviour registers p q (turneds.Lost element) h = omega (arith, h.takes.room)
+turn_room l behaviour registers p q (turneds.Full element) h = omega (arith, h.takes.room)
 
 pub one_turn : (t : Turned) → total (turn_count t) ≡ 1
 one_turn turneds.Idle = refl
@@ -96,33 +96,33 @@ module _ (l : Limits) (n : ℕ) (x y : Place) (s : Shift) (h : Called (TakesTurn
   pub turns_commit : s.done + commits_in x.pass ≡ commits_in y.pass
   turns_commit =
       called_gains (TakesTurn l) turn_count (λ (c : Shift). c.done) (λ (p : Place). commits_in p.pass) refl (λ a b. refl)
-      (λ p t q r. (turn_adds l p.recipe p.registers p.pass q.pass t r.answer).done_is) n x y s h
+      (λ p t q r. (turn_adds l p.behaviour p.registers p.pass q.pass t r.answer).done_is) n x y s h
 
   pub turns_claim : claimed s + claims_in x.pass.mine ≡ claims_in y.pass.mine
   turns_claim =
       called_gains (TakesTurn l) turn_count claimed (λ (p : Place). claims_in p.pass.mine) refl (λ a b. omega arith)
-      (λ p t q r. turn_claims l p.recipe p.registers p.pass q.pass t r.answer) n x y s h
+      (λ p t q r. turn_claims l p.behaviour p.registers p.pass q.pass t r.answer) n x y s h
 
   pub turns_total : total s ≡ n
   turns_total = called_total (TakesTurn l) turn_count one_turn n x y s h
 
-module _ {X : Type 0} {F : X → Type 0} (recipe : (x : X) × F x → Recipe) (registers : (x : X) × F x → List ℕ) (pending : (x : X) × F x → Option Pending) where
+module _ {X : Type 0} {F : X → Type 0} (behaviour : (x : X) × F x → Behaviour) (registers : (x : X) × F x → List ℕ) (pending : (x : X) × F x → Option Pending) where
   abbrev Lent : Type 0
   Lent = PassShown × DynBox X Global F
 
   abbrev at : Lent → Place
-  at x = place (shown recipe) (shown registers) (shown pending) x
+  at x = place (shown behaviour) (shown registers) (shown pending) x
 
   abbrev of_desk : Desk X F → Place
-  of_desk d = place_of recipe registers pending d
+  of_desk d = place_of behaviour registers pending d
 
   -- the desk took n turns so far
   pub record SoFar (n : ℕ) (old : Desk X F) (counts : Shift) (new : Desk X F) : Type 0 where
     pub calls : Called (TakesTurn old.manager.now.limits) turn_count n (of_desk old) counts (of_desk new)
     pub same : IsSameDesk old new
-    pub resting : IsResting recipe registers pending new
+    pub resting : IsResting behaviour registers pending new
 
-  pub none_so_far : (d : Desk X F) → IsResting recipe registers pending d → SoFar 0 d none d
+  pub none_so_far : (d : Desk X F) → IsResting behaviour registers pending d → SoFar 0 d none d
   none_so_far d resting = record {
     calls = called_none (TakesTurn d.manager.now.limits) turn_count (of_desk d);
     same = record { manager = refl; pass = refl; server = refl; first_pass = refl; first_server = refl };
@@ -130,7 +130,7 @@ module _ {X : Type 0} {F : X → Type 0} (recipe : (x : X) × F x → Recipe) (r
   }
 
   pub one_more : (n : ℕ) (t : Turned) (x y z : Desk X F) (s u v : Shift) → SoFar n x s y → IsSameDesk y z → TakesTurn y.manager.now.limits (of_desk y) t (of_desk z)
-      → IsResting recipe registers pending z → u ≡ turn_count t → v ≡ plus s u → SoFar (n + 1) x v z
+      → IsResting behaviour registers pending z → u ≡ turn_count t → v ≡ plus s u → SoFar (n + 1) x v z
   one_more n t x y z s u v h same turn resting is both = record {
     calls = called_more (TakesTurn x.manager.now.limits) turn_count n t (of_desk x) (of_desk y) (of_desk z) s u v h.calls
         (subst (λ k. TakesTurn k.now.limits (of_desk y) t (of_desk z)) h.same.manager turn) is both;
@@ -152,21 +152,21 @@ module _ {X : Type 0} {F : X → Type 0} (recipe : (x : X) × F x → Recipe) (r
     pub first_pass : d.first_pass.value ≡ x.0
     pub first_server : d.first_server.value ≡ x.1
     pub same : IsSameDesk d e
-    pub resting : IsResting recipe registers pending e
+    pub resting : IsResting behaviour registers pending e
     pub ends : EndsOpen e.pass.now.open_unit e.pass.now y.0
-    pub recipe_is : shown recipe y.1 ≡ shown recipe e.server.now
+    pub behaviour_is : shown behaviour y.1 ≡ shown behaviour e.server.now
     pub registers_are : shown registers y.1 ≡ shown registers e.server.now
-    pub left : Leaves (shown recipe y.1) (shown registers e.first_server.value) (shown registers y.1) e.first_pass.value y.0
-    pub ready : IsDeskOf (shown recipe) (shown registers) (shown pending) m y
+    pub left : Leaves (shown behaviour y.1) (shown registers e.first_server.value) (shown registers y.1) e.first_pass.value y.0
+    pub ready : IsDeskOf (shown behaviour) (shown registers) (shown pending) m y
 
   module _ (m : ManagerShown) (x : Lent) (d e : Desk X F) (y : Lent) (lending : Lending m x d e y) where
     begun : of_desk d ≡ at x
-    begun = ap₂ (λ p s. record { pass = p; recipe = shown recipe s; registers = shown registers s }) lending.pass lending.server
+    begun = ap₂ (λ p s. record { pass = p; behaviour = shown behaviour s; registers = shown registers s }) lending.pass lending.server
 
     ended : of_desk e ≡ at y
     ended =
         let same : y.0 ≡ e.pass.now = same_when_free e.pass.now.open_unit e.pass.now y.0 (free_of _ e.work _ _ _ _ _ lending.resting.free lending.resting.steady.in_hand) lending.ends in
-        sym (rw (same, lending.recipe_is, lending.registers_are) refl)
+        sym (rw (same, lending.behaviour_is, lending.registers_are) refl)
       where
         same_when_free : (o : Option ℕ) (p q : PassShown) → o ≡ None → EndsOpen o p q → q ≡ p
         same_when_free None p q none adds = adds
@@ -175,41 +175,41 @@ module _ {X : Type 0} {F : X → Type 0} (recipe : (x : X) × F x → Recipe) (r
             no : (u : ℕ) → Some u ≡ None → ⊥
             no u e = cc
 
-        free_of : (pend : Option Pending) (w : Option Work) (drafts : List DraftView) (f p : PassShown) (r : Recipe) (rs : List ℕ) → w ≡ None → InHand r rs pend w drafts f p → p.open_unit ≡ None
+        free_of : (pend : Option Pending) (w : Option Work) (drafts : List DraftView) (f p : PassShown) (r : Behaviour) (rs : List ℕ) → w ≡ None → InHand r rs pend w drafts f p → p.open_unit ≡ None
         free_of pend w drafts f p r rs none h = (subst (λ (o : Option Work). InHand r rs pend o drafts f p) none h).open_unit
 
     -- what the turns made of the pass and the server
     lent_as : (R : Place → Place → Type 0) → R (of_desk d) (of_desk e) → R (at x) (at y)
     lent_as R h = subst (λ a. R a (at y)) begun (subst (R (of_desk d)) ended h)
 
-    lent_leaves : shown recipe y.1 ≡ shown recipe x.1 → Leaves (shown recipe x.1) (shown registers x.1) (shown registers y.1) x.0 y.0
+    lent_leaves : shown behaviour y.1 ≡ shown behaviour x.1 → Leaves (shown behaviour x.1) (shown registers x.1) (shown registers y.1) x.0 y.0
     lent_leaves whole =
         let first : e.first_pass.value ≡ x.0 = ap (λ f. f.value) lending.same.first_pass ∙ lending.first_pass in
         let start : e.first_server.value ≡ x.1 = ap (λ f. f.value) lending.same.first_server ∙ lending.first_server in
         subst (λ r. Leaves r (shown registers x.1) (shown registers y.1) x.0 y.0) whole
-        (subst (λ (s : DynBox X Global F). Leaves (shown recipe y.1) (shown registers s) (shown registers y.1) x.0 y.0) start
-        (subst (λ (p : PassShown). Leaves (shown recipe y.1) (shown registers e.first_server.value) (shown registers y.1) p y.0) first lending.left))
+        (subst (λ (s : DynBox X Global F). Leaves (shown behaviour y.1) (shown registers s) (shown registers y.1) x.0 y.0) start
+        (subst (λ (p : PassShown). Leaves (shown behaviour y.1) (shown registers e.first_server.value) (shown registers y.1) p y.0) first lending.left))
 
-    same_recipe : (ts : List Turned) (l : Limits) (p q : Place) → Chain (TakesTurn l) p ts q → q.recipe ≡ p.recipe
-    same_recipe [] l p q h = ap (λ (r : Place). r.recipe) h
-    same_recipe (t ∷ ts) l p q h = same_recipe ts l h.0 q h.2 ∙ h.1.recipe_is
+    same_behaviour : (ts : List Turned) (l : Limits) (p q : Place) → Chain (TakesTurn l) p ts q → q.behaviour ≡ p.behaviour
+    same_behaviour [] l p q h = ap (λ (r : Place). r.behaviour) h
+    same_behaviour (t ∷ ts) l p q h = same_behaviour ts l h.0 q h.2 ∙ h.1.behaviour_is
 
     pub desk_ran : (turns : ℕ) (counts : Shift) → TakesTurns d.manager.now.limits turns (of_desk d) counts (of_desk e)
-        → DeskRan (shown recipe) (shown registers) (shown pending) m turns x counts y
+        → DeskRan (shown behaviour) (shown registers) (shown pending) m turns x counts y
     desk_ran turns counts taken =
         let now : TakesTurns m.limits turns (at x) counts (at y) =
         subst (λ (k : ManagerShown). TakesTurns k.limits turns (at x) counts (at y)) lending.manager (lent_as (λ a b. TakesTurns d.manager.now.limits turns a counts b) taken) in
-        let whole : shown recipe y.1 ≡ shown recipe x.1 = same_recipe now.calls.answers m.limits (at x) (at y) now.calls.each in
+        let whole : shown behaviour y.1 ≡ shown behaviour x.1 = same_behaviour now.calls.answers m.limits (at x) (at y) now.calls.each in
         record {
           turns_taken = now;
           done = turns_commit m.limits now.taken (at x) (at y) counts now.calls;
           leaves = lent_leaves whole;
-          recipe_is = whole;
+          behaviour_is = whole;
           ready = lending.ready;
         }
 
     pub desk_took : (t : Turned) (counts : Shift) → TakesTurn d.manager.now.limits (of_desk d) t (of_desk e) → AreLimits d.manager.now.limits → counts ≡ turn_count t
-        → TookTurn (shown recipe) (shown registers) (shown pending) m x counts y
+        → TookTurn (shown behaviour) (shown registers) (shown pending) m x counts y
     desk_took t counts turn limits counted =
         let now : TakesTurn m.limits (at x) t (at y) =
         subst (λ (k : ManagerShown). TakesTurn k.limits (at x) t (at y)) lending.manager (lent_as (λ a b. TakesTurn d.manager.now.limits a t b) turn) in
@@ -218,6 +218,6 @@ module _ {X : Type 0} {F : X → Type 0} (recipe : (x : X) × F x → Recipe) (r
           turn = now;
           limits = subst (λ (k : ManagerShown). AreLimits k.limits) lending.manager limits;
           counted = counted;
-          leaves = lent_leaves now.recipe_is;
+          leaves = lent_leaves now.behaviour_is;
           ready = lending.ready;
         }

@@ -1,7 +1,7 @@
 -- What desks do in a shift.
 use Rattle.std.specs.Prelude.{◌≡◌, ℕ, ◌+◌, ◌≤◌, List, Option, None}
 use Rattle.tp_model.specs.declared.types.Limits.{Limits}
-use Rattle.tp_server.specs.declared.recipe.Recipe.{Recipe}
+use Rattle.tp_server.specs.Behaviour.{Behaviour}
 use Rattle.tp_server.specs.Pending.{Pending}
 use Rattle.tp_manager.specs.Calls.{Follows}
 use Rattle.tp_manager.specs.Shown.{ManagerShown, PassShown}
@@ -19,14 +19,14 @@ use Rattle.tp_workers.specs.Tally.{turn_count}
 -- what a pass and its server show
 pub record Place : Type 0 where
   pub pass : PassShown
-  pub recipe : Recipe
+  pub behaviour : Behaviour
   pub registers : List ℕ
 
 -- a turn was taken there, with this answer
 pub record TakesTurn (l : Limits) (old : Place) (turned : Turned) (new : Place) : Type 0 where
-  pub answer : Turns l old.recipe old.registers old.pass new.pass turned
+  pub answer : Turns l old.behaviour old.registers old.pass new.pass turned
   pub follows : Follows (turn_steps l) old.pass new.pass
-  pub recipe_is : new.recipe ≡ old.recipe
+  pub behaviour_is : new.behaviour ≡ old.behaviour
 
 -- at most so many turns were taken there, and fewer only after one that found no unit left
 pub record TakesTurns (l : Limits) (turns : ℕ) (old : Place) (counts : Shift) (new : Place) : Type 0 where
@@ -35,34 +35,34 @@ pub record TakesTurns (l : Limits) (turns : ℕ) (old : Place) (counts : Shift) 
   pub at_most : taken ≤ turns
   pub all_taken : counts.nounit ≡ 0 → taken ≡ turns
 
--- The first three arguments say of a box what its server shows: its recipe, the registers of its committed work, and its
+-- The first three arguments say of a box what its server shows: its behaviour, the registers of its committed work, and its
 -- prepared work.
-module _ {B : Type 0} (recipe : B → Recipe) (registers : B → List ℕ) (pending : B → Option Pending) where
+module _ {B : Type 0} (behaviour : B → Behaviour) (registers : B → List ℕ) (pending : B → Option Pending) where
   abbrev pub place : PassShown × B → Place
-  place x = record { pass = x.0; recipe = recipe x.1; registers = registers x.1 }
+  place x = record { pass = x.0; behaviour = behaviour x.1; registers = registers x.1 }
 
   -- a desk can be made of this pass and this server: the pass is free, and nothing is prepared
   pub record IsDeskOf (m : ManagerShown) (x : PassShown × B) : Type 0 where
     pub pass : IsFreePass m x.0
     pub unprepared : pending x.1 ≡ None
 
-  -- A desk of this pass and this server took its turns, and they left them so. The registers of committed work are the fold
-  -- of the server's recipe over what the pass has consumed since.
+  -- A desk of this pass and this server took its turns, and they left them so. The registers of committed work are what the effects
+  -- of the server over what the pass has consumed since led to.
   pub record DeskRan (m : ManagerShown) (turns : ℕ) (old : PassShown × B) (counts : Shift) (new : PassShown × B) : Type 0 where
     pub turns_taken : TakesTurns m.limits turns (place old) counts (place new)
     pub done : counts.done + commits_in old.0 ≡ commits_in new.0
-    pub leaves : Leaves (recipe old.1) (registers old.1) (registers new.1) old.0 new.0
-    pub recipe_is : recipe new.1 ≡ recipe old.1
+    pub leaves : Leaves (behaviour old.1) (registers old.1) (registers new.1) old.0 new.0
+    pub behaviour_is : behaviour new.1 ≡ behaviour old.1
     pub ready : IsDeskOf m new
 
 -- The same of a desk itself. Where no box is in sight, a server's members are told of a pair.
-module _ {X : Type 0} {F : X → Type 0} (recipe : (x : X) × F x → Recipe) (registers : (x : X) × F x → List ℕ)
+module _ {X : Type 0} {F : X → Type 0} (behaviour : (x : X) × F x → Behaviour) (registers : (x : X) × F x → List ℕ)
     (pending : (x : X) × F x → Option Pending) where
   -- what the pass and the server of a desk show
   abbrev pub place_of : Desk X F → Place
-  place_of d = place (shown recipe) (shown registers) (shown pending) (d.pass.now, d.server.now)
+  place_of d = place (shown behaviour) (shown registers) (shown pending) (d.pass.now, d.server.now)
 
   -- the desk is steady, and has no work in hand
   pub record IsResting (d : Desk X F) : Type 0 where
-    pub steady : SteadyDesk (shown recipe) (shown registers) (shown pending) d
+    pub steady : SteadyDesk (shown behaviour) (shown registers) (shown pending) d
     pub free : d.work ≡ None

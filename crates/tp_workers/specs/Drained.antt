@@ -2,7 +2,7 @@
 use Rattle.std.specs.Prelude.{◌≡◌, ℕ, ◌+◌, ◌≤◌, List, Option}
 use Rattle.tp_model.specs.Steps.{AreLimits}
 use Rattle.tp_model.specs.declared.types.Limits.{Limits}
-use Rattle.tp_server.specs.declared.recipe.Recipe.{Recipe}
+use Rattle.tp_server.specs.Behaviour.{Behaviour}
 use Rattle.tp_server.specs.Pending.{Pending}
 use Rattle.tp_manager.specs.Shown.{ManagerShown, PassShown}
 use Rattle.tp_desk.specs.declared.turned.Turned.{Turned}
@@ -23,25 +23,30 @@ pub record EndsIdle (l : Limits) (old new : Place) : Type 0 where
   pub turn : TakesTurn l before last new
   pub idle : claimed (turn_count last) ≡ 0
 
-module _ {B : Type 0} (recipe : B → Recipe) (registers : B → List ℕ) (pending : B → Option Pending) (m : ManagerShown) where
+module _ {B : Type 0} (behaviour : B → Behaviour) (registers : B → List ℕ) (pending : B → Option Pending) (m : ManagerShown) where
   -- a desk of this pass and this server took one turn, which is counted
   pub record TookTurn (old : PassShown × B) (counts : Shift) (new : PassShown × B) : Type 0 where
     pub turned : Turned
-    pub turn : TakesTurn m.limits (place recipe registers pending old) turned (place recipe registers pending new)
+    pub turn : TakesTurn m.limits (place behaviour registers pending old) turned (place behaviour registers pending new)
     pub limits : AreLimits m.limits
     pub counted : counts ≡ turn_count turned
-    pub leaves : Leaves (recipe old.1) (registers old.1) (registers new.1) old.0 new.0
-    pub ready : IsDeskOf recipe registers pending m new
+    pub leaves : Leaves (behaviour old.1) (registers old.1) (registers new.1) old.0 new.0
+    pub ready : IsDeskOf behaviour registers pending m new
+
+  -- Desks of this pass and this server took turns until one found nothing to claim, and the counts are this last turn's alone.
+  pub record LastTurn (old : PassShown × B) (counts : Shift) (new : PassShown × B) : Type 0 where
+    pub ends : EndsIdle m.limits (place behaviour registers pending old) (place behaviour registers pending new)
+    pub counted : counts ≡ turn_count ends.last
 
   -- Desks of this pass and this server took turns until one found nothing to claim, and committed at most as many units as a
-  -- pass can have. The registers of committed work are the fold of the server's recipe over what the pass has consumed since.
+  -- pass can have. The registers of committed work are what the server's effects over what the pass has consumed since led to.
   pub record DeskDrained (old : PassShown × B) (counts : Shift) (new : PassShown × B) : Type 0 where
     pub taken : ℕ
-    pub calls : Called (TakesTurn m.limits) turn_count taken (place recipe registers pending old) counts
-        (place recipe registers pending new)
+    pub calls : Called (TakesTurn m.limits) turn_count taken (place behaviour registers pending old) counts
+        (place behaviour registers pending new)
     pub done : counts.done + commits_in old.0 ≡ commits_in new.0
     pub few : counts.done ≤ 1024
-    pub idle : EndsIdle m.limits (place recipe registers pending old) (place recipe registers pending new)
-    pub leaves : Leaves (recipe old.1) (registers old.1) (registers new.1) old.0 new.0
-    pub recipe_is : recipe new.1 ≡ recipe old.1
-    pub ready : IsDeskOf recipe registers pending m new
+    pub idle : EndsIdle m.limits (place behaviour registers pending old) (place behaviour registers pending new)
+    pub leaves : Leaves (behaviour old.1) (registers old.1) (registers new.1) old.0 new.0
+    pub behaviour_is : behaviour new.1 ≡ behaviour old.1
+    pub ready : IsDeskOf behaviour registers pending m new

@@ -1,7 +1,7 @@
 -- What a worker's pass gained.
 use Rattle.std.specs.Prelude.{◌≡◌, ℕ, List, ◌++◌, All, Bool, true, false, count_by}
 use Rattle.tp_model.specs.declared.event.Event.{Event}
-use Rattle.tp_model.specs.declared.event.Event.TheVariants.{Enqueue, Claim, Commit, Abort, Kill}
+use Rattle.tp_model.specs.declared.event.Event.TheVariants.{Enqueue, Commit, Kill}
 use Rattle.tp_manager.specs.Shown.{PassShown}
 
 -- the pass made events more, each of which is such a one

@@ -8,3 +8,5 @@ pub mod Drained
 pub mod Clients
 pub mod Killers
 pub mod Sums
+pub mod CrewPasses
+pub mod Crew

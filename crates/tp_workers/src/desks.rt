@@ -24,8 +24,8 @@ pub(crate) fn run_desk<G: Gate>(
     worker: u32,
     gate: &G,
 ) -> Shift
-    requires ready { IsDeskOf recipe registers pending manager.now (pass.old, server.old) }
-    ensures ran { DeskRan recipe registers pending manager.now turns (pass.old, server.old) result (pass.new, server.new) }
+    requires ready { IsDeskOf behaviour registers pending manager.now (pass.old, server.old) }
+    ensures ran { DeskRan behaviour registers pending manager.now turns (pass.old, server.old) result (pass.new, server.new) }
     ensures bound { total result ≤ turns }
 {
     let mut desk = Desk::new(manager, pass, server);
@@ -40,8 +40,8 @@ pub(crate) fn take_turn(
     pass: &mut Pass,
     server: &mut Box<dyn Server + Send>,
 ) -> Shift
-    requires ready { IsDeskOf recipe registers pending manager.now (pass.old, server.old) }
-    ensures took { TookTurn recipe registers pending manager.now (pass.old, server.old) result (pass.new, server.new) }
+    requires ready { IsDeskOf behaviour registers pending manager.now (pass.old, server.old) }
+    ensures took { TookTurn behaviour registers pending manager.now (pass.old, server.old) result (pass.new, server.new) }
 {
     let mut desk = Desk::new(manager, pass, server);
     let turned = desk.turn();
@@ -50,11 +50,11 @@ pub(crate) fn take_turn(
 }
 
 fn take_turns<G: Gate>(desk: &mut Desk, turns: u32, worker: u32, gate: &G) -> Shift
-    requires resting { IsResting recipe registers pending desk.old }
+    requires resting { IsResting behaviour registers pending desk.old }
     ensures same { IsSameDesk desk.old desk.new }
     ensures turns { TakesTurns desk.old.manager.now.limits turns
-        (place_of recipe registers pending desk.old) result (place_of recipe registers pending desk.new) }
-    ensures resting { IsResting recipe registers pending desk.new }
+        (place_of behaviour registers pending desk.old) result (place_of behaviour registers pending desk.new) }
+    ensures resting { IsResting behaviour registers pending desk.new }
     ensures bound { total result ≤ turns }
 {
     let mut counts = Shift::none();
@@ -70,11 +70,11 @@ fn take_turns<G: Gate>(desk: &mut Desk, turns: u32, worker: u32, gate: &G) -> Sh
 
 /// A turn with a pause at each of its points.
 fn turn_at<G: Gate>(desk: &mut Desk, worker: u32, gate: &G) -> Turned
-    requires resting { IsResting recipe registers pending desk.old }
+    requires resting { IsResting behaviour registers pending desk.old }
     ensures same { IsSameDesk desk.old desk.new }
     ensures turn { TakesTurn desk.old.manager.now.limits
-        (place_of recipe registers pending desk.old) result (place_of recipe registers pending desk.new) }
-    ensures resting { IsResting recipe registers pending desk.new }
+        (place_of behaviour registers pending desk.old) result (place_of behaviour registers pending desk.new) }
+    ensures resting { IsResting behaviour registers pending desk.new }
 {
     gate.pause(worker, Point::Start);
     let turned = claim_at(desk, worker, gate);
@@ -83,15 +83,15 @@ fn turn_at<G: Gate>(desk: &mut Desk, worker: u32, gate: &G) -> Turned
 }
 
 fn claim_at<G: Gate>(desk: &mut Desk, worker: u32, gate: &G) -> Turned
-    requires steady { SteadyDesk (shown recipe) (shown registers) (shown pending) desk.old }
+    requires steady { SteadyDesk (shown behaviour) (shown registers) (shown pending) desk.old }
     requires free { desk.old.work ≡ None }
     ensures same { IsSameDesk desk.old desk.new }
-    ensures recipe { shown recipe desk.new.server.now ≡ shown recipe desk.old.server.now }
+    ensures behaviour { shown behaviour desk.new.server.now ≡ shown behaviour desk.old.server.now }
     ensures free { desk.new.work ≡ None }
     ensures follows { Follows (turn_steps desk.old.manager.now.limits) desk.old.pass.now desk.new.pass.now }
-    ensures answer { Turns desk.old.manager.now.limits (shown recipe desk.old.server.now)
+    ensures answer { Turns desk.old.manager.now.limits (shown behaviour desk.old.server.now)
         (shown registers desk.old.server.now) desk.old.pass.now desk.new.pass.now result }
-    ensures steady { SteadyDesk (shown recipe) (shown registers) (shown pending) desk.new }
+    ensures steady { SteadyDesk (shown behaviour) (shown registers) (shown pending) desk.new }
 {
     match desk.claim() {
         Claimed::Idle => Turned::Idle,
@@ -101,16 +101,16 @@ fn claim_at<G: Gate>(desk: &mut Desk, worker: u32, gate: &G) -> Turned
 }
 
 fn work_at<G: Gate>(desk: &mut Desk, work: Work, worker: u32, gate: &G) -> Turned
-    requires steady { SteadyDesk (shown recipe) (shown registers) (shown pending) desk.old }
+    requires steady { SteadyDesk (shown behaviour) (shown registers) (shown pending) desk.old }
     requires taken { desk.old.work ≡ Some work }
     requires unprepared { shown pending desk.old.server.now ≡ None }
     ensures same { IsSameDesk desk.old desk.new }
-    ensures recipe { shown recipe desk.new.server.now ≡ shown recipe desk.old.server.now }
+    ensures behaviour { shown behaviour desk.new.server.now ≡ shown behaviour desk.old.server.now }
     ensures free { desk.new.work ≡ None }
     ensures follows { Follows (commit_steps desk.old.manager.now.limits 4) desk.old.pass.now desk.new.pass.now }
-    ensures answer { WorksOff (shown recipe desk.old.server.now) (shown registers desk.old.server.now) work
+    ensures answer { WorksOff (shown behaviour desk.old.server.now) (shown registers desk.old.server.now) work
         desk.old.pass.now desk.new.pass.now result }
-    ensures steady { SteadyDesk (shown recipe) (shown registers) (shown pending) desk.new }
+    ensures steady { SteadyDesk (shown behaviour) (shown registers) (shown pending) desk.new }
 {
     gate.pause(worker, Point::Claimed);
     if let Err(why) = desk.prepare() {

@@ -1,8 +1,10 @@
-//! Desks, clients and killers at work together, each on a thread of its own, and desks at work in rounds until nothing
-//! is left.
+//! Desks, clients and killers at work together, each on a thread of its own, and desks at work in rounds until a whole
+//! round claims nothing.
 #![tactic(auto)]
 
 mod client;
+mod crew;
+mod crew_calls;
 mod desks;
 mod fork;
 mod gate;
@@ -12,6 +14,7 @@ mod tally;
 mod work;
 
 pub use client::ClientJob;
+pub use crew::{Crew, CrewLimits};
 pub use gate::{Gate, NoGate, Point};
 pub use killer::KillJob;
 pub use rounds::{Drained, drain};

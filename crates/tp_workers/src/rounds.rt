@@ -1,7 +1,7 @@
-//! Rounds of turns until nothing is left.
+//! Rounds of turns until a whole round claims nothing.
 ghost use Rattle.std.specs.Prelude.{◌≡◌, ◌+◌, ◌*◌, ◌<◌, ◌^◌, None, All, sum_by, length};
 ghost use Rattle.tp_workers.specs.Desks.{IsDeskOf};
-ghost use Rattle.tp_workers.specs.Drained.{DeskDrained, TookTurn};
+ghost use Rattle.tp_workers.specs.Drained.{DeskDrained, LastTurn, TookTurn};
 ghost use Rattle.tp_workers.specs.Free.{IsFreePass, numbers};
 ghost use Rattle.tp_workers.specs.Gains.{commits_in};
 ghost use Rattle.tp_workers.specs.declared.tally.Shift.{Shift};
@@ -18,10 +18,12 @@ use tp_server::Server;
 pub struct Drained {
     /// How many units were committed.
     pub done: u32,
+    /// How many desks found no unit left in their last turn. The others found nothing to wait.
+    pub nounit: u32,
 }
 
 /// Has a desk of each pass with the server at its place take turns on the caller's thread, one turn each in a round, until a
-/// whole round claims nothing. All passes come from this manager's keeper and have no unit open, and the servers have nothing
+/// whole round claims nothing: each desk's last turn found nothing to wait, or no unit left. All passes come from this manager's keeper and have no unit open, and the servers have nothing
 /// prepared; so it is afterwards.
 pub fn drain(
     manager: &Manager,
@@ -33,7 +35,9 @@ pub fn drain(
     requires clear { All (λ server. pending server ≡ None) servers.old }
     requires fit { length passes.old * 1024 < 2 ^ 32 }
     ensures desks { (counts : Shift) × (result.done ≡ counts.done)
-        × RanEach (DeskDrained recipe registers pending manager.now) passes.old servers.old counts passes.new servers.new }
+        × RanEach (DeskDrained behaviour registers pending manager.now) passes.old servers.old counts passes.new servers.new }
+    ensures last_turns { (counts : Shift) × (result.nounit ≡ counts.nounit)
+        × RanEach (LastTurn behaviour registers pending manager.now) passes.old servers.old counts passes.new servers.new }
     ensures free { All (IsFreePass manager.now) passes.new }
     ensures clear { All (λ server. pending server ≡ None) servers.new }
     ensures numbered { numbers passes.new ≡ numbers passes.old }
@@ -45,7 +49,10 @@ pub fn drain(
         let counts = round(manager, passes, servers);
         done += counts.done;
         if !counts.has_claimed() {
-            return Drained { done };
+            return Drained {
+                done,
+                nounit: counts.nounit,
+            };
         }
     }
 }
@@ -56,12 +63,12 @@ fn round(manager: &Manager, passes: &mut [Pass], servers: &mut [Box<dyn Server +
     requires free { All (IsFreePass manager.now) passes.old }
     requires clear { All (λ server. pending server ≡ None) servers.old }
     requires fit { length passes.old < 2 ^ 32 }
-    ensures ran { RanEach (TookTurn recipe registers pending manager.now)
+    ensures ran { RanEach (TookTurn behaviour registers pending manager.now)
         passes.old servers.old result passes.new servers.new }
 {
     let run = |pass: &mut Pass, server: &mut Box<dyn Server + Send>, _worker: u32| -> Shift
-        requires { IsDeskOf recipe registers pending manager.now (pass.now, server.now) }
-        ensures { TookTurn recipe registers pending manager.entry.now
+        requires { IsDeskOf behaviour registers pending manager.now (pass.now, server.now) }
+        ensures { TookTurn behaviour registers pending manager.entry.now
             (pass.entry.now, server.entry.now) result (pass.exit.now, server.exit.now) }
     { take_turn(manager, pass, server) };
     in_turn(&run, 0, passes, servers)

@@ -12,7 +12,7 @@ use tp_model::types::{Killed, Refusal};
 pub struct Shift {
     /// Turns whose unit was committed.
     pub done: u32,
-    /// Turns whose element the recipe declined.
+    /// Turns whose element the server declined.
     pub refused: u32,
     /// Turns whose unit another caller had aborted.
     pub lost: u32,

@@ -51,7 +51,7 @@ pub fn shift<R: Threads + Sync, G: Gate>(
     requires ranges_fit { sum_by size_of_range killers.old < 2 ^ 32 }
 
     // Each worker did what its own counts say, and the answer adds them up.
-    ensures desks { RanEach (DeskRan recipe registers pending manager.now turns)
+    ensures desks { RanEach (DeskRan behaviour registers pending manager.now turns)
         desk_passes.old servers.old (desk_part result) desk_passes.new servers.new }
     ensures clients { RanEach (ClientRan manager.now)
         client_passes.old clients.old (client_part result) client_passes.new clients.new }
@@ -82,8 +82,8 @@ pub fn shift<R: Threads + Sync, G: Gate>(
     ensures all_ids { result.killed + result.late + result.already + result.missing ≡ sum_by size_of_range killers.old }
 {
     let desk = |pass: &mut Pass, server: &mut Box<dyn Server + Send>, worker: u32| -> Shift
-        requires { IsDeskOf recipe registers pending manager.now (pass.now, server.now) }
-        ensures { DeskRan recipe registers pending manager.entry.now turns
+        requires { IsDeskOf behaviour registers pending manager.now (pass.now, server.now) }
+        ensures { DeskRan behaviour registers pending manager.entry.now turns
             (pass.entry.now, server.entry.now) result (pass.exit.now, server.exit.now) × (total result ≤ turns) }
     { run_desk(manager, pass, server, turns, worker, gate) };
     let client = |pass: &mut Pass, job: &mut ClientJob, worker: u32| -> Shift

@@ -5,6 +5,7 @@ ghost use Rattle.tp_manager.specs.Shown.{IsOf};
 mod asides;
 mod asking;
 mod calls;
+mod counting;
 mod drops;
 mod lender;
 mod plays;

@@ -7,6 +7,7 @@ ghost use Rattle.tp_workers.specs.Free.{IsFreePass};
 mod account;
 mod cancels;
 mod counts;
+mod crew;
 mod full;
 mod overlap;
 mod race;

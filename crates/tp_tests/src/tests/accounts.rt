@@ -1,6 +1,7 @@
 //! A server of a user's own, over all four words of a body, proved to meet the trait's clauses.
 ghost use Rattle.std.specs.Prelude.{◌≡◌, ◌<◌, [], ◌∷◌, Ok, None, slice_set};
 ghost use Rattle.std.specs.Option.{ForSome, option_map};
+ghost use Rattle.tp_server.specs.Behaviour.{behaviour_of};
 ghost use Rattle.tp_server.specs.Check.{check_of};
 ghost use Rattle.tp_server.specs.Effect.{key_in};
 ghost use Rattle.tp_server.specs.declared.recipe.Act.TheVariants.{Take};
@@ -60,7 +61,7 @@ impl Accounts {
 }
 
 impl Server for Accounts {
-    ghost recipe = { λ s. s.recipe };
+    ghost behaviour = { λ s. behaviour_of s.recipe };
 
     ghost registers = { λ s. s.held };
 
@@ -70,8 +71,8 @@ impl Server for Accounts {
         self.recipe.stage
     }
 
-    fn recipe(&self) -> &Recipe {
-        &self.recipe
+    fn count(&self) -> u64 {
+        2
     }
 
     fn balance(&self, k: u64) -> Option<u64> {

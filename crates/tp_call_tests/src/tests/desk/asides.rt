@@ -25,7 +25,7 @@ fn claim_aside(
     ensures own { IsOf manager.now pass.new }
     ensures unprepared { pending server.new ≡ None }
     ensures work { result.1.work ≡ result.0 }
-    ensures steady { SteadyAside recipe registers pending result.1 pass.new server.new }
+    ensures steady { SteadyAside behaviour registers pending result.1 pass.new server.new }
 {
     let mut desk = sit(manager, pass, server);
     let work = claims(&mut desk);
@@ -43,10 +43,10 @@ fn prepare_aside(
     requires own { IsOf manager.now pass.old }
     requires unprepared { pending server.old ≡ None }
     requires busy { IsSome aside.work }
-    requires steady { SteadyAside recipe registers pending aside pass.old server.old }
+    requires steady { SteadyAside behaviour registers pending aside pass.old server.old }
     ensures own { IsOf manager.now pass.new }
     ensures ready { result.0 ≡ true → IsSome (pending server.new) }
-    ensures steady { SteadyAside recipe registers pending result.1 pass.new server.new }
+    ensures steady { SteadyAside behaviour registers pending result.1 pass.new server.new }
 {
     let mut desk = Desk::resume(manager, pass, server, aside);
     let is_held = desk.in_hand() == Some(work) && !desk.is_prepared();
@@ -64,9 +64,9 @@ fn commit_aside(
 ) -> (bool, Aside)
     requires own { IsOf manager.now pass.old }
     requires prepared { IsSome (pending server.old) }
-    requires steady { SteadyAside recipe registers pending aside pass.old server.old }
+    requires steady { SteadyAside behaviour registers pending aside pass.old server.old }
     ensures own { IsOf manager.now pass.new }
-    ensures steady { SteadyAside recipe registers pending result.1 pass.new server.new }
+    ensures steady { SteadyAside behaviour registers pending result.1 pass.new server.new }
 {
     let mut desk = Desk::resume(manager, pass, server, aside);
     let was_prepared = desk.is_prepared();

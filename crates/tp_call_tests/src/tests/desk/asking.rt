@@ -10,9 +10,9 @@ use tp_server::Declined;
 
 /// What a claim answers.
 fn claim(desk: &mut Desk) -> Option<Claimed>
-    requires { SteadyDesk (shown recipe) (shown registers) (shown pending) desk.old }
+    requires { SteadyDesk (shown behaviour) (shown registers) (shown pending) desk.old }
     ensures same { IsSameDesk desk.old desk.new }
-    ensures steady { SteadyDesk (shown recipe) (shown registers) (shown pending) desk.new }
+    ensures steady { SteadyDesk (shown behaviour) (shown registers) (shown pending) desk.new }
 {
     if desk.has_open() {
         return None;
@@ -22,18 +22,18 @@ fn claim(desk: &mut Desk) -> Option<Claimed>
 
 /// Whether a claim answers this.
 pub(super) fn claims(desk: &mut Desk, answer: Claimed) -> bool
-    requires { SteadyDesk (shown recipe) (shown registers) (shown pending) desk.old }
+    requires { SteadyDesk (shown behaviour) (shown registers) (shown pending) desk.old }
     ensures same { IsSameDesk desk.old desk.new }
-    ensures steady { SteadyDesk (shown recipe) (shown registers) (shown pending) desk.new }
+    ensures steady { SteadyDesk (shown behaviour) (shown registers) (shown pending) desk.new }
 {
     claim(desk) == Some(answer)
 }
 
 /// Whether a claim takes the element with this id.
 pub(super) fn takes(desk: &mut Desk, id: u32) -> bool
-    requires { SteadyDesk (shown recipe) (shown registers) (shown pending) desk.old }
+    requires { SteadyDesk (shown behaviour) (shown registers) (shown pending) desk.old }
     ensures same { IsSameDesk desk.old desk.new }
-    ensures steady { SteadyDesk (shown recipe) (shown registers) (shown pending) desk.new }
+    ensures steady { SteadyDesk (shown behaviour) (shown registers) (shown pending) desk.new }
 {
     match claim(desk) {
         Some(Claimed::Work(work)) => work.element.id == id,
@@ -43,36 +43,36 @@ pub(super) fn takes(desk: &mut Desk, id: u32) -> bool
 
 /// Whether the server's preparation of the work in hand answers this.
 pub(super) fn prepares(desk: &mut Desk, answer: Result<(), Declined>) -> bool
-    requires { SteadyDesk (shown recipe) (shown registers) (shown pending) desk.old }
+    requires { SteadyDesk (shown behaviour) (shown registers) (shown pending) desk.old }
     ensures same { IsSameDesk desk.old desk.new }
-    ensures steady { SteadyDesk (shown recipe) (shown registers) (shown pending) desk.new }
+    ensures steady { SteadyDesk (shown behaviour) (shown registers) (shown pending) desk.new }
 {
     desk.has_open() && !desk.is_prepared() && desk.prepare() == answer
 }
 
 /// Whether a commit of the prepared work has this outcome.
 pub(super) fn commits(desk: &mut Desk, outcome: Outcome) -> bool
-    requires { SteadyDesk (shown recipe) (shown registers) (shown pending) desk.old }
+    requires { SteadyDesk (shown behaviour) (shown registers) (shown pending) desk.old }
     ensures same { IsSameDesk desk.old desk.new }
-    ensures steady { SteadyDesk (shown recipe) (shown registers) (shown pending) desk.new }
+    ensures steady { SteadyDesk (shown behaviour) (shown registers) (shown pending) desk.new }
 {
     desk.is_prepared() && desk.commit() == outcome
 }
 
 /// Whether an abort of the work in hand answers this.
 pub(super) fn aborts(desk: &mut Desk, answer: Ended) -> bool
-    requires { SteadyDesk (shown recipe) (shown registers) (shown pending) desk.old }
+    requires { SteadyDesk (shown behaviour) (shown registers) (shown pending) desk.old }
     ensures same { IsSameDesk desk.old desk.new }
-    ensures steady { SteadyDesk (shown recipe) (shown registers) (shown pending) desk.new }
+    ensures steady { SteadyDesk (shown behaviour) (shown registers) (shown pending) desk.new }
 {
     desk.has_open() && desk.abort() == answer
 }
 
 /// Whether a turn comes to this.
 pub(super) fn turns(desk: &mut Desk, answer: Turned) -> bool
-    requires { SteadyDesk (shown recipe) (shown registers) (shown pending) desk.old }
+    requires { SteadyDesk (shown behaviour) (shown registers) (shown pending) desk.old }
     ensures same { IsSameDesk desk.old desk.new }
-    ensures steady { SteadyDesk (shown recipe) (shown registers) (shown pending) desk.new }
+    ensures steady { SteadyDesk (shown behaviour) (shown registers) (shown pending) desk.new }
 {
     !desk.has_open() && desk.turn() == answer
 }

@@ -40,12 +40,12 @@ pub(crate) fn stands(manager: &Manager, reader: &mut Pass, id: u32, status: Stat
 
 /// The work that the desk claims.
 pub(crate) fn claims(desk: &mut Desk) -> Option<Work>
-    requires steady { SteadyDesk (shown recipe) (shown registers) (shown pending) desk.old }
+    requires steady { SteadyDesk (shown behaviour) (shown registers) (shown pending) desk.old }
     requires free { desk.old.work ≡ None }
     ensures same { IsSameDesk desk.old desk.new }
     ensures server { desk.new.server.now ≡ desk.old.server.now }
     ensures work { desk.new.work ≡ result }
-    ensures steady { SteadyDesk (shown recipe) (shown registers) (shown pending) desk.new }
+    ensures steady { SteadyDesk (shown behaviour) (shown registers) (shown pending) desk.new }
 {
     match desk.claim() {
         Claimed::Work(work) => Some(work),
@@ -55,22 +55,22 @@ pub(crate) fn claims(desk: &mut Desk) -> Option<Work>
 
 /// Whether the server prepares the work in hand.
 pub(crate) fn prepares(desk: &mut Desk) -> bool
-    requires steady { SteadyDesk (shown recipe) (shown registers) (shown pending) desk.old }
+    requires steady { SteadyDesk (shown behaviour) (shown registers) (shown pending) desk.old }
     requires busy { IsSome desk.old.work }
     requires unprepared { shown pending desk.old.server.now ≡ None }
     ensures same { IsSameDesk desk.old desk.new }
     ensures ready { result ≡ true → IsSome (shown pending desk.new.server.now) }
-    ensures steady { SteadyDesk (shown recipe) (shown registers) (shown pending) desk.new }
+    ensures steady { SteadyDesk (shown behaviour) (shown registers) (shown pending) desk.new }
 {
     desk.prepare().is_ok()
 }
 
 /// Whether a commit of the prepared work has this outcome.
 pub(crate) fn commits(desk: &mut Desk, outcome: Outcome) -> bool
-    requires steady { SteadyDesk (shown recipe) (shown registers) (shown pending) desk.old }
+    requires steady { SteadyDesk (shown behaviour) (shown registers) (shown pending) desk.old }
     requires prepared { IsSome (shown pending desk.old.server.now) }
     ensures same { IsSameDesk desk.old desk.new }
-    ensures steady { SteadyDesk (shown recipe) (shown registers) (shown pending) desk.new }
+    ensures steady { SteadyDesk (shown behaviour) (shown registers) (shown pending) desk.new }
 {
     desk.commit() == outcome
 }
@@ -89,7 +89,7 @@ pub(crate) fn sit<'m, 'p, 's>(
     ensures server { result.server.ghost_name ≡ server.entry.ghost_name }
     ensures free { result.work ≡ None }
     ensures unprepared { pending result.server.now ≡ None }
-    ensures steady { SteadyDesk recipe registers pending result }
+    ensures steady { SteadyDesk behaviour registers pending result }
 {
     Desk::new(manager, pass, server)
 }

@@ -19,7 +19,7 @@ fn serve(manager: &Manager, pass: &mut Pass, server: &mut Box<dyn Server + Send>
     ensures own { IsOf manager.now pass.new }
     ensures free { pass.new.open_unit ≡ None }
     ensures clear { pending server.new ≡ None }
-    ensures leaves { Leaves (recipe server.new) (registers server.old) (registers server.new) pass.old pass.new }
+    ensures leaves { Leaves (behaviour server.new) (registers server.old) (registers server.new) pass.old pass.new }
 {
     let mut desk = Desk::new(manager, pass, server);
     let turned = desk.turn();
@@ -35,7 +35,7 @@ fn serve_by_parts(manager: &Manager, pass: &mut Pass, server: &mut Box<dyn Serve
     ensures own { IsOf manager.now pass.new }
     ensures free { pass.new.open_unit ≡ None }
     ensures clear { pending server.new ≡ None }
-    ensures leaves { Leaves (recipe server.new) (registers server.old) (registers server.new) pass.old pass.new }
+    ensures leaves { Leaves (behaviour server.new) (registers server.old) (registers server.new) pass.old pass.new }
 {
     let aside = claim_aside(manager, pass, server);
     if !aside.has_open() {
@@ -59,10 +59,10 @@ fn claim_aside(manager: &Manager, pass: &mut Pass, server: &mut Box<dyn Server +
     requires unprepared { pending server.old ≡ None }
     ensures own { IsOf manager.now pass.new }
     ensures unprepared { pending server.new ≡ None }
-    ensures steady { SteadyAside recipe registers pending result pass.new server.new }
+    ensures steady { SteadyAside behaviour registers pending result pass.new server.new }
     ensures first_pass { result.first_pass.value ≡ pass.old }
     ensures first_server { result.first_server.value ≡ server.old }
-    ensures recipe { recipe server.new ≡ recipe server.old }
+    ensures behaviour { behaviour server.new ≡ behaviour server.old }
 {
     let mut desk = Desk::new(manager, pass, server);
     let _ = desk.claim();
@@ -77,7 +77,7 @@ fn claim_and_drop(manager: &Manager, pass: &mut Pass, server: &mut Box<dyn Serve
     ensures own { IsOf manager.now pass.new }
     ensures free { pass.new.open_unit ≡ None }
     ensures clear { pending server.new ≡ None }
-    ensures leaves { Leaves (recipe server.new) (registers server.old) (registers server.new) pass.old pass.new }
+    ensures leaves { Leaves (behaviour server.new) (registers server.old) (registers server.new) pass.old pass.new }
 {
     let mut desk = Desk::new(manager, pass, server);
     let _ = desk.claim();

@@ -49,7 +49,7 @@ pub(super) enum Does {
     IsPrepared(bool),
     /// A register.
     Balance(u64, Option<u64>),
-    /// The stage of the server's recipe.
+    /// The server's stage.
     Stage(u8),
     /// A call of the client beside the desk.
     Client(Asks),
@@ -87,10 +87,10 @@ fn is_asked(manager: &Manager, client: &mut Pass, call: Asks) -> bool
 /// Whether the call at the desk gives its answer.
 fn is_done(manager: &Manager, client: &mut Pass, desk: &mut Desk, call: Does) -> bool
     requires own { IsOf manager.now client.old }
-    requires steady { SteadyDesk (shown recipe) (shown registers) (shown pending) desk.old }
+    requires steady { SteadyDesk (shown behaviour) (shown registers) (shown pending) desk.old }
     ensures own { IsOf manager.now client.new }
     ensures same { IsSameDesk desk.old desk.new }
-    ensures steady { SteadyDesk (shown recipe) (shown registers) (shown pending) desk.new }
+    ensures steady { SteadyDesk (shown behaviour) (shown registers) (shown pending) desk.new }
 {
     match call {
         Does::Claims(answer) => asking::claims(desk, answer),
@@ -103,7 +103,7 @@ fn is_done(manager: &Manager, client: &mut Pass, desk: &mut Desk, call: Does) ->
         Does::HasOpen(answer) => desk.has_open() == answer,
         Does::IsPrepared(answer) => desk.is_prepared() == answer,
         Does::Balance(k, answer) => desk.balance(k) == answer,
-        Does::Stage(answer) => desk.recipe().stage == answer,
+        Does::Stage(answer) => desk.stage() == answer,
         Does::Client(call) => is_asked(manager, client, call),
     }
 }
@@ -111,10 +111,10 @@ fn is_done(manager: &Manager, client: &mut Pass, desk: &mut Desk, call: Does) ->
 /// Plays calls at the desk.
 fn at_desk<R: Abort>(rt: &R, manager: &Manager, client: &mut Pass, desk: &mut Desk, calls: &[Does])
     requires own { IsOf manager.now client.old }
-    requires steady { SteadyDesk (shown recipe) (shown registers) (shown pending) desk.old }
+    requires steady { SteadyDesk (shown behaviour) (shown registers) (shown pending) desk.old }
     ensures own { IsOf manager.now client.new }
     ensures same { IsSameDesk desk.old desk.new }
-    ensures steady { SteadyDesk (shown recipe) (shown registers) (shown pending) desk.new }
+    ensures steady { SteadyDesk (shown behaviour) (shown registers) (shown pending) desk.new }
 {
     for (i, call) in calls.iter().enumerate() {
         assert!(rt;

@@ -1,9 +1,6 @@
 //! A server of the user's own at a desk: a router, which keeps nothing and passes what comes in on to another stage.
-ghost use Rattle.std.specs.Prelude.{◌≡◌, [], ◌∷◌, Ok, None};
-ghost use Rattle.tp_server.specs.Check.{check_of};
-ghost use Rattle.tp_server.specs.declared.recipe.Act.TheVariants.{Pass};
-ghost use Rattle.tp_server.specs.declared.recipe.KeyFrom.TheVariants.{Same};
-ghost use Rattle.tp_server.specs.declared.recipe.AmountFrom.TheVariants.{Same as SameAmount};
+ghost use Rattle.std.specs.Prelude.{◌≡◌, [], ◌∷◌, ◌==◌, Ok, Err, None, slice_index, if◌then◌else◌};
+ghost use Rattle.tp_server.specs.declared.recipe.Declined.TheVariants.{Own};
 
 use super::plays::Asks::{Reads, Submits};
 use super::plays::Does::Turns;
@@ -12,64 +9,49 @@ use super::plays::plays;
 use arrayvec::ArrayVec;
 use tp_desk::Turned;
 use tp_model::types::{Draft, Element, Look, Status};
-use tp_server::{Act, AmountFrom, Declined, KeyFrom, Output, Recipe, Server};
+use tp_server::{Declined, Server};
 
-/// Passes each element of stage 1 with the key 0 on to stage 2.
+/// Passes each element of stage 1 with the key 0 on to stage 2, and declines others for a reason of its own. It has no
+/// registers.
 #[derive(Debug, Drop)]
 struct Router {
-    recipe: Recipe,
     /// The element whose work is prepared.
     prepared: Option<Element>,
-    ghost checked: { check_of recipe ≡ Ok tt },
-    ghost one: { recipe.registers ≡ 1 },
-    ghost passes: { recipe.act ≡ Pass },
-    ghost counts: { recipe.word ≡ 1 },
-    ghost on: { recipe.outputs.items ≡ record { stage = 2; key = Same; amount = SameAmount } ∷ [] },
 }
 
 impl Router {
     fn new() -> Router
         ensures { ⟦<Router as Server>⟧.pending result ≡ None }
     {
-        let mut outputs = ArrayVec::new();
-        outputs.push(Output {
-            stage: 2,
-            key: KeyFrom::Same,
-            amount: AmountFrom::Same,
-        });
-        let recipe = Recipe {
-            stage: 1,
-            registers: 1,
-            act: Act::Pass,
-            word: 1,
-            outputs,
-        };
-        Router {
-            recipe,
-            prepared: None,
-        }
+        Router { prepared: None }
     }
 }
 
 impl Server for Router {
     ghost use Rattle.std.specs.Option.{option_map};
 
-    ghost recipe = { λ r. r.recipe };
+    ghost behaviour = { λ r. record {
+      stage = 1;
+      effect = λ registers element heard.
+          if slice_index element.body 0 == 0
+          then Ok (record { registers = []; drafts = record { stage = 2; body = element.body } ∷ [] })
+          else Err (Own 1);
+    } };
 
-    ghost registers = { λ r. 0 ∷ [] };
+    ghost registers = { λ r. [] };
 
-    ghost pending = { λ r. option_map (λ e. record { prepared_for = e; registers = 0 ∷ [] }) r.prepared };
+    ghost pending = { λ r. option_map (λ e. record { prepared_for = e; registers = [] }) r.prepared };
 
     fn stage(&self) -> u8 {
-        self.recipe.stage
+        1
     }
 
-    fn recipe(&self) -> &Recipe {
-        &self.recipe
+    fn count(&self) -> u64 {
+        0
     }
 
-    fn balance(&self, k: u64) -> Option<u64> {
-        if k == 0 { Some(0) } else { None }
+    fn balance(&self, _k: u64) -> Option<u64> {
+        None
     }
 
     fn is_prepared(&self) -> bool {
@@ -77,12 +59,11 @@ impl Server for Router {
     }
 
     fn prepare(&mut self, element: &Element) -> Result<ArrayVec<Draft, 4>, Declined> {
-        let [key, amount, third, last] = element.body;
-        if key != 0 {
-            return Err(Declined::NoRegister);
+        if element.body[0] != 0 {
+            return Err(Declined::Own(1));
         }
         let mut drafts = ArrayVec::new();
-        match Draft::new(2, [key, amount, third, last]) {
+        match Draft::new(2, element.body) {
             Some(draft) => drafts.push(draft),
             None => unreachable!(),
         }

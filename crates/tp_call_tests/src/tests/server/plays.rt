@@ -22,8 +22,8 @@ pub(super) enum Call<'a> {
     Balance(u64, Option<u64>),
     /// The stage.
     Stage(u8),
-    /// How many outputs the recipe has.
-    Outputs(usize),
+    /// How many registers it has.
+    Counts(u64),
 }
 
 /// Whether a preparation answers this. While another is prepared it isn't asked for.
@@ -72,7 +72,7 @@ fn answers(server: &mut (dyn Server + Send), call: Call<'_>) -> bool {
         Call::IsPrepared(answer) => server.is_prepared() == answer,
         Call::Balance(k, answer) => server.balance(k) == answer,
         Call::Stage(answer) => server.stage() == answer,
-        Call::Outputs(answer) => server.recipe().outputs.len() == answer,
+        Call::Counts(answer) => server.count() == answer,
     }
 }
 

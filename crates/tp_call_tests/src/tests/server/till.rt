@@ -1,5 +1,6 @@
 //! A server as its users write one: a till with one register, which adds what comes in and replies with the sum.
 ghost use Rattle.std.specs.Prelude.{◌≡◌, ◌≤◌, [], ◌∷◌, Ok, None, IfSome, IsSome, ◌↔◌};
+ghost use Rattle.tp_server.specs.Behaviour.{behaviour_of};
 ghost use Rattle.tp_server.specs.Check.{check_of};
 ghost use Rattle.tp_server.specs.declared.recipe.Act.TheVariants.{Add};
 ghost use Rattle.tp_server.specs.declared.recipe.KeyFrom.TheVariants.{Same};
@@ -55,7 +56,7 @@ impl Till {
 impl Server for Till {
     ghost use Rattle.std.specs.Option.{option_map};
 
-    ghost recipe = { λ t. t.recipe };
+    ghost behaviour = { λ t. behaviour_of t.recipe };
 
     ghost registers = { λ t. t.sum ∷ [] };
 
@@ -65,8 +66,8 @@ impl Server for Till {
         self.recipe.stage
     }
 
-    fn recipe(&self) -> &Recipe {
-        &self.recipe
+    fn count(&self) -> u64 {
+        1
     }
 
     fn balance(&self, k: u64) -> Option<u64> {
@@ -82,7 +83,9 @@ impl Server for Till {
         if key != 0 {
             return Err(Declined::NoRegister);
         }
-        let sum = self.sum.checked_add(amount).ok_or(Declined::TooLarge)?;
+        let Some(sum) = self.sum.checked_add(amount) else {
+            return Err(Declined::TooLarge);
+        };
         let mut drafts = ArrayVec::new();
         match Draft::new(15, [key, sum, third, last]) {
             Some(reply) => drafts.push(reply),

@@ -6,19 +6,19 @@ use Rattle.tp_commands.proofs.Shows.{shown_at, shown_set}
 use Rattle.tp_commands.proofs.desks.act_in.Goals as goal
 
 pub bounds-passes-at : goal.bounds-passes-at
-bounds-passes-at g c = let e = lie_passes (λ b. (goal.Server-dyn g (b.vtable, b.value)).recipe b.value) (λ b. (goal.Server-dyn g (b.vtable, b.value)).registers b.value) (λ b. (goal.Server-dyn g (b.vtable, b.value)).pending b.value) c.args.passes.now c.args.servers.now c.args.places.now c.requires.lie in omega (arith, e, c.requires.within)
+bounds-passes-at g c = let e = lie_passes (λ b. (goal.Server-dyn g (b.vtable, b.value)).behaviour b.value) (λ b. (goal.Server-dyn g (b.vtable, b.value)).registers b.value) (λ b. (goal.Server-dyn g (b.vtable, b.value)).pending b.value) c.args.passes.now c.args.servers.now c.args.places.now c.requires.lie in omega (arith, e, c.requires.within)
 
 pub bounds-servers-at : goal.bounds-servers-at
-bounds-servers-at g c = let e = lie_servers (λ b. (goal.Server-dyn g (b.vtable, b.value)).recipe b.value) (λ b. (goal.Server-dyn g (b.vtable, b.value)).registers b.value) (λ b. (goal.Server-dyn g (b.vtable, b.value)).pending b.value) c.args.passes.now c.args.servers.now c.args.places.now c.requires.lie in omega (arith, e, c.requires.within)
+bounds-servers-at g c = let e = lie_servers (λ b. (goal.Server-dyn g (b.vtable, b.value)).behaviour b.value) (λ b. (goal.Server-dyn g (b.vtable, b.value)).registers b.value) (λ b. (goal.Server-dyn g (b.vtable, b.value)).pending b.value) c.args.passes.now c.args.servers.now c.args.places.now c.requires.lie in omega (arith, e, c.requires.within)
 
 pub act_at-requires-clause-lies : goal.act_at-requires-clause-lies
-act_at-requires-clause-lies g c = lie_at (λ b. (goal.Server-dyn g (b.vtable, b.value)).recipe b.value) (λ b. (goal.Server-dyn g (b.vtable, b.value)).registers b.value) (λ b. (goal.Server-dyn g (b.vtable, b.value)).pending b.value) c.args.passes.now c.args.servers.now c.args.places.now c.args.at _ _ _ c.requires.within c.requires.lie
+act_at-requires-clause-lies g c = lie_at (λ b. (goal.Server-dyn g (b.vtable, b.value)).behaviour b.value) (λ b. (goal.Server-dyn g (b.vtable, b.value)).registers b.value) (λ b. (goal.Server-dyn g (b.vtable, b.value)).pending b.value) c.args.passes.now c.args.servers.now c.args.places.now c.args.at _ _ _ c.requires.within c.requires.lie
 
 pub returns-clause-lie : goal.returns-clause-lie
-returns-clause-lie g c = lie_set (λ b. (goal.Server-dyn g (b.vtable, b.value)).recipe b.value) (λ b. (goal.Server-dyn g (b.vtable, b.value)).registers b.value) (λ b. (goal.Server-dyn g (b.vtable, b.value)).pending b.value) c.args.passes.now c.args.servers.now c.args.places.now c.args.at _ _ _ c.act_at.ensures.lies c.requires.lie
+returns-clause-lie g c = lie_set (λ b. (goal.Server-dyn g (b.vtable, b.value)).behaviour b.value) (λ b. (goal.Server-dyn g (b.vtable, b.value)).registers b.value) (λ b. (goal.Server-dyn g (b.vtable, b.value)).pending b.value) c.args.passes.now c.args.servers.now c.args.places.now c.args.at _ _ _ c.act_at.ensures.lies c.requires.lie
 
 pub act_at-requires-clause-own : goal.act_at-requires-clause-own
-act_at-requires-clause-own g c = let e = lie_passes (λ b. (goal.Server-dyn g (b.vtable, b.value)).recipe b.value) (λ b. (goal.Server-dyn g (b.vtable, b.value)).registers b.value) (λ b. (goal.Server-dyn g (b.vtable, b.value)).pending b.value) c.args.passes.now c.args.servers.now c.args.places.now c.requires.lie in c.requires.own c.args.at c.index-passes-at.result (omega (arith, e, c.requires.within))
+act_at-requires-clause-own g c = let e = lie_passes (λ b. (goal.Server-dyn g (b.vtable, b.value)).behaviour b.value) (λ b. (goal.Server-dyn g (b.vtable, b.value)).registers b.value) (λ b. (goal.Server-dyn g (b.vtable, b.value)).pending b.value) c.args.passes.now c.args.servers.now c.args.places.now c.requires.lie in c.requires.own c.args.at c.index-passes-at.result (omega (arith, e, c.requires.within))
 
 pub returns-clause-began : goal.returns-clause-began
 returns-clause-began g c = map_set_same first_of c.args.places.now c.args.at c.act_at.new.place c.index-places-at.result c.requires.within c.act_at.ensures.began
@@ -26,8 +26,8 @@ returns-clause-began g c = map_set_same first_of c.args.places.now c.args.at c.a
 pub returns-clause-tells : goal.returns-clause-tells
 returns-clause-tells g c = record {
   old = _;
-  there = shown_at (λ b. (goal.Server-dyn g (b.vtable, b.value)).recipe b.value) (λ b. (goal.Server-dyn g (b.vtable, b.value)).registers b.value) (λ b. (goal.Server-dyn g (b.vtable, b.value)).pending b.value) c.args.passes.now c.args.servers.now c.args.places.now c.args.at _ _ _ c.requires.within c.requires.lie;
+  there = shown_at (λ b. (goal.Server-dyn g (b.vtable, b.value)).behaviour b.value) (λ b. (goal.Server-dyn g (b.vtable, b.value)).registers b.value) (λ b. (goal.Server-dyn g (b.vtable, b.value)).pending b.value) c.args.passes.now c.args.servers.now c.args.places.now c.args.at _ _ _ c.requires.within c.requires.lie;
   new = _;
   does = c.act_at.ensures.tells;
-  others = shown_set (λ b. (goal.Server-dyn g (b.vtable, b.value)).recipe b.value) (λ b. (goal.Server-dyn g (b.vtable, b.value)).registers b.value) (λ b. (goal.Server-dyn g (b.vtable, b.value)).pending b.value) c.args.passes.now c.args.servers.now c.args.places.now c.args.at _ _ _ c.requires.lie;
+  others = shown_set (λ b. (goal.Server-dyn g (b.vtable, b.value)).behaviour b.value) (λ b. (goal.Server-dyn g (b.vtable, b.value)).registers b.value) (λ b. (goal.Server-dyn g (b.vtable, b.value)).pending b.value) c.args.passes.now c.args.servers.now c.args.places.now c.args.at _ _ _ c.requires.lie;
 }

@@ -7,7 +7,7 @@ use Rattle.tp_commands.proofs.lines.sum.Goals as goal
 
 pub loop-i-preserved : goal.loop-i-preserved
 loop-i-preserved g c =
-    let next = value_next (λ b. (goal.Server-dyn g (b.vtable, b.value)).recipe b.value) (λ b. (goal.Server-dyn g (b.vtable, b.value)).registers b.value) (λ b. (goal.Server-dyn g (b.vtable, b.value)).pending b.value)
+    let next = value_next (λ b. (goal.Server-dyn g (b.vtable, b.value)).behaviour b.value) (λ b. (goal.Server-dyn g (b.vtable, b.value)).registers b.value) (λ b. (goal.Server-dyn g (b.vtable, b.value)).pending b.value)
     c.args.k c.args.servers.now c.args.places.now c.loop-i.i c.index-servers-i.result c.index-places-i.result c.requires c.loop-i-test.true in
     record {
       few = search rules;

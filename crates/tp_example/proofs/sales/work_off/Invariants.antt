@@ -4,14 +4,14 @@ use Rattle.tp_example.proofs.sales.work_off.Given as goal
 
 abbrev pub invariant-loop-turn : goal.invariant-loop-turn
 invariant-loop-turn g l = record {
-  steady : SteadyDesk (shown (λ v. (goal.Server-dyn g v).recipe v.1)) (shown (λ v. (goal.Server-dyn g v).registers v.1)) (shown (λ v. (goal.Server-dyn g v).pending v.1)) l.desk;
+  steady : SteadyDesk (shown (λ v. (goal.Server-dyn g v).behaviour v.1)) (shown (λ v. (goal.Server-dyn g v).registers v.1)) (shown (λ v. (goal.Server-dyn g v).pending v.1)) l.desk;
   free : l.desk.work ≡ None;
   same_manager : l.desk.manager.now ≡ l.manager;
   same_pass : l.desk.pass.ghost_name ≡ l.initial.desk.pass.ghost_name;
   same_server : l.desk.server.ghost_name ≡ l.initial.desk.server.ghost_name;
   first_pass : l.desk.first_pass.value ≡ l.fn.pass;
   first_server : l.desk.first_server.value ≡ l.fn.stock;
-  recipe_is : shown (λ v. (goal.Server-dyn g v).recipe v.1) l.desk.server.now ≡ shown (λ v. (goal.Server-dyn g v).recipe v.1) l.fn.stock;
+  behaviour_is : shown (λ v. (goal.Server-dyn g v).behaviour v.1) l.desk.server.now ≡ shown (λ v. (goal.Server-dyn g v).behaviour v.1) l.fn.stock;
   sold : l.sales.sold ≤ l._turn;
   short : l.sales.short ≤ l._turn;
 }

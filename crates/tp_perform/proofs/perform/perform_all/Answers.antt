@@ -72,7 +72,7 @@ loop-command-preserved g c =
             told_next c.args.manager.now (script_view c.args.script.now) _ c.loop-command.command-index c.loop-command.raced (Client (Submit 0 [])) (omega (arith, ap length c.deref-command-items.ensures.value)) c.loop-command.invariant.raced
                 _ _ _ _ c.loop-command.racers c.split_at_mut-before.result.0.now c.split_at_mut-before.result.1.now c.split_at_mut-here.result.0.now c.split_at_mut-here.result.1.now c.command_line.new.racers t.0 (string_bytes c.in_ok-line.line)
                 c.split_at_mut-before.ensures.value c.split_at_mut-here.ensures.value c.split_at_mut-before.ensures.front_len needed (rw c.deref-command-items.ensures.value at c.in_ok-line.ensures.tells)
-                (all_steady (λ b. (goal.Server-dyn g (b.vtable, b.value)).recipe b.value) (λ b. (goal.Server-dyn g (b.vtable, b.value)).registers b.value) (λ b. (goal.Server-dyn g (b.vtable, b.value)).pending b.value) _ _ _ c.in_ok-line.ensures.lie) t.1,
+                (all_steady (λ b. (goal.Server-dyn g (b.vtable, b.value)).behaviour b.value) (λ b. (goal.Server-dyn g (b.vtable, b.value)).registers b.value) (λ b. (goal.Server-dyn g (b.vtable, b.value)).pending b.value) _ _ _ c.in_ok-line.ensures.lie) t.1,
             Appends-then (g.W.Sink.contents c.args.writer.now) (g.W.Sink.contents c.loop-command.writer) (g.W.Sink.contents c.write_all.new.sink) t.0 (string_bytes c.in_ok-line.line) t.2 (rw c.as_bytes.ensures.value at c.in_ok-write_all.ensures.ok),
           );
       written = line_more c.loop-command.command-index _ (g.W.Sink.contents c.loop-command.writer) _ (string_bytes c.in_ok-line.line) c.loop-command.invariant.written c.in_ok-line.ensures.line (rw c.as_bytes.ensures.value at c.in_ok-write_all.ensures.ok);
@@ -124,7 +124,7 @@ returns-in_err-write_all-clause-told_front g c =
       told_next c.args.manager.now (script_view c.args.script.now) _ c.loop-command.command-index c.loop-command.raced (Client (Submit 0 [])) (omega (arith, ap length c.deref-command-items.ensures.value)) c.loop-command.invariant.raced
           _ _ _ _ c.loop-command.racers c.split_at_mut-before.result.0.now c.split_at_mut-before.result.1.now c.split_at_mut-here.result.0.now c.split_at_mut-here.result.1.now c.command_line.new.racers t.0 (string_bytes c.in_ok-line.line)
           c.split_at_mut-before.ensures.value c.split_at_mut-here.ensures.value c.split_at_mut-before.ensures.front_len needed (rw c.deref-command-items.ensures.value at c.in_ok-line.ensures.tells)
-          (all_steady (λ b. (goal.Server-dyn g (b.vtable, b.value)).recipe b.value) (λ b. (goal.Server-dyn g (b.vtable, b.value)).registers b.value) (λ b. (goal.Server-dyn g (b.vtable, b.value)).pending b.value) _ _ _ c.in_ok-line.ensures.lie) t.1,
+          (all_steady (λ b. (goal.Server-dyn g (b.vtable, b.value)).behaviour b.value) (λ b. (goal.Server-dyn g (b.vtable, b.value)).registers b.value) (λ b. (goal.Server-dyn g (b.vtable, b.value)).pending b.value) _ _ _ c.in_ok-line.ensures.lie) t.1,
       front_then (g.W.Sink.contents c.args.writer.now) (g.W.Sink.contents c.loop-command.writer) (g.W.Sink.contents c.write_all.new.sink) t.0 (string_bytes c.in_ok-line.line) t.2 (rw c.as_bytes.ensures.value at c.in_err-write_all.ensures.err),
     )
 

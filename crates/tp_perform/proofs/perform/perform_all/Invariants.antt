@@ -14,7 +14,7 @@ abbrev pub invariant-loop-command : goal.invariant-loop-command
 invariant-loop-command g l = record {
   client : IsFreePass l.manager l.client;
   own : All (IsOf l.manager) l.passes;
-  lie : AllLie (shown (λ z. (goal.Server-dyn g z).recipe z.1)) (shown (λ z. (goal.Server-dyn g z).registers z.1)) (shown (λ z. (goal.Server-dyn g z).pending z.1)) l.passes l.servers l.places;
+  lie : AllLie (shown (λ z. (goal.Server-dyn g z).behaviour z.1)) (shown (λ z. (goal.Server-dyn g z).registers z.1)) (shown (λ z. (goal.Server-dyn g z).pending z.1)) l.passes l.servers l.places;
   as_many : length l.places ≡ length l.script.servers.items;
   client_number : l.client.number ≡ l.fn.client.number;
   began : firsts l.places ≡ firsts l.fn.places;
@@ -23,8 +23,8 @@ invariant-loop-command g l = record {
   enough : length l.racers ≡ l.raced + racing (drop l.command-index l.script.commands.items);
   raced : l.raced ≡ racing (take l.command-index l.script.commands.items);
   told : (text : List ℕ) × Told l.manager (script_view l.script)
-      (scene (shown (λ z. (goal.Server-dyn g z).recipe z.1)) (shown (λ z. (goal.Server-dyn g z).registers z.1)) (shown (λ z. (goal.Server-dyn g z).pending z.1)) l.fn.client l.fn.passes l.fn.servers l.fn.places l.fn.racers) l.command-index text
-      (scene (shown (λ z. (goal.Server-dyn g z).recipe z.1)) (shown (λ z. (goal.Server-dyn g z).registers z.1)) (shown (λ z. (goal.Server-dyn g z).pending z.1)) l.client l.passes l.servers l.places l.racers)
+      (scene (shown (λ z. (goal.Server-dyn g z).behaviour z.1)) (shown (λ z. (goal.Server-dyn g z).registers z.1)) (shown (λ z. (goal.Server-dyn g z).pending z.1)) l.fn.client l.fn.passes l.fn.servers l.fn.places l.fn.racers) l.command-index text
+      (scene (shown (λ z. (goal.Server-dyn g z).behaviour z.1)) (shown (λ z. (goal.Server-dyn g z).registers z.1)) (shown (λ z. (goal.Server-dyn g z).pending z.1)) l.client l.passes l.servers l.places l.racers)
       × Appends (g.W.Sink.contents l.fn.writer) (g.W.Sink.contents l.writer) text;
   written : Writes l.command-index (g.W.Sink.contents l.fn.writer) (g.W.Sink.contents l.writer);
 }

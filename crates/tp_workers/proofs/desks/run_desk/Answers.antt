@@ -4,7 +4,7 @@ use Rattle.tp_workers.proofs.desks.run_desk.Goals as goal
 
 pub returns-clause-ran : goal.returns-clause-ran
 returns-clause-ran g c =
-    desk_ran (λ v. (goal.Server-dyn g v).recipe v.1) (λ v. (goal.Server-dyn g v).registers v.1) (λ v. (goal.Server-dyn g v).pending v.1) c.args.manager.now (c.args.pass.now, c.args.server.now) c.new-desk.result c.take_turns-counts.new.desk _
+    desk_ran (λ v. (goal.Server-dyn g v).behaviour v.1) (λ v. (goal.Server-dyn g v).registers v.1) (λ v. (goal.Server-dyn g v).pending v.1) c.args.manager.now (c.args.pass.now, c.args.server.now) c.new-desk.result c.take_turns-counts.new.desk _
     (record {
       manager = c.new-desk.ensures.manager;
       pass = c.new-desk.ensures.pass;
@@ -14,7 +14,7 @@ returns-clause-ran g c =
       same = c.take_turns-counts.ensures.same;
       resting = c.take_turns-counts.ensures.resting;
       ends = search rules;
-      recipe_is = search rules;
+      behaviour_is = search rules;
       registers_are = search rules;
       left = search rules;
       ready = search rules;

@@ -4,7 +4,7 @@ use Rattle.tp_workers.proofs.desks.take_turn.Goals as goal
 
 pub returns : goal.returns
 returns g c = record {
-  took = desk_took (λ v. (goal.Server-dyn g v).recipe v.1) (λ v. (goal.Server-dyn g v).registers v.1) (λ v. (goal.Server-dyn g v).pending v.1) c.args.manager.now (c.args.pass.now, c.args.server.now) c.new-desk.result c.turn-turned.new.self _
+  took = desk_took (λ v. (goal.Server-dyn g v).behaviour v.1) (λ v. (goal.Server-dyn g v).registers v.1) (λ v. (goal.Server-dyn g v).pending v.1) c.args.manager.now (c.args.pass.now, c.args.server.now) c.new-desk.result c.turn-turned.new.self _
       (record {
         manager = c.new-desk.ensures.manager;
         pass = c.new-desk.ensures.pass;
@@ -14,11 +14,11 @@ returns g c = record {
         same = c.turn-turned.ensures.same;
         resting = record { steady = c.turn-turned.ensures.steady; free = c.turn-turned.ensures.free };
         ends = search rules;
-        recipe_is = search rules;
+        behaviour_is = search rules;
         registers_are = search rules;
         left = search rules;
         ready = search rules;
       })
-      c.turn-turned.result _ (record { answer = c.turn-turned.ensures.answer; follows = c.turn-turned.ensures.follows; recipe_is = c.turn-turned.ensures.recipe })
+      c.turn-turned.result _ (record { answer = c.turn-turned.ensures.answer; follows = c.turn-turned.ensures.follows; behaviour_is = c.turn-turned.ensures.behaviour })
       c.turn-turned.ensures.limits c.of_turn.ensures;
 }

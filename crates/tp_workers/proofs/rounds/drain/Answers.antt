@@ -1,6 +1,6 @@
 use Rattle.std.proofs.Common.{arith, refl}
 use Rattle.tp_workers.specs.Tally.{none, plus}
-use Rattle.tp_workers.proofs.Drains.{all_end, drained_clear, drained_free, drained_numbers, drained_sum, going_clear, going_few, going_free, going_none, going_on, round_smaller}
+use Rattle.tp_workers.proofs.Drains.{all_end, all_last, drained_clear, drained_free, drained_numbers, drained_sum, going_clear, going_few, going_free, going_none, going_on, round_smaller}
 use Rattle.tp_workers.proofs.Shifts.{each_paired}
 use Rattle.tp_workers.proofs.rounds.drain.Goals as goal
 
@@ -27,6 +27,10 @@ overflow_add-done g c =
 pub returns-then-not-has_claimed-clause-desks : goal.returns-then-not-has_claimed-clause-desks
 returns-then-not-has_claimed-clause-desks g c =
     (plus c.rounds.invariant.counts c.round-counts.result, omega (arith, c.rounds.invariant.counted), all_end _ _ _ c.args.manager.now _ _ _ _ _ _ _ _ c.rounds.invariant.ran c.round-counts.ensures.ran c.if-not-has_claimed.ensures.unclaimed)
+
+pub returns-then-not-has_claimed-clause-last_turns : goal.returns-then-not-has_claimed-clause-last_turns
+returns-then-not-has_claimed-clause-last_turns g c =
+    (c.round-counts.result, omega arith, all_last _ _ _ c.args.manager.now _ _ _ _ _ _ _ _ c.rounds.invariant.ran c.round-counts.ensures.ran c.if-not-has_claimed.ensures.unclaimed)
 
 pub returns-then-not-has_claimed-clause-done : goal.returns-then-not-has_claimed-clause-done
 returns-then-not-has_claimed-clause-done g c =

@@ -9,5 +9,5 @@ returns-clause-steady g c =
 
 pub returns-clause-answer : goal.returns-clause-answer
 returns-clause-answer g c =
-    let stage = c.stage-stage.ensures.0 ∙ ap (λ z. ((goal.Server-dyn g z).recipe z.1).stage) c.deref_box-1.ensures.1 in
+    let stage = c.stage-stage.ensures.0 ∙ ap (λ z. ((goal.Server-dyn g z).behaviour z.1).stage) c.deref_box-1.ensures.1 in
     subst (λ n. Claims c.args.self.now.manager.now.limits n c.args.self.now.pass.now c.claim-answer.new.pass c.claim-answer.result) stage c.claim-answer.ensures.answer

@@ -6,6 +6,6 @@ abbrev pub invariant-loop-i : goal.invariant-loop-i
 invariant-loop-i g l = record {
   own : IsOf l.manager l.client;
   same : IsSameDesk l.fn.desk l.desk;
-  steady : SteadyDesk (shown (λ v. (goal.Server-dyn g v).recipe v.1)) (shown (λ v. (goal.Server-dyn g v).registers v.1))
+  steady : SteadyDesk (shown (λ v. (goal.Server-dyn g v).behaviour v.1)) (shown (λ v. (goal.Server-dyn g v).registers v.1))
       (shown (λ v. (goal.Server-dyn g v).pending v.1)) l.desk;
 }

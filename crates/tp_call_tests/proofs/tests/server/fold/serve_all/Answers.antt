@@ -1,29 +1,29 @@
-use Rattle.std.proofs.Common.{◌≡◌, ℕ, ◌+◌, ◌<◌, List, ◌∷◌, Option, Some, length, get_or, drop, sym, ◌∙◌, ap, add-one, drop-cons}
+use Rattle.std.proofs.Common.{◌≡◌, ℕ, ◌+◌, ◌<◌, List, [], ◌∷◌, ◌++◌, Option, Some, length, get_or, map, take, refl, sym, ◌∙◌, ap, subst, rules}
+use Rattle.std.proofs.lemmas.List.{take_more}
+use Rattle.tp_model.specs.Drafts.{DraftView}
 use Rattle.tp_model.specs.declared.types.Element.{Element}
-use Rattle.tp_server.specs.declared.recipe.Recipe.{Recipe}
-use Rattle.tp_server.specs.Effect.{effect_of, registers_after, fold_from}
-use Rattle.tp_server.specs.Pending.{registers_of}
-use Rattle.tp_server.proofs.Pending.{pending_registers}
+use Rattle.tp_server.specs.Behaviour.{Behaviour, Done, Folds, IsMade}
+use Rattle.tp_server.specs.Pending.{Pending, registers_of}
+use Rattle.tp_server.proofs.Made.{folds-append, made_of}
 use Rattle.tp_call_tests.proofs.tests.server.fold.serve_all.Goals as goal
 
--- a committed element is taken off what is left to fold
-fold_from-committed : (recipe start : Recipe) (registers next : List ℕ) (whole : Option (List ℕ)) (es : List Element) (k : ℕ) (d : Element)
-    → recipe ≡ start
-    → k < length es
-    → Some next ≡ registers_after (effect_of recipe registers (get_or es k d))
-    → fold_from start (Some registers) (drop k es) ≡ whole
-    → fold_from start (Some next) (drop (k + 1) es) ≡ whole
-fold_from-committed recipe start registers next whole es k d same bound committed left =
-    let split : drop k es ≡ get_or es k d ∷ drop (k + 1) es = rw add-one (drop-cons es k d bound) in
-    let made = λ (r : Recipe). registers_after (effect_of r registers (get_or es k d)) in
-    let now : Some next ≡ made start = committed ∙ ap made same in
-    ap (λ o. fold_from start o (drop (k + 1) es)) now ∙ (sym (ap (λ xs. fold_from start (Some registers) xs) split) ∙ left)
+-- one element more was committed
+one_more : (b start : Behaviour) (first r next : List ℕ) (pending : Option Pending) (drafts : List DraftView) (es front : List Element) (x : Element)
+    → b ≡ start → IsMade b r x pending drafts → Some next ≡ registers_of pending → front ++ x ∷ [] ≡ es
+    → (ds : List Done) × (map (λ (d : Done). d.element) ds ≡ front) × Folds start first ds r
+    → (ds : List Done) × (map (λ (d : Done). d.element) ds ≡ es) × Folds start first ds next
+one_more b start first r next pending drafts es front x same made left more (ds, elements, folds) =
+    let d : Done = record { element = x; drafts = drafts } in
+    let one : Folds start r (d ∷ []) next = subst (λ (l : Behaviour). Folds l r (d ∷ []) next) same (next, made_of b r x pending drafts next made left, refl) in
+    (ds ++ d ∷ [], snoc ds d ∙ (ap (λ (l : List Element). l ++ x ∷ []) elements ∙ more), folds-append start first r next ds (d ∷ []) folds one)
+  where
+    snoc : (ds : List Done) (d : Done) → map (λ (e : Done). e.element) (ds ++ d ∷ []) ≡ map (λ (e : Done). e.element) ds ++ d.element ∷ []
+    snoc [] d = refl
+    snoc (e ∷ ds) d = ap (λ (l : List Element). e.element ∷ l) (snoc ds d)
 
 pub loop-element-preserved : goal.loop-element-preserved
 loop-element-preserved g c = record {
   unprepared = c.commit.ensures.pending;
-  same_recipe = c.commit.ensures.recipe ∙ (c.prepare.ensures.recipe ∙ c.loop-element.invariant.same_recipe);
-  left = fold_from-committed _ _ _ _ _ _ _ _ c.loop-element.invariant.same_recipe c.loop-element-test.true
-      (c.commit.ensures.registers ∙ (ap registers_of c.prepare.ensures.pending ∙ pending_registers _ _))
-      c.loop-element.invariant.left;
+  same_behaviour = c.commit.ensures.behaviour ∙ (c.prepare.ensures.behaviour ∙ c.loop-element.invariant.same_behaviour);
+  folds = one_more _ _ _ _ _ _ _ _ _ _ c.loop-element.invariant.same_behaviour c.in-Ok.ensures.ok c.commit.ensures.registers (sym (take_more c.args.elements.now c.loop-element.element-index _ c.loop-element-test.true)) c.loop-element.invariant.folds;
 }

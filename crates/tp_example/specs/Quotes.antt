@@ -1,0 +1,30 @@
+-- What a quoting server does, whose prices come from outside.
+use Rattle.std.specs.Prelude.{ℕ, ◌+◌, ◌^◌, nat_lt, List, [], ◌∷◌, Result, Ok, Err, if◌then◌else◌, slice_index}
+use Rattle.tp_model.specs.declared.types.Element.{Element}
+use Rattle.tp_server.specs.Behaviour.{Behaviour}
+use Rattle.tp_server.specs.Effect.{Effect}
+use Rattle.tp_server.specs.declared.recipe.Declined.{Declined}
+use Rattle.tp_server.specs.declared.recipe.Declined.TheVariants.{NoRegister, Own, TooLarge}
+
+-- one quote more is counted, and the reply tells the price that was heard
+abbrev pub quote : ℕ → Element → ℕ → Effect
+quote n question price = record {
+  registers = (n + 1) ∷ [];
+  drafts = record {
+    stage = 15;
+    body = slice_index question.body 0 ∷ price ∷ slice_index question.body 2 ∷ 0 ∷ [];
+  } ∷ [];
+}
+
+-- without a price the question is declined, for a reason of the server's own
+abbrev pub told : ℕ → Element → List ℕ → Result Effect Declined
+told n question (price ∷ []) = Ok (quote n question price)
+told n question heard = Err (Own 2)
+
+-- one register: how many quotes were given
+abbrev pub quoted : List ℕ → Element → List ℕ → Result Effect Declined
+quoted (n ∷ []) question heard = if nat_lt (n + 1) (2 ^ 64) then told n question heard else Err TooLarge
+quoted registers question heard = Err NoRegister
+
+abbrev pub quotes : Behaviour
+quotes = record { stage = 3; effect = quoted }

@@ -1,0 +1,374 @@
+-- A crew's passes and boxes, as lists.
+use Rattle.std.proofs.Common.{◌≡◌, ◌≤◌, ℕ, ◌+◌, zero, suc, List, [], ◌∷◌, ◌++◌, All, refl, sym, ◌∙◌, ap, ap₂, subst, arith, length, take, drop, set, get_or, zip, inl, inr, ⊎_elim, ◌⊎◌, ◌<◌, map, Option, Some, None}
+use Rattle.std.specs.List.{AllZip}
+use Rattle.std.proofs.lemmas.List.{length-map, length-append, length-set, map-append, take-append-drop}
+use Rattle.std.proofs.lemmas.List.Elements.{All-append, All-cons, All-drop, All-head, All-nil, All-set, All-tail, All-take}
+use Rattle.tp_model.specs.declared.event.Event.{Event}
+use Rattle.tp_model.specs.History.{UnitClaim, claim_of}
+use Rattle.tp_model.specs.Passes.{IsPassView}
+use Rattle.tp_model.proofs.Bridges.{begins_trans, in_none}
+use Rattle.std.specs.declared.alloc.Global.{Global}
+use Rattle.std.specs.declared.dyn_box.DynBox.{DynBox}
+use Rattle.tp_server.specs.Behaviour.{Behaviour}
+use Rattle.tp_server.specs.Pending.{Pending}
+use Rattle.tp_manager.specs.Accounts.{AreAll, AreFrom, Attends}
+use Rattle.tp_manager.specs.Shown.{IsOf}
+use Rattle.tp_manager.specs.Shown.{IsKeptBy, KeeperShown, ManagerShown, PassShown, view_in}
+use Rattle.tp_desk.specs.Serving.{AreEnded, Leaves, gained}
+use Rattle.tp_desk.proofs.Serves.{ended_none, leaves_then, serves_more, serves_none, still_ended}
+use Rattle.tp_workers.specs.declared.crew.Crew.{Crew}
+use Rattle.tp_workers.specs.declared.tally.Shift.{Shift}
+use Rattle.tp_manager.specs.Calls.{Follows}
+use Rattle.tp_workers.specs.Crew.{IsSteadyCrew, OwnCall}
+use Rattle.tp_workers.specs.CrewPasses.{HasServed, HaveServed, IsFirstPass, clients_in, desks_in, own_in}
+use Rattle.tp_workers.specs.Desks.{DeskRan}
+use Rattle.tp_workers.specs.Drained.{DeskDrained}
+use Rattle.tp_workers.specs.Free.{IsFreePass, numbers}
+use Rattle.tp_workers.specs.Ran.{RanAll, RanEach}
+
+-- one pass more, with the next number
+from_more : (c : ℕ) (ps : List PassShown) (p : PassShown) → p.number ≡ c + length ps → AreFrom c ps → AreFrom c (ps ++ p ∷ [])
+from_more c [] p next all = (omega (arith, next), tt)
+from_more c (q ∷ ps) p next all = (all.0, from_more (c + 1) ps p (omega (arith, next)) all.1)
+
+pub all_more : (old new : KeeperShown) (ps : List PassShown) (p : PassShown) → p.number ≡ old.given → new.given ≡ old.given + 1 → AreAll old ps → AreAll new (ps ++ p ∷ [])
+all_more old new ps p next given all =
+    let long = length-append ps (p ∷ []) in
+    (omega (arith, long, all.0, given), from_more 0 ps p (omega (arith, next, all.0)) all.1)
+
+-- others with the same numbers
+from_same : (c : ℕ) (ps qs : List PassShown) → numbers qs ≡ numbers ps → AreFrom c ps → AreFrom c qs
+from_same c [] [] same all = tt
+from_same c [] (q ∷ qs) same all = absurd cc
+from_same c (p ∷ ps) [] same all = absurd cc
+from_same c (p ∷ ps) (q ∷ qs) same all = (first (numbers qs) (numbers ps) same ∙ all.0, from_same (c + 1) ps qs (rest (numbers qs) (numbers ps) same) all.1)
+  where
+    first : (xs ys : List ℕ) → q.number ∷ xs ≡ p.number ∷ ys → q.number ≡ p.number
+    first xs ys e = cc
+
+    rest : (xs ys : List ℕ) → q.number ∷ xs ≡ p.number ∷ ys → xs ≡ ys
+    rest xs ys e = cc
+
+pub same_length : (ps qs : List PassShown) → numbers qs ≡ numbers ps → length qs ≡ length ps
+same_length ps qs same = sym (length-map qs (λ (p : PassShown). p.number)) ∙ (ap length same ∙ length-map ps (λ (p : PassShown). p.number))
+
+pub all_same : (keeper : KeeperShown) (ps qs : List PassShown) → numbers qs ≡ numbers ps → AreAll keeper ps → AreAll keeper qs
+all_same keeper ps qs same all = (same_length ps qs same ∙ all.0, from_same 0 ps qs same all.1)
+
+-- the front of two lists that are joined, and the rest
+front_is : {A : Type 0} (xs ys : List A) (n : ℕ) → length xs ≡ n → take n (xs ++ ys) ≡ xs
+front_is [] ys n e = subst (λ (k : ℕ). take k ys ≡ []) e refl
+front_is {A = A} (x ∷ xs) ys n e = subst (λ (k : ℕ). take k (x ∷ xs ++ ys) ≡ x ∷ xs) e (ap (λ (l : List A). x ∷ l) (front_is xs ys (length xs) refl))
+
+rest_is : {A : Type 0} (xs ys : List A) (n : ℕ) → length xs ≡ n → drop n (xs ++ ys) ≡ ys
+rest_is [] ys n e = subst (λ (k : ℕ). drop k ys ≡ ys) e refl
+rest_is (x ∷ xs) ys n e = subst (λ (k : ℕ). drop k (x ∷ xs ++ ys) ≡ ys) e (rest_is xs ys (length xs) refl)
+
+own_front : {A : Type 0} (P r : List A) → 1 ≤ length P → take 1 (take 1 P ++ r) ≡ take 1 P
+own_front [] r e = absurd (omega (arith, e))
+own_front (x ∷ xs) r e = refl
+
+own_rest : {A : Type 0} (P r : List A) → 1 ≤ length P → drop 1 (take 1 P ++ r) ≡ r
+own_rest [] r e = absurd (omega (arith, e))
+own_rest (x ∷ xs) r e = refl
+
+-- The passes P of a crew of n boxes, as calls left them: the caller's own O as it was, those D of the desks, those C of the
+-- clients.
+module _ (P O D C : List PassShown) (n : ℕ) (own : O ≡ take 1 P) (some : 1 ≤ length P) where
+  pub new_own : own_in (O ++ (D ++ C)) ≡ own_in P
+  new_own = subst (λ (o : List PassShown). take 1 (o ++ (D ++ C)) ≡ take 1 P) (sym own) (own_front P (D ++ C) some)
+
+  others : drop 1 (O ++ (D ++ C)) ≡ D ++ C
+  others = subst (λ (o : List PassShown). drop 1 (o ++ (D ++ C)) ≡ D ++ C) (sym own) (own_rest P (D ++ C) some)
+
+  pub new_desks : length D ≡ n → desks_in n (O ++ (D ++ C)) ≡ D
+  new_desks e = ap (take n) others ∙ front_is D C n e
+
+  pub new_clients : length D ≡ n → clients_in n (O ++ (D ++ C)) ≡ C
+  new_clients e = ap (drop n) others ∙ rest_is D C n e
+
+  pub new_all : (Q : PassShown → Type 0) → All Q P → All Q D → All Q C → All Q (O ++ (D ++ C))
+  new_all Q all desks clients = All-append Q O (D ++ C) (subst (All Q) (sym own) (All-take Q 1 P all)) (All-append Q D C desks clients)
+
+  pub new_numbers : numbers D ≡ numbers (take n (drop 1 P)) → numbers C ≡ numbers (drop n (drop 1 P)) → numbers (O ++ (D ++ C)) ≡ numbers P
+  new_numbers d c =
+      let f : PassShown → ℕ = λ p. p.number in
+      let parts : numbers (D ++ C) ≡ numbers (take n (drop 1 P)) ++ numbers (drop n (drop 1 P)) = map-append f D C ∙ ap₂ ◌++◌ d c in
+      let back : numbers (D ++ C) ≡ numbers (drop 1 P) = parts ∙ (sym (map-append f (take n (drop 1 P)) (drop n (drop 1 P))) ∙ ap (map f) (take-append-drop n (drop 1 P))) in
+      map-append f O (D ++ C) ∙ (ap₂ ◌++◌ (ap (map f) own) back ∙ (sym (map-append f (take 1 P) (drop 1 P)) ∙ ap (map f) (take-append-drop 1 P)))
+
+-- what holds of all passes holds of the clients'
+pub rest_all : (Q : PassShown → Type 0) (P R C : List PassShown) (n : ℕ) → R ≡ drop 1 P → C ≡ drop n R → All Q P → All Q C
+rest_all Q P R C n behind clients all =
+    subst (All Q) (sym clients) (All-drop Q n R (subst (All Q) (sym behind) (All-drop Q 1 P all)))
+
+-- ---- what boxes have served
+
+module _ {B : Type 0} (behaviour : B → Behaviour) (registers : B → List ℕ) where
+  abbrev Served : PassShown × B → PassShown × B → Type 0
+  Served x y = HasServed behaviour registers x y
+
+  served_then : (x y z : PassShown × B) → Served x y → Served y z → Served x z
+  served_then x y z h k = record {
+    leaves = leaves_then (behaviour x.1) (registers x.1) (registers y.1) (registers z.1) x.0 y.0 z.0 h.leaves.serves h.leaves.ended
+        (subst (λ (b : Behaviour). Leaves b (registers y.1) (registers z.1) y.0 z.0) h.behaviour_is k.leaves);
+    behaviour_is = k.behaviour_is ∙ h.behaviour_is;
+  }
+
+  pub all_then : (xs ys zs : List (PassShown × B)) → AllZip Served xs ys → AllZip Served ys zs → AllZip Served xs zs
+  all_then [] [] [] h k = k
+  all_then [] [] (z ∷ zs) h k = absurd k
+  all_then [] (y ∷ ys) zs h k = absurd h
+  all_then (x ∷ xs) [] zs h k = absurd h
+  all_then (x ∷ xs) (y ∷ ys) [] h k = absurd k
+  all_then (x ∷ xs) (y ∷ ys) (z ∷ zs) h k = (served_then x y z h.0 k.0, all_then xs ys zs h.1 k.1)
+
+  -- what each run leaves was served
+  all_ran : (R : PassShown × B → Shift → PassShown × B → Type 0) → ((x : PassShown × B) (s : Shift) (y : PassShown × B) → R x s y → Served x y)
+      → (xs : List (PassShown × B)) (s : Shift) (ys : List (PassShown × B)) → RanAll R xs s ys → AllZip Served xs ys
+  all_ran R one [] s [] h = tt
+  all_ran R one [] s (y ∷ ys) h = absurd h
+  all_ran R one (x ∷ xs) s [] h = absurd h
+  all_ran R one (x ∷ xs) s (y ∷ ys) h = (one x h.0 y h.2, all_ran R one xs h.1 ys h.3)
+
+  -- so boxes that had served have served on, n of them in all
+  pub served_ran : (R : PassShown × B → Shift → PassShown × B → Type 0) → ((x : PassShown × B) (s : Shift) (y : PassShown × B) → R x s y → Served x y)
+      → (firsts : List PassShown) (bs : List B) (ps : List PassShown) (us : List B) (s : Shift) (qs : List PassShown) (vs : List B) → length vs ≡ length us
+      → HaveServed behaviour registers firsts bs ps us → RanEach R (desks_in (length us) ps) us s (desks_in (length us) qs) vs
+      → HaveServed behaviour registers firsts bs qs vs
+  served_ran R one firsts bs ps us s qs vs long h k =
+      let now : AllZip Served (zip (desks_in (length us) ps) us) (zip (desks_in (length vs) qs) vs) =
+      subst (λ (n : ℕ). AllZip Served (zip (desks_in (length us) ps) us) (zip (desks_in n qs) vs)) (sym long) (all_ran R one _ s _ k.ran) in
+      all_then _ _ _ h now
+
+  -- nothing was served yet
+  served_none : (x : PassShown × B) → IsPassView x.0.limits (view_in x.0) → Served x x
+  served_none x shows = record {
+    leaves = record { shows = shows; serves = serves_none (behaviour x.1) (registers x.1) x.0; ended = ended_none x.0 };
+    behaviour_is = refl;
+  }
+
+  all_none : (ps : List PassShown) (us : List B) → All (λ p. IsPassView p.limits (view_in p)) ps → AllZip Served (zip ps us) (zip ps us)
+  all_none [] us all = tt
+  all_none (p ∷ ps) [] all = tt
+  all_none (p ∷ ps) (u ∷ us) all =
+      let Q : PassShown → Type 0 = λ p. IsPassView p.limits (view_in p) in
+      (served_none (p, u) (All-head Q p ps all), all_none ps us (All-tail Q p ps all))
+
+  -- nor of other boxes, by the same passes
+  afresh : (xs : List (PassShown × B)) (ps : List PassShown) (us vs : List B) → length vs ≡ length us → AllZip Served xs (zip ps us) → AllZip Served (zip ps vs) (zip ps vs)
+  afresh xs [] us vs long h = tt
+  afresh xs (p ∷ ps) us [] long h = tt
+  afresh xs (p ∷ ps) [] (v ∷ vs) long h = absurd (omega (arith, long))
+  afresh [] (p ∷ ps) (u ∷ us) (v ∷ vs) long h = absurd h
+  afresh (x ∷ xs) (p ∷ ps) (u ∷ us) (v ∷ vs) long h = (served_none (p, v) h.0.leaves.shows, afresh xs ps us vs (omega (arith, long)) h.1)
+
+  pub served_afresh : (firsts : List PassShown) (bs : List B) (ps : List PassShown) (us vs : List B) → length vs ≡ length us
+      → HaveServed behaviour registers firsts bs ps us → HaveServed behaviour registers ps vs ps vs
+  served_afresh firsts bs ps us vs long h =
+      subst (λ (n : ℕ). AllZip Served (zip (desks_in n ps) vs) (zip (desks_in n ps) vs)) (sym long) (afresh _ (desks_in (length us) ps) us vs long h)
+
+  pub served_first : (ps : List PassShown) (us : List B) → All IsFirstPass ps → HaveServed behaviour registers ps us ps us
+  served_first ps us all = all_none (desks_in (length us) ps) us (all_show (desks_in (length us) ps) (All-take IsFirstPass (length us) (drop 1 ps) (All-drop IsFirstPass 1 ps all)))
+    where
+      all_show : (qs : List PassShown) → All IsFirstPass qs → All (λ p. IsPassView p.limits (view_in p)) qs
+      all_show [] each = All-nil (λ p. IsPassView p.limits (view_in p))
+      all_show (q ∷ qs) each =
+          All-cons (λ p. IsPassView p.limits (view_in p)) q qs (All-head IsFirstPass q qs each).shows (all_show qs (All-tail IsFirstPass q qs each))
+
+  -- a pass that only looked has served nothing more
+  module _ (n : ℕ) (h : List Event) where
+    looked : (u : B) (p q : PassShown) → Attends n h p q → Served (p, u) (q, u)
+    looked u p q a =
+        let seen = begins_trans p.seen _ q.seen a.follows.opened a.follows.closed in
+        record {
+          leaves = record {
+            shows = a.follows.shows;
+            serves = serves_more (behaviour u) (registers u) (registers u) (registers u) p p q [] [] a.follows.number seen (a.quiet.mine ∙ sym (append_none p.mine)) refl
+                (λ c v outs at. absurd (in_none at)) refl (λ v t claimed. absurd (none_is v t claimed)) (serves_none (behaviour u) (registers u) p);
+            ended = subst (λ (l : List Event). AreEnded None (gained p.mine l) q.seen) (sym a.quiet.mine) (still_ended (gained p.mine p.mine) p.seen q.seen None seen (ended_none p));
+          };
+          behaviour_is = refl;
+        }
+      where
+        append_none : (l : List Event) → l ++ [] ≡ l
+        append_none [] = refl
+        append_none (x ∷ l) = ap (λ (m : List Event). x ∷ m) (append_none l)
+
+        none_is : (v : ℕ) (t : UnitClaim) → claim_of [] v ≡ Some t → ⊥
+        none_is v t e = cc
+
+    all_looked : (ps qs : List PassShown) (us : List B) → AllZip (Attends n h) ps qs → AllZip Served (zip ps us) (zip qs us)
+    all_looked [] [] us a = tt
+    all_looked [] (q ∷ qs) us a = absurd a
+    all_looked (p ∷ ps) [] us a = absurd a
+    all_looked (p ∷ ps) (q ∷ qs) [] a = tt
+    all_looked (p ∷ ps) (q ∷ qs) (u ∷ us) a = (looked u p q a.0, all_looked ps qs us a.1)
+
+    some_looked : (k : ℕ) (ps qs : List PassShown) → AllZip (Attends n h) ps qs → AllZip (Attends n h) (take k ps) (take k qs)
+    some_looked zero [] [] a = tt
+    some_looked zero [] (q ∷ qs) a = absurd a
+    some_looked zero (p ∷ ps) [] a = absurd a
+    some_looked zero (p ∷ ps) (q ∷ qs) a = tt
+    some_looked (suc k) [] [] a = tt
+    some_looked (suc k) [] (q ∷ qs) a = absurd a
+    some_looked (suc k) (p ∷ ps) [] a = absurd a
+    some_looked (suc k) (p ∷ ps) (q ∷ qs) a = (a.0, some_looked k ps qs a.1)
+
+    rest_looked : (ps qs : List PassShown) → AllZip (Attends n h) ps qs → AllZip (Attends n h) (drop 1 ps) (drop 1 qs)
+    rest_looked [] [] a = tt
+    rest_looked [] (q ∷ qs) a = absurd a
+    rest_looked (p ∷ ps) [] a = absurd a
+    rest_looked (p ∷ ps) (q ∷ qs) a = a.1
+
+    pub served_looked : (firsts : List PassShown) (bs : List B) (ps : List PassShown) (us : List B) (qs : List PassShown)
+        → HaveServed behaviour registers firsts bs ps us → AllZip (Attends n h) ps qs → HaveServed behaviour registers firsts bs qs us
+    served_looked firsts bs ps us qs s a =
+        all_then _ _ _ s (all_looked (desks_in (length us) ps) (desks_in (length us) qs) us (some_looked (length us) (drop 1 ps) (drop 1 qs) (rest_looked ps qs a)))
+
+-- such passes are free afterwards
+pub looked_free : (m : ManagerShown) (n : ℕ) (h : List Event) (ps qs : List PassShown) → AllZip (Attends n h) ps qs → All (IsFreePass m) ps → All (IsOf m) qs → All (IsFreePass m) qs
+looked_free m n h [] [] a free own = All-nil (IsFreePass m)
+looked_free m n h [] (q ∷ qs) a free own = absurd a
+looked_free m n h (p ∷ ps) [] a free own = absurd a
+looked_free m n h (p ∷ ps) (q ∷ qs) a free own =
+    All-cons (IsFreePass m) q qs (record { own = All-head (IsOf m) q qs own; free = a.0.quiet.open_unit ∙ (All-head (IsFreePass m) p ps free).free })
+    (looked_free m n h ps qs a.1 (All-tail (IsFreePass m) p ps free) (All-tail (IsOf m) q qs own))
+
+-- ---- after a call
+
+module _ {B : Type 0} (behaviour : B → Behaviour) (registers : B → List ℕ) (pending : B → Option Pending) (m : ManagerShown) where
+  -- by any relation of runs, of passes and boxes that were handed over
+  served_by : (R : PassShown × B → Shift → PassShown × B → Type 0) → ((x : PassShown × B) (t : Shift) (y : PassShown × B) → R x t y → HasServed behaviour registers x y)
+      → (firsts : List PassShown) (bs : List B) (ps xs : List PassShown) (us ws : List B) (s : Shift) (qs : List PassShown) (vs : List B)
+      → xs ≡ ps → ws ≡ us → length vs ≡ length ws → HaveServed behaviour registers firsts bs ps us
+      → RanEach R (desks_in (length ws) xs) ws s (desks_in (length ws) qs) vs → HaveServed behaviour registers firsts bs qs vs
+  served_by R one firsts bs ps xs us ws s qs vs ep eu long h k =
+      served_ran behaviour registers R one firsts bs xs ws s qs vs long
+      (subst (λ (l : List PassShown). HaveServed behaviour registers firsts bs l ws) (sym ep) (subst (λ (l : List B). HaveServed behaviour registers firsts bs ps l) (sym eu) h)) k
+
+  module _ (firsts : List PassShown) (bs : List B) (ps xs : List PassShown) (us ws : List B) (s : Shift) (qs : List PassShown) (vs : List B) where
+    pub served_drained : xs ≡ ps → ws ≡ us → length vs ≡ length ws → HaveServed behaviour registers firsts bs ps us
+        → RanEach (DeskDrained behaviour registers pending m) (desks_in (length ws) xs) ws s (desks_in (length ws) qs) vs
+        → HaveServed behaviour registers firsts bs qs vs
+    served_drained ep eu long h k =
+        served_by (DeskDrained behaviour registers pending m) (λ x t y r. record { leaves = r.leaves; behaviour_is = r.behaviour_is }) firsts bs ps xs us ws s qs vs ep eu long h k
+
+    pub served_shift : (turns : ℕ) → xs ≡ ps → ws ≡ us → length vs ≡ length ws → HaveServed behaviour registers firsts bs ps us
+        → RanEach (DeskRan behaviour registers pending m turns) (desks_in (length ws) xs) ws s (desks_in (length ws) qs) vs
+        → HaveServed behaviour registers firsts bs qs vs
+    served_shift turns ep eu long h k =
+        served_by (DeskRan behaviour registers pending m turns) (λ x t y r. record { leaves = r.leaves; behaviour_is = r.behaviour_is }) firsts bs ps xs us ws s qs vs ep eu long h k
+
+module _ {X : Type 0} {F : X → Type 0} (behaviour : DynBox X Global F → Behaviour) (registers : DynBox X Global F → List ℕ)
+    (pending : DynBox X Global F → Option Pending) where
+  -- a crew with the same manager and as many passes and boxes is steady, where its fold goes on
+  pub next_steady : (old new : Crew X F) (ps : List PassShown) (us : List (DynBox X Global F)) → IsSteadyCrew behaviour registers pending old
+      → new.manager ≡ old.manager → new.clients ≡ old.clients → new.first_passes ≡ old.first_passes → new.first_boxes ≡ old.first_boxes
+      → new.passes.items ≡ ps → new.boxes.items ≡ us → IsKeptBy old.manager new.keeper → AreAll new.keeper ps → length ps ≡ length old.passes.items
+      → All (IsFreePass old.manager) ps → length us ≡ length old.boxes.items → All (λ b. pending b ≡ None) us
+      → HaveServed behaviour registers old.first_passes.value.items old.first_boxes.value.items ps us
+      → IsSteadyCrew behaviour registers pending new
+  next_steady old new ps us h manager clients first_passes first_boxes passes boxes kept all long free boxed clear served = record {
+    kept = rw (manager) kept;
+    limits = rw (manager) h.limits;
+    parts = rw (passes, manager) (long ∙ h.parts);
+    all = rw (passes) all;
+    free = rw (passes, manager) free;
+    count = rw (passes, boxes, clients, boxed) (long ∙ h.count);
+    clear = rw (boxes) clear;
+    same_count = rw (first_boxes, boxes) (h.same_count ∙ sym boxed);
+    served = rw (first_passes, first_boxes, passes, boxes) served;
+  }
+
+  pub steady_looked : (old : Crew X F) (n : ℕ) (h : List Event) (qs : List PassShown) → IsSteadyCrew behaviour registers pending old → AllZip (Attends n h) old.passes.items qs
+      → HaveServed behaviour registers old.first_passes.value.items old.first_boxes.value.items qs old.boxes.items
+  steady_looked old n h qs s a =
+      served_looked behaviour registers n h old.first_passes.value.items old.first_boxes.value.items old.passes.items old.boxes.items qs s.served a
+
+  -- so is one that begins its folds here, with another box in one place
+  pub swapped_steady : (old new : Crew X F) (k : ℕ) (x : DynBox X Global F) → IsSteadyCrew behaviour registers pending old
+      → new.manager ≡ old.manager → new.keeper ≡ old.keeper → new.clients ≡ old.clients → new.passes.items ≡ old.passes.items
+      → new.boxes.items ≡ set old.boxes.items k x → pending x ≡ None
+      → new.first_passes.value.items ≡ old.passes.items → new.first_boxes.value.items ≡ set old.boxes.items k x
+      → IsSteadyCrew behaviour registers pending new
+  swapped_steady old new k x h manager keeper clients passes boxes clear first_passes first_boxes =
+      let us = set old.boxes.items k x in
+      let long : length us ≡ length old.boxes.items = length-set old.boxes.items k x in
+      record {
+        kept = rw (manager, keeper) h.kept;
+        limits = rw (manager) h.limits;
+        parts = rw (passes, manager) h.parts;
+        all = rw (passes, keeper) h.all;
+        free = rw (passes, manager) h.free;
+        count = rw (passes, boxes, clients, long) h.count;
+        clear = rw (boxes) (All-set (λ b. pending b ≡ None) old.boxes.items k x clear h.clear);
+        same_count = rw (first_boxes, boxes) refl;
+        served = rw (first_passes, first_boxes, passes, boxes) (served_afresh behaviour registers old.first_passes.value.items old.first_boxes.value.items old.passes.items old.boxes.items us long h.served);
+      }
+
+-- the first of a list, which another takes the place of
+at_front : (xs : List PassShown) (p q : PassShown) → 1 ≤ length xs → p ≡ get_or xs 0 p → (others : List PassShown) × (xs ≡ p ∷ others) × (set xs 0 q ≡ q ∷ others)
+at_front [] p q some e = absurd (omega (arith, some))
+at_front (x ∷ xs) p q some e = (xs, ap (λ (z : PassShown). z ∷ xs) (sym e), refl)
+
+module _ {X : Type 0} {F : X → Type 0} (behaviour : DynBox X Global F → Behaviour) (registers : DynBox X Global F → List ℕ)
+    (pending : DynBox X Global F → Option Pending) where
+  front_of : (old : Crew X F) (p q : PassShown) → IsSteadyCrew behaviour registers pending old → p ≡ get_or old.passes.items 0 p
+      → (others : List PassShown) × (old.passes.items ≡ p ∷ others) × (set old.passes.items 0 q ≡ q ∷ others)
+  front_of old p q h at = at_front old.passes.items p q (omega (arith, h.parts, h.limits.parts.0)) at
+
+  -- the caller's own pass is free
+  pub still_free : (old : Crew X F) (p q : PassShown) → IsSteadyCrew behaviour registers pending old → p ≡ get_or old.passes.items 0 p
+      → q.open_unit ≡ p.open_unit → q.open_unit ≡ None
+  still_free old p q h at same =
+      let f = front_of old p q h at in
+      same ∙ (All-head (IsFreePass old.manager) p f.0 (subst (All (IsFreePass old.manager)) f.1 h.free)).free
+
+  module _ (old new : Crew X F) where
+    pub own_call : (n : ℕ) (R : PassShown → PassShown → Type 0) (p q : PassShown) → IsSteadyCrew behaviour registers pending old → p ≡ get_or old.passes.items 0 p
+        → new.passes.items ≡ set old.passes.items 0 q → new.manager ≡ old.manager → new.keeper ≡ old.keeper → new.boxes ≡ old.boxes → new.clients ≡ old.clients
+        → new.first_passes ≡ old.first_passes → new.first_boxes ≡ old.first_boxes → Follows n p q → q.open_unit ≡ None → R p q → OwnCall n R old new
+    own_call n R p q h at passes manager keeper boxes clients first_passes first_boxes follows free answer =
+        let f = front_of old p q h at in
+        record {
+          before = p;
+          after = q;
+          others = f.0;
+          was = f.1;
+          left = passes ∙ f.2;
+          follows = follows;
+          free = free;
+          answer = answer;
+          same = record { manager = manager; boxes = ap (λ v. length v.items) boxes; clients = clients; first_passes = first_passes; first_boxes = first_boxes };
+          keeper = keeper;
+          same_boxes = boxes;
+        }
+
+    pub own_steady : (p q : PassShown) → IsSteadyCrew behaviour registers pending old → p ≡ get_or old.passes.items 0 p
+        → new.passes.items ≡ set old.passes.items 0 q → new.manager ≡ old.manager → new.keeper ≡ old.keeper → new.boxes ≡ old.boxes → new.clients ≡ old.clients
+        → new.first_passes ≡ old.first_passes → new.first_boxes ≡ old.first_boxes → q.number ≡ p.number → IsOf old.manager q → q.open_unit ≡ None
+        → IsSteadyCrew behaviour registers pending new
+    own_steady p q h at passes manager keeper boxes clients first_passes first_boxes number own free =
+        let f = front_of old p q h at in
+        let ps : List PassShown = set old.passes.items 0 q in
+        let numbered : numbers ps ≡ numbers old.passes.items = ap numbers f.2 ∙ (ap (λ n. n ∷ numbers f.0) number ∙ ap numbers (sym f.1)) in
+        let behind : drop 1 old.passes.items ≡ drop 1 ps = ap (drop 1) f.1 ∙ sym (ap (drop 1) f.2) in
+        let us : List (DynBox X Global F) = old.boxes.items in
+        let firsts = zip (desks_in (length old.first_boxes.value.items) old.first_passes.value.items) old.first_boxes.value.items in
+        next_steady behaviour registers pending old new ps us h manager clients first_passes first_boxes passes (ap (λ v. v.items) boxes)
+        (rw (keeper) h.kept) (rw (keeper) (all_same old.keeper old.passes.items ps numbered h.all)) (same_length old.passes.items ps numbered)
+        (All-set (IsFreePass old.manager) old.passes.items 0 q (record { own = own; free = free }) h.free) refl h.clear
+        (subst (λ l. AllZip (HasServed behaviour registers) firsts (zip (take (length us) l) us)) behind h.served)
+
+-- a number that was told up to 32, and above by one above
+pub exact : (n r : ℕ) → (n ≤ 32 → r ≡ n) → (32 < n → 32 < r) → r ≤ 32 → r ≡ n
+exact n r few many within = ⊎_elim few (λ more. absurd (over (many more) within)) (either n 32)
+  where
+    over : 32 < r → r ≤ 32 → ⊥
+    over a b = omega (arith, a, b)
+
+    either : (i k : ℕ) → (i ≤ k) ⊎ (k < i)
+    either zero k = inl (omega arith)
+    either (suc i) zero = inr (omega arith)
+    either (suc i) (suc k) = ⊎_elim (λ a. inl (omega (arith, a))) (λ b. inr (omega (arith, b))) (either i k)

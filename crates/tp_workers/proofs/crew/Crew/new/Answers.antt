@@ -1,0 +1,20 @@
+use Rattle.std.proofs.Common.{◌≤◌, ◌∙◌, ap, length, refl, subst}
+use Rattle.tp_workers.proofs.CrewLemmas.{exact, served_first}
+use Rattle.tp_workers.proofs.crew.Crew.new.Goals as goal
+
+pub returns-clause-steady : goal.returns-clause-steady
+returns-clause-steady g c =
+    let parts = ap (λ l. l.parts) (c.in_ok-manager.ensures.limits.0 ∙ c.with_parts.ensures) in
+    let within : c.passes_for-parts.result ≤ 32 = subst (λ (n : _). n ≤ 32) (ap (λ l. l.parts) c.with_parts.ensures) c.in_ok-manager.ensures.limits.1.parts.1 in
+    let long = c.in-Ok.ensures.all ∙ (parts ∙ exact _ c.passes_for-parts.result c.passes_for-parts.ensures.few c.passes_for-parts.ensures.many within) in
+    record {
+      kept = c.all_passes.ensures.keeper;
+      limits = rw (c.in_ok-manager.ensures.limits.0) c.in_ok-manager.ensures.limits.1;
+      parts = c.in-Ok.ensures.all;
+      all = c.in-Ok.ensures.given;
+      free = c.in-Ok.ensures.free;
+      count = rw (long, c.len.ensures, c.args.boxes.ok.0) refl;
+      clear = c.requires.clear;
+      same_count = ap (λ v. length v.items) c.of-first_boxes.ensures;
+      served = rw (c.of-first_passes.ensures, c.of-first_boxes.ensures) (served_first _ _ c.in-Ok.passes.items c.args.boxes.items c.in-Ok.ensures.new);
+    }
