@@ -87,9 +87,9 @@ pub fn shift<R: Threads + Sync, G: Gate>(
             (pass.entry.now, server.entry.now) result (pass.exit.now, server.exit.now) × (total result ≤ turns) }
     { run_desk(manager, pass, server, turns, worker, gate) };
     let client = |pass: &mut Pass, job: &mut ClientJob, worker: u32| -> Shift
-        requires { IsClientOf manager.now (pass.now, job.now) × (calls_of job.now < 2 ^ 32) }
+        requires { IsClientOf manager.now (pass.now, job.now) }
         ensures { ClientRan manager.entry.now (pass.entry.now, job.entry.now) result (pass.exit.now, job.exit.now)
-            × (total result ≤ calls_of job.entry.now) }
+            × (total result ≤ job.entry.now.count) }
     { run_client(manager, pass, job, worker, gate) };
     let killer = |pass: &mut Pass, job: &mut KillJob, worker: u32| -> Shift
         requires { IsKillerOf manager.now (pass.now, job.now) }

@@ -5,7 +5,6 @@ ghost use Rattle.tp_workers.specs.Free.{IsFreePass};
 
 use crate::tests::fixture::{eager, lazy, recipe};
 use crate::tests::workers::{client, manager, pair, pass};
-use std::process::Abort;
 use std::thread::Threads;
 use tp_manager::{Keeper, Manager, Pass};
 use tp_model::types::{Account, Limits};
@@ -24,7 +23,7 @@ fn accounted(manager: &Manager, keeper: &mut Keeper, passes: &mut [Pass]) -> Opt
 }
 
 /// Two clients, two desks and a killer race, then the desks drain, and then all that the passes saw is counted.
-fn raced<R: Threads + Sync + Abort + AllocGlobal>(
+fn raced<R: Threads + Sync>(
     rt: &R,
     manager: &Manager,
     keeper: &mut Keeper,
@@ -45,7 +44,7 @@ fn raced<R: Threads + Sync + Abort + AllocGlobal>(
         desks,
         servers,
         clients,
-        &mut [client(rt, 1, 50), client(rt, 1, 50)],
+        &mut [client(1, 50), client(1, 50)],
         killers,
         &mut [KillJob { first: 0, end: 128 }],
         100,

@@ -10,7 +10,7 @@ use tp_model::types::{Limits, Refusal, Status};
 use tp_workers::{KillJob, NoGate, Shift, shift};
 
 /// A shift of one client alone, which submits three times.
-pub(super) fn submits_three<R: Threads + Sync + Abort + AllocGlobal>(
+pub(super) fn submits_three<R: Threads + Sync>(
     rt: &R,
     manager: &Manager,
     clients: &mut [Pass],
@@ -24,7 +24,7 @@ pub(super) fn submits_three<R: Threads + Sync + Abort + AllocGlobal>(
         &mut [],
         &mut [],
         clients,
-        &mut [client(rt, 1, 3)],
+        &mut [client(1, 3)],
         &mut [],
         &mut [],
         0,
