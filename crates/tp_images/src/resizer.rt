@@ -26,6 +26,8 @@ struct Resized {
 impl Resizer {
     /// Has so many bytes of disk space.
     pub fn new(space: u64) -> Resizer
+        ensures behaviour { ⟦<Resizer as Server>⟧.behaviour result ≡ resizer }
+        ensures registers { ⟦<Resizer as Server>⟧.registers result ≡ space ∷ [] }
         ensures unprepared { ⟦<Resizer as Server>⟧.pending result ≡ None }
     {
         Resizer {

@@ -21,6 +21,7 @@ pub struct Validator {
 impl Validator {
     /// Knows the formats 0 to `formats - 1`.
     pub fn new(formats: u64) -> Validator
+        ensures behaviour { ⟦<Validator as Server>⟧.behaviour result ≡ validator formats }
         ensures unprepared { ⟦<Validator as Server>⟧.pending result ≡ None }
     {
         Validator {
