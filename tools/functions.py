@@ -98,8 +98,8 @@ def impl_of(lines, at):
 
 
 def last_names(text):
-    """Returns, of each path in this text, the last name."""
-    return [it.rpartition("::")[2] for it in re.findall(r"(?<!')\b[A-Za-z_][\w:]*", text)]
+    """Returns, of each path in this text, the last name, and each number."""
+    return [it.rpartition("::")[2] for it in re.findall(r"(?<!')\b\w[\w:]*", text)]
 
 
 def heads(text, begins, ends):

@@ -107,8 +107,13 @@ class Story:
             for it in self.elements.values():
                 if it.root == int(command[1]) and it.stage != 15 and it.how not in ("consumed", "killed"):
                     self.kill(row, it.number)
+        elif verb == "collect" and line[0] == "collected":
+            for reply in line[2:]:
+                self.kill(row, int(reply.split(":")[0]))
         elif verb == "requeue" and line[0] == "requeued":
             self.requeue(int(command[1]))
+        elif verb == "release" and line[0] == "released":
+            self.release(row, int(command[1]))
         elif verb in ("race", "drain"):
             self.crowd(row)
         elif verb in ("turn", "claim", "prepare", "commit", "abort", "drop"):
@@ -162,6 +167,12 @@ class Story:
         if element:
             element.parkings.append(element.parked)
             element.end, element.how, element.parked, element.past = -1, "waiting", -1, len(element.holds)
+
+    def release(self, row, number):
+        element = self.elements.get(number)
+        if element:
+            element.holds[-1].killed = row
+            self.wait_again(row, element)
 
     def crowd(self, row):
         """In a race or a drain the servers that are free take what waits for them. The report doesn't tell which of it."""

@@ -1,5 +1,7 @@
 // What a user would write instead: one Mutex round a plain manager with the same semantics (least id first, attempts,
 // kill, replies, error queue), with ordered ready sets; std alone.  Prints NAME K NANOSECONDS CALLS, as tp_bench does.
+mod pipelines;
+
 use std::collections::BTreeSet;
 use std::hint::black_box;
 use std::sync::atomic::{AtomicU64, Ordering::SeqCst};
@@ -281,6 +283,12 @@ fn large() {
         (0..8).filter(|&u| m.claim(u, 1).is_none()).count()
     );
     timed!(
+        "idle_empty",
+        8,
+        8,
+        (0..8).filter(|&u| m.claim(u, 1).is_none()).count()
+    );
+    timed!(
         "next_error_empty",
         0,
         8,
@@ -292,6 +300,12 @@ fn large() {
     timed!(
         "idle_other_stage_6144",
         0,
+        8,
+        (0..8).filter(|&u| m.claim(u, 2).is_none()).count()
+    );
+    timed!(
+        "idle_other_stage_6144",
+        8,
         8,
         (0..8).filter(|&u| m.claim(u, 2).is_none()).count()
     );
@@ -407,6 +421,7 @@ fn main() {
             small();
         }
         large();
+        pipelines::round();
         race();
     }
 }

@@ -1,5 +1,6 @@
 //! The largest manager: 32 passes with 256 rows and 1024 units each.
 ghost use Rattle.std.specs.Prelude.{◌≡◌, None, IfSome};
+ghost use Rattle.tp_model.specs.Steps.{IsServerStage};
 ghost use Rattle.tp_manager.specs.Shown.{IsOf, IsKeptBy};
 
 use crate::calls::{bare_turns, errors, idles, kept, now, pass, replies, submits};
@@ -25,6 +26,26 @@ fn fill(manager: &Manager, keeper: &mut Keeper, count: u32)
             submits(manager, &mut client, 1, 256);
         }
     }
+}
+
+/// Eight Idle claims more, behind eight others.
+fn idle_again(
+    rt: &HostRuntime,
+    manager: &Manager,
+    watcher: &mut Pass,
+    name: &'static str,
+    stage: u8,
+) -> io::Result<()>
+    requires own { IsOf manager.now watcher.old }
+    requires free { watcher.old.open_unit ≡ None }
+    requires stage { IsServerStage stage }
+    ensures own { IsOf manager.now watcher.new }
+    ensures free { watcher.new.open_unit ≡ None }
+{
+    let before = now(rt);
+    let found = idles(manager, watcher, stage, 8);
+    let after = now(rt);
+    println!(rt; "{name} 8 {} {found}", after.wrapping_sub(before))
 }
 
 /// Eight servers, one after another, each with 1024 turns; before each it submits 256 itself.
@@ -102,6 +123,7 @@ fn measured(
     let b = errors(manager, watcher, 8);
     let t2 = now(rt);
     println!(rt; "idle_empty 0 {} {a}", t1.wrapping_sub(t0))?;
+    idle_again(rt, manager, watcher, "idle_empty", 1)?;
     println!(rt; "next_error_empty 0 {} 8 {b}", t2.wrapping_sub(t1))?;
     submits(manager, watcher, 1, 256);
     fill(manager, keeper, 23);
@@ -113,6 +135,7 @@ fn measured(
     let e = replies(manager, watcher, 0, 8);
     let t6 = now(rt);
     println!(rt; "idle_other_stage_6144 0 {} {c}", t4.wrapping_sub(t3))?;
+    idle_again(rt, manager, watcher, "idle_other_stage_6144", 2)?;
     println!(rt; "next_error_6144_waiting 0 {} 8 {d}", t5.wrapping_sub(t4))?;
     println!(rt; "reply_none_6144_waiting 0 {} 8 {e}", t6.wrapping_sub(t5))?;
     consume(rt, manager, keeper)?;

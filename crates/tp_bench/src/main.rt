@@ -9,6 +9,7 @@ ghost use Rattle.tp_manager.specs.Shown.{IsOf, IsKeptBy};
 
 mod calls;
 mod large;
+mod pipeline;
 mod race;
 mod small;
 
@@ -26,6 +27,7 @@ fn main(rt: HostRuntime) -> io::Result<()> {
             small::round(&rt)?;
         }
         large::round(&rt)?;
+        pipeline::round(&rt)?;
         race::round(&rt, &rt, rt.alloc())?;
     }
     Ok(())

@@ -1,14 +1,15 @@
 -- Listings and counts that are made of calls, one after another.
-use Rattle.std.proofs.Common.{◌≡◌, ℕ, suc, ◌+◌, List, [], ◌∷◌, ◌++◌, refl, ap, subst, arith}
+use Rattle.std.proofs.Common.{◌≡◌, ℕ, suc, ◌+◌, List, [], ◌∷◌, ◌++◌, Option, refl, ap, subst, arith}
 use Rattle.tp_model.specs.declared.types.Counts.{Counts}
 use Rattle.tp_model.specs.declared.types.Element.{Element}
 use Rattle.tp_model.specs.declared.types.Limits.{Limits}
+use Rattle.tp_model.specs.declared.types.Look.{Look}
 use Rattle.tp_model.specs.declared.types.Status.{Status}
 use Rattle.tp_model.specs.declared.types.Status.TheVariants as status
 use Rattle.tp_model.specs.Accounts.{all_in, one_more}
 use Rattle.tp_manager.specs.Shown.{PassShown}
 use Rattle.tp_report.specs.declared.answer.Answer.{Answer}
-use Rattle.tp_commands.specs.Asked.{FindsError, FindsNoError, TellsCount, TellsErrors, TellsRead, TellsReplies, reply_in, with_one, with_read}
+use Rattle.tp_commands.specs.Asked.{FindsError, FindsNoError, Taken, TellsCollected, TellsCount, TellsErrors, TellsFamily, TellsRead, TellsReplies, member_in, reply_in, with_one, with_read}
 
 -- one more that was found
 module _ (l : Limits) (first now next : PassShown) (found : List ℕ) (from id : ℕ)
@@ -51,3 +52,15 @@ read_listed l root id old mid new before found a below read is =
     let same : suc id ≡ id + 1 = omega arith in
     let more : TellsReplies l root (suc id) old found new = (before, mid, a, below, read, is) in
     subst (λ (n : ℕ). TellsReplies l root n old found new) same more
+
+pub look_listed : (l : Limits) (root id : ℕ) (old mid new : PassShown) (before found : List Look) (a : Answer) → TellsFamily l root id old before mid → TellsRead l id mid new a → found ≡ with_one before (member_in root a) → TellsFamily l root (id + 1) old found new
+look_listed l root id old mid new before found a below read is =
+    let same : suc id ≡ id + 1 = omega arith in
+    let more : TellsFamily l root (suc id) old found new = (before, mid, a, below, read, is) in
+    subst (λ (n : ℕ). TellsFamily l root n old found new) same more
+
+pub reply_taken : (l : Limits) (root id : ℕ) (old mid new : PassShown) (before found : List Element) (a : Answer) (read : PassShown) (taken : Option Element) → TellsCollected l root id old before mid → TellsRead l id mid read a → Taken l id (reply_in root a) read new taken → found ≡ with_one before taken → TellsCollected l root (id + 1) old found new
+reply_taken l root id old mid new before found a shown taken below read takes is =
+    let same : suc id ≡ id + 1 = omega arith in
+    let more : TellsCollected l root (suc id) old found new = (before, mid, a, shown, taken, below, read, takes, is) in
+    subst (λ (n : ℕ). TellsCollected l root n old found new) same more

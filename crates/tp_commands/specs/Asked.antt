@@ -5,20 +5,22 @@ use Rattle.tp_model.specs.declared.types.Counts.{Counts}
 use Rattle.tp_model.specs.declared.types.Element.{Element}
 use Rattle.tp_model.specs.declared.types.Limits.{Limits}
 use Rattle.tp_model.specs.declared.types.Look.{Look}
+use Rattle.tp_model.specs.declared.types.Refusal.{Refusal}
 use Rattle.tp_model.specs.declared.types.Refusal.TheVariants as refusals
 use Rattle.tp_model.specs.Accounts.{one_more}
 use Rattle.tp_model.specs.Counts.{is_waiting}
 use Rattle.tp_model.specs.History.{IsUnborn}
 use Rattle.tp_model.specs.Steps.{rows_of}
-use Rattle.tp_manager.specs.Bounds.{kill_steps, cancel_steps, next_error_steps, read_steps, requeue_steps, submit_steps}
+use Rattle.tp_manager.specs.Bounds.{kill_steps, cancel_steps, collect_steps, next_error_steps, read_steps, release_steps, requeue_steps, submit_steps}
 use Rattle.tp_manager.specs.Calls.{AtPoint, Follows, HasLooked, IsQuiet, KillFails, Kills, Reads, SubmitRefused, Submits}
 use Rattle.tp_manager.specs.Cancels.{CancelFails, Cancels}
 use Rattle.tp_manager.specs.Lists.{NextError, NoneParked}
+use Rattle.tp_manager.specs.Releases.{CollectFails, Collects, ReleaseFails, Releases}
 use Rattle.tp_manager.specs.Requeues.{RequeueFails, Requeues}
 use Rattle.tp_manager.specs.Shown.{PassShown}
 use Rattle.tp_report.specs.declared.answer.Answer.{Answer}
 use Rattle.tp_report.specs.declared.answer.Answer.TheVariants as answer
-use Rattle.tp_report.specs.Answer.{answer_text, counts_text, errors_text, line, replies_text}
+use Rattle.tp_report.specs.Answer.{answer_text, collected_text, counts_text, errors_text, family_text, line, replies_text}
 use Rattle.tp_script.specs.declared.script.ClientAct.{ClientAct}
 use Rattle.tp_script.specs.declared.script.ClientAct.TheVariants as acts
 
@@ -64,6 +66,15 @@ Requeued l id old new other = ⊥
 abbrev pub TellsRequeue : Limits → ℕ → PassShown → PassShown → Answer → Type 0
 TellsRequeue l id old new a = Follows requeue_steps old new × LooksAt l id old new × Requeued l id old new a
 
+-- a release
+abbrev pub Released : Limits → ℕ → PassShown → PassShown → Answer → Type 0
+Released l id old new (answer.Released i unit attempt) = (i ≡ id) × Releases l id unit attempt old new
+Released l id old new (answer.Refused why) = ReleaseFails l id old new why
+Released l id old new other = ⊥
+
+abbrev pub TellsRelease : Limits → ℕ → PassShown → PassShown → Answer → Type 0
+TellsRelease l id old new a = Follows release_steps old new × LooksAt l id old new × Released l id old new a
+
 -- a read
 abbrev pub HasRead : Limits → ℕ → PassShown → PassShown → Answer → Type 0
 HasRead l id old new (answer.Read look) = Reads l id old new look
@@ -85,7 +96,7 @@ reply_in root (answer.Read look) = if is_reply root look then Some look.element 
 reply_in root other = None
 
 -- what was found, and one more where there is one
-abbrev pub with_one : List Element → Option Element → List Element
+abbrev pub with_one : {A : Type 0} → List A → Option A → List A
 with_one found (Some e) = found ++ e ∷ []
 with_one found None = found
 
@@ -95,6 +106,34 @@ TellsReplies l root zero old found new = (found ≡ []) × (new ≡ old)
 TellsReplies l root (suc id) old found new = (before : List Element) × (between : PassShown) × (a : Answer)
     × TellsReplies l root id old before between × TellsRead l id between new a
     × (found ≡ with_one before (reply_in root a))
+
+-- a reply that was shown to wait is taken, or another has taken it; where none was shown, nothing is done
+abbrev pub Taken : Limits → ℕ → Option Element → PassShown → PassShown → Option Element → Type 0
+Taken l id None old new taken = (taken ≡ None) × (new ≡ old)
+Taken l id (Some shown) old new (Some e) = Follows collect_steps old new × LooksAt l id old new × Collects id e old new
+Taken l id (Some shown) old new None =
+    Follows collect_steps old new × LooksAt l id old new × ((why : Refusal) × CollectFails l id old new why)
+
+-- the ids below this one were read, one after another, each reply to the request among them that waits was taken
+-- behind its read, and these are the ones that this pass took
+abbrev pub TellsCollected : Limits → ℕ → ℕ → PassShown → List Element → PassShown → Type 0
+TellsCollected l root zero old found new = (found ≡ []) × (new ≡ old)
+TellsCollected l root (suc id) old found new =
+    (before : List Element) × (between : PassShown) × (a : Answer) × (read : PassShown) × (taken : Option Element)
+    × TellsCollected l root id old before between × TellsRead l id between read a
+    × Taken l id (reply_in root a) read new taken × (found ≡ with_one before taken)
+
+-- the look that a read answered, where it shows an element of the request
+abbrev pub member_in : ℕ → Answer → Option Look
+member_in root (answer.Read look) = if look.element.root == root then Some look else None
+member_in root other = None
+
+-- the ids below this one were read, one after another, and these are the looks at elements of the request
+abbrev pub TellsFamily : Limits → ℕ → ℕ → PassShown → List Look → PassShown → Type 0
+TellsFamily l root zero old found new = (found ≡ []) × (new ≡ old)
+TellsFamily l root (suc id) old found new = (before : List Look) × (between : PassShown) × (a : Answer)
+    × TellsFamily l root id old before between × TellsRead l id between new a
+    × (found ≡ with_one before (member_in root a))
 
 -- the next parked element from this id on was found
 pub record FindsError (l : Limits) (from id : ℕ) (old new : PassShown) : Type 0 where
@@ -149,6 +188,9 @@ TellsClient l (acts.Submit stage body) = AnswerLine (TellsSubmit l stage body)
 TellsClient l (acts.Kill id) = AnswerLine (TellsKill l id)
 TellsClient l (acts.Cancel root) = AnswerLine (TellsCancel l root)
 TellsClient l (acts.Requeue id) = AnswerLine (TellsRequeue l id)
+TellsClient l (acts.Release id) = AnswerLine (TellsRelease l id)
+TellsClient l (acts.Collect root) = FoundLine (TellsCollected l root (rows_of l)) (collected_text root)
+TellsClient l (acts.Family root) = FoundLine (TellsFamily l root (rows_of l)) (family_text root)
 TellsClient l (acts.Read id) = AnswerLine (TellsRead l id)
 TellsClient l (acts.Reply root) = FoundLine (TellsReplies l root (rows_of l)) (replies_text root)
 TellsClient l acts.Errors = FoundLine (TellsErrors l 0) errors_text

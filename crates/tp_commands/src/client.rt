@@ -1,13 +1,15 @@
 //! What the script's own client asks of the manager, through its pass.
 ghost use Rattle.std.specs.Prelude.{◌≡◌, ◌-◌, ◌<◌, ◌^◌, ℕ, List, IfOk, string_bytes};
 ghost use Rattle.tp_model.specs.declared.types.Element.{Element};
+ghost use Rattle.tp_model.specs.declared.types.Look.{Look};
 ghost use Rattle.tp_model.specs.Accounts.{all_in, one_more};
 ghost use Rattle.tp_model.specs.Steps.{rows_of};
-ghost use Rattle.tp_report.specs.Answer.{errors_text, line, replies_text};
+ghost use Rattle.tp_manager.specs.Shown.{PassShown};
+ghost use Rattle.tp_report.specs.Answer.{collected_text, errors_text, family_text, line, replies_text};
 ghost use Rattle.tp_report.specs.Lines.{IsLine};
 ghost use Rattle.tp_report.specs.declared.answer.Answer.{Answer};
 ghost use Rattle.tp_workers.specs.Free.{IsFreePass};
-ghost use Rattle.tp_commands.specs.Asked.{TellsCancel, TellsClient, TellsCount, TellsErrors, TellsKill, TellsRead, TellsReplies, TellsRequeue, TellsSubmit, is_reply, reply_in};
+ghost use Rattle.tp_commands.specs.Asked.{TellsCancel, TellsClient, TellsCollected, TellsCount, TellsErrors, TellsFamily, TellsKill, TellsRead, TellsRelease, TellsReplies, TellsRequeue, TellsSubmit, Taken, is_reply, member_in, reply_in};
 
 use std::alloc::{AllocError, Global};
 use std::string::String;
@@ -35,8 +37,11 @@ pub fn client_line(
         ClientAct::Kill { id } => line(alloc, kill(manager, client, id)),
         ClientAct::Cancel { root } => line(alloc, cancel(manager, client, root)),
         ClientAct::Requeue { id } => line(alloc, requeue(manager, client, id)),
+        ClientAct::Release { id } => line(alloc, release(manager, client, id)),
         ClientAct::Read { id } => line(alloc, read(manager, client, id)),
         ClientAct::Reply { root } => replies(alloc, manager, client, root),
+        ClientAct::Collect { root } => collected(alloc, manager, client, root),
+        ClientAct::Family { root } => family(alloc, manager, client, root),
         ClientAct::Errors => errors(alloc, manager, client),
         ClientAct::Count => line(alloc, Answer::Count(count(manager, client))),
     }
@@ -96,6 +101,23 @@ fn requeue(manager: &Manager, client: &mut Pass, id: u32) -> Answer<'static>
 {
     match manager.requeue(client, id) {
         Ok(round) => Answer::Requeued { id, round },
+        Err(why) => Answer::Refused(why),
+    }
+}
+
+/// `release ID`
+fn release(manager: &Manager, client: &mut Pass, id: u32) -> Answer<'static>
+    requires { IsFreePass manager.now client.old }
+    ensures free { IsFreePass manager.now client.new }
+    ensures number { client.new.number ≡ client.old.number }
+    ensures tells { TellsRelease manager.now.limits id client.old client.new result }
+{
+    match manager.release(client, id) {
+        Ok(released) => Answer::Released {
+            id,
+            unit: released.unit,
+            attempt: released.attempt,
+        },
         Err(why) => Answer::Refused(why),
     }
 }
@@ -164,6 +186,93 @@ fn replies(
     }
     let replies = found.as_slice();
     line(alloc, Answer::Replies { root, replies })
+}
+
+/// Takes the element with this id where it is a reply to the request that waits. `None` too where another
+/// has taken it behind the look.
+fn collect_at(manager: &Manager, client: &mut Pass, root: u32, id: u32) -> Option<Element>
+    requires { IsFreePass manager.now client.old }
+    ensures free { IsFreePass manager.now client.new }
+    ensures number { client.new.number ≡ client.old.number }
+    ensures tells { (a : Answer) × (read : PassShown) × TellsRead manager.now.limits id client.old read a
+        × Taken manager.now.limits id (reply_in root a) read client.new result }
+{
+    if reply_at(manager, client, root, id).is_none() {
+        return None;
+    }
+    match manager.collect(client, id) {
+        Ok(reply) => Some(reply),
+        Err(_) => None,
+    }
+}
+
+/// The line of `collect ROOT`: takes the replies to the request, in ascending order.
+fn collected(
+    alloc: Global,
+    manager: &Manager,
+    client: &mut Pass,
+    root: u32,
+) -> Result<String, AllocError>
+    requires { IsFreePass manager.now client.old }
+    ensures free { IsFreePass manager.now client.new }
+    ensures number { client.new.number ≡ client.old.number }
+    ensures tells { IfOk result (λ text. (found : List Element)
+        × TellsCollected manager.now.limits root (rows_of manager.now.limits) client.old found client.new
+        × (string_bytes text ≡ line (collected_text root found))) }
+    ensures line { IfOk result (λ text. IsLine (string_bytes text)) }
+{
+    let mut found = Vec::new(alloc);
+    for id in 0..manager.capacity() {
+        if let Some(reply) = collect_at(manager, client, root, id) {
+            found.push(reply)?;
+        }
+    }
+    let replies = found.as_slice();
+    line(alloc, Answer::Collected { root, replies })
+}
+
+/// Reads the element with this id, and answers the look where it is of the request.
+fn member_at(manager: &Manager, client: &mut Pass, root: u32, id: u32) -> Option<Look>
+    requires { IsFreePass manager.now client.old }
+    ensures free { IsFreePass manager.now client.new }
+    ensures number { client.new.number ≡ client.old.number }
+    ensures tells { (a : Answer) × TellsRead manager.now.limits id client.old client.new a × (result ≡ member_in root a) }
+{
+    match manager.read(client, id) {
+        Ok(look) => {
+            if look.element.root == root {
+                Some(look)
+            } else {
+                None
+            }
+        }
+        Err(_) => None,
+    }
+}
+
+/// The line of `family ROOT`: the elements of the request, in ascending order.
+fn family(
+    alloc: Global,
+    manager: &Manager,
+    client: &mut Pass,
+    root: u32,
+) -> Result<String, AllocError>
+    requires { IsFreePass manager.now client.old }
+    ensures free { IsFreePass manager.now client.new }
+    ensures number { client.new.number ≡ client.old.number }
+    ensures tells { IfOk result (λ text. (found : List Look)
+        × TellsFamily manager.now.limits root (rows_of manager.now.limits) client.old found client.new
+        × (string_bytes text ≡ line (family_text root found))) }
+    ensures line { IfOk result (λ text. IsLine (string_bytes text)) }
+{
+    let mut found = Vec::new(alloc);
+    for id in 0..manager.capacity() {
+        if let Some(look) = member_at(manager, client, root, id) {
+            found.push(look)?;
+        }
+    }
+    let looks = found.as_slice();
+    line(alloc, Answer::Family { root, looks })
 }
 
 /// The line of `errors`: the ids of the parked elements, in ascending order.

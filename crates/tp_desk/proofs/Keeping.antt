@@ -114,23 +114,23 @@ module _ (behaviour : Behaviour) (r : List ℕ) (pending : Option Pending) (star
       let g : List Event = gained f.mine p.mine in
       let x : Event = Claim p.number w.unit w.element.id w.attempt in
       let free : IsFree pending p = subst (λ (o : Option Work). InHand behaviour r pending o drafts f p) none s.in_hand in
-      let now : gained f.mine q.mine ≡ g ++ x ∷ [] = ap (gained f.mine) takes.adds.mine ∙ gained_more f.mine p.mine (x ∷ []) s.serves.mine in
+      let now : gained f.mine q.mine ≡ g ++ x ∷ [] = ap (gained f.mine) takes.opens.adds.mine ∙ gained_more f.mine p.mine (x ∷ []) s.serves.mine in
       let t : UnitClaim = record { pass = p.number; item = w.element.id; attempt = w.attempt } in
-      let fresh : claim_of g w.unit ≡ None = fresh_gained f.mine p.mine w.unit s.serves.mine takes.fresh in
+      let fresh : claim_of g w.unit ≡ None = fresh_gained f.mine p.mine w.unit s.serves.mine takes.opens.fresh in
       let claimed : claim_of (g ++ x ∷ []) w.unit ≡ Some t = first-snoc (claim_by w.unit) g x ∙ rw (fresh) (if_same w.unit w.unit (Some t) None refl) in
       let seen = seen_on n p q follows in
       let ended : AreEnded (Some w.unit) (g ++ x ∷ []) q.seen = λ v y is.
       ⊎_elim (λ before. ⊎_elim (λ same. absurd (not_both p.open_unit v free.open_unit same)) (λ e. inr e) (still_ended g p.seen q.seen p.open_unit seen s.ended v y before))
       (λ here. inl (ap Some (some_if w.unit v t y here.1).0)) (option_or-some (claim_of g v) (claim_by v x) y (sym (first-snoc (claim_by v) g x) ∙ is)) in
       record {
-        serves = serves_claim behaviour start r f p q p.number w.unit w.element.id w.attempt follows.number seen takes.adds.mine (fresh_claim p.mine p.number w.unit w.element.id w.attempt takes.fresh) s.serves;
+        serves = serves_claim behaviour start r f p q p.number w.unit w.element.id w.attempt follows.number seen takes.opens.adds.mine (fresh_claim p.mine p.number w.unit w.element.id w.attempt takes.opens.fresh) s.serves;
         in_hand = record {
-          open_unit = takes.open_unit;
+          open_unit = takes.opens.open_unit;
           claimed = subst (λ (h : List Event). IsClaim h q.number w.unit w.element.id w.attempt) (sym now) (subst (λ (c : ℕ). IsClaim (g ++ x ∷ []) c w.unit w.element.id w.attempt) (sym follows.number) claimed);
-          is_born = takes.is_born;
+          is_born = takes.opens.is_born;
           prepared = λ some. absurd (no_some pending free.unprepared some);
         };
-        ended = subst (λ (o : Option ℕ). AreEnded o (gained f.mine q.mine) q.seen) (sym takes.open_unit) (subst (λ (h : List Event). AreEnded (Some w.unit) h q.seen) (sym now) ended);
+        ended = subst (λ (o : Option ℕ). AreEnded o (gained f.mine q.mine) q.seen) (sym takes.opens.open_unit) (subst (λ (h : List Event). AreEnded (Some w.unit) h q.seen) (sym now) ended);
       }
 
   -- nothing was taken

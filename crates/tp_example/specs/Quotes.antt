@@ -1,5 +1,5 @@
 -- What a quoting server does, whose prices come from outside.
-use Rattle.std.specs.Prelude.{ℕ, ◌+◌, ◌^◌, nat_lt, List, [], ◌∷◌, Result, Ok, Err, if◌then◌else◌, slice_index}
+use Rattle.std.specs.Prelude.{ℕ, ◌+◌, ◌^◌, nat_lt, List, [], ◌∷◌, Option, Some, None, Result, Ok, Err, if◌then◌else◌, slice_index}
 use Rattle.tp_model.specs.declared.types.Element.{Element}
 use Rattle.tp_server.specs.Behaviour.{Behaviour}
 use Rattle.tp_server.specs.Effect.{Effect}
@@ -20,6 +20,11 @@ quote n question price = record {
 abbrev pub told : ℕ → Element → List ℕ → Result Effect Declined
 told n question (price ∷ []) = Ok (quote n question price)
 told n question heard = Err (Own 2)
+
+-- what was heard: the price, if there is one
+abbrev pub as_heard : Option ℕ → List ℕ
+as_heard (Some price) = price ∷ []
+as_heard None = []
 
 -- one register: how many quotes were given
 abbrev pub quoted : List ℕ → Element → List ℕ → Result Effect Declined

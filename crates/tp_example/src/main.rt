@@ -8,7 +8,6 @@ ghost use Rattle.tp_manager.specs.Shown.{IsOf};
 mod quotes;
 mod sales;
 mod stock;
-mod trouble;
 
 use quotes::{Prices, Quotes};
 use sales::sell;
@@ -17,8 +16,8 @@ use stock::Stock;
 use tp_desk::Desk;
 use tp_manager::{Keeper, Manager, Pass};
 use tp_model::types::Limits;
-use tp_server::Server;
-use trouble::Trouble;
+use tp_server::{OwnServer, Server};
+use tp_workers::Trouble;
 
 fn main(rt: HostRuntime) -> ExitCode {
     match trade(&rt) {
@@ -85,7 +84,10 @@ fn open_shop(
     ensures own { IsOf manager.now pass.new }
     ensures free { pass.new.open_unit ≡ None }
 {
-    let mut stock: Box<dyn Server + Send> = Box::new(rt.alloc(), Stock::new(goods))?;
+    let mut stock: Box<dyn Server + Send> = Box::new(
+        rt.alloc(),
+        OwnServer::new(Stock, [goods, 0]),
+    )?;
     let sales = sell(manager, pass, &mut stock, 8);
     println!(rt; "sold {}, short {}", sales.sold, sales.short)?;
     if let Some(left) = stock.balance(0) {
@@ -113,7 +115,10 @@ fn give_quotes(rt: &HostRuntime, manager: &Manager, pass: &mut Pass) -> Result<(
     requires free { pass.old.open_unit ≡ None }
     ensures own { IsOf manager.now pass.new }
 {
-    let mut quotes: Box<dyn Server + Send> = Box::new(rt.alloc(), Quotes::new(PriceList))?;
+    let mut quotes: Box<dyn Server + Send> = Box::new(
+        rt.alloc(),
+        OwnServer::new(Quotes { prices: PriceList }, [0]),
+    )?;
     let mut desk = Desk::new(manager, pass, &mut quotes);
     let _ = desk.turn();
     desk.end();

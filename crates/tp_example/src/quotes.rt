@@ -1,10 +1,9 @@
 //! A server of one's own that replies what a call to the outside gave.
-ghost use Rattle.std.specs.Prelude.{◌≡◌, [], ◌∷◌, None};
-ghost use Rattle.tp_example.specs.Quotes.{quotes};
+ghost use Rattle.std.specs.Prelude.{◌≡◌};
+ghost use Rattle.tp_example.specs.Quotes.{as_heard, quoted, quotes};
 
-use arrayvec::ArrayVec;
-use tp_model::types::{Draft, Element};
-use tp_server::{Declined, Server};
+use tp_model::types::Element;
+use tp_server::{Declined, Effect, Handler};
 
 /// Where prices come from. Nothing is known of what it answers.
 pub trait Prices: Drop {
@@ -12,78 +11,35 @@ pub trait Prices: Drop {
     fn price(&self, goods: u64) -> Option<u64>;
 }
 
-/// Replies to each question of stage 3 with the price of the goods in its word 0, and counts the quotes.
+/// Replies to each question of stage 3 with the price of the goods in its word 0. The one register counts the quotes.
 #[derive(Drop)]
 pub struct Quotes<P: Prices> {
-    prices: P,
-    given: u64,
-    prepared: Option<(Element, u64)>,
+    pub prices: P,
 }
 
-impl<P: Prices> Quotes<P> {
-    pub fn new(prices: P) -> Quotes<P>
-        ensures behaviour { ⟦<Quotes<P> as Server>⟧.behaviour result ≡ quotes }
-        ensures registers { ⟦<Quotes<P> as Server>⟧.registers result ≡ 0 ∷ [] }
-        ensures unprepared { ⟦<Quotes<P> as Server>⟧.pending result ≡ None }
-    {
-        Quotes {
-            prices,
-            given: 0,
-            prepared: None,
-        }
-    }
-}
-
-impl<P: Prices> Server for Quotes<P> {
-    ghost use Rattle.std.specs.Option.{option_map};
-
+impl<P: Prices> Handler<1> for Quotes<P> {
     ghost behaviour = { λ s. quotes };
-
-    ghost registers = { λ s. s.given ∷ [] };
-
-    ghost pending = { λ s. option_map (λ p. record { prepared_for = p.0; registers = p.1 ∷ [] }) s.prepared };
 
     fn stage(&self) -> u8 {
         3
     }
 
-    fn count(&self) -> u64 {
-        1
+    fn effect(&mut self, question: &Element, given: &[u64; 1]) -> Result<Effect<1>, Declined> {
+        let price = self.prices.price(question.body[0]);
+        quoted(question, given, price)
     }
+}
 
-    fn balance(&self, k: u64) -> Option<u64> {
-        if k == 0 { Some(self.given) } else { None }
-    }
-
-    fn is_prepared(&self) -> bool {
-        self.prepared.is_some()
-    }
-
-    fn prepare(&mut self, question: &Element) -> Result<ArrayVec<Draft, 4>, Declined> {
-        let [goods, _, customer, _] = question.body;
-        let Some(given) = self.given.checked_add(1) else {
-            return Err(Declined::TooLarge);
-        };
-        let Some(price) = self.prices.price(goods) else {
-            return Err(Declined::Own(2));
-        };
-        let mut replies = ArrayVec::new();
-        match Draft::new(15, [goods, price, customer, 0]) {
-            Some(reply) => replies.push(reply),
-            None => unreachable!(),
-        }
-        self.prepared = Some((*question, given));
-        Ok(replies)
-    }
-
-    fn commit(&mut self) {
-        if let Some((_, given)) = self.prepared {
-            self.given = given;
-        }
-        self.prepared = None;
-    }
-
-    fn undo(&mut self) {
-        self.prepared = None;
-    }
+/// What a question comes to, where so many quotes were given and this price was heard.
+fn quoted(question: &Element, given: &[u64; 1], price: Option<u64>) -> Result<Effect<1>, Declined>
+    ensures { result ≡ quoted given.now question.now (as_heard price) }
+{
+    let [goods, _, customer, _] = question.body;
+    let Some(given) = given[0].checked_add(1) else {
+        return Err(Declined::TooLarge);
+    };
+    let Some(price) = price else {
+        return Err(Declined::Own(2));
+    };
+    Ok(Effect::new([given]).output(15, [goods, price, customer, 0]))
 }

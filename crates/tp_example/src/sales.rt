@@ -1,15 +1,18 @@
 //! The orders of a day, worked off.
-ghost use Rattle.std.specs.Prelude.{◌≡◌, None};
+ghost use Rattle.std.specs.Prelude.{◌≡◌, ◌+◌, ◌≤◌, None};
 ghost use Rattle.tp_model.specs.Counts.{taken};
 ghost use Rattle.tp_manager.specs.Shown.{IsOf};
-ghost use Rattle.tp_desk.specs.Serving.{Leaves, gained};
+ghost use Rattle.tp_desk.specs.Serving.{gained};
 ghost use Rattle.tp_server.specs.Books.{Lowers, Raises};
+ghost use Rattle.tp_workers.specs.Desks.{WorksOn, place};
+ghost use Rattle.tp_workers.specs.Gains.{commits_in};
+ghost use Rattle.tp_workers.specs.declared.tally.Shift.{Shift};
 ghost use Rattle.tp_example.specs.Sales.{AddsUp, goods_in, money_in};
 ghost use Rattle.tp_example.specs.Shop.{cost, how_many, shop};
 
-use tp_desk::{Desk, Turned};
 use tp_manager::{Manager, Pass};
 use tp_server::Server;
+use tp_workers::work_off;
 
 /// How many turns sold something, and how many declined an order.
 #[derive(Clone, Copy, Debug, PartialEq, Eq)]
@@ -36,41 +39,18 @@ pub fn sell(
     ensures behaviour { behaviour stock.new ≡ behaviour stock.old }
     ensures adds_up { AddsUp (registers stock.old) (registers stock.new)
         (taken (gained pass.old.mine pass.new.mine) pass.new.seen) }
+    ensures sold { result.sold + commits_in pass.old ≡ commits_in pass.new }
+    ensures short { (counts : Shift) × (result.sold ≡ counts.done) × (result.short ≡ counts.refused)
+        × WorksOn manager.now.limits turns (place behaviour registers pending (pass.old, stock.old)) counts
+        (place behaviour registers pending (pass.new, stock.new)) }
+    ensures turns { result.sold + result.short ≤ turns }
 {
     each_sale();
-    work_off(manager, pass, stock, turns)
-}
-
-/// Has a desk take the turns. What it leaves is what every lender of a pass and a server can count on.
-fn work_off(
-    manager: &Manager,
-    pass: &mut Pass,
-    stock: &mut Box<dyn Server + Send>,
-    turns: u32,
-) -> Sales
-    requires own { IsOf manager.now pass.old }
-    requires free { pass.old.open_unit ≡ None }
-    requires unprepared { pending stock.old ≡ None }
-    ensures own { IsOf manager.now pass.new }
-    ensures free { pass.new.open_unit ≡ None }
-    ensures unprepared { pending stock.new ≡ None }
-    ensures behaviour { behaviour stock.new ≡ behaviour stock.old }
-    ensures leaves { Leaves (behaviour stock.new) (registers stock.old) (registers stock.new) pass.old pass.new }
-{
-    let mut sales = Sales { sold: 0, short: 0 };
-    let mut desk = Desk::new(manager, pass, stock);
-    for _turn in 0..turns {
-        match desk.turn() {
-            Turned::Idle => break,
-            Turned::NoUnit => break,
-            Turned::Done { .. } => sales.sold += 1,
-            Turned::Refused { .. } => sales.short += 1,
-            Turned::Lost { .. } => {}
-            Turned::Full { .. } => {}
-        }
+    let counts = work_off(manager, pass, stock, turns);
+    Sales {
+        sold: counts.done,
+        short: counts.refused,
     }
-    desk.end();
-    sales
 }
 
 /// Each order that is sold takes from the stock what it asks for, and adds what it costs to the takings.

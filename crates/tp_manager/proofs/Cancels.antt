@@ -27,7 +27,7 @@ use Rattle.tp_rule.specs.Steps.{HasElement, IsOver}
 use Rattle.tp_rule.specs.Views.{SeatShown, hand, view_of}
 use Rattle.tp_model.specs.declared.trace.TraceEntry.{TraceEntry}
 use Rattle.std.proofs.Math.Nat.{div-eq_of_lt-le, div-lt_iff_lt-mul, div-mul-le_self}
-use Rattle.std.proofs.lemmas.Bool.Decides.{leb_tells}
+use Rattle.std.proofs.lemmas.Bool.Decides.{eqb_tells, leb_tells}
 use Rattle.tp_rule.specs.declared.view.Known.TheVariants.{PartMark}
 use Rattle.tp_manager.proofs.Seeks.{rows_more}
 use Rattle.tp_rule.specs.declared.view.View.{View}
@@ -286,6 +286,7 @@ module _ (l : Limits) (root : ℕ) where
     past_over h refusals.Full p = absurd p
     past_over h refusals.NotParked p = absurd p
     past_over h refusals.NoRound p = absurd p
+    past_over h refusals.NotHeld p = absurd p
 
     pub row_past : (e : Refusal) → FailsIn l m i left e w y → TalliedAt l k root i 1 0 v y
     row_past e s =
@@ -420,7 +421,7 @@ module _ (l : Limits) (marks : List ℕ) (fair : AreLimits l) where
   pub mark_inside : (v : View) (i : ℕ) → IsKnown l v → AreKnown l marks v → i < part_rows l → row_at_mark l marks i ≤ part_rows l
   mark_inside v i low known less =
       let p = i / l.rows in let inside : p < l.parts = (div-lt_iff_lt-mul fair.rows.0).1 less in
-      let top = (low (PartMark p (slice_index marks p)) (known p inside)).0 in let all = rows_more p l.parts l.rows inside in omega arith
+      let top = (low (PartMark 0 p (slice_index marks p)) (known p inside)).0 in let all = rows_more p l.parts l.rows inside in omega arith
 
   -- a row of the parts is looked at where it isn't below the mark, and a spare one always
   pub looked_part : (i : ℕ) → i < part_rows l → row_at_mark l marks i ≤ i → is_looked l marks i ≡ true
@@ -441,7 +442,7 @@ module _ (l : Limits) (marks : List ℕ) (fair : AreLimits l) where
   pub below_mark : (i j : ℕ) (v : View) → IsKnown l v → AreKnown l marks v → i < part_rows l → i ≤ j → j < row_at_mark l marks i → is_looked l marks j ≡ false
   below_mark i j v low known less from_on high =
       let p = i / l.rows in let inside : p < l.parts = (div-lt_iff_lt-mul fair.rows.0).1 less in
-      let top = (low (PartMark p (slice_index marks p)) (known p inside)).0 in let first = div-mul-le_self i l.rows in
+      let top = (low (PartMark 0 p (slice_index marks p)) (known p inside)).0 in let first = div-mul-le_self i l.rows in
       let flip : (p + 1) * l.rows ≡ p * l.rows + l.rows = omega (arith, suc-mul p l.rows) in
       let same : j / l.rows ≡ p = div-eq_of_lt-le l.rows (omega arith) (omega arith) in
       let all = mark_inside v i low known less in
@@ -453,15 +454,15 @@ module _ (l : Limits) (marks : List ℕ) (fair : AreLimits l) where
       let off_is = unlooked_is i off in
       let p = i / l.rows in let inside : p < l.parts = (div-lt_iff_lt-mul fair.rows.0).1 off_is.0 in let first = div-mul-le_self i l.rows in
       let below : i < row_at_mark l marks i = off_is.1 in
-      go (element_of v.seen i) refl ((low (PartMark p (slice_index marks p)) (known p inside)).1 i first below) is
+      go (element_of v.seen i) refl ((low (PartMark 0 p (slice_index marks p)) (known p inside)).1 i first below) is
     where
-      go : (o : Option Element) → element_of v.seen i ≡ o → IsOver l v.seen i → is_member root o ≡ true → is_done l root v.seen i ≡ true
+      go : (o : Option Element) → element_of v.seen i ≡ o → IsOver l 0 v.seen i → is_member root o ≡ true → is_done l root v.seen i ≡ true
       go None e over is = absurd cc
       go (Some x) e over is = let s = status_of l.attempts v.seen i in ap (is_done_member root s) e
-          ∙ and_both (x.root == root) (x.stage == 15 || is_over s) is (or_right (x.stage == 15) (is_over s) (settled_over s (over x e)))
+          ∙ and_both (x.root == root) (x.stage == 15 || is_over s) is (⊎_elim (λ t. ap (λ b. b || is_over s) t.0) (λ t. or_right (x.stage == 15) (is_over s) (settled_over s (over x e t.1))) (eqb_tells x.stage 15))
 
   pub known_later : (n : ℕ) (ms : List TraceEntry) (v w : View) → Walked l n ms v w → AreKnown l marks v → AreKnown l marks w
-  known_later n ms v w a known p inside = a.knows (PartMark p (slice_index marks p)) (known p inside)
+  known_later n ms v w a known p inside = a.knows (PartMark 0 p (slice_index marks p)) (known p inside)
 
 -- the call as a whole
 

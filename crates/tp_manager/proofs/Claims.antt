@@ -11,7 +11,7 @@ use Rattle.tp_model.specs.declared.trace.StepKind.TheVariants as kinds
 use Rattle.tp_model.specs.declared.trace.TraceEntry.{TraceEntry}
 use Rattle.tp_model.specs.Passes.{opening_of}
 use Rattle.tp_manager.proofs.Points.{opening_any}
-use Rattle.tp_model.specs.History.{there, claim_by, claim_of, element_of, events_by, pass_of}
+use Rattle.tp_model.specs.History.{there, claim_by, claim_of, element_of, events_by, pass_of, status_of}
 use Rattle.tp_model.specs.Steps.{IsLegal, Step, rows_of}
 use Rattle.tp_model.proofs.Lists.{option_or-none}
 use Rattle.tp_model.proofs.Histories.{legal_at, legal_start}
@@ -24,7 +24,7 @@ use Rattle.tp_rule.specs.declared.view.View.{View}
 use Rattle.tp_manager.specs.declared.manager.Run.{Run}
 use Rattle.tp_manager.specs.declared.manager.Task.{Task}
 use Rattle.tp_manager.specs.Shown.{Spot, PassShown, shown}
-use Rattle.tp_manager.specs.Calls.{Claims, FoundNone, HasLooked, IsQuiet, Takes, claims_in, opening}
+use Rattle.tp_manager.specs.Calls.{Claims, AtPoint, FoundNone, HasLooked, IsQuiet, IsWaiting, Opens, claims_in, opening}
 use Rattle.tp_manager.specs.Walks.{EachRow, Steady, Sought, Walked, Rests, Took, PassedBy, with_trace}
 use Rattle.tp_manager.proofs.Walks.{grew_hand, grew_seen, has_looked, opening_is, grew_steady, walked_begins, walked_then}
 use Rattle.tp_manager.proofs.Passes.{claims_append, done_walked, steady_at, task_later, drawn_later}
@@ -106,7 +106,7 @@ module _ (l : Limits) (u : ℕ) (v w : View) (s : Steady l v) (g : Chooses v u w
         (subst (λ (z : PassShown). claims_in z.mine < l.units) is room, idle_quiet t t' old is, idle_looked t t' old is, idle_found t t' old is)
 
   -- an element was taken
-  module _ (n stage attempt : ℕ) (y : View) (x : Element) (k : Took l n stage u w y x attempt) where
+  module _ (n from stage attempt : ℕ) (y : View) (x : Element) (k : Took l n from stage u w y x attempt) where
     took_hand : hand y ≡ with_trace (hand y).trace (with_claim u (Claim (hand v).number u x.id attempt) (noted kinds.UnitChoice w.seen (with_spare u (hand v))))
     took_hand = subst (λ (a : Hand). hand y ≡ with_trace (hand y).trace (with_claim u (Claim a.number u x.id attempt) a)) chose_hand k.kept
 
@@ -128,13 +128,25 @@ module _ (l : Limits) (u : ℕ) (v w : View) (s : Steady l v) (g : Chooses v u w
     took_fresh : claim_of (hand v).mine u ≡ None
     took_fresh = ap (λ z. claim_of z u) s.shows.own ∙ unused_mine (hand v).number u v.seen (unused_start u v.seen k.before took_begins took_step.unused)
 
+    legal_took : IsLegal l (opening_of w.seen k.marks)
+    legal_took = legal_start l (opening_of w.seen k.marks) k.walk.closes.0 (subst (IsLegal l) (sym k.walk.closes.1) k.walk.steady.shows.legal)
+
+    -- the rows that were passed
+    pub took_first : (Ids : ℕ → Type 0) → ((i : ℕ) → i < rows_of l → Ids i → PassedBy l stage i (opening_of w.seen k.marks) y.seen) → (t t' : Spot) (old : PassShown) → shown t v ≡ old
+        → (z : Element) → element_of (opening old (shown t' y)) z.id ≡ Some z → z.stage ≡ stage → Ids z.id → AtPoint old (shown t' y) (λ h. ¬ IsWaiting (status_of l.attempts h z.id))
+    took_first Ids passed t t' old is = λ z q st id.
+        let o : opening old (shown t' y) ≡ opening_of w.seen k.marks = opening_is t t' v y old is l (1 + n) (choice ∷ k.marks) took_walked ∙ opening_any v.seen w.seen k.marks k.step in
+        let born : element_of (opening_of w.seen k.marks) z.id ≡ Some z = subst (λ h. element_of h z.id ≡ Some z) o q in
+        let r = passed z.id (births_inside l (opening_of w.seen k.marks) legal_took z born) id z born st in
+        (r.0, record { opened = subst (λ h. IsPrefix h r.0) (sym o) r.1; seen = r.2 }, r.3)
+
     pub took_answer : (used number : ℕ) (run : Run) (task : Option Task) (seat : SeatShown) (t t' : Spot) (old : PassShown) → view_of seat ≡ v → v.limits ≡ l → shown t v ≡ old → Rests seat number run used task → ¬ (used ≡ l.units) → u ≡ number * l.units + used
-        → Takes l stage (record { unit = u; element = x; attempt = attempt }) old (shown t' y)
+        → Opens l stage (record { unit = u; element = x; attempt = attempt }) old (shown t' y)
     took_answer used number run task seat t t' old same lim is r not next =
         let count : claims_in (hand v).mine ≡ used = subst (λ z. claims_in (hand z).mine ≡ used) same r.claims in
         let below : used ≤ l.units = subst (λ (z : Limits). used ≤ z.units) (ap (λ (z : View). z.limits) same ∙ lim) r.used_below in
         let num : (hand v).number ≡ number = subst (λ z. (hand z).number ≡ number) same r.number_is in
-        subst (λ (p : PassShown). Takes l stage (record { unit = u; element = x; attempt = attempt }) p (shown t' y)) is record {
+        subst (λ (p : PassShown). Opens l stage (record { unit = u; element = x; attempt = attempt }) p (shown t' y)) is record {
           room = omega arith;
           unit_is = next ∙ (ap (λ c. c * l.units + used) (sym num) ∙ ap (λ c. (hand v).number * l.units + c) (sym count));
           fresh = took_fresh;
@@ -162,19 +174,19 @@ chose_rests l u n stage number run used task seat next w s g a same r =
       work = task_later (view_of seat).seen (view_of next).seen number task (walked_begins l (1 + n) _ _ _ (idle_walked l u (view_of seat) w s g n stage (view_of next) a)) r.work;
     }
 
-pub took_rests : (l : Limits) (u n stage attempt root row number : ℕ) (run : Run) (used : ℕ) (task : Option Task) (seat next : SeatShown) (w : View) (x : Element) → (s : Steady l (view_of seat)) → Chooses (view_of seat) u w → Took l n stage u w (view_of next) x attempt → (view_of seat).limits ≡ l
+pub took_rests : (l : Limits) (u n from stage attempt root row number : ℕ) (run : Run) (used : ℕ) (task : Option Task) (seat next : SeatShown) (w : View) (x : Element) → (s : Steady l (view_of seat)) → Chooses (view_of seat) u w → Took l n from stage u w (view_of next) x attempt → (view_of seat).limits ≡ l
     → x.root ≡ root → x.id ≡ row → ¬ (used ≡ l.units) → Rests seat number run used task → Rests next number run (used + 1) (Some (record { unit = u; root = root; row = row }))
-took_rests l u n stage attempt root row number run used task seat next w x s g k same root_is row_is not r =
+took_rests l u n from stage attempt root row number run used task seat next w x s g k same root_is row_is not r =
     let v : View = view_of seat in let y : View = view_of next in
-    let h = took_hand l u v w s g n stage attempt y x k in let lim : l ≡ y.limits = sym k.walk.steady.pass.1 in
-    let ends = took_ends l u v w s g n stage attempt y x k in let unused = (took_step l u v w s g n stage attempt y x k).unused in
+    let h = took_hand l u v w s g n from stage attempt y x k in let lim : l ≡ y.limits = sym k.walk.steady.pass.1 in
+    let ends = took_ends l u v w s g n from stage attempt y x k in let unused = (took_step l u v w s g n from stage attempt y x k).unused in
     let below : used ≤ l.units = subst (λ (z : Limits). used ≤ z.units) same r.used_below in
     record {
       steady = steady_at l y.limits y lim k.walk.steady;
       number_is = ap (λ (z : Hand). z.number) h ∙ r.number_is;
       run_is = (ap (λ (z : Hand). z.next) h ∙ r.run_is.0, ap (λ (z : Hand). z.left) h ∙ r.run_is.1);
-      drawn = drawn_later v y run.drawn (sym (same ∙ lim)) (took_walked l u v w s g n stage attempt y x k).knows r.drawn;
-      done = done_walked l (1 + n) _ v y run.done same (took_walked l u v w s g n stage attempt y x k) r.done;
+      drawn = drawn_later v y run.drawn (sym (same ∙ lim)) (took_walked l u v w s g n from stage attempt y x k).knows r.drawn;
+      done = done_walked l (1 + n) _ v y run.done same (took_walked l u v w s g n from stage attempt y x k) r.done;
       used_is = ap (λ (z : Hand). z.claimed) h ∙ ap (λ z. z + 1) r.used_is;
       used_below = subst (λ (z : Limits). used + 1 ≤ z.units) lim (omega arith);
       claims = ap (λ (z : Hand). claims_in z.mine) h ∙ (claims_append (hand v).mine (Claim (hand v).number u x.id attempt ∷ []) ∙ (let c = r.claims in omega arith));

@@ -21,10 +21,10 @@ use Rattle.tp_rule.specs.Views.{hand}
 use Rattle.tp_rule.specs.declared.view.Hand.{Hand}
 use Rattle.tp_rule.specs.declared.view.View.{View}
 use Rattle.tp_manager.specs.Accounts.{AreFrom}
-use Rattle.tp_manager.specs.Bounds.{first_steps, kept_steps, lead_steps, led_steps, look_steps, meet_steps}
+use Rattle.tp_manager.specs.Bounds.{first_steps, gather_first, gather_kept, kept_steps, lead_steps, led_steps, look_steps, meet_steps}
 use Rattle.tp_manager.specs.Meetings.{load}
 use Rattle.tp_manager.specs.Shown.{PassShown, steps_in}
-use Rattle.tp_manager.specs.Together.{AreAllPasses, CountsWith, HasCounted, IsAt, Joins, LooksOn, LooksWith}
+use Rattle.tp_manager.specs.Together.{AreAllPasses, CountsWith, GathersWith, HasCounted, IsAt, Joins, LooksOn, LooksWith}
 use Rattle.tp_manager.specs.Walks.{Acted, Looked, Steady, untraced, with_trace}
 use Rattle.tp_manager.proofs.Follows.{follows_then, has_looked_then}
 use Rattle.tp_manager.proofs.RowCounts.{squeezed}
@@ -40,6 +40,7 @@ joins_both table l n k h g p m q a b = record {
     follows = follows_then n k p m q a.attends.follows b.attends.follows;
     looks = has_looked_then n k p m q a.attends.follows b.attends.follows a.attends.looks;
     quiet = record { mine = b.attends.quiet.mine ∙ a.attends.quiet.mine; open_unit = b.attends.quiet.open_unit ∙ a.attends.quiet.open_unit; run = (b.attends.quiet.run.0 ∙ a.attends.quiet.run.0, b.attends.quiet.run.1 ∙ a.attends.quiet.run.1, b.attends.quiet.run.2 ∙ a.attends.quiet.run.2) };
+    turn = b.attends.turn ∙ a.attends.turn;
   };
   at = b.at;
 }
@@ -96,44 +97,62 @@ own_first : (l : Limits) (n : ℕ) (v w : View) → Steady l v → Looked l n v 
 own_first l n v w s a c is = let number : (hand w).number ≡ c = a.walk.number ∙ is in
     ap (λ z. events_by z w.seen) (sym number) ∙ (sym a.walk.steady.shows.own ∙ (ap (λ (z : Hand). z.mine) a.kept ∙ (s.shows.own ∙ ap (λ z. events_by z v.seen) is)))
 
--- v is the first pass before, v1 after it met the other seat, v2 after the first look together, v3 after its count, and w
--- after the second look together; v', o, p and w' are the other seat, and olds, mids and news these passes
-module _ (table : TableId) (l : Limits) (v v1 v2 v3 w v' o p w' : View) (olds mids news : List PassShown) (account : Account) (all : AreAllPasses l v v' olds) (met : Acted l meet_steps v v1) (met_others : LooksOn l v1.seen v' o) (saw : IsPrefix v'.seen v1.seen)
-    (one : LooksWith table l (length olds + 1) v1 v2 o p olds mids) (count : Looked l (rows_of l * look_steps l) v2 v3) (two : LooksWith table l (length mids + 1) v3 w p w' mids news) (counted : HasCounted l (rows_of l) v2 v3 account) where
+pub untraced_long : (hs : List Hand) → length (untraced hs) ≡ length hs
+untraced_long [] = refl
+untraced_long (a ∷ hs) = let e = untraced_long hs in omega arith
+
+-- v is the first pass before, v1 after it met the other seat, and w after the look together; v', o and w' are the
+-- other seat, and olds and news these passes
+pub gathers_with : (table : TableId) (l : Limits) (v v1 w v' o w' : View) (olds news : List PassShown) → Acted l meet_steps v v1 → LooksOn l v1.seen v' o → IsPrefix v'.seen v1.seen → LooksWith table l (length olds + 1) v1 w o w' olds news
+    → GathersWith table l (gather_first (length olds + 1)) gather_kept led_steps v w v' w' olds news
+gathers_with table l v v1 w v' o w' olds news met met_others saw one = record {
+  first = acted_then l meet_steps (lead_steps (length olds + 1)) v v1 w met (walks.looked l (lead_steps (length olds + 1)) v1 w one.first);
+  others = record {
+    seen = one.others.seen;
+    limits = one.others.limits;
+    hands = untraced_looked l w.seen o w' one.others ∙ untraced_looked l v1.seen v' o met_others;
+    mine = one.others.mine;
+    known = one.others.known;
+    steps = (let a = steps_looked l v1.seen v' o met_others in let b = steps_looked l w.seen o w' one.others in let p = a.0 in let q = a.1 in let r = b.0 in omega arith);
+  };
+  saw = begins_trans v'.seen v1.seen w.seen saw (looked_begins l _ v1 w (walks.looked l _ v1 w one.first));
+  passes = one.passes;
+}
+
+-- v is the first pass before, v2 after the passes gathered, v3 after its count, and w after the second look together;
+-- v', p and w' are the other seat, and olds, mids and news these passes
+module _ (table : TableId) (l : Limits) (v v2 v3 w v' p w' : View) (olds mids news : List PassShown) (account : Account) (all : AreAllPasses l v v' olds) (g : GathersWith table l (gather_first (length olds + 1)) gather_kept led_steps v v2 v' p olds mids)
+    (count : Looked l (rows_of l * look_steps l) v2 v3) (two : LooksWith table l (length mids + 1) v3 w p w' mids news) (counted : HasCounted l (rows_of l) v2 v3 account) where
   after : Looked l (rows_of l * look_steps l + lead_steps (length mids + 1)) v2 w
   after = looked_then l (rows_of l * look_steps l) (lead_steps (length mids + 1)) v2 v3 w count (walks.looked l (lead_steps (length mids + 1)) v3 w two.first)
 
   first : Acted l (first_steps l (length olds + 1)) v w
-  first = let long = joins_long table l led_steps v2.seen olds mids one.passes in
-      acted_few l (meet_steps + (lead_steps (length olds + 1) + (rows_of l * look_steps l + lead_steps (length mids + 1)))) (first_steps l (length olds + 1)) v w (omega arith)
-      (acted_then l meet_steps (lead_steps (length olds + 1) + (rows_of l * look_steps l + lead_steps (length mids + 1))) v v1 w met
-      (looked_then l (lead_steps (length olds + 1)) (rows_of l * look_steps l + lead_steps (length mids + 1)) v1 v2 w (walks.looked l (lead_steps (length olds + 1)) v1 v2 one.first) after))
-
-  hands_first : untraced p.hands ≡ untraced v'.hands
-  hands_first = untraced_looked l v2.seen o p one.others ∙ untraced_looked l v1.seen v' o met_others
+  first = let long = joins_long table l led_steps v2.seen olds mids g.passes in
+      acted_few l (gather_first (length olds + 1) + (rows_of l * look_steps l + lead_steps (length mids + 1))) (first_steps l (length olds + 1)) v w (omega arith)
+      (acted_then l (gather_first (length olds + 1)) (rows_of l * look_steps l + lead_steps (length mids + 1)) v v2 w g.first after)
 
   hands_last : untraced w'.hands ≡ untraced v'.hands
-  hands_last = untraced_looked l w.seen p w' two.others ∙ hands_first
+  hands_last = untraced_looked l w.seen p w' two.others ∙ g.others.hands
 
   none_first : (c : ℕ) → length olds + 1 ≤ c → c < l.parts → events_by c v2.seen ≡ []
-  none_first = none_of_fresh l (length olds + 1) v2.seen p.hands all.few (hands_first ∙ all.others) one.others.mine
+  none_first = none_of_fresh l (length olds + 1) v2.seen p.hands all.few (g.others.hands ∙ all.others) g.others.mine
 
   none_last : (c : ℕ) → length olds + 1 ≤ c → c < l.parts → events_by c w.seen ≡ []
   none_last = none_of_fresh l (length olds + 1) w.seen w'.hands all.few (hands_last ∙ all.others) two.others.mine
 
   first_number : (hand v2).number ≡ 0
-  first_number = one.first.walk.number ∙ (met.walk.number ∙ all.first)
+  first_number = g.first.walk.number ∙ all.first
 
   -- nobody made an event between
   nothing : (c : ℕ) → c < l.parts → events_by c w.seen ≡ events_by c v2.seen
   nothing c below =
       dite (ℕ_discrete 0 c)
-      (λ same. own_first l _ v2 w one.first.walk.steady after c (first_number ∙ same))
+      (λ same. own_first l _ v2 w g.first.walk.steady after c (first_number ∙ same))
       (λ other. cut (omega (arith, other)))
     where
       cut : 1 ≤ c → events_by c w.seen ≡ events_by c v2.seen
       cut low = ⊎_elim
-          (λ t. let high : c ≤ length olds = t.1 in own_passes table l led_steps led_steps v2.seen w.seen 1 c olds mids news all.passes_are low (omega arith) one.passes two.passes)
+          (λ t. let high : c ≤ length olds = t.1 in own_passes table l led_steps led_steps v2.seen w.seen 1 c olds mids news all.passes_are low (omega arith) g.passes two.passes)
           (λ t. let high : length olds < c = t.1 in none_last c (omega arith) below ∙ sym (none_first c (omega arith) below))
           (leb_tells c (length olds))
 
@@ -143,17 +162,19 @@ module _ (table : TableId) (l : Limits) (v v1 v2 v3 w v' o p w' : View) (olds mi
   account_seen : account ≡ account_of l.attempts w.seen
   account_seen =
       let meanwhile : v3.seen ≡ v2.seen = squeezed v2.seen v3.seen w.seen (looked_begins l _ v2 v3 count) (looked_begins l _ v3 w (walks.looked l _ v3 w two.first)) same in
-      counted meanwhile ∙ (counts_by_rows l v2.seen one.first.walk.steady.shows.legal ∙ ap (account_of l.attempts) (sym same))
+      counted meanwhile ∙ (counts_by_rows l v2.seen g.first.walk.steady.shows.legal ∙ ap (account_of l.attempts) (sym same))
 
   steps_last : steps_in w'.hands ≡ steps_in v'.hands + kept_steps * length v'.hands
-  steps_last = let a = steps_looked l v1.seen v' o met_others in let b = steps_looked l v2.seen o p one.others in let c = steps_looked l w.seen p w' two.others in omega arith
+  steps_last = let long : length p.hands ≡ length v'.hands = sym (untraced_long p.hands) ∙ (ap length g.others.hands ∙ untraced_long v'.hands) in let b = g.others.steps in let c = (steps_looked l w.seen p w' two.others).0 in omega arith
 
   pub counts_with : CountsWith table l (length olds + 1) v w v' w' olds news account
   counts_with = record {
-    first = first;
-    others = record { seen = two.others.seen; limits = two.others.limits; hands = hands_last; mine = two.others.mine; known = two.others.known; steps = steps_last };
-    saw = begins_trans v'.seen v1.seen w.seen saw (begins_trans v1.seen v2.seen w.seen (looked_begins l _ v1 v2 (walks.looked l _ v1 v2 one.first)) (looked_begins l _ v2 w after));
-    passes = joins_twice table l led_steps led_steps v2.seen w.seen olds mids news one.passes two.passes;
+    gathered = record {
+      first = first;
+      others = record { seen = two.others.seen; limits = two.others.limits; hands = hands_last; mine = two.others.mine; known = two.others.known; steps = steps_last };
+      saw = begins_trans v'.seen v2.seen w.seen g.saw (looked_begins l _ v2 w after);
+      passes = joins_twice table l led_steps led_steps v2.seen w.seen olds mids news g.passes two.passes;
+    };
     account_is = account_seen;
   }
 

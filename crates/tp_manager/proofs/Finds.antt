@@ -1,11 +1,13 @@
 -- The rows that a listing passed over, and the one that it answers.
-use Rattle.std.proofs.Common.{◌≡◌, ◌≢◌, ℕ, ◌+◌, ◌*◌, ◌<◌, ◌≤◌, Option, Some, None, MatchOption, List, [], ◌∷◌, ◌++◌, sym, refl, ap, ◌∙◌, subst, inl, inr, arith}
+use Rattle.std.proofs.Common.{◌≡◌, ◌≢◌, ℕ, ◌+◌, ◌*◌, ◌<◌, ◌≤◌, Option, Some, None, MatchOption, List, [], ◌∷◌, ◌++◌, sym, ap, ◌∙◌, subst, inl, inr, arith, ⊎_elim, slice_index}
 use Rattle.std.proofs.lemmas.Bool.Decides.{eqb_tells}
 use mathlib.Core.List.{IsPrefix}
+use mathlib.Core.Logic.{dite}
+use native.Mathlib.Decide.{ℕ_discrete}
 use Rattle.tp_model.specs.declared.types.Element.{Element}
 use Rattle.tp_model.specs.declared.types.Limits.{Limits}
 use Rattle.tp_model.specs.declared.types.Status.{Status}
-use Rattle.tp_model.specs.declared.types.Status.TheVariants.{Killed}
+use Rattle.tp_model.specs.declared.types.Status.TheVariants.{Killed, Waiting, Parked}
 use Rattle.tp_model.specs.declared.event.Event.{Event}
 use Rattle.tp_model.specs.declared.event.Event.TheVariants.{Enqueue, Claim, Commit, Abort, Kill, Requeue}
 use Rattle.tp_model.specs.declared.trace.TraceEntry.{TraceEntry}
@@ -16,12 +18,16 @@ use Rattle.tp_model.specs.Steps.{IsLegal, IsParked, IsServerStage, Step, rows_of
 use Rattle.tp_model.proofs.Lists.{if_same, if_other}
 use Rattle.tp_model.proofs.Histories.{by_steps, element_of-kept, legal_start}
 use Rattle.tp_model.proofs.WordProofs.{claim_word-snoc}
-use Rattle.tp_model.proofs.Bridges.{begins_refl, begins_trans, found_later, status_again, status_free, status_killed}
+use Rattle.tp_model.proofs.Replies.{reply_stands}
+use Rattle.tp_model.proofs.Bridges.{begins_refl, begins_trans, found_later}
 use Rattle.tp_model.proofs.Later.{births_inside}
 use Rattle.tp_words.specs.Words.{head_of}
 use Rattle.tp_words.specs.declared.words.Head.{Head}
 use Rattle.tp_words.specs.declared.words.Head.TheVariants.{There}
-use Rattle.tp_rule.specs.Steps.{AreOver}
+use Rattle.tp_rule.specs.Rule.{Concerns}
+use Rattle.tp_rule.specs.Steps.{AreOver, Knows}
+use Rattle.tp_rule.specs.declared.view.Known.{Known}
+use Rattle.tp_rule.specs.declared.view.Known.TheVariants.{PartMark}
 use Rattle.tp_rule.specs.declared.view.View.{View}
 use Rattle.tp_manager.specs.declared.looking.Birth.{Birth}
 use Rattle.tp_manager.specs.declared.listing.Wanted.{Wanted}
@@ -29,11 +35,11 @@ use Rattle.tp_manager.specs.declared.listing.Wanted.TheVariants as wanteds
 use Rattle.tp_manager.specs.Calls.{AtPoint, IsWaiting, opening}
 use Rattle.tp_manager.specs.Looks.{IsThere}
 use Rattle.tp_manager.specs.Shown.{Spot, PassShown, shown}
-use Rattle.tp_manager.specs.Walks.{Acted, EachRow, Steady, Walked, Begun, Sought}
+use Rattle.tp_manager.specs.Walks.{Acted, EachRow, Looked, Remembers, Steady, Walked, Begun, Sought}
 use Rattle.tp_manager.specs.Lists.{AllKilled, IsReply, NextError, NextReply, NoneParked}
-use Rattle.tp_manager.specs.Finds.{Finds, Hits, IsWanted, PassedOver}
-use Rattle.tp_manager.proofs.Seeks.{Widens, sought_more}
-use Rattle.tp_manager.proofs.Walks.{opening_is, sought_acted, walked_none}
+use Rattle.tp_manager.specs.Finds.{kind_of, Finds, Hits, IsWanted, PassedOver}
+use Rattle.tp_manager.proofs.Seeks.{Widens, sought_behind, sought_more, sought_then}
+use Rattle.tp_manager.proofs.Walks.{opening_is, sought_acted, sought_few, walked_none}
 
 -- units take elements of the servers' stages alone
 module _ (l : Limits) where
@@ -75,18 +81,13 @@ module _ (l : Limits) where
       more : (h : List Event) (e : Event) → IsLegal l h → Step l h e → ((i n u r : ℕ) → claim_word h i ≡ TakenWord n u r → IsServed h i) → (i n u r : ℕ) → claim_word (h ++ e ∷ []) i ≡ TakenWord n u r → IsServed (h ++ e ∷ []) i
       more h e legal step old i n u r p = served_after h e step i n u r (old i n u r) (sym (claim_word-snoc h e i) ∙ p)
 
-  -- so a reply waits or is killed
+  -- so a reply that doesn't wait is killed
   pub reply_killed : (h : List Event) (i : ℕ) (x : Element) → IsLegal l h → element_of h i ≡ Some x → x.stage ≡ 15 → ¬ IsWaiting (status_of l.attempts h i) → status_of l.attempts h i ≡ Killed
-  reply_killed h i x legal born staged not = go (claim_word h i) refl
-    where
-      one : (y : Element) → element_of h i ≡ Some y → y ≡ x
-      one y p = cc
+  reply_killed h i x legal born staged not = ⊎_elim (λ waits. absurd (not (0, waits))) (λ killed. killed) (reply_stands l h legal i x born staged)
 
-      go : (w : ClaimWord) → claim_word h i ≡ w → status_of l.attempts h i ≡ Killed
-      go FreeWord is = absurd (not (0, status_free l h i legal is))
-      go (TakenWord n u r) is = let s = taken_served h legal i n u r is in let high = s.2.1 in let at : s.0.stage ≡ 15 = ap (λ (y : Element). y.stage) (one s.0 s.1) ∙ staged in absurd (omega arith)
-      go (KilledWord n u r) is = status_killed l h i n u legal is
-      go (AgainWord r) is = absurd (not (0, status_again l h i r legal is))
+  -- and is never parked
+  pub reply_not_parked : (h : List Event) (i : ℕ) (x : Element) → IsLegal l h → element_of h i ≡ Some x → x.stage ≡ 15 → ¬ IsParked (status_of l.attempts h i)
+  reply_not_parked h i x legal born staged parked = ⊎_elim (λ waits. (let e : Waiting 0 ≡ Parked parked.0 = sym waits ∙ parked.1 in absurd cc)) (λ killed. (let e : Killed ≡ Parked parked.0 = sym killed ∙ parked.1 in absurd cc)) (reply_stands l h legal i x born staged)
 
 module _ (l : Limits) (wanted : Wanted) where
   -- an element whose head is of no element that is looked for
@@ -185,13 +186,35 @@ pub finds_acted : (l : Limits) (wanted : Wanted) (n from end : ℕ) (v y : View)
 finds_acted l wanted n from end v y None s = sought_acted l n (EachRow (PassedOver l wanted) from end) v y s
 finds_acted l wanted n from end v y (Some id) s = sought_acted l n (EachRow (PassedOver l wanted) from id) v y s.3
 
--- what is over isn't looked for
-not_wanted : (wanted : Wanted) (stage root : ℕ) (s : Status) → IsSettled s → ¬ IsWanted wanted stage root s
-not_wanted (wanteds.Reply asked) stage root s settled is = subst IsSettled is.2.1 settled
-not_wanted wanteds.Error stage root s settled is = subst IsSettled is.1 settled
+-- an element isn't looked for where it is over, or of a stage that the marks aren't about at which the listing starts
+not_wanted : (wanted : Wanted) (stage root : ℕ) (s : Status) → (stage ≡ 15 → ¬ IsParked s) → (Concerns (kind_of wanted) stage → IsSettled s) → ¬ IsWanted wanted stage root s
+not_wanted (wanteds.Reply asked) stage root s unparked over is = subst IsSettled is.2.1 (over is.0)
+not_wanted wanteds.Error stage root s unparked over is = dite (ℕ_discrete stage 15) (λ reply. unparked reply is) (λ other. subst IsSettled is.1 (over other))
 
-pub over_low : (l : Limits) (wanted : Wanted) (h : List Event) (p n i : ℕ) → AreOver l h p n → p * l.rows ≤ i → i < p * l.rows + n → PassedOver l wanted i h h
-over_low l wanted h p n i over low high x born = (h, begins_refl h, begins_refl h, not_wanted wanted x.stage x.root (status_of l.attempts h i) (over i low high x born))
+pub over_aside : (l : Limits) (wanted : Wanted) (i : ℕ) (a h : List Event) → IsLegal l h → IsPrefix a h → ((x : Element) → element_of h i ≡ Some x → ¬ Concerns (kind_of wanted) x.stage) → PassedOver l wanted i a h
+over_aside l wanted i a h legal begins aside x p = let born = found_later a h begins i x p in
+    (h, begins, begins_refl h, not_wanted wanted x.stage x.root (status_of l.attempts h i) (reply_not_parked l h i x legal born) (λ about. absurd (aside x born about)))
+
+pub over_low : (l : Limits) (wanted : Wanted) (h : List Event) (p n i : ℕ) → IsLegal l h → AreOver l (kind_of wanted) h p n → p * l.rows ≤ i → i < p * l.rows + n → PassedOver l wanted i h h
+over_low l wanted h p n i legal over low high x born = (h, begins_refl h, begins_refl h, not_wanted wanted x.stage x.root (status_of l.attempts h i) (reply_not_parked l h i x legal born) (over i low high x born))
+
+-- what the pass remembers tells of the rows below a mark also later
+pub over_remembered : (l : Limits) (wanted : Wanted) (lows : List ℕ) (p i : ℕ) (v w : View) → Remembers (kind_of wanted) v lows → ((x : Known) → Knows v x → Knows w x) → Steady l w → p * l.rows ≤ i → i < p * l.rows + slice_index lows p → PassedOver l wanted i w.seen w.seen
+over_remembered l wanted lows p i v w r knows s low high = let c = kind_of wanted in
+    over_low l wanted w.seen p (slice_index lows p) i s.shows.legal (s.known (PartMark c p (slice_index lows p)) (knows (PartMark c p (slice_index lows p)) (r p (omega arith)))).1 low high
+
+-- an element whose head is of a stage that a kind isn't about is of that stage
+pub head_aside : (c : ℕ) (head : Head) (x : Element) → head ≡ head_of x → ((found root : ℕ) (by : Option ℕ) → head ≡ There found root by → ¬ Concerns c found) → ¬ Concerns c x.stage
+head_aside c head x is aside = aside x.stage x.root x.by is
+
+-- a listing of some rows, behind a look that found nothing
+pub finds_behind : (l : Limits) (wanted : Wanted) (n m k from end : ℕ) (v w y : View) (r : Option ℕ) → n + m ≤ k → Looked l n v w → Finds l wanted m from end w y r → Finds l wanted k from end v y r
+finds_behind l wanted n m k from end v w y None le a s = sought_few l (n + m) k (EachRow (PassedOver l wanted) from end) v y le (sought_behind l n m (PassedOver l wanted) (over_widens l wanted) from end v w y a s)
+finds_behind l wanted n m k from end v w y (Some id) le a s = (s.0, s.1, s.2, sought_few l (n + m) k (EachRow (PassedOver l wanted) from id) v y le (sought_behind l n m (PassedOver l wanted) (over_widens l wanted) from id v w y a s.3))
+
+-- the row that was found, behind which a mark was raised
+pub sought_raised : (l : Limits) (wanted : Wanted) (n from to : ℕ) (v w y : View) → Sought l n (EachRow (PassedOver l wanted) from to) v w → Looked l 1 w y → Sought l (n + 1) (EachRow (PassedOver l wanted) from to) v y
+sought_raised l wanted n from to v w y s a = sought_then l n 1 (EachRow (PassedOver l wanted) from to) v w y (λ a b c later each j low high. over_widens l wanted j a a b c (begins_refl a) later (each j low high)) s a
 
 module _ (t t' : Spot) (v y : View) (old : PassShown) (is : shown t v ≡ old) (l : Limits) (n from : ℕ) where
   pub error_answer : (r : Option ℕ) → Finds l wanteds.Error n from (rows_of l) v y r → MatchOption r (NoneParked l (λ i. from ≤ i) old (shown t' y)) (λ id. NextError l from id old (shown t' y))

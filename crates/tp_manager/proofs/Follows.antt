@@ -30,6 +30,7 @@ module _ (n k : ℕ) (p m q : PassShown) (a : Follows n p m) (b : Follows k m q)
         opened = subst (λ (t : List TraceEntry). IsPrefix p.seen (opening_of p.seen t)) (sym steps_both) opens;
         closed = subst (λ (t : List TraceEntry). IsPrefix (opening_of p.seen t) q.seen) (sym steps_both) closes;
         lows = λ i. let up = a.lows i in let on = b.lows i in omega arith;
+        drawn = let up = a.drawn in let on = b.drawn in omega arith;
       }
 
   -- what looked in the first looked in both
@@ -38,4 +39,4 @@ module _ (n k : ℕ) (p m q : PassShown) (a : Follows n p m) (b : Follows k m q)
 
 -- a bound that is larger holds too
 pub follows_within : (n k : ℕ) (p q : PassShown) → n ≤ k → Follows n p q → Follows k p q
-follows_within n k p q le f = record { shows = f.shows; number = f.number; traced = f.traced; few = omega (arith, f.few, le); opened = f.opened; closed = f.closed; lows = f.lows }
+follows_within n k p q le f = record { shows = f.shows; number = f.number; traced = f.traced; few = omega (arith, f.few, le); opened = f.opened; closed = f.closed; lows = f.lows; drawn = f.drawn }

@@ -15,7 +15,7 @@ use Rattle.tp_rule.specs.Views.{SeatShown, first_hand, first_view, fresh, fresh_
 use Rattle.tp_rule.specs.Steps.{IsSo, Knows, handed_out, handed_on, front_of, rest_of, looked, noted}
 use Rattle.tp_rule.specs.declared.view.Hand.{Hand}
 use Rattle.tp_rule.specs.declared.view.View.{View}
-use Rattle.tp_manager.specs.Shown.{steps_in}
+use Rattle.tp_manager.specs.Shown.{marks_of, steps_in}
 use Rattle.tp_manager.specs.Walks.{IsKnown, Keeps, Rests, pass_in, untraced, with_trace}
 use Rattle.tp_manager.specs.Calls.{claims_in}
 use Rattle.tp_manager.proofs.Rows.{unborn_quiet}
@@ -136,5 +136,10 @@ module _ (seat : SeatShown) (l : Limits) (given : ℕ) (k : Keeps seat l given) 
     }
 
 -- it remembers no mark
-pub no_lows : (n p : ℕ) → slice_index (replicate n 0) p ≡ 0
-no_lows n p = dite (dec_le (suc p) n) (λ less. get_or-replicate n p 0 0 less) (λ not. get_or_past (replicate n 0) p 0 (subst (λ z. z ≤ p) (sym (length-replicate n 0)) (omega arith)))
+pub none_in : (n p : ℕ) → slice_index (replicate n 0) p ≡ 0
+none_in n p = dite (dec_le (suc p) n) (λ less. get_or-replicate n p 0 0 less) (λ not. get_or_past (replicate n 0) p 0 (subst (λ z. z ≤ p) (sym (length-replicate n 0)) (omega arith)))
+
+pub no_lows : (m n c p : ℕ) → slice_index (marks_of (replicate m (replicate n 0)) c) p ≡ 0
+no_lows m n c p = let all = replicate m (replicate n 0) in dite (dec_le (suc c) m)
+    (λ less. ap (λ (row : List ℕ). slice_index row p) (get_or-replicate m c (replicate n 0) [] less) ∙ none_in n p)
+    (λ not. ap (λ (row : List ℕ). slice_index row p) (get_or_past all c [] (subst (λ z. z ≤ c) (sym (length-replicate m (replicate n 0))) (omega arith))))

@@ -219,3 +219,4 @@ module _ (t t' : Spot) (v w : View) (old : PassShown) (is : shown t v ≡ old) (
   fails_shown n i refusals.Full b k = k.3
   fails_shown n i refusals.NotParked b k = k.3
   fails_shown n i refusals.NoRound b k = k.3
+  fails_shown n i refusals.NotHeld b k = k.3

@@ -7,6 +7,7 @@ pub mod Seeks
 pub mod Marks
 pub mod Lows
 pub mod Looks
+pub mod Lots
 pub mod Tries
 pub mod Passes
 pub mod Submits
@@ -21,12 +22,17 @@ pub mod Shuts
 pub mod Kills
 pub mod Meetings
 pub mod Finds
+pub mod Releases
 pub mod Counts
 pub mod Cancels
 pub mod Together
+pub mod Upwards
 pub mod RoundAccounts
 pub mod RowCounts
 pub mod Follows
 pub mod Stills
 pub mod Closing
 pub mod Accounted
+pub mod Spares
+pub mod Circles
+pub mod EachTurn

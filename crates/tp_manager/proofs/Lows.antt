@@ -1,20 +1,26 @@
 -- The steps of scans that start at the marks.
-use Rattle.std.proofs.Common.{◌≡◌, ℕ, zero, suc, ◌+◌, ◌-◌, ◌*◌, ◌<◌, ◌≤◌, List, slice_index, refl, sym, ap, ◌∙◌, subst, arith, suc-mul, mul-le-mul_right}
+use Rattle.std.proofs.Common.{◌≡◌, ℕ, zero, suc, ◌+◌, ◌-◌, ◌*◌, ◌<◌, ◌≤◌, List, [], length, set, slice_index, refl, sym, ap, ◌∙◌, subst, arith, suc-mul, mul-le-mul_right}
 use Rattle.std.proofs.Math.Nat.{add-mul}
 use mathlib.Core.Logic.{dite}
-use native.Mathlib.Decide.{dec_le}
+use native.Mathlib.Decide.{dec_le, ℕ_discrete}
+use Rattle.std.proofs.lemmas.List.{get_or-set_same, get_or-set_other}
 use Rattle.tp_model.specs.declared.types.Limits.{Limits}
 use Rattle.tp_model.specs.declared.types.TheConstants.{BLOCK_ROWS}
+use Rattle.tp_rule.specs.Steps.{IsLow}
 use Rattle.tp_rule.specs.declared.view.View.{View}
 use Rattle.tp_rule.specs.declared.view.Known.TheVariants.{PartMark}
-use Rattle.tp_manager.specs.Shown.{Rises}
-use Rattle.tp_manager.specs.Bounds.{claim_steps_left, drawn_steps, listing_steps_left, look_steps, low_sum, rows_left, scan_steps, spare_steps, try_steps}
-use Rattle.tp_manager.specs.Walks.{IsKnown, Remembers, RisesAt}
+use Rattle.tp_manager.specs.Shown.{AllRise, Rises, marks_of}
+use Rattle.tp_manager.specs.Bounds.{claim_steps_left, drawn_steps, listing_steps_left, look_steps, low_sum, marked_steps, rows_left, scan_steps, spare_left, try_steps}
+use Rattle.tp_manager.specs.Walks.{IsKnown, Remembers, RemembersAll, RisesAt}
 
 module _ (l : Limits) (lows : List ℕ) where
   -- no mark that is remembered is above its part
-  pub lows_inside : (v : View) → IsKnown l v → Remembers v lows → (p : ℕ) → slice_index lows p ≤ l.rows
-  lows_inside v low r p = dite (dec_le 1 (slice_index lows p)) (λ some. (low (PartMark p (slice_index lows p)) (r p some)).0) (λ none. omega arith)
+  pub lows_inside : (c : ℕ) (v : View) → IsKnown l v → Remembers c v lows → (p : ℕ) → p < l.parts → slice_index lows p ≤ l.rows
+  lows_inside c v low r p part = dite (dec_le 1 (slice_index lows p)) (λ some. (low (PartMark c p (slice_index lows p)) (r p some)).0.0 (λ same. omega arith)) (λ none. omega arith)
+
+  -- nor that of the spare rows above these
+  pub low_spare : (c : ℕ) (v : View) → IsKnown l v → Remembers c v lows → slice_index lows l.parts ≤ BLOCK_ROWS * l.spare
+  low_spare c v low r = dite (dec_le 1 (slice_index lows l.parts)) (λ some. (low (PartMark c l.parts (slice_index lows l.parts)) (r l.parts some)).0.1 refl) (λ none. omega arith)
 
   module _ (t k : ℕ) where
     -- one part more
@@ -26,25 +32,26 @@ module _ (l : Limits) (lows : List ℕ) where
     scan_rises n (suc m) le = dite (dec_le n m) (λ less. let rest = scan_rises n m less in omega arith)
         (λ not. let same : n ≡ suc m = omega arith in subst (λ z. scan_steps l t k lows z ≤ scan_steps l t k lows (suc m)) (sym same) (omega arith))
 
-    module _ (inside : (p : ℕ) → slice_index lows p ≤ l.rows) where
-      sum_few : (n : ℕ) → low_sum lows n ≤ n * l.rows
-      sum_few zero = omega arith
-      sum_few (suc n) = let rest = sum_few n in let one = inside n in omega (arith, suc-mul n l.rows)
+    module _ (inside : (p : ℕ) → p < l.parts → slice_index lows p ≤ l.rows) where
+      sum_few : (n : ℕ) → n ≤ l.parts → low_sum lows n ≤ n * l.rows
+      sum_few zero le = omega arith
+      sum_few (suc n) le = let rest = sum_few n (omega arith) in let one = inside n le in omega (arith, suc-mul n l.rows)
 
       -- all parts: the rows that are left, and what each part costs
-      pub scan_sum : (n : ℕ) → scan_steps l t k lows n ≤ (n * l.rows - low_sum lows n) * t + k * n
-      scan_sum zero = omega arith
-      scan_sum (suc n) =
-          let rest = scan_sum n in let one = inside n in let few = sum_few n in let wide = suc-mul n l.rows in
+      pub scan_sum : (n : ℕ) → n ≤ l.parts → scan_steps l t k lows n ≤ (n * l.rows - low_sum lows n) * t + k * n
+      scan_sum zero le = omega arith
+      scan_sum (suc n) le =
+          let rest = scan_sum n (omega arith) in let one = inside n le in let few = sum_few n (omega arith) in let wide = suc-mul n l.rows in
           let both = add-mul (n * l.rows - low_sum lows n) (l.rows - slice_index lows n) t in
           let all : suc n * l.rows - low_sum lows (suc n) ≡ (n * l.rows - low_sum lows n) + (l.rows - slice_index lows n) = omega arith in
           let parts : k * suc n ≡ k * n + k = omega arith in
           subst (λ z. scan_steps l t k lows (suc n) ≤ z * t + k * suc n) (sym all) (omega arith)
 
       -- what is left, in the parts and in the spare blocks
-      pub left_split : (low_sum lows l.parts ≤ l.parts * l.rows) → rows_left l lows * t ≡ (l.parts * l.rows - low_sum lows l.parts) * t + BLOCK_ROWS * l.spare * t
-      left_split few = let all : rows_left l lows ≡ (l.parts * l.rows - low_sum lows l.parts) + BLOCK_ROWS * l.spare = omega arith in
-          ap (λ n. n * t) all ∙ add-mul (l.parts * l.rows - low_sum lows l.parts) (BLOCK_ROWS * l.spare) t
+      pub left_split : (low_sum lows l.parts ≤ l.parts * l.rows) → slice_index lows l.parts ≤ BLOCK_ROWS * l.spare
+          → rows_left l lows * t ≡ (l.parts * l.rows - low_sum lows l.parts) * t + (BLOCK_ROWS * l.spare - slice_index lows l.parts) * t
+      left_split few top = let all : rows_left l lows ≡ (l.parts * l.rows - low_sum lows l.parts) + (BLOCK_ROWS * l.spare - slice_index lows l.parts) = omega arith in
+          ap (λ n. n * t) all ∙ add-mul (l.parts * l.rows - low_sum lows l.parts) (BLOCK_ROWS * l.spare - slice_index lows l.parts) t
 
     -- without marks
     pub scan_most : (n : ℕ) → scan_steps l t k lows n ≤ n * (k + l.rows * t)
@@ -52,12 +59,22 @@ module _ (l : Limits) (lows : List ℕ) where
     scan_most (suc n) = let rest = scan_most n in let one : (l.rows - slice_index lows n) * t ≤ l.rows * t = mul-le-mul_right t (omega arith) in omega (arith, suc-mul n (k + l.rows * t))
 
   -- a listing, and a claim
-  module _ (v : View) (low : IsKnown l v) (r : Remembers v lows) where
-    pub listing_few : scan_steps l (look_steps l) 1 lows l.parts + spare_steps l (look_steps l) ≤ listing_steps_left l lows
-    listing_few = let inside = lows_inside v low r in let t = look_steps l in let all = scan_sum t 1 inside l.parts in let split = left_split t 1 inside (sum_few t 1 inside l.parts) in omega arith
+  module _ (c : ℕ) (v : View) (low : IsKnown l v) (r : Remembers c v lows) where
+    pub listing_few : marked_steps l (look_steps l) lows ≤ listing_steps_left l lows
+    listing_few = let inside = lows_inside c v low r in let t = look_steps l in let all = scan_sum t 3 inside l.parts (omega arith) in
+        let split = left_split t 3 inside (sum_few t 3 inside l.parts (omega arith)) (low_spare c v low r) in omega arith
 
-    pub claim_few : 1 + (scan_steps l (try_steps l) 2 lows l.parts + spare_steps l (try_steps l)) ≤ claim_steps_left l lows
-    claim_few = let inside = lows_inside v low r in let t = try_steps l in let all = scan_sum t 2 inside l.parts in let split = left_split t 2 inside (sum_few t 2 inside l.parts) in omega arith
+    pub claim_few : 1 + marked_steps l try_steps lows ≤ claim_steps_left l lows
+    claim_few = let inside = lows_inside c v low r in let t = try_steps in let all = scan_sum t 3 inside l.parts (omega arith) in
+        let split = left_split t 3 inside (sum_few t 3 inside l.parts (omega arith)) (low_spare c v low r) in omega arith
+
+-- what a look at the spare blocks costs, where so many of their rows are below the mark, and most where none is
+pub spare_rises : (l : Limits) (t n m : ℕ) → n ≤ m → spare_left l t m ≤ spare_left l t n
+spare_rises l t n m le = let few : (BLOCK_ROWS * l.spare - m) * t ≤ (BLOCK_ROWS * l.spare - n) * t = mul-le-mul_right t (omega arith) in omega arith
+
+-- all rows, where no mark is known
+pub marked_most : (l : Limits) (t : ℕ) (lows : List ℕ) → marked_steps l t lows ≤ l.parts * (3 + l.rows * t) + spare_left l t 0
+marked_most l t lows = let all = scan_most l lows t 3 l.parts in let less = spare_rises l t 0 (slice_index lows l.parts) (omega arith) in omega arith
 
 -- by the limits and the marks that a caller sees
 pub listing_shown : (l k : Limits) (lows lows' : List ℕ) (n : ℕ) → l ≡ k → lows ≡ lows' → n ≤ listing_steps_left l lows → n ≤ listing_steps_left k lows'
@@ -76,3 +93,18 @@ rises_at_then p a b c r t = (rises_then a b c r.0 t.0, λ q other. t.1 q other �
 pub drawn_one : (spare : ℕ) → 0 < spare → drawn_steps spare ≡ 1
 drawn_one zero some = absurd (omega arith)
 drawn_one (suc spare) some = refl
+
+-- the marks of other kinds stay as they are
+pub rises_in : (lows : List (List ℕ)) (row : List ℕ) (c : ℕ) → c < length lows → Rises (marks_of lows c) row → AllRise lows (set lows c row)
+rises_in lows row c inside rises d p = dite (ℕ_discrete d c)
+    (λ same. subst (λ z. slice_index (marks_of lows z) p ≤ slice_index (marks_of (set lows c row) z) p) (sym same) (subst (λ z. slice_index (marks_of lows c) p ≤ slice_index z p) (sym (get_or-set_same lows c row [] inside)) (rises p)))
+    (λ other. subst (λ z. slice_index (marks_of lows d) p ≤ slice_index z p) (sym (get_or-set_other lows c d row [] other)) (omega arith))
+
+pub remembers_in : (lows : List (List ℕ)) (row : List ℕ) (c : ℕ) (v : View) → c < length lows → Remembers c v row → RemembersAll v lows → RemembersAll v (set lows c row)
+remembers_in lows row c v inside one all d = dite (ℕ_discrete d c)
+    (λ same. subst (λ z. Remembers z v (marks_of (set lows c row) z)) (sym same) (subst (Remembers c v) (sym (get_or-set_same lows c row [] inside)) one))
+    (λ other. subst (Remembers d v) (sym (get_or-set_other lows c d row [] other)) (all d))
+
+-- what is remembered of a mark is so in what was seen
+pub low_is : (l : Limits) (v : View) (lows : List (List ℕ)) (c p n : ℕ) → IsKnown l v → RemembersAll v lows → n ≡ slice_index (marks_of lows c) p → IsLow l c v.seen p n
+low_is l v lows c p n known all is = let m = slice_index (marks_of lows c) p in subst (IsLow l c v.seen p) (sym is) (dite (dec_le 1 m) (λ some. known (PartMark c p m) (all c p some)) (λ none. ((λ _. omega arith, λ _. omega arith), λ i low high. absurd (omega arith))))

@@ -1,41 +1,45 @@
 -- The exchange of a mark, and rows that were seen finished.
-use Rattle.std.proofs.Common.{◌≡◌, ◌⊎◌, ℕ, ◌+◌, ◌*◌, ◌<◌, ◌≤◌, Option, Some, None, List, [], ◌∷◌, ◌++◌, sym, refl, ap, ◌∙◌, subst, inl, inr, ⊎_elim, arith}
+use Rattle.std.proofs.Common.{◌≡◌, ◌⊎◌, ℕ, zero, suc, ◌+◌, ◌*◌, ◌<◌, ◌≤◌, Option, Some, None, List, [], ◌∷◌, ◌++◌, slice_index, sym, refl, ap, ◌∙◌, subst, inl, inr, ⊎_elim, arith}
 use mathlib.Core.Logic.{dite}
-use native.Mathlib.Decide.{dec_le}
+use native.Mathlib.Decide.{dec_le, ℕ_discrete}
 use mathlib.Core.List.{IsPrefix}
 use Rattle.tp_model.specs.declared.types.Element.{Element}
 use Rattle.tp_model.specs.declared.types.Limits.{Limits}
 use Rattle.tp_model.specs.declared.types.Status.{Status}
 use Rattle.tp_model.specs.declared.event.Event.{Event}
 use Rattle.tp_model.specs.declared.trace.StepKind.TheVariants as kinds
-use Rattle.tp_model.specs.History.{Aborted, IsSettled, element_of, status_of}
+use Rattle.tp_model.specs.History.{Aborted, IsSettled, IsUnborn, element_of, status_of}
 use Rattle.tp_model.specs.Steps.{IsLegal}
-use Rattle.tp_model.proofs.Bridges.{begins_refl, end_stays, found_later}
+use Rattle.tp_model.proofs.Bridges.{begins_refl, begins_trans, end_stays, found_later}
 use Rattle.tp_model.proofs.LawProofs.{settled_stay}
-use Rattle.tp_rule.specs.Rule.{IsSettledRow}
-use Rattle.tp_rule.specs.Steps.{AreOver, HasDead, IsDone, IsLow, IsSo, Knows, Raises, noted, unchanged}
+use Rattle.tp_rule.specs.Rule.{Concerns, IsInside, IsOther, IsSettledRow}
+use Rattle.tp_rule.proofs.Tellings.{inside_below, other_full}
+use Rattle.tp_rule.specs.Steps.{AreOver, HasAside, HasDead, IsDone, IsLow, IsSo, Knows, KnowsUseless, Raises, noted, unchanged}
 use Rattle.tp_rule.specs.Views.{hand}
 use Rattle.tp_rule.specs.declared.view.Hand.{Hand}
 use Rattle.tp_rule.specs.declared.view.Known.{Known}
-use Rattle.tp_rule.specs.declared.view.Known.TheVariants.{PartMark, RowHead}
+use Rattle.tp_rule.specs.declared.view.Known.TheVariants.{MarkAbove, PartMark, RowHead}
 use Rattle.tp_rule.specs.declared.view.View.{View}
 use Rattle.tp_manager.proofs.Unseen.{unseen_hand, unseen_steady, unseen_walked}
 use Rattle.tp_manager.specs.Calls.{IsWaiting}
 use Rattle.tp_manager.specs.Looks.{IsThere}
 use Rattle.tp_manager.specs.declared.looking.Birth.{Birth}
-use Rattle.tp_manager.specs.Walks.{Looked, PassedBy, RemembersDone, Rose, Steady, Took, Walked, with_trace}
-use Rattle.tp_words.specs.declared.words.Head.TheVariants.{There}
+use Rattle.tp_manager.specs.Walks.{Looked, IsOfUse, PassedBy, Remembers, RemembersDone, RestsAt, Rose, Steady, Took, Walked, WasOfUse, WasUnsettled, with_trace, EachRow}
+use Rattle.tp_words.specs.declared.words.Head.{Head}
+use Rattle.tp_words.specs.declared.words.Head.TheVariants.{Empty, Void, There}
+use Rattle.tp_model.specs.Passes.{opening_of}
+use Rattle.tp_manager.proofs.Points.{has_more, opening_kept}
 use Rattle.tp_words.specs.Words.{head_of}
 use Rattle.tp_model.specs.declared.trace.TraceEntry.{TraceEntry}
 use Rattle.tp_manager.proofs.Looks.{none_unit}
 use Rattle.tp_manager.proofs.Walks.{walked_begins, walked_then}
 
-module _ (l : Limits) (p n : ℕ) (v w : View) (s : Steady l v) (r : Raises v p n w) (new : IsLow l v.seen p n) where
+module _ (l : Limits) (c p m n : ℕ) (v w : View) (s : Steady l v) (r : Raises v c p m n w) (new : IsLow l c v.seen p n) (up : m < n) where
   raised_hand : hand w ≡ noted kinds.Raise v.seen (hand v)
   raised_hand = unseen_hand l kinds.Raise unchanged w.known v w s r.0
 
   raised_steady : Steady l w
-  raised_steady = unseen_steady l kinds.Raise unchanged w.known v w s r.0 refl s.shows.run refl refl (λ x q. ⊎_elim (λ old. s.known x old) (λ e. subst (IsSo l v.seen) (sym e) new) (r.2 x q))
+  raised_steady = unseen_steady l kinds.Raise unchanged w.known v w s r.0 refl s.shows.run refl refl (λ x q. ⊎_elim (λ old. s.known x old) (λ o. ⊎_elim (λ e. subst (IsSo l v.seen) (sym e) new) (λ e. subst (IsSo l v.seen) (sym e) (inside_below l p (m + 1) n (omega arith) new.0)) o) (r.2 x q))
 
   pub raised_looked : Looked l 1 v w
   raised_looked = record {
@@ -56,8 +60,8 @@ goes_walked l n ms v w lim a = record { limits = (lim, a.steady.pass.1); legal =
 
 module _ (l : Limits) where
   -- what was taken stays the last of what is seen, where nothing more is
-  pub took_looked : (stage u attempt : ℕ) (e : Element) (n m : ℕ) (v w y : View) → Took l n stage u v w e attempt → Looked l m w y → y.seen ≡ w.seen → Took l (n + m) stage u v y e attempt
-  took_looked stage u attempt e n m v w y t a same = record {
+  pub took_looked : (from stage u attempt : ℕ) (e : Element) (n m : ℕ) (v w y : View) → Took l n from stage u v w e attempt → Looked l m w y → y.seen ≡ w.seen → Took l (n + m) from stage u v y e attempt
+  took_looked from stage u attempt e n m v w y t a same = record {
     marks = t.marks ++ a.marks;
     walk = walked_then l n m t.marks a.marks v w y t.walk a.walk;
     kept = a.kept ∙ ap (λ z. with_trace (hand y).trace z) t.kept;
@@ -66,10 +70,14 @@ module _ (l : Limits) where
     ends = same ∙ t.ends;
     born = subst (λ z. element_of z e.id ≡ Some e) (sym same) t.born;
     of_stage = t.of_stage;
+    reach = t.reach;
+    step = has_more t.marks a.marks t.step;
+    passed = subst (λ z. EachRow (PassedBy l stage) from e.id z y.seen) (sym (opening_kept v.seen t.marks a.marks t.step.0 t.step.1 t.step.2))
+        (subst (λ z. EachRow (PassedBy l stage) from e.id (opening_of v.seen t.marks) z) (sym same) t.passed);
   }
 
-  pub rose_none : (v : View) (a : ℕ) → Rose v a a
-  rose_none v a = (omega arith, λ i low high. absurd (omega arith))
+  pub rose_none : (c : ℕ) (v : View) (a : ℕ) → Rose c v a a
+  rose_none c v a = (omega arith, λ i low high. absurd (omega arith))
 
   pub settled_row : (h g : List Event) (i : ℕ) → IsLegal l g → IsPrefix h g → IsSettledRow l h i → IsSettledRow l g i
   settled_row h g i legal begins s = (s.0, found_later h g begins i s.0 s.1, subst IsSettled (sym (settled_stay l h g i legal begins s.2)) s.2)
@@ -80,25 +88,45 @@ module _ (l : Limits) where
       (λ s. inl (subst (λ (z : Limits). IsSettledRow z w.seen i) (sym g.limits.1) (settled_row v.seen w.seen i g.legal g.begins (subst (λ (z : Limits). IsSettledRow z v.seen i) g.limits.0 s))))
       (λ n. inr (n.0, n.1, n.2, g.knows _ n.3, end_stays v.seen w.seen n.2 Aborted g.begins n.4)) d
 
-  pub rose_later : (v w : View) (a b : ℕ) → Goes l v w → Rose v a b → Rose w a b
-  rose_later v w a b g r = (r.0, λ i low high. done_later v w i g (r.1 i low high))
+  -- so it knows what is of no use
+  useless_later : (c : ℕ) (v w : View) (i : ℕ) → Goes l v w → KnowsUseless v c i → KnowsUseless w c i
+  useless_later c v w i g u = ⊎_elim (λ d. inl (done_later v w i g d)) (λ a. inr (a.0, g.knows _ a.1, a.2)) u
 
-  pub rose_then : (v w : View) (a b c : ℕ) → Goes l v w → Rose v a b → Rose w b c → Rose w a c
-  rose_then v w a b c g r t = let up = r.0 in let on = t.0 in (omega arith, λ i low high. dite (dec_le b i) (λ past. t.1 i past high) (λ not. done_later v w i g (r.1 i low (omega arith))))
+  pub rose_later : (c : ℕ) (v w : View) (a b : ℕ) → Goes l v w → Rose c v a b → Rose c w a b
+  rose_later c v w a b g r = (r.0, λ i low high. useless_later c v w i g (r.1 i low high))
+
+  pub rose_then : (d : ℕ) (v w : View) (a b c : ℕ) → Goes l v w → Rose d v a b → Rose d w b c → Rose d w a c
+  rose_then d v w a b c g r t = let up = r.0 in let on = t.0 in (omega arith, λ i low high. dite (dec_le b i) (λ past. t.1 i past high) (λ not. useless_later d v w i g (r.1 i low (omega arith))))
 
   -- one more row, whose element is consumed or killed
-  pub rose_one : (v : View) (a b row : ℕ) (birth : Birth) (s : Status) → v.limits ≡ l → IsThere v.seen row birth → s ≡ status_of l.attempts v.seen row → (b ≡ a) ⊎ ((b ≡ a + 1) × (a ≡ row) × IsSettled s) → Rose v a b
-  rose_one v a b row birth s lim there is o = ⊎_elim (λ e. (omega arith, λ i low high. absurd (omega arith)))
+  pub rose_one : (c : ℕ) (v : View) (a b row : ℕ) (birth : Birth) (s : Status) → v.limits ≡ l → IsThere v.seen row birth → s ≡ status_of l.attempts v.seen row → (b ≡ a) ⊎ ((b ≡ a + 1) × (a ≡ row) × IsSettled s) → Rose c v a b
+  rose_one c v a b row birth s lim there is o = ⊎_elim (λ e. (omega arith, λ i low high. absurd (omega arith)))
       (λ t. (
         let up = t.0 in omega arith,
         λ i low high. let same : row ≡ i = (let up = t.0 in let at = t.1 in omega arith) in
-            inl (subst (λ (z : Limits). IsSettledRow z v.seen i) (sym lim) (subst (IsSettledRow l v.seen) same (there.0, there.1, subst IsSettled is t.2))),
+            inl (inl (subst (λ (z : Limits). IsSettledRow z v.seen i) (sym lim) (subst (IsSettledRow l v.seen) same (there.0, there.1, subst IsSettled is t.2)))),
       )) o
 
   -- or which has a draft that is never born
-  pub rose_dead : (v : View) (a b row : ℕ) → HasDead v row → (b ≡ a) ⊎ ((b ≡ a + 1) × (a ≡ row)) → Rose v a b
-  rose_dead v a b row dead o = ⊎_elim (λ e. (omega arith, λ i low high. absurd (omega arith)))
-      (λ t. (let up = t.0 in omega arith, λ i low high. let same : row ≡ i = (let up = t.0 in let at = t.1 in omega arith) in inr (subst (HasDead v) same dead))) o
+  pub rose_dead : (c : ℕ) (v : View) (a b row : ℕ) → HasDead v row → (b ≡ a) ⊎ ((b ≡ a + 1) × (a ≡ row)) → Rose c v a b
+  rose_dead c v a b row dead o = ⊎_elim (λ e. (omega arith, λ i low high. absurd (omega arith)))
+      (λ t. (let up = t.0 in omega arith, λ i low high. let same : row ≡ i = (let up = t.0 in let at = t.1 in omega arith) in inl (inr (subst (HasDead v) same dead)))) o
+
+  -- or whose head is void, or of a stage that the kind isn't about
+  pub rose_aside : (c : ℕ) (v : View) (a b row : ℕ) (head : Head) → Knows v (RowHead row head) → ((stage root : ℕ) (by : Option ℕ) → head ≡ There stage root by → ¬ Concerns c stage)
+      → (b ≡ a) ⊎ ((b ≡ a + 1) × (a ≡ row) × ¬ (head ≡ Empty)) → Rose c v a b
+  rose_aside c v a b row Empty known not o = ⊎_elim (λ e. (omega arith, λ i low high. absurd (omega arith))) (λ t. absurd (t.2 refl)) o
+  rose_aside c v a b row Void known not o = ⊎_elim (λ e. (omega arith, λ i low high. absurd (omega arith)))
+      (λ t. (
+        let up = t.0 in omega arith,
+        λ i low high. let same : row ≡ i = (let up = t.0 in let at = t.1 in omega arith) in inr (Void, subst (λ z. Knows v (RowHead z Void)) same known, tt),
+      )) o
+  rose_aside c v a b row (There stage root by) known not o = ⊎_elim (λ e. (omega arith, λ i low high. absurd (omega arith)))
+      (λ t. (
+        let up = t.0 in omega arith,
+        λ i low high. let same : row ≡ i = (let up = t.0 in let at = t.1 in omega arith) in
+            inr (There stage root by, subst (λ z. Knows v (RowHead z (There stage root by))) same known, not stage root by refl),
+      )) o
 
   -- no element is born in a row whose draft is dead
   dead_over : (v : View) (i : ℕ) → Steady l v → HasDead v i → (x : Element) → element_of v.seen i ≡ Some x → ⊥
@@ -107,24 +135,45 @@ module _ (l : Limits) where
       let none = none_unit l v.seen i n.0 n.1 n.2 (Some n.2) (There n.0 n.1 (Some n.2)) refl refl (s.known (RowHead i (There n.0 n.1 (Some n.2))) n.3 (λ e. absurd cc)) s.shows.legal (λ f m e low high. let gone = n.4 in absurd cc) in
       let e : None ≡ Some x = sym none ∙ born in absurd cc
 
+  -- an element in a row whose head is known of no use is of a stage that the kind isn't about
+  aside_is : (c : ℕ) (v : View) (i : ℕ) → Steady l v → HasAside v c i → (x : Element) → element_of v.seen i ≡ Some x → ¬ Concerns c x.stage
+  aside_is c v i s a x born = subst (IsOther c) (s.known (RowHead i a.0) a.1 (other_full c a.0 a.2) x born) a.2
+
+  -- what isn't known of no use yet is no row behind the next
+  pub near_low : {S : Type 0} (low now row next : ℕ) → low ≤ row → row < next → (now ≡ low) ⊎ ((now ≡ low + 1) × (low ≡ row) × S) → now ≤ next
+  near_low low now row next a b o = ⊎_elim (λ e. omega arith) (λ t. (let x = t.0 in let y = t.1 in omega arith)) o
+
+  pub near_past : (low now row next : ℕ) → low ≤ row → row < next → (now ≡ low) ⊎ ((now ≡ low + 1) × (low ≡ row)) → now ≤ next
+  near_past low now row next a b o = ⊎_elim (λ e. omega arith) (λ t. (let x = t.0 in let y = t.1 in omega arith)) o
+
   -- and a mark that the seat knows can rise over them
-  pub rose_low : (v : View) (p m n : ℕ) → Steady l v → Knows v (PartMark p m) → n ≤ l.rows → Rose v (p * l.rows + m) (p * l.rows + n) → IsLow l v.seen p n
-  rose_low v p m n s known top r = (
+  pub rose_low : (c : ℕ) (v : View) (p m n : ℕ) → Steady l v → Knows v (PartMark c p m) → IsInside l p n → Rose c v (p * l.rows + m) (p * l.rows + n) → IsLow l c v.seen p n
+  rose_low c v p m n s known top r = (
     top,
-    λ i low high x born. dite (dec_le (p * l.rows + m) i)
-        (λ past. ⊎_elim (λ t. settled_is v i x s t born) (λ d. absurd (dead_over v i s d x born)) (r.1 i past high))
-        (λ not. (s.known (PartMark p m) known).1 i low (omega arith) x born),
+    λ i low high x born about. dite (dec_le (p * l.rows + m) i)
+        (λ past. ⊎_elim (λ d. ⊎_elim (λ t. settled_is v i x s t born) (λ e. absurd (dead_over v i s e x born)) d) (λ a. absurd (aside_is c v i s a x born about)) (r.1 i past high))
+        (λ not. (s.known (PartMark c p m) known).1 i low (omega arith) x born about),
   )
     where
       settled_is : (v : View) (i : ℕ) (x : Element) → Steady l v → IsSettledRow v.limits v.seen i → element_of v.seen i ≡ Some x → IsSettled (status_of l.attempts v.seen i)
       settled_is v i x s t born = subst (λ (z : Limits). IsSettled (status_of z.attempts v.seen i)) s.pass.1 t.2
 
-  not_waiting : (s : Status) → IsSettled s → ¬ IsWaiting s
+  -- a stage is what its own kind of marks is about
+  pub concerned : (c stage : ℕ) → 1 ≤ c → stage ≡ c → Concerns c stage
+  concerned zero stage some is = absurd (omega arith)
+  concerned (suc c) stage some is = is
+
+  -- and no other stage
+  pub unconcerned : (c stage : ℕ) → 1 ≤ c → ¬ (stage ≡ c) → ¬ Concerns c stage
+  unconcerned zero stage some other about = absurd (omega arith)
+  unconcerned (suc c) stage some other about = other about
+
+  pub not_waiting : (s : Status) → IsSettled s → ¬ IsWaiting s
   not_waiting s settled w = subst IsSettled w.1 settled
 
   -- what is over is passed by
-  pub over_passed : (stage : ℕ) (h : List Event) (p n i : ℕ) → AreOver l h p n → p * l.rows ≤ i → i < p * l.rows + n → PassedBy l stage i h h
-  over_passed stage h p n i over low high x born st = (h, begins_refl h, begins_refl h, not_waiting (status_of l.attempts h i) (over i low high x born))
+  pub over_passed : (stage : ℕ) (h : List Event) (p n i : ℕ) → 1 ≤ stage → AreOver l stage h p n → p * l.rows ≤ i → i < p * l.rows + n → PassedBy l stage i h h
+  over_passed stage h p n i server over low high x born st = (h, begins_refl h, begins_refl h, not_waiting (status_of l.attempts h i) (over i low high x born (concerned stage x.stage server st)))
 
   -- a scan that begins at row x, or behind it where that row is done
   abbrev pub IsPast : ℕ → ℕ → ℕ → Option ℕ → Type 0
@@ -136,9 +185,61 @@ module _ (l : Limits) where
   past_done : (v : View) (b x end : ℕ) (last : Option ℕ) → RemembersDone v last → IsPast b x end last → (i : ℕ) → x ≤ i → i < b → IsSettledRow v.limits v.seen i
   past_done v b x end last old past i low high = ⊎_elim (λ e. absurd (omega arith)) (λ t. let e = t.0 in let same : x ≡ i = omega arith in old i (t.2 ∙ ap Some same)) past
 
-  pub rose_past : (v : View) (b x end : ℕ) (last : Option ℕ) → RemembersDone v last → IsPast b x end last → x ≤ b → Rose v x b
-  rose_past v b x end last old past le = (le, λ i low high. inl (past_done v b x end last old past i low high))
+  pub rose_past : (v : View) (b x end : ℕ) (last : Option ℕ) → RemembersDone v last → IsPast b x end last → x ≤ b → (c : ℕ) → Rose c v x b
+  rose_past v b x end last old past le c = (le, λ i low high. inl (inl (past_done v b x end last old past i low high)))
 
   pub done_passed : (stage : ℕ) (v : View) (b x end : ℕ) (last : Option ℕ) → v.limits ≡ l → RemembersDone v last → IsPast b x end last → (i : ℕ) → x ≤ i → i < b → PassedBy l stage i v.seen v.seen
   done_passed stage v b x end last same old past i low high y born st = let t = subst (λ (z : Limits). IsSettledRow z v.seen i) same (past_done v b x end last old past i low high) in
       (v.seen, begins_refl v.seen, begins_refl v.seen, not_waiting (status_of l.attempts v.seen i) t.2)
+
+  -- what the pass remembers tells of the rows below a mark also later
+  pub remembered_passed : (stage : ℕ) (lows : List ℕ) (p i : ℕ) (v w : View) → 1 ≤ stage → Remembers stage v lows → ((x : Known) → Knows v x → Knows w x) → Steady l w → p * l.rows ≤ i → i < p * l.rows + slice_index lows p → PassedBy l stage i w.seen w.seen
+  remembered_passed stage lows p i v w server r knows s low high = over_passed stage w.seen p (slice_index lows p) i server (s.known (PartMark stage p (slice_index lows p)) (knows (PartMark stage p (slice_index lows p)) (r p (omega arith)))).1 low high
+
+  -- a row in which nothing is born may be of use
+  pub use_unborn : (stage i : ℕ) (h : List Event) → IsUnborn h i → IsOfUse l stage i h
+  use_unborn stage i h un x born = let e : None ≡ Some x = sym un ∙ born in absurd cc
+
+  -- and one whose head was found empty
+  pub use_empty : (stage i : ℕ) (h : List Event) (head : Head) → ((x : Element) → element_of h i ≡ Some x → head ≡ head_of x) → ¬ ¬ (head ≡ Empty) → IsOfUse l stage i h
+  use_empty stage i h Empty is none x born = let e : Empty ≡ head_of x = is x born in absurd cc
+  use_empty stage i h Void is none x born = absurd (none (λ e. absurd cc))
+  use_empty stage i h (There found root by) is none x born = absurd (none (λ e. absurd cc))
+
+  -- and one with an element of the stage that was neither consumed nor killed
+  pub use_found : (stage i : ℕ) (a b g : List Event) (birth : Birth) → IsPrefix b g → IsThere g i birth → birth.stage ≡ stage → WasUnsettled l i a b → WasOfUse l stage i a b
+  use_found stage i a b g birth begins there staged was = (
+    was.0,
+    was.1,
+    was.2,
+    λ x born. let e = there.0 in
+        let born_too : element_of g i ≡ Some x = found_later was.0 g (begins_trans was.0 b g was.2 begins) i x born in
+        let same : x ≡ e = one x e born_too there.1 in (ap (λ (z : Element). z.stage) same ∙ (of_head e there.2 ∙ staged), was.3),
+  )
+    where
+      one : (x y : Element) → element_of g i ≡ Some x → element_of g i ≡ Some y → x ≡ y
+      one x y p q = cc
+
+      of_head : (e : Element) → head_of e ≡ There birth.stage birth.root birth.by → e.stage ≡ birth.stage
+      of_head e p = cc
+
+  pub use_later : (stage i : ℕ) (a a' b b' : List Event) → IsPrefix a a' → IsPrefix b b' → WasOfUse l stage i a' b → WasOfUse l stage i a b'
+  use_later stage i a a' b b' before after was = (was.0, begins_trans a a' was.0 before was.1, begins_trans was.0 b b' was.2 after, was.3)
+
+  -- where a scan stands behind the first row that it doesn't know of no use, that row may have been of use
+  pub stays_by : (stage low row now next : ℕ) (a b : List Event) → low ≤ row → (now ≡ low) ⊎ ((now ≡ low + 1) × (low ≡ row)) → (low ≡ row → now ≡ low → WasOfUse l stage row a b) → (row < now → now < next → WasOfUse l stage now a b)
+      → now < next → ((low < row) × (now ≡ low)) ⊎ WasOfUse l stage now a b
+  stays_by stage low row now next a b le moved own gap less = ⊎_elim
+      (λ same. dite (ℕ_discrete low row) (λ at. inr (subst (λ z. WasOfUse l stage z a b) (sym (same ∙ at)) (own at same))) (λ other. inl (omega arith, same)))
+      (λ t. inr (gap (let up = t.0 in let at = t.1 in omega arith) less)) moved
+
+  -- where a mark rests that was raised to the first row that isn't known of no use
+  pub rests_by : (stage p n low row mark : ℕ) (a : List Event) (v w : View) → w.seen ≡ v.seen → (p * l.rows + n ≡ low) ⊎ ((n ≡ mark) × Knows w (MarkAbove stage p mark)) → (low < row → WasOfUse l stage low a v.seen)
+      → (low < row) ⊎ (low ≡ p * l.rows + l.rows) → RestsAt l stage p n a w
+  rests_by stage p n low row mark a v w same raised stuck stands = ⊎_elim
+      (λ up. ⊎_elim (λ less. inr (inl (subst (λ (z : ℕ × List Event). WasOfUse l stage z.0 a z.1) (λ i. (sym up i, sym same i)) (stuck less)))) (λ end. inl (omega arith)) stands)
+      (λ missed. inr (inr (mark, (let is = missed.0 in omega arith), missed.1))) raised
+
+  pub rests_later : (stage p n : ℕ) (a a' : List Event) (v w : View) → IsPrefix a a' → IsPrefix v.seen w.seen → ((x : Known) → Knows v x → Knows w x) → RestsAt l stage p n a' v → RestsAt l stage p n a w
+  rests_later stage p n a a' v w before after knows rests = ⊎_elim (λ end. inl end)
+      (λ r. ⊎_elim (λ was. inr (inl (use_later stage (p * l.rows + n) a a' v.seen w.seen before after was))) (λ above. inr (inr (above.0, above.1, knows _ above.2))) r) rests

@@ -4,6 +4,8 @@ use Rattle.tp_rule.specs.declared.view.Known.TheVariants.{BlocksDrawn}
 use Rattle.tp_rule.specs.declared.view.Known.{Known}
 use Rattle.tp_rule.specs.Steps.{Knows}
 use mathlib.Core.List.{IsPrefix}
+use mathlib.Core.Logic.{dite}
+use native.Mathlib.Decide.{dec_le}
 use Rattle.tp_model.specs.declared.types.Limits.{Limits}
 use Rattle.tp_model.specs.declared.event.Event.{Event}
 use Rattle.tp_model.specs.History.{IsUnborn}
@@ -42,6 +44,10 @@ drawn_later v w n same knows r = (subst (λ (z : Limits). n ≤ z.spare) (sym sa
 
 pub drawn_walked : (l : Limits) (n : ℕ) (ms : List TraceEntry) (v w : View) (d : ℕ) → v.limits ≡ l → Walked l n ms v w → RemembersDrawn v d → RemembersDrawn w d
 drawn_walked l n ms v w d lim a r = drawn_later v w d (a.steady.pass.1 ∙ sym lim) a.knows r
+
+-- so one that is found isn't below the one that was remembered
+pub drawn_risen : (v : View) (d r : ℕ) → RemembersDrawn v d → ((n : ℕ) → Knows v (BlocksDrawn n) → n ≤ r) → d ≤ r
+drawn_risen v d r known rises = dite (dec_le 1 d) (λ some. rises d (known.1 some)) (λ none. omega arith)
 
 -- what is consumed or killed stays so
 pub done_walked : (l : Limits) (n : ℕ) (ms : List TraceEntry) (v w : View) (last : Option ℕ) → v.limits ≡ l → Walked l n ms v w → RemembersDone v last → RemembersDone w last

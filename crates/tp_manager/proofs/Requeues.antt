@@ -163,7 +163,7 @@ module _ (t t' : Spot) (v x w : View) (old : PassShown) (is : shown t v ≡ old)
   }
 
   -- a history between two that a part of the call has seen, after one that looks, is a point of the call
-  point_between : (b : Looked l m x w) (Holds : List Event → Type 0) → IsBetween x.seen w.seen Holds → AtPoint old (shown t' w) Holds
+  pub point_between : (b : Looked l m x w) (Holds : List Event → Type 0) → IsBetween x.seen w.seen Holds → AtPoint old (shown t' w) Holds
   point_between b Holds p = at_point t t' v w old is l (n + m) (a.marks ++ b.marks) (walked_then l n m a.marks b.marks v x w a.walk b.walk) Holds p.0
       (record {
         opened = subst (λ z. IsPrefix z p.0) (sym (opening_kept v.seen a.marks b.marks a.step.0 a.step.1 a.step.2)) (begins_trans (opening_of v.seen a.marks) x.seen p.0 a.walk.closes p.1);
@@ -186,3 +186,4 @@ module _ (t t' : Spot) (v x w : View) (old : PassShown) (is : shown t v ≡ old)
     quiet_looked t t' v w old is l (n + m) (looked l (n + m) v w (acted_then l n m v x w a b)),
     point_between b _ (p.0, p.1, p.2, (born.0, found_later x.seen p.0 p.1 i born.0 born.1, p.3.0, p.3.1)),
   )
+  requeue_shown i refusals.NotHeld b born p = p

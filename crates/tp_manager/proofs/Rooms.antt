@@ -12,7 +12,7 @@ use Rattle.tp_model.proofs.Bridges.{append_nil}
 use Rattle.tp_rule.specs.Views.{hand}
 use Rattle.tp_rule.specs.declared.view.Hand.{Hand}
 use Rattle.tp_rule.specs.declared.view.View.{View}
-use Rattle.tp_manager.specs.Bounds.{draw_steps}
+use Rattle.tp_manager.specs.Bounds.{room_steps}
 use Rattle.tp_manager.specs.Calls.{Closes, Ends, FindsNoBlock, Follows, Settles, Submits, UsesRows}
 use Rattle.tp_manager.specs.Draws.{HasRoom, NoRoom, on_block}
 use Rattle.tp_manager.specs.Shown.{PassShown, Spot, shown}
@@ -20,8 +20,8 @@ use Rattle.tp_manager.specs.Walks.{Drew, Tried}
 use Rattle.tp_manager.proofs.Follows.{follows_then, follows_within}
 
 -- what a pass shows that has drawn a block
-pub drew_shown : (t t' : Spot) (old : PassShown) (l : Limits) (n b : ℕ) (v w : View) → shown t v ≡ old → t'.table ≡ t.table → t'.lows ≡ t.lows → v.limits ≡ l → Drew l n b v w → shown t' w ≡ on_block b old (shown t' w)
-drew_shown t t' old l n b v w is table lows lim d = subst (λ p. shown t' w ≡ on_block b p (shown t' w)) is
+pub drew_shown : (t t' : Spot) (old : PassShown) (l : Limits) (n b : ℕ) (v w : View) → shown t v ≡ old → t'.table ≡ t.table → t'.lows ≡ t.lows → t'.from ≡ t.from → v.limits ≡ l → Drew l n b v w → shown t' w ≡ on_block b old (shown t' w)
+drew_shown t t' old l n b v w is table lows from lim d = subst (λ p. shown t' w ≡ on_block b p (shown t' w)) is
     (let h = d.hand_is in let same : w.limits ≡ v.limits = d.walk.steady.pass.1 ∙ sym lim in let first : block_first l b ≡ block_first v.limits b = ap (λ (z : Limits). block_first z b) (sym lim) in
     λ i. record {
       table = table i;
@@ -35,12 +35,13 @@ drew_shown t t' old l n b v w is table lows lim d = subst (λ p. shown t' w ≡ 
       blocks = ap (λ (a : Hand). a.blocks) h i;
       trace = (hand w).trace;
       lows = lows i;
+      from = from i;
       seen_blocks = t'.drawn;
     })
 
 -- or that has found none
-pub tried_shown : (t t' : Spot) (old : PassShown) (l : Limits) (n : ℕ) (v w : View) → shown t v ≡ old → t'.table ≡ t.table → t'.lows ≡ t.lows → t'.drawn ≡ l.spare → v.limits ≡ l → Tried l n v w → shown t' w ≡ record old { trace = (shown t' w).trace; seen_blocks = old.limits.spare }
-tried_shown t t' old l n v w is table lows drawn lim d = subst (λ (p : PassShown). shown t' w ≡ record p { trace = (shown t' w).trace; seen_blocks = p.limits.spare }) is
+pub tried_shown : (t t' : Spot) (old : PassShown) (l : Limits) (n : ℕ) (v w : View) → shown t v ≡ old → t'.table ≡ t.table → t'.lows ≡ t.lows → t'.from ≡ t.from → t'.drawn ≡ l.spare → v.limits ≡ l → Tried l n v w → shown t' w ≡ record old { trace = (shown t' w).trace; seen_blocks = old.limits.spare }
+tried_shown t t' old l n v w is table lows from drawn lim d = subst (λ (p : PassShown). shown t' w ≡ record p { trace = (shown t' w).trace; seen_blocks = p.limits.spare }) is
     (let h = d.hand_is in let same : w.limits ≡ v.limits = d.walk.steady.pass.1 ∙ sym lim in let all : t'.drawn ≡ v.limits.spare = drawn ∙ ap (λ (z : Limits). z.spare) (sym lim) in
     λ i. record {
       table = table i;
@@ -54,6 +55,7 @@ tried_shown t t' old l n v w is table lows drawn lim d = subst (λ (p : PassShow
       blocks = ap (λ (a : Hand). a.blocks) h i;
       trace = (hand w).trace;
       lows = lows i;
+      from = from i;
       seen_blocks = all i;
     })
 
@@ -62,8 +64,8 @@ no_steps [] few = refl
 no_steps (m ∷ ms) few = absurd (omega arith)
 
 -- where there are no spare blocks, nothing has changed
-pub tried_same : (t t' : Spot) (old : PassShown) (l : Limits) (n : ℕ) (v w : View) → shown t v ≡ old → t'.table ≡ t.table → t'.lows ≡ t.lows → t'.drawn ≡ t.drawn → v.limits ≡ l → n ≡ 0 → Tried l n v w → shown t' w ≡ old
-tried_same t t' old l n v w is table lows drawn lim none d =
+pub tried_same : (t t' : Spot) (old : PassShown) (l : Limits) (n : ℕ) (v w : View) → shown t v ≡ old → t'.table ≡ t.table → t'.lows ≡ t.lows → t'.from ≡ t.from → t'.drawn ≡ t.drawn → v.limits ≡ l → n ≡ 0 → Tried l n v w → shown t' w ≡ old
+tried_same t t' old l n v w is table lows from drawn lim none d =
     let h = d.hand_is in let same : w.limits ≡ v.limits = d.walk.steady.pass.1 ∙ sym lim in let few = d.walk.few in
     let trace : (hand w).trace ≡ (hand v).trace = d.walk.traced ∙ (ap (λ m. (hand v).trace ++ m) (no_steps d.marks (omega arith)) ∙ append_nil (hand v).trace) in
     (λ i. record {
@@ -78,47 +80,48 @@ tried_same t t' old l n v w is table lows drawn lim none d =
       blocks = ap (λ (a : Hand). a.blocks) h i;
       trace = trace i;
       lows = lows i;
+      from = from i;
       seen_blocks = drawn i;
     }) ∙ is
 
 module _ (l : Limits) (p m q : PassShown) where
-  pub room_follows : (rows n : ℕ) → HasRoom l rows p m → Follows n m q → Follows (draw_steps l + n) p q
+  pub room_follows : (rows n : ℕ) → HasRoom l rows p m → Follows n m q → Follows (room_steps l rows + n) p q
   room_follows rows n room f = ⊎_elim
-      (λ t. follows_within n (draw_steps l + n) p q (omega arith) (subst (λ z. Follows n z q) t.1 f))
-      (λ t. follows_then (draw_steps l) n p m q t.3 f) room
+      (λ t. follows_within n (room_steps l rows + n) p q (omega arith) (subst (λ z. Follows n z q) t.1 f))
+      (λ t. follows_then (room_steps l rows) n p m q t.4 f) room
 
   -- rows of the block that was drawn
-  uses_block : (k first b : ℕ) → 0 < k → k ≤ 8 → p.left < k → UsesRows k first (on_block b p m) q → UsesRows k first p q
-  uses_block k first b some few less uses = ⊎_elim
-      (λ r. inr record { few = less; block = b; first_is = r.first_is; next = r.next; left = r.left; blocks = r.blocks })
+  uses_block : (k first b : ℕ) → 0 < k → k ≤ 8 → p.left < k → b < q.seen_blocks → UsesRows k first (on_block b p m) q → UsesRows k first p q
+  uses_block k first b some few less seen uses = ⊎_elim
+      (λ r. inr record { few = less; block = b; first_is = r.first_is; next = r.next; left = r.left; blocks = r.blocks; seen = seen })
       (λ r. absurd (let out = r.few in omega arith)) uses
 
-  pub room_submits : (id stage : ℕ) (body : List ℕ) → HasRoom l 1 p m → Submits id stage body m q → Submits id stage body p q
-  room_submits id stage body room s = ⊎_elim
+  pub room_submits : (id stage : ℕ) (body : List ℕ) → HasRoom l 1 p m → m.seen_blocks ≤ q.seen_blocks → Submits id stage body m q → Submits id stage body p q
+  room_submits id stage body room up s = ⊎_elim
       (λ t. subst (λ z. Submits id stage body z q) t.1 s)
       (λ t. let r : Submits id stage body (on_block t.1 p m) q = subst (λ z. Submits id stage body z q) t.2 s in record {
         stage_is = r.stage_is;
         adds = record { mine = r.adds.mine; before = r.adds.before; seen = r.adds.seen; begins = r.adds.begins };
         is_born = r.is_born;
         open_unit = r.open_unit;
-        run = uses_block 1 id t.1 (omega arith) (omega arith) t.0 r.run;
+        run = uses_block 1 id t.1 (omega arith) (omega arith) t.0 (let seen = t.3 in omega arith) r.run;
       }) room
 
-  pub room_settles : (ds : List DraftView) (o : Outcome) → length ds ≤ 4 → HasRoom l (length ds) p m → Settles ds m q o → Settles ds p q o
-  room_settles ds o few room s = ⊎_elim
+  pub room_settles : (ds : List DraftView) (o : Outcome) → length ds ≤ 4 → HasRoom l (length ds) p m → m.seen_blocks ≤ q.seen_blocks → Settles ds m q o → Settles ds p q o
+  room_settles ds o few room up s = ⊎_elim
       (λ t. subst (λ z. Settles ds z q o) t.1 s)
-      (λ t. go o t.0 t.1 (subst (λ z. Settles ds z q o) t.2 s)) room
+      (λ t. go o t.0 t.1 (let seen = t.3 in omega arith) (subst (λ z. Settles ds z q o) t.2 s)) room
     where
-      go : (o : Outcome) → p.left < length ds → (b : ℕ) → Settles ds (on_block b p m) q o → Settles ds p q o
-      go outcomes.Full less b r = absurd (let out = r.0 in omega arith)
-      go outcomes.Lost less b r = (r.0, record { was_open = r.1.was_open; open_unit = r.1.open_unit; ended = r.1.ended }, r.2, uses_block (length ds) r.2 b (omega arith) (omega arith) less r.3, r.4)
-      go (outcomes.Committed first count) less b r = record {
+      go : (o : Outcome) → p.left < length ds → (b : ℕ) → b < q.seen_blocks → Settles ds (on_block b p m) q o → Settles ds p q o
+      go outcomes.Full less b seen r = absurd (let out = r.0 in omega arith)
+      go outcomes.Lost less b seen r = (r.0, record { was_open = r.1.was_open; open_unit = r.1.open_unit; ended = r.1.ended }, r.2, uses_block (length ds) r.2 b (omega arith) (omega arith) less seen r.3, r.4)
+      go (outcomes.Committed first count) less b seen r = record {
         unit = r.unit;
         root = r.root;
         row = r.row;
         root_is = r.root_is;
         closes = record { was_open = r.closes.was_open; open_unit = r.closes.open_unit; ended = r.closes.ended };
-        run = uses_block (length ds) r.row b (omega arith) (omega arith) less r.run;
+        run = uses_block (length ds) r.row b (omega arith) (omega arith) less seen r.run;
         adds = record { mine = r.adds.mine; before = r.adds.before; seen = r.adds.seen; begins = r.adds.begins };
         consumed = r.consumed;
         first_is = r.first_is;

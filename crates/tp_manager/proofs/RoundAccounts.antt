@@ -4,7 +4,7 @@ use Rattle.std.proofs.Math.Nat.{add-mul}
 use Rattle.tp_model.specs.declared.types.Limits.{Limits}
 use Rattle.tp_model.specs.Steps.{AreLimits, part_rows, rows_of, changes}
 use Rattle.tp_model.specs.declared.types.TheConstants.{BLOCK_ROWS}
-use Rattle.tp_manager.specs.Bounds.{account_steps, cancel_steps, drawn_steps, kill_steps, round_steps}
+use Rattle.tp_manager.specs.Bounds.{account_steps, cancel_steps, drawn_steps, gather_steps, kill_steps, round_steps}
 
 -- there is a row for each pass
 rows_enough : (l : Limits) → AreLimits l → l.parts * 1 ≤ l.parts * l.rows
@@ -12,6 +12,9 @@ rows_enough l valid = let some = valid.rows.0 in let all = le-mul_of_pos_right {
 
 pub account_round : (l : Limits) → AreLimits l → (n : ℕ) → n ≤ l.parts → account_steps l n ≤ rows_of l * (2 * changes l.attempts + 10) + 2 * l.parts
 account_round l valid n few = let enough = rows_enough l valid in let some = valid.parts.0 in omega arith
+
+pub gather_round : (l : Limits) (n : ℕ) → 1 ≤ n → n ≤ l.parts → gather_steps l n + 1 ≡ 5 * n + 2 * l.parts
+gather_round l n some few = omega arith
 
 drawn_few : (spare : ℕ) → drawn_steps spare ≤ 1
 drawn_few zero = omega arith

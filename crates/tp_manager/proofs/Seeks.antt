@@ -9,12 +9,12 @@ use Rattle.tp_model.specs.declared.types.Limits.{Limits}
 use Rattle.tp_model.specs.Passes.{opening_of}
 use Rattle.tp_model.specs.Steps.{IsRowOf, part_rows}
 use Rattle.tp_model.specs.History.{IsUnborn}
-use Rattle.tp_model.proofs.Bridges.{begins_refl, begins_trans}
+use Rattle.tp_model.proofs.Bridges.{begins_refl, begins_trans, in_right}
 use Rattle.tp_rule.specs.Views.{hand}
 use Rattle.tp_rule.specs.declared.view.View.{View}
 use Rattle.tp_manager.specs.Looks.{GoesOn}
 use Rattle.tp_manager.specs.Walks.{Acted, Begun, EachRow, OfPart, Looked, Sought, Steady, with_trace}
-use Rattle.tp_manager.proofs.Points.{has_more, opening_kept}
+use Rattle.tp_manager.proofs.Points.{has_more, opening_kept, opening_later}
 use Rattle.tp_manager.proofs.Walks.{acted_then, looked_begins, looked_few, looked_none, opening_first, sought_by, sought_few, walked_begins, walked_few, walked_then}
 
 -- Passed holds from an earlier history on and to a later one too
@@ -132,7 +132,7 @@ pub part_widens : (l : Limits) (Passed : ℕ → List Event → List Event → T
 part_widens l Passed widens c a a' b b' before after each i low high = widens i a a' b b' before after (each i low high)
 
 -- a row is of some part
-part_of : (size parts i : ℕ) → i < parts * size → (c : ℕ) × (c < parts) × (c * size ≤ i) × (i < c * size + size)
+pub part_of : (size parts i : ℕ) → i < parts * size → (c : ℕ) × (c < parts) × (c * size ≤ i) × (i < c * size + size)
 part_of size zero i less = absurd (omega arith)
 part_of size (suc parts) i less = dite (dec_le (parts * size) i)
     (λ past. (parts, omega arith, past, (let all : i < suc parts * size = less in omega (arith, suc-mul parts size))))
@@ -180,3 +180,19 @@ pub sought_more : (l : Limits) (Passed : ℕ → List Event → List Event → T
 sought_more l Passed widens m k from n top v w y start le s b = ⊎_elim
     (λ t. subst (λ (z : ℕ × View). Sought l (m + k) (EachRow Passed from z.0) v z.1) (λ i. (sym t.0 i, sym t.1 i)) (sought_few l m (m + k) (EachRow Passed from n) v w (omega arith) s))
     (λ t. begun_sought l Passed widens m from k n v w y (inr s) top start t) b
+
+-- a look behind steps of which nothing hangs
+pub sought_behind : (l : Limits) (n m : ℕ) (Passed : ℕ → List Event → List Event → Type 0) → Widens Passed → (from to : ℕ) (v w y : View) → Looked l n v w → Sought l m (EachRow Passed from to) w y → Sought l (n + m) (EachRow Passed from to) v y
+sought_behind l n m Passed widens from to v w y a s = record {
+  marks = a.marks ++ s.marks;
+  walk = walked_then l n m a.marks s.marks v w y a.walk s.walk;
+  kept = s.kept ∙ ap (λ z. with_trace (hand y).trace z) a.kept;
+  step = (s.step.0, in_right a.marks s.step.1, s.step.2);
+  passed = λ i low high. widens i _ (opening_of w.seen s.marks) y.seen y.seen (opening_later v.seen w.seen a.marks s.marks a.walk.closes s.walk.opens) (begins_refl y.seen) (s.passed i low high);
+}
+
+-- a look at a row from which on nothing is born: the rows before it were passed by then
+pub sought_bare : (l : Limits) (Passed : ℕ → List Event → List Event → Type 0) → Widens Passed → (lo row end : ℕ) (v w : View) → Acted l 1 v w → ((j : ℕ) (h : List Event) → IsUnborn h j → Passed j h h)
+    → ((i : ℕ) → lo ≤ i → i < row → Passed i w.seen w.seen) → ((i : ℕ) → row ≤ i → i < end → IsUnborn w.seen i) → Sought l 1 (EachRow Passed lo end) v w
+sought_bare l Passed widens lo row end v w a none below behind =
+    sought_from l Passed widens 0 lo end end v w w a (inl (refl, refl)) (λ i low high. dite (dec_le row i) (λ past. none i w.seen (behind i past high)) (λ not. below i low (omega arith)))

@@ -1,5 +1,5 @@
 -- Passes that look together.
-use Rattle.std.proofs.Common.{◌≡◌, ℕ, suc, ◌+◌, List, [], ◌∷◌, ◌++◌, map, length, sym, refl, ap, ◌∙◌, subst, arith, Some, append_assoc, slice_set, All}
+use Rattle.std.proofs.Common.{◌≡◌, ℕ, suc, ◌+◌, ◌≤◌, List, [], ◌∷◌, ◌++◌, map, length, sym, refl, ap, ◌∙◌, subst, arith, Some, append_assoc, slice_set, All}
 use Rattle.std.specs.List.{AllZip}
 use Rattle.std.proofs.lemmas.List.Elements.{All-head, All-set, All-tail}
 use mathlib.Core.List.{IsPrefix}
@@ -10,20 +10,22 @@ use Rattle.tp_model.specs.declared.trace.StepKind.TheVariants as kinds
 use Rattle.tp_model.specs.History.{In, here, there, events_by}
 use Rattle.tp_model.specs.Passes.{IsOwnOpen, IsRun}
 use Rattle.tp_model.specs.Steps.{IsLegal}
-use Rattle.tp_model.proofs.Bridges.{begins_refl, begins_trans, in_left, in_right}
+use Rattle.tp_model.proofs.Bridges.{append_nil, begins_refl, begins_trans, in_left, in_right}
 use Rattle.tp_rule.specs.Views.{HasPass, IsOnePass, first_hand, hand}
-use Rattle.tp_rule.specs.Steps.{Grew, IsSo, Knows, front_of, joined, kept, looked, noted, parted, rest_of, unchanged}
+use Rattle.tp_rule.specs.Steps.{Grew, IsSo, Knows, Shares, front_of, joined, kept, looked, noted, parted, rest_of, unchanged}
 use Rattle.tp_rule.specs.declared.view.Hand.{Hand}
 use Rattle.tp_rule.specs.declared.view.Known.{Known}
+use Rattle.tp_rule.specs.declared.view.Known.TheVariants.{BlocksDrawn}
 use Rattle.tp_rule.specs.declared.view.View.{View}
 use Rattle.tp_rule.proofs.Reading.{grew_begins}
 use Rattle.tp_manager.specs.Bounds.{lead_steps, led_steps, meet_steps}
 use Rattle.tp_manager.specs.Meetings.{load, seat_load}
-use Rattle.tp_manager.specs.Shown.{Rises, Spot, IsOf, ManagerShown, PassShown, shown}
-use Rattle.tp_manager.specs.Together.{IsAt, Joins, LooksOn, LooksWith}
-use Rattle.tp_manager.specs.Walks.{Acted, Steady}
+use Rattle.tp_manager.specs.Shown.{Climbs, Spot, IsOf, ManagerShown, PassShown, shown}
+use Rattle.tp_manager.specs.Together.{AreLots, FoundDrawn, IsAt, Joins, LooksOn, LooksWith, Lot, lot_of, lot_shown, lots}
+use Rattle.tp_manager.specs.Walks.{Acted, RemembersDrawn, Steady}
+use Rattle.tp_manager.proofs.Lots.{lots_moved, lots_seat}
 use Rattle.tp_manager.proofs.Meetings.{steady_seen}
-use Rattle.tp_manager.proofs.Passes.{quiet_looked}
+use Rattle.tp_manager.proofs.Passes.{drawn_risen, quiet_looked}
 use Rattle.tp_manager.proofs.Walks as walks
 use Rattle.tp_manager.proofs.Walks.{acted_few, acted_then, follows, has_looked}
 
@@ -113,6 +115,20 @@ module _ (l : Limits) (v o j m w x : View) (sv : Steady l v) (join : j ≡ joine
     knows = λ z q. subst (λ (u : View). Knows u z) (sym second) (met_knows z (in_right v.known q));
   }
 
+  -- what they have found
+  pub met_found : (n : ℕ) → Knows m (BlocksDrawn n) → n ≤ l.spare → ((k : ℕ) → Knows j (BlocksDrawn k) → k ≤ n) → FoundDrawn n v w o x
+  met_found n found inside rises = record {
+    first = (subst (λ (z : Limits). n ≤ z.spare) (sym (ap (λ (z : View). z.limits) first ∙ met_limits)) inside, λ _. subst (λ (u : View). Knows u (BlocksDrawn n)) (sym first) found);
+    others = (subst (λ (z : Limits). n ≤ z.spare) (sym (ap (λ (z : View). z.limits) second ∙ met_limits)) inside, λ _. subst (λ (u : View). Knows u (BlocksDrawn n)) (sym second) found);
+    rises = λ k q. rises k (subst (λ (u : View). Knows u (BlocksDrawn k)) (sym join) (in_left o.known q));
+    others_rise = λ k q. rises k (subst (λ (u : View). Knows u (BlocksDrawn k)) (sym join) (in_right v.known q));
+  }
+
+  pub met_lots : (n : ℕ) → Shares n m → AreLots l n (lots w x [])
+  met_lots n shares =
+      let others : map lot_of (map (noted kinds.Load m.seen) o.hands) ≡ map lot_of x.hands ++ [] = sym (append_nil (map lot_of x.hands) ∙ ap (map lot_of) second_hands) in
+      subst (AreLots l n) (ap (map lot_of) met_hands ∙ (ap (λ zs. lot_of A ∷ zs) others ∙ ap (λ (a : Hand). lot_of a ∷ (map lot_of x.hands ++ [])) (sym first_is))) (lots_seat l n m met_limits shares)
+
 -- a seat has a pass, once it has joined others to its one
 pub joins_has : (v o j : View) → IsOnePass v → j ≡ joined v o → HasPass j
 joins_has v o j one join = (noted kinds.SeatLoad v.seen (hand v), subst (In (noted kinds.SeatLoad v.seen (hand v))) (sym (ap (λ (z : View). z.hands) join ∙ ap (λ hs. looked v hs ++ o.hands) one)) here)
@@ -192,14 +208,36 @@ module _ (l : Limits) (p q r s t o x : View) (h g : List Event) (sp : Steady l p
     knows = λ z i. subst (λ (u : View). Knows u z) (sym second) (all_known z (in_right q.known i));
   }
 
+  -- what they have found, after the others of its seat had found it (r and s are that seat), and a first pass (v and w) with them
+  pub joined_drawn : (n : ℕ) (v w : View) → FoundDrawn n v w r s → RemembersDrawn t n
+  joined_drawn n v w found = subst (λ (z : View). RemembersDrawn z n) (sym first) found.others
+
+  pub joined_risen : (n d : ℕ) (v w : View) → FoundDrawn n v w r s → RemembersDrawn p d → d ≤ n
+  joined_risen n d v w found known = drawn_risen p d n known (λ k i. found.others_rise k (subst (λ (u : View). Knows u (BlocksDrawn k)) (sym join) (in_left o.known (met.knows (BlocksDrawn k) i))))
+
+  pub joined_found : (n : ℕ) (u v w : View) → ((z : Known) → Knows u z → Knows v z) → FoundDrawn n v w r s → FoundDrawn n u w o x
+  joined_found n u v w knows found = record {
+    first = found.first;
+    others = subst (λ (z : View). RemembersDrawn z n) (sym second) found.others;
+    rises = λ k i. found.rises k (knows (BlocksDrawn k) i);
+    others_rise = λ k i. found.others_rise k (subst (λ (u : View). Knows u (BlocksDrawn k)) (sym join) (in_right q.known i));
+  }
+
+  pub joined_lots : (n : ℕ) (w : View) (news : List PassShown) (at : Spot) → AreLots l n (lots w s news) → AreLots l n (lots w x (shown at t ∷ news))
+  joined_lots n w news at shares =
+      let whole : map lot_of s.hands ≡ lot_of (hand t) ∷ map lot_of x.hands = ap (map lot_of) all_looked ∙ (ap (λ zs. lot_of N ∷ map lot_of zs) (sym x_hands) ∙ ap (λ (a : Hand). lot_of a ∷ map lot_of x.hands) (sym t_is)) in
+      lots_moved l n (lot_of (hand w)) (lot_of (hand t)) (map lot_of x.hands) (map lot_shown news)
+      (subst (λ (zs : List Lot). AreLots l n (lot_of (hand w) ∷ (zs ++ map lot_shown news))) whole shares)
+
   -- what it shows
-  pub joined_shown : (table : TableId) (at at' : Spot) (old : PassShown) → shown at p ≡ old → at'.table ≡ table → Rises at.lows at'.lows → Joins table l led_steps g old (shown at' t)
-  joined_shown table at at' old is there_at rises = record {
+  pub joined_shown : (table : TableId) (at at' : Spot) (old : PassShown) → shown at p ≡ old → at'.table ≡ table → Climbs at at' → at'.from ≡ at.from → Joins table l led_steps g old (shown at' t)
+  joined_shown table at at' old is there_at rises turn = record {
     attends = record {
       seen = t_seen;
       follows = follows at at' rises p t old is l led_steps joined_acted.marks joined_acted.walk led_steps (omega arith);
       looks = has_looked at at' p t old is l led_steps joined_acted.marks joined_acted.walk joined_acted.step;
       quiet = quiet_looked at at' p t old is l led_steps (walks.looked l led_steps p t joined_acted);
+      turn = turn ∙ ap (λ (z : PassShown). z.from) is;
     };
     at = record { table_is = there_at; limits_are = t_steady.pass.1 };
   }

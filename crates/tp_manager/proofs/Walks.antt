@@ -16,8 +16,8 @@ use Rattle.tp_rule.specs.declared.view.Known.TheVariants.{PartMark}
 use Rattle.tp_rule.specs.declared.view.View.{View}
 use Rattle.tp_rule.proofs.Reading.{one_after, grew_begins}
 use Rattle.tp_manager.specs.Calls.{Follows, AtPoint, HasLooked, steps_of, opening}
-use Rattle.tp_manager.specs.Shown.{Rises, Spot, PassShown, shown}
-use Rattle.tp_manager.specs.Walks.{Remembers, Steady, Walked, Looked, Acted, Sought, pass_in, with_trace}
+use Rattle.tp_manager.specs.Shown.{AllRise, Climbs, Rises, marks_of, Spot, PassShown, shown}
+use Rattle.tp_manager.specs.Walks.{Remembers, RemembersAll, Steady, Walked, Looked, Acted, Sought, pass_in, with_trace}
 use Rattle.tp_manager.proofs.Points.{opening_one, opening_later, opening_kept, opens_later, has_more, drop_steps}
 
 module _ (l : Limits) (kind : StepKind) (f : Hand → Hand) (es : List Event) (v w : View) (s : Steady l v) (g : Grew kind f es v w) where
@@ -152,7 +152,7 @@ module _ (t t' : Spot) (v w : View) (old : PassShown) (is : shown t v ≡ old) (
   pub opening_is : opening old (shown t' w) ≡ opening_of v.seen ms
   opening_is = ap (λ z. opening_of old.seen z) steps_are ∙ ap (λ (p : PassShown). opening_of p.seen ms) (sym is)
 
-  follows_to : Rises t.lows t'.lows → (m : ℕ) → n ≤ m → Follows m old (shown t' w)
+  follows_to : Climbs t t' → (m : ℕ) → n ≤ m → Follows m old (shown t' w)
   follows_to rises m le = record {
     shows = subst (λ (z : Limits). IsPassView z (pass_in w)) (sym a.steady.pass.1) a.steady.shows;
     number = a.number ∙ ap (λ (p : PassShown). p.number) is;
@@ -160,7 +160,8 @@ module _ (t t' : Spot) (v w : View) (old : PassShown) (is : shown t v ≡ old) (
     few = let p = a.few in subst (λ z. length z ≤ m) (sym steps_are) (omega arith);
     opened = subst (IsPrefix old.seen) (sym opening_is) (subst (λ (p : PassShown). IsPrefix p.seen (opening_of v.seen ms)) is a.opens);
     closed = subst (λ z. IsPrefix z w.seen) (sym opening_is) a.closes;
-    lows = subst (λ (p : PassShown). Rises p.lows t'.lows) is rises;
+    lows = subst (λ (p : PassShown). AllRise p.lows t'.lows) is rises.0;
+    drawn = subst (λ (p : PassShown). p.seen_blocks ≤ t'.drawn) is rises.1;
   }
 
   pub at_point : (Holds : List Event → Type 0) (p : List Event) → IsPoint (opening_of v.seen ms) w.seen p → Holds p → AtPoint old (shown t' w) Holds
@@ -169,13 +170,24 @@ module _ (t t' : Spot) (v w : View) (old : PassShown) (is : shown t v ≡ old) (
   pub has_looked : HasLook ms → HasLooked old (shown t' w)
   has_looked h = subst HasLook (sym steps_are) h
 
-pub follows : (t t' : Spot) → Rises t.lows t'.lows → (v w : View) (old : PassShown) → shown t v ≡ old → (l : Limits) (n : ℕ) (ms : List TraceEntry) → Walked l n ms v w → (m : ℕ) → n ≤ m → Follows m old (shown t' w)
+pub follows : (t t' : Spot) → Climbs t t' → (v w : View) (old : PassShown) → shown t v ≡ old → (l : Limits) (n : ℕ) (ms : List TraceEntry) → Walked l n ms v w → (m : ℕ) → n ≤ m → Follows m old (shown t' w)
 follows t t' rises v w old is l n ms a m le = follows_to t t' v w old is l n ms a rises m le
 
 -- a call that neither loads nor raises a mark
-pub rises_same : (lows : List ℕ) → Rises lows lows
-rises_same lows p = omega arith
+pub rises_same : (lows : List (List ℕ)) → AllRise lows lows
+rises_same lows c p = omega arith
 
--- what the pass remembers is known at any later time
-pub remembers : (lows : List ℕ) (l : Limits) (n : ℕ) (ms : List TraceEntry) (v w : View) → Walked l n ms v w → Remembers v lows → Remembers w lows
-remembers lows l n ms v w a r p some = a.knows (PartMark p (slice_index lows p)) (r p some)
+-- nor the counter of drawn blocks
+pub climbs_same : (lows : List (List ℕ)) (drawn : ℕ) → AllRise lows lows × (drawn ≤ drawn)
+climbs_same lows drawn = (rises_same lows, omega arith)
+
+pub rises_none : (lows : List ℕ) → Rises lows lows
+rises_none lows p = omega arith
+
+-- what the pass remembers of one kind is known at any later time
+pub remembers_kind : (c : ℕ) (lows : List ℕ) (l : Limits) (n : ℕ) (ms : List TraceEntry) (v w : View) → Walked l n ms v w → Remembers c v lows → Remembers c w lows
+remembers_kind c lows l n ms v w a r p some = a.knows (PartMark c p (slice_index lows p)) (r p some)
+
+-- and so of all kinds
+pub remembers : (lows : List (List ℕ)) (l : Limits) (n : ℕ) (ms : List TraceEntry) (v w : View) → Walked l n ms v w → RemembersAll v lows → RemembersAll w lows
+remembers lows l n ms v w a r c = remembers_kind c (marks_of lows c) l n ms v w a (r c)

@@ -1,5 +1,5 @@
 -- How many atomic steps the calls make at most. Each is what the call can need, and no more.
-use Rattle.std.specs.Prelude.{ℕ, zero, suc, ◌+◌, ◌-◌, ◌*◌, ◌≤◌, List, slice_index}
+use Rattle.std.specs.Prelude.{◌≡◌, ℕ, zero, suc, ◌+◌, ◌-◌, ◌*◌, ◌≤◌, List, slice_index}
 use Rattle.tp_model.specs.declared.types.Limits.{Limits}
 use Rattle.tp_model.specs.Steps.{AreLimits, part_rows, rows_of, tries, changes}
 use Rattle.tp_model.specs.Words.{ClaimWord, FreeWord, TakenWord, KilledWord, AgainWord}
@@ -28,8 +28,12 @@ draft_steps k = (body_steps + 1) * k
 abbrev pub close_steps : ℕ → ℕ
 close_steps k = draft_steps k + 1
 
+-- room for k rows: a spare block, and the heads of the rows that are left behind, which are fewer
+abbrev pub room_steps : Limits → ℕ → ℕ
+room_steps l k = draw_steps l + (k - 1)
+
 abbrev pub commit_steps : Limits → ℕ → ℕ
-commit_steps l k = draw_steps l + close_steps k
+commit_steps l k = room_steps l k + close_steps k
 
 -- the unit's word
 abbrev pub abort_steps : ℕ
@@ -78,6 +82,20 @@ renew_steps = 3
 abbrev pub requeue_steps : ℕ
 requeue_steps = birth_steps + renew_steps
 
+-- the release of an element that is born: its claim, and the word of the unit that took it
+abbrev pub free_steps : ℕ
+free_steps = 2
+
+abbrev pub release_steps : ℕ
+release_steps = birth_steps + free_steps
+
+-- the collection of a reply that is born: its claim, its body, and the exchange
+abbrev pub take_steps : ℕ
+take_steps = 1 + body_steps + 1
+
+abbrev pub collect_steps : ℕ
+collect_steps = birth_steps + take_steps
+
 -- the load of the counter of drawn blocks, where there are so many spare blocks
 abbrev pub drawn_steps : ℕ → ℕ
 drawn_steps zero = 0
@@ -100,13 +118,19 @@ cancel_steps l = birth_steps + l.parts + (rows_of l + 1) * round_steps l
 abbrev pub look_steps : Limits → ℕ
 look_steps l = birth_steps + status_steps l
 
--- what a listing makes in a part: its mark, and those at every row
+-- what a listing makes in a part: a look before its mark, the mark, those at every row, and the exchange of the
+-- mark
 abbrev pub find_steps : Limits → ℕ
-find_steps l = 1 + l.rows * look_steps l
+find_steps l = 2 + l.rows * look_steps l + 1
+
+-- a scan of the spare blocks that begins at their mark, with t steps at each row: that load, the mark, those at every
+-- row but the n below the mark, and the exchange of the mark
+abbrev pub spare_left : Limits → ℕ → ℕ → ℕ
+spare_left l t n = 3 * drawn_steps l.spare + (BLOCK_ROWS * l.spare - n) * t
 
 -- in every part, and in the spare blocks
 abbrev pub listing_steps : Limits → ℕ
-listing_steps l = l.parts * find_steps l + spare_steps l (look_steps l)
+listing_steps l = l.parts * find_steps l + spare_left l (look_steps l) 0
 
 abbrev pub reply_steps : Limits → ℕ
 reply_steps l = listing_steps l
@@ -114,17 +138,18 @@ reply_steps l = listing_steps l
 abbrev pub next_error_steps : Limits → ℕ
 next_error_steps l = listing_steps l
 
--- what a claim makes at a row: the same look, the body, and the exchange
-abbrev pub try_steps : Limits → ℕ
-try_steps l = look_steps l + body_steps + 1
+-- what a claim makes at a row: whether an element is born there, its claim, the word of its unit, the body, and
+-- the exchange
+abbrev pub try_steps : ℕ
+try_steps = birth_steps + 2 + body_steps + 1
 
--- what a claim makes in a part: its mark, those at every row, and the exchange of the mark
+-- what a claim makes in a part: the same look, its mark, those at every row, and the exchange of the mark
 abbrev pub part_steps : Limits → ℕ
-part_steps l = 1 + l.rows * try_steps l + 1
+part_steps l = 2 + l.rows * try_steps + 1
 
 -- the choice of a unit, and those in every part and in the spare blocks
 abbrev pub claim_steps : Limits → ℕ
-claim_steps l = 1 + (l.parts * part_steps l + spare_steps l (try_steps l))
+claim_steps l = 1 + (l.parts * part_steps l + spare_left l try_steps 0)
 
 -- a pass that remembers marks looks at no row below them. In the first n parts so many rows are
 abbrev pub low_sum : List ℕ → ℕ → ℕ
@@ -136,16 +161,27 @@ abbrev pub scan_steps : Limits → ℕ → ℕ → List ℕ → ℕ → ℕ
 scan_steps l t k lows zero = 0
 scan_steps l t k lows (suc n) = scan_steps l t k lows n + (k + (l.rows - slice_index lows n) * t)
 
--- and so many are not below the marks of all parts
-abbrev pub rows_left : Limits → List ℕ → ℕ
-rows_left l lows = rows_of l - low_sum lows l.parts
+-- and of all rows that are not below these marks, or those of the spare rows
+abbrev pub marked_steps : Limits → ℕ → List ℕ → ℕ
+marked_steps l t lows = scan_steps l t 3 lows l.parts + spare_left l t (slice_index lows l.parts)
 
--- so a claim, and a listing
+-- so many are not below the marks of all parts and of the spare rows
+abbrev pub rows_left : Limits → List ℕ → ℕ
+rows_left l lows = rows_of l - low_sum lows (suc l.parts)
+
+-- so a claim, by the marks of its stage, and a listing, by those of replies or of all other stages
 abbrev pub claim_steps_left : Limits → List ℕ → ℕ
-claim_steps_left l lows = 1 + rows_left l lows * try_steps l + 2 * l.parts + drawn_steps l.spare
+claim_steps_left l lows = 1 + rows_left l lows * try_steps + 3 * l.parts + 3 * drawn_steps l.spare
 
 abbrev pub listing_steps_left : Limits → List ℕ → ℕ
-listing_steps_left l lows = rows_left l lows * look_steps l + l.parts + drawn_steps l.spare
+listing_steps_left l lows = rows_left l lows * look_steps l + 3 * l.parts + 3 * drawn_steps l.spare
+
+-- a claim in turn goes through the parts, and to the spare blocks, twice, and comes to each row once
+abbrev pub turn_steps : Limits → ℕ → ℕ
+turn_steps l rows = 3 * l.parts + drawn_steps l.spare + rows * try_steps
+
+abbrev pub claim_next_steps : Limits → ℕ
+claim_next_steps l = 1 + (6 * l.parts + 2 * drawn_steps l.spare + rows_of l * try_steps)
 
 -- a meeting: the first joins, looks and parts, and the second is there at the look
 abbrev pub meet_steps : ℕ
@@ -162,36 +198,53 @@ lead_steps n = meet_steps * n
 abbrev pub led_steps : ℕ
 led_steps = 4
 
--- the first of n passes in an account: it meets the keeper's seat, looks together with all, looks at every
--- row, and looks together with all again
-abbrev pub first_steps : Limits → ℕ → ℕ
-first_steps l n = meet_steps + 2 * lead_steps n + rows_of l * look_steps l
+-- all passes look together, n that are given out and those that aren't
+abbrev pub together_steps : Limits → ℕ → ℕ
+together_steps l n = lead_steps n + led_steps * (n - 1) + met_steps * (l.parts - n)
 
--- a pass that isn't given out is met with the keeper's seat, and is there as all look together
-abbrev pub kept_steps : ℕ
-kept_steps = 3
+-- all passes gather: the first meets the keeper's seat, and then all look together
+abbrev pub gather_steps : Limits → ℕ → ℕ
+gather_steps l n = meet_steps + met_steps * (l.parts - n) + together_steps l n
 
--- an account by n passes: the steps of these, and of those that aren't given out
+-- of these the first of n passes makes so many, and each one that isn't given out so many
+abbrev pub gather_first : ℕ → ℕ
+gather_first n = meet_steps + lead_steps n
+
+abbrev pub gather_kept : ℕ
+gather_kept = met_steps + met_steps
+
+-- an account by n passes: they gather, the first looks at every row, and all look together again
 abbrev pub account_steps : Limits → ℕ → ℕ
-account_steps l n = first_steps l n + 2 * led_steps * (n - 1) + kept_steps * (l.parts - n)
+account_steps l n = gather_steps l n + rows_of l * look_steps l + together_steps l n
+
+-- of these the first makes so many, and each one that isn't given out so many
+abbrev pub first_steps : Limits → ℕ → ℕ
+first_steps l n = gather_first n + rows_of l * look_steps l + lead_steps n
+
+abbrev pub kept_steps : ℕ
+kept_steps = gather_kept + met_steps
 
 -- the bounds as round numbers over the limits
 pub record RoundBounds (l : Limits) : Type 0 where
   pub submit : submit_steps l ≤ 6 + l.spare
-  pub claim : claim_steps l ≤ rows_of l * (2 * changes l.attempts + 11) + 2 * l.parts + 1 + drawn_steps l.spare
+  pub claim : claim_steps l ≤ rows_of l * 9 + 3 * l.parts + 1 + 3 * drawn_steps l.spare
+  pub claim_next : claim_next_steps l ≤ rows_of l * 9 + 6 * l.parts + 1 + 2 * drawn_steps l.spare
   pub claim_left : (lows : List ℕ)
-      → claim_steps_left l lows ≤ rows_left l lows * (2 * changes l.attempts + 11) + 2 * l.parts + 1 + drawn_steps l.spare
+      → claim_steps_left l lows ≤ rows_left l lows * 9 + 3 * l.parts + 1 + 3 * drawn_steps l.spare
   pub listing_left : (lows : List ℕ)
-      → listing_steps_left l lows ≤ rows_left l lows * (2 * changes l.attempts + 8) + l.parts + drawn_steps l.spare
+      → listing_steps_left l lows ≤ rows_left l lows * (2 * changes l.attempts + 8) + 3 * l.parts + 3 * drawn_steps l.spare
   pub commit : (k : ℕ) → commit_steps l k ≤ 6 * k + 3 + l.spare
   pub abort : abort_steps ≤ 2
   pub kill : kill_steps l ≤ 4 * changes l.attempts + 8
   pub requeue : requeue_steps ≤ 8
+  pub release : release_steps ≤ 4
+  pub collect : collect_steps ≤ 8
   pub cancel : 1 ≤ rows_of l
       → cancel_steps l ≤ (rows_of l + 2) * (rows_of l * (4 * changes l.attempts + 12) + 2 * l.parts + 1)
   pub read : read_steps l ≤ 2 * changes l.attempts + 10
-  pub reply : reply_steps l ≤ rows_of l * (2 * changes l.attempts + 8) + l.parts + drawn_steps l.spare
-  pub next_error : next_error_steps l ≤ rows_of l * (2 * changes l.attempts + 8) + l.parts + drawn_steps l.spare
+  pub reply : reply_steps l ≤ rows_of l * (2 * changes l.attempts + 8) + 3 * l.parts + 3 * drawn_steps l.spare
+  pub next_error : next_error_steps l ≤ rows_of l * (2 * changes l.attempts + 8) + 3 * l.parts + 3 * drawn_steps l.spare
   pub meet : meet_steps ≤ 3
+  pub gather : (n : ℕ) → 1 ≤ n → n ≤ l.parts → gather_steps l n + 1 ≡ 5 * n + 2 * l.parts
   pub account : AreLimits l → (n : ℕ) → n ≤ l.parts
       → account_steps l n ≤ rows_of l * (2 * changes l.attempts + 10) + 2 * l.parts

@@ -26,7 +26,7 @@ use Rattle.tp_model.specs.History.{In, IsClaim, IsUnborn, UnitEnd, claim_of, ele
 use Rattle.tp_model.specs.Births.{outputs, request}
 use Rattle.tp_model.specs.Steps.{IsServerStage, block_first, tries}
 use Rattle.tp_model.specs.Passes.{HasLook, IsPassView, IsPoint, opening_of}
-use Rattle.tp_manager.specs.Shown.{PassShown, Rises, view_in}
+use Rattle.tp_manager.specs.Shown.{AllRise, PassShown, turn_of, view_in}
 
 -- the steps of a call
 abbrev pub steps_of : PassShown → PassShown → List TraceEntry
@@ -45,8 +45,9 @@ pub record Follows (n : ℕ) (old new : PassShown) : Type 0 where
   pub few : length (steps_of old new) ≤ n
   pub opened : IsPrefix old.seen (opening old new)
   pub closed : IsPrefix (opening old new) new.seen
-  -- the marks that it remembers have not fallen
-  pub lows : Rises old.lows new.lows
+  -- the marks that it remembers have not fallen, nor has the number of spare blocks that it has seen drawn
+  pub lows : AllRise old.lows new.lows
+  pub drawn : old.seen_blocks ≤ new.seen_blocks
 
 -- one of the call's steps looks
 abbrev pub HasLooked : PassShown → PassShown → Type 0
@@ -77,6 +78,8 @@ pub record UsesBlock (k first : ℕ) (old new : PassShown) : Type 0 where
   pub next : new.next ≡ first + k
   pub left : new.left + k ≡ BLOCK_ROWS
   pub blocks : new.blocks ≡ old.blocks ++ block ∷ []
+  -- it has seen the block drawn
+  pub seen : block < new.seen_blocks
 
 -- the pass has used k rows, from row `first` on
 abbrev pub UsesRows : ℕ → ℕ → PassShown → PassShown → Type 0
@@ -141,8 +144,22 @@ abbrev pub FoundNone : Limits → ℕ → PassShown → PassShown → Type 0
 FoundNone l stage old new = (x : Element) → element_of (opening old new) x.id ≡ Some x → x.stage ≡ stage
     → AtPoint old new (λ h. ¬ IsWaiting (status_of l.attempts h x.id))
 
+-- the same of each with a lesser id than this one
+abbrev pub FoundNoneBelow : Limits → ℕ → ℕ → PassShown → PassShown → Type 0
+FoundNoneBelow l stage id old new = (x : Element) → element_of (opening old new) x.id ≡ Some x → x.stage ≡ stage
+    → x.id < id → AtPoint old new (λ h. ¬ IsWaiting (status_of l.attempts h x.id))
+
+-- where the ids are a circle, which goes on from `from`, i comes before this id
+abbrev pub IsBefore : ℕ → ℕ → ℕ → Type 0
+IsBefore from id i = ((from ≤ i) × (i < id)) ⊎ ((id < from) × ((from ≤ i) ⊎ (i < id)))
+
+-- the same of each whose id comes before this one
+abbrev pub FoundNoneBefore : Limits → ℕ → ℕ → ℕ → PassShown → PassShown → Type 0
+FoundNoneBefore l stage from id old new = (x : Element) → element_of (opening old new) x.id ≡ Some x → x.stage ≡ stage
+    → IsBefore from id x.id → AtPoint old new (λ h. ¬ IsWaiting (status_of l.attempts h x.id))
+
 -- the pass has a new unit open, which took the element
-pub record Takes (l : Limits) (stage : ℕ) (work : Work) (old new : PassShown) : Type 0 where
+pub record Opens (l : Limits) (stage : ℕ) (work : Work) (old new : PassShown) : Type 0 where
   pub room : claims_in old.mine < l.units
   pub unit_is : work.unit ≡ old.number * l.units + claims_in old.mine
   -- no claim of the pass before was of that unit
@@ -153,12 +170,30 @@ pub record Takes (l : Limits) (stage : ℕ) (work : Work) (old new : PassShown) 
   pub open_unit : new.open_unit ≡ Some work.unit
   pub run : KeepsRun old new
 
+-- and it is the first of the stage that was found to wait
+pub record Takes (l : Limits) (stage : ℕ) (work : Work) (old new : PassShown) : Type 0 where
+  pub opens : Opens l stage work old new
+  pub first : FoundNoneBelow l stage work.element.id old new
+
+-- or the first behind the one of the stage that the pass took last in its turn, and is now that one
+pub record TakesNext (l : Limits) (stage : ℕ) (work : Work) (old new : PassShown) : Type 0 where
+  pub opens : Opens l stage work old new
+  pub first : FoundNoneBefore l stage (turn_of old stage) work.element.id old new
+  pub turn : turn_of new stage ≡ work.element.id + 1
+  pub others : (other : ℕ) → ¬ (other ≡ stage) → turn_of new other ≡ turn_of old other
+
 -- what a claim answers
 abbrev pub Claims : Limits → ℕ → PassShown → PassShown → Claimed → Type 0
 Claims l stage old new claimeds.NoUnit = (claims_in old.mine ≡ l.units) × (new ≡ old)
 Claims l stage old new claimeds.Idle = (claims_in old.mine < l.units) × IsQuiet old new × HasLooked old new
     × FoundNone l stage old new
 Claims l stage old new (claimeds.Work work) = Takes l stage work old new
+
+-- and a claim in turn
+abbrev pub ClaimsNext : Limits → ℕ → PassShown → PassShown → Claimed → Type 0
+ClaimsNext l stage old new claimeds.NoUnit = (claims_in old.mine ≡ l.units) × (new ≡ old)
+ClaimsNext l stage old new claimeds.Idle = Claims l stage old new claimeds.Idle × (new.from ≡ old.from)
+ClaimsNext l stage old new (claimeds.Work work) = TakesNext l stage work old new
 
 -- another pass than c aborted unit u
 abbrev pub EndedByOther : ℕ → ℕ → List Event → Type 0

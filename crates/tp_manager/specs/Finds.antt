@@ -19,6 +19,11 @@ abbrev pub IsWanted : Wanted → ℕ → ℕ → Status → Type 0
 IsWanted (Reply asked) stage root s = (stage ≡ 15) × (root ≡ asked) × IsWaiting s
 IsWanted Error stage root s = IsParked s
 
+-- the kind of the marks at which a listing starts: those about replies, or about all other stages
+abbrev pub kind_of : Wanted → ℕ
+kind_of (Reply asked) = 15
+kind_of Error = 0
+
 -- the element of row i is looked for
 abbrev pub Hits : Limits → Wanted → ℕ → List Event → Type 0
 Hits l wanted i h = (x : Element) × (element_of h i ≡ Some x)

@@ -1,10 +1,12 @@
 pub mod Shown
 pub mod Bounds
 pub mod Calls
+pub mod Upward
 pub mod Walks
 pub mod Looks
 pub mod Kills
 pub mod Requeues
+pub mod Releases
 pub mod Meetings
 pub mod Lists
 pub mod Finds
@@ -13,3 +15,5 @@ pub mod Rounds
 pub mod Draws
 pub mod Accounts
 pub mod Together
+pub mod Spares
+pub mod Turns

@@ -62,7 +62,7 @@ pub record TalliedAt (l : Limits) (n root i found killed : ℕ) (v w : View) : T
 
 -- the seat knows these marks, one for each part
 abbrev pub AreKnown : Limits → List ℕ → View → Type 0
-AreKnown l marks v = (p : ℕ) → p < l.parts → Knows v (PartMark p (slice_index marks p))
+AreKnown l marks v = (p : ℕ) → p < l.parts → Knows v (PartMark 0 p (slice_index marks p))
 
 -- the first row of row i's part that isn't below the part's mark
 abbrev pub row_at_mark : Limits → List ℕ → ℕ → ℕ

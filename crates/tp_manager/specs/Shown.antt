@@ -1,5 +1,6 @@
 -- What contracts see of a manager, of its keeper, and of a pass.
 use Rattle.std.specs.Prelude.{◌≡◌, ℕ, ◌+◌, ◌≤◌, Option, List, [], ◌∷◌, length, slice_index}
+use Rattle.std.specs.List.{slice_index_or}
 use Rattle.atomic_table.specs.Seated.{TableId}
 use Rattle.tp_model.specs.declared.types.Limits.{Limits}
 use Rattle.tp_model.specs.declared.event.Event.{Event}
@@ -23,8 +24,9 @@ pub record KeeperShown : Type 0 where
   pub seen : List Event
   pub steps : ℕ
 
--- a pass shows these, what the definitions say that a pass shows, the mark of each part as it last loaded or
--- set it, and so how many spare blocks are drawn
+-- a pass shows these, what the definitions say that a pass shows, the marks of each kind and part as it last
+-- loaded or set them, how many spare blocks are drawn by what it loaded, and for each stage the row behind the
+-- element that it took last in its turn (`claim_next`), 0 before
 pub record PassShown : Type 0 where
   pub table : TableId
   pub limits : Limits
@@ -36,8 +38,9 @@ pub record PassShown : Type 0 where
   pub left : ℕ
   pub blocks : List ℕ
   pub trace : List TraceEntry
-  pub lows : List ℕ
+  pub lows : List (List ℕ)
   pub seen_blocks : ℕ
+  pub from : List ℕ
 
 -- the steps of these passes, all together
 abbrev pub steps_in : List Hand → ℕ
@@ -57,13 +60,25 @@ view_in p = record {
   trace = p.trace;
 }
 
--- the mark of part p as the pass last loaded or set it, and 0 before
-abbrev pub low_of : PassShown → ℕ → ℕ
-low_of pass p = slice_index pass.lows p
+-- the marks of kind c among them, one for each part
+abbrev pub marks_of : List (List ℕ) → ℕ → List ℕ
+marks_of lows c = slice_index_or lows c []
 
--- no mark is below what it was
+-- the mark of kind c of part p as the pass last loaded or set it, and 0 before
+abbrev pub low_of : PassShown → ℕ → ℕ → ℕ
+low_of pass c p = slice_index (marks_of pass.lows c) p
+
+-- the row at which the pass's next claim in turn of a stage begins
+abbrev pub turn_of : PassShown → ℕ → ℕ
+turn_of p stage = slice_index p.from stage
+
+-- no mark of a kind is below what it was
 abbrev pub Rises : List ℕ → List ℕ → Type 0
 Rises lows lows' = (p : ℕ) → slice_index lows p ≤ slice_index lows' p
+
+-- and none of any kind
+abbrev pub AllRise : List (List ℕ) → List (List ℕ) → Type 0
+AllRise lows lows' = (c : ℕ) → Rises (marks_of lows c) (marks_of lows' c)
 
 -- the pass comes from this manager's keeper
 abbrev pub IsOf : ManagerShown → PassShown → Type 0
@@ -73,14 +88,19 @@ IsOf m p = (p.table ≡ m.table) × (p.limits ≡ m.limits)
 abbrev pub IsKeptBy : ManagerShown → KeeperShown → Type 0
 IsKeptBy m k = (k.table ≡ m.table) × (k.limits ≡ m.limits)
 
--- where a pass is, and what it remembers of marks and of the counter of drawn blocks
+-- where a pass is, and what it remembers of marks, of the counter of drawn blocks, and of what it took last
 pub record Spot : Type 0 where
   pub table : TableId
-  pub lows : List ℕ
+  pub lows : List (List ℕ)
   pub drawn : ℕ
+  pub from : List ℕ
 
-abbrev pub spot : TableId → List ℕ → ℕ → Spot
-spot table lows drawn = record { table = table; lows = lows; drawn = drawn }
+-- neither a mark nor that counter is below what it was
+abbrev pub Climbs : Spot → Spot → Type 0
+Climbs at at' = AllRise at.lows at'.lows × (at.drawn ≤ at'.drawn)
+
+abbrev pub spot : TableId → List (List ℕ) → ℕ → List ℕ → Spot
+spot table lows drawn from = record { table = table; lows = lows; drawn = drawn; from = from }
 
 -- a pass there that knows this
 abbrev pub shown : Spot → View → PassShown
@@ -97,4 +117,5 @@ shown at v = record {
   trace = (hand v).trace;
   lows = at.lows;
   seen_blocks = at.drawn;
+  from = at.from;
 }

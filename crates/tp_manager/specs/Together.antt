@@ -1,5 +1,5 @@
 -- Passes that look together, on their way. In each definition l are the table's limits.
-use Rattle.std.specs.Prelude.{◌≡◌, ℕ, ◌+◌, ◌-◌, ◌*◌, ◌≤◌, All, List, length, map, slice_index_or, slice_set, Some}
+use Rattle.std.specs.Prelude.{◌≡◌, ℕ, ◌+◌, ◌-◌, ◌*◌, ◌<◌, ◌≤◌, All, List, [], ◌∷◌, ◌++◌, length, map, slice_index_or, slice_set, Some}
 use Rattle.std.specs.List.{AllZip}
 use mathlib.Core.List.{IsPrefix}
 use Rattle.atomic_table.specs.Seated.{TableId}
@@ -11,16 +11,17 @@ use Rattle.tp_model.specs.Accounts.{account_among, account_of, all_in, elements_
 use Rattle.tp_model.specs.declared.event.Event.{Event}
 use Rattle.tp_model.specs.declared.trace.StepKind.TheVariants as kinds
 use Rattle.tp_model.specs.History.{In, events_by}
-use Rattle.tp_model.specs.Passes.{IsOwnOpen, IsRun}
+use Rattle.tp_model.specs.Passes.{Ascend, IsOwnOpen, IsRun}
 use Rattle.tp_rule.specs.Steps.{Knows, noted}
 use Rattle.tp_rule.specs.declared.view.Known.{Known}
+use Rattle.tp_rule.specs.declared.view.Known.TheVariants.{BlocksDrawn}
 use Rattle.tp_rule.specs.Views.{fresh_from, hand}
 use Rattle.tp_rule.specs.declared.view.Hand.{Hand}
 use Rattle.tp_rule.specs.declared.view.View.{View}
 use Rattle.tp_manager.specs.Accounts.{AreFrom, Attends}
 use Rattle.tp_manager.specs.Bounds.{first_steps, kept_steps, led_steps, lead_steps}
 use Rattle.tp_manager.specs.Shown.{PassShown, steps_in}
-use Rattle.tp_manager.specs.Walks.{Acted, IsKnown, untraced}
+use Rattle.tp_manager.specs.Walks.{Acted, IsKnown, RemembersDrawn, untraced}
 
 -- the pass is of this table
 pub record IsAt (table : TableId) (l : Limits) (p : PassShown) : Type 0 where
@@ -68,16 +69,60 @@ pub record HasSeen (l : Limits) (n : ℕ) (h : List Event) (v w : View) : Type 0
   pub known : IsKnown l w
   pub steps : steps_in w.hands ≡ steps_in v.hands + n * length v.hands
 
+-- the first pass looked together with those of another seat, which had seen no more, and with these: the first
+-- in at most f steps, those of the other seat in k each, and these in at most j each
+pub record GathersWith (table : TableId) (l : Limits) (f k j : ℕ) (v w v' w' : View)
+    (olds news : List PassShown) : Type 0 where
+  pub first : Acted l f v w
+  pub others : HasSeen l k w.seen v' w'
+  pub saw : IsPrefix v'.seen w.seen
+  pub passes : AllZip (Joins table l j w.seen) olds news
+
 -- the first of n passes looked together with those of another seat and with these, counted the rows by
 -- itself, and looked together with them again: nothing has happened meanwhile, so all have seen the history
 -- whose account it is
 pub record CountsWith (table : TableId) (l : Limits) (n : ℕ) (v w v' w' : View)
     (olds news : List PassShown) (account : Account) : Type 0 where
-  pub first : Acted l (first_steps l n) v w
-  pub others : HasSeen l kept_steps w.seen v' w'
-  pub saw : IsPrefix v'.seen w.seen
-  pub passes : AllZip (Joins table l (2 * led_steps) w.seen) olds news
+  pub gathered : GathersWith table l (first_steps l n) kept_steps (2 * led_steps) v w v' w' olds news
   pub account_is : account ≡ account_of l.attempts w.seen
+
+-- a pass by its number, and the spare blocks that it has drawn
+pub record Lot : Type 0 where
+  pub number : ℕ
+  pub blocks : List ℕ
+
+abbrev pub lot_of : Hand → Lot
+lot_of a = record { number = a.number; blocks = a.blocks }
+
+abbrev pub lot_shown : PassShown → Lot
+lot_shown p = record { number = p.number; blocks = p.blocks }
+
+-- those of the first pass, of the passes of another seat, and of these
+abbrev pub lots : View → View → List PassShown → List Lot
+lots v v' passes = lot_of (hand v) ∷ (map lot_of v'.hands ++ map lot_shown passes)
+
+-- every pass of the table is among them
+abbrev pub AreEvery : Limits → List Lot → Type 0
+AreEvery l xs = (c : ℕ) → c < l.parts → (x : Lot) × In x xs × (x.number ≡ c)
+
+-- n spare blocks are drawn: each that one of these passes has drawn is one of them, and no other pass's, and where
+-- these are every pass of the table, each of them is one that a pass has drawn
+pub record AreLots (l : Limits) (n : ℕ) (xs : List Lot) : Type 0 where
+  pub below : (x : Lot) → In x xs → Ascend 0 n x.blocks
+  pub alone : (x y : Lot) (b : ℕ) → In x xs → In y xs → In b x.blocks → In b y.blocks → x.number ≡ y.number
+  pub all : AreEvery l xs → (b : ℕ) → b < n → (x : Lot) × In x xs × In b x.blocks
+
+-- the first pass and another seat, w and w' by now, have found n blocks drawn, no fewer than either knew before
+pub record FoundDrawn (n : ℕ) (v w v' w' : View) : Type 0 where
+  pub first : RemembersDrawn w n
+  pub others : RemembersDrawn w' n
+  pub rises : (m : ℕ) → Knows v (BlocksDrawn m) → m ≤ n
+  pub others_rise : (m : ℕ) → Knows v' (BlocksDrawn m) → m ≤ n
+
+-- and so has each of these passes
+abbrev pub HaveFound : ℕ → List PassShown → Type 0
+HaveFound n [] = Unit {0}
+HaveFound n (p ∷ ps) = (p.seen_blocks ≡ n) × HaveFound n ps
 
 -- at most n elements are counted, in all and in each of the 15 stages
 pub record IsWithin (n : ℕ) (account : Account) : Type 0 where

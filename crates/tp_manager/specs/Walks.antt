@@ -6,7 +6,7 @@ use Rattle.tp_model.specs.declared.types.Element.{Element}
 use Rattle.tp_model.specs.declared.types.Limits.{Limits}
 use Rattle.tp_model.specs.declared.event.Event.{Event}
 use Rattle.tp_model.specs.declared.trace.TraceEntry.{TraceEntry}
-use Rattle.tp_model.specs.History.{IsClaim, IsUnborn, element_of, events_by, status_of}
+use Rattle.tp_model.specs.History.{IsClaim, IsSettled, IsUnborn, element_of, events_by, status_of}
 use Rattle.tp_model.specs.Drafts.{DraftView}
 use Rattle.tp_model.specs.Passes.{HasLook, PassView, IsPassView, opening_of}
 use Rattle.tp_model.specs.Steps.{AreLimits, IsLegal, block_first, rows_of}
@@ -16,12 +16,12 @@ use Rattle.tp_rule.specs.declared.view.Hand.{Hand}
 use Rattle.tp_rule.specs.declared.view.View.{View}
 use Rattle.tp_manager.specs.declared.manager.Run.{Run}
 use Rattle.tp_manager.specs.declared.manager.Task.{Task}
-use Rattle.tp_rule.specs.Steps.{IsDone, IsSo, Knows, claimed, with_block, with_claim}
+use Rattle.tp_rule.specs.Steps.{IsSo, KnowsUseless, Knows, claimed, with_block, with_claim}
 use Rattle.tp_rule.specs.declared.view.Known.{Known}
-use Rattle.tp_rule.specs.declared.view.Known.TheVariants.{BlocksDrawn, PartMark}
+use Rattle.tp_rule.specs.declared.view.Known.TheVariants.{BlocksDrawn, MarkAbove, PartMark}
 use Rattle.tp_manager.specs.Bounds.{draft_steps}
-use Rattle.tp_manager.specs.Shown.{Rises}
-use Rattle.tp_manager.specs.Calls.{IsWaiting, claims_in}
+use Rattle.tp_manager.specs.Shown.{Rises, marks_of}
+use Rattle.tp_manager.specs.Calls.{IsWaiting, claims_in, IsBefore}
 
 -- what a seat that stands for one pass shows of it
 abbrev pub pass_in : View → PassView
@@ -134,9 +134,13 @@ pub record Rests (seat : SeatShown) (number : ℕ) (run : Run) (used : ℕ) (tas
   pub open_is : (hand (view_of seat)).open_unit ≡ unit_in task
   pub work : IsTask (view_of seat).seen number task
 
--- the seat knows the marks that the pass remembers
-abbrev pub Remembers : View → List ℕ → Type 0
-Remembers v lows = (p : ℕ) → 0 < slice_index lows p → Knows v (PartMark p (slice_index lows p))
+-- the seat knows these marks of kind c, which the pass remembers
+abbrev pub Remembers : ℕ → View → List ℕ → Type 0
+Remembers c v lows = (p : ℕ) → 0 < slice_index lows p → Knows v (PartMark c p (slice_index lows p))
+
+-- so of all kinds
+abbrev pub RemembersAll : View → List (List ℕ) → Type 0
+RemembersAll v lows = (c : ℕ) → Remembers c v (marks_of lows c)
 
 -- of the first n parts every row is below the mark that is remembered
 abbrev pub AreFinished : Limits → List ℕ → ℕ → Type 0
@@ -183,21 +187,40 @@ pub record Sought (l : Limits) (n : ℕ) (Passed : List Event → List Event →
   pub step : HasLook marks
   pub passed : Passed (opening_of v.seen marks) w.seen
 
+-- the element of row i was neither consumed nor killed in some history from a to b
+abbrev pub WasUnsettled : Limits → ℕ → List Event → List Event → Type 0
+WasUnsettled l i a b = (p : List Event) × IsPrefix a p × IsPrefix p b × ¬ IsSettled (status_of l.attempts p i)
+
+-- row i may be of use to claims of the stage: no element is born in it, or one of the stage that is neither
+-- consumed nor killed
+abbrev pub IsOfUse : Limits → ℕ → ℕ → List Event → Type 0
+IsOfUse l stage i h = (x : Element) → element_of h i ≡ Some x → (x.stage ≡ stage) × ¬ IsSettled (status_of l.attempts h i)
+
+-- and was so in some history from a to b
+abbrev pub WasOfUse : Limits → ℕ → ℕ → List Event → List Event → Type 0
+WasOfUse l stage i a b = (p : List Event) × IsPrefix a p × IsPrefix p b × IsOfUse l stage i p
+
+-- the mark n of part p that the pass remembers is the part's end; or its row may have been of use since history a;
+-- or somebody else has raised the mark in the table above it
+abbrev pub RestsAt : Limits → ℕ → ℕ → ℕ → List Event → View → Type 0
+RestsAt l stage p n a w = (n ≡ l.rows) ⊎ (WasOfUse l stage (p * l.rows + n) a w.seen ⊎ ((m : ℕ) × (n ≤ m) × Knows w (MarkAbove stage p m)))
+
 -- no row from `from` on was looked at yet, or all from there on and below n were, and were passed since the
 -- first of these looked, in at most so many steps
 abbrev pub Begun : Limits → (ℕ → List Event → List Event → Type 0) → ℕ → ℕ → ℕ → View → View → Type 0
 Begun l Passed steps from n v w = ((n ≡ from) × (w ≡ v)) ⊎ Sought l steps (EachRow Passed from n) v w
 
--- the seat knows each row from a on and below b finished, and so a mark may rise from a to b
-abbrev pub Rose : View → ℕ → ℕ → Type 0
-Rose v a b = (a ≤ b) × ((i : ℕ) → a ≤ i → i < b → IsDone v i)
+-- the seat knows each row from a on and below b of no use to kind c, and so a mark of that kind may rise from a to b
+abbrev pub Rose : ℕ → View → ℕ → ℕ → Type 0
+Rose c v a b = (a ≤ b) × ((i : ℕ) → a ≤ i → i < b → KnowsUseless v c i)
 
 -- the pass has unit u chosen for the next claim, and none open
 abbrev pub IsSpare : ℕ → View → Type 0
 IsSpare u v = ((hand v).spare_unit ≡ Some u) × ((hand v).open_unit ≡ None)
 
--- in at most n steps unit u took the element e for this attempt, and that was the last of what was seen
-pub record Took (l : Limits) (n stage u : ℕ) (v w : View) (e : Element) (attempt : ℕ) : Type 0 where
+-- in at most n steps unit u took the element e for this attempt, and that was the last of what was seen. The rows
+-- from `from` on and before that of the element were passed since the first of these steps looked
+pub record Took (l : Limits) (n from stage u : ℕ) (v w : View) (e : Element) (attempt : ℕ) : Type 0 where
   pub marks : List TraceEntry
   pub walk : Walked l n marks v w
   pub kept : hand w ≡ with_trace (hand w).trace (with_claim u (claimed v u e.id attempt) (hand v))
@@ -206,6 +229,14 @@ pub record Took (l : Limits) (n stage u : ℕ) (v w : View) (e : Element) (attem
   pub ends : w.seen ≡ before ++ claimed v u e.id attempt ∷ []
   pub born : element_of w.seen e.id ≡ Some e
   pub of_stage : e.stage ≡ stage
+  pub reach : from ≤ e.id
+  pub step : HasLook marks
+  pub passed : EachRow (PassedBy l stage) from e.id (opening_of v.seen marks) w.seen
+
+-- the same where the rows are a circle, of which those from `from` on and before that of the element were passed
+pub record TookNext (l : Limits) (n from stage u : ℕ) (v w : View) (e : Element) (attempt : ℕ) : Type 0 where
+  pub took : Took l n e.id stage u v w e attempt
+  pub passed : (i : ℕ) → i < rows_of l → IsBefore from e.id i → PassedBy l stage i (opening_of v.seen took.marks) w.seen
 
 -- no row from row `end` on has an element
 abbrev pub NoneBehind : Limits → ℕ → View → Type 0

@@ -6,13 +6,16 @@ ghost use Rattle.tp_model.specs.Accounts.{account_among, all_in, one_more};
 ghost use Rattle.tp_model.specs.Steps.{most_rows, rows_of, IsStage};
 ghost use Rattle.tp_rule.specs.Tables.{limits_of, table_of, IsSeatOf};
 ghost use Rattle.tp_rule.specs.Views.{seen_by, view_of, IsSameSeat};
-ghost use Rattle.tp_manager.specs.Bounds.{account_steps, look_steps, meet_steps};
-ghost use Rattle.tp_manager.specs.Accounts.{Accounts, AreAll, steps_together};
+ghost use Rattle.tp_manager.specs.Bounds.{account_steps, gather_first, gather_kept, gather_steps, led_steps, look_steps, meet_steps};
+ghost use Rattle.tp_manager.specs.Accounts.{Accounts, AreAll, Gathers, steps_together};
 ghost use Rattle.tp_manager.specs.Shown.{IsKeptBy, IsOf};
-ghost use Rattle.tp_manager.specs.Together.{IsAt, LooksOn, LooksWith, AreAllPasses, CountsWith};
+ghost use Rattle.tp_manager.specs.Together.{IsAt, LooksOn, LooksWith, AreAllPasses, CountsWith, GathersWith};
+ghost use Rattle.tp_manager.specs.Together.{AreLots, FoundDrawn, HaveFound, lots};
 ghost use Rattle.tp_manager.specs.Together.{IsWithin, HasCounted, account_below, with_one};
 ghost use Rattle.tp_manager.specs.Looks.{GoesOn};
-ghost use Rattle.tp_manager.specs.Walks.{Acted, Looked, Steady};
+ghost use Rattle.tp_manager.specs.Walks.{Acted, Looked, RemembersDrawn, Steady};
+ghost use Rattle.tp_rule.specs.Steps.{Knows};
+ghost use Rattle.tp_rule.specs.declared.view.Known.TheVariants.{BlocksDrawn};
 
 use crate::manager::{Keeper, Manager, Pass, Shared};
 use tp_model::types::{Account, Counts, Status};
@@ -69,8 +72,8 @@ fn count_one(account: &mut Account, stage: u8, status: Status)
 
 impl Shared {
     /// A pass meets the passes of another seat, however many: all have then seen the same, which begins with
-    /// what either seat had seen.
-    fn meet_seat(&self, first: &mut Seat, others: &mut Seat)
+    /// what either seat had seen. How many spare blocks are drawn, which all have found then.
+    fn meet_seat(&self, first: &mut Seat, others: &mut Seat) -> u16
         requires own { IsSeatOf self.now.words first.old × IsSeatOf self.now.words others.old }
         requires steady { Steady (limits_of self.now.words) (view_of first.old) }
         ensures same { IsSameSeat first.old first.new × IsSameSeat others.old others.new }
@@ -78,17 +81,22 @@ impl Shared {
         ensures others { LooksOn (limits_of self.now.words) (seen_by first.new)
             (view_of others.old) (view_of others.new) }
         ensures saw { IsPrefix (seen_by others.old) (seen_by first.new) }
+        ensures found { FoundDrawn result
+            (view_of first.old) (view_of first.new) (view_of others.old) (view_of others.new) }
+        ensures shares { AreLots (limits_of self.now.words) result
+            (lots (view_of first.new) (view_of others.new) []) }
     {
         let words = &self.words;
         words.join(first, others);
-        words.load(first, 0);
+        let drawn = words.load_drawn_together(first);
         *others = words.part(first);
+        drawn
     }
 
     /// A pass looks together with the passes of another seat and with all of these. It meets one after
     /// another, so that it has seen what each has; each that it met joins the other seat, and at last the
-    /// pass meets that.
-    fn look_together(&self, first: &mut Seat, others: &mut Seat, passes: &mut [Pass])
+    /// pass meets that. How many spare blocks are drawn, which each of these passes remembers.
+    fn look_together(&self, first: &mut Seat, others: &mut Seat, passes: &mut [Pass]) -> u16
         requires own { IsSeatOf self.now.words first.old × IsSeatOf self.now.words others.old }
         requires steady { Steady (limits_of self.now.words) (view_of first.old) }
         requires passes { All (IsAt (table_of self.now.words) (limits_of self.now.words)) passes.old }
@@ -96,15 +104,21 @@ impl Shared {
         ensures look { LooksWith (table_of self.now.words) (limits_of self.now.words) (length passes.old + 1)
             (view_of first.old) (view_of first.new) (view_of others.old) (view_of others.new)
             passes.old passes.new }
+        ensures found { FoundDrawn result
+            (view_of first.old) (view_of first.new) (view_of others.old) (view_of others.new) }
+        ensures shares { AreLots (limits_of self.now.words) result
+            (lots (view_of first.new) (view_of others.new) passes.new) }
+        ensures seen { HaveFound result passes.new }
     {
         let Some((pass, rest)) = passes.split_first_mut() else {
-            self.meet_seat(first, others);
-            return;
+            return self.meet_seat(first, others);
         };
         self.meet_seat(first, &mut pass.seat);
         self.words.join(&mut pass.seat, others);
-        self.look_together(first, &mut pass.seat, rest);
+        let drawn = self.look_together(first, &mut pass.seat, rest);
         *others = self.words.part(&mut pass.seat);
+        pass.run.drawn = drawn;
+        drawn
     }
 
     /// Counts the element of one more row, if one is born; `row` goes on.
@@ -151,9 +165,30 @@ impl Shared {
         account
     }
 
+    /// A pass meets the passes of the keeper's seat, and looks together with those and with these. How many
+    /// spare blocks are drawn.
+    fn gather_with(&self, first: &mut Seat, keeper: &mut Seat, passes: &mut [Pass]) -> u16
+        requires own { IsSeatOf self.now.words first.old × IsSeatOf self.now.words keeper.old }
+        requires steady { Steady (limits_of self.now.words) (view_of first.old) }
+        requires passes { All (IsAt (table_of self.now.words) (limits_of self.now.words)) passes.old }
+        ensures same { IsSameSeat first.old first.new × IsSameSeat keeper.old keeper.new }
+        ensures gathers { GathersWith (table_of self.now.words) (limits_of self.now.words)
+            (gather_first (length passes.old + 1)) gather_kept led_steps
+            (view_of first.old) (view_of first.new) (view_of keeper.old) (view_of keeper.new)
+            passes.old passes.new }
+        ensures drawn { RemembersDrawn (view_of first.new) result }
+        ensures risen { (n : ℕ) → Knows (view_of first.old) (BlocksDrawn n) → n ≤ result }
+        ensures shares { AreLots (limits_of self.now.words) result
+            (lots (view_of first.new) (view_of keeper.new) passes.new) }
+        ensures seen { HaveFound result passes.new }
+    {
+        self.meet_seat(first, keeper);
+        self.look_together(first, keeper, passes)
+    }
+
     /// The account that a pass finds between two looks together with the passes of the keeper's seat and with
-    /// these, which are all others.
-    fn count_with(&self, first: &mut Seat, keeper: &mut Seat, passes: &mut [Pass]) -> Account
+    /// these, which are all others; and how many spare blocks are drawn.
+    fn count_with(&self, first: &mut Seat, keeper: &mut Seat, passes: &mut [Pass]) -> (Account, u16)
         requires own { IsSeatOf self.now.words first.old × IsSeatOf self.now.words keeper.old }
         requires steady { Steady (limits_of self.now.words) (view_of first.old) }
         requires passes { All (IsAt (table_of self.now.words) (limits_of self.now.words)) passes.old }
@@ -162,13 +197,17 @@ impl Shared {
         ensures same { IsSameSeat first.old first.new × IsSameSeat keeper.old keeper.new }
         ensures counts { CountsWith (table_of self.now.words) (limits_of self.now.words) (length passes.old + 1)
             (view_of first.old) (view_of first.new) (view_of keeper.old) (view_of keeper.new)
-            passes.old passes.new result }
+            passes.old passes.new result.0 }
+        ensures drawn { RemembersDrawn (view_of first.new) result.1 }
+        ensures risen { (n : ℕ) → Knows (view_of first.old) (BlocksDrawn n) → n ≤ result.1 }
+        ensures shares { AreLots (limits_of self.now.words) result.1
+            (lots (view_of first.new) (view_of keeper.new) passes.new) }
+        ensures seen { HaveFound result.1 passes.new }
     {
-        self.meet_seat(first, keeper);
-        self.look_together(first, keeper, passes);
+        self.gather_with(first, keeper, passes);
         let account = self.count_rows(first);
-        self.look_together(first, keeper, passes);
-        account
+        let drawn = self.look_together(first, keeper, passes);
+        (account, drawn)
     }
 }
 
@@ -189,9 +228,34 @@ impl Keeper {
         true
     }
 
+    /// All passes look until all have seen one history, and how many spare blocks are drawn. The slice holds
+    /// every pass that was given out, in order of number (`has_all` tests this), and the keeper stands for the
+    /// others. It takes no memory.
+    pub fn gather(&mut self, manager: &Manager, passes: &mut [Pass])
+        requires keeper { IsKeptBy manager.now self.old }
+        requires own { All (IsOf manager.now) passes.old }
+        requires all { AreAll self.old passes.old }
+        ensures keeper { IsKeptBy manager.now self.new × (self.new.given ≡ self.old.given) }
+        ensures own { All (IsOf manager.now) passes.new }
+        ensures all { AreAll self.new passes.new }
+        ensures steps { steps_together passes.old passes.new + self.new.steps
+            ≤ self.old.steps + gather_steps manager.now.limits self.old.given }
+        ensures gathers { let l = manager.now.limits in
+            Gathers l (gather_steps l (length passes.old)) self.old self.new passes.old passes.new }
+    {
+        let shared = &manager.shared;
+        let others = &mut self.seat;
+        let Some((first, rest)) = passes.split_first_mut() else {
+            return;
+        };
+        let drawn = shared.gather_with(&mut first.seat, others, rest);
+        first.run.drawn = drawn;
+    }
+
     /// How many elements there are of each kind of status, in all and by stage: the account of one history,
     /// which all passes have seen then. The slice holds every pass that was given out, in order of number
-    /// (`has_all` tests this), and the keeper stands for the others. It takes no memory.
+    /// (`has_all` tests this), and the keeper stands for the others. Each pass remembers then how many spare
+    /// blocks are drawn. It takes no memory.
     pub fn account(&mut self, manager: &Manager, passes: &mut [Pass]) -> Account
         requires keeper { IsKeptBy manager.now self.old }
         requires own { All (IsOf manager.now) passes.old }
@@ -208,6 +272,8 @@ impl Keeper {
         let Some((first, rest)) = passes.split_first_mut() else {
             return no_account();
         };
-        shared.count_with(&mut first.seat, others, rest)
+        let (account, drawn) = shared.count_with(&mut first.seat, others, rest);
+        first.run.drawn = drawn;
+        account
     }
 }

@@ -41,6 +41,7 @@ fn is_of_family(root: u32, head: Head) -> bool
 {
     match head {
         Head::Empty => false,
+        Head::Void => false,
         Head::There {
             stage: _,
             root: named,
@@ -97,24 +98,24 @@ impl Shared {
 
     /// The pass looks at the marks of all parts, and remembers them: no row below them has an element of the
     /// family that isn't consumed or killed, now or later. One step for each part.
-    fn load_marks(&self, seat: &mut Seat, lows: &mut [u16; 32])
+    fn load_marks(&self, seat: &mut Seat, lows: &mut [u16; 33])
         requires own { IsSeatOf self.now.words seat.old }
         requires steady { Steady (limits_of self.now.words) (view_of seat.old) }
-        requires remembers { Remembers (view_of seat.old) lows.old }
+        requires remembers { Remembers 0 (view_of seat.old) lows.old }
         ensures same { IsSameSeat seat.old seat.new }
         ensures looked { let l = limits_of self.now.words in Looked l l.parts (view_of seat.old) (view_of seat.new) }
         ensures known { AreKnown (limits_of self.now.words) lows.new (view_of seat.new) }
-        ensures remembers { Remembers (view_of seat.new) lows.new }
+        ensures remembers { Remembers 0 (view_of seat.new) lows.new }
         ensures lows { Rises lows.old lows.new }
     {
         for part in 0..self.places.limits.parts {
-            self.mark_at(seat, lows, part);
+            self.mark_at(seat, lows, 0, part);
         }
     }
 
     /// The first row of this row's part that isn't below the part's mark.
     #[inline(always)]
-    fn row_at_mark(&self, marks: &[u16; 32], row: u32) -> u32
+    fn row_at_mark(&self, marks: &[u16; 33], row: u32) -> u32
         requires row { row < part_rows (limits_of self.now.words) }
         ensures { result ≡ row_at_mark (limits_of self.now.words) marks.now row }
     {
@@ -124,7 +125,7 @@ impl Shared {
     }
 
     /// Goes once through the rows of the parts that are not below the marks.
-    fn cancel_parts(&self, seat: &mut Seat, root: u32, marks: &[u16; 32]) -> Tally
+    fn cancel_parts(&self, seat: &mut Seat, root: u32, marks: &[u16; 33]) -> Tally
         requires own { IsSeatOf self.now.words seat.old }
         requires steady { Steady (limits_of self.now.words) (view_of seat.old) }
         requires free { (hand_of seat.old).open_unit ≡ None }
@@ -158,7 +159,7 @@ impl Shared {
         seat: &mut Seat,
         drawn: &mut u16,
         root: u32,
-        marks: &[u16; 32],
+        marks: &[u16; 33],
         tally: Tally,
     ) -> Tally
         requires own { IsSeatOf self.now.words seat.old }
@@ -169,6 +170,7 @@ impl Shared {
             (tally.found ≤ part_rows l) × (tally.killed ≤ part_rows l) }
         ensures same { IsSameSeat seat.old seat.new }
         ensures drawn { RemembersDrawn (view_of seat.new) drawn.new }
+        ensures risen { drawn.old ≤ drawn.new }
         ensures told { let l = limits_of self.now.words in (v : View) (n : ℕ)
             → Tallied l n root (is_looked l marks.now) (part_rows l) tally.found tally.killed v (view_of seat.old)
             → Tallied l (n + spare_steps l (kill_steps l)) root (is_looked l marks.now) (rows_of l)
@@ -189,7 +191,7 @@ impl Shared {
     }
 
     /// Goes once through all rows that are not below the marks.
-    fn cancel_round(&self, seat: &mut Seat, drawn: &mut u16, root: u32, marks: &[u16; 32]) -> Tally
+    fn cancel_round(&self, seat: &mut Seat, drawn: &mut u16, root: u32, marks: &[u16; 33]) -> Tally
         requires own { IsSeatOf self.now.words seat.old }
         requires steady { Steady (limits_of self.now.words) (view_of seat.old) }
         requires drawn { RemembersDrawn (view_of seat.old) drawn.old }
@@ -197,6 +199,7 @@ impl Shared {
         requires known { AreKnown (limits_of self.now.words) marks.now (view_of seat.old) }
         ensures same { IsSameSeat seat.old seat.new }
         ensures drawn { RemembersDrawn (view_of seat.new) drawn.new }
+        ensures risen { drawn.old ≤ drawn.new }
         ensures told { let l = limits_of self.now.words in
             Tallied l (round_steps l) root (is_looked l marks.now) (rows_of l) result.found result.killed
             (view_of seat.old) (view_of seat.new) }
@@ -207,7 +210,7 @@ impl Shared {
 
     /// Goes through those rows until a round finds as many elements of the family as the one before it. How
     /// many elements it killed.
-    fn cancel_family(&self, seat: &mut Seat, drawn: &mut u16, root: u32, marks: &[u16; 32]) -> u32
+    fn cancel_family(&self, seat: &mut Seat, drawn: &mut u16, root: u32, marks: &[u16; 33]) -> u32
         requires own { IsSeatOf self.now.words seat.old }
         requires steady { Steady (limits_of self.now.words) (view_of seat.old) }
         requires drawn { RemembersDrawn (view_of seat.old) drawn.old }
@@ -216,6 +219,7 @@ impl Shared {
         requires known { AreKnown (limits_of self.now.words) marks.now (view_of seat.old) }
         ensures same { IsSameSeat seat.old seat.new }
         ensures drawn { RemembersDrawn (view_of seat.new) drawn.new }
+        ensures risen { drawn.old ≤ drawn.new }
         ensures told { let l = limits_of self.now.words in
             CancelsIn l ((rows_of l + 1) * round_steps l) root result (view_of seat.old) (view_of seat.new) }
     {
@@ -245,6 +249,7 @@ impl Manager {
         requires own { IsOf self.now pass.old }
         requires free { pass.old.open_unit ≡ None }
         ensures own { IsOf self.now pass.new }
+        ensures turn { pass.new.from ≡ pass.old.from }
         ensures follows { Follows (cancel_steps self.now.limits) pass.old pass.new }
         ensures open_unit { pass.new.open_unit ≡ None }
         ensures looks { root < rows_of self.now.limits → HasLooked pass.old pass.new }
@@ -264,8 +269,9 @@ impl Manager {
         if birth.by.is_some() {
             return Err(Refusal::NotThere);
         }
-        shared.load_marks(seat, &mut pass.lows);
-        let killed = shared.cancel_family(seat, &mut pass.run.drawn, root, &pass.lows);
+        let marks = &mut pass.lows[0];
+        shared.load_marks(seat, marks);
+        let killed = shared.cancel_family(seat, &mut pass.run.drawn, root, marks);
         Ok(Cancelled { killed })
     }
 }

@@ -1,9 +1,11 @@
 //! A server's call for work.
 ghost use Rattle.std.specs.Prelude.{◌≡◌, None};
 ghost use Rattle.tp_model.specs.Steps.{AreLimits, IsServerStage};
-ghost use Rattle.tp_manager.specs.Shown.{IsOf};
+ghost use Rattle.tp_manager.specs.Shown.{marks_of, IsOf};
 ghost use Rattle.tp_manager.specs.Bounds.{claim_steps, claim_steps_left};
 ghost use Rattle.tp_manager.specs.Calls.{Claims, Follows};
+ghost use Rattle.tp_model.specs.declared.types.Limits.{Limits};
+ghost use Rattle.tp_manager.specs.Upward.{FirstInFirstOut};
 
 use crate::manager::{Manager, Pass, Task};
 use tp_model::types::{Claimed, Work};
@@ -16,10 +18,11 @@ impl Manager {
         requires stage { IsServerStage stage }
         requires free { pass.old.open_unit ≡ None }
         ensures own { IsOf self.now pass.new }
+        ensures turn { pass.new.from ≡ pass.old.from }
         ensures limits { AreLimits self.now.limits }
         ensures follows { Follows (claim_steps self.now.limits) pass.old pass.new }
         ensures answer { Claims self.now.limits stage pass.old pass.new result }
-        ensures few { Follows (claim_steps_left self.now.limits pass.old.lows) pass.old pass.new }
+        ensures few { Follows (claim_steps_left self.now.limits (marks_of pass.old.lows stage)) pass.old pass.new }
     {
         let seat = &mut pass.seat;
         let units = self.shared.places.limits.units;
@@ -30,7 +33,7 @@ impl Manager {
         self.shared.words.choose_unit(seat, unit);
         let Some(taken) = self.shared.scan(
             seat,
-            &mut pass.lows,
+            &mut pass.lows[stage as usize],
             &mut pass.run.drawn,
             pass.run.done,
             stage,
@@ -52,3 +55,9 @@ impl Manager {
         })
     }
 }
+
+/// Of the elements of a stage that one pass made, a claim takes one of an earlier call before those of a later call,
+/// but for what it found not to wait. The function does nothing: its contract is the law.
+pub fn first_in_first_out()
+    ensures first { (l : Limits) → FirstInFirstOut l }
+{}

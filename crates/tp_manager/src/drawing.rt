@@ -1,10 +1,14 @@
 //! Rows from the spare blocks.
-ghost use Rattle.std.specs.Prelude.{◌≡◌, ◌-◌, ◌≤◌, [], true, false};
+ghost use Rattle.std.specs.Prelude.{◌≡◌, ◌+◌, ◌-◌, ◌≤◌, [], true, false};
 ghost use Rattle.tp_rule.specs.Views.{hand_of, view_of, IsSameSeat};
 ghost use Rattle.tp_rule.specs.Tables.{limits_of, IsSeatOf};
 ghost use Rattle.tp_manager.specs.Shown.{IsOf};
 ghost use Rattle.tp_manager.specs.Draws.{Drawn, HasRoom, NoRoom};
+ghost use Rattle.tp_manager.specs.Bounds.{draw_steps};
+ghost use Rattle.tp_manager.specs.Spares.{AreHeaded, AreLeft};
 ghost use Rattle.tp_manager.specs.Walks.{RemembersDrawn, Steady, Tried};
+ghost use Rattle.tp_model.specs.declared.types.Limits.{Limits};
+ghost use Rattle.tp_manager.specs.Upward.{IdsGoUp};
 
 use crate::manager::{Manager, Pass, Run, Shared};
 use tp_model::types::BLOCK_ROWS;
@@ -20,8 +24,10 @@ impl Shared {
         requires no_drafts { (hand_of seat.old).drafts ≡ [] }
         ensures same { IsSameSeat seat.old seat.new }
         ensures drawn { RemembersDrawn (view_of seat.new) run.new.drawn }
+        ensures risen { run.old.drawn ≤ run.new.drawn }
         ensures done { run.new.done ≡ run.old.done }
-        ensures yes { result ≡ true → Drawn (limits_of self.now.words) (view_of seat.old) (view_of seat.new) run.new }
+        ensures yes { result ≡ true → let l = limits_of self.now.words in
+            Drawn l (draw_steps l) (view_of seat.old) (view_of seat.new) run.new }
         ensures no { result ≡ false → let l = limits_of self.now.words in
             Tried l (l.spare - run.old.drawn) (view_of seat.old) (view_of seat.new)
             × (run.new ≡ record run.old { drawn = l.spare }) }
@@ -42,14 +48,58 @@ impl Shared {
         }
         false
     }
+
+    /// Marks so many rows from this one on, that the pass has left behind, as rows that are never used. A step for
+    /// each.
+    fn void_rows(&self, seat: &mut Seat, first: u32, count: u16)
+        requires own { IsSeatOf self.now.words seat.old }
+        requires steady { Steady (limits_of self.now.words) (view_of seat.old) }
+        requires left { AreLeft (limits_of self.now.words) (view_of seat.old) first count }
+        ensures same { IsSameSeat seat.old seat.new }
+        ensures tried { Tried (limits_of self.now.words) count (view_of seat.old) (view_of seat.new) }
+        ensures headed { AreHeaded (view_of seat.new) first count }
+    {
+        for i in 0..count {
+            self.words.void(seat, first + i as u32);
+        }
+    }
+
+    /// Draws a spare block, unless all are drawn. Then none of the rows that the pass leaves behind is empty: so
+    /// marks of the spare rows can rise over them.
+    fn draw_on(&self, seat: &mut Seat, run: &mut Run) -> bool
+        requires own { IsSeatOf self.now.words seat.old }
+        requires steady { Steady (limits_of self.now.words) (view_of seat.old) }
+        requires drawn { RemembersDrawn (view_of seat.old) run.old.drawn }
+        requires no_drafts { (hand_of seat.old).drafts ≡ [] }
+        requires run { ((hand_of seat.old).next ≡ run.old.next) × ((hand_of seat.old).left ≡ run.old.left) }
+        ensures same { IsSameSeat seat.old seat.new }
+        ensures drawn { RemembersDrawn (view_of seat.new) run.new.drawn }
+        ensures risen { run.old.drawn ≤ run.new.drawn }
+        ensures done { run.new.done ≡ run.old.done }
+        ensures yes { result ≡ true → let l = limits_of self.now.words in
+            Drawn l (draw_steps l + run.old.left) (view_of seat.old) (view_of seat.new) run.new }
+        ensures headed { result ≡ true → AreHeaded (view_of seat.new) run.old.next run.old.left }
+        ensures no { result ≡ false → let l = limits_of self.now.words in
+            Tried l (l.spare - run.old.drawn) (view_of seat.old) (view_of seat.new)
+            × (run.new ≡ record run.old { drawn = l.spare }) }
+    {
+        let old = *run;
+        if !self.draw(seat, run) {
+            return false;
+        }
+        self.void_rows(seat, old.next as u32, old.left);
+        true
+    }
 }
 
 impl Manager {
-    /// Whether the pass has so many rows left, at most 8: if need be it draws a spare block.
+    /// Whether the pass has so many rows left, at most 8: if need be it draws a spare block, and leaves no empty row
+    /// behind.
     pub(crate) fn has_room(&self, pass: &mut Pass, rows: u16) -> bool
         requires own { IsOf self.now pass.old }
         requires few { rows ≤ 8 }
         ensures own { IsOf self.now pass.new }
+        ensures turn { pass.new.from ≡ pass.old.from }
         ensures yes { result ≡ true → HasRoom self.now.limits rows pass.old pass.new }
         ensures no { result ≡ false → NoRoom self.now.limits rows pass.old pass.new }
     {
@@ -57,6 +107,12 @@ impl Manager {
             return true;
         }
         let seat = &mut pass.seat;
-        self.shared.draw(seat, &mut pass.run)
+        self.shared.draw_on(seat, &mut pass.run)
     }
 }
+
+/// The rows that a pass uses lie above all that it has used before. The function does nothing: its contract is the
+/// law.
+pub fn ids_go_up()
+    ensures up { (l : Limits) → IdsGoUp l }
+{}

@@ -14,6 +14,7 @@ impl Manager {
         requires own { IsOf self.now pass.old }
         requires busy { IsSome pass.old.open_unit }
         ensures own { IsOf self.now pass.new }
+        ensures turn { pass.new.from ≡ pass.old.from }
         ensures follows { Follows abort_steps pass.old pass.new }
         ensures free { pass.new.open_unit ≡ None }
         ensures ended { IfSome pass.old.open_unit (HasEnded pass.new.seen) }
@@ -44,6 +45,7 @@ impl Manager {
         requires few { length drafts.now ≤ 4 }
         requires room { length drafts.now ≤ pass.old.left }
         ensures own { IsOf self.now pass.new }
+        ensures turn { pass.new.from ≡ pass.old.from }
         ensures follows { Follows (close_steps (length drafts.now)) pass.old pass.new }
         ensures answer { Settles drafts.now pass.old pass.new result }
         ensures kept { pass.new.seen_blocks ≡ pass.old.seen_blocks }
@@ -85,6 +87,7 @@ impl Manager {
         requires busy { IsSome pass.old.open_unit }
         requires few { length drafts.now ≤ 4 }
         ensures own { IsOf self.now pass.new }
+        ensures turn { pass.new.from ≡ pass.old.from }
         ensures follows { Follows (commit_steps self.now.limits (length drafts.now)) pass.old pass.new }
         ensures free { pass.new.open_unit ≡ None }
         ensures ended { IfSome pass.old.open_unit (HasEnded pass.new.seen) }

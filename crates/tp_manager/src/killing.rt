@@ -169,6 +169,7 @@ impl Manager {
         requires own { IsOf self.now pass.old }
         requires free { pass.old.open_unit ≡ None }
         ensures own { IsOf self.now pass.new }
+        ensures turn { pass.new.from ≡ pass.old.from }
         ensures follows { Follows (kill_steps self.now.limits) pass.old pass.new }
         ensures open_unit { pass.new.open_unit ≡ None }
         ensures looks { id < rows_of self.now.limits → HasLooked pass.old pass.new }

@@ -1,21 +1,25 @@
 //! The next reply to a request, and the next element of the error queue.
-ghost use Rattle.std.specs.Prelude.{◌≡◌, ◌⊎◌, ◌+◌, ◌-◌, ◌*◌, ◌<◌, ◌≤◌, slice_index, IfSome, MatchOption, true, false};
+ghost use Rattle.std.specs.Prelude.{◌≡◌, ◌⊎◌, ◌+◌, ◌-◌, ◌*◌, ◌<◌, ◌≤◌, ℕ, slice_index, IfSome, MatchOption, Option, true, false};
 ghost use Rattle.tp_model.specs.declared.types.Element.{Element as element};
 ghost use Rattle.tp_model.specs.declared.types.Status.{Status as status};
 ghost use Rattle.tp_model.specs.Steps.{part_rows, rows_of, IsRowOf};
 ghost use Rattle.tp_rule.specs.Views.{seen_by, view_of, IsSameSeat};
 ghost use Rattle.tp_rule.specs.Tables.{limits_of, IsSeatOf};
 ghost use Rattle.tp_words.specs.Words.{head_of};
-ghost use Rattle.tp_manager.specs.Shown.{IsOf, Rises};
-ghost use Rattle.tp_manager.specs.Bounds.{listing_steps_left, look_steps, next_error_steps, reply_steps, scan_steps, spare_steps};
+ghost use Rattle.tp_words.specs.declared.words.Head.TheVariants.{There};
+ghost use Rattle.tp_words.specs.declared.places.TheConstants.{MARK_KINDS};
+ghost use Rattle.tp_rule.specs.Rule.{Concerns};
+ghost use Rattle.tp_manager.specs.Shown.{marks_of, IsOf, Rises};
+ghost use Rattle.tp_manager.specs.Bounds.{listing_steps_left, look_steps, marked_steps, next_error_steps, reply_steps, scan_steps, spare_left};
 ghost use Rattle.tp_manager.specs.Calls.{Follows, HasLooked, IsQuiet};
 ghost use Rattle.tp_manager.specs.Lists.{AllKilled, NoneParked, NextReply, NextError};
 ghost use Rattle.tp_manager.specs.Looks.{GoesOn};
-ghost use Rattle.tp_manager.specs.Walks.{Acted, Begun, EachRow, Remembers, RemembersDrawn, RisesAt, Sought, Steady};
-ghost use Rattle.tp_manager.specs.Finds.{Finds, Hits, IsWanted, PassedOver};
+ghost use Rattle.tp_manager.specs.Walks.{Acted, Begun, EachRow, Remembers, RemembersDrawn, RisesAt, Rose, Sought, Steady};
+ghost use Rattle.tp_manager.specs.Finds.{kind_of, Finds, Hits, IsWanted, PassedOver};
 
-use crate::looking::Birth;
+use crate::looking::{Birth, Contents};
 use crate::manager::{Manager, Pass, Shared};
+use crate::marking::{low_after, past, past_other};
 use tp_model::types::Status;
 use tp_rule::Seat;
 use tp_words::Head;
@@ -52,6 +56,7 @@ fn may_be_wanted(wanted: Wanted, head: Head) -> bool
 {
     match head {
         Head::Empty => false,
+        Head::Void => false,
         Head::There { stage, root, by: _ } => match wanted {
             Wanted::Reply { root: asked } => stage == 15 && root as u32 == asked,
             Wanted::Error => true,
@@ -59,9 +64,41 @@ fn may_be_wanted(wanted: Wanted, head: Head) -> bool
     }
 }
 
+/// Whether the marks at which such a listing starts are about an element with this head.
+#[inline(always)]
+fn is_listed(wanted: Wanted, head: Head) -> bool
+    ensures aside { result ≡ false → (found root : ℕ) (by : Option ℕ) → head ≡ There found root by
+        → ¬ Concerns (kind_of wanted) found }
+{
+    match head {
+        Head::Empty => false,
+        Head::Void => false,
+        Head::There {
+            stage,
+            root: _,
+            by: _,
+        } => match wanted {
+            Wanted::Reply { root: _ } => stage == 15,
+            Wanted::Error => stage != 15,
+        },
+    }
+}
+
+/// The kind of the marks at which such a listing starts.
+#[inline(always)]
+pub(crate) fn kind_of(wanted: Wanted) -> u8
+    ensures answer { result ≡ kind_of wanted }
+    ensures kind { result < MARK_KINDS }
+{
+    match wanted {
+        Wanted::Reply { root: _ } => 15,
+        Wanted::Error => 0,
+    }
+}
+
 /// The later of two rows.
 #[inline(always)]
-fn later(row: u32, other: u32) -> u32
+pub(crate) fn later(row: u32, other: u32) -> u32
     ensures most { (row ≤ result) × (other ≤ result) }
     ensures one { (result ≡ row) ⊎ (result ≡ other) }
 {
@@ -69,14 +106,23 @@ fn later(row: u32, other: u32) -> u32
 }
 
 impl Shared {
-    /// Whether the element of a row is looked for; `row` goes on. One step where its head says that it isn't.
+    /// Whether the element of a row is looked for; `row` goes on, and so does `low`, the first row that isn't
+    /// known of no use, where that is this one. One step where the head says that it isn't looked for.
     #[inline(always)]
-    fn is_wanted_at(&self, seat: &mut Seat, row: &mut u32, wanted: Wanted) -> bool
+    pub(crate) fn is_wanted_at(
+        &self,
+        seat: &mut Seat,
+        row: &mut u32,
+        low: &mut u32,
+        wanted: Wanted,
+    ) -> bool
         requires own { IsSeatOf self.now.words seat.old }
         requires steady { Steady (limits_of self.now.words) (view_of seat.old) }
         requires row { row.old < rows_of (limits_of self.now.words) }
+        requires low { low.old ≤ row.old }
         ensures same { IsSameSeat seat.old seat.new }
         ensures on { GoesOn (limits_of self.now.words) row.old row.new }
+        ensures low { (low.new ≤ row.new) × Rose (kind_of wanted) (view_of seat.new) low.old low.new }
         ensures acted { let l = limits_of self.now.words in
             Acted l (look_steps l) (view_of seat.old) (view_of seat.new) }
         ensures yes { result ≡ true → Hits (limits_of self.now.words) wanted row.old (seen_by seat.new) }
@@ -86,22 +132,32 @@ impl Shared {
     {
         let here = *row;
         let head = self.head_on(seat, row);
+        if !is_listed(wanted, head) {
+            *low = past_other(*low, here, head);
+            return false;
+        }
         if !may_be_wanted(wanted, head) {
             return false;
         }
-        let Some(birth) = self.birth_from(seat, here, head) else {
-            return false;
+        let birth = match self.contents_from(seat, here, head) {
+            Contents::Holds(birth) => birth,
+            Contents::DeadDraft => {
+                *low = past(*low, here);
+                return false;
+            }
+            Contents::Nothing => return false,
         };
         let (_, status) = self.status_at(seat, here);
+        *low = low_after(*low, here, status);
         is_wanted(wanted, birth, status)
     }
 
     /// The first row of a part, from one of its rows on, whose element is looked for. The scan starts at the
-    /// part's mark, if that is behind.
-    fn find_in_part(
+    /// part's mark, if that is behind, and raises the mark.
+    fn find_from_mark(
         &self,
         seat: &mut Seat,
-        lows: &mut [u16; 32],
+        lows: &mut [u16; 33],
         part: u16,
         from: u32,
         wanted: Wanted,
@@ -109,46 +165,80 @@ impl Shared {
         requires own { IsSeatOf self.now.words seat.old }
         requires steady { Steady (limits_of self.now.words) (view_of seat.old) }
         requires from { IsRowOf (limits_of self.now.words) part from }
-        requires remembers { Remembers (view_of seat.old) lows.old }
+        requires remembers { Remembers (kind_of wanted) (view_of seat.old) lows.old }
         ensures same { IsSameSeat seat.old seat.new }
-        ensures remembers { Remembers (view_of seat.new) lows.new }
+        ensures remembers { Remembers (kind_of wanted) (view_of seat.new) lows.new }
         ensures lows { RisesAt part lows.old lows.new }
         ensures told { let l = limits_of self.now.words in
-            Finds l wanted (1 + (l.rows - slice_index lows.old part) * look_steps l) from (part * l.rows + l.rows)
+            Finds l wanted (2 + (l.rows - slice_index lows.old part) * look_steps l) from (part * l.rows + l.rows)
             (view_of seat.old) (view_of seat.new) result }
     {
-        let mark = self.mark_at(seat, lows, part);
+        let kind = kind_of(wanted);
+        let mark = self.mark_at(seat, lows, kind, part);
         let rows = self.places.limits.rows as u32;
         let first = part as u32 * rows;
         let end = first + rows;
-        let start = later(from, first + mark as u32);
+        let mut low = first + mark as u32;
+        let start = later(from, low);
         let mut row = start;
         while row < end {
             let here = row;
-            if self.is_wanted_at(seat, &mut row, wanted) {
+            if self.is_wanted_at(seat, &mut row, &mut low, wanted) {
+                self.raise_to(seat, lows, kind, part, mark, low);
                 return Some(here);
             }
         }
+        self.raise_to(seat, lows, kind, part, mark, low);
         None
+    }
+
+    /// The first row of a part, from one of its rows on, whose element is looked for. One look where no row
+    /// has a head from there on, or from the mark on that the pass remembers.
+    #[inline(always)]
+    fn find_in_part(
+        &self,
+        seat: &mut Seat,
+        lows: &mut [u16; 33],
+        part: u16,
+        from: u32,
+        wanted: Wanted,
+    ) -> Option<u32>
+        requires own { IsSeatOf self.now.words seat.old }
+        requires steady { Steady (limits_of self.now.words) (view_of seat.old) }
+        requires from { IsRowOf (limits_of self.now.words) part from }
+        requires remembers { Remembers (kind_of wanted) (view_of seat.old) lows.old }
+        ensures same { IsSameSeat seat.old seat.new }
+        ensures remembers { Remembers (kind_of wanted) (view_of seat.new) lows.new }
+        ensures lows { RisesAt part lows.old lows.new }
+        ensures told { let l = limits_of self.now.words in
+            Finds l wanted (3 + (l.rows - slice_index lows.old part) * look_steps l) from (part * l.rows + l.rows)
+            (view_of seat.old) (view_of seat.new) result }
+    {
+        let first = part as u32 * self.places.limits.rows as u32;
+        let start = later(from, first + lows[part as usize] as u32);
+        if self.is_bare(seat, part, start, None) {
+            return None;
+        }
+        self.find_from_mark(seat, lows, part, from, wanted)
     }
 
     /// The first row of the parts, from this one on, whose element is looked for.
     fn find_in_parts(
         &self,
         seat: &mut Seat,
-        lows: &mut [u16; 32],
+        lows: &mut [u16; 33],
         from: u32,
         wanted: Wanted,
     ) -> Option<u32>
         requires own { IsSeatOf self.now.words seat.old }
         requires steady { Steady (limits_of self.now.words) (view_of seat.old) }
         requires from { from < part_rows (limits_of self.now.words) }
-        requires remembers { Remembers (view_of seat.old) lows.old }
+        requires remembers { Remembers (kind_of wanted) (view_of seat.old) lows.old }
         ensures same { IsSameSeat seat.old seat.new }
-        ensures remembers { Remembers (view_of seat.new) lows.new }
+        ensures remembers { Remembers (kind_of wanted) (view_of seat.new) lows.new }
         ensures lows { Rises lows.old lows.new }
         ensures told { let l = limits_of self.now.words in
-            Finds l wanted (scan_steps l (look_steps l) 1 lows.old l.parts) from (part_rows l)
+            Finds l wanted (scan_steps l (look_steps l) 3 lows.old l.parts) from (part_rows l)
             (view_of seat.old) (view_of seat.new) result }
     {
         let rows = self.places.limits.rows as u32;
@@ -169,18 +259,23 @@ impl Shared {
     fn find_in_blocks(
         &self,
         seat: &mut Seat,
+        lows: &mut [u16; 33],
         drawn: &mut u16,
         from: u32,
         wanted: Wanted,
     ) -> Option<u32>
         requires own { IsSeatOf self.now.words seat.old }
         requires steady { Steady (limits_of self.now.words) (view_of seat.old) }
+        requires remembers { Remembers (kind_of wanted) (view_of seat.old) lows.old }
         requires drawn { RemembersDrawn (view_of seat.old) drawn.old }
         requires from { let l = limits_of self.now.words in (part_rows l ≤ from) × (from ≤ rows_of l) }
         ensures same { IsSameSeat seat.old seat.new }
         ensures drawn { RemembersDrawn (view_of seat.new) drawn.new }
+        ensures risen { drawn.old ≤ drawn.new }
+        ensures remembers { Remembers (kind_of wanted) (view_of seat.new) lows.new }
+        ensures lows { Rises lows.old lows.new }
         ensures told { let l = limits_of self.now.words in
-            let n = spare_steps l (look_steps l) in let P = PassedOver l wanted in MatchOption result
+            let n = spare_left l (look_steps l) (slice_index lows.old l.parts) in let P = PassedOver l wanted in MatchOption result
             (Begun l P n from (rows_of l) (view_of seat.old) (view_of seat.new))
             (λ id. (from ≤ id) × (id < rows_of l) × Hits l wanted id (seen_by seat.new)
             × Sought l n (EachRow P from id) (view_of seat.old) (view_of seat.new)) }
@@ -188,21 +283,14 @@ impl Shared {
         let Some(end) = self.blocks_end(seat, drawn) else {
             return None;
         };
-        let mut row = from;
-        while row < end {
-            let here = row;
-            if self.is_wanted_at(seat, &mut row, wanted) {
-                return Some(here);
-            }
-        }
-        None
+        self.find_spare(seat, lows, end, from, wanted)
     }
 
     /// The first row from this one on whose element is looked for.
     fn find(
         &self,
         seat: &mut Seat,
-        lows: &mut [u16; 32],
+        lows: &mut [u16; 33],
         drawn: &mut u16,
         from: u32,
         wanted: Wanted,
@@ -210,25 +298,26 @@ impl Shared {
         requires own { IsSeatOf self.now.words seat.old }
         requires steady { Steady (limits_of self.now.words) (view_of seat.old) }
         requires from { from < rows_of (limits_of self.now.words) }
-        requires remembers { Remembers (view_of seat.old) lows.old }
+        requires remembers { Remembers (kind_of wanted) (view_of seat.old) lows.old }
         requires drawn { RemembersDrawn (view_of seat.old) drawn.old }
         ensures same { IsSameSeat seat.old seat.new }
-        ensures remembers { Remembers (view_of seat.new) lows.new }
+        ensures remembers { Remembers (kind_of wanted) (view_of seat.new) lows.new }
         ensures drawn { RemembersDrawn (view_of seat.new) drawn.new }
+        ensures risen { drawn.old ≤ drawn.new }
         ensures lows { Rises lows.old lows.new }
         ensures inside { IfSome result (λ id. id < rows_of (limits_of self.now.words)) }
         ensures told { let l = limits_of self.now.words in let t = look_steps l in
-            Finds l wanted (scan_steps l t 1 lows.old l.parts + spare_steps l t) from (rows_of l)
+            Finds l wanted (marked_steps l t lows.old) from (rows_of l)
             (view_of seat.old) (view_of seat.new) result }
     {
         let parts = self.places.part_rows();
         if from >= parts {
-            return self.find_in_blocks(seat, drawn, from, wanted);
+            return self.find_in_blocks(seat, lows, drawn, from, wanted);
         }
         if let Some(id) = self.find_in_parts(seat, lows, from, wanted) {
             return Some(id);
         }
-        self.find_in_blocks(seat, drawn, parts, wanted)
+        self.find_in_blocks(seat, lows, drawn, parts, wanted)
     }
 }
 
@@ -237,8 +326,9 @@ impl Manager {
     pub fn reply(&self, pass: &mut Pass, root: u32, from: u32) -> Option<u32>
         requires own { IsOf self.now pass.old }
         ensures own { IsOf self.now pass.new }
+        ensures turn { pass.new.from ≡ pass.old.from }
         ensures follows { Follows (reply_steps self.now.limits) pass.old pass.new }
-        ensures few { Follows (listing_steps_left self.now.limits pass.old.lows) pass.old pass.new }
+        ensures few { Follows (listing_steps_left self.now.limits (marks_of pass.old.lows 15)) pass.old pass.new }
         ensures quiet { IsQuiet pass.old pass.new }
         ensures looks { from < rows_of self.now.limits → HasLooked pass.old pass.new }
         ensures inside { IfSome result (λ id. id < rows_of self.now.limits) }
@@ -252,7 +342,7 @@ impl Manager {
         }
         self.shared.find(
             seat,
-            &mut pass.lows,
+            &mut pass.lows[15],
             &mut pass.run.drawn,
             from,
             Wanted::Reply { root },
@@ -263,8 +353,9 @@ impl Manager {
     pub fn next_error(&self, pass: &mut Pass, from: u32) -> Option<u32>
         requires own { IsOf self.now pass.old }
         ensures own { IsOf self.now pass.new }
+        ensures turn { pass.new.from ≡ pass.old.from }
         ensures follows { Follows (next_error_steps self.now.limits) pass.old pass.new }
-        ensures few { Follows (listing_steps_left self.now.limits pass.old.lows) pass.old pass.new }
+        ensures few { Follows (listing_steps_left self.now.limits (marks_of pass.old.lows 0)) pass.old pass.new }
         ensures quiet { IsQuiet pass.old pass.new }
         ensures looks { from < rows_of self.now.limits → HasLooked pass.old pass.new }
         ensures inside { IfSome result (λ id. id < rows_of self.now.limits) }
@@ -278,7 +369,7 @@ impl Manager {
         }
         self.shared.find(
             seat,
-            &mut pass.lows,
+            &mut pass.lows[0],
             &mut pass.run.drawn,
             from,
             Wanted::Error,

@@ -10,6 +10,7 @@ ghost use Rattle.tp_rule.specs.Views.{seen_by, view_of, IsSameSeat};
 ghost use Rattle.tp_rule.specs.declared.view.Known.TheVariants.{PartMark};
 ghost use Rattle.tp_rule.specs.Tables.{limits_of, IsSeatOf};
 ghost use Rattle.tp_rule.specs.Steps.{IsLow, Knows, NoneFrom};
+ghost use Rattle.tp_words.specs.declared.places.TheConstants.{MARK_KINDS};
 ghost use Rattle.tp_manager.specs.Walks.{Acted, Looked, NoneBehind, Remembers, RemembersDrawn, RisesAt, Steady};
 ghost use Rattle.tp_manager.specs.Bounds.{body_steps, retry_steps, status_steps};
 ghost use Rattle.tp_manager.specs.Looks.{Contains, GoesOn, HeadFound, IsThere, IsEnough};
@@ -53,26 +54,6 @@ impl Shared {
         self.words.load_head(seat, row)
     }
 
-    /// The mark of a part, which the pass remembers: no row of the part below it has an element that isn't
-    /// consumed or killed. One step.
-    #[inline(always)]
-    pub(crate) fn mark_at(&self, seat: &mut Seat, lows: &mut [u16; 32], part: u16) -> u16
-        requires own { IsSeatOf self.now.words seat.old }
-        requires steady { Steady (limits_of self.now.words) (view_of seat.old) }
-        requires part { part < (limits_of self.now.words).parts }
-        requires remembers { Remembers (view_of seat.old) lows.old }
-        ensures same { IsSameSeat seat.old seat.new }
-        ensures acted { Acted (limits_of self.now.words) 1 (view_of seat.old) (view_of seat.new) }
-        ensures knows { Knows (view_of seat.new) (PartMark part result) }
-        ensures remembers { Remembers (view_of seat.new) lows.new }
-        ensures lows { (slice_index lows.new part ≡ result) × RisesAt part lows.old lows.new }
-        ensures low { IsLow (limits_of self.now.words) (seen_by seat.new) part result }
-    {
-        let mark = self.words.load_mark(seat, part);
-        lows[part as usize] = mark;
-        mark
-    }
-
     /// What the head of a row says, as a scan goes through the rows: `row` goes on to the next row, or where
     /// the head is empty to the next part or spare block, since nothing is born in between. One step.
     #[inline(always)]
@@ -104,6 +85,7 @@ impl Shared {
         requires drawn { RemembersDrawn (view_of seat.old) drawn.old }
         ensures same { IsSameSeat seat.old seat.new }
         ensures drawn { RemembersDrawn (view_of seat.new) drawn.new }
+        ensures risen { drawn.old ≤ drawn.new }
         ensures told { let l = limits_of self.now.words in MatchOption result
             ((l.spare ≡ 0) × (seat.new ≡ seat.old))
             (λ end. (0 < l.spare) × Acted l 1 (view_of seat.old) (view_of seat.new)

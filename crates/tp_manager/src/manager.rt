@@ -6,7 +6,7 @@ ghost use Rattle.tp_rule.specs.Views.{fresh_from, view_of};
 ghost use Rattle.tp_rule.specs.Tables.{limits_of};
 ghost use Rattle.tp_rule.specs.Steps.{IsLow};
 ghost use Rattle.tp_manager.specs.Calls.{Follows};
-ghost use Rattle.tp_manager.specs.Shown.{low_of, view_in, IsOf, IsKeptBy};
+ghost use Rattle.tp_manager.specs.Shown.{low_of, turn_of, view_in, IsOf, IsKeptBy};
 ghost use Rattle.tp_manager.specs.declared.manager.MakeFault.TheVariants as faults;
 
 use std::alloc::Global;
@@ -102,8 +102,10 @@ pub struct Pass {
     pub(crate) run: Run,
     pub(crate) used: u16,
     pub(crate) task: Option<Task>,
-    /// The mark of each part, as the pass last loaded or set it.
-    pub(crate) lows: [u16; 32],
+    /// The marks of each kind and part, as the pass last loaded or set them.
+    pub(crate) lows: [[u16; 33]; 16],
+    /// For each stage the row behind the element that it took last in its turn.
+    pub(crate) from: [u32; 16],
 }
 
 impl Model for Pass {
@@ -111,11 +113,11 @@ impl Model for Pass {
 
     ghost Value = { PassShown };
 
-    ghost use Rattle.tp_manager.specs.Walks.{Remembers, Rests};
+    ghost use Rattle.tp_manager.specs.Walks.{RemembersAll, Rests};
 
-    ghost view = { λ p. shown (spot p.seat.table p.lows p.run.drawn) p.seat.view };
+    ghost view = { λ p. shown (spot p.seat.table p.lows p.run.drawn p.from) p.seat.view };
 
-    ghost invariant = { λ p. Rests p.seat p.number p.run p.used p.task × Remembers p.seat.view p.lows };
+    ghost invariant = { λ p. Rests p.seat p.number p.run p.used p.task × RemembersAll p.seat.view p.lows };
 }
 
 impl Keeper {
@@ -156,7 +158,8 @@ impl Keeper {
             × IsPassView pass.limits (view_in pass)) }
         ensures fresh { IfOk result (λ pass. (pass.number ≡ self.old.given) × (pass.mine ≡ [])
             × (pass.seen ≡ self.old.seen) × (pass.open_unit ≡ None)
-            × ((p : ℕ) → low_of pass p ≡ 0) × (pass.seen_blocks ≡ 0)) }
+            × ((c p : ℕ) → low_of pass c p ≡ 0) × (pass.seen_blocks ≡ 0)) }
+        ensures turn { IfOk result (λ pass. (stage : ℕ) → turn_of pass stage ≡ 0) }
         ensures rows { IfOk result (λ pass. (pass.next ≡ pass.number * pass.limits.rows)
             × (pass.left ≡ pass.limits.rows) × (pass.blocks ≡ [])) }
         ensures given { IfOk result (λ pass. (self.new.given ≡ self.old.given + 1)
@@ -183,7 +186,8 @@ impl Keeper {
             },
             used: 0,
             task: None,
-            lows: [0; 32],
+            lows: [[0; 33]; 16],
+            from: [0; 16],
         })
     }
 }
@@ -196,15 +200,19 @@ impl Pass {
         self.number
     }
 
-    /// The mark of a part as this pass last loaded or set it, and 0 before, or where there is no such part.
-    /// The mark in the table is never below it: no element in so many first rows of the part waits, is held
-    /// or is parked.
-    pub fn low(&self, part: u16) -> u16
-        ensures answer { result ≡ low_of self.now part }
-        ensures low { IsLow self.now.limits self.now.seen part result }
+    /// The mark of a part that is about a stage, 1 to 15, as this pass last loaded or set it, and 0 before, or
+    /// where there is no such stage or part. The mark in the table is never below it: no element of the stage
+    /// in so many first rows of the part waits, is held or is parked. With 0 for the stage it is the mark that
+    /// is about all stages but 15.
+    pub fn low(&self, stage: u8, part: u16) -> u16
+        ensures answer { result ≡ low_of self.now stage part }
+        ensures low { IsLow self.now.limits stage self.now.seen part result }
     {
-        match self.lows.get(part as usize) {
-            Some(low) => *low,
+        match self.lows.get(stage as usize) {
+            Some(lows) => match lows.get(part as usize) {
+                Some(low) => *low,
+                None => 0,
+            },
             None => 0,
         }
     }

@@ -1,4 +1,5 @@
 //! The meeting of two passes.
+ghost use Rattle.std.specs.Prelude.{◌≡◌};
 ghost use Rattle.tp_manager.specs.Shown.{IsOf};
 ghost use Rattle.tp_manager.specs.Bounds.{meet_steps, met_steps};
 ghost use Rattle.tp_manager.specs.Calls.{Follows, HasLooked, IsQuiet};
@@ -16,6 +17,7 @@ impl Manager {
         ensures second { Follows met_steps second.old second.new }
         ensures quiet { IsQuiet first.old first.new × IsQuiet second.old second.new }
         ensures looks { HasLooked first.old first.new × HasLooked second.old second.new }
+        ensures turn { (first.new.from ≡ first.old.from) × (second.new.from ≡ second.old.from) }
         ensures meets { Meets first.old second.old first.new second.new }
     {
         self.shared.words.meet(&mut first.seat, &mut second.seat);

@@ -16,6 +16,7 @@ impl Manager {
     pub fn read(&self, pass: &mut Pass, id: u32) -> Result<Look, Refusal>
         requires own { IsOf self.now pass.old }
         ensures own { IsOf self.now pass.new }
+        ensures turn { pass.new.from ≡ pass.old.from }
         ensures follows { Follows (read_steps self.now.limits) pass.old pass.new }
         ensures quiet { IsQuiet pass.old pass.new }
         ensures looks { id < rows_of self.now.limits → HasLooked pass.old pass.new }

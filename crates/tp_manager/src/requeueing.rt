@@ -70,6 +70,7 @@ impl Manager {
     pub fn requeue(&self, pass: &mut Pass, id: u32) -> Result<u8, Refusal>
         requires own { IsOf self.now pass.old }
         ensures own { IsOf self.now pass.new }
+        ensures turn { pass.new.from ≡ pass.old.from }
         ensures follows { Follows requeue_steps pass.old pass.new }
         ensures open_unit { pass.new.open_unit ≡ pass.old.open_unit }
         ensures looks { id < rows_of self.now.limits → HasLooked pass.old pass.new }

@@ -1,23 +1,27 @@
 //! A server's look for work.
-ghost use Rattle.std.specs.Prelude.{◌≡◌, ◌⊎◌, ◌+◌, ◌-◌, ◌*◌, ◌<◌, ◌≤◌, slice_index, MatchOption, true, false};
+ghost use Rattle.std.specs.Prelude.{◌≡◌, ◌⊎◌, ℕ, ◌+◌, ◌-◌, ◌*◌, ◌<◌, ◌≤◌, slice_index, IfSome, MatchOption, Option, true, false};
 ghost use Rattle.tp_model.specs.declared.types.Element.{Element as element};
 ghost use Rattle.tp_model.specs.Steps.{part_rows, rows_of, IsServerStage};
-ghost use Rattle.tp_words.specs.Words.{head_of};
+ghost use Rattle.tp_words.specs.Words.{claim_value, head_of, IsFitClaim};
+ghost use Rattle.tp_model.specs.Words.{claim_word, TakenWord};
+ghost use Rattle.tp_words.specs.declared.words.Head.TheVariants.{Empty, There};
+ghost use Rattle.tp_words.specs.declared.places.TheConstants.{MARK_KINDS};
 ghost use Rattle.tp_rule.specs.Views.{seen_by, view_of, IsSameSeat};
 ghost use Rattle.tp_rule.specs.Steps.{Knows};
 ghost use Rattle.tp_rule.specs.declared.view.Known.TheVariants.{PartMark};
 ghost use Rattle.tp_rule.specs.Tables.{limits_of, IsSeatOf};
-ghost use Rattle.tp_model.specs.History.{IsSettled};
-ghost use Rattle.tp_manager.specs.Bounds.{scan_steps, spare_steps, try_steps};
+ghost use Rattle.tp_manager.specs.Bounds.{marked_steps, scan_steps, spare_left, try_steps};
 ghost use Rattle.tp_manager.specs.Shown.{Rises};
-ghost use Rattle.tp_manager.specs.Looks.{GoesOn};
-ghost use Rattle.tp_manager.specs.Walks.{AreFinished, Begun, RemembersDone, RemembersDrawn, Steady, Looked, Sought, EachRow, OfPart, PassedBy, Remembers, RisesAt, Rose, IsSpare, Took};
+ghost use Rattle.tp_manager.specs.declared.scanning.Stand.TheVariants as stands;
+ghost use Rattle.tp_manager.specs.Looks.{GoesOn, Stands};
+ghost use Rattle.tp_manager.specs.Walks.{AreFinished, Begun, RestsAt, WasOfUse, WasUnsettled, RemembersDone, RemembersDrawn, Steady, Looked, Sought, EachRow, OfPart, PassedBy, Remembers, RisesAt, Rose, IsSpare, Took};
 
 use crate::looking::Contents;
 use crate::manager::Shared;
-use tp_model::types::{Element, Status};
+use crate::marking::{past, past_other};
+use tp_model::types::Element;
 use tp_rule::Seat;
-use tp_words::Head;
+use tp_words::{Claim, FoundClaim, Head, UnitWord};
 
 /// An element that a unit took.
 #[derive(Clone, Copy, Debug, PartialEq, Eq)]
@@ -27,13 +31,27 @@ pub(crate) struct Taken {
     pub element: Element,
 }
 
+/// How a claim finds an element.
+#[derive(Clone, Copy, Debug, PartialEq, Eq)]
+pub(crate) enum Stand {
+    /// It was taken so often in its round, and the next attempt may begin while its claim is the one that was
+    /// found.
+    Ready { attempts: u8 },
+    /// It is consumed or killed.
+    Over,
+    /// It was found not to wait.
+    Busy,
+}
+
 #[inline(always)]
 fn is_of_stage(head: Head, stage: u8) -> bool
     ensures yes { result ≡ true → (e : element) → head ≡ head_of e → e.stage ≡ stage }
     ensures no { result ≡ false → (e : element) → head ≡ head_of e → ¬ (e.stage ≡ stage) }
+    ensures aside { result ≡ false → (found root : ℕ) (by : Option ℕ) → head ≡ There found root by → ¬ (found ≡ stage) }
 {
     match head {
         Head::Empty => false,
+        Head::Void => false,
         Head::There {
             stage: found,
             root: _,
@@ -42,26 +60,9 @@ fn is_of_stage(head: Head, stage: u8) -> bool
     }
 }
 
-/// Whether a claim looks at a row with this head: always, or where the head is of the stage.
-#[inline(always)]
-fn is_tried(always: bool, head: Head, stage: u8) -> bool
-    ensures no { result ≡ false → (e : element) → head ≡ head_of e → ¬ (e.stage ≡ stage) }
-{
-    always || is_of_stage(head, stage)
-}
-
-/// The first row that isn't known finished, where this one is.
-#[inline(always)]
-fn past(low: u32, row: u32) -> u32
-    requires few { row < 65536 }
-    ensures { (result ≡ low) ⊎ ((result ≡ low + 1) × (low ≡ row)) }
-{
-    if low == row { low + 1 } else { low }
-}
-
 /// The row behind this one, where this is the row that is done and not the end.
 #[inline(always)]
-fn past_done(row: u32, end: u32, done: Option<u32>) -> u32
+pub(crate) fn past_done(row: u32, end: u32, done: Option<u32>) -> u32
     requires { row ≤ end }
     ensures { (result ≡ row) ⊎ ((result ≡ row + 1) × (row < end) × (done ≡ Some row)) }
 {
@@ -71,33 +72,62 @@ fn past_done(row: u32, end: u32, done: Option<u32>) -> u32
     }
 }
 
-/// The first row that isn't known finished: this one's element stands so.
-#[inline(always)]
-fn low_after(low: u32, row: u32, status: Status) -> u32
-    requires few { row < 65536 }
-    ensures { (result ≡ low) ⊎ ((result ≡ low + 1) × (low ≡ row) × IsSettled status) }
-{
-    if low != row {
-        return low;
-    }
-    match status {
-        Status::Waiting { attempts: _ } => low,
-        Status::Held {
-            unit: _,
-            attempt: _,
-        } => low,
-        Status::Parked { attempts: _ } => low,
-        Status::Consumed { unit: _ } => low + 1,
-        Status::Killed => low + 1,
-    }
-}
-
 impl Shared {
+    /// How the element of a row stands, whose claim was just found. At most one step: the word of its unit.
+    /// None where the claim is for the last attempt, unless all is to be known of the element: as long as
+    /// that claim stands, it doesn't wait.
+    #[inline(always)]
+    fn stand_of(&self, seat: &mut Seat, row: u32, claim: FoundClaim, whole: bool) -> Stand
+        requires own { IsSeatOf self.now.words seat.old }
+        requires steady { Steady (limits_of self.now.words) (view_of seat.old) }
+        requires row { row < rows_of (limits_of self.now.words) }
+        requires found { (claim_value claim.tells ≡ claim_word (seen_by seat.old) row)
+            × IsFitClaim (claim_value claim.tells) }
+        ensures same { IsSameSeat seat.old seat.new }
+        ensures looked { Looked (limits_of self.now.words) 1 (view_of seat.old) (view_of seat.new) }
+        ensures stands { Stands (limits_of self.now.words) row (seen_by seat.old) (seen_by seat.new)
+            (claim_value claim.tells) result }
+        ensures unsettled { whole ≡ true → ¬ (result ≡ stands.Over) → let l = limits_of self.now.words in
+            WasUnsettled l row (seen_by seat.old) (seen_by seat.new) }
+        ensures last { whole ≡ false → (n u r : ℕ) → claim_value claim.tells ≡ TakenWord n u r
+            → (limits_of self.now.words).attempts ≤ n → seat.new ≡ seat.old }
+    {
+        match claim.tells {
+            Claim::Free => Stand::Ready { attempts: 0 },
+            Claim::Again { round: _ } => Stand::Ready { attempts: 0 },
+            Claim::Killed {
+                attempt: _,
+                unit: _,
+                round: _,
+            } => Stand::Over,
+            Claim::Taken {
+                attempt,
+                unit,
+                round: _,
+            } => {
+                let is_last = attempt >= self.places.limits.attempts;
+                if is_last && !whole {
+                    return Stand::Busy;
+                }
+                match self.words.load_unit(seat, unit) {
+                    UnitWord::Undecided => Stand::Busy,
+                    UnitWord::Committed { first: _, count: _ } => Stand::Over,
+                    UnitWord::Aborted => {
+                        if is_last {
+                            return Stand::Busy;
+                        }
+                        Stand::Ready { attempts: attempt }
+                    }
+                }
+            }
+        }
+    }
+
     /// The unit takes the element of a row, if that waits in the stage; `row` goes on, and so does `low`, the
     /// first row that isn't known finished, where that is this one. One step where the head is not of the
     /// stage and the row isn't that one.
     #[inline(always)]
-    fn try_row(
+    pub(crate) fn try_row(
         &self,
         seat: &mut Seat,
         row: &mut u32,
@@ -113,15 +143,20 @@ impl Shared {
         requires spare { IsSpare unit (view_of seat.old) × (unit < 65535) }
         ensures same { IsSameSeat seat.old seat.new }
         ensures on { GoesOn (limits_of self.now.words) row.old row.new }
-        ensures low { (low.new ≤ row.new) × Rose (view_of seat.new) low.old low.new }
-        ensures told { let l = limits_of self.now.words in let n = try_steps l in MatchOption result
+        ensures low { (low.new ≤ row.new) × Rose stage (view_of seat.new) low.old low.new }
+        ensures stays { low.new < row.new → let l = limits_of self.now.words in
+            ((low.old < row.old) × (low.new ≡ low.old))
+            ⊎ WasOfUse l stage low.new (seen_by seat.old) (seen_by seat.new) }
+        ensures behind { IfSome result (λ t. low.new < row.new) }
+        ensures told { let l = limits_of self.now.words in let n = try_steps in MatchOption result
             (Sought l n (EachRow (PassedBy l stage) row.old row.new) (view_of seat.old) (view_of seat.new))
-            (λ t. Took l n stage unit (view_of seat.old) (view_of seat.new) t.element t.attempt
+            (λ t. Took l n row.old stage unit (view_of seat.old) (view_of seat.new) t.element t.attempt
             × (t.element.root ≡ t.root)) }
     {
         let here = *row;
         let head = self.head_on(seat, row);
-        if !is_tried(here == *low, head, stage) {
+        if !is_of_stage(head, stage) {
+            *low = past_other(*low, here, head);
             return None;
         }
         let birth = match self.contents_from(seat, here, head) {
@@ -132,14 +167,15 @@ impl Shared {
             }
             Contents::Nothing => return None,
         };
-        let (claim, status) = self.status_at(seat, here);
-        let Status::Waiting { attempts } = status else {
-            *low = low_after(*low, here, status);
-            return None;
+        let claim = self.words.load_claim(seat, here);
+        let attempts = match self.stand_of(seat, here, claim, here == *low) {
+            Stand::Ready { attempts } => attempts,
+            Stand::Over => {
+                *low = past(*low, here);
+                return None;
+            }
+            Stand::Busy => return None,
         };
-        if birth.stage != stage {
-            return None;
-        }
         let element = self.element_at(seat, here, birth);
         let attempt = attempts + 1;
         match self.words.claim_exchange(seat, here, claim, attempt, unit) {
@@ -152,39 +188,12 @@ impl Shared {
         }
     }
 
-    /// Raises the mark of a part, where the first row that isn't known finished is behind it, and the pass
-    /// remembers it. At most one step.
-    fn raise_to(&self, seat: &mut Seat, lows: &mut [u16; 32], part: u16, mark: u16, low: u32)
-        requires own { IsSeatOf self.now.words seat.old }
-        requires steady { Steady (limits_of self.now.words) (view_of seat.old) }
-        requires part { part < (limits_of self.now.words).parts }
-        requires mark { Knows (view_of seat.old) (PartMark part mark) × (slice_index lows.old part ≡ mark) }
-        requires remembers { Remembers (view_of seat.old) lows.old }
-        requires low { let l = limits_of self.now.words in (low ≤ part * l.rows + l.rows)
-            × Rose (view_of seat.old) (part * l.rows + mark) low }
-        ensures same { IsSameSeat seat.old seat.new }
-        ensures looked { Looked (limits_of self.now.words) 1 (view_of seat.old) (view_of seat.new) }
-        ensures seen { seen_by seat.new ≡ seen_by seat.old }
-        ensures remembers { Remembers (view_of seat.new) lows.new }
-        ensures lows { RisesAt part lows.old lows.new }
-    {
-        let first = part as u32 * self.places.limits.rows as u32;
-        let to = (low - first) as u16;
-        if to <= mark {
-            return;
-        }
-        if !self.words.raise(seat, part, mark, to) {
-            return;
-        }
-        lows[part as usize] = to;
-    }
-
     /// The unit takes the first element of a part that waits in the stage. The scan starts at the part's
     /// mark, behind the row that the pass has consumed last where that comes first, and raises the mark.
-    fn scan_part(
+    fn scan_from_mark(
         &self,
         seat: &mut Seat,
-        lows: &mut [u16; 32],
+        lows: &mut [u16; 33],
         part: u16,
         done: Option<u32>,
         stage: u8,
@@ -192,21 +201,23 @@ impl Shared {
     ) -> Option<Taken>
         requires own { IsSeatOf self.now.words seat.old }
         requires steady { Steady (limits_of self.now.words) (view_of seat.old) }
-        requires remembers { Remembers (view_of seat.old) lows.old }
+        requires remembers { Remembers stage (view_of seat.old) lows.old }
         requires part { part < (limits_of self.now.words).parts }
         requires done { RemembersDone (view_of seat.old) done }
         requires stage { IsServerStage stage }
         requires spare { IsSpare unit (view_of seat.old) × (unit < 65535) }
         ensures same { IsSameSeat seat.old seat.new }
-        ensures remembers { Remembers (view_of seat.new) lows.new }
+        ensures remembers { Remembers stage (view_of seat.new) lows.new }
         ensures lows { RisesAt part lows.old lows.new }
+        ensures rests { let l = limits_of self.now.words in
+            RestsAt l stage part (slice_index lows.new part) (seen_by seat.old) (view_of seat.new) }
         ensures told { let l = limits_of self.now.words in
-            let n = 2 + (l.rows - slice_index lows.old part) * try_steps l in MatchOption result
+            let n = 2 + (l.rows - slice_index lows.old part) * try_steps in MatchOption result
             (Sought l n (OfPart l (PassedBy l stage) part) (view_of seat.old) (view_of seat.new))
-            (λ t. Took l n stage unit (view_of seat.old) (view_of seat.new) t.element t.attempt
+            (λ t. Took l n (part * l.rows) stage unit (view_of seat.old) (view_of seat.new) t.element t.attempt
             × (t.element.root ≡ t.root)) }
     {
-        let mark = self.mark_at(seat, lows, part);
+        let mark = self.mark_at(seat, lows, stage, part);
         let rows = self.places.limits.rows as u32;
         let first = part as u32 * rows;
         let end = first + rows;
@@ -215,17 +226,54 @@ impl Shared {
         let mut row = begin;
         while row < end {
             if let Some(taken) = self.try_row(seat, &mut row, &mut low, stage, unit) {
-                self.raise_to(seat, lows, part, mark, low);
+                self.raise_to(seat, lows, stage, part, mark, low);
                 return Some(taken);
             }
         }
-        self.raise_to(seat, lows, part, mark, low);
+        self.raise_to(seat, lows, stage, part, mark, low);
         None
+    }
+
+    /// The unit takes the first element of a part that waits in the stage. One look where no row has a head
+    /// from the mark on that the pass remembers.
+    #[inline(always)]
+    fn scan_part(
+        &self,
+        seat: &mut Seat,
+        lows: &mut [u16; 33],
+        part: u16,
+        done: Option<u32>,
+        stage: u8,
+        unit: u16,
+    ) -> Option<Taken>
+        requires own { IsSeatOf self.now.words seat.old }
+        requires steady { Steady (limits_of self.now.words) (view_of seat.old) }
+        requires remembers { Remembers stage (view_of seat.old) lows.old }
+        requires part { part < (limits_of self.now.words).parts }
+        requires done { RemembersDone (view_of seat.old) done }
+        requires stage { IsServerStage stage }
+        requires spare { IsSpare unit (view_of seat.old) × (unit < 65535) }
+        ensures same { IsSameSeat seat.old seat.new }
+        ensures remembers { Remembers stage (view_of seat.new) lows.new }
+        ensures lows { RisesAt part lows.old lows.new }
+        ensures rests { let l = limits_of self.now.words in
+            RestsAt l stage part (slice_index lows.new part) (seen_by seat.old) (view_of seat.new) }
+        ensures told { let l = limits_of self.now.words in
+            let n = 3 + (l.rows - slice_index lows.old part) * try_steps in MatchOption result
+            (Sought l n (OfPart l (PassedBy l stage) part) (view_of seat.old) (view_of seat.new))
+            (λ t. Took l n (part * l.rows) stage unit (view_of seat.old) (view_of seat.new) t.element t.attempt
+            × (t.element.root ≡ t.root)) }
+    {
+        let row = part as u32 * self.places.limits.rows as u32 + lows[part as usize] as u32;
+        if self.is_bare(seat, part, row, done) {
+            return None;
+        }
+        self.scan_from_mark(seat, lows, part, done, stage, unit)
     }
 
     /// The first part that has a row which the pass doesn't know finished, or else the last part. No step.
     #[inline(always)]
-    fn first_open(&self, lows: &[u16; 32]) -> u16
+    fn first_open(&self, lows: &[u16; 33]) -> u16
         ensures part { result < (limits_of self.now.words).parts }
         ensures finished { AreFinished (limits_of self.now.words) lows.now result }
     {
@@ -244,24 +292,24 @@ impl Shared {
     fn scan_parts(
         &self,
         seat: &mut Seat,
-        lows: &mut [u16; 32],
+        lows: &mut [u16; 33],
         done: Option<u32>,
         stage: u8,
         unit: u16,
     ) -> Option<Taken>
         requires own { IsSeatOf self.now.words seat.old }
         requires steady { Steady (limits_of self.now.words) (view_of seat.old) }
-        requires remembers { Remembers (view_of seat.old) lows.old }
+        requires remembers { Remembers stage (view_of seat.old) lows.old }
         requires done { RemembersDone (view_of seat.old) done }
         requires stage { IsServerStage stage }
         requires spare { IsSpare unit (view_of seat.old) × (unit < 65535) }
         ensures same { IsSameSeat seat.old seat.new }
-        ensures remembers { Remembers (view_of seat.new) lows.new }
+        ensures remembers { Remembers stage (view_of seat.new) lows.new }
         ensures lows { Rises lows.old lows.new }
         ensures told { let l = limits_of self.now.words in
-            let n = scan_steps l (try_steps l) 2 lows.old l.parts in MatchOption result
+            let n = scan_steps l try_steps 3 lows.old l.parts in MatchOption result
             (Sought l n (EachRow (PassedBy l stage) 0 (part_rows l)) (view_of seat.old) (view_of seat.new))
-            (λ t. Took l n stage unit (view_of seat.old) (view_of seat.new) t.element t.attempt
+            (λ t. Took l n 0 stage unit (view_of seat.old) (view_of seat.new) t.element t.attempt
             × (t.element.root ≡ t.root)) }
     {
         let first = self.first_open(lows);
@@ -274,38 +322,42 @@ impl Shared {
     }
 
     /// The unit takes the first element of the spare blocks that waits in the stage.
-    fn scan_blocks(&self, seat: &mut Seat, drawn: &mut u16, stage: u8, unit: u16) -> Option<Taken>
+    fn scan_blocks(
+        &self,
+        seat: &mut Seat,
+        lows: &mut [u16; 33],
+        drawn: &mut u16,
+        stage: u8,
+        unit: u16,
+    ) -> Option<Taken>
         requires own { IsSeatOf self.now.words seat.old }
         requires steady { Steady (limits_of self.now.words) (view_of seat.old) }
+        requires remembers { Remembers stage (view_of seat.old) lows.old }
         requires drawn { RemembersDrawn (view_of seat.old) drawn.old }
         requires stage { IsServerStage stage }
         requires spare { IsSpare unit (view_of seat.old) × (unit < 65535) }
         ensures same { IsSameSeat seat.old seat.new }
         ensures drawn { RemembersDrawn (view_of seat.new) drawn.new }
-        ensures told { let l = limits_of self.now.words in let n = spare_steps l (try_steps l) in MatchOption result
+        ensures risen { drawn.old ≤ drawn.new }
+        ensures remembers { Remembers stage (view_of seat.new) lows.new }
+        ensures lows { Rises lows.old lows.new }
+        ensures told { let l = limits_of self.now.words in
+            let n = spare_left l try_steps (slice_index lows.old l.parts) in MatchOption result
             (Begun l (PassedBy l stage) n (part_rows l) (rows_of l) (view_of seat.old) (view_of seat.new))
-            (λ t. Took l n stage unit (view_of seat.old) (view_of seat.new) t.element t.attempt
+            (λ t. Took l n (part_rows l) stage unit (view_of seat.old) (view_of seat.new) t.element t.attempt
             × (t.element.root ≡ t.root)) }
     {
         let Some(end) = self.blocks_end(seat, drawn) else {
             return None;
         };
-        // No mark is raised: this row is before all of them.
-        let mut low = 0;
-        let mut row = self.places.part_rows();
-        while row < end {
-            if let Some(taken) = self.try_row(seat, &mut row, &mut low, stage, unit) {
-                return Some(taken);
-            }
-        }
-        None
+        self.scan_spare(seat, lows, end, stage, unit)
     }
 
     /// The unit takes the first element that waits in the stage.
     pub(crate) fn scan(
         &self,
         seat: &mut Seat,
-        lows: &mut [u16; 32],
+        lows: &mut [u16; 33],
         drawn: &mut u16,
         done: Option<u32>,
         stage: u8,
@@ -313,24 +365,25 @@ impl Shared {
     ) -> Option<Taken>
         requires own { IsSeatOf self.now.words seat.old }
         requires steady { Steady (limits_of self.now.words) (view_of seat.old) }
-        requires remembers { Remembers (view_of seat.old) lows.old }
+        requires remembers { Remembers stage (view_of seat.old) lows.old }
         requires drawn { RemembersDrawn (view_of seat.old) drawn.old }
         requires done { RemembersDone (view_of seat.old) done }
         requires stage { IsServerStage stage }
         requires spare { IsSpare unit (view_of seat.old) × (unit < 65535) }
         ensures same { IsSameSeat seat.old seat.new }
-        ensures remembers { Remembers (view_of seat.new) lows.new }
+        ensures remembers { Remembers stage (view_of seat.new) lows.new }
         ensures drawn { RemembersDrawn (view_of seat.new) drawn.new }
+        ensures risen { drawn.old ≤ drawn.new }
         ensures lows { Rises lows.old lows.new }
-        ensures told { let l = limits_of self.now.words in let t = try_steps l in
-            let n = scan_steps l t 2 lows.old l.parts + spare_steps l t in MatchOption result
+        ensures told { let l = limits_of self.now.words in let t = try_steps in
+            let n = marked_steps l t lows.old in MatchOption result
             (Sought l n (EachRow (PassedBy l stage) 0 (rows_of l)) (view_of seat.old) (view_of seat.new))
-            (λ t. Took l n stage unit (view_of seat.old) (view_of seat.new) t.element t.attempt
+            (λ t. Took l n 0 stage unit (view_of seat.old) (view_of seat.new) t.element t.attempt
             × (t.element.root ≡ t.root)) }
     {
         if let Some(taken) = self.scan_parts(seat, lows, done, stage, unit) {
             return Some(taken);
         }
-        self.scan_blocks(seat, drawn, stage, unit)
+        self.scan_blocks(seat, lows, drawn, stage, unit)
     }
 }

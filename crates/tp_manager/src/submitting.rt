@@ -15,6 +15,7 @@ impl Manager {
         requires stage { IsServerStage stage }
         requires room { 0 < pass.old.left }
         ensures own { IsOf self.now pass.new }
+        ensures turn { pass.new.from ≡ pass.old.from }
         ensures follows { Follows next_steps pass.old pass.new }
         ensures open_unit { pass.new.open_unit ≡ pass.old.open_unit }
         ensures answer { Submits result stage body pass.old pass.new }
@@ -34,6 +35,7 @@ impl Manager {
     pub fn submit(&self, pass: &mut Pass, stage: u8, body: Body) -> Result<u32, Refusal>
         requires own { IsOf self.now pass.old }
         ensures own { IsOf self.now pass.new }
+        ensures turn { pass.new.from ≡ pass.old.from }
         ensures follows { Follows (submit_steps self.now.limits) pass.old pass.new }
         ensures open_unit { pass.new.open_unit ≡ pass.old.open_unit }
         ensures answer { MatchResult result

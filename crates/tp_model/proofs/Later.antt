@@ -19,7 +19,7 @@ use Rattle.tp_model.proofs.Areas.{use_inside}
 use Rattle.tp_model.proofs.Bridges.{append_nil, begins_more, in_none, in_cons, births_of, born_either, end_stays, claim_either, status_taken}
 
 -- one of the outputs has each id of their range
-output_at : (l : Limits) (h : List Event) (c u root id i : ℕ) (outs : List Element) → AreOutputs l h c u root id outs → id ≤ i → i < id + length outs
+pub output_at : (l : Limits) (h : List Event) (c u root id i : ℕ) (outs : List Element) → AreOutputs l h c u root id outs → id ≤ i → i < id + length outs
     → IsUnborn h i × ((x : Element) × (find (λ (y : Element). y.id == i) outs ≡ Some x))
 output_at l h c u root id i [] are low high = absurd (omega arith)
 output_at l h c u root id i (y ∷ ys) are low high =

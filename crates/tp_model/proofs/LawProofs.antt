@@ -9,8 +9,8 @@ use Rattle.tp_model.specs.declared.types.Status.TheVariants.{Waiting, Held, Cons
 use Rattle.tp_model.specs.declared.event.Event.{Event}
 use Rattle.tp_model.specs.declared.event.Event.TheVariants.{Enqueue, Claim, Commit, Abort, Kill, Requeue}
 use Rattle.tp_model.specs.History.{UnitClaim, claim_by, end_by, claim_of, committed, status_after, status_of, IsSettled}
-use Rattle.tp_model.specs.Steps.{MayClaim, MayCommit, IsKillable, Step, IsLegal}
-use Rattle.tp_model.specs.Laws.{item_of, ConsumedOnce, NeverClaimedAfterKill, NeverCommittedAfterKill, Moves, StatusSteps, BornStays, SettledStays, UnitsStay}
+use Rattle.tp_model.specs.Steps.{MayClaim, MayCommit, MayKill, IsKillable, Step, IsLegal}
+use Rattle.tp_model.specs.Laws.{item_of, ConsumedOnce, NeverClaimedAfterKill, NeverCommittedAfterKill, NeverKilledAfterKill, Moves, StatusSteps, BornStays, SettledStays, UnitsStay}
 use Rattle.tp_model.proofs.Lists.{first-kept, if_same, if_other}
 use Rattle.tp_model.proofs.Histories.{legal_start, legal_at, open_holds, settled_stays, status_of-snoc, element_of-kept}
 
@@ -70,6 +70,13 @@ never_committed_after_kill l before between after c d u i outs legal claims =
     let held = held_at l mid d u outs after i legal claims in
     let clash : Killed ≡ Held u held.0 = sym killed ∙ held.1 in
     cc
+
+pub never_killed_after_kill : NeverKilledAfterKill
+never_killed_after_kill l before between after c d i legal =
+    let mid = before ++ Kill c i ∷ between in
+    let killed = killed_from l before between c i (legal_start l mid (Kill d i ∷ after) legal) in
+    let may : MayKill l mid d i = legal_at l mid (Kill d i) after legal in
+    absurd (subst IsKillable killed may.free)
 
 -- one event changes a status as the law says
 moves_after : (l : Limits) (h : List Event) (e : Event) (i : ℕ) → Step l h e → (s : Status) → status_of l.attempts h i ≡ s

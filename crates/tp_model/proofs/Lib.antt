@@ -12,6 +12,9 @@ pub mod Later
 pub mod Families
 pub mod Tallies
 pub mod Stages
+pub mod Opens
+pub mod Descents
+pub mod Replies
 pub mod RowTallies
 pub mod Takings
 pub mod Bodies

@@ -23,25 +23,25 @@ use Rattle.tp_model.proofs.Tallies.{alike, all_counted, counts_last}
 -- sums over lists
 
 module _ {X : Type 0} where
-  sum_same : (f g : X → ℕ) → ((x : X) → f x ≡ g x) → (xs : List X) → sum_by f xs ≡ sum_by g xs
+  pub sum_same : (f g : X → ℕ) → ((x : X) → f x ≡ g x) → (xs : List X) → sum_by f xs ≡ sum_by g xs
   sum_same f g same [] = refl
   sum_same f g same (x ∷ xs) = let a = sum_by-cons f x xs in let b = sum_by-cons g x xs in let e = same x in let rest = sum_same f g same xs in omega arith
 
-  sum_plus : (f g : X → ℕ) (xs : List X) → sum_by (λ x. f x + g x) xs ≡ sum_by f xs + sum_by g xs
+  pub sum_plus : (f g : X → ℕ) (xs : List X) → sum_by (λ x. f x + g x) xs ≡ sum_by f xs + sum_by g xs
   sum_plus f g [] = refl
   sum_plus f g (x ∷ xs) = let a = sum_by-cons f x xs in let b = sum_by-cons g x xs in let e = sum_by-cons (λ x. f x + g x) x xs in let rest = sum_plus f g xs in omega arith
 
-  sum_none : (xs : List X) → sum_by (λ x. 0) xs ≡ 0
+  pub sum_none : (xs : List X) → sum_by (λ x. 0) xs ≡ 0
   sum_none [] = refl
   sum_none (x ∷ xs) = let a = sum_by-cons (λ (x : X). 0) x xs in let rest = sum_none xs in omega arith
 
-sum_map : {X Y : Type 0} (g : Y → ℕ) (f : X → Y) (xs : List X) → sum_by g (map f xs) ≡ sum_by (λ x. g (f x)) xs
+pub sum_map : {X Y : Type 0} (g : Y → ℕ) (f : X → Y) (xs : List X) → sum_by g (map f xs) ≡ sum_by (λ x. g (f x)) xs
 sum_map g f [] = refl
 sum_map g f (x ∷ xs) = let a = sum_by-cons g (f x) (map f xs) in let b = sum_by-cons (λ x. g (f x)) x xs in let rest = sum_map g f xs in omega arith
 
 -- what stands at one number alone
 
-none_at : (k v a n : ℕ) → k < a → sum_by (λ s. cond (k == s) v 0) (range_with_len a n) ≡ 0
+pub none_at : (k v a n : ℕ) → k < a → sum_by (λ s. cond (k == s) v 0) (range_with_len a n) ≡ 0
 none_at k v a zero less = refl
 none_at k v a (suc n) less =
     let one = sum_by-cons (λ s. cond (k == s) v 0) a (range_with_len (a + 1) n) in
@@ -49,7 +49,7 @@ none_at k v a (suc n) less =
     let rest = none_at k v (a + 1) n (omega arith) in
     omega arith
 
-one_at : (k v a n : ℕ) → a ≤ k → k < a + n → sum_by (λ s. cond (k == s) v 0) (range_with_len a n) ≡ v
+pub one_at : (k v a n : ℕ) → a ≤ k → k < a + n → sum_by (λ s. cond (k == s) v 0) (range_with_len a n) ≡ v
 one_at k v a zero low high = absurd (omega arith)
 one_at k v a (suc n) low high =
     let one = sum_by-cons (λ s. cond (k == s) v 0) a (range_with_len (a + 1) n) in
@@ -68,7 +68,7 @@ one_at k v a (suc n) low high =
 
 -- a sum over elements is that of the sums in each stage
 
-staged_sum : (g : Element → ℕ) (x : Element) (xs : List Element) (s : ℕ) → sum_by g (in_stage s (x ∷ xs)) ≡ cond (x.stage == s) (g x) 0 + sum_by g (in_stage s xs)
+pub staged_sum : (g : Element → ℕ) (x : Element) (xs : List Element) (s : ℕ) → sum_by g (in_stage s (x ∷ xs)) ≡ cond (x.stage == s) (g x) 0 + sum_by g (in_stage s xs)
 staged_sum g x xs s = go (x.stage == s)
   where
     go : (b : Bool) → sum_by g (cond b (x ∷ in_stage s xs) (in_stage s xs)) ≡ cond b (g x) 0 + sum_by g (in_stage s xs)

@@ -1,5 +1,5 @@
 -- The closing account of a history, and what it comes to.
-use Rattle.std.specs.Prelude.{◌≡◌, ◌≢◌, ◌<◌, ℕ, ◌+◌, ◌-◌, ◌==◌, true, List, map, length, sum_by, count_by, slice_index_or}
+use Rattle.std.specs.Prelude.{◌≡◌, ◌≢◌, ◌<◌, ℕ, ◌+◌, ◌-◌, ◌==◌, ◌&&◌, ◌||◌, nat_le, Bool, true, List, map, take, length, sum_by, count_by, slice_index_or}
 use Rattle.std.specs.List.{filter_map, range_with_len}
 use Rattle.tp_model.specs.declared.types.Account.{Account}
 use Rattle.tp_model.specs.declared.types.Counts.{Counts}
@@ -8,7 +8,7 @@ use Rattle.tp_model.specs.declared.types.Limits.{Limits}
 use Rattle.tp_model.specs.declared.types.Status.{Status}
 use Rattle.tp_model.specs.declared.types.Status.TheVariants.{Waiting, Held, Consumed, Parked, Killed}
 use Rattle.tp_model.specs.declared.event.Event.{Event}
-use Rattle.tp_model.specs.Counts.{taken, is_consumed, in_stage, counts_among, counts, counts_in}
+use Rattle.tp_model.specs.Counts.{taken, is_waiting, is_held, is_consumed, in_stage, counts_among, counts, counts_in}
 use Rattle.tp_model.specs.History.{In, born, element_of, status_of, IsBorn, events_by}
 use Rattle.tp_model.specs.Steps.{IsLegal, IsStage, rows_of}
 
@@ -60,6 +60,18 @@ abbrev pub CountsAddUp : Type 0
 CountsAddUp =
     (limit : ℕ) (h : List Event)
     → (all_in (counts limit h) ≡ length (born h)) × ((s : ℕ) → all_in (counts_in limit h s) ≡ length (in_stage s (born h)))
+
+-- how many elements of the servers' stages, the first 14, wait or are held
+abbrev pub open_in : Account → ℕ
+open_in a = sum_by (λ c. c.waiting + c.held) (take 14 a.stages)
+
+-- an element of a server's stage that waits or is held
+abbrev pub is_open : ℕ → List Event → Element → Bool
+is_open limit h x = nat_le x.stage 14 && (is_waiting (status_of limit h x.id) || is_held (status_of limit h x.id))
+
+-- those that an account has open are the born elements that are
+abbrev pub OpenAddsUp : Type 0
+OpenAddsUp = (l : Limits) (h : List Event) → IsLegal l h → open_in (account_of l.attempts h) ≡ count_by (is_open l.attempts h) (born h)
 
 -- the counts of the stages add up to those in all
 abbrev pub StagesAddUp : Type 0

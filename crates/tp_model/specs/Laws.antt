@@ -37,6 +37,12 @@ NeverCommittedAfterKill =
     → let h = (before ++ Kill c i ∷ between) ++ Commit d u outs ∷ after in
     IsLegal l h → item_of h u ≢ Some i
 
+-- and no second Kill of i
+abbrev pub NeverKilledAfterKill : Type 0
+NeverKilledAfterKill =
+    (l : Limits) (before between after : List Event) (c d i : ℕ)
+    → ¬ IsLegal l ((before ++ Kill c i ∷ between) ++ Kill d i ∷ after)
+
 -- how one event may change a status
 abbrev pub Moves : Status → Status → Type 0
 Moves (Waiting n) s = ((u : ℕ) × (s ≡ Held u (n + 1))) ⊎ (s ≡ Killed)

@@ -5,7 +5,7 @@ use Rattle.tp_model.specs.declared.types.Limits.{Limits}
 use Rattle.tp_model.specs.declared.event.Event.{Event}
 use Rattle.tp_model.specs.declared.event.Event.TheVariants.{Abort}
 use Rattle.tp_model.specs.declared.trace.StepKind.{StepKind}
-use Rattle.tp_model.specs.declared.trace.StepKind.TheVariants.{DraftStore, SeatLoad, UnitChoice, Raise, Draw}
+use Rattle.tp_model.specs.declared.trace.StepKind.TheVariants.{DraftStore, SeatLoad, UnitChoice, Raise, Draw, Void}
 use Rattle.tp_model.specs.declared.trace.TraceEntry.{TraceEntry}
 use Rattle.tp_model.specs.History.{Committed, In, IsClaim, IsUnborn, end_of, events_by}
 use Rattle.tp_model.specs.Steps.{IsBlock, IsLegal, IsPart, MayUse}
@@ -67,14 +67,15 @@ pub record IsPassView (l : Limits) (v : PassView) : Type 0 where
 
 -- whether a step looks at the table: what it finds or changes there is tied to what is seen after it. A draft
 -- store sees nothing, the load that cuts or joins seats tells nothing, the choice of a unit is told nothing
--- of its word, and the exchanges of a mark and of the counter of drawn blocks are told nothing of the
--- history.
+-- of its word, and the exchanges of a mark, of the counter of drawn blocks, and of the head of a row that is left
+-- behind are told nothing of the history.
 abbrev pub looks : StepKind → Bool
 looks DraftStore = false
 looks SeatLoad = false
 looks UnitChoice = false
 looks Raise = false
 looks Draw = false
+looks Void = false
 looks other = true
 
 -- one of these steps looks

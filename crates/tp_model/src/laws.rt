@@ -1,19 +1,20 @@
 //! The laws of legal histories. These functions do nothing: their contracts are the laws.
 
 ghost use Rattle.tp_model.specs.Rows.{WorkedRows};
-ghost use Rattle.tp_model.specs.Accounts.{CountsAddUp, StagesAddUp, StagesInPlace, CountsByRows, ConsumedIsTaken, TakenIsConsumed};
-ghost use Rattle.tp_model.specs.Families.{NeverWorkedOn, SettledFamilyStays};
-ghost use Rattle.tp_model.specs.Laws.{ConsumedOnce, NeverClaimedAfterKill, NeverCommittedAfterKill, StatusSteps, BornStays, BornOnce, StatusByWords, RoundsByWords, WordsRise, SettledStays, UnitsStay};
+ghost use Rattle.tp_model.specs.Accounts.{CountsAddUp, StagesAddUp, StagesInPlace, OpenAddsUp, CountsByRows, ConsumedIsTaken, TakenIsConsumed};
+ghost use Rattle.tp_model.specs.Families.{ClosedHasFamily, FamilyIsTree, NeverWorkedOn, OutputsAreOfFamily, SettledFamilyStays};
+ghost use Rattle.tp_model.specs.Laws.{ConsumedOnce, NeverClaimedAfterKill, NeverCommittedAfterKill, NeverKilledAfterKill, StatusSteps, BornStays, BornOnce, StatusByWords, RoundsByWords, WordsRise, SettledStays, UnitsStay};
 
 /// No element is consumed by two committed units.
 pub fn consumed_once()
     ensures { ConsumedOnce }
 {}
 
-/// After a kill the element is claimed no more, and no unit that claimed it commits.
+/// After a kill the element is claimed no more, no unit that claimed it commits, and nobody kills it again.
 pub fn never_after_kill()
     ensures claim { NeverClaimedAfterKill }
     ensures commit { NeverCommittedAfterKill }
+    ensures kill { NeverKilledAfterKill }
 {}
 
 /// The ways in which one event may change a status.
@@ -46,6 +47,16 @@ pub fn settled_for_good()
     ensures stays { SettledFamilyStays }
 {}
 
+/// A family is a tree: each element of it but the root comes from another one of it, by the unit that
+/// consumed that one. Who begins
+/// at the root and goes on from each consumed element to its outputs comes to the whole family, and to no
+/// other element.
+pub fn family_is_tree()
+    ensures tree { FamilyIsTree }
+    ensures whole { ClosedHasFamily }
+    ensures only { OutputsAreOfFamily }
+{}
+
 /// A status is read off two words, and how many rounds an element was given off its claim word.
 pub fn status_by_words()
     ensures status { StatusByWords }
@@ -53,11 +64,12 @@ pub fn status_by_words()
 {}
 
 /// In all and in each stage the five counts add up to the born elements. An account tells the counts of each stage, and
-/// these add up to the total.
+/// these add up to the total; what it has open is what waits or is held in the servers' stages.
 pub fn counts_add_up()
     ensures kinds { CountsAddUp }
     ensures stages { StagesAddUp }
     ensures places { StagesInPlace }
+    ensures open_work { OpenAddsUp }
 {}
 
 /// Who goes through the rows, one after another, counts each born element, and each once.

@@ -31,6 +31,9 @@ pub enum StepKind {
     /// The compare-exchange of the counter of drawn blocks, by which a spare block is drawn. It tells nothing but
     /// of the counter.
     Draw,
+    /// The compare-exchange of the head of a row that the pass has left behind, by which it is marked as one that
+    /// is never used. It tells nothing but of that head.
+    Void,
 }
 
 /// An atomic step of a pass, and the history that the pass has seen after it.

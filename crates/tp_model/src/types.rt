@@ -150,6 +150,15 @@ pub struct Killed {
     pub units_aborted: u8,
 }
 
+/// The answer of a release.
+#[derive(Clone, Copy, Debug, PartialEq, Eq)]
+pub struct Released {
+    /// The unit of work that held the element, which this call aborted.
+    pub unit: u16,
+    /// How many units had taken the element in its round, that one included.
+    pub attempt: u8,
+}
+
 /// The answer of a cancel.
 #[derive(Clone, Copy, Debug, PartialEq, Eq)]
 pub struct Cancelled {
@@ -175,6 +184,23 @@ pub struct Account {
     pub stages: [Counts; 15],
 }
 
+impl Account {
+    ghost use Rattle.std.specs.Prelude.{◌≡◌};
+    ghost use Rattle.tp_model.specs.Accounts.{open_in};
+
+    /// How many elements of the stages 1 to 14 wait or are held: none where all work is done.
+    pub fn open(&self) -> u64
+        ensures { result ≡ open_in self.now }
+    {
+        let mut open = 0;
+        for stage in 0..14 {
+            let counts = &self.stages[stage];
+            open += counts.waiting as u64 + counts.held as u64;
+        }
+        open
+    }
+}
+
 /// Why a call was refused. A refused call changes nothing, but that a refused kill may have aborted units of work.
 #[derive(Clone, Copy, Debug, PartialEq, Eq)]
 pub enum Refusal {
@@ -182,7 +208,7 @@ pub enum Refusal {
     NoMemory,
     /// A limit is outside its range.
     BadLimits,
-    /// The stage is not one that a client may submit to.
+    /// The stage is not one that a client may submit to, or the element is not of the stage that is asked for.
     BadStage,
     /// No element with this id was born.
     NotThere,
@@ -196,6 +222,8 @@ pub enum Refusal {
     NotParked,
     /// The element is parked, and has had all its rounds.
     NoRound,
+    /// No unit of work holds the element.
+    NotHeld,
 }
 
 /// An output of a unit of work before it is born. Its stage is 1 to 15.

@@ -2,21 +2,21 @@
 use Rattle.std.proofs.Common.{◌≡◌, ℕ, List, ◌++◌, sym, ◌∙◌, ap, subst, length, take, drop, replicate}
 use Rattle.std.proofs.Math.Seq.{drop-append_seam, take-append_seam}
 use Rattle.tp_manager.specs.Shown.{ManagerShown, PassShown}
-use Rattle.tp_workers.specs.declared.client.ClientJob.{ClientJob}
 use Rattle.tp_workers.specs.declared.killer.KillJob.{KillJob}
 use Rattle.tp_script.specs.declared.script.Race.{Race}
+use Rattle.tp_workers.specs.Clients.{JobShown}
 use Rattle.tp_perform.specs.Together.{RacersRan, client_job, kill_job}
 
-pub races_ran : (m : ManagerShown) (rows submitted : ℕ) (plan : Race) (racers cs ks cs' ks' : List PassShown) (submits : List ClientJob) (kills : List KillJob) (job : ClientJob) (kill : KillJob)
+pub races_ran : (m : ManagerShown) (rows submitted : ℕ) (plan : Race) (racers cs ks cs' ks' : List PassShown) (submits : List JobShown) (kills : List KillJob) (kill : KillJob)
     → cs ≡ take plan.clients racers → ks ≡ drop plan.clients racers → length cs' ≡ plan.clients
-    → submits ≡ replicate (length cs) job → job ≡ client_job plan → kills ≡ replicate (length ks) kill → kill ≡ kill_job rows plan cs
+    → submits ≡ replicate (length cs) (client_job plan) → kills ≡ replicate (length ks) kill → kill ≡ kill_job rows plan cs
     → RacersRan m submits kills cs ks submitted cs' ks'
     → RacersRan m (replicate (length (take plan.clients racers)) (client_job plan)) (replicate (length (drop plan.clients racers)) (kill_job rows plan (take plan.clients racers)))
     (take plan.clients racers) (drop plan.clients racers) submitted (take plan.clients (cs' ++ ks')) (drop plan.clients (cs' ++ ks'))
-races_ran m rows submitted plan racers cs ks cs' ks' submits kills job kill front back many all_submits job_is all_kills kill_is ran =
-    let one : submits ≡ replicate (length (take plan.clients racers)) (client_job plan) = all_submits ∙ (λ i. replicate (length (front i)) (job_is i)) in
+races_ran m rows submitted plan racers cs ks cs' ks' submits kills kill front back many all_submits all_kills kill_is ran =
+    let one : submits ≡ replicate (length (take plan.clients racers)) (client_job plan) = all_submits ∙ ap (λ xs. replicate (length xs) (client_job plan)) front in
     let two : kills ≡ replicate (length (drop plan.clients racers)) (kill_job rows plan (take plan.clients racers)) =
     all_kills ∙ ((λ i. replicate (length (back i)) (kill_is i)) ∙ ap (λ xs. replicate (length (drop plan.clients racers)) (kill_job rows plan xs)) front) in
     let five : cs' ≡ take plan.clients (cs' ++ ks') = sym (ap (λ n. take n (cs' ++ ks')) (sym many) ∙ take-append_seam cs' ks') in
     let six : ks' ≡ drop plan.clients (cs' ++ ks') = sym (ap (λ n. drop n (cs' ++ ks')) (sym many) ∙ drop-append_seam cs' ks') in
-    subst (λ (x : List ClientJob × List KillJob × List PassShown × List PassShown × List PassShown × List PassShown). RacersRan m x.0 x.1 x.2 x.3 submitted x.4 x.5) (λ i. (one i, two i, front i, back i, five i, six i)) ran
+    subst (λ (x : List JobShown × List KillJob × List PassShown × List PassShown × List PassShown × List PassShown). RacersRan m x.0 x.1 x.2 x.3 submitted x.4 x.5) (λ i. (one i, two i, front i, back i, five i, six i)) ran

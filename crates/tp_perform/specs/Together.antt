@@ -3,10 +3,9 @@ use Rattle.std.specs.Prelude.{◌≡◌, ◌≤◌, ◌<◌, get_or, ℕ, ◌+�
 use Rattle.std.specs.List.{AllZip}
 use Rattle.tp_model.specs.declared.types.Limits.{Limits}
 use Rattle.tp_manager.specs.Shown.{ManagerShown, PassShown}
-use Rattle.tp_workers.specs.declared.client.ClientJob.{ClientJob}
 use Rattle.tp_workers.specs.declared.killer.KillJob.{KillJob}
 use Rattle.tp_workers.specs.declared.tally.Shift.{Shift}
-use Rattle.tp_workers.specs.Clients.{ClientRan}
+use Rattle.tp_workers.specs.Clients.{ClientRan, JobShown}
 use Rattle.tp_workers.specs.Desks.{TakesTurns}
 use Rattle.tp_workers.specs.Desks as workers
 use Rattle.tp_workers.specs.Killers.{KillerRan}
@@ -49,9 +48,9 @@ TookTurns l turns old new = (counts : Shift) × TakesTurns l turns old counts ne
 
 -- ---- clients and killers
 
--- what each client of a race is to do: words 2 and 3 of its bodies are 0
-abbrev pub client_job : Race → ClientJob
-client_job plan = record { stage = plan.stage; body = plan.key ∷ plan.amount ∷ 0 ∷ 0 ∷ []; count = plan.submits }
+-- what each client of a race is to do: to submit the same body so often, of which words 2 and 3 are 0
+abbrev pub client_job : Race → JobShown
+client_job plan = record { stage = plan.stage; bodies = replicate plan.submits (plan.key ∷ plan.amount ∷ 0 ∷ 0 ∷ []) }
 
 -- the number of the first of these passes
 abbrev pub first_number : List PassShown → ℕ
@@ -65,7 +64,7 @@ kill_job rows plan clients =
     record { first = first; end = first + plan.clients * rows }
 
 -- clients of the first passes and killers of the others did their jobs, and so many submits were accepted
-pub record RacersRan (m : ManagerShown) (submits : List ClientJob) (kills : List KillJob)
+pub record RacersRan (m : ManagerShown) (submits : List JobShown) (kills : List KillJob)
     (clients killers : List PassShown) (submitted : ℕ) (clients' killers' : List PassShown)
     : Type 0 where
   pub client_counts : Shift

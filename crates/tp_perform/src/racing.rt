@@ -23,14 +23,19 @@ use tp_server::Server;
 use tp_workers::{ClientJob, KillJob, NoGate, drain, shift};
 
 /// What each client of a race is to do.
-fn client_job(plan: Race) -> ClientJob
-    ensures { result ≡ client_job plan }
+fn client_job(alloc: Global, plan: Race) -> Result<ClientJob, AllocError>
+    ensures job { IfOk result (λ job. job ≡ client_job plan) }
+    ensures calls { IfOk result (λ job. calls_of job ≡ plan.submits) }
 {
-    ClientJob {
-        stage: plan.stage,
-        body: [plan.key, plan.amount, 0, 0],
-        count: u32::from(plan.submits),
+    let body = [plan.key, plan.amount, 0, 0];
+    let mut bodies = Vec::new(alloc);
+    for _i in 0..plan.submits {
+        bodies.push(body)?;
     }
+    Ok(ClientJob {
+        stage: plan.stage,
+        bodies,
+    })
 }
 
 /// What each killer of a race is to do: to kill the elements of all rows in the parts of these clients.
@@ -47,17 +52,17 @@ fn kill_job(plan: Race, clients: &[Pass], rows: u16) -> KillJob
     KillJob { first, end }
 }
 
-/// A list of so many jobs, all alike.
-fn client_jobs(alloc: Global, many: usize, job: ClientJob) -> Result<Vec<ClientJob>, AllocError>
-    requires { IsClientJob job }
+/// The jobs of so many clients of a race, all alike.
+fn client_jobs(alloc: Global, many: usize, plan: Race) -> Result<Vec<ClientJob>, AllocError>
+    requires { IsServerStage plan.stage }
     ensures jobs { IfOk result (λ jobs. All IsClientJob jobs.items) }
-    ensures all { IfOk result (λ jobs. jobs.items ≡ replicate many job) }
+    ensures all { IfOk result (λ jobs. jobs.items ≡ replicate many (client_job plan)) }
     ensures many { IfOk result (λ jobs. length jobs.items ≡ many) }
-    ensures calls { IfOk result (λ jobs. sum_by calls_of jobs.items ≡ many * job.count) }
+    ensures calls { IfOk result (λ jobs. sum_by calls_of jobs.items ≡ many * plan.submits) }
 {
     let mut jobs = Vec::new(alloc);
     for _i in 0..many {
-        jobs.push(job)?;
+        jobs.push(client_job(alloc, plan)?)?;
     }
     Ok(jobs)
 }
@@ -110,8 +115,7 @@ pub(crate) fn run_race<R: Threads + Sync>(
         (places_shown behaviour registers pending passes.new servers.new places.new)) }
 {
     let (clients, killers) = racers.split_at_mut(usize::from(plan.clients));
-    let job = client_job(plan);
-    let mut jobs = client_jobs(alloc, clients.len(), job)?;
+    let mut jobs = client_jobs(alloc, clients.len(), plan)?;
     let kill = kill_job(plan, clients, rows);
     let mut kills = kill_jobs(alloc, killers.len(), kill)?;
     Ok(race_free(
@@ -261,7 +265,17 @@ fn race_front<R: Threads + Sync>(
     let (desks, _others) = passes.split_at_mut(front);
     let (boxes, _rest) = servers.split_at_mut(front);
     let counts = shift(
-        rt, manager, desks, boxes, clients, jobs, killers, kills, turns, &NoGate,
+        rt,
+        manager,
+        desks,
+        boxes,
+        clients,
+        jobs,
+        killers,
+        kills,
+        turns,
+        &mut [],
+        &NoGate,
     );
     counts.submitted
 }

@@ -1,6 +1,6 @@
 -- The computed answers are allowed ones.
-use Rattle.std.proofs.Common.{◌≡◌, ◌≢◌, ℕ, suc, ◌+◌, ◌<◌, ◌≤◌, nat_le, nat_lt, ◌&&◌, Bool, true, false, cond, if◌then◌else◌, Option, Some, None, Result, Ok, Err, subst, List, length, refl, sym, ◌∙◌, ap, inl, inr, arith}
-use Rattle.std.proofs.lemmas.Bool.{leb-true, ltb-false, and_from, le-leb}
+use Rattle.std.proofs.Common.{◌≡◌, ◌≢◌, ℕ, suc, ◌+◌, ◌<◌, ◌≤◌, nat_le, nat_lt, ◌&&◌, ◌==◌, ⊎_elim, Bool, true, false, cond, if◌then◌else◌, Option, Some, None, Result, Ok, Err, subst, List, length, refl, sym, ◌∙◌, ap, inl, inr, arith}
+use Rattle.std.proofs.lemmas.Bool.{leb-true, ltb-false, eqb-true, eqb-false, and_from, le-leb}
 use Rattle.std.proofs.lemmas.Bool.Decides.{nat_tests}
 use Rattle.std.specs.List.{find, All}
 use Rattle.tp_model.specs.declared.types.Element.{Element}
@@ -14,15 +14,17 @@ use Rattle.tp_model.specs.declared.types.Outcome.{Outcome}
 use Rattle.tp_model.specs.declared.types.Claimed.TheVariants as claimed
 use Rattle.tp_model.specs.declared.types.Outcome.TheVariants as outcome
 use Rattle.tp_model.specs.declared.event.Event.TheVariants.{Abort, Requeue}
+use Rattle.tp_model.specs.Counts.{is_killed}
 use Rattle.tp_model.specs.Drafts.{DraftView}
 use Rattle.tp_model.specs.History.{element_of, UnitClaim, UnitEnd, Committed, Aborted, end_of, rounds, status_of}
 use Rattle.tp_model.specs.Steps.{IsServerStage, IsBody, IsOpen, Step}
 use Rattle.tp_model.specs.Births.{IsWhole}
-use Rattle.tp_plain.specs.OneThread.{Answers, CallSubmit, CallClaim, CallCommit, CallAbort, CallKill, CallRequeue, CallRead, Leaves, State, extended, pass_at, next_row, ready, HasRoom}
+use Rattle.tp_plain.specs.OneThread.{Answers, CallSubmit, CallClaim, CallCommit, CallAbort, CallKill, CallRelease, CallCollect, CallRequeue, CallRead, Leaves, State, extended, pass_at, next_row, ready, HasRoom}
 use Rattle.tp_plain.specs.Looks.{is_held_by, looks_after_all}
 use Rattle.tp_plain.specs.Reached.{IsReached}
-use Rattle.tp_plain.specs.Computed.{is_server_stage, has_room, submit_of, with_request, next_waiting, claim_found, claim_of_stage, abort_at, abort_of, commit_at, commit_of, unit_in_hand, kill_at, kill_found, requeue_at, requeue_found, read_found, ComputedAreAllowed}
+use Rattle.tp_plain.specs.Computed.{is_server_stage, has_room, submit_of, with_request, next_waiting, claim_found, claim_of_stage, abort_at, abort_of, commit_at, commit_of, unit_in_hand, kill_at, kill_found, release_at, release_found, collect_at, collect_found, requeue_at, requeue_found, read_found, ComputedAreAllowed}
 use Rattle.tp_model.proofs.Bridges.{element_of-id}
+use Rattle.tp_model.proofs.Replies.{StandsAsReply, reply_stands}
 use Rattle.tp_model.proofs.WordProofs.{rounds_by_words}
 use Rattle.tp_plain.proofs.PassStates.{may_submit}
 use Rattle.tp_plain.proofs.Claims.{idle, left_by_claim}
@@ -143,6 +145,40 @@ module _ (s : State) (c : ℕ) (reached : IsReached s) (is_pass : c < s.limits.p
       found None is = (is, refl)
       found (Some e) is = at e is (status_of s.limits.attempts s.history i) refl
 
+  release_allowed : (i : ℕ) → Answers s (CallRelease c i (release_found s c i (element_of s.history i)).0) (release_found s c i (element_of s.history i)).1
+  release_allowed i = found (element_of s.history i) refl
+    where
+      at : (e : Element) → element_of s.history i ≡ Some e → (st : Status) → status_of s.limits.attempts s.history i ≡ st → Answers s (CallRelease c i (release_at s c st).0) (release_at s c st).1
+      at e born (Waiting n) is = ((e, born, λ u n held. (let q = sym is ∙ held in cc)), refl)
+      at e born (Held u n) is = (is, may_abort s.limits s.history c i u n is_pass reached.legal is, refl)
+      at e born (Consumed u) is = ((e, born, λ u n held. (let q = sym is ∙ held in cc)), refl)
+      at e born (Parked n) is = ((e, born, λ u n held. (let q = sym is ∙ held in cc)), refl)
+      at e born Killed is = ((e, born, λ u n held. (let q = sym is ∙ held in cc)), refl)
+
+      found : (o : Option Element) → element_of s.history i ≡ o → Answers s (CallRelease c i (release_found s c i o).0) (release_found s c i o).1
+      found None is = (is, refl)
+      found (Some e) is = at e is (status_of s.limits.attempts s.history i) refl
+
+  collect_allowed : (i : ℕ) → Answers s (CallCollect c i (collect_found s c i (element_of s.history i)).0) (collect_found s c i (element_of s.history i)).1
+  collect_allowed i = found (element_of s.history i) refl
+    where
+      at : (e : Element) → element_of s.history i ≡ Some e → e.stage ≡ 15 → (st : Status) → status_of s.limits.attempts s.history i ≡ st → StandsAsReply st → Answers s (CallCollect c i (collect_at s c i e (is_killed st)).0) (collect_at s c i e (is_killed st)).1
+      at e born reply (Waiting n) is so = (born, reply, record { pass = is_pass; item = e; born = born; free = rw is tt }, refl)
+      at e born reply (Held u n) is so = absurd (⊎_elim (λ p. cc) (λ p. cc) so)
+      at e born reply (Consumed u) is so = absurd (⊎_elim (λ p. cc) (λ p. cc) so)
+      at e born reply (Parked n) is so = absurd (⊎_elim (λ p. cc) (λ p. cc) so)
+      at e born reply Killed is so = ((e, born, reply, is), refl)
+
+      staged : (e : Element) → element_of s.history i ≡ Some e → (b : Bool) → (e.stage == 15) ≡ b
+          → let answer : Result Element Refusal × State = cond b (collect_at s c i e (is_killed (status_of s.limits.attempts s.history i))) (Err refusal.BadStage, s) in Answers s (CallCollect c i answer.0) answer.1
+      staged e born true is = let reply : e.stage ≡ 15 = eqb-true e.stage 15 is in
+          at e born reply (status_of s.limits.attempts s.history i) refl (reply_stands s.limits s.history reached.legal i e born reply)
+      staged e born false is = ((e, born, eqb-false e.stage 15 is), refl)
+
+      found : (o : Option Element) → element_of s.history i ≡ o → Answers s (CallCollect c i (collect_found s c i o).0) (collect_found s c i o).1
+      found None is = (is, refl)
+      found (Some e) is = staged e is (e.stage == 15) refl
+
   requeue_allowed : (i : ℕ) → Answers s (CallRequeue c i (requeue_found s c i (element_of s.history i)).0) (requeue_found s c i (element_of s.history i)).1
   requeue_allowed i = found (element_of s.history i) refl
     where
@@ -178,6 +214,8 @@ computed_are_allowed s c reached is_pass =
       abort = λ u hand. abort_allowed s c reached is_pass u hand;
       kill = kill_allowed s c reached is_pass;
       cancel = λ root. cancel_allowed s c root is_pass reached.legal;
+      release = release_allowed s c reached is_pass;
+      collect = collect_allowed s c reached is_pass;
       requeue = requeue_allowed s c reached is_pass;
       read = read_allowed s c reached is_pass;
     }

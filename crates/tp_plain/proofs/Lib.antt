@@ -7,6 +7,7 @@ pub mod UnitEnds
 pub mod Commits
 pub mod RunProofs
 pub mod Kills
+pub mod Collects
 pub mod Requeues
 pub mod Allowed
 pub mod Cancels

@@ -15,7 +15,7 @@ use Rattle.tp_model.specs.declared.event.Event.{Event}
 use Rattle.tp_model.specs.declared.event.Event.TheVariants.{Claim, Abort, Kill, Requeue}
 use Rattle.tp_model.specs.Families.{IsRequest, IsSettledFamily, WorksOn}
 use Rattle.tp_model.specs.Steps.{Step, IsLegal}
-use Rattle.tp_plain.specs.OneThread.{State, start, Call, CallSubmit, CallClaim, CallCommit, CallAbort, CallKill, CallCancel, CallRequeue, CallRead, extended, Kills, KillsEach, Answers, Ends, GivesUp, Claims, Run, RunsAreLegal, RunsGrow}
+use Rattle.tp_plain.specs.OneThread.{State, start, Call, CallSubmit, CallClaim, CallCommit, CallAbort, CallKill, CallCancel, CallRelease, CallCollect, CallRequeue, CallRead, extended, Kills, KillsEach, Answers, Ends, GivesUp, Claims, Run, RunsAreLegal, RunsGrow}
 use Rattle.tp_plain.specs.Cancelled.{CancelledForGood}
 use Rattle.tp_model.proofs.Bridges.{found_later}
 use Rattle.tp_model.proofs.Families.{settled_family_stays, never_worked_on}
@@ -103,6 +103,10 @@ goes s (CallKill c i (Ok k)) t is = goes_kill s c i k.units_aborted t is
 goes s (CallKill c i (Err why)) t is = stays s t is.1
 goes s (CallCancel c root (Ok k)) t is = goes_each s c is.ids t is.kills
 goes s (CallCancel c root (Err why)) t is = stays s t is.1
+goes s (CallRelease c i (Ok a)) t is = extends s t (Abort c a.unit) is.1 is.2
+goes s (CallRelease c i (Err why)) t is = stays s t is.1
+goes s (CallCollect c i (Ok e)) t is = extends s t (Kill c i) is.2 is.3
+goes s (CallCollect c i (Err why)) t is = stays s t is.1
 goes s (CallRequeue c i (Ok r)) t is = extends s t (Requeue c i r) is.0 is.1
 goes s (CallRequeue c i (Err why)) t is = stays s t is.1
 goes s (CallRead id r) t is = stays s t is.1

@@ -10,6 +10,7 @@ use Rattle.tp_model.specs.declared.types.Status.{Status}
 use Rattle.tp_model.specs.declared.types.Status.TheVariants.{Waiting, Held, Consumed, Parked, Killed}
 use Rattle.tp_model.specs.declared.types.Killed.{Killed as KilledAnswer}
 use Rattle.tp_model.specs.declared.types.Cancelled.{Cancelled}
+use Rattle.tp_model.specs.declared.types.Released.{Released}
 use Rattle.tp_model.specs.declared.types.Claimed.{Claimed}
 use Rattle.tp_model.specs.declared.types.Claimed.TheVariants as claimed
 use Rattle.tp_model.specs.declared.types.Outcome.{Outcome}
@@ -19,12 +20,13 @@ use Rattle.tp_model.specs.declared.types.Ended.TheVariants as ended
 use Rattle.tp_model.specs.declared.types.Refusal.{Refusal}
 use Rattle.tp_model.specs.declared.types.Refusal.TheVariants as refusal
 use Rattle.tp_model.specs.declared.event.Event.TheVariants.{Enqueue, Claim, Commit, Abort, Kill, Requeue}
+use Rattle.tp_model.specs.Counts.{is_killed}
 use Rattle.tp_model.specs.Drafts.{DraftView}
 use Rattle.tp_model.specs.History.{element_of, UnitEnd, Committed, Aborted, end_of, rounds, status_of}
 use Rattle.tp_model.specs.declared.types.TheConstants.{MOST_ROUNDS}
 use Rattle.tp_plain.specs.Looks.{look_at, sooner, attempts_in, is_unsettled_of, looks_after_all}
 use Rattle.tp_model.specs.Births.{IsWhole, request}
-use Rattle.tp_plain.specs.OneThread.{Answers, CallSubmit, CallClaim, CallCommit, CallAbort, CallKill, CallCancel, CallRequeue, CallRead, State, pass_at, next_row, next_unit, moved, with_pass, with_draw, ready, used_up, extended, freed, spent, made_of}
+use Rattle.tp_plain.specs.OneThread.{Answers, CallSubmit, CallClaim, CallCommit, CallAbort, CallKill, CallCancel, CallRelease, CallCollect, CallRequeue, CallRead, State, pass_at, next_row, next_unit, moved, with_pass, with_draw, ready, used_up, extended, freed, spent, made_of}
 
 -- whether clients may submit to this stage
 abbrev pub is_server_stage : ℕ → Bool
@@ -127,6 +129,36 @@ kill_found s c i (Some e) = kill_at s c i (status_of s.limits.attempts s.history
 abbrev pub kill_of : State → ℕ → ℕ → Result KilledAnswer Refusal × State
 kill_of s c i = kill_found s c i (element_of s.history i)
 
+-- a release of an element that stands so
+abbrev pub release_at : State → ℕ → Status → Result Released Refusal × State
+release_at s c (Held u n) = (Ok (record { unit = u; attempt = n }), extended s (Abort c u))
+release_at s c other = (Err refusal.NotHeld, s)
+
+-- a release of what was found
+abbrev pub release_found : State → ℕ → ℕ → Option Element → Result Released Refusal × State
+release_found s c i None = (Err refusal.NotThere, s)
+release_found s c i (Some e) = release_at s c (status_of s.limits.attempts s.history i)
+
+-- a release
+abbrev pub release_of : State → ℕ → ℕ → Result Released Refusal × State
+release_of s c i = release_found s c i (element_of s.history i)
+
+-- a collect of a reply that was killed, or wasn't
+abbrev pub collect_at : State → ℕ → ℕ → Element → Bool → Result Element Refusal × State
+collect_at s c i e killed = if killed then (Err refusal.AlreadyKilled, s) else (Ok e, extended s (Kill c i))
+
+-- a collect of what was found
+abbrev pub collect_found : State → ℕ → ℕ → Option Element → Result Element Refusal × State
+collect_found s c i None = (Err refusal.NotThere, s)
+collect_found s c i (Some e) =
+    if e.stage == 15
+    then collect_at s c i e (is_killed (status_of s.limits.attempts s.history i))
+    else (Err refusal.BadStage, s)
+
+-- a collect
+abbrev pub collect_of : State → ℕ → ℕ → Result Element Refusal × State
+collect_of s c i = collect_found s c i (element_of s.history i)
+
 -- a requeue of an element that stands so, and has had so many rounds
 abbrev pub requeue_at : State → ℕ → ℕ → ℕ → Status → Result ℕ Refusal × State
 requeue_at s c i k (Waiting n) = (Err refusal.NotParked, s)
@@ -184,6 +216,7 @@ IsComputed old new (Err (refusal.Consumed u)) computed = (computed.0 ≡ Err (re
 IsComputed old new (Err refusal.AlreadyKilled) computed = (computed.0 ≡ Err refusal.AlreadyKilled) × (new ≡ computed.1)
 IsComputed old new (Err refusal.Full) computed = (computed.0 ≡ Err refusal.Full) × (new ≡ computed.1)
 IsComputed old new (Err refusal.NotParked) computed = (computed.0 ≡ Err refusal.NotParked) × (new ≡ computed.1)
+IsComputed old new (Err refusal.NotHeld) computed = (computed.0 ≡ Err refusal.NotHeld) × (new ≡ computed.1)
 IsComputed old new (Err refusal.NoRound) computed = (computed.0 ≡ Err refusal.NoRound) × (new ≡ computed.1)
 
 -- the same for a call whose computed answer is never a refusal
@@ -200,6 +233,8 @@ pub record AreAllowed (s : State) (c : ℕ) : Type 0 where
   pub abort : (u : ℕ) → (pass_at s c).holding ≡ Some u → Answers s (CallAbort c (abort_of s c).0) (abort_of s c).1
   pub kill : (i : ℕ) → Answers s (CallKill c i (kill_of s c i).0) (kill_of s c i).1
   pub cancel : (root : ℕ) → Answers s (CallCancel c root (cancel_of s c root).0) (cancel_of s c root).1
+  pub release : (i : ℕ) → Answers s (CallRelease c i (release_of s c i).0) (release_of s c i).1
+  pub collect : (i : ℕ) → Answers s (CallCollect c i (collect_of s c i).0) (collect_of s c i).1
   pub requeue : (i : ℕ) → Answers s (CallRequeue c i (requeue_of s c i).0) (requeue_of s c i).1
   pub read : (id : ℕ) → Answers s (CallRead id (read_of s id)) s
 

@@ -11,6 +11,7 @@ use Rattle.tp_model.specs.declared.types.Work.{Work}
 use Rattle.tp_model.specs.declared.types.Status.TheVariants.{Waiting, Held, Consumed, Killed}
 use Rattle.tp_model.specs.declared.types.Killed.{Killed as KilledAnswer}
 use Rattle.tp_model.specs.declared.types.Cancelled.{Cancelled}
+use Rattle.tp_model.specs.declared.types.Released.{Released}
 use Rattle.tp_model.specs.declared.types.Claimed.{Claimed}
 use Rattle.tp_model.specs.declared.types.Claimed.TheVariants as claimed
 use Rattle.tp_model.specs.declared.types.Outcome.{Outcome}
@@ -70,6 +71,8 @@ pub data Call : Type 0 where
   CallAbort : ℕ → Ended → Call
   CallKill : ℕ → ℕ → Result KilledAnswer Refusal → Call
   CallCancel : ℕ → ℕ → Result Cancelled Refusal → Call
+  CallRelease : ℕ → ℕ → Result Released Refusal → Call
+  CallCollect : ℕ → ℕ → Result Element Refusal → Call
   CallRequeue : ℕ → ℕ → Result ℕ Refusal → Call
   CallRead : ℕ → Result Look Refusal → Call
 
@@ -259,6 +262,27 @@ abbrev pub RefusesCancel : State → ℕ → Refusal → Type 0
 RefusesCancel s root refusal.NotThere = ¬ IsRequest s.history root
 RefusesCancel s root other = ⊥
 
+-- a release by pass c went through: the unit that held the element in this attempt is aborted
+abbrev pub Releases : State → ℕ → ℕ → ℕ → ℕ → State → Type 0
+Releases s c i u n t = (status_of s.limits.attempts s.history i ≡ Held u n) × Step s.limits s.history (Abort c u) × (t ≡ extended s (Abort c u))
+
+-- a release is refused where no such element is born, or no unit holds it
+abbrev pub RefusesRelease : State → ℕ → Refusal → Type 0
+RefusesRelease s i refusal.NotThere = element_of s.history i ≡ None
+RefusesRelease s i refusal.NotHeld = (e : Element) × (element_of s.history i ≡ Some e) × ((u n : ℕ) → status_of s.limits.attempts s.history i ≢ Held u n)
+RefusesRelease s i other = ⊥
+
+-- a collect by pass c went through: the reply is killed
+abbrev pub Collects : State → ℕ → ℕ → Element → State → Type 0
+Collects s c i e t = (element_of s.history i ≡ Some e) × (e.stage ≡ 15) × Step s.limits s.history (Kill c i) × (t ≡ extended s (Kill c i))
+
+-- a collect is refused where no such element is born, or it is no reply, or is and was killed
+abbrev pub RefusesCollect : State → ℕ → Refusal → Type 0
+RefusesCollect s i refusal.NotThere = element_of s.history i ≡ None
+RefusesCollect s i refusal.BadStage = (e : Element) × (element_of s.history i ≡ Some e) × (e.stage ≢ 15)
+RefusesCollect s i refusal.AlreadyKilled = (e : Element) × (element_of s.history i ≡ Some e) × (e.stage ≡ 15) × (status_of s.limits.attempts s.history i ≡ Killed)
+RefusesCollect s i other = ⊥
+
 -- a requeue by pass c went through: the element is given its next round
 abbrev pub Requeues : State → ℕ → ℕ → ℕ → State → Type 0
 Requeues s c i r t = Step s.limits s.history (Requeue c i r) × (t ≡ extended s (Requeue c i r))
@@ -278,6 +302,8 @@ Answers s (CallCommit c drafts r) t = (u : ℕ) × ((pass_at s c).holding ≡ So
 Answers s (CallAbort c a) t = (u : ℕ) × ((pass_at s c).holding ≡ Some u) × GivesUp s c u a t
 Answers s (CallKill c i r) t = MatchResult r (λ k. Kills s c i k.units_aborted t) (λ why. RefusesKill s i why × (t ≡ s))
 Answers s (CallCancel c root r) t = MatchResult r (λ k. Cancels s c root k.killed t) (λ why. RefusesCancel s root why × (t ≡ s))
+Answers s (CallRelease c i r) t = MatchResult r (λ a. Releases s c i a.unit a.attempt t) (λ why. RefusesRelease s i why × (t ≡ s))
+Answers s (CallCollect c i r) t = MatchResult r (λ e. Collects s c i e t) (λ why. RefusesCollect s i why × (t ≡ s))
 Answers s (CallRequeue c i r) t = MatchResult r (λ round. Requeues s c i round t) (λ why. RefusesRequeue s i why × (t ≡ s))
 Answers s (CallRead id r) t = MatchResult r (Shows s id) (RefusesRead s id) × (t ≡ s)
 

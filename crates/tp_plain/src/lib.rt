@@ -2,10 +2,12 @@
 #![tactic(auto)]
 
 pub mod cancelling;
+mod collecting;
 pub mod history;
 pub mod laws;
 mod looks;
 pub mod pass_state;
 pub mod plain;
-pub mod requeueing;
+mod releasing;
+mod requeueing;
 mod room;

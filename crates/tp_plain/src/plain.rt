@@ -295,7 +295,7 @@ impl Plain {
     }
 
     // An Abort or a Kill by a pass with nothing in its hand.
-    fn mark(&mut self, note: &Note<'_>)
+    pub(crate) fn mark(&mut self, note: &Note<'_>)
         requires step { Step self.old.limits self.old.history (event_of note.now) }
         requires quiet { IsQuiet self.old (event_of note.now) }
         ensures { self.new ≡ extended self.old (event_of note.now) }

@@ -70,6 +70,7 @@ impl PlainRun {
             Err(Refusal::AlreadyKilled) => unreachable!(),
             Err(Refusal::NotParked) => unreachable!(),
             Err(Refusal::NoRound) => unreachable!(),
+            Err(Refusal::NotHeld) => unreachable!(),
         }
     }
 

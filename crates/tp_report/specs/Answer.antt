@@ -62,6 +62,7 @@ refusal_text refusal.AlreadyKilled = codes "refused 6 AlreadyKilled"
 refusal_text refusal.Full = codes "refused 7 Full"
 refusal_text refusal.NotParked = codes "refused 8 NotParked"
 refusal_text refusal.NoRound = codes "refused 9 NoRound"
+refusal_text refusal.NotHeld = codes "refused 12 NotHeld"
 
 -- a submitted element
 abbrev pub submitted_text : ℕ → List ℕ
@@ -109,9 +110,28 @@ abbrev pub reply_text : Element → List ℕ
 reply_text e = (codes " " <> decimal e.id <> two_words e.body) <> more_words e.body
 
 -- the replies to a request
-
 abbrev pub replies_text : ℕ → List Element → List ℕ
 replies_text root replies = (codes "replies " <> decimal root) <> flat_map reply_text replies
+
+-- the replies to a request that were taken
+abbrev pub collected_text : ℕ → List Element → List ℕ
+collected_text root replies = (codes "collected " <> decimal root) <> flat_map reply_text replies
+
+-- how an element stands, in one word
+abbrev pub state_text : Status → List ℕ
+state_text (status.Waiting attempts) = codes "waiting"
+state_text (status.Held unit attempt) = codes "held"
+state_text (status.Consumed unit) = codes "consumed"
+state_text (status.Parked attempts) = codes "parked"
+state_text status.Killed = codes "killed"
+
+-- an element of a request: its id, its stage, and how it stands
+abbrev pub member_text : Look → List ℕ
+member_text look = (codes " " <> decimal look.element.id <> codes ":" <> decimal look.element.stage <> codes ":") <> state_text look.status
+
+-- the elements of a request
+abbrev pub family_text : ℕ → List Look → List ℕ
+family_text root looks = (codes "family " <> decimal root) <> flat_map member_text looks
 
 -- the parked elements
 abbrev pub errors_text : List ℕ → List ℕ
@@ -147,6 +167,9 @@ answer_text (answer.Replies root replies) = replies_text root replies.now
 answer_text (answer.Killed id aborted) = codes "killed " <> decimal id <> codes " aborted " <> decimal aborted
 answer_text (answer.Cancelled root killed) = codes "cancelled " <> decimal root <> codes " killed " <> decimal killed
 answer_text (answer.Requeued id round) = codes "requeued " <> decimal id <> codes " round " <> decimal round
+answer_text (answer.Released id unit attempt) = codes "released " <> decimal id <> codes " unit " <> decimal unit <> codes " attempt " <> decimal attempt
+answer_text (answer.Collected root replies) = collected_text root replies.now
+answer_text (answer.Family root looks) = family_text root looks.now
 answer_text (answer.Read look) = look_text look
 answer_text (answer.Errors ids) = errors_text ids.now
 answer_text (answer.Balance name k value) = balance_text name.now k value

@@ -75,6 +75,22 @@ pub enum Answer<'a> {
         id: u32,
         round: u8,
     },
+    /// The unit of work that held the element in this attempt is aborted.
+    Released {
+        id: u32,
+        unit: u16,
+        attempt: u8,
+    },
+    /// The replies to the request of this root that were taken.
+    Collected {
+        root: u32,
+        replies: &'a [Element],
+    },
+    /// The elements of the request of this root, as they were read.
+    Family {
+        root: u32,
+        looks: &'a [Look],
+    },
     /// An element as it was read.
     Read(Look),
     /// The ids of the parked elements.

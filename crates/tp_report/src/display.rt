@@ -1,7 +1,7 @@
 //! How answers are told: the one place where the texts of a report's lines stand.
 ghost use Rattle.std.specs.Prelude.{◌≡◌, Some};
 ghost use Rattle.std.specs.Fmt.{WritesOnOk};
-ghost use Rattle.tp_report.specs.Answer.{turned_text, server_text, refusal_text, maker_text, status_text, is_short, more_words_text, element_text, look_text, reply_text, replies_text, errors_text, counts_text, account_text, balance_text, final_text, answer_text};
+ghost use Rattle.tp_report.specs.Answer.{turned_text, server_text, refusal_text, maker_text, status_text, is_short, more_words_text, element_text, look_text, reply_text, replies_text, collected_text, state_text, member_text, family_text, errors_text, counts_text, account_text, balance_text, final_text, answer_text};
 
 use crate::answer::{Answer, ServerAnswer};
 use std::fmt;
@@ -63,6 +63,7 @@ fn refusal<W: fmt::Write>(f: &mut fmt::Formatter<W>, refusal: Refusal) -> fmt::R
         Refusal::Full => write!(f, "refused 7 Full"),
         Refusal::NotParked => write!(f, "refused 8 NotParked"),
         Refusal::NoRound => write!(f, "refused 9 NoRound"),
+        Refusal::NotHeld => write!(f, "refused 12 NotHeld"),
     }
 }
 
@@ -161,6 +162,58 @@ fn replies<W: fmt::Write>(f: &mut fmt::Formatter<W>, root: u32, replies: &[Eleme
     Ok(())
 }
 
+// The replies to a request that were taken.
+fn collected<W: fmt::Write>(
+    f: &mut fmt::Formatter<W>,
+    root: u32,
+    replies: &[Element],
+) -> fmt::Result
+    ensures { WritesOnOk W.write_str_gives f.old result (collected_text root replies.now) f.new }
+{
+    write!(f, "collected {root}")?;
+    for element in replies {
+        reply(f, element)?;
+    }
+    Ok(())
+}
+
+// How an element stands, in one word.
+fn state<W: fmt::Write>(f: &mut fmt::Formatter<W>, status: Status) -> fmt::Result
+    ensures { WritesOnOk W.write_str_gives f.old result (state_text status) f.new }
+{
+    match status {
+        Status::Waiting { attempts: _ } => write!(f, "waiting"),
+        Status::Held {
+            unit: _,
+            attempt: _,
+        } => write!(f, "held"),
+        Status::Consumed { unit: _ } => write!(f, "consumed"),
+        Status::Parked { attempts: _ } => write!(f, "parked"),
+        Status::Killed => write!(f, "killed"),
+    }
+}
+
+// An element of a request: its id, its stage, and how it stands.
+fn member<W: fmt::Write>(f: &mut fmt::Formatter<W>, look: &Look) -> fmt::Result
+    ensures { WritesOnOk W.write_str_gives f.old result (member_text look.now) f.new }
+{
+    let id = look.element.id;
+    let stage = look.element.stage;
+    write!(f, " {id}:{stage}:")?;
+    state(f, look.status)
+}
+
+// The elements of a request.
+fn family<W: fmt::Write>(f: &mut fmt::Formatter<W>, root: u32, looks: &[Look]) -> fmt::Result
+    ensures { WritesOnOk W.write_str_gives f.old result (family_text root looks.now) f.new }
+{
+    write!(f, "family {root}")?;
+    for look in looks {
+        member(f, look)?;
+    }
+    Ok(())
+}
+
 // The parked elements.
 fn errors<W: fmt::Write>(f: &mut fmt::Formatter<W>, ids: &[u32]) -> fmt::Result
     ensures { WritesOnOk W.write_str_gives f.old result (errors_text ids.now) f.new }
@@ -238,6 +291,12 @@ impl fmt::Display for Answer<'_> {
             Answer::Killed { id, aborted } => write!(f, "killed {id} aborted {aborted}"),
             Answer::Cancelled { root, killed } => write!(f, "cancelled {root} killed {killed}"),
             Answer::Requeued { id, round } => write!(f, "requeued {id} round {round}"),
+            Answer::Released { id, unit, attempt } => write!(
+                f,
+                "released {id} unit {unit} attempt {attempt}"
+            ),
+            Answer::Collected { root, replies } => collected(f, root, replies),
+            Answer::Family { root, looks } => family(f, root, looks),
             Answer::Read(shown) => look(f, shown),
             Answer::Errors(ids) => errors(f, ids),
             Answer::Balance { name, k, value } => balance(f, name, k, value),

@@ -89,7 +89,8 @@ module _ (k : Limits) where
       told = claim_now h e row x w here_is is fit;
       rest = λ v there other. told_later h e none_born v (get_or t.state.words (place_of k v) 0) (λ i q. else_is i (λ same. other (q ∙ ap ClaimOf same))) (λ u q. quiet u (end_of h u)) (t.rule.world.tells v there);
       may = may_claim k t.state.words row x;
-      unmarked = λ z q. cc;
+      unmarked = λ s z q. cc;
+      uncounted = λ q. cc;
       tells_own = λ i q. absurd cc;
       births_own = λ y q. absurd (in_none (subst (In y) none_born q));
       mine = mine;

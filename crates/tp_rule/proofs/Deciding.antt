@@ -114,7 +114,7 @@ module _ (k : Limits) where
   decided_told h ws e u quiet else_is full (BodyWord i j) at other old = body_later h e i (get_or ws (body_place i j) 0) (λ y. slice_index y.body j)
       (λ y q id. let holds = (full y q).0 in let below = at.1 in let whole = holds.2 in subst (λ z. get_or ws (body_place z j) 0 ≡ slice_index y.body j) id (holds.1 j (omega arith))) old
   decided_told h ws e u quiet else_is full (ClaimWord i) at other old = claim_later h e i (get_or ws (claim_place i) 0) (quiet i) old
-  decided_told h ws e u quiet else_is full (MarkWord p) at other old = tt
+  decided_told h ws e u quiet else_is full (MarkWord s p) at other old = tt
   decided_told h ws e u quiet else_is full DrawnWord at other old = tt
   decided_told h ws e u quiet else_is full (UnitWord z) at other old = unit_later h e z (get_or ws (unit_place k z) 0) (else_is z (λ same. other (ap UnitWord same))) old
 
@@ -137,7 +137,8 @@ module _ (k : Limits) where
     told = unit_now h e u x w here_is is fit;
     rest = λ v there other. decided_told h t.state.words e u quiet else_is full v there other (t.rule.world.tells v there);
     may = may_unit k t.state.words u x;
-    unmarked = λ z q. cc;
+    unmarked = λ s z q. cc;
+    uncounted = λ q. cc;
     tells_own = λ i q. absurd cc;
     births_own = born_own;
     mine = mine;

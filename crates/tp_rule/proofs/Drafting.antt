@@ -1,5 +1,5 @@
 -- Draft stores keep the rule.
-use Rattle.std.proofs.Common.{◌≡◌, ℕ, ◌+◌, ◌-◌, ◌<◌, ◌≤◌, ◌≢◌, List, [], ◌∷◌, ◌++◌, length, set, get_or, slice_index, sym, refl, ap, ◌∙◌, subst, ⊎_elim, arith, length-append, length-set, get_or-set_other, get_or-set_same, Some, None}
+use Rattle.std.proofs.Common.{◌≡◌, ℕ, ◌+◌, ◌-◌, ◌<◌, ◌≤◌, ◌≢◌, List, [], ◌∷◌, ◌++◌, length, set, get_or, slice_index, sym, refl, ap, ◌∙◌, subst, inl, ⊎_elim, arith, length-append, length-set, get_or-set_other, get_or-set_same, Some, None}
 use mathlib.Core.Logic.{dite}
 use native.Mathlib.Decide.{ℕ_discrete}
 use Rattle.tp_model.specs.declared.event.Event.{Event}
@@ -21,11 +21,11 @@ use Rattle.tp_rule.specs.Views.{IsOnePass, blank_body, hand}
 use Rattle.tp_rule.specs.declared.view.Hand.{Hand}
 use Rattle.tp_rule.specs.declared.view.View.{View}
 use Rattle.tp_rule.proofs.Blanks.{blank_there}
-use Rattle.tp_rule.proofs.Frames.{IsMine, Stays, Turn, draws_still, hand_holds, hand_quiet, me, mine_alone, mine_inside, moved, seat_holds}
+use Rattle.tp_rule.proofs.Frames.{IsMine, Stays, Turn, draws_still, hand_holds, hand_quiet, holds_still, me, mine_alone, mine_inside, moved, seat_holds}
 use Rattle.tp_rule.proofs.Owning.{own_drawn, own_inside}
 use Rattle.tp_rule.proofs.Parts.{in_run, run_snoc}
 use Rattle.tp_model.proofs.Areas.{ascend_wider, one_area, own_area}
-use Rattle.tp_rule.proofs.Storing.{MayHead, MayStore, body_row, drawn_rises, full_head, holds_same, left, row_left, still_left, stored}
+use Rattle.tp_rule.proofs.Storing.{MayHead, MayStore, body_row, drawn_left, drawn_rises, full_head, holds_same, left, row_left, still_left, stored}
 use Rattle.tp_rule.proofs.Tellings.{world_stored}
 
 -- a word of a body is no head, and is one of its body alone
@@ -132,10 +132,10 @@ module _ (k : Limits) where
     next_empty = (hand_holds k t).rows.empty next (omega arith) (omega arith)
 
     -- its head may be stored
-    next_head : MayHead k t.state.words next
-    next_head = let r = hand_holds k t in let low = next_own.0 in let high = next_own.1 in record {
+    next_head : (x : ℕ) → MayHead k t.state.words x next
+    next_head x = let r = hand_holds k t in let low = next_own.0 in let high = next_own.1 in record {
       empty = next_empty;
-      full = λ first end j area from to low' less. (let same = one_area k first end r.first r.end next area (own_area k (me k t).number (me k t).blocks r.first r.end r.area) from to low high in
+      full = λ _ first end j area from to low' less. (let same = one_area k first end r.first r.end next area (own_area k (me k t).number (me k t).blocks r.first r.end r.area) from to low high in
           r.rows.full j (subst (λ z. z ≤ j) same.0 low') less);
       drawn = let top = own_drawn k (me k t).number (drawn_in k t.state.words) (me k t).blocks r.first r.end r.blocks r.area in omega arith;
     }
@@ -146,10 +146,10 @@ module _ (k : Limits) where
     -- and so may each word of it
     pub next_may : (w : Word) (x : ℕ) → body_row w ≡ Some next → MayStore k t.state.words w x
     next_may w x is = record {
-      head = λ i e. subst (MayHead k t.state.words) (row_is_next w i is (ap body_row e)) next_head;
-      mark = λ p e. let q : None ≡ Some next = sym (ap body_row e) ∙ is in absurd cc;
+      head = λ i e. subst (MayHead k t.state.words x) (row_is_next w i is (ap body_row e)) (next_head x);
+      mark = λ s p e. let q : None ≡ Some next = sym (ap body_row e) ∙ is in absurd cc;
       count = λ e. let q : None ≡ Some next = sym (ap body_row e) ∙ is in absurd cc;
-      word = λ i j e. subst (λ z. z < block_first k (drawn_in k t.state.words)) (row_is_next w i is (ap body_row e)) next_head.drawn;
+      word = λ i j e. subst (λ z. z < block_first k (drawn_in k t.state.words)) (row_is_next w i is (ap body_row e)) (next_head x).drawn;
     }
 
     pub next_tells : (w : Word) → body_row w ≡ Some next → (i : ℕ) → body_row w ≡ Some i → IsMine k t i
@@ -169,7 +169,7 @@ module _ (k : Limits) where
       stays = λ z. (stays z).0;
       begins = (seat_holds k t).seen;
       grows = begins_refl h;
-      world = world_stored k h h ws w x t.rule.world t.rule.world.legal (begins_refl h) at told (λ v there other. t.rule.world.tells v there) may (λ p e. let q : None ≡ Some next = sym (ap body_row e) ∙ is in absurd cc);
+      world = world_stored k h h ws w x t.rule.world t.rule.world.legal (begins_refl h) at told (λ v there other. t.rule.world.tells v there) may (λ s p e. let q : None ≡ Some next = sym (ap body_row e) ∙ is in absurd cc);
       mine = mine;
       others = λ b ne draws hold. let top = own_inside k b.number b.blocks hold.first hold.end hold.area in hand_quiet k h ws (set ws (place_of k w) x) b (drawn_rises k ws w x at t.rule.world.wide may) hold
           (λ i low high. row_left k ws w x at i (omega arith) (λ q. mine_alone k t b ne draws hold i (next_tells w is i q) low high));
@@ -179,6 +179,8 @@ module _ (k : Limits) where
       same = λ c. refl;
       draws = draws_still k t f stays;
       drew = λ b ne hold draws. draws;
+      raised = λ b below. inl (drawn_left k ws w x at (λ e. let q : None ≡ Some next = sym (ap body_row e) ∙ is in absurd cc) b below);
+      holds = holds_still k t f stays;
     }
 
   unborn_told : (h : List Event) (row : ℕ) (x : ℕ) (part : Element → ℕ) → IsUnborn h row → (e : Element) → element_of h row ≡ Some e → x ≡ part e

@@ -1,8 +1,10 @@
 -- The counter of drawn blocks is loaded, and a block is drawn.
-use Rattle.std.proofs.Common.{◌≡◌, ◌≢◌, ℕ, ◌+◌, ◌<◌, ◌≤◌, eqb, cond, List, [], ◌∷◌, ◌++◌, set, get_or, sym, refl, ap, ◌∙◌, subst, inr, ⊎_elim, arith, eq-eqb, ne_eqb}
+use Rattle.std.proofs.Common.{◌≡◌, ◌≢◌, ℕ, ◌+◌, ◌<◌, ◌≤◌, eqb, cond, List, [], ◌∷◌, ◌++◌, set, get_or, sym, refl, ap, ◌∙◌, subst, inl, inr, ⊎_elim, arith, eq-eqb, ne_eqb}
 use mathlib.Core.Logic.{dite}
+use mathlib.Core.Option.{some, some-injective}
 use native.Mathlib.Decide.{ℕ_discrete}
 use prog.Atomic.{either}
+use lib.ListN.{get_elem?}
 use lib.Seq.{set-get_or}
 use Rattle.tp_model.specs.declared.event.Event.{Event}
 use Rattle.tp_model.specs.declared.trace.StepKind.TheVariants as kinds
@@ -13,22 +15,22 @@ use Rattle.tp_model.specs.History.{In, here, there, IsUnborn}
 use Rattle.tp_model.specs.Passes.{Ascend, IsRun}
 use Rattle.tp_model.specs.Steps.{IsRowOfBlock, block_first, rows_of}
 use Rattle.tp_model.proofs.Areas.{ascend_in, ascend_more, ascend_wider, block_before}
-use Rattle.tp_model.proofs.Bridges.{begins_refl, in_cons, in_either, in_left, in_none, in_one, in_right}
+use Rattle.tp_model.proofs.Bridges.{begins_refl, in_cons, in_either, in_here, in_left, in_none, in_one, in_right}
 use Rattle.tp_words.specs.Places.{DrawnWord, drawn_place, head_place}
 use Rattle.tp_rule.specs.Doors.{Permits}
 use Rattle.tp_rule.specs.Plays.{draws, loads_drawn}
 use Rattle.tp_rule.specs.Rule.{HandHolds, IsUnwritten, Owners, RowsHold, Rule, StillSo, World, drawn_in}
-use Rattle.tp_rule.specs.Steps.{NoneDrawn, after, drew, unchanged, with_block}
-use Rattle.tp_rule.specs.Views.{IsOnePass, blank_body, hand}
+use Rattle.tp_rule.specs.Steps.{NoneDrawn, Shares, after, drew, noted, unchanged, with_block}
+use Rattle.tp_rule.specs.Views.{HasPass, IsOnePass, blank_body, hand}
 use Rattle.tp_rule.specs.declared.view.Hand.{Hand}
 use Rattle.tp_rule.specs.declared.view.Known.{Known}
 use Rattle.tp_rule.specs.declared.view.Known.TheVariants.{BlocksDrawn}
 use Rattle.tp_rule.specs.declared.view.View.{View}
 use Rattle.tp_rule.proofs.Blanks.{blank_there}
 use Rattle.tp_rule.proofs.Frames.{Turn, hand_holds, hand_quiet, limits_are, mine_drawn, moved, seat_holds}
-use Rattle.tp_rule.proofs.Owning.{own_inside, undrawn_for, unborn_earlier}
+use Rattle.tp_rule.proofs.Owning.{S, own_inside, undrawn_for, unborn_earlier}
 use Rattle.tp_rule.proofs.Reading.{one_after}
-use Rattle.tp_rule.proofs.Seats.{looks_knowing, one_has}
+use Rattle.tp_rule.proofs.Seats.{in_map, in_map_to, looks_knowing}
 use Rattle.tp_rule.proofs.Storing.{MayStore, drawn_rises, row_left, still_left, stored}
 use Rattle.tp_rule.proofs.Tellings.{empty_unborn, world_stored}
 
@@ -37,11 +39,38 @@ module _ (k : Limits) where
   undrawn_unborn : (h : List Event) (ws : List ℕ) → World k h ws → NoneDrawn k h (drawn_in k ws)
   undrawn_unborn h ws world i low high = empty_unborn k h ws world i high (world.bare i low high)
 
+  -- the blocks below the counter are the passes' of all seats
+  shares : (s : S) (r : Rule k s) (id : ℕ) (v : View) → v.limits ≡ k → get_elem? s.views id ≡ some v → Shares (drawn_in k s.words) v
+  shares s r id v lim at = let seat = r.seats id v at in record {
+    below = λ a p. (seat.hands a p).blocks;
+    alone = λ a a' b p p' has has'. sym (seat.draws a p b has) ∙ seat.draws a' p' b has';
+    all = λ whole b less.
+        let t = r.drawers b less in
+        let there = r.seats t.0 t.1 t.3 in
+        let given : t.2.number < v.limits.parts = subst (λ (l : Limits). t.2.number < l.parts) (sym lim) (there.hands t.2 t.4).given in
+        let m = whole t.2.number given in
+        let same : t.0 ≡ id = sym (there.owns t.2 t.4) ∙ (ap r.owner.seat (sym m.2) ∙ seat.owns m.0 m.1) in
+        let is : t.1 ≡ v = some-injective t.1 v (sym t.3 ∙ (ap (get_elem? s.views) same ∙ at)) in
+        (t.2, subst (λ (z : View). In t.2 z.hands) is t.4, t.5);
+  }
+
+  shares_after : (n : ℕ) (v : View) (seen : List Event) (known : List Known) → Shares n v → Shares n (after kinds.Load unchanged seen known v)
+  shares_after n v seen known r = let g : Hand → Hand = noted kinds.Load seen in record {
+    below = λ a p. let q = in_map g a v.hands p in subst (λ (z : Hand). Ascend 0 n z.blocks) (sym q.2) (r.below q.0 q.1);
+    alone = λ a a' b p p' has has'.
+        let q = in_map g a v.hands p in
+        let q' = in_map g a' v.hands p' in
+        ap (λ (z : Hand). z.number) q.2 ∙ (r.alone q.0 q'.0 b q.1 q'.1 (subst (λ (z : Hand). In b z.blocks) q.2 has) (subst (λ (z : Hand). In b z.blocks) q'.2 has') ∙ ap (λ (z : Hand). z.number) (sym q'.2));
+    all = λ whole b less.
+        let t = r.all (λ c given. let m = whole c given in let q = in_map g m.0 v.hands m.1 in (q.0, q.1, ap (λ (z : Hand). z.number) (sym q.2) ∙ m.2)) b less in
+        (g t.0, in_map_to g t.1, t.2);
+  }
+
   -- the load of the counter, which the seat remembers
-  pub looks_drawn : (v : View) → IsOnePass v → v.limits ≡ k → Permits k v (drawn_place k) (λ n. n) (loads_drawn (drawn_place k) 0 0 v)
-  looks_drawn v one lim s r id at = let n : ℕ = drawn_in k s.words in let known : List Known = BlocksDrawn n ∷ v.known in let seat = r.seats id v at in
+  pub looks_drawn : (v : View) → HasPass v → v.limits ≡ k → Permits k v (drawn_place k) (λ n. n) (loads_drawn (drawn_place k) 0 0 v)
+  looks_drawn v has lim s r id at = let n : ℕ = drawn_in k s.words in let known : List Known = BlocksDrawn n ∷ v.known in let seat = r.seats id v at in
       let so : (z : Known) → In z known → StillSo k s.words z = λ z q. ⊎_elim (λ e. subst (StillSo k s.words) (sym e) (omega arith)) (λ o. seat.known z o) (in_cons q) in
-      let t = looks_knowing k v (drawn_place k) (one_has v one) s r id at known so (λ z q. there q) in (
+      let t = looks_knowing k v (drawn_place k) has s r id at known so (λ z q. there q) in (
         after kinds.Load unchanged r.history known v,
         t.0,
         (
@@ -51,6 +80,7 @@ module _ (k : Limits) where
             subst (λ (l : Limits). n ≤ l.spare) (sym lim) r.world.drawn,
             subst (λ (l : Limits). NoneDrawn l r.history n) (sym lim) (undrawn_unborn r.history s.words r.world),
             λ m known_m. seat.known (BlocksDrawn m) known_m,
+            shares_after n v r.history known (shares s r id v lim at),
           ),
         ),
       )
@@ -84,7 +114,7 @@ module _ (k : Limits) where
     first_is = ap (λ (l : Limits). block_first l b) (limits_are k t)
 
     may : MayStore k t.state.words DrawnWord (b + 1)
-    may = record { head = λ j e. absurd cc; mark = λ p e. absurd cc; count = λ e. (omega arith, omega arith); word = λ j n e. absurd cc }
+    may = record { head = λ j e. absurd cc; mark = λ s p e. absurd cc; count = λ e. (omega arith, omega arith); word = λ j n e. absurd cc }
 
     now : drawn_in k words_after ≡ b + 1
     now = stored k t.state.words DrawnWord (b + 1) tt t.rule.world.wide
@@ -150,7 +180,7 @@ module _ (k : Limits) where
       stays = λ a. refl;
       begins = seat.seen;
       grows = begins_refl h;
-      world = world_stored k h h t.state.words DrawnWord (b + 1) t.rule.world t.rule.world.legal (begins_refl h) tt tt (λ w there _. t.rule.world.tells w there) may (λ p e. absurd cc);
+      world = world_stored k h h t.state.words DrawnWord (b + 1) t.rule.world t.rule.world.legal (begins_refl h) tt tt (λ w there _. t.rule.world.tells w there) may (λ s p e. absurd cc);
       mine = mine_after;
       others = λ a ne draws hold. let top = own_inside k a.number a.blocks hold.first hold.end hold.area in hand_quiet k h t.state.words words_after a (drawn_rises k t.state.words DrawnWord (b + 1) tt wide may) hold
           (λ i low high. row_left k t.state.words DrawnWord (b + 1) tt i (omega arith) (λ q. cc));
@@ -160,6 +190,8 @@ module _ (k : Limits) where
       same = λ c. refl;
       draws = λ c has. ⊎_elim (λ q. drawer_else c (drawn_before (hand t.view) (hand_holds k t) c q) ∙ mine_drawn k t c q) (λ q. drawer_here c (in_one q)) (in_either (hand t.view).blocks (b ∷ []) has);
       drew = λ a ne hold draws c has. drawer_else c (drawn_before a hold c has) ∙ draws c has;
+      raised = λ c below. let is = now in dite (ℕ_discrete c b) (λ e. inr (in_right (hand t.view).blocks (in_here [] e))) (λ other. inl (omega arith));
+      holds = λ c has. in_left (b ∷ []) has;
     }
 
   -- the counter doesn't stand there, and the seat remembers it
@@ -183,6 +215,8 @@ module _ (k : Limits) where
     same = λ c. refl;
     draws = mine_drawn k t;
     drew = λ a ne hold draws. draws;
+    raised = λ b below. inl below;
+    holds = λ b has. has;
   }
 
   pub draws_go : (v : View) (word b : ℕ) → IsOnePass v → v.limits ≡ k → (hand v).drafts ≡ [] → b < k.spare → word ≡ drawn_place k → Permits k v word (λ x. either (eqb x b) (b + 1) x) (draws word b (b + 1) v)

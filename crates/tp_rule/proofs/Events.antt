@@ -1,5 +1,5 @@
 -- A step that adds an event, and one that adds none.
-use Rattle.std.proofs.Common.{◌≡◌, ℕ, ◌≢◌, ◌≤◌, arith, List, [], ◌∷◌, ◌++◌, set, get_or, sym, refl, ap, ◌∙◌, subst, ⊎_elim, Option, Some}
+use Rattle.std.proofs.Common.{◌≡◌, ℕ, ◌≢◌, ◌≤◌, arith, List, [], ◌∷◌, ◌++◌, set, get_or, sym, refl, ap, ◌∙◌, subst, inl, ⊎_elim, Option, Some}
 use lib.Seq.{set-get_or}
 use Rattle.tp_model.specs.declared.event.Event.{Event}
 use Rattle.tp_model.specs.declared.event.Event.TheVariants.{Abort, Claim}
@@ -12,15 +12,15 @@ use Rattle.tp_model.specs.Steps.{IsBlockFor, IsLegal, Step}
 use Rattle.tp_model.proofs.Bridges.{append_nil, begins_more, begins_refl, claim_either, claim_kept, in_either, in_one, unused_still}
 use Rattle.tp_model.proofs.Histories.{legal_more}
 use Rattle.tp_model.proofs.WordProofs.{end_of-snoc}
-use Rattle.tp_words.specs.Places.{Word, MarkWord, IsThere, place_of}
+use Rattle.tp_words.specs.Places.{Word, MarkWord, DrawnWord, IsThere, place_of}
 use Rattle.tp_rule.specs.Rule.{HandHolds, Rule, Told, UnitsHold, World, drawn_in}
 use Rattle.tp_rule.specs.Steps.{IsSo, after, noted, unchanged, Found, Grew, Misses}
 use Rattle.tp_rule.specs.declared.view.Hand.{Hand}
 use Rattle.tp_rule.specs.declared.view.View.{View}
-use Rattle.tp_rule.proofs.Frames.{IsMine, Stays, Turn, draws_still, hand_frame, hand_holds, limits_are, me, mine_alone, mine_for, moved, only_hand, seat_holds}
+use Rattle.tp_rule.proofs.Frames.{IsMine, Stays, Turn, draws_still, hand_frame, hand_holds, holds_still, limits_are, me, mine_alone, mine_for, moved, only_hand, seat_holds}
 use Rattle.tp_rule.proofs.Owning.{AreBlocksFor, blocks_for_own, own_inside, run_of}
 use Rattle.tp_rule.proofs.Seats.{hand_noted, in_map}
-use Rattle.tp_rule.proofs.Storing.{MayStore, body_row, drawn_rises, row_left, still_left}
+use Rattle.tp_rule.proofs.Storing.{MayStore, body_row, drawn_left, drawn_rises, row_left, still_left}
 use Rattle.tp_rule.proofs.Tellings.{found, so_now, world_stored}
 use Rattle.tp_rule.proofs.Units.{decide}
 
@@ -72,9 +72,10 @@ module _ (k : Limits) (t : Turn k) where
     pub there : IsThere k word
     pub told : Told (t.rule.history ++ event ∷ []) word number
     pub rest : (w : Word) → IsThere k w → w ≢ word → Told (t.rule.history ++ event ∷ []) w (get_or t.state.words (place_of k w) 0)
-    -- it may be stored, and it is no mark
+    -- it may be stored, and it is no mark and not the counter of drawn blocks
     pub may : MayStore k t.state.words word number
-    pub unmarked : (p : ℕ) → word ≡ MarkWord p → ⊥
+    pub unmarked : (s p : ℕ) → word ≡ MarkWord s p → ⊥
+    pub uncounted : word ≢ DrawnWord
     -- what it tells of and what is born is in the area of the pass's run
     pub tells_own : (i : ℕ) → body_row word ≡ Some i → IsMine k t i
     pub births_own : (x : Element) → In x (births event) → IsMine k t x.id
@@ -87,7 +88,7 @@ module _ (k : Limits) (t : Turn k) where
 
   pub acted : (a : Act) → Rule k record { words = set t.state.words (place_of k a.word) a.number; homes = t.state.homes; views = set t.state.views t.id (view_after a) } × Grew a.kind a.f (a.event ∷ []) t.view (view_after a)
   acted a = let h = t.rule.history in let e = a.event in let h' : List Event = h ++ e ∷ [] in let ws : List ℕ = set t.state.words (place_of k a.word) a.number in let seat = seat_holds k t in let seen = seat.seen in
-      let world : World k h' ws = world_stored k h h' t.state.words a.word a.number t.rule.world (legal_more k h e t.rule.world.legal a.step) (e ∷ [], refl) a.there a.told a.rest a.may (λ p q. absurd (a.unmarked p q)) in
+      let world : World k h' ws = world_stored k h h' t.state.words a.word a.number t.rule.world (legal_more k h e t.rule.world.legal a.step) (e ∷ [], refl) a.there a.told a.rest a.may (λ s p q. absurd (a.unmarked s p q)) in
       let still = still_left k t.state.words a.word a.number a.there t.rule.world.wide a.may in let rises = drawn_rises k t.state.words a.word a.number a.there t.rule.world.wide a.may in (
         moved k t record {
           kind = a.kind;
@@ -110,6 +111,8 @@ module _ (k : Limits) (t : Turn k) where
           same = λ c. refl;
           draws = draws_still k t a.f a.stays;
           drew = λ b ne hold draws. draws;
+          raised = λ b below. inl (drawn_left k t.state.words a.word a.number a.there a.uncounted b below);
+          holds = holds_still k t a.f a.stays;
         },
         record {
           between = seen.0;
@@ -153,6 +156,8 @@ module _ (k : Limits) (t : Turn k) where
             same = λ c. refl;
             draws = draws_still k t f stays;
             drew = λ b ne hold draws. draws;
+            raised = λ b below. inl below;
+            holds = holds_still k t f stays;
           }),
       record {
         between = seen.0;

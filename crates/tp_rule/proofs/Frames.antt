@@ -1,12 +1,13 @@
 -- What a step of one pass leaves to the others.
-use Rattle.std.proofs.Common.{◌≡◌, ℕ, ◌<◌, ◌≤◌, ◌≢◌, List, [], ◌∷◌, ◌++◌, set, sym, ap, ◌∙◌, subst, ⊎_elim, arith, Option, Some, None}
+use Rattle.std.proofs.Common.{◌≡◌, ◌⊎◌, ℕ, ◌<◌, ◌≤◌, ◌≢◌, List, [], ◌∷◌, ◌++◌, set, sym, ap, ◌∙◌, subst, ⊎_elim, arith, Option, Some, None}
 use mathlib.Core.Option.{some}
 use lib.ListN.{get_elem?}
+use Rattle.atomic_table.proofs.Lists.{set_here}
 use Rattle.tp_rule.specs.Rule.{HandHolds, Owners, RowsHold, Rule, SeatHolds, StillSo, UnitsHold, World, drawn_in}
 use Rattle.tp_rule.specs.Views.{IsOnePass, hand}
-use Rattle.tp_rule.specs.Steps.{after}
+use Rattle.tp_rule.specs.Steps.{after, noted}
 use Rattle.tp_rule.proofs.Owning.{AreBlocksFor, IsDrawer, S, blocks_for, own_apart, own_inside, own_may, own_spares}
-use Rattle.tp_rule.proofs.Seats.{seated_after, seats_after, seat_after}
+use Rattle.tp_rule.proofs.Seats.{at_below, in_map_to, seated_after, seats_after, seat_after}
 use Rattle.tp_model.proofs.Areas.{ascend_wider}
 use Rattle.tp_model.proofs.Bridges.{begins_trans, by_other, claim_either, claim_kept, in_either, in_one, unborn_still, unused_still}
 use Rattle.tp_model.proofs.WordProofs.{end_of-snoc}
@@ -209,6 +210,9 @@ module _ (k : Limits) (t : Turn k) where
     pub same : (c : ℕ) → owner.seat c ≡ t.rule.owner.seat c
     pub draws : IsDrawer k owner (f me)
     pub drew : (a : Hand) → a.number ≢ me.number → HandHolds k t.rule.history t.state.words a → IsDrawer k t.rule.owner a → IsDrawer k owner a
+    -- a block below the counter was below it, or is the pass's by now, and the pass has the blocks that it had
+    pub raised : (b : ℕ) → b < drawn_in k words → (b < drawn_in k t.state.words) ⊎ In b (f me).blocks
+    pub holds : (b : ℕ) → In b me.blocks → In b (f me).blocks
 
   pub moved : (m : Move) → Rule k record { words = m.words; homes = t.state.homes; views = set t.state.views t.id (after m.kind m.f m.seen m.known t.view) }
   moved m = let r = t.rule in let old = seat_holds in record {
@@ -222,7 +226,12 @@ module _ (k : Limits) (t : Turn k) where
         (λ j u apart e. let there = r.seats j u e in
         let other : (a : Hand) → In a u.hands → a.number ≢ me.number = λ a p same. apart (sym (there.owns a p) ∙ (ap r.owner.seat same ∙ old.owns me (one_in t.view t.one))) in
         seat_frame k r.history m.history t.state.words m.words r.owner m.owner j u m.grows m.still m.same (λ a p. m.drew a (other a p) (there.hands a p) (there.draws a p)) (λ a p. m.others a (other a p) (there.draws a p)) there);
-    complete = λ c below. seated_after t.state.views t.id t.view m.kind m.f m.seen m.known t.at m.stays c (r.complete c below);
+    complete = λ c below. seated_after (λ (a : Hand). a.number ≡ c) t.state.views t.id t.view m.kind m.f m.seen m.known t.at (λ a p so. m.stays a ∙ so) (r.complete c below);
+    drawers = λ b below. ⊎_elim
+        (λ was. seated_after (λ (a : Hand). In b a.blocks) t.state.views t.id t.view m.kind m.f m.seen m.known t.at
+        (λ a p has. let is = only_hand t.view t.one a p in subst (λ (z : Hand). In b (m.f z).blocks) (sym is) (m.holds b (subst (λ (z : Hand). In b z.blocks) is has))) (r.drawers b was))
+        (λ has. let g : Hand → Hand = λ a. noted m.kind m.seen (m.f a) in let w : View = after m.kind m.f m.seen m.known t.view in
+        (t.id, w, g me, set_here t.state.views t.id w (at_below t.state.views t.view t.id t.at), in_map_to g (one_in t.view t.one), has)) (m.raised b below);
   }
 
   -- f leaves the number and the blocks
@@ -231,3 +240,6 @@ module _ (k : Limits) (t : Turn k) where
 
   pub draws_still : (f : Hand → Hand) → Stays f → IsDrawer k t.rule.owner (f me)
   draws_still f stays b has = let same = stays me in mine_drawn b (subst (In b) same.1 has) ∙ sym same.0
+
+  pub holds_still : (f : Hand → Hand) → Stays f → (b : ℕ) → In b me.blocks → In b (f me).blocks
+  holds_still f stays b has = subst (In b) (sym (stays me).1) has

@@ -79,11 +79,12 @@ module _ (k : Limits) where
       drawn = let none = zeros (size_of k) (drawn_place k) in omega arith;
       bare = λ i low high. zeros (size_of k) (head_place i);
       unwritten = λ i low high j few. zeros (size_of k) (body_place i j);
-      behind = λ first end i j area low later high zero. zeros (size_of k) (head_place j);
-      marks = λ p l. subst (MarkHolds k [] (replicate (size_of k) 0) p) (sym (zeros (size_of k) (mark_place k p))) record { inside = omega arith; below = λ i low high. let up : i < p * k.rows + 0 = high in let down : p * k.rows ≤ i = low in absurd (omega arith) };
+      behind = λ first end i j area low later high zero. inl (zeros (size_of k) (head_place j));
+      marks = λ s p l. subst (MarkHolds k s [] (replicate (size_of k) 0) p) (sym (zeros (size_of k) (mark_place k s p))) record { inside = (λ _. omega arith, λ _. omega arith); below = λ i low high. let up : i < p * k.rows + 0 = high in let down : p * k.rows ≤ i = low in absurd (omega arith) };
     };
     seats = first;
     complete = λ c below. let p = fresh_seated 0 k.parts c (omega arith) (omega arith) in (0, first_view k, fresh k c, refl, p, refl);
+    drawers = λ b below. let none = zeros (size_of k) (drawn_place k) in absurd (omega arith);
   }
     where
       zero_told : (w : Word) → IsThere k w → Told [] w (get_or (replicate (size_of k) 0) (place_of k w) 0)
@@ -91,7 +92,7 @@ module _ (k : Limits) where
       zero_told (BodyWord i j) l = λ x p. absurd cc
       zero_told (ClaimWord i) l = (zeros (size_of k) (claim_place i), tt)
       zero_told (UnitWord u) l = (zeros (size_of k) (unit_place k u), tt)
-      zero_told (MarkWord p) l = tt
+      zero_told (MarkWord s p) l = tt
       zero_told DrawnWord l = tt
 
       first : (j : ℕ) (v : View) → get_elem? (first_view k ∷ []) j ≡ some v → SeatHolds k [] (replicate (size_of k) 0) first_owners j v

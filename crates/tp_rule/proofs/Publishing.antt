@@ -40,7 +40,7 @@ birth_told h c y (HeadWord i) n other body old = head_later h (Enqueue c y) i n 
 birth_told h c y (BodyWord i j) n other body old = body_later h (Enqueue c y) i n (λ e. slice_index e.body j)
     (λ x q id. let same = in_one q in body j (ap (λ z. BodyWord z j) (sym id ∙ ap (λ (e : Element). e.id) same)) ∙ ap (λ (e : Element). slice_index e.body j) (sym same)) old
 birth_told h c y (ClaimWord i) n other body old = claim_later h (Enqueue c y) i n refl old
-birth_told h c y (MarkWord p) n other body old = tt
+birth_told h c y (MarkWord s p) n other body old = tt
 birth_told h c y DrawnWord n other body old = tt
 birth_told h c y (UnitWord u) n other body old = unit_later h (Enqueue c y) u n (enqueue_quiet c y u _) old
 
@@ -93,7 +93,8 @@ module _ (k : Limits) (fair : AreLimits k) where
         rest = λ z there other. birth_told h a.number y z (get_or s.words (place_of k z) 0) (λ q. other (q ∙ ap HeadWord here))
             (λ j q. ap (λ b. get_or s.words (place_of k b) 0) (q ∙ ap (λ i. BodyWord i j) here) ∙ body j (subst (IsThere k) q there).1) (r.world.tells z there);
         may = next_may k t room w x refl;
-        unmarked = λ z q. cc;
+        unmarked = λ s z q. cc;
+        uncounted = λ q. cc;
         tells_own = next_tells k t room w refl;
         births_own = births_own;
         mine = record {

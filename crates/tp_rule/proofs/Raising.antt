@@ -10,38 +10,41 @@ use Rattle.tp_model.specs.History.{Aborted, IsSettled, status_of}
 use Rattle.tp_model.proofs.Bridges.{begins_refl, end_stays, found_later, in_cons}
 use Rattle.tp_model.proofs.LawProofs.{settled_stay}
 use Rattle.tp_model.specs.History.{here, there, In}
-use Rattle.tp_words.specs.Places.{MarkWord, mark_place}
+use Rattle.tp_words.specs.Places.{IsThere, MarkWord, mark_place}
 use Rattle.tp_words.specs.declared.words.Head.TheVariants.{There}
 use Rattle.tp_rule.specs.Doors.{Permits}
 use Rattle.tp_rule.specs.Plays.{loads_mark, raises}
-use Rattle.tp_rule.specs.Rule.{HandHolds, IsFinished, MarkHolds, Rule, StillSo, World}
-use Rattle.tp_rule.specs.Steps.{IsDone, IsLow, after, unchanged}
+use Rattle.tp_rule.specs.Rule.{HandHolds, IsFinished, IsInside, IsUseless, MarkHolds, Rule, StillSo, World}
+use Rattle.tp_rule.specs.Steps.{IsDone, IsLow, KnowsUseless, after, unchanged}
 use Rattle.tp_rule.specs.Views.{IsOnePass, hand}
 use Rattle.tp_rule.specs.declared.view.Hand.{Hand}
 use Rattle.tp_rule.specs.declared.view.Known.{Known}
-use Rattle.tp_rule.specs.declared.view.Known.TheVariants.{PartMark, RowHead}
+use Rattle.tp_rule.specs.declared.view.Known.TheVariants.{MarkAbove, PartMark, RowHead}
 use Rattle.tp_rule.specs.declared.view.View.{View}
 use Rattle.tp_rule.proofs.Frames.{Turn, hand_holds, hand_quiet, limits_are, mine_drawn, moved, seat_holds}
 use Rattle.tp_rule.proofs.Owning.{own_inside}
-use Rattle.tp_rule.proofs.Parts.{in_rows}
 use Rattle.tp_rule.proofs.Seats.{looks_knowing, one_has}
-use Rattle.tp_rule.proofs.Storing.{MayStore, drawn_rises, heads_kept, row_left, still_left, stored}
-use Rattle.tp_rule.proofs.Tellings.{finished_later, low_below, world_stored}
+use Rattle.tp_rule.proofs.Storing.{MayStore, drawn_left, drawn_rises, heads_kept, row_left, still_left, stored}
+use Rattle.tp_rule.proofs.Tellings.{inside_rows, low_below, other_full, useless_later, world_stored}
 
 module _ (k : Limits) where
+  -- marks at one place are one mark
+  one_mark : (s p t q : ℕ) → IsThere k (MarkWord s p) → IsThere k (MarkWord t q) → mark_place k s p ≡ mark_place k t q → (s ≡ t) × (p ≡ q)
+  one_mark s p t q a b e = let kind : s ≡ t = omega arith in let part : p ≡ q = omega arith in (kind, part)
+
   -- the load of a mark, which the seat remembers
-  pub looks_mark : (v : View) (p : ℕ) → IsOnePass v → v.limits ≡ k → p < k.parts → Permits k v (mark_place k p) (λ n. n) (loads_mark (mark_place k p) 0 0 v)
-  looks_mark v p one lim room s r id at = let x : ℕ = get_or s.words (mark_place k p) 0 in let known : List Known = PartMark p x ∷ v.known in
-      let so : (z : Known) → In z known → StillSo k s.words z = λ z q. ⊎_elim (λ e. subst (StillSo k s.words) (sym e) (room, omega arith)) (λ o. (r.seats id v at).known z o) (in_cons q) in
-      let t = looks_knowing k v (mark_place k p) (one_has v one) s r id at known so (λ z q. there q) in (
+  pub looks_mark : (v : View) (s p : ℕ) → IsOnePass v → v.limits ≡ k → IsThere k (MarkWord s p) → Permits k v (mark_place k s p) (λ n. n) (loads_mark (mark_place k s p) 0 0 v)
+  looks_mark v s p one lim room st r id at = let x : ℕ = get_or st.words (mark_place k s p) 0 in let known : List Known = PartMark s p x ∷ v.known in
+      let so : (z : Known) → In z known → StillSo k st.words z = λ z q. ⊎_elim (λ e. subst (StillSo k st.words) (sym e) (room, omega arith)) (λ o. (r.seats id v at).known z o) (in_cons q) in
+      let t = looks_knowing k v (mark_place k s p) (one_has v one) st r id at known so (λ z q. there q) in (
         after kinds.Load unchanged r.history known v,
         t.0,
         (
           t.1,
-          λ q is inside. let same : p ≡ q = (let e : mark_place k p ≡ mark_place k q = is ∙ ap (λ (l : Limits). mark_place l q) lim in omega arith) in (
-            subst (λ z. In (PartMark z x) known) same here,
-            subst (λ (l : Limits). IsLow l r.history q x) (sym lim) (subst (λ z. IsLow k r.history z x) same (low_below k r.history s.words r.world p x (room, omega arith))),
-            λ n known_n. ((r.seats id v at).known (PartMark p n) (subst (λ z. In (PartMark z n) v.known) (sym same) known_n)).1,
+          λ c q is inside. let same = one_mark s p c q room (subst (λ (l : Limits). IsThere l (MarkWord c q)) lim inside) (is ∙ ap (λ (l : Limits). mark_place l c q) lim) in (
+            subst (λ (z : ℕ × ℕ). In (PartMark z.0 z.1 x) known) (λ i. (same.0 i, same.1 i)) here,
+            subst (λ (l : Limits). IsLow l c r.history q x) (sym lim) (subst (λ (z : ℕ × ℕ). IsLow k z.0 r.history z.1 x) (λ i. (same.0 i, same.1 i)) (low_below k r.history st.words r.world s p x (room, omega arith))),
+            λ n known_n. ((r.seats id v at).known (PartMark s p n) (subst (λ (z : ℕ × ℕ). In (PartMark z.0 z.1 n) v.known) (sym (λ i. (same.0 i, same.1 i))) known_n)).1,
           ),
         ),
       )
@@ -56,28 +59,33 @@ module _ (k : Limits) where
       settled s = let now : IsSettled (status_of k.attempts t.view.seen i) = subst (λ (l : Limits). IsSettled (status_of l.attempts t.view.seen i)) (limits_are k t) s in
           subst IsSettled (sym (settled_stay k t.view.seen t.rule.history i t.rule.world.legal (seat_holds k t).seen now)) now
 
-  pub raises_go : (v : View) (word from to p : ℕ) → IsOnePass v → v.limits ≡ k → p < k.parts → word ≡ mark_place k p → from ≤ to → to ≤ k.rows
-      → ((i : ℕ) → p * k.rows + from ≤ i → i < p * k.rows + to → IsDone v i) → Permits k v word (λ x. either (eqb x from) to x) (raises word from to v)
-  raises_go v word from to p one lim room place up top done s r id at = let t : Turn k = record { state = s; rule = r; id = id; view = v; at = at; one = one } in let x : ℕ = get_or s.words word 0 in let h = r.history in
-      let seat = seat_holds k t in let seen = seat.seen in let mine = hand_holds k t in let ws : List ℕ = set s.words (mark_place k p) to in dite (ℕ_discrete x from)
-      (λ hit. let was : get_or s.words (mark_place k p) 0 ≡ from = ap (λ z. get_or s.words z 0) (sym place) ∙ hit in
-      let known : List Known = PartMark p to ∷ v.known in
-      let old = r.world.marks p room in
-      let marked : (q : ℕ) → MarkWord p ≡ MarkWord q → MarkHolds k h ws q to = λ q e. let same : p ≡ q = cc in subst (λ z. MarkHolds k h ws z to) same record {
+  -- and what it knows of no use to a kind
+  past_is : (t : Turn k) (s i : ℕ) → KnowsUseless t.view s i → IsUseless k s t.rule.history t.state.words i
+  past_is t s i u = let seat = seat_holds k t in ⊎_elim (λ d. inl (done_is t i d))
+      (λ a. let so = seat.known (RowHead i a.0) a.1 in inr (a.0, so.1, so.2 (other_full s a.0 a.2), a.2)) u
+
+  pub raises_go : (v : View) (word from to c p : ℕ) → IsOnePass v → v.limits ≡ k → IsThere k (MarkWord c p) → word ≡ mark_place k c p → from ≤ to → IsInside k p to
+      → ((i : ℕ) → p * k.rows + from ≤ i → i < p * k.rows + to → KnowsUseless v c i) → Permits k v word (λ x. either (eqb x from) to x) (raises word from to v)
+  raises_go v word from to c p one lim room place up top done s r id at = let t : Turn k = record { state = s; rule = r; id = id; view = v; at = at; one = one } in let x : ℕ = get_or s.words word 0 in let h = r.history in
+      let seat = seat_holds k t in let seen = seat.seen in let mine = hand_holds k t in let ws : List ℕ = set s.words (mark_place k c p) to in dite (ℕ_discrete x from)
+      (λ hit. let was : get_or s.words (mark_place k c p) 0 ≡ from = ap (λ z. get_or s.words z 0) (sym place) ∙ hit in
+      let known : List Known = PartMark c p to ∷ v.known in
+      let old = r.world.marks c p room in
+      let marked : (d q : ℕ) → MarkWord c p ≡ MarkWord d q → MarkHolds k d h ws q to = λ d q e. let kind : c ≡ d = cc in let part : p ≡ q = cc in subst (λ (z : ℕ × ℕ). MarkHolds k z.0 h ws z.1 to) (λ i. (kind i, part i)) record {
         inside = top;
-        below = λ i low high. finished_later k h h s.words ws i (begins_refl h) r.world.legal (heads_kept k s.words (MarkWord p) to room (λ j e. absurd cc) i (in_rows k p i (room, low, omega arith)))
-            (dite (dec_le (p * k.rows + from) i) (λ past. done_is t i (done i past high)) (λ not. old.below i low (omega arith)));
+        below = λ i low high. useless_later k c h h s.words ws i (begins_refl h) r.world.legal (heads_kept k s.words (MarkWord c p) to room (λ j e. absurd cc) i (let all = inside_rows k p to room.2 top in omega arith))
+            (dite (dec_le (p * k.rows + from) i) (λ past. past_is t c i (done i past high)) (λ not. old.below i low (omega arith)));
       } in
-      let may : MayStore k s.words (MarkWord p) to = record {
+      let may : MayStore k s.words (MarkWord c p) to = record {
         head = λ j e. absurd cc;
-        mark = λ q e. let same : p ≡ q = cc in subst (λ z. get_or s.words (mark_place k z) 0 ≤ to) same (omega arith);
+        mark = λ d q e. let kind : c ≡ d = cc in let part : p ≡ q = cc in subst (λ (z : ℕ × ℕ). get_or s.words (mark_place k z.0 z.1) 0 ≤ to) (λ i. (kind i, part i)) (omega arith);
         count = λ e. absurd cc;
         word = λ i j e. absurd cc;
       } in
-      let world : World k h ws = world_stored k h h s.words (MarkWord p) to r.world r.world.legal (begins_refl h) room tt (λ w there _. r.world.tells w there) may marked in
-      let still : (z : Known) → StillSo k s.words z → StillSo k ws z = still_left k s.words (MarkWord p) to room r.world.wide may in let rises = drawn_rises k s.words (MarkWord p) to room r.world.wide may in
-      let now : get_or ws (mark_place k p) 0 ≡ to = stored k s.words (MarkWord p) to room r.world.wide in
-      let quiet : (a : Hand) → HandHolds k h s.words a → HandHolds k h ws a = λ a hold. (let top = own_inside k a.number a.blocks hold.first hold.end hold.area in hand_quiet k h s.words ws a rises hold (λ i low high. row_left k s.words (MarkWord p) to room i (omega arith) (λ q. cc))) in
+      let world : World k h ws = world_stored k h h s.words (MarkWord c p) to r.world r.world.legal (begins_refl h) room tt (λ w there _. r.world.tells w there) may marked in
+      let still : (z : Known) → StillSo k s.words z → StillSo k ws z = still_left k s.words (MarkWord c p) to room r.world.wide may in let rises = drawn_rises k s.words (MarkWord c p) to room r.world.wide may in
+      let now : get_or ws (mark_place k c p) 0 ≡ to = stored k s.words (MarkWord c p) to room r.world.wide in
+      let quiet : (a : Hand) → HandHolds k h s.words a → HandHolds k h ws a = λ a hold. (let top = own_inside k a.number a.blocks hold.first hold.end hold.area in hand_quiet k h s.words ws a rises hold (λ i low high. row_left k s.words (MarkWord c p) to room i (omega arith) (λ q. cc))) in
       let rule = moved k t record {
         kind = kinds.Raise;
         f = unchanged;
@@ -97,15 +105,19 @@ module _ (k : Limits) where
         same = λ c. refl;
         draws = mine_drawn k t;
         drew = λ b ne hold draws. draws;
+        raised = λ b below. inl (drawn_left k s.words (MarkWord c p) to room (λ q. cc) b below);
+        holds = λ b has. has;
       } in (
         after kinds.Raise unchanged v.seen known v,
         subst (λ (z : ℕ × ℕ). Rule k record { words = set s.words z.0 z.1; homes = s.homes; views = set s.views id (after kinds.Raise unchanged v.seen known v) }) (λ i. (sym place i, sym (ap (λ b. either b to x) (eq-eqb x from hit)) i)) rule,
-        λ q is. let same : p ≡ q = (let e : mark_place k p ≡ mark_place k q = sym place ∙ (is ∙ ap (λ (l : Limits). mark_place l q) lim) in omega arith) in (
-          (refl, λ z o. there o, λ z o. ⊎_elim (λ e. inr (e ∙ ap (λ c. PartMark c to) same)) (λ o'. inl o') (in_cons o)),
-          λ _. subst (λ z. In (PartMark z to) known) same here,
+        λ d q is inside. let same = one_mark c p d q room (subst (λ (l : Limits). IsThere l (MarkWord d q)) lim inside) (sym place ∙ (is ∙ ap (λ (l : Limits). mark_place l d q) lim)) in (
+          (refl, λ z o. there o, λ z o. ⊎_elim (λ e. inr (inl (e ∙ (λ i. PartMark (same.0 i) (same.1 i) to)))) (λ o'. inl o') (in_cons o)),
+          λ _. subst (λ (z : ℕ × ℕ). In (PartMark z.0 z.1 to) known) (λ i. (same.0 i, same.1 i)) here,
+          λ not _. absurd (not hit),
         ),
       ))
-      (λ miss. let rule = moved k t record {
+      (λ miss. let kept : (known : List Known) → ((z : Known) → In z known → StillSo k s.words z) → Rule k record { words = set s.words word (either (eqb x from) to x); homes = s.homes; views = set s.views id (after kinds.Raise unchanged v.seen known v) } = λ known knows.
+      subst (λ (z : List ℕ). Rule k record { words = z; homes = s.homes; views = set s.views id (after kinds.Raise unchanged v.seen known v) }) (sym (ap (λ z. set s.words word z) (ap (λ b. either b to x) (ne_eqb x from miss)) ∙ set-get_or s.words word 0)) (moved k t record {
         kind = kinds.Raise;
         f = unchanged;
         seen = v.seen;
@@ -118,14 +130,30 @@ module _ (k : Limits) where
         world = r.world;
         mine = mine;
         others = λ b _ _ hold. hold;
-        known = v.known;
-        knows = seat.known;
+        known = known;
+        knows = knows;
         still = λ z so. so;
         same = λ c. refl;
         draws = mine_drawn k t;
         drew = λ b ne hold draws. draws;
-      } in (
-        after kinds.Raise unchanged v.seen v.known v,
-        subst (λ (z : List ℕ). Rule k record { words = z; homes = s.homes; views = set s.views id (after kinds.Raise unchanged v.seen v.known v) }) (sym (ap (λ z. set s.words word z) (ap (λ b. either b to x) (ne_eqb x from miss)) ∙ set-get_or s.words word 0)) rule,
-        λ q is. ((refl, λ z o. o, λ z o. inl o), λ hit. absurd (miss hit)),
+        raised = λ b below. inl below;
+        holds = λ b has. has;
+      }) in dite (dec_le (from + 1) x)
+      (λ above. let more : from < get_or s.words word 0 = omega arith in let high : from < get_or s.words (mark_place k c p) 0 = subst (λ z. from < get_or s.words z 0) place more in let known : List Known = MarkAbove c p from ∷ v.known in (
+        after kinds.Raise unchanged v.seen known v,
+        kept known (λ z q. ⊎_elim (λ e. subst (StillSo k s.words) (sym e) (room, high)) (λ o. seat.known z o) (in_cons q)),
+        λ d q is inside. let same = one_mark c p d q room (subst (λ (l : Limits). IsThere l (MarkWord d q)) lim inside) (sym place ∙ (is ∙ ap (λ (l : Limits). mark_place l d q) lim)) in (
+          (refl, λ z o. there o, λ z o. ⊎_elim (λ e. inr (inr (e ∙ (λ i. MarkAbove (same.0 i) (same.1 i) from)))) (λ o'. inl o') (in_cons o)),
+          λ hit. absurd (miss hit),
+          λ _ _. subst (λ (z : ℕ × ℕ). In (MarkAbove z.0 z.1 from) known) (λ i. (same.0 i, same.1 i)) here,
+        ),
       ))
+      (λ below. (
+        after kinds.Raise unchanged v.seen v.known v,
+        kept v.known seat.known,
+        λ d q is inside. let same = one_mark c p d q room (subst (λ (l : Limits). IsThere l (MarkWord d q)) lim inside) (sym place ∙ (is ∙ ap (λ (l : Limits). mark_place l d q) lim)) in (
+          (refl, λ z o. o, λ z o. inl o),
+          λ hit. absurd (miss hit),
+          λ _ found. let least : from ≤ get_or s.words (mark_place k d q) 0 = (seat.known (PartMark d q from) found).1 in let at_word : get_or s.words (mark_place k d q) 0 ≡ x = ap (λ (z : ℕ × ℕ). get_or s.words (mark_place k z.0 z.1) 0) (λ i. (sym same.0 i, sym same.1 i)) ∙ sym (ap (λ z. get_or s.words z 0) place) in absurd (miss (omega arith)),
+        ),
+      )))

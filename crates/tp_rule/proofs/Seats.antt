@@ -19,7 +19,7 @@ use Rattle.tp_words.specs.Places.{HeadWord, head_place}
 use Rattle.tp_words.specs.declared.words.Head.{Head}
 use Rattle.tp_rule.specs.Doors.{Permits}
 use Rattle.tp_rule.specs.Plays.{loads, loads_head}
-use Rattle.tp_rule.specs.Rule.{HandHolds, IsApart, IsSeated, Owners, Rule, SeatHolds, StillSo}
+use Rattle.tp_rule.specs.Rule.{AtSeat, HandHolds, IsApart, Owners, Rule, SeatHolds, StillSo}
 use Rattle.tp_rule.specs.Steps.{Found, IsSo, Loads, NoneFrom, noted, after, unchanged}
 use Rattle.tp_rule.specs.Views.{HasPass, IsOnePass, hand}
 use Rattle.tp_rule.specs.declared.view.Hand.{Hand}
@@ -48,17 +48,17 @@ pub apart_map : (f : Hand → Hand) → ((a : Hand) → (f a).number ≡ a.numbe
 apart_map f stays [] t = tt
 apart_map f stays (a ∷ hs) t = (λ b p e. let q = in_map f b hs p in t.0 q.0 q.1 (sym (stays q.0) ∙ (ap (λ (x : Hand). x.number) (sym q.2) ∙ (e ∙ stays a))), apart_map f stays hs t.1)
 
--- a seat whose view changes goes on to stand for its passes
-pub seated_still : (views : List View) (id : ℕ) (v w : View) → get_elem? views id ≡ some v → ((a : Hand) → In a v.hands → (b : Hand) × In b w.hands × (b.number ≡ a.number)) → (c : ℕ) → IsSeated views c → IsSeated (set views id w) c
-seated_still views id v w at kept c t = dite (ℕ_discrete t.0 id)
-    (λ same. let is : t.1 ≡ v = some-injective t.1 v (sym t.3 ∙ (ap (get_elem? views) same ∙ at)) in let b = kept t.2 (subst (λ (z : View). In t.2 z.hands) is t.4) in
-    (id, w, b.0, set_here views id w (at_below views v id at), b.1, b.2 ∙ t.5))
+-- where a seat's view changes, what was so of some pass of its is so of one of them
+pub seated_still : (P : Hand → Type 0) (views : List View) (id : ℕ) (v w : View) → get_elem? views id ≡ some v → ((a : Hand) → In a v.hands → P a → (b : Hand) × In b w.hands × P b) → AtSeat P views → AtSeat P (set views id w)
+seated_still P views id v w at kept t = dite (ℕ_discrete t.0 id)
+    (λ same. let is : t.1 ≡ v = some-injective t.1 v (sym t.3 ∙ (ap (get_elem? views) same ∙ at)) in let b = kept t.2 (subst (λ (z : View). In t.2 z.hands) is t.4) t.5 in
+    (id, w, b.0, set_here views id w (at_below views v id at), b.1, b.2))
     (λ other. (t.0, t.1, t.2, set_else views id t.0 w other ∙ t.3, t.4, t.5))
 
--- and where each pass is noted, it does
-pub seated_after : (views : List View) (id : ℕ) (v : View) (kind : StepKind) (f : Hand → Hand) (seen : List Event) (known : List Known) → get_elem? views id ≡ some v → ((a : Hand) → (f a).number ≡ a.number)
-    → (c : ℕ) → IsSeated views c → IsSeated (set views id (after kind f seen known v)) c
-seated_after views id v kind f seen known at stays = let g : Hand → Hand = λ a. noted kind seen (f a) in seated_still views id v (after kind f seen known v) at (λ a p. (g a, in_map_to g p, stays a))
+-- and where each pass is noted, it is
+pub seated_after : (P : Hand → Type 0) (views : List View) (id : ℕ) (v : View) (kind : StepKind) (f : Hand → Hand) (seen : List Event) (known : List Known) → get_elem? views id ≡ some v
+    → ((a : Hand) → In a v.hands → P a → P (noted kind seen (f a))) → AtSeat P views → AtSeat P (set views id (after kind f seen known v))
+seated_after P views id v kind f seen known at stays = let g : Hand → Hand = λ a. noted kind seen (f a) in seated_still P views id v (after kind f seen known v) at (λ a p so. (g a, in_map_to g p, stays a p so))
 
 module _ (k : Limits) where
   pub seats_after : (h : List Event) (ws : List ℕ) (owner : Owners) (views : List View) (id : ℕ) (w : View) → SeatHolds k h ws owner id w
@@ -106,7 +106,8 @@ module _ (k : Limits) where
         owner = r.owner;
         world = r.world;
         seats = seats_after h s.words r.owner s.views id w there (λ j u _ e. r.seats j u e);
-        complete = λ c below. seated_after s.views id v kinds.Load unchanged h known at (λ a. refl) c (r.complete c below);
+        complete = λ c below. seated_after (λ (a : Hand). a.number ≡ c) s.views id v kinds.Load unchanged h known at (λ a p so. so) (r.complete c below);
+        drawers = λ b below. seated_after (λ (a : Hand). In b a.blocks) s.views id v kinds.Load unchanged h known at (λ a p so. so) (r.drawers b below);
       } in let now = set_here s.views id w (at_below s.views v id at) in (
         subst (λ (ws : List ℕ). Rule k record { words = ws; homes = s.homes; views = set s.views id w }) (sym (set-get_or s.words word 0)) rule,
         (

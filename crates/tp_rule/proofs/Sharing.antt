@@ -7,7 +7,7 @@ use lib.ListN.{get_elem?}
 use Rattle.atomic_table.specs.Table.{Splits, Joins}
 use Rattle.atomic_table.proofs.Lists.{at_last, at_longer, at_set, set_else, set_here}
 use Rattle.tp_model.specs.declared.trace.StepKind.TheVariants as kinds
-use Rattle.tp_rule.specs.Rule.{HandHolds, IsApart, IsSeated, Owners, Rule, SeatHolds}
+use Rattle.tp_rule.specs.Rule.{AtSeat, HandHolds, IsApart, Owners, Rule, SeatHolds}
 use Rattle.tp_rule.specs.Views.{HasPass, spent}
 use Rattle.tp_rule.specs.Steps.{noted, looked, with_hands, handed_on, handed_out, kept, parted, joined, rest_of, front_of}
 use Rattle.tp_rule.proofs.Owning.{IsDrawer}
@@ -106,19 +106,29 @@ module _ (k : Limits) where
   abbrev From : List Hand → View → Type 0
   From hs v = (a : Hand) → In a hs → (b : Hand) × In b v.hands × (a.number ≡ b.number) × (a.blocks ≡ b.blocks) × ((h : List Event) (ws : List ℕ) → HandHolds k h ws b → HandHolds k h ws a)
 
-  -- one of these hands is of pass c
-  abbrev HasHand : List Hand → ℕ → Type 0
-  HasHand hs c = (b : Hand) × In b hs × (b.number ≡ c)
+  -- one of these hands is that pass, with the blocks that it has drawn
+  abbrev HasHand : List Hand → Hand → Type 0
+  HasHand hs a = (b : Hand) × In b hs × (b.number ≡ a.number) × (b.blocks ≡ a.blocks)
+
+  -- what is so of such a pass
+  abbrev Lasts : (Hand → Type 0) → Type 0
+  Lasts P = (a b : Hand) → b.number ≡ a.number → b.blocks ≡ a.blocks → P a → P b
+
+  number_lasts : (c : ℕ) → Lasts (λ (a : Hand). a.number ≡ c)
+  number_lasts c a b same _ so = same ∙ so
+
+  blocks_last : (c : ℕ) → Lasts (λ (a : Hand). In c a.blocks)
+  blocks_last c a b _ same so = subst (In c) (sym same) so
 
   -- each pass of a seat that is cut in two is of one of the two
-  split_complete : (views : List View) (id : ℕ) (v : View) (L R : List Hand) → get_elem? views id ≡ some v → ((a : Hand) → In a v.hands → HasHand L a.number ⊎ HasHand R a.number) → (c : ℕ) → IsSeated views c → IsSeated (set views id (with_hands L v) ++ with_hands R v ∷ []) c
-  split_complete views id v L R at cover c t = let first : List View = set views id (with_hands L v) in dite (ℕ_discrete t.0 id)
+  split_complete : (P : Hand → Type 0) → Lasts P → (views : List View) (id : ℕ) (v : View) (L R : List Hand) → get_elem? views id ≡ some v → ((a : Hand) → In a v.hands → HasHand L a ⊎ HasHand R a) → AtSeat P views → AtSeat P (set views id (with_hands L v) ++ with_hands R v ∷ [])
+  split_complete P lasts views id v L R at cover t = let first : List View = set views id (with_hands L v) in dite (ℕ_discrete t.0 id)
       (λ same. let is : t.1 ≡ v = some-injective t.1 v (sym t.3 ∙ (ap (get_elem? views) same ∙ at)) in ⊎_elim
-      (λ b. (id, with_hands L v, b.0, at_longer first (with_hands R v ∷ []) id (with_hands L v) (set_here views id (with_hands L v) (at_below views v id at)), b.1, b.2 ∙ t.5))
-      (λ b. (length views, with_hands R v, b.0, at_last first (with_hands R v) (length views) (length-set views id (with_hands L v)), b.1, b.2 ∙ t.5)) (cover t.2 (subst (λ (z : View). In t.2 z.hands) is t.4)))
+      (λ b. (id, with_hands L v, b.0, at_longer first (with_hands R v ∷ []) id (with_hands L v) (set_here views id (with_hands L v) (at_below views v id at)), b.1, lasts t.2 b.0 b.2 b.3 t.5))
+      (λ b. (length views, with_hands R v, b.0, at_last first (with_hands R v) (length views) (length-set views id (with_hands L v)), b.1, lasts t.2 b.0 b.2 b.3 t.5)) (cover t.2 (subst (λ (z : View). In t.2 z.hands) is t.4)))
       (λ other. (t.0, t.1, t.2, at_longer first (with_hands R v ∷ []) t.0 t.1 (set_else views id t.0 (with_hands L v) other ∙ t.3), t.4, t.5))
 
-  pub splits : (id : ℕ) (v : View) (L R : List Hand) → From L v → From R v → ((a : Hand) → In a v.hands → HasHand L a.number ⊎ HasHand R a.number) → (IsApart v.hands → IsApart L) → (IsApart v.hands → IsApart R)
+  pub splits : (id : ℕ) (v : View) (L R : List Hand) → From L v → From R v → ((a : Hand) → In a v.hands → HasHand L a ⊎ HasHand R a) → (IsApart v.hands → IsApart L) → (IsApart v.hands → IsApart R)
       → (IsApart v.hands → (a b : Hand) → In a R → In b L → a.number ≢ b.number) → Splits (Rule k) id v (with_hands L v) (with_hands R v)
   splits id v L R left right cover apart_l apart_r cross s r at = let n : ℕ = length s.views in let h = r.history in let mine = r.seats id v at in let room = at_below s.views v id at in
       let owner : Owners = record { seat = λ c. cond (among c R) n (r.owner.seat c); drawer = r.owner.drawer } in
@@ -135,14 +145,15 @@ module _ (k : Limits) where
         world = r.world;
         seats = λ j u e. ⊎_elim (λ t. old j u t.0) (λ t. seat_at h s.words owner j n u (with_hands R v) (t.0 ∙ length-set s.views id (with_hands L v)) t.1 new)
             (at_end (set s.views id (with_hands L v)) (with_hands R v) u j e);
-        complete = λ c below. split_complete s.views id v L R at cover c (r.complete c below);
+        complete = λ c below. split_complete (λ (a : Hand). a.number ≡ c) (number_lasts c) s.views id v L R at cover (r.complete c below);
+        drawers = λ b below. split_complete (λ (a : Hand). In b a.blocks) (blocks_last b) s.views id v L R at cover (r.drawers b below);
       }
 
   -- each pass of two seats that are joined is of the one that remains
-  join_complete : (views : List View) (id : ℕ) (v : View) (other : ℕ) (w : View) → get_elem? views id ≡ some v → other ≢ id → get_elem? views other ≡ some w → (c : ℕ) → IsSeated views c → IsSeated (set (set views id (joined v w)) other spent) c
-  join_complete views id v other w at ne their_at c t = let f : Hand → Hand = noted kinds.SeatLoad v.seen in
+  join_complete : (P : Hand → Type 0) → Lasts P → (views : List View) (id : ℕ) (v : View) (other : ℕ) (w : View) → get_elem? views id ≡ some v → other ≢ id → get_elem? views other ≡ some w → AtSeat P views → AtSeat P (set (set views id (joined v w)) other spent)
+  join_complete P lasts views id v other w at ne their_at t = let f : Hand → Hand = noted kinds.SeatLoad v.seen in
       let here : get_elem? (set (set views id (joined v w)) other spent) id ≡ some (joined v w) = set_else (set views id (joined v w)) other id spent (λ e. ne (sym e)) ∙ set_here views id (joined v w) (at_below views v id at) in dite (ℕ_discrete t.0 id)
-      (λ same. let is : t.1 ≡ v = some-injective t.1 v (sym t.3 ∙ (ap (get_elem? views) same ∙ at)) in (id, joined v w, f t.2, here, in_left w.hands (in_map_to f (subst (λ (z : View). In t.2 z.hands) is t.4)), t.5))
+      (λ same. let is : t.1 ≡ v = some-injective t.1 v (sym t.3 ∙ (ap (get_elem? views) same ∙ at)) in (id, joined v w, f t.2, here, in_left w.hands (in_map_to f (subst (λ (z : View). In t.2 z.hands) is t.4)), lasts t.2 (f t.2) refl refl t.5))
       (λ not_id. dite (ℕ_discrete t.0 other)
       (λ same. let is : t.1 ≡ w = some-injective t.1 w (sym t.3 ∙ (ap (get_elem? views) same ∙ their_at)) in (id, joined v w, t.2, here, in_right (looked v v.hands) (subst (λ (z : View). In t.2 z.hands) is t.4), t.5))
       (λ not_other. (t.0, t.1, t.2, set_else (set views id (joined v w)) other t.0 spent not_other ∙ (set_else views id t.0 (joined v w) not_id ∙ t.3), t.4, t.5)))
@@ -183,7 +194,8 @@ module _ (k : Limits) where
             (λ (t : (j ≡ id) × (joined v w ≡ u)). subst (λ (z : ℕ × View). SeatHolds k h s.words owner z.0 z.1) (λ i. (sym t.0 i, t.1 i)) whole)
             (λ (t : (j ≢ id) × (get_elem? s.views j ≡ some u)). let old = r.seats j u t.1 in owned_anew h s.words r.owner owner j u (λ a p. stays a.number (λ e. far (sym (old.owns a p) ∙ e))) (λ b. refl) old)
             (at_set s.views id j (joined v w) u e));
-        complete = λ c below. join_complete s.views id v other w at ne found c (r.complete c below);
+        complete = λ c below. join_complete (λ (a : Hand). a.number ≡ c) (number_lasts c) s.views id v other w at ne found (r.complete c below);
+        drawers = λ b below. join_complete (λ (a : Hand). In b a.blocks) (blocks_last b) s.views id v other w at ne found (r.drawers b below);
       }
 
   from_rest : (v : View) → From (rest_of v.hands) v
@@ -199,16 +211,16 @@ module _ (k : Limits) where
   cross_looked : (v : View) → IsApart v.hands → (a b : Hand) → In a (looked v (front_of v.hands)) → In b (rest_of v.hands) → b.number ≢ a.number
   cross_looked v apart a b p q e = let t = in_map (noted kinds.SeatLoad v.seen) a (front_of v.hands) p in cross v.hands apart t.0 b t.1 q (e ∙ ap (λ (z : Hand). z.number) t.2)
 
-  front_has : (v : View) (a : Hand) → In a (front_of v.hands) → HasHand (looked v (front_of v.hands)) a.number
-  front_has v a p = (noted kinds.SeatLoad v.seen a, in_map_to (noted kinds.SeatLoad v.seen) p, refl)
+  front_has : (v : View) (a : Hand) → In a (front_of v.hands) → HasHand (looked v (front_of v.hands)) a
+  front_has v a p = (noted kinds.SeatLoad v.seen a, in_map_to (noted kinds.SeatLoad v.seen) p, refl, refl)
 
   -- the first hand goes to a new seat
   pub gives_first : (id : ℕ) (v : View) → Splits (Rule k) id v (handed_on v) (handed_out v)
-  gives_first id v = splits id v (rest_of v.hands) (looked v (front_of v.hands)) (from_rest v) (from_front v) (λ a p. ⊎_elim (λ q. inr (front_has v a q)) (λ q. inl (a, q, refl)) (in_cut v.hands a p)) (apart_rest v.hands) (apart_looked v) (λ t a b p q e. cross_looked v t a b p q (sym e))
+  gives_first id v = splits id v (rest_of v.hands) (looked v (front_of v.hands)) (from_rest v) (from_front v) (λ a p. ⊎_elim (λ q. inr (front_has v a q)) (λ q. inl (a, q, refl, refl)) (in_cut v.hands a p)) (apart_rest v.hands) (apart_looked v) (λ t a b p q e. cross_looked v t a b p q (sym e))
 
   -- the first hand stays, and the others go to a new seat
   pub keeps_first : (id : ℕ) (v : View) → Splits (Rule k) id v (kept v) (parted v)
-  keeps_first id v = splits id v (looked v (front_of v.hands)) (rest_of v.hands) (from_front v) (from_rest v) (λ a p. ⊎_elim (λ q. inl (front_has v a q)) (λ q. inr (a, q, refl)) (in_cut v.hands a p)) (apart_looked v) (apart_rest v.hands) (λ t a b p q. cross_looked v t b a q p)
+  keeps_first id v = splits id v (looked v (front_of v.hands)) (rest_of v.hands) (from_front v) (from_rest v) (λ a p. ⊎_elim (λ q. inl (front_has v a q)) (λ q. inr (a, q, refl, refl)) (in_cut v.hands a p)) (apart_looked v) (apart_rest v.hands) (λ t a b p q. cross_looked v t b a q p)
 
 pub joined_has : (v w : View) → HasPass v → HasPass (joined v w)
 joined_has v w t = (noted kinds.SeatLoad v.seen t.0, in_left w.hands (in_map_to (noted kinds.SeatLoad v.seen) t.1))

@@ -1,5 +1,5 @@
 -- What a store to one word leaves of the others.
-use Rattle.std.proofs.Common.{◌≡◌, ◌≢◌, ℕ, ◌<◌, ◌≤◌, List, length, set, get_or, sym, refl, ap, ◌∙◌, subst, arith, get_or-set_other, get_or-set_same, Option, Some, None}
+use Rattle.std.proofs.Common.{◌≡◌, ◌≢◌, ◌⊎◌, inl, inr, ⊎_elim, ℕ, ◌<◌, ◌≤◌, List, length, set, get_or, sym, refl, ap, ◌∙◌, subst, arith, get_or-set_other, get_or-set_same, Option, Some, None}
 use mathlib.Core.Logic.{dite}
 use native.Mathlib.Decide.{ℕ_discrete}
 use Rattle.tp_model.specs.declared.types.Element.{Element}
@@ -9,11 +9,11 @@ use Rattle.tp_model.specs.Steps.{IsArea, block_first, rows_of}
 use Rattle.tp_words.specs.Places.{Word, HeadWord, BodyWord, ClaimWord, UnitWord, MarkWord, DrawnWord, IsThere, head_place, body_place, mark_place, place_of, size_of}
 use Rattle.tp_words.specs.Words.{pack_head}
 use Rattle.tp_words.specs.declared.words.Head.{Head}
-use Rattle.tp_words.specs.declared.words.Head.TheVariants.{Empty, There}
+use Rattle.tp_words.specs.declared.words.Head.TheVariants.{Empty, Void, There}
 use Rattle.tp_words.proofs.PlaceLemmas.{places_differ, places_inside}
 use Rattle.tp_rule.specs.Rule.{Holds, IsUnwritten, StillSo, drawn_in}
 use Rattle.tp_rule.specs.declared.view.Known.{Known}
-use Rattle.tp_rule.specs.declared.view.Known.TheVariants.{RowHead, PartMark, BlocksDrawn}
+use Rattle.tp_rule.specs.declared.view.Known.TheVariants.{RowHead, PartMark, MarkAbove, BlocksDrawn}
 
 -- the row whose element the word tells of, beside its claim
 abbrev pub body_row : Word → Option ℕ
@@ -21,7 +21,7 @@ body_row (HeadWord i) = Some i
 body_row (BodyWord i j) = Some i
 body_row (ClaimWord i) = None
 body_row (UnitWord u) = None
-body_row (MarkWord p) = None
+body_row (MarkWord s p) = None
 body_row DrawnWord = None
 
 -- the head and the body of row i are the same
@@ -34,28 +34,34 @@ holds_same ws ws' x s h = let whole = h.2 in (s.0 ∙ h.0, λ j less. s.1 j (ome
 -- a head that isn't empty isn't packed as 0
 pub full_head : (head : Head) → head ≢ Empty → pack_head head ≡ 0 → ⊥
 full_head Empty some e = some refl
+full_head Void some e = omega arith
 full_head (There stage root by) some e = omega arith
 
--- the head of row i may be stored: it is empty, those before it in its area aren't, and its row is in no block that isn't drawn
-pub record MayHead (l : Limits) (ws : List ℕ) (i : ℕ) : Type 0 where
+-- the head x of row i may be stored: none is there, those before it in its area aren't empty or it is void, and its row is
+-- in no block that isn't drawn
+pub record MayHead (l : Limits) (ws : List ℕ) (x i : ℕ) : Type 0 where
   pub empty : get_or ws (head_place i) 0 ≡ 0
-  pub full : (first end j : ℕ) → IsArea l first end → first ≤ i → i < end → first ≤ j → j < i → get_or ws (head_place j) 0 ≢ 0
+  pub full : x ≢ pack_head Void → (first end j : ℕ) → IsArea l first end → first ≤ i → i < end → first ≤ j → j < i → get_or ws (head_place j) 0 ≢ 0
   pub drawn : i < block_first l (drawn_in l ws)
+
+-- the head of row i is empty or void
+abbrev pub IsBare : List ℕ → ℕ → Type 0
+IsBare ws i = (get_or ws (head_place i) 0 ≡ 0) ⊎ (get_or ws (head_place i) 0 ≡ pack_head Void)
 
 -- the number x may be stored at the word w: a head where it may be, no mark and no counter falls, and no word of a body is in
 -- a block that isn't drawn
 pub record MayStore (l : Limits) (ws : List ℕ) (w : Word) (x : ℕ) : Type 0 where
-  pub head : (i : ℕ) → w ≡ HeadWord i → MayHead l ws i
-  pub mark : (p : ℕ) → w ≡ MarkWord p → get_or ws (mark_place l p) 0 ≤ x
+  pub head : (i : ℕ) → w ≡ HeadWord i → MayHead l ws x i
+  pub mark : (s p : ℕ) → w ≡ MarkWord s p → get_or ws (mark_place l s p) 0 ≤ x
   pub count : w ≡ DrawnWord → (drawn_in l ws ≤ x) × (x ≤ l.spare)
   pub word : (i j : ℕ) → w ≡ BodyWord i j → i < block_first l (drawn_in l ws)
 
 -- a claim and a unit's word may always be stored
 pub may_claim : (l : Limits) (ws : List ℕ) (i x : ℕ) → MayStore l ws (ClaimWord i) x
-may_claim l ws i x = record { head = λ j e. absurd cc; mark = λ p e. absurd cc; count = λ e. absurd cc; word = λ j n e. absurd cc }
+may_claim l ws i x = record { head = λ j e. absurd cc; mark = λ s p e. absurd cc; count = λ e. absurd cc; word = λ j n e. absurd cc }
 
 pub may_unit : (l : Limits) (ws : List ℕ) (u x : ℕ) → MayStore l ws (UnitWord u) x
-may_unit l ws u x = record { head = λ j e. absurd cc; mark = λ p e. absurd cc; count = λ e. absurd cc; word = λ j n e. absurd cc }
+may_unit l ws u x = record { head = λ j e. absurd cc; mark = λ s p e. absurd cc; count = λ e. absurd cc; word = λ j n e. absurd cc }
 
 module _ (l : Limits) where
   -- two words are the same or not
@@ -67,6 +73,10 @@ module _ (l : Limits) where
     -- leaves every other word
     pub left : (v : Word) → IsThere l v → v ≢ w → get_or (set ws (place_of l w) x) (place_of l v) 0 ≡ get_or ws (place_of l v) 0
     left v there other = get_or-set_other ws (place_of l w) (place_of l v) x 0 (λ e. other (places_differ l v w there at e))
+
+    -- so a store that isn't to the counter of drawn blocks leaves that
+    pub drawn_left : w ≢ DrawnWord → (b : ℕ) → b < drawn_in l (set ws (place_of l w) x) → b < drawn_in l ws
+    drawn_left other b below = let same = left DrawnWord tt (λ e. other (sym e)) in omega arith
 
     pub stored : length ws ≡ size_of l → get_or (set ws (place_of l w) x) (place_of l w) 0 ≡ x
     stored wide = get_or-set_same ws (place_of l w) x 0 (subst (λ n. place_of l w < n) (sym wide) (places_inside l w at))
@@ -97,11 +107,17 @@ module _ (l : Limits) where
       -- what was found in words that stay or rise is still so
       pub still_left : (known : Known) → StillSo l ws known → StillSo l (set ws (place_of l w) x) known
       still_left (RowHead i head) t = (t.0, t.1, λ some. heads_kept (λ j e. (may.head j e).empty) i t.0 (λ zero. full_head head some (sym (t.2 some) ∙ zero)) ∙ t.2 some)
-      still_left (PartMark p n) t = let low : n ≤ get_or ws (mark_place l p) 0 = t.1 in (
+      still_left (PartMark s p n) t = let low : n ≤ get_or ws (mark_place l s p) 0 = t.1 in (
         t.0,
-        same_or_other (MarkWord p) w t.0 at
-            (λ e. let up = may.mark p (sym e) in let now : get_or (set ws (place_of l w) x) (mark_place l p) 0 ≡ x = ap (λ z. get_or (set ws (place_of l w) x) (place_of l z) 0) e ∙ stored wide in omega arith)
-            (λ other. let same = left (MarkWord p) t.0 other in omega arith),
+        same_or_other (MarkWord s p) w t.0 at
+            (λ e. let up = may.mark s p (sym e) in let now : get_or (set ws (place_of l w) x) (mark_place l s p) 0 ≡ x = ap (λ z. get_or (set ws (place_of l w) x) (place_of l z) 0) e ∙ stored wide in omega arith)
+            (λ other. let same = left (MarkWord s p) t.0 other in omega arith),
+      )
+      still_left (MarkAbove s p n) t = let low : n < get_or ws (mark_place l s p) 0 = t.1 in (
+        t.0,
+        same_or_other (MarkWord s p) w t.0 at
+            (λ e. let up = may.mark s p (sym e) in let now : get_or (set ws (place_of l w) x) (mark_place l s p) 0 ≡ x = ap (λ z. get_or (set ws (place_of l w) x) (place_of l z) 0) e ∙ stored wide in omega arith)
+            (λ other. let same = left (MarkWord s p) t.0 other in omega arith),
       )
       still_left (BlocksDrawn n) t = let low : n ≤ drawn_in l ws = t in let up = drawn_rises in omega arith
 
@@ -119,14 +135,16 @@ module _ (l : Limits) where
           (λ e. let inside = may.word i j (sym e) in absurd (omega arith))
           (λ other. left (BodyWord i j) (there, few) other ∙ old i (omega arith) there j few)
 
-      -- and behind an empty head in an area there are only empty ones
-      pub behind_after : (first end i j : ℕ) → IsArea l first end → end ≤ rows_of l → first ≤ i → i ≤ j → j < end → (get_or ws (head_place i) 0 ≡ 0 → get_or ws (head_place j) 0 ≡ 0)
-          → get_or (set ws (place_of l w) x) (head_place i) 0 ≡ 0 → get_or (set ws (place_of l w) x) (head_place j) 0 ≡ 0
+      -- and behind an empty head in an area there are only empty and void ones
+      pub behind_after : (first end i j : ℕ) → IsArea l first end → end ≤ rows_of l → first ≤ i → i ≤ j → j < end → (get_or ws (head_place i) 0 ≡ 0 → IsBare ws j)
+          → get_or (set ws (place_of l w) x) (head_place i) 0 ≡ 0 → IsBare (set ws (place_of l w) x) j
       behind_after first end i j area top low later high old zero = let there_i : i < rows_of l = omega arith in let there_j : j < rows_of l = omega arith in dite (ℕ_discrete i j)
-          (λ same. ap (λ z. get_or (set ws (place_of l w) x) (head_place z) 0) (sym same) ∙ zero)
+          (λ same. inl (ap (λ z. get_or (set ws (place_of l w) x) (head_place z) 0) (sym same) ∙ zero))
           (λ apart. same_or_other (HeadWord j) w there_j at
-          (λ e. let now = same_head i there_i (λ q. apart (head_row i j (sym q ∙ sym e))) in absurd ((may.head j (sym e)).full first end i area (omega arith) high low (omega arith) (sym now ∙ zero)))
-          (λ other. left (HeadWord j) there_j other ∙ old (was_empty i there_i zero)))
+          (λ e. let now = same_head i there_i (λ q. apart (head_row i j (sym q ∙ sym e))) in dite (ℕ_discrete x (pack_head Void))
+          (λ void. inr (ap (λ z. get_or (set ws (place_of l w) x) (place_of l z) 0) e ∙ (stored wide ∙ void)))
+          (λ not. absurd ((may.head j (sym e)).full not first end i area (omega arith) high low (omega arith) (sym now ∙ zero))))
+          (λ other. let same = left (HeadWord j) there_j other in ⊎_elim (λ z. inl (same ∙ z)) (λ z. inr (same ∙ z)) (old (was_empty i there_i zero))))
         where
           head_row : (n m : ℕ) → HeadWord n ≡ HeadWord m → n ≡ m
           head_row n m e = cc

@@ -1,9 +1,11 @@
 -- What the words tell of a history that goes on by one event.
-use Rattle.std.proofs.Common.{◌≡◌, ◌≢◌, ℕ, ◌<◌, ◌≤◌, List, [], ◌∷◌, ◌++◌, set, get_or, slice_index, sym, refl, ap, ◌∙◌, subst, inl, inr, ⊎_elim, arith, length-set, Option, Some, None}
+use Rattle.std.proofs.Common.{◌≡◌, ◌≢◌, ℕ, suc, ◌+◌, ◌*◌, ◌<◌, ◌≤◌, suc-mul, mul-le-mul_right, List, [], ◌∷◌, ◌++◌, set, get_or, slice_index, sym, refl, ap, ◌∙◌, subst, inl, inr, ⊎_elim, arith, length-set, Option, Some, None}
+use mathlib.Core.Logic.{dite}
+use native.Mathlib.Decide.{ℕ_discrete}
 use Rattle.tp_model.specs.declared.event.Event.{Event}
 use Rattle.tp_model.specs.declared.types.Element.{Element}
 use Rattle.tp_model.specs.declared.types.Limits.{Limits}
-use Rattle.tp_model.specs.History.{Aborted, Committed, In, IsSettled, IsUnborn, UnitEnd, births, element_of, end_of}
+use Rattle.tp_model.specs.History.{Aborted, Committed, In, IsSettled, IsUnborn, UnitEnd, births, element_of, end_of, status_of}
 use mathlib.Core.List.{IsPrefix}
 use Rattle.tp_model.specs.Steps.{IsArea, IsLegal, rows_of}
 use Rattle.tp_model.specs.Words.{ClaimWord, claim_word, claim_word_after}
@@ -15,27 +17,41 @@ use Rattle.tp_model.proofs.WordProofs.{claim_word-snoc, end_of-snoc}
 use Rattle.tp_words.specs.Places.{Word, HeadWord, BodyWord, ClaimWord as ClaimOf, UnitWord, MarkWord, DrawnWord, IsThere, head_place, mark_place, place_of}
 use Rattle.tp_words.specs.Words.{IsFitClaim, IsFitHead, IsFitUnit, head_of, pack_claim, pack_head, pack_unit}
 use Rattle.tp_words.specs.declared.words.Head.{Head}
-use Rattle.tp_words.specs.declared.words.Head.TheVariants.{Empty, There}
-use Rattle.tp_rule.specs.Rule.{HeadTold, IsFinished, MarkHolds, StillSo, Told, World}
+use Rattle.tp_words.specs.declared.words.Head.TheVariants.{Empty, Void, There}
+use Rattle.tp_rule.specs.Rule.{Concerns, HeadTold, IsAside, IsFinished, IsInside, IsOther, IsUseless, MarkHolds, StillSo, Told, World}
 use Rattle.tp_rule.specs.Steps.{AreOver, Found, IsLow, IsOver, IsSo}
 use Rattle.tp_rule.specs.declared.view.Known.{Known}
-use Rattle.tp_rule.specs.declared.view.Known.TheVariants.{RowHead, PartMark, BlocksDrawn}
+use Rattle.tp_rule.specs.declared.view.Known.TheVariants.{RowHead, PartMark, MarkAbove, BlocksDrawn}
 use Rattle.tp_rule.proofs.Births.{MadeBy, by_unit}
-use Rattle.tp_rule.proofs.Parts.{in_rows}
 use Rattle.tp_rule.proofs.Storing.{MayStore, bare_after, behind_after, drawn_inside, full_head, heads_kept, left, same_or_other, stored, unwritten_after}
 use Rattle.tp_rule.proofs.Units.{decide}
 
 -- a head's word tells the head
 pub head_told : (a b : Head) → IsFitHead a → IsFitHead b → pack_head a ≡ pack_head b → a ≡ b
 head_told Empty Empty f g e = refl
+head_told Empty Void f g e = absurd (omega arith)
 head_told Empty (There s r b) f g e = absurd (omega arith)
+head_told Void Empty f g e = absurd (omega arith)
+head_told Void Void f g e = refl
+head_told Void (There s r b) f g e = absurd (omega arith)
 head_told (There s r b) Empty f g e = absurd (omega arith)
+head_told (There s r b) Void f g e = absurd (omega arith)
 head_told (There s r None) (There t q None) f g e = let a : s ≤ 15 = f.1 in let b : t ≤ 15 = g.1 in let c : r ≤ 65535 = f.2 in let d : q ≤ 65535 = g.2 in
     let x : s ≡ t = omega arith in let y : r ≡ q = omega arith in (λ i. There (x i) (y i) None)
 head_told (There s r None) (There t q (Some v)) f g e = let a : s ≤ 15 = f.1 in let b : t ≤ 15 = g.1 in let c : r ≤ 65535 = f.2 in let d : q ≤ 65535 = g.2 in absurd (omega arith)
 head_told (There s r (Some u)) (There t q None) f g e = let a : s ≤ 15 = f.1 in let b : t ≤ 15 = g.1 in let c : r ≤ 65535 = f.2 in let d : q ≤ 65535 = g.2 in absurd (omega arith)
 head_told (There s r (Some u)) (There t q (Some v)) f g e = let a : s ≤ 15 = f.1 in let b : t ≤ 15 = g.1 in let c : r ≤ 65535 = f.2 in let d : q ≤ 65535 = g.2 in
     let x : s ≡ t = omega arith in let y : r ≡ q = omega arith in let z : u ≡ v = omega arith in (λ i. There (x i) (y i) (Some (z i)))
+
+-- what is below a number of rows is one, too
+pub inside_below : (k : Limits) (p n m : ℕ) → n ≤ m → IsInside k p m → IsInside k p n
+inside_below k p n m le inside = (λ part. let top = inside.0 part in omega arith, λ spare. let top = inside.1 spare in omega arith)
+
+-- and they are among all rows
+pub inside_rows : (k : Limits) (p n : ℕ) → p ≤ k.parts → IsInside k p n → p * k.rows + n ≤ rows_of k
+inside_rows k p n there inside = dite (ℕ_discrete p k.parts)
+    (λ same. let top = inside.1 same in let first : p * k.rows ≡ k.parts * k.rows = ap (λ z. z * k.rows) same in omega arith)
+    (λ other. let top = inside.0 other in let all : suc p * k.rows ≤ k.parts * k.rows = mul-le-mul_right k.rows (omega arith) in omega (arith, suc-mul p k.rows))
 
 module _ (k : Limits) (h : List Event) (ws : List ℕ) (world : World k h ws) where
   pub found : (word : ℕ) → Found k h word (get_or ws word 0)
@@ -50,8 +66,8 @@ module _ (k : Limits) (h : List Event) (ws : List ℕ) (world : World k h ws) wh
   born_fit i x p = let id = element_of-id h i x p in let t = world.tells (HeadWord x.id) (births_inside k h world.legal x (is_born h i x p)) in subst IsFitHead (t.born x (is_born h i x p)) t.fit
 
   -- in a finished row no element is anything but consumed or killed
-  pub over : (i : ℕ) → i < rows_of k → IsFinished k h ws i → IsOver k h i
-  over i there f x p = ⊎_elim (λ s. s.2) (λ d. absurd (not_born d.0 d.1 d.2 d.3 d.4 d.5)) f
+  over_finished : (i : ℕ) → i < rows_of k → IsFinished k h ws i → (x : Element) → element_of h i ≡ Some x → IsSettled (status_of k.attempts h i)
+  over_finished i there f x p = ⊎_elim (λ s. s.2) (λ d. absurd (not_born d.0 d.1 d.2 d.3 d.4 d.5)) f
     where
       named : (stage root u : ℕ) (y : Element) → There stage root (Some u) ≡ head_of y → y.by ≡ Some u
       named stage root u y e = cc
@@ -64,10 +80,19 @@ module _ (k : Limits) (h : List Event) (ws : List ℕ) (world : World k h ws) wh
           let same : There stage root (Some u) ≡ head_of x = head_told (There stage root (Some u)) t.head fit t.fit (sym is ∙ t.packed) ∙ t.born x p in
           apart u (by_unit k h world.legal i x u p (named stage root u x same)) gone
 
+  -- an element whose row has a head of no use to kind s is of a stage that it isn't about
+  aside_not : (s i : ℕ) → i < rows_of k → IsAside ws s i → (x : Element) → element_of h i ≡ Some x → ¬ Concerns s x.stage
+  aside_not s i there a x p = let t = world.tells (HeadWord i) there in
+      subst (IsOther s) (head_told a.0 t.head a.1 t.fit (sym a.2 ∙ t.packed) ∙ t.born x p) a.3
+
+  -- so in a row of no use to kind s no element that it is about is anything else
+  pub over : (s i : ℕ) → i < rows_of k → IsUseless k s h ws i → IsOver k s h i
+  over s i there u x p c = ⊎_elim (λ f. over_finished i there f x p) (λ a. absurd (aside_not s i there a x p c)) u
+
   -- and so in all rows below a mark that was found
-  pub over_below : (p n : ℕ) → StillSo k ws (PartMark p n) → AreOver k h p n
-  over_below p n t i low high = let room = t.0 in let m = world.marks p room in let le : n ≤ get_or ws (mark_place k p) 0 = t.1 in let top = m.inside in
-      over i (in_rows k p i (room, low, omega arith)) (m.below i low (omega arith))
+  pub over_below : (s p n : ℕ) → StillSo k ws (PartMark s p n) → AreOver k s h p n
+  over_below s p n t i low high = let room = t.0 in let m = world.marks s p room in let le : n ≤ get_or ws (mark_place k s p) 0 = t.1 in let top = m.inside in
+      let all = inside_rows k p (get_or ws (mark_place k s p) 0) room.2 top in over s i (omega arith) (m.below i low (omega arith))
 
   -- nothing is born in a row without a head
   pub empty_unborn : (i : ℕ) → i < rows_of k → get_or ws (head_place i) 0 ≡ 0 → IsUnborn h i
@@ -75,25 +100,45 @@ module _ (k : Limits) (h : List Event) (ws : List ℕ) (world : World k h ws) wh
       (λ t. let told = world.tells (HeadWord i) there in absurd (full_head (head_of t.0) (λ q. cc) (ap pack_head (sym (told.born t.0 (born_at h i t.0 t.1 t.2))) ∙ (sym told.packed ∙ zero))))
       (λ none. none) (born_or_not h i)
 
-  -- nor behind one in its area
-  pub none_behind : (first end i j : ℕ) → IsArea k first end → first ≤ i → i ≤ j → j < end → get_or ws (head_place i) 0 ≡ 0 → IsUnborn h j
-  none_behind first end i j area low later high zero = let top = area_inside k first end area in empty_unborn j (omega arith) (world.behind first end i j area low later high zero)
+  -- nor in a void row
+  void_unborn : (i : ℕ) → i < rows_of k → get_or ws (head_place i) 0 ≡ pack_head Void → IsUnborn h i
+  void_unborn i there void = ⊎_elim
+      (λ t. let told = world.tells (HeadWord i) there in let head : told.head ≡ Void = head_told told.head Void told.fit tt (sym told.packed ∙ void) in
+      let e : Void ≡ head_of t.0 = sym head ∙ told.born t.0 (born_at h i t.0 t.1 t.2) in absurd cc)
+      (λ none. none) (born_or_not h i)
 
-  -- no mark is above the part
-  pub low_below : (p n : ℕ) → StillSo k ws (PartMark p n) → IsLow k h p n
-  low_below p n t = (let le : n ≤ get_or ws (mark_place k p) 0 = t.1 in let top = (world.marks p t.0).inside in omega arith, over_below p n t)
+  -- nor behind an empty one in its area
+  pub none_behind : (first end i j : ℕ) → IsArea k first end → first ≤ i → i ≤ j → j < end → get_or ws (head_place i) 0 ≡ 0 → IsUnborn h j
+  none_behind first end i j area low later high zero = let top = area_inside k first end area in ⊎_elim (empty_unborn j (omega arith)) (void_unborn j (omega arith)) (world.behind first end i j area low later high zero)
+
+  -- no mark is above its rows
+  pub low_below : (s p n : ℕ) → StillSo k ws (PartMark s p n) → IsLow k s h p n
+  low_below s p n t = (inside_below k p n (get_or ws (mark_place k s p) 0) t.1 (world.marks s p t.0).inside, over_below s p n t)
 
   -- what a seat knows of words that stay is so
   pub so_now : (x : Known) → StillSo k ws x → IsSo k h x
   so_now (RowHead i head) still = λ some x p. recall i head x still some p
-  so_now (PartMark p n) still = low_below p n still
+  so_now (PartMark s p n) still = low_below s p n still
+  so_now (MarkAbove s p n) still = let low : n < get_or ws (mark_place k s p) 0 = still.1 in inside_below k p (n + 1) (get_or ws (mark_place k s p) 0) (omega arith) (world.marks s p still.0).inside
   so_now (BlocksDrawn n) still = let top = world.drawn in omega arith
+
+-- a head of no use isn't empty
+pub other_full : (s : ℕ) (head : Head) → IsOther s head → head ≢ Empty
+other_full s Empty o e = o
+other_full s Void o e = absurd cc
+other_full s (There stage root by) o e = absurd cc
 
 -- a finished row stays finished
 pub finished_later : (k : Limits) (h h' : List Event) (ws ws' : List ℕ) (i : ℕ) → IsPrefix h h' → IsLegal k h' → (get_or ws (head_place i) 0 ≢ 0 → get_or ws' (head_place i) 0 ≡ get_or ws (head_place i) 0) → IsFinished k h ws i → IsFinished k h' ws' i
 finished_later k h h' ws ws' i begins legal kept f = ⊎_elim
     (λ s. inl (s.0, found_later h h' begins i s.0 s.1, subst IsSettled (sym (settled_stay k h h' i legal begins s.2)) s.2))
     (λ d. inr (d.0, d.1, d.2, d.3, kept (λ zero. let e : pack_head (There d.0 d.1 (Some d.2)) ≡ 0 = sym d.4 ∙ zero in absurd (omega arith)) ∙ d.4, end_stays h h' d.2 Aborted begins d.5)) f
+
+-- and a row of no use to kind s stays so
+pub useless_later : (k : Limits) (s : ℕ) (h h' : List Event) (ws ws' : List ℕ) (i : ℕ) → IsPrefix h h' → IsLegal k h' → (get_or ws (head_place i) 0 ≢ 0 → get_or ws' (head_place i) 0 ≡ get_or ws (head_place i) 0) → IsUseless k s h ws i → IsUseless k s h' ws' i
+useless_later k s h h' ws ws' i begins legal kept u = ⊎_elim
+    (λ f. inl (finished_later k h h' ws ws' i begins legal kept f))
+    (λ a. inr (a.0, a.1, kept (λ zero. full_head a.0 (other_full s a.0 a.3) (sym a.2 ∙ zero)) ∙ a.2, a.3)) u
 
 module _ (h : List Event) (e : Event) where
   -- an element that is born in row i is so already, or is born now
@@ -130,23 +175,23 @@ module _ (h : List Event) (e : Event) where
   told_later none (BodyWord i j) n claims units old = body_later i n (λ x. slice_index x.body j) (λ x q. absurd (in_none (subst (In x) none q))) old
   told_later none (ClaimOf i) n claims units old = claim_later i n (claims i refl) old
   told_later none (UnitWord u) n claims units old = unit_later u n (units u refl) old
-  told_later none (MarkWord p) n claims units old = tt
+  told_later none (MarkWord s p) n claims units old = tt
   told_later none DrawnWord n claims units old = tt
 
 -- the words after a store to w, which may be made: it tells what is now so, and so do the others
 pub world_stored : (k : Limits) (h h' : List Event) (ws : List ℕ) (w : Word) (x : ℕ) → World k h ws → IsLegal k h' → IsPrefix h h' → IsThere k w → Told h' w x → ((v : Word) → IsThere k v → v ≢ w → Told h' v (get_or ws (place_of k v) 0))
-    → MayStore k ws w x → ((p : ℕ) → w ≡ MarkWord p → MarkHolds k h' (set ws (place_of k w) x) p x) → World k h' (set ws (place_of k w) x)
+    → MayStore k ws w x → ((s p : ℕ) → w ≡ MarkWord s p → MarkHolds k s h' (set ws (place_of k w) x) p x) → World k h' (set ws (place_of k w) x)
 world_stored k h h' ws w x world legal begins at now rest may mark = record {
   legal = legal;
   wide = length-set ws (place_of k w) x ∙ world.wide;
   tells = λ v there. same_or_other k v w there at
       (λ same. subst (λ z. Told h' z (get_or (set ws (place_of k w) x) (place_of k z) 0)) (sym same) (subst (Told h' w) (sym (stored k ws w x at world.wide)) now))
       (λ other. subst (Told h' v) (sym (left k ws w x at v there other)) (rest v there other));
-  marks = λ p there. same_or_other k (MarkWord p) w there at
-      (λ same. subst (MarkHolds k h' (set ws (place_of k w) x) p) (sym (ap (λ z. get_or (set ws (place_of k w) x) (place_of k z) 0) same ∙ stored k ws w x at world.wide)) (mark p (sym same)))
-      (λ other. let old = world.marks p there in let top = old.inside in subst (MarkHolds k h' (set ws (place_of k w) x) p) (sym (left k ws w x at (MarkWord p) there other)) record {
+  marks = λ s p there. same_or_other k (MarkWord s p) w there at
+      (λ same. subst (MarkHolds k s h' (set ws (place_of k w) x) p) (sym (ap (λ z. get_or (set ws (place_of k w) x) (place_of k z) 0) same ∙ stored k ws w x at world.wide)) (mark s p (sym same)))
+      (λ other. let old = world.marks s p there in let top = old.inside in subst (MarkHolds k s h' (set ws (place_of k w) x) p) (sym (left k ws w x at (MarkWord s p) there other)) record {
         inside = top;
-        below = λ i low high. finished_later k h h' ws (set ws (place_of k w) x) i begins legal (heads_kept k ws w x at (λ j e. (may.head j e).empty) i (in_rows k p i (there, low, omega arith))) (old.below i low high);
+        below = λ i low high. useless_later k s h h' ws (set ws (place_of k w) x) i begins legal (heads_kept k ws w x at (λ j e. (may.head j e).empty) i (let all = inside_rows k p (get_or ws (mark_place k s p) 0) there.2 top in omega arith)) (old.below i low high);
       });
   drawn = drawn_inside k ws w x at world.wide may world.drawn;
   bare = bare_after k ws w x at world.wide may world.bare;

@@ -8,10 +8,10 @@ use Rattle.tp_model.specs.declared.trace.StepKind.TheVariants as kinds
 use Rattle.tp_words.specs.declared.words.Head.{Head}
 use Rattle.tp_words.specs.declared.words.Head.TheVariants.{There}
 use Rattle.tp_words.specs.Words.{IsFitHead, pack_claim, pack_head}
-use Rattle.tp_words.specs.Places.{head_place, body_place, claim_place, mark_place, drawn_place, unit_place}
+use Rattle.tp_words.specs.Places.{IsThere, MarkWord, head_place, body_place, claim_place, mark_place, drawn_place, unit_place}
 use Rattle.tp_rule.specs.Views.{hand, next_row}
-use Rattle.tp_rule.specs.Steps.{Found, Grew, Knows, Loads, NoneFrom, unchanged, drafted, with_word, Drafts, Publishes, Chooses, MakesClaim, MakesCommit, Loses, MakesAbort, MakesKill, MakesRequeue, Misses, IsLow, Raises, NoneDrawn, Draws, DrawsNone}
-use Rattle.tp_rule.specs.declared.view.Known.TheVariants.{RowHead, PartMark, BlocksDrawn}
+use Rattle.tp_rule.specs.Steps.{Found, Grew, Knows, Loads, NoneFrom, unchanged, drafted, with_word, Drafts, Publishes, Chooses, MakesClaim, MakesCommit, Loses, MakesAbort, MakesKill, MakesRequeue, Misses, IsLow, Raises, NoneDrawn, Shares, Draws, DrawsNone, Voids}
+use Rattle.tp_rule.specs.declared.view.Known.TheVariants.{RowHead, PartMark, MarkAbove, BlocksDrawn}
 use Rattle.tp_rule.specs.declared.view.View.{View}
 
 abbrev pub Telling : Type 1
@@ -62,16 +62,21 @@ exchanges_requeue word old new v r w = (r ≡ old → (i : ℕ) × (k : ℕ) × 
 -- a load of a mark, which the seat remembers, and which has not fallen
 abbrev pub loads_mark : Telling
 loads_mark word first second v r w = Loads v word r w
-    × ((p : ℕ) → word ≡ mark_place v.limits p → p < v.limits.parts → Knows w (PartMark p r) × IsLow v.limits w.seen p r × ((n : ℕ) → Knows v (PartMark p n) → n ≤ r))
+    × ((s p : ℕ) → word ≡ mark_place v.limits s p → IsThere v.limits (MarkWord s p) → Knows w (PartMark s p r) × IsLow v.limits s w.seen p r
+    × ((n : ℕ) → Knows v (PartMark s p n) → n ≤ r))
 
 abbrev pub raises : Telling
-raises word old new v r w = (p : ℕ) → word ≡ mark_place v.limits p → Raises v p new w × (r ≡ old → Knows w (PartMark p new))
+raises word old new v r w = (s p : ℕ) → word ≡ mark_place v.limits s p → IsThere v.limits (MarkWord s p) → Raises v s p old new w × (r ≡ old → Knows w (PartMark s p new))
+    × (r ≢ old → Knows v (PartMark s p old) → Knows w (MarkAbove s p old))
 
 -- a load of the counter of drawn blocks, which the seat remembers, and which has not fallen; nothing is born
--- in the blocks from it on
+-- in the blocks from it on, and those below it are its passes' and others'
 abbrev pub loads_drawn : Telling
 loads_drawn word first second v r w = Loads v word r w
-    × (word ≡ drawn_place v.limits → Knows w (BlocksDrawn r) × (r ≤ v.limits.spare) × NoneDrawn v.limits w.seen r × ((n : ℕ) → Knows v (BlocksDrawn n) → n ≤ r))
+    × (word ≡ drawn_place v.limits → Knows w (BlocksDrawn r) × (r ≤ v.limits.spare) × NoneDrawn v.limits w.seen r × ((n : ℕ) → Knows v (BlocksDrawn n) → n ≤ r) × Shares r w)
 
 abbrev pub draws : Telling
 draws word old new v r w = (r ≡ old → Draws v old w) × (r ≢ old → DrawsNone v old r w)
+
+abbrev pub voids : Telling
+voids word old new v r w = (i : ℕ) → word ≡ head_place i → Voids v i w

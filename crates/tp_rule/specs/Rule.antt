@@ -1,6 +1,6 @@
 -- The rule: at every moment there is one legal history behind the words. It is read from the bottom of this
 -- page up. In each record l are the table's limits, h is the history, and ws are the words.
-use Rattle.std.specs.Prelude.{◌≡◌, ◌≢◌, ◌⊎◌, ℕ, ◌+◌, ◌*◌, ◌<◌, ◌≤◌, List, [], ◌∷◌, length, slice_index, Option, Some, None}
+use Rattle.std.specs.Prelude.{◌≡◌, ◌≢◌, ◌⊎◌, ℕ, zero, suc, ◌+◌, ◌*◌, ◌<◌, ◌≤◌, List, [], ◌∷◌, length, slice_index, Option, Some, None}
 use mathlib.Core.Option.{some}
 use mathlib.Core.List.{IsPrefix}
 use lib.ListN.{get_elem?}
@@ -12,15 +12,15 @@ use Rattle.tp_model.specs.Words.{claim_word}
 use Rattle.tp_model.specs.declared.event.Event.{Event}
 use Rattle.tp_model.specs.declared.types.Element.{Element}
 use Rattle.tp_model.specs.declared.types.Limits.{Limits}
-use Rattle.tp_model.specs.declared.types.TheConstants.{BODY_WORDS}
+use Rattle.tp_model.specs.declared.types.TheConstants.{BLOCK_ROWS, BODY_WORDS}
 use Rattle.tp_rule.specs.declared.view.Hand.{Hand}
 use Rattle.tp_rule.specs.declared.view.Known.{Known}
-use Rattle.tp_rule.specs.declared.view.Known.TheVariants.{RowHead, PartMark, BlocksDrawn}
+use Rattle.tp_rule.specs.declared.view.Known.TheVariants.{RowHead, PartMark, MarkAbove, BlocksDrawn}
 use Rattle.tp_rule.specs.declared.view.View.{View}
 use Rattle.tp_words.specs.Places.{Word, HeadWord, BodyWord, ClaimWord, UnitWord, MarkWord, DrawnWord, IsThere, head_place, body_place, mark_place, drawn_place, place_of, size_of}
 use Rattle.tp_words.specs.Words.{IsFitHead, IsFitClaim, IsFitUnit, head_of, pack_claim, pack_head, pack_unit}
 use Rattle.tp_words.specs.declared.words.Head.{Head}
-use Rattle.tp_words.specs.declared.words.Head.TheVariants.{Empty, There}
+use Rattle.tp_words.specs.declared.words.Head.TheVariants.{Empty, Void, There}
 
 -- the words of the body of row i are these
 abbrev pub HoldsBody : List ℕ → ℕ → List ℕ → Type 0
@@ -39,9 +39,10 @@ abbrev pub AreFrom : ℕ → List Element → Type 0
 AreFrom i [] = Unit {0}
 AreFrom i (x ∷ xs) = (x.id ≡ i) × AreFrom (i + 1) xs
 
--- the head of a row that is not born is empty, or names a unit
+-- the head of a row that is not born is empty or void, or names a unit
 abbrev pub IsDraft : Head → Type 0
 IsDraft Empty = Unit {0}
+IsDraft Void = Unit {0}
 IsDraft (There stage root by) = ¬ (by ≡ None)
 
 -- how many spare blocks are drawn
@@ -114,7 +115,8 @@ IsApart (a ∷ hands) = ((b : Hand) → In b hands → ¬ (b.number ≡ a.number
 -- or has only risen
 abbrev pub StillSo : Limits → List ℕ → Known → Type 0
 StillSo l ws (RowHead i head) = (i < rows_of l) × IsFitHead head × (head ≢ Empty → slice_index ws (head_place i) ≡ pack_head head)
-StillSo l ws (PartMark p n) = (p < l.parts) × (n ≤ slice_index ws (mark_place l p))
+StillSo l ws (PartMark s p n) = IsThere l (MarkWord s p) × (n ≤ slice_index ws (mark_place l s p))
+StillSo l ws (MarkAbove s p n) = IsThere l (MarkWord s p) × (n < slice_index ws (mark_place l s p))
 StillSo l ws (BlocksDrawn n) = n ≤ drawn_in l ws
 
 -- which seat stands for a pass, and which pass has drawn a spare block
@@ -149,7 +151,7 @@ pub record HeadTold (h : List Event) (i n : ℕ) : Type 0 where
   pub fit : IsFitHead head
   -- where an element is born in the row, it is that element's head
   pub born : (x : Element) → element_of h i ≡ Some x → head ≡ head_of x
-  -- where none is born, it is empty or names a unit
+  -- where none is born, it is empty or void, or names a unit
   pub draft : IsUnborn h i → IsDraft head
 
 -- what each word tells of the history h, where the number n stands there
@@ -163,7 +165,7 @@ Told h (ClaimWord i) n = (n ≡ pack_claim (claim_word h i)) × IsFitClaim (clai
 -- a unit's word: the packing of how the unit ended
 Told h (UnitWord u) n = (n ≡ pack_unit (end_of h u)) × IsFitUnit (end_of h u)
 -- a mark: that hangs on other words too, and is said of all words together
-Told h (MarkWord p) n = Unit {0}
+Told h (MarkWord s p) n = Unit {0}
 -- the counter of drawn blocks: the same
 Told h DrawnWord n = Unit {0}
 
@@ -180,10 +182,36 @@ IsDead h ws i = (stage : ℕ) × (root : ℕ) × (u : ℕ) × IsFitHead (There s
 abbrev pub IsFinished : Limits → List Event → List ℕ → ℕ → Type 0
 IsFinished l h ws i = IsSettledRow l h i ⊎ IsDead h ws i
 
--- what the mark n of part p tells: each row of the part below it is finished
-pub record MarkHolds (l : Limits) (h : List Event) (ws : List ℕ) (p n : ℕ) : Type 0 where
-  pub inside : n ≤ l.rows
-  pub below : (i : ℕ) → p * l.rows ≤ i → i < p * l.rows + n → IsFinished l h ws i
+-- the stages that marks of kind s are about: those of kind 0 are about all but replies, and those of any
+-- other kind about the stage with
+-- that number
+abbrev pub Concerns : ℕ → ℕ → Type 0
+Concerns zero stage = ¬ (stage ≡ 15)
+Concerns (suc s) stage = stage ≡ suc s
+
+-- a head is of no use to marks of kind s: it is void, or of a stage that they aren't about
+abbrev pub IsOther : ℕ → Head → Type 0
+IsOther s Empty = ⊥
+IsOther s Void = Unit {0}
+IsOther s (There stage root by) = ¬ Concerns s stage
+
+-- row i has such a head: it stays, whether its element is born or not
+abbrev pub IsAside : List ℕ → ℕ → ℕ → Type 0
+IsAside ws s i = (head : Head) × IsFitHead head × (slice_index ws (head_place i) ≡ pack_head head) × IsOther s head
+
+-- row i is of no use to a look that begins at marks of kind s
+abbrev pub IsUseless : Limits → ℕ → List Event → List ℕ → ℕ → Type 0
+IsUseless l s h ws i = IsFinished l h ws i ⊎ IsAside ws s i
+
+-- a part has as many as n rows; or there are as many spare rows, where p is the number of parts: they
+-- follow the last one
+abbrev pub IsInside : Limits → ℕ → ℕ → Type 0
+IsInside l p n = (¬ (p ≡ l.parts) → n ≤ l.rows) × (p ≡ l.parts → n ≤ BLOCK_ROWS * l.spare)
+
+-- what the mark n of kind s of part p, or of the spare rows, tells: each of its rows below it is of no use
+pub record MarkHolds (l : Limits) (s : ℕ) (h : List Event) (ws : List ℕ) (p n : ℕ) : Type 0 where
+  pub inside : IsInside l p n
+  pub below : (i : ℕ) → p * l.rows ≤ i → i < p * l.rows + n → IsUseless l s h ws i
 
 -- what is so of the words after the history h
 pub record World (l : Limits) (h : List Event) (ws : List ℕ) : Type 0 where
@@ -193,20 +221,29 @@ pub record World (l : Limits) (h : List Event) (ws : List ℕ) : Type 0 where
   pub wide : length ws ≡ size_of l
   -- each word tells what the history says
   pub tells : (w : Word) → IsThere l w → Told h w (slice_index ws (place_of l w))
-  -- the rows below each mark are finished
-  pub marks : (p : ℕ) → p < l.parts → MarkHolds l h ws p (slice_index ws (mark_place l p))
+  -- the rows below each mark are of no use to its kind
+  pub marks : (s p : ℕ) → IsThere l (MarkWord s p) → MarkHolds l s h ws p (slice_index ws (mark_place l s p))
   -- no more blocks are drawn than there are
   pub drawn : drawn_in l ws ≤ l.spare
   -- the rows of blocks that aren't drawn have empty heads
   pub bare : (i : ℕ) → block_first l (drawn_in l ws) ≤ i → i < rows_of l → slice_index ws (head_place i) ≡ 0
   -- and no word of their bodies was stored
   pub unwritten : (i : ℕ) → block_first l (drawn_in l ws) ≤ i → i < rows_of l → IsUnwritten ws i
-  -- behind an empty head there are only empty ones in its area
-  pub behind : (first end i j : ℕ) → IsArea l first end → first ≤ i → i ≤ j → j < end → slice_index ws (head_place i) ≡ 0 → slice_index ws (head_place j) ≡ 0
+  -- behind an empty head there are only empty and void ones in its area
+  pub behind : (first end i j : ℕ) → IsArea l first end → first ≤ i → i ≤ j → j < end → slice_index ws (head_place i) ≡ 0
+      → (slice_index ws (head_place j) ≡ 0) ⊎ (slice_index ws (head_place j) ≡ pack_head Void)
+
+-- some seat has a pass of which P is so
+abbrev pub AtSeat : (Hand → Type 0) → List View → Type 0
+AtSeat P views = (j : ℕ) × (v : View) × (a : Hand) × (get_elem? views j ≡ some v) × In a v.hands × P a
 
 -- pass c is one of a seat's
 abbrev pub IsSeated : List View → ℕ → Type 0
-IsSeated views c = (j : ℕ) × (v : View) × (a : Hand) × (get_elem? views j ≡ some v) × In a v.hands × (a.number ≡ c)
+IsSeated views c = AtSeat (λ (a : Hand). a.number ≡ c) views
+
+-- a pass of some seat has drawn spare block b
+abbrev pub IsDrawn : List View → ℕ → Type 0
+IsDrawn views b = AtSeat (λ (a : Hand). In b a.blocks) views
 
 -- the rule
 pub record Rule (l : Limits) (s : State (Unit {0}) View) : Type 0 where
@@ -220,3 +257,5 @@ pub record Rule (l : Limits) (s : State (Unit {0}) View) : Type 0 where
   pub seats : (j : ℕ) (v : View) → get_elem? s.views j ≡ some v → SeatHolds l history s.words owner j v
   -- every pass is one of some seat's
   pub complete : (c : ℕ) → c < l.parts → IsSeated s.views c
+  -- each spare block below the counter is one that some seat's pass has drawn
+  pub drawers : (b : ℕ) → b < drawn_in l s.words → IsDrawn s.views b

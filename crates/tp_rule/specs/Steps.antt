@@ -12,17 +12,18 @@ use Rattle.tp_model.specs.declared.event.Event.TheVariants.{Enqueue, Claim, Comm
 use Rattle.tp_model.specs.declared.trace.StepKind.{StepKind}
 use Rattle.tp_model.specs.declared.trace.StepKind.TheVariants as kinds
 use Rattle.tp_model.specs.History.{Aborted, In, IsSettled, IsUnborn, status_of, UnitClaim, UnitEnd, claim_of, element_of, end_of, events_by}
-use Rattle.tp_model.specs.Passes.{IsOwnOpen, IsRun}
+use Rattle.tp_model.specs.Passes.{Ascend, IsOwnArea, IsOwnOpen, IsRun}
 use Rattle.tp_model.specs.Words.{ClaimWord, claim_word, round_in, word_status}
 use Rattle.tp_model.specs.Steps.{IsBody, IsStage, IsServerStage, IsKillable, IsParked, IsLegal, IsArea, block_first, rows_of}
+use Rattle.tp_words.specs.declared.words.Head.{Head}
 use Rattle.tp_words.specs.declared.words.Head.TheVariants.{Empty, There}
 use Rattle.tp_words.specs.Words.{IsFitClaim, head_of}
 use Rattle.tp_words.specs.Places.{IsThere, Word, place_of}
-use Rattle.tp_rule.specs.Rule.{IsSettledRow, Told}
+use Rattle.tp_rule.specs.Rule.{Concerns, IsInside, IsOther, IsSettledRow, Told}
 use Rattle.tp_rule.specs.Views.{IsOnePass, blank_body, hand, next_row}
 use Rattle.tp_rule.specs.declared.view.Hand.{Hand}
 use Rattle.tp_rule.specs.declared.view.Known.{Known}
-use Rattle.tp_rule.specs.declared.view.Known.TheVariants.{RowHead, PartMark, BlocksDrawn}
+use Rattle.tp_rule.specs.declared.view.Known.TheVariants.{RowHead, PartMark, MarkAbove, BlocksDrawn}
 use Rattle.tp_rule.specs.declared.view.View.{View}
 
 -- the pass with one more entry in its trace
@@ -38,24 +39,26 @@ after kind f seen known v = record { limits = v.limits; seen = seen; also_seen =
 abbrev pub Knows : View → Known → Type 0
 Knows v x = In x v.known
 
--- no element of row i is taken, held or waits: where one is born, it is consumed or killed
-abbrev pub IsOver : Limits → List Event → ℕ → Type 0
-IsOver l h i = (x : Element) → element_of h i ≡ Some x → IsSettled (status_of l.attempts h i)
+-- no element of row i that is of a stage which kind s is about waits, is held or is parked: where one is
+-- born, it is consumed or killed
+abbrev pub IsOver : Limits → ℕ → List Event → ℕ → Type 0
+IsOver l s h i = (x : Element) → element_of h i ≡ Some x → Concerns s x.stage → IsSettled (status_of l.attempts h i)
 
--- so it is in each row of part p below row n of that part
-abbrev pub AreOver : Limits → List Event → ℕ → ℕ → Type 0
-AreOver l h p n = (i : ℕ) → p * l.rows ≤ i → i < p * l.rows + n → IsOver l h i
+-- so it is in the first n rows of part p, or of the spare rows where p is the number of parts
+abbrev pub AreOver : Limits → ℕ → List Event → ℕ → ℕ → Type 0
+AreOver l s h p n = (i : ℕ) → p * l.rows ≤ i → i < p * l.rows + n → IsOver l s h i
 
--- what a seat that knows the mark n of part p knows of the history h
-abbrev pub IsLow : Limits → List Event → ℕ → ℕ → Type 0
-IsLow l h p n = (n ≤ l.rows) × AreOver l h p n
+-- what a seat that knows the mark n of kind s of part p, or of the spare rows, knows of the history h
+abbrev pub IsLow : Limits → ℕ → List Event → ℕ → ℕ → Type 0
+IsLow l s h p n = IsInside l p n × AreOver l s h p n
 
 -- what a seat that knows x knows of the history h: a head that isn't empty is that of the element that is
--- born in the row, no row below a mark has an element that isn't consumed or killed, and no more blocks are
--- drawn than there are
+-- born in the row, no row below a mark has an element of its stages that isn't consumed or killed, a mark that is
+-- above a number is in its part, and no more blocks are drawn than there are
 abbrev pub IsSo : Limits → List Event → Known → Type 0
 IsSo l h (RowHead i head) = head ≢ Empty → (x : Element) → element_of h i ≡ Some x → head ≡ head_of x
-IsSo l h (PartMark p n) = IsLow l h p n
+IsSo l h (PartMark s p n) = IsLow l s h p n
+IsSo l h (MarkAbove s p n) = IsInside l p (n + 1)
 IsSo l h (BlocksDrawn n) = n ≤ l.spare
 
 -- a step that looks at the table: the seat has then seen the history so far, which ends with the step's own events
@@ -96,6 +99,17 @@ NoneFrom l h i = (first end j : ℕ) → IsArea l first end → first ≤ i → 
 -- no element is born in spare block n, nor in a later one
 abbrev pub NoneDrawn : Limits → List Event → ℕ → Type 0
 NoneDrawn l h n = (i : ℕ) → block_first l n ≤ i → i < rows_of l → IsUnborn h i
+
+-- the seat stands for every pass of the table
+abbrev pub HasEveryPass : View → Type 0
+HasEveryPass v = (c : ℕ) → c < v.limits.parts → (a : Hand) × In a v.hands × (a.number ≡ c)
+
+-- where n spare blocks are drawn: each that a pass of the seat has drawn is one of them, and no other pass's, and
+-- where the seat stands for every pass, each of them is one that a pass has drawn
+pub record Shares (n : ℕ) (v : View) : Type 0 where
+  pub below : (a : Hand) → In a v.hands → Ascend 0 n a.blocks
+  pub alone : (a a' : Hand) (b : ℕ) → In a v.hands → In a' v.hands → In b a.blocks → In b a'.blocks → a.number ≡ a'.number
+  pub all : HasEveryPass v → (b : ℕ) → b < n → (a : Hand) × In a v.hands × In b a.blocks
 
 -- a load, which found r at the place `word`
 abbrev pub Loads : View → ℕ → ℕ → View → Type 0
@@ -286,11 +300,20 @@ HasDead v i = (stage : ℕ) × (root : ℕ) × (u : ℕ) × Knows v (RowHead i (
 abbrev pub IsDone : View → ℕ → Type 0
 IsDone v i = IsSettledRow v.limits v.seen i ⊎ HasDead v i
 
--- the exchange of the mark of part p, after which nothing more is seen. What was known is known, and nothing
--- but the mark n besides
-abbrev pub Raises : View → ℕ → ℕ → View → Type 0
-Raises v p n w = (w ≡ after kinds.Raise unchanged v.seen w.known v) × ((x : Known) → Knows v x → Knows w x)
-    × ((x : Known) → Knows w x → Knows v x ⊎ (x ≡ PartMark p n))
+-- the seat has found in row i a head of no use to marks of kind s: a void one, or one of a stage that they aren't about
+abbrev pub HasAside : View → ℕ → ℕ → Type 0
+HasAside v s i = (head : Head) × Knows v (RowHead i head) × IsOther s head
+
+-- the seat knows that row i is of no use to kind s
+abbrev pub KnowsUseless : View → ℕ → ℕ → Type 0
+KnowsUseless v s i = IsDone v i ⊎ HasAside v s i
+
+-- the exchange of the mark of kind s of part p, or of the spare rows, from m to n, after which nothing
+-- more is seen. What was known is
+-- known, and nothing besides but the mark n, or that it is above m
+abbrev pub Raises : View → ℕ → ℕ → ℕ → ℕ → View → Type 0
+Raises v s p m n w = (w ≡ after kinds.Raise unchanged v.seen w.known v) × ((x : Known) → Knows v x → Knows w x)
+    × ((x : Known) → Knows w x → Knows v x ⊎ ((x ≡ PartMark s p n) ⊎ (x ≡ MarkAbove s p m)))
 
 -- draw
 
@@ -313,6 +336,17 @@ pub record DrawsNone (v : View) (b n : ℕ) (w : View) : Type 0 where
   pub other : n ≢ b
   pub inside : n ≤ v.limits.spare
   pub rises : (m : ℕ) → Knows v (BlocksDrawn m) → m ≤ n
+
+-- void
+
+-- row i is in an area of the pass that its run has left
+abbrev pub IsLeft : Limits → Hand → ℕ → Type 0
+IsLeft l a i = (first : ℕ) × (end : ℕ) × IsOwnArea l a.number a.blocks first end × (first ≤ i) × (i < end) × (end ≢ a.next + a.left)
+
+-- the exchange of the head of row i, from empty to void, after which nothing more is seen: the head isn't empty by
+-- then, and the seat knows it
+abbrev pub Voids : View → ℕ → View → Type 0
+Voids v i w = (head : Head) × (head ≢ Empty) × (w ≡ after kinds.Void unchanged v.seen (RowHead i head ∷ v.known) v) × IsSo v.limits v.seen (RowHead i head)
 
 -- splits and joins of seats, each a load
 

@@ -7,17 +7,19 @@ ghost use Rattle.tp_model.specs.History.{first_id};
 ghost use Rattle.tp_model.specs.Steps.{rows_of, units_of};
 ghost use Rattle.tp_model.specs.Words.{round_in};
 ghost use Rattle.tp_words.specs.Words.{claim_value, unit_value, IsFitClaim};
+ghost use Rattle.tp_rule.specs.Rule.{IsInside};
 ghost use Rattle.tp_rule.specs.Views.{hand_of, seen_by, view_of, IsNextUnit, IsSameSeat};
-ghost use Rattle.tp_rule.specs.declared.view.Known.TheVariants.{PartMark};
-ghost use Rattle.tp_rule.specs.Steps.{Raises, Draws, DrawsNone, Knows, IsDone, Chooses, MakesClaim, MakesCommit, MakesAbort, MakesKill, MakesRequeue, Loses, FindsOther, FindsEnded, AllowsClaim, AllowsKill, AllowsRequeue, HasElement, HasWork, IsOwnWork, IsClaimed};
+ghost use Rattle.tp_rule.specs.declared.view.Known.TheVariants.{MarkAbove, PartMark};
+ghost use Rattle.tp_words.specs.declared.places.TheConstants.{MARK_KINDS};
+ghost use Rattle.tp_rule.specs.Steps.{Raises, Draws, DrawsNone, IsLeft, Voids, Knows, KnowsUseless, Chooses, MakesClaim, MakesCommit, MakesAbort, MakesKill, MakesRequeue, Loses, FindsOther, FindsEnded, AllowsClaim, AllowsKill, AllowsRequeue, HasElement, HasWork, IsOwnWork, IsClaimed};
 
 use crate::plays::{
     AbortExchange, ClaimExchange, CommitExchange, Draw, KillExchange, Raise, RequeueExchange,
-    UnitChoice,
+    UnitChoice, Void,
 };
 use crate::seat::Seat;
 use crate::words::Words;
-use tp_words::bits::{UNIT_ABORTED, UNIT_UNDECIDED};
+use tp_words::bits::{HEAD_EMPTY, HEAD_VOID, UNIT_ABORTED, UNIT_UNDECIDED};
 use tp_words::{Claim, FoundClaim, UnitWord};
 
 impl Words {
@@ -188,20 +190,25 @@ impl Words {
         Err(FoundClaim::read(was))
     }
 
-    /// The mark of a part is raised over rows that the seat knows finished, if it is still the one that was found.
-    /// `true`: it is so high now, and the seat remembers it. Nothing more is seen by it, nor has the history changed.
-    pub fn raise(&self, seat: &mut Seat, part: u16, from: u16, to: u16) -> bool
+    /// The mark of a kind of a part, or of the spare rows where `part` is the number of parts, is raised over rows that
+    /// the seat knows of no use to it, if it is still the one that was found. `true`: it is so high now,
+    /// and the seat remembers it. `false`: it is above what was found. Nothing
+    /// more is seen by it, nor has the history changed.
+    pub fn raise(&self, seat: &mut Seat, kind: u8, part: u16, from: u16, to: u16) -> bool
         requires own { IsSeatOf self.now seat.old }
         requires one { IsPassOf self.now seat.old }
-        requires part { part < (limits_of self.now).parts }
-        requires up { (from ≤ to) × (to ≤ (limits_of self.now).rows) }
+        requires kind { kind < MARK_KINDS }
+        requires part { part ≤ (limits_of self.now).parts }
+        requires up { (from ≤ to) × IsInside (limits_of self.now) part to }
         requires done { let l = limits_of self.now in (i : ℕ) → part * l.rows + from ≤ i → i < part * l.rows + to
-            → IsDone (view_of seat.old) i }
+            → KnowsUseless (view_of seat.old) kind i }
         ensures same { IsSameSeat seat.old seat.new }
-        ensures raises { Raises (view_of seat.old) part to (view_of seat.new) }
-        ensures hit { result ≡ true → Knows (view_of seat.new) (PartMark part to) }
+        ensures raises { Raises (view_of seat.old) kind part from to (view_of seat.new) }
+        ensures hit { result ≡ true → Knows (view_of seat.new) (PartMark kind part to) }
+        ensures miss { result ≡ false → Knows (view_of seat.old) (PartMark kind part from)
+            → Knows (view_of seat.new) (MarkAbove kind part from) }
     {
-        let word = self.places.mark(part);
+        let word = self.places.mark(kind, part);
         let was = self
             .table
             .compare_exchange::<Raise>(seat, word, from as u64, to as u64);
@@ -230,5 +237,21 @@ impl Words {
         } else {
             Err(was as u16)
         }
+    }
+
+    /// Marks a row as one that is never used, if its head is empty: it is in the pass's part or in a block that the
+    /// pass has drawn, and the pass has left that for another block. The head isn't empty by then, and the seat
+    /// remembers it. Nothing more is seen by it, nor has the history changed.
+    pub fn void(&self, seat: &mut Seat, row: u32)
+        requires own { IsSeatOf self.now seat.old }
+        requires one { IsPassOf self.now seat.old }
+        requires row { row < rows_of (limits_of self.now) }
+        requires left { IsLeft (limits_of self.now) (hand_of seat.old) row }
+        ensures same { IsSameSeat seat.old seat.new }
+        ensures voids { Voids (view_of seat.old) row (view_of seat.new) }
+    {
+        let word = self.places.head(row);
+        self.table
+            .compare_exchange::<Void>(seat, word, HEAD_EMPTY, HEAD_VOID);
     }
 }

@@ -8,10 +8,11 @@ ghost use Rattle.tp_model.specs.Words.{claim_word};
 ghost use Rattle.tp_model.specs.Steps.{rows_of, units_of};
 ghost use Rattle.tp_words.specs.Words.{claim_value, unit_value, head_of, IsFitClaim};
 ghost use Rattle.tp_words.specs.Places.{size_of};
+ghost use Rattle.tp_words.specs.declared.places.TheConstants.{MARK_KINDS};
 ghost use Rattle.tp_words.specs.declared.words.Head.TheVariants.{Empty};
 ghost use Rattle.tp_rule.specs.Rule.{IsDraft};
 ghost use Rattle.tp_rule.specs.Views.{seen_by, view_of, HasPass, IsSameSeat};
-ghost use Rattle.tp_rule.specs.Steps.{IsLow, Loads, Grew, Knows, NoneDrawn, NoneFrom, unchanged};
+ghost use Rattle.tp_rule.specs.Steps.{IsLow, Loads, Grew, Knows, NoneDrawn, NoneFrom, Shares, unchanged};
 ghost use Rattle.tp_rule.specs.declared.view.Known.TheVariants.{RowHead, PartMark, BlocksDrawn};
 
 use crate::plays::{Load, LoadDrawn, LoadHead, LoadMark};
@@ -102,20 +103,22 @@ impl Words {
         UnitWord::read(found)
     }
 
-    /// Reads the mark of a part, and the seat remembers it: no row of the part below it has an element that
-    /// isn't consumed or killed, neither now nor at any later time.
+    /// Reads the mark of a kind of a part, or of the spare rows where `part` is the number of parts, and the seat
+    /// remembers it: no row of the part below it has an element of a
+    /// stage that this kind is about and that isn't consumed or killed, neither now nor at any later time.
     #[inline(always)]
-    pub fn load_mark(&self, seat: &mut Seat, part: u16) -> u16
+    pub fn load_mark(&self, seat: &mut Seat, kind: u8, part: u16) -> u16
         requires own { IsSeatOf self.now seat.old }
         requires one { IsPassOf self.now seat.old }
-        requires part { part < (limits_of self.now).parts }
+        requires kind { kind < MARK_KINDS }
+        requires part { part ≤ (limits_of self.now).parts }
         ensures same { IsSameSeat seat.old seat.new }
         ensures grew { Grew kinds.Load unchanged [] (view_of seat.old) (view_of seat.new) }
-        ensures knows { Knows (view_of seat.new) (PartMark part result) }
-        ensures low { IsLow (limits_of self.now) (seen_by seat.new) part result }
-        ensures rises { (n : ℕ) → Knows (view_of seat.old) (PartMark part n) → n ≤ result }
+        ensures knows { Knows (view_of seat.new) (PartMark kind part result) }
+        ensures low { IsLow (limits_of self.now) kind (seen_by seat.new) part result }
+        ensures rises { (n : ℕ) → Knows (view_of seat.old) (PartMark kind part n) → n ≤ result }
     {
-        let word = self.places.mark(part);
+        let word = self.places.mark(kind, part);
         let found = self.table.load::<LoadMark>(seat, word);
         found as u16
     }
@@ -132,6 +135,25 @@ impl Words {
         ensures inside { result ≤ (limits_of self.now).spare }
         ensures none { NoneDrawn (limits_of self.now) (seen_by seat.new) result }
         ensures rises { (n : ℕ) → Knows (view_of seat.old) (BlocksDrawn n) → n ≤ result }
+    {
+        self.load_drawn_together(seat)
+    }
+
+    /// Reads that number by a seat that may stand for several passes, each of which has one more entry in its trace.
+    /// Each block that one of them has drawn is below it, and no other pass's; where the seat stands for every
+    /// pass, each block below it is one that a pass has drawn.
+    #[inline(always)]
+    pub fn load_drawn_together(&self, seat: &mut Seat) -> u16
+        requires own { IsSeatOf self.now seat.old }
+        requires pass { HasPass (view_of seat.old) }
+        requires limits { (view_of seat.old).limits ≡ limits_of self.now }
+        ensures same { IsSameSeat seat.old seat.new }
+        ensures grew { Grew kinds.Load unchanged [] (view_of seat.old) (view_of seat.new) }
+        ensures knows { Knows (view_of seat.new) (BlocksDrawn result) }
+        ensures inside { result ≤ (limits_of self.now).spare }
+        ensures none { NoneDrawn (limits_of self.now) (seen_by seat.new) result }
+        ensures rises { (n : ℕ) → Knows (view_of seat.old) (BlocksDrawn n) → n ≤ result }
+        ensures shares { Shares result (view_of seat.new) }
     {
         let word = self.places.drawn();
         let drawn = self.table.load::<LoadDrawn>(seat, word);

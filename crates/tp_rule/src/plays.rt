@@ -1,6 +1,6 @@
 //! What each kind of step tells the functions of this crate, in the numbers of the table, and how seats are
 //! cut and joined.
-ghost use Rattle.tp_rule.specs.Plays.{Telling, loads, loads_head, stores_word, stores_head, publishes, chooses, exchanges_claim, exchanges_commit, exchanges_abort, exchanges_kill, exchanges_requeue, loads_mark, raises, loads_drawn, draws};
+ghost use Rattle.tp_rule.specs.Plays.{Telling, loads, loads_head, stores_word, stores_head, publishes, chooses, exchanges_claim, exchanges_commit, exchanges_abort, exchanges_kill, exchanges_requeue, loads_mark, raises, loads_drawn, draws, voids};
 ghost use Rattle.tp_rule.specs.Views.{spent};
 ghost use Rattle.tp_rule.specs.Steps.{handed_on, handed_out, kept, parted, joined};
 
@@ -105,6 +105,12 @@ pub(crate) struct Draw;
 
 impl Effect for Draw {
     ghost told = { draws };
+}
+
+pub(crate) struct Void;
+
+impl Effect for Void {
+    ghost told = { voids };
 }
 
 /// The first pass goes to a new seat.

@@ -44,8 +44,10 @@ pub struct Hand {
 pub enum Known {
     /// The head of a row: once it isn't empty, it stays as it is.
     RowHead(u32, Head),
-    /// The mark of a part: it never falls.
-    PartMark(u16, u16),
+    /// The mark of a kind of a part, or of the spare rows: it never falls.
+    PartMark(u8, u16, u16),
+    /// The mark of a kind of a part, or of the spare rows, is above this number.
+    MarkAbove(u8, u16, u16),
     /// The counter of drawn blocks: it never falls.
     BlocksDrawn(u16),
 }

@@ -194,8 +194,15 @@ impl Script {
                 root: one_id(words)?,
             })),
             Verb::Requeue => Ok(Command::Client(ClientAct::Requeue { id: one_id(words)? })),
+            Verb::Release => Ok(Command::Client(ClientAct::Release { id: one_id(words)? })),
             Verb::Read => Ok(Command::Client(ClientAct::Read { id: one_id(words)? })),
             Verb::Reply => Ok(Command::Client(ClientAct::Reply {
+                root: one_id(words)?,
+            })),
+            Verb::Collect => Ok(Command::Client(ClientAct::Collect {
+                root: one_id(words)?,
+            })),
+            Verb::Family => Ok(Command::Client(ClientAct::Family {
                 root: one_id(words)?,
             })),
             Verb::Errors => {

@@ -27,8 +27,11 @@ pub enum Verb {
     Kill,
     Cancel,
     Requeue,
+    Release,
     Read,
     Reply,
+    Collect,
+    Family,
     Errors,
     Count,
     /// A server's desk does this.
@@ -40,7 +43,7 @@ pub enum Verb {
 }
 
 /// The first words that lines may have: how each is written, the first reach that knows it, and what the line is.
-const FIRST_WORDS: [(&str, Reach, Keyword); 25] = [
+const FIRST_WORDS: [(&str, Reach, Keyword); 28] = [
     ("rows", Plain, Keyword::Rows),
     ("units", Plain, Keyword::Units),
     ("limit", Plain, Keyword::Limit),
@@ -58,6 +61,9 @@ const FIRST_WORDS: [(&str, Reach, Keyword); 25] = [
     ("kill", Desks, Keyword::Do(Verb::Kill)),
     ("cancel", Desks, Keyword::Do(Verb::Cancel)),
     ("requeue", Desks, Keyword::Do(Verb::Requeue)),
+    ("release", Desks, Keyword::Do(Verb::Release)),
+    ("collect", Desks, Keyword::Do(Verb::Collect)),
+    ("family", Desks, Keyword::Do(Verb::Family)),
     ("read", Desks, Keyword::Do(Verb::Read)),
     ("errors", Desks, Keyword::Do(Verb::Errors)),
     ("balance", Desks, Keyword::Do(Verb::Balance)),

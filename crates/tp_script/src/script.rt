@@ -70,10 +70,16 @@ pub enum ClientAct {
     Cancel { root: u32 },
     /// It gives a parked element another round.
     Requeue { id: u32 },
+    /// It aborts the unit of work that holds an element.
+    Release { id: u32 },
     /// It reads an element.
     Read { id: u32 },
     /// It lists the replies to a request.
     Reply { root: u32 },
+    /// It takes the replies to a request.
+    Collect { root: u32 },
+    /// It lists the elements of a request.
+    Family { root: u32 },
     /// It lists the parked elements.
     Errors,
     /// It counts the elements by how they stand.

@@ -2,18 +2,24 @@
 //! in two steps, so that the work can still be called off. Two kinds are built in, which follow a recipe. Nothing here takes memory.
 #![tactic(auto)]
 
+mod boxes;
 mod eager;
 mod effect;
 mod entry;
+mod handler;
 pub mod laws;
 mod lazy;
+mod own;
 mod prepared;
 mod recipe;
 mod registers;
 mod server;
 
+pub use crate::boxes::three;
 pub use crate::eager::EagerServer;
+pub use crate::handler::{Effect, Handler};
 pub use crate::lazy::LazyServer;
+pub use crate::own::OwnServer;
 pub use crate::prepared::Prepared;
 pub use crate::recipe::{Act, AmountFrom, BadRecipe, Declined, KeyFrom, Output, Recipe};
 pub use crate::registers::Registers;

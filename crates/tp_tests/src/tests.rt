@@ -11,6 +11,7 @@ mod interrupted;
 mod plain;
 mod plain_cancels;
 mod plain_plays;
+mod plain_releases;
 mod plain_requeues;
 mod plain_spares;
 mod reaches;

@@ -1,9 +1,9 @@
 -- Where the words stand in the table.
-use Rattle.std.specs.Prelude.{◌≡◌, ℕ, ◌+◌, ◌*◌, ◌<◌}
+use Rattle.std.specs.Prelude.{◌≡◌, ℕ, ◌+◌, ◌*◌, ◌<◌, ◌≤◌}
 use Rattle.tp_model.specs.declared.types.TheConstants.{BODY_WORDS}
 use Rattle.tp_model.specs.declared.types.Limits.{Limits}
 use Rattle.tp_model.specs.Steps.{rows_of, units_of}
-use Rattle.tp_words.specs.declared.places.TheConstants.{ROW_WORDS}
+use Rattle.tp_words.specs.declared.places.TheConstants.{MARK_KINDS, MARK_LINE, ROW_WORDS}
 
 -- the place of the head of row i, the first of the row's words
 abbrev pub head_place : ℕ → ℕ
@@ -21,13 +21,14 @@ claim_place i = body_place i BODY_WORDS
 abbrev pub unit_place : Limits → ℕ → ℕ
 unit_place l u = head_place (rows_of l) + u
 
--- the place of the mark of part p, behind those of all units
-abbrev pub mark_place : Limits → ℕ → ℕ
-mark_place l p = head_place (rows_of l) + units_of l + p
+-- the place of the mark of kind s of part p, or of the spare rows where p is the number of parts, behind the words of
+-- all units: those of one kind lie side by side
+abbrev pub mark_place : Limits → ℕ → ℕ → ℕ
+mark_place l s p = head_place (rows_of l) + units_of l + MARK_LINE * s + p
 
 -- the place of the counter of drawn blocks, behind all marks
 abbrev pub drawn_place : Limits → ℕ
-drawn_place l = head_place (rows_of l) + units_of l + l.parts
+drawn_place l = head_place (rows_of l) + units_of l + MARK_LINE * MARK_KINDS
 
 -- how many words there are
 abbrev pub size_of : Limits → ℕ
@@ -39,16 +40,18 @@ pub data Word : Type 0 where
   BodyWord : ℕ → ℕ → Word
   ClaimWord : ℕ → Word
   UnitWord : ℕ → Word
-  MarkWord : ℕ → Word
+  MarkWord : ℕ → ℕ → Word
   DrawnWord : Word
 
--- it is there: its row, its unit or its part is, and a body has that many words; the counter of drawn blocks always is
+-- it is there: its row, its unit or its part is, or it is the mark of the spare rows, and a body has that
+-- many words; the
+-- counter of drawn blocks always is
 abbrev pub IsThere : Limits → Word → Type 0
 IsThere l (HeadWord i) = i < rows_of l
 IsThere l (BodyWord i k) = (i < rows_of l) × (k < BODY_WORDS)
 IsThere l (ClaimWord i) = i < rows_of l
 IsThere l (UnitWord u) = u < units_of l
-IsThere l (MarkWord p) = p < l.parts
+IsThere l (MarkWord s p) = (s < MARK_KINDS) × (p < MARK_LINE) × (p ≤ l.parts)
 IsThere l DrawnWord = Unit {0}
 
 -- its place
@@ -57,7 +60,7 @@ place_of l (HeadWord i) = head_place i
 place_of l (BodyWord i k) = body_place i k
 place_of l (ClaimWord i) = claim_place i
 place_of l (UnitWord u) = unit_place l u
-place_of l (MarkWord p) = mark_place l p
+place_of l (MarkWord s p) = mark_place l s p
 place_of l DrawnWord = drawn_place l
 
 -- places of different words differ

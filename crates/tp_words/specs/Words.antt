@@ -3,9 +3,9 @@ use Rattle.std.specs.Prelude.{◌≡◌, ◌⊎◌, ℕ, ◌+◌, ◌*◌, ◌/�
 use Rattle.tp_model.specs.declared.types.Element.{Element}
 use Rattle.tp_model.specs.History.{UnitEnd, Committed, Aborted}
 use Rattle.tp_model.specs.Words.{ClaimWord, FreeWord, TakenWord, KilledWord, AgainWord}
-use Rattle.tp_words.specs.declared.bits.TheConstants.{HEAD_EMPTY, HEAD_PRESENT, HEAD_STAGE, HEAD_ROOT, HEAD_BY, CLAIM_FREE, CLAIM_TAKEN, CLAIM_KILLED, CLAIM_AGAIN, CLAIM_ATTEMPT, CLAIM_UNIT, CLAIM_ROUND, UNIT_UNDECIDED, UNIT_COMMITTED, UNIT_ABORTED, UNIT_COUNT, UNIT_FIRST, MAX_ATTEMPT, MAX_UNIT, MAX_ROUND, MAX_ID, MAX_OUTPUTS}
+use Rattle.tp_words.specs.declared.bits.TheConstants.{HEAD_EMPTY, HEAD_VOID, HEAD_PRESENT, HEAD_STAGE, HEAD_ROOT, HEAD_BY, CLAIM_FREE, CLAIM_TAKEN, CLAIM_KILLED, CLAIM_AGAIN, CLAIM_ATTEMPT, CLAIM_UNIT, CLAIM_ROUND, UNIT_UNDECIDED, UNIT_COMMITTED, UNIT_ABORTED, UNIT_COUNT, UNIT_FIRST, MAX_ATTEMPT, MAX_UNIT, MAX_ROUND, MAX_ID, MAX_OUTPUTS}
 use Rattle.tp_words.specs.declared.words.Head.{Head}
-use Rattle.tp_words.specs.declared.words.Head.TheVariants.{Empty, There}
+use Rattle.tp_words.specs.declared.words.Head.TheVariants.{Empty, Void, There}
 use Rattle.tp_words.specs.declared.words.Claim as claims
 use Rattle.tp_words.specs.declared.words.Claim.TheVariants as claim
 use Rattle.tp_words.specs.declared.words.UnitWord as units
@@ -36,6 +36,7 @@ pack_by (Some u) = u + 1
 -- the head word
 abbrev pub pack_head : Head → ℕ
 pack_head Empty = HEAD_EMPTY
+pack_head Void = HEAD_VOID
 pack_head (There stage root by) = HEAD_PRESENT + HEAD_STAGE * stage + HEAD_ROOT * root + HEAD_BY * pack_by by
 
 -- the claim word
@@ -54,6 +55,7 @@ pack_unit (Some Aborted) = UNIT_ABORTED
 -- the values that heads have: a stage that is 1 to 15, an id, and a unit's number with room for 1 more
 abbrev pub IsFitHead : Head → Type 0
 IsFitHead Empty = Unit {0}
+IsFitHead Void = Unit {0}
 IsFitHead (There stage root by) = (1 ≤ stage) × (stage ≤ 15) × (root ≤ MAX_ID) × (pack_by by ≤ MAX_UNIT + 1)
 
 -- the values that claim words have: an element that was taken is so for the first time or a later one, one that was killed without being taken in its round has no unit, and one that was given a round has one beside the first
@@ -69,9 +71,9 @@ IsFitUnit None = Unit {0}
 IsFitUnit (Some (Committed first count)) = (count ≤ MAX_OUTPUTS) × (first ≤ MAX_ID) × (count ≡ 0 → first ≡ 0)
 IsFitUnit (Some Aborted) = Unit {0}
 
--- the numbers that are head words: 0, and those with bit 0 and a stage and nothing above bit 36
+-- the numbers that are head words: 0, 2, and those with bit 0 and a stage and nothing above bit 36
 abbrev pub IsHeadWord : ℕ → Type 0
-IsHeadWord word = (word ≡ HEAD_EMPTY) ⊎ ((word % HEAD_STAGE ≡ HEAD_PRESENT) × (1 ≤ word % HEAD_ROOT / HEAD_STAGE) × (word / HEAD_BY ≤ MAX_UNIT + 1))
+IsHeadWord word = (word ≡ HEAD_EMPTY) ⊎ ((word ≡ HEAD_VOID) ⊎ ((word % HEAD_STAGE ≡ HEAD_PRESENT) × (1 ≤ word % HEAD_ROOT / HEAD_STAGE) × (word / HEAD_BY ≤ MAX_UNIT + 1)))
 
 -- the attempt, the unit and the round in a claim word, and whether it has neither attempt nor unit
 abbrev pub claim_attempt : ℕ → ℕ

@@ -9,6 +9,9 @@ pub const HEAD_EMPTY: u64 = 0;
 /// Head, bit 0: the row has an element or a draft.
 pub const HEAD_PRESENT: u64 = 1;
 
+/// The head of a row that was left behind empty, without bit 0: it never has an element.
+pub const HEAD_VOID: u64 = 2;
+
 /// Head, bits 1 to 4: the stage, 1 to 15.
 pub const HEAD_STAGE: u64 = 1 << 1;
 

@@ -1,15 +1,23 @@
-//! Where the words stand in the table: those of each row, then one for each unit, then one for each part, then one
-//! that counts drawn blocks. The rows of the parts come first, and behind them those of the spare blocks.
+//! Where the words stand in the table: those of each row, then one for each unit, then the marks, one of each kind
+//! for each part and one for all spare rows, then one that counts drawn blocks. The rows of the parts come first, and
+//! behind them those of the spare blocks.
 ghost use Rattle.std.specs.Prelude.{◌≡◌, ◌+◌, ◌*◌, ◌<◌, ◌≤◌, ◌↔◌, ℕ, IsOk, IfOk, Err};
 ghost use Rattle.tp_model.specs.Steps.{AreLimits};
-ghost use Rattle.tp_words.specs.Places.{mark_place as marks_from, unit_place as units_from, PlacesDiffer, PlacesInside};
+ghost use Rattle.tp_words.specs.Places.{mark_place as marks_from, unit_place as units_from, IsThere, MarkWord, PlacesDiffer, PlacesInside};
 
 use tp_model::types::{BLOCK_ROWS, BODY_WORDS, Limits, Refusal};
 
 /// How many words a row has: its head, its body and its claim, in this order.
 pub const ROW_WORDS: usize = BODY_WORDS + 2;
 
-/// The places of the words of a table. It has at most 94,241 words.
+/// How many kinds of marks there are: that of all stages but replies, and one for each stage from 1 to 15.
+pub const MARK_KINDS: usize = 16;
+
+/// How many words the marks of one kind have: one for each of the most parts and one for the spare rows, in whole
+/// lines of a cache.
+pub const MARK_LINE: usize = 40;
+
+/// The places of the words of a table. It has at most 94,849 words.
 #[derive(Clone, Copy, Debug, PartialEq, Eq)]
 pub struct Places {
     /// What the table has room for, each limit in its range.
@@ -19,13 +27,14 @@ pub struct Places {
     first_mark: u32,
     pub ghost valid: { AreLimits limits },
     ghost units: { first_unit ≡ units_from limits 0 },
-    ghost marks: { first_mark ≡ marks_from limits 0 },
+    ghost marks: { first_mark ≡ marks_from limits 0 0 },
 }
 
 impl Places {
     ghost use Rattle.tp_model.specs.Steps.{block_first, part_rows, rows_of, units_of, IsArea};
     ghost use Rattle.tp_words.specs.Places.{head_place, body_place, claim_place, unit_place, mark_place, drawn_place, size_of};
     ghost use Rattle.tp_model.specs.declared.types.TheConstants.{BODY_WORDS};
+    ghost use Rattle.tp_words.specs.declared.places.TheConstants.{MARK_KINDS};
     ghost use Rattle.tp_model.specs.declared.types.Refusal.TheVariants as Refusal;
 
     /// The places for these limits. The one refusal is `BadLimits`, for a limit outside its range.
@@ -137,14 +146,16 @@ impl Places {
         self.first_unit as usize + unit as usize
     }
 
-    /// The place of the mark of a part.
+    /// The place of the mark of a kind of a part, or of the spare rows where `part` is the number of parts.
     #[inline(always)]
-    pub fn mark(&self, part: u16) -> usize
-        requires { part < self.now.limits.parts }
-        ensures place { result ≡ mark_place self.now.limits part }
+    pub fn mark(&self, kind: u8, part: u16) -> usize
+        requires kind { kind < MARK_KINDS }
+        requires part { part ≤ self.now.limits.parts }
+        ensures place { result ≡ mark_place self.now.limits kind part }
+        ensures there { IsThere self.now.limits (MarkWord kind part) }
         ensures inside { result < size_of self.now.limits }
     {
-        self.first_mark as usize + part as usize
+        self.first_mark as usize + MARK_LINE * kind as usize + part as usize
     }
 
     /// The place of the counter of drawn blocks.
@@ -153,7 +164,7 @@ impl Places {
         ensures place { result ≡ drawn_place self.now.limits }
         ensures inside { result < size_of self.now.limits }
     {
-        self.first_mark as usize + self.limits.parts as usize
+        self.first_mark as usize + MARK_LINE * MARK_KINDS
     }
 }
 

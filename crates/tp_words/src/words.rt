@@ -11,8 +11,9 @@ ghost use Rattle.tp_words.specs.Words.{pack_claim, claim_value, IsFitClaim};
 
 use crate::bits::{
     CLAIM_AGAIN, CLAIM_ATTEMPT, CLAIM_FREE, CLAIM_KILLED, CLAIM_ROUND, CLAIM_TAKEN, CLAIM_UNIT,
-    HEAD_BY, HEAD_EMPTY, HEAD_PRESENT, HEAD_ROOT, HEAD_STAGE, MAX_ATTEMPT, MAX_ID, MAX_OUTPUTS,
-    MAX_ROUND, MAX_UNIT, UNIT_ABORTED, UNIT_COMMITTED, UNIT_COUNT, UNIT_FIRST, UNIT_UNDECIDED,
+    HEAD_BY, HEAD_EMPTY, HEAD_PRESENT, HEAD_ROOT, HEAD_STAGE, HEAD_VOID, MAX_ATTEMPT, MAX_ID,
+    MAX_OUTPUTS, MAX_ROUND, MAX_UNIT, UNIT_ABORTED, UNIT_COMMITTED, UNIT_COUNT, UNIT_FIRST,
+    UNIT_UNDECIDED,
 };
 
 /// What the head word of a row tells.
@@ -20,6 +21,8 @@ use crate::bits::{
 pub enum Head {
     /// The row has neither an element nor a draft.
     Empty,
+    /// The row was left behind empty, and never has either.
+    Void,
     /// The row has an element, or the draft of one.
     There {
         /// The stage whose servers take it, 1 to 15.
@@ -80,6 +83,7 @@ impl Head {
     {
         match self {
             Head::Empty => HEAD_EMPTY,
+            Head::Void => HEAD_VOID,
             Head::There { stage, root, by } => {
                 let by = match by {
                     None => 0,
@@ -100,6 +104,9 @@ impl Head {
         if word == HEAD_EMPTY {
             return Head::Empty;
         }
+        if word == HEAD_VOID {
+            return Head::Void;
+        }
         let by = word / HEAD_BY;
         Head::There {
             stage: (word % HEAD_ROOT / HEAD_STAGE) as u8,
@@ -117,6 +124,9 @@ impl Head {
     {
         if word == HEAD_EMPTY {
             return Some(Head::Empty);
+        }
+        if word == HEAD_VOID {
+            return Some(Head::Void);
         }
         let stage = word % HEAD_ROOT / HEAD_STAGE;
         let root = word % HEAD_BY / HEAD_ROOT;

@@ -1,7 +1,9 @@
 -- A crew's passes and boxes, as lists.
 use Rattle.std.proofs.Common.{◌≡◌, ◌≤◌, ℕ, ◌+◌, zero, suc, List, [], ◌∷◌, ◌++◌, All, refl, sym, ◌∙◌, ap, ap₂, subst, arith, length, take, drop, set, get_or, zip, inl, inr, ⊎_elim, ◌⊎◌, ◌<◌, map, Option, Some, None}
+use Rattle.std.specs.Prelude.{slice_get}
 use Rattle.std.specs.List.{AllZip}
-use Rattle.std.proofs.lemmas.List.{length-map, length-append, length-set, map-append, take-append-drop}
+use Rattle.std.proofs.lemmas.List.{length-map, length-append, length-set, map-append, map-set, take-append-drop}
+use Rattle.std.proofs.lemmas.Option.{slice_get_read}
 use Rattle.std.proofs.lemmas.List.Elements.{All-append, All-cons, All-drop, All-head, All-nil, All-set, All-tail, All-take}
 use Rattle.tp_model.specs.declared.event.Event.{Event}
 use Rattle.tp_model.specs.History.{UnitClaim, claim_of}
@@ -16,10 +18,13 @@ use Rattle.tp_manager.specs.Shown.{IsOf}
 use Rattle.tp_manager.specs.Shown.{IsKeptBy, KeeperShown, ManagerShown, PassShown, view_in}
 use Rattle.tp_desk.specs.Serving.{AreEnded, Leaves, gained}
 use Rattle.tp_desk.proofs.Serves.{ended_none, leaves_then, serves_more, serves_none, still_ended}
+use Rattle.tp_workers.proofs.FoldStarts.{desk_at}
 use Rattle.tp_workers.specs.declared.crew.Crew.{Crew}
+use Rattle.tp_workers.specs.declared.fold_start.FoldStart.{FoldStart}
 use Rattle.tp_workers.specs.declared.tally.Shift.{Shift}
 use Rattle.tp_manager.specs.Calls.{Follows}
-use Rattle.tp_workers.specs.Crew.{IsSteadyCrew, OwnCall}
+use Rattle.tp_workers.specs.Crew.{IsSteadyCrew, OwnCall, folds}
+use Rattle.tp_workers.specs.Folds.{BeginsFold}
 use Rattle.tp_workers.specs.CrewPasses.{HasServed, HaveServed, IsFirstPass, clients_in, desks_in, own_in}
 use Rattle.tp_workers.specs.Desks.{DeskRan}
 use Rattle.tp_workers.specs.Drained.{DeskDrained}
@@ -133,10 +138,10 @@ module _ {B : Type 0} (behaviour : B → Behaviour) (registers : B → List ℕ)
 
   -- so boxes that had served have served on, n of them in all
   pub served_ran : (R : PassShown × B → Shift → PassShown × B → Type 0) → ((x : PassShown × B) (s : Shift) (y : PassShown × B) → R x s y → Served x y)
-      → (firsts : List PassShown) (bs : List B) (ps : List PassShown) (us : List B) (s : Shift) (qs : List PassShown) (vs : List B) → length vs ≡ length us
-      → HaveServed behaviour registers firsts bs ps us → RanEach R (desks_in (length us) ps) us s (desks_in (length us) qs) vs
-      → HaveServed behaviour registers firsts bs qs vs
-  served_ran R one firsts bs ps us s qs vs long h k =
+      → (begun : List (PassShown × B)) (ps : List PassShown) (us : List B) (s : Shift) (qs : List PassShown) (vs : List B) → length vs ≡ length us
+      → HaveServed behaviour registers begun ps us → RanEach R (desks_in (length us) ps) us s (desks_in (length us) qs) vs
+      → HaveServed behaviour registers begun qs vs
+  served_ran R one begun ps us s qs vs long h k =
       let now : AllZip Served (zip (desks_in (length us) ps) us) (zip (desks_in (length vs) qs) vs) =
       subst (λ (n : ℕ). AllZip Served (zip (desks_in (length us) ps) us) (zip (desks_in n qs) vs)) (sym long) (all_ran R one _ s _ k.ran) in
       all_then _ _ _ h now
@@ -155,20 +160,29 @@ module _ {B : Type 0} (behaviour : B → Behaviour) (registers : B → List ℕ)
       let Q : PassShown → Type 0 = λ p. IsPassView p.limits (view_in p) in
       (served_none (p, u) (All-head Q p ps all), all_none ps us (All-tail Q p ps all))
 
-  -- nor of other boxes, by the same passes
-  afresh : (xs : List (PassShown × B)) (ps : List PassShown) (us vs : List B) → length vs ≡ length us → AllZip Served xs (zip ps us) → AllZip Served (zip ps vs) (zip ps vs)
-  afresh xs [] us vs long h = tt
-  afresh xs (p ∷ ps) us [] long h = tt
-  afresh xs (p ∷ ps) [] (v ∷ vs) long h = absurd (omega (arith, long))
-  afresh [] (p ∷ ps) (u ∷ us) (v ∷ vs) long h = absurd h
-  afresh (x ∷ xs) (p ∷ ps) (u ∷ us) (v ∷ vs) long h = (served_none (p, v) h.0.leaves.shows, afresh xs ps us vs (omega (arith, long)) h.1)
+  -- nor of a box that was put in place k, by the pass of its desk
+  begin_at : (begun : List (PassShown × B)) (ps : List PassShown) (us : List B) (k : ℕ) (p : PassShown) (v : B) → slice_get ps k ≡ Some p
+      → AllZip Served begun (zip ps us) → AllZip Served (set begun k (p, v)) (zip ps (set us k v))
+  begin_at begun [] us k p v at h = absurd cc
+  begin_at [] (q ∷ ps) [] k p v at h = tt
+  begin_at (f ∷ fs) (q ∷ ps) [] k p v at h = absurd h
+  begin_at [] (q ∷ ps) (u ∷ us) k p v at h = absurd h
+  begin_at (f ∷ fs) (q ∷ ps) (u ∷ us) zero p v at h =
+      let same : q ≡ p = cc in
+      (subst (λ (r : PassShown). Served (r, v) (q, v)) same (served_none (q, v) h.0.leaves.shows), h.1)
+  begin_at (f ∷ fs) (q ∷ ps) (u ∷ us) (suc k) p v at h = (h.0, begin_at fs ps us k p v at h.1)
 
-  pub served_afresh : (firsts : List PassShown) (bs : List B) (ps : List PassShown) (us vs : List B) → length vs ≡ length us
-      → HaveServed behaviour registers firsts bs ps us → HaveServed behaviour registers ps vs ps vs
-  served_afresh firsts bs ps us vs long h =
-      subst (λ (n : ℕ). AllZip Served (zip (desks_in n ps) vs) (zip (desks_in n ps) vs)) (sym long) (afresh _ (desks_in (length us) ps) us vs long h)
+  pub served_swapped : (begun : List (PassShown × B)) (ps : List PassShown) (us : List B) (k : ℕ) (p : PassShown) (v : B) → k < length us
+      → slice_get ps (k + 1) ≡ Some p → HaveServed behaviour registers begun ps us → HaveServed behaviour registers (set begun k (p, v)) ps (set us k v)
+  served_swapped begun ps us k p v less at h =
+      subst (λ (n : ℕ). AllZip Served (set begun k (p, v)) (zip (desks_in n ps) (set us k v))) (sym (length-set us k v))
+      (begin_at begun (desks_in (length us) ps) us k p v (desk_at ps (length us) k p less at) h)
 
-  pub served_first : (ps : List PassShown) (us : List B) → All IsFirstPass ps → HaveServed behaviour registers ps us ps us
+  pub served_same : {fs gs : List (PassShown × B)} {ps qs : List PassShown} {us vs : List B} → fs ≡ gs → ps ≡ qs → us ≡ vs
+      → HaveServed behaviour registers gs qs vs → HaveServed behaviour registers fs ps us
+  served_same folds passes boxes h = rw (folds, passes, boxes) h
+
+  pub served_first : (ps : List PassShown) (us : List B) → All IsFirstPass ps → HaveServed behaviour registers (zip (desks_in (length us) ps) us) ps us
   served_first ps us all = all_none (desks_in (length us) ps) us (all_show (desks_in (length us) ps) (All-take IsFirstPass (length us) (drop 1 ps) (All-drop IsFirstPass 1 ps all)))
     where
       all_show : (qs : List PassShown) → All IsFirstPass qs → All (λ p. IsPassView p.limits (view_in p)) qs
@@ -221,9 +235,9 @@ module _ {B : Type 0} (behaviour : B → Behaviour) (registers : B → List ℕ)
     rest_looked (p ∷ ps) [] a = absurd a
     rest_looked (p ∷ ps) (q ∷ qs) a = a.1
 
-    pub served_looked : (firsts : List PassShown) (bs : List B) (ps : List PassShown) (us : List B) (qs : List PassShown)
-        → HaveServed behaviour registers firsts bs ps us → AllZip (Attends n h) ps qs → HaveServed behaviour registers firsts bs qs us
-    served_looked firsts bs ps us qs s a =
+    pub served_looked : (begun : List (PassShown × B)) (ps : List PassShown) (us : List B) (qs : List PassShown)
+        → HaveServed behaviour registers begun ps us → AllZip (Attends n h) ps qs → HaveServed behaviour registers begun qs us
+    served_looked begun ps us qs s a =
         all_then _ _ _ s (all_looked (desks_in (length us) ps) (desks_in (length us) qs) us (some_looked (length us) (drop 1 ps) (drop 1 qs) (rest_looked ps qs a)))
 
 -- such passes are free afterwards
@@ -240,36 +254,36 @@ looked_free m n h (p ∷ ps) (q ∷ qs) a free own =
 module _ {B : Type 0} (behaviour : B → Behaviour) (registers : B → List ℕ) (pending : B → Option Pending) (m : ManagerShown) where
   -- by any relation of runs, of passes and boxes that were handed over
   served_by : (R : PassShown × B → Shift → PassShown × B → Type 0) → ((x : PassShown × B) (t : Shift) (y : PassShown × B) → R x t y → HasServed behaviour registers x y)
-      → (firsts : List PassShown) (bs : List B) (ps xs : List PassShown) (us ws : List B) (s : Shift) (qs : List PassShown) (vs : List B)
-      → xs ≡ ps → ws ≡ us → length vs ≡ length ws → HaveServed behaviour registers firsts bs ps us
-      → RanEach R (desks_in (length ws) xs) ws s (desks_in (length ws) qs) vs → HaveServed behaviour registers firsts bs qs vs
-  served_by R one firsts bs ps xs us ws s qs vs ep eu long h k =
-      served_ran behaviour registers R one firsts bs xs ws s qs vs long
-      (subst (λ (l : List PassShown). HaveServed behaviour registers firsts bs l ws) (sym ep) (subst (λ (l : List B). HaveServed behaviour registers firsts bs ps l) (sym eu) h)) k
+      → (begun : List (PassShown × B)) (ps xs : List PassShown) (us ws : List B) (s : Shift) (qs : List PassShown) (vs : List B)
+      → xs ≡ ps → ws ≡ us → length vs ≡ length ws → HaveServed behaviour registers begun ps us
+      → RanEach R (desks_in (length ws) xs) ws s (desks_in (length ws) qs) vs → HaveServed behaviour registers begun qs vs
+  served_by R one begun ps xs us ws s qs vs ep eu long h k =
+      served_ran behaviour registers R one begun xs ws s qs vs long
+      (subst (λ (l : List PassShown). HaveServed behaviour registers begun l ws) (sym ep) (subst (λ (l : List B). HaveServed behaviour registers begun ps l) (sym eu) h)) k
 
-  module _ (firsts : List PassShown) (bs : List B) (ps xs : List PassShown) (us ws : List B) (s : Shift) (qs : List PassShown) (vs : List B) where
-    pub served_drained : xs ≡ ps → ws ≡ us → length vs ≡ length ws → HaveServed behaviour registers firsts bs ps us
+  module _ (begun : List (PassShown × B)) (ps xs : List PassShown) (us ws : List B) (s : Shift) (qs : List PassShown) (vs : List B) where
+    pub served_drained : xs ≡ ps → ws ≡ us → length vs ≡ length ws → HaveServed behaviour registers begun ps us
         → RanEach (DeskDrained behaviour registers pending m) (desks_in (length ws) xs) ws s (desks_in (length ws) qs) vs
-        → HaveServed behaviour registers firsts bs qs vs
+        → HaveServed behaviour registers begun qs vs
     served_drained ep eu long h k =
-        served_by (DeskDrained behaviour registers pending m) (λ x t y r. record { leaves = r.leaves; behaviour_is = r.behaviour_is }) firsts bs ps xs us ws s qs vs ep eu long h k
+        served_by (DeskDrained behaviour registers pending m) (λ x t y r. record { leaves = r.leaves; behaviour_is = r.behaviour_is }) begun ps xs us ws s qs vs ep eu long h k
 
-    pub served_shift : (turns : ℕ) → xs ≡ ps → ws ≡ us → length vs ≡ length ws → HaveServed behaviour registers firsts bs ps us
+    pub served_shift : (turns : ℕ) → xs ≡ ps → ws ≡ us → length vs ≡ length ws → HaveServed behaviour registers begun ps us
         → RanEach (DeskRan behaviour registers pending m turns) (desks_in (length ws) xs) ws s (desks_in (length ws) qs) vs
-        → HaveServed behaviour registers firsts bs qs vs
+        → HaveServed behaviour registers begun qs vs
     served_shift turns ep eu long h k =
-        served_by (DeskRan behaviour registers pending m turns) (λ x t y r. record { leaves = r.leaves; behaviour_is = r.behaviour_is }) firsts bs ps xs us ws s qs vs ep eu long h k
+        served_by (DeskRan behaviour registers pending m turns) (λ x t y r. record { leaves = r.leaves; behaviour_is = r.behaviour_is }) begun ps xs us ws s qs vs ep eu long h k
 
 module _ {X : Type 0} {F : X → Type 0} (behaviour : DynBox X Global F → Behaviour) (registers : DynBox X Global F → List ℕ)
     (pending : DynBox X Global F → Option Pending) where
   -- a crew with the same manager and as many passes and boxes is steady, where its fold goes on
   pub next_steady : (old new : Crew X F) (ps : List PassShown) (us : List (DynBox X Global F)) → IsSteadyCrew behaviour registers pending old
-      → new.manager ≡ old.manager → new.clients ≡ old.clients → new.first_passes ≡ old.first_passes → new.first_boxes ≡ old.first_boxes
+      → new.manager ≡ old.manager → new.clients ≡ old.clients → new.starts ≡ old.starts
       → new.passes.items ≡ ps → new.boxes.items ≡ us → IsKeptBy old.manager new.keeper → AreAll new.keeper ps → length ps ≡ length old.passes.items
       → All (IsFreePass old.manager) ps → length us ≡ length old.boxes.items → All (λ b. pending b ≡ None) us
-      → HaveServed behaviour registers old.first_passes.value.items old.first_boxes.value.items ps us
+      → HaveServed behaviour registers (folds old) ps us
       → IsSteadyCrew behaviour registers pending new
-  next_steady old new ps us h manager clients first_passes first_boxes passes boxes kept all long free boxed clear served = record {
+  next_steady old new ps us h manager clients starts passes boxes kept all long free boxed clear served = record {
     kept = rw (manager) kept;
     limits = rw (manager) h.limits;
     parts = rw (passes, manager) (long ∙ h.parts);
@@ -277,22 +291,22 @@ module _ {X : Type 0} {F : X → Type 0} (behaviour : DynBox X Global F → Beha
     free = rw (passes, manager) free;
     count = rw (passes, boxes, clients, boxed) (long ∙ h.count);
     clear = rw (boxes) clear;
-    same_count = rw (first_boxes, boxes) (h.same_count ∙ sym boxed);
-    served = rw (first_passes, first_boxes, passes, boxes) served;
+    same_count = rw (starts, boxes) (h.same_count ∙ sym boxed);
+    served = rw (starts, passes, boxes) served;
   }
 
   pub steady_looked : (old : Crew X F) (n : ℕ) (h : List Event) (qs : List PassShown) → IsSteadyCrew behaviour registers pending old → AllZip (Attends n h) old.passes.items qs
-      → HaveServed behaviour registers old.first_passes.value.items old.first_boxes.value.items qs old.boxes.items
+      → HaveServed behaviour registers (folds old) qs old.boxes.items
   steady_looked old n h qs s a =
-      served_looked behaviour registers n h old.first_passes.value.items old.first_boxes.value.items old.passes.items old.boxes.items qs s.served a
+      served_looked behaviour registers n h (folds old) old.passes.items old.boxes.items qs s.served a
 
-  -- so is one that begins its folds here, with another box in one place
+  -- so is one with another box in one place, whose fold begins here
   pub swapped_steady : (old new : Crew X F) (k : ℕ) (x : DynBox X Global F) → IsSteadyCrew behaviour registers pending old
-      → new.manager ≡ old.manager → new.keeper ≡ old.keeper → new.clients ≡ old.clients → new.passes.items ≡ old.passes.items
-      → new.boxes.items ≡ set old.boxes.items k x → pending x ≡ None
-      → new.first_passes.value.items ≡ old.passes.items → new.first_boxes.value.items ≡ set old.boxes.items k x
+      → k < length old.boxes.items → new.manager ≡ old.manager → new.keeper ≡ old.keeper → new.clients ≡ old.clients
+      → new.passes.items ≡ old.passes.items → new.boxes.items ≡ set old.boxes.items k x → pending x ≡ None
+      → length new.starts.items ≡ length old.starts.items → BeginsFold k x old.passes.items (folds old) (folds new)
       → IsSteadyCrew behaviour registers pending new
-  swapped_steady old new k x h manager keeper clients passes boxes clear first_passes first_boxes =
+  swapped_steady old new k x h less manager keeper clients passes boxes clear starts begins =
       let us = set old.boxes.items k x in
       let long : length us ≡ length old.boxes.items = length-set old.boxes.items k x in
       record {
@@ -303,8 +317,9 @@ module _ {X : Type 0} {F : X → Type 0} (behaviour : DynBox X Global F → Beha
         free = rw (passes, manager) h.free;
         count = rw (passes, boxes, clients, long) h.count;
         clear = rw (boxes) (All-set (λ b. pending b ≡ None) old.boxes.items k x clear h.clear);
-        same_count = rw (first_boxes, boxes) refl;
-        served = rw (first_passes, first_boxes, passes, boxes) (served_afresh behaviour registers old.first_passes.value.items old.first_boxes.value.items old.passes.items old.boxes.items us long h.served);
+        same_count = rw (boxes) (starts ∙ (h.same_count ∙ sym long));
+        served = served_same behaviour registers begins.folds_are passes boxes
+            (served_swapped behaviour registers (folds old) old.passes.items old.boxes.items k begins.pass x less begins.pass_is h.served);
       }
 
 -- the first of a list, which another takes the place of
@@ -328,8 +343,8 @@ module _ {X : Type 0} {F : X → Type 0} (behaviour : DynBox X Global F → Beha
   module _ (old new : Crew X F) where
     pub own_call : (n : ℕ) (R : PassShown → PassShown → Type 0) (p q : PassShown) → IsSteadyCrew behaviour registers pending old → p ≡ get_or old.passes.items 0 p
         → new.passes.items ≡ set old.passes.items 0 q → new.manager ≡ old.manager → new.keeper ≡ old.keeper → new.boxes ≡ old.boxes → new.clients ≡ old.clients
-        → new.first_passes ≡ old.first_passes → new.first_boxes ≡ old.first_boxes → Follows n p q → q.open_unit ≡ None → R p q → OwnCall n R old new
-    own_call n R p q h at passes manager keeper boxes clients first_passes first_boxes follows free answer =
+        → new.starts ≡ old.starts → Follows n p q → q.open_unit ≡ None → R p q → OwnCall n R old new
+    own_call n R p q h at passes manager keeper boxes clients starts follows free answer =
         let f = front_of old p q h at in
         record {
           before = p;
@@ -340,26 +355,25 @@ module _ {X : Type 0} {F : X → Type 0} (behaviour : DynBox X Global F → Beha
           follows = follows;
           free = free;
           answer = answer;
-          same = record { manager = manager; boxes = ap (λ v. length v.items) boxes; clients = clients; first_passes = first_passes; first_boxes = first_boxes };
+          same = record { manager = manager; boxes = ap (λ v. length v.items) boxes; clients = clients; starts = starts };
           keeper = keeper;
           same_boxes = boxes;
         }
 
     pub own_steady : (p q : PassShown) → IsSteadyCrew behaviour registers pending old → p ≡ get_or old.passes.items 0 p
         → new.passes.items ≡ set old.passes.items 0 q → new.manager ≡ old.manager → new.keeper ≡ old.keeper → new.boxes ≡ old.boxes → new.clients ≡ old.clients
-        → new.first_passes ≡ old.first_passes → new.first_boxes ≡ old.first_boxes → q.number ≡ p.number → IsOf old.manager q → q.open_unit ≡ None
+        → new.starts ≡ old.starts → q.number ≡ p.number → IsOf old.manager q → q.open_unit ≡ None
         → IsSteadyCrew behaviour registers pending new
-    own_steady p q h at passes manager keeper boxes clients first_passes first_boxes number own free =
+    own_steady p q h at passes manager keeper boxes clients starts number own free =
         let f = front_of old p q h at in
         let ps : List PassShown = set old.passes.items 0 q in
         let numbered : numbers ps ≡ numbers old.passes.items = ap numbers f.2 ∙ (ap (λ n. n ∷ numbers f.0) number ∙ ap numbers (sym f.1)) in
         let behind : drop 1 old.passes.items ≡ drop 1 ps = ap (drop 1) f.1 ∙ sym (ap (drop 1) f.2) in
         let us : List (DynBox X Global F) = old.boxes.items in
-        let firsts = zip (desks_in (length old.first_boxes.value.items) old.first_passes.value.items) old.first_boxes.value.items in
-        next_steady behaviour registers pending old new ps us h manager clients first_passes first_boxes passes (ap (λ v. v.items) boxes)
+        next_steady behaviour registers pending old new ps us h manager clients starts passes (ap (λ v. v.items) boxes)
         (rw (keeper) h.kept) (rw (keeper) (all_same old.keeper old.passes.items ps numbered h.all)) (same_length old.passes.items ps numbered)
         (All-set (IsFreePass old.manager) old.passes.items 0 q (record { own = own; free = free }) h.free) refl h.clear
-        (subst (λ l. AllZip (HasServed behaviour registers) firsts (zip (take (length us) l) us)) behind h.served)
+        (subst (λ l. AllZip (HasServed behaviour registers) (folds old) (zip (take (length us) l) us)) behind h.served)
 
 -- a number that was told up to 32, and above by one above
 pub exact : (n r : ℕ) → (n ≤ 32 → r ≡ n) → (32 < n → 32 < r) → r ≤ 32 → r ≡ n

@@ -32,6 +32,7 @@ one_refusal refusals.AlreadyKilled = refl
 one_refusal refusals.Full = refl
 one_refusal refusals.NotParked = refl
 one_refusal refusals.NoRound = refl
+one_refusal refusals.NotHeld = refl
 
 pub one_kill : (r : Result Killed Refusal) → total (kill_count r) ≡ 1
 one_kill (Ok killed) = refl
@@ -47,6 +48,7 @@ none_killed refusals.AlreadyKilled = refl
 none_killed refusals.Full = refl
 none_killed refusals.NotParked = refl
 none_killed refusals.NoRound = refl
+none_killed refusals.NotHeld = refl
 
 module _ (l : Limits) where
   -- aborts are no kills
@@ -115,6 +117,7 @@ module _ (l : Limits) where
   fails_gained id p q refusals.Full h = absurd h
   fails_gained id p q refusals.NotParked h = absurd h
   fails_gained id p q refusals.NoRound h = absurd h
+  fails_gained id p q refusals.NotHeld h = absurd h
 
   kill_gained : (id : ℕ) (p : PassShown) (r : Result Killed Refusal) (q : PassShown) → KillsOnce l id p r q → GainsOnly (IsKillWork l p.number id (id + 1) p.seen q.seen) p q
   kill_gained id p (Ok killed) q h =
@@ -143,6 +146,7 @@ module _ (l : Limits) where
   fails_counted id p q refusals.Full h = absurd h
   fails_counted id p q refusals.NotParked h = absurd h
   fails_counted id p q refusals.NoRound h = absurd h
+  fails_counted id p q refusals.NotHeld h = absurd h
 
   kill_counted : (id : ℕ) (p : PassShown) (r : Result Killed Refusal) (q : PassShown) → KillsOnce l id p r q → (kill_count r).killed + kills_in p ≡ kills_in q
   kill_counted id p (Ok killed) q h =

@@ -1,5 +1,7 @@
 pub mod Counts
+pub mod OwnCalls
 pub mod Ran
+pub mod Told
 pub mod Calling
 pub mod Events
 pub mod Gains
@@ -9,4 +11,5 @@ pub mod Killers
 pub mod Sums
 pub mod Shifts
 pub mod Drains
+pub mod FoldStarts
 pub mod CrewLemmas

@@ -1,5 +1,5 @@
 -- What the lists of a shift counted.
-use Rattle.std.proofs.Common.{◌≡◌, ℕ, ◌+◌, ◌-◌, ◌*◌, suc, List, [], ◌∷◌, Option, Result, Ok, Err, refl, sym, ◌∙◌, ap, ap₂, subst, arith, length, sum_by, All, zip, None, map}
+use Rattle.std.proofs.Common.{◌≡◌, ℕ, ◌+◌, ◌-◌, ◌*◌, ◌<◌, ◌^◌, suc, List, [], ◌∷◌, Option, Result, Ok, Err, refl, sym, ◌∙◌, ap, ap₂, subst, arith, length, sum_by, All, zip, None, map}
 use Rattle.std.proofs.lemmas.List.Elements.{All-cons, All-head, All-nil, All-tail}
 use Rattle.std.proofs.lemmas.List.Sums.{sum_by-cons}
 use Rattle.tp_model.specs.declared.types.Killed.{Killed}
@@ -10,14 +10,13 @@ use Rattle.tp_server.specs.Pending.{Pending}
 use Rattle.tp_manager.specs.Shown.{ManagerShown, PassShown}
 use Rattle.tp_desk.specs.declared.turned.Turned.{Turned}
 use Rattle.tp_desk.specs.declared.turned.Turned.TheVariants as turneds
-use Rattle.tp_workers.specs.declared.client.ClientJob.{ClientJob}
 use Rattle.tp_workers.specs.declared.killer.KillJob.{KillJob}
 use Rattle.tp_workers.specs.declared.tally.Shift.{Shift}
-use Rattle.tp_workers.specs.Clients.{ClientRan, IsClientJob, IsClientOf}
+use Rattle.tp_workers.specs.Clients.{ClientRan, IsClientJob, IsClientOf, JobShown}
 use Rattle.tp_workers.specs.Desks.{DeskRan, IsDeskOf}
 use Rattle.tp_workers.specs.Killers.{IsKillJob, IsKillerOf, KillerRan}
 use Rattle.tp_workers.specs.Free.{IsFreePass, numbers}
-use Rattle.tp_workers.specs.Ran.{RanAll, RanEach}
+use Rattle.tp_workers.specs.Ran.{AreTold, RanAll, RanEach}
 use Rattle.tp_workers.specs.Sums.{calls_of, client_part, desk_part, killer_part, size_of_range}
 use Rattle.tp_workers.specs.Tally.{kill_count, none, plus, refusal_count, submit_count, total, turn_count}
 use Rattle.tp_workers.proofs.Calling.{called_counts, called_total}
@@ -49,6 +48,7 @@ refusal_part refusals.AlreadyKilled = refl
 refusal_part refusals.Full = refl
 refusal_part refusals.NotParked = refl
 refusal_part refusals.NoRound = refl
+refusal_part refusals.NotHeld = refl
 
 kill_part : (r : Result Killed Refusal) → kill_count r ≡ killer_part (kill_count r)
 kill_part (Ok killed) = refl
@@ -124,21 +124,21 @@ pub each_counted : {T U : Type 0} (R : T × U → Shift → T × U → Type 0) (
 each_counted R xs us s t ys vs e h = subst (λ (u : Shift). RanEach R xs us u ys vs) (sym e) h
 
 module _ (m : ManagerShown) where
-  client_counts : (x : PassShown × ClientJob) (s : Shift) (y : PassShown × ClientJob) → ClientRan m x s y → s ≡ client_part s
-  client_counts x s y r = called_counts _ submit_count (λ t. t ≡ client_part t) refl (λ a b p q. ap₂ plus p q) submit_part x.1.count x.0 y.0 s r.calls
+  client_counts : (x : PassShown × JobShown) (s : Shift) (y : PassShown × JobShown) → ClientRan m x s y → s ≡ client_part s
+  client_counts x s y r = called_counts _ submit_count (λ t. t ≡ client_part t) refl (λ a b p q. ap₂ plus p q) submit_part (calls_of x.1) _ _ s r.calls
 
   -- the counts of clients stand in the clients' part
-  pub clients_part : (xs : List PassShown) (us : List ClientJob) (s : Shift) (ys : List PassShown) (vs : List ClientJob) → RanEach (ClientRan m) xs us s ys vs → RanEach (ClientRan m) xs us (client_part s) ys vs
+  pub clients_part : (xs : List PassShown) (us : List JobShown) (s : Shift) (ys : List PassShown) (vs : List JobShown) → RanEach (ClientRan m) xs us s ys vs → RanEach (ClientRan m) xs us (client_part s) ys vs
   clients_part xs us s ys vs h =
       subst (λ (t : Shift). RanEach (ClientRan m) xs us t ys vs) (ran_keeps (ClientRan m) (λ t. t ≡ client_part t) refl (λ a b p q. ap₂ plus p q) client_counts (zip xs us) s (zip ys vs) h.ran) h
 
-  client_calls : (x : PassShown × ClientJob) (s : Shift) (y : PassShown × ClientJob) → ClientRan m x s y → s.submitted + s.submit_full ≡ calls_of x.1
+  client_calls : (x : PassShown × JobShown) (s : Shift) (y : PassShown × JobShown) → ClientRan m x s y → s.submitted + s.submit_full ≡ calls_of x.1
   client_calls x s y r =
-      let all : total s ≡ x.1.count = called_total _ submit_count one_submit x.1.count x.0 y.0 s r.calls in
+      let all : total s ≡ calls_of x.1 = called_total _ submit_count one_submit (calls_of x.1) _ _ s r.calls in
       let part : total s ≡ total (client_part s) = ap total (client_counts x s y r) in
       omega arith
 
-  pub calls_sum : (xs : List PassShown) (us : List ClientJob) (s : Shift) (ys : List PassShown) (vs : List ClientJob) → length xs ≡ length us → RanEach (ClientRan m) xs us s ys vs → s.submitted + s.submit_full ≡ sum_by calls_of us
+  pub calls_sum : (xs : List PassShown) (us : List JobShown) (s : Shift) (ys : List PassShown) (vs : List JobShown) → length xs ≡ length us → RanEach (ClientRan m) xs us s ys vs → s.submitted + s.submit_full ≡ sum_by calls_of us
   calls_sum xs us s ys vs e h = ran_asked (ClientRan m) (λ t. t.submitted + t.submit_full) (λ x. calls_of x.1) refl (λ a b. omega arith) client_calls (zip xs us) s (zip ys vs) h.ran ∙ sum_second calls_of xs us e
 
   killer_counts : (x : PassShown × KillJob) (s : Shift) (y : PassShown × KillJob) → KillerRan m x s y → s ≡ killer_part s
@@ -166,6 +166,15 @@ module _ {B : Type 0} (behaviour : B → Behaviour) (registers : B → List ℕ)
   pub desks_part : (xs : List PassShown) (us : List B) (s : Shift) (ys : List PassShown) (vs : List B) → RanEach (DeskRan behaviour registers pending m turns) xs us s ys vs → RanEach (DeskRan behaviour registers pending m turns) xs us (desk_part s) ys vs
   desks_part xs us s ys vs h =
       subst (λ (t : Shift). RanEach (DeskRan behaviour registers pending m turns) xs us t ys vs) (ran_keeps (DeskRan behaviour registers pending m turns) (λ t. t ≡ desk_part t) refl (λ a b p q. ap₂ plus p q) desk_counts (zip xs us) s (zip ys vs) h.ran) h
+
+  -- and so is their sum where each is told
+  pub desks_told : (xs : List PassShown) (us : List B) (places : List Shift) (s r : Shift) (ys : List PassShown) (vs : List B) (told : List Shift)
+      → r ≡ desk_part s → RanEach (DeskRan behaviour registers pending m turns) xs us s ys vs
+      → AreTold (DeskRan behaviour registers pending m turns) xs us places s ys vs told
+      → AreTold (DeskRan behaviour registers pending m turns) xs us places r ys vs told
+  desks_told xs us places s r ys vs told e h each =
+      let part : s ≡ desk_part s = ran_keeps (DeskRan behaviour registers pending m turns) (λ t. t ≡ desk_part t) refl (λ a b p q. ap₂ plus p q) desk_counts (zip xs us) s (zip ys vs) h.ran in
+      subst (λ (t : Shift). AreTold (DeskRan behaviour registers pending m turns) xs us places t ys vs told) (part ∙ sym e) each
 
   desk_turns : (x : PassShown × B) (s : Shift) (y : PassShown × B) → DeskRan behaviour registers pending m turns x s y → s.nounit ≡ 0 → total s ≡ turns
   desk_turns x s y r e = called_total _ turn_count one_turn r.turns_taken.taken _ _ s r.turns_taken.calls ∙ r.turns_taken.all_taken e
@@ -230,8 +239,15 @@ module _ {T U : Type 0} (R : T × U → Shift → T × U → Type 0) (xs : List 
 
 -- the lists of a shift, place by place
 module _ (m : ManagerShown) where
-  pub clients_ready : (xs : List PassShown) (us : List ClientJob) → length xs ≡ length us → All (IsFreePass m) xs → All IsClientJob us → All (IsClientOf m) (zip xs us)
-  clients_ready xs us e free jobs = all_both (IsFreePass m) IsClientJob (IsClientOf m) (λ x y a b. record { pass = a; job = b }) xs us e free jobs
+  -- each client's calls fit, where all together do
+  pub clients_fit : (xs : List PassShown) (us : List JobShown) → length xs ≡ length us → All (IsFreePass m) xs → All IsClientJob us → sum_by calls_of us < 2 ^ 32 → All (λ (x : PassShown × JobShown). IsClientOf m x × (calls_of x.1 < 2 ^ 32)) (zip xs us)
+  clients_fit [] us e free jobs fit = All-nil (λ (x : PassShown × JobShown). IsClientOf m x × (calls_of x.1 < 2 ^ 32))
+  clients_fit (x ∷ xs) [] e free jobs fit = absurd (omega (arith, e))
+  clients_fit (x ∷ xs) (u ∷ us) e free jobs fit =
+      let sum = sum_by-cons calls_of u us in
+      All-cons (λ (z : PassShown × JobShown). IsClientOf m z × (calls_of z.1 < 2 ^ 32)) (x, u) (zip xs us)
+      (record { pass = All-head (IsFreePass m) x xs free; job = All-head IsClientJob u us jobs }, omega (arith, sum, fit))
+      (clients_fit xs us (omega (arith, e)) (All-tail (IsFreePass m) x xs free) (All-tail IsClientJob u us jobs) (omega (arith, sum, fit)))
 
   pub killers_ready : (xs : List PassShown) (us : List KillJob) → length xs ≡ length us → All (IsFreePass m) xs → All IsKillJob us → All (IsKillerOf m) (zip xs us)
   killers_ready xs us e free jobs = all_both (IsFreePass m) IsKillJob (IsKillerOf m) (λ x y a b. record { pass = a; job = b }) xs us e free jobs

@@ -23,7 +23,7 @@ use Rattle.tp_desk.specs.Steady.{IsSameDesk, shown}
 use Rattle.tp_desk.specs.Turns.{EndsOpen, Turns, Works, WorksOff}
 use Rattle.tp_workers.specs.declared.tally.Shift.{Shift}
 use Rattle.tp_workers.specs.Calling.{Called, Chain}
-use Rattle.tp_workers.specs.Desks.{DeskRan, IsDeskOf, IsResting, Place, TakesTurn, TakesTurns, place, place_of}
+use Rattle.tp_workers.specs.Desks.{DeskRan, DeskWorked, IsDeskOf, IsResting, Place, TakesTurn, TakesTurns, WorksOn, place, place_of}
 use Rattle.tp_workers.specs.Drained.{TookTurn}
 use Rattle.tp_workers.specs.Gains.{commits_in, is_commit}
 use Rattle.tp_workers.specs.Tally.{claimed, none, plus, total, turn_count}
@@ -60,7 +60,7 @@ work_adds behaviour registers work p q (turneds.Full element) (a, (drafts, made,
 -- an element was claimed, and this became of it
 works_adds : (l : Limits) (behaviour : Behaviour) (registers : List ℕ) (p q : PassShown) (t : Turned) → Works l behaviour registers p q t → Adds ((turn_count t).done + 0) 1 p q
 works_adds l behaviour registers p q t h =
-    then 0 1 (turn_count t).done 0 p h.between q (one p h.between _ 0 1 h.takes.adds.mine refl refl) (work_adds behaviour registers h.work h.between q t h.off)
+    then 0 1 (turn_count t).done 0 p h.between q (one p h.between _ 0 1 h.takes.opens.adds.mine refl refl) (work_adds behaviour registers h.work h.between q t h.off)
 
 turn_adds : (l : Limits) (behaviour : Behaviour) (registers : List ℕ) (p q : PassShown) (t : Turned) → Turns l behaviour registers p q t → Adds (turn_count t).done (claimed (turn_count t)) p q
 turn_adds l behaviour registers p q turneds.Idle h = quiet p q h.1.mine
@@ -78,10 +78,10 @@ turn_claims l behaviour registers p q t h = (turn_adds l behaviour registers p q
 pub turn_room : (l : Limits) (behaviour : Behaviour) (registers : List ℕ) (p q : PassShown) (t : Turned) → Turns l behaviour registers p q t → claimed (turn_count t) + claims_in p.mine ≤ l.units
 turn_room l behaviour registers p q turneds.Idle h = omega (arith, h.0)
 turn_room l behaviour registers p q turneds.NoUnit h = omega (arith, h.0)
-turn_room l behaviour registers p q (turneds.Done unit element first count) h = omega (arith, h.takes.room)
-turn_room l behaviour registers p q (turneds.Refused element why) h = omega (arith, h.takes.room)
-turn_room l behaviour registers p q (turneds.Lost element) h = omega (arith, h.takes.room)
-turn_room l behaviour registers p q (turneds.Full element) h = omega (arith, h.takes.room)
+turn_room l behaviour registers p q (turneds.Done unit element first count) h = omega (arith, h.takes.opens.room)
+turn_room l behaviour registers p q (turneds.Refused element why) h = omega (arith, h.takes.opens.room)
+turn_room l behaviour registers p q (turneds.Lost element) h = omega (arith, h.takes.opens.room)
+turn_room l behaviour registers p q (turneds.Full element) h = omega (arith, h.takes.opens.room)
 
 pub one_turn : (t : Turned) → total (turn_count t) ≡ 1
 one_turn turneds.Idle = refl
@@ -206,6 +206,23 @@ module _ {X : Type 0} {F : X → Type 0} (behaviour : (x : X) × F x → Behavio
           leaves = lent_leaves whole;
           behaviour_is = whole;
           ready = lending.ready;
+        }
+
+    pub desk_worked : (turns : ℕ) (counts : Shift) → WorksOn d.manager.now.limits turns (of_desk d) counts (of_desk e)
+        → DeskWorked (shown behaviour) (shown registers) (shown pending) m turns x counts y
+    desk_worked turns counts worked =
+        let ran = desk_ran worked.taken counts (record { taken = worked.taken; calls = worked.calls; at_most = omega arith; all_taken = λ e. refl }) in
+        record {
+          turns_taken = record {
+            taken = ran.turns_taken.taken;
+            calls = ran.turns_taken.calls;
+            at_most = omega (arith, ran.turns_taken.at_most, worked.at_most);
+            all_taken = λ e. ran.turns_taken.all_taken (omega (arith, e)) ∙ worked.all_taken e;
+          };
+          done = ran.done;
+          leaves = ran.leaves;
+          behaviour_is = ran.behaviour_is;
+          ready = ran.ready;
         }
 
     pub desk_took : (t : Turned) (counts : Shift) → TakesTurn d.manager.now.limits (of_desk d) t (of_desk e) → AreLimits d.manager.now.limits → counts ≡ turn_count t

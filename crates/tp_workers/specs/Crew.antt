@@ -10,10 +10,15 @@ use Rattle.tp_manager.specs.Calls.{Follows}
 use Rattle.tp_manager.specs.Accounts.{AreAll}
 use Rattle.tp_manager.specs.Shown.{IsKeptBy, PassShown}
 use Rattle.tp_workers.specs.declared.crew.Crew.{Crew}
+use Rattle.tp_workers.specs.FoldStarts.{begun}
 use Rattle.tp_workers.specs.CrewPasses.{HaveServed, crew_passes}
 use Rattle.tp_workers.specs.Free.{IsFreePass}
 
 module _ {X : Type 0} {F : X → Type 0} where
+  -- where the folds of a crew's boxes' work began, in the boxes' order
+  abbrev pub folds : Crew X F → List (PassShown × DynBox X Global F)
+  folds c = begun c.starts.items
+
   -- A crew is steady: it has all passes that its keeper gave out, none of them has a unit open, and no box has anything
   -- prepared. Each box has served since the fold of its work began.
   pub record IsSteadyCrew (behaviour : DynBox X Global F → Behaviour) (registers : DynBox X Global F → List ℕ)
@@ -25,16 +30,15 @@ module _ {X : Type 0} {F : X → Type 0} where
     pub free : All (IsFreePass c.manager) c.passes.items
     pub count : length c.passes.items ≡ crew_passes (length c.boxes.items) c.clients
     pub clear : All (λ b. pending b ≡ None) c.boxes.items
-    pub same_count : length c.first_boxes.value.items ≡ length c.boxes.items
-    pub served : HaveServed behaviour registers c.first_passes.value.items c.first_boxes.value.items c.passes.items c.boxes.items
+    pub same_count : length c.starts.items ≡ length c.boxes.items
+    pub served : HaveServed behaviour registers (folds c) c.passes.items c.boxes.items
 
   -- it is the same crew: it has the same manager, as many boxes and clients, and the folds of its boxes' work began alike
   pub record IsSameCrew (old new : Crew X F) : Type 0 where
     pub manager : new.manager ≡ old.manager
     pub boxes : length new.boxes.items ≡ length old.boxes.items
     pub clients : new.clients ≡ old.clients
-    pub first_passes : new.first_passes ≡ old.first_passes
-    pub first_boxes : new.first_boxes ≡ old.first_boxes
+    pub starts : new.starts ≡ old.starts
 
   -- A call by the caller's own pass, in at most n steps, which left it with no unit open. All else is as it was.
   pub record OwnCall (n : ℕ) (R : PassShown → PassShown → Type 0) (old new : Crew X F) : Type 0 where

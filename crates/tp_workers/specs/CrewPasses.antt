@@ -39,7 +39,6 @@ module _ {B : Type 0} (behaviour : B → Behaviour) (registers : B → List ℕ)
     pub leaves : Leaves (behaviour old.1) (registers old.1) (registers new.1) old.0 new.0
     pub behaviour_is : behaviour new.1 ≡ behaviour old.1
 
-  -- the same of each box, with the pass at its place
-  abbrev pub HaveServed : List PassShown → List B → List PassShown → List B → Type 0
-  HaveServed passes boxes passes' boxes' =
-      AllZip HasServed (zip (desks_in (length boxes) passes) boxes) (zip (desks_in (length boxes') passes') boxes')
+  -- the same of each box since its fold began, with the pass at its place
+  abbrev pub HaveServed : List (PassShown × B) → List PassShown → List B → Type 0
+  HaveServed folds passes boxes = AllZip HasServed folds (zip (desks_in (length boxes) passes) boxes)

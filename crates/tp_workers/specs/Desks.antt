@@ -35,6 +35,13 @@ pub record TakesTurns (l : Limits) (turns : ℕ) (old : Place) (counts : Shift) 
   pub at_most : taken ≤ turns
   pub all_taken : counts.nounit ≡ 0 → taken ≡ turns
 
+-- the same, and fewer also after one that found nothing to wait
+pub record WorksOn (l : Limits) (turns : ℕ) (old : Place) (counts : Shift) (new : Place) : Type 0 where
+  pub taken : ℕ
+  pub calls : Called (TakesTurn l) turn_count taken old counts new
+  pub at_most : taken ≤ turns
+  pub all_taken : counts.idle + counts.nounit ≡ 0 → taken ≡ turns
+
 -- The first three arguments say of a box what its server shows: its behaviour, the registers of its committed work, and its
 -- prepared work.
 module _ {B : Type 0} (behaviour : B → Behaviour) (registers : B → List ℕ) (pending : B → Option Pending) where
@@ -50,6 +57,14 @@ module _ {B : Type 0} (behaviour : B → Behaviour) (registers : B → List ℕ)
   -- of the server over what the pass has consumed since led to.
   pub record DeskRan (m : ManagerShown) (turns : ℕ) (old : PassShown × B) (counts : Shift) (new : PassShown × B) : Type 0 where
     pub turns_taken : TakesTurns m.limits turns (place old) counts (place new)
+    pub done : counts.done + commits_in old.0 ≡ commits_in new.0
+    pub leaves : Leaves (behaviour old.1) (registers old.1) (registers new.1) old.0 new.0
+    pub behaviour_is : behaviour new.1 ≡ behaviour old.1
+    pub ready : IsDeskOf m new
+
+  -- The same of a desk that stopped where it found nothing to wait.
+  pub record DeskWorked (m : ManagerShown) (turns : ℕ) (old : PassShown × B) (counts : Shift) (new : PassShown × B) : Type 0 where
+    pub turns_taken : WorksOn m.limits turns (place old) counts (place new)
     pub done : counts.done + commits_in old.0 ≡ commits_in new.0
     pub leaves : Leaves (behaviour old.1) (registers old.1) (registers new.1) old.0 new.0
     pub behaviour_is : behaviour new.1 ≡ behaviour old.1

@@ -9,4 +9,6 @@ pub mod Clients
 pub mod Killers
 pub mod Sums
 pub mod CrewPasses
+pub mod Folds
+pub mod FoldStarts
 pub mod Crew

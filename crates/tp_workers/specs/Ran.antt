@@ -1,9 +1,9 @@
 -- What a list of workers did, each on its own. A worker is a place in two lists side by side.
-use Rattle.std.specs.Prelude.{◌≡◌, ℕ, ◌≤◌, ◌<◌, ◌^◌, List, [], ◌∷◌, All, length, sum_by, zip}
+use Rattle.std.specs.Prelude.{◌≡◌, ⊤, ℕ, ◌≤◌, ◌<◌, ◌^◌, List, [], ◌∷◌, All, length, sum_by, zip}
 use denote.Ref.{MutBor}
 use denote.Param.Members.{Shared}
 use Rattle.tp_workers.specs.declared.tally.Shift.{Shift}
-use Rattle.tp_workers.specs.Tally.{none, plus, total}
+use Rattle.tp_workers.specs.Tally.{none, plus, sum_of, total}
 
 -- Each worker of the first list ran, with counts of its own, and became the one at its place in the second list. The
 -- counts add up to these.
@@ -19,6 +19,24 @@ pub record RanEach {T U : Type 0} (R : T × U → Shift → T × U → Type 0)
   pub ran : RanAll R (zip on by) s (zip on_new by_new)
   pub on_kept : length on_new ≡ length on
   pub by_kept : length by_new ≡ length by
+
+-- Each worker of the first list ran, with the counts at its place in the list between them, and became the
+-- one at its place
+-- in the last list.
+abbrev pub RanList : {T : Type 0} → (T → Shift → T → Type 0) → List T → List Shift → List T → Type 0
+RanList R [] [] [] = ⊤
+RanList R [] [] (y ∷ ys) = ⊥
+RanList R [] (s ∷ ss) ys = ⊥
+RanList R (x ∷ xs) [] ys = ⊥
+RanList R (x ∷ xs) (s ∷ ss) [] = ⊥
+RanList R (x ∷ xs) (s ∷ ss) (y ∷ ys) = R x s y × RanList R xs ss ys
+
+-- Where there is a place for each worker's counts, its own counts are left there, and all of them add up to these.
+pub record AreTold {T U : Type 0} (R : T × U → Shift → T × U → Type 0) (on : List T) (by : List U) (places : List Shift)
+    (s : Shift) (on_new : List T) (by_new : List U) (told : List Shift) : Type 0 where
+  pub kept : length told ≡ length places
+  pub each : length places ≡ length on → RanList R (zip on by) told (zip on_new by_new)
+  pub sum : length places ≡ length on → s ≡ sum_of told
 
 module _ {F T U : Type 0}
     (g : Shared F (MutBor T × (MutBor U × (ℕ × Unit {0}))) (Shift × (MutBor T × (MutBor U × Unit {0})))) (run : F) where

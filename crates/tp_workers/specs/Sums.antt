@@ -1,13 +1,13 @@
 -- Sums over lists of workers.
-use Rattle.std.specs.Prelude.{ℕ, ◌-◌}
-use Rattle.tp_workers.specs.declared.client.ClientJob.{ClientJob}
+use Rattle.std.specs.Prelude.{ℕ, ◌-◌, length}
 use Rattle.tp_workers.specs.declared.killer.KillJob.{KillJob}
 use Rattle.tp_workers.specs.declared.tally.Shift.{Shift}
+use Rattle.tp_workers.specs.Clients.{JobShown}
 use Rattle.tp_workers.specs.Tally.{none}
 
 -- how many calls the client is to make, and how many ids the killer is to take
-abbrev pub calls_of : ClientJob → ℕ
-calls_of j = j.count
+abbrev pub calls_of : JobShown → ℕ
+calls_of j = length j.bodies
 
 abbrev pub size_of_range : KillJob → ℕ
 size_of_range j = j.end - j.first

@@ -1,5 +1,5 @@
 -- What workers count.
-use Rattle.std.specs.Prelude.{ℕ, ◌+◌, Result, Ok, Err}
+use Rattle.std.specs.Prelude.{ℕ, ◌+◌, List, [], ◌∷◌, Result, Ok, Err}
 use Rattle.tp_model.specs.declared.types.Killed.{Killed}
 use Rattle.tp_model.specs.declared.types.Refusal.{Refusal}
 use Rattle.tp_model.specs.declared.types.Refusal.TheVariants as refusals
@@ -27,6 +27,11 @@ plus a b = record {
   already = a.already + b.already;
   missing = a.missing + b.missing;
 }
+
+-- what all workers of a list did together
+abbrev pub sum_of : List Shift → Shift
+sum_of [] = none
+sum_of (s ∷ ss) = plus s (sum_of ss)
 
 -- all counts together
 abbrev pub total : Shift → ℕ
@@ -59,6 +64,7 @@ refusal_count refusals.AlreadyKilled = record none { already = 1 }
 refusal_count refusals.Full = record none { missing = 1 }
 refusal_count refusals.NotParked = record none { missing = 1 }
 refusal_count refusals.NoRound = record none { missing = 1 }
+refusal_count refusals.NotHeld = record none { missing = 1 }
 
 -- a kill with this answer
 abbrev pub kill_count : Result Killed Refusal → Shift

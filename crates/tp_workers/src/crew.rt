@@ -1,5 +1,5 @@
 //! A crew: a manager, boxed servers, and all passes that they and their clients need.
-ghost use Rattle.std.specs.Prelude.{◌≡◌, ◌+◌, ◌*◌, ◌<◌, ◌≤◌, ◌^◌, ◌↔◌, None, Some, Err, All, IfOk, [], length, option_copied, sum_by, slice_get, slice_index_or, slice_set};
+ghost use Rattle.std.specs.Prelude.{◌≡◌, ◌+◌, ◌*◌, ◌<◌, ◌≤◌, ◌^◌, ◌↔◌, None, Some, Err, All, IfOk, [], length, option_copied, sum_by, slice_get, slice_index_or, slice_set, zip};
 ghost use Rattle.tp_model.specs.Steps.{AreLimits};
 ghost use Rattle.tp_manager.specs.declared.manager.MakeFault.TheVariants as faults;
 ghost use Rattle.tp_manager.specs.Accounts.{Accounts, AreAll};
@@ -7,13 +7,16 @@ ghost use Rattle.tp_manager.specs.Shown.{IsKeptBy};
 ghost use Rattle.tp_workers.specs.Clients.{ClientRan, IsClientJob};
 ghost use Rattle.tp_workers.specs.CrewPasses.{IsFirstPass, clients_in, crew_passes, desks_in, limits_with, own_in};
 ghost use Rattle.tp_workers.specs.Desks.{DeskRan};
-ghost use Rattle.tp_workers.specs.Drained.{DeskDrained};
+ghost use Rattle.tp_workers.specs.Drained.{DeskDrained, LastTurn};
+ghost use Rattle.tp_workers.specs.Folds.{BeginsFold};
 ghost use Rattle.tp_workers.specs.Free.{IsFreePass, numbers};
-ghost use Rattle.tp_workers.specs.Ran.{RanEach};
+ghost use Rattle.tp_workers.specs.Gains.{commits_in, enqueues_in};
+ghost use Rattle.tp_workers.specs.Ran.{AreTold, RanEach};
 ghost use Rattle.tp_workers.specs.Sums.{calls_of, client_part, desk_part};
 ghost use Rattle.tp_workers.specs.declared.tally.Shift.{Shift};
 
 use crate::client::ClientJob;
+use crate::fold_start::FoldStart;
 use crate::gate::Gate;
 use crate::rounds::{Drained, drain};
 use crate::tally::Shift;
@@ -22,7 +25,6 @@ use std::alloc::{AllocError, Global};
 use std::mem::swap;
 use std::thread::Threads;
 use tp_manager::{Keeper, MakeFault, Manager, Pass};
-use tp_model::remembered::Remembered;
 use tp_model::types::{Account, Limits};
 use tp_server::Server;
 
@@ -63,8 +65,7 @@ pub struct Crew {
     pub(crate) passes: Vec<Pass>,
     pub(crate) boxes: Vec<Box<dyn Server + Send>>,
     pub(crate) clients: u8,
-    pub(crate) first_passes: Remembered<Vec<Pass>>,
-    pub(crate) first_boxes: Remembered<Vec<Box<dyn Server + Send>>>,
+    pub(crate) starts: Vec<FoldStart>,
 }
 
 /// How many passes a crew of so many boxes and clients has, or at least more than there can be.
@@ -110,6 +111,11 @@ fn drain_desks(
     ensures desks { (counts : Shift) × (result.done ≡ counts.done)
         × RanEach (DeskDrained behaviour registers pending manager.now)
         (desks_in (length boxes.old) passes.old) boxes.old counts (desks_in (length boxes.old) passes.new) boxes.new }
+    ensures last_turns { (counts : Shift) × (result.nounit ≡ counts.nounit)
+        × RanEach (LastTurn behaviour registers pending manager.now)
+        (desks_in (length boxes.old) passes.old) boxes.old counts (desks_in (length boxes.old) passes.new) boxes.new }
+    ensures done { result.done + sum_by commits_in (desks_in (length boxes.old) passes.old)
+        ≡ sum_by commits_in (desks_in (length boxes.old) passes.new) }
     ensures own { own_in passes.new ≡ own_in passes.old }
     ensures clients { clients_in (length boxes.old) passes.new ≡ clients_in (length boxes.old) passes.old }
     ensures free { All (IsFreePass manager.now) passes.new }
@@ -130,6 +136,7 @@ fn shift_all<R: Threads + Sync, G: Gate>(
     boxes: &mut [Box<dyn Server + Send>],
     jobs: &mut [ClientJob],
     turns: u32,
+    counts: &mut [Shift],
     gate: &G,
 ) -> Shift
     requires enough { 1 + length boxes.old + length jobs.old ≡ length passes.old }
@@ -144,12 +151,19 @@ fn shift_all<R: Threads + Sync, G: Gate>(
     ensures clients { RanEach (ClientRan manager.now)
         (clients_in (length boxes.old) passes.old) jobs.old (client_part result)
         (clients_in (length boxes.old) passes.new) jobs.new }
+    ensures each_desk { AreTold (DeskRan behaviour registers pending manager.now turns)
+        (desks_in (length boxes.old) passes.old) boxes.old counts.old (desk_part result)
+        (desks_in (length boxes.old) passes.new) boxes.new counts.new }
     ensures own { own_in passes.new ≡ own_in passes.old }
     ensures free { All (IsFreePass manager.now) passes.new }
     ensures numbered { numbers passes.new ≡ numbers passes.old }
     ensures clear { All (λ server. pending server ≡ None) boxes.new }
     ensures kept { length boxes.new ≡ length boxes.old }
     ensures jobs_same { jobs.new ≡ jobs.old }
+    ensures done { result.done + sum_by commits_in (desks_in (length boxes.old) passes.old)
+        ≡ sum_by commits_in (desks_in (length boxes.old) passes.new) }
+    ensures submitted { result.submitted + sum_by enqueues_in (clients_in (length boxes.old) passes.old)
+        ≡ sum_by enqueues_in (clients_in (length boxes.old) passes.new) }
     ensures all_turns { result.nounit ≡ 0
         → result.done + result.refused + result.lost + result.full + result.idle ≡ turns * length boxes.old }
     ensures all_calls { result.submitted + result.submit_full ≡ sum_by calls_of jobs.old }
@@ -166,12 +180,13 @@ fn shift_all<R: Threads + Sync, G: Gate>(
         &mut [],
         &mut [],
         turns,
+        counts,
         gate,
     )
 }
 
 impl Crew {
-    ghost use Rattle.tp_workers.specs.Crew.{IsSteadyCrew, IsSameCrew};
+    ghost use Rattle.tp_workers.specs.Crew.{IsSteadyCrew, IsSameCrew, folds};
 
     /// A crew of these boxes and of so many clients. `BadLimits` where a limit is outside its range, or where that would be more
     /// passes than a manager can have; `NoMemory` only where the allocator refused.
@@ -184,7 +199,7 @@ impl Crew {
         requires clear { All (λ server. pending server ≡ None) boxes.items }
         ensures steady { IfOk result (λ crew. IsSteadyCrew behaviour registers pending crew) }
         ensures boxes { IfOk result (λ crew. (crew.boxes ≡ boxes) × (crew.clients ≡ clients)) }
-        ensures first { IfOk result (λ crew. (crew.first_boxes.value ≡ boxes) × (crew.first_passes.value ≡ crew.passes)) }
+        ensures folds { IfOk result (λ crew. folds crew ≡ zip (desks_in (length boxes.items) crew.passes.items) boxes.items) }
         ensures new { IfOk result (λ crew. All IsFirstPass crew.passes.items) }
         ensures limits { IfOk result (λ crew. crew.manager.limits ≡ limits_with limits (crew_passes (length boxes.items) clients)) }
         ensures bad { (result ≡ Err faults.BadLimits) ↔ (¬ AreLimits (limits_with limits (crew_passes (length boxes.items) clients))) }
@@ -195,26 +210,30 @@ impl Crew {
         let Ok(passes) = all_passes(alloc, &manager, &mut keeper) else {
             return Err(MakeFault::NoMemory);
         };
-        let first_passes = Remembered::of(&passes);
-        let first_boxes = Remembered::of(&boxes);
+        let Ok(starts) = FoldStart::each(alloc, &passes, &boxes) else {
+            return Err(MakeFault::NoMemory);
+        };
         Ok(Crew {
             manager,
             keeper,
             passes,
             boxes,
             clients,
-            first_passes,
-            first_boxes,
+            starts,
         })
     }
 
-    /// Has the box's desks take so many turns, or fewer where a pass has no unit left, and the clients do these jobs, each on a
-    /// thread of its own, until all are through.
+    /// Has the boxes' desks take so many turns, or fewer where a pass has no unit left, and the clients do
+    /// these jobs, each on a
+    /// thread of its own, until all are through. The answer is what all did together; where `counts` has a
+    /// place for each box,
+    /// what each box's desk did is left there.
     pub fn shift<R: Threads + Sync, G: Gate>(
         &mut self,
         rt: &R,
         turns: u32,
         jobs: &mut [ClientJob],
+        counts: &mut [Shift],
         gate: &G,
     ) -> Shift
         requires steady { IsSteadyCrew behaviour registers pending self.old }
@@ -230,9 +249,17 @@ impl Crew {
         ensures clients { RanEach (ClientRan self.old.manager)
             (clients_in (length self.old.boxes.items) self.old.passes.items) jobs.old (client_part result)
             (clients_in (length self.old.boxes.items) self.new.passes.items) jobs.new }
+        ensures each_desk { AreTold (DeskRan behaviour registers pending self.old.manager turns)
+            (desks_in (length self.old.boxes.items) self.old.passes.items) self.old.boxes.items counts.old (desk_part result)
+            (desks_in (length self.old.boxes.items) self.new.passes.items) self.new.boxes.items counts.new }
         ensures own { own_in self.new.passes.items ≡ own_in self.old.passes.items }
         ensures keeper { self.new.keeper ≡ self.old.keeper }
         ensures jobs_same { jobs.new ≡ jobs.old }
+        ensures done { result.done + sum_by commits_in (desks_in (length self.old.boxes.items) self.old.passes.items)
+            ≡ sum_by commits_in (desks_in (length self.old.boxes.items) self.new.passes.items) }
+        ensures submitted { result.submitted
+            + sum_by enqueues_in (clients_in (length self.old.boxes.items) self.old.passes.items)
+            ≡ sum_by enqueues_in (clients_in (length self.old.boxes.items) self.new.passes.items) }
         ensures all_turns { result.nounit ≡ 0
             → result.done + result.refused + result.lost + result.full + result.idle ≡ turns * length self.old.boxes.items }
         ensures all_calls { result.submitted + result.submit_full ≡ sum_by calls_of jobs.old }
@@ -244,6 +271,7 @@ impl Crew {
             &mut self.boxes,
             jobs,
             turns,
+            counts,
             gate,
         )
     }
@@ -257,6 +285,12 @@ impl Crew {
             × RanEach (DeskDrained behaviour registers pending self.old.manager)
             (desks_in (length self.old.boxes.items) self.old.passes.items) self.old.boxes.items counts
             (desks_in (length self.old.boxes.items) self.new.passes.items) self.new.boxes.items }
+        ensures last_turns { (counts : Shift) × (result.nounit ≡ counts.nounit)
+            × RanEach (LastTurn behaviour registers pending self.old.manager)
+            (desks_in (length self.old.boxes.items) self.old.passes.items) self.old.boxes.items counts
+            (desks_in (length self.old.boxes.items) self.new.passes.items) self.new.boxes.items }
+        ensures done { result.done + sum_by commits_in (desks_in (length self.old.boxes.items) self.old.passes.items)
+            ≡ sum_by commits_in (desks_in (length self.old.boxes.items) self.new.passes.items) }
         ensures own { own_in self.new.passes.items ≡ own_in self.old.passes.items }
         ensures clients { clients_in (length self.old.boxes.items) self.new.passes.items
             ≡ clients_in (length self.old.boxes.items) self.old.passes.items }
@@ -277,8 +311,9 @@ impl Crew {
         self.keeper.account(&self.manager, &mut self.passes)
     }
 
-    /// Puts another box in the place of the one with this number, counted from 0, and gives that one back. From now on the
-    /// folds of all boxes' work begin here.
+    /// Puts another box in the place of the one with this number, counted from 0, and gives that one back.
+    /// The fold of the new
+    /// one's work begins here, and those of the other boxes go on.
     pub fn swap(&mut self, k: usize, other: &mut Box<dyn Server + Send>)
         requires steady { IsSteadyCrew behaviour registers pending self.old }
         requires within { k < length self.old.boxes.items }
@@ -289,11 +324,10 @@ impl Crew {
         ensures passes { self.new.passes ≡ self.old.passes }
         ensures others { (self.new.manager ≡ self.old.manager) × (self.new.keeper ≡ self.old.keeper)
             × (self.new.clients ≡ self.old.clients) }
-        ensures first { (self.new.first_boxes.value ≡ self.new.boxes) × (self.new.first_passes.value ≡ self.new.passes) }
+        ensures folds { BeginsFold k other.old self.old.passes.items (folds self.old) (folds self.new) }
     {
+        FoldStart::begin(&mut self.starts, k, &self.passes, other);
         swap(&mut self.boxes[k], other);
-        self.first_passes = Remembered::of(&self.passes);
-        self.first_boxes = Remembered::of(&self.boxes);
     }
 
     /// The box with this number, counted from 0, or `None` past the last one.

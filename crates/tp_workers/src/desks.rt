@@ -69,7 +69,7 @@ fn take_turns<G: Gate>(desk: &mut Desk, turns: u32, worker: u32, gate: &G) -> Sh
 }
 
 /// A turn with a pause at each of its points.
-fn turn_at<G: Gate>(desk: &mut Desk, worker: u32, gate: &G) -> Turned
+pub(crate) fn turn_at<G: Gate>(desk: &mut Desk, worker: u32, gate: &G) -> Turned
     requires resting { IsResting behaviour registers pending desk.old }
     ensures same { IsSameDesk desk.old desk.new }
     ensures turn { TakesTurn desk.old.manager.now.limits

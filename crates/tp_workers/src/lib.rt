@@ -2,21 +2,26 @@
 //! round claims nothing.
 #![tactic(auto)]
 
+mod alone;
 mod client;
 mod crew;
 mod crew_calls;
 mod desks;
+mod fold_start;
 mod fork;
 mod gate;
 mod killer;
 mod rounds;
 mod tally;
+mod trouble;
 mod work;
 
+pub use alone::work_off;
 pub use client::ClientJob;
 pub use crew::{Crew, CrewLimits};
 pub use gate::{Gate, NoGate, Point};
 pub use killer::KillJob;
 pub use rounds::{Drained, drain};
 pub use tally::Shift;
+pub use trouble::Trouble;
 pub use work::shift;

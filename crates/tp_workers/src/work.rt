@@ -5,7 +5,7 @@ ghost use Rattle.tp_workers.specs.Desks.{DeskRan, IsDeskOf};
 ghost use Rattle.tp_workers.specs.Free.{IsFreePass, numbers};
 ghost use Rattle.tp_workers.specs.Gains.{commits_in, enqueues_in, kills_in};
 ghost use Rattle.tp_workers.specs.Killers.{IsKillJob, IsKillerOf, KillerRan};
-ghost use Rattle.tp_workers.specs.Ran.{RanEach};
+ghost use Rattle.tp_workers.specs.Ran.{AreTold, RanEach};
 ghost use Rattle.tp_workers.specs.Sums.{calls_of, client_part, desk_part, killer_part, size_of_range};
 ghost use Rattle.tp_workers.specs.Tally.{total};
 
@@ -21,7 +21,9 @@ use tp_server::Server;
 
 /// Runs a desk of each of the first passes with the server at its place, a client of each of the second with the job at its
 /// place, and a killer of each of the third with the job at its place, each on a thread of its own, until all are through. A
-/// desk takes so many turns, or fewer where its pass has no unit left.
+/// desk takes so many turns, or fewer where its pass has no unit left. The answer is what all did
+/// together; where `counts` has
+/// a place for each desk, what each desk did is left there.
 ///
 /// All passes come from this manager's keeper and have no unit open, and the servers have nothing prepared; so it is
 /// afterwards. The jobs stay as they are.
@@ -35,6 +37,7 @@ pub fn shift<R: Threads + Sync, G: Gate>(
     killer_passes: &mut [Pass],
     killers: &mut [KillJob],
     turns: u32,
+    counts: &mut [Shift],
     gate: &G,
 ) -> Shift
     requires servers_paired { length desk_passes.old ≡ length servers.old }
@@ -57,6 +60,8 @@ pub fn shift<R: Threads + Sync, G: Gate>(
         client_passes.old clients.old (client_part result) client_passes.new clients.new }
     ensures killers { RanEach (KillerRan manager.now)
         killer_passes.old killers.old (killer_part result) killer_passes.new killers.new }
+    ensures each_desk { AreTold (DeskRan behaviour registers pending manager.now turns)
+        desk_passes.old servers.old counts.old (desk_part result) desk_passes.new servers.new counts.new }
 
     // All of them can be put to work again.
     ensures desks_free { All (IsFreePass manager.now) desk_passes.new }
@@ -87,9 +92,9 @@ pub fn shift<R: Threads + Sync, G: Gate>(
             (pass.entry.now, server.entry.now) result (pass.exit.now, server.exit.now) × (total result ≤ turns) }
     { run_desk(manager, pass, server, turns, worker, gate) };
     let client = |pass: &mut Pass, job: &mut ClientJob, worker: u32| -> Shift
-        requires { IsClientOf manager.now (pass.now, job.now) }
+        requires { IsClientOf manager.now (pass.now, job.now) × (calls_of job.now < 2 ^ 32) }
         ensures { ClientRan manager.entry.now (pass.entry.now, job.entry.now) result (pass.exit.now, job.exit.now)
-            × (total result ≤ job.entry.now.count) }
+            × (total result ≤ calls_of job.entry.now) }
     { run_client(manager, pass, job, worker, gate) };
     let killer = |pass: &mut Pass, job: &mut KillJob, worker: u32| -> Shift
         requires { IsKillerOf manager.now (pass.now, job.now) }
@@ -108,6 +113,7 @@ pub fn shift<R: Threads + Sync, G: Gate>(
         first_killer,
         desk_passes,
         servers,
+        counts,
         client_passes,
         clients,
         killer_passes,

@@ -10,9 +10,11 @@ mod kills;
 mod marks;
 mod plays;
 mod refusals;
+mod releases;
 mod requeues;
 mod spares;
 mod threads;
+mod turns;
 
 use std::process::Abort;
 use tp_model::types::{Body, Claimed, Draft, Element, Limits, Outcome, Status, Work};

@@ -156,6 +156,7 @@ fn shows_body(words: &Words, seat: &mut Seat, row: u32, body: Body) -> bool
 fn is_born(row: u32, head: Head, made_by: UnitWord) -> bool {
     match head {
         Head::Empty => false,
+        Head::Void => false,
         Head::There {
             stage: _,
             root: _,

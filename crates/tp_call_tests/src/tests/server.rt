@@ -2,6 +2,7 @@
 mod fold;
 mod plays;
 mod till;
+mod told;
 
 use crate::tests::server::plays::Call::{
     Balance, Commits, Counts, Does, IsPrepared, Prepares, Stage, Undoes,

@@ -29,6 +29,8 @@ fn heads(rt: HostRuntime) {
     assert!(rt; Head::unpack(538968095) == Some(reply));
     assert!(rt; Head::Empty.pack() == 0);
     assert!(rt; Head::unpack(0) == Some(Head::Empty));
+    assert!(rt; Head::Void.pack() == 2);
+    assert!(rt; Head::unpack(2) == Some(Head::Void));
 }
 
 #[test]
@@ -40,6 +42,7 @@ fn words_are_read(rt: HostRuntime) {
     };
     assert!(rt; reply.pack() == 538968095);
     assert!(rt; Head::read(reply.pack()) == reply);
+    assert!(rt; Head::read(Head::Void.pack()) == Head::Void);
     let taken = Claim::Taken {
         attempt: 2,
         unit: 512,
@@ -58,8 +61,9 @@ fn words_are_read(rt: HostRuntime) {
 fn refused_heads(rt: HostRuntime) {
     // Present, but of stage 0.
     assert!(rt; Head::unpack(1).is_none());
-    // Not present, with other bits.
-    assert!(rt; Head::unpack(2).is_none());
+    // Not present, with other bits, of which bit 1 alone is a void one.
+    assert!(rt; Head::unpack(4).is_none());
+    assert!(rt; Head::unpack(34).is_none());
     // Bit 37.
     assert!(rt; Head::unpack(137438953475).is_none());
 }
@@ -217,7 +221,7 @@ fn places(rt: HostRuntime) {
         return;
     };
     assert!(rt; small.rows() == 16);
-    assert!(rt; small.size() == 611);
+    assert!(rt; small.size() == 1249);
     assert!(rt; small.head(15) == 90);
     assert!(rt; small.body(15, 0) == 91);
     assert!(rt; small.body(15, 1) == 92);
@@ -226,8 +230,11 @@ fn places(rt: HostRuntime) {
     assert!(rt; small.claim(15) == 95);
     assert!(rt; small.unit(0) == 96);
     assert!(rt; small.unit(256) == 352);
-    assert!(rt; small.mark(1) == 609);
-    assert!(rt; small.drawn() == 610);
+    assert!(rt; small.mark(0, 1) == 609);
+    assert!(rt; small.mark(1, 0) == 648);
+    assert!(rt; small.mark(15, 1) == 1209);
+    assert!(rt; small.mark(15, 2) == 1210);
+    assert!(rt; small.drawn() == 1248);
     assert!(rt; small.area_end(0) == 8);
     assert!(rt; small.area_end(7) == 8);
     assert!(rt; small.area_end(8) == 16);
@@ -236,7 +243,7 @@ fn places(rt: HostRuntime) {
         assert!(rt; false);
         return;
     };
-    assert!(rt; largest.size() == 81953);
+    assert!(rt; largest.size() == 82561);
 }
 
 #[test]
@@ -261,9 +268,10 @@ fn places_of_spare_blocks(rt: HostRuntime) {
     assert!(rt; places.area_end(27) == 28);
     assert!(rt; places.head(27) == 162);
     assert!(rt; places.unit(0) == 168);
-    assert!(rt; places.mark(0) == 174);
-    assert!(rt; places.drawn() == 177);
-    assert!(rt; places.size() == 178);
+    assert!(rt; places.mark(0, 0) == 174);
+    assert!(rt; places.mark(0, 3) == 177);
+    assert!(rt; places.drawn() == 814);
+    assert!(rt; places.size() == 815);
     let most = Limits {
         spare: 256,
         ..limits(32, 256, 1024, 7)
@@ -273,7 +281,7 @@ fn places_of_spare_blocks(rt: HostRuntime) {
         return;
     };
     assert!(rt; largest.rows() == 10240);
-    assert!(rt; largest.size() == 94241);
+    assert!(rt; largest.size() == 94849);
 }
 
 #[test]

@@ -3,6 +3,7 @@ ghost use Rattle.std.specs.Prelude.{◌≡◌, None, All};
 ghost use Rattle.tp_manager.specs.Shown.{IsKeptBy, IsOf};
 ghost use Rattle.tp_workers.specs.Clients.{IsClientJob};
 ghost use Rattle.tp_workers.specs.Free.{IsFreePass};
+ghost use Rattle.tp_workers.specs.Sums.{calls_of};
 
 mod account;
 mod cancels;
@@ -10,6 +11,7 @@ mod counts;
 mod crew;
 mod full;
 mod overlap;
+mod own;
 mod race;
 mod storm;
 mod together;
@@ -62,16 +64,16 @@ fn three_passes<R: Abort>(rt: &R, keeper: &mut Keeper, manager: &Manager) -> [Pa
     [first, second, third]
 }
 
-/// A client of stage 1, whose bodies have the key 0 and this amount.
-fn client(amount: u64, count: u32) -> ClientJob
+/// A client of stage 1, which submits so many bodies with the key 0 and this amount.
+fn client<R: Abort + AllocGlobal>(rt: &R, amount: u64, count: u32) -> ClientJob
     ensures job { IsClientJob result }
-    ensures count { result.count ≡ count }
+    ensures count { calls_of result ≡ count }
 {
-    ClientJob {
-        stage: 1,
-        body: [0, amount, 0, 0],
-        count,
+    let mut bodies = Vec::new(rt.alloc());
+    for _i in 0..count {
+        bodies.push([0, amount, 0, 0]).expect(rt, "no memory");
     }
+    ClientJob { stage: 1, bodies }
 }
 
 /// Two servers with nothing prepared, side by side.

@@ -162,6 +162,7 @@ fn lines_of_elements(rt: HostRuntime) -> Result<(), Fail> {
         (Refusal::Full, "refused 7 Full\n"),
         (Refusal::NotParked, "refused 8 NotParked\n"),
         (Refusal::NoRound, "refused 9 NoRound\n"),
+        (Refusal::NotHeld, "refused 12 NotHeld\n"),
     ] {
         is_told(&rt, Answer::Refused(refusal), want)?;
     }

@@ -6,7 +6,7 @@ ghost use Rattle.tp_model.specs.Steps.{IsServerStage};
 use std::process::Abort;
 use tp_model::types::{
     Body, Cancelled, Claimed, Draft, Element, Ended, Killed, Limits, Look, Outcome, Refusal,
-    Status, Work,
+    Released, Status, Work,
 };
 use tp_plain::plain::Plain;
 
@@ -125,6 +125,32 @@ pub(crate) fn kills(
     ensures { plain.new.limits ≡ plain.old.limits }
 {
     !plain.has_open(caller) && plain.kill(caller, id) == answer
+}
+
+/// Whether a release by a pass with nothing in its hand answers this.
+pub(crate) fn releases(
+    plain: &mut Plain,
+    caller: u16,
+    id: u32,
+    answer: Result<Released, Refusal>,
+) -> bool
+    requires { caller < plain.old.limits.parts }
+    ensures { plain.new.limits ≡ plain.old.limits }
+{
+    !plain.has_open(caller) && plain.release(caller, id) == answer
+}
+
+/// Whether a collect by a pass with nothing in its hand answers this.
+pub(crate) fn collects(
+    plain: &mut Plain,
+    caller: u16,
+    id: u32,
+    answer: Result<Element, Refusal>,
+) -> bool
+    requires { caller < plain.old.limits.parts }
+    ensures { plain.new.limits ≡ plain.old.limits }
+{
+    !plain.has_open(caller) && plain.collect(caller, id) == answer
 }
 
 /// Whether a cancel by a pass with nothing in its hand answers this.

@@ -13,7 +13,7 @@ use tp_model::types::{Limits, Status};
 use tp_perform::perform::perform;
 use tp_report::RunFault;
 use tp_script::{Script, StdSource, read_script};
-use tp_server::{Act, EagerServer, Recipe, Registers, Server};
+use tp_server::{Act, EagerServer, Recipe, Registers, Server, three};
 
 /// Four clients' passes, three servers', and the script's own.
 const LIMITS: Limits = Limits {
@@ -49,17 +49,6 @@ fn adder(alloc: Global) -> Option<Box<dyn Server + Send>>
     let server = EagerServer::new(Registers::new(1)?, recipe).ok()?;
     let boxed = Box::new(alloc, server).ok()?;
     Some(boxed)
-}
-
-fn three(
-    one: Box<dyn Server + Send>,
-    other: Box<dyn Server + Send>,
-    third: Box<dyn Server + Send>,
-) -> [Box<dyn Server + Send>; 3]
-    requires { (pending one ≡ None) × (pending other ≡ None) × (pending third ≡ None) }
-    ensures { All (λ server. pending server ≡ None) result }
-{
-    [one, other, third]
 }
 
 /// How many elements read Consumed, each with the amount 1.

@@ -2,11 +2,13 @@
 ghost use Rattle.std.specs.Prelude.{◌≡◌, ◌<◌};
 
 use super::asking::{
-    aborts, cancels, claim, commits, kills, reads, requeues, stands, submits, work,
+    aborts, cancels, claim, collects, commits, kills, reads, releases, requeues, stands, submits,
+    work,
 };
 use std::process::Abort;
 use tp_model::types::{
-    Body, Cancelled, Claimed, Draft, Ended, Killed, Look, Outcome, Refusal, Status,
+    Body, Cancelled, Claimed, Draft, Element, Ended, Killed, Look, Outcome, Refusal, Released,
+    Status,
 };
 use tp_plain::plain::Plain;
 
@@ -32,6 +34,10 @@ pub(crate) enum Call<'a> {
     Commits(&'a [Draft], Outcome),
     /// A kill of the element.
     Kills(u32, Result<Killed, Refusal>),
+    /// A release of the element.
+    Releases(u32, Result<Released, Refusal>),
+    /// A collect of the reply.
+    Collects(u32, Result<Element, Refusal>),
     /// A cancel of the request.
     Cancels(u32, Result<Cancelled, Refusal>),
     /// A requeue of the element.
@@ -83,6 +89,8 @@ fn answers(plain: &mut Plain, caller: u16, call: Call<'_>) -> bool
             drafts.len() <= 4 && commits(plain, caller, drafts, Ok(answer))
         }
         Call::Kills(id, answer) => kills(plain, caller, id, answer),
+        Call::Releases(id, answer) => releases(plain, caller, id, answer),
+        Call::Collects(id, answer) => collects(plain, caller, id, answer),
         Call::Cancels(root, answer) => cancels(plain, caller, root, answer),
         Call::Requeues(id, answer) => requeues(plain, caller, id, answer),
         Call::Reads(id, answer) => reads(plain, id, answer),

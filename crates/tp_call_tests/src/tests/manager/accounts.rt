@@ -50,7 +50,7 @@ fn nothing_happened(rt: HostRuntime) {
     assert!(rt; !keeper.has_all(&[]));
 }
 
-/// The closing account, if these are all passes of the keeper.
+/// The closing account, behind a gathering, if these are all passes of the keeper.
 fn accounted(manager: &Manager, keeper: &mut Keeper, passes: &mut [Pass]) -> Option<Account>
     requires kept { IsKeptBy manager.now keeper.old }
     requires own { All (IsOf manager.now) passes.old }
@@ -58,6 +58,7 @@ fn accounted(manager: &Manager, keeper: &mut Keeper, passes: &mut [Pass]) -> Opt
     ensures own { All (IsOf manager.now) passes.new }
 {
     if keeper.has_all(passes) {
+        keeper.gather(manager, passes);
         Some(keeper.account(manager, passes))
     } else {
         None

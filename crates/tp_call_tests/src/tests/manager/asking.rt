@@ -4,7 +4,8 @@ ghost use Rattle.tp_manager.specs.Shown.{IsOf};
 
 use tp_manager::{Manager, Pass};
 use tp_model::types::{
-    Body, Cancelled, Claimed, Draft, Ended, Killed, Look, Outcome, Refusal, Status,
+    Body, Cancelled, Claimed, Draft, Element, Ended, Killed, Look, Outcome, Refusal, Released,
+    Status,
 };
 
 /// Whether a submit answers this.
@@ -51,6 +52,28 @@ pub(super) fn takes(manager: &Manager, pass: &mut Pass, stage: u8, id: u32) -> b
     }
 }
 
+/// What a claim in turn answers.
+pub(super) fn claim_next(manager: &Manager, pass: &mut Pass, stage: u8) -> Option<Claimed>
+    requires { IsOf manager.now pass.old }
+    ensures { IsOf manager.now pass.new }
+{
+    if pass.has_open() || stage < 1 || stage > 14 {
+        return None;
+    }
+    Some(manager.claim_next(pass, stage))
+}
+
+/// Whether a claim in turn takes the element with this id.
+pub(super) fn takes_next(manager: &Manager, pass: &mut Pass, stage: u8, id: u32) -> bool
+    requires { IsOf manager.now pass.old }
+    ensures { IsOf manager.now pass.new }
+{
+    match claim_next(manager, pass, stage) {
+        Some(Claimed::Work(work)) => work.element.id == id,
+        _ => false,
+    }
+}
+
 /// Whether the pass's own abort ends its unit.
 pub(super) fn aborts(manager: &Manager, pass: &mut Pass) -> bool
     requires { IsOf manager.now pass.old }
@@ -83,6 +106,32 @@ pub(super) fn kills(
     ensures { IsOf manager.now pass.new }
 {
     !pass.has_open() && manager.kill(pass, id) == answer
+}
+
+/// Whether a release answers this.
+pub(super) fn releases(
+    manager: &Manager,
+    pass: &mut Pass,
+    id: u32,
+    answer: Result<Released, Refusal>,
+) -> bool
+    requires { IsOf manager.now pass.old }
+    ensures { IsOf manager.now pass.new }
+{
+    !pass.has_open() && manager.release(pass, id) == answer
+}
+
+/// Whether a collect answers this.
+pub(super) fn collects(
+    manager: &Manager,
+    pass: &mut Pass,
+    id: u32,
+    answer: Result<Element, Refusal>,
+) -> bool
+    requires { IsOf manager.now pass.old }
+    ensures { IsOf manager.now pass.new }
+{
+    !pass.has_open() && manager.collect(pass, id) == answer
 }
 
 /// Whether a cancel answers this.

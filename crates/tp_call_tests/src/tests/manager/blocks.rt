@@ -2,7 +2,7 @@
 
 use super::accounts::accounts_of;
 use super::plays::Call::{
-    Aborts, Cancels, Capacity, Claims, Commits, Finds, NextError, Reads, Reply, SeenBlocks,
+    Aborts, Cancels, Capacity, Claims, Commits, Finds, Low, NextError, Reads, Reply, SeenBlocks,
     Submits, Takes,
 };
 use super::plays::{CLIENT, SERVER, plays};
@@ -67,6 +67,52 @@ fn outputs_in_a_block(rt: HostRuntime) {
         (SERVER, Submits(2, BODY, Ok(4))),
         (CLIENT, Reads(1, Err(Refusal::NotThere))),
         (CLIENT, Finds(request(4, 2, BODY), NEW)),
+    ];
+    plays(&rt, BLOCKS, &calls);
+}
+
+/// The mark of the spare rows is that of one part more.
+#[test]
+fn mark_of_spare_rows(rt: HostRuntime) {
+    let nothing = Outcome::Committed { first: 0, count: 0 };
+    let calls = [
+        (CLIENT, Submits(1, BODY, Ok(0))),
+        (CLIENT, Submits(1, BODY, Ok(2))),
+        (CLIENT, Submits(1, BODY, Ok(3))),
+        (SERVER, Takes(1, 0)),
+        (SERVER, Commits(&[], nothing)),
+        (SERVER, Takes(1, 2)),
+        (SERVER, Low(1, 2, 0)),
+        (SERVER, Commits(&[], nothing)),
+        (SERVER, Takes(1, 3)),
+        (SERVER, Low(1, 2, 1)),
+        (SERVER, Commits(&[], nothing)),
+        (SERVER, Claims(1, Claimed::Idle)),
+        (SERVER, Low(1, 2, 2)),
+        // To other stages both rows are of no use.
+        (CLIENT, Claims(2, Claimed::Idle)),
+        (CLIENT, Low(2, 2, 2)),
+        (CLIENT, Low(1, 2, 0)),
+    ];
+    plays(&rt, BLOCKS, &calls);
+}
+
+#[test]
+fn mark_passes_void_rows(rt: HostRuntime) {
+    let drafts = [Draft::default(), Draft::default()];
+    let calls = [
+        (CLIENT, Submits(1, BODY, Ok(0))),
+        (CLIENT, Claims(9, Claimed::Idle)),
+        (CLIENT, Low(9, 1, 0)),
+        (SERVER, Takes(1, 0)),
+        (
+            SERVER,
+            Commits(&drafts, Outcome::Committed { first: 2, count: 2 }),
+        ),
+        // The row that the server left behind in its part is void.
+        (CLIENT, Claims(9, Claimed::Idle)),
+        (CLIENT, Low(9, 1, 1)),
+        (CLIENT, Low(9, 2, 2)),
     ];
     plays(&rt, BLOCKS, &calls);
 }

@@ -1,6 +1,6 @@
 //! Claims that begin behind what is finished.
 
-use super::plays::Call::{Aborts, Claims, Commits, Kills, Low, NextError, Submits, Takes};
+use super::plays::Call::{Aborts, Claims, Commits, Kills, Low, NextError, Reply, Submits, Takes};
 use super::plays::{CLIENT, SERVER, plays};
 use super::{NOTHING, SMALL, request, work};
 use tp_model::types::{Claimed, Draft, Killed, Limits, Outcome};
@@ -34,19 +34,22 @@ fn mark_rises(rt: HostRuntime) {
         (CLIENT, Submits(1, [0, 5, 0, 0], Ok(0))),
         (CLIENT, Submits(1, [0, 6, 0, 0], Ok(1))),
         (CLIENT, Submits(1, [0, 7, 0, 0], Ok(2))),
-        (SERVER, Low(0, 0)),
+        (SERVER, Low(1, 0, 0)),
         (SERVER, Takes(1, 0)),
-        (SERVER, Low(0, 0)),
+        (SERVER, Low(1, 0, 0)),
         (SERVER, Commits(&[], NOTHING)),
         (SERVER, Takes(1, 1)),
-        (SERVER, Low(0, 1)),
+        (SERVER, Low(1, 0, 1)),
         (SERVER, Commits(&[], NOTHING)),
         (SERVER, Takes(1, 2)),
-        (SERVER, Low(0, 2)),
-        // The client hasn't looked at the mark yet; a listing does.
-        (CLIENT, Low(0, 0)),
+        (SERVER, Low(1, 0, 2)),
+        // The client hasn't looked at that mark. A listing raises the one that is about all stages.
+        (CLIENT, Low(0, 0, 0)),
         (CLIENT, NextError(0, None)),
-        (CLIENT, Low(0, 2)),
+        (CLIENT, Low(0, 0, 2)),
+        (CLIENT, Low(1, 0, 0)),
+        (CLIENT, Claims(1, Claimed::Idle)),
+        (CLIENT, Low(1, 0, 2)),
     ];
     plays(&rt, limits, &calls);
 }
@@ -68,8 +71,13 @@ fn parked_stays(rt: HostRuntime) {
         // The mark stays at the parked element.
         (CLIENT, Submits(1, [0, 7, 0, 0], Ok(2))),
         (SERVER, Takes(1, 2)),
-        (SERVER, Low(0, 0)),
+        (SERVER, Low(1, 0, 0)),
         (CLIENT, NextError(0, Some(0))),
+        (CLIENT, Low(0, 0, 0)),
+        // To other stages it is of no use.
+        (SERVER, Commits(&[], NOTHING)),
+        (SERVER, Claims(2, Claimed::Idle)),
+        (SERVER, Low(2, 0, 3)),
     ];
     plays(&rt, limits, &calls);
 }
@@ -86,15 +94,50 @@ fn mark_passes_dead_drafts(rt: HostRuntime) {
         // The heads of rows 4 and 5 name unit 8, which was aborted: nothing is ever born in them.
         (SERVER, Commits(&drafts, Outcome::Lost)),
         (SERVER, Claims(1, Claimed::Idle)),
-        (SERVER, Low(0, 1)),
-        (SERVER, Low(1, 2)),
-        // The reply that is born behind them waits.
+        (SERVER, Low(1, 0, 1)),
+        (SERVER, Low(1, 1, 2)),
         (CLIENT, Submits(1, [0, 6, 0, 0], Ok(1))),
         (SERVER, Takes(1, 1)),
         (SERVER, Commits(&drafts[..1], one)),
         (SERVER, Claims(1, Claimed::Idle)),
-        (SERVER, Low(0, 2)),
-        (SERVER, Low(1, 2)),
+        (SERVER, Low(1, 0, 2)),
+        // The reply that is born behind them is of no use to a claim, but it is to who asks for replies.
+        (SERVER, Low(1, 1, 3)),
+        (CLIENT, Reply(0, 0, None)),
+        (CLIENT, Low(15, 0, 2)),
+        (CLIENT, Low(15, 1, 2)),
+        (CLIENT, Reply(1, 0, Some(6))),
+    ];
+    plays(&rt, limits, &calls);
+}
+
+#[test]
+fn stages_have_marks_of_their_own(rt: HostRuntime) {
+    let limits = Limits { units: 8, ..SMALL };
+    let replied = Outcome::Committed { first: 4, count: 1 };
+    let calls = [
+        (CLIENT, Submits(1, [0, 5, 0, 0], Ok(0))),
+        (CLIENT, Submits(2, [0, 6, 0, 0], Ok(1))),
+        (CLIENT, Submits(2, [0, 7, 0, 0], Ok(2))),
+        (SERVER, Claims(3, Claimed::Idle)),
+        (SERVER, Low(3, 0, 3)),
+        (SERVER, Low(1, 0, 0)),
+        (SERVER, Takes(1, 0)),
+        (SERVER, Commits(&[Draft::default()], replied)),
+        (SERVER, Claims(1, Claimed::Idle)),
+        (SERVER, Low(1, 0, 3)),
+        (SERVER, Low(1, 1, 1)),
+        (SERVER, Takes(2, 1)),
+        (SERVER, Low(2, 0, 1)),
+        (CLIENT, NextError(0, None)),
+        (CLIENT, Low(0, 0, 1)),
+        (CLIENT, Low(0, 1, 1)),
+        (CLIENT, Reply(0, 0, Some(4))),
+        (CLIENT, Low(15, 0, 3)),
+        (CLIENT, Low(15, 1, 0)),
+        // There is no such stage, and no such part.
+        (CLIENT, Low(16, 0, 0)),
+        (CLIENT, Low(15, 32, 0)),
     ];
     plays(&rt, limits, &calls);
 }

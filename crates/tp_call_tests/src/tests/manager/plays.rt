@@ -7,7 +7,8 @@ use crate::tests::fixture::two;
 use std::process::Abort;
 use tp_manager::{Manager, Pass};
 use tp_model::types::{
-    Body, Cancelled, Claimed, Draft, Element, Killed, Limits, Look, Outcome, Refusal, Status,
+    Body, Cancelled, Claimed, Draft, Element, Killed, Limits, Look, Outcome, Refusal, Released,
+    Status,
 };
 
 /// The place of a client's pass among two, and that of a server's.
@@ -24,12 +25,20 @@ pub(super) enum Call<'a> {
     Claims(u8, Claimed),
     /// A claim in the stage that takes the element with this id.
     Takes(u8, u32),
+    /// A claim in turn in the stage that takes the element with this id.
+    TakesNext(u8, u32),
+    /// A claim in turn in the stage that finds none.
+    NextIdle(u8),
     /// The pass's own abort of what it has in hand.
     Aborts,
     /// A commit of what is in hand, with these outputs.
     Commits(&'a [Draft], Outcome),
     /// A kill of the element.
     Kills(u32, Result<Killed, Refusal>),
+    /// A release of the element.
+    Releases(u32, Result<Released, Refusal>),
+    /// A collect of the reply.
+    Collects(u32, Result<Element, Refusal>),
     /// A cancel of the request.
     Cancels(u32, Result<Cancelled, Refusal>),
     /// A requeue of the element.
@@ -48,8 +57,8 @@ pub(super) enum Call<'a> {
     Capacity(u32),
     /// Whether a unit is in hand.
     HasOpen(bool),
-    /// The mark of a part.
-    Low(u16, u16),
+    /// The mark about a stage of a part.
+    Low(u8, u16, u16),
     /// How many blocks the pass has seen.
     SeenBlocks(u16),
 }
@@ -63,9 +72,13 @@ fn answers(manager: &Manager, pass: &mut Pass, call: Call<'_>) -> bool
         Call::Submits(stage, body, answer) => asking::submits(manager, pass, stage, body, answer),
         Call::Claims(stage, answer) => asking::claims(manager, pass, stage, answer),
         Call::Takes(stage, id) => asking::takes(manager, pass, stage, id),
+        Call::TakesNext(stage, id) => asking::takes_next(manager, pass, stage, id),
+        Call::NextIdle(stage) => asking::claim_next(manager, pass, stage) == Some(Claimed::Idle),
         Call::Aborts => asking::aborts(manager, pass),
         Call::Commits(drafts, outcome) => asking::commits(manager, pass, drafts, outcome),
         Call::Kills(id, answer) => asking::kills(manager, pass, id, answer),
+        Call::Releases(id, answer) => asking::releases(manager, pass, id, answer),
+        Call::Collects(id, answer) => asking::collects(manager, pass, id, answer),
         Call::Cancels(root, answer) => asking::cancels(manager, pass, root, answer),
         Call::Requeues(id, answer) => asking::requeues(manager, pass, id, answer),
         Call::Reads(id, answer) => asking::reads(manager, pass, id, answer),
@@ -77,7 +90,7 @@ fn answers(manager: &Manager, pass: &mut Pass, call: Call<'_>) -> bool
         Call::NextError(from, answer) => manager.next_error(pass, from) == answer,
         Call::Capacity(answer) => manager.capacity() == answer,
         Call::HasOpen(answer) => pass.has_open() == answer,
-        Call::Low(part, answer) => pass.low(part) == answer,
+        Call::Low(stage, part, answer) => pass.low(stage, part) == answer,
         Call::SeenBlocks(answer) => pass.seen_blocks() == answer,
     }
 }

@@ -5,6 +5,7 @@ ghost use Rattle.tp_workers.specs.Free.{IsFreePass};
 
 use crate::tests::fixture::{eager, lazy, recipe};
 use crate::tests::workers::{client, manager, pair, pass};
+use std::process::Abort;
 use std::thread::Threads;
 use tp_manager::{Keeper, Manager, Pass};
 use tp_model::types::{Account, Limits};
@@ -23,7 +24,7 @@ fn accounted(manager: &Manager, keeper: &mut Keeper, passes: &mut [Pass]) -> Opt
 }
 
 /// Two clients, two desks and a killer race, then the desks drain, and then all that the passes saw is counted.
-fn raced<R: Threads + Sync>(
+fn raced<R: Threads + Sync + Abort + AllocGlobal>(
     rt: &R,
     manager: &Manager,
     keeper: &mut Keeper,
@@ -44,10 +45,11 @@ fn raced<R: Threads + Sync>(
         desks,
         servers,
         clients,
-        &mut [client(1, 50), client(1, 50)],
+        &mut [client(rt, 1, 50), client(rt, 1, 50)],
         killers,
         &mut [KillJob { first: 0, end: 128 }],
         100,
+        &mut [],
         &NoGate,
     );
     let drained = drain(manager, desks, servers);

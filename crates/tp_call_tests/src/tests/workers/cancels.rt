@@ -73,6 +73,7 @@ fn turn<R: Threads + Sync>(
         &mut [],
         &mut [],
         1,
+        &mut [],
         gate,
     )
 }

@@ -10,7 +10,7 @@ use tp_model::types::{Limits, Refusal, Status};
 use tp_workers::{KillJob, NoGate, Shift, shift};
 
 /// A shift of one client alone, which submits three times.
-pub(super) fn submits_three<R: Threads + Sync>(
+pub(super) fn submits_three<R: Threads + Sync + Abort + AllocGlobal>(
     rt: &R,
     manager: &Manager,
     clients: &mut [Pass],
@@ -24,10 +24,11 @@ pub(super) fn submits_three<R: Threads + Sync>(
         &mut [],
         &mut [],
         clients,
-        &mut [client(1, 3)],
+        &mut [client(rt, 1, 3)],
         &mut [],
         &mut [],
         0,
+        &mut [],
         &NoGate,
     )
 }
@@ -49,6 +50,7 @@ fn kills_four<R: Threads + Sync>(rt: &R, manager: &Manager, killers: &mut [Pass]
         killers,
         &mut [KillJob { first: 0, end: 4 }],
         0,
+        &mut [],
         &NoGate,
     )
 }

@@ -6,7 +6,7 @@ use crate::tests::workers::client;
 use std::process::Abort;
 use tp_manager::MakeFault;
 use tp_server::{Act, Server};
-use tp_workers::{Crew, CrewLimits, NoGate};
+use tp_workers::{Crew, CrewLimits, NoGate, Shift};
 
 /// Two boxes with nothing prepared.
 fn boxes<R: Abort + AllocGlobal>(rt: &R) -> Vec<Box<dyn Server + Send>>
@@ -31,10 +31,25 @@ fn limits() -> CrewLimits {
     }
 }
 
+/// How many turns these counts tell of.
+fn turns_of(counts: &Shift) -> u32 {
+    counts
+        .done
+        .wrapping_add(counts.refused)
+        .wrapping_add(counts.lost)
+        .wrapping_add(counts.full)
+        .wrapping_add(counts.idle)
+        .wrapping_add(counts.nounit)
+}
+
 #[test]
 fn crew_at_work(rt: HostRuntime) {
     let mut crew = Crew::new(rt.alloc(), limits(), boxes(&rt), 1).expect(&rt, "no crew");
-    let counts = crew.shift(&rt, 20, &mut [client(1, 10)], &NoGate);
+    let mut each = [Shift::default(); 2];
+    let counts = crew.shift(&rt, 20, &mut [client(&rt, 1, 10)], &mut each, &NoGate);
+    assert_eq!(rt; turns_of(&each[0]), 20);
+    assert_eq!(rt; turns_of(&each[1]), 20);
+    assert_eq!(rt; each[0].done.wrapping_add(each[1].done), counts.done);
     let drained = crew.drain();
     let total = crew.account().total;
     assert_eq!(rt; counts.submitted, 10);

@@ -39,6 +39,7 @@ fn two_turns<R: Threads + Sync>(
         &mut [],
         &mut [],
         2,
+        &mut [],
         &NoGate,
     )
 }

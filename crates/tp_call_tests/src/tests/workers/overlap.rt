@@ -5,7 +5,7 @@ use crate::tests::workers::{hold, manager, pair, pass, two};
 use std::sync::atomic::{AtomicU64, Ordering};
 use tp_model::types::Limits;
 use tp_server::{Act, Server};
-use tp_workers::{Gate, Point, shift};
+use tp_workers::{Gate, Point, Shift, shift};
 
 /// Holds worker 1 at its start until worker 0 has claimed, and worker 0, once prepared, until worker 1 has settled.
 #[derive(Drop)]
@@ -49,6 +49,7 @@ fn two_desks_overlap(rt: HostRuntime) {
         failed: AtomicU64::new(0),
     };
     let mut servers = pair(a, b);
+    let mut each = [Shift::default(); 2];
     let counts = shift(
         &rt,
         &manager,
@@ -59,10 +60,12 @@ fn two_desks_overlap(rt: HostRuntime) {
         &mut [],
         &mut [],
         1,
+        &mut each,
         &gate,
     );
     assert_eq!(rt; gate.failed.load(Ordering::SeqCst), 0);
     assert_eq!(rt; counts.done, 2);
+    assert_eq!(rt; (each[0].done, each[1].done), (1, 1));
     drop(servers);
     drop(gate);
     drop(passes);

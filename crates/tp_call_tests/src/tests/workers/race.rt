@@ -13,7 +13,7 @@ use tp_server::{Act, Server};
 use tp_workers::{Drained, KillJob, NoGate, Shift, drain, shift};
 
 /// Two desks, two clients and a killer race, then the desks drain.
-fn raced<R: Threads + Sync>(
+fn raced<R: Threads + Sync + Abort + AllocGlobal>(
     rt: &R,
     manager: &Manager,
     desks: &mut [Pass],
@@ -33,10 +33,11 @@ fn raced<R: Threads + Sync>(
         desks,
         servers,
         clients,
-        &mut [client(1, 50), client(1, 50)],
+        &mut [client(rt, 1, 50), client(rt, 1, 50)],
         killers,
         &mut [KillJob { first: 0, end: 128 }],
         100,
+        &mut [],
         &NoGate,
     );
     let drained = drain(manager, desks, servers);

@@ -72,6 +72,7 @@ fn turns<R: Threads + Sync>(
         &mut [],
         &mut [],
         200,
+        &mut [],
         &NoGate,
     )
 }

@@ -51,10 +51,11 @@ fn six_start_together(rt: HostRuntime) {
         &mut desks,
         &mut servers,
         &mut clients,
-        &mut [client(1, 1), client(1, 1)],
+        &mut [client(&rt, 1, 1), client(&rt, 1, 1)],
         &mut killers,
         &mut [KillJob { first: 0, end: 1 }, KillJob { first: 1, end: 2 }],
         1,
+        &mut [],
         &gate,
     );
     assert_eq!(rt; gate.failed.load(Ordering::SeqCst), 0);

@@ -13,7 +13,7 @@ use tp_server::{Act, Server};
 use tp_workers::{KillJob, NoGate, Shift, shift};
 
 /// All work at once: the desks with so many turns, the clients and the killers.
-fn all_work<R: Threads + Sync>(
+fn all_work<R: Threads + Sync + Abort + AllocGlobal>(
     rt: &R,
     manager: &Manager,
     desks: &mut [Pass],
@@ -38,10 +38,11 @@ fn all_work<R: Threads + Sync>(
         desks,
         servers,
         clients,
-        &mut [client(1, 40), client(3, 40)],
+        &mut [client(rt, 1, 40), client(rt, 3, 40)],
         killers,
         &mut [low, high],
         200,
+        &mut [],
         &NoGate,
     )
 }

@@ -25,3 +25,12 @@ returns-in-Errors-clause-tells c = rw c.in-Errors.is (found_told c.errors.result
 
 pub returns-in-Count-clause-tells : goal.returns-in-Count-clause-tells
 returns-in-Count-clause-tells c = rw c.in-Count.is (value_told c.line-in-Count.result string_bytes _ _ _ _ c.count.result c.count.ensures.tells c.line-in-Count.ensures.text)
+
+pub returns-in-Release-clause-tells : goal.returns-in-Release-clause-tells
+returns-in-Release-clause-tells c = rw c.in-Release.is (answer_told c.line-in-Release.result string_bytes _ _ _ c.release.result c.release.ensures.tells c.line-in-Release.ensures.text)
+
+pub returns-in-Collect-clause-tells : goal.returns-in-Collect-clause-tells
+returns-in-Collect-clause-tells c = rw c.in-Collect.is (found_told c.collected.result string_bytes _ _ _ _ c.collected.ensures.tells)
+
+pub returns-in-Family-clause-tells : goal.returns-in-Family-clause-tells
+returns-in-Family-clause-tells c = rw c.in-Family.is (found_told c.family.result string_bytes _ _ _ _ c.family.ensures.tells)

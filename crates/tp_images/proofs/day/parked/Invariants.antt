@@ -1,10 +1,10 @@
-use Rattle.std.proofs.Common.{◌≡◌, ◌-◌}
-use Rattle.tp_model.specs.Steps.{rows_of}
-use Rattle.tp_workers.specs.Free.{IsFreePass}
+use Rattle.std.proofs.Common.{◌≡◌, length}
+use Rattle.tp_desk.specs.Steady.{shown}
+use Rattle.tp_workers.specs.Crew.{IsSteadyCrew}
 use Rattle.tp_images.proofs.day.parked.Given as goal
 
-abbrev pub invariant-loop-from : goal.invariant-loop-from
-invariant-loop-from g l = record { free : IsFreePass l.manager l.client; capacity : l.capacity ≡ rows_of l.manager.limits }
-
-abbrev pub decreases-loop-from : goal.decreases-loop-from
-decreases-loop-from g l = l.capacity - l.from
+abbrev pub invariant-loop-past : goal.invariant-loop-past
+invariant-loop-past g l = record {
+  steady : IsSteadyCrew (shown (λ v. (goal.Server-dyn g v).behaviour v.1)) (shown (λ v. (goal.Server-dyn g v).registers v.1)) (shown (λ v. (goal.Server-dyn g v).pending v.1)) l.crew;
+  boxes : length l.crew.boxes.items ≡ length l.fn.crew.boxes.items;
+}

@@ -1,10 +1,11 @@
-use Rattle.std.proofs.Common.{◌≡◌, ◌≤◌, None}
-use Rattle.tp_manager.specs.Shown.{IsOf}
+use Rattle.std.proofs.Common.{◌≡◌, ◌+◌, ◌≤◌}
+use Rattle.tp_workers.specs.Free.{IsFreePass}
+use Rattle.tp_workers.specs.Gains.{commits_in}
 use Rattle.tp_images.proofs.own_calls.resize.Given as goal
 
 abbrev pub invariant-loop-turn : goal.invariant-loop-turn
 invariant-loop-turn l = record {
-  own : IsOf l.manager l.pass;
-  free : l.pass.open_unit ≡ None;
-  resized : l.resized ≤ l._turn;
+  free : IsFreePass l.manager l.pass;
+  resized : l.resized + commits_in l.fn.pass ≡ commits_in l.pass;
+  at_most : l.resized ≤ l._turn;
 }

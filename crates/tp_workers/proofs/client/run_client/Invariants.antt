@@ -1,13 +1,12 @@
-use Rattle.std.proofs.Common.{◌≡◌}
+use Rattle.std.proofs.Common.{◌≡◌, drop}
 use Rattle.tp_workers.specs.Calling.{Called}
-use Rattle.tp_workers.specs.Clients.{SubmitsOnce}
+use Rattle.tp_workers.specs.Clients.{SubmitsNext, submitting}
 use Rattle.tp_workers.specs.Tally.{submit_count}
 use Rattle.tp_manager.specs.Shown.{IsOf}
 use Rattle.tp_workers.proofs.client.run_client.Given as goal
 
-abbrev pub invariant-loop-i : goal.invariant-loop-i
-invariant-loop-i g l = record {
+abbrev pub invariant-loop-at : goal.invariant-loop-at
+invariant-loop-at g l = record {
   own : IsOf l.manager l.pass;
-  open_unit : l.pass.open_unit ≡ l.fn.pass.open_unit;
-  calls : Called (SubmitsOnce l.manager.limits l.job.stage l.job.body) submit_count l._i l.fn.pass l.counts l.pass;
+  calls : Called (SubmitsNext l.manager.limits l.job.stage) submit_count l.at (submitting l.job.bodies l.fn.pass) l.counts (submitting (drop l.at l.job.bodies) l.pass);
 }

@@ -1,15 +1,18 @@
-use Rattle.std.proofs.Common.{rules, ◌≡◌, ◌∙◌, ◌++◌, length, sym, subst}
-use Rattle.tp_workers.specs.Ran.{RanEach, Runs}
+use Rattle.std.proofs.Common.{rules, ◌≡◌, ◌≤◌, ◌∙◌, ◌++◌, ap, arith, length, length-append, sym, subst}
+use Rattle.std.proofs.Math.Nat.{min-eq_left}
+use Rattle.tp_workers.specs.Ran.{AreTold, RanEach, Runs}
 use Rattle.tp_workers.proofs.Ran.{both_fit, each_append, each_single, first_accepts, may_first, may_second}
+use Rattle.tp_workers.proofs.Told.{told_append, told_single}
 use Rattle.tp_workers.proofs.fork.+fork.Goals as goal
 
-pub fork-run_one-requires : goal.fork-run_one-requires
-fork-run_one-requires g t c =
+pub fork-run_one-counts-requires : goal.fork-run_one-counts-requires
+fork-run_one-counts-requires g t c =
     record { accepts = first_accepts g.F.Fn c.args.run.now c.args.on.now c.args.by.now c.index-on-0.result c.index-by-0.result (search rules) c.requires.may_run }
 
 pub fork-returns-then-on-eq1 : goal.fork-returns-then-on-eq1
 fork-returns-then-on-eq1 g t c = record {
-  ran = each_single (Runs g.F.Fn c.args.run.now) c.args.on.now c.args.by.now c.run_one.new.on c.index-on-0.result c.run_one.new.by c.index-by-0.result c.run_one.result (search rules) c.requires.may_run.paired c.run_one.ensures.ran;
+  ran = each_single (Runs g.F.Fn c.args.run.now) c.args.on.now c.args.by.now c.run_one-counts.new.on c.index-on-0.result c.run_one-counts.new.by c.index-by-0.result c.run_one-counts.result (search rules) c.requires.may_run.paired c.run_one-counts.ensures.ran;
+  told = told_single (Runs g.F.Fn c.args.run.now) c.args.on.now c.args.by.now c.run_one-counts.new.on c.index-on-0.result c.run_one-counts.new.by c.index-by-0.result c.args.told.now c.tell.new.told c.run_one-counts.result (search rules) c.requires.may_run.paired c.tell.ensures.kept c.tell.ensures.told c.run_one-counts.ensures.ran;
 }
 
 pub fork-halves-requires-clause-front_may : goal.fork-halves-requires-clause-front_may
@@ -36,4 +39,20 @@ fork-returns g t c =
     let joined = each_append R _ _ _ _ _ _ _ _ _ _ same c.halves.ensures.front_ran c.halves.ensures.back_ran in
     let counted = subst (λ s. RanEach R (c.split_at_mut-front.result.0.now ++ c.split_at_mut-front.result.1.now) (c.split_at_mut-front_by.result.0.now ++ c.split_at_mut-front_by.result.1.now) s on_new by_new) (sym c.plus.ensures) joined in
     let known = subst (λ xs. RanEach R xs (c.split_at_mut-front_by.result.0.now ++ c.split_at_mut-front_by.result.1.now) c.plus.result on_new by_new) (sym c.split_at_mut-front.ensures.value) counted in
-    record { ran = subst (λ ys. RanEach R c.args.on.now ys c.plus.result on_new by_new) (sym c.split_at_mut-front_by.ensures.value) known }
+    let places = c.args.told.now in
+    let told_new = c.halves.new.front_told ++ c.halves.new.back_told in
+    let front_told = c.split_at_mut-front_told.result.0.now in
+    let back_told = c.split_at_mut-front_told.result.1.now in
+    let split : length (front_told ++ back_told) ≡ length (c.split_at_mut-front.result.0.now ++ c.split_at_mut-front.result.1.now)
+    → length front_told ≡ length c.split_at_mut-front.result.0.now =
+    λ long.
+    let front = c.split_at_mut-front.ensures in
+    let as_many : length places ≡ length c.args.on.now =
+    ap length c.split_at_mut-front_told.ensures.value ∙ (long ∙ sym (ap length front.value)) in
+    let within : length c.split_at_mut-front.result.0.now ≤ length places = omega (arith, as_many, front.front_len, ap length front.value, length-append c.split_at_mut-front.result.0.now c.split_at_mut-front.result.1.now) in
+    c.split_at_mut-front_told.ensures.front_len ∙ (c.min.ensures ∙ (min-eq_left (subst (λ n. n ≤ length places) front.front_len within) ∙ sym front.front_len)) in
+    let each = told_append R _ _ _ _ _ _ _ _ _ _ _ _ _ _ same split c.halves.ensures.front_ran c.halves.ensures.front_told c.halves.ensures.back_told in
+    record {
+      ran = subst (λ ys. RanEach R c.args.on.now ys c.plus.result on_new by_new) (sym c.split_at_mut-front_by.ensures.value) known;
+      told = rw (c.plus.ensures, c.split_at_mut-front.ensures.value, c.split_at_mut-front_by.ensures.value, c.split_at_mut-front_told.ensures.value) each;
+    }

@@ -1,11 +1,12 @@
-use Rattle.std.proofs.Common.{rules, refl, arith}
+use Rattle.std.proofs.Common.{rules, ◌<◌, ◌^◌, refl, arith}
 use Rattle.tp_workers.specs.Clients.{ClientRan, IsClientOf}
 use Rattle.tp_workers.specs.Desks.{DeskRan, IsDeskOf}
 use Rattle.tp_workers.specs.Gains.{commits_in, enqueues_in, kills_in}
 use Rattle.tp_workers.specs.Killers.{IsKillerOf, KillerRan}
 use Rattle.tp_workers.specs.Sums.{calls_of, size_of_range}
 use Rattle.tp_workers.proofs.Ran.{may_run, ran_as}
-use Rattle.tp_workers.proofs.Shifts.{calls_sum, clients_part, clients_ready, const_fits, desks_part, desks_ready, each_as, each_counted, each_gains, each_paired, ids_sum, killers_part, killers_ready, passes_free, same_numbers, same_second, servers_clear, sum_second, turns_all}
+use Rattle.tp_workers.proofs.Shifts.{calls_sum, clients_part, clients_fit, const_fits, desks_part, desks_ready, desks_told, each_as, each_counted, each_gains, each_paired, ids_sum, killers_part, killers_ready, passes_free, same_numbers, same_second, servers_clear, sum_second, turns_all}
+use Rattle.tp_workers.proofs.Told.{told_weaker}
 use Rattle.tp_workers.proofs.work.shift.Goals as goal
 
 pub fork_three-requires-clause-xs_may : goal.fork_three-requires-clause-xs_may
@@ -14,7 +15,7 @@ fork_three-requires-clause-xs_may g c κs within =
 
 pub fork_three-requires-clause-ys_may : goal.fork_three-requires-clause-ys_may
 fork_three-requires-clause-ys_may g c κs within =
-    may_run _ _ (IsClientOf c.args.manager.now) (λ x. calls_of x.1) (λ p q n ready. (ready, search rules)) (λ p p' q q' n s post. post.1) _ _ c.requires.clients_paired (clients_ready c.args.manager.now _ _ c.requires.clients_paired c.requires.clients_free c.requires.client_jobs) (let e = sum_second calls_of _ _ c.requires.clients_paired in omega (arith, e, c.requires.counts_fit))
+    may_run _ _ (λ x. IsClientOf c.args.manager.now x × (calls_of x.1 < 2 ^ 32)) (λ x. calls_of x.1) (λ p q n ready. (ready, search rules)) (λ p p' q q' n s post. post.1) _ _ c.requires.clients_paired (clients_fit c.args.manager.now _ _ c.requires.clients_paired c.requires.clients_free c.requires.client_jobs c.requires.counts_fit) (let e = sum_second calls_of _ _ c.requires.clients_paired in omega (arith, e, c.requires.counts_fit))
 
 pub fork_three-requires-clause-zs_may : goal.fork_three-requires-clause-zs_may
 fork_three-requires-clause-zs_may g c κs within =
@@ -23,6 +24,13 @@ fork_three-requires-clause-zs_may g c κs within =
 pub returns-clause-desks : goal.returns-clause-desks
 returns-clause-desks g c =
     each_counted _ _ _ _ _ _ _ c.of_kinds.ensures.desks (desks_part _ _ _ c.args.manager.now c.args.turns _ _ _ _ _ (each_as (ran_as _ _ (DeskRan _ _ _ c.args.manager.now c.args.turns) (λ p p' q q' n s post. post.0)) _ _ _ _ _ c.fork_three.ensures.xs_ran))
+
+pub returns-clause-each_desk : goal.returns-clause-each_desk
+returns-clause-each_desk g c =
+    let known = ran_as _ _ (DeskRan _ _ _ c.args.manager.now c.args.turns) (λ p p' q q' n s post. post.0) in
+    desks_told _ _ _ c.args.manager.now c.args.turns _ _ _ _ _ _ _ _ c.of_kinds.ensures.desks
+    (each_as known _ _ _ _ _ c.fork_three.ensures.xs_ran)
+    (told_weaker _ _ known _ _ _ _ _ _ _ c.fork_three.ensures.xs_told)
 
 pub returns-clause-clients : goal.returns-clause-clients
 returns-clause-clients g c =

@@ -2,13 +2,13 @@ use Rattle.std.proofs.Common.{refl, ◌∙◌, ◌*◌, ap, arith, sym}
 use Rattle.tp_model.specs.declared.types.Limits.{Limits}
 use Rattle.tp_manager.specs.Shown.{ManagerShown, KeeperShown}
 use Rattle.tp_rule.specs.declared.view.Hand.{Hand}
-use Rattle.tp_manager.proofs.Fresh.{keeps_on, no_lows, fresh_hand, fresh_seen, fresh_rests, fresh_shows, fresh_limits}
+use Rattle.tp_manager.proofs.Fresh.{keeps_on, none_in, no_lows, fresh_hand, fresh_seen, fresh_rests, fresh_shows, fresh_limits}
 use Rattle.tp_manager.proofs.manager.Keeper.pass.Goals as goal
 
 pub invariant_of-result : goal.invariant_of-result
 invariant_of-result c = (
   fresh_rests c.self.inside.seat c.self.inside.limits c.self.inside.given c.self.invariant c.if-self.false c.hand_out-seat.result c.hand_out-seat.ensures.hands_out,
-  λ p some. absurd (let none = no_lows 32 p in omega arith),
+  λ k p some. absurd (let none = no_lows 16 33 k p in omega arith),
 )
 
 pub invariant_of-self : goal.invariant_of-self
@@ -29,9 +29,12 @@ returns-clause-fresh c = let h = fresh_hand c.self.inside.seat c.self.inside.lim
   ap (λ (a : Hand). a.mine) h,
   fresh_seen c.self.inside.seat c.self.inside.limits c.self.inside.given c.self.invariant c.if-self.false c.hand_out-seat.result c.hand_out-seat.ensures.hands_out ∙ ap (λ (s : KeeperShown). s.seen) c.self.view_is,
   ap (λ (a : Hand). a.open_unit) h,
-  no_lows 32,
+  no_lows 16 33,
   refl,
 )
+
+pub returns-clause-turn : goal.returns-clause-turn
+returns-clause-turn c = none_in 16
 
 pub returns-clause-rows : goal.returns-clause-rows
 returns-clause-rows c = let h = fresh_hand c.self.inside.seat c.self.inside.limits c.self.inside.given c.self.invariant c.if-self.false c.hand_out-seat.result c.hand_out-seat.ensures.hands_out in

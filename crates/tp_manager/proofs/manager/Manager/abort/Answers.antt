@@ -8,7 +8,7 @@ use Rattle.tp_rule.specs.Views.{hand, view_of}
 use Rattle.tp_manager.specs.Shown.{ManagerShown, PassShown, spot}
 use Rattle.tp_manager.specs.Bounds.{abort_steps}
 use Rattle.tp_manager.specs.Walks.{Steady, Shut, IsTask, unit_in}
-use Rattle.tp_manager.proofs.Walks.{follows, rises_same, remembers}
+use Rattle.tp_manager.proofs.Walks.{follows, climbs_same, remembers}
 use Rattle.tp_manager.proofs.Passes.{done_walked, steady_at}
 use Rattle.tp_manager.proofs.Shuts.{closed_ended, task_claimed, abort_ended, shut_hit, shut_miss, shut_rests, shut_closes, shut_keeps, shut_adds, shut_loses}
 use Rattle.tp_manager.proofs.manager.Manager.abort.Goals as goal
@@ -44,21 +44,21 @@ invariant_of-pass-in-Err c = let i = (goal.at.invariant_of-pass-in-Err c).In-Som
 pub returns-in-Ok-clause-follows : goal.returns-in-Ok-clause-follows
 returns-in-Ok-clause-follows c = let i = (goal.at.returns-in-Ok-clause-follows c).In-Some in let l : Limits = limits_of c.self.inside.shared.words in
     let sh = shut_hit l kinds.AbortExchange _ _ _ refl (steady i) c.in-Ok.ensures.hit in
-    follows (spot c.pass.inside.seat.table c.pass.inside.lows c.pass.inside.run.drawn) (spot c.abort_exchange.new.seat.table c.pass.inside.lows c.pass.inside.run.drawn) (rises_same c.pass.inside.lows) (view_of c.pass.inside.seat) (view_of c.abort_exchange.new.seat) c.args.pass.now c.pass.view_is l 1 _ sh.walk abort_steps (omega arith)
+    follows (spot c.pass.inside.seat.table c.pass.inside.lows c.pass.inside.run.drawn c.pass.inside.from) (spot c.abort_exchange.new.seat.table c.pass.inside.lows c.pass.inside.run.drawn c.pass.inside.from) (climbs_same c.pass.inside.lows c.pass.inside.run.drawn) (view_of c.pass.inside.seat) (view_of c.abort_exchange.new.seat) c.args.pass.now c.pass.view_is l 1 _ sh.walk abort_steps (omega arith)
 
 pub returns-in-Err-clause-follows : goal.returns-in-Err-clause-follows
 returns-in-Err-clause-follows c = let i = (goal.at.returns-in-Err-clause-follows c).In-Some in let l : Limits = limits_of c.self.inside.shared.words in
     let sh = shut_miss l kinds.AbortExchange _ _ refl (steady i) (c.in-Err.ensures.miss.own (held i)).0 in
-    follows (spot c.pass.inside.seat.table c.pass.inside.lows c.pass.inside.run.drawn) (spot c.abort_exchange.new.seat.table c.pass.inside.lows c.pass.inside.run.drawn) (rises_same c.pass.inside.lows) (view_of c.pass.inside.seat) (view_of c.abort_exchange.new.seat) c.args.pass.now c.pass.view_is l 1 _ sh.walk abort_steps (omega arith)
+    follows (spot c.pass.inside.seat.table c.pass.inside.lows c.pass.inside.run.drawn c.pass.inside.from) (spot c.abort_exchange.new.seat.table c.pass.inside.lows c.pass.inside.run.drawn c.pass.inside.from) (climbs_same c.pass.inside.lows c.pass.inside.run.drawn) (view_of c.pass.inside.seat) (view_of c.abort_exchange.new.seat) c.args.pass.now c.pass.view_is l 1 _ sh.walk abort_steps (omega arith)
 
 pub returns-in-Ok-clause-answer : goal.returns-in-Ok-clause-answer
 returns-in-Ok-clause-answer c = let i = (goal.at.returns-in-Ok-clause-answer c).In-Some in let l : Limits = limits_of c.self.inside.shared.words in let u = c.in-Some.task.unit in
     let v = view_of c.pass.inside.seat in let w = view_of c.abort_exchange.new.seat in
     let sh : Shut l 1 0 (Abort (hand v).number u ∷ []) v w = shut_hit l kinds.AbortExchange _ _ _ refl (steady i) c.in-Ok.ensures.hit in (
       u,
-      shut_closes (spot c.pass.inside.seat.table c.pass.inside.lows c.pass.inside.run.drawn) (spot c.abort_exchange.new.seat.table c.pass.inside.lows c.pass.inside.run.drawn) v w c.args.pass.now c.pass.view_is l 1 0 u _ sh (held i) (abort_ended u (hand v).number w.seen sh.before sh.ends),
-      shut_keeps (spot c.pass.inside.seat.table c.pass.inside.lows c.pass.inside.run.drawn) (spot c.abort_exchange.new.seat.table c.pass.inside.lows c.pass.inside.run.drawn) v w c.args.pass.now c.pass.view_is l 1 _ sh,
-      shut_adds (spot c.pass.inside.seat.table c.pass.inside.lows c.pass.inside.run.drawn) (spot c.abort_exchange.new.seat.table c.pass.inside.lows c.pass.inside.run.drawn) v w c.args.pass.now c.pass.view_is l 1 0 u sh,
+      shut_closes (spot c.pass.inside.seat.table c.pass.inside.lows c.pass.inside.run.drawn c.pass.inside.from) (spot c.abort_exchange.new.seat.table c.pass.inside.lows c.pass.inside.run.drawn c.pass.inside.from) v w c.args.pass.now c.pass.view_is l 1 0 u _ sh (held i) (abort_ended u (hand v).number w.seen sh.before sh.ends),
+      shut_keeps (spot c.pass.inside.seat.table c.pass.inside.lows c.pass.inside.run.drawn c.pass.inside.from) (spot c.abort_exchange.new.seat.table c.pass.inside.lows c.pass.inside.run.drawn c.pass.inside.from) v w c.args.pass.now c.pass.view_is l 1 _ sh,
+      shut_adds (spot c.pass.inside.seat.table c.pass.inside.lows c.pass.inside.run.drawn c.pass.inside.from) (spot c.abort_exchange.new.seat.table c.pass.inside.lows c.pass.inside.run.drawn c.pass.inside.from) v w c.args.pass.now c.pass.view_is l 1 0 u sh,
     )
 
 pub returns-in-Err-clause-answer : goal.returns-in-Err-clause-answer
@@ -67,9 +67,9 @@ returns-in-Err-clause-answer c = let i = (goal.at.returns-in-Err-clause-answer c
     let miss = c.in-Err.ensures.miss.own (held i) in
     let sh : Shut l 1 0 [] v w = shut_miss l kinds.AbortExchange _ _ refl (steady i) miss.0 in (
       u,
-      shut_closes (spot c.pass.inside.seat.table c.pass.inside.lows c.pass.inside.run.drawn) (spot c.abort_exchange.new.seat.table c.pass.inside.lows c.pass.inside.run.drawn) v w c.args.pass.now c.pass.view_is l 1 0 u _ sh (held i) (Aborted, miss.1),
-      shut_keeps (spot c.pass.inside.seat.table c.pass.inside.lows c.pass.inside.run.drawn) (spot c.abort_exchange.new.seat.table c.pass.inside.lows c.pass.inside.run.drawn) v w c.args.pass.now c.pass.view_is l 1 _ sh,
-      shut_loses (spot c.pass.inside.seat.table c.pass.inside.lows c.pass.inside.run.drawn) (spot c.abort_exchange.new.seat.table c.pass.inside.lows c.pass.inside.run.drawn) v w c.args.pass.now c.pass.view_is l 1 0 u sh miss.1 miss.2,
+      shut_closes (spot c.pass.inside.seat.table c.pass.inside.lows c.pass.inside.run.drawn c.pass.inside.from) (spot c.abort_exchange.new.seat.table c.pass.inside.lows c.pass.inside.run.drawn c.pass.inside.from) v w c.args.pass.now c.pass.view_is l 1 0 u _ sh (held i) (Aborted, miss.1),
+      shut_keeps (spot c.pass.inside.seat.table c.pass.inside.lows c.pass.inside.run.drawn c.pass.inside.from) (spot c.abort_exchange.new.seat.table c.pass.inside.lows c.pass.inside.run.drawn c.pass.inside.from) v w c.args.pass.now c.pass.view_is l 1 _ sh,
+      shut_loses (spot c.pass.inside.seat.table c.pass.inside.lows c.pass.inside.run.drawn c.pass.inside.from) (spot c.abort_exchange.new.seat.table c.pass.inside.lows c.pass.inside.run.drawn c.pass.inside.from) v w c.args.pass.now c.pass.view_is l 1 0 u sh miss.1 miss.2,
     )
 
 pub returns-in-Ok-clause-free : goal.returns-in-Ok-clause-free

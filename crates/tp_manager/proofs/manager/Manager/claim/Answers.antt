@@ -1,16 +1,16 @@
-use Rattle.std.proofs.Common.{◌≡◌, ◌+◌, ◌*◌, ◌≤◌, ℕ, List, sym, ◌∙◌, ap, refl, arith, subst}
+use Rattle.std.proofs.Common.{◌≡◌, ◌+◌, ◌*◌, ◌<◌, ◌≤◌, ℕ, List, length, set, sym, ◌∙◌, ap, refl, arith, subst}
 use Rattle.tp_model.specs.declared.types.Limits.{Limits}
 use Rattle.tp_model.specs.declared.types.Claimed.TheVariants as claimeds
 use Rattle.tp_rule.specs.Tables.{limits_of}
 use Rattle.tp_rule.specs.Views.{view_of}
-use Rattle.tp_manager.specs.Shown.{ManagerShown, PassShown, shown, spot}
-use Rattle.tp_manager.specs.Bounds.{claim_steps, claim_steps_left, part_steps, scan_steps, spare_steps, try_steps}
+use Rattle.tp_manager.specs.Shown.{ManagerShown, PassShown, marks_of, shown, spot}
+use Rattle.tp_manager.specs.Bounds.{claim_steps, claim_steps_left, marked_steps, part_steps, spare_left, try_steps}
 use Rattle.tp_manager.specs.Calls.{Claims, Takes}
-use Rattle.tp_manager.specs.Walks.{Remembers, Steady}
+use Rattle.tp_manager.specs.Walks.{RemembersAll, Steady}
 use Rattle.tp_manager.proofs.Walks.{follows, remembers}
-use Rattle.tp_manager.proofs.Lows.{claim_few, claim_shown, scan_most}
+use Rattle.tp_manager.proofs.Lows.{claim_few, claim_shown, marked_most, remembers_in, rises_in}
 use Rattle.tp_manager.proofs.Passes.{done_walked, drawn_walked, rests_drawn, steady_at}
-use Rattle.tp_manager.proofs.Claims.{chose_steady, chose_walked, chose_rests, idle_walked, idle_answer, took_walked, took_answer, took_rests}
+use Rattle.tp_manager.proofs.Claims.{chose_steady, chose_walked, chose_rests, idle_walked, idle_answer, took_walked, took_answer, took_first, took_rests}
 use Rattle.tp_manager.proofs.manager.Manager.claim.Goals as goal
 use Rattle.tp_manager.proofs.manager.Manager.claim.Goals.{After-choose_unit}
 
@@ -26,21 +26,26 @@ steady c = steady_at _ _ _ (lim c) c.pass.invariant.0.steady
 not : (c : After-choose_unit) → ¬ (c.pass.inside.used ≡ (limits_of c.self.inside.shared.words).units)
 not c = subst (λ (z : Limits). ¬ (c.pass.inside.used ≡ z.units)) (sym c.self.inside.shared.same) c.if-pass-units.false
 
+-- the stage is a kind that is remembered
+kinds : (c : After-choose_unit) → c.args.stage < length c.pass.inside.lows
+kinds c = let all = c.pass.told in let top = c.requires.stage.1 in omega arith
+
 -- the choice of a unit leaves what is remembered
-known : (c : After-choose_unit) → Remembers (view_of c.choose_unit.new.seat) c.pass.inside.lows
+known : (c : After-choose_unit) → RemembersAll (view_of c.choose_unit.new.seat) c.pass.inside.lows
 known c = remembers c.pass.inside.lows _ _ _ _ _ (chose_walked _ _ _ _ (steady c) c.choose_unit.ensures.chooses) c.pass.invariant.1
 
-most : (l k : Limits) (lows : List ℕ) → l ≡ k → 1 + (scan_steps l (try_steps l) 2 lows l.parts + spare_steps l (try_steps l)) ≤ claim_steps k
-most l k lows same = subst (λ (z : Limits). 1 + (scan_steps l (try_steps l) 2 lows l.parts + spare_steps l (try_steps l)) ≤ claim_steps z) same
-    (let all = scan_most l lows (try_steps l) 2 l.parts in let each : 2 + l.rows * try_steps l ≡ part_steps l = omega arith in
-    subst (λ n. 1 + (scan_steps l (try_steps l) 2 lows l.parts + spare_steps l (try_steps l)) ≤ 1 + (l.parts * n + spare_steps l (try_steps l))) each (omega arith))
+most : (l k : Limits) (lows : List ℕ) → l ≡ k → 1 + marked_steps l try_steps lows ≤ claim_steps k
+most l k lows same = subst (λ (z : Limits). 1 + marked_steps l try_steps lows ≤ claim_steps z) same
+    (let all = marked_most l try_steps lows in let each : 3 + l.rows * try_steps ≡ part_steps l = omega arith in
+    subst (λ n. 1 + marked_steps l try_steps lows ≤ 1 + (l.parts * n + spare_left l try_steps 0)) each (omega arith))
 
-few : (c : After-choose_unit) → 1 + (scan_steps (limits_of c.self.inside.shared.words) (try_steps (limits_of c.self.inside.shared.words)) 2 c.pass.inside.lows (limits_of c.self.inside.shared.words).parts + spare_steps (limits_of c.self.inside.shared.words) (try_steps (limits_of c.self.inside.shared.words))) ≤ claim_steps_left c.args.self.now.limits c.args.pass.now.lows
+few : (c : After-choose_unit) → 1 + marked_steps (limits_of c.self.inside.shared.words) try_steps (marks_of c.pass.inside.lows c.args.stage) ≤ claim_steps_left c.args.self.now.limits (marks_of c.args.pass.now.lows c.args.stage)
 few c = let l : Limits = limits_of c.self.inside.shared.words in
-    claim_shown l c.args.self.now.limits c.pass.inside.lows c.args.pass.now.lows _ (limits c) (ap (λ (p : PassShown). p.lows) c.pass.view_is) (claim_few l c.pass.inside.lows (view_of c.pass.inside.seat) (steady c).known c.pass.invariant.1)
+    claim_shown l c.args.self.now.limits (marks_of c.pass.inside.lows c.args.stage) (marks_of c.args.pass.now.lows c.args.stage) _ (limits c) (ap (λ (p : PassShown). marks_of p.lows c.args.stage) c.pass.view_is)
+    (claim_few l (marks_of c.pass.inside.lows c.args.stage) c.args.stage (view_of c.pass.inside.seat) (steady c).known (c.pass.invariant.1 c.args.stage))
 
 pub scan-requires-clause-remembers : goal.scan-requires-clause-remembers
-scan-requires-clause-remembers c = known (goal.at.scan-requires-clause-remembers c).After-choose_unit
+scan-requires-clause-remembers c = known (goal.at.scan-requires-clause-remembers c).After-choose_unit c.args.stage
 
 pub scan-requires-clause-drawn : goal.scan-requires-clause-drawn
 scan-requires-clause-drawn c = let at = (goal.at.scan-requires-clause-drawn c).After-choose_unit in
@@ -51,44 +56,52 @@ scan-requires-clause-steady c = chose_steady _ _ _ _ (steady (goal.at.scan-requi
 
 pub returns-in_default-clause-follows : goal.returns-in_default-clause-follows
 returns-in_default-clause-follows c = let at = (goal.at.returns-in_default-clause-follows c).After-choose_unit in let l : Limits = limits_of c.self.inside.shared.words in let told = c.in_default.ensures.told in
-    follows (spot c.pass.inside.seat.table c.pass.inside.lows c.pass.inside.run.drawn) (spot c.scan.new.seat.table c.scan.new.lows c.scan.new.drawn) c.scan.ensures.lows (view_of c.pass.inside.seat) (view_of c.scan.new.seat) c.args.pass.now c.pass.view_is l _ _
-    (idle_walked l _ _ (view_of c.choose_unit.new.seat) (steady at) c.choose_unit.ensures.chooses _ c.args.stage _ told) (claim_steps c.args.self.now.limits) (most l c.args.self.now.limits c.pass.inside.lows (limits at))
+    follows (spot c.pass.inside.seat.table c.pass.inside.lows c.pass.inside.run.drawn c.pass.inside.from) (spot c.scan.new.seat.table (set c.pass.inside.lows c.args.stage c.scan.new.lows) c.scan.new.drawn c.pass.inside.from) (rises_in c.pass.inside.lows c.scan.new.lows c.args.stage (kinds at) c.scan.ensures.lows, c.scan.ensures.risen) (view_of c.pass.inside.seat) (view_of c.scan.new.seat) c.args.pass.now c.pass.view_is l _ _
+    (idle_walked l _ _ (view_of c.choose_unit.new.seat) (steady at) c.choose_unit.ensures.chooses _ c.args.stage _ told) (claim_steps c.args.self.now.limits) (most l c.args.self.now.limits (marks_of c.pass.inside.lows c.args.stage) (limits at))
 
 pub returns-in_default-clause-few : goal.returns-in_default-clause-few
 returns-in_default-clause-few c = let at = (goal.at.returns-in_default-clause-few c).After-choose_unit in let l : Limits = limits_of c.self.inside.shared.words in let told = c.in_default.ensures.told in
-    follows (spot c.pass.inside.seat.table c.pass.inside.lows c.pass.inside.run.drawn) (spot c.scan.new.seat.table c.scan.new.lows c.scan.new.drawn) c.scan.ensures.lows (view_of c.pass.inside.seat) (view_of c.scan.new.seat) c.args.pass.now c.pass.view_is l _ _
-    (idle_walked l _ _ (view_of c.choose_unit.new.seat) (steady at) c.choose_unit.ensures.chooses _ c.args.stage _ told) (claim_steps_left c.args.self.now.limits c.args.pass.now.lows) (few at)
+    follows (spot c.pass.inside.seat.table c.pass.inside.lows c.pass.inside.run.drawn c.pass.inside.from) (spot c.scan.new.seat.table (set c.pass.inside.lows c.args.stage c.scan.new.lows) c.scan.new.drawn c.pass.inside.from) (rises_in c.pass.inside.lows c.scan.new.lows c.args.stage (kinds at) c.scan.ensures.lows, c.scan.ensures.risen) (view_of c.pass.inside.seat) (view_of c.scan.new.seat) c.args.pass.now c.pass.view_is l _ _
+    (idle_walked l _ _ (view_of c.choose_unit.new.seat) (steady at) c.choose_unit.ensures.chooses _ c.args.stage _ told) (claim_steps_left c.args.self.now.limits (marks_of c.args.pass.now.lows c.args.stage)) (few at)
 
 pub returns-in_default-clause-answer : goal.returns-in_default-clause-answer
 returns-in_default-clause-answer c = let at = (goal.at.returns-in_default-clause-answer c).After-choose_unit in let l : Limits = limits_of c.self.inside.shared.words in let told = c.in_default.ensures.told in
-    subst (λ (z : Limits). Claims z c.args.stage c.args.pass.now (shown (spot c.scan.new.seat.table c.scan.new.lows c.scan.new.drawn) (view_of c.scan.new.seat)) claimeds.Idle) (limits at)
-    (idle_answer l _ _ (view_of c.choose_unit.new.seat) (steady at) c.choose_unit.ensures.chooses _ c.args.stage _ told _ _ _ _ c.pass.inside.seat (spot c.pass.inside.seat.table c.pass.inside.lows c.pass.inside.run.drawn) (spot c.scan.new.seat.table c.scan.new.lows c.scan.new.drawn) c.args.pass.now refl (lim at) c.pass.view_is c.pass.invariant.0 (not at))
+    subst (λ (z : Limits). Claims z c.args.stage c.args.pass.now (shown (spot c.scan.new.seat.table (set c.pass.inside.lows c.args.stage c.scan.new.lows) c.scan.new.drawn c.pass.inside.from) (view_of c.scan.new.seat)) claimeds.Idle) (limits at)
+    (idle_answer l _ _ (view_of c.choose_unit.new.seat) (steady at) c.choose_unit.ensures.chooses _ c.args.stage _ told _ _ _ _ c.pass.inside.seat (spot c.pass.inside.seat.table c.pass.inside.lows c.pass.inside.run.drawn c.pass.inside.from) (spot c.scan.new.seat.table (set c.pass.inside.lows c.args.stage c.scan.new.lows) c.scan.new.drawn c.pass.inside.from) c.args.pass.now refl (lim at) c.pass.view_is c.pass.invariant.0 (not at))
 
 pub scan-requires-clause-done : goal.scan-requires-clause-done
 scan-requires-clause-done c = let at = (goal.at.scan-requires-clause-done c).After-choose_unit in
     done_walked _ 1 _ _ _ c.pass.inside.run.done (lim at) (chose_walked _ _ _ (view_of c.choose_unit.new.seat) (steady at) c.choose_unit.ensures.chooses) c.pass.invariant.0.done
 
 pub invariant_of-pass-in_default : goal.invariant_of-pass-in_default
-invariant_of-pass-in_default c = let at = (goal.at.invariant_of-pass-in_default c).After-choose_unit in let l : Limits = limits_of c.self.inside.shared.words in
-    (rests_drawn c.scan.new.seat _ _ _ _ c.scan.new.drawn (chose_rests l _ _ c.args.stage _ _ _ _ c.pass.inside.seat c.scan.new.seat (view_of c.choose_unit.new.seat) (steady at) c.choose_unit.ensures.chooses c.in_default.ensures.told (lim at) c.pass.invariant.0) c.scan.ensures.drawn, c.scan.ensures.remembers)
+invariant_of-pass-in_default c = let at = (goal.at.invariant_of-pass-in_default c).After-choose_unit in let l : Limits = limits_of c.self.inside.shared.words in (
+  rests_drawn c.scan.new.seat _ _ _ _ c.scan.new.drawn (chose_rests l _ _ c.args.stage _ _ _ _ c.pass.inside.seat c.scan.new.seat (view_of c.choose_unit.new.seat) (steady at) c.choose_unit.ensures.chooses c.in_default.ensures.told (lim at) c.pass.invariant.0) c.scan.ensures.drawn,
+  remembers_in c.pass.inside.lows c.scan.new.lows c.args.stage (view_of c.scan.new.seat) (kinds at) c.scan.ensures.remembers (remembers c.pass.inside.lows _ _ _ _ _ c.in_default.ensures.told.walk (known at)),
+)
 
 pub invariant_of-pass-2 : goal.invariant_of-pass-2
-invariant_of-pass-2 c = let at = (goal.at.invariant_of-pass-2 c).After-choose_unit in let l : Limits = limits_of c.self.inside.shared.words in let told = c.in-Some.ensures.told in
-    (rests_drawn c.scan.new.seat _ _ _ _ c.scan.new.drawn (took_rests l _ _ c.args.stage c.in-Some.taken.attempt c.in-Some.taken.root _ _ _ _ _ c.pass.inside.seat c.scan.new.seat (view_of c.choose_unit.new.seat) c.in-Some.taken.element (steady at) c.choose_unit.ensures.chooses told.0 (lim at) told.1 refl (not at) c.pass.invariant.0) c.scan.ensures.drawn, c.scan.ensures.remembers)
+invariant_of-pass-2 c = let at = (goal.at.invariant_of-pass-2 c).After-choose_unit in let l : Limits = limits_of c.self.inside.shared.words in let told = c.in-Some.ensures.told in (
+  rests_drawn c.scan.new.seat _ _ _ _ c.scan.new.drawn (took_rests l _ _ 0 c.args.stage c.in-Some.taken.attempt c.in-Some.taken.root _ _ _ _ _ c.pass.inside.seat c.scan.new.seat (view_of c.choose_unit.new.seat) c.in-Some.taken.element (steady at) c.choose_unit.ensures.chooses told.0 (lim at) told.1 refl (not at) c.pass.invariant.0) c.scan.ensures.drawn,
+  remembers_in c.pass.inside.lows c.scan.new.lows c.args.stage (view_of c.scan.new.seat) (kinds at) c.scan.ensures.remembers (remembers c.pass.inside.lows _ _ _ _ _ told.0.walk (known at)),
+)
 
 pub returns-clause-follows : goal.returns-clause-follows
 returns-clause-follows c = let at = (goal.at.returns-clause-follows c).After-choose_unit in let l : Limits = limits_of c.self.inside.shared.words in let told = c.in-Some.ensures.told in
-    follows (spot c.pass.inside.seat.table c.pass.inside.lows c.pass.inside.run.drawn) (spot c.scan.new.seat.table c.scan.new.lows c.scan.new.drawn) c.scan.ensures.lows (view_of c.pass.inside.seat) (view_of c.scan.new.seat) c.args.pass.now c.pass.view_is l _ _
-    (took_walked l _ _ (view_of c.choose_unit.new.seat) (steady at) c.choose_unit.ensures.chooses _ _ _ _ _ told.0) (claim_steps c.args.self.now.limits) (most l c.args.self.now.limits c.pass.inside.lows (limits at))
+    follows (spot c.pass.inside.seat.table c.pass.inside.lows c.pass.inside.run.drawn c.pass.inside.from) (spot c.scan.new.seat.table (set c.pass.inside.lows c.args.stage c.scan.new.lows) c.scan.new.drawn c.pass.inside.from) (rises_in c.pass.inside.lows c.scan.new.lows c.args.stage (kinds at) c.scan.ensures.lows, c.scan.ensures.risen) (view_of c.pass.inside.seat) (view_of c.scan.new.seat) c.args.pass.now c.pass.view_is l _ _
+    (took_walked l _ _ (view_of c.choose_unit.new.seat) (steady at) c.choose_unit.ensures.chooses _ 0 _ _ _ _ told.0) (claim_steps c.args.self.now.limits) (most l c.args.self.now.limits (marks_of c.pass.inside.lows c.args.stage) (limits at))
 
 pub returns-clause-few : goal.returns-clause-few
 returns-clause-few c = let at = (goal.at.returns-clause-few c).After-choose_unit in let l : Limits = limits_of c.self.inside.shared.words in let told = c.in-Some.ensures.told in
-    follows (spot c.pass.inside.seat.table c.pass.inside.lows c.pass.inside.run.drawn) (spot c.scan.new.seat.table c.scan.new.lows c.scan.new.drawn) c.scan.ensures.lows (view_of c.pass.inside.seat) (view_of c.scan.new.seat) c.args.pass.now c.pass.view_is l _ _
-    (took_walked l _ _ (view_of c.choose_unit.new.seat) (steady at) c.choose_unit.ensures.chooses _ _ _ _ _ told.0) (claim_steps_left c.args.self.now.limits c.args.pass.now.lows) (few at)
+    follows (spot c.pass.inside.seat.table c.pass.inside.lows c.pass.inside.run.drawn c.pass.inside.from) (spot c.scan.new.seat.table (set c.pass.inside.lows c.args.stage c.scan.new.lows) c.scan.new.drawn c.pass.inside.from) (rises_in c.pass.inside.lows c.scan.new.lows c.args.stage (kinds at) c.scan.ensures.lows, c.scan.ensures.risen) (view_of c.pass.inside.seat) (view_of c.scan.new.seat) c.args.pass.now c.pass.view_is l _ _
+    (took_walked l _ _ (view_of c.choose_unit.new.seat) (steady at) c.choose_unit.ensures.chooses _ 0 _ _ _ _ told.0) (claim_steps_left c.args.self.now.limits (marks_of c.args.pass.now.lows c.args.stage)) (few at)
 
 pub returns-clause-answer : goal.returns-clause-answer
 returns-clause-answer c = let at = (goal.at.returns-clause-answer c).After-choose_unit in let l : Limits = limits_of c.self.inside.shared.words in let told = c.in-Some.ensures.told in
     let u : ℕ = c.pass.inside.number * c.self.inside.shared.places.limits.units + c.pass.inside.used in
-    subst (λ (z : Limits). Takes z c.args.stage (record { unit = u; element = c.in-Some.taken.element; attempt = c.in-Some.taken.attempt }) c.args.pass.now (shown (spot c.scan.new.seat.table c.scan.new.lows c.scan.new.drawn) (view_of c.scan.new.seat))) (limits at)
-    (took_answer l u _ (view_of c.choose_unit.new.seat) (steady at) c.choose_unit.ensures.chooses _ c.args.stage c.in-Some.taken.attempt _ c.in-Some.taken.element told.0 _ _ _ _ c.pass.inside.seat (spot c.pass.inside.seat.table c.pass.inside.lows c.pass.inside.run.drawn) (spot c.scan.new.seat.table c.scan.new.lows c.scan.new.drawn) c.args.pass.now refl (lim at) c.pass.view_is
-    c.pass.invariant.0 (not at) (ap (λ (z : Limits). c.pass.inside.number * z.units + c.pass.inside.used) (sym c.self.inside.shared.same)))
+    subst (λ (z : Limits). Takes z c.args.stage (record { unit = u; element = c.in-Some.taken.element; attempt = c.in-Some.taken.attempt }) c.args.pass.now (shown (spot c.scan.new.seat.table (set c.pass.inside.lows c.args.stage c.scan.new.lows) c.scan.new.drawn c.pass.inside.from) (view_of c.scan.new.seat))) (limits at)
+    record {
+      opens = took_answer l u _ (view_of c.choose_unit.new.seat) (steady at) c.choose_unit.ensures.chooses _ 0 c.args.stage c.in-Some.taken.attempt _ c.in-Some.taken.element told.0 _ _ _ _ c.pass.inside.seat (spot c.pass.inside.seat.table c.pass.inside.lows c.pass.inside.run.drawn c.pass.inside.from) (spot c.scan.new.seat.table (set c.pass.inside.lows c.args.stage c.scan.new.lows) c.scan.new.drawn c.pass.inside.from) c.args.pass.now refl (lim at) c.pass.view_is
+          c.pass.invariant.0 (not at) (ap (λ (z : Limits). c.pass.inside.number * z.units + c.pass.inside.used) (sym c.self.inside.shared.same));
+      first = took_first l u _ (view_of c.choose_unit.new.seat) (steady at) c.choose_unit.ensures.chooses _ 0 c.args.stage c.in-Some.taken.attempt _ c.in-Some.taken.element told.0 (λ i. i < c.in-Some.taken.element.id) (λ i inside less. told.0.passed i (omega arith) less)
+          (spot c.pass.inside.seat.table c.pass.inside.lows c.pass.inside.run.drawn c.pass.inside.from) (spot c.scan.new.seat.table (set c.pass.inside.lows c.args.stage c.scan.new.lows) c.scan.new.drawn c.pass.inside.from) c.args.pass.now c.pass.view_is;
+    }

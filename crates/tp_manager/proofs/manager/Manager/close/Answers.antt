@@ -14,7 +14,7 @@ use Rattle.tp_rule.specs.Views.{hand, view_of}
 use Rattle.tp_manager.specs.Shown.{ManagerShown, PassShown, spot}
 use Rattle.tp_manager.specs.Bounds.{close_steps}
 use Rattle.tp_manager.specs.Walks.{Rests, Steady, Shut, unit_in}
-use Rattle.tp_manager.proofs.Walks.{follows, rises_same, remembers}
+use Rattle.tp_manager.proofs.Walks.{follows, climbs_same, remembers}
 use Rattle.tp_manager.proofs.Passes.{done_walked, steady_at}
 use Rattle.tp_manager.proofs.Shuts.{units_few, own_work, own_count, own_first, wrote_shut, committed_answer, task_claimed, shut_done, shut_hit, shut_miss, shut_rests, shut_closes, shut_uses, shut_loses}
 use Rattle.tp_manager.proofs.manager.Manager.close.Goals as goal
@@ -86,18 +86,18 @@ invariant_of-pass-else-commit_exchange c = let at = goal.at.invariant_of-pass-el
 pub returns-then-commit_exchange-clause-follows : goal.returns-then-commit_exchange-clause-follows
 returns-then-commit_exchange-clause-follows c = let at = goal.at.returns-then-commit_exchange-clause-follows c in let k : ℕ = length c.args.drafts.now in
     let sh = both at.After-write_all _ _ (hit at.After-write_all at.In-Some _ (c.commit_exchange.ensures.hit c.if-commit_exchange.true)) in
-    follows (spot c.pass.inside.seat.table c.pass.inside.lows c.pass.inside.run.drawn) (spot c.commit_exchange.new.seat.table c.pass.inside.lows c.pass.inside.run.drawn) (rises_same c.pass.inside.lows) (view_of c.pass.inside.seat) (view_of c.commit_exchange.new.seat) c.args.pass.now c.pass.view_is _ (close_steps k) _ sh.walk (close_steps k) (omega arith)
+    follows (spot c.pass.inside.seat.table c.pass.inside.lows c.pass.inside.run.drawn c.pass.inside.from) (spot c.commit_exchange.new.seat.table c.pass.inside.lows c.pass.inside.run.drawn c.pass.inside.from) (climbs_same c.pass.inside.lows c.pass.inside.run.drawn) (view_of c.pass.inside.seat) (view_of c.commit_exchange.new.seat) c.args.pass.now c.pass.view_is _ (close_steps k) _ sh.walk (close_steps k) (omega arith)
 
 pub returns-else-commit_exchange-clause-follows : goal.returns-else-commit_exchange-clause-follows
 returns-else-commit_exchange-clause-follows c = let at = goal.at.returns-else-commit_exchange-clause-follows c in let k : ℕ = length c.args.drafts.now in
     let sh = both at.After-write_all _ _ (shut_miss _ kinds.CommitExchange _ _ refl c.write_all.ensures.wrote.walk.steady (c.commit_exchange.ensures.miss c.if-commit_exchange.false).0) in
-    follows (spot c.pass.inside.seat.table c.pass.inside.lows c.pass.inside.run.drawn) (spot c.commit_exchange.new.seat.table c.pass.inside.lows c.pass.inside.run.drawn) (rises_same c.pass.inside.lows) (view_of c.pass.inside.seat) (view_of c.commit_exchange.new.seat) c.args.pass.now c.pass.view_is _ (close_steps k) _ sh.walk (close_steps k) (omega arith)
+    follows (spot c.pass.inside.seat.table c.pass.inside.lows c.pass.inside.run.drawn c.pass.inside.from) (spot c.commit_exchange.new.seat.table c.pass.inside.lows c.pass.inside.run.drawn c.pass.inside.from) (climbs_same c.pass.inside.lows c.pass.inside.run.drawn) (view_of c.pass.inside.seat) (view_of c.commit_exchange.new.seat) c.args.pass.now c.pass.view_is _ (close_steps k) _ sh.walk (close_steps k) (omega arith)
 
 pub returns-then-commit_exchange-clause-answer : goal.returns-then-commit_exchange-clause-answer
 returns-then-commit_exchange-clause-answer c = let at = goal.at.returns-then-commit_exchange-clause-answer c in let i = at.In-Some in let u = c.in-Some.task.unit in let l : Limits = limits_of c.self.inside.shared.words in
     let v = view_of c.pass.inside.seat in let w = view_of c.write_all.new.seat in let y = view_of c.commit_exchange.new.seat in
     let sh : Shut l _ _ (committed w u ∷ []) v y = both at.After-write_all _ _ (hit at.After-write_all i y (c.commit_exchange.ensures.hit c.if-commit_exchange.true)) in
-    committed_answer (spot c.pass.inside.seat.table c.pass.inside.lows c.pass.inside.run.drawn) (spot c.commit_exchange.new.seat.table c.pass.inside.lows c.pass.inside.run.drawn) l v w y c.args.pass.now c.pass.view_is _ _ _ _ c.in-Some.task c.args.drafts.now c.pass.inside.seat refl (rests i) refl c.write_all.ensures.wrote (lim i) (held i) c.if-count-eq0.first _ sh
+    committed_answer (spot c.pass.inside.seat.table c.pass.inside.lows c.pass.inside.run.drawn c.pass.inside.from) (spot c.commit_exchange.new.seat.table c.pass.inside.lows c.pass.inside.run.drawn c.pass.inside.from) l v w y c.args.pass.now c.pass.view_is _ _ _ _ c.in-Some.task c.args.drafts.now c.pass.inside.seat refl (rests i) refl c.write_all.ensures.wrote (lim i) (held i) c.if-count-eq0.first _ sh
     (λ some. elim c.if-count-eq0.branch [ then-count-eq0 w ↦ let z = w.if-count-eq0.true in absurd (omega arith) | else-count-eq0 w ↦ w.first-is ])
     (λ none. elim c.if-count-eq0.branch [ then-count-eq0 w ↦ w.first-is | else-count-eq0 w ↦ absurd (w.if-count-eq0.false none) ])
 
@@ -107,8 +107,8 @@ returns-else-commit_exchange-clause-answer c = let at = goal.at.returns-else-com
     let miss = c.commit_exchange.ensures.miss c.if-commit_exchange.false in
     let sh : Shut l _ _ [] v y = both at.After-write_all _ _ (shut_miss l kinds.CommitExchange w y refl c.write_all.ensures.wrote.walk.steady miss.0) in (
       u,
-      shut_closes (spot c.pass.inside.seat.table c.pass.inside.lows c.pass.inside.run.drawn) (spot c.commit_exchange.new.seat.table c.pass.inside.lows c.pass.inside.run.drawn) v y c.args.pass.now c.pass.view_is l _ _ u _ sh (held i) (Aborted, miss.1),
+      shut_closes (spot c.pass.inside.seat.table c.pass.inside.lows c.pass.inside.run.drawn c.pass.inside.from) (spot c.commit_exchange.new.seat.table c.pass.inside.lows c.pass.inside.run.drawn c.pass.inside.from) v y c.args.pass.now c.pass.view_is l _ _ u _ sh (held i) (Aborted, miss.1),
       (hand v).next,
-      inl (shut_uses (spot c.pass.inside.seat.table c.pass.inside.lows c.pass.inside.run.drawn) (spot c.commit_exchange.new.seat.table c.pass.inside.lows c.pass.inside.run.drawn) v y c.args.pass.now c.pass.view_is l _ _ _ sh),
-      shut_loses (spot c.pass.inside.seat.table c.pass.inside.lows c.pass.inside.run.drawn) (spot c.commit_exchange.new.seat.table c.pass.inside.lows c.pass.inside.run.drawn) v y c.args.pass.now c.pass.view_is l _ _ u sh miss.1 (subst (λ k. ¬ (In (Abort k u) y.seen)) c.write_all.ensures.wrote.walk.number miss.2),
+      inl (shut_uses (spot c.pass.inside.seat.table c.pass.inside.lows c.pass.inside.run.drawn c.pass.inside.from) (spot c.commit_exchange.new.seat.table c.pass.inside.lows c.pass.inside.run.drawn c.pass.inside.from) v y c.args.pass.now c.pass.view_is l _ _ _ sh),
+      shut_loses (spot c.pass.inside.seat.table c.pass.inside.lows c.pass.inside.run.drawn c.pass.inside.from) (spot c.commit_exchange.new.seat.table c.pass.inside.lows c.pass.inside.run.drawn c.pass.inside.from) v y c.args.pass.now c.pass.view_is l _ _ u sh miss.1 (subst (λ k. ¬ (In (Abort k u) y.seen)) c.write_all.ensures.wrote.walk.number miss.2),
     )

@@ -10,7 +10,7 @@ returns-then-has_room-clause-follows c = let k = length c.args.drafts.now in
 
 pub returns-then-has_room-clause-answer : goal.returns-then-has_room-clause-answer
 returns-then-has_room-clause-answer c =
-    room_settles c.args.self.now.limits c.args.pass.now c.has_room.new.pass c.close.new.pass c.args.drafts.now c.close.result c.requires.few (c.has_room.ensures.yes c.if-has_room.true) c.close.ensures.answer
+    room_settles c.args.self.now.limits c.args.pass.now c.has_room.new.pass c.close.new.pass c.args.drafts.now c.close.result c.requires.few (c.has_room.ensures.yes c.if-has_room.true) c.close.ensures.follows.drawn c.close.ensures.answer
 
 pub returns-clause-follows : goal.returns-clause-follows
 returns-clause-follows c = let l = c.args.self.now.limits in let k = length c.args.drafts.now in

@@ -1,43 +1,45 @@
-use Rattle.std.proofs.Common.{◌≡◌, ◌-◌, ◌<◌, ◌≤◌, sym, refl, ap, ◌∙◌, subst, inr, arith}
+use Rattle.std.proofs.Common.{◌≡◌, ◌+◌, ◌-◌, ◌<◌, ◌≤◌, sym, refl, ap, ◌∙◌, subst, inr, arith}
 use Rattle.tp_model.specs.declared.types.Limits.{Limits}
 use Rattle.tp_rule.specs.Tables.{limits_of}
 use Rattle.tp_rule.specs.Views.{view_of}
-use Rattle.tp_manager.specs.Bounds.{draw_steps}
+use Rattle.tp_manager.specs.Bounds.{draw_steps, room_steps}
 use Rattle.tp_manager.specs.Shown.{ManagerShown, PassShown, spot}
 use Rattle.tp_manager.specs.declared.manager.Run.{Run}
 use Rattle.tp_manager.proofs.Rooms.{drew_shown, tried_same, tried_shown}
 use Rattle.tp_manager.proofs.Walks.{follows, rises_same}
 use Rattle.tp_manager.proofs.manager.Manager.has_room.Goals as goal
-use Rattle.tp_manager.proofs.manager.Manager.has_room.Goals.{After-draw}
+use Rattle.tp_manager.proofs.manager.Manager.has_room.Goals.{After-draw_on}
 
-lim : (c : After-draw) → (view_of c.pass.inside.seat).limits ≡ limits_of c.self.inside.shared.words
+lim : (c : After-draw_on) → (view_of c.pass.inside.seat).limits ≡ limits_of c.self.inside.shared.words
 lim c = ap (λ (p : PassShown). p.limits) c.pass.view_is ∙ (c.requires.own.1 ∙ (sym (ap (λ (m : ManagerShown). m.limits) c.self.view_is) ∙ sym c.self.inside.shared.same))
 
-limits : (c : After-draw) → limits_of c.self.inside.shared.words ≡ c.args.self.now.limits
+limits : (c : After-draw_on) → limits_of c.self.inside.shared.words ≡ c.args.self.now.limits
 limits c = c.self.inside.shared.same ∙ ap (λ (m : ManagerShown). m.limits) c.self.view_is
 
-few : (c : After-draw) → c.args.pass.now.left < c.args.rows
+few : (c : After-draw_on) → c.args.pass.now.left < c.args.rows
 few c = let less = c.if-rows-pass.false in let is = c.pass.invariant.0.run_is.1 in let seen = ap (λ (p : PassShown). p.left) c.pass.view_is in omega arith
 
 pub returns-clause-yes : goal.returns-clause-yes
-returns-clause-yes c = λ q. let at = (goal.at.returns-clause-yes c).After-draw in let l : Limits = limits_of c.self.inside.shared.words in let d = c.draw.ensures.yes q in
-    let t = spot c.pass.inside.seat.table c.pass.inside.lows c.pass.inside.run.drawn in let t' = spot c.draw.new.seat.table c.pass.inside.lows c.draw.new.run.drawn in let v = view_of c.pass.inside.seat in let w = view_of c.draw.new.seat in
+returns-clause-yes c = λ q. let at = (goal.at.returns-clause-yes c).After-draw_on in let l : Limits = limits_of c.self.inside.shared.words in let d = c.draw_on.ensures.yes q in
+    let t = spot c.pass.inside.seat.table c.pass.inside.lows c.pass.inside.run.drawn c.pass.inside.from in let t' = spot c.draw_on.new.seat.table c.pass.inside.lows c.draw_on.new.run.drawn c.pass.inside.from in let v = view_of c.pass.inside.seat in let w = view_of c.draw_on.new.seat in
     inr (
       few at,
       d.0,
-      drew_shown t t' c.args.pass.now l (draw_steps l) d.0 v w c.pass.view_is c.draw.ensures.same refl (lim at) d.1,
-      follows t t' (rises_same c.pass.inside.lows) v w c.args.pass.now c.pass.view_is l (draw_steps l) d.1.marks d.1.walk (draw_steps c.args.self.now.limits) (let e = ap (λ (z : Limits). z.spare) (limits at) in omega arith),
+      drew_shown t t' c.args.pass.now l (draw_steps l + c.pass.inside.run.left) d.0 v w c.pass.view_is c.draw_on.ensures.same refl refl (lim at) d.1,
+      let is = d.4 in omega arith,
+      follows t t' (rises_same c.pass.inside.lows, c.draw_on.ensures.risen) v w c.args.pass.now c.pass.view_is l (draw_steps l + c.pass.inside.run.left) d.1.marks d.1.walk (room_steps c.args.self.now.limits c.args.rows)
+          (let e = ap (λ (z : Limits). z.spare) (limits at) in let less = c.if-rows-pass.false in omega arith),
     )
 
 pub returns-clause-no : goal.returns-clause-no
-returns-clause-no c = λ q. let at = (goal.at.returns-clause-no c).After-draw in let l : Limits = limits_of c.self.inside.shared.words in let d = c.draw.ensures.no q in
-    let t = spot c.pass.inside.seat.table c.pass.inside.lows c.pass.inside.run.drawn in let t' = spot c.draw.new.seat.table c.pass.inside.lows c.draw.new.run.drawn in let v = view_of c.pass.inside.seat in let w = view_of c.draw.new.seat in
-    let n = l.spare - c.pass.inside.run.drawn in let all : c.draw.new.run.drawn ≡ l.spare = ap (λ (r : Run). r.drawn) d.1 in let old : c.args.pass.now.limits ≡ l = sym (ap (λ (p : PassShown). p.limits) c.pass.view_is) ∙ lim at in
+returns-clause-no c = λ q. let at = (goal.at.returns-clause-no c).After-draw_on in let l : Limits = limits_of c.self.inside.shared.words in let d = c.draw_on.ensures.no q in
+    let t = spot c.pass.inside.seat.table c.pass.inside.lows c.pass.inside.run.drawn c.pass.inside.from in let t' = spot c.draw_on.new.seat.table c.pass.inside.lows c.draw_on.new.run.drawn c.pass.inside.from in let v = view_of c.pass.inside.seat in let w = view_of c.draw_on.new.seat in
+    let n = l.spare - c.pass.inside.run.drawn in let all : c.draw_on.new.run.drawn ≡ l.spare = ap (λ (r : Run). r.drawn) d.1 in let old : c.args.pass.now.limits ≡ l = sym (ap (λ (p : PassShown). p.limits) c.pass.view_is) ∙ lim at in
     let inside : c.pass.inside.run.drawn ≤ l.spare = subst (λ (z : Limits). c.pass.inside.run.drawn ≤ z.spare) (lim at) c.pass.invariant.0.drawn.0 in (
       record {
         few = few at;
-        same = tried_shown t t' c.args.pass.now l n v w c.pass.view_is c.draw.ensures.same refl all (lim at) d.0;
-        none = λ zero. let e = ap (λ (z : Limits). z.spare) old in tried_same t t' c.args.pass.now l n v w c.pass.view_is c.draw.ensures.same refl (omega arith) (lim at) (omega arith) d.0;
+        same = tried_shown t t' c.args.pass.now l n v w c.pass.view_is c.draw_on.ensures.same refl refl all (lim at) d.0;
+        none = λ zero. let e = ap (λ (z : Limits). z.spare) old in tried_same t t' c.args.pass.now l n v w c.pass.view_is c.draw_on.ensures.same refl refl (omega arith) (lim at) (omega arith) d.0;
       },
-      follows t t' (rises_same c.pass.inside.lows) v w c.args.pass.now c.pass.view_is l n d.0.marks d.0.walk (draw_steps c.args.self.now.limits) (let e = ap (λ (z : Limits). z.spare) (limits at) in omega arith),
+      follows t t' (rises_same c.pass.inside.lows, c.draw_on.ensures.risen) v w c.args.pass.now c.pass.view_is l n d.0.marks d.0.walk (draw_steps c.args.self.now.limits) (let e = ap (λ (z : Limits). z.spare) (limits at) in omega arith),
     )

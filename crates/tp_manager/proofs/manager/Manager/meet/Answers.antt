@@ -5,7 +5,7 @@ use Rattle.tp_manager.specs.Bounds.{meet_steps, met_steps}
 use Rattle.tp_manager.specs.Shown.{ManagerShown, PassShown, spot}
 use Rattle.tp_manager.specs.Walks.{Acted, Steady}
 use Rattle.tp_manager.proofs.Meetings.{met_first, met_second, met_shown}
-use Rattle.tp_manager.proofs.Walks.{follows, has_looked, looked, rises_same, remembers}
+use Rattle.tp_manager.proofs.Walks.{follows, has_looked, looked, climbs_same, remembers}
 use Rattle.tp_manager.proofs.Passes.{quiet_looked, rests_looked, steady_at}
 use Rattle.tp_manager.proofs.manager.Manager.meet.Goals as goal
 use Rattle.tp_manager.proofs.manager.Manager.meet.Goals.{After-meet}
@@ -32,24 +32,24 @@ invariant_of-second c = let at = (goal.at.invariant_of-second c).After-meet in
 
 pub returns-clause-first : goal.returns-clause-first
 returns-clause-first c = let at = (goal.at.returns-clause-first c).After-meet in
-    follows (spot c.first.inside.seat.table c.first.inside.lows c.first.inside.run.drawn) (spot c.meet.new.seat.table c.first.inside.lows c.first.inside.run.drawn) (rises_same c.first.inside.lows) (view_of c.first.inside.seat) (view_of c.meet.new.seat) c.args.first.now c.first.view_is _ meet_steps _ (one at).walk meet_steps (omega arith)
+    follows (spot c.first.inside.seat.table c.first.inside.lows c.first.inside.run.drawn c.first.inside.from) (spot c.meet.new.seat.table c.first.inside.lows c.first.inside.run.drawn c.first.inside.from) (climbs_same c.first.inside.lows c.first.inside.run.drawn) (view_of c.first.inside.seat) (view_of c.meet.new.seat) c.args.first.now c.first.view_is _ meet_steps _ (one at).walk meet_steps (omega arith)
 
 pub returns-clause-second : goal.returns-clause-second
 returns-clause-second c = let at = (goal.at.returns-clause-second c).After-meet in
-    follows (spot c.second.inside.seat.table c.second.inside.lows c.second.inside.run.drawn) (spot c.meet.new.other.table c.second.inside.lows c.second.inside.run.drawn) (rises_same c.second.inside.lows) (view_of c.second.inside.seat) (view_of c.meet.new.other) c.args.second.now c.second.view_is _ met_steps _ (two at).walk met_steps (omega arith)
+    follows (spot c.second.inside.seat.table c.second.inside.lows c.second.inside.run.drawn c.second.inside.from) (spot c.meet.new.other.table c.second.inside.lows c.second.inside.run.drawn c.second.inside.from) (climbs_same c.second.inside.lows c.second.inside.run.drawn) (view_of c.second.inside.seat) (view_of c.meet.new.other) c.args.second.now c.second.view_is _ met_steps _ (two at).walk met_steps (omega arith)
 
 pub returns-clause-looks : goal.returns-clause-looks
 returns-clause-looks c = let at = (goal.at.returns-clause-looks c).After-meet in (
-  has_looked (spot c.first.inside.seat.table c.first.inside.lows c.first.inside.run.drawn) (spot c.meet.new.seat.table c.first.inside.lows c.first.inside.run.drawn) (view_of c.first.inside.seat) (view_of c.meet.new.seat) c.args.first.now c.first.view_is _ meet_steps _ (one at).walk (one at).step,
-  has_looked (spot c.second.inside.seat.table c.second.inside.lows c.second.inside.run.drawn) (spot c.meet.new.other.table c.second.inside.lows c.second.inside.run.drawn) (view_of c.second.inside.seat) (view_of c.meet.new.other) c.args.second.now c.second.view_is _ met_steps _ (two at).walk (two at).step,
+  has_looked (spot c.first.inside.seat.table c.first.inside.lows c.first.inside.run.drawn c.first.inside.from) (spot c.meet.new.seat.table c.first.inside.lows c.first.inside.run.drawn c.first.inside.from) (view_of c.first.inside.seat) (view_of c.meet.new.seat) c.args.first.now c.first.view_is _ meet_steps _ (one at).walk (one at).step,
+  has_looked (spot c.second.inside.seat.table c.second.inside.lows c.second.inside.run.drawn c.second.inside.from) (spot c.meet.new.other.table c.second.inside.lows c.second.inside.run.drawn c.second.inside.from) (view_of c.second.inside.seat) (view_of c.meet.new.other) c.args.second.now c.second.view_is _ met_steps _ (two at).walk (two at).step,
 )
 
 pub returns-clause-quiet : goal.returns-clause-quiet
 returns-clause-quiet c = let at = (goal.at.returns-clause-quiet c).After-meet in (
-  quiet_looked (spot c.first.inside.seat.table c.first.inside.lows c.first.inside.run.drawn) (spot c.meet.new.seat.table c.first.inside.lows c.first.inside.run.drawn) (view_of c.first.inside.seat) (view_of c.meet.new.seat) c.args.first.now c.first.view_is _ meet_steps (looked _ _ _ _ (one at)),
-  quiet_looked (spot c.second.inside.seat.table c.second.inside.lows c.second.inside.run.drawn) (spot c.meet.new.other.table c.second.inside.lows c.second.inside.run.drawn) (view_of c.second.inside.seat) (view_of c.meet.new.other) c.args.second.now c.second.view_is _ met_steps (looked _ _ _ _ (two at)),
+  quiet_looked (spot c.first.inside.seat.table c.first.inside.lows c.first.inside.run.drawn c.first.inside.from) (spot c.meet.new.seat.table c.first.inside.lows c.first.inside.run.drawn c.first.inside.from) (view_of c.first.inside.seat) (view_of c.meet.new.seat) c.args.first.now c.first.view_is _ meet_steps (looked _ _ _ _ (one at)),
+  quiet_looked (spot c.second.inside.seat.table c.second.inside.lows c.second.inside.run.drawn c.second.inside.from) (spot c.meet.new.other.table c.second.inside.lows c.second.inside.run.drawn c.second.inside.from) (view_of c.second.inside.seat) (view_of c.meet.new.other) c.args.second.now c.second.view_is _ met_steps (looked _ _ _ _ (two at)),
 )
 
 pub returns-clause-meets : goal.returns-clause-meets
 returns-clause-meets c = let at = (goal.at.returns-clause-meets c).After-meet in
-    met_shown _ _ _ _ _ (first_steady at) (second_steady at) c.meet.ensures.meets (spot c.first.inside.seat.table c.first.inside.lows c.first.inside.run.drawn) (spot c.second.inside.seat.table c.second.inside.lows c.second.inside.run.drawn) (spot c.meet.new.seat.table c.first.inside.lows c.first.inside.run.drawn) (spot c.meet.new.other.table c.second.inside.lows c.second.inside.run.drawn) c.args.first.now c.args.second.now c.first.view_is c.second.view_is
+    met_shown _ _ _ _ _ (first_steady at) (second_steady at) c.meet.ensures.meets (spot c.first.inside.seat.table c.first.inside.lows c.first.inside.run.drawn c.first.inside.from) (spot c.second.inside.seat.table c.second.inside.lows c.second.inside.run.drawn c.second.inside.from) (spot c.meet.new.seat.table c.first.inside.lows c.first.inside.run.drawn c.first.inside.from) (spot c.meet.new.other.table c.second.inside.lows c.second.inside.run.drawn c.second.inside.from) c.args.first.now c.args.second.now c.first.view_is c.second.view_is

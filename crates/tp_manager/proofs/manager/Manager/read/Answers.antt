@@ -9,7 +9,7 @@ use Rattle.tp_manager.specs.Shown.{ManagerShown, PassShown, spot}
 use Rattle.tp_manager.specs.Bounds.{birth_steps, body_steps, read_steps}
 use Rattle.tp_manager.specs.Calls.{IsLook}
 use Rattle.tp_manager.specs.Walks.{Acted}
-use Rattle.tp_manager.proofs.Walks.{acted_then, looked, looked_begins, follows, at_point, has_looked, point_last, rises_same, remembers}
+use Rattle.tp_manager.proofs.Walks.{acted_then, looked, looked_begins, follows, at_point, has_looked, point_last, climbs_same, remembers}
 use Rattle.tp_manager.proofs.Passes.{rests_looked, point_none, unborn_beyond}
 use Rattle.tp_manager.proofs.manager.Manager.read.Goals as goal
 use Rattle.tp_manager.proofs.manager.Manager.read.Goals.{After-rows, After-birth_from, After-status_at-status}
@@ -26,7 +26,7 @@ none c = acted_then _ 1 1 _ _ _ c.head_at-head.ensures.acted c.birth_from.ensure
 pub returns-then-id-rows-clause-answer : goal.returns-then-id-rows-clause-answer
 returns-then-id-rows-clause-answer c = let r = c.pass.invariant.0 in let at = (goal.at.returns-then-id-rows-clause-answer c).After-rows in
     let out : rows_of (view_of c.pass.inside.seat).limits ≤ c.args.id = subst (λ (z : Limits). rows_of z ≤ c.args.id) (sym (lim at ∙ c.self.inside.shared.same)) (subst (λ n. n ≤ c.args.id) c.rows.ensures c.if-id-rows.true) in
-    (refl, point_none (spot c.pass.inside.seat.table c.pass.inside.lows c.pass.inside.run.drawn) (view_of c.pass.inside.seat) c.args.pass.now c.pass.view_is _ r.steady (λ h. IsUnborn h c.args.id) (unborn_beyond _ _ c.args.id r.steady.shows.legal out))
+    (refl, point_none (spot c.pass.inside.seat.table c.pass.inside.lows c.pass.inside.run.drawn c.pass.inside.from) (view_of c.pass.inside.seat) c.args.pass.now c.pass.view_is _ r.steady (λ h. IsUnborn h c.args.id) (unborn_beyond _ _ c.args.id r.steady.shows.legal out))
 
 whole : (c : After-status_at-status) → Acted (limits_of c.self.inside.shared.words) (read_steps (limits_of c.self.inside.shared.words)) (view_of c.pass.inside.seat) (view_of c.status_at-status.new.seat)
 whole c = acted_then _ (birth_steps + body_steps) _ _ _ _ (acted_then _ birth_steps body_steps _ _ _ (acted_then _ 1 1 _ _ _ c.head_at-head.ensures.acted c.birth_from.ensures.looked) c.element_at-element.ensures.looked) (looked _ _ _ _ c.status_at-status.ensures.acted)
@@ -37,16 +37,16 @@ invariant_of-pass-in_default c = let at = goal.at.invariant_of-pass-in_default c
 
 pub returns-in_default-clause-follows : goal.returns-in_default-clause-follows
 returns-in_default-clause-follows c = let at = goal.at.returns-in_default-clause-follows c in
-    follows (spot c.pass.inside.seat.table c.pass.inside.lows c.pass.inside.run.drawn) (spot c.birth_from.new.seat.table c.pass.inside.lows c.pass.inside.run.drawn) (rises_same c.pass.inside.lows) (view_of c.pass.inside.seat) (view_of c.birth_from.new.seat) c.args.pass.now c.pass.view_is _ birth_steps _ (none at.After-birth_from).walk (read_steps c.args.self.now.limits) (omega arith)
+    follows (spot c.pass.inside.seat.table c.pass.inside.lows c.pass.inside.run.drawn c.pass.inside.from) (spot c.birth_from.new.seat.table c.pass.inside.lows c.pass.inside.run.drawn c.pass.inside.from) (climbs_same c.pass.inside.lows c.pass.inside.run.drawn) (view_of c.pass.inside.seat) (view_of c.birth_from.new.seat) c.args.pass.now c.pass.view_is _ birth_steps _ (none at.After-birth_from).walk (read_steps c.args.self.now.limits) (omega arith)
 
 pub returns-in_default-clause-looks : goal.returns-in_default-clause-looks
 returns-in_default-clause-looks c = λ _. let at = goal.at.returns-in_default-clause-looks c in let a = none at.After-birth_from in
-    has_looked (spot c.pass.inside.seat.table c.pass.inside.lows c.pass.inside.run.drawn) (spot c.birth_from.new.seat.table c.pass.inside.lows c.pass.inside.run.drawn) (view_of c.pass.inside.seat) (view_of c.birth_from.new.seat) c.args.pass.now c.pass.view_is _ birth_steps _ a.walk a.step
+    has_looked (spot c.pass.inside.seat.table c.pass.inside.lows c.pass.inside.run.drawn c.pass.inside.from) (spot c.birth_from.new.seat.table c.pass.inside.lows c.pass.inside.run.drawn c.pass.inside.from) (view_of c.pass.inside.seat) (view_of c.birth_from.new.seat) c.args.pass.now c.pass.view_is _ birth_steps _ a.walk a.step
 
 pub returns-in_default-clause-answer : goal.returns-in_default-clause-answer
 returns-in_default-clause-answer c = let n = none (goal.at.returns-in_default-clause-answer c).After-birth_from in (
   refl,
-  at_point (spot c.pass.inside.seat.table c.pass.inside.lows c.pass.inside.run.drawn) (spot c.birth_from.new.seat.table c.pass.inside.lows c.pass.inside.run.drawn) (view_of c.pass.inside.seat) (view_of c.birth_from.new.seat) c.args.pass.now c.pass.view_is _ birth_steps n.marks n.walk (λ z. IsUnborn z c.args.id) (seen_by c.birth_from.new.seat)
+  at_point (spot c.pass.inside.seat.table c.pass.inside.lows c.pass.inside.run.drawn c.pass.inside.from) (spot c.birth_from.new.seat.table c.pass.inside.lows c.pass.inside.run.drawn c.pass.inside.from) (view_of c.pass.inside.seat) (view_of c.birth_from.new.seat) c.args.pass.now c.pass.view_is _ birth_steps n.marks n.walk (λ z. IsUnborn z c.args.id) (seen_by c.birth_from.new.seat)
       (point_last _ birth_steps n.marks _ _ n.walk) c.in_default.ensures.told,
 )
 
@@ -56,11 +56,11 @@ invariant_of-pass-2 c = let at = goal.at.invariant_of-pass-2 c in
 
 pub returns-clause-follows : goal.returns-clause-follows
 returns-clause-follows c = let at = goal.at.returns-clause-follows c in let same : (limits_of c.self.inside.shared.words).attempts ≡ c.args.self.now.limits.attempts = ap (λ (l : Limits). l.attempts) (limits at.After-rows) in
-    follows (spot c.pass.inside.seat.table c.pass.inside.lows c.pass.inside.run.drawn) (spot c.status_at-status.new.seat.table c.pass.inside.lows c.pass.inside.run.drawn) (rises_same c.pass.inside.lows) (view_of c.pass.inside.seat) (view_of c.status_at-status.new.seat) c.args.pass.now c.pass.view_is _ _ _ (whole at.After-status_at-status).walk (read_steps c.args.self.now.limits) (omega arith)
+    follows (spot c.pass.inside.seat.table c.pass.inside.lows c.pass.inside.run.drawn c.pass.inside.from) (spot c.status_at-status.new.seat.table c.pass.inside.lows c.pass.inside.run.drawn c.pass.inside.from) (climbs_same c.pass.inside.lows c.pass.inside.run.drawn) (view_of c.pass.inside.seat) (view_of c.status_at-status.new.seat) c.args.pass.now c.pass.view_is _ _ _ (whole at.After-status_at-status).walk (read_steps c.args.self.now.limits) (omega arith)
 
 pub returns-clause-looks : goal.returns-clause-looks
 returns-clause-looks c = λ _. let at = goal.at.returns-clause-looks c in let a = whole at.After-status_at-status in
-    has_looked (spot c.pass.inside.seat.table c.pass.inside.lows c.pass.inside.run.drawn) (spot c.status_at-status.new.seat.table c.pass.inside.lows c.pass.inside.run.drawn) (view_of c.pass.inside.seat) (view_of c.status_at-status.new.seat) c.args.pass.now c.pass.view_is _ _ _ a.walk a.step
+    has_looked (spot c.pass.inside.seat.table c.pass.inside.lows c.pass.inside.run.drawn c.pass.inside.from) (spot c.status_at-status.new.seat.table c.pass.inside.lows c.pass.inside.run.drawn c.pass.inside.from) (view_of c.pass.inside.seat) (view_of c.status_at-status.new.seat) c.args.pass.now c.pass.view_is _ _ _ a.walk a.step
 
 pub element_at-element-requires-clause-there : goal.element_at-element-requires-clause-there
 element_at-element-requires-clause-there c = c.in-Some.ensures.told.0
@@ -68,7 +68,7 @@ element_at-element-requires-clause-there c = c.in-Some.ensures.told.0
 pub returns-clause-answer : goal.returns-clause-answer
 returns-clause-answer c = let at = goal.at.returns-clause-answer c in let a = whole at.After-status_at-status in let s = c.status_at-status.ensures in let h = seen_by c.status_at-status.new.seat in
     let born = found_later _ h (looked_begins _ _ _ _ (looked _ _ _ _ s.acted)) c.args.id _ c.element_at-element.ensures.born in (
-      at_point (spot c.pass.inside.seat.table c.pass.inside.lows c.pass.inside.run.drawn) (spot c.status_at-status.new.seat.table c.pass.inside.lows c.pass.inside.run.drawn) (view_of c.pass.inside.seat) (view_of c.status_at-status.new.seat) c.args.pass.now c.pass.view_is _ _ _ a.walk
+      at_point (spot c.pass.inside.seat.table c.pass.inside.lows c.pass.inside.run.drawn c.pass.inside.from) (spot c.status_at-status.new.seat.table c.pass.inside.lows c.pass.inside.run.drawn c.pass.inside.from) (view_of c.pass.inside.seat) (view_of c.status_at-status.new.seat) c.args.pass.now c.pass.view_is _ _ _ a.walk
           (IsLook c.args.self.now.limits c.args.id (record { element = c.element_at-element.result; status = c.status_at-status.result.1 })) h (point_last _ _ _ _ _ a.walk)
           (born, s.status ∙ ap (λ (l : Limits). status_of l.attempts h c.args.id) (limits at.After-rows)),
       born,

@@ -10,7 +10,7 @@ use Rattle.tp_manager.specs.Bounds.{birth_steps, renew_steps, requeue_steps}
 use Rattle.tp_manager.specs.Requeues.{Renewed, RequeueFails}
 use Rattle.tp_manager.specs.Walks.{Acted}
 use Rattle.tp_manager.proofs.Points.{has_more}
-use Rattle.tp_manager.proofs.Walks.{acted_then, looked, looked_none, follows, at_point, has_looked, point_last, walked_then, rises_same, remembers}
+use Rattle.tp_manager.proofs.Walks.{acted_then, looked, looked_none, follows, at_point, has_looked, point_last, walked_then, climbs_same, remembers}
 use Rattle.tp_manager.proofs.Passes.{rests_looked, quiet_looked, point_none, unborn_beyond}
 use Rattle.tp_manager.proofs.Requeues.{renewed_then, requeue_shown, requeues_shown, rests_renewed}
 use Rattle.tp_manager.proofs.manager.Manager.requeue.Goals as goal
@@ -36,8 +36,8 @@ refused c n = acted_then _ birth_steps renew_steps _ _ _ n c.in-Err.ensures.told
 pub returns-then-id-rows-clause-answer : goal.returns-then-id-rows-clause-answer
 returns-then-id-rows-clause-answer c = let r = c.pass.invariant.0 in let at = (goal.at.returns-then-id-rows-clause-answer c).After-rows in
     let out : rows_of (view_of c.pass.inside.seat).limits ≤ c.args.id = subst (λ (z : Limits). rows_of z ≤ c.args.id) (sym (lim at ∙ c.self.inside.shared.same)) (subst (λ n. n ≤ c.args.id) c.rows.ensures c.if-id-rows.true) in (
-      quiet_looked (spot c.pass.inside.seat.table c.pass.inside.lows c.pass.inside.run.drawn) (spot c.pass.inside.seat.table c.pass.inside.lows c.pass.inside.run.drawn) (view_of c.pass.inside.seat) (view_of c.pass.inside.seat) c.args.pass.now c.pass.view_is _ 0 (looked_none _ _ r.steady),
-      point_none (spot c.pass.inside.seat.table c.pass.inside.lows c.pass.inside.run.drawn) (view_of c.pass.inside.seat) c.args.pass.now c.pass.view_is _ r.steady (λ h. IsUnborn h c.args.id) (unborn_beyond _ _ c.args.id r.steady.shows.legal out),
+      quiet_looked (spot c.pass.inside.seat.table c.pass.inside.lows c.pass.inside.run.drawn c.pass.inside.from) (spot c.pass.inside.seat.table c.pass.inside.lows c.pass.inside.run.drawn c.pass.inside.from) (view_of c.pass.inside.seat) (view_of c.pass.inside.seat) c.args.pass.now c.pass.view_is _ 0 (looked_none _ _ r.steady),
+      point_none (spot c.pass.inside.seat.table c.pass.inside.lows c.pass.inside.run.drawn c.pass.inside.from) (view_of c.pass.inside.seat) c.args.pass.now c.pass.view_is _ r.steady (λ h. IsUnborn h c.args.id) (unborn_beyond _ _ c.args.id r.steady.shows.legal out),
     )
 
 pub invariant_of-pass-in_default : goal.invariant_of-pass-in_default
@@ -46,17 +46,17 @@ invariant_of-pass-in_default c = let at = goal.at.invariant_of-pass-in_default c
 
 pub returns-in_default-clause-follows : goal.returns-in_default-clause-follows
 returns-in_default-clause-follows c = let at = goal.at.returns-in_default-clause-follows c in
-    follows (spot c.pass.inside.seat.table c.pass.inside.lows c.pass.inside.run.drawn) (spot c.birth_from.new.seat.table c.pass.inside.lows c.pass.inside.run.drawn) (rises_same c.pass.inside.lows) (view_of c.pass.inside.seat) (view_of c.birth_from.new.seat) c.args.pass.now c.pass.view_is _ birth_steps _ (none at.After-birth_from).walk requeue_steps (omega arith)
+    follows (spot c.pass.inside.seat.table c.pass.inside.lows c.pass.inside.run.drawn c.pass.inside.from) (spot c.birth_from.new.seat.table c.pass.inside.lows c.pass.inside.run.drawn c.pass.inside.from) (climbs_same c.pass.inside.lows c.pass.inside.run.drawn) (view_of c.pass.inside.seat) (view_of c.birth_from.new.seat) c.args.pass.now c.pass.view_is _ birth_steps _ (none at.After-birth_from).walk requeue_steps (omega arith)
 
 pub returns-in_default-clause-looks : goal.returns-in_default-clause-looks
 returns-in_default-clause-looks c = λ _. let at = goal.at.returns-in_default-clause-looks c in let a = none at.After-birth_from in
-    has_looked (spot c.pass.inside.seat.table c.pass.inside.lows c.pass.inside.run.drawn) (spot c.birth_from.new.seat.table c.pass.inside.lows c.pass.inside.run.drawn) (view_of c.pass.inside.seat) (view_of c.birth_from.new.seat) c.args.pass.now c.pass.view_is _ birth_steps _ a.walk a.step
+    has_looked (spot c.pass.inside.seat.table c.pass.inside.lows c.pass.inside.run.drawn c.pass.inside.from) (spot c.birth_from.new.seat.table c.pass.inside.lows c.pass.inside.run.drawn c.pass.inside.from) (view_of c.pass.inside.seat) (view_of c.birth_from.new.seat) c.args.pass.now c.pass.view_is _ birth_steps _ a.walk a.step
 
 pub returns-in_default-clause-answer : goal.returns-in_default-clause-answer
 returns-in_default-clause-answer c = let at = goal.at.returns-in_default-clause-answer c in let l : Limits = limits_of c.self.inside.shared.words in let n = none at.After-birth_from in
     let v = view_of c.pass.inside.seat in let x = view_of c.birth_from.new.seat in (
-      quiet_looked (spot c.pass.inside.seat.table c.pass.inside.lows c.pass.inside.run.drawn) (spot c.birth_from.new.seat.table c.pass.inside.lows c.pass.inside.run.drawn) v x c.args.pass.now c.pass.view_is l birth_steps (looked l birth_steps v x n),
-      at_point (spot c.pass.inside.seat.table c.pass.inside.lows c.pass.inside.run.drawn) (spot c.birth_from.new.seat.table c.pass.inside.lows c.pass.inside.run.drawn) v x c.args.pass.now c.pass.view_is l birth_steps n.marks n.walk (λ z. IsUnborn z c.args.id) (seen_by c.birth_from.new.seat) (point_last l birth_steps n.marks v x n.walk) c.in_default.ensures.told,
+      quiet_looked (spot c.pass.inside.seat.table c.pass.inside.lows c.pass.inside.run.drawn c.pass.inside.from) (spot c.birth_from.new.seat.table c.pass.inside.lows c.pass.inside.run.drawn c.pass.inside.from) v x c.args.pass.now c.pass.view_is l birth_steps (looked l birth_steps v x n),
+      at_point (spot c.pass.inside.seat.table c.pass.inside.lows c.pass.inside.run.drawn c.pass.inside.from) (spot c.birth_from.new.seat.table c.pass.inside.lows c.pass.inside.run.drawn c.pass.inside.from) v x c.args.pass.now c.pass.view_is l birth_steps n.marks n.walk (λ z. IsUnborn z c.args.id) (seen_by c.birth_from.new.seat) (point_last l birth_steps n.marks v x n.walk) c.in_default.ensures.told,
     )
 
 pub returns-in_default-clause-open_unit : goal.returns-in_default-clause-open_unit
@@ -74,11 +74,11 @@ invariant_of-pass-in-Err c = let at = goal.at.invariant_of-pass-in-Err c in
 
 pub returns-in-Ok-clause-follows : goal.returns-in-Ok-clause-follows
 returns-in-Ok-clause-follows c = let at = goal.at.returns-in-Ok-clause-follows c in let a = renewed at.In-Ok (none at.After-birth_from) in
-    follows (spot c.pass.inside.seat.table c.pass.inside.lows c.pass.inside.run.drawn) (spot c.requeue_row.new.seat.table c.pass.inside.lows c.pass.inside.run.drawn) (rises_same c.pass.inside.lows) (view_of c.pass.inside.seat) (view_of c.requeue_row.new.seat) c.args.pass.now c.pass.view_is _ requeue_steps a.marks a.walk requeue_steps (omega arith)
+    follows (spot c.pass.inside.seat.table c.pass.inside.lows c.pass.inside.run.drawn c.pass.inside.from) (spot c.requeue_row.new.seat.table c.pass.inside.lows c.pass.inside.run.drawn c.pass.inside.from) (climbs_same c.pass.inside.lows c.pass.inside.run.drawn) (view_of c.pass.inside.seat) (view_of c.requeue_row.new.seat) c.args.pass.now c.pass.view_is _ requeue_steps a.marks a.walk requeue_steps (omega arith)
 
 pub returns-in-Ok-clause-looks : goal.returns-in-Ok-clause-looks
 returns-in-Ok-clause-looks c = λ _. let at = goal.at.returns-in-Ok-clause-looks c in let l : Limits = limits_of c.self.inside.shared.words in let n = none at.After-birth_from in let k = c.in-Ok.ensures.told in
-    has_looked (spot c.pass.inside.seat.table c.pass.inside.lows c.pass.inside.run.drawn) (spot c.requeue_row.new.seat.table c.pass.inside.lows c.pass.inside.run.drawn) (view_of c.pass.inside.seat) (view_of c.requeue_row.new.seat) c.args.pass.now c.pass.view_is l requeue_steps (n.marks ++ k.marks)
+    has_looked (spot c.pass.inside.seat.table c.pass.inside.lows c.pass.inside.run.drawn c.pass.inside.from) (spot c.requeue_row.new.seat.table c.pass.inside.lows c.pass.inside.run.drawn c.pass.inside.from) (view_of c.pass.inside.seat) (view_of c.requeue_row.new.seat) c.args.pass.now c.pass.view_is l requeue_steps (n.marks ++ k.marks)
     (walked_then l birth_steps renew_steps n.marks k.marks _ _ _ n.walk k.walk) (has_more n.marks k.marks n.step)
 
 pub returns-in-Ok-clause-open_unit : goal.returns-in-Ok-clause-open_unit
@@ -86,20 +86,20 @@ returns-in-Ok-clause-open_unit c = let at = goal.at.returns-in-Ok-clause-open_un
 
 pub returns-in-Ok-clause-answer : goal.returns-in-Ok-clause-answer
 returns-in-Ok-clause-answer c = let at = goal.at.returns-in-Ok-clause-answer c in let n = none at.After-birth_from in
-    requeues_shown (spot c.pass.inside.seat.table c.pass.inside.lows c.pass.inside.run.drawn) (spot c.requeue_row.new.seat.table c.pass.inside.lows c.pass.inside.run.drawn) (view_of c.pass.inside.seat) (view_of c.birth_from.new.seat) (view_of c.requeue_row.new.seat) c.args.pass.now c.pass.view_is (limits_of c.self.inside.shared.words) birth_steps requeue_steps n c.args.id c.in-Ok.round (renewed at.In-Ok n)
+    requeues_shown (spot c.pass.inside.seat.table c.pass.inside.lows c.pass.inside.run.drawn c.pass.inside.from) (spot c.requeue_row.new.seat.table c.pass.inside.lows c.pass.inside.run.drawn c.pass.inside.from) (view_of c.pass.inside.seat) (view_of c.birth_from.new.seat) (view_of c.requeue_row.new.seat) c.args.pass.now c.pass.view_is (limits_of c.self.inside.shared.words) birth_steps requeue_steps n c.args.id c.in-Ok.round (renewed at.In-Ok n)
 
 pub returns-in-Err-clause-follows : goal.returns-in-Err-clause-follows
 returns-in-Err-clause-follows c = let at = goal.at.returns-in-Err-clause-follows c in let a = refused at.In-Err (none at.After-birth_from) in
-    follows (spot c.pass.inside.seat.table c.pass.inside.lows c.pass.inside.run.drawn) (spot c.requeue_row.new.seat.table c.pass.inside.lows c.pass.inside.run.drawn) (rises_same c.pass.inside.lows) (view_of c.pass.inside.seat) (view_of c.requeue_row.new.seat) c.args.pass.now c.pass.view_is _ requeue_steps a.marks a.walk requeue_steps (omega arith)
+    follows (spot c.pass.inside.seat.table c.pass.inside.lows c.pass.inside.run.drawn c.pass.inside.from) (spot c.requeue_row.new.seat.table c.pass.inside.lows c.pass.inside.run.drawn c.pass.inside.from) (climbs_same c.pass.inside.lows c.pass.inside.run.drawn) (view_of c.pass.inside.seat) (view_of c.requeue_row.new.seat) c.args.pass.now c.pass.view_is _ requeue_steps a.marks a.walk requeue_steps (omega arith)
 
 pub returns-in-Err-clause-looks : goal.returns-in-Err-clause-looks
 returns-in-Err-clause-looks c = λ _. let at = goal.at.returns-in-Err-clause-looks c in let a = refused at.In-Err (none at.After-birth_from) in
-    has_looked (spot c.pass.inside.seat.table c.pass.inside.lows c.pass.inside.run.drawn) (spot c.requeue_row.new.seat.table c.pass.inside.lows c.pass.inside.run.drawn) (view_of c.pass.inside.seat) (view_of c.requeue_row.new.seat) c.args.pass.now c.pass.view_is _ requeue_steps a.marks a.walk a.step
+    has_looked (spot c.pass.inside.seat.table c.pass.inside.lows c.pass.inside.run.drawn c.pass.inside.from) (spot c.requeue_row.new.seat.table c.pass.inside.lows c.pass.inside.run.drawn c.pass.inside.from) (view_of c.pass.inside.seat) (view_of c.requeue_row.new.seat) c.args.pass.now c.pass.view_is _ requeue_steps a.marks a.walk a.step
 
 pub returns-in-Err-clause-open_unit : goal.returns-in-Err-clause-open_unit
 returns-in-Err-clause-open_unit c = let at = goal.at.returns-in-Err-clause-open_unit c in ap (λ (h : Hand). h.open_unit) (refused at.In-Err (none at.After-birth_from)).kept ∙ ap (λ (p : PassShown). p.open_unit) c.pass.view_is
 
 pub returns-in-Err-clause-answer : goal.returns-in-Err-clause-answer
 returns-in-Err-clause-answer c = let at = goal.at.returns-in-Err-clause-answer c in let l : Limits = limits_of c.self.inside.shared.words in let n = none at.After-birth_from in let told = c.in-Err.ensures.told in let there = c.in-Some.ensures.told.0 in
-    subst (λ (z : Limits). RequeueFails z c.args.id c.args.pass.now (shown (spot c.requeue_row.new.seat.table c.pass.inside.lows c.pass.inside.run.drawn) (view_of c.requeue_row.new.seat)) c.in-Err.refusal) (limits at.After-rows)
-    (requeue_shown (spot c.pass.inside.seat.table c.pass.inside.lows c.pass.inside.run.drawn) (spot c.requeue_row.new.seat.table c.pass.inside.lows c.pass.inside.run.drawn) (view_of c.pass.inside.seat) (view_of c.birth_from.new.seat) (view_of c.requeue_row.new.seat) c.args.pass.now c.pass.view_is l birth_steps renew_steps n c.args.id c.in-Err.refusal told.0 (there.0, there.1) told.1)
+    subst (λ (z : Limits). RequeueFails z c.args.id c.args.pass.now (shown (spot c.requeue_row.new.seat.table c.pass.inside.lows c.pass.inside.run.drawn c.pass.inside.from) (view_of c.requeue_row.new.seat)) c.in-Err.refusal) (limits at.After-rows)
+    (requeue_shown (spot c.pass.inside.seat.table c.pass.inside.lows c.pass.inside.run.drawn c.pass.inside.from) (spot c.requeue_row.new.seat.table c.pass.inside.lows c.pass.inside.run.drawn c.pass.inside.from) (view_of c.pass.inside.seat) (view_of c.birth_from.new.seat) (view_of c.requeue_row.new.seat) c.args.pass.now c.pass.view_is l birth_steps renew_steps n c.args.id c.in-Err.refusal told.0 (there.0, there.1) told.1)

@@ -9,7 +9,7 @@ use Rattle.tp_manager.specs.Calls.{Adds}
 use Rattle.tp_model.specs.declared.event.Event.TheVariants.{Enqueue}
 use Rattle.tp_manager.specs.Bounds.{next_steps}
 use Rattle.tp_manager.specs.Walks.{Steady}
-use Rattle.tp_manager.proofs.Walks.{follows, rises_same, remembers}
+use Rattle.tp_manager.proofs.Walks.{follows, climbs_same, remembers}
 use Rattle.tp_manager.proofs.Passes.{steady_at}
 use Rattle.tp_manager.proofs.Submits.{made_adds, made_request, made_rests, made_walked}
 use Rattle.tp_manager.proofs.manager.Manager.submit_next.Goals as goal
@@ -32,15 +32,15 @@ invariant_of-pass c = let at = (goal.at.invariant_of-pass c).After-publish in (
 
 pub returns-clause-follows : goal.returns-clause-follows
 returns-clause-follows c = let at = (goal.at.returns-clause-follows c).After-publish in
-    follows (spot c.pass.inside.seat.table c.pass.inside.lows c.pass.inside.run.drawn) (spot c.publish.new.seat.table c.pass.inside.lows c.pass.inside.run.drawn) (rises_same c.pass.inside.lows) (view_of c.pass.inside.seat) (view_of c.publish.new.seat) c.args.pass.now c.pass.view_is (limits_of c.self.inside.shared.words) next_steps _
+    follows (spot c.pass.inside.seat.table c.pass.inside.lows c.pass.inside.run.drawn c.pass.inside.from) (spot c.publish.new.seat.table c.pass.inside.lows c.pass.inside.run.drawn c.pass.inside.from) (climbs_same c.pass.inside.lows c.pass.inside.run.drawn) (view_of c.pass.inside.seat) (view_of c.publish.new.seat) c.args.pass.now c.pass.view_is (limits_of c.self.inside.shared.words) next_steps _
     (made_walked (limits_of c.self.inside.shared.words) c.args.body c.args.stage _ _ _ (steady at) c.store_draft_body.ensures.view c.publish.ensures.grew (room at)) next_steps (omega arith)
 
 pub returns-clause-answer : goal.returns-clause-answer
 returns-clause-answer c = let at = (goal.at.returns-clause-answer c).After-publish in let l : Limits = limits_of c.self.inside.shared.words in record {
   stage_is = c.requires.stage;
-  adds = subst (λ n. Adds (Enqueue c.args.pass.now.number (request n c.args.stage c.args.body)) c.args.pass.now (shown (spot c.publish.new.seat.table c.pass.inside.lows c.pass.inside.run.drawn) (view_of c.publish.new.seat))) (at.pass.invariant.0.run_is.0)
+  adds = subst (λ n. Adds (Enqueue c.args.pass.now.number (request n c.args.stage c.args.body)) c.args.pass.now (shown (spot c.publish.new.seat.table c.pass.inside.lows c.pass.inside.run.drawn c.pass.inside.from) (view_of c.publish.new.seat))) (at.pass.invariant.0.run_is.0)
       (made_adds l c.args.body c.args.stage _ _ (view_of c.publish.new.seat) (steady at) c.store_draft_body.ensures.view c.publish.ensures.grew (room at)
-      (spot c.pass.inside.seat.table c.pass.inside.lows c.pass.inside.run.drawn) (spot c.publish.new.seat.table c.pass.inside.lows c.pass.inside.run.drawn) c.args.pass.now c.pass.view_is);
+      (spot c.pass.inside.seat.table c.pass.inside.lows c.pass.inside.run.drawn c.pass.inside.from) (spot c.publish.new.seat.table c.pass.inside.lows c.pass.inside.run.drawn c.pass.inside.from) c.args.pass.now c.pass.view_is);
   is_born = let t = made_request l c.args.body c.args.stage _ _ (view_of c.publish.new.seat) (steady at) c.store_draft_body.ensures.view c.publish.ensures.grew (room at) in
       subst (λ n. element_of (seen_by c.publish.new.seat) n ≡ Some (request n c.args.stage c.args.body)) (t.1 ∙ (search rules)) t.0;
   open_unit = search rules;

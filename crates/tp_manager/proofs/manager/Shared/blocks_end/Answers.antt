@@ -3,6 +3,8 @@ use Rattle.tp_model.specs.declared.types.Limits.{Limits}
 use Rattle.tp_model.specs.declared.trace.StepKind.TheVariants as kinds
 use Rattle.tp_model.specs.Steps.{block_first}
 use Rattle.tp_rule.specs.Tables.{limits_of}
+use Rattle.tp_rule.specs.Views.{view_of}
+use Rattle.tp_manager.proofs.Passes.{drawn_risen}
 use Rattle.tp_manager.proofs.Walks.{acted_by}
 use Rattle.tp_manager.proofs.manager.Shared.blocks_end.Goals as goal
 
@@ -17,3 +19,6 @@ returns-clause-told c = let l : Limits = limits_of c.args.self.now.words in
       omega arith,
       λ i low high. c.load_drawn-found.ensures.none i (omega arith) high,
     )
+
+pub returns-clause-risen : goal.returns-clause-risen
+returns-clause-risen c = drawn_risen (view_of c.args.seat.now) c.args.drawn.now c.load_drawn-found.result c.requires.drawn c.load_drawn-found.ensures.rises

@@ -31,6 +31,7 @@ pub loop-past-init : goal.loop-past-init
 loop-past-init c = let l : Limits = limits_of c.args.self.now.words in let L = is_looked l c.args.marks.now in let s = round_steps l in let v = view_of c.args.seat.now in record {
   same = search rules;
   drawn = c.requires.drawn;
+  risen = omega arith;
   rounded = rounded_few l c.args.root L 0 (0 * s) 0 0 0 v v (omega arith) (rounded_none l c.args.root L v c.requires.steady);
 }
 
@@ -45,6 +46,7 @@ loop-past-preserved c = let l : Limits = limits_of c.args.self.now.words in let 
     let v = view_of c.args.seat.now in let w = view_of c.loop-past.seat in let y = view_of c.cancel_round-tally.new.seat in record {
       same = search rules;
       drawn = c.cancel_round-tally.ensures.drawn;
+      risen = let up = c.loop-past.invariant.risen in let on = c.cancel_round-tally.ensures.risen in omega arith;
       rounded = rounded_few l c.args.root L (p * s + s) ((p + 1) * s) (p + 1) r.found (c.loop-past.killed + r.killed) v y (next p s)
           (rounded_next l c.args.root L (p * s) s p c.loop-past.found r.found c.loop-past.killed r.killed v w y (size at.After-rows-rows) c.if-tally-found.false c.loop-past.invariant.rounded c.cancel_round-tally.ensures.told);
     }

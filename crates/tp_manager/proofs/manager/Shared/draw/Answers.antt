@@ -23,6 +23,7 @@ returns-in-Ok-clause-yes c = λ _. let l : Limits = limits_of c.args.self.now.wo
           (draws_drew l b (view_of c.loop-run.seat) (view_of c.draw.new.seat) i.tried.walk.steady (omega arith) c.in-Ok.ensures.hit).0,
       c.block_first.ensures.first ∙ ap (λ (z : Limits). block_first z b) (sym c.args.self.now.same),
       refl,
+      refl,
     )
 
 pub loop-run-preserved : goal.loop-run-preserved

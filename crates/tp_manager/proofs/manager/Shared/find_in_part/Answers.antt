@@ -1,91 +1,42 @@
-use Rattle.std.proofs.Common.{◌≡◌, ◌+◌, ◌-◌, ◌*◌, ◌<◌, ◌≤◌, ℕ, slice_index, ⊎_elim, inl, inr, ap, arith, rules, subst, mul-le-mul_right}
+use Rattle.std.proofs.Common.{◌≡◌, ◌+◌, ◌-◌, ◌*◌, ◌≤◌, ℕ, slice_index, ⊎_elim, arith, ap}
 use Rattle.tp_model.specs.declared.types.Limits.{Limits}
-use Rattle.tp_model.specs.Steps.{IsRowOf}
 use Rattle.tp_rule.specs.Tables.{limits_of}
-use Rattle.tp_rule.specs.Views.{seen_by, view_of}
-use Rattle.tp_rule.specs.declared.view.View.{View}
+use Rattle.tp_rule.specs.Views.{view_of}
 use Rattle.tp_manager.specs.Bounds.{look_steps}
-use Rattle.tp_manager.specs.Finds.{PassedOver}
-use Rattle.tp_manager.specs.Walks.{Begun, EachRow, Sought}
-use Rattle.tp_manager.proofs.Walks.{sought_few}
-use Rattle.tp_manager.proofs.Finds.{over_low, over_widens}
-use Rattle.tp_manager.proofs.Seeks.{part_on, begun_few, begun_hit, begun_on, rows_more, sought_from}
+use Rattle.tp_manager.specs.Finds.{PassedOver, kind_of}
+use Rattle.tp_manager.proofs.Finds.{finds_behind, none_over, over_remembered, over_widens}
+use Rattle.tp_manager.proofs.Lows.{lows_inside}
+use Rattle.tp_manager.proofs.Seeks.{sought_bare}
+use Rattle.tp_manager.proofs.Walks.{remembers_kind, sought_few}
 use Rattle.tp_manager.proofs.manager.Shared.find_in_part.Goals as goal
-use Rattle.tp_manager.proofs.manager.Shared.find_in_part.Goals.{After-later-start, After-is_wanted_at}
+use Rattle.tp_manager.proofs.manager.Shared.find_in_part.Goals.{After-later-start}
 
 -- where the part begins
 first : (c : After-later-start) → c.args.part * (limits_of c.args.self.now.words).rows ≡ c.args.part * c.args.self.now.places.limits.rows
 first c = ap (λ (z : Limits). c.args.part * z.rows) c.args.self.now.same
 
-wide : (c : After-later-start) → (limits_of c.args.self.now.words).rows ≡ c.args.self.now.places.limits.rows
-wide c = ap (λ (z : Limits). z.rows) c.args.self.now.same
-
--- the rows before the start are below the mark
-skipped : (c : After-later-start) (i : ℕ) → c.args.from ≤ i → i < c.later-start.result
-    → PassedOver (limits_of c.args.self.now.words) c.args.wanted i (seen_by c.mark_at-mark.new.seat) (seen_by c.mark_at-mark.new.seat)
-skipped c i low high = let l : Limits = limits_of c.args.self.now.words in let from_on = c.requires.from.1 in let e = first c in ⊎_elim
-    (λ (q : c.later-start.result ≡ c.args.from). absurd (omega arith))
-    (λ (q : c.later-start.result ≡ c.args.part * c.args.self.now.places.limits.rows + c.mark_at-mark.result). over_low l c.args.wanted (seen_by c.mark_at-mark.new.seat) c.args.part c.mark_at-mark.result i c.mark_at-mark.ensures.low.1 (omega arith) (omega arith))
-    c.later-start.ensures.one
-
--- the mark, and then the rows from the start on
-from_mark : (c : After-later-start) (m n : ℕ) (y : View) → Begun (limits_of c.args.self.now.words) (PassedOver (limits_of c.args.self.now.words) c.args.wanted) m c.later-start.result n (view_of c.mark_at-mark.new.seat) y
-    → Sought (limits_of c.args.self.now.words) (1 + m) (EachRow (PassedOver (limits_of c.args.self.now.words) c.args.wanted) c.args.from n) (view_of c.args.seat.now) y
-from_mark c m n y b = let l : Limits = limits_of c.args.self.now.words in
-    sought_from l (PassedOver l c.args.wanted) (over_widens l c.args.wanted) m c.args.from c.later-start.result n (view_of c.args.seat.now) (view_of c.mark_at-mark.new.seat) y c.mark_at-mark.ensures.acted b (skipped c)
-
--- the row is of the part
-near : (c : After-is_wanted_at) → IsRowOf (limits_of c.args.self.now.words) c.args.part c.loop-row.row
-near c = let l : Limits = limits_of c.args.self.now.words in
-    let a : c.args.part * l.rows ≡ c.args.part * c.args.self.now.places.limits.rows = ap (λ (z : Limits). c.args.part * z.rows) c.args.self.now.same in
-    let b : l.rows ≡ c.args.self.now.places.limits.rows = ap (λ (z : Limits). z.rows) c.args.self.now.same in
-    let low = c.loop-row.invariant.start in let most = c.later-start.ensures.most.0 in let from_on = c.requires.from.1 in let less = c.loop-row-test.true in
-    (c.requires.from.0, omega arith, omega arith)
-
--- and not more rows than the part has were looked at
-few : (c : After-is_wanted_at) → (c.loop-row.row - c.later-start.result) < ((limits_of c.args.self.now.words).rows - slice_index c.args.lows.now c.args.part)
-few c = let l : Limits = limits_of c.args.self.now.words in let n = near c in let low = c.loop-row.invariant.start in let most = c.later-start.ensures.most.1 in let high = n.2 in
-    let a : c.args.part * l.rows ≡ c.args.part * c.args.self.now.places.limits.rows = ap (λ (z : Limits). c.args.part * z.rows) c.args.self.now.same in
-    let up = c.mark_at-mark.ensures.lows.1.0 c.args.part in let is = c.mark_at-mark.ensures.lows.0 in omega arith
-
-pub returns-then-is_wanted_at-clause-told : goal.returns-then-is_wanted_at-clause-told
-returns-then-is_wanted_at-clause-told c = let l : Limits = limits_of c.args.self.now.words in let at = goal.at.returns-then-is_wanted_at-clause-told c in let s = look_steps l in let i = c.loop-row.invariant in
-    let P = PassedOver l c.args.wanted in let d : ℕ = c.loop-row.row - c.later-start.result in let most = c.later-start.ensures.most.0 in let start = i.start in
-    let room : d * s + s ≤ (l.rows - slice_index c.args.lows.now c.args.part) * s = rows_more d (l.rows - slice_index c.args.lows.now c.args.part) s (few at.After-is_wanted_at) in (
+pub is_bare-requires-clause-row : goal.is_bare-requires-clause-row
+is_bare-requires-clause-row c = let l : Limits = limits_of c.args.self.now.words in let inside = lows_inside l c.args.lows.now (kind_of c.args.wanted) (view_of c.args.seat.now) c.requires.steady.known c.requires.remembers c.args.part in
+    let e = first (goal.at.is_bare-requires-clause-row c).After-later-start in let low = c.requires.from.1 in let high = c.requires.from.2 in let most = c.later-start.ensures.most.0 in (
       omega arith,
-      (near at.After-is_wanted_at).2,
-      c.is_wanted_at.ensures.yes c.if-is_wanted_at.true,
-      sought_few l (1 + (d * s + s)) (1 + (l.rows - slice_index c.args.lows.now c.args.part) * s) (EachRow P c.args.from c.loop-row.row) _ _ (omega arith)
-          (from_mark at.After-later-start (d * s + s) c.loop-row.row (view_of c.is_wanted_at.new.seat)
-          (inr (begun_hit l P (over_widens l c.args.wanted) (d * s) c.later-start.result s c.loop-row.row _ _ _ i.begun c.is_wanted_at.ensures.acted))),
+      ⊎_elim (λ (q : c.later-start.result ≡ c.args.from). let r : c.later-start.result ≤ c.args.part * l.rows + l.rows = omega arith in r)
+          (λ (q : c.later-start.result ≡ c.args.part * c.args.self.now.places.limits.rows + slice_index c.args.lows.now c.args.part). omega arith) c.later-start.ensures.one,
     )
 
-pub loop-row-init : goal.loop-row-init
-loop-row-init c = let l : Limits = limits_of c.args.self.now.words in let at = goal.at.loop-row-init c in record {
-  start = omega arith;
-  inside = let e = first at.After-later-start in let w = wide at.After-later-start in let high = c.requires.from.2 in let low = c.mark_at-mark.ensures.low.0 in
-      ⊎_elim (λ (q : c.later-start.result ≡ c.args.from). let r : c.later-start.result ≤ c.args.part * c.args.self.now.places.limits.rows + c.args.self.now.places.limits.rows = omega arith in r)
-      (λ (q : c.later-start.result ≡ c.args.part * c.args.self.now.places.limits.rows + c.mark_at-mark.result). omega arith) c.later-start.ensures.one;
-  same = search rules;
-  begun = inl (search rules, search rules);
-}
+pub returns-then-is_bare-clause-told : goal.returns-then-is_bare-clause-told
+returns-then-is_bare-clause-told c = let l : Limits = limits_of c.args.self.now.words in let bare = c.is_bare.ensures.bare c.if-is_bare.true in
+    let low = slice_index c.args.lows.now c.args.part in let e = first (goal.at.returns-then-is_bare-clause-told c).After-later-start in let from_on = c.requires.from.1 in
+    sought_few l 1 (3 + (l.rows - low) * look_steps l) _ _ _ (omega arith)
+    (sought_bare l (PassedOver l c.args.wanted) (over_widens l c.args.wanted) c.args.from c.later-start.result (c.args.part * l.rows + l.rows) (view_of c.args.seat.now) (view_of c.is_bare.new.seat) bare.0 (none_over l c.args.wanted)
+    (λ i from below. ⊎_elim (λ (q : c.later-start.result ≡ c.args.from). absurd (omega arith))
+    (λ (q : c.later-start.result ≡ c.args.part * c.args.self.now.places.limits.rows + low).
+    over_remembered l c.args.wanted c.args.lows.now c.args.part i (view_of c.args.seat.now) (view_of c.is_bare.new.seat) c.requires.remembers bare.0.walk.knows bare.0.walk.steady (omega arith) (omega arith))
+    c.later-start.ensures.one) bare.1)
 
-pub loop-row-preserved : goal.loop-row-preserved
-loop-row-preserved c = let l : Limits = limits_of c.args.self.now.words in let at = goal.at.loop-row-preserved c in let s = look_steps l in let i = c.loop-row.invariant in let start = i.start in let on = c.is_wanted_at.ensures.on.on in
-    let P = PassedOver l c.args.wanted in let W = over_widens l c.args.wanted in let F = c.later-start.result in let d : ℕ = c.loop-row.row - F in record {
-      start = omega arith;
-      inside = let e = first at.After-later-start in let w = wide at.After-later-start in let end = part_on l c.loop-row.row c.is_wanted_at.new.row c.args.part c.is_wanted_at.ensures.on (near at.After-is_wanted_at) in omega arith;
-      same = search rules;
-      begun = begun_few l P W (d * s + s) F _ c.is_wanted_at.new.row _ _ (rows_more d (c.is_wanted_at.new.row - F) s (omega arith))
-          (begun_on l P W (d * s) F s c.loop-row.row _ _ _ i.begun c.is_wanted_at.new.row start (c.is_wanted_at.ensures.no c.if-is_wanted_at.false));
-    }
+pub find_from_mark-requires-clause-remembers : goal.find_from_mark-requires-clause-remembers
+find_from_mark-requires-clause-remembers c = remembers_kind (kind_of c.args.wanted) c.args.lows.now _ _ _ _ _ (c.is_bare.ensures.more c.if-is_bare.false).walk c.requires.remembers
 
 pub returns-clause-told : goal.returns-clause-told
-returns-clause-told c = let l : Limits = limits_of c.args.self.now.words in let at = goal.at.returns-clause-told c in let i = c.loop-row.invariant in
-    let s = look_steps l in let P = PassedOver l c.args.wanted in let d : ℕ = c.loop-row.row - c.later-start.result in
-    let most = c.later-start.ensures.most.0 in let from_on = c.requires.from.1 in let high = i.inside in let low = c.loop-row-test.false in let e = first at.After-later-start in let w = wide at.After-later-start in
-    let all : c.loop-row.row ≡ c.args.part * l.rows + l.rows = omega arith in
-    let up = c.mark_at-mark.ensures.lows.1.0 c.args.part in let is = c.mark_at-mark.ensures.lows.0 in let start = c.later-start.ensures.most.1 in
-    let few : d * s ≤ (l.rows - slice_index c.args.lows.now c.args.part) * s = mul-le-mul_right s (omega arith) in
-    sought_few l (1 + d * s) (1 + (l.rows - slice_index c.args.lows.now c.args.part) * s) _ _ _ (omega arith)
-    (subst (λ n. Sought l (1 + d * s) (EachRow P c.args.from n) (view_of c.args.seat.now) (view_of c.loop-row.seat)) all (from_mark at.After-later-start (d * s) c.loop-row.row (view_of c.loop-row.seat) i.begun))
+returns-clause-told c = let l : Limits = limits_of c.args.self.now.words in let m : ℕ = (l.rows - slice_index c.args.lows.now c.args.part) * look_steps l in
+    finds_behind l c.args.wanted 1 (2 + m) (3 + m) c.args.from (c.args.part * l.rows + l.rows) (view_of c.args.seat.now) (view_of c.is_bare.new.seat) (view_of c.find_from_mark.new.seat) c.find_from_mark.result (omega arith)
+    (c.is_bare.ensures.more c.if-is_bare.false) c.find_from_mark.ensures.told

@@ -4,11 +4,11 @@ use Rattle.tp_model.specs.Steps.{part_rows}
 use Rattle.tp_rule.specs.Tables.{limits_of}
 use Rattle.tp_rule.specs.Views.{SeatShown, view_of}
 use Rattle.tp_manager.specs.Bounds.{look_steps, scan_steps}
-use Rattle.tp_manager.specs.Finds.{PassedOver}
+use Rattle.tp_manager.specs.Finds.{PassedOver, kind_of}
 use Rattle.tp_manager.specs.Walks.{Begun, EachRow, Remembers, Sought}
 use Rattle.tp_manager.specs.Shown.{Rises}
 use Rattle.tp_manager.proofs.Lows.{rises_then, scan_next, scan_rises}
-use Rattle.tp_manager.proofs.Walks.{rises_same, sought_few}
+use Rattle.tp_manager.proofs.Walks.{rises_none, sought_few}
 use Rattle.tp_manager.proofs.Finds.{over_widens}
 use Rattle.tp_manager.proofs.Seeks.{begun_done, begun_few, begun_on, begun_sought, rows_more}
 use Rattle.tp_manager.proofs.manager.Shared.find_in_parts.Goals as goal
@@ -27,7 +27,7 @@ find_in_part-requires-clause-from c = let l : Limits = limits_of c.args.self.now
 
 -- what the next part costs, by what was remembered at first
 abbrev part_cost : Limits → List ℕ → ℕ → ℕ
-part_cost l lows n = 1 + (l.rows - slice_index lows n) * look_steps l
+part_cost l lows n = 3 + (l.rows - slice_index lows n) * look_steps l
 
 pub loop-part-init : goal.loop-part-init
 loop-part-init c = let first = c.requires.from in record {
@@ -36,7 +36,7 @@ loop-part-init c = let first = c.requires.from in record {
   inside = omega arith;
   same = refl;
   remembers = c.requires.remembers;
-  rises = rises_same c.args.lows.now;
+  rises = rises_none c.args.lows.now;
   rest = λ q low. refl;
   begun = inl (refl, refl);
 }
@@ -51,18 +51,18 @@ returns-in-Some-clause-told c = let l : Limits = limits_of c.args.self.now.words
     let a : n * l.rows ≡ n * c.args.self.now.places.limits.rows = ap (λ (z : Limits). n * z.rows) c.args.self.now.same in
     let b : l.rows ≡ c.args.self.now.places.limits.rows = ap (λ (z : Limits). z.rows) c.args.self.now.same in
     let less : n < l.parts = subst (λ (z : Limits). n < z.parts) (sym c.args.self.now.same) c.loop-part-test.true in
-    let next = scan_next l lows s 1 n in let all = scan_rises l lows s 1 (n + 1) l.parts (omega arith) in (
+    let next = scan_next l lows s 3 n in let all = scan_rises l lows s 3 (n + 1) l.parts (omega arith) in (
       omega arith,
       omega arith,
       told.2,
-      sought_few l (scan_steps l s 1 lows n + part_cost l lows n) (scan_steps l s 1 lows l.parts) (EachRow P c.args.from c.in-Some.id) _ _ (omega arith)
-          (begun_sought l P (over_widens l c.args.wanted) (scan_steps l s 1 lows n) c.args.from (part_cost l lows n) c.loop-part.row _ _ _ i.begun c.in-Some.id from_on
-          (subst (λ m. Sought l (1 + (l.rows - m) * s) (EachRow P c.loop-part.row c.in-Some.id) (view_of c.loop-part.seat) (view_of c.find_in_part.new.seat)) (i.rest n (omega arith)) told.3)),
+      sought_few l (scan_steps l s 3 lows n + part_cost l lows n) (scan_steps l s 3 lows l.parts) (EachRow P c.args.from c.in-Some.id) _ _ (omega arith)
+          (begun_sought l P (over_widens l c.args.wanted) (scan_steps l s 3 lows n) c.args.from (part_cost l lows n) c.loop-part.row _ _ _ i.begun c.in-Some.id from_on
+          (subst (λ m. Sought l (3 + (l.rows - m) * s) (EachRow P c.loop-part.row c.in-Some.id) (view_of c.loop-part.seat) (view_of c.find_in_part.new.seat)) (i.rest n (omega arith)) told.3)),
     )
 
 pub loop-part-preserved : goal.loop-part-preserved
 loop-part-preserved c = let l : Limits = limits_of c.args.self.now.words in let i = c.loop-part.invariant in let n = c.loop-part.part in let s = look_steps l in let P = PassedOver l c.args.wanted in let W = over_widens l c.args.wanted in let lows = c.args.lows.now in
-    let from_on = i.from in let reach = i.reach in let next = suc-mul n c.args.self.now.places.limits.rows in let more = scan_next l lows s 1 n in
+    let from_on = i.from in let reach = i.reach in let next = suc-mul n c.args.self.now.places.limits.rows in let more = scan_next l lows s 3 n in
     let rest : (n + 1) * c.args.self.now.places.limits.rows ≡ n * c.args.self.now.places.limits.rows + c.args.self.now.places.limits.rows = omega arith in
     elim c.if-row-end.branch [
       | then-row-end+in_default w ↦
@@ -74,13 +74,13 @@ loop-part-preserved c = let l : Limits = limits_of c.args.self.now.words in let 
             reach = omega arith;
             inside = omega arith;
             same = ap (λ (z : SeatShown). z.table) w.seat-is ∙ (found.same ∙ i.same);
-            remembers = subst (λ (z : SeatShown × List ℕ). Remembers (view_of z.0) z.1) (λ j. (sym w.seat-is j, sym w.lows-is j)) found.remembers;
+            remembers = subst (λ (z : SeatShown × List ℕ). Remembers (kind_of c.args.wanted) (view_of z.0) z.1) (λ j. (sym w.seat-is j, sym w.lows-is j)) found.remembers;
             rises = subst (Rises lows) (sym w.lows-is) (rises_then lows c.loop-part.lows _ i.rises found.lows.0);
             rest = λ q low. ap (λ z. slice_index z q) w.lows-is ∙ (found.lows.1 q (λ is. absurd (omega arith)) ∙ i.rest q (omega arith));
-            begun = begun_few l P W (scan_steps l s 1 lows n + part_cost l lows n) c.args.from _ _ _ _ more
-                (begun_on l P W (scan_steps l s 1 lows n) c.args.from (part_cost l lows n) c.loop-part.row _ _ _ i.begun c.if-row-end.row from_on
-                (subst (λ m. Sought l (1 + (l.rows - m) * s) (EachRow P c.loop-part.row c.if-row-end.row) (view_of c.loop-part.seat) (view_of c.if-row-end.seat)) (i.rest n (omega arith))
-                (subst (λ (z : ℕ × SeatShown). Sought l (1 + (l.rows - slice_index c.loop-part.lows n) * s) (EachRow P c.loop-part.row z.0) (view_of c.loop-part.seat) (view_of z.1)) (λ j. (a j, sym w.seat-is j)) w.in_default.ensures.told)));
+            begun = begun_few l P W (scan_steps l s 3 lows n + part_cost l lows n) c.args.from _ _ _ _ more
+                (begun_on l P W (scan_steps l s 3 lows n) c.args.from (part_cost l lows n) c.loop-part.row _ _ _ i.begun c.if-row-end.row from_on
+                (subst (λ m. Sought l (3 + (l.rows - m) * s) (EachRow P c.loop-part.row c.if-row-end.row) (view_of c.loop-part.seat) (view_of c.if-row-end.seat)) (i.rest n (omega arith))
+                (subst (λ (z : ℕ × SeatShown). Sought l (3 + (l.rows - slice_index c.loop-part.lows n) * s) (EachRow P c.loop-part.row z.0) (view_of c.loop-part.seat) (view_of z.1)) (λ j. (a j, sym w.seat-is j)) w.in_default.ensures.told)));
           }
       | else-row-end w ↦
           let e = w.row-is in let less = w.if-row-end.false in let high = i.inside in record {
@@ -88,11 +88,11 @@ loop-part-preserved c = let l : Limits = limits_of c.args.self.now.words in let 
             reach = omega arith;
             inside = omega arith;
             same = ap (λ (z : SeatShown). z.table) w.seat-is ∙ i.same;
-            remembers = subst (λ (z : SeatShown × List ℕ). Remembers (view_of z.0) z.1) (λ j. (sym w.seat-is j, sym w.lows-is j)) i.remembers;
+            remembers = subst (λ (z : SeatShown × List ℕ). Remembers (kind_of c.args.wanted) (view_of z.0) z.1) (λ j. (sym w.seat-is j, sym w.lows-is j)) i.remembers;
             rises = subst (Rises lows) (sym w.lows-is) i.rises;
             rest = λ q low. ap (λ z. slice_index z q) w.lows-is ∙ i.rest q (omega arith);
-            begun = subst (λ (z : ℕ × SeatShown). Begun l P (scan_steps l s 1 lows (n + 1)) c.args.from z.0 (view_of c.args.seat.now) (view_of z.1)) (λ j. (sym w.row-is j, sym w.seat-is j))
-                (begun_few l P W (scan_steps l s 1 lows n) c.args.from _ c.loop-part.row _ _ (scan_rises l lows s 1 n (n + 1) (omega arith)) i.begun);
+            begun = subst (λ (z : ℕ × SeatShown). Begun l P (scan_steps l s 3 lows (n + 1)) c.args.from z.0 (view_of c.args.seat.now) (view_of z.1)) (λ j. (sym w.row-is j, sym w.seat-is j))
+                (begun_few l P W (scan_steps l s 3 lows n) c.args.from _ c.loop-part.row _ _ (scan_rises l lows s 3 n (n + 1) (omega arith)) i.begun);
           }
     ]
 
@@ -103,6 +103,6 @@ returns-clause-told c = let l : Limits = limits_of c.args.self.now.words in let 
     let same : n ≡ c.args.self.now.places.limits.parts = omega arith in
     let last : n * c.args.self.now.places.limits.rows ≡ part_rows l = (λ j. same j * c.args.self.now.places.limits.rows) ∙ ap (λ (z : Limits). z.parts * z.rows) (sym c.args.self.now.same) in
     let all : c.loop-part.row ≡ part_rows l = omega arith in
-    sought_few l (scan_steps l s 1 lows n) (scan_steps l s 1 lows l.parts) _ _ _ (scan_rises l lows s 1 n l.parts (omega arith))
-    (subst (λ m. Sought l (scan_steps l s 1 lows n) (EachRow P c.args.from m) (view_of c.args.seat.now) (view_of c.loop-part.seat)) all
-    (begun_done l P (over_widens l c.args.wanted) (scan_steps l s 1 lows n) c.args.from c.loop-part.row _ _ i.begun (omega arith)))
+    sought_few l (scan_steps l s 3 lows n) (scan_steps l s 3 lows l.parts) _ _ _ (scan_rises l lows s 3 n l.parts (omega arith))
+    (subst (λ m. Sought l (scan_steps l s 3 lows n) (EachRow P c.args.from m) (view_of c.args.seat.now) (view_of c.loop-part.seat)) all
+    (begun_done l P (over_widens l c.args.wanted) (scan_steps l s 3 lows n) c.args.from c.loop-part.row _ _ i.begun (omega arith)))

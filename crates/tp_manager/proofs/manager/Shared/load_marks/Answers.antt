@@ -1,4 +1,4 @@
-use Rattle.std.proofs.Common.{◌≡◌, ◌<◌, ℕ, sym, ◌∙◌, refl, ap, arith, subst, slice_index}
+use Rattle.std.proofs.Common.{◌≡◌, ◌≤◌, ℕ, sym, ◌∙◌, refl, ap, arith, subst, slice_index}
 use mathlib.Core.Logic.{dite}
 use native.Mathlib.Decide.{ℕ_discrete}
 use Rattle.tp_model.specs.declared.types.Limits.{Limits}
@@ -6,18 +6,18 @@ use Rattle.tp_rule.specs.Steps.{Knows}
 use Rattle.tp_rule.specs.Tables.{limits_of}
 use Rattle.tp_rule.specs.Views.{view_of}
 use Rattle.tp_rule.specs.declared.view.Known.TheVariants.{PartMark}
-use Rattle.tp_manager.proofs.Walks.{looked, looked_few, looked_none, looked_then, rises_same}
+use Rattle.tp_manager.proofs.Walks.{looked, looked_few, looked_none, looked_then, rises_none}
 use Rattle.tp_manager.proofs.manager.Shared.load_marks.Goals as goal
 
 pub mark_at-requires-clause-part : goal.mark_at-requires-clause-part
-mark_at-requires-clause-part c = subst (λ (z : Limits). c.loop-part.part < z.parts) (sym c.args.self.now.same) c.loop-part-test.true
+mark_at-requires-clause-part c = subst (λ (z : Limits). c.loop-part.part ≤ z.parts) (sym c.args.self.now.same) (let less = c.loop-part-test.true in omega arith)
 
 pub loop-part-init : goal.loop-part-init
 loop-part-init c = record {
   same = refl;
   looked = looked_none (limits_of c.args.self.now.words) (view_of c.args.seat.now) c.requires.steady;
   remembers = c.requires.remembers;
-  rises = rises_same c.args.lows.now;
+  rises = rises_none c.args.lows.now;
   known = λ p low. absurd (omega arith);
 }
 
@@ -28,9 +28,9 @@ loop-part-preserved c = let l : Limits = limits_of c.args.self.now.words in let 
   remembers = new.remembers;
   rises = λ p. let up = i.rises p in let on = new.lows.1.0 p in omega arith;
   known = λ p less. dite (ℕ_discrete p n)
-      (λ at. subst (λ (z : ℕ × ℕ). Knows (view_of c.mark_at.new.seat) (PartMark z.0 z.1)) (λ j. (sym at j, sym (ap (slice_index c.mark_at.new.lows) at ∙ new.lows.0) j)) new.knows)
-      (λ other. subst (λ z. Knows (view_of c.mark_at.new.seat) (PartMark p z)) (sym (new.lows.1.1 p other))
-      (new.acted.walk.knows (PartMark p (slice_index c.loop-part.lows p)) (i.known p (omega arith))));
+      (λ at. subst (λ (z : ℕ × ℕ). Knows (view_of c.mark_at.new.seat) (PartMark 0 z.0 z.1)) (λ j. (sym at j, sym (ap (slice_index c.mark_at.new.lows) at ∙ new.lows.0) j)) new.knows)
+      (λ other. subst (λ z. Knows (view_of c.mark_at.new.seat) (PartMark 0 p z)) (sym (new.lows.1.1 p other))
+      (new.acted.walk.knows (PartMark 0 p (slice_index c.loop-part.lows p)) (i.known p (omega arith))));
 }
 
 pub returns-clause-looked : goal.returns-clause-looked

@@ -11,7 +11,7 @@ abbrev pub invariant-loop-part : goal.invariant-loop-part
 invariant-loop-part l = record {
   same : IsSameSeat l.initial.seat l.seat;
   looked : Looked (limits_of l.self.words) l.part (view_of l.initial.seat) (view_of l.seat);
-  remembers : Remembers (view_of l.seat) l.lows;
+  remembers : Remembers 0 (view_of l.seat) l.lows;
   rises : Rises l.initial.lows l.lows;
-  known : (p : ℕ) → p < l.part → Knows (view_of l.seat) (PartMark p (slice_index l.lows p));
+  known : (p : ℕ) → p < l.part → Knows (view_of l.seat) (PartMark 0 p (slice_index l.lows p));
 }

@@ -1,5 +1,6 @@
-use Rattle.std.proofs.Common.{◌≡◌, ◌+◌, ◌*◌, ◌≤◌, ap, arith, subst}
+use Rattle.std.proofs.Common.{◌≡◌, ◌+◌, ◌-◌, ◌*◌, ◌≤◌, ap, arith, subst}
 use Rattle.tp_model.specs.declared.types.Limits.{Limits}
+use Rattle.tp_rule.specs.Rule.{IsInside}
 use Rattle.tp_rule.specs.Tables.{limits_of}
 use Rattle.tp_rule.specs.Views.{view_of}
 use Rattle.tp_manager.specs.Walks.{Looked, Rose}
@@ -18,8 +19,8 @@ raise-requires-clause-done c = λ i low high. let l : Limits = limits_of c.args.
 one : (c : After-raise) → Looked (limits_of c.args.self.now.words) 1 (view_of c.args.seat.now) (view_of c.raise.new.seat)
 one c = let l : Limits = limits_of c.args.self.now.words in let up = c.requires.low.1.0 in let top = c.requires.low.0 in
     let same : c.args.part * l.rows ≡ c.args.part * c.args.self.now.places.limits.rows = ap (λ (z : Limits). c.args.part * z.rows) c.args.self.now.same in
-    raised_looked l c.args.part _ (view_of c.args.seat.now) (view_of c.raise.new.seat) c.requires.steady c.raise.ensures.raises
-    (rose_low l (view_of c.args.seat.now) c.args.part c.args.mark _ c.requires.steady c.requires.mark.0 (omega arith) (subst (λ n. Rose (view_of c.args.seat.now) (c.args.part * l.rows + c.args.mark) n) (omega arith) c.requires.low.1))
+    raised_looked l c.args.kind c.args.part c.args.mark _ (view_of c.args.seat.now) (view_of c.raise.new.seat) c.requires.steady c.raise.ensures.raises
+    (rose_low l c.args.kind (view_of c.args.seat.now) c.args.part c.args.mark _ c.requires.steady c.requires.mark.0 (subst (IsInside l c.args.part) (ap (λ z. c.args.low - z) same) top) (subst (λ n. Rose c.args.kind (view_of c.args.seat.now) (c.args.part * l.rows + c.args.mark) n) (omega arith) c.requires.low.1)) (let more = c.if-to-mark.false in omega arith)
 
 pub returns-then-not-raise-clause-looked : goal.returns-then-not-raise-clause-looked
 returns-then-not-raise-clause-looked c = one (goal.at.returns-then-not-raise-clause-looked c).After-raise

@@ -1,12 +1,12 @@
-use Rattle.std.proofs.Common.{◌≡◌, ◌+◌, ◌-◌, ◌*◌, ◌<◌, slice_index, sym, ◌∙◌, refl, ap, inl, arith, rules, subst}
+use Rattle.std.proofs.Common.{◌≡◌, ◌+◌, ◌-◌, ◌*◌, ◌<◌, slice_index, sym, ◌∙◌, refl, ap, inl, arith, rules, subst, mul-le-mul_right}
 use Rattle.tp_model.specs.declared.types.Limits.{Limits}
 use Rattle.tp_rule.specs.Tables.{limits_of}
 use Rattle.tp_rule.specs.Views.{view_of}
 use Rattle.tp_manager.specs.Bounds.{scan_steps, try_steps}
 use Rattle.tp_manager.specs.Walks.{EachRow, OfPart, PassedBy, Sought, Took}
 use Rattle.tp_manager.proofs.Lows.{rises_then, scan_next, scan_rises}
-use Rattle.tp_manager.proofs.Walks.{rises_same, sought_few}
-use Rattle.tp_manager.proofs.Scans.{finished_passed, passed_widens, took_then, took_few}
+use Rattle.tp_manager.proofs.Walks.{rises_none, sought_few}
+use Rattle.tp_manager.proofs.Scans.{finished_passed, passed_widens, took_then, took_few, begun_rows, finished_took}
 use Rattle.tp_manager.proofs.Seeks.{begun_done, begun_few, begun_looked, begun_on, one_row, part_widens, sought_all}
 use Rattle.tp_manager.proofs.Passes.{done_walked}
 use Rattle.tp_manager.proofs.manager.Shared.scan_parts.Goals as goal
@@ -15,15 +15,15 @@ pub scan_part-requires-clause-part : goal.scan_part-requires-clause-part
 scan_part-requires-clause-part c = subst (λ (z : Limits). c.loop-part.part < z.parts) (sym c.args.self.now.same) c.loop-part-test.true
 
 pub scan_part-requires-clause-done : goal.scan_part-requires-clause-done
-scan_part-requires-clause-done c = let l : Limits = limits_of c.args.self.now.words in let s = try_steps l in let n = c.loop-part.part in
-    let gone = begun_looked l (OfPart l (PassedBy l c.args.stage)) (part_widens l (PassedBy l c.args.stage) (passed_widens l c.args.stage)) (scan_steps l s 2 c.args.lows.now n) c.first_open-first.result n _ _ c.loop-part.invariant.begun c.requires.steady in
+scan_part-requires-clause-done c = let l : Limits = limits_of c.args.self.now.words in let s = try_steps in let n = c.loop-part.part in
+    let gone = begun_looked l (OfPart l (PassedBy l c.args.stage)) (part_widens l (PassedBy l c.args.stage) (passed_widens l c.args.stage)) (scan_steps l s 3 c.args.lows.now n) c.first_open-first.result n _ _ c.loop-part.invariant.begun c.requires.steady in
     done_walked l _ gone.marks _ _ c.args.done c.requires.steady.pass.1 gone.walk c.requires.done
 
 pub loop-part-init : goal.loop-part-init
 loop-part-init c = record {
   same = refl;
   remembers = c.requires.remembers;
-  rises = rises_same c.args.lows.now;
+  rises = rises_none c.args.lows.now;
   from = omega arith;
   rest = λ q low. refl;
   begun = inl (refl, refl);
@@ -33,35 +33,36 @@ pub returns-in-Some-clause-lows : goal.returns-in-Some-clause-lows
 returns-in-Some-clause-lows c = rises_then c.args.lows.now c.loop-part.lows c.scan_part.new.lows c.loop-part.invariant.rises c.scan_part.ensures.lows.0
 
 pub returns-in-Some-clause-told : goal.returns-in-Some-clause-told
-returns-in-Some-clause-told c = let l : Limits = limits_of c.args.self.now.words in let s = try_steps l in let P = PassedBy l c.args.stage in let n = c.loop-part.part in let i = c.loop-part.invariant in let lows = c.args.lows.now in
-    let less : n < l.parts = subst (λ (z : Limits). n < z.parts) (sym c.args.self.now.same) c.loop-part-test.true in let t = c.in-Some.taken in
-    let next = scan_next l lows s 2 n in let all = scan_rises l lows s 2 (n + 1) l.parts (omega arith) in (
-      took_few l c.args.stage c.args.unit t.attempt t.element (scan_steps l s 2 lows n + (2 + (l.rows - slice_index lows n) * s)) (scan_steps l s 2 lows l.parts) _ _ (omega arith)
-          (took_then l c.args.stage c.args.unit t.attempt t.element (scan_steps l s 2 lows n) (2 + (l.rows - slice_index lows n) * s) (view_of c.args.seat.now) (view_of c.loop-part.seat) (view_of c.scan_part.new.seat)
-          (begun_looked l (OfPart l P) (part_widens l P (passed_widens l c.args.stage)) (scan_steps l s 2 lows n) c.first_open-first.result n _ _ i.begun c.requires.steady)
-          (subst (λ m. Took l (2 + (l.rows - m) * s) c.args.stage c.args.unit (view_of c.loop-part.seat) (view_of c.scan_part.new.seat) t.element t.attempt) (i.rest n (omega arith)) c.in-Some.ensures.told.0)),
+returns-in-Some-clause-told c = let l : Limits = limits_of c.args.self.now.words in let s = try_steps in let P = PassedBy l c.args.stage in let n = c.loop-part.part in let i = c.loop-part.invariant in let lows = c.args.lows.now in
+    let less : n < l.parts = subst (λ (z : Limits). n < z.parts) (sym c.args.self.now.same) c.loop-part-test.true in let t = c.in-Some.taken in let first = c.first_open-first.result in
+    let next = scan_next l lows s 3 n in let all = scan_rises l lows s 3 (n + 1) l.parts (omega arith) in (
+      took_few l c.args.stage c.args.unit t.attempt t.element (scan_steps l s 3 lows n + (3 + (l.rows - slice_index lows n) * s)) (scan_steps l s 3 lows l.parts) 0 _ _ (omega arith)
+          (finished_took l c.args.stage c.args.unit t.attempt t.element (scan_steps l s 3 lows n + (3 + (l.rows - slice_index lows n) * s)) first lows (view_of c.args.seat.now) (view_of c.scan_part.new.seat) c.requires.stage.0 c.args.self.now.words.places.valid.rows.0 c.requires.remembers c.first_open-first.ensures.finished
+          (took_then l c.args.stage c.args.unit t.attempt t.element (scan_steps l s 3 lows n) (3 + (l.rows - slice_index lows n) * s) (first * l.rows) (n * l.rows) (view_of c.args.seat.now) (view_of c.loop-part.seat) (view_of c.scan_part.new.seat) (mul-le-mul_right l.rows i.from)
+          (begun_rows l P (scan_steps l s 3 lows n) first n _ _ i.begun)
+          (subst (λ m. Took l (3 + (l.rows - m) * s) (n * l.rows) c.args.stage c.args.unit (view_of c.loop-part.seat) (view_of c.scan_part.new.seat) t.element t.attempt) (i.rest n (omega arith)) c.in-Some.ensures.told.0))),
       c.in-Some.ensures.told.1,
     )
 
 pub loop-part-preserved : goal.loop-part-preserved
-loop-part-preserved c = let l : Limits = limits_of c.args.self.now.words in let P = PassedBy l c.args.stage in let n = c.loop-part.part in let s = try_steps l in let W = part_widens l P (passed_widens l c.args.stage) in let i = c.loop-part.invariant in let lows = c.args.lows.now in record {
+loop-part-preserved c = let l : Limits = limits_of c.args.self.now.words in let P = PassedBy l c.args.stage in let n = c.loop-part.part in let s = try_steps in let W = part_widens l P (passed_widens l c.args.stage) in let i = c.loop-part.invariant in let lows = c.args.lows.now in record {
   same = search rules;
   remembers = c.scan_part.ensures.remembers;
   rises = rises_then lows c.loop-part.lows c.scan_part.new.lows i.rises c.scan_part.ensures.lows.0;
   from = omega arith;
   rest = λ q low. c.scan_part.ensures.lows.1 q (λ is. absurd (omega arith)) ∙ i.rest q (omega arith);
-  begun = begun_few l (OfPart l P) W (scan_steps l s 2 lows n + (2 + (l.rows - slice_index lows n) * s)) c.first_open-first.result _ (n + 1) _ _ (scan_next l lows s 2 n)
-      (begun_on l (OfPart l P) W (scan_steps l s 2 lows n) c.first_open-first.result (2 + (l.rows - slice_index lows n) * s) n _ _ _ i.begun (n + 1) i.from
-      (subst (λ m. Sought l (2 + (l.rows - m) * s) (EachRow (OfPart l P) n (n + 1)) (view_of c.loop-part.seat) (view_of c.scan_part.new.seat)) (i.rest n (omega arith))
-      (one_row l (OfPart l P) (2 + (l.rows - slice_index c.loop-part.lows n) * s) n _ _ c.in_default.ensures.told)));
+  begun = begun_few l (OfPart l P) W (scan_steps l s 3 lows n + (3 + (l.rows - slice_index lows n) * s)) c.first_open-first.result _ (n + 1) _ _ (scan_next l lows s 3 n)
+      (begun_on l (OfPart l P) W (scan_steps l s 3 lows n) c.first_open-first.result (3 + (l.rows - slice_index lows n) * s) n _ _ _ i.begun (n + 1) i.from
+      (subst (λ m. Sought l (3 + (l.rows - m) * s) (EachRow (OfPart l P) n (n + 1)) (view_of c.loop-part.seat) (view_of c.scan_part.new.seat)) (i.rest n (omega arith))
+      (one_row l (OfPart l P) (3 + (l.rows - slice_index c.loop-part.lows n) * s) n _ _ c.in_default.ensures.told)));
 }
 
 pub returns-clause-told : goal.returns-clause-told
-returns-clause-told c = let l : Limits = limits_of c.args.self.now.words in let s = try_steps l in let P = PassedBy l c.args.stage in let n = c.loop-part.part in let i = c.loop-part.invariant in let lows = c.args.lows.now in
+returns-clause-told c = let l : Limits = limits_of c.args.self.now.words in let s = try_steps in let P = PassedBy l c.args.stage in let n = c.loop-part.part in let i = c.loop-part.invariant in let lows = c.args.lows.now in
     let count : l.parts ≡ c.args.self.now.places.limits.parts = ap (λ (z : Limits). z.parts) c.args.self.now.same in let high = c.loop-part.auto.part-end in let low = c.loop-part-test.false in
     let first = c.first_open-first.result in let within = c.first_open-first.ensures.part in let from = i.from in
     let all : n ≡ l.parts = omega arith in let some = c.args.self.now.words.places.valid.rows.0 in
-    sought_few l (scan_steps l s 2 lows n) (scan_steps l s 2 lows l.parts) _ _ _ (scan_rises l lows s 2 n l.parts (omega arith))
-    (sought_all l (scan_steps l s 2 lows n) P _ _ (finished_passed l c.args.stage (scan_steps l s 2 lows n) first lows _ _ some c.requires.remembers c.first_open-first.ensures.finished
-    (subst (λ m. Sought l (scan_steps l s 2 lows n) (EachRow (OfPart l P) first m) (view_of c.args.seat.now) (view_of c.loop-part.seat)) all
-    (begun_done l (OfPart l P) (part_widens l P (passed_widens l c.args.stage)) (scan_steps l s 2 lows n) first n _ _ i.begun (omega arith)))))
+    sought_few l (scan_steps l s 3 lows n) (scan_steps l s 3 lows l.parts) _ _ _ (scan_rises l lows s 3 n l.parts (omega arith))
+    (sought_all l (scan_steps l s 3 lows n) P _ _ (finished_passed l c.args.stage (scan_steps l s 3 lows n) first lows _ _ c.requires.stage.0 some c.requires.remembers c.first_open-first.ensures.finished
+    (subst (λ m. Sought l (scan_steps l s 3 lows n) (EachRow (OfPart l P) first m) (view_of c.args.seat.now) (view_of c.loop-part.seat)) all
+    (begun_done l (OfPart l P) (part_widens l P (passed_widens l c.args.stage)) (scan_steps l s 3 lows n) first n _ _ i.begun (omega arith)))))

@@ -9,9 +9,9 @@ use Rattle.tp_manager.proofs.manager.Shared.scan_parts.Given as goal
 abbrev pub invariant-loop-part : goal.invariant-loop-part
 invariant-loop-part l = record {
   same : IsSameSeat l.initial.seat l.seat;
-  remembers : Remembers (view_of l.seat) l.lows;
+  remembers : Remembers l.stage (view_of l.seat) l.lows;
   rises : Rises l.initial.lows l.lows;
   from : l.first ≤ l.part;
   rest : (q : ℕ) → l.part ≤ q → slice_index l.lows q ≡ slice_index l.initial.lows q;
-  begun : Begun (limits_of l.self.words) (OfPart (limits_of l.self.words) (PassedBy (limits_of l.self.words) l.stage)) (scan_steps (limits_of l.self.words) (try_steps (limits_of l.self.words)) 2 l.initial.lows l.part) l.first l.part (view_of l.initial.seat) (view_of l.seat);
+  begun : Begun (limits_of l.self.words) (OfPart (limits_of l.self.words) (PassedBy (limits_of l.self.words) l.stage)) (scan_steps (limits_of l.self.words) try_steps 3 l.initial.lows l.part) l.first l.part (view_of l.initial.seat) (view_of l.seat);
 }

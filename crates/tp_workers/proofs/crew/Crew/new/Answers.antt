@@ -1,5 +1,5 @@
 use Rattle.std.proofs.Common.{◌≤◌, ◌∙◌, ap, length, refl, subst}
-use Rattle.tp_workers.proofs.CrewLemmas.{exact, served_first}
+use Rattle.tp_workers.proofs.CrewLemmas.{exact, served_first, served_same}
 use Rattle.tp_workers.proofs.crew.Crew.new.Goals as goal
 
 pub returns-clause-steady : goal.returns-clause-steady
@@ -7,6 +7,7 @@ returns-clause-steady g c =
     let parts = ap (λ l. l.parts) (c.in_ok-manager.ensures.limits.0 ∙ c.with_parts.ensures) in
     let within : c.passes_for-parts.result ≤ 32 = subst (λ (n : _). n ≤ 32) (ap (λ l. l.parts) c.with_parts.ensures) c.in_ok-manager.ensures.limits.1.parts.1 in
     let long = c.in-Ok.ensures.all ∙ (parts ∙ exact _ c.passes_for-parts.result c.passes_for-parts.ensures.few c.passes_for-parts.ensures.many within) in
+    let begins = rw (c.deref.ensures.value, c.deref-2.ensures.value) at c.in-Ok-each.ensures.begun in
     record {
       kept = c.all_passes.ensures.keeper;
       limits = rw (c.in_ok-manager.ensures.limits.0) c.in_ok-manager.ensures.limits.1;
@@ -15,6 +16,6 @@ returns-clause-steady g c =
       free = c.in-Ok.ensures.free;
       count = rw (long, c.len.ensures, c.args.boxes.ok.0) refl;
       clear = c.requires.clear;
-      same_count = ap (λ v. length v.items) c.of-first_boxes.ensures;
-      served = rw (c.of-first_passes.ensures, c.of-first_boxes.ensures) (served_first _ _ c.in-Ok.passes.items c.args.boxes.items c.in-Ok.ensures.new);
+      same_count = c.in-Ok-each.ensures.count ∙ ap length c.deref-2.ensures.value;
+      served = served_same _ _ {ps = c.in-Ok.passes.items} {us = c.args.boxes.items} begins refl refl (served_first _ _ c.in-Ok.passes.items c.args.boxes.items c.in-Ok.ensures.new);
     }

@@ -7,7 +7,7 @@ returns-clause-steady g c =
     let old = c.args.self.now in
     let p = c.index_mut.result.now in
     let at = c.index_mut.ensures.value in
-    own_steady _ _ _ old _ p c.submit.new.pass c.requires.steady at refl refl refl refl refl refl refl c.submit.ensures.follows.number c.submit.ensures.own
+    own_steady _ _ _ old _ p c.submit.new.pass c.requires.steady at refl refl refl refl refl refl c.submit.ensures.follows.number c.submit.ensures.own
     (still_free _ _ _ old p c.submit.new.pass c.requires.steady at c.submit.ensures.open_unit)
 
 pub returns-clause-call : goal.returns-clause-call
@@ -15,5 +15,5 @@ returns-clause-call g c =
     let old = c.args.self.now in
     let p = c.index_mut.result.now in
     let at = c.index_mut.ensures.value in
-    own_call _ _ _ old _ _ _ p c.submit.new.pass c.requires.steady at refl refl refl refl refl refl refl c.submit.ensures.follows
+    own_call _ _ _ old _ _ _ p c.submit.new.pass c.requires.steady at refl refl refl refl refl refl c.submit.ensures.follows
     (still_free _ _ _ old p c.submit.new.pass c.requires.steady at c.submit.ensures.open_unit) c.submit.ensures.answer

@@ -1,0 +1,11 @@
+use Rattle.std.proofs.Common.{◌≡◌}
+use Rattle.tp_workers.specs.Free.{IsFreePass}
+use Rattle.tp_commands.specs.Asked.{TellsCollected}
+use Rattle.tp_commands.proofs.client.collected.Given as goal
+
+abbrev pub invariant-loop-id : goal.invariant-loop-id
+invariant-loop-id l = record {
+  free : IsFreePass l.manager l.client;
+  number : l.client.number ≡ l.initial.client.number;
+  found : TellsCollected l.manager.limits l.root l.id l.initial.client l.found.items l.client;
+}

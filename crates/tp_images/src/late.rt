@@ -1,0 +1,42 @@
+//! Pictures that come late: two passes of a manager, and desks that are used one call at a time.
+ghost use Rattle.std.specs.Prelude.{◌≡◌, None};
+
+use crate::day::{Boxed, LIMITS};
+use crate::delivery::deliver;
+use crate::own_calls::resize;
+use crate::servers::{Notifier, Resizer};
+use tp_desk::Desk;
+use tp_manager::Keeper;
+use tp_model::types::{Claimed, Outcome};
+use tp_server::OwnServer;
+use tp_workers::Trouble;
+
+/// A worker without a server resizes a picture, a notifier tells of it, and a request is cancelled while
+/// the resizer works on it.
+pub fn work<R: AllocGlobal + Print>(rt: &R) -> Result<(), Trouble> {
+    let (manager, mut keeper) = Keeper::new(rt.alloc(), LIMITS.with_parts(2))?;
+    let mut front = keeper.pass(&manager)?;
+    let mut worker = keeper.pass(&manager)?;
+    let mut notifier: Boxed = Box::new(rt.alloc(), OwnServer::new(Notifier, [0, 0]))?;
+    let mut resizer: Boxed = Box::new(rt.alloc(), OwnServer::new(Resizer, [50_000]))?;
+    manager.submit(&mut front, 2, [0, 8_000, 75, 5])?;
+    manager.submit(&mut front, 3, [0, 77, 71, 6])?;
+    let resized = resize(&manager, &mut worker, 8);
+    let told = deliver(&manager, &mut worker, &mut notifier, 8);
+    println!(rt; "late: {resized} resized, {told} notices")?;
+
+    let root = manager.submit(&mut front, 2, [1, 4_000, 74, 4])?;
+    let mut desk = Desk::new(&manager, &mut worker, &mut resizer);
+    if let Claimed::Work(work) = desk.claim() {
+        if desk.prepare().is_ok() {
+            let cancelled = manager.cancel(&mut front, root)?;
+            println!(rt; "cancelled: killed {}", cancelled.killed)?;
+            match desk.commit() {
+                Outcome::Lost => println!(rt; "the work at stage {} was lost", work.element.stage)?,
+                _ => println!(rt; "too late")?,
+            }
+        }
+    }
+    desk.end();
+    Ok(())
+}

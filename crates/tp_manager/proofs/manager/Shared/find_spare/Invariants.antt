@@ -1,0 +1,22 @@
+use Rattle.std.proofs.Common.{◌≡◌, ◌-◌, ◌*◌, ◌≤◌}
+use Rattle.tp_model.specs.Steps.{rows_of}
+use Rattle.tp_rule.specs.Tables.{limits_of}
+use Rattle.tp_rule.specs.Views.{IsSameSeat, view_of}
+use Rattle.tp_manager.specs.Bounds.{look_steps}
+use Rattle.tp_manager.specs.Finds.{PassedOver, kind_of}
+use Rattle.tp_manager.specs.Walks.{Begun, Rose}
+use Rattle.tp_manager.proofs.manager.Shared.find_spare.Given as goal
+
+abbrev pub invariant-loop-row : goal.invariant-loop-row
+invariant-loop-row l = record {
+  start : l.start ≤ l.row;
+  inside : l.row ≤ rows_of (limits_of l.self.words);
+  lows : l.lows ≡ l.initial.lows;
+  low : l.low ≤ l.row;
+  rose : Rose (kind_of l.wanted) (view_of l.seat) l.begin l.low;
+  same : IsSameSeat l.initial.seat l.seat;
+  begun : Begun (limits_of l.self.words) (PassedOver (limits_of l.self.words) l.wanted) ((l.row - l.start) * look_steps (limits_of l.self.words)) l.start l.row (view_of l.initial.seat) (view_of l.seat);
+}
+
+abbrev pub decreases-loop-row : goal.decreases-loop-row
+decreases-loop-row l = l.end - l.row

@@ -1,0 +1,142 @@
+use Rattle.std.proofs.Common.{◌≡◌, ◌⊎◌, ◌+◌, ◌-◌, ◌*◌, ◌<◌, ◌≤◌, ℕ, List, inl, ⊎_elim, refl, sym, ap, subst, arith, rules, mul-le-mul_right}
+use Rattle.tp_model.specs.declared.types.Limits.{Limits}
+use Rattle.tp_model.specs.declared.trace.TraceEntry.{TraceEntry}
+use Rattle.tp_model.specs.Steps.{IsRowOf}
+use Rattle.tp_model.proofs.Bridges.{begins_refl}
+use Rattle.tp_rule.specs.Tables.{limits_of}
+use Rattle.tp_rule.specs.Views.{seen_by, view_of}
+use Rattle.tp_manager.specs.Bounds.{try_steps}
+use Rattle.tp_manager.specs.Walks.{EachRow, Looked, PassedBy, Remembers, RemembersDone, Rose, Walked}
+use Rattle.tp_manager.proofs.Walks.{remembers_kind, sought_few}
+use mathlib.Core.Logic.{dite}
+use native.Mathlib.Decide.{dec_le}
+use Rattle.tp_manager.proofs.Circles.{sought_less}
+use Rattle.tp_manager.proofs.Passes.{done_walked}
+use Rattle.tp_manager.proofs.Marks.{done_passed, goes_walked, over_passed, past_near, rose_past, rose_then, took_looked}
+use Rattle.tp_manager.proofs.Scans.{passed_widens, took_few, took_from, took_then}
+use Rattle.tp_manager.proofs.Seeks.{part_on, begun_few, begun_looked, begun_on, rows_more, sought_from, sought_then}
+use Rattle.tp_manager.proofs.manager.Shared.scan_span_from_mark.Goals as goal
+use Rattle.tp_manager.proofs.manager.Shared.scan_span_from_mark.Goals.{After-later-begin, After-loop-row, After-mark_at-mark, After-try_row}
+
+-- where the part begins
+first : (c : After-mark_at-mark) → c.args.part * (limits_of c.args.self.now.words).rows ≡ c.args.part * c.args.self.now.places.limits.rows
+first c = ap (λ (z : Limits). c.args.part * z.rows) c.args.self.now.same
+
+wide : (c : After-mark_at-mark) → (limits_of c.args.self.now.words).rows ≡ c.args.self.now.places.limits.rows
+wide c = ap (λ (z : Limits). z.rows) c.args.self.now.same
+
+abbrev marked : (c : After-later-begin) → ℕ
+marked c = c.args.part * c.args.self.now.places.limits.rows + c.mark_at-mark.result
+
+-- what the pass remembers as done is so behind the load of the mark
+still_done : (c : After-later-begin) → RemembersDone (view_of c.mark_at-mark.new.seat) c.args.done
+still_done c = done_walked _ 1 _ _ _ c.args.done c.requires.steady.pass.1 c.mark_at-mark.ensures.acted.walk c.requires.done
+
+-- what is known finished ends at the mark, or one row behind it
+knows : (c : After-later-begin) → (marked c ≤ c.past_done-known.result) × (c.past_done-known.result ≤ marked c + 1) × (c.past_done-known.result ≤ c.args.part * c.args.self.now.places.limits.rows + c.args.self.now.places.limits.rows)
+knows c = let inside = c.mark_at-mark.ensures.low.0 in let w = ap (λ (z : Limits). z.rows) c.args.self.now.same in
+    past_near (limits_of c.args.self.now.words) c.past_done-known.result (marked c) _ c.args.done (omega arith) c.past_done-known.ensures
+
+-- the scan begins there, or at its first row
+abbrev IsLater : ℕ → ℕ → ℕ → Type 0
+IsLater r a b = ((r ≡ a) × (b ≤ a)) ⊎ ((r ≡ b) × (a < b))
+
+later_near : (r a b : ℕ) → IsLater r a b → (a ≤ r) × (b ≤ r) × ((n : ℕ) → a ≤ n → b ≤ n → r ≤ n)
+later_near r a b o = ⊎_elim (λ t. (let e = t.0 in let le = t.1 in (omega arith, omega arith, λ n p q. omega arith))) (λ t. (let e = t.0 in let le = t.1 in (omega arith, omega arith, λ n p q. omega arith))) o
+
+begins : (c : After-later-begin) → (c.past_done-known.result ≤ c.later-begin.result) × (c.args.from ≤ c.later-begin.result) × (c.later-begin.result ≤ c.args.part * c.args.self.now.places.limits.rows + c.args.self.now.places.limits.rows)
+begins c = let n = later_near c.later-begin.result c.past_done-known.result c.args.from c.later-begin.ensures in let k = (knows c).2 in
+    let e = ap (λ (z : Limits). c.args.part * z.rows) c.args.self.now.same in let w = ap (λ (z : Limits). z.rows) c.args.self.now.same in let span = c.requires.span in let a = span.1 in let b = span.2 in
+    (n.0, n.1, n.2 _ k (omega arith))
+
+-- the rows of the span before the first that is looked at are over
+under : (c : After-later-begin) (j : ℕ) → c.args.from ≤ j → j < c.later-begin.result → PassedBy (limits_of c.args.self.now.words) c.args.stage j (seen_by c.mark_at-mark.new.seat) (seen_by c.mark_at-mark.new.seat)
+under c j from_on below = let l : Limits = limits_of c.args.self.now.words in let e = ap (λ (z : Limits). c.args.part * z.rows) c.args.self.now.same in let low = c.requires.span.0 in
+    let less : j < c.past_done-known.result = ⊎_elim (λ t. (let r = t.0 in omega arith)) (λ t. absurd (let r = t.0 in omega arith)) c.later-begin.ensures in
+    dite (dec_le (marked c) j)
+    (λ past. done_passed l c.args.stage (view_of c.mark_at-mark.new.seat) c.past_done-known.result (marked c) _ c.args.done c.mark_at-mark.ensures.acted.walk.steady.pass.1 (still_done c) c.past_done-known.ensures j past less)
+    (λ not. over_passed l c.args.stage (seen_by c.mark_at-mark.new.seat) c.args.part c.mark_at-mark.result j c.requires.stage.0 c.mark_at-mark.ensures.low.1 (omega arith) (omega arith))
+
+-- the row is of the part, and so is what comes next, but for the part's end
+near : (c : After-try_row) → IsRowOf (limits_of c.args.self.now.words) c.args.part c.loop-row.row × (c.try_row.new.row ≤ c.args.part * (limits_of c.args.self.now.words).rows + (limits_of c.args.self.now.words).rows)
+near c = let l : Limits = limits_of c.args.self.now.words in let i = c.loop-row.invariant in let low = i.from in let less = c.loop-row-test.true in
+    let from_on = (later_near c.later-begin.result c.past_done-known.result c.args.from c.later-begin.ensures).1 in let span = c.requires.span in let a = span.0 in let b = span.2 in
+    let own : IsRowOf l c.args.part c.loop-row.row = (c.requires.part, omega arith, omega arith) in (own, part_on l c.loop-row.row c.try_row.new.row c.args.part c.try_row.ensures.on own)
+
+-- the steps from the mark up to the row
+since : (c : After-try_row) → Looked (limits_of c.args.self.now.words) (c.loop-row.invariant.begun.0 * try_steps) (view_of c.mark_at-mark.new.seat) (view_of c.loop-row.seat)
+since c = let l : Limits = limits_of c.args.self.now.words in
+    begun_looked l (PassedBy l c.args.stage) (passed_widens l c.args.stage) _ _ c.loop-row.row _ _ c.loop-row.invariant.begun.3 c.mark_at-mark.ensures.acted.walk.steady
+
+-- what is known finished after one more row
+rose : (c : After-try_row) (n : ℕ) (ms : List TraceEntry) → Walked (limits_of c.args.self.now.words) n ms (view_of c.loop-row.seat) (view_of c.try_row.new.seat)
+    → Rose c.args.stage (view_of c.try_row.new.seat) (c.args.part * c.args.self.now.places.limits.rows + c.mark_at-mark.result) c.try_row.new.low
+rose c n ms a = let l : Limits = limits_of c.args.self.now.words in let v = view_of c.loop-row.seat in
+    rose_then l c.args.stage v (view_of c.try_row.new.seat) _ c.loop-row.low c.try_row.new.low (goes_walked l n ms v _ (since c).walk.steady.pass.1 a) c.loop-row.invariant.rose c.try_row.ensures.low.1
+
+pub raise_to-requires-clause-low : goal.raise_to-requires-clause-low
+raise_to-requires-clause-low c = let l : Limits = limits_of c.args.self.now.words in let at = (goal.at.raise_to-requires-clause-low c).After-try_row in let t = c.in-Some.ensures.told.0 in
+    let on = (near at).1 in let low = c.try_row.ensures.low.0 in (
+      omega arith,
+      subst (λ z. Rose c.args.stage (view_of c.try_row.new.seat) (z + c.mark_at-mark.result) c.try_row.new.low) (sym (first (goal.at.raise_to-requires-clause-low c).After-mark_at-mark))
+          (rose at _ _ t.walk),
+    )
+
+pub raise_to-requires-clause-remembers : goal.raise_to-requires-clause-remembers
+raise_to-requires-clause-remembers c = let at = (goal.at.raise_to-requires-clause-remembers c).After-try_row in
+    subst (Remembers c.args.stage (view_of c.try_row.new.seat)) (sym c.loop-row.invariant.lows) (remembers_kind c.args.stage c.mark_at-mark.new.lows _ _ _ _ _ c.in-Some.ensures.told.0.walk (remembers_kind c.args.stage c.mark_at-mark.new.lows _ _ _ _ _ (since at).walk c.mark_at-mark.ensures.remembers))
+
+pub returns-in-Some-clause-told : goal.returns-in-Some-clause-told
+returns-in-Some-clause-told c = let l : Limits = limits_of c.args.self.now.words in let s = try_steps in let at = goal.at.returns-in-Some-clause-told c in let b = c.loop-row.invariant.begun in let k : ℕ = b.0 in let x = b.1 in let start = c.loop-row.invariant.from in
+    let near_from = begins at.After-later-begin in let from_on = near_from.1 in let less = c.loop-row-test.true in
+    let room : k * s + s ≤ (c.args.to - c.args.from) * s = rows_more k (c.args.to - c.args.from) s (omega arith) in let t = c.in-Some.taken in (
+      took_few l c.args.stage c.args.unit t.attempt t.element ((1 + (k * s + s)) + 1) (2 + (c.args.to - c.args.from) * s) c.args.from _ _ (omega arith)
+          (took_looked l c.args.from c.args.stage c.args.unit t.attempt t.element (1 + (k * s + s)) 1 _ _ _
+          (took_from l c.args.stage c.args.unit t.attempt t.element (k * s + s) c.args.from c.later-begin.result _ _ _ from_on c.mark_at-mark.ensures.acted (under at.After-later-begin)
+          (took_then l c.args.stage c.args.unit t.attempt t.element (k * s) s c.later-begin.result c.loop-row.row _ _ _ start b.3 c.in-Some.ensures.told.0)) c.raise_to.ensures.looked c.raise_to.ensures.seen),
+      c.in-Some.ensures.told.1,
+    )
+
+pub loop-row-init : goal.loop-row-init
+loop-row-init c = let at = (goal.at.loop-row-init c).After-later-begin in let b = begins at in let k = knows at in record {
+  same = refl;
+  lows = refl;
+  from = omega arith;
+  inside = b.2;
+  low = b.0;
+  rose = rose_past (limits_of c.args.self.now.words) (view_of c.mark_at-mark.new.seat) c.past_done-known.result (marked at) _ c.args.done (still_done at) c.past_done-known.ensures k.0 c.args.stage;
+  begun = (0, omega arith, omega arith, inl (refl, refl));
+}
+
+pub loop-row-preserved : goal.loop-row-preserved
+loop-row-preserved c = let l : Limits = limits_of c.args.self.now.words in let at = goal.at.loop-row-preserved c in let t = c.in_default.ensures.told in let i = c.loop-row.invariant in let on = c.try_row.ensures.on.on in let n = near at.After-try_row in
+    let s = try_steps in let P = PassedBy l c.args.stage in let F : ℕ = c.later-begin.result in let b = i.begun in let k : ℕ = b.0 in let x = b.1 in
+    let start = i.from in let e = first at.After-mark_at-mark in let w = wide at.After-mark_at-mark in let top = n.1 in let less = c.loop-row-test.true in record {
+      same = search rules;
+      lows = i.lows;
+      from = omega arith;
+      inside = omega arith;
+      low = c.try_row.ensures.low.0;
+      rose = rose at.After-try_row _ _ t.walk;
+      begun = (
+        k + 1,
+        omega arith,
+        omega arith,
+        begun_few l P (passed_widens l c.args.stage) (k * s + s) F ((k + 1) * s) c.try_row.new.row _ _ (rows_more k (k + 1) s (omega arith)) (begun_on l P (passed_widens l c.args.stage) (k * s) F s c.loop-row.row _ _ _ b.3 c.try_row.new.row start t),
+      );
+    }
+
+pub raise_to-requires-2-clause-low : goal.raise_to-requires-2-clause-low
+raise_to-requires-2-clause-low c = let at = (goal.at.raise_to-requires-2-clause-low c).After-mark_at-mark in let i = c.loop-row.invariant in let e = first at in let w = wide at in let high = i.inside in let low = i.low in (
+  omega arith,
+  subst (λ z. Rose c.args.stage (view_of c.loop-row.seat) (z + c.mark_at-mark.result) c.loop-row.low) (sym e) i.rose,
+)
+
+pub returns-clause-told : goal.returns-clause-told
+returns-clause-told c = let l : Limits = limits_of c.args.self.now.words in let s = try_steps in let at = goal.at.returns-clause-told c in let i = c.loop-row.invariant in let b = i.begun in let k : ℕ = b.0 in let most = b.2 in
+    let past = c.loop-row-test.false in let from_on = (begins at.After-later-begin).1 in
+    let P = PassedBy l c.args.stage in let F : ℕ = c.later-begin.result in
+    let few : k * s ≤ (c.args.to - c.args.from) * s = mul-le-mul_right s (omega arith) in
+    let sought = sought_less l (1 + k * s) P c.args.from c.args.to c.loop-row.row _ _ (omega arith) (sought_from l P (passed_widens l c.args.stage) (k * s) c.args.from F c.loop-row.row (view_of c.args.seat.now) (view_of c.mark_at-mark.new.seat) (view_of c.loop-row.seat) c.mark_at-mark.ensures.acted b.3 (under at.After-later-begin)) in
+    sought_few l ((1 + k * s) + 1) (2 + (c.args.to - c.args.from) * s) _ _ _ (omega arith)
+    (sought_then l (1 + k * s) 1 (EachRow P c.args.from c.args.to) _ _ _ (λ a b g later each j p q. passed_widens l c.args.stage j a a b g (begins_refl a) later (each j p q)) sought c.raise_to-2.ensures.looked)

@@ -1,0 +1,19 @@
+use Rattle.std.proofs.Common.{◌-◌, ◌+◌, ◌*◌, ◌≤◌}
+use Rattle.tp_rule.specs.Tables.{limits_of}
+use Rattle.tp_rule.specs.Views.{IsSameSeat, view_of}
+use Rattle.tp_manager.specs.Bounds.{try_steps}
+use Rattle.tp_manager.specs.Shown.{Rises}
+use Rattle.tp_manager.specs.Walks.{Begun, PassedBy, Remembers}
+use Rattle.tp_manager.proofs.manager.Shared.scan_spans.Given as goal
+
+abbrev pub invariant-loop-part : goal.invariant-loop-part
+invariant-loop-part l = record {
+  from : l.from ≤ l.row;
+  -- the row is behind all parts so far, or is the end
+  reach : l.part * l.rows ≤ l.row + (l.part * l.rows - l.to);
+  inside : l.row ≤ l.to;
+  same : IsSameSeat l.initial.seat l.seat;
+  remembers : Remembers l.stage (view_of l.seat) l.lows;
+  rises : Rises l.initial.lows l.lows;
+  begun : Begun (limits_of l.self.words) (PassedBy (limits_of l.self.words) l.stage) (3 * l.part + (l.row - l.from) * try_steps) l.from l.row (view_of l.initial.seat) (view_of l.seat);
+}

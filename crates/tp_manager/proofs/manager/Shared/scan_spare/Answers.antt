@@ -1,0 +1,132 @@
+use Rattle.std.proofs.Common.{◌<◌, ◌≡◌, ◌+◌, ◌-◌, ◌*◌, ◌≤◌, ℕ, List, slice_index, sym, ◌∙◌, ap, subst, inl, inr, ⊎_elim, arith, rules, mul-le-mul_right}
+use Rattle.tp_model.specs.declared.types.Limits.{Limits}
+use Rattle.tp_model.specs.declared.types.TheConstants.{BLOCK_ROWS}
+use Rattle.tp_model.specs.declared.trace.TraceEntry.{TraceEntry}
+use Rattle.tp_model.specs.Steps.{part_rows, rows_of}
+use mathlib.Core.List.{IsPrefix}
+use mathlib.Core.Logic.{dite}
+use native.Mathlib.Decide.{dec_le}
+use Rattle.tp_model.proofs.Bridges.{begins_refl}
+use Rattle.tp_rule.specs.Tables.{limits_of}
+use Rattle.tp_rule.specs.Views.{seen_by, view_of}
+use Rattle.tp_manager.specs.Bounds.{try_steps}
+use Rattle.tp_manager.specs.Walks.{EachRow, Looked, PassedBy, Remembers, Rose, Walked, WasOfUse}
+use Rattle.tp_manager.specs.Spares.{SpareRests}
+use Rattle.tp_manager.proofs.Marks.{goes_walked, over_passed, rose_then, took_looked, use_later}
+use Rattle.tp_manager.proofs.Scans.{none_passed, passed_widens, took_few, took_from, took_then}
+use Rattle.tp_manager.proofs.Seeks.{begun_few, begun_looked, begun_on, rows_more, sought_from, sought_then}
+use Rattle.tp_manager.proofs.Spares.{sought_passed, spare_rests}
+use Rattle.tp_manager.proofs.Walks.{looked, looked_begins, remembers_kind, sought_few, walked_begins}
+use Rattle.tp_manager.proofs.manager.Shared.scan_spare.Goals as goal
+use Rattle.tp_manager.proofs.manager.Shared.scan_spare.Goals.{After-mark_at-mark, After-part_rows, After-try_row}
+
+abbrev parts : (c : After-mark_at-mark) → c.args.self.now.places.limits.parts ≡ (limits_of c.args.self.now.words).parts
+parts c = ap (λ (z : Limits). z.parts) (sym c.args.self.now.same)
+
+-- where the spare rows begin
+start : (c : After-part_rows) → c.args.self.now.places.limits.parts * (limits_of c.args.self.now.words).rows ≡ c.part_rows.result
+start c = ap (λ (z : Limits). c.args.self.now.places.limits.parts * z.rows) c.args.self.now.same ∙ sym c.part_rows.ensures
+
+front : (c : After-part_rows) → part_rows (limits_of c.args.self.now.words) ≡ c.part_rows.result
+front c = ap part_rows c.args.self.now.same ∙ sym c.part_rows.ensures
+
+-- the mark is among them
+inside : (c : After-mark_at-mark) → c.mark_at-mark.result ≤ BLOCK_ROWS * (limits_of c.args.self.now.words).spare
+inside c = c.mark_at-mark.ensures.low.0.1 (parts c)
+
+-- the pass remembered no more than was found
+above : (c : After-mark_at-mark) → slice_index c.args.lows.now (limits_of c.args.self.now.words).parts ≤ c.mark_at-mark.result
+above c = subst (λ p. slice_index c.args.lows.now p ≤ c.mark_at-mark.result) (parts c)
+    (let up = c.mark_at-mark.ensures.lows.1.0 c.args.self.now.places.limits.parts in let is = c.mark_at-mark.ensures.lows.0 in omega arith)
+
+-- the steps from the mark up to the row
+since : (c : After-try_row) → Looked (limits_of c.args.self.now.words) ((c.loop-row.row - (c.part_rows.result + c.mark_at-mark.result)) * try_steps) (view_of c.mark_at-mark.new.seat) (view_of c.loop-row.seat)
+since c = let l : Limits = limits_of c.args.self.now.words in
+    begun_looked l (PassedBy l c.args.stage) (passed_widens l c.args.stage) _ _ c.loop-row.row _ _ c.loop-row.invariant.begun c.mark_at-mark.ensures.acted.walk.steady
+
+-- what is known of no use after one more row
+rose : (c : After-try_row) (n : ℕ) (ms : List TraceEntry) → Walked (limits_of c.args.self.now.words) n ms (view_of c.loop-row.seat) (view_of c.try_row.new.seat)
+    → Rose c.args.stage (view_of c.try_row.new.seat) (c.part_rows.result + c.mark_at-mark.result) c.try_row.new.low
+rose c n ms a = let l : Limits = limits_of c.args.self.now.words in let v = view_of c.loop-row.seat in
+    rose_then l c.args.stage v (view_of c.try_row.new.seat) _ c.loop-row.low c.try_row.new.low (goes_walked l n ms v _ (since c).walk.steady.pass.1 a) c.loop-row.invariant.rose c.try_row.ensures.low.1
+
+-- the first row that isn't known of no use, after one more row
+stuck : (c : After-try_row) (n : ℕ) (ms : List TraceEntry) → Walked (limits_of c.args.self.now.words) n ms (view_of c.loop-row.seat) (view_of c.try_row.new.seat) → c.try_row.new.low < c.try_row.new.row
+    → WasOfUse (limits_of c.args.self.now.words) c.args.stage c.try_row.new.low (seen_by c.mark_at-mark.new.seat) (seen_by c.try_row.new.seat)
+stuck c n ms a less = let l : Limits = limits_of c.args.self.now.words in let h = seen_by c.mark_at-mark.new.seat in let i = c.loop-row.invariant in
+    ⊎_elim (λ t. subst (λ z. WasOfUse l c.args.stage z h (seen_by c.try_row.new.seat)) (sym t.1) (use_later l c.args.stage c.loop-row.low h h _ _ (begins_refl h) (walked_begins l n ms _ _ a) (i.stuck t.0)))
+    (λ was. use_later l c.args.stage c.try_row.new.low h (seen_by c.loop-row.seat) _ _ (looked_begins l _ _ _ (since c)) (begins_refl _) was) (c.try_row.ensures.stays less)
+
+-- what the call had seen before the mark was loaded
+earlier : (c : After-mark_at-mark) → IsPrefix (seen_by c.args.seat.now) (seen_by c.mark_at-mark.new.seat)
+earlier c = let l : Limits = limits_of c.args.self.now.words in looked_begins l 1 _ _ (looked l 1 _ _ c.mark_at-mark.ensures.acted)
+
+pub returns-in-Some-clause-rests : goal.returns-in-Some-clause-rests
+returns-in-Some-clause-rests c = let l : Limits = limits_of c.args.self.now.words in let at = goal.at.returns-in-Some-clause-rests c in let a = seen_by c.args.seat.now in let v = view_of c.try_row.new.seat in let w = view_of c.raise_to.new.seat in
+    subst (λ p. SpareRests l c.args.stage c.args.end (slice_index c.raise_to.new.lows p) a w) (parts at.After-mark_at-mark)
+    (spare_rests l c.args.stage c.args.self.now.places.limits.parts _ c.try_row.new.low c.try_row.new.row c.mark_at-mark.result c.args.end a v w c.raise_to.ensures.seen (parts at.After-mark_at-mark) (start at.After-part_rows ∙ sym (front at.After-part_rows)) c.raise_to.ensures.raised
+    (λ less. use_later l c.args.stage c.try_row.new.low a (seen_by c.mark_at-mark.new.seat) _ _ (earlier at.After-mark_at-mark) (begins_refl v.seen) (stuck at.After-try_row _ _ c.in-Some.ensures.told.0.walk less)) (inl c.in-Some.ensures.behind))
+
+pub returns-clause-rests : goal.returns-clause-rests
+returns-clause-rests c = let l : Limits = limits_of c.args.self.now.words in let at = goal.at.returns-clause-rests c in let a = seen_by c.args.seat.now in let v = view_of c.loop-row.seat in let w = view_of c.raise_to-2.new.seat in let i = c.loop-row.invariant in
+    let low = i.low in let past = c.loop-row-test.false in
+    subst (λ p. SpareRests l c.args.stage c.args.end (slice_index c.raise_to-2.new.lows p) a w) (parts at.After-mark_at-mark)
+    (spare_rests l c.args.stage c.args.self.now.places.limits.parts _ c.loop-row.low c.loop-row.row c.mark_at-mark.result c.args.end a v w c.raise_to-2.ensures.seen (parts at.After-mark_at-mark) (start at.After-part_rows ∙ sym (front at.After-part_rows)) c.raise_to-2.ensures.raised
+    (λ less. use_later l c.args.stage c.loop-row.low a (seen_by c.mark_at-mark.new.seat) _ _ (earlier at.After-mark_at-mark) (begins_refl v.seen) (i.stuck less))
+    (dite (dec_le (c.loop-row.low + 1) c.loop-row.row) (λ less. let r : c.loop-row.low < c.loop-row.row = omega arith in inl r) (λ not. inr (omega arith))))
+
+pub raise_to-requires-clause-remembers : goal.raise_to-requires-clause-remembers
+raise_to-requires-clause-remembers c = let at = (goal.at.raise_to-requires-clause-remembers c).After-try_row in
+    subst (Remembers c.args.stage (view_of c.try_row.new.seat)) (sym c.loop-row.invariant.lows) (remembers_kind c.args.stage c.mark_at-mark.new.lows _ _ _ _ _ c.in-Some.ensures.told.0.walk (remembers_kind c.args.stage c.mark_at-mark.new.lows _ _ _ _ _ (since at).walk c.mark_at-mark.ensures.remembers))
+
+pub raise_to-requires-clause-low : goal.raise_to-requires-clause-low
+raise_to-requires-clause-low c = let l : Limits = limits_of c.args.self.now.words in let at = goal.at.raise_to-requires-clause-low c in let first = start at.After-part_rows in let behind = front at.After-part_rows in
+    let low = c.try_row.ensures.low.0 in let top = c.try_row.ensures.on.inside in (
+      (λ not. absurd (not (parts at.After-mark_at-mark)), λ _. omega arith),
+      subst (λ z. Rose c.args.stage (view_of c.try_row.new.seat) (z + c.mark_at-mark.result) c.try_row.new.low) (sym first) (rose at.After-try_row _ _ c.in-Some.ensures.told.0.walk),
+    )
+
+pub returns-in-Some-clause-told : goal.returns-in-Some-clause-told
+returns-in-Some-clause-told c = let l : Limits = limits_of c.args.self.now.words in let s = try_steps in let at = goal.at.returns-in-Some-clause-told c in let t = c.in-Some.taken in
+    let F : ℕ = c.part_rows.result + c.mark_at-mark.result in let d : ℕ = c.loop-row.row - F in let from = c.loop-row.invariant.from in let less = c.loop-row-test.true in let top = c.requires.end.1 in
+    let low = above at.After-mark_at-mark in let behind = front at.After-part_rows in let first = start at.After-part_rows in
+    let room : d * s + s ≤ (BLOCK_ROWS * l.spare - slice_index c.args.lows.now l.parts) * s = rows_more d (BLOCK_ROWS * l.spare - slice_index c.args.lows.now l.parts) s (omega arith) in (
+      took_few l c.args.stage c.args.unit t.attempt t.element ((1 + (d * s + s)) + 1) (2 + (BLOCK_ROWS * l.spare - slice_index c.args.lows.now l.parts) * s) (part_rows l) _ _ (omega arith)
+          (took_looked l (part_rows l) c.args.stage c.args.unit t.attempt t.element (1 + (d * s + s)) 1 _ _ _
+          (took_from l c.args.stage c.args.unit t.attempt t.element (d * s + s) (part_rows l) F _ _ _ (omega arith) c.mark_at-mark.ensures.acted
+          (λ j from_on below. over_passed l c.args.stage (seen_by c.mark_at-mark.new.seat) c.args.self.now.places.limits.parts c.mark_at-mark.result j c.requires.stage.0 c.mark_at-mark.ensures.low.1 (omega arith) (omega arith))
+          (took_then l c.args.stage c.args.unit t.attempt t.element (d * s) s F c.loop-row.row _ _ _ from c.loop-row.invariant.begun c.in-Some.ensures.told.0)) c.raise_to.ensures.looked c.raise_to.ensures.seen),
+      c.in-Some.ensures.told.1,
+    )
+
+pub loop-row-preserved : goal.loop-row-preserved
+loop-row-preserved c = let l : Limits = limits_of c.args.self.now.words in let at = goal.at.loop-row-preserved c in let t = c.in_default.ensures.told in let i = c.loop-row.invariant in let on = c.try_row.ensures.on.on in
+    let s = try_steps in let P = PassedBy l c.args.stage in let F : ℕ = c.part_rows.result + c.mark_at-mark.result in let d : ℕ = c.loop-row.row - F in let from = i.from in record {
+      same = search rules;
+      lows = i.lows;
+      from = omega arith;
+      inside = c.try_row.ensures.on.inside;
+      low = c.try_row.ensures.low.0;
+      rose = rose at.After-try_row _ _ t.walk;
+      stuck = stuck at.After-try_row _ _ t.walk;
+      begun = begun_few l P (passed_widens l c.args.stage) (d * s + s) F _ c.try_row.new.row _ _ (rows_more d (c.try_row.new.row - F) s (omega arith)) (begun_on l P (passed_widens l c.args.stage) (d * s) F s c.loop-row.row _ _ _ i.begun c.try_row.new.row from t);
+    }
+
+pub raise_to-requires-2-clause-low : goal.raise_to-requires-2-clause-low
+raise_to-requires-2-clause-low c = let l : Limits = limits_of c.args.self.now.words in let at = goal.at.raise_to-requires-2-clause-low c in let first = start at.After-part_rows in let behind = front at.After-part_rows in
+    let i = c.loop-row.invariant in let low = i.low in let top = i.inside in (
+      (λ not. absurd (not (parts at.After-mark_at-mark)), λ _. omega arith),
+      subst (λ z. Rose c.args.stage (view_of c.loop-row.seat) (z + c.mark_at-mark.result) c.loop-row.low) (sym first) i.rose,
+    )
+
+pub returns-clause-told : goal.returns-clause-told
+returns-clause-told c = let l : Limits = limits_of c.args.self.now.words in let s = try_steps in let at = goal.at.returns-clause-told c in let i = c.loop-row.invariant in
+    let P = PassedBy l c.args.stage in let F : ℕ = c.part_rows.result + c.mark_at-mark.result in let d : ℕ = c.loop-row.row - F in
+    let first = start at.After-part_rows in let behind = front at.After-part_rows in let top = i.inside in let past = c.loop-row-test.false in let low = above at.After-mark_at-mark in
+    let few : d * s ≤ (BLOCK_ROWS * l.spare - slice_index c.args.lows.now l.parts) * s = mul-le-mul_right s (omega arith) in
+    let sought = sought_from l P (passed_widens l c.args.stage) (d * s) (part_rows l) F c.loop-row.row (view_of c.args.seat.now) (view_of c.mark_at-mark.new.seat) (view_of c.loop-row.seat) c.mark_at-mark.ensures.acted i.begun
+    (λ j from_on below. over_passed l c.args.stage (seen_by c.mark_at-mark.new.seat) c.args.self.now.places.limits.parts c.mark_at-mark.result j c.requires.stage.0 c.mark_at-mark.ensures.low.1 (omega arith) (omega arith)) in
+    sought_passed l P (passed_widens l c.args.stage) (2 + (BLOCK_ROWS * l.spare - slice_index c.args.lows.now l.parts) * s) (part_rows l) c.loop-row.row (rows_of l) (view_of c.args.seat.now) (view_of c.raise_to-2.new.seat)
+    (sought_few l ((1 + d * s) + 1) (2 + (BLOCK_ROWS * l.spare - slice_index c.args.lows.now l.parts) * s) (EachRow P (part_rows l) c.loop-row.row) _ _ (omega arith)
+    (sought_then l (1 + d * s) 1 (EachRow P (part_rows l) c.loop-row.row) _ _ _ (λ a b g later each j p q. passed_widens l c.args.stage j a a b g (begins_refl a) later (each j p q)) sought c.raise_to-2.ensures.looked))
+    (λ j low high. none_passed l c.args.stage j (seen_by c.args.seat.now) (c.requires.end.2 j (omega arith) high))

@@ -1,0 +1,105 @@
+//! The collection of a reply.
+ghost use Rattle.std.specs.Prelude.{◌≡◌, ◌<◌, ℕ, [], MatchResult, None, Some, true, false};
+ghost use Rattle.tp_model.specs.History.{element_of};
+ghost use Rattle.tp_model.specs.Steps.{rows_of};
+ghost use Rattle.tp_model.specs.Words.{KilledWord};
+ghost use Rattle.tp_words.specs.Words.{claim_value};
+ghost use Rattle.tp_rule.specs.Views.{hand_of, seen_by, view_of, IsSameSeat};
+ghost use Rattle.tp_rule.specs.Tables.{limits_of, IsSeatOf};
+ghost use Rattle.tp_manager.specs.Shown.{IsOf};
+ghost use Rattle.tp_manager.specs.Bounds.{collect_steps, take_steps};
+ghost use Rattle.tp_manager.specs.Calls.{Follows, HasLooked};
+ghost use Rattle.tp_manager.specs.Kills.{Slain};
+ghost use Rattle.tp_manager.specs.Looks.{IsThere};
+ghost use Rattle.tp_manager.specs.Walks.{Steady, Looked};
+ghost use Rattle.tp_manager.specs.Releases.{Collects, CollectFails, IsPastCollect};
+
+use crate::looking::Birth;
+use crate::manager::{Manager, Pass, Shared};
+use tp_model::types::{Element, Refusal};
+use tp_rule::Seat;
+use tp_words::Claim;
+
+/// Whether the claim is that of a killed element.
+#[inline(always)]
+fn is_killed(claim: Claim) -> bool
+    ensures yes { result ≡ true → (n : ℕ) × (u : ℕ) × (r : ℕ) × (claim_value claim ≡ KilledWord n u r) }
+    ensures no { result ≡ false → (n u r : ℕ) → ¬ (claim_value claim ≡ KilledWord n u r) }
+{
+    match claim {
+        Claim::Free => false,
+        Claim::Taken {
+            attempt: _,
+            unit: _,
+            round: _,
+        } => false,
+        Claim::Killed {
+            attempt: _,
+            unit: _,
+            round: _,
+        } => true,
+        Claim::Again { round: _ } => false,
+    }
+}
+
+impl Shared {
+    /// Kills the reply that is born in the row, and hands it out. At most six steps.
+    fn collect_row(&self, seat: &mut Seat, row: u32, birth: Birth) -> Result<Element, Refusal>
+        requires own { IsSeatOf self.now.words seat.old }
+        requires steady { Steady (limits_of self.now.words) (view_of seat.old) }
+        requires row { row < rows_of (limits_of self.now.words) }
+        requires there { IsThere (seen_by seat.old) row birth }
+        requires reply { birth.stage ≡ 15 }
+        ensures same { IsSameSeat seat.old seat.new }
+        ensures told { let l = limits_of self.now.words in MatchResult result
+            (λ x. Slain l take_steps row [] (view_of seat.old) (view_of seat.new)
+            × (element_of (seen_by seat.new) row ≡ Some x) × (x.stage ≡ 15))
+            (λ refusal. Looked l take_steps (view_of seat.old) (view_of seat.new)
+            × IsPastCollect l row (seen_by seat.old) (seen_by seat.new) refusal) }
+    {
+        let claim = self.words.load_claim(seat, row);
+        if is_killed(claim.tells) {
+            return Err(Refusal::AlreadyKilled);
+        }
+        let element = self.element_at(seat, row, birth);
+        match self.words.kill_exchange(seat, row, claim) {
+            Ok(()) => Ok(element),
+            Err(_) => Err(Refusal::AlreadyKilled),
+        }
+    }
+}
+
+impl Manager {
+    /// Takes the reply with this id, once: it is killed, so that nobody else collects it. The pass has no unit
+    /// open. `NotThere` where no element with this id is born, `BadStage` where it is no reply, and
+    /// `AlreadyKilled` where it was collected or killed before.
+    pub fn collect(&self, pass: &mut Pass, id: u32) -> Result<Element, Refusal>
+        requires own { IsOf self.now pass.old }
+        requires free { pass.old.open_unit ≡ None }
+        ensures own { IsOf self.now pass.new }
+        ensures turn { pass.new.from ≡ pass.old.from }
+        ensures follows { Follows collect_steps pass.old pass.new }
+        ensures open_unit { pass.new.open_unit ≡ None }
+        ensures looks { id < rows_of self.now.limits → HasLooked pass.old pass.new }
+        ensures answer { MatchResult result
+            (λ x. Collects id x pass.old pass.new)
+            (λ refusal. CollectFails self.now.limits id pass.old pass.new refusal) }
+    {
+        let shared = &self.shared;
+        let seat = &mut pass.seat;
+        if id >= shared.places.rows() {
+            return Err(Refusal::NotThere);
+        }
+        let head = shared.head_at(seat, id);
+        let Some(birth) = shared.birth_from(seat, id, head) else {
+            return Err(Refusal::NotThere);
+        };
+        if birth.stage != 15 {
+            return Err(Refusal::BadStage);
+        }
+        match shared.collect_row(seat, id, birth) {
+            Ok(element) => return Ok(element),
+            Err(refusal) => return Err(refusal),
+        }
+    }
+}

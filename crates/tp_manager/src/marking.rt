@@ -1,0 +1,152 @@
+//! The marks: rows that are of no use to any further look of a kind.
+ghost use Rattle.std.specs.Prelude.{◌≡◌, ◌⊎◌, ℕ, ◌+◌, ◌-◌, ◌*◌, ◌<◌, ◌≤◌, slice_index, true, false};
+ghost use Rattle.tp_model.specs.History.{IsSettled, IsUnborn};
+ghost use Rattle.tp_words.specs.declared.words.Head.TheVariants.{Empty};
+ghost use Rattle.tp_words.specs.declared.places.TheConstants.{MARK_KINDS};
+ghost use Rattle.tp_rule.specs.Views.{seen_by, view_of, IsSameSeat};
+ghost use Rattle.tp_rule.specs.Rule.{IsInside};
+ghost use Rattle.tp_rule.specs.Steps.{IsLow, Knows};
+ghost use Rattle.tp_rule.specs.declared.view.Known.TheVariants.{MarkAbove, PartMark};
+ghost use Rattle.tp_rule.specs.Tables.{limits_of, IsSeatOf};
+ghost use Rattle.tp_manager.specs.Walks.{Acted, Looked, Remembers, RisesAt, Rose, Steady};
+
+use crate::manager::Shared;
+use tp_model::types::Status;
+use tp_rule::Seat;
+use tp_words::Head;
+
+/// The first row that isn't known of no use, where this one's head is of a stage that the marks aren't about,
+/// void, or empty.
+#[inline(always)]
+pub(crate) fn past_other(low: u32, row: u32, head: Head) -> u32
+    requires few { row < 65536 }
+    ensures moves { (result ≡ low) ⊎ ((result ≡ low + 1) × (low ≡ row) × ¬ (head ≡ Empty)) }
+    ensures exact { low ≡ row → ¬ (head ≡ Empty) → result ≡ low + 1 }
+{
+    match head {
+        Head::Empty => low,
+        Head::Void => past(low, row),
+        Head::There {
+            stage: _,
+            root: _,
+            by: _,
+        } => past(low, row),
+    }
+}
+
+/// The first row that isn't known of no use, where this one is.
+#[inline(always)]
+pub(crate) fn past(low: u32, row: u32) -> u32
+    requires few { row < 65536 }
+    ensures moves { (result ≡ low) ⊎ ((result ≡ low + 1) × (low ≡ row)) }
+    ensures exact { low ≡ row → result ≡ low + 1 }
+{
+    if low == row { low + 1 } else { low }
+}
+
+/// The first row that isn't known of no use: this one's element stands so.
+#[inline(always)]
+pub(crate) fn low_after(low: u32, row: u32, status: Status) -> u32
+    requires few { row < 65536 }
+    ensures moves { (result ≡ low) ⊎ ((result ≡ low + 1) × (low ≡ row) × IsSettled status) }
+    ensures exact { low ≡ row → IsSettled status → result ≡ low + 1 }
+{
+    if low != row {
+        return low;
+    }
+    match status {
+        Status::Waiting { attempts: _ } => low,
+        Status::Held {
+            unit: _,
+            attempt: _,
+        } => low,
+        Status::Parked { attempts: _ } => low,
+        Status::Consumed { unit: _ } => low + 1,
+        Status::Killed => low + 1,
+    }
+}
+
+impl Shared {
+    /// The mark of a kind of a part, or of the spare rows where `part` is the number of parts, which the pass
+    /// remembers: no row of the part below it has an element of a
+    /// stage that the kind is about and that isn't consumed or killed. One step.
+    #[inline(always)]
+    pub(crate) fn mark_at(&self, seat: &mut Seat, lows: &mut [u16; 33], kind: u8, part: u16) -> u16
+        requires own { IsSeatOf self.now.words seat.old }
+        requires steady { Steady (limits_of self.now.words) (view_of seat.old) }
+        requires kind { kind < MARK_KINDS }
+        requires part { part ≤ (limits_of self.now.words).parts }
+        requires remembers { Remembers kind (view_of seat.old) lows.old }
+        ensures same { IsSameSeat seat.old seat.new }
+        ensures acted { Acted (limits_of self.now.words) 1 (view_of seat.old) (view_of seat.new) }
+        ensures knows { Knows (view_of seat.new) (PartMark kind part result) }
+        ensures remembers { Remembers kind (view_of seat.new) lows.new }
+        ensures lows { (slice_index lows.new part ≡ result) × RisesAt part lows.old lows.new }
+        ensures low { IsLow (limits_of self.now.words) kind (seen_by seat.new) part result }
+    {
+        let mark = self.words.load_mark(seat, kind, part);
+        lows[part as usize] = mark;
+        mark
+    }
+
+    /// Raises the mark of a part, or of the spare rows, where the first row that isn't known of no use is
+    /// behind it, and the pass
+    /// remembers it, but where another pass has raised it meanwhile. At most one step.
+    pub(crate) fn raise_to(
+        &self,
+        seat: &mut Seat,
+        lows: &mut [u16; 33],
+        kind: u8,
+        part: u16,
+        mark: u16,
+        low: u32,
+    )
+        requires own { IsSeatOf self.now.words seat.old }
+        requires steady { Steady (limits_of self.now.words) (view_of seat.old) }
+        requires kind { kind < MARK_KINDS }
+        requires part { part ≤ (limits_of self.now.words).parts }
+        requires mark { Knows (view_of seat.old) (PartMark kind part mark) × (slice_index lows.old part ≡ mark) }
+        requires remembers { Remembers kind (view_of seat.old) lows.old }
+        requires low { let l = limits_of self.now.words in IsInside l part (low - part * l.rows)
+            × Rose kind (view_of seat.old) (part * l.rows + mark) low }
+        ensures same { IsSameSeat seat.old seat.new }
+        ensures looked { Looked (limits_of self.now.words) 1 (view_of seat.old) (view_of seat.new) }
+        ensures seen { seen_by seat.new ≡ seen_by seat.old }
+        ensures remembers { Remembers kind (view_of seat.new) lows.new }
+        ensures lows { RisesAt part lows.old lows.new }
+        ensures raised { let l = limits_of self.now.words in (part * l.rows + slice_index lows.new part ≡ low)
+            ⊎ ((slice_index lows.new part ≡ mark) × Knows (view_of seat.new) (MarkAbove kind part mark)) }
+    {
+        let first = part as u32 * self.places.limits.rows as u32;
+        let to = (low - first) as u16;
+        if to <= mark {
+            return;
+        }
+        if !self.words.raise(seat, kind, part, mark, to) {
+            return;
+        }
+        lows[part as usize] = to;
+    }
+
+    /// Whether this row of a part has no head: then nothing is born in the part from there on. One step; none
+    /// where the row is the end of the part, or the one that the pass has consumed last.
+    #[inline(always)]
+    pub(crate) fn is_bare(&self, seat: &mut Seat, part: u16, row: u32, done: Option<u32>) -> bool
+        requires own { IsSeatOf self.now.words seat.old }
+        requires steady { Steady (limits_of self.now.words) (view_of seat.old) }
+        requires part { part < (limits_of self.now.words).parts }
+        requires row { let l = limits_of self.now.words in
+            (part * l.rows ≤ row) × (row ≤ part * l.rows + l.rows) }
+        ensures same { IsSameSeat seat.old seat.new }
+        ensures bare { result ≡ true → let l = limits_of self.now.words in
+            Acted l 1 (view_of seat.old) (view_of seat.new)
+            × ((i : ℕ) → row ≤ i → i < part * l.rows + l.rows → IsUnborn (seen_by seat.new) i) }
+        ensures more { result ≡ false → Looked (limits_of self.now.words) 1 (view_of seat.old) (view_of seat.new) }
+    {
+        let rows = self.places.limits.rows as u32;
+        if row == part as u32 * rows + rows || done == Some(row) {
+            return false;
+        }
+        self.head_at(seat, row) == Head::Empty
+    }
+}

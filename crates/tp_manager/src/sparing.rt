@@ -1,0 +1,104 @@
+//! Looks at the rows of the spare blocks, from their mark on.
+ghost use Rattle.std.specs.Prelude.{◌≡◌, ◌+◌, ◌-◌, ◌*◌, ◌<◌, ◌≤◌, slice_index, MatchOption};
+ghost use Rattle.tp_model.specs.declared.types.TheConstants.{BLOCK_ROWS};
+ghost use Rattle.tp_model.specs.Steps.{part_rows, rows_of, IsServerStage};
+ghost use Rattle.tp_rule.specs.Views.{seen_by, view_of, IsSameSeat};
+ghost use Rattle.tp_rule.specs.Tables.{limits_of, IsSeatOf};
+ghost use Rattle.tp_manager.specs.Bounds.{look_steps, try_steps};
+ghost use Rattle.tp_manager.specs.Finds.{kind_of, Hits, PassedOver};
+ghost use Rattle.tp_manager.specs.Spares.{Passed, SpareRests};
+ghost use Rattle.tp_manager.specs.Walks.{IsSpare, NoneBehind, PassedBy, Remembers, RisesAt, Steady, Took};
+
+use crate::listing::{Wanted, kind_of, later};
+use crate::manager::Shared;
+use crate::scanning::Taken;
+use tp_rule::Seat;
+
+impl Shared {
+    /// The unit takes the first element of the spare blocks that waits in the stage, where nothing was born from row
+    /// `end` on. The scan starts at the mark of the spare rows, and raises it.
+    pub(crate) fn scan_spare(
+        &self,
+        seat: &mut Seat,
+        lows: &mut [u16; 33],
+        end: u32,
+        stage: u8,
+        unit: u16,
+    ) -> Option<Taken>
+        requires own { IsSeatOf self.now.words seat.old }
+        requires steady { Steady (limits_of self.now.words) (view_of seat.old) }
+        requires remembers { Remembers stage (view_of seat.old) lows.old }
+        requires end { let l = limits_of self.now.words in
+            (part_rows l ≤ end) × (end ≤ rows_of l) × NoneBehind l end (view_of seat.old) }
+        requires stage { IsServerStage stage }
+        requires spare { IsSpare unit (view_of seat.old) × (unit < 65535) }
+        ensures same { IsSameSeat seat.old seat.new }
+        ensures remembers { Remembers stage (view_of seat.new) lows.new }
+        ensures lows { RisesAt (limits_of self.now.words).parts lows.old lows.new }
+        ensures rests { let l = limits_of self.now.words in
+            SpareRests l stage end (slice_index lows.new l.parts) (seen_by seat.old) (view_of seat.new) }
+        ensures told { let l = limits_of self.now.words in
+            let n = 2 + (BLOCK_ROWS * l.spare - slice_index lows.old l.parts) * try_steps in MatchOption result
+            (Passed l n (PassedBy l stage) (part_rows l) (rows_of l) (view_of seat.old) (view_of seat.new))
+            (λ t. Took l n (part_rows l) stage unit (view_of seat.old) (view_of seat.new) t.element t.attempt
+            × (t.element.root ≡ t.root)) }
+    {
+        let part = self.places.limits.parts;
+        let mark = self.mark_at(seat, lows, stage, part);
+        let begin = self.places.part_rows() + mark as u32;
+        let mut low = begin;
+        let mut row = begin;
+        while row < end {
+            if let Some(taken) = self.try_row(seat, &mut row, &mut low, stage, unit) {
+                self.raise_to(seat, lows, stage, part, mark, low);
+                return Some(taken);
+            }
+        }
+        self.raise_to(seat, lows, stage, part, mark, low);
+        None
+    }
+
+    /// The first row of the spare blocks, from one of their rows on, whose element is looked for, where
+    /// nothing was born
+    /// from row `end` on. The scan starts at the mark of the spare rows, if that is behind, and raises it.
+    pub(crate) fn find_spare(
+        &self,
+        seat: &mut Seat,
+        lows: &mut [u16; 33],
+        end: u32,
+        from: u32,
+        wanted: Wanted,
+    ) -> Option<u32>
+        requires own { IsSeatOf self.now.words seat.old }
+        requires steady { Steady (limits_of self.now.words) (view_of seat.old) }
+        requires remembers { Remembers (kind_of wanted) (view_of seat.old) lows.old }
+        requires end { let l = limits_of self.now.words in
+            (part_rows l ≤ end) × (end ≤ rows_of l) × NoneBehind l end (view_of seat.old) }
+        requires from { let l = limits_of self.now.words in (part_rows l ≤ from) × (from ≤ rows_of l) }
+        ensures same { IsSameSeat seat.old seat.new }
+        ensures remembers { Remembers (kind_of wanted) (view_of seat.new) lows.new }
+        ensures lows { RisesAt (limits_of self.now.words).parts lows.old lows.new }
+        ensures told { let l = limits_of self.now.words in let P = PassedOver l wanted in
+            let n = 2 + (BLOCK_ROWS * l.spare - slice_index lows.old l.parts) * look_steps l in MatchOption result
+            (Passed l n P from (rows_of l) (view_of seat.old) (view_of seat.new))
+            (λ id. (from ≤ id) × (id < rows_of l) × Hits l wanted id (seen_by seat.new)
+            × Passed l n P from id (view_of seat.old) (view_of seat.new)) }
+    {
+        let kind = kind_of(wanted);
+        let part = self.places.limits.parts;
+        let mark = self.mark_at(seat, lows, kind, part);
+        let begin = self.places.part_rows() + mark as u32;
+        let mut low = begin;
+        let start = later(from, begin);
+        let mut row = start;
+        while row < end {
+            let here = row;
+            if self.is_wanted_at(seat, &mut row, &mut low, wanted) {
+                self.raise_to(seat, lows, kind, part, mark, low);
+                return Some(here);
+            }
+        }
+        self.raise_to(seat, lows, kind, part, mark, low);
+        None
+    }
+}

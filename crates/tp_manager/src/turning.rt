@@ -1,0 +1,357 @@
+//! A server's look for work in turn: the rows are a circle.
+ghost use Rattle.std.specs.Prelude.{◌≡◌, ◌⊎◌, ◌+◌, ◌-◌, ◌*◌, ◌<◌, ◌≤◌, MatchOption, None, ℕ, slice_index};
+ghost use Rattle.tp_model.specs.Steps.{part_rows, rows_of, AreLimits, IsServerStage};
+ghost use Rattle.tp_rule.specs.Views.{view_of, IsSameSeat};
+ghost use Rattle.tp_rule.specs.Tables.{limits_of, IsSeatOf};
+ghost use Rattle.tp_manager.specs.Bounds.{drawn_steps, claim_next_steps, try_steps, turn_steps};
+ghost use Rattle.tp_manager.specs.Calls.{ClaimsNext, Follows};
+ghost use Rattle.tp_manager.specs.Shown.{IsOf, Rises};
+ghost use Rattle.tp_manager.specs.Walks.{Begun, EachRow, IsSpare, PassedBy, Remembers, RemembersDone, RemembersDrawn, RisesAt, Sought, Steady, Took, TookNext};
+ghost use Rattle.tp_model.specs.declared.types.Limits.{Limits};
+ghost use Rattle.tp_manager.specs.Turns.{EachHasItsTurn};
+
+use crate::manager::{Manager, Pass, Shared, Task};
+use crate::scanning::{Taken, past_done};
+use tp_model::types::{Claimed, Work};
+use tp_rule::Seat;
+
+/// The later of two rows.
+#[inline(always)]
+fn later(a: u32, b: u32) -> u32
+    ensures { ((result ≡ a) × (b ≤ a)) ⊎ ((result ≡ b) × (a < b)) }
+{
+    if a < b { b } else { a }
+}
+
+/// The earlier of two rows.
+#[inline(always)]
+fn earlier(a: u32, b: u32) -> u32
+    ensures { ((result ≡ a) × (a ≤ b)) ⊎ ((result ≡ b) × (b < a)) }
+{
+    if b < a { b } else { a }
+}
+
+/// Where a stage's next claim in turn begins.
+#[inline(always)]
+fn turn_in(places: &[u32; 16], stage: u8) -> u32
+    requires stage { IsServerStage stage }
+    ensures { result ≡ slice_index places.now stage }
+{
+    places[stage as usize]
+}
+
+/// A stage's next claim in turn begins behind this row, and those of other stages where they did.
+#[inline(always)]
+fn go_on_behind(turns: &mut [u32; 16], stage: u8, row: u32)
+    requires stage { IsServerStage stage }
+    requires few { row < 65536 }
+    ensures turn { slice_index turns.new stage ≡ row + 1 }
+    ensures others { (other : ℕ) → ¬ (other ≡ stage) → slice_index turns.new other ≡ slice_index turns.old other }
+{
+    turns[stage as usize] = row + 1;
+}
+
+impl Shared {
+    /// The unit takes the first element of these rows of a part that waits in the stage. No row below the part's
+    /// mark is looked at, and the mark is raised where each row from it on was.
+    fn scan_span_from_mark(
+        &self,
+        seat: &mut Seat,
+        lows: &mut [u16; 33],
+        part: u16,
+        from: u32,
+        to: u32,
+        done: Option<u32>,
+        stage: u8,
+        unit: u16,
+    ) -> Option<Taken>
+        requires own { IsSeatOf self.now.words seat.old }
+        requires steady { Steady (limits_of self.now.words) (view_of seat.old) }
+        requires remembers { Remembers stage (view_of seat.old) lows.old }
+        requires part { part < (limits_of self.now.words).parts }
+        requires span { let l = limits_of self.now.words in (part * l.rows ≤ from) × (from ≤ to)
+            × (to ≤ part * l.rows + l.rows) }
+        requires done { RemembersDone (view_of seat.old) done }
+        requires stage { IsServerStage stage }
+        requires spare { IsSpare unit (view_of seat.old) × (unit < 65535) }
+        ensures same { IsSameSeat seat.old seat.new }
+        ensures remembers { Remembers stage (view_of seat.new) lows.new }
+        ensures lows { RisesAt part lows.old lows.new }
+        ensures told { let l = limits_of self.now.words in let n = 2 + (to - from) * try_steps in
+            MatchOption result
+            (Sought l n (EachRow (PassedBy l stage) from to) (view_of seat.old) (view_of seat.new))
+            (λ t. Took l n from stage unit (view_of seat.old) (view_of seat.new) t.element t.attempt
+            × (t.element.root ≡ t.root)) }
+    {
+        let mark = self.mark_at(seat, lows, stage, part);
+        let rows = self.places.limits.rows as u32;
+        let first = part as u32 * rows;
+        let known = past_done(first + mark as u32, first + rows, done);
+        let begin = later(known, from);
+        let mut low = known;
+        let mut row = begin;
+        while row < to {
+            if let Some(taken) = self.try_row(seat, &mut row, &mut low, stage, unit) {
+                self.raise_to(seat, lows, stage, part, mark, low);
+                return Some(taken);
+            }
+        }
+        self.raise_to(seat, lows, stage, part, mark, low);
+        None
+    }
+
+    /// The unit takes the first element of these rows of a part that waits in the stage. One look where no row has
+    /// a head from the first of them on, or from the mark on that the pass remembers.
+    #[inline(always)]
+    fn scan_span(
+        &self,
+        seat: &mut Seat,
+        lows: &mut [u16; 33],
+        part: u16,
+        from: u32,
+        to: u32,
+        done: Option<u32>,
+        stage: u8,
+        unit: u16,
+    ) -> Option<Taken>
+        requires own { IsSeatOf self.now.words seat.old }
+        requires steady { Steady (limits_of self.now.words) (view_of seat.old) }
+        requires remembers { Remembers stage (view_of seat.old) lows.old }
+        requires part { part < (limits_of self.now.words).parts }
+        requires span { let l = limits_of self.now.words in (part * l.rows ≤ from) × (from ≤ to)
+            × (to ≤ part * l.rows + l.rows) }
+        requires done { RemembersDone (view_of seat.old) done }
+        requires stage { IsServerStage stage }
+        requires spare { IsSpare unit (view_of seat.old) × (unit < 65535) }
+        ensures same { IsSameSeat seat.old seat.new }
+        ensures remembers { Remembers stage (view_of seat.new) lows.new }
+        ensures lows { RisesAt part lows.old lows.new }
+        ensures told { let l = limits_of self.now.words in let n = 3 + (to - from) * try_steps in
+            MatchOption result
+            (Sought l n (EachRow (PassedBy l stage) from to) (view_of seat.old) (view_of seat.new))
+            (λ t. Took l n from stage unit (view_of seat.old) (view_of seat.new) t.element t.attempt
+            × (t.element.root ≡ t.root)) }
+    {
+        let known = part as u32 * self.places.limits.rows as u32 + lows[part as usize] as u32;
+        let begin = later(known, from);
+        if self.is_bare(seat, part, begin, done) {
+            return None;
+        }
+        self.scan_span_from_mark(seat, lows, part, from, to, done, stage, unit)
+    }
+
+    /// The unit takes the first element of these rows of the parts that waits in the stage.
+    fn scan_spans(
+        &self,
+        seat: &mut Seat,
+        lows: &mut [u16; 33],
+        from: u32,
+        to: u32,
+        done: Option<u32>,
+        stage: u8,
+        unit: u16,
+    ) -> Option<Taken>
+        requires own { IsSeatOf self.now.words seat.old }
+        requires steady { Steady (limits_of self.now.words) (view_of seat.old) }
+        requires remembers { Remembers stage (view_of seat.old) lows.old }
+        requires span { (from ≤ to) × (to ≤ part_rows (limits_of self.now.words)) }
+        requires done { RemembersDone (view_of seat.old) done }
+        requires stage { IsServerStage stage }
+        requires spare { IsSpare unit (view_of seat.old) × (unit < 65535) }
+        ensures same { IsSameSeat seat.old seat.new }
+        ensures remembers { Remembers stage (view_of seat.new) lows.new }
+        ensures lows { Rises lows.old lows.new }
+        ensures told { let l = limits_of self.now.words in let n = 3 * l.parts + (to - from) * try_steps in
+            MatchOption result
+            (Begun l (PassedBy l stage) n from to (view_of seat.old) (view_of seat.new))
+            (λ t. Took l n from stage unit (view_of seat.old) (view_of seat.new) t.element t.attempt
+            × (t.element.root ≡ t.root)) }
+    {
+        let rows = self.places.limits.rows as u32;
+        let mut row = from;
+        for part in 0..self.places.limits.parts {
+            let end = earlier(part as u32 * rows + rows, to);
+            if row < end {
+                if let Some(taken) = self.scan_span(seat, lows, part, row, end, done, stage, unit) {
+                    return Some(taken);
+                }
+                row = end;
+            }
+        }
+        None
+    }
+
+    /// The unit takes the first element of these rows of the spare blocks that waits in the stage.
+    fn scan_block_span(
+        &self,
+        seat: &mut Seat,
+        drawn: &mut u16,
+        from: u32,
+        to: u32,
+        stage: u8,
+        unit: u16,
+    ) -> Option<Taken>
+        requires own { IsSeatOf self.now.words seat.old }
+        requires steady { Steady (limits_of self.now.words) (view_of seat.old) }
+        requires drawn { RemembersDrawn (view_of seat.old) drawn.old }
+        requires span { let l = limits_of self.now.words in (part_rows l ≤ from) × (from ≤ to) × (to ≤ rows_of l) }
+        requires stage { IsServerStage stage }
+        requires spare { IsSpare unit (view_of seat.old) × (unit < 65535) }
+        ensures same { IsSameSeat seat.old seat.new }
+        ensures drawn { RemembersDrawn (view_of seat.new) drawn.new }
+        ensures risen { drawn.old ≤ drawn.new }
+        ensures told { let l = limits_of self.now.words in
+            let n = drawn_steps l.spare + (to - from) * try_steps in MatchOption result
+            (Begun l (PassedBy l stage) n from to (view_of seat.old) (view_of seat.new))
+            (λ t. Took l n from stage unit (view_of seat.old) (view_of seat.new) t.element t.attempt
+            × (t.element.root ≡ t.root)) }
+    {
+        let Some(drawn_end) = self.blocks_end(seat, drawn) else {
+            return None;
+        };
+        let end = earlier(drawn_end, to);
+        // No mark is raised: this row is before all of them.
+        let mut low = 0;
+        let mut row = from;
+        while row < end {
+            if let Some(taken) = self.try_row(seat, &mut row, &mut low, stage, unit) {
+                return Some(taken);
+            }
+        }
+        None
+    }
+
+    /// The unit takes the first element of these rows that waits in the stage.
+    fn scan_rows(
+        &self,
+        seat: &mut Seat,
+        lows: &mut [u16; 33],
+        drawn: &mut u16,
+        from: u32,
+        to: u32,
+        done: Option<u32>,
+        stage: u8,
+        unit: u16,
+    ) -> Option<Taken>
+        requires own { IsSeatOf self.now.words seat.old }
+        requires steady { Steady (limits_of self.now.words) (view_of seat.old) }
+        requires remembers { Remembers stage (view_of seat.old) lows.old }
+        requires drawn { RemembersDrawn (view_of seat.old) drawn.old }
+        requires span { (from ≤ to) × (to ≤ rows_of (limits_of self.now.words)) }
+        requires done { RemembersDone (view_of seat.old) done }
+        requires stage { IsServerStage stage }
+        requires spare { IsSpare unit (view_of seat.old) × (unit < 65535) }
+        ensures same { IsSameSeat seat.old seat.new }
+        ensures remembers { Remembers stage (view_of seat.new) lows.new }
+        ensures drawn { RemembersDrawn (view_of seat.new) drawn.new }
+        ensures risen { drawn.old ≤ drawn.new }
+        ensures lows { Rises lows.old lows.new }
+        ensures told { let l = limits_of self.now.words in let n = turn_steps l (to - from) in
+            MatchOption result
+            (Begun l (PassedBy l stage) n from to (view_of seat.old) (view_of seat.new))
+            (λ t. Took l n from stage unit (view_of seat.old) (view_of seat.new) t.element t.attempt
+            × (t.element.root ≡ t.root)) }
+    {
+        let parts = self.places.part_rows();
+        if from >= parts {
+            return self.scan_block_span(seat, drawn, from, to, stage, unit);
+        }
+        if to <= parts {
+            return self.scan_spans(seat, lows, from, to, done, stage, unit);
+        }
+        if let Some(taken) = self.scan_spans(seat, lows, from, parts, done, stage, unit) {
+            return Some(taken);
+        }
+        self.scan_block_span(seat, drawn, parts, to, stage, unit)
+    }
+
+    /// The unit takes the first element from row `turn` on that waits in the stage, where the rows are a circle.
+    pub(crate) fn scan_turn(
+        &self,
+        seat: &mut Seat,
+        lows: &mut [u16; 33],
+        drawn: &mut u16,
+        turn: u32,
+        done: Option<u32>,
+        stage: u8,
+        unit: u16,
+    ) -> Option<Taken>
+        requires own { IsSeatOf self.now.words seat.old }
+        requires steady { Steady (limits_of self.now.words) (view_of seat.old) }
+        requires remembers { Remembers stage (view_of seat.old) lows.old }
+        requires drawn { RemembersDrawn (view_of seat.old) drawn.old }
+        requires done { RemembersDone (view_of seat.old) done }
+        requires stage { IsServerStage stage }
+        requires spare { IsSpare unit (view_of seat.old) × (unit < 65535) }
+        ensures same { IsSameSeat seat.old seat.new }
+        ensures remembers { Remembers stage (view_of seat.new) lows.new }
+        ensures drawn { RemembersDrawn (view_of seat.new) drawn.new }
+        ensures risen { drawn.old ≤ drawn.new }
+        ensures lows { Rises lows.old lows.new }
+        ensures told { let l = limits_of self.now.words in
+            let n = 6 * l.parts + 2 * drawn_steps l.spare + rows_of l * try_steps in MatchOption result
+            (Sought l n (EachRow (PassedBy l stage) 0 (rows_of l)) (view_of seat.old) (view_of seat.new))
+            (λ t. TookNext l n turn stage unit (view_of seat.old) (view_of seat.new) t.element t.attempt
+            × (t.element.root ≡ t.root)) }
+    {
+        let rows = self.places.rows();
+        let from = earlier(turn, rows);
+        if let Some(taken) = self.scan_rows(seat, lows, drawn, from, rows, done, stage, unit) {
+            return Some(taken);
+        }
+        self.scan_rows(seat, lows, drawn, 0, from, done, stage, unit)
+    }
+}
+
+impl Manager {
+    /// Takes the element that waits in the stage, 1 to 14, and comes first behind the one of the stage that the
+    /// pass took last by such a call: behind the last id comes the first. Otherwise as `claim`.
+    pub fn claim_next(&self, pass: &mut Pass, stage: u8) -> Claimed
+        requires own { IsOf self.now pass.old }
+        requires stage { IsServerStage stage }
+        requires free { pass.old.open_unit ≡ None }
+        ensures own { IsOf self.now pass.new }
+        ensures limits { AreLimits self.now.limits }
+        ensures follows { Follows (claim_next_steps self.now.limits) pass.old pass.new }
+        ensures answer { ClaimsNext self.now.limits stage pass.old pass.new result }
+    {
+        let seat = &mut pass.seat;
+        let units = self.shared.places.limits.units;
+        if pass.used == units {
+            return Claimed::NoUnit;
+        }
+        let unit = pass.number * units + pass.used;
+        let turn = turn_in(&pass.from, stage);
+        self.shared.words.choose_unit(seat, unit);
+        let Some(taken) = self.shared.scan_turn(
+            seat,
+            &mut pass.lows[stage as usize],
+            &mut pass.run.drawn,
+            turn,
+            pass.run.done,
+            stage,
+            unit,
+        )
+        else {
+            return Claimed::Idle;
+        };
+        pass.used += 1;
+        go_on_behind(&mut pass.from, stage, taken.element.id);
+        pass.task = Some(Task {
+            unit,
+            root: taken.root,
+            row: taken.element.id,
+        });
+        Claimed::Work(Work {
+            unit,
+            element: taken.element,
+            attempt: taken.attempt,
+        })
+    }
+}
+
+/// Between two takings of one element by a pass's claims in turn each other element of its stage has its turn,
+/// whatever stages are claimed between. The function does nothing: its contract is the law.
+pub fn turns_come()
+    ensures come { (l : Limits) → EachHasItsTurn l }
+{}

@@ -1,0 +1,76 @@
+//! What a server of one's own does with an element, as one function.
+ghost use Rattle.std.specs.Prelude.{◌≡◌, ◌≤◌, ◌<◌, [], ◌∷◌, ◌++◌, length};
+
+use crate::recipe::Declined;
+use arrayvec::ArrayVec;
+use std::marker::Model;
+use tp_model::types::{Body, Draft, Element};
+
+/// What work on an element comes to: all registers as it leaves them, and its outputs in order.
+#[derive(Debug, Drop)]
+pub struct Effect<const N: usize> {
+    pub(crate) registers: [u64; N],
+    pub(crate) drafts: ArrayVec<Draft, 4>,
+}
+
+impl<const N: usize> Model for Effect<N> {
+    ghost use Rattle.tp_server.specs.Effect.{Effect};
+
+    ghost Value = { Effect };
+
+    ghost view = { λ e. record { registers = e.registers; drafts = e.drafts.items } };
+}
+
+impl<const N: usize> Effect<N> {
+    /// It leaves the registers so, and has no output.
+    pub fn new(registers: [u64; N]) -> Effect<N>
+        ensures { result ≡ record { registers = registers.entry; drafts = [] } }
+    {
+        Effect {
+            registers,
+            drafts: ArrayVec::new(),
+        }
+    }
+
+    /// The same with one more output. The stage is 1 to 15, and there are 4 outputs at most.
+    pub fn output(mut self, stage: u8, body: Body) -> Effect<N>
+        requires low { 1 ≤ stage }
+        requires high { stage ≤ 15 }
+        requires room { length self.drafts < 4 }
+        ensures { result ≡ record { registers = self.entry.registers; drafts = self.entry.drafts ++ record { stage = stage; body = body } ∷ [] } }
+    {
+        match Draft::new(stage, body) {
+            Some(draft) => self.drafts.push(draft),
+            None => unreachable!(),
+        }
+        self
+    }
+}
+
+/// What a server of one's own does: one function, from an element and the registers of committed work to
+/// new registers and
+/// outputs, or to a reason to decline the element. `OwnServer` makes a `Server` of it.
+pub trait Handler<const N: usize>: Drop {
+    ghost use Rattle.tp_server.specs.Behaviour.{Allows, Behaviour};
+
+    /// What it does with an element.
+    ghost behaviour: { Self → Behaviour };
+
+    /// The stage whose elements it takes, 1 to 14.
+    fn stage(&self) -> u8
+        ensures value { result ≡ (behaviour self.now).stage }
+        ensures low { 1 ≤ result }
+        ensures high { result ≤ 14 };
+
+    /// What the element comes to, where these are the registers. It may ask the outside, and must do
+    /// nothing there that can't be
+    /// undone: the work can still be called off, and no call tells of that.
+    fn effect(&mut self, element: &Element, registers: &[u64; N]) -> Result<Effect<N>, Declined>
+        ensures behaviour { behaviour self.new ≡ behaviour self.old }
+        ensures allowed { Allows (behaviour self.old) registers.now element.now result };
+
+    /// Told of each element whose work was committed, once, with the registers that this left.
+    fn committed(&mut self, _element: &Element, _registers: &[u64; N])
+        ensures { behaviour self.new ≡ behaviour self.old }
+    {}
+}

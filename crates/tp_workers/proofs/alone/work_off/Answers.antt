@@ -1,0 +1,22 @@
+use Rattle.std.proofs.Common.{rules}
+use Rattle.tp_workers.proofs.Turns.{desk_worked}
+use Rattle.tp_workers.proofs.alone.work_off.Goals as goal
+
+pub returns : goal.returns
+returns g c =
+    desk_worked (λ v. (goal.Server-dyn g v).behaviour v.1) (λ v. (goal.Server-dyn g v).registers v.1) (λ v. (goal.Server-dyn g v).pending v.1) c.args.manager.now (c.args.pass.now, c.args.server.now) c.new-desk.result c.turns_until_idle-counts.new.desk _
+    (record {
+      manager = c.new-desk.ensures.manager;
+      pass = c.new-desk.ensures.pass;
+      server = c.new-desk.ensures.server;
+      first_pass = c.new-desk.ensures.first_pass;
+      first_server = c.new-desk.ensures.first_server;
+      same = c.turns_until_idle-counts.ensures.same;
+      resting = c.turns_until_idle-counts.ensures.resting;
+      ends = search rules;
+      behaviour_is = search rules;
+      registers_are = search rules;
+      left = search rules;
+      ready = search rules;
+    })
+    c.args.turns c.turns_until_idle-counts.result c.turns_until_idle-counts.ensures.turns

@@ -1,0 +1,52 @@
+//! A desk at work on the caller's own thread.
+ghost use Rattle.std.specs.Prelude.{◌≤◌};
+ghost use Rattle.tp_desk.specs.Steady.{IsSameDesk};
+ghost use Rattle.tp_workers.specs.Desks.{DeskWorked, IsDeskOf, IsResting, WorksOn, place_of};
+
+use crate::desks::turn_at;
+use crate::gate::NoGate;
+use crate::tally::Shift;
+use tp_desk::Desk;
+use tp_manager::{Manager, Pass};
+use tp_server::Server;
+
+/// Has a desk of this pass and this server take turns on the caller's thread: so many, or fewer where one
+/// finds nothing to
+/// wait, or no unit left. The pass comes from this manager's keeper and has no unit open, and the server
+/// has nothing prepared;
+/// so it is afterwards.
+pub fn work_off(
+    manager: &Manager,
+    pass: &mut Pass,
+    server: &mut Box<dyn Server + Send>,
+    turns: u32,
+) -> Shift
+    requires ready { IsDeskOf behaviour registers pending manager.now (pass.old, server.old) }
+    ensures { DeskWorked behaviour registers pending manager.now turns (pass.old, server.old) result (pass.new, server.new) }
+{
+    let mut desk = Desk::new(manager, pass, server);
+    let counts = turns_until_idle(&mut desk, turns);
+    desk.end();
+    counts
+}
+
+fn turns_until_idle(desk: &mut Desk, turns: u32) -> Shift
+    requires resting { IsResting behaviour registers pending desk.old }
+    ensures same { IsSameDesk desk.old desk.new }
+    ensures turns { WorksOn desk.old.manager.now.limits turns
+        (place_of behaviour registers pending desk.old) result (place_of behaviour registers pending desk.new) }
+    ensures resting { IsResting behaviour registers pending desk.new }
+{
+    let mut counts = Shift::none();
+    for _i in 0..turns {
+        let turned = turn_at(desk, 0, &NoGate);
+        counts = counts.plus(Shift::of_turn(turned));
+        if counts.idle > 0 {
+            return counts;
+        }
+        if counts.nounit > 0 {
+            return counts;
+        }
+    }
+    counts
+}
