@@ -10,6 +10,9 @@ from histories import MOST_ROUNDS, Point, Wrong, agrees, contents, status
 # How many choices are tried out in one round.
 TRIES = 20_000
 
+# What a refusal says that an element is not.
+NOT_SO = {"NotParked": "parked", "NotHeld": "held", "NotWaiting": "waiting"}
+
 
 class GaveUp(Exception):
     """Neither a history was found nor that there is none."""
@@ -18,17 +21,20 @@ class GaveUp(Exception):
 class Log:
     """The points of all calls of a round, which come before which, and where that is for a search to choose."""
 
-    def __init__(self, limits, calls):
-        self.limits, self.points = limits, []
+    def __init__(self, limits, calls, with_order=True):
+        self.limits, self.points, self.with_order = limits, [], with_order
         self.births, self.roots, self.stages, self.claims, self.ends = {}, {}, {}, {}, {}
         self.kills, self.cancels, self.looks, self.nones, self.requeues = {}, [], [], [], {}
+        # The point at which a call aborted a unit, with the element and the attempt that it told; and where a refusal says of an
+        # element whether it is a reply.
+        self.releases, self.kinds = {}, []
         # Of which call an abort or a kill may have been, and how many each call says that it made.
         self.choices, self.needs = [], {}
         # The spare blocks that calls told of, how many were drawn in all, and a call that found none left.
         self.blocks, self.draws, self.full = set(), 0, None
         for thread in sorted({it.thread for it in calls}):
             self.next, self.left, self.used = thread * limits["rows"], limits["rows"], 0
-            self.open = None
+            self.open, self.turns = None, {}
             for call in calls:
                 if call.thread == thread:
                     getattr(self, "take_" + call.kind.lower())(call, call.told)
@@ -36,10 +42,14 @@ class Log:
             self.must(self.draws == limits["spare"], self.full, "a spare block was left")
         self.find_roots()
         self.stands = {id: self.lifetime(id) for id in self.births}
-        if not set(self.claims) | set(self.kills) | set(self.requeues) <= set(self.births):
-            raise Wrong("what was never born was taken or killed")
+        if not set(self.claims) | set(self.kills) | set(self.requeues) | {it[1] for it in self.kinds} <= set(self.births):
+            raise Wrong("what was never born was taken or killed, or is of a stage")
+        if not set(self.releases) <= set(self.ends):
+            raise Wrong("a unit that took nothing was released")
         for it in self.looks:
             self.place_look(*it)
+        for call, id, is_reply in self.kinds:
+            self.births[id].next.append(self.point(call, "stage_is", id, is_reply))
         for call in self.cancels:
             self.place_cancel(call)
 
@@ -80,18 +90,50 @@ class Log:
         self.must(how == "Ok" and self.first_row(call, 1, id) == id, call, "not the next id")
         self.births[id] = self.point(call, "submit", call.thread, id, told["stage"], tuple(told["body"]))
 
-    def take_claim(self, call, told):
-        if call.answer == "NoUnit":
-            return self.must(self.used == self.limits["units"], call, "there were units")
-        self.must(self.used < self.limits["units"], call, "no unit was left")
+    def has_unit(self, call, is_refused):
+        self.must(is_refused == (self.used == self.limits["units"]), call, "there were units" if is_refused else "no unit was left")
+        return not is_refused
+
+    def take_claim(self, call, told, begins=0):
+        if not self.has_unit(call, call.answer == "NoUnit"):
+            return
+        stage = told["stage"]
         if call.answer == "Idle":
-            return self.nones.append((call, "waiting", told["stage"], None, 0, float("inf")))
-        work = call.answer[1]
+            return self.nones.append((call, "waiting", stage, None, 0, float("inf")))
+        id = self.take(call, call.answer[1], stage)
+        if self.with_order:
+            # It takes the first that waits, from where it begins and then from 0 on: each one before that was passed over.
+            ends = [(begins, id)] if begins <= id else [(begins, float("inf")), (0, id)]
+            self.nones += [(call, "waiting", stage, None, first, end) for first, end in ends]
+
+    def take_claimnext(self, call, told):
+        self.take_claim(call, told, self.turns.get(told["stage"], 0))
+        if call.answer[0] == "Work":
+            self.turns[told["stage"]] = call.answer[1]["element"]["id"] + 1
+
+    def take_claimid(self, call, told):
+        how, what = call.answer
+        if not self.has_unit(call, what == "NoUnit"):
+            return
+        if how == "Ok":
+            self.must(self.take(call, what, what["element"]["stage"]) == told["id"], call, "another element")
+        else:
+            self.found(call, what, is_reply=what == "BadStage")
+
+    def take(self, call, work, stage):
         self.must(work["unit"] == call.thread * self.limits["units"] + self.used, call, "not the next unit")
         id, self.open, self.used = work["element"]["id"], work["unit"], self.used + 1
-        what = self.open, id, contents(work["element"]), told["stage"], work["attempt"]
+        what = self.open, id, contents(work["element"]), stage, work["attempt"]
         self.claims.setdefault(id, []).append((work["attempt"], self.open, self.point(call, "claim", call.thread, *what)))
         self.ends[self.open] = None
+        return id
+
+    def found(self, call, why, is_reply):
+        """A refusal says how the element stood, or that it was not there, and whether it is a reply."""
+        if why != "BadStage":
+            self.looks.append((call, call.told["id"], {"NotThere": None, "AlreadyKilled": ("killed",)}.get(why, why), None))
+        if why != "NotThere":
+            self.kinds.append((call, call.told["id"], is_reply))
 
     def take_commit(self, call, told):
         count = told["drafts"]
@@ -119,6 +161,15 @@ class Log:
             self.ends[self.open] = ("aborted", self.point(call, "abort", self.open))
         else:
             self.ends[self.open] = ("aborted by another", call)
+
+    def take_release(self, call, told):
+        how, what = call.answer
+        if how == "Ok":
+            unit, attempt = what["unit"], what["attempt"]
+            self.must(unit not in self.releases, call, "that unit was released before")
+            self.releases[unit] = (told["id"], attempt, self.point(call, "release", told["id"], unit, attempt))
+        else:
+            self.looks.append((call, told["id"], None if what == "NotThere" else what, None))
 
     def take_kill(self, call, told):
         if call.answer[0] == "Ok":
@@ -163,6 +214,36 @@ class Log:
     def take_nexterror(self, call, told):
         self.take_reply(call, told, "parked", None)
 
+    def take_collect(self, call, told):
+        how, what = call.answer
+        if how == "Ok":
+            self.must(what["id"] == told["id"], call, "another element")
+            self.collect(call, what)
+        else:
+            self.found(call, what, is_reply=what == "AlreadyKilled")
+
+    def take_collectnext(self, call, told):
+        found = float("inf")
+        if call.answer != "None":
+            found = call.answer[1]["id"]
+            self.must(call.answer[1]["root"] == told["root"], call, "a reply to another request")
+            self.collect(call, call.answer[1])
+        if self.with_order:
+            self.nones.append((call, "waiting", 15, told["root"], 0, found))
+
+    def collect(self, call, element):
+        self.kills.setdefault(element["id"], []).append((call, self.point(call, "collect", element["id"], contents(element))))
+
+    def take_family(self, call, told):
+        found = float("inf")
+        if call.answer != "None":
+            look = call.answer[1]
+            found = look["element"]["id"]
+            self.must(look["element"]["root"] == told["root"], call, "an element of another request")
+            self.must(found >= told["from"], call, "an id before it was asked from")
+            self.looks.append((call, found, status(look["status"]), contents(look["element"])))
+        self.nones.append((call, "there", None, told["root"], told["from"], found))
+
     def find_roots(self):
         """Finds each element's root and stage: an output's are that of what its unit took, and its draft's."""
         taken = {unit: id for id, claims in self.claims.items() for _, unit, _ in claims}
@@ -195,10 +276,15 @@ class Log:
                 raise Wrong(f"{id} is taken by unit {unit} as {attempt}, and was {stands[-1][0]}")
             stands.append((("held", unit, attempt), made))
             how, by = self.ends[unit] or ("open", None)
+            released = self.releases.get(unit)
+            if released and (how in ("committed", "aborted") or released[:2] != (id, attempt)):
+                raise Wrong(f"unit {unit} is released from {released[0]}, took {id} as {attempt}, and was {how}")
             if how == "committed":
                 stands.append((("consumed", unit), by))
-            elif how != "open" or place < len(changes) or is_killed:
-                if how != "aborted":
+            elif how != "open" or place < len(changes) or is_killed or released:
+                if released:
+                    by = self.before_end(released[2], by)
+                elif how != "aborted":
                     by = self.abort_by_another(id, unit, by, how)
                 name = "waiting" if attempt < self.limits["attempts"] else "parked"
                 stands.append(((name, attempt), by))
@@ -228,10 +314,15 @@ class Log:
             raise Wrong(f"{id} is taken more often than its rounds allow")
         return changes
 
-    def abort_by_another(self, id, unit, end, how):
-        made = self.point(None, "abort", unit)
+    @staticmethod
+    def before_end(made, end):
+        """Another's abort of a unit comes before the end of the call that found it."""
         if end:
-            made.low, made.high = made.window = (-1, end.after)
+            made.low, made.high = made.window = (made.low, min(made.high, end.after))
+        return made
+
+    def abort_by_another(self, id, unit, end, how):
+        made = self.before_end(self.point(None, "abort", unit), end)
         owner = unit // self.limits["units"]
         calls = [it for it, _ in self.kills.get(id, [])] + self.cancels_of(id)
         calls = [it for it in calls if it.thread != owner] + [end] * (how == "aborted by any")
@@ -263,10 +354,12 @@ class Log:
         places = [at for at, (it, since) in enumerate(stands) if self.is_so(id, at, wanted) and since.low < call.after
                   and (after[at] is None or after[at].high > call.before)]
         self.must(places, call, f"{id} was not {wanted} then")
-        if len(places) > 1 or wanted == "NotParked":
+        if len(places) > 1:
             # It stood so more than once in that time, in one round and another: which look it was is left open.
             self.births[id].next.append(self.point(call, "look", id, (), element))
             return
+        if wanted in NOT_SO:
+            wanted = stands[places[0]][0]
         made = self.point(call, "no_round", id) if wanted == "NoRound" else self.point(call, "look", id, wanted, element)
         stands[places[0]][1].next.append(made)
         if after[places[0]]:
@@ -275,8 +368,8 @@ class Log:
     def is_so(self, id, at, wanted):
         """Whether an element's status at a place of its life is the wanted one, or begins so."""
         stands = self.stands[id]
-        if wanted == "NotParked":
-            return stands[at][0][0] != "parked"
+        if wanted in NOT_SO:
+            return stands[at][0][0] != NOT_SO[wanted]
         if wanted == "NoRound":
             return stands[at][0][0] == "parked" and sum(it.does == "requeue" for _, it in stands[: at + 1]) == MOST_ROUNDS
         return stands[at][0][: len(wanted)] == wanted
@@ -300,6 +393,7 @@ class Log:
                 if how[0] in ("waiting", "parked"):
                     key = (how[0], self.stages[id]) if how[0] == "waiting" else ("parked", None)
                     kinds.setdefault(key, []).append((id, since, until))
+            kinds.setdefault(("there", None), []).append((id, stands[0][1], None))
         for call, name, stage, root, first, end in self.nones:
             for id, since, until in kinds.get((name, stage), []):
                 if first <= id < end and (root is None or self.roots[id] == root):
@@ -410,9 +504,10 @@ class Search:
         return False
 
 
-def find(limits, calls, account):
-    """Finds a history that agrees with a round's log, or raises Wrong; returns how many points it has."""
-    log = Log(limits, calls)
+def find(limits, calls, account, with_order=True):
+    """Finds a history that agrees with a round's log, or raises Wrong; returns how many points it has. Without order a claim may take
+    any element of its stage that waits."""
+    log = Log(limits, calls, with_order)
     points = Search(log).run()
     agrees(limits, points, log.nones, account)
     return len(points)

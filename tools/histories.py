@@ -154,6 +154,16 @@ class Manager:
         attempt = self.status[id][2]
         self.now_is(id, "waiting" if attempt < self.limits["attempts"] else "parked", attempt)
 
+    def release(self, id, unit, attempt):
+        if self.status.get(id) != ("held", unit, attempt):
+            raise Wrong(f"{id} is {self.status.get(id)}, and not held by unit {unit} as {attempt}")
+        self.abort(unit)
+
+    def collect(self, id, element):
+        if self.born.get(id) != element or element[0] != 15:
+            raise Wrong(f"{id} is {self.born.get(id)}, and no reply {element}")
+        self.kill(id)
+
     def kill(self, id):
         if id not in self.born or self.status[id][0] not in ("waiting", "parked"):
             raise Wrong(f"{id} can't be killed")
@@ -176,6 +186,10 @@ class Manager:
             raise Wrong(f"{id} is {self.status.get(id)}, and not {wanted}")
         if of is not None and of not in (self.born[id], self.born[id][:2]):
             raise Wrong(f"{id} is {self.born[id]}, and not {of}")
+
+    def stage_is(self, id, is_reply):
+        if id not in self.born or (self.born[id][0] == 15) != is_reply:
+            raise Wrong(f"{id} is {self.born.get(id)}, and of the other kind of stage")
 
     def settled(self, root):
         family = [id for id, it in self.born.items() if it[1] == root and it[0] != 15]
@@ -206,7 +220,8 @@ def agrees(limits, points, passed_over, account):
         for id, element in manager.born.items():
             if (stage in (None, element[0])) and root in (None, element[1]) and first <= id < end:
                 before = [how for time, how in seen[id] if time < call.before]
-                if before and before[-1] == name and not any(call.before <= time < call.after for time, _ in seen[id]):
+                is_so = before and name in (before[-1], "there")
+                if is_so and (name == "there" or not any(call.before <= time < call.after for time, _ in seen[id])):
                     raise Wrong(f"thread {call.thread} at {call.before} passed {id} over, which was {name}")
     for told in account:
         if told != manager.account():

@@ -116,7 +116,9 @@ class Story:
             self.release(row, int(command[1]))
         elif verb in ("race", "drain"):
             self.crowd(row)
-        elif verb in ("turn", "claim", "prepare", "commit", "abort", "drop"):
+        elif verb == "take" and line[1] != "work":
+            return
+        elif verb in ("turn", "claim", "next", "take", "prepare", "commit", "abort", "drop"):
             self.serve(row, self.lane(command[1]), line[1:])
 
     def serve(self, row, lane, answer):

@@ -1,5 +1,6 @@
 // What a user would write instead: one Mutex round a plain manager with the same semantics (least id first, attempts,
 // kill, replies, error queue), with ordered ready sets; std alone.  Prints NAME K NANOSECONDS CALLS, as tp_bench does.
+mod families;
 mod pipelines;
 
 use std::collections::BTreeSet;
@@ -421,6 +422,7 @@ fn main() {
             small();
         }
         large();
+        families::round();
         pipelines::round();
         race();
     }

@@ -8,7 +8,7 @@ use std::io;
 use tp_manager::{Keeper, Manager, Pass};
 use tp_model::types::Limits;
 
-const LARGE: Limits = Limits {
+pub const LARGE: Limits = Limits {
     parts: 32,
     rows: 256,
     units: 1024,
@@ -17,7 +17,7 @@ const LARGE: Limits = Limits {
 };
 
 /// So many passes submit all that they can, and are dropped.
-fn fill(manager: &Manager, keeper: &mut Keeper, count: u32)
+pub fn fill(manager: &Manager, keeper: &mut Keeper, count: u32)
     requires kept { IsKeptBy manager.now keeper.old }
     ensures kept { IsKeptBy manager.now keeper.new }
 {

@@ -8,6 +8,7 @@ ghost use Rattle.tp_model.specs.Steps.{IsServerStage};
 ghost use Rattle.tp_manager.specs.Shown.{IsOf, IsKeptBy};
 
 mod calls;
+mod families;
 mod large;
 mod pipeline;
 mod race;
@@ -27,6 +28,7 @@ fn main(rt: HostRuntime) -> io::Result<()> {
             small::round(&rt)?;
         }
         large::round(&rt)?;
+        families::round(&rt)?;
         pipeline::round(&rt)?;
         race::round(&rt, &rt, rt.alloc())?;
     }

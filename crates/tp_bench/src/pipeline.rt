@@ -66,12 +66,24 @@ fn use_once(manager: &Manager, keeper: &mut Keeper, role: &mut Role)
     ensures ready { IsReady manager.now role.new }
 {
     if role.left == 0 {
-        if let Some(next) = pass(keeper, manager) {
-            role.pass = next;
-            role.left = role.uses;
-        }
+        renew(manager, keeper, role);
     }
     role.left = role.left.saturating_sub(1);
+}
+
+/// The keeper's next pass takes the place of the role's, if there is one. It stands apart, since whoever may move a pass
+/// clears room for one on its stack in each call.
+#[inline(never)]
+fn renew(manager: &Manager, keeper: &mut Keeper, role: &mut Role)
+    requires kept { IsKeptBy manager.now keeper.old }
+    requires ready { IsReady manager.now role.old }
+    ensures kept { IsKeptBy manager.now keeper.new }
+    ensures ready { IsReady manager.now role.new }
+{
+    if let Some(next) = pass(keeper, manager) {
+        role.pass = next;
+        role.left = role.uses;
+    }
 }
 
 /// A request more, by a client; 1 if it was submitted.

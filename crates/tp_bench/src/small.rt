@@ -3,8 +3,8 @@ ghost use Rattle.std.specs.Prelude.{◌≡◌, None, IfSome};
 ghost use Rattle.tp_manager.specs.Shown.{IsOf, IsKeptBy};
 
 use crate::calls::{
-    aborts, bare_turns, errors, kept, kills, now, pass, reads, replies, submits, submits_with,
-    turns,
+    aborts, bare_turns, errors, gathers, kept, kills, now, pass, reads, replies, submits,
+    submits_with, turns,
 };
 use std::alloc::Global;
 use std::io;
@@ -142,6 +142,27 @@ fn of_aborts(rt: &HostRuntime) -> io::Result<()> {
     println!(rt; "claim_abort 0 {} {a}", t1.wrapping_sub(t0))
 }
 
+/// Both passes of a manager are gathered.
+fn of_gathers(rt: &HostRuntime) -> io::Result<()> {
+    let Some((manager, mut keeper)) = kept(rt.alloc(), SMALL) else {
+        return Ok(());
+    };
+    let Some(first) = pass(&mut keeper, &manager) else {
+        return Ok(());
+    };
+    let Some(second) = pass(&mut keeper, &manager) else {
+        return Ok(());
+    };
+    let mut passes = [first, second];
+    if !keeper.has_all(&passes) {
+        return Ok(());
+    }
+    let t0 = now(rt);
+    gathers(&manager, &mut keeper, &mut passes, 64);
+    let t1 = now(rt);
+    println!(rt; "gather_two 0 {} 64", t1.wrapping_sub(t0))
+}
+
 /// What is measured with two passes.
 #[derive(Clone, Copy)]
 enum Group {
@@ -166,5 +187,6 @@ pub fn round(rt: &HostRuntime) -> io::Result<()> {
     measured(rt, Group::Clients)?;
     measured(rt, Group::BareTurns)?;
     measured(rt, Group::Turns)?;
-    of_aborts(rt)
+    of_aborts(rt)?;
+    of_gathers(rt)
 }

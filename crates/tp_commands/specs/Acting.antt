@@ -1,6 +1,6 @@
 -- What a command on a server is answered, and what its desk did for it. `old` is what the desk shows before the
 -- command, and `new` what it shows after it.
-use Rattle.std.specs.Prelude.{◌≡◌, ℕ, Bool, true, false, List, [], ◌∷◌, Option, Some, None, IfSome, IsSome, slice_get, slice_set}
+use Rattle.std.specs.Prelude.{◌≡◌, ℕ, Bool, true, false, List, [], ◌∷◌, Option, Some, None, Result, Ok, Err, MatchResult, IfSome, IsSome, slice_get, slice_set}
 use Rattle.std.specs.Option.{option_map}
 use Rattle.std.specs.declared.alloc.Global.{Global}
 use Rattle.std.specs.declared.dyn_box.DynBox.{DynBox}
@@ -10,17 +10,23 @@ use Rattle.tp_model.specs.declared.types.Claimed.TheVariants as claimeds
 use Rattle.tp_model.specs.declared.types.Ended.{Ended}
 use Rattle.tp_model.specs.declared.types.Ended.TheVariants as endeds
 use Rattle.tp_model.specs.declared.types.Limits.{Limits}
+use Rattle.tp_model.specs.declared.types.Refusal.{Refusal}
+use Rattle.tp_model.specs.declared.types.Refusal.TheVariants as refusals
 use Rattle.tp_model.specs.declared.types.Work.{Work}
 use Rattle.tp_server.specs.Behaviour.{Behaviour}
 use Rattle.tp_server.specs.Pending.{Pending}
-use Rattle.tp_manager.specs.Bounds.{abort_steps, claim_steps, commit_steps}
-use Rattle.tp_manager.specs.Calls.{Claims, Ends, Follows}
+use Rattle.tp_manager.specs.Bounds.{abort_steps, commit_steps}
+use Rattle.tp_manager.specs.Calls.{Ends, Follows}
 use Rattle.tp_manager.specs.Shown.{PassShown}
 use Rattle.tp_desk.specs.declared.aside.Aside.{Aside}
 use Rattle.tp_desk.specs.declared.desk.Desk.{Desk}
+use Rattle.tp_desk.specs.declared.order.Order.{Order}
+use Rattle.tp_desk.specs.declared.order.Order.TheVariants as orders
 use Rattle.tp_desk.specs.declared.turned.Turned.{Turned}
 use Rattle.tp_desk.specs.declared.turned.Turned.TheVariants as turneds
 use Rattle.tp_desk.specs.InHand.{IsSteady, work_of}
+use Rattle.tp_desk.specs.Given.{ClaimsGiven, given_steps}
+use Rattle.tp_desk.specs.Orders.{ClaimsBy, KeepsTurn, steps_by}
 use Rattle.tp_desk.specs.Steady.{shown}
 use Rattle.tp_desk.specs.Turns.{EndsOpen, WorksOff}
 use Rattle.tp_report.specs.declared.answer.ServerAnswer.{ServerAnswer}
@@ -122,31 +128,53 @@ IsSameServer old new = (new.behaviour ≡ old.behaviour) × (new.registers ≡ o
 -- a turn
 abbrev pub TellsTurn : Limits → DeskShown → ServerAnswer → DeskShown → Type 0
 TellsTurn l old (told.Turned turned) new =
-    (old.work ≡ None) × TakesTurn l (place_of old) turned (place_of new) × (new.work ≡ None)
+    (old.work ≡ None) × TakesTurn orders.LeastFirst l (place_of old) turned (place_of new) × (new.work ≡ None)
 TellsTurn l old told.Busy new = IsSome old.work × (new ≡ old)
 TellsTurn l old other new = ⊥
 
--- a claim that had this answer
-pub record ClaimsAt (l : Limits) (claimed : Claimed) (old new : DeskShown) : Type 0 where
+-- a claim in this order that had this answer; nothing is prepared
+pub record ClaimsAt (order : Order) (l : Limits) (claimed : Claimed) (old new : DeskShown) : Type 0 where
   pub idle : old.work ≡ None
-  pub follows : Follows (claim_steps l) old.pass new.pass
-  pub answer : Claims l old.behaviour.stage old.pass new.pass claimed
+  pub follows : Follows (steps_by order l) old.pass new.pass
+  pub turn : KeepsTurn order old.pass new.pass
+  pub answer : ClaimsBy order l old.behaviour.stage old.pass new.pass claimed
   pub work : new.work ≡ work_of claimed
   pub server : IsSameServer old new
+  pub unprepared : new.pending ≡ None
 
-abbrev pub TellsClaim : Limits → DeskShown → ServerAnswer → DeskShown → Type 0
-TellsClaim l old (told.Work element unit attempt) new = (work : Work)
-    × ClaimsAt l (claimeds.Work work) old new × (element ≡ work.element.id) × (unit ≡ work.unit) × (attempt ≡ work.attempt)
-TellsClaim l old (told.Turned turneds.Idle) new = ClaimsAt l claimeds.Idle old new
-TellsClaim l old (told.Turned turneds.NoUnit) new = ClaimsAt l claimeds.NoUnit old new
-TellsClaim l old told.Busy new = IsSome old.work × (new ≡ old)
-TellsClaim l old other new = ⊥
+abbrev pub TellsClaim : Order → Limits → DeskShown → ServerAnswer → DeskShown → Type 0
+TellsClaim order l old (told.Work element unit attempt) new = (work : Work) × ClaimsAt order l (claimeds.Work work) old new
+    × (element ≡ work.element.id) × (unit ≡ work.unit) × (attempt ≡ work.attempt)
+TellsClaim order l old (told.Turned turneds.Idle) new = ClaimsAt order l claimeds.Idle old new
+TellsClaim order l old (told.Turned turneds.NoUnit) new = ClaimsAt order l claimeds.NoUnit old new
+TellsClaim order l old told.Busy new = IsSome old.work × (new ≡ old)
+TellsClaim order l old other new = ⊥
+
+-- a claim of the element with this id that came to this; nothing is prepared
+pub record TakesAt (l : Limits) (id : ℕ) (taken : Result Work Refusal) (old new : DeskShown) : Type 0 where
+  pub idle : old.work ≡ None
+  pub follows : Follows (given_steps l) old.pass new.pass
+  pub turn : new.pass.from ≡ old.pass.from
+  pub answer : ClaimsGiven l old.behaviour.stage id old.pass new.pass taken
+  pub work : MatchResult taken (λ work. new.work ≡ Some work) (λ _. new.work ≡ None)
+  pub server : IsSameServer old new
+  pub unprepared : new.pending ≡ None
+
+abbrev pub TellsTake : Limits → ℕ → DeskShown → ServerAnswer → DeskShown → Type 0
+TellsTake l id old (told.Work element unit attempt) new = (work : Work) × TakesAt l id (Ok work) old new
+    × (element ≡ work.element.id) × (unit ≡ work.unit) × (attempt ≡ work.attempt)
+TellsTake l id old (told.Turned turneds.NoUnit) new = TakesAt l id (Err refusals.NoUnit) old new
+TellsTake l id old (told.NotTaken element why) new =
+    (element ≡ id) × ¬ (why ≡ refusals.NoUnit) × TakesAt l id (Err why) old new
+TellsTake l id old told.Busy new = IsSome old.work × (new ≡ old)
+TellsTake l id old other new = ⊥
 
 -- the work in hand came to this, and nothing is in hand any more
 pub record WorksOffAt (l : Limits) (turned : Turned) (old new : DeskShown) : Type 0 where
   pub work : Work
   pub in_hand : old.work ≡ Some work
   pub follows : Follows (commit_steps l 4) old.pass new.pass
+  pub turn : new.pass.from ≡ old.pass.from
   pub answer : WorksOff old.behaviour old.registers work old.pass new.pass turned
   pub none_left : new.work ≡ None
   pub behaviour_is : new.behaviour ≡ old.behaviour
@@ -181,6 +209,7 @@ pub record AbortsAt (ended : Ended) (element : ℕ) (old new : DeskShown) : Type
   pub in_hand : old.work ≡ Some work
   pub element_is : element ≡ work.element.id
   pub follows : Follows abort_steps old.pass new.pass
+  pub turn : new.pass.from ≡ old.pass.from
   pub answer : Ends old.pass new.pass ended
   pub none_left : new.work ≡ None
   pub server : IsSameServer old new
@@ -195,6 +224,7 @@ TellsAbort old other new = ⊥
 pub record DropsAt (old new : DeskShown) : Type 0 where
   pub gives_up : EndsOpen old.pass.open_unit old.pass new.pass
   pub follows : IfSome old.pass.open_unit (λ _. Follows abort_steps old.pass new.pass)
+  pub turn : new.pass.from ≡ old.pass.from
   pub none_left : new.work ≡ None
   pub server : IsSameServer old new
 
@@ -205,7 +235,9 @@ TellsDrop old other new = ⊥
 -- what a desk was asked
 abbrev pub Does : Limits → DeskAct → DeskShown → ServerAnswer → DeskShown → Type 0
 Does l acts.Turn old a new = TellsTurn l old a new
-Does l acts.Claim old a new = TellsClaim l old a new
+Does l acts.Claim old a new = TellsClaim orders.LeastFirst l old a new
+Does l acts.Next old a new = TellsClaim orders.InTurn l old a new
+Does l (acts.Take id) old a new = TellsTake l id old a new
 Does l acts.Prepare old a new = TellsPrepare l old a new
 Does l acts.Commit old a new = TellsCommit l old a new
 Does l acts.Abort old a new = TellsAbort old a new

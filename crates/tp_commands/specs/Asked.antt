@@ -1,21 +1,19 @@
 -- What the script's own client is answered, and what its pass did for it. `old` is what the pass shows before
 -- the command, and `new` what it shows after it.
-use Rattle.std.specs.Prelude.{◌≡◌, ◌⊎◌, ℕ, zero, suc, ◌+◌, ◌≤◌, ◌<◌, ◌==◌, Bool, ◌&&◌, if◌then◌else◌, List, [], ◌∷◌, ◌++◌, Option, Some, None}
+use Rattle.std.specs.Prelude.{◌≡◌, ◌⊎◌, ℕ, zero, suc, ◌+◌, ◌≤◌, ◌<◌, List, [], ◌∷◌}
 use Rattle.tp_model.specs.declared.types.Counts.{Counts}
 use Rattle.tp_model.specs.declared.types.Element.{Element}
 use Rattle.tp_model.specs.declared.types.Limits.{Limits}
 use Rattle.tp_model.specs.declared.types.Look.{Look}
-use Rattle.tp_model.specs.declared.types.Refusal.{Refusal}
 use Rattle.tp_model.specs.declared.types.Refusal.TheVariants as refusals
 use Rattle.tp_model.specs.Accounts.{one_more}
-use Rattle.tp_model.specs.Counts.{is_waiting}
 use Rattle.tp_model.specs.History.{IsUnborn}
 use Rattle.tp_model.specs.Steps.{rows_of}
-use Rattle.tp_manager.specs.Bounds.{kill_steps, cancel_steps, collect_steps, next_error_steps, read_steps, release_steps, requeue_steps, submit_steps}
+use Rattle.tp_manager.specs.Bounds.{kill_steps, cancel_steps, collect_next_steps, family_steps, next_error_steps, read_steps, release_steps, reply_steps, requeue_steps, submit_steps}
 use Rattle.tp_manager.specs.Calls.{AtPoint, Follows, HasLooked, IsQuiet, KillFails, Kills, Reads, SubmitRefused, Submits}
 use Rattle.tp_manager.specs.Cancels.{CancelFails, Cancels}
-use Rattle.tp_manager.specs.Lists.{NextError, NoneParked}
-use Rattle.tp_manager.specs.Releases.{CollectFails, Collects, ReleaseFails, Releases}
+use Rattle.tp_manager.specs.Lists.{AllKilled, CollectsNext, NextError, NextOfFamily, NextReply, NoneCollected, NoneOfFamily, NoneParked}
+use Rattle.tp_manager.specs.Releases.{ReleaseFails, Releases}
 use Rattle.tp_manager.specs.Requeues.{RequeueFails, Requeues}
 use Rattle.tp_manager.specs.Shown.{PassShown}
 use Rattle.tp_report.specs.declared.answer.Answer.{Answer}
@@ -25,6 +23,12 @@ use Rattle.tp_script.specs.declared.script.ClientAct.{ClientAct}
 use Rattle.tp_script.specs.declared.script.ClientAct.TheVariants as acts
 
 -- ---- one call
+
+-- a call of at most n steps was made, which is no claim in turn: those begin where they did
+pub record Called (l : Limits) (n : ℕ) (old new : PassShown) : Type 0 where
+  pub follows : Follows n old new
+  pub limits : new.limits ≡ l
+  pub turn : new.from ≡ old.from
 
 -- where there is a row for the id, the call has looked at the table, and answers from no earlier look
 abbrev pub LooksAt : Limits → ℕ → PassShown → PassShown → Type 0
@@ -37,7 +41,7 @@ Submitted stage body old new (answer.Refused why) = SubmitRefused stage old new 
 Submitted stage body old new other = ⊥
 
 abbrev pub TellsSubmit : Limits → ℕ → List ℕ → PassShown → PassShown → Answer → Type 0
-TellsSubmit l stage body old new a = Follows (submit_steps l) old new × Submitted stage body old new a
+TellsSubmit l stage body old new a = Called l (submit_steps l) old new × Submitted stage body old new a
 
 -- a kill
 abbrev pub Killed : Limits → ℕ → PassShown → PassShown → Answer → Type 0
@@ -46,7 +50,7 @@ Killed l id old new (answer.Refused why) = KillFails l id old new why
 Killed l id old new other = ⊥
 
 abbrev pub TellsKill : Limits → ℕ → PassShown → PassShown → Answer → Type 0
-TellsKill l id old new a = Follows (kill_steps l) old new × LooksAt l id old new × Killed l id old new a
+TellsKill l id old new a = Called l (kill_steps l) old new × LooksAt l id old new × Killed l id old new a
 
 -- a cancel
 abbrev pub Cancelled : Limits → ℕ → PassShown → PassShown → Answer → Type 0
@@ -55,7 +59,7 @@ Cancelled l root old new (answer.Refused why) = CancelFails root old new why
 Cancelled l root old new other = ⊥
 
 abbrev pub TellsCancel : Limits → ℕ → PassShown → PassShown → Answer → Type 0
-TellsCancel l root old new a = Follows (cancel_steps l) old new × LooksAt l root old new × Cancelled l root old new a
+TellsCancel l root old new a = Called l (cancel_steps l) old new × LooksAt l root old new × Cancelled l root old new a
 
 -- a requeue
 abbrev pub Requeued : Limits → ℕ → PassShown → PassShown → Answer → Type 0
@@ -64,7 +68,7 @@ Requeued l id old new (answer.Refused why) = RequeueFails l id old new why
 Requeued l id old new other = ⊥
 
 abbrev pub TellsRequeue : Limits → ℕ → PassShown → PassShown → Answer → Type 0
-TellsRequeue l id old new a = Follows requeue_steps old new × LooksAt l id old new × Requeued l id old new a
+TellsRequeue l id old new a = Called l requeue_steps old new × LooksAt l id old new × Requeued l id old new a
 
 -- a release
 abbrev pub Released : Limits → ℕ → PassShown → PassShown → Answer → Type 0
@@ -73,7 +77,7 @@ Released l id old new (answer.Refused why) = ReleaseFails l id old new why
 Released l id old new other = ⊥
 
 abbrev pub TellsRelease : Limits → ℕ → PassShown → PassShown → Answer → Type 0
-TellsRelease l id old new a = Follows release_steps old new × LooksAt l id old new × Released l id old new a
+TellsRelease l id old new a = Called l release_steps old new × LooksAt l id old new × Released l id old new a
 
 -- a read
 abbrev pub HasRead : Limits → ℕ → PassShown → PassShown → Answer → Type 0
@@ -82,62 +86,58 @@ HasRead l id old new (answer.Refused why) = (why ≡ refusals.NotThere) × AtPoi
 HasRead l id old new other = ⊥
 
 abbrev pub TellsRead : Limits → ℕ → PassShown → PassShown → Answer → Type 0
-TellsRead l id old new a = Follows (read_steps l) old new × IsQuiet old new × LooksAt l id old new × HasRead l id old new a
+TellsRead l id old new a = Called l (read_steps l) old new × IsQuiet old new × LooksAt l id old new × HasRead l id old new a
 
 -- ---- several calls, one after another
 
--- whether a look shows a reply to this request that waits
-abbrev pub is_reply : ℕ → Look → Bool
-is_reply root look = (look.element.stage == 15) && (look.element.root == root) && is_waiting look.status
+-- a listing from this id on found this reply to the request, which waited, and then its element was read
+pub record FindsReply (l : Limits) (root from : ℕ) (e : Element) (old new : PassShown) : Type 0 where
+  pub between : PassShown
+  pub called : Called l (reply_steps l) old between
+  pub quiet : IsQuiet old between
+  pub looks : LooksAt l from old between
+  pub next : NextReply l root from e.id old between
+  pub look : Look
+  pub read : TellsRead l e.id between new (answer.Read look)
+  pub shows : look.element ≡ e
 
--- the element that a read answered, where it is such a reply
-abbrev pub reply_in : ℕ → Answer → Option Element
-reply_in root (answer.Read look) = if is_reply root look then Some look.element else None
-reply_in root other = None
+-- a listing from this id on found no reply that waited
+abbrev pub FindsNoReply : Limits → ℕ → ℕ → PassShown → PassShown → Type 0
+FindsNoReply l root from old new = Called l (reply_steps l) old new × IsQuiet old new × LooksAt l from old new
+    × AllKilled l root (λ i. from ≤ i) old new
 
--- what was found, and one more where there is one
-abbrev pub with_one : {A : Type 0} → List A → Option A → List A
-with_one found (Some e) = found ++ e ∷ []
-with_one found None = found
-
--- the ids below this one were read, one after another, and these are the replies to the request among them
+-- the replies to the request from this id on, one found behind the other, until none was or no id is left
 abbrev pub TellsReplies : Limits → ℕ → ℕ → PassShown → List Element → PassShown → Type 0
-TellsReplies l root zero old found new = (found ≡ []) × (new ≡ old)
-TellsReplies l root (suc id) old found new = (before : List Element) × (between : PassShown) × (a : Answer)
-    × TellsReplies l root id old before between × TellsRead l id between new a
-    × (found ≡ with_one before (reply_in root a))
+TellsReplies l root from old [] new = FindsNoReply l root from old new ⊎ ((rows_of l ≤ from) × (new ≡ old))
+TellsReplies l root from old (e ∷ rest) new = (between : PassShown) × FindsReply l root from e old between
+    × TellsReplies l root (e.id + 1) between rest new
 
--- a reply that was shown to wait is taken, or another has taken it; where none was shown, nothing is done
-abbrev pub Taken : Limits → ℕ → Option Element → PassShown → PassShown → Option Element → Type 0
-Taken l id None old new taken = (taken ≡ None) × (new ≡ old)
-Taken l id (Some shown) old new (Some e) = Follows collect_steps old new × LooksAt l id old new × Collects id e old new
-Taken l id (Some shown) old new None =
-    Follows collect_steps old new × LooksAt l id old new × ((why : Refusal) × CollectFails l id old new why)
+-- the replies to the request, one taken behind the other, until none waits
+abbrev pub TellsCollected : Limits → ℕ → PassShown → List Element → PassShown → Type 0
+TellsCollected l root old [] new = Called l (collect_next_steps l) old new × LooksAt l root old new
+    × NoneCollected l root old new
+TellsCollected l root old (e ∷ rest) new = (between : PassShown) × Called l (collect_next_steps l) old between
+    × LooksAt l root old between × CollectsNext l root e old between × TellsCollected l root between rest new
 
--- the ids below this one were read, one after another, each reply to the request among them that waits was taken
--- behind its read, and these are the ones that this pass took
-abbrev pub TellsCollected : Limits → ℕ → ℕ → PassShown → List Element → PassShown → Type 0
-TellsCollected l root zero old found new = (found ≡ []) × (new ≡ old)
-TellsCollected l root (suc id) old found new =
-    (before : List Element) × (between : PassShown) × (a : Answer) × (read : PassShown) × (taken : Option Element)
-    × TellsCollected l root id old before between × TellsRead l id between read a
-    × Taken l id (reply_in root a) read new taken × (found ≡ with_one before taken)
+-- a listing from this id on found this element of the request, which stood so
+abbrev pub FindsMember : Limits → ℕ → ℕ → Look → PassShown → PassShown → Type 0
+FindsMember l root from look old new = Called l (family_steps l) old new × IsQuiet old new × LooksAt l from old new
+    × NextOfFamily l root from look old new
 
--- the look that a read answered, where it shows an element of the request
-abbrev pub member_in : ℕ → Answer → Option Look
-member_in root (answer.Read look) = if look.element.root == root then Some look else None
-member_in root other = None
+-- a listing from this id on found no element of the request
+abbrev pub FindsNoMember : Limits → ℕ → ℕ → PassShown → PassShown → Type 0
+FindsNoMember l root from old new = Called l (family_steps l) old new × IsQuiet old new × LooksAt l from old new
+    × NoneOfFamily root from old new
 
--- the ids below this one were read, one after another, and these are the looks at elements of the request
+-- the elements of the request from this id on, one found behind the other, until none was or no id is left
 abbrev pub TellsFamily : Limits → ℕ → ℕ → PassShown → List Look → PassShown → Type 0
-TellsFamily l root zero old found new = (found ≡ []) × (new ≡ old)
-TellsFamily l root (suc id) old found new = (before : List Look) × (between : PassShown) × (a : Answer)
-    × TellsFamily l root id old before between × TellsRead l id between new a
-    × (found ≡ with_one before (member_in root a))
+TellsFamily l root from old [] new = FindsNoMember l root from old new ⊎ ((rows_of l ≤ from) × (new ≡ old))
+TellsFamily l root from old (look ∷ rest) new = (between : PassShown) × FindsMember l root from look old between
+    × TellsFamily l root (look.element.id + 1) between rest new
 
 -- the next parked element from this id on was found
 pub record FindsError (l : Limits) (from id : ℕ) (old new : PassShown) : Type 0 where
-  pub follows : Follows (next_error_steps l) old new
+  pub called : Called l (next_error_steps l) old new
   pub quiet : IsQuiet old new
   pub looks : LooksAt l from old new
   pub next : NextError l from id old new
@@ -145,7 +145,7 @@ pub record FindsError (l : Limits) (from id : ℕ) (old new : PassShown) : Type 
 -- a listing from this id on found none, or no id is left
 abbrev pub FindsNoError : Limits → ℕ → PassShown → PassShown → Type 0
 FindsNoError l from old new =
-    (Follows (next_error_steps l) old new × IsQuiet old new × LooksAt l from old new × NoneParked l (λ i. from ≤ i) old new)
+    (Called l (next_error_steps l) old new × IsQuiet old new × LooksAt l from old new × NoneParked l (λ i. from ≤ i) old new)
     ⊎ ((rows_of l ≤ from) × (new ≡ old))
 
 -- the parked elements from this id on, one found behind the other
@@ -189,9 +189,9 @@ TellsClient l (acts.Kill id) = AnswerLine (TellsKill l id)
 TellsClient l (acts.Cancel root) = AnswerLine (TellsCancel l root)
 TellsClient l (acts.Requeue id) = AnswerLine (TellsRequeue l id)
 TellsClient l (acts.Release id) = AnswerLine (TellsRelease l id)
-TellsClient l (acts.Collect root) = FoundLine (TellsCollected l root (rows_of l)) (collected_text root)
-TellsClient l (acts.Family root) = FoundLine (TellsFamily l root (rows_of l)) (family_text root)
+TellsClient l (acts.Collect root) = FoundLine (TellsCollected l root) (collected_text root)
+TellsClient l (acts.Family root) = FoundLine (TellsFamily l root 0) (family_text root)
 TellsClient l (acts.Read id) = AnswerLine (TellsRead l id)
-TellsClient l (acts.Reply root) = FoundLine (TellsReplies l root (rows_of l)) (replies_text root)
+TellsClient l (acts.Reply root) = FoundLine (TellsReplies l root 0) (replies_text root)
 TellsClient l acts.Errors = FoundLine (TellsErrors l 0) errors_text
 TellsClient l acts.Count = FoundLine (TellsCount l (rows_of l)) counts_text

@@ -1,15 +1,14 @@
 //! What the script's own client asks of the manager, through its pass.
-ghost use Rattle.std.specs.Prelude.{◌≡◌, ◌-◌, ◌<◌, ◌^◌, ℕ, List, IfOk, string_bytes};
+ghost use Rattle.std.specs.Prelude.{◌≡◌, ◌-◌, ◌<◌, ◌≤◌, ◌^◌, ℕ, List, IfOk, IfSome, MatchOption, string_bytes};
 ghost use Rattle.tp_model.specs.declared.types.Element.{Element};
 ghost use Rattle.tp_model.specs.declared.types.Look.{Look};
 ghost use Rattle.tp_model.specs.Accounts.{all_in, one_more};
 ghost use Rattle.tp_model.specs.Steps.{rows_of};
-ghost use Rattle.tp_manager.specs.Shown.{PassShown};
 ghost use Rattle.tp_report.specs.Answer.{collected_text, errors_text, family_text, line, replies_text};
 ghost use Rattle.tp_report.specs.Lines.{IsLine};
 ghost use Rattle.tp_report.specs.declared.answer.Answer.{Answer};
 ghost use Rattle.tp_workers.specs.Free.{IsFreePass};
-ghost use Rattle.tp_commands.specs.Asked.{TellsCancel, TellsClient, TellsCollected, TellsCount, TellsErrors, TellsFamily, TellsKill, TellsRead, TellsRelease, TellsReplies, TellsRequeue, TellsSubmit, Taken, is_reply, member_in, reply_in};
+ghost use Rattle.tp_commands.specs.Asked.{FindsMember, FindsNoMember, FindsNoReply, FindsReply, TellsCancel, TellsClient, TellsCollected, TellsCount, TellsErrors, TellsFamily, TellsKill, TellsRead, TellsRelease, TellsReplies, TellsRequeue, TellsSubmit};
 
 use std::alloc::{AllocError, Global};
 use std::string::String;
@@ -135,31 +134,22 @@ fn read(manager: &Manager, client: &mut Pass, id: u32) -> Answer<'static>
     }
 }
 
-/// Whether a look shows a reply to this request that waits.
-fn is_reply(root: u32, look: &Look) -> bool
-    ensures { result ≡ is_reply root look.now }
-{
-    look.element.stage == 15
-        && look.element.root == root
-        && matches!(look.status, Status::Waiting { attempts: _ })
-}
-
-/// Reads the element with this id, and answers it where it is a reply to the request that waits.
-fn reply_at(manager: &Manager, client: &mut Pass, root: u32, id: u32) -> Option<Element>
+/// The reply to the request that has the least id from this one on of those found waiting.
+fn next_reply(manager: &Manager, client: &mut Pass, root: u32, from: u32) -> Option<Element>
     requires { IsFreePass manager.now client.old }
     ensures free { IsFreePass manager.now client.new }
     ensures number { client.new.number ≡ client.old.number }
-    ensures tells { (a : Answer) × TellsRead manager.now.limits id client.old client.new a × (result ≡ reply_in root a) }
+    ensures inside { IfSome result (λ reply. (from ≤ reply.id) × (reply.id < rows_of manager.now.limits)) }
+    ensures tells { MatchOption result
+        (FindsNoReply manager.now.limits root from client.old client.new)
+        (λ reply. FindsReply manager.now.limits root from reply client.old client.new) }
 {
+    let Some(id) = manager.reply(client, root, from) else {
+        return None;
+    };
     match manager.read(client, id) {
-        Ok(look) => {
-            if is_reply(root, &look) {
-                Some(look.element)
-            } else {
-                None
-            }
-        }
-        Err(_) => None,
+        Ok(look) => Some(look.element),
+        Err(_) => unreachable!(),
     }
 }
 
@@ -174,39 +164,25 @@ fn replies(
     ensures free { IsFreePass manager.now client.new }
     ensures number { client.new.number ≡ client.old.number }
     ensures tells { IfOk result (λ text. (found : List Element)
-        × TellsReplies manager.now.limits root (rows_of manager.now.limits) client.old found client.new
+        × TellsReplies manager.now.limits root 0 client.old found client.new
         × (string_bytes text ≡ line (replies_text root found))) }
     ensures line { IfOk result (λ text. IsLine (string_bytes text)) }
 {
     let mut found = Vec::new(alloc);
-    for id in 0..manager.capacity() {
-        if let Some(reply) = reply_at(manager, client, root, id) {
-            found.push(reply)?;
-        }
+    let capacity = manager.capacity();
+    let mut from = 0;
+    while from < capacity {
+        let Some(reply) = next_reply(manager, client, root, from) else {
+            break;
+        };
+        found.push(reply)?;
+        from = reply.id + 1;
     }
     let replies = found.as_slice();
     line(alloc, Answer::Replies { root, replies })
 }
 
-/// Takes the element with this id where it is a reply to the request that waits. `None` too where another
-/// has taken it behind the look.
-fn collect_at(manager: &Manager, client: &mut Pass, root: u32, id: u32) -> Option<Element>
-    requires { IsFreePass manager.now client.old }
-    ensures free { IsFreePass manager.now client.new }
-    ensures number { client.new.number ≡ client.old.number }
-    ensures tells { (a : Answer) × (read : PassShown) × TellsRead manager.now.limits id client.old read a
-        × Taken manager.now.limits id (reply_in root a) read client.new result }
-{
-    if reply_at(manager, client, root, id).is_none() {
-        return None;
-    }
-    match manager.collect(client, id) {
-        Ok(reply) => Some(reply),
-        Err(_) => None,
-    }
-}
-
-/// The line of `collect ROOT`: takes the replies to the request, in ascending order.
+/// The line of `collect ROOT`: takes the replies to the request, the least one each time, until none waits.
 fn collected(
     alloc: Global,
     manager: &Manager,
@@ -217,37 +193,30 @@ fn collected(
     ensures free { IsFreePass manager.now client.new }
     ensures number { client.new.number ≡ client.old.number }
     ensures tells { IfOk result (λ text. (found : List Element)
-        × TellsCollected manager.now.limits root (rows_of manager.now.limits) client.old found client.new
+        × TellsCollected manager.now.limits root client.old found client.new
         × (string_bytes text ≡ line (collected_text root found))) }
     ensures line { IfOk result (λ text. IsLine (string_bytes text)) }
 {
     let mut found = Vec::new(alloc);
-    for id in 0..manager.capacity() {
-        if let Some(reply) = collect_at(manager, client, root, id) {
-            found.push(reply)?;
-        }
+    while let Some(reply) = manager.collect_next(client, root) {
+        found.push(reply)?;
     }
     let replies = found.as_slice();
     line(alloc, Answer::Collected { root, replies })
 }
 
-/// Reads the element with this id, and answers the look where it is of the request.
-fn member_at(manager: &Manager, client: &mut Pass, root: u32, id: u32) -> Option<Look>
+/// The element of the request that has the least id from this one on, and how it stands.
+fn next_member(manager: &Manager, client: &mut Pass, root: u32, from: u32) -> Option<Look>
     requires { IsFreePass manager.now client.old }
     ensures free { IsFreePass manager.now client.new }
     ensures number { client.new.number ≡ client.old.number }
-    ensures tells { (a : Answer) × TellsRead manager.now.limits id client.old client.new a × (result ≡ member_in root a) }
+    ensures inside { IfSome result (λ look. (from ≤ look.element.id)
+        × (look.element.id < rows_of manager.now.limits)) }
+    ensures tells { MatchOption result
+        (FindsNoMember manager.now.limits root from client.old client.new)
+        (λ look. FindsMember manager.now.limits root from look client.old client.new) }
 {
-    match manager.read(client, id) {
-        Ok(look) => {
-            if look.element.root == root {
-                Some(look)
-            } else {
-                None
-            }
-        }
-        Err(_) => None,
-    }
+    manager.family(client, root, from)
 }
 
 /// The line of `family ROOT`: the elements of the request, in ascending order.
@@ -261,15 +230,19 @@ fn family(
     ensures free { IsFreePass manager.now client.new }
     ensures number { client.new.number ≡ client.old.number }
     ensures tells { IfOk result (λ text. (found : List Look)
-        × TellsFamily manager.now.limits root (rows_of manager.now.limits) client.old found client.new
+        × TellsFamily manager.now.limits root 0 client.old found client.new
         × (string_bytes text ≡ line (family_text root found))) }
     ensures line { IfOk result (λ text. IsLine (string_bytes text)) }
 {
     let mut found = Vec::new(alloc);
-    for id in 0..manager.capacity() {
-        if let Some(look) = member_at(manager, client, root, id) {
-            found.push(look)?;
-        }
+    let capacity = manager.capacity();
+    let mut from = 0;
+    while from < capacity {
+        let Some(look) = next_member(manager, client, root, from) else {
+            break;
+        };
+        found.push(look)?;
+        from = look.element.id + 1;
     }
     let looks = found.as_slice();
     line(alloc, Answer::Family { root, looks })

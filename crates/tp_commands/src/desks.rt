@@ -2,19 +2,20 @@
 ghost use Rattle.std.specs.Prelude.{◌≡◌, ◌<◌, All, IfOk, IfSome, length, slice_get, string_bytes};
 ghost use Rattle.tp_manager.specs.Shown.{IsOf};
 ghost use Rattle.tp_desk.specs.Steady.{IsSameDesk, SteadyDesk, shown};
-ghost use Rattle.tp_commands.specs.Acting.{Does, DoesAt, DoesIn, TellsAbort, TellsClaim, TellsCommit, TellsDrop, TellsPrepare, TellsTurn, desk_shown, place_shown, places_shown};
+ghost use Rattle.tp_commands.specs.Acting.{Does, DoesAt, DoesIn, TellsAbort, TellsClaim, TellsCommit, TellsDrop, TellsPrepare, TellsTake, TellsTurn, desk_shown, place_shown, places_shown};
 ghost use Rattle.tp_commands.specs.Places.{AllLie, Lies, first_of, firsts};
 ghost use Rattle.tp_report.specs.Answer.{line, named_text};
 ghost use Rattle.tp_report.specs.Lines.{IsLine};
 ghost use Rattle.tp_report.specs.declared.answer.ServerAnswer.{ServerAnswer};
+ghost use Rattle.tp_report.specs.declared.answer.ServerAnswer.TheVariants as told;
 
 use crate::lines::server_line;
 use crate::place::Place;
 use std::alloc::{AllocError, Global};
 use std::string::String;
-use tp_desk::{Desk, Turned};
+use tp_desk::{Desk, Order, Turned};
 use tp_manager::{Manager, Pass};
-use tp_model::types::{Claimed, Ended};
+use tp_model::types::{Claimed, Ended, Refusal, Work};
 use tp_report::ServerAnswer;
 use tp_script::{DeskAct, ScriptServer};
 use tp_server::Server;
@@ -122,7 +123,9 @@ fn act_by(desk: &mut Desk, act: DeskAct) -> ServerAnswer
 {
     match act {
         DeskAct::Turn => turn(desk),
-        DeskAct::Claim => claim(desk),
+        DeskAct::Claim => claim(desk, Order::LeastFirst),
+        DeskAct::Next => claim(desk, Order::InTurn),
+        DeskAct::Take { id } => take(desk, id),
         DeskAct::Prepare => prepare(desk),
         DeskAct::Commit => commit(desk),
         DeskAct::Abort => abort(desk),
@@ -144,25 +147,50 @@ fn turn(desk: &mut Desk) -> ServerAnswer
     ServerAnswer::Turned(desk.turn())
 }
 
-/// `claim NAME`
-fn claim(desk: &mut Desk) -> ServerAnswer
+/// `claim NAME` or `next NAME`
+fn claim(desk: &mut Desk, order: Order) -> ServerAnswer
     requires steady { SteadyDesk (shown behaviour) (shown registers) (shown pending) desk.old }
     ensures same { IsSameDesk desk.old desk.new }
     ensures steady { SteadyDesk (shown behaviour) (shown registers) (shown pending) desk.new }
-    ensures tells { TellsClaim desk.old.manager.now.limits (desk_shown behaviour registers pending desk.old) result
+    ensures tells { TellsClaim order desk.old.manager.now.limits (desk_shown behaviour registers pending desk.old) result
         (desk_shown behaviour registers pending desk.new) }
 {
     if desk.has_open() {
         return ServerAnswer::Busy;
     }
-    match desk.claim() {
-        Claimed::Work(work) => ServerAnswer::Work {
-            element: work.element.id,
-            unit: work.unit,
-            attempt: work.attempt,
-        },
+    match desk.claim_by(order) {
+        Claimed::Work(work) => took(&work),
         Claimed::Idle => ServerAnswer::Turned(Turned::Idle),
         Claimed::NoUnit => ServerAnswer::Turned(Turned::NoUnit),
+    }
+}
+
+/// The answer of a claim that took this.
+fn took(work: &Work) -> ServerAnswer
+    ensures { result ≡ told.Work work.now.element.id work.now.unit work.now.attempt }
+{
+    ServerAnswer::Work {
+        element: work.element.id,
+        unit: work.unit,
+        attempt: work.attempt,
+    }
+}
+
+/// `take NAME ID`
+fn take(desk: &mut Desk, id: u32) -> ServerAnswer
+    requires steady { SteadyDesk (shown behaviour) (shown registers) (shown pending) desk.old }
+    ensures same { IsSameDesk desk.old desk.new }
+    ensures steady { SteadyDesk (shown behaviour) (shown registers) (shown pending) desk.new }
+    ensures tells { TellsTake desk.old.manager.now.limits id (desk_shown behaviour registers pending desk.old) result
+        (desk_shown behaviour registers pending desk.new) }
+{
+    if desk.has_open() {
+        return ServerAnswer::Busy;
+    }
+    match desk.claim_id(id) {
+        Ok(work) => took(&work),
+        Err(Refusal::NoUnit) => ServerAnswer::Turned(Turned::NoUnit),
+        Err(why) => ServerAnswer::NotTaken { element: id, why },
     }
 }
 

@@ -10,6 +10,8 @@ use Rattle.tp_model.specs.declared.types.Limits.{Limits}
 use Rattle.tp_model.specs.declared.types.Claimed.{Claimed}
 use Rattle.tp_model.specs.declared.types.Claimed.TheVariants as claimeds
 use Rattle.tp_model.specs.declared.types.Outcome.{Outcome}
+use Rattle.tp_model.specs.declared.types.Refusal.{Refusal}
+use Rattle.tp_model.specs.declared.types.Refusal.TheVariants as refusals
 use Rattle.tp_model.specs.declared.types.Outcome.TheVariants as outcomes
 use Rattle.tp_model.specs.declared.types.Ended.{Ended}
 use Rattle.tp_model.specs.declared.types.Ended.TheVariants.{Aborted, Already}
@@ -26,8 +28,12 @@ use Rattle.tp_server.specs.Behaviour.{Allows, Behaviour}
 use Rattle.tp_server.specs.Pending.{Pending, registers_of}
 use Rattle.tp_server.proofs.Made.{made_of, makes_of}
 use Rattle.tp_manager.specs.Bounds.{abort_steps}
-use Rattle.tp_manager.specs.Calls.{Adds, Claims, Closes, Commits, Ends, Follows, IsQuiet, Loses, Settles, Takes}
+use Rattle.tp_manager.specs.Calls.{Adds, Claims, Closes, Commits, Ends, Follows, IsQuiet, Loses, Opens, Settles}
 use Rattle.tp_manager.specs.Shown.{PassShown, view_in}
+use Rattle.tp_desk.specs.Given.{GivenFails}
+use Rattle.tp_desk.specs.Orders.{ClaimsBy}
+use Rattle.tp_desk.specs.declared.order.Order.{Order}
+use Rattle.tp_desk.specs.declared.order.Order.TheVariants as orders
 use Rattle.tp_desk.specs.InHand.{InHand, IsFree, IsSteady, work_of}
 use Rattle.tp_desk.specs.Serving.{AreEnded, AreFresh, Leaves, Serves, done_with, draft_in, gained}
 use Rattle.tp_desk.specs.Turns.{EndsOpen, Finishes, registers_left}
@@ -109,28 +115,28 @@ outputs_drafts u root id (d ∷ ds) = ap (λ (l : List DraftView). d ∷ l) (out
 module _ (behaviour : Behaviour) (r : List ℕ) (pending : Option Pending) (start : List ℕ) (f p : PassShown) where
   -- an element was taken in hand
   claims : (work : Option Work) (drafts : List DraftView) → work ≡ None → IsSteady behaviour r pending start f p work drafts
-      → (l : Limits) (n stage : ℕ) (q : PassShown) (w : Work) → Follows n p q → Takes l stage w p q → IsSteady behaviour r pending start f q (Some w) drafts
+      → (l : Limits) (n stage : ℕ) (q : PassShown) (w : Work) → Follows n p q → Opens l stage w p q → IsSteady behaviour r pending start f q (Some w) drafts
   claims work drafts none s l n stage q w follows takes =
       let g : List Event = gained f.mine p.mine in
       let x : Event = Claim p.number w.unit w.element.id w.attempt in
       let free : IsFree pending p = subst (λ (o : Option Work). InHand behaviour r pending o drafts f p) none s.in_hand in
-      let now : gained f.mine q.mine ≡ g ++ x ∷ [] = ap (gained f.mine) takes.opens.adds.mine ∙ gained_more f.mine p.mine (x ∷ []) s.serves.mine in
+      let now : gained f.mine q.mine ≡ g ++ x ∷ [] = ap (gained f.mine) takes.adds.mine ∙ gained_more f.mine p.mine (x ∷ []) s.serves.mine in
       let t : UnitClaim = record { pass = p.number; item = w.element.id; attempt = w.attempt } in
-      let fresh : claim_of g w.unit ≡ None = fresh_gained f.mine p.mine w.unit s.serves.mine takes.opens.fresh in
+      let fresh : claim_of g w.unit ≡ None = fresh_gained f.mine p.mine w.unit s.serves.mine takes.fresh in
       let claimed : claim_of (g ++ x ∷ []) w.unit ≡ Some t = first-snoc (claim_by w.unit) g x ∙ rw (fresh) (if_same w.unit w.unit (Some t) None refl) in
       let seen = seen_on n p q follows in
       let ended : AreEnded (Some w.unit) (g ++ x ∷ []) q.seen = λ v y is.
       ⊎_elim (λ before. ⊎_elim (λ same. absurd (not_both p.open_unit v free.open_unit same)) (λ e. inr e) (still_ended g p.seen q.seen p.open_unit seen s.ended v y before))
       (λ here. inl (ap Some (some_if w.unit v t y here.1).0)) (option_or-some (claim_of g v) (claim_by v x) y (sym (first-snoc (claim_by v) g x) ∙ is)) in
       record {
-        serves = serves_claim behaviour start r f p q p.number w.unit w.element.id w.attempt follows.number seen takes.opens.adds.mine (fresh_claim p.mine p.number w.unit w.element.id w.attempt takes.opens.fresh) s.serves;
+        serves = serves_claim behaviour start r f p q p.number w.unit w.element.id w.attempt follows.number seen takes.adds.mine (fresh_claim p.mine p.number w.unit w.element.id w.attempt takes.fresh) s.serves;
         in_hand = record {
-          open_unit = takes.opens.open_unit;
+          open_unit = takes.open_unit;
           claimed = subst (λ (h : List Event). IsClaim h q.number w.unit w.element.id w.attempt) (sym now) (subst (λ (c : ℕ). IsClaim (g ++ x ∷ []) c w.unit w.element.id w.attempt) (sym follows.number) claimed);
-          is_born = takes.opens.is_born;
+          is_born = takes.is_born;
           prepared = λ some. absurd (no_some pending free.unprepared some);
         };
-        ended = subst (λ (o : Option ℕ). AreEnded o (gained f.mine q.mine) q.seen) (sym takes.opens.open_unit) (subst (λ (h : List Event). AreEnded (Some w.unit) h q.seen) (sym now) ended);
+        ended = subst (λ (o : Option ℕ). AreEnded o (gained f.mine q.mine) q.seen) (sym takes.open_unit) (subst (λ (h : List Event). AreEnded (Some w.unit) h q.seen) (sym now) ended);
       }
 
   -- nothing was taken
@@ -204,14 +210,50 @@ still_steady behaviour behaviour' start r r' pending pending' f p q work drafts 
     subst (λ (o : Option Work). IsSteady behaviour' r' pending' start f q o drafts) (sym none)
     (emptied behaviour behaviour' start r' r' f q pending' drafts (leaves_then behaviour start r r' f p q s.serves ended left) same refl clear free)
 
+-- what a claim took, in either order
+pub opens_by : (order : Order) (l : Limits) (stage : ℕ) (w : Work) (p q : PassShown) → ClaimsBy order l stage p q (claimeds.Work w) → Opens l stage w p q
+opens_by orders.LeastFirst l stage w p q takes = takes.opens
+opens_by orders.InTurn l stage w p q takes = takes.opens
+
+-- and one that took nothing
+pub idle_by : (order : Order) (l : Limits) (stage : ℕ) (p q : PassShown) → ClaimsBy order l stage p q claimeds.Idle → Claims l stage p q claimeds.Idle
+idle_by orders.LeastFirst l stage p q answer = answer
+idle_by orders.InTurn l stage p q answer = answer.0
+
+pub nounit_by : (order : Order) (l : Limits) (stage : ℕ) (p q : PassShown) → ClaimsBy order l stage p q claimeds.NoUnit → Claims l stage p q claimeds.NoUnit
+nounit_by orders.LeastFirst l stage p q answer = answer
+nounit_by orders.InTurn l stage p q answer = answer
+
 -- a claim, whatever its answer
-pub claimed : (behaviour : Behaviour) (r : List ℕ) (pending : Option Pending) (start : List ℕ) (f p q : PassShown) (work : Option Work) (drafts : List DraftView) (l : Limits) (n stage : ℕ) (answer : Claimed)
-    → work ≡ None → IsSteady behaviour r pending start f p work drafts → Follows n p q → Claims l stage p q answer → IsSteady behaviour r pending start f q (work_of answer) drafts
-claimed behaviour r pending start f p q work drafts l n stage (claimeds.Work w) none s follows takes = claims behaviour r pending start f p work drafts none s l n stage q w follows takes
-claimed behaviour r pending start f p q work drafts l n stage claimeds.Idle none s follows answer =
-    subst (λ (o : Option Work). IsSteady behaviour r pending start f q o drafts) none (idles behaviour r pending start f p work drafts none s n q follows answer.1)
-claimed behaviour r pending start f p q work drafts l n stage claimeds.NoUnit none s follows answer =
-    subst (λ (x : PassShown). IsSteady behaviour r pending start f x None drafts) (sym answer.1) (subst (λ (o : Option Work). IsSteady behaviour r pending start f p o drafts) none s)
+pub claimed : (behaviour : Behaviour) (r : List ℕ) (pending : Option Pending) (start : List ℕ) (f p q : PassShown) (work : Option Work) (drafts : List DraftView) (l : Limits) (order : Order) (n stage : ℕ) (answer : Claimed)
+    → work ≡ None → IsSteady behaviour r pending start f p work drafts → Follows n p q → ClaimsBy order l stage p q answer → IsSteady behaviour r pending start f q (work_of answer) drafts
+claimed behaviour r pending start f p q work drafts l order n stage (claimeds.Work w) none s follows takes = claims behaviour r pending start f p work drafts none s l n stage q w follows (opens_by order l stage w p q takes)
+claimed behaviour r pending start f p q work drafts l order n stage claimeds.Idle none s follows answer =
+    let idle = idle_by order l stage p q answer in
+    subst (λ (o : Option Work). IsSteady behaviour r pending start f q o drafts) none (idles behaviour r pending start f p work drafts none s n q follows idle.1)
+claimed behaviour r pending start f p q work drafts l order n stage claimeds.NoUnit none s follows answer =
+    let same = nounit_by order l stage p q answer in
+    subst (λ (x : PassShown). IsSteady behaviour r pending start f x None drafts) (sym same.1) (subst (λ (o : Option Work). IsSteady behaviour r pending start f p o drafts) none s)
+
+-- a claim of a given element that took it, and one that was refused
+pub given : (behaviour : Behaviour) (r : List ℕ) (pending : Option Pending) (start : List ℕ) (f p q : PassShown) (work : Option Work) (drafts : List DraftView) (l : Limits) (n stage id : ℕ) (w : Work)
+    → work ≡ None → IsSteady behaviour r pending start f p work drafts → Follows n p q → Opens l stage w p q × (w.element.id ≡ id) → IsSteady behaviour r pending start f q (Some w) drafts
+given behaviour r pending start f p q work drafts l n stage id w none s follows takes = claims behaviour r pending start f p work drafts none s l n stage q w follows takes.0
+
+pub not_given : (behaviour : Behaviour) (r : List ℕ) (pending : Option Pending) (start : List ℕ) (f p q : PassShown) (work : Option Work) (drafts : List DraftView) (l : Limits) (n stage id : ℕ) (why : Refusal)
+    → work ≡ None → IsSteady behaviour r pending start f p work drafts → Follows n p q → GivenFails l stage id p q why → IsSteady behaviour r pending start f q work drafts
+not_given behaviour r pending start f p q work drafts l n stage id refusals.NoUnit none s follows says = subst (λ x. IsSteady behaviour r pending start f x work drafts) (sym says.1) s
+not_given behaviour r pending start f p q work drafts l n stage id refusals.NotThere none s follows says = idles behaviour r pending start f p work drafts none s n q follows says.1
+not_given behaviour r pending start f p q work drafts l n stage id refusals.BadStage none s follows says = idles behaviour r pending start f p work drafts none s n q follows says.1
+not_given behaviour r pending start f p q work drafts l n stage id refusals.NotWaiting none s follows says = idles behaviour r pending start f p work drafts none s n q follows says.1
+not_given behaviour r pending start f p q work drafts l n stage id refusals.NoMemory none s follows says = absurd says
+not_given behaviour r pending start f p q work drafts l n stage id refusals.BadLimits none s follows says = absurd says
+not_given behaviour r pending start f p q work drafts l n stage id refusals.Full none s follows says = absurd says
+not_given behaviour r pending start f p q work drafts l n stage id (refusals.Consumed u) none s follows says = absurd says
+not_given behaviour r pending start f p q work drafts l n stage id refusals.AlreadyKilled none s follows says = absurd says
+not_given behaviour r pending start f p q work drafts l n stage id refusals.NotParked none s follows says = absurd says
+not_given behaviour r pending start f p q work drafts l n stage id refusals.NoRound none s follows says = absurd says
+not_given behaviour r pending start f p q work drafts l n stage id refusals.NotHeld none s follows says = absurd says
 
 -- a commit, whatever its answer
 pub committed : (behaviour : Behaviour) (r r' : List ℕ) (pending : Option Pending) (start : List ℕ) (f p q : PassShown) (work : Option Work) (drafts : List DraftView) (n : ℕ) (outcome : Outcome)

@@ -1,4 +1,5 @@
 pub mod Serves
+pub mod GivenClaims
 pub mod Keeping
 pub mod Steps
 pub mod Recipes

@@ -1,7 +1,9 @@
 pub mod Aside
 pub mod Books
+pub mod Given
 pub mod InHand
 pub mod Laws
 pub mod Serving
 pub mod Steady
+pub mod Orders
 pub mod Turns

@@ -11,9 +11,11 @@ use Rattle.tp_model.specs.declared.types.Work.{Work}
 use Rattle.tp_server.specs.declared.recipe.Declined.{Declined}
 use Rattle.tp_server.specs.Behaviour.{Allows, Behaviour, Makes}
 use Rattle.tp_server.specs.Pending.{Pending, registers_of}
-use Rattle.tp_manager.specs.Bounds.{claim_steps, commit_steps}
-use Rattle.tp_manager.specs.Calls.{Claims, Ends, Settles, Takes}
+use Rattle.tp_manager.specs.Bounds.{commit_steps}
+use Rattle.tp_manager.specs.Calls.{Ends, Settles}
 use Rattle.tp_manager.specs.Shown.{PassShown}
+use Rattle.tp_desk.specs.Orders.{ClaimsBy, steps_by}
+use Rattle.tp_desk.specs.declared.order.Order.{Order}
 use Rattle.tp_desk.specs.declared.turned.Turned.{Turned}
 use Rattle.tp_desk.specs.declared.turned.Turned.TheVariants as turneds
 
@@ -51,28 +53,30 @@ WorksOff behaviour registers work old new (turneds.Full element) =
     (element ≡ work.element.id) × Finishes behaviour registers work old new outcomes.Full
 
 -- an element was claimed, and this became of it
-pub record Works (l : Limits) (behaviour : Behaviour) (registers : List ℕ) (old new : PassShown) (turned : Turned)
-    : Type 0 where
+pub record Works (order : Order) (l : Limits) (behaviour : Behaviour) (registers : List ℕ) (old new : PassShown)
+    (turned : Turned) : Type 0 where
   pub work : Work
   pub between : PassShown
-  pub takes : Takes l behaviour.stage work old between
+  pub takes : ClaimsBy order l behaviour.stage old between (claimeds.Work work)
   pub off : WorksOff behaviour registers work between new turned
 
--- a turn answers and adds as one claim, and where that took work, as one commit, or one abort where the
+-- a turn answers and adds as one claim in this order, and where that took work, as one commit, or one abort where the
 -- server declines it
-abbrev pub Turns : Limits → Behaviour → List ℕ → PassShown → PassShown → Turned → Type 0
-Turns l behaviour registers old new turneds.Idle = Claims l behaviour.stage old new claimeds.Idle
-Turns l behaviour registers old new turneds.NoUnit = Claims l behaviour.stage old new claimeds.NoUnit
-Turns l behaviour registers old new (turneds.Done unit element first count) =
-    Works l behaviour registers old new (turneds.Done unit element first count)
-Turns l behaviour registers old new (turneds.Refused element why) =
-    Works l behaviour registers old new (turneds.Refused element why)
-Turns l behaviour registers old new (turneds.Lost element) = Works l behaviour registers old new (turneds.Lost element)
-Turns l behaviour registers old new (turneds.Full element) = Works l behaviour registers old new (turneds.Full element)
+abbrev pub Turns : Order → Limits → Behaviour → List ℕ → PassShown → PassShown → Turned → Type 0
+Turns order l behaviour registers old new turneds.Idle = ClaimsBy order l behaviour.stage old new claimeds.Idle
+Turns order l behaviour registers old new turneds.NoUnit = ClaimsBy order l behaviour.stage old new claimeds.NoUnit
+Turns order l behaviour registers old new (turneds.Done unit element first count) =
+    Works order l behaviour registers old new (turneds.Done unit element first count)
+Turns order l behaviour registers old new (turneds.Refused element why) =
+    Works order l behaviour registers old new (turneds.Refused element why)
+Turns order l behaviour registers old new (turneds.Lost element) =
+    Works order l behaviour registers old new (turneds.Lost element)
+Turns order l behaviour registers old new (turneds.Full element) =
+    Works order l behaviour registers old new (turneds.Full element)
 
 -- how many atomic steps a turn makes at most: those of a claim, and of a commit of four drafts
-abbrev pub turn_steps : Limits → ℕ
-turn_steps l = claim_steps l + commit_steps l 4
+abbrev pub turn_steps : Order → Limits → ℕ
+turn_steps order l = steps_by order l + commit_steps l 4
 
 -- the registers of committed work after a commit with this answer
 abbrev pub registers_left : Outcome → List ℕ → Option Pending → Option (List ℕ)

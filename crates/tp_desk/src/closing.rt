@@ -16,6 +16,7 @@ pub(crate) fn close(manager: &Manager, pass: &mut Pass)
     ensures free { pass.new.open_unit ≡ None }
     ensures ended { IfSome pass.old.open_unit (HasEnded pass.new.seen) }
     ensures adds { EndsOpen pass.old.open_unit pass.old pass.new }
+    ensures turn { pass.new.from ≡ pass.old.from }
     ensures follows { IfSome pass.old.open_unit (λ _. Follows abort_steps pass.old pass.new) }
 {
     if pass.has_open() {

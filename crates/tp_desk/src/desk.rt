@@ -108,6 +108,7 @@ impl Drop for Desk<'_, '_, '_> {
         ensures behaviour { behaviour self.exit.1.1.0.now ≡ behaviour self.entry.server.now }
         ensures registers { registers self.exit.1.1.0.now ≡ registers self.entry.server.now }
         ensures adds { EndsOpen self.entry.pass.now.open_unit self.entry.pass.now self.exit.1.0.now }
+        ensures turn { self.exit.1.0.now.from ≡ self.entry.pass.now.from }
         ensures follows { IfSome self.entry.pass.now.open_unit (λ _. Follows abort_steps self.entry.pass.now self.exit.1.0.now) }
         ensures leaves { SteadyDesk behaviour registers pending self.entry
             → Leaves (behaviour self.exit.1.1.0.now) (registers self.entry.first_server.value)

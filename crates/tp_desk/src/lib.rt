@@ -6,11 +6,14 @@ mod aside;
 mod boxed;
 mod closing;
 mod desk;
+mod given;
 pub mod laws;
+mod order;
 mod turned;
 mod turning;
 mod working;
 
 pub use aside::Aside;
 pub use desk::Desk;
+pub use order::Order;
 pub use turned::Turned;

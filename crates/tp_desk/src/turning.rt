@@ -7,6 +7,7 @@ ghost use Rattle.tp_desk.specs.Steady.{IsSameDesk, SteadyDesk};
 ghost use Rattle.tp_desk.specs.Turns.{Turns, WorksOff, turn_steps};
 
 use crate::desk::Desk;
+use crate::order::Order;
 use crate::turned::Turned;
 use tp_model::types::{Claimed, Work};
 
@@ -20,12 +21,44 @@ impl Desk<'_, '_, '_> {
         ensures behaviour { behaviour self.new.server.now ≡ behaviour self.old.server.now }
         ensures free { self.new.work ≡ None }
         ensures limits { AreLimits self.old.manager.now.limits }
-        ensures follows { Follows (turn_steps self.old.manager.now.limits) self.old.pass.now self.new.pass.now }
-        ensures answer { Turns self.old.manager.now.limits (behaviour self.old.server.now) (registers self.old.server.now)
+        ensures follows { Follows (turn_steps Order.LeastFirst self.old.manager.now.limits) self.old.pass.now self.new.pass.now }
+        ensures answer { Turns Order.LeastFirst self.old.manager.now.limits (behaviour self.old.server.now) (registers self.old.server.now)
             self.old.pass.now self.new.pass.now result }
         ensures steady { SteadyDesk behaviour registers pending self.new }
     {
-        match self.claim() {
+        self.turn_by(Order::LeastFirst)
+    }
+
+    /// A turn whose claim is in turn: an element that is declined isn't tried again before each other one had its turn.
+    pub fn turn_next(&mut self) -> Turned
+        requires steady { SteadyDesk behaviour registers pending self.old }
+        requires free { self.old.work ≡ None }
+        ensures same { IsSameDesk self.old self.new }
+        ensures behaviour { behaviour self.new.server.now ≡ behaviour self.old.server.now }
+        ensures free { self.new.work ≡ None }
+        ensures limits { AreLimits self.old.manager.now.limits }
+        ensures follows { Follows (turn_steps Order.InTurn self.old.manager.now.limits) self.old.pass.now self.new.pass.now }
+        ensures answer { Turns Order.InTurn self.old.manager.now.limits (behaviour self.old.server.now) (registers self.old.server.now)
+            self.old.pass.now self.new.pass.now result }
+        ensures steady { SteadyDesk behaviour registers pending self.new }
+    {
+        self.turn_by(Order::InTurn)
+    }
+
+    /// A turn whose claim is in this order, as `turn` or as `turn_next`.
+    pub fn turn_by(&mut self, order: Order) -> Turned
+        requires steady { SteadyDesk behaviour registers pending self.old }
+        requires free { self.old.work ≡ None }
+        ensures same { IsSameDesk self.old self.new }
+        ensures behaviour { behaviour self.new.server.now ≡ behaviour self.old.server.now }
+        ensures free { self.new.work ≡ None }
+        ensures limits { AreLimits self.old.manager.now.limits }
+        ensures follows { Follows (turn_steps order self.old.manager.now.limits) self.old.pass.now self.new.pass.now }
+        ensures answer { Turns order self.old.manager.now.limits (behaviour self.old.server.now) (registers self.old.server.now)
+            self.old.pass.now self.new.pass.now result }
+        ensures steady { SteadyDesk behaviour registers pending self.new }
+    {
+        match self.claim_by(order) {
             Claimed::Idle => Turned::Idle,
             Claimed::NoUnit => Turned::NoUnit,
             Claimed::Work(work) => self.work_off(work),

@@ -1,19 +1,21 @@
 //! The making of a desk, the parts of its work (claim, prepare, commit or abort), and its end.
 ghost use Rattle.std.specs.Prelude.{◌≡◌, None, Some, IsSome, IfErr, IfSome, OnOk, OnErr};
-ghost use Rattle.tp_model.specs.Steps.{AreLimits};
+ghost use Rattle.tp_model.specs.Steps.{AreLimits, IsServerStage};
 ghost use Rattle.tp_manager.specs.Shown.{IsOf};
-ghost use Rattle.tp_manager.specs.Calls.{Claims, Ends, Follows};
+ghost use Rattle.tp_manager.specs.Calls.{Claims, ClaimsNext, Ends, Follows};
 ghost use Rattle.tp_server.specs.Behaviour.{IsMade};
 ghost use Rattle.tp_desk.specs.InHand.{work_of};
+ghost use Rattle.tp_desk.specs.Orders.{ClaimsBy, KeepsTurn, steps_by};
 ghost use Rattle.tp_desk.specs.Serving.{Leaves};
 ghost use Rattle.tp_desk.specs.Aside.{SteadyAside};
 ghost use Rattle.tp_desk.specs.Steady.{IsSameDesk, SteadyDesk};
 ghost use Rattle.tp_desk.specs.Turns.{Declines, EndsOpen, Finishes, registers_left};
-ghost use Rattle.tp_manager.specs.Bounds.{abort_steps, claim_steps, commit_steps};
+ghost use Rattle.tp_manager.specs.Bounds.{abort_steps, claim_steps, claim_next_steps, commit_steps};
 
 use crate::aside::Aside;
 use crate::boxed;
 use crate::desk::Desk;
+use crate::order::Order;
 use tp_manager::{Manager, Pass};
 use tp_model::types::{Claimed, Ended, Outcome, Work};
 use tp_server::{Declined, Server};
@@ -72,20 +74,54 @@ impl<'m, 'p, 's> Desk<'m, 'p, 's> {
         }
     }
 
-    /// Takes an element that waits in the server's stage in hand. Nothing is in hand yet.
+    /// Takes the element of the least id that waits in the server's stage in hand. Nothing is in hand yet.
     pub fn claim(&mut self) -> Claimed
         requires steady { SteadyDesk behaviour registers pending self.old }
         requires free { self.old.work ≡ None }
         ensures same { IsSameDesk self.old self.new }
         ensures server { self.new.server.now ≡ self.old.server.now }
         ensures limits { AreLimits self.old.manager.now.limits }
+        ensures turn { self.new.pass.now.from ≡ self.old.pass.now.from }
         ensures follows { Follows (claim_steps self.old.manager.now.limits) self.old.pass.now self.new.pass.now }
         ensures answer { Claims self.old.manager.now.limits (behaviour self.old.server.now).stage self.old.pass.now self.new.pass.now result }
         ensures work { self.new.work ≡ work_of result }
         ensures steady { SteadyDesk behaviour registers pending self.new }
     {
+        self.claim_by(Order::LeastFirst)
+    }
+
+    /// Takes in hand what waits in the server's stage and comes next in its turn: the first behind the element that the
+    /// pass took last by such a claim, where behind the last id comes the first. Nothing is in hand yet.
+    pub fn claim_next(&mut self) -> Claimed
+        requires steady { SteadyDesk behaviour registers pending self.old }
+        requires free { self.old.work ≡ None }
+        ensures same { IsSameDesk self.old self.new }
+        ensures server { self.new.server.now ≡ self.old.server.now }
+        ensures limits { AreLimits self.old.manager.now.limits }
+        ensures follows { Follows (claim_next_steps self.old.manager.now.limits) self.old.pass.now self.new.pass.now }
+        ensures answer { ClaimsNext self.old.manager.now.limits (behaviour self.old.server.now).stage self.old.pass.now self.new.pass.now result }
+        ensures work { self.new.work ≡ work_of result }
+        ensures steady { SteadyDesk behaviour registers pending self.new }
+    {
+        self.claim_by(Order::InTurn)
+    }
+
+    /// Claims in this order, as `claim` or as `claim_next`.
+    pub fn claim_by(&mut self, order: Order) -> Claimed
+        requires steady { SteadyDesk behaviour registers pending self.old }
+        requires free { self.old.work ≡ None }
+        ensures same { IsSameDesk self.old self.new }
+        ensures server { self.new.server.now ≡ self.old.server.now }
+        ensures limits { AreLimits self.old.manager.now.limits }
+        ensures turn { KeepsTurn order self.old.pass.now self.new.pass.now }
+        ensures follows { Follows (steps_by order self.old.manager.now.limits) self.old.pass.now self.new.pass.now }
+        ensures answer { ClaimsBy order self.old.manager.now.limits (behaviour self.old.server.now).stage
+            self.old.pass.now self.new.pass.now result }
+        ensures work { self.new.work ≡ work_of result }
+        ensures steady { SteadyDesk behaviour registers pending self.new }
+    {
         let stage = self.server.stage();
-        let answer = self.manager.claim(self.pass, stage);
+        let answer = claim_in(self.manager, self.pass, order, stage);
         self.work = work_of(answer);
         answer
     }
@@ -105,6 +141,7 @@ impl<'m, 'p, 's> Desk<'m, 'p, 's> {
             × IsSome (pending self.new.server.now)) }
         ensures free { OnErr result (self.new.work ≡ None) }
         ensures clear { OnErr result (pending self.new.server.now ≡ None) }
+        ensures turn { self.new.pass.now.from ≡ self.old.pass.now.from }
         ensures follows { OnErr result (Follows abort_steps self.old.pass.now self.new.pass.now) }
         ensures answer { IfErr result (λ why. IfSome self.old.work (λ work.
             Declines (behaviour self.old.server.now) (registers self.old.server.now) work why self.old.pass.now self.new.pass.now)) }
@@ -137,6 +174,7 @@ impl<'m, 'p, 's> Desk<'m, 'p, 's> {
             ≡ registers_left result (registers self.old.server.now) (pending self.old.server.now) }
         ensures clear { pending self.new.server.now ≡ None }
         ensures free { self.new.work ≡ None }
+        ensures turn { self.new.pass.now.from ≡ self.old.pass.now.from }
         ensures follows { Follows (commit_steps self.old.manager.now.limits 4) self.old.pass.now self.new.pass.now }
         ensures answer { IfSome self.old.work (λ work.
             Finishes (behaviour self.old.server.now) (registers self.old.server.now) work self.old.pass.now self.new.pass.now result) }
@@ -157,6 +195,7 @@ impl<'m, 'p, 's> Desk<'m, 'p, 's> {
         ensures registers { registers self.new.server.now ≡ registers self.old.server.now }
         ensures clear { pending self.new.server.now ≡ None }
         ensures free { self.new.work ≡ None }
+        ensures turn { self.new.pass.now.from ≡ self.old.pass.now.from }
         ensures follows { Follows abort_steps self.old.pass.now self.new.pass.now }
         ensures answer { Ends self.old.pass.now self.new.pass.now result }
         ensures steady { SteadyDesk behaviour registers pending self.new }
@@ -175,12 +214,30 @@ impl<'m, 'p, 's> Desk<'m, 'p, 's> {
         ensures behaviour { behaviour self.exit.1.1.0.now ≡ behaviour self.entry.server.now }
         ensures registers { registers self.exit.1.1.0.now ≡ registers self.entry.server.now }
         ensures adds { EndsOpen self.entry.pass.now.open_unit self.entry.pass.now self.exit.1.0.now }
+        ensures turn { self.exit.1.0.now.from ≡ self.entry.pass.now.from }
         ensures follows { IfSome self.entry.pass.now.open_unit (λ _. Follows abort_steps self.entry.pass.now self.exit.1.0.now) }
         ensures leaves { SteadyDesk behaviour registers pending self.entry
             → Leaves (behaviour self.exit.1.1.0.now) (registers self.entry.first_server.value)
             (registers self.exit.1.1.0.now) self.entry.first_pass.value self.exit.1.0.now }
     {
         drop(self);
+    }
+}
+
+/// The manager's claim in this order.
+fn claim_in(manager: &Manager, pass: &mut Pass, order: Order, stage: u8) -> Claimed
+    requires own { IsOf manager.now pass.old }
+    requires stage { IsServerStage stage }
+    requires free { pass.old.open_unit ≡ None }
+    ensures own { IsOf manager.now pass.new }
+    ensures limits { AreLimits manager.now.limits }
+    ensures turn { KeepsTurn order pass.old pass.new }
+    ensures follows { Follows (steps_by order manager.now.limits) pass.old pass.new }
+    ensures answer { ClaimsBy order manager.now.limits stage pass.old pass.new result }
+{
+    match order {
+        Order::LeastFirst => manager.claim(pass, stage),
+        Order::InTurn => manager.claim_next(pass, stage),
     }
 }
 

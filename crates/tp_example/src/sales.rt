@@ -6,13 +6,14 @@ ghost use Rattle.tp_desk.specs.Serving.{gained};
 ghost use Rattle.tp_server.specs.Books.{Lowers, Raises};
 ghost use Rattle.tp_workers.specs.Desks.{WorksOn, place};
 ghost use Rattle.tp_workers.specs.Gains.{commits_in};
+ghost use Rattle.tp_workers.specs.Plans.{least_first};
 ghost use Rattle.tp_workers.specs.declared.tally.Shift.{Shift};
 ghost use Rattle.tp_example.specs.Sales.{AddsUp, goods_in, money_in};
 ghost use Rattle.tp_example.specs.Shop.{cost, how_many, shop};
 
 use tp_manager::{Manager, Pass};
 use tp_server::Server;
-use tp_workers::work_off;
+use tp_workers::{Plan, work_off};
 
 /// How many turns sold something, and how many declined an order.
 #[derive(Clone, Copy, Debug, PartialEq, Eq)]
@@ -41,12 +42,12 @@ pub fn sell(
         (taken (gained pass.old.mine pass.new.mine) pass.new.seen) }
     ensures sold { result.sold + commits_in pass.old ≡ commits_in pass.new }
     ensures short { (counts : Shift) × (result.sold ≡ counts.done) × (result.short ≡ counts.refused)
-        × WorksOn manager.now.limits turns (place behaviour registers pending (pass.old, stock.old)) counts
+        × WorksOn (least_first turns) manager.now.limits (place behaviour registers pending (pass.old, stock.old)) counts
         (place behaviour registers pending (pass.new, stock.new)) }
     ensures turns { result.sold + result.short ≤ turns }
 {
     each_sale();
-    let counts = work_off(manager, pass, stock, turns);
+    let counts = work_off(manager, pass, stock, Plan::least_first(turns));
     Sales {
         sold: counts.done,
         short: counts.refused,

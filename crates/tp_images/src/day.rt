@@ -7,8 +7,9 @@ ghost use Rattle.tp_workers.specs.Sums.{calls_of};
 
 use crate::servers::{Notifier, Resizer, Validator};
 use std::thread::Threads;
+use tp_desk::Order;
 use tp_server::{OwnServer, Server, three};
-use tp_workers::{ClientJob, Crew, CrewLimits, NoGate, Trouble};
+use tp_workers::{ClientJob, Crew, CrewLimits, NoGate, Plan, Trouble};
 
 pub type Boxed = Box<dyn Server + Send>;
 
@@ -49,8 +50,8 @@ fn run<R: Print + Threads + Sync>(
     let first = crew.submit(1, [0, 4_000, 71, 1])?;
     let second = crew.submit(1, [3, 8_000, 72, 2])?;
     let third = crew.submit(1, [2, 500_000, 73, 3])?;
-    let counts = crew.shift(rt, 50, &mut [job], &mut [], &NoGate);
-    crew.drain();
+    let counts = crew.shift(rt, Plan::in_turn(50), &mut [job], &mut [], &NoGate);
+    crew.drain(Order::InTurn);
     println!(rt; "uploaded {}", counts.submitted)?;
     tell(rt, crew, first)?;
     tell(rt, crew, second)?;
@@ -60,7 +61,7 @@ fn run<R: Print + Threads + Sync>(
     // A validator that knows one format more.
     crew.swap(0, newer);
     let round = crew.requeue(second)?;
-    let drained = crew.drain();
+    let drained = crew.drain(Order::InTurn);
     println!(rt;
         "round {round}: {} more, {} without a unit",
         drained.done, drained.nounit

@@ -10,7 +10,7 @@ ghost use Rattle.tp_workers.specs.Gains.{commits_in};
 
 use tp_manager::{Manager, Pass};
 use tp_server::Server;
-use tp_workers::work_off;
+use tp_workers::{Plan, work_off};
 
 /// Delivers in at most so many turns, or until no picture waits, and returns how many were. The notices and the bytes that the
 /// notifier has counted are those from before and those of the pictures that were committed since, each once, whatever other
@@ -30,7 +30,7 @@ pub fn deliver(
     ensures at_most { result ≤ turns }
 {
     each_notice();
-    work_off(manager, pass, server, turns).done
+    work_off(manager, pass, server, Plan::least_first(turns)).done
 }
 
 /// Each notice counts one more, and adds the bytes of its picture.

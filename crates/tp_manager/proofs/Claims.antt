@@ -62,6 +62,7 @@ module _ (l : Limits) (u : ℕ) (v w : View) (s : Steady l v) (g : Chooses v u w
     opens = begins_refl v.seen;
     closes = grew_seen l kinds.UnitChoice (with_spare u) [] v w s g;
     number = ap (λ (a : Hand). a.number) chose_hand;
+    limits = s.pass.1;
     steady = chose_steady;
     knows = g.knows;
   }

@@ -13,7 +13,7 @@ module _ (n k : ℕ) (p m q : PassShown) (a : Follows n p m) (b : Follows k m q)
   traced_both = b.traced ∙ (ap (λ (t : List TraceEntry). t ++ steps_of m q) a.traced ∙ append_assoc p.trace (steps_of p m) (steps_of m q))
 
   -- the steps of both are those of each
-  steps_both : steps_of p q ≡ steps_of p m ++ steps_of m q
+  pub steps_both : steps_of p q ≡ steps_of p m ++ steps_of m q
   steps_both = ap (drop (length p.trace)) traced_both ∙ drop_steps p.trace (steps_of p m ++ steps_of m q)
 
   pub follows_then : Follows (n + k) p q

@@ -220,3 +220,5 @@ module _ (t t' : Spot) (v w : View) (old : PassShown) (is : shown t v ≡ old) (
   fails_shown n i refusals.NotParked b k = k.3
   fails_shown n i refusals.NoRound b k = k.3
   fails_shown n i refusals.NotHeld b k = k.3
+  fails_shown n i refusals.NotWaiting b k = k.3
+  fails_shown n i refusals.NoUnit b k = k.3

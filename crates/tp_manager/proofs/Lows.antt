@@ -8,19 +8,24 @@ use Rattle.tp_model.specs.declared.types.Limits.{Limits}
 use Rattle.tp_model.specs.declared.types.TheConstants.{BLOCK_ROWS}
 use Rattle.tp_rule.specs.Steps.{IsLow}
 use Rattle.tp_rule.specs.declared.view.View.{View}
-use Rattle.tp_rule.specs.declared.view.Known.TheVariants.{PartMark}
+use Rattle.tp_rule.specs.Rule.{IsInside}
 use Rattle.tp_manager.specs.Shown.{AllRise, Rises, marks_of}
-use Rattle.tp_manager.specs.Bounds.{claim_steps_left, drawn_steps, listing_steps_left, look_steps, low_sum, marked_steps, rows_left, scan_steps, spare_left, try_steps}
-use Rattle.tp_manager.specs.Walks.{IsKnown, Remembers, RemembersAll, RisesAt}
+use Rattle.tp_manager.specs.Bounds.{claim_next_steps_left, claim_steps_left, drawn_steps, listing_steps_left, look_steps, low_sum, marked_steps, rows_left, scan_steps, spare_left, try_steps}
+use Rattle.tp_manager.specs.Walks.{IsKnown, MayRemember, Remembers, RemembersAll, RisesAt, Steady}
+use Rattle.tp_manager.proofs.Marks.{low_any}
+use Rattle.tp_manager.proofs.Useless.{may_inside}
 
 module _ (l : Limits) (lows : List ℕ) where
+  is_inside : (c : ℕ) (v : View) → v.limits ≡ l → IsKnown l v → Remembers c v lows → (p : ℕ) → 0 < slice_index lows p → IsInside l p (slice_index lows p)
+  is_inside c v at low r p some = may_inside l c v p (slice_index lows p) low (subst (λ (z : Limits). MayRemember z c v p (slice_index lows p)) at (r p some))
+
   -- no mark that is remembered is above its part
-  pub lows_inside : (c : ℕ) (v : View) → IsKnown l v → Remembers c v lows → (p : ℕ) → p < l.parts → slice_index lows p ≤ l.rows
-  lows_inside c v low r p part = dite (dec_le 1 (slice_index lows p)) (λ some. (low (PartMark c p (slice_index lows p)) (r p some)).0.0 (λ same. omega arith)) (λ none. omega arith)
+  pub lows_inside : (c : ℕ) (v : View) → v.limits ≡ l → IsKnown l v → Remembers c v lows → (p : ℕ) → p < l.parts → slice_index lows p ≤ l.rows
+  lows_inside c v at low r p part = dite (dec_le 1 (slice_index lows p)) (λ some. (is_inside c v at low r p some).0 (λ same. omega arith)) (λ none. omega arith)
 
   -- nor that of the spare rows above these
-  pub low_spare : (c : ℕ) (v : View) → IsKnown l v → Remembers c v lows → slice_index lows l.parts ≤ BLOCK_ROWS * l.spare
-  low_spare c v low r = dite (dec_le 1 (slice_index lows l.parts)) (λ some. (low (PartMark c l.parts (slice_index lows l.parts)) (r l.parts some)).0.1 refl) (λ none. omega arith)
+  pub low_spare : (c : ℕ) (v : View) → v.limits ≡ l → IsKnown l v → Remembers c v lows → slice_index lows l.parts ≤ BLOCK_ROWS * l.spare
+  low_spare c v at low r = dite (dec_le 1 (slice_index lows l.parts)) (λ some. (is_inside c v at low r l.parts some).1 refl) (λ none. omega arith)
 
   module _ (t k : ℕ) where
     -- one part more
@@ -59,14 +64,17 @@ module _ (l : Limits) (lows : List ℕ) where
     scan_most (suc n) = let rest = scan_most n in let one : (l.rows - slice_index lows n) * t ≤ l.rows * t = mul-le-mul_right t (omega arith) in omega (arith, suc-mul n (k + l.rows * t))
 
   -- a listing, and a claim
-  module _ (c : ℕ) (v : View) (low : IsKnown l v) (r : Remembers c v lows) where
+  module _ (c : ℕ) (v : View) (at : v.limits ≡ l) (low : IsKnown l v) (r : Remembers c v lows) where
     pub listing_few : marked_steps l (look_steps l) lows ≤ listing_steps_left l lows
-    listing_few = let inside = lows_inside c v low r in let t = look_steps l in let all = scan_sum t 3 inside l.parts (omega arith) in
-        let split = left_split t 3 inside (sum_few t 3 inside l.parts (omega arith)) (low_spare c v low r) in omega arith
+    listing_few = let inside = lows_inside c v at low r in let t = look_steps l in let all = scan_sum t 3 inside l.parts (omega arith) in
+        let split = left_split t 3 inside (sum_few t 3 inside l.parts (omega arith)) (low_spare c v at low r) in omega arith
 
     pub claim_few : 1 + marked_steps l try_steps lows ≤ claim_steps_left l lows
-    claim_few = let inside = lows_inside c v low r in let t = try_steps in let all = scan_sum t 3 inside l.parts (omega arith) in
-        let split = left_split t 3 inside (sum_few t 3 inside l.parts (omega arith)) (low_spare c v low r) in omega arith
+    claim_few = let inside = lows_inside c v at low r in let t = try_steps in let all = scan_sum t 3 inside l.parts (omega arith) in
+        let split = left_split t 3 inside (sum_few t 3 inside l.parts (omega arith)) (low_spare c v at low r) in omega arith
+
+    pub next_few : 1 + (2 * scan_steps l try_steps 3 lows l.parts + (2 * drawn_steps l.spare + BLOCK_ROWS * l.spare * try_steps)) ≤ claim_next_steps_left l lows
+    next_few = let inside = lows_inside c v at low r in let all = scan_sum try_steps 3 inside l.parts (omega arith) in omega arith
 
 -- what a look at the spare blocks costs, where so many of their rows are below the mark, and most where none is
 pub spare_rises : (l : Limits) (t n m : ℕ) → n ≤ m → spare_left l t m ≤ spare_left l t n
@@ -82,6 +90,9 @@ listing_shown l k lows lows' n same shown le = subst (λ (z : Limits × List ℕ
 
 pub claim_shown : (l k : Limits) (lows lows' : List ℕ) (n : ℕ) → l ≡ k → lows ≡ lows' → n ≤ claim_steps_left l lows → n ≤ claim_steps_left k lows'
 claim_shown l k lows lows' n same shown le = subst (λ (z : Limits × List ℕ). n ≤ claim_steps_left z.0 z.1) (λ i. (same i, shown i)) le
+
+pub next_shown : (l k : Limits) (lows lows' : List ℕ) (n : ℕ) → l ≡ k → lows ≡ lows' → n ≤ claim_next_steps_left l lows → n ≤ claim_next_steps_left k lows'
+next_shown l k lows lows' n same shown le = subst (λ (z : Limits × List ℕ). n ≤ claim_next_steps_left z.0 z.1) (λ i. (same i, shown i)) le
 
 pub rises_then : (a b c : List ℕ) → Rises a b → Rises b c → Rises a c
 rises_then a b c r t p = let up = r p in let on = t p in omega arith
@@ -106,5 +117,5 @@ remembers_in lows row c v inside one all d = dite (ℕ_discrete d c)
     (λ other. subst (Remembers d v) (sym (get_or-set_other lows c d row [] other)) (all d))
 
 -- what is remembered of a mark is so in what was seen
-pub low_is : (l : Limits) (v : View) (lows : List (List ℕ)) (c p n : ℕ) → IsKnown l v → RemembersAll v lows → n ≡ slice_index (marks_of lows c) p → IsLow l c v.seen p n
-low_is l v lows c p n known all is = let m = slice_index (marks_of lows c) p in subst (IsLow l c v.seen p) (sym is) (dite (dec_le 1 m) (λ some. known (PartMark c p m) (all c p some)) (λ none. ((λ _. omega arith, λ _. omega arith), λ i low high. absurd (omega arith))))
+pub low_is : (l : Limits) (v : View) (lows : List (List ℕ)) (c p n : ℕ) → Steady l v → RemembersAll v lows → n ≡ slice_index (marks_of lows c) p → IsLow l c v.seen p n
+low_is l v lows c p n s all is = subst (IsLow l c v.seen p) (sym is) (low_any l c v p (marks_of lows c) s (all c))

@@ -8,23 +8,21 @@ use Rattle.tp_model.specs.declared.types.Limits.{Limits}
 use Rattle.tp_model.specs.declared.types.Status.{Status}
 use Rattle.tp_model.specs.declared.event.Event.{Event}
 use Rattle.tp_model.specs.declared.trace.StepKind.TheVariants as kinds
-use Rattle.tp_model.specs.History.{Aborted, IsSettled, IsUnborn, element_of, status_of}
-use Rattle.tp_model.specs.Steps.{IsLegal}
-use Rattle.tp_model.proofs.Bridges.{begins_refl, begins_trans, end_stays, found_later}
-use Rattle.tp_model.proofs.LawProofs.{settled_stay}
+use Rattle.tp_model.specs.History.{IsSettled, IsUnborn, element_of, status_of}
+use Rattle.tp_model.proofs.Bridges.{begins_refl, begins_trans, found_later}
 use Rattle.tp_rule.specs.Rule.{Concerns, IsInside, IsOther, IsSettledRow}
 use Rattle.tp_rule.proofs.Tellings.{inside_below, other_full}
-use Rattle.tp_rule.specs.Steps.{AreOver, HasAside, HasDead, IsDone, IsLow, IsSo, Knows, KnowsUseless, Raises, noted, unchanged}
+use Rattle.tp_rule.specs.Steps.{AreOver, HasAside, HasDead, IsLow, IsSo, Knows, Raises, noted, unchanged}
 use Rattle.tp_rule.specs.Views.{hand}
 use Rattle.tp_rule.specs.declared.view.Hand.{Hand}
-use Rattle.tp_rule.specs.declared.view.Known.{Known}
-use Rattle.tp_rule.specs.declared.view.Known.TheVariants.{MarkAbove, PartMark, RowHead}
+use Rattle.tp_rule.specs.declared.view.Known.TheVariants.{PartMark, RowHead}
 use Rattle.tp_rule.specs.declared.view.View.{View}
 use Rattle.tp_manager.proofs.Unseen.{unseen_hand, unseen_steady, unseen_walked}
 use Rattle.tp_manager.specs.Calls.{IsWaiting}
 use Rattle.tp_manager.specs.Looks.{IsThere}
 use Rattle.tp_manager.specs.declared.looking.Birth.{Birth}
-use Rattle.tp_manager.specs.Walks.{Looked, IsOfUse, PassedBy, Remembers, RemembersDone, RestsAt, Rose, Steady, Took, Walked, WasOfUse, WasUnsettled, with_trace, EachRow}
+use Rattle.tp_manager.specs.Raises.{IsOfUse}
+use Rattle.tp_manager.specs.Walks.{Looked, MayRemember, PassedBy, Remembers, RemembersDone, Rose, Steady, Took, Walked, WasOfUse, WasUnsettled, with_trace, EachRow}
 use Rattle.tp_words.specs.declared.words.Head.{Head}
 use Rattle.tp_words.specs.declared.words.Head.TheVariants.{Empty, Void, There}
 use Rattle.tp_model.specs.Passes.{opening_of}
@@ -32,7 +30,8 @@ use Rattle.tp_manager.proofs.Points.{has_more, opening_kept}
 use Rattle.tp_words.specs.Words.{head_of}
 use Rattle.tp_model.specs.declared.trace.TraceEntry.{TraceEntry}
 use Rattle.tp_manager.proofs.Looks.{none_unit}
-use Rattle.tp_manager.proofs.Walks.{walked_begins, walked_then}
+use Rattle.tp_manager.proofs.Walks.{remembers_kind, walked_begins, walked_then}
+use Rattle.tp_manager.proofs.Useless.{Goes, useless_later}
 
 module _ (l : Limits) (c p m n : ℕ) (v w : View) (s : Steady l v) (r : Raises v c p m n w) (new : IsLow l c v.seen p n) (up : m < n) where
   raised_hand : hand w ≡ noted kinds.Raise v.seen (hand v)
@@ -47,13 +46,6 @@ module _ (l : Limits) (c p m n : ℕ) (v w : View) (s : Steady l v) (r : Raises 
     walk = unseen_walked l kinds.Raise unchanged w.known v w s r.0 refl refl refl r.1 raised_steady;
     kept = raised_hand ∙ ap (λ t. with_trace t (hand v)) (sym (ap (λ (a : Hand). a.trace) raised_hand));
   }
-
--- the seat goes on from v to w: it has seen more, and knows what it knew
-pub record Goes (l : Limits) (v w : View) : Type 0 where
-  pub limits : (v.limits ≡ l) × (w.limits ≡ l)
-  pub legal : IsLegal l w.seen
-  pub begins : IsPrefix v.seen w.seen
-  pub knows : (x : Known) → Knows v x → Knows w x
 
 pub goes_walked : (l : Limits) (n : ℕ) (ms : List TraceEntry) (v w : View) → v.limits ≡ l → Walked l n ms v w → Goes l v w
 goes_walked l n ms v w lim a = record { limits = (lim, a.steady.pass.1); legal = a.steady.shows.legal; begins = walked_begins l n ms v w a; knows = a.knows }
@@ -79,24 +71,11 @@ module _ (l : Limits) where
   pub rose_none : (c : ℕ) (v : View) (a : ℕ) → Rose c v a a
   rose_none c v a = (omega arith, λ i low high. absurd (omega arith))
 
-  pub settled_row : (h g : List Event) (i : ℕ) → IsLegal l g → IsPrefix h g → IsSettledRow l h i → IsSettledRow l g i
-  settled_row h g i legal begins s = (s.0, found_later h g begins i s.0 s.1, subst IsSettled (sym (settled_stay l h g i legal begins s.2)) s.2)
-
-  -- what a seat knows finished it knows later too
-  done_later : (v w : View) (i : ℕ) → Goes l v w → IsDone v i → IsDone w i
-  done_later v w i g d = ⊎_elim
-      (λ s. inl (subst (λ (z : Limits). IsSettledRow z w.seen i) (sym g.limits.1) (settled_row v.seen w.seen i g.legal g.begins (subst (λ (z : Limits). IsSettledRow z v.seen i) g.limits.0 s))))
-      (λ n. inr (n.0, n.1, n.2, g.knows _ n.3, end_stays v.seen w.seen n.2 Aborted g.begins n.4)) d
-
-  -- so it knows what is of no use
-  useless_later : (c : ℕ) (v w : View) (i : ℕ) → Goes l v w → KnowsUseless v c i → KnowsUseless w c i
-  useless_later c v w i g u = ⊎_elim (λ d. inl (done_later v w i g d)) (λ a. inr (a.0, g.knows _ a.1, a.2)) u
-
-  pub rose_later : (c : ℕ) (v w : View) (a b : ℕ) → Goes l v w → Rose c v a b → Rose c w a b
-  rose_later c v w a b g r = (r.0, λ i low high. useless_later c v w i g (r.1 i low high))
-
   pub rose_then : (d : ℕ) (v w : View) (a b c : ℕ) → Goes l v w → Rose d v a b → Rose d w b c → Rose d w a c
-  rose_then d v w a b c g r t = let up = r.0 in let on = t.0 in (omega arith, λ i low high. dite (dec_le b i) (λ past. t.1 i past high) (λ not. useless_later d v w i g (r.1 i low (omega arith))))
+  rose_then d v w a b c g r t = let up = r.0 in let on = t.0 in (omega arith, λ i low high. dite (dec_le b i) (λ past. t.1 i past high) (λ not. useless_later l d v w i g (r.1 i low (omega arith))))
+
+  pub rose_both : (d : ℕ) (v : View) (a b c : ℕ) → Rose d v a b → Rose d v b c → Rose d v a c
+  rose_both d v a b c r t = let up = r.0 in let on = t.0 in (omega arith, λ i low high. dite (dec_le b i) (λ past. t.1 i past high) (λ not. r.1 i low (omega arith)))
 
   -- one more row, whose element is consumed or killed
   pub rose_one : (c : ℕ) (v : View) (a b row : ℕ) (birth : Birth) (s : Status) → v.limits ≡ l → IsThere v.seen row birth → s ≡ status_of l.attempts v.seen row → (b ≡ a) ⊎ ((b ≡ a + 1) × (a ≡ row) × IsSettled s) → Rose c v a b
@@ -192,9 +171,22 @@ module _ (l : Limits) where
   done_passed stage v b x end last same old past i low high y born st = let t = subst (λ (z : Limits). IsSettledRow z v.seen i) same (past_done v b x end last old past i low high) in
       (v.seen, begins_refl v.seen, begins_refl v.seen, not_waiting (status_of l.attempts v.seen i) t.2)
 
+  -- no row below a mark that a pass may remember is of use
+  pub low_may : (c : ℕ) (v : View) (p n : ℕ) → Steady l v → MayRemember l c v p n → IsLow l c v.seen p n
+  low_may c v p n s may = ⊎_elim (λ k. s.known (PartMark c p n) k) (λ m. rose_low c v p m.found n s m.knows m.inside m.rose) may
+
+  pub low_remembered : (c : ℕ) (v : View) (p : ℕ) (lows : List ℕ) → Steady l v → Remembers c v lows → 0 < slice_index lows p → IsLow l c v.seen p (slice_index lows p)
+  low_remembered c v p lows s r some = low_may c v p (slice_index lows p) s (subst (λ (z : Limits). MayRemember z c v p (slice_index lows p)) s.pass.1 (r p some))
+
+  pub low_any : (c : ℕ) (v : View) (p : ℕ) (lows : List ℕ) → Steady l v → Remembers c v lows → IsLow l c v.seen p (slice_index lows p)
+  low_any c v p lows s r = dite (dec_le 1 (slice_index lows p)) (λ some. low_remembered c v p lows s r some) (λ none. ((λ _. omega arith, λ _. omega arith), λ i low high. absurd (omega arith)))
+
   -- what the pass remembers tells of the rows below a mark also later
-  pub remembered_passed : (stage : ℕ) (lows : List ℕ) (p i : ℕ) (v w : View) → 1 ≤ stage → Remembers stage v lows → ((x : Known) → Knows v x → Knows w x) → Steady l w → p * l.rows ≤ i → i < p * l.rows + slice_index lows p → PassedBy l stage i w.seen w.seen
-  remembered_passed stage lows p i v w server r knows s low high = over_passed stage w.seen p (slice_index lows p) i server (s.known (PartMark stage p (slice_index lows p)) (knows (PartMark stage p (slice_index lows p)) (r p (omega arith)))).1 low high
+  pub low_kept : (c : ℕ) (v w : View) (p n : ℕ) (ms : List TraceEntry) (lows : List ℕ) → Walked l n ms v w → Remembers c v lows → 0 < slice_index lows p → IsLow l c w.seen p (slice_index lows p)
+  low_kept c v w p n ms lows a r some = low_remembered c w p lows a.steady (remembers_kind c lows l n ms v w a r) some
+
+  pub remembered_passed : (stage : ℕ) (lows : List ℕ) (p i n : ℕ) (ms : List TraceEntry) (v w : View) → 1 ≤ stage → Remembers stage v lows → Walked l n ms v w → p * l.rows ≤ i → i < p * l.rows + slice_index lows p → PassedBy l stage i w.seen w.seen
+  remembered_passed stage lows p i n ms v w server r a low high = over_passed stage w.seen p (slice_index lows p) i server (low_kept stage v w p n ms lows a r (omega arith)).1 low high
 
   -- a row in which nothing is born may be of use
   pub use_unborn : (stage i : ℕ) (h : List Event) → IsUnborn h i → IsOfUse l stage i h
@@ -232,14 +224,3 @@ module _ (l : Limits) where
   stays_by stage low row now next a b le moved own gap less = ⊎_elim
       (λ same. dite (ℕ_discrete low row) (λ at. inr (subst (λ z. WasOfUse l stage z a b) (sym (same ∙ at)) (own at same))) (λ other. inl (omega arith, same)))
       (λ t. inr (gap (let up = t.0 in let at = t.1 in omega arith) less)) moved
-
-  -- where a mark rests that was raised to the first row that isn't known of no use
-  pub rests_by : (stage p n low row mark : ℕ) (a : List Event) (v w : View) → w.seen ≡ v.seen → (p * l.rows + n ≡ low) ⊎ ((n ≡ mark) × Knows w (MarkAbove stage p mark)) → (low < row → WasOfUse l stage low a v.seen)
-      → (low < row) ⊎ (low ≡ p * l.rows + l.rows) → RestsAt l stage p n a w
-  rests_by stage p n low row mark a v w same raised stuck stands = ⊎_elim
-      (λ up. ⊎_elim (λ less. inr (inl (subst (λ (z : ℕ × List Event). WasOfUse l stage z.0 a z.1) (λ i. (sym up i, sym same i)) (stuck less)))) (λ end. inl (omega arith)) stands)
-      (λ missed. inr (inr (mark, (let is = missed.0 in omega arith), missed.1))) raised
-
-  pub rests_later : (stage p n : ℕ) (a a' : List Event) (v w : View) → IsPrefix a a' → IsPrefix v.seen w.seen → ((x : Known) → Knows v x → Knows w x) → RestsAt l stage p n a' v → RestsAt l stage p n a w
-  rests_later stage p n a a' v w before after knows rests = ⊎_elim (λ end. inl end)
-      (λ r. ⊎_elim (λ was. inr (inl (use_later stage (p * l.rows + n) a a' v.seen w.seen before after was))) (λ above. inr (inr (above.0, above.1, knows _ above.2))) r) rests

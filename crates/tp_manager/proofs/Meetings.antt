@@ -57,7 +57,7 @@ module _ (l : Limits) (v w x y : View) (sv : Steady l v) (sw : Steady l w) (m : 
   pub met_first : Acted l meet_steps v x
   met_first = let h = m.first_is in record {
     marks = seat_load v.seen ∷ load x.seen ∷ seat_load x.seen ∷ [];
-    walk = record { traced = first_trace; few = omega arith; opens = m.first_saw; closes = begins_refl x.seen; number = ap (λ (a : Hand). a.number) h; steady = steady_first; knows = m.knows.0 };
+    walk = record { traced = first_trace; few = omega arith; opens = m.first_saw; closes = begins_refl x.seen; number = ap (λ (a : Hand). a.number) h; limits = sv.pass.1; steady = steady_first; knows = m.knows.0 };
     kept = h ∙ ap (λ t. record (hand v) { trace = t }) (sym (ap (λ (a : Hand). a.trace) h));
     step = (load x.seen, there here, refl);
   }
@@ -66,7 +66,7 @@ module _ (l : Limits) (v w x y : View) (sv : Steady l v) (sw : Steady l w) (m : 
   pub met_second : Acted l met_steps w y
   met_second = let h = m.second_is in record {
     marks = load y.seen ∷ [];
-    walk = record { traced = second_trace; few = omega arith; opens = subst (IsPrefix w.seen) m.same m.second_saw; closes = begins_refl y.seen; number = ap (λ (a : Hand). a.number) h; steady = steady_second; knows = m.knows.1 };
+    walk = record { traced = second_trace; few = omega arith; opens = subst (IsPrefix w.seen) m.same m.second_saw; closes = begins_refl y.seen; number = ap (λ (a : Hand). a.number) h; limits = sw.pass.1; steady = steady_second; knows = m.knows.1 };
     kept = h ∙ ap (λ t. record (hand w) { trace = t }) (sym (ap (λ (a : Hand). a.trace) h));
     step = (load y.seen, here, refl);
   }

@@ -23,7 +23,7 @@ use Rattle.tp_model.specs.declared.trace.TraceEntry.{TraceEntry}
 use Rattle.tp_manager.specs.Walks.{Steady, Looked, Rests, IsTask, unit_in, RemembersDone, RemembersDrawn, Walked}
 use Rattle.tp_manager.specs.Calls.{claims_in}
 use Rattle.tp_manager.proofs.Looks.{unborn_if}
-use Rattle.tp_manager.proofs.Marks.{settled_row}
+use Rattle.tp_manager.proofs.Useless.{settled_row}
 use Rattle.tp_rule.specs.Rule.{IsSettledRow}
 use Rattle.tp_manager.proofs.Walks.{walked_begins, walked_none, looked_begins, at_point}
 

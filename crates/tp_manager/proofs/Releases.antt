@@ -169,12 +169,14 @@ module _ (t t' : Spot) (v x w : View) (old : PassShown) (is : shown t v ≡ old)
   release_shown i refusals.Full born p = p
   release_shown i refusals.NotParked born p = p
   release_shown i refusals.NoRound born p = p
+  release_shown i refusals.NotWaiting born p = p
+  release_shown i refusals.NoUnit born p = p
   release_shown i refusals.NotHeld born p = (
     quiet_looked t t' v w old is l (n + m) (looked l (n + m) v w (acted_then l n m v x w a b)),
     point_between t t' v x w old is l n m a b _ (p.0, p.1, p.2, (born.0, found_later x.seen p.0 p.1 i born.0 born.1, p.3)),
   )
 
-  pub collect_shown : (i : ℕ) (e : Refusal) → HasElement x.seen i → IsPastCollect l i x.seen w.seen e → CollectFails l i old (shown t' w) e
+  pub collect_shown : (i : ℕ) (e : Refusal) → ((y : Element) × (element_of x.seen i ≡ Some y) × (y.stage ≡ 15)) → IsPastCollect l i x.seen w.seen e → CollectFails l i old (shown t' w) e
   collect_shown i refusals.NoMemory born p = p
   collect_shown i refusals.BadLimits born p = p
   collect_shown i refusals.BadStage born p = absurd p
@@ -182,9 +184,11 @@ module _ (t t' : Spot) (v x w : View) (old : PassShown) (is : shown t v ≡ old)
   collect_shown i (refusals.Consumed u) born p = p
   collect_shown i refusals.AlreadyKilled born p = (
     quiet_looked t t' v w old is l (n + m) (looked l (n + m) v w (acted_then l n m v x w a b)),
-    point_between t t' v x w old is l n m a b _ (p.0, p.1, p.2, (born.0, found_later x.seen p.0 p.1 i born.0 born.1, p.3)),
+    point_between t t' v x w old is l n m a b _ (p.0, p.1, p.2, (born.0, found_later x.seen p.0 p.1 i born.0 born.1, born.2, p.3)),
   )
   collect_shown i refusals.Full born p = p
   collect_shown i refusals.NotParked born p = p
   collect_shown i refusals.NoRound born p = p
   collect_shown i refusals.NotHeld born p = p
+  collect_shown i refusals.NotWaiting born p = p
+  collect_shown i refusals.NoUnit born p = p

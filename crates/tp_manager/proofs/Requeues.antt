@@ -187,3 +187,5 @@ module _ (t t' : Spot) (v x w : View) (old : PassShown) (is : shown t v ≡ old)
     point_between b _ (p.0, p.1, p.2, (born.0, found_later x.seen p.0 p.1 i born.0 born.1, p.3.0, p.3.1)),
   )
   requeue_shown i refusals.NotHeld b born p = p
+  requeue_shown i refusals.NotWaiting b born p = p
+  requeue_shown i refusals.NoUnit b born p = p

@@ -91,9 +91,9 @@ module _ (l : Limits) (p m q : PassShown) where
       (λ t. follows_then (room_steps l rows) n p m q t.4 f) room
 
   -- rows of the block that was drawn
-  uses_block : (k first b : ℕ) → 0 < k → k ≤ 8 → p.left < k → b < q.seen_blocks → UsesRows k first (on_block b p m) q → UsesRows k first p q
-  uses_block k first b some few less seen uses = ⊎_elim
-      (λ r. inr record { few = less; block = b; first_is = r.first_is; next = r.next; left = r.left; blocks = r.blocks; seen = seen })
+  uses_block : (k first b : ℕ) → 0 < k → k ≤ 8 → p.left < k → p.seen_blocks ≤ b → b < q.seen_blocks → UsesRows k first (on_block b p m) q → UsesRows k first p q
+  uses_block k first b some few less fresh seen uses = ⊎_elim
+      (λ r. inr record { few = less; block = b; first_is = r.first_is; next = r.next; left = r.left; blocks = r.blocks; fresh = fresh; seen = seen })
       (λ r. absurd (let out = r.few in omega arith)) uses
 
   pub room_submits : (id stage : ℕ) (body : List ℕ) → HasRoom l 1 p m → m.seen_blocks ≤ q.seen_blocks → Submits id stage body m q → Submits id stage body p q
@@ -104,24 +104,24 @@ module _ (l : Limits) (p m q : PassShown) where
         adds = record { mine = r.adds.mine; before = r.adds.before; seen = r.adds.seen; begins = r.adds.begins };
         is_born = r.is_born;
         open_unit = r.open_unit;
-        run = uses_block 1 id t.1 (omega arith) (omega arith) t.0 (let seen = t.3 in omega arith) r.run;
+        run = uses_block 1 id t.1 (omega arith) (omega arith) t.0 t.3.0 (let seen = t.3.1 in omega arith) r.run;
       }) room
 
   pub room_settles : (ds : List DraftView) (o : Outcome) → length ds ≤ 4 → HasRoom l (length ds) p m → m.seen_blocks ≤ q.seen_blocks → Settles ds m q o → Settles ds p q o
   room_settles ds o few room up s = ⊎_elim
       (λ t. subst (λ z. Settles ds z q o) t.1 s)
-      (λ t. go o t.0 t.1 (let seen = t.3 in omega arith) (subst (λ z. Settles ds z q o) t.2 s)) room
+      (λ t. go o t.0 t.1 t.3.0 (let seen = t.3.1 in omega arith) (subst (λ z. Settles ds z q o) t.2 s)) room
     where
-      go : (o : Outcome) → p.left < length ds → (b : ℕ) → b < q.seen_blocks → Settles ds (on_block b p m) q o → Settles ds p q o
-      go outcomes.Full less b seen r = absurd (let out = r.0 in omega arith)
-      go outcomes.Lost less b seen r = (r.0, record { was_open = r.1.was_open; open_unit = r.1.open_unit; ended = r.1.ended }, r.2, uses_block (length ds) r.2 b (omega arith) (omega arith) less seen r.3, r.4)
-      go (outcomes.Committed first count) less b seen r = record {
+      go : (o : Outcome) → p.left < length ds → (b : ℕ) → p.seen_blocks ≤ b → b < q.seen_blocks → Settles ds (on_block b p m) q o → Settles ds p q o
+      go outcomes.Full less b fresh seen r = absurd (let out = r.0 in omega arith)
+      go outcomes.Lost less b fresh seen r = (r.0, record { was_open = r.1.was_open; open_unit = r.1.open_unit; ended = r.1.ended }, r.2, uses_block (length ds) r.2 b (omega arith) (omega arith) less fresh seen r.3, r.4)
+      go (outcomes.Committed first count) less b fresh seen r = record {
         unit = r.unit;
         root = r.root;
         row = r.row;
         root_is = r.root_is;
         closes = record { was_open = r.closes.was_open; open_unit = r.closes.open_unit; ended = r.closes.ended };
-        run = uses_block (length ds) r.row b (omega arith) (omega arith) less seen r.run;
+        run = uses_block (length ds) r.row b (omega arith) (omega arith) less fresh seen r.run;
         adds = record { mine = r.adds.mine; before = r.adds.before; seen = r.adds.seen; begins = r.adds.begins };
         consumed = r.consumed;
         first_is = r.first_is;

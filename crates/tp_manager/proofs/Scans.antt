@@ -18,7 +18,6 @@ use Rattle.tp_model.proofs.WordProofs.{status_by_words}
 use Rattle.tp_model.proofs.Bridges.{begins_refl, begins_trans, end_stays, found_later, status_killed, waits_later, in_right}
 use Rattle.tp_model.specs.Passes.{opening_of}
 use Rattle.tp_rule.specs.Steps.{AllowsClaim, MakesClaim, claimed, with_claim}
-use Rattle.tp_rule.specs.declared.view.Known.TheVariants.{PartMark}
 use Rattle.tp_rule.specs.Views.{hand}
 use Rattle.tp_rule.specs.declared.view.Hand.{Hand}
 use Rattle.tp_rule.specs.declared.view.View.{View}
@@ -27,7 +26,7 @@ use Rattle.tp_manager.specs.Looks.{Stands}
 use Rattle.tp_manager.specs.declared.scanning.Stand.TheVariants.{Busy, Over, Ready}
 use Rattle.tp_manager.proofs.Looks.{consumed_now, held_yet}
 use Rattle.tp_manager.specs.Walks.{AreFinished, EachRow, Looked, OfPart, PassedBy, Remembers, Sought, Took, WasUnsettled, with_trace, Begun, Acted}
-use Rattle.tp_manager.proofs.Marks.{over_passed}
+use Rattle.tp_manager.proofs.Marks.{low_kept, over_passed}
 use Rattle.tp_manager.proofs.Moves.{moved}
 use Rattle.tp_manager.proofs.Seeks.{part_of, rows_more, sought_behind, Widens, sought_more}
 use Rattle.tp_manager.proofs.Walks.{grew_steady, grew_hand, sought_few, grew_walked, walked_then, walked_few, looked_begins, walked_begins, sought_by}
@@ -134,8 +133,7 @@ finished_passed l stage n first lows v w server some remembers finished s = reco
   step = s.step;
   passed = λ p low high. dite (dec_le first p)
       (λ past. s.passed p past high)
-      (λ not. let is = finished p (omega arith) in let known = remembers p (omega (arith, is, some)) in
-      let under = s.walk.steady.known (PartMark stage p (slice_index lows p)) (s.walk.knows (PartMark stage p (slice_index lows p)) known) in
+      (λ not. let is = finished p (omega arith) in let under = low_kept l stage v w p n s.marks lows s.walk remembers (omega (arith, is, some)) in
       (λ i from below. passed_widens l stage i (opening_of v.seen s.marks) w.seen w.seen w.seen s.walk.closes (begins_refl w.seen)
       (over_passed l stage w.seen p (slice_index lows p) i server under.1 from (omega (arith, below, is)))));
 }
@@ -237,8 +235,8 @@ module _ (l : Limits) (stage : ℕ) where
       step = t.step;
       passed = λ i low high. dite (dec_le (first * l.rows) i)
           (λ past. t.passed i past high)
-          (λ not. (let c = part_of l.rows first i (omega arith) in let is = finished c.0 c.1 in let known = remembers c.0 (omega (arith, is, some)) in let below = c.3 in
-          let under = t.walk.steady.known (PartMark stage c.0 (slice_index lows c.0)) (t.walk.knows (PartMark stage c.0 (slice_index lows c.0)) known) in
+          (λ not. (let c = part_of l.rows first i (omega arith) in let is = finished c.0 c.1 in let below = c.3 in
+          let under = low_kept l stage v w c.0 n t.marks lows t.walk remembers (omega (arith, is, some)) in
           passed_widens l stage i (opening_of v.seen t.marks) w.seen w.seen w.seen t.walk.closes (begins_refl w.seen)
           (over_passed l stage w.seen c.0 (slice_index lows c.0) i server under.1 c.2 (omega (arith, below, is)))));
     }

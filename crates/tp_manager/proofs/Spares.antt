@@ -1,5 +1,5 @@
 -- Looks at the rows of the spare blocks, and rows that are left behind.
-use Rattle.std.proofs.Common.{◌≡◌, ◌⊎◌, ℕ, suc, ◌+◌, ◌*◌, ◌<◌, ◌≤◌, List, [], ◌∷◌, ◌++◌, MatchOption, Option, Some, None, sym, refl, ap, ◌∙◌, subst, inl, inr, ⊎_elim, arith, suc-mul, mul-le-mul_right}
+use Rattle.std.proofs.Common.{◌≡◌, ℕ, suc, ◌+◌, ◌*◌, ◌<◌, ◌≤◌, List, [], ◌∷◌, ◌++◌, MatchOption, Option, Some, None, sym, refl, ap, ◌∙◌, subst, inl, inr, ⊎_elim, arith, suc-mul, mul-le-mul_right}
 use mathlib.Core.Logic.{dite}
 use native.Mathlib.Decide.{dec_le}
 use mathlib.Core.List.{IsPrefix}
@@ -8,19 +8,18 @@ use Rattle.tp_model.specs.declared.types.Limits.{Limits}
 use Rattle.tp_model.specs.declared.trace.StepKind.TheVariants as kinds
 use Rattle.tp_model.specs.History.{In, here, there}
 use Rattle.tp_model.specs.Passes.{Ascend, IsOwnArea, opening_of}
-use Rattle.tp_model.specs.Steps.{block_first, part_rows}
+use Rattle.tp_model.specs.Steps.{block_first}
 use Rattle.tp_model.proofs.Areas.{area_inside, ascend_in, own_area}
 use Rattle.tp_model.proofs.Bridges.{begins_refl, in_cons, in_left, in_none, in_right}
 use Rattle.tp_rule.specs.Steps.{IsLeft, IsSo, Knows, Voids, unchanged}
 use Rattle.tp_rule.specs.Views.{hand}
 use Rattle.tp_rule.specs.declared.view.Hand.{Hand}
 use Rattle.tp_rule.specs.declared.view.Known.{Known}
-use Rattle.tp_rule.specs.declared.view.Known.TheVariants.{MarkAbove, RowHead}
+use Rattle.tp_rule.specs.declared.view.Known.TheVariants.{RowHead}
 use Rattle.tp_rule.specs.declared.view.View.{View}
 use Rattle.tp_manager.specs.Finds.{Hits, PassedOver}
-use Rattle.tp_manager.specs.Spares.{AreHeaded, AreLeft, Passed, SpareRests}
-use Rattle.tp_manager.specs.Walks.{Acted, Begun, Drew, EachRow, PassedBy, Sought, Steady, Took, Tried, WasOfUse, with_trace}
-use Rattle.tp_manager.specs.declared.listing.Wanted.{Wanted}
+use Rattle.tp_manager.specs.Spares.{AreHeaded, AreLeft, Passed}
+use Rattle.tp_manager.specs.Walks.{Acted, Begun, Drew, EachRow, PassedBy, Sought, Steady, Took, Tried, with_trace}
 use Rattle.tp_manager.specs.declared.scanning.Taken.{Taken}
 use Rattle.tp_manager.proofs.Finds.{over_widens}
 use Rattle.tp_manager.proofs.Scans.{passed_widens, took_behind, took_few}
@@ -50,11 +49,11 @@ pub scan_drawn : (l : Limits) (stage u m k from top : ℕ) (v w y : View) (o : O
 scan_drawn l stage u m k from top v w y None le a p = inr (sought_few l (1 + m) k (EachRow (PassedBy l stage) from top) v y le (passed_sought l (PassedBy l stage) (passed_widens l stage) m from top v w y a p))
 scan_drawn l stage u m k from top v w y (Some t) le a p = (took_few l stage u t.attempt t.element (1 + m) k from v y le (took_behind l stage u t.attempt t.element 1 m from v w y (looked l 1 v w a) p.0), p.1)
 
-pub find_drawn : (l : Limits) (wanted : Wanted) (m k from top : ℕ) (v w y : View) (o : Option ℕ) → 1 + m ≤ k → Acted l 1 v w
-    → MatchOption o (Passed l m (PassedOver l wanted) from top w y) (λ id. (from ≤ id) × (id < top) × Hits l wanted id y.seen × Passed l m (PassedOver l wanted) from id w y)
-    → MatchOption o (Begun l (PassedOver l wanted) k from top v y) (λ id. (from ≤ id) × (id < top) × Hits l wanted id y.seen × Sought l k (EachRow (PassedOver l wanted) from id) v y)
-find_drawn l wanted m k from top v w y None le a p = inr (sought_few l (1 + m) k (EachRow (PassedOver l wanted) from top) v y le (passed_sought l (PassedOver l wanted) (over_widens l wanted) m from top v w y a p))
-find_drawn l wanted m k from top v w y (Some id) le a p = (p.0, p.1, p.2, sought_few l (1 + m) k (EachRow (PassedOver l wanted) from id) v y le (passed_sought l (PassedOver l wanted) (over_widens l wanted) m from id v w y a p.3))
+pub find_drawn : (l : Limits) (m k from top : ℕ) (v w y : View) (o : Option ℕ) → 1 + m ≤ k → Acted l 1 v w
+    → MatchOption o (Passed l m (PassedOver l) from top w y) (λ id. (from ≤ id) × (id < top) × Hits l id y.seen × Passed l m (PassedOver l) from id w y)
+    → MatchOption o (Begun l (PassedOver l) k from top v y) (λ id. (from ≤ id) × (id < top) × Hits l id y.seen × Sought l k (EachRow (PassedOver l) from id) v y)
+find_drawn l m k from top v w y None le a p = inr (sought_few l (1 + m) k (EachRow (PassedOver l) from top) v y le (passed_sought l (PassedOver l) (over_widens l) m from top v w y a p))
+find_drawn l m k from top v w y (Some id) le a p = (p.0, p.1, p.2, sought_few l (1 + m) k (EachRow (PassedOver l) from id) v y le (passed_sought l (PassedOver l) (over_widens l) m from id v w y a p.3))
 
 -- the last of numbers that ascend is above the others
 ascend_last : (low high b n : ℕ) (ns : List ℕ) → Ascend low high (ns ++ b ∷ []) → In n ns → n < b
@@ -113,11 +112,3 @@ module _ (l : Limits) where
     hand_is = t.hand_is ∙ ap (λ z. with_trace (hand y).trace z) d.hand_is;
     seen = t.seen ∙ d.seen;
   }
-
-  -- where the mark of the spare rows rests that was raised to the first row that isn't known of no use
-  pub spare_rests : (stage p n low row mark end : ℕ) (a : List Event) (v w : View) → w.seen ≡ v.seen → p ≡ l.parts → p * l.rows ≡ part_rows l → (p * l.rows + n ≡ low) ⊎ ((n ≡ mark) × Knows w (MarkAbove stage p mark))
-      → (low < row → WasOfUse l stage low a v.seen) → (low < row) ⊎ (end ≤ low) → SpareRests l stage end n a w
-  spare_rests stage p n low row mark end a v w same parts first raised stuck stands = ⊎_elim
-      (λ up. let at : low ≡ part_rows l + n = omega arith in
-      ⊎_elim (λ less. inr (inl (subst (λ (z : ℕ × List Event). WasOfUse l stage z.0 a z.1) (λ i. (at i, sym same i)) (stuck less)))) (λ past. inl (omega arith)) stands)
-      (λ missed. inr (inr (mark, (let is = missed.0 in omega arith), subst (λ z. Knows w (MarkAbove stage z mark)) parts missed.1))) raised

@@ -97,7 +97,7 @@ module _ (l : Limits) (v o j m w x : View) (sv : Steady l v) (join : j ≡ joine
   pub met_acted : Acted l meet_steps v w
   met_acted = let h = first_is in record {
     marks = seat_load v.seen ∷ load w.seen ∷ seat_load w.seen ∷ [];
-    walk = record { traced = met_trace; few = omega arith; opens = met_begins; closes = begins_refl w.seen; number = ap (λ (a : Hand). a.number) h; steady = met_steady; knows = λ z q. subst (λ (u : View). Knows u z) (sym first) (met_knows z (in_left o.known q)) };
+    walk = record { traced = met_trace; few = omega arith; opens = met_begins; closes = begins_refl w.seen; number = ap (λ (a : Hand). a.number) h; limits = sv.pass.1; steady = met_steady; knows = λ z q. subst (λ (u : View). Knows u z) (sym first) (met_knows z (in_left o.known q)) };
     kept = h ∙ ap (λ t. record (hand v) { trace = t }) (sym (ap (λ (a : Hand). a.trace) h));
     step = (load w.seen, there here, refl);
   }
@@ -185,7 +185,7 @@ module _ (l : Limits) (p q r s t o x : View) (h g : List Event) (sp : Steady l p
   pub joined_acted : Acted l led_steps p t
   joined_acted = let k = t_is in record {
     marks = load h ∷ seat_load q.seen ∷ load g ∷ seat_load s.seen ∷ [];
-    walk = record { traced = t_trace; few = omega arith; opens = saw; closes = subst (IsPrefix h) (sym t_seen) more; number = ap (λ (a : Hand). a.number) k; steady = t_steady; knows = λ z i. subst (λ (u : View). Knows u z) (sym first) (all_known z (in_left o.known (met.knows z i))) };
+    walk = record { traced = t_trace; few = omega arith; opens = saw; closes = subst (IsPrefix h) (sym t_seen) more; number = ap (λ (a : Hand). a.number) k; limits = sp.pass.1; steady = t_steady; knows = λ z i. subst (λ (u : View). Knows u z) (sym first) (all_known z (in_left o.known (met.knows z i))) };
     kept = k ∙ ap (λ z. record (hand p) { trace = z }) (sym (ap (λ (a : Hand). a.trace) k));
     step = (load h, here, refl);
   }

@@ -57,6 +57,7 @@ module _ (l : Limits) (kind : StepKind) (f : Hand → Hand) (known : List Known)
     opens = subst (IsPrefix v.seen) (sym (opens_none blind)) (begins_refl v.seen);
     closes = subst (λ z. IsPrefix z w.seen) (sym (opens_none blind)) (subst (IsPrefix v.seen) (sym unseen_seen) (begins_refl v.seen));
     number = ap (λ (a : Hand). a.number) unseen_hand ∙ number;
+    limits = s.pass.1;
     steady = steady;
     knows = λ x q. subst (λ (z : View). Knows z x) (sym is) (more x q);
   }

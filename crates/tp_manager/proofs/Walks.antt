@@ -12,12 +12,12 @@ use Rattle.tp_model.proofs.Bridges.{append_nil, begins_refl, begins_trans}
 use Rattle.tp_rule.specs.Views.{IsOnePass, hand}
 use Rattle.tp_rule.specs.Steps.{Grew, IsSo, noted, unchanged}
 use Rattle.tp_rule.specs.declared.view.Hand.{Hand}
-use Rattle.tp_rule.specs.declared.view.Known.TheVariants.{PartMark}
 use Rattle.tp_rule.specs.declared.view.View.{View}
 use Rattle.tp_rule.proofs.Reading.{one_after, grew_begins}
 use Rattle.tp_manager.specs.Calls.{Follows, AtPoint, HasLooked, steps_of, opening}
 use Rattle.tp_manager.specs.Shown.{AllRise, Climbs, Rises, marks_of, Spot, PassShown, shown}
-use Rattle.tp_manager.specs.Walks.{Remembers, RemembersAll, Steady, Walked, Looked, Acted, Sought, pass_in, with_trace}
+use Rattle.tp_manager.specs.Walks.{MayRemember, Remembers, RemembersAll, Steady, Walked, Looked, Acted, Sought, opening_in, pass_in, with_trace}
+use Rattle.tp_manager.proofs.Useless.{Goes, may_later}
 use Rattle.tp_manager.proofs.Points.{opening_one, opening_later, opening_kept, opens_later, has_more, drop_steps}
 
 module _ (l : Limits) (kind : StepKind) (f : Hand → Hand) (es : List Event) (v w : View) (s : Steady l v) (g : Grew kind f es v w) where
@@ -62,13 +62,14 @@ module _ (l : Limits) (kind : StepKind) (f : Hand → Hand) (es : List Event) (v
     opens = subst (IsPrefix v.seen) (sym o) grew_seen;
     closes = subst (λ z. IsPrefix z w.seen) (sym o) (begins_refl w.seen);
     number = ap (λ (a : Hand). a.number) grew_hand ∙ number;
+    limits = s.pass.1;
     steady = steady;
     knows = g.knows;
   }
 
 module _ (l : Limits) where
   pub walked_none : (v : View) → Steady l v → Walked l 0 [] v v
-  walked_none v s = record { traced = sym (append_nil (hand v).trace); few = omega arith; opens = begins_refl v.seen; closes = begins_refl v.seen; number = refl; steady = s; knows = λ x q. q }
+  walked_none v s = record { traced = sym (append_nil (hand v).trace); few = omega arith; opens = begins_refl v.seen; closes = begins_refl v.seen; number = refl; limits = s.pass.1; steady = s; knows = λ x q. q }
 
   pub walked_begins : (n : ℕ) (ms : List TraceEntry) (v w : View) → Walked l n ms v w → IsPrefix v.seen w.seen
   walked_begins n ms v w a = begins_trans _ _ _ a.opens a.closes
@@ -80,12 +81,13 @@ module _ (l : Limits) where
     opens = opens_later v.seen w.seen ms ns a.opens a.closes b.opens;
     closes = begins_trans _ _ _ (opening_later v.seen w.seen ms ns a.closes b.opens) b.closes;
     number = b.number ∙ a.number;
+    limits = a.limits;
     steady = b.steady;
     knows = λ z q. b.knows z (a.knows z q);
   }
 
   pub walked_few : (n m : ℕ) (ms : List TraceEntry) (v w : View) → n ≤ m → Walked l n ms v w → Walked l m ms v w
-  walked_few n m ms v w le a = record { traced = a.traced; few = let p = a.few in omega arith; opens = a.opens; closes = a.closes; number = a.number; steady = a.steady; knows = a.knows }
+  walked_few n m ms v w le a = record { traced = a.traced; few = let p = a.few in omega arith; opens = a.opens; closes = a.closes; number = a.number; limits = a.limits; steady = a.steady; knows = a.knows }
 
   -- a point of a first part is one of both, where that part has a step that is no draft store
   pub point_first : (m : ℕ) (ms ns : List TraceEntry) (v w x : View) → HasLook ms → Walked l m ns w x → (p : List Event) → IsPoint (opening_of v.seen ms) w.seen p → IsPoint (opening_of v.seen (ms ++ ns)) x.seen p
@@ -144,6 +146,10 @@ module _ (l : Limits) where
   pub sought_acted : (n : ℕ) (Passed : List Event → List Event → Type 0) (v w : View) → Sought l n Passed v w → Acted l n v w
   sought_acted n Passed v w a = record { marks = a.marks; walk = a.walk; kept = a.kept; step = a.step }
 
+-- the steps from one view to another
+pub steps_in : (l : Limits) (n : ℕ) (ms : List TraceEntry) (v w : View) → Walked l n ms v w → opening_in v w ≡ opening_of v.seen ms
+steps_in l n ms v w a = ap (opening_of v.seen) (ap (drop (length (hand v).trace)) a.traced ∙ drop_steps (hand v).trace ms)
+
 -- what a caller sees of the steps of a call
 module _ (t t' : Spot) (v w : View) (old : PassShown) (is : shown t v ≡ old) (l : Limits) (n : ℕ) (ms : List TraceEntry) (a : Walked l n ms v w) where
   pub steps_are : steps_of old (shown t' w) ≡ ms
@@ -186,7 +192,10 @@ rises_none lows p = omega arith
 
 -- what the pass remembers of one kind is known at any later time
 pub remembers_kind : (c : ℕ) (lows : List ℕ) (l : Limits) (n : ℕ) (ms : List TraceEntry) (v w : View) → Walked l n ms v w → Remembers c v lows → Remembers c w lows
-remembers_kind c lows l n ms v w a r p some = a.knows (PartMark c p (slice_index lows p)) (r p some)
+remembers_kind c lows l n ms v w a r p some =
+    let g : Goes l v w = record { limits = (a.limits, a.steady.pass.1); legal = a.steady.shows.legal; begins = walked_begins l n ms v w a; knows = a.knows } in
+    subst (λ (z : Limits). MayRemember z c w p (slice_index lows p)) (sym a.steady.pass.1)
+    (may_later l c v w p (slice_index lows p) g (subst (λ (z : Limits). MayRemember z c v p (slice_index lows p)) a.limits (r p some)))
 
 -- and so of all kinds
 pub remembers : (lows : List (List ℕ)) (l : Limits) (n : ℕ) (ms : List TraceEntry) (v w : View) → Walked l n ms v w → RemembersAll v lows → RemembersAll w lows

@@ -82,6 +82,10 @@ renew_steps = 3
 abbrev pub requeue_steps : ℕ
 requeue_steps = birth_steps + renew_steps
 
+-- how many rounds an element had: whether it is born, and its claim
+abbrev pub rounds_steps : ℕ
+rounds_steps = birth_steps + 1
+
 -- the release of an element that is born: its claim, and the word of the unit that took it
 abbrev pub free_steps : ℕ
 free_steps = 2
@@ -101,18 +105,24 @@ abbrev pub drawn_steps : ℕ → ℕ
 drawn_steps zero = 0
 drawn_steps (suc spare) = 1
 
--- a scan of the spare blocks, with t steps at each row: that load, and those at every row
-abbrev pub spare_steps : Limits → ℕ → ℕ
-spare_steps l t = drawn_steps l.spare + BLOCK_ROWS * l.spare * t
+-- what a cancel makes at an element: its head, the kill, and the word of the unit that consumed it
+abbrev pub end_steps : Limits → ℕ
+end_steps l = 1 + slay_steps l + 1
 
--- a round of a cancel: a kill at every row of the parts, and then of the spare blocks
-abbrev pub round_steps : Limits → ℕ
-round_steps l = part_rows l * kill_steps l + spare_steps l (kill_steps l)
+-- and at so many
+abbrev pub ends_steps : Limits → ℕ → ℕ
+ends_steps l n = n * end_steps l
 
--- whether the root is born, and the mark of each part; then each round but the last finds more rows of the
--- family than the one before it
+-- whether the root of a family is a client's element: its head
+abbrev pub root_steps : ℕ
+root_steps = 1
+
+-- in a family of so many elements: that, and those
+abbrev pub family_cancel_steps : Limits → ℕ → ℕ
+family_cancel_steps l n = root_steps + ends_steps l n
+
 abbrev pub cancel_steps : Limits → ℕ
-cancel_steps l = birth_steps + l.parts + (rows_of l + 1) * round_steps l
+cancel_steps l = family_cancel_steps l (rows_of l)
 
 -- what a listing makes at a row
 abbrev pub look_steps : Limits → ℕ
@@ -132,8 +142,40 @@ spare_left l t n = 3 * drawn_steps l.spare + (BLOCK_ROWS * l.spare - n) * t
 abbrev pub listing_steps : Limits → ℕ
 listing_steps l = l.parts * find_steps l + spare_left l (look_steps l) 0
 
+-- a walk that looks for replies at so many elements: the claim of each, and the word of the unit that took it or its head
+abbrev pub stride_steps : ℕ
+stride_steps = 2
+
+abbrev pub walk_steps : ℕ → ℕ
+walk_steps n = n * stride_steps
+
+-- in a family of so many elements: that, and those
+abbrev pub family_reply_steps : ℕ → ℕ
+family_reply_steps n = root_steps + walk_steps n
+
 abbrev pub reply_steps : Limits → ℕ
-reply_steps l = listing_steps l
+reply_steps l = family_reply_steps (rows_of l)
+
+-- the next element of a family of so many: that, and the look at it
+abbrev pub family_look_steps : Limits → ℕ → ℕ
+family_look_steps l n = family_reply_steps n + read_steps l
+
+abbrev pub family_steps : Limits → ℕ
+family_steps l = family_look_steps l (rows_of l)
+
+-- the collection of the next reply in a family of so many: a walk and a collection for each one that another was quicker to
+-- take, and once more
+abbrev pub one_take_steps : ℕ → ℕ
+one_take_steps n = walk_steps n + collect_steps
+
+abbrev pub takes_steps : ℕ → ℕ
+takes_steps n = (n + 1) * one_take_steps n
+
+abbrev pub family_collect_steps : ℕ → ℕ
+family_collect_steps n = root_steps + takes_steps n
+
+abbrev pub collect_next_steps : Limits → ℕ
+collect_next_steps l = family_collect_steps (rows_of l)
 
 abbrev pub next_error_steps : Limits → ℕ
 next_error_steps l = listing_steps l
@@ -150,6 +192,14 @@ part_steps l = 2 + l.rows * try_steps + 1
 -- the choice of a unit, and those in every part and in the spare blocks
 abbrev pub claim_steps : Limits → ℕ
 claim_steps l = 1 + (l.parts * part_steps l + spare_left l try_steps 0)
+
+-- a claim of a given element that is born: its claim, the word of the unit that took it, its body, and the exchange
+abbrev pub given_steps : ℕ
+given_steps = 2 + body_steps + 1
+
+-- the choice of a unit, whether the element is born, and those
+abbrev pub claim_id_steps : ℕ
+claim_id_steps = 1 + birth_steps + given_steps
 
 -- a pass that remembers marks looks at no row below them. In the first n parts so many rows are
 abbrev pub low_sum : List ℕ → ℕ → ℕ
@@ -182,6 +232,11 @@ turn_steps l rows = 3 * l.parts + drawn_steps l.spare + rows * try_steps
 
 abbrev pub claim_next_steps : Limits → ℕ
 claim_next_steps l = 1 + (6 * l.parts + 2 * drawn_steps l.spare + rows_of l * try_steps)
+
+-- and by the marks of its stage: it goes at most twice through the rows of the parts that are not below them
+abbrev pub claim_next_steps_left : Limits → List ℕ → ℕ
+claim_next_steps_left l lows = 1 + (2 * ((part_rows l - low_sum lows l.parts) * try_steps) + 6 * l.parts
+    + 2 * drawn_steps l.spare + BLOCK_ROWS * l.spare * try_steps)
 
 -- a meeting: the first joins, looks and parts, and the second is there at the look
 abbrev pub meet_steps : ℕ
@@ -229,6 +284,7 @@ pub record RoundBounds (l : Limits) : Type 0 where
   pub submit : submit_steps l ≤ 6 + l.spare
   pub claim : claim_steps l ≤ rows_of l * 9 + 3 * l.parts + 1 + 3 * drawn_steps l.spare
   pub claim_next : claim_next_steps l ≤ rows_of l * 9 + 6 * l.parts + 1 + 2 * drawn_steps l.spare
+  pub claim_id : claim_id_steps ≤ 10
   pub claim_left : (lows : List ℕ)
       → claim_steps_left l lows ≤ rows_left l lows * 9 + 3 * l.parts + 1 + 3 * drawn_steps l.spare
   pub listing_left : (lows : List ℕ)
@@ -239,10 +295,10 @@ pub record RoundBounds (l : Limits) : Type 0 where
   pub requeue : requeue_steps ≤ 8
   pub release : release_steps ≤ 4
   pub collect : collect_steps ≤ 8
-  pub cancel : 1 ≤ rows_of l
-      → cancel_steps l ≤ (rows_of l + 2) * (rows_of l * (4 * changes l.attempts + 12) + 2 * l.parts + 1)
+  pub cancel : (n : ℕ) → family_cancel_steps l n ≤ n * (8 * l.attempts + 7) + 1
   pub read : read_steps l ≤ 2 * changes l.attempts + 10
-  pub reply : reply_steps l ≤ rows_of l * (2 * changes l.attempts + 8) + 3 * l.parts + 3 * drawn_steps l.spare
+  pub reply : (n : ℕ) → family_reply_steps n ≤ 2 * n + 1
+  pub family : (n : ℕ) → family_look_steps l n ≤ 2 * n + 2 * changes l.attempts + 11
   pub next_error : next_error_steps l ≤ rows_of l * (2 * changes l.attempts + 8) + 3 * l.parts + 3 * drawn_steps l.spare
   pub meet : meet_steps ≤ 3
   pub gather : (n : ℕ) → 1 ≤ n → n ≤ l.parts → gather_steps l n + 1 ≡ 5 * n + 2 * l.parts

@@ -78,7 +78,8 @@ pub record UsesBlock (k first : ℕ) (old new : PassShown) : Type 0 where
   pub next : new.next ≡ first + k
   pub left : new.left + k ≡ BLOCK_ROWS
   pub blocks : new.blocks ≡ old.blocks ++ block ∷ []
-  -- it has seen the block drawn
+  -- which it hadn't seen drawn before, and has now
+  pub fresh : old.seen_blocks ≤ block
   pub seen : block < new.seen_blocks
 
 -- the pass has used k rows, from row `first` on

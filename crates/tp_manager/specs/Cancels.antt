@@ -11,8 +11,9 @@ use Rattle.tp_model.specs.declared.event.Event.{Event}
 use Rattle.tp_model.specs.declared.event.Event.TheVariants.{Abort, Kill}
 use Rattle.tp_model.specs.History.{In, element_of, status_of}
 use Rattle.tp_model.specs.Families.{IsRequest, IsSettledFamily}
+use Rattle.tp_model.specs.Orders.{IsReached, IsWalk}
 use Rattle.tp_manager.specs.Shown.{PassShown}
-use Rattle.tp_manager.specs.Calls.{AtPoint, IsQuiet, KeepsRun}
+use Rattle.tp_manager.specs.Calls.{AreOfHolders, AtPoint, IsQuiet, KeepsRun}
 
 -- element i is born, of the family, and no reply
 abbrev pub IsTarget : ℕ → ℕ → List Event → Type 0
@@ -41,8 +42,22 @@ abbrev pub kills_in : List Event → ℕ
 kills_in [] = 0
 kills_in (e ∷ h) = one_kill e + kills_in h
 
+-- element i was left alone; or it is one that a cancel ends, and pass c aborted units that held it, and then
+-- killed it or did not
+abbrev pub IsDoneAt : Limits → ℕ → ℕ → List Event → List Event → ℕ → List Event → Type 0
+IsDoneAt l c root from to i es = (es ≡ []) ⊎ (IsTarget root i to × (aborts : List Event)
+    × AreOfHolders l c i from to aborts × ((es ≡ aborts) ⊎ (es ≡ aborts ++ Kill c i ∷ [])))
+
+-- so it was done at each of these elements, one after another
+abbrev pub AreInTurn : Limits → ℕ → ℕ → List Event → List Event → List ℕ → List Event → Type 0
+AreInTurn l c root from to [] es = es ≡ []
+AreInTurn l c root from to (i ∷ ids) es = (own : List Event) × (rest : List Event) × (es ≡ own ++ rest)
+    × IsDoneAt l c root from to i own × AreInTurn l c root from to ids rest
+
 -- the pass has made these events, among them so many Kills; the root is a client's element, and its family is
--- settled: of it nothing is claimed or committed any more, and nothing is born
+-- settled: of it nothing is claimed or committed any more, and nothing is born. It was at one element after the
+-- other, in the order of a walk through the whole family: always the least id that the walk had come to and not
+-- gone on from
 pub record Cancels (l : Limits) (root killed : ℕ) (old new : PassShown) : Type 0 where
   pub events : List Event
   pub counted : kills_in events ≡ killed
@@ -52,6 +67,10 @@ pub record Cancels (l : Limits) (root killed : ℕ) (old new : PassShown) : Type
   pub run : KeepsRun old new
   pub request : IsRequest new.seen root
   pub settled : IsSettledFamily l.attempts new.seen root
+  pub walk : List ℕ
+  pub in_order : IsWalk l.attempts new.seen root [] walk
+  pub whole : (i : ℕ) → IsReached l.attempts new.seen root walk i → In i walk
+  pub turns : AreInTurn l old.number root old.seen new.seen walk events
 
 -- why a cancel was refused: at a point the root was no client's element
 abbrev pub CancelFails : ℕ → PassShown → PassShown → Refusal → Type 0

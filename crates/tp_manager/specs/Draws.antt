@@ -27,7 +27,8 @@ on_block b old new = record old {
 -- the pass has rows for so many: they were left to it, or it has drawn a block
 abbrev pub HasRoom : Limits → ℕ → PassShown → PassShown → Type 0
 HasRoom l rows old new = ((rows ≤ old.left) × (new ≡ old))
-    ⊎ ((old.left < rows) × (b : ℕ) × (new ≡ on_block b old new) × (b < new.seen_blocks) × Follows (room_steps l rows) old new)
+    ⊎ ((old.left < rows) × (b : ℕ) × (new ≡ on_block b old new)
+    × ((old.seen_blocks ≤ b) × (b < new.seen_blocks)) × Follows (room_steps l rows) old new)
 
 -- it has none, and all blocks are drawn
 abbrev pub NoRoom : Limits → ℕ → PassShown → PassShown → Type 0

@@ -3,12 +3,14 @@
 use Rattle.std.specs.Prelude.{◌≡◌, ℕ, ◌<◌, ◌≤◌, List, Some}
 use Rattle.tp_model.specs.declared.types.Element.{Element}
 use Rattle.tp_model.specs.declared.types.Limits.{Limits}
+use Rattle.tp_model.specs.declared.types.Look.{Look}
 use Rattle.tp_model.specs.declared.types.Status.TheVariants.{Killed}
 use Rattle.tp_model.specs.declared.event.Event.{Event}
 use Rattle.tp_model.specs.History.{element_of, status_of}
 use Rattle.tp_model.specs.Steps.{IsParked}
 use Rattle.tp_manager.specs.Shown.{PassShown}
-use Rattle.tp_manager.specs.Calls.{AtPoint, IsWaiting, opening}
+use Rattle.tp_manager.specs.Calls.{AtPoint, IsLook, IsQuiet, IsWaiting, opening}
+use Rattle.tp_manager.specs.Releases.{Collects}
 
 -- the element is a reply to the request with this root
 abbrev pub IsReply : ℕ → Element → Type 0
@@ -45,3 +47,26 @@ pub record NextError (l : Limits) (from id : ℕ) (old new : PassShown) : Type 0
   pub from_on : from ≤ id
   pub parked : AtPoint old new (HasError l id)
   pub before : NoneParked l (λ i. (from ≤ i) × (i < id)) old new
+
+-- no element of this root with an id from `from` on was born at the opening
+abbrev pub NoneOfFamily : ℕ → ℕ → PassShown → PassShown → Type 0
+NoneOfFamily root from old new = (x : Element) → element_of (opening old new) x.id ≡ Some x → x.root ≡ root → ¬ (from ≤ x.id)
+
+-- an element of the root stood so at a point, and each one with an id from `from` on that was born at the opening has no
+-- lesser id
+pub record NextOfFamily (l : Limits) (root from : ℕ) (look : Look) (old new : PassShown) : Type 0 where
+  pub from_on : from ≤ look.element.id
+  pub root_is : look.element.root ≡ root
+  pub looks : AtPoint old new (IsLook l look.element.id look)
+  pub least : (x : Element) → element_of (opening old new) x.id ≡ Some x → x.root ≡ root → from ≤ x.id
+      → look.element.id ≤ x.id
+
+-- the pass has killed this reply of the root, and nothing else; and each one with a lesser id was killed at a point
+pub record CollectsNext (l : Limits) (root : ℕ) (x : Element) (old new : PassShown) : Type 0 where
+  pub collects : Collects x.id x old new
+  pub root_is : x.root ≡ root
+  pub before : AllKilled l root (λ i. i < x.id) old new
+
+-- the pass has done nothing, and each reply of the root was killed at a point
+abbrev pub NoneCollected : Limits → ℕ → PassShown → PassShown → Type 0
+NoneCollected l root old new = IsQuiet old new × AllKilled l root (λ i. Unit {0}) old new

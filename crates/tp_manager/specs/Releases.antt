@@ -51,11 +51,15 @@ pub record Collects (id : ℕ) (x : Element) (old new : PassShown) : Type 0 wher
 abbrev pub HasNoReply : ℕ → List Event → Type 0
 HasNoReply id h = (x : Element) × (element_of h id ≡ Some x) × (x.stage ≢ 15)
 
+-- a reply with this id is born, and was killed
+abbrev pub HasKilledReply : Limits → ℕ → List Event → Type 0
+HasKilledReply l id h = (x : Element) × (element_of h id ≡ Some x) × (x.stage ≡ 15) × (status_of l.attempts h id ≡ Killed)
+
 -- why a collect was refused; it has done nothing then
 abbrev pub CollectFails : Limits → ℕ → PassShown → PassShown → Refusal → Type 0
 CollectFails l id old new refusals.NotThere = IsQuiet old new × AtPoint old new (λ h. IsUnborn h id)
 CollectFails l id old new refusals.BadStage = IsQuiet old new × AtPoint old new (HasNoReply id)
-CollectFails l id old new refusals.AlreadyKilled = IsQuiet old new × AtPoint old new (HasStatus l id Killed)
+CollectFails l id old new refusals.AlreadyKilled = IsQuiet old new × AtPoint old new (HasKilledReply l id)
 CollectFails l id old new other = ⊥
 
 -- in at most n steps the unit was aborted that held element i in this attempt

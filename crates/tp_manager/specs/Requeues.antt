@@ -43,6 +43,10 @@ RequeueFails l id old new refusals.NotParked = IsQuiet old new × AtPoint old ne
 RequeueFails l id old new refusals.NoRound = IsQuiet old new × AtPoint old new (HasNoRound l id)
 RequeueFails l id old new other = ⊥
 
+-- an element with this id is born, and was given so many further rounds
+abbrev pub HasHadRounds : ℕ → ℕ → List Event → Type 0
+HasHadRounds id n h = ((x : Element) × (element_of h id ≡ Some x)) × (rounds h id ≡ n)
+
 -- in at most n steps element i was given this round, which is the last that the pass has seen, and nothing
 -- else has changed in it but its trace
 pub record Renewed (l : Limits) (n i round : ℕ) (v w : View) : Type 0 where

@@ -25,8 +25,8 @@ pub record KeeperShown : Type 0 where
   pub steps : ℕ
 
 -- a pass shows these, what the definitions say that a pass shows, the marks of each kind and part as it last
--- loaded or set them, how many spare blocks are drawn by what it loaded, and for each stage the row behind the
--- element that it took last in its turn (`claim_next`), 0 before
+-- loaded or set them, or would have set them had not another pass raised them, how many spare blocks are drawn by
+-- what it loaded, and for each stage the row behind the element that it took last in its turn (`claim_next`), 0 before
 pub record PassShown : Type 0 where
   pub table : TableId
   pub limits : Limits
@@ -64,7 +64,7 @@ view_in p = record {
 abbrev pub marks_of : List (List ℕ) → ℕ → List ℕ
 marks_of lows c = slice_index_or lows c []
 
--- the mark of kind c of part p as the pass last loaded or set it, and 0 before
+-- the mark of kind c of part p among them, and 0 before
 abbrev pub low_of : PassShown → ℕ → ℕ → ℕ
 low_of pass c p = slice_index (marks_of pass.lows c) p
 

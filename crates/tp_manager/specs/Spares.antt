@@ -6,23 +6,21 @@ use Rattle.tp_model.specs.declared.types.Limits.{Limits}
 use Rattle.tp_model.specs.Steps.{part_rows, rows_of}
 use Rattle.tp_rule.specs.Steps.{IsLeft, Knows}
 use Rattle.tp_rule.specs.Views.{hand}
-use Rattle.tp_rule.specs.declared.view.Known.TheVariants.{MarkAbove, RowHead}
+use Rattle.tp_rule.specs.declared.view.Known.TheVariants.{RowHead}
 use Rattle.tp_rule.specs.declared.view.View.{View}
 use Rattle.tp_words.specs.declared.words.Head.{Head}
 use Rattle.tp_words.specs.declared.words.Head.TheVariants.{Empty}
-use Rattle.tp_manager.specs.Walks.{EachRow, Looked, WasOfUse}
+use Rattle.tp_manager.specs.Walks.{EachRow, Looked, WasOfUseIn}
 
 -- in at most n steps, which have changed nothing in the pass but its trace, each row from `from` on and below `end` was
 -- passed since what was seen before them
 abbrev pub Passed : Limits → ℕ → (ℕ → List Event → List Event → Type 0) → ℕ → ℕ → View → View → Type 0
 Passed l n P from end v w = Looked l n v w × EachRow P from end v.seen w.seen
 
--- the mark n of the spare rows that the pass remembers is behind the blocks that it saw drawn, which end
--- at row `end`; or
--- its row may have been of use since history a; or somebody else has raised the mark in the table above it
-abbrev pub SpareRests : Limits → ℕ → ℕ → ℕ → List Event → View → Type 0
-SpareRests l stage end n a w = (end ≤ part_rows l + n)
-    ⊎ (WasOfUse l stage (part_rows l + n) a w.seen ⊎ ((m : ℕ) × (n ≤ m) × Knows w (MarkAbove stage l.parts m)))
+-- the mark n of the spare rows is behind the blocks that are drawn, which end at row `end`; or its row may have
+-- been of use at a point of the steps from v to w
+abbrev pub SpareRests : Limits → ℕ → ℕ → ℕ → View → View → Type 0
+SpareRests l stage end n v w = (end ≤ part_rows l + n) ⊎ WasOfUseIn l stage (part_rows l + n) v w
 
 -- the k rows from `first` on are in areas of the pass that its run has left
 abbrev pub AreLeft : Limits → View → ℕ → ℕ → Type 0

@@ -1,6 +1,6 @@
 -- What the view of a pass keeps over some of a call's steps. In each definition l are the table's limits, v
 -- is the view before, and w the view after.
-use Rattle.std.specs.Prelude.{◌≡◌, ◌≢◌, ◌⊎◌, ℕ, ◌+◌, ◌-◌, ◌*◌, ◌<◌, ◌≤◌, List, [], ◌∷◌, ◌++◌, length, map, Option, Some, None, slice_index}
+use Rattle.std.specs.Prelude.{◌≡◌, ◌≢◌, ◌⊎◌, ℕ, ◌+◌, ◌-◌, ◌*◌, ◌<◌, ◌≤◌, List, [], ◌∷◌, ◌++◌, length, drop, map, Option, Some, None, slice_index}
 use mathlib.Core.List.{IsPrefix}
 use Rattle.tp_model.specs.declared.types.Element.{Element}
 use Rattle.tp_model.specs.declared.types.Limits.{Limits}
@@ -9,19 +9,21 @@ use Rattle.tp_model.specs.declared.trace.TraceEntry.{TraceEntry}
 use Rattle.tp_model.specs.History.{IsClaim, IsSettled, IsUnborn, element_of, events_by, status_of}
 use Rattle.tp_model.specs.Drafts.{DraftView}
 use Rattle.tp_model.specs.Passes.{HasLook, PassView, IsPassView, opening_of}
-use Rattle.tp_model.specs.Steps.{AreLimits, IsLegal, block_first, rows_of}
-use Rattle.tp_rule.specs.Rule.{IsSettledRow}
+use Rattle.tp_model.specs.Steps.{AreLimits, IsLegal, IsServerStage, block_first, rows_of}
+use Rattle.tp_rule.specs.Rule.{IsInside, IsSettledRow}
 use Rattle.tp_rule.specs.Views.{SeatShown, IsOnePass, blank_body, fresh_from, hand, view_of}
 use Rattle.tp_rule.specs.declared.view.Hand.{Hand}
 use Rattle.tp_rule.specs.declared.view.View.{View}
 use Rattle.tp_manager.specs.declared.manager.Run.{Run}
 use Rattle.tp_manager.specs.declared.manager.Task.{Task}
+use Rattle.tp_manager.specs.declared.scanning.Taken.{Taken}
 use Rattle.tp_rule.specs.Steps.{IsSo, KnowsUseless, Knows, claimed, with_block, with_claim}
 use Rattle.tp_rule.specs.declared.view.Known.{Known}
 use Rattle.tp_rule.specs.declared.view.Known.TheVariants.{BlocksDrawn, MarkAbove, PartMark}
 use Rattle.tp_manager.specs.Bounds.{draft_steps}
 use Rattle.tp_manager.specs.Shown.{Rises, marks_of}
 use Rattle.tp_manager.specs.Calls.{IsWaiting, claims_in, IsBefore}
+use Rattle.tp_manager.specs.Raises.{IsOfUse}
 
 -- what a seat that stands for one pass shows of it
 abbrev pub pass_in : View → PassView
@@ -53,6 +55,7 @@ pub record Walked (l : Limits) (n : ℕ) (marks : List TraceEntry) (v w : View) 
   pub opens : IsPrefix v.seen (opening_of v.seen marks)
   pub closes : IsPrefix (opening_of v.seen marks) w.seen
   pub number : (hand w).number ≡ (hand v).number
+  pub limits : v.limits ≡ l
   pub steady : Steady l w
   -- what was known is known
   pub knows : (x : Known) → Knows v x → Knows w x
@@ -134,9 +137,27 @@ pub record Rests (seat : SeatShown) (number : ℕ) (run : Run) (used : ℕ) (tas
   pub open_is : (hand (view_of seat)).open_unit ≡ unit_in task
   pub work : IsTask (view_of seat).seen number task
 
--- the seat knows these marks of kind c, which the pass remembers
+-- the seat knows each row from a on and below b of no use to kind c: so a mark of that kind may rise from a to b
+abbrev pub Rose : ℕ → View → ℕ → ℕ → Type 0
+Rose c v a b = (a ≤ b) × ((i : ℕ) → a ≤ i → i < b → KnowsUseless v c i)
+
+-- a raise to n of the mark of a server stage failed, since another pass had raised it above the number that was
+-- found; and so each row from that number on and below n is known of no use
+pub record Missed (l : Limits) (c : ℕ) (v : View) (p n : ℕ) : Type 0 where
+  pub stage : IsServerStage c
+  pub found : ℕ
+  pub knows : Knows v (PartMark c p found)
+  pub above : Knows v (MarkAbove c p found)
+  pub inside : IsInside l p n
+  pub rose : Rose c v (p * l.rows + found) (p * l.rows + n)
+
+-- the pass may remember the mark n of part p: the seat knows it, or a raise to it failed
+abbrev pub MayRemember : Limits → ℕ → View → ℕ → ℕ → Type 0
+MayRemember l c v p n = Knows v (PartMark c p n) ⊎ Missed l c v p n
+
+-- the marks of kind c that the pass remembers are such
 abbrev pub Remembers : ℕ → View → List ℕ → Type 0
-Remembers c v lows = (p : ℕ) → 0 < slice_index lows p → Knows v (PartMark c p (slice_index lows p))
+Remembers c v lows = (p : ℕ) → 0 < slice_index lows p → MayRemember v.limits c v p (slice_index lows p)
 
 -- so of all kinds
 abbrev pub RemembersAll : View → List (List ℕ) → Type 0
@@ -191,28 +212,40 @@ pub record Sought (l : Limits) (n : ℕ) (Passed : List Event → List Event →
 abbrev pub WasUnsettled : Limits → ℕ → List Event → List Event → Type 0
 WasUnsettled l i a b = (p : List Event) × IsPrefix a p × IsPrefix p b × ¬ IsSettled (status_of l.attempts p i)
 
--- row i may be of use to claims of the stage: no element is born in it, or one of the stage that is neither
--- consumed nor killed
-abbrev pub IsOfUse : Limits → ℕ → ℕ → List Event → Type 0
-IsOfUse l stage i h = (x : Element) → element_of h i ≡ Some x → (x.stage ≡ stage) × ¬ IsSettled (status_of l.attempts h i)
-
--- and was so in some history from a to b
+-- row i may have been of use to claims of the stage in some history from a to b
 abbrev pub WasOfUse : Limits → ℕ → ℕ → List Event → List Event → Type 0
 WasOfUse l stage i a b = (p : List Event) × IsPrefix a p × IsPrefix p b × IsOfUse l stage i p
 
--- the mark n of part p that the pass remembers is the part's end; or its row may have been of use since history a;
--- or somebody else has raised the mark in the table above it
-abbrev pub RestsAt : Limits → ℕ → ℕ → ℕ → List Event → View → Type 0
-RestsAt l stage p n a w = (n ≡ l.rows) ⊎ (WasOfUse l stage (p * l.rows + n) a w.seen ⊎ ((m : ℕ) × (n ≤ m) × Knows w (MarkAbove stage p m)))
+-- at most n steps lead from v to w
+abbrev pub Makes : ℕ → View → View → Type 0
+Makes n v w = length (hand w).trace ≤ length (hand v).trace + n
+
+-- what was seen at the opening of the steps from v to w
+abbrev pub opening_in : View → View → List Event
+opening_in v w = opening_of v.seen (drop (length (hand v).trace) (hand w).trace)
+
+-- row i may have been of use at a point of these steps
+abbrev pub WasOfUseIn : Limits → ℕ → ℕ → View → View → Type 0
+WasOfUseIn l stage i v w = WasOfUse l stage i (opening_in v w) w.seen
+
+-- the mark n of part p is the part's end, or its row may have been of use at a point of the steps from v to w
+abbrev pub RestsAt : Limits → ℕ → ℕ → ℕ → View → View → Type 0
+RestsAt l stage p n v w = (n ≡ l.rows) ⊎ WasOfUseIn l stage (p * l.rows + n) v w
+
+-- a scan came to row i: it found nothing, or took the element of that row or of one behind it
+abbrev pub CameTo : ℕ → Option Taken → Type 0
+CameTo i None = Unit {0}
+CameTo i (Some t) = i ≤ t.element.id
+
+-- so these marks rest in each part that a scan came to
+abbrev pub RestInParts : Limits → ℕ → List ℕ → View → View → Option Taken → Type 0
+RestInParts l stage lows v w found = (p : ℕ) → p < l.parts → CameTo (p * l.rows) found
+    → RestsAt l stage p (slice_index lows p) v w
 
 -- no row from `from` on was looked at yet, or all from there on and below n were, and were passed since the
 -- first of these looked, in at most so many steps
 abbrev pub Begun : Limits → (ℕ → List Event → List Event → Type 0) → ℕ → ℕ → ℕ → View → View → Type 0
 Begun l Passed steps from n v w = ((n ≡ from) × (w ≡ v)) ⊎ Sought l steps (EachRow Passed from n) v w
-
--- the seat knows each row from a on and below b of no use to kind c, and so a mark of that kind may rise from a to b
-abbrev pub Rose : ℕ → View → ℕ → ℕ → Type 0
-Rose c v a b = (a ≤ b) × ((i : ℕ) → a ≤ i → i < b → KnowsUseless v c i)
 
 -- the pass has unit u chosen for the next claim, and none open
 abbrev pub IsSpare : ℕ → View → Type 0

@@ -1,11 +1,12 @@
 //! A server's call for work.
-ghost use Rattle.std.specs.Prelude.{◌≡◌, None};
+ghost use Rattle.std.specs.Prelude.{◌≡◌, ℕ, None};
 ghost use Rattle.tp_model.specs.Steps.{AreLimits, IsServerStage};
 ghost use Rattle.tp_manager.specs.Shown.{marks_of, IsOf};
 ghost use Rattle.tp_manager.specs.Bounds.{claim_steps, claim_steps_left};
 ghost use Rattle.tp_manager.specs.Calls.{Claims, Follows};
 ghost use Rattle.tp_model.specs.declared.types.Limits.{Limits};
 ghost use Rattle.tp_manager.specs.Upward.{FirstInFirstOut};
+ghost use Rattle.tp_manager.specs.Raises.{FewAgain, RaisesMarks};
 
 use crate::manager::{Manager, Pass, Task};
 use tp_model::types::{Claimed, Work};
@@ -23,6 +24,7 @@ impl Manager {
         ensures follows { Follows (claim_steps self.now.limits) pass.old pass.new }
         ensures answer { Claims self.now.limits stage pass.old pass.new result }
         ensures few { Follows (claim_steps_left self.now.limits (marks_of pass.old.lows stage)) pass.old pass.new }
+        ensures raises { RaisesMarks self.now.limits stage pass.old pass.new result }
     {
         let seat = &mut pass.seat;
         let units = self.shared.places.limits.units;
@@ -55,6 +57,13 @@ impl Manager {
         })
     }
 }
+
+/// Of two claims of a stage by one pass, the second looks at none of the first rows of a part, or of the spare
+/// blocks, that the first came to and that were of no use to the stage meanwhile. So it costs what the rows that
+/// are left cost, and at most three steps a part. The function does nothing: its contract is the law.
+pub fn few_again()
+    ensures few { (l : Limits) (stage : ℕ) → FewAgain l stage }
+{}
 
 /// Of the elements of a stage that one pass made, a claim takes one of an earlier call before those of a later call,
 /// but for what it found not to wait. The function does nothing: its contract is the law.

@@ -44,7 +44,12 @@ fn is_killed(claim: Claim) -> bool
 
 impl Shared {
     /// Kills the reply that is born in the row, and hands it out. At most six steps.
-    fn collect_row(&self, seat: &mut Seat, row: u32, birth: Birth) -> Result<Element, Refusal>
+    pub(crate) fn collect_row(
+        &self,
+        seat: &mut Seat,
+        row: u32,
+        birth: Birth,
+    ) -> Result<Element, Refusal>
         requires own { IsSeatOf self.now.words seat.old }
         requires steady { Steady (limits_of self.now.words) (view_of seat.old) }
         requires row { row < rows_of (limits_of self.now.words) }

@@ -1,5 +1,5 @@
 //! Rows from the spare blocks.
-ghost use Rattle.std.specs.Prelude.{◌≡◌, ◌+◌, ◌-◌, ◌≤◌, [], true, false};
+ghost use Rattle.std.specs.Prelude.{◌≡◌, ◌+◌, ◌-◌, ◌<◌, ◌≤◌, [], true, false};
 ghost use Rattle.tp_rule.specs.Views.{hand_of, view_of, IsSameSeat};
 ghost use Rattle.tp_rule.specs.Tables.{limits_of, IsSeatOf};
 ghost use Rattle.tp_manager.specs.Shown.{IsOf};
@@ -25,6 +25,7 @@ impl Shared {
         ensures same { IsSameSeat seat.old seat.new }
         ensures drawn { RemembersDrawn (view_of seat.new) run.new.drawn }
         ensures risen { run.old.drawn ≤ run.new.drawn }
+        ensures fresh { result ≡ true → run.old.drawn < run.new.drawn }
         ensures done { run.new.done ≡ run.old.done }
         ensures yes { result ≡ true → let l = limits_of self.now.words in
             Drawn l (draw_steps l) (view_of seat.old) (view_of seat.new) run.new }
@@ -75,6 +76,7 @@ impl Shared {
         ensures same { IsSameSeat seat.old seat.new }
         ensures drawn { RemembersDrawn (view_of seat.new) run.new.drawn }
         ensures risen { run.old.drawn ≤ run.new.drawn }
+        ensures fresh { result ≡ true → run.old.drawn < run.new.drawn }
         ensures done { run.new.done ≡ run.old.done }
         ensures yes { result ≡ true → let l = limits_of self.now.words in
             Drawn l (draw_steps l + run.old.left) (view_of seat.old) (view_of seat.new) run.new }

@@ -2,6 +2,7 @@
 #![tactic(auto)]
 
 mod accounting;
+mod ahead;
 mod bounds;
 mod cancelling;
 mod claiming;
@@ -9,6 +10,8 @@ mod collecting;
 mod drafting;
 mod drawing;
 mod ending;
+mod following;
+mod given;
 mod killing;
 mod listing;
 mod looking;
@@ -17,14 +20,19 @@ mod marking;
 mod meeting;
 mod reading;
 mod releasing;
+mod replying;
 mod requeueing;
+mod rounds;
+mod row_set;
 mod scanning;
 mod sparing;
 mod submitting;
+mod taking;
 mod turning;
+mod walking;
 
 pub use bounds::round_bounds;
-pub use claiming::first_in_first_out;
+pub use claiming::{few_again, first_in_first_out};
 pub use drawing::ids_go_up;
-pub use manager::{Keeper, MakeFault, Manager, Pass};
+pub use manager::{Keeper, MakeFault, Manager, Pass, Room};
 pub use turning::turns_come;

@@ -1,8 +1,8 @@
-//! The next reply to a request, and the next element of the error queue.
+//! The next element of the error queue.
 ghost use Rattle.std.specs.Prelude.{◌≡◌, ◌⊎◌, ◌+◌, ◌-◌, ◌*◌, ◌<◌, ◌≤◌, ℕ, slice_index, IfSome, MatchOption, Option, true, false};
 ghost use Rattle.tp_model.specs.declared.types.Element.{Element as element};
 ghost use Rattle.tp_model.specs.declared.types.Status.{Status as status};
-ghost use Rattle.tp_model.specs.Steps.{part_rows, rows_of, IsRowOf};
+ghost use Rattle.tp_model.specs.Steps.{part_rows, rows_of, IsParked, IsRowOf};
 ghost use Rattle.tp_rule.specs.Views.{seen_by, view_of, IsSameSeat};
 ghost use Rattle.tp_rule.specs.Tables.{limits_of, IsSeatOf};
 ghost use Rattle.tp_words.specs.Words.{head_of};
@@ -10,65 +10,36 @@ ghost use Rattle.tp_words.specs.declared.words.Head.TheVariants.{There};
 ghost use Rattle.tp_words.specs.declared.places.TheConstants.{MARK_KINDS};
 ghost use Rattle.tp_rule.specs.Rule.{Concerns};
 ghost use Rattle.tp_manager.specs.Shown.{marks_of, IsOf, Rises};
-ghost use Rattle.tp_manager.specs.Bounds.{listing_steps_left, look_steps, marked_steps, next_error_steps, reply_steps, scan_steps, spare_left};
+ghost use Rattle.tp_manager.specs.Bounds.{listing_steps_left, look_steps, marked_steps, next_error_steps, scan_steps, spare_left};
 ghost use Rattle.tp_manager.specs.Calls.{Follows, HasLooked, IsQuiet};
-ghost use Rattle.tp_manager.specs.Lists.{AllKilled, NoneParked, NextReply, NextError};
+ghost use Rattle.tp_manager.specs.Lists.{NoneParked, NextError};
 ghost use Rattle.tp_manager.specs.Looks.{GoesOn};
 ghost use Rattle.tp_manager.specs.Walks.{Acted, Begun, EachRow, Remembers, RemembersDrawn, RisesAt, Rose, Sought, Steady};
-ghost use Rattle.tp_manager.specs.Finds.{kind_of, Finds, Hits, IsWanted, PassedOver};
+ghost use Rattle.tp_manager.specs.Finds.{Finds, Hits, PassedOver};
 
-use crate::looking::{Birth, Contents};
+use crate::looking::Contents;
 use crate::manager::{Manager, Pass, Shared};
 use crate::marking::{low_after, past, past_other};
 use tp_model::types::Status;
 use tp_rule::Seat;
 use tp_words::Head;
 
-/// What a listing looks for.
-#[derive(Clone, Copy)]
-pub(crate) enum Wanted {
-    /// A reply to the request with this root, that waits.
-    Reply { root: u32 },
-    /// A parked element.
-    Error,
-}
-
+/// Whether it is the status of a parked element.
 #[inline(always)]
-fn is_wanted(wanted: Wanted, birth: Birth, status: Status) -> bool
-    ensures yes { result ≡ true → IsWanted wanted birth.stage birth.root status }
-    ensures no { result ≡ false → ¬ IsWanted wanted birth.stage birth.root status }
+fn is_parked(status: Status) -> bool
+    ensures yes { result ≡ true → IsParked status }
+    ensures no { result ≡ false → ¬ IsParked status }
 {
-    match wanted {
-        Wanted::Reply { root } => {
-            birth.stage == 15
-                && birth.root as u32 == root
-                && matches!(status, Status::Waiting { attempts: _ })
-        }
-        Wanted::Error => matches!(status, Status::Parked { attempts: _ }),
-    }
+    matches!(status, Status::Parked { attempts: _ })
 }
 
-/// Whether an element with this head may be looked for.
+/// Whether the marks at which a listing starts are about an element with this head.
 #[inline(always)]
-fn may_be_wanted(wanted: Wanted, head: Head) -> bool
-    ensures no { result ≡ false → (e : element) → head ≡ head_of e → (s : status)
-        → ¬ IsWanted wanted e.stage e.root s }
-{
-    match head {
-        Head::Empty => false,
-        Head::Void => false,
-        Head::There { stage, root, by: _ } => match wanted {
-            Wanted::Reply { root: asked } => stage == 15 && root as u32 == asked,
-            Wanted::Error => true,
-        },
-    }
-}
-
-/// Whether the marks at which such a listing starts are about an element with this head.
-#[inline(always)]
-fn is_listed(wanted: Wanted, head: Head) -> bool
+fn is_listed(head: Head) -> bool
     ensures aside { result ≡ false → (found root : ℕ) (by : Option ℕ) → head ≡ There found root by
-        → ¬ Concerns (kind_of wanted) found }
+        → ¬ Concerns 0 found }
+    ensures about { result ≡ true → (found root : ℕ) (by : Option ℕ) → head ≡ There found root by
+        → Concerns 0 found }
 {
     match head {
         Head::Empty => false,
@@ -77,22 +48,7 @@ fn is_listed(wanted: Wanted, head: Head) -> bool
             stage,
             root: _,
             by: _,
-        } => match wanted {
-            Wanted::Reply { root: _ } => stage == 15,
-            Wanted::Error => stage != 15,
-        },
-    }
-}
-
-/// The kind of the marks at which such a listing starts.
-#[inline(always)]
-pub(crate) fn kind_of(wanted: Wanted) -> u8
-    ensures answer { result ≡ kind_of wanted }
-    ensures kind { result < MARK_KINDS }
-{
-    match wanted {
-        Wanted::Reply { root: _ } => 15,
-        Wanted::Error => 0,
+        } => stage != 15,
     }
 }
 
@@ -106,37 +62,28 @@ pub(crate) fn later(row: u32, other: u32) -> u32
 }
 
 impl Shared {
-    /// Whether the element of a row is looked for; `row` goes on, and so does `low`, the first row that isn't
-    /// known of no use, where that is this one. One step where the head says that it isn't looked for.
+    /// Whether the element of a row is parked; `row` goes on, and so does `low`, the first row that isn't
+    /// known of no use, where that is this one. One step where the head says that it isn't.
     #[inline(always)]
-    pub(crate) fn is_wanted_at(
-        &self,
-        seat: &mut Seat,
-        row: &mut u32,
-        low: &mut u32,
-        wanted: Wanted,
-    ) -> bool
+    pub(crate) fn is_parked_at(&self, seat: &mut Seat, row: &mut u32, low: &mut u32) -> bool
         requires own { IsSeatOf self.now.words seat.old }
         requires steady { Steady (limits_of self.now.words) (view_of seat.old) }
         requires row { row.old < rows_of (limits_of self.now.words) }
         requires low { low.old ≤ row.old }
         ensures same { IsSameSeat seat.old seat.new }
         ensures on { GoesOn (limits_of self.now.words) row.old row.new }
-        ensures low { (low.new ≤ row.new) × Rose (kind_of wanted) (view_of seat.new) low.old low.new }
+        ensures low { (low.new ≤ row.new) × Rose 0 (view_of seat.new) low.old low.new }
         ensures acted { let l = limits_of self.now.words in
             Acted l (look_steps l) (view_of seat.old) (view_of seat.new) }
-        ensures yes { result ≡ true → Hits (limits_of self.now.words) wanted row.old (seen_by seat.new) }
+        ensures yes { result ≡ true → Hits (limits_of self.now.words) row.old (seen_by seat.new) }
         ensures no { result ≡ false → let l = limits_of self.now.words in
-            Sought l (look_steps l) (EachRow (PassedOver l wanted) row.old row.new)
+            Sought l (look_steps l) (EachRow (PassedOver l) row.old row.new)
             (view_of seat.old) (view_of seat.new) }
     {
         let here = *row;
         let head = self.head_on(seat, row);
-        if !is_listed(wanted, head) {
+        if !is_listed(head) {
             *low = past_other(*low, here, head);
-            return false;
-        }
-        if !may_be_wanted(wanted, head) {
             return false;
         }
         let birth = match self.contents_from(seat, here, head) {
@@ -149,7 +96,7 @@ impl Shared {
         };
         let (_, status) = self.status_at(seat, here);
         *low = low_after(*low, here, status);
-        is_wanted(wanted, birth, status)
+        is_parked(status)
     }
 
     /// The first row of a part, from one of its rows on, whose element is looked for. The scan starts at the
@@ -160,20 +107,19 @@ impl Shared {
         lows: &mut [u16; 33],
         part: u16,
         from: u32,
-        wanted: Wanted,
     ) -> Option<u32>
         requires own { IsSeatOf self.now.words seat.old }
         requires steady { Steady (limits_of self.now.words) (view_of seat.old) }
         requires from { IsRowOf (limits_of self.now.words) part from }
-        requires remembers { Remembers (kind_of wanted) (view_of seat.old) lows.old }
+        requires remembers { Remembers 0 (view_of seat.old) lows.old }
         ensures same { IsSameSeat seat.old seat.new }
-        ensures remembers { Remembers (kind_of wanted) (view_of seat.new) lows.new }
+        ensures remembers { Remembers 0 (view_of seat.new) lows.new }
         ensures lows { RisesAt part lows.old lows.new }
         ensures told { let l = limits_of self.now.words in
-            Finds l wanted (2 + (l.rows - slice_index lows.old part) * look_steps l) from (part * l.rows + l.rows)
+            Finds l (2 + (l.rows - slice_index lows.old part) * look_steps l) from (part * l.rows + l.rows)
             (view_of seat.old) (view_of seat.new) result }
     {
-        let kind = kind_of(wanted);
+        let kind = 0;
         let mark = self.mark_at(seat, lows, kind, part);
         let rows = self.places.limits.rows as u32;
         let first = part as u32 * rows;
@@ -183,7 +129,7 @@ impl Shared {
         let mut row = start;
         while row < end {
             let here = row;
-            if self.is_wanted_at(seat, &mut row, &mut low, wanted) {
+            if self.is_parked_at(seat, &mut row, &mut low) {
                 self.raise_to(seat, lows, kind, part, mark, low);
                 return Some(here);
             }
@@ -201,17 +147,16 @@ impl Shared {
         lows: &mut [u16; 33],
         part: u16,
         from: u32,
-        wanted: Wanted,
     ) -> Option<u32>
         requires own { IsSeatOf self.now.words seat.old }
         requires steady { Steady (limits_of self.now.words) (view_of seat.old) }
         requires from { IsRowOf (limits_of self.now.words) part from }
-        requires remembers { Remembers (kind_of wanted) (view_of seat.old) lows.old }
+        requires remembers { Remembers 0 (view_of seat.old) lows.old }
         ensures same { IsSameSeat seat.old seat.new }
-        ensures remembers { Remembers (kind_of wanted) (view_of seat.new) lows.new }
+        ensures remembers { Remembers 0 (view_of seat.new) lows.new }
         ensures lows { RisesAt part lows.old lows.new }
         ensures told { let l = limits_of self.now.words in
-            Finds l wanted (3 + (l.rows - slice_index lows.old part) * look_steps l) from (part * l.rows + l.rows)
+            Finds l (3 + (l.rows - slice_index lows.old part) * look_steps l) from (part * l.rows + l.rows)
             (view_of seat.old) (view_of seat.new) result }
     {
         let first = part as u32 * self.places.limits.rows as u32;
@@ -219,26 +164,20 @@ impl Shared {
         if self.is_bare(seat, part, start, None) {
             return None;
         }
-        self.find_from_mark(seat, lows, part, from, wanted)
+        self.find_from_mark(seat, lows, part, from)
     }
 
     /// The first row of the parts, from this one on, whose element is looked for.
-    fn find_in_parts(
-        &self,
-        seat: &mut Seat,
-        lows: &mut [u16; 33],
-        from: u32,
-        wanted: Wanted,
-    ) -> Option<u32>
+    fn find_in_parts(&self, seat: &mut Seat, lows: &mut [u16; 33], from: u32) -> Option<u32>
         requires own { IsSeatOf self.now.words seat.old }
         requires steady { Steady (limits_of self.now.words) (view_of seat.old) }
         requires from { from < part_rows (limits_of self.now.words) }
-        requires remembers { Remembers (kind_of wanted) (view_of seat.old) lows.old }
+        requires remembers { Remembers 0 (view_of seat.old) lows.old }
         ensures same { IsSameSeat seat.old seat.new }
-        ensures remembers { Remembers (kind_of wanted) (view_of seat.new) lows.new }
+        ensures remembers { Remembers 0 (view_of seat.new) lows.new }
         ensures lows { Rises lows.old lows.new }
         ensures told { let l = limits_of self.now.words in
-            Finds l wanted (scan_steps l (look_steps l) 3 lows.old l.parts) from (part_rows l)
+            Finds l (scan_steps l (look_steps l) 3 lows.old l.parts) from (part_rows l)
             (view_of seat.old) (view_of seat.new) result }
     {
         let rows = self.places.limits.rows as u32;
@@ -246,7 +185,7 @@ impl Shared {
         for part in 0..self.places.limits.parts {
             let end = part as u32 * rows + rows;
             if row < end {
-                if let Some(id) = self.find_in_part(seat, lows, part, row, wanted) {
+                if let Some(id) = self.find_in_part(seat, lows, part, row) {
                     return Some(id);
                 }
                 row = end;
@@ -262,93 +201,58 @@ impl Shared {
         lows: &mut [u16; 33],
         drawn: &mut u16,
         from: u32,
-        wanted: Wanted,
     ) -> Option<u32>
         requires own { IsSeatOf self.now.words seat.old }
         requires steady { Steady (limits_of self.now.words) (view_of seat.old) }
-        requires remembers { Remembers (kind_of wanted) (view_of seat.old) lows.old }
+        requires remembers { Remembers 0 (view_of seat.old) lows.old }
         requires drawn { RemembersDrawn (view_of seat.old) drawn.old }
         requires from { let l = limits_of self.now.words in (part_rows l ≤ from) × (from ≤ rows_of l) }
         ensures same { IsSameSeat seat.old seat.new }
         ensures drawn { RemembersDrawn (view_of seat.new) drawn.new }
         ensures risen { drawn.old ≤ drawn.new }
-        ensures remembers { Remembers (kind_of wanted) (view_of seat.new) lows.new }
+        ensures remembers { Remembers 0 (view_of seat.new) lows.new }
         ensures lows { Rises lows.old lows.new }
         ensures told { let l = limits_of self.now.words in
-            let n = spare_left l (look_steps l) (slice_index lows.old l.parts) in let P = PassedOver l wanted in MatchOption result
+            let n = spare_left l (look_steps l) (slice_index lows.old l.parts) in let P = PassedOver l in MatchOption result
             (Begun l P n from (rows_of l) (view_of seat.old) (view_of seat.new))
-            (λ id. (from ≤ id) × (id < rows_of l) × Hits l wanted id (seen_by seat.new)
+            (λ id. (from ≤ id) × (id < rows_of l) × Hits l id (seen_by seat.new)
             × Sought l n (EachRow P from id) (view_of seat.old) (view_of seat.new)) }
     {
         let Some(end) = self.blocks_end(seat, drawn) else {
             return None;
         };
-        self.find_spare(seat, lows, end, from, wanted)
+        self.find_spare(seat, lows, end, from)
     }
 
     /// The first row from this one on whose element is looked for.
-    fn find(
-        &self,
-        seat: &mut Seat,
-        lows: &mut [u16; 33],
-        drawn: &mut u16,
-        from: u32,
-        wanted: Wanted,
-    ) -> Option<u32>
+    fn find(&self, seat: &mut Seat, lows: &mut [u16; 33], drawn: &mut u16, from: u32) -> Option<u32>
         requires own { IsSeatOf self.now.words seat.old }
         requires steady { Steady (limits_of self.now.words) (view_of seat.old) }
         requires from { from < rows_of (limits_of self.now.words) }
-        requires remembers { Remembers (kind_of wanted) (view_of seat.old) lows.old }
+        requires remembers { Remembers 0 (view_of seat.old) lows.old }
         requires drawn { RemembersDrawn (view_of seat.old) drawn.old }
         ensures same { IsSameSeat seat.old seat.new }
-        ensures remembers { Remembers (kind_of wanted) (view_of seat.new) lows.new }
+        ensures remembers { Remembers 0 (view_of seat.new) lows.new }
         ensures drawn { RemembersDrawn (view_of seat.new) drawn.new }
         ensures risen { drawn.old ≤ drawn.new }
         ensures lows { Rises lows.old lows.new }
         ensures inside { IfSome result (λ id. id < rows_of (limits_of self.now.words)) }
         ensures told { let l = limits_of self.now.words in let t = look_steps l in
-            Finds l wanted (marked_steps l t lows.old) from (rows_of l)
+            Finds l (marked_steps l t lows.old) from (rows_of l)
             (view_of seat.old) (view_of seat.new) result }
     {
         let parts = self.places.part_rows();
         if from >= parts {
-            return self.find_in_blocks(seat, lows, drawn, from, wanted);
+            return self.find_in_blocks(seat, lows, drawn, from);
         }
-        if let Some(id) = self.find_in_parts(seat, lows, from, wanted) {
+        if let Some(id) = self.find_in_parts(seat, lows, from) {
             return Some(id);
         }
-        self.find_in_blocks(seat, lows, drawn, parts, wanted)
+        self.find_in_blocks(seat, lows, drawn, parts)
     }
 }
 
 impl Manager {
-    /// The least id from this one on of a reply to the request with this root, of which it was found to wait.
-    pub fn reply(&self, pass: &mut Pass, root: u32, from: u32) -> Option<u32>
-        requires own { IsOf self.now pass.old }
-        ensures own { IsOf self.now pass.new }
-        ensures turn { pass.new.from ≡ pass.old.from }
-        ensures follows { Follows (reply_steps self.now.limits) pass.old pass.new }
-        ensures few { Follows (listing_steps_left self.now.limits (marks_of pass.old.lows 15)) pass.old pass.new }
-        ensures quiet { IsQuiet pass.old pass.new }
-        ensures looks { from < rows_of self.now.limits → HasLooked pass.old pass.new }
-        ensures inside { IfSome result (λ id. id < rows_of self.now.limits) }
-        ensures answer { MatchOption result
-            (AllKilled self.now.limits root (λ i. from ≤ i) pass.old pass.new)
-            (λ id. NextReply self.now.limits root from id pass.old pass.new) }
-    {
-        let seat = &mut pass.seat;
-        if from >= self.shared.places.rows() {
-            return None;
-        }
-        self.shared.find(
-            seat,
-            &mut pass.lows[15],
-            &mut pass.run.drawn,
-            from,
-            Wanted::Reply { root },
-        )
-    }
-
     /// The least id from this one on of an element, of whatever stage, that was found to be parked.
     pub fn next_error(&self, pass: &mut Pass, from: u32) -> Option<u32>
         requires own { IsOf self.now pass.old }
@@ -367,12 +271,7 @@ impl Manager {
         if from >= self.shared.places.rows() {
             return None;
         }
-        self.shared.find(
-            seat,
-            &mut pass.lows[0],
-            &mut pass.run.drawn,
-            from,
-            Wanted::Error,
-        )
+        self.shared
+            .find(seat, &mut pass.lows[0], &mut pass.run.drawn, from)
     }
 }

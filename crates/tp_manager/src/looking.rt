@@ -1,9 +1,9 @@
 //! What a pass finds at a row.
-ghost use Rattle.std.specs.Prelude.{◌≡◌, ◌<◌, ◌≤◌, ℕ, slice_index, Some, MatchOption, true, false};
+ghost use Rattle.std.specs.Prelude.{◌≡◌, ◌<◌, ◌≤◌, ℕ, slice_index, Some, IfSome, MatchOption, true, false};
 ghost use Rattle.tp_words.specs.declared.words.Head.TheVariants.{Empty, There};
 ghost use Rattle.tp_model.specs.History.{IsUnborn, element_of, status_of};
 ghost use Rattle.tp_model.specs.declared.types.Element.{Element};
-ghost use Rattle.tp_model.specs.Steps.{part_rows, rows_of, units_of};
+ghost use Rattle.tp_model.specs.Steps.{block_first, part_rows, rows_of, units_of};
 ghost use Rattle.tp_model.specs.Words.{claim_word};
 ghost use Rattle.tp_words.specs.Words.{claim_value, IsFitClaim};
 ghost use Rattle.tp_rule.specs.Views.{seen_by, view_of, IsSameSeat};
@@ -86,6 +86,7 @@ impl Shared {
         ensures same { IsSameSeat seat.old seat.new }
         ensures drawn { RemembersDrawn (view_of seat.new) drawn.new }
         ensures risen { drawn.old ≤ drawn.new }
+        ensures end { IfSome result (λ end. end ≡ block_first (limits_of self.now.words) drawn.new) }
         ensures told { let l = limits_of self.now.words in MatchOption result
             ((l.spare ≡ 0) × (seat.new ≡ seat.old))
             (λ end. (0 < l.spare) × Acted l 1 (view_of seat.old) (view_of seat.new)

@@ -5,10 +5,11 @@ ghost use Rattle.tp_model.specs.Passes.{IsPassView};
 ghost use Rattle.tp_rule.specs.Views.{fresh_from, view_of};
 ghost use Rattle.tp_rule.specs.Tables.{limits_of};
 ghost use Rattle.tp_rule.specs.Steps.{IsLow};
-ghost use Rattle.tp_manager.specs.Calls.{Follows};
+ghost use Rattle.tp_manager.specs.Calls.{Follows, claims_in};
 ghost use Rattle.tp_manager.specs.Shown.{low_of, turn_of, view_in, IsOf, IsKeptBy};
 ghost use Rattle.tp_manager.specs.declared.manager.MakeFault.TheVariants as faults;
 
+use crate::row_set::{NoRows, RowSet};
 use std::alloc::Global;
 use std::marker::Model;
 use tp_model::types::Limits;
@@ -93,6 +94,15 @@ pub(crate) struct Run {
     pub done: Option<u32>,
 }
 
+/// What is left to a pass.
+#[derive(Clone, Copy, Debug, PartialEq, Eq)]
+pub struct Room {
+    /// How many elements it can make before it draws a spare block, 0 to 256.
+    pub rows: u16,
+    /// How many units of work it can begin, 0 to 1,024.
+    pub units: u16,
+}
+
 /// What one caller acts through, one call at a time. A pass that is dropped leaves its open unit open: the
 /// element stays held, and a kill still takes it.
 #[derive(Drop)]
@@ -102,10 +112,13 @@ pub struct Pass {
     pub(crate) run: Run,
     pub(crate) used: u16,
     pub(crate) task: Option<Task>,
-    /// The marks of each kind and part, as the pass last loaded or set them.
+    /// The marks of each kind and part, as the pass last loaded or set them, or as far as a raise of a stage's mark
+    /// that failed would have set it.
     pub(crate) lows: [[u16; 33]; 16],
     /// For each stage the row behind the element that it took last in its turn.
     pub(crate) from: [u32; 16],
+    /// The rows that a walk has come to and not gone on from: none, between two calls.
+    pub(crate) walk: NoRows,
 }
 
 impl Model for Pass {
@@ -188,6 +201,9 @@ impl Keeper {
             task: None,
             lows: [[0; 33]; 16],
             from: [0; 16],
+            walk: NoRows {
+                rows: RowSet::new(),
+            },
         })
     }
 }
@@ -201,9 +217,9 @@ impl Pass {
     }
 
     /// The mark of a part that is about a stage, 1 to 15, as this pass last loaded or set it, and 0 before, or
-    /// where there is no such stage or part. The mark in the table is never below it: no element of the stage
-    /// in so many first rows of the part waits, is held or is parked. With 0 for the stage it is the mark that
-    /// is about all stages but 15.
+    /// where there is no such stage or part: no element of the stage in so many first rows of the part waits, is
+    /// held or is parked. With 0 for the stage it is the mark that is about all stages but 15. The mark in the
+    /// table is below it only where a claim could not raise it so far, since another pass had raised it meanwhile.
     pub fn low(&self, stage: u8, part: u16) -> u16
         ensures answer { result ≡ low_of self.now stage part }
         ensures low { IsLow self.now.limits stage self.now.seen part result }
@@ -249,5 +265,24 @@ impl Manager {
         ensures { result ≡ rows_of self.now.limits }
     {
         self.shared.places.rows()
+    }
+
+    /// What is left to a pass of this manager. Spare blocks, which any pass may draw, aren't counted.
+    pub fn room(&self, pass: &Pass) -> Room
+        requires own { IsOf self.now pass.now }
+        ensures rows { result.rows ≡ pass.now.left }
+        ensures units { claims_in pass.now.mine + result.units ≡ self.now.limits.units }
+    {
+        Room {
+            rows: pass.run.left,
+            units: self.shared.places.limits.units - pass.used,
+        }
+    }
+
+    /// The limits that the manager was made with.
+    pub fn limits(&self) -> Limits
+        ensures { result ≡ self.now.limits }
+    {
+        self.shared.places.limits
     }
 }

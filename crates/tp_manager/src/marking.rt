@@ -1,6 +1,7 @@
 //! The marks: rows that are of no use to any further look of a kind.
 ghost use Rattle.std.specs.Prelude.{◌≡◌, ◌⊎◌, ℕ, ◌+◌, ◌-◌, ◌*◌, ◌<◌, ◌≤◌, slice_index, true, false};
 ghost use Rattle.tp_model.specs.History.{IsSettled, IsUnborn};
+ghost use Rattle.tp_model.specs.Steps.{IsServerStage};
 ghost use Rattle.tp_words.specs.declared.words.Head.TheVariants.{Empty};
 ghost use Rattle.tp_words.specs.declared.places.TheConstants.{MARK_KINDS};
 ghost use Rattle.tp_rule.specs.Views.{seen_by, view_of, IsSameSeat};
@@ -75,6 +76,7 @@ impl Shared {
         requires own { IsSeatOf self.now.words seat.old }
         requires steady { Steady (limits_of self.now.words) (view_of seat.old) }
         requires kind { kind < MARK_KINDS }
+        requires listed { ¬ IsServerStage kind }
         requires part { part ≤ (limits_of self.now.words).parts }
         requires remembers { Remembers kind (view_of seat.old) lows.old }
         ensures same { IsSameSeat seat.old seat.new }
@@ -128,6 +130,69 @@ impl Shared {
         lows[part as usize] = to;
     }
 
+    /// The mark of a stage of a part, or of the spare rows where `part` is the number of parts, as it stands in the
+    /// table. What the pass remembers is that, or what it remembered where that is more: no row of the part below it
+    /// has an element of the stage that isn't consumed or killed. One step.
+    #[inline(always)]
+    pub(crate) fn low_at(&self, seat: &mut Seat, lows: &mut [u16; 33], stage: u8, part: u16) -> u16
+        requires own { IsSeatOf self.now.words seat.old }
+        requires steady { Steady (limits_of self.now.words) (view_of seat.old) }
+        requires stage { IsServerStage stage }
+        requires part { part ≤ (limits_of self.now.words).parts }
+        requires remembers { Remembers stage (view_of seat.old) lows.old }
+        ensures same { IsSameSeat seat.old seat.new }
+        ensures acted { Acted (limits_of self.now.words) 1 (view_of seat.old) (view_of seat.new) }
+        ensures knows { Knows (view_of seat.new) (PartMark stage part result) }
+        ensures remembers { Remembers stage (view_of seat.new) lows.new }
+        ensures lows { RisesAt part lows.old lows.new }
+        ensures low { IsLow (limits_of self.now.words) stage (seen_by seat.new) part (slice_index lows.new part) }
+        ensures rose { let l = limits_of self.now.words in
+            Rose stage (view_of seat.new) (part * l.rows + result) (part * l.rows + slice_index lows.new part) }
+    {
+        let mark = self.words.load_mark(seat, stage, part);
+        if lows[part as usize] < mark {
+            lows[part as usize] = mark;
+        }
+        mark
+    }
+
+    /// Raises the mark of a stage of a part, or of the spare rows, where the first row that isn't known of no use is
+    /// behind it. The pass remembers that row, also where another pass has raised the mark meanwhile. At most one
+    /// step.
+    pub(crate) fn raise_low(
+        &self,
+        seat: &mut Seat,
+        lows: &mut [u16; 33],
+        stage: u8,
+        part: u16,
+        mark: u16,
+        low: u32,
+    )
+        requires own { IsSeatOf self.now.words seat.old }
+        requires steady { Steady (limits_of self.now.words) (view_of seat.old) }
+        requires stage { IsServerStage stage }
+        requires part { part ≤ (limits_of self.now.words).parts }
+        requires mark { Knows (view_of seat.old) (PartMark stage part mark) × (mark ≤ slice_index lows.old part) }
+        requires remembers { Remembers stage (view_of seat.old) lows.old }
+        requires low { let l = limits_of self.now.words in IsInside l part (low - part * l.rows)
+            × (part * l.rows + slice_index lows.old part ≤ low)
+            × Rose stage (view_of seat.old) (part * l.rows + mark) low }
+        ensures same { IsSameSeat seat.old seat.new }
+        ensures looked { Looked (limits_of self.now.words) 1 (view_of seat.old) (view_of seat.new) }
+        ensures seen { seen_by seat.new ≡ seen_by seat.old }
+        ensures remembers { Remembers stage (view_of seat.new) lows.new }
+        ensures lows { RisesAt part lows.old lows.new }
+        ensures rests { part * (limits_of self.now.words).rows + slice_index lows.new part ≡ low }
+    {
+        let first = part as u32 * self.places.limits.rows as u32;
+        let to = (low - first) as u16;
+        if to <= mark {
+            return;
+        }
+        let _raised = self.words.raise(seat, stage, part, mark, to);
+        lows[part as usize] = to;
+    }
+
     /// Whether this row of a part has no head: then nothing is born in the part from there on. One step; none
     /// where the row is the end of the part, or the one that the pass has consumed last.
     #[inline(always)]
@@ -144,8 +209,37 @@ impl Shared {
         ensures more { result ≡ false → Looked (limits_of self.now.words) 1 (view_of seat.old) (view_of seat.new) }
     {
         let rows = self.places.limits.rows as u32;
-        if row == part as u32 * rows + rows || done == Some(row) {
+        self.is_bare_to(seat, part, row, part as u32 * rows + rows, done)
+    }
+
+    /// The same where the end of the part is known.
+    #[inline(always)]
+    pub(crate) fn is_bare_to(
+        &self,
+        seat: &mut Seat,
+        part: u16,
+        row: u32,
+        end: u32,
+        done: Option<u32>,
+    ) -> bool
+        requires own { IsSeatOf self.now.words seat.old }
+        requires steady { Steady (limits_of self.now.words) (view_of seat.old) }
+        requires part { part < (limits_of self.now.words).parts }
+        requires row { let l = limits_of self.now.words in
+            (part * l.rows ≤ row) × (row ≤ end) × (end ≡ part * l.rows + l.rows) }
+        ensures same { IsSameSeat seat.old seat.new }
+        ensures bare { result ≡ true → let l = limits_of self.now.words in
+            Acted l 1 (view_of seat.old) (view_of seat.new)
+            × ((i : ℕ) → row ≤ i → i < part * l.rows + l.rows → IsUnborn (seen_by seat.new) i) }
+        ensures more { result ≡ false → Looked (limits_of self.now.words) 1 (view_of seat.old) (view_of seat.new) }
+    {
+        if row == end {
             return false;
+        }
+        if let Some(known) = done {
+            if known == row {
+                return false;
+            }
         }
         self.head_at(seat, row) == Head::Empty
     }

@@ -1,7 +1,8 @@
 //! A server's look for work.
-ghost use Rattle.std.specs.Prelude.{◌≡◌, ◌⊎◌, ℕ, ◌+◌, ◌-◌, ◌*◌, ◌<◌, ◌≤◌, slice_index, IfSome, MatchOption, Option, true, false};
+ghost use Rattle.std.specs.Prelude.{◌≡◌, ◌⊎◌, ℕ, ◌+◌, ◌-◌, ◌*◌, ◌<◌, ◌≤◌};
+ghost use Rattle.std.specs.Prelude.{slice_index, IfSome, MatchOption, Option, true, false};
 ghost use Rattle.tp_model.specs.declared.types.Element.{Element as element};
-ghost use Rattle.tp_model.specs.Steps.{part_rows, rows_of, IsServerStage};
+ghost use Rattle.tp_model.specs.Steps.{block_first, part_rows, rows_of, IsServerStage};
 ghost use Rattle.tp_words.specs.Words.{claim_value, head_of, IsFitClaim};
 ghost use Rattle.tp_model.specs.Words.{claim_word, TakenWord};
 ghost use Rattle.tp_words.specs.declared.words.Head.TheVariants.{Empty, There};
@@ -14,7 +15,10 @@ ghost use Rattle.tp_manager.specs.Bounds.{marked_steps, scan_steps, spare_left, 
 ghost use Rattle.tp_manager.specs.Shown.{Rises};
 ghost use Rattle.tp_manager.specs.declared.scanning.Stand.TheVariants as stands;
 ghost use Rattle.tp_manager.specs.Looks.{GoesOn, Stands};
-ghost use Rattle.tp_manager.specs.Walks.{AreFinished, Begun, RestsAt, WasOfUse, WasUnsettled, RemembersDone, RemembersDrawn, Steady, Looked, Sought, EachRow, OfPart, PassedBy, Remembers, RisesAt, Rose, IsSpare, Took};
+ghost use Rattle.tp_manager.specs.Spares.{SpareRests};
+ghost use Rattle.tp_manager.specs.Walks.{AreFinished, Begun, CameTo, RestInParts, RestsAt, WasOfUse, WasUnsettled};
+ghost use Rattle.tp_manager.specs.Walks.{RemembersDone, RemembersDrawn, Steady, Looked, Sought, EachRow, OfPart};
+ghost use Rattle.tp_manager.specs.Walks.{PassedBy, Remembers, RisesAt, Rose, IsSpare, Took};
 
 use crate::looking::Contents;
 use crate::manager::Shared;
@@ -77,7 +81,13 @@ impl Shared {
     /// None where the claim is for the last attempt, unless all is to be known of the element: as long as
     /// that claim stands, it doesn't wait.
     #[inline(always)]
-    fn stand_of(&self, seat: &mut Seat, row: u32, claim: FoundClaim, whole: bool) -> Stand
+    pub(crate) fn stand_of(
+        &self,
+        seat: &mut Seat,
+        row: u32,
+        claim: FoundClaim,
+        whole: bool,
+    ) -> Stand
         requires own { IsSeatOf self.now.words seat.old }
         requires steady { Steady (limits_of self.now.words) (view_of seat.old) }
         requires row { row < rows_of (limits_of self.now.words) }
@@ -147,7 +157,7 @@ impl Shared {
         ensures stays { low.new < row.new → let l = limits_of self.now.words in
             ((low.old < row.old) × (low.new ≡ low.old))
             ⊎ WasOfUse l stage low.new (seen_by seat.old) (seen_by seat.new) }
-        ensures behind { IfSome result (λ t. low.new < row.new) }
+        ensures behind { IfSome result (λ t. (low.new < row.new) × (t.element.id ≡ row.old)) }
         ensures told { let l = limits_of self.now.words in let n = try_steps in MatchOption result
             (Sought l n (EachRow (PassedBy l stage) row.old row.new) (view_of seat.old) (view_of seat.new))
             (λ t. Took l n row.old stage unit (view_of seat.old) (view_of seat.new) t.element t.attempt
@@ -210,38 +220,43 @@ impl Shared {
         ensures remembers { Remembers stage (view_of seat.new) lows.new }
         ensures lows { RisesAt part lows.old lows.new }
         ensures rests { let l = limits_of self.now.words in
-            RestsAt l stage part (slice_index lows.new part) (seen_by seat.old) (view_of seat.new) }
+            RestsAt l stage part (slice_index lows.new part) (view_of seat.old) (view_of seat.new) }
+        ensures inside { let l = limits_of self.now.words in
+            IfSome result (λ t. t.element.id < part * l.rows + l.rows) }
         ensures told { let l = limits_of self.now.words in
             let n = 2 + (l.rows - slice_index lows.old part) * try_steps in MatchOption result
             (Sought l n (OfPart l (PassedBy l stage) part) (view_of seat.old) (view_of seat.new))
             (λ t. Took l n (part * l.rows) stage unit (view_of seat.old) (view_of seat.new) t.element t.attempt
             × (t.element.root ≡ t.root)) }
     {
-        let mark = self.mark_at(seat, lows, stage, part);
+        let mark = self.low_at(seat, lows, stage, part);
         let rows = self.places.limits.rows as u32;
         let first = part as u32 * rows;
         let end = first + rows;
-        let begin = past_done(first + mark as u32, end, done);
+        let begin = past_done(first + lows[part as usize] as u32, end, done);
         let mut low = begin;
         let mut row = begin;
         while row < end {
             if let Some(taken) = self.try_row(seat, &mut row, &mut low, stage, unit) {
-                self.raise_to(seat, lows, stage, part, mark, low);
+                self.raise_low(seat, lows, stage, part, mark, low);
                 return Some(taken);
             }
         }
-        self.raise_to(seat, lows, stage, part, mark, low);
+        self.raise_low(seat, lows, stage, part, mark, low);
         None
     }
 
     /// The unit takes the first element of a part that waits in the stage. One look where no row has a head
-    /// from the mark on that the pass remembers.
+    /// from the mark on that the pass remembers. Where the part begins, and how long it is, is handed down, since
+    /// an Idle claim does little more than this.
     #[inline(always)]
     fn scan_part(
         &self,
         seat: &mut Seat,
         lows: &mut [u16; 33],
         part: u16,
+        first: u32,
+        rows: u32,
         done: Option<u32>,
         stage: u8,
         unit: u16,
@@ -250,6 +265,7 @@ impl Shared {
         requires steady { Steady (limits_of self.now.words) (view_of seat.old) }
         requires remembers { Remembers stage (view_of seat.old) lows.old }
         requires part { part < (limits_of self.now.words).parts }
+        requires first { let l = limits_of self.now.words in (first ≡ part * l.rows) × (rows ≡ l.rows) }
         requires done { RemembersDone (view_of seat.old) done }
         requires stage { IsServerStage stage }
         requires spare { IsSpare unit (view_of seat.old) × (unit < 65535) }
@@ -257,15 +273,17 @@ impl Shared {
         ensures remembers { Remembers stage (view_of seat.new) lows.new }
         ensures lows { RisesAt part lows.old lows.new }
         ensures rests { let l = limits_of self.now.words in
-            RestsAt l stage part (slice_index lows.new part) (seen_by seat.old) (view_of seat.new) }
+            RestsAt l stage part (slice_index lows.new part) (view_of seat.old) (view_of seat.new) }
+        ensures inside { let l = limits_of self.now.words in
+            IfSome result (λ t. t.element.id < part * l.rows + l.rows) }
         ensures told { let l = limits_of self.now.words in
             let n = 3 + (l.rows - slice_index lows.old part) * try_steps in MatchOption result
             (Sought l n (OfPart l (PassedBy l stage) part) (view_of seat.old) (view_of seat.new))
             (λ t. Took l n (part * l.rows) stage unit (view_of seat.old) (view_of seat.new) t.element t.attempt
             × (t.element.root ≡ t.root)) }
     {
-        let row = part as u32 * self.places.limits.rows as u32 + lows[part as usize] as u32;
-        if self.is_bare(seat, part, row, done) {
+        let row = first + lows[part as usize] as u32;
+        if self.is_bare_to(seat, part, row, first + rows, done) {
             return None;
         }
         self.scan_from_mark(seat, lows, part, done, stage, unit)
@@ -306,17 +324,23 @@ impl Shared {
         ensures same { IsSameSeat seat.old seat.new }
         ensures remembers { Remembers stage (view_of seat.new) lows.new }
         ensures lows { Rises lows.old lows.new }
+        ensures rests { let l = limits_of self.now.words in
+            RestInParts l stage lows.new (view_of seat.old) (view_of seat.new) result }
+        ensures inside { IfSome result (λ t. t.element.id < part_rows (limits_of self.now.words)) }
         ensures told { let l = limits_of self.now.words in
             let n = scan_steps l try_steps 3 lows.old l.parts in MatchOption result
             (Sought l n (EachRow (PassedBy l stage) 0 (part_rows l)) (view_of seat.old) (view_of seat.new))
             (λ t. Took l n 0 stage unit (view_of seat.old) (view_of seat.new) t.element t.attempt
             × (t.element.root ≡ t.root)) }
     {
-        let first = self.first_open(lows);
-        for part in first..self.places.limits.parts {
-            if let Some(taken) = self.scan_part(seat, lows, part, done, stage, unit) {
+        let rows = self.places.limits.rows as u32;
+        let begin = self.first_open(lows);
+        let mut first = begin as u32 * rows;
+        for part in begin..self.places.limits.parts {
+            if let Some(taken) = self.scan_part(seat, lows, part, first, rows, done, stage, unit) {
                 return Some(taken);
             }
+            first += rows;
         }
         None
     }
@@ -340,7 +364,9 @@ impl Shared {
         ensures drawn { RemembersDrawn (view_of seat.new) drawn.new }
         ensures risen { drawn.old ≤ drawn.new }
         ensures remembers { Remembers stage (view_of seat.new) lows.new }
-        ensures lows { Rises lows.old lows.new }
+        ensures lows { RisesAt (limits_of self.now.words).parts lows.old lows.new }
+        ensures rests { let l = limits_of self.now.words in let end = block_first l drawn.new in
+            SpareRests l stage end (slice_index lows.new l.parts) (view_of seat.old) (view_of seat.new) }
         ensures told { let l = limits_of self.now.words in
             let n = spare_left l try_steps (slice_index lows.old l.parts) in MatchOption result
             (Begun l (PassedBy l stage) n (part_rows l) (rows_of l) (view_of seat.old) (view_of seat.new))
@@ -375,6 +401,10 @@ impl Shared {
         ensures drawn { RemembersDrawn (view_of seat.new) drawn.new }
         ensures risen { drawn.old ≤ drawn.new }
         ensures lows { Rises lows.old lows.new }
+        ensures rests { let l = limits_of self.now.words in
+            RestInParts l stage lows.new (view_of seat.old) (view_of seat.new) result }
+        ensures spare { let l = limits_of self.now.words in CameTo (part_rows l) result → SpareRests l stage
+            (block_first l drawn.new) (slice_index lows.new l.parts) (view_of seat.old) (view_of seat.new) }
         ensures told { let l = limits_of self.now.words in let t = try_steps in
             let n = marked_steps l t lows.old in MatchOption result
             (Sought l n (EachRow (PassedBy l stage) 0 (rows_of l)) (view_of seat.old) (view_of seat.new))

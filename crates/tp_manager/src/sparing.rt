@@ -5,11 +5,11 @@ ghost use Rattle.tp_model.specs.Steps.{part_rows, rows_of, IsServerStage};
 ghost use Rattle.tp_rule.specs.Views.{seen_by, view_of, IsSameSeat};
 ghost use Rattle.tp_rule.specs.Tables.{limits_of, IsSeatOf};
 ghost use Rattle.tp_manager.specs.Bounds.{look_steps, try_steps};
-ghost use Rattle.tp_manager.specs.Finds.{kind_of, Hits, PassedOver};
+ghost use Rattle.tp_manager.specs.Finds.{Hits, PassedOver};
 ghost use Rattle.tp_manager.specs.Spares.{Passed, SpareRests};
 ghost use Rattle.tp_manager.specs.Walks.{IsSpare, NoneBehind, PassedBy, Remembers, RisesAt, Steady, Took};
 
-use crate::listing::{Wanted, kind_of, later};
+use crate::listing::later;
 use crate::manager::Shared;
 use crate::scanning::Taken;
 use tp_rule::Seat;
@@ -36,7 +36,7 @@ impl Shared {
         ensures remembers { Remembers stage (view_of seat.new) lows.new }
         ensures lows { RisesAt (limits_of self.now.words).parts lows.old lows.new }
         ensures rests { let l = limits_of self.now.words in
-            SpareRests l stage end (slice_index lows.new l.parts) (seen_by seat.old) (view_of seat.new) }
+            SpareRests l stage end (slice_index lows.new l.parts) (view_of seat.old) (view_of seat.new) }
         ensures told { let l = limits_of self.now.words in
             let n = 2 + (BLOCK_ROWS * l.spare - slice_index lows.old l.parts) * try_steps in MatchOption result
             (Passed l n (PassedBy l stage) (part_rows l) (rows_of l) (view_of seat.old) (view_of seat.new))
@@ -44,17 +44,17 @@ impl Shared {
             × (t.element.root ≡ t.root)) }
     {
         let part = self.places.limits.parts;
-        let mark = self.mark_at(seat, lows, stage, part);
-        let begin = self.places.part_rows() + mark as u32;
+        let mark = self.low_at(seat, lows, stage, part);
+        let begin = self.places.part_rows() + lows[part as usize] as u32;
         let mut low = begin;
         let mut row = begin;
         while row < end {
             if let Some(taken) = self.try_row(seat, &mut row, &mut low, stage, unit) {
-                self.raise_to(seat, lows, stage, part, mark, low);
+                self.raise_low(seat, lows, stage, part, mark, low);
                 return Some(taken);
             }
         }
-        self.raise_to(seat, lows, stage, part, mark, low);
+        self.raise_low(seat, lows, stage, part, mark, low);
         None
     }
 
@@ -67,24 +67,23 @@ impl Shared {
         lows: &mut [u16; 33],
         end: u32,
         from: u32,
-        wanted: Wanted,
     ) -> Option<u32>
         requires own { IsSeatOf self.now.words seat.old }
         requires steady { Steady (limits_of self.now.words) (view_of seat.old) }
-        requires remembers { Remembers (kind_of wanted) (view_of seat.old) lows.old }
+        requires remembers { Remembers 0 (view_of seat.old) lows.old }
         requires end { let l = limits_of self.now.words in
             (part_rows l ≤ end) × (end ≤ rows_of l) × NoneBehind l end (view_of seat.old) }
         requires from { let l = limits_of self.now.words in (part_rows l ≤ from) × (from ≤ rows_of l) }
         ensures same { IsSameSeat seat.old seat.new }
-        ensures remembers { Remembers (kind_of wanted) (view_of seat.new) lows.new }
+        ensures remembers { Remembers 0 (view_of seat.new) lows.new }
         ensures lows { RisesAt (limits_of self.now.words).parts lows.old lows.new }
-        ensures told { let l = limits_of self.now.words in let P = PassedOver l wanted in
+        ensures told { let l = limits_of self.now.words in let P = PassedOver l in
             let n = 2 + (BLOCK_ROWS * l.spare - slice_index lows.old l.parts) * look_steps l in MatchOption result
             (Passed l n P from (rows_of l) (view_of seat.old) (view_of seat.new))
-            (λ id. (from ≤ id) × (id < rows_of l) × Hits l wanted id (seen_by seat.new)
+            (λ id. (from ≤ id) × (id < rows_of l) × Hits l id (seen_by seat.new)
             × Passed l n P from id (view_of seat.old) (view_of seat.new)) }
     {
-        let kind = kind_of(wanted);
+        let kind = 0;
         let part = self.places.limits.parts;
         let mark = self.mark_at(seat, lows, kind, part);
         let begin = self.places.part_rows() + mark as u32;
@@ -93,7 +92,7 @@ impl Shared {
         let mut row = start;
         while row < end {
             let here = row;
-            if self.is_wanted_at(seat, &mut row, &mut low, wanted) {
+            if self.is_parked_at(seat, &mut row, &mut low) {
                 self.raise_to(seat, lows, kind, part, mark, low);
                 return Some(here);
             }

@@ -3,10 +3,13 @@ ghost use Rattle.std.specs.Prelude.{◌≡◌, ◌⊎◌, ◌+◌, ◌-◌, ◌*
 ghost use Rattle.tp_model.specs.Steps.{part_rows, rows_of, AreLimits, IsServerStage};
 ghost use Rattle.tp_rule.specs.Views.{view_of, IsSameSeat};
 ghost use Rattle.tp_rule.specs.Tables.{limits_of, IsSeatOf};
-ghost use Rattle.tp_manager.specs.Bounds.{drawn_steps, claim_next_steps, try_steps, turn_steps};
+ghost use Rattle.tp_manager.specs.Bounds.{drawn_steps, claim_next_steps, claim_next_steps_left};
+ghost use Rattle.tp_manager.specs.Bounds.{scan_steps, try_steps, turn_steps};
+ghost use Rattle.tp_model.specs.declared.types.TheConstants.{BLOCK_ROWS};
 ghost use Rattle.tp_manager.specs.Calls.{ClaimsNext, Follows};
-ghost use Rattle.tp_manager.specs.Shown.{IsOf, Rises};
-ghost use Rattle.tp_manager.specs.Walks.{Begun, EachRow, IsSpare, PassedBy, Remembers, RemembersDone, RemembersDrawn, RisesAt, Sought, Steady, Took, TookNext};
+ghost use Rattle.tp_manager.specs.Shown.{marks_of, IsOf, Rises};
+ghost use Rattle.tp_manager.specs.Walks.{Begun, EachRow, IsSpare, Makes, PassedBy, Remembers, RemembersDone};
+ghost use Rattle.tp_manager.specs.Walks.{RemembersDrawn, RisesAt, Sought, Steady, Took, TookNext};
 ghost use Rattle.tp_model.specs.declared.types.Limits.{Limits};
 ghost use Rattle.tp_manager.specs.Turns.{EachHasItsTurn};
 
@@ -77,26 +80,28 @@ impl Shared {
         ensures same { IsSameSeat seat.old seat.new }
         ensures remembers { Remembers stage (view_of seat.new) lows.new }
         ensures lows { RisesAt part lows.old lows.new }
+        ensures few { let l = limits_of self.now.words in
+            Makes (2 + (l.rows - slice_index lows.old part) * try_steps) (view_of seat.old) (view_of seat.new) }
         ensures told { let l = limits_of self.now.words in let n = 2 + (to - from) * try_steps in
             MatchOption result
             (Sought l n (EachRow (PassedBy l stage) from to) (view_of seat.old) (view_of seat.new))
             (λ t. Took l n from stage unit (view_of seat.old) (view_of seat.new) t.element t.attempt
             × (t.element.root ≡ t.root)) }
     {
-        let mark = self.mark_at(seat, lows, stage, part);
+        let mark = self.low_at(seat, lows, stage, part);
         let rows = self.places.limits.rows as u32;
         let first = part as u32 * rows;
-        let known = past_done(first + mark as u32, first + rows, done);
+        let known = past_done(first + lows[part as usize] as u32, first + rows, done);
         let begin = later(known, from);
         let mut low = known;
         let mut row = begin;
         while row < to {
             if let Some(taken) = self.try_row(seat, &mut row, &mut low, stage, unit) {
-                self.raise_to(seat, lows, stage, part, mark, low);
+                self.raise_low(seat, lows, stage, part, mark, low);
                 return Some(taken);
             }
         }
-        self.raise_to(seat, lows, stage, part, mark, low);
+        self.raise_low(seat, lows, stage, part, mark, low);
         None
     }
 
@@ -126,6 +131,8 @@ impl Shared {
         ensures same { IsSameSeat seat.old seat.new }
         ensures remembers { Remembers stage (view_of seat.new) lows.new }
         ensures lows { RisesAt part lows.old lows.new }
+        ensures few { let l = limits_of self.now.words in
+            Makes (3 + (l.rows - slice_index lows.old part) * try_steps) (view_of seat.old) (view_of seat.new) }
         ensures told { let l = limits_of self.now.words in let n = 3 + (to - from) * try_steps in
             MatchOption result
             (Sought l n (EachRow (PassedBy l stage) from to) (view_of seat.old) (view_of seat.new))
@@ -161,6 +168,8 @@ impl Shared {
         ensures same { IsSameSeat seat.old seat.new }
         ensures remembers { Remembers stage (view_of seat.new) lows.new }
         ensures lows { Rises lows.old lows.new }
+        ensures few { let l = limits_of self.now.words in
+            Makes (scan_steps l try_steps 3 lows.old l.parts) (view_of seat.old) (view_of seat.new) }
         ensures told { let l = limits_of self.now.words in let n = 3 * l.parts + (to - from) * try_steps in
             MatchOption result
             (Begun l (PassedBy l stage) n from to (view_of seat.old) (view_of seat.new))
@@ -246,6 +255,9 @@ impl Shared {
         ensures drawn { RemembersDrawn (view_of seat.new) drawn.new }
         ensures risen { drawn.old ≤ drawn.new }
         ensures lows { Rises lows.old lows.new }
+        ensures few { let l = limits_of self.now.words in let p = part_rows l in
+            let n = drawn_steps l.spare + (to - p - (from - p)) * try_steps in
+            Makes (scan_steps l try_steps 3 lows.old l.parts + n) (view_of seat.old) (view_of seat.new) }
         ensures told { let l = limits_of self.now.words in let n = turn_steps l (to - from) in
             MatchOption result
             (Begun l (PassedBy l stage) n from to (view_of seat.old) (view_of seat.new))
@@ -288,6 +300,9 @@ impl Shared {
         ensures drawn { RemembersDrawn (view_of seat.new) drawn.new }
         ensures risen { drawn.old ≤ drawn.new }
         ensures lows { Rises lows.old lows.new }
+        ensures few { let l = limits_of self.now.words in
+            let n = 2 * drawn_steps l.spare + BLOCK_ROWS * l.spare * try_steps in
+            Makes (2 * scan_steps l try_steps 3 lows.old l.parts + n) (view_of seat.old) (view_of seat.new) }
         ensures told { let l = limits_of self.now.words in
             let n = 6 * l.parts + 2 * drawn_steps l.spare + rows_of l * try_steps in MatchOption result
             (Sought l n (EachRow (PassedBy l stage) 0 (rows_of l)) (view_of seat.old) (view_of seat.new))
@@ -313,6 +328,8 @@ impl Manager {
         ensures own { IsOf self.now pass.new }
         ensures limits { AreLimits self.now.limits }
         ensures follows { Follows (claim_next_steps self.now.limits) pass.old pass.new }
+        ensures few { let n = claim_next_steps_left self.now.limits (marks_of pass.old.lows stage) in
+            Follows n pass.old pass.new }
         ensures answer { ClaimsNext self.now.limits stage pass.old pass.new result }
     {
         let seat = &mut pass.seat;

@@ -19,3 +19,4 @@ pub mod RowTallies
 pub mod Takings
 pub mod Bodies
 pub mod Areas
+pub mod Orders

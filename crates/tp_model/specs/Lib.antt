@@ -9,3 +9,4 @@ pub mod Counts
 pub mod Accounts
 pub mod Families
 pub mod Rows
+pub mod Orders

@@ -224,6 +224,10 @@ pub enum Refusal {
     NoRound,
     /// No unit of work holds the element.
     NotHeld,
+    /// The element doesn't wait: it is held, parked, consumed or killed.
+    NotWaiting,
+    /// The pass has used its units of work.
+    NoUnit,
 }
 
 /// An output of a unit of work before it is born. Its stage is 1 to 15.

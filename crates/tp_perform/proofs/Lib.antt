@@ -6,3 +6,4 @@ pub mod Chains
 pub mod Parts
 pub mod Races
 pub mod Beginnings
+pub mod Pushes

@@ -3,6 +3,7 @@ use Rattle.std.specs.Prelude.{◌≡◌, ◌⊎◌, ℕ, ◌*◌, Bool, false, L
 use Rattle.std.specs.Io.KnownBytes.{Appends}
 use Rattle.tp_model.specs.declared.types.Account.{Account}
 use Rattle.tp_model.specs.declared.types.Limits.{Limits}
+use Rattle.tp_server.specs.Behaviour.{behaviour_of}
 use Rattle.tp_manager.specs.Accounts.{Accounts, AreFrom}
 use Rattle.tp_manager.specs.Shown.{KeeperShown, ManagerShown, PassShown}
 use Rattle.tp_script.specs.Script.{ScriptView, passes}
@@ -49,6 +50,9 @@ pub record Begins (s : ScriptView) (m : ManagerShown) (first : Scene) : Type 0 w
   pub new : All IsNewPass passes
   pub desks : All IsNewPlace first.places
   pub each : length first.places ≡ length s.servers
+  -- each server has the recipe of its line, and begins with its registers
+  pub recipes : map (λ p. p.desk.behaviour) first.places ≡ map (λ x. behaviour_of x.recipe) s.servers
+  pub registers : map (λ p. p.desk.registers) first.places ≡ map (λ x. x.registers) s.servers
 
 -- All commands were performed and their lines written, and the desks ended: what they left. The client and
 -- the racers did nothing behind the last command, and the servers' passes only what ends a desk.

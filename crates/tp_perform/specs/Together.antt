@@ -9,6 +9,7 @@ use Rattle.tp_workers.specs.Clients.{ClientRan, JobShown}
 use Rattle.tp_workers.specs.Desks.{TakesTurns}
 use Rattle.tp_workers.specs.Desks as workers
 use Rattle.tp_workers.specs.Killers.{KillerRan}
+use Rattle.tp_workers.specs.Plans.{least_first}
 use Rattle.tp_workers.specs.Ran.{RanEach}
 use Rattle.tp_commands.specs.declared.place.Place.{Place}
 use Rattle.tp_script.specs.declared.script.Race.{Race}
@@ -42,9 +43,9 @@ TakesPart false Did old new = new ≡ old
 abbrev pub AllTakePart : (workers.Place → workers.Place → Type 0) → List PlaceShown → List PlaceShown → Type 0
 AllTakePart Did olds news = AllZip (λ old new. TakesPart (is_free old) Did old new) olds news
 
--- at most so many turns were taken there
+-- at most so many turns were taken there, each of which claimed the element with the least id
 abbrev pub TookTurns : Limits → ℕ → workers.Place → workers.Place → Type 0
-TookTurns l turns old new = (counts : Shift) × TakesTurns l turns old counts new
+TookTurns l turns old new = (counts : Shift) × TakesTurns (least_first turns) l old counts new
 
 -- ---- clients and killers
 

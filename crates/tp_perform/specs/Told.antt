@@ -7,6 +7,8 @@ use Rattle.tp_model.specs.declared.types.Limits.{Limits}
 use Rattle.tp_server.specs.Behaviour.{Behaviour}
 use Rattle.tp_server.specs.Pending.{Pending}
 use Rattle.tp_manager.specs.Shown.{ManagerShown, PassShown}
+use Rattle.tp_desk.specs.declared.order.Order.{Order}
+use Rattle.tp_desk.specs.declared.order.Order.TheVariants as orders
 use Rattle.tp_workers.specs.Drained.{EndsIdle}
 use Rattle.tp_report.specs.Answer.{answer_text, line, named_text}
 use Rattle.tp_report.specs.Written.{AppendsFront}
@@ -85,9 +87,10 @@ pub record RaceLine (m : ManagerShown) (rows : ℕ) (plan : Race)
   pub text_is : text ≡ line (answer_text (answer.Raced submitted))
   pub client : new.client ≡ old.client
 
--- the line tells that all free desks took turns until their last ones found nothing to claim
-pub record DrainLine (m : ManagerShown) (old : Scene) (text : List ℕ) (new : Scene) : Type 0 where
-  pub desks : AllTakePart (EndsIdle m.limits) old.places new.places
+-- the line tells that all free desks took turns, whose claims were in this order, until their last ones found nothing
+-- to claim
+pub record DrainLine (order : Order) (m : ManagerShown) (old : Scene) (text : List ℕ) (new : Scene) : Type 0 where
+  pub desks : AllTakePart (EndsIdle order m.limits) old.places new.places
   pub text_is : text ≡ line (answer_text answer.Drained)
   pub others : OnlyPlaces old new
 
@@ -99,7 +102,8 @@ TellsCommand m s (command.Balance at k) = BalanceLine s.servers at k
 TellsCommand m s (command.Sum k) = λ old text new.
     (text ≡ line (answer_text (answer.Sum k (register_sum k old.places)))) × (new ≡ old)
 TellsCommand m s (command.Race plan) = RaceLine m s.settings.rows plan
-TellsCommand m s command.Drain = DrainLine m
+TellsCommand m s command.Drain = DrainLine orders.LeastFirst m
+TellsCommand m s command.DrainNext = DrainLine orders.InTurn m
 
 -- A command leads from one scene to another, and this is its line. A race takes the passes behind those of the
 -- races before it; the other ones are as they were.

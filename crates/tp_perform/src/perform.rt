@@ -15,6 +15,7 @@ use std::alloc::{AllocError, Global};
 use std::string::String;
 use std::thread::Threads;
 use tp_commands::{Place, balance_line, client_line, desk_line, end_all, places_for, sum};
+use tp_desk::Order;
 use tp_manager::{Manager, Pass};
 use tp_report::{Answer, RunFault, Sink, line, write_all};
 use tp_script::{Command, Script};
@@ -80,7 +81,11 @@ fn command_line<R: Threads + Sync>(
             line(alloc, Answer::Raced { submitted })
         }
         Command::Drain => {
-            drain_all(manager, passes, servers, places);
+            drain_all(manager, passes, servers, places, Order::LeastFirst);
+            line(alloc, Answer::Drained)
+        }
+        Command::DrainNext => {
+            drain_all(manager, passes, servers, places, Order::InTurn);
             line(alloc, Answer::Drained)
         }
     }

@@ -3,10 +3,9 @@ ghost use Rattle.std.specs.Prelude.{◌≡◌, ◌+◌, ◌^◌, ◌<◌, ◌≤
 ghost use Rattle.std.specs.Io.KnownBytes.{Appends};
 ghost use Rattle.tp_script.specs.Fault.{refused_text};
 ghost use Rattle.tp_report.specs.Answer.{line};
-ghost use Rattle.tp_script.specs.Devices.{StopsReading};
 ghost use Rattle.tp_report.specs.Written.{AppendsFront};
 ghost use Rattle.tp_script.specs.Grammar.{script};
-ghost use Rattle.tp_script.specs.Numbers.{program_reach, requests_limit};
+ghost use Rattle.tp_script.specs.Numbers.{requests_limit};
 ghost use Rattle.tp_report.specs.declared.fault.Exit.{Exit};
 ghost use Rattle.tp_report.specs.declared.fault.Fault.{Fault};
 ghost use Rattle.tp_report.specs.Faults.{TellsFault, exit_status, fault_of};
@@ -28,8 +27,8 @@ pub fn run<T: Threads + Sync, R: Source, W: Sink>(
 ) -> Result<Exit, Fault>
     requires { R.asked reader.old + requests_limit < 2 ^ 64 }
     ensures asked { R.asked reader.new ≤ R.asked reader.old + requests_limit }
-    ensures report { IfSome (R.rest reader.old) (λ bytes. Answered result (script program_reach bytes) (W.contents writer.old) (W.contents writer.new)) }
-    ensures read { IsErrOf result Fault.Read → StopsReading (R.has_failed reader.new) (R.asked reader.old) (R.asked reader.new) }
+    ensures report { IfSome (R.rest reader.old) (λ bytes. Answered result (script bytes) (W.contents writer.old) (W.contents writer.new)) }
+    ensures read { IsErrOf result Fault.Read → IsTrue (R.has_failed reader.new) }
     ensures write { IsErrOf result Fault.Write → IsTrue (W.has_failed writer.new) }
 {
     match read_script(alloc, reader) {
@@ -58,10 +57,10 @@ pub fn run_to_end<T: Threads + Sync, R: Source, W: Sink, E: Sink>(
     ensures asked { R.asked reader.new ≤ R.asked reader.old + requests_limit }
     ensures ended { (outcome : Result Exit Fault)
         × IfSome (R.rest reader.old)
-        (λ bytes. Answered outcome (script program_reach bytes)
+        (λ bytes. Answered outcome (script bytes)
         (W.contents writer.old) (W.contents writer.new))
         × (IsErrOf outcome Fault.Read
-        → StopsReading (R.has_failed reader.new) (R.asked reader.old) (R.asked reader.new))
+        → IsTrue (R.has_failed reader.new))
         × (IsErrOf outcome Fault.Write → IsTrue (W.has_failed writer.new))
         × (result ≡ exit_status outcome)
         × TellsFault outcome (E.has_failed faults.new) (E.contents faults.old) (E.contents faults.new) }

@@ -17,10 +17,11 @@ ghost use Rattle.tp_script.specs.declared.script.TheConstants.{MOST_SERVERS};
 use std::alloc::{AllocError, Global};
 use std::thread::Threads;
 use tp_commands::Place;
+use tp_desk::Order;
 use tp_manager::{Manager, Pass};
 use tp_script::{MOST_SERVERS, Race};
 use tp_server::Server;
-use tp_workers::{ClientJob, KillJob, NoGate, drain, shift};
+use tp_workers::{ClientJob, KillJob, NoGate, Plan, drain, shift};
 
 /// What each client of a race is to do.
 fn client_job(alloc: Global, plan: Race) -> Result<ClientJob, AllocError>
@@ -273,7 +274,10 @@ fn race_front<R: Threads + Sync>(
         jobs,
         killers,
         kills,
-        turns,
+        Plan {
+            turns,
+            order: Order::LeastFirst,
+        },
         &mut [],
         &NoGate,
     );
@@ -304,25 +308,26 @@ fn swap_places(
     places.swap(a, b);
 }
 
-/// Has the free servers take turns until a whole round of them claims nothing.
+/// Has the free servers take turns, whose claims are in this order, until a whole round of them claims nothing.
 pub(crate) fn drain_all(
     manager: &Manager,
     passes: &mut [Pass],
     servers: &mut [Box<dyn Server + Send>],
     places: &mut [Place],
+    order: Order,
 )
     requires own { All (IsOf manager.now) passes.old }
     requires lie { AllLie behaviour registers pending passes.old servers.old places.old }
     requires few { length places.old ≤ MOST_SERVERS }
     ensures own { All (IsOf manager.now) passes.new }
     ensures lie { AllLie behaviour registers pending passes.new servers.new places.new }
-    ensures desks { AllTakePart (EndsIdle manager.now.limits)
+    ensures desks { AllTakePart (EndsIdle order manager.now.limits)
         (places_shown behaviour registers pending passes.old servers.old places.old)
         (places_shown behaviour registers pending passes.new servers.new places.new) }
     ensures began { firsts places.new ≡ firsts places.old }
     ensures as_many { length places.new ≡ length places.old }
 {
-    drain_free(manager, passes, servers, places, 0, 0);
+    drain_free(manager, passes, servers, places, order, 0, 0);
 }
 
 /// Drains as `race_free` races.
@@ -331,6 +336,7 @@ fn drain_free(
     passes: &mut [Pass],
     servers: &mut [Box<dyn Server + Send>],
     places: &mut [Place],
+    order: Order,
     front: usize,
     at: usize,
 )
@@ -342,22 +348,22 @@ fn drain_free(
     requires passed { ArePassed front at places.old }
     ensures own { All (IsOf manager.now) passes.new }
     ensures lie { AllLie behaviour registers pending passes.new servers.new places.new }
-    ensures desks { AllTakePart (EndsIdle manager.now.limits)
+    ensures desks { AllTakePart (EndsIdle order manager.now.limits)
         (places_shown behaviour registers pending passes.old servers.old places.old)
         (places_shown behaviour registers pending passes.new servers.new places.new) }
     ensures began { firsts places.new ≡ firsts places.old }
     ensures as_many { length places.new ≡ length places.old }
 {
     if at == places.len() {
-        drain_front(manager, passes, servers, places, front);
+        drain_front(manager, passes, servers, places, order, front);
         return;
     }
     if !places[at].is_free() {
-        drain_free(manager, passes, servers, places, front, at + 1);
+        drain_free(manager, passes, servers, places, order, front, at + 1);
         return;
     }
     swap_places(manager, passes, servers, places, front, at);
-    drain_free(manager, passes, servers, places, front + 1, at + 1);
+    drain_free(manager, passes, servers, places, order, front + 1, at + 1);
     swap_places(manager, passes, servers, places, front, at);
 }
 
@@ -367,6 +373,7 @@ fn drain_front(
     passes: &mut [Pass],
     servers: &mut [Box<dyn Server + Send>],
     places: &[Place],
+    order: Order,
     front: usize,
 )
     requires own { All (IsOf manager.now) passes.old }
@@ -377,11 +384,11 @@ fn drain_front(
     requires passed { ArePassed front (length places.now) places.now }
     ensures own { All (IsOf manager.now) passes.new }
     ensures lie { AllLie behaviour registers pending passes.new servers.new places.now }
-    ensures desks { AllTakePart (EndsIdle manager.now.limits)
+    ensures desks { AllTakePart (EndsIdle order manager.now.limits)
         (places_shown behaviour registers pending passes.old servers.old places.now)
         (places_shown behaviour registers pending passes.new servers.new places.now) }
 {
     let (desks, _others) = passes.split_at_mut(front);
     let (boxes, _rest) = servers.split_at_mut(front);
-    let _ = drain(manager, desks, boxes);
+    let _ = drain(manager, desks, boxes, order);
 }

@@ -1,5 +1,6 @@
 //! A script from its first command to its final lines: what it needs is made, performed and let go.
-ghost use Rattle.std.specs.Prelude.{◌≡◌, ◌+◌, [], None, IfOk, OnErr, OnOk, IsErrOf, IsTrue, All, length};
+ghost use Rattle.std.specs.Prelude.{◌≡◌, ◌+◌, ◌++◌, ◌∷◌, [], None, IfOk, OnErr, OnOk, IsErrOf, IsTrue, All, length, map};
+ghost use Rattle.tp_script.specs.declared.script.ScriptServer.{ScriptServer};
 ghost use Rattle.tp_manager.specs.Accounts.{AreAll};
 ghost use Rattle.tp_manager.specs.Shown.{IsKeptBy, ManagerShown};
 ghost use Rattle.tp_report.specs.Lines.{Writes, WritesFront};
@@ -118,8 +119,8 @@ fn serve_by<R: Threads + Sync, W: Sink>(
     let mut servers: Vec<Box<dyn Server + Send>> = Vec::new(alloc);
     for server in &script.servers {
         match server.kind {
-            Kind::Eager => servers.push(Box::new(alloc, eager(server)?)?)?,
-            Kind::Lazy => servers.push(Box::new(alloc, lazy(server)?)?)?,
+            Kind::Eager => put(&mut servers, Box::new(alloc, eager(server)?)?)?,
+            Kind::Lazy => put(&mut servers, Box::new(alloc, lazy(server)?)?)?,
         }
     }
     serve_with(
@@ -152,7 +153,11 @@ fn serve_with<R: Threads + Sync, W: Sink>(
     requires new { All IsNewPass passes.old }
     requires limits { manager.now.limits ≡ limits_of (script_view script.now) }
     requires enough { length passes.old ≡ passes_of (script_view script.now) }
-    requires all { length boxes.old ≡ length script.now.servers.items }
+    requires behaviours { map (λ server. behaviour server) boxes.old
+        ≡ map (λ line. behaviour_of line.recipe) script.now.servers.items }
+    requires registers { map (λ server. registers server) boxes.old
+        ≡ map (λ line. line.registers) script.now.servers.items }
+    requires clear { All (λ server. pending server ≡ None) boxes.old }
     ensures told { OnOk result (Reported (script_view script.now) manager.now
         (W.contents writer.old) (W.contents writer.new)) }
     ensures told_front { OnErr result (ReportedFront (script_view script.now)
@@ -161,23 +166,25 @@ fn serve_with<R: Threads + Sync, W: Sink>(
     ensures front { OnErr result (WritesFront (line_count (script_view script.now)) (W.contents writer.old) (W.contents writer.new)) }
     ensures write { IsErrOf result RunFault.Write → IsTrue (W.has_failed writer.new) }
 {
-    settle(boxes);
     perform(rt, alloc, script, manager, passes, boxes, writer)?;
     finals(alloc, script, boxes, writer)?;
     close(alloc, script, manager, keeper, passes, writer)
 }
 
-/// Calls off prepared work. New servers have none; but what a box shows isn't known to contracts behind the
-/// loop that made it.
-fn settle(servers: &mut [Box<dyn Server + Send>])
-    ensures unprepared { All (λ server. pending server ≡ None) servers.new }
-    ensures all { length servers.new ≡ length servers.old }
+/// Puts one more boxed server behind the others.
+fn put(
+    boxes: &mut Vec<Box<dyn Server + Send>>,
+    made: Box<dyn Server + Send>,
+) -> Result<(), AllocError>
+    ensures behaviours { IfOk result (λ _. map (λ server. behaviour server) boxes.new.items
+        ≡ map (λ server. behaviour server) boxes.old.items ++ behaviour made ∷ []) }
+    ensures registers { IfOk result (λ _. map (λ server. registers server) boxes.new.items
+        ≡ map (λ server. registers server) boxes.old.items ++ registers made ∷ []) }
+    ensures clear { IfOk result (λ _. All (λ server. pending server ≡ None) boxes.old.items → pending made ≡ None
+        → All (λ server. pending server ≡ None) boxes.new.items) }
 {
-    for i in 0..servers.len() {
-        if servers[i].is_prepared() {
-            servers[i].undo();
-        }
-    }
+    boxes.push(made)?;
+    Ok(())
 }
 
 /// A server of a script that changes its registers as it prepares.

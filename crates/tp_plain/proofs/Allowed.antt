@@ -19,15 +19,16 @@ use Rattle.tp_model.specs.Drafts.{DraftView}
 use Rattle.tp_model.specs.History.{element_of, UnitClaim, UnitEnd, Committed, Aborted, end_of, rounds, status_of}
 use Rattle.tp_model.specs.Steps.{IsServerStage, IsBody, IsOpen, Step}
 use Rattle.tp_model.specs.Births.{IsWhole}
-use Rattle.tp_plain.specs.OneThread.{Answers, CallSubmit, CallClaim, CallCommit, CallAbort, CallKill, CallRelease, CallCollect, CallRequeue, CallRead, Leaves, State, extended, pass_at, next_row, ready, HasRoom}
+use Rattle.tp_plain.specs.OneThread.{Answers, CallSubmit, CallClaim, CallClaimNext, CallCommit, CallAbort, CallKill, CallRelease, CallCollect, CallRequeue, CallRead, Leaves, State, extended, pass_at, turn_of, next_row, ready, HasRoom}
 use Rattle.tp_plain.specs.Looks.{is_held_by, looks_after_all}
 use Rattle.tp_plain.specs.Reached.{IsReached}
-use Rattle.tp_plain.specs.Computed.{is_server_stage, has_room, submit_of, with_request, next_waiting, claim_found, claim_of_stage, abort_at, abort_of, commit_at, commit_of, unit_in_hand, kill_at, kill_found, release_at, release_found, collect_at, collect_found, requeue_at, requeue_found, read_found, ComputedAreAllowed}
+use Rattle.tp_plain.specs.Computed.{is_server_stage, has_room, submit_of, with_request, next_waiting, claim_found, claim_of_stage, claim_next_found, claim_next_of_stage, abort_at, abort_of, commit_at, commit_of, unit_in_hand, kill_at, kill_found, release_at, release_found, collect_at, collect_found, requeue_at, requeue_found, read_found, ComputedAreAllowed}
 use Rattle.tp_model.proofs.Bridges.{element_of-id}
 use Rattle.tp_model.proofs.Replies.{StandsAsReply, reply_stands}
 use Rattle.tp_model.proofs.WordProofs.{rounds_by_words}
 use Rattle.tp_plain.proofs.PassStates.{may_submit}
-use Rattle.tp_plain.proofs.Claims.{idle, left_by_claim}
+use Rattle.tp_plain.proofs.Given.{claim_id_allowed}
+use Rattle.tp_plain.proofs.Claims.{idle, claim_takes, claim_next_takes}
 use Rattle.tp_plain.proofs.UnitEnds.{aborted_of, is_full}
 use Rattle.tp_plain.proofs.Commits.{left_by_commit}
 use Rattle.tp_plain.proofs.Kills.{may_abort, may_kill_after}
@@ -57,15 +58,23 @@ module _ (s : State) (c : ℕ) (reached : IsReached s) (is_pass : c < s.limits.p
       go false room staged _ = ((λ good. let clash : false ≡ true = sym staged ∙ is_stage stage good in cc), refl)
 
   claim_allowed : (stage : ℕ) → IsServerStage stage → (pass_at s c).holding ≡ None → Answers s (CallClaim c stage (Ok (claim_of_stage s c stage).0)) (claim_of_stage s c stage).1
-  claim_allowed stage good free = go (nat_lt (pass_at s c).claimed s.limits.units) (next_waiting s stage) refl refl
+  claim_allowed stage good free = go (nat_lt (pass_at s c).claimed s.limits.units) (next_waiting s 0 stage) refl refl
     where
-      go : (room : Bool) (found : Option Look) → nat_lt (pass_at s c).claimed s.limits.units ≡ room → next_waiting s stage ≡ found
+      go : (room : Bool) (found : Option Look) → nat_lt (pass_at s c).claimed s.limits.units ≡ room → next_waiting s 0 stage ≡ found
           → let computed : Claimed × State = cond {A = Claimed × State} room (claim_found s c found) (claimed.NoUnit, s) in Answers s (CallClaim c stage (Ok computed.0)) computed.1
-      go true None room is =
-          (refl, leb-true (suc (pass_at s c).claimed) s.limits.units room, idle s (looks_after_all s.limits.attempts s.history) stage reached refl is)
-      go true (Some look) room is =
-          (left_by_claim s.limits s.history s.passes s.drawn (looks_after_all s.limits.attempts s.history) c stage reached refl is_pass good look is
-          (leb-true (suc (pass_at s c).claimed) s.limits.units room) free).2
+      go true None room is = (refl, leb-true (suc (pass_at s c).claimed) s.limits.units room, idle s 0 stage reached.legal is)
+      go true (Some look) room is = claim_takes s c stage look reached is_pass good (leb-true (suc (pass_at s c).claimed) s.limits.units room) free is
+      go false found room is = (refl, ltb-false (pass_at s c).claimed s.limits.units room)
+
+  claim_next_allowed : (stage : ℕ) → IsServerStage stage → (pass_at s c).holding ≡ None
+      → Answers s (CallClaimNext c stage (Ok (claim_next_of_stage s c stage).0)) (claim_next_of_stage s c stage).1
+  claim_next_allowed stage good free = go (nat_lt (pass_at s c).claimed s.limits.units) (next_waiting s (turn_of s c stage) stage) refl refl
+    where
+      go : (room : Bool) (found : Option Look) → nat_lt (pass_at s c).claimed s.limits.units ≡ room → next_waiting s (turn_of s c stage) stage ≡ found
+          → let computed : Claimed × State = cond {A = Claimed × State} room (claim_next_found s c stage found) (claimed.NoUnit, s) in
+          Answers s (CallClaimNext c stage (Ok computed.0)) computed.1
+      go true None room is = (refl, leb-true (suc (pass_at s c).claimed) s.limits.units room, idle s (turn_of s c stage) stage reached.legal is)
+      go true (Some look) room is = claim_next_takes s c stage look reached is_pass good (leb-true (suc (pass_at s c).claimed) s.limits.units room) free is
       go false found room is = (refl, ltb-false (pass_at s c).claimed s.limits.units room)
 
   module _ (u : ℕ) (hand : (pass_at s c).holding ≡ Some u) where
@@ -210,6 +219,8 @@ computed_are_allowed s c reached is_pass =
     record {
       submit = submit_allowed s c reached is_pass;
       claim = claim_allowed s c reached is_pass;
+      claim_next = claim_next_allowed s c reached is_pass;
+      claim_id = claim_id_allowed s c reached is_pass;
       commit = λ u drafts hand few staged. commit_allowed s c reached is_pass u hand drafts few staged;
       abort = λ u hand. abort_allowed s c reached is_pass u hand;
       kill = kill_allowed s c reached is_pass;

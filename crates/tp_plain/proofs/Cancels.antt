@@ -1,13 +1,9 @@
 -- A cancel kills what was unsettled of a family, and leaves the family settled.
-use Rattle.std.proofs.Common.{◌≡◌, ◌≢◌, ℕ, zero, suc, ◌+◌, ◌<◌, ◌≤◌, ◌==◌, ◌&&◌, not, cond, Bool, true, false, Option, Some, None, Result, Ok, Err, List, [], ◌∷◌, ◌++◌, length, filter, find, AllPairs, if◌then◌else◌, nat_lt, refl, sym, ◌∙◌, ap, subst, inl, inr, ⊎_elim, arith, add-one, zero-add}
-use Rattle.std.specs.List.{range_with_len}
+use Rattle.std.proofs.Common.{◌≡◌, ◌≢◌, ℕ, zero, suc, ◌+◌, ◌<◌, ◌≤◌, ◌==◌, ◌&&◌, not, cond, Bool, true, false, Option, Some, None, Result, Ok, Err, List, [], ◌∷◌, ◌++◌, length, filter, find, if◌then◌else◌, nat_lt, get_or, take, refl, sym, ◌∙◌, ap, subst, inl, inr, ⊎_elim, arith}
 use Rattle.std.specs.Prelude.{is_some}
 use Rattle.std.proofs.lemmas.Bool.{and_from, and_parts, eqb-true, eq-eqb, ne_eqb}
-use Rattle.std.proofs.lemmas.Bool.Decides.{eqb_tells}
-use Rattle.std.proofs.lemmas.List.{length-append}
+use Rattle.std.proofs.lemmas.List.{length-append, take_all, take_more}
 use Rattle.std.proofs.lemmas.List.Elements.{filter-append}
-use Rattle.std.proofs.lemmas.List.FromFn.{length-range_with_len, get_or-range_with_len}
-use Rattle.std.proofs.lemmas.List.Kept.{AllPairs-filter}
 use Rattle.std.proofs.lemmas.List.Sums.{fold-append}
 use Rattle.tp_model.specs.declared.types.Cancelled.{Cancelled}
 use Rattle.tp_model.specs.declared.types.Element.{Element}
@@ -18,16 +14,18 @@ use Rattle.tp_model.specs.declared.types.Status.{Status}
 use Rattle.tp_model.specs.declared.types.Status.TheVariants.{Waiting, Held, Consumed, Parked, Killed}
 use Rattle.tp_model.specs.declared.event.Event.{Event}
 use Rattle.tp_model.specs.declared.event.Event.TheVariants.{Abort, Kill}
-use Rattle.tp_model.specs.History.{In, births, born, element_of, claim_of, aborted, status_of, IsSettled}
+use Rattle.tp_model.specs.Orders.{AreSomeOf}
+use Rattle.tp_model.specs.History.{In, here, births, born, element_of, claim_of, aborted, status_of, IsSettled}
 use Rattle.tp_model.specs.Families.{IsRequest}
-use Rattle.tp_model.specs.Steps.{rows_of, Step, IsLegal}
+use Rattle.tp_model.specs.Steps.{Step, IsLegal}
 use Rattle.tp_plain.specs.OneThread.{State, Kills, KillsEach, IsUnsettled, Cancels, Answers, CallCancel}
 use Rattle.tp_plain.specs.Looks.{is_settled}
+use Rattle.tp_plain.specs.Walks.{walk_of}
+use Rattle.tp_plain.proofs.Walks.{walk_fresh, walk_has, walk_is}
 use Rattle.tp_plain.specs.Computed.{kill_at, kill_found, kill_of, unsettled_found, is_unsettled, unsettled_ids, with_kills, cancel_found, cancel_of}
-use Rattle.tp_model.proofs.Bridges.{append_nil, element_of-id, in_either, in_left, in_none, in_one, in_right, in_here, is_born}
-use Rattle.tp_model.proofs.Families.{all_settled}
+use Rattle.tp_model.proofs.Bridges.{append_nil, element_of-id, in_either, in_left, in_none, in_one, in_right, is_born}
+use Rattle.tp_model.proofs.Families.{all_settled, contains_filter, in_filter}
 use Rattle.tp_model.proofs.Histories.{born-snoc, legal_more, status_of-snoc}
-use Rattle.tp_model.proofs.Later.{births_inside}
 use Rattle.tp_model.proofs.Lists.{if_same, if_other}
 use Rattle.tp_plain.proofs.Commits.{held_claimed}
 use Rattle.tp_plain.proofs.Kills.{may_abort, may_kill_after}
@@ -65,7 +63,7 @@ killed_found root (Some e) = last (e.root == root) (e.stage == 15)
     last false b = refl
 
 module _ (s : State) (root i : ℕ) where
-  unsettled_is : is_unsettled s root i ≡ true → IsUnsettled s root i
+  pub unsettled_is : is_unsettled s root i ≡ true → IsUnsettled s root i
   unsettled_is is = go (element_of s.history i) refl is
     where
       go : (o : Option Element) → element_of s.history i ≡ o → unsettled_found root (status_of s.limits.attempts s.history i) o ≡ true → IsUnsettled s root i
@@ -82,7 +80,7 @@ module _ (s : State) (root i : ℕ) where
             unsettled = settled_not st b.1;
           }
 
-  is_so : IsUnsettled s root i → is_unsettled s root i ≡ true
+  pub is_so : IsUnsettled s root i → is_unsettled s root i ≡ true
   is_so is =
       let st = status_of s.limits.attempts s.history i in
       let e = is.item in
@@ -90,68 +88,38 @@ module _ (s : State) (root i : ℕ) where
       ∙ and_from (e.root == root) (not (e.stage == 15) && not (is_settled st)) (eq-eqb e.root root is.family)
       (and_from (not (e.stage == 15)) (not (is_settled st)) (ap not (ne_eqb e.stage 15 is.no_reply)) (not_settled st is.unsettled))
 
--- the ids below n of what is unsettled
+-- those of these elements that are unsettled
 module _ (s : State) (root : ℕ) where
-  abbrev pub ids_below : ℕ → List ℕ
-  ids_below n = filter (is_unsettled s root) (range_with_len 0 n)
+  abbrev pub ids_in : List ℕ → List ℕ
+  ids_in xs = filter (is_unsettled s root) xs
 
-range_snoc : (a n : ℕ) → range_with_len a (suc n) ≡ range_with_len a n ++ (a + n) ∷ []
-range_snoc a zero = let e : a ≡ a + 0 = omega arith in ap (λ k. k ∷ []) e
-range_snoc a (suc n) =
-    let e : a + 1 + n ≡ a + suc n = omega arith in
-    ap (λ xs. a ∷ xs) (range_snoc (a + 1) n ∙ ap (λ k. range_with_len (a + 1) n ++ k ∷ []) e)
-
-range_ascends : (n : ℕ) → AllPairs (λ i j. i < j) (range_with_len 0 n)
-range_ascends n i j d less within =
-    let below : j < n = rw (← length-range_with_len 0 n) within in
-    rw (get_or-range_with_len 0 n i d (omega arith), get_or-range_with_len 0 n j d below) (omega arith)
-
-module _ (s : State) (root : ℕ) where
-  ids_more : (n : ℕ) → ids_below s root (suc n) ≡ ids_below s root n ++ cond (is_unsettled s root n) (n ∷ []) []
-  ids_more n =
-      ap (filter (is_unsettled s root)) (range_snoc 0 n)
-      ∙ (filter-append (is_unsettled s root) (range_with_len 0 n) ((0 + n) ∷ [])
-      ∙ ap (λ k. ids_below s root n ++ cond (is_unsettled s root k) (k ∷ []) []) (zero-add n))
-
-  ids_in : (n i : ℕ) → In i (ids_below s root n) → (i < n) × (is_unsettled s root i ≡ true)
-  ids_in zero i p = absurd (in_none p)
-  ids_in (suc n) i p =
-      ⊎_elim
-      (λ old. let r = ids_in n i old in (omega (arith, r.0), r.1))
-      (go (is_unsettled s root n) refl)
-      (in_either (ids_below s root n) (cond (is_unsettled s root n) (n ∷ []) []) (subst (In i) (ids_more n) p))
-    where
-      go : (b : Bool) → is_unsettled s root n ≡ b → In i (cond b (n ∷ []) []) → (i < suc n) × (is_unsettled s root i ≡ true)
-      go true is q = let same = in_one q in (omega arith, ap (is_unsettled s root) same ∙ is)
-      go false is q = absurd (in_none q)
-
-  in_ids : (n i : ℕ) → i < n → is_unsettled s root i ≡ true → In i (ids_below s root n)
-  in_ids zero i less is = absurd (omega arith)
-  in_ids (suc n) i less is =
-      subst (In i) (sym (ids_more n))
-      (elim (eqb_tells i n) [
-        | inl p ↦ in_right (ids_below s root n) (subst (λ b. In i (cond b (n ∷ []) [])) (sym (sym (ap (is_unsettled s root) p.1) ∙ is)) (in_here [] p.1))
-        | inr p ↦ (let apart : i ≢ n = p.1 in in_left (cond (is_unsettled s root n) (n ∷ []) []) (in_ids n i (omega arith) is))
-      ])
-
-  exactly : IsLegal s.limits s.history → (i : ℕ) → (In i (unsettled_ids s root) → IsUnsettled s root i) × (IsUnsettled s root i → In i (unsettled_ids s root))
-  exactly legal i = (
-    λ p. unsettled_is s root i (ids_in (rows_of s.limits) i p).1,
-    λ is. in_ids (rows_of s.limits) i
-        (subst (λ k. k < rows_of s.limits) (element_of-id s.history i is.item is.born) (births_inside s.limits s.history legal is.item (is_born s.history i is.item is.born)))
-        (is_so s root i is),
+  exactly : IsLegal s.limits s.history → IsRequest s.history root → (i : ℕ) → (In i (unsettled_ids s root) → IsUnsettled s root i) × (IsUnsettled s root i → In i (unsettled_ids s root))
+  exactly legal request i = (
+    λ p. unsettled_is s root i (in_filter (is_unsettled s root) (walk_of s root) i p).1,
+    λ is. contains_filter (is_unsettled s root) (walk_of s root) i (is_so s root i is)
+        (subst (λ k. In k (walk_of s root)) (element_of-id s.history i is.item is.born) (walk_has s root legal request is.item (is_born s.history i is.item is.born) is.family)),
   )
+
+-- what passes a test is some of a list
+some_pass : (p : ℕ → Bool) (xs : List ℕ) → AreSomeOf (filter p xs) xs
+some_pass p [] = tt
+some_pass p (x ∷ xs) = go (p x) (filter p xs) (some_pass p xs)
+  where
+    go : (b : Bool) (ys : List ℕ) → AreSomeOf ys xs → AreSomeOf (cond b (x ∷ ys) ys) (x ∷ xs)
+    go true ys some = inl (refl, some)
+    go false [] some = tt
+    go false (y ∷ ys) some = inr some
 
 -- one kill
 
 -- what a kill of element i leaves of the others
-record Slain (l : Limits) (h : List Event) (i : ℕ) (k : List Event) : Type 0 where
-  same : (j : ℕ) → element_of k j ≡ element_of h j
-  others : (j : ℕ) → j ≢ i → status_of l.attempts k j ≡ status_of l.attempts h j
-  gone : status_of l.attempts k i ≡ Killed
-  legal : IsLegal l k
+pub record Slain (l : Limits) (h : List Event) (i : ℕ) (k : List Event) : Type 0 where
+  pub same : (j : ℕ) → element_of k j ≡ element_of h j
+  pub others : (j : ℕ) → j ≢ i → status_of l.attempts k j ≡ status_of l.attempts h j
+  pub gone : status_of l.attempts k i ≡ Killed
+  pub legal : IsLegal l k
 
-same_elements : (h : List Event) (e : Event) → births e ≡ [] → (j : ℕ) → element_of (h ++ e ∷ []) j ≡ element_of h j
+pub same_elements : (h : List Event) (e : Event) → births e ≡ [] → (j : ℕ) → element_of (h ++ e ∷ []) j ≡ element_of h j
 same_elements h e none j = ap (find (λ (x : Element). x.id == j)) (born-snoc h e ∙ (ap (λ xs. born h ++ xs) none ∙ append_nil (born h)))
 
 slain : (l : Limits) (h : List Event) (c i : ℕ) → IsLegal l h → Step l h (Kill c i) → Slain l h i (h ++ Kill c i ∷ [])
@@ -185,15 +153,15 @@ at_history s h = record { limits = s.limits; history = h; passes = s.passes; dra
 
 module _ (s : State) (h : List Event) (c i : ℕ) where
   -- t is what a kill of element i leaves
-  record KillLeft (t : State) : Type 0 where
-    later : List Event
-    after : t ≡ at_history s later
-    aborts : ℕ
-    kills : Kills (at_history s h) c i aborts (at_history s later)
-    slain : Slain s.limits h i later
+  pub record KillLeft (t : State) : Type 0 where
+    pub later : List Event
+    pub after : t ≡ at_history s later
+    pub aborts : ℕ
+    pub kills : Kills (at_history s h) c i aborts (at_history s later)
+    pub slain : Slain s.limits h i later
 
 module _ (s : State) (h : List Event) (c i : ℕ) (is_pass : c < s.limits.parts) (legal : IsLegal s.limits h) where
-  kill_left : (e : Element) → element_of h i ≡ Some e → ¬ IsSettled (status_of s.limits.attempts h i) → KillLeft s h c i (kill_of (at_history s h) c i).1
+  pub kill_left : (e : Element) → element_of h i ≡ Some e → ¬ IsSettled (status_of s.limits.attempts h i) → KillLeft s h c i (kill_of (at_history s h) c i).1
   kill_left e born open_yet =
       subst (λ o. KillLeft s h c i (kill_found (at_history s h) c i o).1) (sym born) (at (status_of s.limits.attempts h i) refl)
     where
@@ -231,89 +199,110 @@ kills_more s c [] m i n t each one = (n, t, subst (λ x. Kills x c i n t) each o
 kills_more s c (j ∷ ids) m i n t each one = (each.0, each.1, each.2, kills_more each.1 c ids m i n t each.3 one)
 
 module _ (s : State) (c root : ℕ) where
-  -- what stands once the ids below n were gone through, and these killed
-  record Swept (n : ℕ) (ids : List ℕ) : Type 0 where
+  -- what stands once these elements were gone through, and those ids killed
+  record Swept (xs ids : List ℕ) : Type 0 where
     later : List Event
     after : with_kills s c ids ≡ at_history s later
     kills : KillsEach s c ids (at_history s later)
     same : (j : ℕ) → element_of later j ≡ element_of s.history j
-    untouched : (j : ℕ) → n ≤ j → status_of s.limits.attempts later j ≡ status_of s.limits.attempts s.history j
-    done : (j : ℕ) → j < n → is_unsettled (at_history s later) root j ≡ false
+    untouched : (j : ℕ) → ¬ In j xs → status_of s.limits.attempts later j ≡ status_of s.limits.attempts s.history j
+    done : (j : ℕ) → In j xs → is_unsettled (at_history s later) root j ≡ false
     legal : IsLegal s.limits later
 
-  alike : (h k : List Event) (j : ℕ) → element_of k j ≡ element_of h j → status_of s.limits.attempts k j ≡ status_of s.limits.attempts h j
+  pub alike : (h k : List Event) (j : ℕ) → element_of k j ≡ element_of h j → status_of s.limits.attempts k j ≡ status_of s.limits.attempts h j
       → is_unsettled (at_history s k) root j ≡ is_unsettled (at_history s h) root j
   alike h k j elements statuses = λ i. unsettled_found root (statuses i) (elements i)
 
-  skip : (n : ℕ) (ids : List ℕ) → Swept n ids → is_unsettled s root n ≡ false → Swept (suc n) ids
-  skip n ids w settled =
+  skip : (xs ids : List ℕ) (n : ℕ) → Swept xs ids → ¬ In n xs → is_unsettled s root n ≡ false → Swept (xs ++ n ∷ []) ids
+  skip xs ids n w fresh settled =
       record {
         later = w.later;
         after = w.after;
         kills = w.kills;
         same = w.same;
-        untouched = λ j more. w.untouched j (omega arith);
-        done = λ j less. (elim (eqb_tells j n) [
-          | inl p ↦ ap (is_unsettled (at_history s w.later) root) p.1 ∙ (alike s.history w.later n (w.same n) (w.untouched n (omega arith)) ∙ settled)
-          | inr p ↦ (let apart : j ≢ n = p.1 in w.done j (omega arith))
-        ]);
+        untouched = λ j out. w.untouched j (λ p. out (in_left (n ∷ []) p));
+        done = λ j p. ⊎_elim (w.done j)
+            (λ last. ap (is_unsettled (at_history s w.later) root) (in_one last) ∙ (alike s.history w.later n (w.same n) (w.untouched n fresh) ∙ settled))
+            (in_either xs (n ∷ []) p);
         legal = w.legal;
       }
 
-  take_one : c < s.limits.parts → (n : ℕ) (ids : List ℕ) → Swept n ids → is_unsettled s root n ≡ true → Swept (suc n) (ids ++ n ∷ [])
-  take_one is_pass n ids w unsettled =
+  take_one : c < s.limits.parts → (xs ids : List ℕ) (n : ℕ) → Swept xs ids → ¬ In n xs → is_unsettled s root n ≡ true → Swept (xs ++ n ∷ []) (ids ++ n ∷ [])
+  take_one is_pass xs ids n w fresh unsettled =
       let is = unsettled_is s root n unsettled in
-      let status = w.untouched n (omega arith) in
+      let status = w.untouched n fresh in
       let k = kill_left s w.later c n is_pass w.legal is.item (w.same n ∙ is.born) (λ settled. is.unsettled (subst IsSettled status settled)) in
+      let gone : is_unsettled (at_history s k.later) root n ≡ false = ap (λ st. unsettled_found root st (element_of k.later n)) k.slain.gone ∙ killed_found root (element_of k.later n) in
       record {
         later = k.later;
         after = fold-append (λ t i. (kill_of t c i).1) s ids (n ∷ []) ∙ (ap (λ (t : State). (kill_of t c n).1) w.after ∙ k.after);
         kills = kills_more s c ids (at_history s w.later) n k.aborts (at_history s k.later) w.kills k.kills;
         same = λ j. k.slain.same j ∙ w.same j;
-        untouched = λ j more. (let apart : j ≢ n = λ same. omega arith in k.slain.others j apart ∙ w.untouched j (omega arith));
-        done = λ j less. (elim (eqb_tells j n) [
-          | inl p ↦ ap (is_unsettled (at_history s k.later) root) p.1 ∙ (ap (λ st. unsettled_found root st (element_of k.later n)) k.slain.gone ∙ killed_found root (element_of k.later n))
-          | inr p ↦ (let apart : j ≢ n = p.1 in alike w.later k.later j (k.slain.same j) (k.slain.others j apart) ∙ w.done j (omega arith))
-        ]);
+        untouched = λ j out. k.slain.others j (λ same. out (subst (λ z. In z (xs ++ n ∷ [])) (sym same) (in_right xs here))) ∙ w.untouched j (λ p. out (in_left (n ∷ []) p));
+        done = λ j p. ⊎_elim
+            (λ old. (let apart : j ≢ n = λ same. fresh (subst (λ z. In z xs) same old) in alike w.later k.later j (k.slain.same j) (k.slain.others j apart) ∙ w.done j old))
+            (λ last. ap (is_unsettled (at_history s k.later) root) (in_one last) ∙ gone)
+            (in_either xs (n ∷ []) p);
         legal = k.slain.legal;
       }
 
 module _ (s : State) (c root : ℕ) (is_pass : c < s.limits.parts) (legal : IsLegal s.limits s.history) where
-  swept : (n : ℕ) → Swept s c root n (ids_below s root n)
-  swept zero =
+  abbrev walk : List ℕ
+  walk = walk_of s root
+
+  -- the first n of the walk
+  abbrev first : ℕ → List ℕ
+  first n = take n walk
+
+  fresh : (n : ℕ) → n < length walk → ¬ In (get_or walk n 0) (first n)
+  fresh n less = walk_fresh s.limits.attempts s.history root [] walk (walk_is s root legal) n less
+
+  swept : (n : ℕ) → n ≤ length walk → Swept s c root (first n) (ids_in s root (first n))
+  swept zero le =
       record {
         later = s.history;
         after = refl;
         kills = refl;
         same = λ j. refl;
-        untouched = λ j more. refl;
-        done = λ j less. absurd (omega arith);
+        untouched = λ j out. refl;
+        done = λ j p. absurd (in_none p);
         legal = legal;
       }
-  swept (suc n) = subst (Swept s c root (suc n)) (sym (ids_more s root n)) (go (is_unsettled s root n) refl (swept n))
+  swept (suc n) le =
+      let i = get_or walk n 0 in
+      let more : first (suc n) ≡ first n ++ i ∷ [] = (let e : suc n ≡ n + 1 = omega arith in ap first e ∙ take_more walk n 0 (omega arith)) in
+      subst (λ xs. Swept s c root xs (ids_in s root xs)) (sym more)
+      (subst (Swept s c root (first n ++ i ∷ [])) (sym (filter-append (is_unsettled s root) (first n) (i ∷ [])))
+      (go (is_unsettled s root i) refl (swept n (omega arith)) (fresh n (omega arith))))
     where
-      go : (b : Bool) → is_unsettled s root n ≡ b → Swept s c root n (ids_below s root n) → Swept s c root (suc n) (ids_below s root n ++ cond b (n ∷ []) [])
-      go true is w = take_one s c root is_pass n (ids_below s root n) w is
-      go false is w = subst (Swept s c root (suc n)) (sym (append_nil (ids_below s root n))) (skip s c root n (ids_below s root n) w is)
+      go : (b : Bool) → is_unsettled s root (get_or walk n 0) ≡ b → Swept s c root (first n) (ids_in s root (first n)) → ¬ In (get_or walk n 0) (first n)
+          → Swept s c root (first n ++ get_or walk n 0 ∷ []) (ids_in s root (first n) ++ cond b (get_or walk n 0 ∷ []) [])
+      go true is w out = take_one s c root is_pass (first n) (ids_in s root (first n)) (get_or walk n 0) w out is
+      go false is w out = subst (Swept s c root (first n ++ get_or walk n 0 ∷ [])) (sym (append_nil (ids_in s root (first n)))) (skip s c root (first n) (ids_in s root (first n)) (get_or walk n 0) w out is)
+
+  swept_all : Swept s c root walk (unsettled_ids s root)
+  swept_all = subst (λ xs. Swept s c root xs (ids_in s root xs)) (take_all (length walk) walk (omega arith)) (swept (length walk) (omega arith))
 
   pub cancels : IsRequest s.history root → Cancels s c root (length (unsettled_ids s root)) (with_kills s c (unsettled_ids s root))
   cancels request =
-      let w = swept (rows_of s.limits) in
+      let w = swept_all in
       subst (Cancels s c root (length (unsettled_ids s root))) (sym w.after)
       (record {
         request = request;
         ids = unsettled_ids s root;
-        ascend = AllPairs-filter (λ i j. i < j) (is_unsettled s root) (range_with_len 0 (rows_of s.limits)) (range_ascends (rows_of s.limits));
-        exactly = exactly s root legal;
+        walk = walk;
+        in_order = walk_is s root legal;
+        some_of = some_pass (is_unsettled s root) walk;
+        exactly = exactly s root legal request;
         counted = refl;
         kills = w.kills;
         settled = all_settled s.limits w.later root w.legal (over w);
       })
     where
-      over : (w : Swept s c root (rows_of s.limits) (unsettled_ids s root)) (x : Element) → element_of w.later x.id ≡ Some x → x.root ≡ root → x.stage ≢ 15 → IsSettled (status_of s.limits.attempts w.later x.id)
+      over : (w : Swept s c root walk (unsettled_ids s root)) (x : Element) → element_of w.later x.id ≡ Some x → x.root ≡ root → x.stage ≢ 15 → IsSettled (status_of s.limits.attempts w.later x.id)
       over w x is family no_reply =
           let st = status_of s.limits.attempts w.later x.id in
-          let none = sym (ap (unsettled_found root st) is) ∙ w.done x.id (births_inside s.limits w.later w.legal x is) in
+          let none = sym (ap (unsettled_found root st) is) ∙ w.done x.id (walk_has s root legal request x (sym (w.same x.id) ∙ is) family) in
           let left : not (is_settled st) ≡ (x.root == root && (not (x.stage == 15) && not (is_settled st))) =
           λ i. sym (eq-eqb x.root root family) i && (not (sym (ne_eqb x.stage 15 no_reply) i) && not (is_settled st)) in
           settled_or st (left ∙ none)
@@ -331,39 +320,37 @@ module _ (s : State) (c root : ℕ) (is_pass : c < s.limits.parts) (legal : IsLe
           by None is = cancels (e, some, is)
           by (Some u) is = ((λ r. let born = r.1 in let one : e ≡ r.0 = cc in let clash : Some u ≡ None = sym is ∙ (ap (λ (x : Element). x.by) one ∙ r.2) in cc), refl)
 
-  kept_limits : (n : ℕ) → (with_kills s c (ids_below s root n)).limits ≡ s.limits
-  kept_limits n = ap (λ (t : State). t.limits) (swept n).after
-
-  kept_passes : (n : ℕ) → (with_kills s c (ids_below s root n)).passes ≡ s.passes
-  kept_passes n = ap (λ (t : State). t.passes) (swept n).after
-
-  -- the loop of a cancel, where t is the state once the ids below n were gone through
-  module _ (n : ℕ) (t : State) (state : t ≡ with_kills s c (ids_below s root n)) where
+  -- the kills of a cancel, where t is the state once the first n of the walk were gone through
+  module _ (n : ℕ) (le : n ≤ length walk) (t : State) (state : t ≡ with_kills s c (ids_in s root (first n))) where
     pub same_limits : t.limits ≡ s.limits
-    same_limits = ap (λ (x : State). x.limits) state ∙ kept_limits n
+    same_limits = ap (λ (x : State). x.limits) (state ∙ (swept n le).after)
 
     pub same_passes : t.passes ≡ s.passes
-    same_passes = ap (λ (x : State). x.passes) state ∙ kept_passes n
+    same_passes = ap (λ (x : State). x.passes) (state ∙ (swept n le).after)
 
-    -- whether n is to be killed doesn't hang on the kills so far
-    still : is_unsettled t root n ≡ is_unsettled s root n
-    still =
-        let w = swept n in
-        ap (λ (x : State). is_unsettled x root n) (state ∙ w.after) ∙ alike s c root s.history w.later n (w.same n) (w.untouched n (omega arith))
+    module _ (i : ℕ) (less : n < length walk) (here_is : i ≡ get_or walk n 0) where
+      -- whether it is to be killed doesn't hang on the kills so far
+      still : is_unsettled t root i ≡ is_unsettled s root i
+      still =
+          let w = swept n le in
+          ap (λ (x : State). is_unsettled x root i) (state ∙ w.after) ∙ alike s c root s.history w.later i (w.same i) (w.untouched i (subst (λ z. ¬ In z (first n)) (sym here_is) (fresh n less)))
 
-    ids_next : (b : Bool) → is_unsettled t root n ≡ b → ids_below s root (n + 1) ≡ ids_below s root n ++ cond b (n ∷ []) []
-    ids_next b is = rw add-one (ids_more s root n ∙ ap (λ b. ids_below s root n ++ cond b (n ∷ []) []) (sym still ∙ is))
+      ids_next : (b : Bool) → is_unsettled t root i ≡ b → ids_in s root (first (n + 1)) ≡ ids_in s root (first n) ++ cond b (i ∷ []) []
+      ids_next b is =
+          ap (ids_in s root) (take_more walk n 0 less ∙ ap (λ z. first n ++ z ∷ []) (sym here_is))
+          ∙ (filter-append (is_unsettled s root) (first n) (i ∷ [])
+          ∙ ap (λ b. ids_in s root (first n) ++ cond b (i ∷ []) []) (sym still ∙ is))
 
-    pub killed_one : is_unsettled t root n ≡ true → (kill_of t c n).1 ≡ with_kills s c (ids_below s root (n + 1))
-    killed_one is =
-        ap (λ (x : State). (kill_of x c n).1) state
-        ∙ sym (ap (with_kills s c) (ids_next true is) ∙ fold-append (λ x i. (kill_of x c i).1) s (ids_below s root n) (n ∷ []))
+      pub killed_one : is_unsettled t root i ≡ true → (kill_of t c i).1 ≡ with_kills s c (ids_in s root (first (n + 1)))
+      killed_one is =
+          ap (λ (x : State). (kill_of x c i).1) state
+          ∙ sym (ap (with_kills s c) (ids_next true is) ∙ fold-append (λ x i. (kill_of x c i).1) s (ids_in s root (first n)) (i ∷ []))
 
-    pub counted_one : is_unsettled t root n ≡ true → length (ids_below s root (n + 1)) ≡ length (ids_below s root n) + 1
-    counted_one is = ap length (ids_next true is) ∙ length-append (ids_below s root n) (n ∷ [])
+      pub counted_one : is_unsettled t root i ≡ true → length (ids_in s root (first (n + 1))) ≡ length (ids_in s root (first n)) + 1
+      counted_one is = ap length (ids_next true is) ∙ length-append (ids_in s root (first n)) (i ∷ [])
 
-    pub left_alone : is_unsettled t root n ≡ false → ids_below s root (n + 1) ≡ ids_below s root n
-    left_alone is = ids_next false is ∙ append_nil (ids_below s root n)
+      pub left_alone : is_unsettled t root i ≡ false → ids_in s root (first (n + 1)) ≡ ids_in s root (first n)
+      left_alone is = ids_next false is ∙ append_nil (ids_in s root (first n))
 
 pub not_some : (o : Option ℕ) → is_some o ≡ false → o ≡ None
 not_some None is = refl

@@ -1,42 +1,85 @@
 -- What a claim finds, and what it leaves.
-use Rattle.std.proofs.Common.{◌≡◌, ℕ, zero, suc, ◌+◌, ◌-◌, ◌*◌, ◌<◌, ◌≤◌, ◌==◌, nat_lt, ◌&&◌, Bool, true, false, cond, Option, Some, None, List, [], ◌∷◌, ◌++◌, map, length, slice_index_or, slice_set, refl, sym, ◌∙◌, ap, subst, inl, inr, append_assoc, arith}
+use Rattle.std.proofs.Common.{◌≡◌, ℕ, zero, suc, ◌+◌, ◌-◌, ◌*◌, ◌<◌, ◌≤◌, ◌==◌, ⊎_elim, nat_lt, ◌&&◌, ◌||◌, Bool, true, false, cond, Option, Some, None, List, [], ◌∷◌, ◌++◌, map, slice_index_or, slice_set, refl, sym, ◌∙◌, ap, subst, inl, inr, append_assoc, arith, mul-le-mul_right, IfSome}
 use Rattle.std.proofs.lemmas.Bool.{eqb-true, eq-eqb, and_from}
 use Rattle.std.proofs.lemmas.Bool.Decides.{nat_tests}
-use Rattle.std.proofs.lemmas.List.{append-nil, get_or_read}
+use Rattle.std.proofs.lemmas.List.{append-nil}
 use Rattle.std.proofs.lemmas.List.Elements.{Contains-append_left, Contains-append_right, Contains-append_cases}
 use Rattle.std.specs.List.{find, fold, Contains}
+use mathlib.Core.Logic.{dite}
+use native.Mathlib.Decide.{dec_le}
 use Rattle.tp_model.specs.declared.types.Element.{Element}
 use Rattle.tp_model.specs.declared.types.Limits.{Limits}
 use Rattle.tp_model.specs.declared.types.Look.{Look}
 use Rattle.tp_plain.specs.declared.pass_state.PassState.{PassState}
 use Rattle.tp_model.specs.declared.types.Status.{Status}
 use Rattle.tp_model.specs.declared.types.Status.TheVariants.{Waiting, Held, Consumed, Parked, Killed}
-use Rattle.tp_model.specs.declared.types.Work.{Work}
 use Rattle.tp_model.specs.declared.event.Event.{Event}
 use Rattle.tp_model.specs.declared.event.Event.TheVariants.{Claim}
 use Rattle.tp_model.specs.History.{births, born, UnitClaim, claim_by, claim_of, end_by, status_of}
 use Rattle.tp_model.specs.Counts.{is_waiting}
-use Rattle.tp_model.specs.Steps.{IsServerStage, IsOpen, Step, IsLegal}
-use Rattle.tp_plain.specs.Computed.{claim_of_stage}
-use Rattle.tp_model.specs.declared.types.Claimed.TheVariants as claimed
-use Rattle.tp_plain.proofs.Computations.{claim_takes, claim_idle}
-use Rattle.tp_plain.specs.OneThread.{State, no_pass, pass_at, Waits, Takes}
+use Rattle.tp_model.specs.Steps.{IsServerStage, IsOpen, Step, IsLegal, rows_of}
+use Rattle.tp_plain.specs.Computed.{next_waiting, with_claim, work_on}
+use Rattle.tp_plain.specs.OneThread.{IsBefore, State, pass_at, next_unit, turn_of, Waits, Takes, TakesNext}
 use Rattle.tp_plain.specs.Reached.{PassFits, IsReached}
-use Rattle.tp_plain.specs.Looks.{look_at, look_after, fresh_look, waits_in, sooner, attempts_in}
+use Rattle.tp_plain.specs.Looks.{comes_before, look_at, look_after, looks_after_all, fresh_look, waits_in, sooner, attempts_in}
 use Rattle.tp_model.proofs.Lists.{first-snoc, if_same, if_other, some_if}
-use Rattle.tp_model.proofs.Bridges.{in_none}
+use Rattle.tp_model.proofs.Bridges.{in_none, is_born}
 use Rattle.tp_model.proofs.Histories.{born_once, open_before}
+use Rattle.tp_model.proofs.Later.{births_inside}
 use Rattle.tp_model.proofs.WordProofs.{unended}
 use Rattle.tp_model.proofs.Attempts.{waiting_below}
 use Rattle.tp_plain.proofs.PassStates.{reached_moved}
 use Rattle.tp_plain.proofs.PlainLemmas.{looks_after}
 use Rattle.tp_plain.proofs.Rooms.{run_quiet}
 
--- The least that waits.
+-- The order of a circle.
 
-pub data Best (stage : ℕ) (seen : List Look) : Option Look → Type 0 where
-  no_best : ((m : Look) → Contains seen m → waits_in stage m ≡ true → ⊥) → Best stage seen None
-  best : (l : Look) → Contains seen l → waits_in stage l ≡ true → ((m : Look) → Contains seen m → waits_in stage m ≡ true → l.element.id ≤ m.element.id) → Best stage seen (Some l)
+pub before_is : (from i j : ℕ) → comes_before from i j ≡ true → IsBefore from j i
+before_is from i j is = go (nat_lt i from) (nat_lt j from) (nat_lt i j) refl refl refl is
+  where
+    go : (a b c : Bool) → nat_lt i from ≡ a → nat_lt j from ≡ b → nat_lt i j ≡ c → cond a (b && c) (b || c) ≡ true → IsBefore from j i
+    go true true true p q r is = let below : j < from = grind (arith, nat_tests) in let less : i < j = grind (arith, nat_tests) in inr (below, inr less)
+    go true true false p q r is = absurd (cc (is))
+    go true false c p q r is = absurd (cc (is))
+    go false true c p q r is = let below : j < from = grind (arith, nat_tests) in let low : from ≤ i = grind (arith, nat_tests) in inr (below, inl low)
+    go false false true p q r is = let low : from ≤ i = grind (arith, nat_tests) in let less : i < j = grind (arith, nat_tests) in inl (low, less)
+    go false false false p q r is = absurd (cc (is))
+
+pub not_before : (from i j : ℕ) → comes_before from i j ≡ false → ¬ IsBefore from j i
+not_before from i j is = go (nat_lt i from) (nat_lt j from) (nat_lt i j) refl refl refl is
+  where
+    go : (a b c : Bool) → nat_lt i from ≡ a → nat_lt j from ≡ b → nat_lt i j ≡ c → cond a (b && c) (b || c) ≡ false → ¬ IsBefore from j i
+    go true true true p q r is before = cc (is)
+    go true true false p q r is before =
+        let high : i < from = grind (arith, nat_tests) in let more : j ≤ i = grind (arith, nat_tests) in
+        ⊎_elim (λ x. let low = x.0 in omega arith) (λ x. ⊎_elim (λ low. omega arith) (λ less. omega arith) x.1) before
+    go true false c p q r is before =
+        let high : i < from = grind (arith, nat_tests) in let over : from ≤ j = grind (arith, nat_tests) in
+        ⊎_elim (λ x. let low = x.0 in omega arith) (λ x. let below = x.0 in omega arith) before
+    go false true c p q r is before = cc (is)
+    go false false true p q r is before = cc (is)
+    go false false false p q r is before =
+        let over : from ≤ j = grind (arith, nat_tests) in let more : j ≤ i = grind (arith, nat_tests) in
+        ⊎_elim (λ x. let less = x.1 in omega arith) (λ x. let below = x.0 in omega arith) before
+
+before_itself : (from i : ℕ) → ¬ IsBefore from i i
+before_itself from i = ⊎_elim (λ x. let less = x.1 in omega arith) (λ x. let below = x.0 in ⊎_elim (λ low. omega arith) (λ less. omega arith) x.1)
+
+-- what comes before i, which comes before j, comes before j
+before_both : (from i j k : ℕ) → IsBefore from i k → IsBefore from j i → IsBefore from j k
+before_both from i j k one two = ⊎_elim
+    (λ x. let low = x.0 in let less = x.1 in ⊎_elim
+    (λ y. let more = y.1 in inl (low, let z : k < j = omega arith in z))
+    (λ y. inr (y.0, inl low)) two)
+    (λ x. let below = x.0 in ⊎_elim
+    (λ y. absurd (let over = y.0 in omega arith))
+    (λ y. inr (y.0, ⊎_elim (λ low. inl low) (λ less. ⊎_elim (λ over. absurd (omega arith)) (λ more. inr (let z : k < j = omega arith in z)) y.1) x.1)) two) one
+
+-- The first that waits.
+
+pub data Best (from stage : ℕ) (seen : List Look) : Option Look → Type 0 where
+  no_best : ((m : Look) → Contains seen m → waits_in stage m ≡ true → ⊥) → Best from stage seen None
+  best : (l : Look) → Contains seen l → waits_in stage l ≡ true → ((m : Look) → Contains seen m → waits_in stage m ≡ true → ¬ IsBefore from l.element.id m.element.id) → Best from stage seen (Some l)
 
 pub one_of : {A : Type 0} (x m : A) → Contains (x ∷ []) m → x ≡ m
 one_of {A} x m there = go there.0 there.1 there.2
@@ -52,40 +95,45 @@ more_seen seen x P old here m there =
 last_seen : (seen : List Look) (x : Look) → Contains (seen ++ x ∷ []) x
 last_seen seen x = Contains-append_right seen (x ∷ []) x (0, omega arith, refl)
 
-better : (stage : ℕ) (seen : List Look) (x : Look) (o : Option Look) → Best stage seen o → Best stage (seen ++ x ∷ []) (sooner stage o x)
-better stage seen x None (no_best none) = go (waits_in stage x) refl
-  where
-    go : (b : Bool) → waits_in stage x ≡ b → Best stage (seen ++ x ∷ []) (cond b (Some x) None)
-    go true is = best x (last_seen seen x) is (more_seen seen x (λ m. waits_in stage m ≡ true → x.element.id ≤ m.element.id) (λ m there waits. absurd (none m there waits)) (λ waits. omega arith))
-    go false is = no_best (more_seen seen x (λ m. waits_in stage m ≡ true → ⊥) none (λ waits. cc))
-better stage seen x (Some k) (best l there waits least) = go (waits_in stage x) (nat_lt x.element.id l.element.id) refl refl
-  where
-    go : (b less : Bool) → waits_in stage x ≡ b → nat_lt x.element.id l.element.id ≡ less → Best stage (seen ++ x ∷ []) (cond (b && less) (Some x) (Some l))
-    go true true is below =
-        let under : x.element.id < l.element.id = grind (arith, nat_tests) in
-        best x (last_seen seen x) is (more_seen seen x (λ m. waits_in stage m ≡ true → x.element.id ≤ m.element.id) (λ m seen_m w. (let at_least = least m seen_m w in omega arith)) (λ w. omega arith))
-    go true false is below =
-        let over : l.element.id ≤ x.element.id = grind (arith, nat_tests) in
-        best l (Contains-append_left seen (x ∷ []) l there) waits (more_seen seen x (λ m. waits_in stage m ≡ true → l.element.id ≤ m.element.id) least (λ w. over))
-    go false less is below =
-        best l (Contains-append_left seen (x ∷ []) l there) waits (more_seen seen x (λ m. waits_in stage m ≡ true → l.element.id ≤ m.element.id) least (λ w. absurd (cc)))
+module _ (from stage : ℕ) where
+  -- no look at an element that waits comes before this one
+  abbrev IsFirst : Look → Look → Type 0
+  IsFirst l m = waits_in stage m ≡ true → ¬ IsBefore from l.element.id m.element.id
 
-best_of_all : (stage : ℕ) (seen rest : List Look) (o : Option Look) → Best stage seen o → Best stage (seen ++ rest) (fold (sooner stage) o rest)
-best_of_all stage seen [] o is = rw (append-nil seen) is
-best_of_all stage seen (x ∷ rest) o is =
-    subst (λ ls. Best stage ls (fold (sooner stage) (sooner stage o x) rest)) (append_assoc seen (x ∷ []) rest) (best_of_all stage (seen ++ x ∷ []) rest (sooner stage o x) (better stage seen x o is))
+  better : (seen : List Look) (x : Look) (o : Option Look) → Best from stage seen o → Best from stage (seen ++ x ∷ []) (sooner from stage o x)
+  better seen x None (no_best none) = go (waits_in stage x) refl
+    where
+      go : (b : Bool) → waits_in stage x ≡ b → Best from stage (seen ++ x ∷ []) (cond b (Some x) None)
+      go true is = best x (last_seen seen x) is (more_seen seen x (IsFirst x) (λ m there waits. absurd (none m there waits)) (λ waits. before_itself from x.element.id))
+      go false is = no_best (more_seen seen x (λ m. waits_in stage m ≡ true → ⊥) none (λ waits. cc))
+  better seen x (Some k) (best l there waits least) = go (waits_in stage x) (comes_before from x.element.id l.element.id) refl refl
+    where
+      go : (b less : Bool) → waits_in stage x ≡ b → comes_before from x.element.id l.element.id ≡ less → Best from stage (seen ++ x ∷ []) (cond (b && less) (Some x) (Some l))
+      go true true is below =
+          let under : IsBefore from l.element.id x.element.id = before_is from x.element.id l.element.id below in
+          best x (last_seen seen x) is (more_seen seen x (IsFirst x) (λ m seen_m w before. least m seen_m w (before_both from x.element.id l.element.id m.element.id before under)) (λ w. before_itself from x.element.id))
+      go true false is below =
+          best l (Contains-append_left seen (x ∷ []) l there) waits (more_seen seen x (IsFirst l) least (λ w. not_before from x.element.id l.element.id below))
+      go false less is below =
+          best l (Contains-append_left seen (x ∷ []) l there) waits (more_seen seen x (IsFirst l) least (λ w. absurd (cc)))
 
-nothing_there : (m : Look) → Contains [] m → ⊥
-nothing_there m there = let less = there.1 in omega arith
+  best_of_all : (seen rest : List Look) (o : Option Look) → Best from stage seen o → Best from stage (seen ++ rest) (fold (sooner from stage) o rest)
+  best_of_all seen [] o is = rw (append-nil seen) is
+  best_of_all seen (x ∷ rest) o is =
+      subst (λ ls. Best from stage ls (fold (sooner from stage) (sooner from stage o x) rest)) (append_assoc seen (x ∷ []) rest) (best_of_all (seen ++ x ∷ []) rest (sooner from stage o x) (better seen x o is))
 
-pub best_is : (stage : ℕ) (looks : List Look) → Best stage looks (fold (sooner stage) None looks)
-best_is stage looks = best_of_all stage [] looks None (no_best (λ m there waits. nothing_there m there))
+  nothing_there : (m : Look) → Contains [] m → ⊥
+  nothing_there m there = let less = there.1 in omega arith
 
-best_parts : (stage : ℕ) (seen : List Look) (l : Look) → Best stage seen (Some l) → Contains seen l × (waits_in stage l ≡ true) × ((m : Look) → Contains seen m → waits_in stage m ≡ true → l.element.id ≤ m.element.id)
-best_parts stage seen l (best k there waits least) = (there, waits, least)
+  pub best_is : (looks : List Look) → Best from stage looks (fold (sooner from stage) None looks)
+  best_is looks = best_of_all [] looks None (no_best (λ m there waits. nothing_there m there))
 
-none_parts : (stage : ℕ) (seen : List Look) → Best stage seen None → (m : Look) → Contains seen m → waits_in stage m ≡ true → ⊥
-none_parts stage seen (no_best none) = none
+  best_parts : (seen : List Look) (l : Look) → Best from stage seen (Some l)
+      → Contains seen l × (waits_in stage l ≡ true) × ((m : Look) → Contains seen m → waits_in stage m ≡ true → ¬ IsBefore from l.element.id m.element.id)
+  best_parts seen l (best k there waits least) = (there, waits, least)
+
+  none_parts : (seen : List Look) → Best from stage seen None → (m : Look) → Contains seen m → waits_in stage m ≡ true → ⊥
+  none_parts seen (no_best none) = none
 
 -- Elements and their looks.
 
@@ -128,50 +176,74 @@ waits_parts stage l is = go (l.element.stage == stage) refl is
     go true same w = (eqb-true l.element.stage stage same, status l.status w)
     go false same w = absurd (cc (w))
 
-module _ (s : State) (looks : List Look) (stage : ℕ) (reached : IsReached s) (agree : looks ≡ map (look_at s.limits.attempts s.history) (born s.history)) where
+module _ (s : State) (from stage : ℕ) (legal : IsLegal s.limits s.history) where
+  abbrev limit : ℕ
+  limit = s.limits.attempts
+
+  abbrev looks : List Look
+  looks = looks_after_all limit s.history
+
   -- a look that waits is of an element that does
   pub waits_of : (l : Look) → Contains looks l → waits_in stage l ≡ true → Waits s stage l.element (attempts_in l.status)
   waits_of l there is =
-      let m = mapped (look_at s.limits.attempts s.history) (born s.history) l (subst (λ ls. Contains ls l) agree there) in
+      let m = mapped (look_at limit s.history) (born s.history) l there in
       let same : m.0 ≡ l.element = ap (λ (x : Look). x.element) m.2 in
       let parts = waits_parts stage l is in
       record {
-        born = rw (← same) (born_once s.limits s.history reached.legal m.0 m.1);
+        born = rw (← same) (born_once s.limits s.history legal m.0 m.1);
         stage_is = parts.0;
-        waits = ap (λ (x : Element). status_of s.limits.attempts s.history x.id) (sym same) ∙ (ap (λ (x : Look). x.status) m.2 ∙ parts.1);
+        waits = ap (λ (x : Element). status_of limit s.history x.id) (sym same) ∙ (ap (λ (x : Look). x.status) m.2 ∙ parts.1);
       }
 
   -- and the other way round
-  pub look_of_waits : (e : Element) (n : ℕ) → Waits s stage e n → Contains looks (look_at s.limits.attempts s.history e) × (waits_in stage (look_at s.limits.attempts s.history e) ≡ true)
+  pub look_of_waits : (e : Element) (n : ℕ) → Waits s stage e n → Contains looks (look_at limit s.history e) × (waits_in stage (look_at limit s.history e) ≡ true)
   look_of_waits e n w = (
-    subst (λ ls. Contains ls (look_at s.limits.attempts s.history e)) (sym agree)
-        (map_contains (look_at s.limits.attempts s.history) (born s.history) e (found_contains (λ (x : Element). x.id == e.id) (born s.history) e w.born)),
-    and_from (e.stage == stage) (is_waiting (status_of s.limits.attempts s.history e.id)) (eq-eqb e.stage stage w.stage_is) (ap is_waiting w.waits),
+    map_contains (look_at limit s.history) (born s.history) e (found_contains (λ (x : Element). x.id == e.id) (born s.history) e w.born),
+    and_from (e.stage == stage) (is_waiting (status_of limit s.history e.id)) (eq-eqb e.stage stage w.stage_is) (ap is_waiting w.waits),
   )
 
-  pub idle : fold (sooner stage) None looks ≡ None → (e : Element) (n : ℕ) → ¬ Waits s stage e n
+  pub idle : next_waiting s from stage ≡ None → (e : Element) (n : ℕ) → ¬ Waits s stage e n
   idle is e n w =
       let there = look_of_waits e n w in
-      none_parts stage looks (subst (Best stage looks) is (best_is stage looks)) (look_at s.limits.attempts s.history e) there.0 there.1
+      none_parts from stage looks (subst (Best from stage looks) is (best_is from stage looks)) (look_at limit s.history e) there.0 there.1
 
-  module _ (l : Look) (is : fold (sooner stage) None looks ≡ Some l) where
-    abbrev parts : Contains looks l × (waits_in stage l ≡ true) × ((m : Look) → Contains looks m → waits_in stage m ≡ true → l.element.id ≤ m.element.id)
-    parts = best_parts stage looks l (subst (Best stage looks) is (best_is stage looks))
+  module _ (l : Look) (is : next_waiting s from stage ≡ Some l) where
+    abbrev parts : Contains looks l × (waits_in stage l ≡ true) × ((m : Look) → Contains looks m → waits_in stage m ≡ true → ¬ IsBefore from l.element.id m.element.id)
+    parts = best_parts from stage looks l (subst (Best from stage looks) is (best_is from stage looks))
 
     pub next_waits : Waits s stage l.element (attempts_in l.status)
     next_waits = waits_of l parts.0 parts.1
 
-    pub next_least : (e : Element) (n : ℕ) → Waits s stage e n → l.element.id ≤ e.id
-    next_least e n w = let there = look_of_waits e n w in parts.2 (look_at s.limits.attempts s.history e) there.0 there.1
+    pub next_first : (e : Element) (n : ℕ) → Waits s stage e n → ¬ IsBefore from l.element.id e.id
+    next_first e n w = let there = look_of_waits e n w in parts.2 (look_at limit s.history e) there.0 there.1
 
-    pub next_below : attempts_in l.status < s.limits.attempts
-    next_below = waiting_below s.limits s.history l.element.id (attempts_in l.status) reached.legal reached.limits.attempts.0 next_waits.waits
+-- what is known of the first look that waits, if there is one
+pub record IsFound (s : State) (stage : ℕ) (o : Option Look) : Type 0 where
+  pub waits : IfSome o (λ look. Waits s stage look.element (attempts_in look.status))
+  pub stage_is : IfSome o (λ look. look.element.stage ≡ stage)
+  pub few : IfSome o (λ look. look.element.id < 65536)
+  pub none : o ≡ None → (e : Element) (n : ℕ) → ¬ Waits s stage e n
+
+pub is_found : (s : State) (from stage : ℕ) → IsReached s → (o : Option Look) → next_waiting s from stage ≡ o → IsFound s stage o
+is_found s from stage reached None is = record { waits = tt; stage_is = tt; few = tt; none = λ _. idle s from stage reached.legal is }
+is_found s from stage reached (Some look) is =
+    let waits = next_waits s from stage reached.legal look is in
+    let inside : look.element.id < rows_of s.limits = births_inside s.limits s.history reached.legal look.element (is_born s.history look.element.id look.element waits.born) in
+    let parts : s.limits.parts ≤ 32 = reached.limits.parts.1 in
+    let rows : s.limits.rows ≤ 256 = reached.limits.rows.1 in
+    let spare : s.limits.spare ≤ 256 = reached.limits.spare in
+    let all : s.limits.parts * s.limits.rows ≤ 32 * s.limits.rows = mul-le-mul_right s.limits.rows parts in
+    record { waits = waits; stage_is = waits.stage_is; few = omega arith; none = λ none. absurd (cc) }
 
 -- What it leaves.
 
-fits_claim : (l : Limits) (h : List Event) (drawn c i n : ℕ) (used : PassState) → IsLegal l h → PassFits l h drawn c used → used.claimed < l.units → used.holding ≡ None
-    → PassFits l (h ++ Claim c (c * l.units + used.claimed) i n ∷ []) drawn c (record { next = used.next; left = used.left; claimed = used.claimed + 1; holding = Some (c * l.units + used.claimed) })
-fits_claim l h drawn c i n used legal fits room free =
+-- so many attempts are below the limit
+pub waits_below : (s : State) (stage : ℕ) (e : Element) (n : ℕ) → IsReached s → Waits s stage e n → n < s.limits.attempts
+waits_below s stage e n reached w = waiting_below s.limits s.history e.id n reached.legal reached.limits.attempts.0 w.waits
+
+fits_claim : (l : Limits) (h : List Event) (drawn c i n : ℕ) (used : PassState) (turns : List ℕ) → IsLegal l h → PassFits l h drawn c used → used.claimed < l.units → used.holding ≡ None
+    → PassFits l (h ++ Claim c (c * l.units + used.claimed) i n ∷ []) drawn c (record { next = used.next; left = used.left; claimed = used.claimed + 1; holding = Some (c * l.units + used.claimed); turns = turns })
+fits_claim l h drawn c i n used turns legal fits room free =
     let u = c * l.units + used.claimed in
     let e : Event = Claim c u i n in
     record {
@@ -197,81 +269,67 @@ fits_claim l h drawn c i n used legal fits room free =
 -- the looks after an event that makes nothing
 pub looks_changed : (l : Limits) (h : List Event) (e : Event) (looks : List Look) → births e ≡ [] → IsLegal l h → Step l h e → looks ≡ map (look_at l.attempts h) (born h)
     → map (look_after l.attempts e) looks ≡ map (look_at l.attempts (h ++ e ∷ [])) (born (h ++ e ∷ []))
-looks_changed l h e looks none legal step agree =
+looks_changed l h e ls none legal step agree =
     sym (looks_after l h e legal step ∙ (ap (λ xs. map (look_after l.attempts e) (map (look_at l.attempts h) (born h)) ++ map fresh_look xs) none
     ∙ (append-nil (map (look_after l.attempts e) (map (look_at l.attempts h) (born h))) ∙ ap (map (look_after l.attempts e)) (sym agree))))
 
--- a claim, and what it leaves
-module _ (l : Limits) (h : List Event) (passes : List PassState) (drawn : ℕ) (looks : List Look) (c stage : ℕ)
-    (reached : IsReached (record { limits = l; history = h; passes = passes; drawn = drawn })) (agree : looks ≡ map (look_at l.attempts h) (born h))
-    (is_pass : c < l.parts) (good : IsServerStage stage) (look : Look) (is : fold (sooner stage) None looks ≡ Some look) where
-  abbrev pub old_state : State
-  old_state = record { limits = l; history = h; passes = passes; drawn = drawn }
+-- a claim of an element that waits, and what it leaves
+module _ (s : State) (c stage : ℕ) (look : Look) (reached : IsReached s) (is_pass : c < s.limits.parts) (good : IsServerStage stage)
+    (waits : Waits s stage look.element (attempts_in look.status)) (room : (pass_at s c).claimed < s.limits.units) (free : (pass_at s c).holding ≡ None) where
+  abbrev the_claim : Event
+  the_claim = Claim c (next_unit s c) look.element.id (attempts_in look.status + 1)
 
-  abbrev pub the_work : PassState → Work
-  the_work x = record { unit = c * l.units + x.claimed; element = look.element; attempt = attempts_in look.status + 1 }
-
-  abbrev pub the_claim : PassState → Event
-  the_claim x = Claim c (c * l.units + x.claimed) look.element.id (attempts_in look.status + 1)
-
-  abbrev pub claimed_state : PassState → State
-  claimed_state x =
-      record { limits = l; history = h ++ the_claim x ∷ []; passes = slice_set passes c (record { next = x.next; left = x.left; claimed = x.claimed + 1; holding = Some (c * l.units + x.claimed) }); drawn = drawn }
-
-  abbrev pub ClaimLeft : PassState → Type 0
-  ClaimLeft x =
-      IsReached (claimed_state x) × (map (look_after l.attempts (the_claim x)) looks ≡ map (look_at l.attempts (h ++ the_claim x ∷ [])) (born (h ++ the_claim x ∷ [])))
-      × Takes old_state c stage (the_work x) (claimed_state x)
-      × (claim_of_stage old_state c stage ≡ (claimed.Work (the_work x), claimed_state x))
-
-  pub left_by_claim : (pass_at old_state c).claimed < l.units → (pass_at old_state c).holding ≡ None → ClaimLeft (pass_at old_state c)
-  left_by_claim room free =
-      let x = pass_at old_state c in
-      let fits : PassFits l h drawn c x = reached.fits c is_pass in
-      let waits = next_waits old_state looks stage reached agree look is in
+  pub may_claim : Step s.limits s.history the_claim
+  may_claim =
+      let fits : PassFits s.limits s.history s.drawn c (pass_at s c) = reached.fits c is_pass in
       let one_less : (attempts_in look.status + 1) - 1 ≡ attempts_in look.status = omega arith in
-      let step : Step l h (the_claim x) =
+      let below = waits_below s stage look.element (attempts_in look.status) reached waits in
       record {
         unit = (is_pass, omega arith, omega arith);
-        unused = fits.unclaimed (c * l.units + x.claimed) (omega arith) (omega arith);
+        unused = fits.unclaimed (next_unit s c) (omega arith) (omega arith);
         alone = λ v t own is_open. (let hand = fits.holding v t is_open own in cc);
         item = look.element;
         born = waits.born;
         stage = rw (waits.stage_is) good;
         attempt = omega arith;
         waits = rw one_less (waits.waits);
-      } in (
-        reached_moved old_state (the_claim x) c _ reached step refl is_pass (fits_claim l h drawn c look.element.id (attempts_in look.status + 1) x reached.legal fits room free) refl (λ y p. absurd (in_none p)),
-        looks_changed l h (the_claim x) looks refl reached.legal step agree,
-        record {
-          room = room;
-          next = refl;
-          waiting = rw one_less waits;
-          least = next_least old_state looks stage reached agree look is;
-          step = step;
-          after = refl;
-        },
-        claim_takes old_state c stage look room (ap (fold (sooner stage) None) (sym agree) ∙ is),
-      )
+      }
 
-  pub claim_leaves : (used : PassState) → used ≡ slice_index_or passes c used → used.claimed < l.units → (slice_index_or passes c no_pass).holding ≡ None → ClaimLeft used
-  claim_leaves used read room free =
-      let there : c < length passes = rw reached.passes is_pass in
-      let same : used ≡ slice_index_or passes c no_pass = get_or_read passes c used there read no_pass in
-      subst (λ (x : PassState). x.claimed < l.units → ClaimLeft x) (sym same) (λ room. left_by_claim room free) room
+  pub reached_claim : (turns : List ℕ) → IsReached (with_claim s c look turns)
+  reached_claim turns =
+      reached_moved s the_claim c _ reached may_claim refl is_pass (fits_claim s.limits s.history s.drawn c look.element.id (attempts_in look.status + 1) (pass_at s c) turns reached.legal (reached.fits c is_pass) room free) refl (λ y p. absurd (in_none p))
 
-  pub claim_below : attempts_in look.status < l.attempts
-  claim_below = next_below old_state looks stage reached agree look is
+  pub looks_claimed : (looks : List Look) → looks ≡ map (look_at s.limits.attempts s.history) (born s.history)
+      → map (look_after s.limits.attempts the_claim) looks ≡ map (look_at s.limits.attempts (s.history ++ the_claim ∷ [])) (born (s.history ++ the_claim ∷ []))
+  looks_claimed ls agree = looks_changed s.limits s.history the_claim ls refl reached.legal may_claim agree
 
--- a claim that finds nothing
-pub idle_leaves : (l : Limits) (h : List Event) (passes : List PassState) (drawn : ℕ) (looks : List Look) (c stage : ℕ)
-    (reached : IsReached (record { limits = l; history = h; passes = passes; drawn = drawn })) → looks ≡ map (look_at l.attempts h) (born h) → c < l.parts
-    → (used : PassState) → used ≡ slice_index_or passes c used → used.claimed < l.units → fold (sooner stage) None looks ≡ None
-    → ((slice_index_or passes c no_pass).claimed < l.units) × ((e : Element) (n : ℕ) → ¬ Waits (record { limits = l; history = h; passes = passes; drawn = drawn }) stage e n)
-    × (claim_of_stage (record { limits = l; history = h; passes = passes; drawn = drawn }) c stage ≡ (claimed.Idle, record { limits = l; history = h; passes = passes; drawn = drawn }))
-idle_leaves l h passes drawn looks c stage reached agree is_pass used read room none =
-    let there : c < length passes = rw reached.passes is_pass in
-    let same : used ≡ slice_index_or passes c no_pass = get_or_read passes c used there read no_pass in
-    let s : State = record { limits = l; history = h; passes = passes; drawn = drawn } in
-    let left = subst (λ (x : PassState). x.claimed < l.units) same room in
-    (left, idle s looks stage reached agree none, claim_idle s c stage left (ap (fold (sooner stage) None) (sym agree) ∙ none))
+-- what a claim takes, and a claim in turn
+module _ (s : State) (c stage : ℕ) (look : Look) (reached : IsReached s) (is_pass : c < s.limits.parts) (good : IsServerStage stage)
+    (room : (pass_at s c).claimed < s.limits.units) (free : (pass_at s c).holding ≡ None) where
+  one_less : (attempts_in look.status + 1) - 1 ≡ attempts_in look.status
+  one_less = omega arith
+
+  pub claim_takes : next_waiting s 0 stage ≡ Some look → Takes s c stage (work_on s c look) (with_claim s c look (pass_at s c).turns)
+  claim_takes is =
+      let waits = next_waits s 0 stage reached.legal look is in
+      record {
+        room = room;
+        next = refl;
+        waiting = rw one_less waits;
+        least = λ e n w. (let not = next_first s 0 stage reached.legal look is e n w in dite (dec_le look.element.id e.id) (λ le. le) (λ over. absurd (not (inl (omega arith, omega arith)))));
+        step = may_claim s c stage look reached is_pass good waits room free;
+        after = refl;
+      }
+
+  pub claim_next_takes : next_waiting s (turn_of s c stage) stage ≡ Some look
+      → TakesNext s c stage (work_on s c look) (with_claim s c look (slice_set (pass_at s c).turns stage (look.element.id + 1)))
+  claim_next_takes is =
+      let waits = next_waits s (turn_of s c stage) stage reached.legal look is in
+      record {
+        room = room;
+        next = refl;
+        waiting = rw one_less waits;
+        first = next_first s (turn_of s c stage) stage reached.legal look is;
+        step = may_claim s c stage look reached is_pass good waits room free;
+        after = refl;
+      }

@@ -1,5 +1,5 @@
 -- What the computed answers are, case by case.
-use Rattle.std.proofs.Common.{◌≡◌, ℕ, suc, ◌<◌, nat_le, true, Some, None, Ok, Err, List, length, refl, sym, ◌∙◌, ap}
+use Rattle.std.proofs.Common.{◌≡◌, ℕ, suc, ◌+◌, ◌<◌, nat_le, true, Some, None, Ok, Err, List, length, slice_set, refl, sym, ◌∙◌, ap}
 use Rattle.std.proofs.lemmas.Bool.{le-leb, and_from}
 use Rattle.tp_model.specs.declared.types.Look.{Look}
 use Rattle.tp_model.specs.declared.types.Status.{Status}
@@ -11,8 +11,8 @@ use Rattle.tp_model.specs.declared.event.Event.TheVariants.{Abort}
 use Rattle.tp_model.specs.Drafts.{DraftView}
 use Rattle.tp_model.specs.History.{Aborted, element_of, end_of, status_of}
 use Rattle.tp_model.specs.Steps.{IsServerStage}
-use Rattle.tp_plain.specs.OneThread.{State, pass_at, HasRoom, next_row, moved, with_pass, with_draw, ready, freed, spent}
-use Rattle.tp_plain.specs.Computed.{is_server_stage, submit_of, with_request, next_waiting, work_on, with_claim, claim_of_stage, abort_of, committed_by, commit_of, read_of}
+use Rattle.tp_plain.specs.OneThread.{State, pass_at, turn_of, HasRoom, next_row, moved, with_pass, with_draw, ready, freed, spent}
+use Rattle.tp_plain.specs.Computed.{is_server_stage, submit_of, with_request, next_waiting, work_on, with_claim, claim_of_stage, claim_next_of_stage, abort_of, committed_by, commit_of, read_of}
 use Rattle.tp_model.proofs.Bridges.{element_of-id}
 
 module _ (s : State) (c : ℕ) where
@@ -22,12 +22,20 @@ module _ (s : State) (c : ℕ) where
       let staged : is_server_stage stage ≡ true = and_from (nat_le 1 stage) (nat_le stage 14) (le-leb 1 stage good.0) (le-leb stage 14 good.1) in
       rw (staged, le-leb 1 (ready s c 1).left room) refl
 
-  pub claim_takes : (stage : ℕ) (look : Look) → (pass_at s c).claimed < s.limits.units → next_waiting s stage ≡ Some look
-      → claim_of_stage s c stage ≡ (claimed.Work (work_on s c look), with_claim s c look)
-  claim_takes stage look room is = rw (le-leb (suc (pass_at s c).claimed) s.limits.units room, is) refl
+  pub claim_works : (stage : ℕ) (look : Look) → (pass_at s c).claimed < s.limits.units → next_waiting s 0 stage ≡ Some look
+      → claim_of_stage s c stage ≡ (claimed.Work (work_on s c look), with_claim s c look (pass_at s c).turns)
+  claim_works stage look room is = rw (le-leb (suc (pass_at s c).claimed) s.limits.units room, is) refl
 
-  pub claim_idle : (stage : ℕ) → (pass_at s c).claimed < s.limits.units → next_waiting s stage ≡ None → claim_of_stage s c stage ≡ (claimed.Idle, s)
+  pub claim_idle : (stage : ℕ) → (pass_at s c).claimed < s.limits.units → next_waiting s 0 stage ≡ None → claim_of_stage s c stage ≡ (claimed.Idle, s)
   claim_idle stage room none = rw (le-leb (suc (pass_at s c).claimed) s.limits.units room, none) refl
+
+  pub claim_next_works : (stage : ℕ) (look : Look) → (pass_at s c).claimed < s.limits.units → next_waiting s (turn_of s c stage) stage ≡ Some look
+      → claim_next_of_stage s c stage ≡ (claimed.Work (work_on s c look), with_claim s c look (slice_set (pass_at s c).turns stage (look.element.id + 1)))
+  claim_next_works stage look room is = rw (le-leb (suc (pass_at s c).claimed) s.limits.units room, is) refl
+
+  pub claim_next_idle : (stage : ℕ) → (pass_at s c).claimed < s.limits.units → next_waiting s (turn_of s c stage) stage ≡ None
+      → claim_next_of_stage s c stage ≡ (claimed.Idle, s)
+  claim_next_idle stage room none = rw (le-leb (suc (pass_at s c).claimed) s.limits.units room, none) refl
 
   module _ (u : ℕ) where
     pub abort_goes : (pass_at s c).holding ≡ Some u → end_of s.history u ≡ None

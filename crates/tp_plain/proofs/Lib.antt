@@ -3,11 +3,14 @@ pub mod Rooms
 pub mod PassStates
 pub mod PlainLemmas
 pub mod Claims
+pub mod Taken
+pub mod Given
 pub mod UnitEnds
 pub mod Commits
 pub mod RunProofs
 pub mod Kills
 pub mod Collects
 pub mod Requeues
+pub mod Walks
 pub mod Allowed
 pub mod Cancels

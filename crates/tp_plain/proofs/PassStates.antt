@@ -130,7 +130,7 @@ module _ (s : State) (c k : ℕ) (reached : IsReached s) (is_pass : c < s.limits
       old = pass_at s c
 
       next_block : PassState
-      next_block = record { next = block_first s.limits s.drawn; left = BLOCK_ROWS; claimed = old.claimed; holding = old.holding }
+      next_block = record old { next = block_first s.limits s.drawn; left = BLOCK_ROWS }
 
       drawn_state : State
       drawn_state = record { limits = s.limits; history = s.history; passes = slice_set s.passes c next_block; drawn = s.drawn + 1 }
@@ -201,7 +201,7 @@ module _ (s : State) (c k : ℕ) (reached : IsReached s) (is_pass : c < s.limits
               ]
 
       go : (b : Bool) → draws s c k ≡ b
-          → IsReached (record { limits = s.limits; history = s.history; passes = slice_set s.passes c (record { next = cond b (block_first s.limits s.drawn) old.next; left = cond b BLOCK_ROWS old.left; claimed = old.claimed; holding = old.holding }); drawn = cond b (s.drawn + 1) s.drawn })
+          → IsReached (record { limits = s.limits; history = s.history; passes = slice_set s.passes c (record { next = cond b (block_first s.limits s.drawn) old.next; left = cond b BLOCK_ROWS old.left; claimed = old.claimed; holding = old.holding; turns = old.turns }); drawn = cond b (s.drawn + 1) s.drawn })
       go true is = by_draw (leb-true (suc s.drawn) s.limits.spare (and_parts (nat_lt old.left k) (nat_lt s.drawn s.limits.spare) is).1)
       go false is = rw (set-get_or s.passes c no_pass) reached
 

@@ -15,7 +15,7 @@ use Rattle.tp_model.specs.declared.event.Event.{Event}
 use Rattle.tp_model.specs.declared.event.Event.TheVariants.{Claim, Abort, Kill, Requeue}
 use Rattle.tp_model.specs.Families.{IsRequest, IsSettledFamily, WorksOn}
 use Rattle.tp_model.specs.Steps.{Step, IsLegal}
-use Rattle.tp_plain.specs.OneThread.{State, start, Call, CallSubmit, CallClaim, CallCommit, CallAbort, CallKill, CallCancel, CallRelease, CallCollect, CallRequeue, CallRead, extended, Kills, KillsEach, Answers, Ends, GivesUp, Claims, Run, RunsAreLegal, RunsGrow}
+use Rattle.tp_plain.specs.OneThread.{State, start, Call, CallSubmit, CallClaim, CallClaimId, CallClaimNext, CallCommit, CallAbort, CallKill, CallCancel, CallRelease, CallCollect, CallRequeue, CallRead, extended, Kills, KillsEach, Answers, Ends, GivesUp, Claims, ClaimsNext, Run, RunsAreLegal, RunsGrow}
 use Rattle.tp_plain.specs.Cancelled.{CancelledForGood}
 use Rattle.tp_model.proofs.Bridges.{found_later}
 use Rattle.tp_model.proofs.Families.{settled_family_stays, never_worked_on}
@@ -55,6 +55,11 @@ goes_claim : (s : State) (c stage : ℕ) (a : Claimed) (t : State) → Claims s 
 goes_claim s c stage (claimed.Work w) t is = moves s t _ (Claim c w.unit w.element.id w.attempt) c _ is.step is.after
 goes_claim s c stage claimed.Idle t is = stays s t is.0
 goes_claim s c stage claimed.NoUnit t is = stays s t is.0
+
+goes_claim_next : (s : State) (c stage : ℕ) (a : Claimed) (t : State) → ClaimsNext s c stage a t → Goes s t
+goes_claim_next s c stage (claimed.Work w) t is = moves s t _ (Claim c w.unit w.element.id w.attempt) c _ is.step is.after
+goes_claim_next s c stage claimed.Idle t is = stays s t is.0
+goes_claim_next s c stage claimed.NoUnit t is = stays s t is.0
 
 goes_commit : (s : State) (c u : ℕ) (drafts : List DraftView) (a : Outcome) (t : State) → Ends s c u drafts a t → Goes s t
 goes_commit s c u drafts (outcome.Committed id count) t is = moves s t _ _ c _ is.step is.after
@@ -96,6 +101,10 @@ goes s (CallSubmit c stage body (Ok id)) t is = moves s t _ _ c _ is.step is.aft
 goes s (CallSubmit c stage body (Err why)) t is = stays s t is.1
 goes s (CallClaim c stage (Ok a)) t is = goes_claim s c stage a t is
 goes s (CallClaim c stage (Err why)) t is = absurd is
+goes s (CallClaimId c i (Ok w)) t is = moves s t _ (Claim c w.unit w.element.id w.attempt) c _ is.step is.after
+goes s (CallClaimId c i (Err why)) t is = stays s t is.1
+goes s (CallClaimNext c stage (Ok a)) t is = goes_claim_next s c stage a t is
+goes s (CallClaimNext c stage (Err why)) t is = absurd is
 goes s (CallCommit c drafts (Ok a)) t is = goes_commit s c is.0 drafts a t is.2
 goes s (CallCommit c drafts (Err why)) t is = stays s t is.2.1
 goes s (CallAbort c a) t is = goes_abort s c is.0 a t is.2

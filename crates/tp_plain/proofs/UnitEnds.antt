@@ -150,7 +150,7 @@ fits_abort l h drawn c u used fits hand =
 
 -- the hand is emptied, where its unit was aborted before
 fits_already : (l : Limits) (h : List Event) (drawn c u next left : ℕ) (used : PassState) → PassFits l h drawn c used → used.holding ≡ Some u → end_of h u ≡ Some Aborted → RunFits l h drawn c next left
-    → PassFits l h drawn c (record { next = next; left = left; claimed = used.claimed; holding = None })
+    → PassFits l h drawn c (record used { next = next; left = left; holding = None })
 fits_already l h drawn c u next left used fits hand gone run =
     record {
       run = run;

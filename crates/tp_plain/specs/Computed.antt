@@ -1,7 +1,11 @@
 -- The answers of a manager of one thread, computed: what each call answers, and the state that it leaves.
-use Rattle.std.specs.Prelude.{◌≡◌, ℕ, ◌+◌, ◌<◌, ◌≤◌, nat_le, nat_lt, ◌&&◌, ◌==◌, Bool, false, if◌then◌else◌, Option, Some, None, Result, Ok, Err, List, length, filter, is_some, unwrap_or}
-use Rattle.std.specs.List.{fold, range_with_len, All}
-use Rattle.tp_model.specs.Steps.{rows_of, IsServerStage, IsBody}
+use Rattle.std.specs.Prelude.{◌≡◌, ℕ, ◌+◌, ◌<◌, ◌≤◌, nat_le, nat_lt, ◌&&◌, ◌==◌, Bool, false, if◌then◌else◌, Option, Some, None, Result, Ok, Err, List, length, filter, is_some, slice_set, unwrap_or}
+use Rattle.std.specs.List.{fold, All}
+use Rattle.std.specs.Option.{option_and_then}
+use Rattle.std.specs.Result.{result_ok}
+use Rattle.tp_model.specs.Steps.{IsServerStage, IsBody}
+use Rattle.tp_plain.specs.Listings.{next_member_of, next_reply_of}
+use Rattle.tp_plain.specs.Walks.{walk_of}
 use Rattle.tp_plain.specs.Reached.{IsReached}
 use Rattle.tp_model.specs.declared.types.Element.{Element}
 use Rattle.tp_model.specs.declared.types.Look.{Look}
@@ -26,7 +30,7 @@ use Rattle.tp_model.specs.History.{element_of, UnitEnd, Committed, Aborted, end_
 use Rattle.tp_model.specs.declared.types.TheConstants.{MOST_ROUNDS}
 use Rattle.tp_plain.specs.Looks.{look_at, sooner, attempts_in, is_unsettled_of, looks_after_all}
 use Rattle.tp_model.specs.Births.{IsWhole, request}
-use Rattle.tp_plain.specs.OneThread.{Answers, CallSubmit, CallClaim, CallCommit, CallAbort, CallKill, CallCancel, CallRelease, CallCollect, CallRequeue, CallRead, State, pass_at, next_row, next_unit, moved, with_pass, with_draw, ready, used_up, extended, freed, spent, made_of}
+use Rattle.tp_plain.specs.OneThread.{Answers, CallSubmit, CallClaim, CallClaimId, CallClaimNext, CallCommit, CallAbort, CallKill, CallCancel, CallRelease, CallCollect, CallRequeue, CallRead, State, pass_at, next_row, next_unit, taken, turn_of, moved, with_pass, with_draw, ready, used_up, extended, freed, spent, made_of}
 
 -- whether clients may submit to this stage
 abbrev pub is_server_stage : ℕ → Bool
@@ -47,28 +51,61 @@ submit_of s c stage body =
     then (if has_room s c 1 then (Ok (next_row s c 1), with_request s c stage body) else (Err refusal.Full, s))
     else (Err refusal.BadStage, s)
 
--- of the waiting elements of a stage, the look at the one with the least id
-abbrev pub next_waiting : State → ℕ → Option Look
-next_waiting s stage = fold (sooner stage) None (looks_after_all s.limits.attempts s.history)
+-- of the waiting elements of a stage, the look at the first from an id on: from 0 on at the one with the least id
+abbrev pub next_waiting : State → ℕ → ℕ → Option Look
+next_waiting s from stage = fold (sooner from stage) None (looks_after_all s.limits.attempts s.history)
 
 -- the work that a claim of a waiting element hands out
 abbrev pub work_on : State → ℕ → Look → Work
 work_on s c look = record { unit = next_unit s c; element = look.element; attempt = attempts_in look.status + 1 }
 
--- the state after a claim of a waiting element
-abbrev pub with_claim : State → ℕ → Look → State
-with_claim s c look =
-    let used = pass_at s c in
-    moved s (Claim c (next_unit s c) look.element.id (attempts_in look.status + 1)) c (record { next = used.next; left = used.left; claimed = used.claimed + 1; holding = Some (next_unit s c) })
+-- the state after a claim of a waiting element, with these places for the pass's claims in turn
+abbrev pub with_claim : State → ℕ → Look → List ℕ → State
+with_claim s c look turns =
+    moved s (Claim c (next_unit s c) look.element.id (attempts_in look.status + 1)) c (taken s c (work_on s c look) turns)
 
 -- a claim of what was found to wait
 abbrev pub claim_found : State → ℕ → Option Look → Claimed × State
 claim_found s c None = (claimed.Idle, s)
-claim_found s c (Some look) = (claimed.Work (work_on s c look), with_claim s c look)
+claim_found s c (Some look) = (claimed.Work (work_on s c look), with_claim s c look (pass_at s c).turns)
 
 -- a claim
 abbrev pub claim_of_stage : State → ℕ → ℕ → Claimed × State
-claim_of_stage s c stage = if nat_lt (pass_at s c).claimed s.limits.units then claim_found s c (next_waiting s stage) else (claimed.NoUnit, s)
+claim_of_stage s c stage = if nat_lt (pass_at s c).claimed s.limits.units then claim_found s c (next_waiting s 0 stage) else (claimed.NoUnit, s)
+
+-- a claim in turn of what was found to wait: the next one of the stage goes on behind it
+abbrev pub claim_next_found : State → ℕ → ℕ → Option Look → Claimed × State
+claim_next_found s c stage None = (claimed.Idle, s)
+claim_next_found s c stage (Some look) = (claimed.Work (work_on s c look), with_claim s c look (slice_set (pass_at s c).turns stage (look.element.id + 1)))
+
+-- a claim in turn
+abbrev pub claim_next_of_stage : State → ℕ → ℕ → Claimed × State
+claim_next_of_stage s c stage =
+    if nat_lt (pass_at s c).claimed s.limits.units
+    then claim_next_found s c stage (next_waiting s (turn_of s c stage) stage)
+    else (claimed.NoUnit, s)
+
+-- a claim of a given element that stands so
+abbrev pub claim_id_at : State → ℕ → Element → Status → Result Work Refusal × State
+claim_id_at s c e (Waiting n) =
+    let look : Look = record { element = e; status = Waiting n } in
+    (Ok (work_on s c look), with_claim s c look (pass_at s c).turns)
+claim_id_at s c e other = (Err refusal.NotWaiting, s)
+
+-- a claim of what was found under an id
+abbrev pub claim_id_found : State → ℕ → ℕ → Option Element → Result Work Refusal × State
+claim_id_found s c i None = (Err refusal.NotThere, s)
+claim_id_found s c i (Some e) =
+    if e.stage == 15
+    then (Err refusal.BadStage, s)
+    else claim_id_at s c e (status_of s.limits.attempts s.history i)
+
+-- a claim of a given element
+abbrev pub claim_id_of : State → ℕ → ℕ → Result Work Refusal × State
+claim_id_of s c i =
+    if nat_lt (pass_at s c).claimed s.limits.units
+    then claim_id_found s c i (element_of s.history i)
+    else (Err refusal.NoUnit, s)
 
 -- the unit in the hand of pass c
 abbrev pub unit_in_hand : State → ℕ → ℕ
@@ -111,6 +148,15 @@ read_found s (Some e) = Ok (look_at s.limits.attempts s.history e)
 -- a read
 abbrev pub read_of : State → ℕ → Result Look Refusal
 read_of s id = read_found s (element_of s.history id)
+
+-- how many further rounds an element was given that was found
+abbrev pub rounds_found : State → ℕ → Option Element → Result ℕ Refusal
+rounds_found s id None = Err refusal.NotThere
+rounds_found s id (Some e) = Ok (rounds s.history id)
+
+-- the question after an element's rounds
+abbrev pub rounds_of : State → ℕ → Result ℕ Refusal
+rounds_of s id = rounds_found s id (element_of s.history id)
 
 -- a kill of an element that stands so
 abbrev pub kill_at : State → ℕ → ℕ → Status → Result KilledAnswer Refusal × State
@@ -159,6 +205,19 @@ collect_found s c i (Some e) =
 abbrev pub collect_of : State → ℕ → ℕ → Result Element Refusal × State
 collect_of s c i = collect_found s c i (element_of s.history i)
 
+-- a collect of the next reply, if one was found
+abbrev pub collect_next_found : State → ℕ → Option ℕ → Option Element × State
+collect_next_found s c None = (None, s)
+collect_next_found s c (Some i) = (result_ok (collect_of s c i).0, (collect_of s c i).1)
+
+-- a collect of the next reply to a request
+abbrev pub collect_next_of : State → ℕ → ℕ → Option Element × State
+collect_next_of s c root = collect_next_found s c (next_reply_of s root 0)
+
+-- a read of the next element of a request
+abbrev pub family_of : State → ℕ → ℕ → Option Look
+family_of s root from = option_and_then (λ i. result_ok (read_of s i)) (next_member_of s root from)
+
 -- a requeue of an element that stands so, and has had so many rounds
 abbrev pub requeue_at : State → ℕ → ℕ → ℕ → Status → Result ℕ Refusal × State
 requeue_at s c i k (Waiting n) = (Err refusal.NotParked, s)
@@ -185,9 +244,9 @@ unsettled_found root st (Some e) = is_unsettled_of root st e
 abbrev pub is_unsettled : State → ℕ → ℕ → Bool
 is_unsettled s root i = unsettled_found root (status_of s.limits.attempts s.history i) (element_of s.history i)
 
--- the ids of all those, ascending
+-- the ids of all those, in the order of a walk through the family
 abbrev pub unsettled_ids : State → ℕ → List ℕ
-unsettled_ids s root = filter (is_unsettled s root) (range_with_len 0 (rows_of s.limits))
+unsettled_ids s root = filter (is_unsettled s root) (walk_of s root)
 
 -- the state after kills by pass c of the elements with these ids, one after another
 abbrev pub with_kills : State → ℕ → List ℕ → State
@@ -217,6 +276,8 @@ IsComputed old new (Err refusal.AlreadyKilled) computed = (computed.0 ≡ Err re
 IsComputed old new (Err refusal.Full) computed = (computed.0 ≡ Err refusal.Full) × (new ≡ computed.1)
 IsComputed old new (Err refusal.NotParked) computed = (computed.0 ≡ Err refusal.NotParked) × (new ≡ computed.1)
 IsComputed old new (Err refusal.NotHeld) computed = (computed.0 ≡ Err refusal.NotHeld) × (new ≡ computed.1)
+IsComputed old new (Err refusal.NotWaiting) computed = (computed.0 ≡ Err refusal.NotWaiting) × (new ≡ computed.1)
+IsComputed old new (Err refusal.NoUnit) computed = (computed.0 ≡ Err refusal.NoUnit) × (new ≡ computed.1)
 IsComputed old new (Err refusal.NoRound) computed = (computed.0 ≡ Err refusal.NoRound) × (new ≡ computed.1)
 
 -- the same for a call whose computed answer is never a refusal
@@ -228,6 +289,10 @@ IsComputedOk old new (Err why) computed = (why ≡ refusal.NoMemory) × (new ≡
 pub record AreAllowed (s : State) (c : ℕ) : Type 0 where
   pub submit : (stage : ℕ) (body : List ℕ) → IsBody body → Answers s (CallSubmit c stage body (submit_of s c stage body).0) (submit_of s c stage body).1
   pub claim : (stage : ℕ) → IsServerStage stage → (pass_at s c).holding ≡ None → Answers s (CallClaim c stage (Ok (claim_of_stage s c stage).0)) (claim_of_stage s c stage).1
+  pub claim_next : (stage : ℕ) → IsServerStage stage → (pass_at s c).holding ≡ None
+      → Answers s (CallClaimNext c stage (Ok (claim_next_of_stage s c stage).0)) (claim_next_of_stage s c stage).1
+  pub claim_id : (i : ℕ) → (pass_at s c).holding ≡ None
+      → Answers s (CallClaimId c i (claim_id_of s c i).0) (claim_id_of s c i).1
   pub commit : (u : ℕ) (drafts : List DraftView) → (pass_at s c).holding ≡ Some u → length drafts ≤ 4 → All IsWhole drafts
       → Answers s (CallCommit c drafts (Ok (commit_of s c drafts).0)) (commit_of s c drafts).1
   pub abort : (u : ℕ) → (pass_at s c).holding ≡ Some u → Answers s (CallAbort c (abort_of s c).0) (abort_of s c).1

@@ -1,5 +1,5 @@
 -- The looks of a manager of one thread: how each born element stands.
-use Rattle.std.specs.Prelude.{◌≡◌, ◌<◌, length, slice_index_or, ℕ, ◌==◌, nat_lt, Bool, true, false, not, ◌&&◌, if◌then◌else◌, Option, Some, None, List, map}
+use Rattle.std.specs.Prelude.{◌≡◌, ◌<◌, length, slice_index_or, ℕ, ◌==◌, nat_lt, Bool, true, false, not, ◌&&◌, ◌||◌, if◌then◌else◌, Option, Some, None, List, map}
 use Rattle.tp_model.specs.declared.types.Element.{Element}
 use Rattle.tp_model.specs.declared.types.Look.{Look}
 use Rattle.tp_model.specs.declared.types.Status.{Status}
@@ -26,10 +26,15 @@ fresh_look x = record { element = x; status = Waiting 0 }
 abbrev pub waits_in : ℕ → Look → Bool
 waits_in stage l = (l.element.stage == stage) && is_waiting l.status
 
--- of a look found before and another one, the one to be claimed first
-abbrev pub sooner : ℕ → Option Look → Look → Option Look
-sooner stage None l = if waits_in stage l then Some l else None
-sooner stage (Some b) l = if waits_in stage l && nat_lt l.element.id b.element.id then Some l else Some b
+-- whether id i comes before id j where the ids are a circle, which begins at `from`
+abbrev pub comes_before : ℕ → ℕ → ℕ → Bool
+comes_before from i j = if nat_lt i from then nat_lt j from && nat_lt i j else nat_lt j from || nat_lt i j
+
+-- of a look found before and another one, the one to be claimed first from there on; from 0 on it is the one with
+-- the lesser id
+abbrev pub sooner : ℕ → ℕ → Option Look → Look → Option Look
+sooner from stage None l = if waits_in stage l then Some l else None
+sooner from stage (Some b) l = if waits_in stage l && comes_before from l.element.id b.element.id then Some l else Some b
 
 -- how many attempts an element that waits has had
 abbrev pub attempts_in : Status → ℕ
@@ -46,6 +51,14 @@ is_held_by u (Held v n) = u == v
 is_held_by u (Consumed v) = false
 is_held_by u (Parked n) = false
 is_held_by u Killed = false
+
+-- whether a look shows an element that unit u consumed
+abbrev pub is_consumed_by : ℕ → Status → Bool
+is_consumed_by u (Waiting n) = false
+is_consumed_by u (Held v n) = false
+is_consumed_by u (Consumed v) = u == v
+is_consumed_by u (Parked n) = false
+is_consumed_by u Killed = false
 
 -- whether an element with this status is consumed or killed
 abbrev pub is_settled : Status → Bool

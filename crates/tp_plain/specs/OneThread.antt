@@ -1,5 +1,5 @@
 -- Runs of a manager of one thread: which answers its calls may give, and what state they leave.
-use Rattle.std.specs.Prelude.{◌≡◌, ◌≢◌, ◌⊎◌, ◌↔◌, ℕ, zero, suc, ◌+◌, ◌-◌, ◌*◌, ◌<◌, ◌≤◌, ◌==◌, nat_lt, ◌&&◌, Bool, if◌then◌else◌, Option, Some, None, Result, List, [], ◌∷◌, ◌++◌, length, map, slice_index_or, slice_set, AllPairs, MatchResult}
+use Rattle.std.specs.Prelude.{◌≡◌, ◌≢◌, ◌⊎◌, ◌↔◌, ℕ, zero, suc, ◌+◌, ◌-◌, ◌*◌, ◌<◌, ◌≤◌, ◌==◌, nat_lt, ◌&&◌, Bool, if◌then◌else◌, Option, Some, None, Result, List, [], ◌∷◌, ◌++◌, length, map, replicate, slice_index, slice_index_or, slice_set, MatchResult}
 use Rattle.std.specs.List.{range_with_len}
 use Rattle.std.specs.Option.{option_and_then, option_map_or}
 use mathlib.Core.List.{IsPrefix}
@@ -25,6 +25,7 @@ use Rattle.tp_model.specs.declared.event.Event.{Event}
 use Rattle.tp_model.specs.declared.event.Event.TheVariants.{Enqueue, Claim, Commit, Abort, Kill, Requeue}
 use Rattle.tp_model.specs.History.{In, element_of, status_of, rounds, IsSettled, UnitClaim, claim_of, Aborted, end_of}
 use Rattle.tp_model.specs.Families.{IsRequest, IsSettledFamily}
+use Rattle.tp_model.specs.Orders.{AreSomeOf, IsWalk}
 use Rattle.tp_model.specs.Births.{request, outputs}
 use Rattle.tp_model.specs.Steps.{IsParked, IsServerStage, Step, IsLegal, block_first}
 use Rattle.tp_model.specs.declared.types.TheConstants.{BLOCK_ROWS, MOST_ROUNDS}
@@ -39,11 +40,11 @@ pub record State : Type 0 where
 
 -- no pass
 abbrev pub no_pass : PassState
-no_pass = record { next = 0; left = 0; claimed = 0; holding = None }
+no_pass = record { next = 0; left = 0; claimed = 0; holding = None; turns = replicate 16 0 }
 
 -- pass c, which has done nothing: so many rows are left to it, all those of its part
 abbrev pub fresh_pass : ℕ → ℕ → PassState
-fresh_pass rows c = record { next = c * rows; left = rows; claimed = 0; holding = None }
+fresh_pass rows c = record { next = c * rows; left = rows; claimed = 0; holding = None; turns = replicate 16 0 }
 
 -- a manager to which nothing happened
 abbrev pub start : Limits → State
@@ -57,6 +58,10 @@ pass_at s c = slice_index_or s.passes c no_pass
 abbrev pub next_unit : State → ℕ → ℕ
 next_unit s c = c * s.limits.units + (pass_at s c).claimed
 
+-- the row at which the next claim in turn of a stage by pass c begins
+abbrev pub turn_of : State → ℕ → ℕ → ℕ
+turn_of s c stage = slice_index (pass_at s c).turns stage
+
 -- what a pass holds after a claim with this answer
 abbrev pub held_after : Claimed → Option ℕ
 held_after (claimed.Work w) = Some w.unit
@@ -67,6 +72,8 @@ held_after claimed.NoUnit = None
 pub data Call : Type 0 where
   CallSubmit : ℕ → ℕ → List ℕ → Result ℕ Refusal → Call
   CallClaim : ℕ → ℕ → Result Claimed Refusal → Call
+  CallClaimNext : ℕ → ℕ → Result Claimed Refusal → Call
+  CallClaimId : ℕ → ℕ → Result Work Refusal → Call
   CallCommit : ℕ → List DraftView → Result Outcome Refusal → Call
   CallAbort : ℕ → Ended → Call
   CallKill : ℕ → ℕ → Result KilledAnswer Refusal → Call
@@ -97,6 +104,7 @@ ready s c k =
       left = if draws s c k then BLOCK_ROWS else (pass_at s c).left;
       claimed = (pass_at s c).claimed;
       holding = (pass_at s c).holding;
+      turns = (pass_at s c).turns;
     }
 
 -- the id of the first of k rows that pass c uses next
@@ -117,7 +125,7 @@ IsFull s c k = ((pass_at s c).left < k) × (s.drawn ≡ s.limits.spare)
 
 -- a pass with k rows more used
 abbrev pub used_up : PassState → ℕ → PassState
-used_up used k = record { next = used.next + k; left = used.left - k; claimed = used.claimed; holding = used.holding }
+used_up used k = record used { next = used.next + k; left = used.left - k }
 
 -- a submit went through: the pass's next row is a new request
 pub record Submits (s : State) (c stage : ℕ) (body : List ℕ) (id : ℕ) (t : State) : Type 0 where
@@ -139,6 +147,10 @@ pub record Waits (s : State) (stage : ℕ) (e : Element) (attempts : ℕ) : Type
   pub stage_is : e.stage ≡ stage
   pub waits : status_of s.limits.attempts s.history e.id ≡ Waiting attempts
 
+-- pass c after it took the work, with these places for its claims in turn
+abbrev pub taken : State → ℕ → Work → List ℕ → PassState
+taken s c w turns = record (pass_at s c) { claimed = (pass_at s c).claimed + 1; holding = Some w.unit; turns = turns }
+
 -- a claim took work: of the waiting elements of the stage the one with the least id, by the pass's next unit
 pub record Takes (s : State) (c stage : ℕ) (w : Work) (t : State) : Type 0 where
   pub room : (pass_at s c).claimed < s.limits.units
@@ -146,7 +158,21 @@ pub record Takes (s : State) (c stage : ℕ) (w : Work) (t : State) : Type 0 whe
   pub waiting : Waits s stage w.element (w.attempt - 1)
   pub least : (e : Element) (n : ℕ) → Waits s stage e n → w.element.id ≤ e.id
   pub step : Step s.limits s.history (Claim c w.unit w.element.id w.attempt)
-  pub after : t ≡ moved s (Claim c w.unit w.element.id w.attempt) c (record { next = (pass_at s c).next; left = (pass_at s c).left; claimed = (pass_at s c).claimed + 1; holding = Some w.unit })
+  pub after : t ≡ moved s (Claim c w.unit w.element.id w.attempt) c (taken s c w (pass_at s c).turns)
+
+-- where the ids are a circle, which begins at `from`, i comes before this id
+abbrev pub IsBefore : ℕ → ℕ → ℕ → Type 0
+IsBefore from id i = ((from ≤ i) × (i < id)) ⊎ ((id < from) × ((from ≤ i) ⊎ (i < id)))
+
+-- a claim in turn took work: of the waiting elements of the stage the first behind the one that the pass took last
+-- by such a claim, where behind the last id comes the first; and the next one begins behind it
+pub record TakesNext (s : State) (c stage : ℕ) (w : Work) (t : State) : Type 0 where
+  pub room : (pass_at s c).claimed < s.limits.units
+  pub next : w.unit ≡ next_unit s c
+  pub waiting : Waits s stage w.element (w.attempt - 1)
+  pub first : (e : Element) (n : ℕ) → Waits s stage e n → ¬ IsBefore (turn_of s c stage) w.element.id e.id
+  pub step : Step s.limits s.history (Claim c w.unit w.element.id w.attempt)
+  pub after : t ≡ moved s (Claim c w.unit w.element.id w.attempt) c (taken s c w (slice_set (pass_at s c).turns stage (w.element.id + 1)))
 
 -- a claim takes work, or is idle where nothing waits, or finds the pass's units used up
 abbrev pub Claims : State → ℕ → ℕ → Claimed → State → Type 0
@@ -154,9 +180,37 @@ Claims s c stage (claimed.Work w) t = Takes s c stage w t
 Claims s c stage claimed.Idle t = (t ≡ s) × ((pass_at s c).claimed < s.limits.units) × ((e : Element) (n : ℕ) → ¬ Waits s stage e n)
 Claims s c stage claimed.NoUnit t = (t ≡ s) × (s.limits.units ≤ (pass_at s c).claimed)
 
+-- a claim in turn does so too
+abbrev pub ClaimsNext : State → ℕ → ℕ → Claimed → State → Type 0
+ClaimsNext s c stage (claimed.Work w) t = TakesNext s c stage w t
+ClaimsNext s c stage claimed.Idle t = Claims s c stage claimed.Idle t
+ClaimsNext s c stage claimed.NoUnit t = Claims s c stage claimed.NoUnit t
+
+-- a claim of a given element took it, by the pass's next unit
+pub record TakesId (s : State) (c i : ℕ) (w : Work) (t : State) : Type 0 where
+  pub room : (pass_at s c).claimed < s.limits.units
+  pub next : w.unit ≡ next_unit s c
+  pub id_is : w.element.id ≡ i
+  pub server : IsServerStage w.element.stage
+  pub waiting : Waits s w.element.stage w.element (w.attempt - 1)
+  pub step : Step s.limits s.history (Claim c w.unit w.element.id w.attempt)
+  pub after : t ≡ moved s (Claim c w.unit w.element.id w.attempt) c (taken s c w (pass_at s c).turns)
+
+-- it is refused where the pass's units are used up, then where no such element is born, where it is a reply, and
+-- where it doesn't wait
+abbrev pub RefusesClaimId : State → ℕ → ℕ → Refusal → Type 0
+RefusesClaimId s c i refusal.NoUnit = s.limits.units ≤ (pass_at s c).claimed
+RefusesClaimId s c i refusal.NotThere = ((pass_at s c).claimed < s.limits.units) × (element_of s.history i ≡ None)
+RefusesClaimId s c i refusal.BadStage = ((pass_at s c).claimed < s.limits.units)
+    × (e : Element) × (element_of s.history i ≡ Some e) × (e.stage ≡ 15)
+RefusesClaimId s c i refusal.NotWaiting = ((pass_at s c).claimed < s.limits.units)
+    × (e : Element) × (element_of s.history i ≡ Some e) × (e.stage ≢ 15)
+    × ((n : ℕ) → status_of s.limits.attempts s.history i ≢ Waiting n)
+RefusesClaimId s c i other = ⊥
+
 -- the pass without a unit in hand
 abbrev pub freed : PassState → PassState
-freed used = record { next = used.next; left = used.left; claimed = used.claimed; holding = None }
+freed used = record used { holding = None }
 
 -- and with k rows more used
 abbrev pub spent : PassState → ℕ → PassState
@@ -247,11 +301,13 @@ KillsEach s c [] t = t ≡ s
 KillsEach s c (i ∷ ids) t = (aborts : ℕ) × (mid : State) × Kills s c i aborts mid × KillsEach mid c ids t
 
 -- a cancel by pass c went through: root is a client's element; what was unsettled of its family, and no
--- reply, is killed, in ascending order of ids; and so the family is settled
+-- reply, is killed, in the order of a walk through the family; and so the family is settled
 pub record Cancels (s : State) (c root killed : ℕ) (t : State) : Type 0 where
   pub request : IsRequest s.history root
   pub ids : List ℕ
-  pub ascend : AllPairs (λ i j. i < j) ids
+  pub walk : List ℕ
+  pub in_order : IsWalk s.limits.attempts s.history root [] walk
+  pub some_of : AreSomeOf ids walk
   pub exactly : (i : ℕ) → In i ids ↔ IsUnsettled s root i
   pub counted : killed ≡ length ids
   pub kills : KillsEach s c ids t
@@ -298,6 +354,8 @@ RefusesRequeue s i other = ⊥
 abbrev pub Answers : State → Call → State → Type 0
 Answers s (CallSubmit c stage body r) t = MatchResult r (λ id. Submits s c stage body id t) (λ why. RefusesSubmit s c stage why × (t ≡ s))
 Answers s (CallClaim c stage r) t = MatchResult r (λ a. Claims s c stage a t) (λ why. ⊥)
+Answers s (CallClaimId c i r) t = MatchResult r (λ w. TakesId s c i w t) (λ why. RefusesClaimId s c i why × (t ≡ s))
+Answers s (CallClaimNext c stage r) t = MatchResult r (λ a. ClaimsNext s c stage a t) (λ why. ⊥)
 Answers s (CallCommit c drafts r) t = (u : ℕ) × ((pass_at s c).holding ≡ Some u) × MatchResult r (λ a. Ends s c u drafts a t) (λ why. RefusesCommit s c u drafts why × (t ≡ s))
 Answers s (CallAbort c a) t = (u : ℕ) × ((pass_at s c).holding ≡ Some u) × GivesUp s c u a t
 Answers s (CallKill c i r) t = MatchResult r (λ k. Kills s c i k.units_aborted t) (λ why. RefusesKill s i why × (t ≡ s))

@@ -9,8 +9,9 @@ use tp_model::types::{Cancelled, Refusal};
 
 impl Plain {
     /// Cancels the request of a client whose element has this id: kills each element of its family that is no
-    /// reply, and neither consumed nor killed, in ascending order of ids. A unit that holds one is aborted first.
-    /// From then on no element of the family is claimed or committed, and none is born. Replies are left alone.
+    /// reply, and neither consumed nor killed, in the order of a walk through the family. A unit that holds one is
+    /// aborted first. From then on no element of the family is claimed or committed, and none is born. Replies are
+    /// left alone.
     ///
     /// `NotThere` where no client's element with this id is born.
     pub fn cancel(&mut self, caller: u16, root: u32) -> Result<Cancelled, Refusal>
@@ -43,10 +44,11 @@ impl Plain {
         ensures passes { self.new.passes ≡ self.old.passes }
     {
         self.show_reached();
+        let ids = self.walk(root);
         let mut killed = 0;
-        for id in 0..self.capacity() {
-            if self.is_left(root, id) {
-                let _killed = self.kill(caller, id);
+        for id in ids.iter() {
+            if self.is_left(root, *id) {
+                let _killed = self.kill(caller, *id);
                 killed += 1;
             }
         }

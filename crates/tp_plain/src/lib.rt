@@ -2,7 +2,9 @@
 #![tactic(auto)]
 
 pub mod cancelling;
+mod claiming;
 mod collecting;
+mod following;
 pub mod history;
 pub mod laws;
 mod looks;
@@ -11,3 +13,5 @@ pub mod plain;
 mod releasing;
 mod requeueing;
 mod room;
+mod taking;
+mod walking;

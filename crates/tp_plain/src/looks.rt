@@ -1,8 +1,9 @@
 //! The looks of a manager of one thread: each born element as it stands.
-ghost use Rattle.std.specs.Prelude.{◌≡◌, ◌==◌, if◌then◌else◌, ◌<◌, ◌+◌, ◌^◌, length, IfOk, map};
+ghost use Rattle.std.specs.Prelude.{◌≡◌, ◌==◌, if◌then◌else◌, ◌<◌, ◌+◌, ◌^◌, length, IfOk, map, Some};
 ghost use Rattle.std.specs.List.{find, fold, All};
+ghost use Rattle.tp_plain.specs.Listings.{reply_found};
 ghost use Rattle.tp_plain.specs.Noted.{event_of};
-ghost use Rattle.tp_plain.specs.Looks.{look_after, sooner, attempts_in, is_held_by, is_unsettled_of, fresh_look};
+ghost use Rattle.tp_plain.specs.Looks.{comes_before, look_after, sooner, attempts_in, is_held_by, is_unsettled_of, fresh_look};
 ghost use Rattle.tp_model.specs.Births.{IsWhole, outputs};
 
 use crate::history::Note;
@@ -76,27 +77,38 @@ pub(crate) fn apply(limit: u8, looks: &mut [Look], note: &Note<'_>)
     }
 }
 
-/// The waiting element of a stage with the least id.
-pub(crate) fn next_waiting(looks: &[Look], stage: u8) -> Option<Look>
-    ensures { result ≡ fold (sooner stage) None looks.now }
+/// The first waiting element of a stage from an id on, where behind the last id comes the first.
+pub(crate) fn next_waiting(looks: &[Look], from: u32, stage: u8) -> Option<Look>
+    ensures { result ≡ fold (sooner from stage) None looks.now }
 {
     let mut best: Option<Look> = None;
     for look in looks {
-        best = sooner_of(stage, best, *look);
+        best = sooner_of(from, stage, best, *look);
     }
     best
 }
 
+// Whether an id comes before another one where the ids are a circle, which begins at `from`.
+fn comes_before(from: u32, id: u32, other: u32) -> bool
+    ensures { result ≡ comes_before from id other }
+{
+    if id < from {
+        other < from && id < other
+    } else {
+        other < from || id < other
+    }
+}
+
 // Of a look found before and another one, the one to be claimed first.
-fn sooner_of(stage: u8, best: Option<Look>, look: Look) -> Option<Look>
-    ensures { result ≡ sooner stage best look }
+fn sooner_of(from: u32, stage: u8, best: Option<Look>, look: Look) -> Option<Look>
+    ensures { result ≡ sooner from stage best look }
 {
     let waits = look.element.stage == stage
         && matches!(look.status, Status::Waiting { attempts: _ });
     match best {
         None => { if waits { Some(look) } else { None } }
         Some(found) => {
-            if waits && look.element.id < found.element.id {
+            if waits && comes_before(from, look.element.id, found.element.id) {
                 Some(look)
             } else {
                 Some(found)
@@ -178,4 +190,12 @@ pub(crate) fn is_unsettled_in(root: u32, look: Look) -> bool
 {
     let settled = matches!(look.status, Status::Consumed { unit: _ } | Status::Killed);
     look.element.root == root && look.element.stage != 15 && !settled
+}
+
+/// Whether an element is a reply to the request, and waits.
+pub(crate) fn is_reply_in(root: u32, look: Look) -> bool
+    ensures { result ≡ reply_found root look.status (Some look.element) }
+{
+    let waits = matches!(look.status, Status::Waiting { attempts: _ });
+    look.element.stage == 15 && look.element.root == root && waits
 }

@@ -1,22 +1,20 @@
 //! The manager of one thread.
-ghost use Rattle.std.specs.Prelude.{◌≡◌, ℕ, ◌<◌, ◌≤◌, ◌↔◌, ◌⊎◌, length, map, IfOk, IfErr, IsSome, is_some, replicate};
+ghost use Rattle.std.specs.Prelude.{◌≡◌, ℕ, nat_lt, ◌<◌, ◌≤◌, ◌↔◌, ◌⊎◌, length, map, IfOk, IfErr, IsSome, is_some, replicate};
 ghost use Rattle.std.specs.List.{range_with_len};
 ghost use Rattle.tp_plain.specs.Noted.{event_of};
-ghost use Rattle.tp_plain.specs.Computed.{IsComputed, IsComputedOk, submit_of, claim_of_stage, commit_of, abort_of, kill_of, read_of};
-ghost use Rattle.tp_plain.specs.OneThread.{Answers, CallSubmit, CallAbort, CallClaim, CallCommit, CallKill, CallRead, extended, start, fresh_pass, held_after, pass_at};
+ghost use Rattle.tp_plain.specs.Computed.{IsComputed, IsComputedOk, submit_of, commit_of, abort_of, kill_of, read_of};
+ghost use Rattle.tp_plain.specs.OneThread.{Answers, CallSubmit, CallAbort, CallCommit, CallKill, CallRead, extended, start, fresh_pass, pass_at};
 ghost use Rattle.tp_plain.specs.Reached.{IsQuiet, IsReached};
-ghost use Rattle.tp_model.specs.Steps.{AreLimits, IsServerStage, Step, rows_of};
+ghost use Rattle.tp_model.specs.Steps.{AreLimits, Step, rows_of};
 
 use crate::history::{History, Note};
-use crate::looks::{
-    apply, attempts_of, first_of, fresh_looks, held_by, look_of, next_waiting, outputs_of,
-};
+use crate::looks::{apply, first_of, fresh_looks, held_by, look_of, outputs_of};
 use crate::pass_state::PassState;
 use crate::room::block_first;
 use std::alloc::{AllocError, Global};
 use std::marker::Model;
 use tp_model::types::{
-    Body, Claimed, Draft, Element, Ended, Killed, Limits, Look, Outcome, Refusal, Status, Work,
+    Body, Claimed, Draft, Element, Ended, Killed, Limits, Look, Outcome, Refusal, Status,
 };
 
 /// The manager of one thread. Contracts see it as its limits, its history, what its passes have used and how many
@@ -92,6 +90,14 @@ impl Plain {
         self.passes[caller as usize].holding.is_some()
     }
 
+    /// Whether a unit of work is left to a pass.
+    pub fn has_units(&self, caller: u16) -> bool
+        requires { caller < self.now.limits.parts }
+        ensures { result ≡ nat_lt (pass_at self.now caller).claimed self.now.limits.units }
+    {
+        self.passes[caller as usize].claimed < self.limits.units
+    }
+
     /// A client puts a new request into a stage. Where the run of the pass has no row left, the pass draws a block.
     ///
     /// `BadStage` for a stage outside 1 to 14, `Full` where no spare block is left either, and `NoMemory`.
@@ -128,47 +134,11 @@ impl Plain {
         self.passes[caller as usize] = PassState {
             next: used.next + 1,
             left: used.left - 1,
-            claimed: used.claimed,
-            holding: used.holding,
+            ..used
         };
         self.drawn = drawn;
         self.history = self.history.then(&Note::Enqueue(caller, element));
         Ok(id)
-    }
-
-    /// A pass takes the waiting element of a stage that has the least id, by its next unit.
-    pub fn claim(&mut self, caller: u16, stage: u8) -> Result<Claimed, Refusal>
-        requires pass { caller < self.old.limits.parts }
-        requires server { IsServerStage stage }
-        requires free { (pass_at self.old caller).holding ≡ None }
-        ensures answer { Answers self.old (CallClaim caller stage result) self.new }
-        ensures computed { IsComputedOk self.old self.new result (claim_of_stage self.old caller stage) }
-        ensures hand { IfOk result (λ a. (pass_at self.new caller).holding ≡ held_after a) }
-        ensures limits { self.new.limits ≡ self.old.limits }
-    {
-        let used = self.passes[caller as usize];
-        if used.claimed >= self.limits.units {
-            return Ok(Claimed::NoUnit);
-        }
-        let Some(look) = next_waiting(&self.looks, stage) else {
-            return Ok(Claimed::Idle);
-        };
-        let unit = caller * self.limits.units + used.claimed;
-        let attempt = attempts_of(look.status) + 1;
-        let note = Note::Claim(caller, unit, look.element.id, attempt);
-        apply(self.limits.attempts, &mut self.looks, &note);
-        self.passes[caller as usize] = PassState {
-            next: used.next,
-            left: used.left,
-            claimed: used.claimed + 1,
-            holding: Some(unit),
-        };
-        self.history = self.history.then(&note);
-        Ok(Claimed::Work(Work {
-            unit,
-            element: look.element,
-            attempt,
-        }))
     }
 
     /// A pass ends the unit in its hand, and its drafts become elements, in rows of one run. Where its run has too
@@ -197,8 +167,8 @@ impl Plain {
             self.passes[caller as usize] = PassState {
                 next,
                 left,
-                claimed: used.claimed,
                 holding: None,
+                ..used
             };
             self.drawn = drawn;
             return Ok(Outcome::Lost);
@@ -218,8 +188,8 @@ impl Plain {
         self.passes[caller as usize] = PassState {
             next,
             left,
-            claimed: used.claimed,
             holding: None,
+            ..used
         };
         self.drawn = drawn;
         self.history = self.history.then(&note);
@@ -244,10 +214,8 @@ impl Plain {
         };
         let held = held_by(&self.looks, unit);
         self.passes[caller as usize] = PassState {
-            next: used.next,
-            left: used.left,
-            claimed: used.claimed,
             holding: None,
+            ..used
         };
         match held {
             None => Ended::Already,
@@ -338,6 +306,7 @@ fn fresh_passes(alloc: Global, parts: u16, rows: u16) -> Result<Vec<PassState>, 
             left: rows,
             claimed: 0,
             holding: None,
+            turns: [0; 16],
         })?;
     }
     Ok(passes)

@@ -20,8 +20,7 @@ impl Plain {
         PassState {
             next: block_first(self.limits, self.drawn),
             left: BLOCK_ROWS,
-            claimed: used.claimed,
-            holding: used.holding,
+            ..used
         }
     }
 

@@ -1,1 +1,3 @@
+pub mod ListingLemmas
 pub mod ReportLemmas
+pub mod DrainEnds

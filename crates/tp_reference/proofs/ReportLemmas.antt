@@ -1,36 +1,77 @@
 -- The report, one command after the other.
-use Rattle.std.proofs.Common.{◌≡◌, ℕ, ◌+◌, ◌<◌, ◌≤◌, List, [], ◌++◌, length, drop, get_or, refl, ap, ◌∙◌, add-one}
-use Rattle.std.proofs.Common.{Option, Some, map}
+use Rattle.std.proofs.Common.{◌≡◌, ℕ, ◌+◌, ◌<◌, ◌≤◌, List, [], ◌++◌, length, drop, get_or, refl, ap, ◌∙◌, add-one, arith, ◌-◌, zero, suc, Bool, true, false, ◌||◌, Option, Some, map}
 use Rattle.std.specs.Prelude.{slice_get, option_map}
 use Rattle.std.proofs.lemmas.Option.{slice_get-map, slice_get_read}
-use Rattle.tp_plain.specs.OneThread as thread
-use Rattle.tp_script.specs.declared.script.ScriptServer.{ScriptServer}
-use Rattle.tp_plain.specs.Computed.{read_of}
 use Rattle.std.proofs.lemmas.List.{drop_more, drop_all}
 use Rattle.tp_script.specs.declared.script.Command.{Command}
+use Rattle.tp_script.specs.declared.script.ScriptServer.{ScriptServer}
 use Rattle.tp_script.specs.Script.{ServerView, server_view}
-use Rattle.tp_reference.specs.PlainReport.{State, command_step, final_lines, reports, reply_of, with_last, replies_below}
+use Rattle.tp_desk.specs.declared.order.Order.{Order}
+use Rattle.tp_plain.specs.OneThread as thread
+use Rattle.tp_reference.specs.declared.plain_desk.PlainDesk.{PlainDesk}
+use Rattle.tp_reference.specs.PlainDesks.{given_up}
+use Rattle.tp_reference.specs.PlainReport.{State, command_step, closing, ended_below, final_line, finals_below, reports, round_below, round_of, round_turn, rounds}
 
-pub reports_more : (servers : List ServerView) (cs : List Command) (i : ℕ) (c : Command) (s next : State) (line : List ℕ) → i < length cs → command_step servers (get_or cs i c) s ≡ (line, next) → reports servers (drop i cs) s ≡ line ++ reports servers (drop (i + 1) cs) next
+pub reports_more : (servers : List ServerView) (account : Bool) (cs : List Command) (i : ℕ) (c : Command) (s next : State) (line : List ℕ) → i < length cs → command_step servers (get_or cs i c) s ≡ (line, next)
+    → reports servers account (drop i cs) s ≡ line ++ reports servers account (drop (i + 1) cs) next
 unfolding reports
-reports_more servers cs i c s next line lt step =
-    ap (λ (w : List Command). reports servers w s) (drop_more cs i c lt) ∙ ap (λ (p : List ℕ × State). p.0 ++ reports servers (drop (i + 1) cs) p.1) step
+reports_more servers account cs i c s next line lt step =
+    ap (λ (w : List Command). reports servers account w s) (drop_more cs i c lt) ∙ ap (λ (p : List ℕ × State). p.0 ++ reports servers account (drop (i + 1) cs) p.1) step
 
-pub reports_done : (servers : List ServerView) (cs : List Command) (i : ℕ) (s : State) → length cs ≤ i → reports servers (drop i cs) s ≡ final_lines servers s
+pub reports_done : (servers : List ServerView) (account : Bool) (cs : List Command) (i : ℕ) (s : State) → length cs ≤ i → reports servers account (drop i cs) s ≡ closing servers account s
 unfolding reports
-reports_done servers cs i s le = ap (λ (w : List Command). reports servers w s) (drop_all i cs le)
-
--- no replies are below the first id
-pub replies_none : (manager : thread.State) (root : ℕ) → replies_below manager root 0 ≡ []
-unfolding replies_below
-replies_none manager root = refl
-
--- and each id adds what its read gave
-pub replies_more : (manager : thread.State) (root id : ℕ) → replies_below manager root (id + 1) ≡ with_last (replies_below manager root id) (reply_of root (read_of manager id))
-unfolding replies_below
-replies_more manager root id = rw (add-one id) refl
+reports_done servers account cs i s le = ap (λ (w : List Command). reports servers account w s) (drop_all i cs le)
 
 -- the server at a place, without where it lies in memory
 pub server_there : (servers : List ScriptServer) (i : ℕ) (server : ScriptServer) → i < length servers → server ≡ get_or servers i server → slice_get (map server_view servers) i ≡ Some (server_view server)
 server_there servers i server less is =
     slice_get-map server_view servers i ∙ ap (λ (o : Option ScriptServer). option_map server_view o) (slice_get_read servers (length servers) i server refl less is)
+
+-- a round, one desk after the other
+pub round_none : (order : Order) (servers : List ServerView) (s : State) → round_below order servers 0 s ≡ (false, s)
+unfolding round_below
+round_none order servers s = refl
+
+pub round_more : (order : Order) (servers : List ServerView) (i : ℕ) (s mid new : State) (before claimed : Bool) → round_below order servers i s ≡ (before, mid)
+    → round_turn order (slice_get servers i) (slice_get mid.desks i) i mid ≡ (claimed, new)
+    → round_below order servers (i + 1) s ≡ (before || claimed, new)
+unfolding round_below
+round_more order servers i s mid new before claimed below turn = rw (add-one i, below, turn) refl
+
+-- rounds that are left
+pub rounds_none : (order : Order) (servers : List ServerView) (s : State) → rounds order servers 0 s ≡ s
+unfolding rounds
+rounds_none order servers s = refl
+
+-- a round that claims nothing is the last one
+pub rounds_last : (order : Order) (servers : List ServerView) (n : ℕ) (s new : State) → 0 < n → round_of order servers s ≡ (false, new) → rounds order servers n s ≡ new
+unfolding rounds
+rounds_last order servers (suc n) s new some round = rw round refl
+rounds_last order servers zero s new some round = absurd (omega (arith, some))
+
+-- and behind another one are those that are left
+pub rounds_next : (order : Order) (servers : List ServerView) (n : ℕ) (s new : State) → 0 < n → round_of order servers s ≡ (true, new) → rounds order servers n s ≡ rounds order servers (n - 1) new
+unfolding rounds
+rounds_next order servers (suc n) s new some round =
+    let less : n ≡ suc n - 1 = omega arith in
+    rw round (ap (λ k. rounds order servers k new) less)
+rounds_next order servers zero s new some round = absurd (omega (arith, some))
+
+-- the final lines, one after the other
+pub finals_none : (servers : List ServerView) (desks : List PlainDesk) → finals_below servers desks 0 ≡ []
+unfolding finals_below
+finals_none servers desks = refl
+
+pub finals_more : (servers : List ServerView) (desks : List PlainDesk) (i : ℕ)
+    → finals_below servers desks (i + 1) ≡ finals_below servers desks i ++ final_line (slice_get servers i) (slice_get desks i)
+unfolding finals_below
+finals_more servers desks i = rw (add-one i) refl
+
+-- the ends of desks, one after the other
+pub ended_none : (m : thread.State) → ended_below m 0 ≡ m
+unfolding ended_below
+ended_none m = refl
+
+pub ended_more : (m : thread.State) (i : ℕ) → ended_below m (i + 1) ≡ given_up (ended_below m i) (i + 1)
+unfolding ended_below
+ended_more m i = ap (ended_below m) (add-one i)

@@ -1,155 +1,178 @@
--- What is reported of a script: the run of one thread over its commands, with the registers of its server.
-use Rattle.std.specs.Prelude.{ℕ, zero, suc, ◌+◌, ◌==◌, ◌&&◌, List, [], ◌∷◌, ◌++◌, length, replicate, Bool, Option, Some, None, Result, Ok, Err, slice_get, if◌then◌else◌}
-use Rattle.std.specs.List.{flat_map}
-use Rattle.tp_model.specs.declared.types.Element.{Element}
+-- What is reported of a script: the run of one thread over its commands. It covers all commands but races.
+use Rattle.std.specs.Prelude.{ℕ, zero, suc, ◌+◌, ◌*◌, ◌||◌, Bool, true, false, if◌then◌else◌, List, [], ◌∷◌, ◌++◌, length, map, Option, Some, None, Result, Ok, Err, slice_get, slice_set, sum_by}
 use Rattle.tp_model.specs.declared.types.Limits.{Limits}
-use Rattle.tp_model.specs.declared.types.Look.{Look}
-use Rattle.tp_model.specs.declared.types.Work.{Work}
-use Rattle.tp_model.specs.declared.types.Refusal.{Refusal}
-use Rattle.tp_model.specs.declared.types.Claimed.{Claimed}
-use Rattle.tp_model.specs.declared.types.Claimed.TheVariants as claimed
-use Rattle.tp_model.specs.declared.types.Outcome.{Outcome}
-use Rattle.tp_model.specs.declared.types.Outcome.TheVariants as outcome
-use Rattle.tp_plain.specs.Computed.{submit_of, claim_of_stage, abort_of, commit_of, read_of}
-use Rattle.tp_model.specs.Counts.{is_waiting}
 use Rattle.tp_plain.specs.OneThread as thread
 use Rattle.tp_plain.specs.OneThread.{start}
-use Rattle.tp_model.specs.Steps.{rows_of}
-use Rattle.tp_server.specs.declared.recipe.Declined.{Declined}
-use Rattle.tp_server.specs.Effect.{Effect, effect_of}
 use Rattle.tp_script.specs.declared.script.Command.{Command}
-use Rattle.tp_script.specs.declared.script.Command.TheVariants.{Client, Desk}
-use Rattle.tp_script.specs.declared.script.ClientAct.TheVariants as acts
-use Rattle.tp_script.specs.declared.script.DeskAct.TheVariants as desks
-use Rattle.tp_desk.specs.declared.turned.Turned.{Turned}
-use Rattle.tp_desk.specs.declared.turned.Turned.TheVariants as turned
+use Rattle.tp_script.specs.declared.script.Command.TheVariants.{Client, Desk, Balance, Sum, Race, Drain, DrainNext}
+use Rattle.tp_script.specs.declared.script.DeskAct.{DeskAct}
 use Rattle.tp_script.specs.declared.fault.Refused.{Refused}
-use Rattle.tp_report.specs.declared.answer.ServerAnswer.TheVariants as told
 use Rattle.tp_script.specs.Fault.{refused_text}
-use Rattle.tp_report.specs.Answer.{line, submitted_text, refusal_text, named_text, replies_text, final_text}
 use Rattle.tp_script.specs.Script.{ScriptView, ServerView}
+use Rattle.tp_desk.specs.declared.order.Order.{Order}
+use Rattle.tp_desk.specs.declared.order.Order.TheVariants.{LeastFirst, InTurn}
+use Rattle.tp_desk.specs.declared.turned.Turned.TheVariants as turned
+use Rattle.tp_report.specs.declared.answer.Answer.TheVariants as answer
+use Rattle.tp_report.specs.declared.answer.ServerAnswer.{ServerAnswer}
+use Rattle.tp_report.specs.declared.answer.ServerAnswer.TheVariants as told
+use Rattle.tp_report.specs.Answer.{account_text, answer_text, balance_text, final_text, line, named_text}
+use Rattle.tp_reference.specs.declared.plain_desk.PlainDesk.{PlainDesk}
+use Rattle.tp_reference.specs.PlainClient.{client_step, counts_of}
+use Rattle.tp_reference.specs.PlainDesks.{Acted, does_unless_dropped, given_up, is_free, turn_by}
 
--- the manager of one thread, and the registers of the server
+-- the manager of one thread, and a desk for each server
 pub record State : Type 0 where
   pub manager : thread.State
-  pub registers : List ℕ
+  pub desks : List PlainDesk
 
--- the pass of the script's own client
-abbrev pub client : ℕ
-client = 0
+-- the pass of the server at a place: behind the client's, in the order of the servers
+abbrev pub worker : ℕ → ℕ
+worker i = i + 1
 
--- and that of its server
-abbrev pub worker : ℕ
-worker = 1
+-- ---- commands on servers
 
--- ---- what a turn comes to
+-- what a desk's step left, with the desk at its place
+abbrev pub with_acted : State → ℕ → Acted → State
+with_acted s i done = record { manager = done.manager; desks = slice_set s.desks i done.desk }
 
--- a commit of the drafts of an effect: the registers are changed where it goes through
-abbrev pub committed : Work → Effect → Outcome × thread.State → State → Turned × State
-committed work effect (outcome.Committed first count, manager) s = (turned.Done work.unit work.element.id first count, record { manager = manager; registers = effect.registers })
-committed work effect (outcome.Lost, manager) s = (turned.Lost work.element.id, record { manager = manager; registers = s.registers })
-committed work effect (outcome.Full, manager) s = (turned.Full work.element.id, record { manager = manager; registers = s.registers })
+-- a command on the server at a place; there is always one
+abbrev pub desk_at : Option ServerView → Option PlainDesk → ℕ → DeskAct → State → List ℕ × State
+desk_at (Some server) (Some desk) i act s =
+    let done = does_unless_dropped server.recipe act (worker i) s.manager desk in
+    (line (named_text server.name done.answer), with_acted s i done)
+desk_at server desk i act s = ([], s)
 
--- work is committed with the effect of the recipe, or aborted where the recipe declines it
-abbrev pub settled : Work → Result Effect Declined → State → Turned × State
-settled work (Ok effect) s = committed work effect (commit_of s.manager worker effect.drafts) s
-settled work (Err why) s = (turned.Refused work.element.id why, record { manager = (abort_of s.manager worker).1; registers = s.registers })
+abbrev pub desk_step : List ServerView → ℕ → DeskAct → State → List ℕ × State
+desk_step servers i act s = desk_at (slice_get servers i) (slice_get s.desks i) i act s
 
--- a turn is a claim and, where it takes work, a commit or an abort
-abbrev pub turned_by : ServerView → Claimed × thread.State → List ℕ → Turned × State
-turned_by server (claimed.Work work, manager) registers = settled work (effect_of server.recipe registers work.element) (record { manager = manager; registers = registers })
-turned_by server (claimed.Idle, manager) registers = (turned.Idle, record { manager = manager; registers = registers })
-turned_by server (claimed.NoUnit, manager) registers = (turned.NoUnit, record { manager = manager; registers = registers })
+-- ---- registers
 
--- a turn of a server
-abbrev pub turn_of : ServerView → State → Turned × State
-turn_of server s = turned_by server (claim_of_stage s.manager worker server.recipe.stage) s.registers
+-- a register of a server, or that its desk was dropped
+abbrev pub balance_at : Option ServerView → Option PlainDesk → ℕ → List ℕ
+balance_at (Some server) (Some desk) k =
+    if desk.is_dropped
+    then line (named_text server.name told.Ended)
+    else line (balance_text server.name k (slice_get desk.registers k))
+balance_at server desk k = []
+
+-- what a desk adds to the sum of a register: its value, unless it was dropped or has no such register
+abbrev pub value_of : Option ℕ → ℕ
+value_of None = 0
+value_of (Some value) = value
+
+abbrev pub counted_value : ℕ → PlainDesk → ℕ
+counted_value k desk = if desk.is_dropped then 0 else value_of (slice_get desk.registers k)
+
+-- the sum of a register over all desks
+abbrev pub register_sum : ℕ → State → ℕ
+register_sum k s = sum_by (counted_value k) s.desks
+
+-- ---- drains
+
+-- whether a turn claimed an element
+abbrev pub has_claimed : ServerAnswer → Bool
+has_claimed (told.Turned turned.Idle) = false
+has_claimed (told.Turned turned.NoUnit) = false
+has_claimed other = true
+
+-- the turn of a desk in a round, if it is free, and whether it claimed an element
+abbrev pub round_turn : Order → Option ServerView → Option PlainDesk → ℕ → State → Bool × State
+round_turn order (Some server) (Some desk) i s =
+    if is_free s.manager (worker i) desk
+    then (let done = turn_by order server.recipe (worker i) s.manager desk in (has_claimed done.answer, with_acted s i done))
+    else (false, s)
+round_turn order server desk i s = (false, s)
+
+-- a round of the servers in front of a place: each free desk takes one turn, in the order of the servers
+unfoldable pub round_below : Order → List ServerView → ℕ → State → Bool × State
+round_below order servers zero s = (false, s)
+round_below order servers (suc i) s =
+    let before = round_below order servers i s in
+    let turn = round_turn order (slice_get servers i) (slice_get before.1.desks i) i before.1 in
+    (before.0 || turn.0, turn.1)
+
+-- a round of all servers, and whether any of them claimed an element
+abbrev pub round_of : Order → List ServerView → State → Bool × State
+round_of order servers s = round_below order servers (length servers) s
+
+-- rounds, one after another, until one claims nothing, and so many at most
+unfoldable pub rounds : Order → List ServerView → ℕ → State → State
+rounds order servers zero s = s
+rounds order servers (suc n) s =
+    let round = round_of order servers s in
+    if round.0 then rounds order servers n round.1 else round.1
+
+-- a drain. A round that claims an element uses a unit of work, so there are no more such rounds than units.
+abbrev pub most_rounds : Limits → ℕ
+most_rounds l = l.parts * l.units + 1
+
+abbrev pub drain_of : Order → List ServerView → State → State
+drain_of order servers s = rounds order servers (most_rounds s.manager.limits) s
 
 -- ---- each command: its line, and the state after it
 
--- what a submit is told as
-abbrev pub submit_text : Result ℕ Refusal → List ℕ
-submit_text (Ok id) = submitted_text id
-submit_text (Err why) = refusal_text why
+-- what the client's command left, with the desks as they were
+abbrev pub with_manager : State → List ℕ × thread.State → List ℕ × State
+with_manager s (text, manager) = (text, record { manager = manager; desks = s.desks })
 
--- a submit by the client
-abbrev pub submit_step : ℕ → List ℕ → State → List ℕ × State
-submit_step stage body s =
-    let answer = submit_of s.manager client stage body in
-    (line (submit_text answer.0), record { manager = answer.1; registers = s.registers })
-
--- a turn of the server
-abbrev pub turn_step : ServerView → State → List ℕ × State
-turn_step server s = let turn = turn_of server s in (line (named_text server.name (told.Turned turn.0)), turn.1)
-
--- whether a look shows a reply to this request
-abbrev pub is_reply : ℕ → Look → Bool
-is_reply root look = (look.element.stage == 15) && (look.element.root == root) && is_waiting look.status
-
--- the reply to this request that a read gave, if it gave one
-abbrev pub reply_of : ℕ → Result Look Refusal → Option Element
-reply_of root (Ok look) = if is_reply root look then Some look.element else None
-reply_of root (Err why) = None
-
--- the elements, and one more if there is one
-abbrev pub with_last : List Element → Option Element → List Element
-with_last es (Some e) = es ++ e ∷ []
-with_last es None = es
-
--- the replies to a request with ids below a bound, in ascending order
-unfoldable pub replies_below : thread.State → ℕ → ℕ → List Element
-replies_below manager root zero = []
-replies_below manager root (suc id) = with_last (replies_below manager root id) (reply_of root (read_of manager id))
-
--- the replies to a request
-abbrev pub reply_step : ℕ → State → List ℕ × State
-reply_step root s = (line (replies_text root (replies_below s.manager root (rows_of s.manager.limits))), s)
-
--- a turn of the server at a place; there is always one
-abbrev pub turn_at : Option ServerView → State → List ℕ × State
-turn_at (Some server) s = turn_step server s
-turn_at None s = ([], s)
-
--- one command; those that a script of the plain reach doesn't have write nothing
+-- one command; a race writes nothing, since its script isn't run
 abbrev pub command_step : List ServerView → Command → State → List ℕ × State
-command_step servers (Client (acts.Submit stage body)) s = submit_step stage body s
-command_step servers (Client (acts.Reply root)) s = reply_step root s
-command_step servers (Desk server desks.Turn) s = turn_at (slice_get servers server) s
-command_step servers other s = ([], s)
+command_step servers (Client act) s = with_manager s (client_step act s.manager)
+command_step servers (Desk server act) s = desk_step servers server act s
+command_step servers (Balance server k) s = (balance_at (slice_get servers server) (slice_get s.desks server) k, s)
+command_step servers (Sum k) s = (line (answer_text (answer.Sum k (register_sum k s))), s)
+command_step servers (Race race) s = ([], s)
+command_step servers Drain s = (line (answer_text answer.Drained), drain_of LeastFirst servers s)
+command_step servers DrainNext s = (line (answer_text answer.Drained), drain_of InTurn servers s)
 
 -- ---- the whole report
 
--- the final line of a server
-abbrev pub final_line : State → ServerView → List ℕ
-final_line s server = line (final_text server.name s.registers)
+-- the final line of the server at a place; there is always one
+abbrev pub final_line : Option ServerView → Option PlainDesk → List ℕ
+final_line (Some server) (Some desk) = line (final_text server.name desk.registers)
+final_line server desk = []
 
--- the final lines
-abbrev pub final_lines : List ServerView → State → List ℕ
-final_lines servers s = flat_map (final_line s) servers
+-- the final lines of the servers in front of a place, in their order
+unfoldable pub finals_below : List ServerView → List PlainDesk → ℕ → List ℕ
+finals_below servers desks zero = []
+finals_below servers desks (suc i) = finals_below servers desks i ++ final_line (slice_get servers i) (slice_get desks i)
 
--- what the commands from here on write, and then the final lines
-unfoldable pub reports : List ServerView → List Command → State → List ℕ
-reports servers [] s = final_lines servers s
-reports servers (c ∷ cs) s = let step = command_step servers c s in step.0 ++ reports servers cs step.1
+-- the manager when the desks in front of a place are ended: what each of them has in hand is given up
+unfoldable pub ended_below : thread.State → ℕ → thread.State
+ended_below m zero = m
+ended_below m (suc i) = given_up (ended_below m i) (worker i)
+
+-- the account of all elements when all desks are ended, if it is asked for
+abbrev pub account_line : Bool → ℕ → State → List ℕ
+account_line true servers s = line (account_text (counts_of (ended_below s.manager servers)))
+account_line false servers s = []
+
+-- what is told behind the commands
+abbrev pub closing : List ServerView → Bool → State → List ℕ
+closing servers account s = finals_below servers s.desks (length servers) ++ account_line account (length servers) s
+
+-- what the commands from here on write, and then the closing
+unfoldable pub reports : List ServerView → Bool → List Command → State → List ℕ
+reports servers account [] s = closing servers account s
+reports servers account (c ∷ cs) s = let step = command_step servers c s in step.0 ++ reports servers account cs step.1
 
 -- a pass for the client, and one for each server
 abbrev pub limits_of : ScriptView → Limits
 limits_of s = record { parts = 1 + length s.servers; rows = s.settings.rows; units = s.settings.units; attempts = s.settings.attempts; spare = s.settings.spare }
 
--- the registers of the server; where there is none, one register that nothing uses
-abbrev pub registers_of : List ServerView → List ℕ
-registers_of [] = replicate 1 0
-registers_of (server ∷ others) = server.registers
+-- a desk with nothing in hand
+abbrev pub new_desk : ServerView → PlainDesk
+new_desk server = record { registers = server.registers; taken = None; is_prepared = false; is_dropped = false }
 
 -- a script before its first command
 abbrev pub begin : ScriptView → State
-begin s = record { manager = start (limits_of s); registers = registers_of s.servers }
+begin s = record { manager = start (limits_of s); desks = map new_desk s.servers }
 
--- the report of a script
-abbrev pub plain_report : ScriptView → List ℕ
-plain_report s = reports s.servers s.commands (begin s)
+-- the report of a script without races
+abbrev pub report_of : ScriptView → List ℕ
+report_of s = reports s.servers s.account s.commands (begin s)
 
 -- the report of what a script's bytes say: of a refusal the one line of it
-abbrev pub plain_report_of : Result ScriptView Refused → List ℕ
-plain_report_of (Ok s) = plain_report s
-plain_report_of (Err r) = line (refused_text r)
+abbrev pub report_of_read : Result ScriptView Refused → List ℕ
+report_of_read (Ok s) = report_of s
+report_of_read (Err r) = line (refused_text r)

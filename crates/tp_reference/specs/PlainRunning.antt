@@ -1,16 +1,20 @@
 -- What holds of a script that runs.
-use Rattle.std.specs.Prelude.{◌≡◌, ◌+◌, None, List, length}
-use Rattle.tp_plain.specs.OneThread as thread
+use Rattle.std.specs.Prelude.{◌≡◌, ◌+◌, ◌≤◌, None, List, length}
 use Rattle.tp_plain.specs.OneThread.{pass_at}
 use Rattle.tp_reference.specs.declared.plain_run.PlainRun.{PlainRun}
-use Rattle.tp_reference.specs.PlainReport.{State, worker}
+use Rattle.tp_reference.specs.PlainClient.{client}
+use Rattle.tp_reference.specs.PlainReport.{State}
+use Rattle.tp_script.specs.Numbers.{servers_limit}
 use Rattle.tp_script.specs.Script.{ServerView}
 
 -- a script that runs, without where it lies in memory
 abbrev pub state : PlainRun → State
-state r = record { manager = r.plain; registers = r.registers }
+state r = record { manager = r.plain; desks = r.desks.items }
 
--- there is a pass for each server, and the server's has no unit in hand
-pub record IsReady (servers : List ServerView) (manager : thread.State) : Type 0 where
-  pub parts : manager.limits.parts ≡ 1 + length servers
-  pub free : (pass_at manager worker).holding ≡ None
+-- there is a pass and a desk for each server, the number of units is known, and the client has nothing in hand
+pub record IsReady (servers : List ServerView) (r : PlainRun) : Type 0 where
+  pub few : length servers ≤ servers_limit
+  pub parts : r.plain.limits.parts ≡ 1 + length servers
+  pub units : r.plain.limits.units ≡ r.units
+  pub desks : length r.desks.items ≡ length servers
+  pub free : (pass_at r.plain client).holding ≡ None

@@ -1,35 +1,51 @@
 //! A script run over the manager of one thread: what the tests hold the program against.
 ghost use Rattle.std.specs.Prelude.{◌≡◌, ◌+◌, ◌^◌, ◌<◌, ◌≤◌, IfSome, IsErrOf, IsTrue};
 ghost use Rattle.tp_script.specs.Numbers.{requests_limit};
-ghost use Rattle.tp_script.specs.Devices.{StopsReading};
 ghost use Rattle.tp_script.specs.Grammar.{script};
 ghost use Rattle.tp_reference.specs.Whole.{Reports};
 
 use crate::plain_report::write_plain_report;
 use std::alloc::Global;
-use tp_report::{Exit, Fault, Sink, fault_of, write_refusal};
-use tp_script::{Reach, ReadFault, Source, read_script_at};
+use tp_report::{Fault, Sink, fault_of, write_refusal};
+use tp_script::{ReadFault, Source, read_script};
 
-/// Reads a script of the plain reach, runs it over the manager of one thread, and writes its report and nothing else.
-/// The reader is asked at most 100,000 times.
+/// How a run over the manager of one thread ends without a fault.
+#[derive(Clone, Copy, Debug, PartialEq, Eq)]
+pub enum PlainExit {
+    /// The script was run, and its report written.
+    Done,
+    /// The script was refused, and the refusal written.
+    Refused,
+    /// There is a race among its commands, which takes several threads. Nothing was run, and nothing written.
+    Races,
+}
+
+/// Reads a script, runs it over the manager of one thread, and writes its report and nothing else. A script with a
+/// race isn't run. The reader is asked at most 100,000 times.
 pub fn run_plain<R: Source, W: Sink>(
     alloc: Global,
     reader: &mut R,
     writer: &mut W,
-) -> Result<Exit, Fault>
+) -> Result<PlainExit, Fault>
     requires { R.asked reader.old + requests_limit < 2 ^ 64 }
     ensures asked { R.asked reader.new ≤ R.asked reader.old + requests_limit }
-    ensures report { IfSome (R.rest reader.old) (λ bytes. Reports result (script Reach.Plain bytes) (W.contents writer.old) (W.contents writer.new)) }
-    ensures read { IsErrOf result Fault.Read → StopsReading (R.has_failed reader.new) (R.asked reader.old) (R.asked reader.new) }
+    ensures report { IfSome (R.rest reader.old) (λ bytes. Reports result (script bytes)
+        (W.contents writer.old) (W.contents writer.new)) }
+    ensures read { IsErrOf result Fault.Read → IsTrue (R.has_failed reader.new) }
     ensures write { IsErrOf result Fault.Write → IsTrue (W.has_failed writer.new) }
 {
-    match read_script_at(alloc, Reach::Plain, reader) {
-        Ok(script) => match write_plain_report(alloc, &script, writer) {
-            Ok(()) => Ok(Exit::Done),
-            Err(fault) => Err(fault_of(fault)),
-        },
+    match read_script(alloc, reader) {
+        Ok(script) => {
+            if script.has_race() {
+                return Ok(PlainExit::Races);
+            }
+            match write_plain_report(alloc, &script, writer) {
+                Ok(()) => Ok(PlainExit::Done),
+                Err(fault) => Err(fault_of(fault)),
+            }
+        }
         Err(ReadFault::Script(refused)) => match write_refusal(alloc, refused, writer) {
-            Ok(()) => Ok(Exit::Refused),
+            Ok(()) => Ok(PlainExit::Refused),
             Err(fault) => Err(fault_of(fault)),
         },
         Err(ReadFault::NoMemory) => Err(Fault::NoMemory),

@@ -2,7 +2,7 @@
 ghost use Rattle.std.specs.Prelude.{◌≡◌, OnOk, OnErr, IsTrue, IsErrOf};
 ghost use Rattle.std.specs.Io.KnownBytes.{Appends};
 ghost use Rattle.tp_report.specs.Written.{AppendsFront};
-ghost use Rattle.tp_reference.specs.PlainReport.{plain_report};
+ghost use Rattle.tp_reference.specs.PlainReport.{report_of};
 ghost use Rattle.tp_script.specs.Script.{script_view};
 
 use crate::plain_run::PlainRun;
@@ -16,8 +16,10 @@ pub fn write_plain_report<W: Sink>(
     script: &Script,
     sink: &mut W,
 ) -> Result<(), RunFault>
-    ensures done { OnOk result (Appends (W.contents sink.old) (W.contents sink.new) (plain_report (script_view script.now))) }
-    ensures front { OnErr result (AppendsFront (W.contents sink.old) (W.contents sink.new) (plain_report (script_view script.now))) }
+    ensures done { OnOk result (Appends (W.contents sink.old) (W.contents sink.new)
+        (report_of (script_view script.now))) }
+    ensures front { OnErr result (AppendsFront (W.contents sink.old) (W.contents sink.new)
+        (report_of (script_view script.now))) }
     ensures write { IsErrOf result RunFault.Write → IsTrue (W.has_failed sink.new) }
 {
     let mut run = PlainRun::new(alloc, script)?;
@@ -25,7 +27,7 @@ pub fn write_plain_report<W: Sink>(
         let line = run.command(alloc, script.servers.as_slice(), *command)?;
         write_all(sink, line.as_bytes())?;
     }
-    let last = run.finals(alloc, script.servers.as_slice())?;
+    let last = run.closing(alloc, script.servers.as_slice(), script.account)?;
     write_all(sink, last.as_bytes())?;
     Ok(())
 }

@@ -1,43 +1,61 @@
 //! A script over the manager of one thread.
-ghost use Rattle.std.specs.Prelude.{◌≡◌, ◌<◌, ◌≤◌, Ok, None, map, length, string_bytes, IfOk, OnOk, IsSome};
-ghost use Rattle.tp_plain.specs.Computed.{read_of};
-ghost use Rattle.tp_plain.specs.OneThread.{pass_at};
-ghost use Rattle.tp_model.specs.Steps.{rows_of};
-ghost use Rattle.tp_server.specs.Check.{check_of};
-ghost use Rattle.tp_server.specs.Effect.{effect_of};
+ghost use Rattle.std.specs.Prelude.{◌≡◌, ◌+◌, ◌<◌, ◌≤◌, map, length, string_bytes, IfOk, slice_get};
 ghost use Rattle.tp_script.specs.Ranges.{IsInRange};
-ghost use Rattle.tp_reference.specs.PlainReport.{worker, turn_of, settled, submit_step, turn_step, reply_step, replies_below, reply_of, with_last, is_reply, command_step, registers_of, begin, final_lines, final_line};
-ghost use Rattle.tp_reference.specs.PlainRunning.{state, IsReady};
+ghost use Rattle.tp_script.specs.Numbers.{servers_limit};
 ghost use Rattle.tp_script.specs.Script.{script_view, server_view};
+ghost use Rattle.tp_reference.specs.PlainReport.{balance_at, begin, command_step, counted_value, desk_step, new_desk, register_sum, worker};
+ghost use Rattle.tp_reference.specs.PlainRunning.{state, IsReady};
 
+use crate::client_acts::client_line;
+use crate::desk_acts;
+use crate::plain_desk::PlainDesk;
 use std::alloc::{AllocError, Global};
 use std::string::String;
-use tp_desk::Turned;
-use tp_model::types::{Body, Claimed, Element, Limits, Look, Outcome, Refusal, Status, Work};
+use tp_desk::Order;
+use tp_model::types::Limits;
 use tp_plain::plain::Plain;
 use tp_report::{Answer, ServerAnswer, line};
-use tp_script::{ClientAct, Command, DeskAct, Script, ScriptServer};
-use tp_server::{Recipe, Registers};
+use tp_script::{Command, DeskAct, Script, ScriptServer};
 
-/// The pass of the script's own client.
-const CLIENT: u16 = 0;
-
-/// The pass of the script's server.
-const WORKER: u16 = 1;
-
-/// A script that runs: the manager of one thread, and the registers of the server. A script without one has a register
-/// that nothing uses.
+/// A script that runs: the manager of one thread, and a desk for each server.
 #[derive(Drop)]
 pub struct PlainRun {
-    plain: Plain,
-    registers: Registers,
+    pub(crate) plain: Plain,
+    pub(crate) desks: Vec<PlainDesk>,
+    // How many units of work each pass may begin.
+    pub(crate) units: u16,
+}
+
+// The pass of the server at a place.
+pub(crate) fn worker(at: usize) -> u16
+    requires { at ≤ servers_limit }
+    ensures { result ≡ worker at }
+{
+    at as u16 + 1
+}
+
+// A desk for each server.
+fn new_desks(alloc: Global, servers: &[ScriptServer]) -> Result<Vec<PlainDesk>, AllocError>
+    ensures { IfOk result (λ desks. desks.items ≡ map new_desk (map server_view servers.now)) }
+{
+    let mut desks = Vec::new(alloc);
+    for server in servers {
+        let registers = server.registers.clone()?;
+        desks.push(PlainDesk {
+            registers,
+            taken: None,
+            is_prepared: false,
+            is_dropped: false,
+        })?;
+    }
+    Ok(desks)
 }
 
 impl PlainRun {
     /// The script before its first command.
     pub fn new(alloc: Global, script: &Script) -> Result<PlainRun, AllocError>
         ensures begins { IfOk result (λ run. state run ≡ begin (script_view script.now)) }
-        ensures ready { IfOk result (λ run. IsReady (map server_view script.now.servers.items) run.plain) }
+        ensures ready { IfOk result (λ run. IsReady (map server_view script.now.servers.items) run) }
     {
         let settings = script.settings;
         let limits = Limits {
@@ -47,132 +65,70 @@ impl PlainRun {
             attempts: settings.attempts,
             spare: settings.spare,
         };
-        let registers = first_registers(script.servers.as_slice())?;
+        let desks = new_desks(alloc, script.servers.as_slice())?;
         match Plain::new(alloc, limits) {
-            Ok(plain) => Ok(PlainRun { plain, registers }),
+            Ok(plain) => Ok(PlainRun {
+                plain,
+                desks,
+                units: settings.units,
+            }),
             Err(_) => Err(AllocError),
         }
     }
 
-    // Performs a submit and answers its line.
-    fn submit(&mut self, alloc: Global, stage: u8, body: Body) -> Result<String, AllocError>
-        requires { 0 < self.old.plain.limits.parts }
-        ensures step { IfOk result (λ text. submit_step stage body (state self.old) ≡ (string_bytes text, state self.new)) }
+    // Has the desk of a server do what is asked, and answers the line of its answer.
+    fn desk_line(
+        &mut self,
+        alloc: Global,
+        servers: &[ScriptServer],
+        at: usize,
+        act: DeskAct,
+    ) -> Result<String, AllocError>
+        requires ready { IsReady (map server_view servers.now) self.old }
+        requires within { at < length servers.now }
+        ensures step { IfOk result (λ text. desk_step (map server_view servers.now) at act (state self.old)
+            ≡ (string_bytes text, state self.new)) }
+        ensures ready { IfOk result (λ _. IsReady (map server_view servers.now) self.new) }
     {
-        match self.plain.submit(CLIENT, stage, body) {
-            Ok(id) => line(alloc, Answer::Submitted { id }),
-            Err(Refusal::NoMemory) => Err(AllocError),
-            Err(Refusal::BadStage) => line(alloc, Answer::Refused(Refusal::BadStage)),
-            Err(Refusal::Full) => line(alloc, Answer::Refused(Refusal::Full)),
-            Err(Refusal::BadLimits) => unreachable!(),
-            Err(Refusal::NotThere) => unreachable!(),
-            Err(Refusal::Consumed { unit: _ }) => unreachable!(),
-            Err(Refusal::AlreadyKilled) => unreachable!(),
-            Err(Refusal::NotParked) => unreachable!(),
-            Err(Refusal::NoRound) => unreachable!(),
-            Err(Refusal::NotHeld) => unreachable!(),
-        }
-    }
-
-    // Commits the work with the effect of the recipe, or aborts it where the recipe declines.
-    fn settle(&mut self, work: &Work, recipe: &Recipe) -> Result<Turned, AllocError>
-        requires checked { check_of recipe.now ≡ Ok tt }
-        requires parts { worker < self.old.plain.limits.parts }
-        requires holding { IsSome (pass_at self.old.plain worker).holding }
-        ensures gives { IfOk result (λ t. settled work.now (effect_of recipe.now self.old.registers work.now.element) (state self.old) ≡ (t, state self.new)) }
-        ensures free { IfOk result (λ _. (pass_at self.new.plain worker).holding ≡ None) }
-        ensures limits { self.new.plain.limits ≡ self.old.plain.limits }
-    {
-        let element = work.element.id;
-        let prepared = match recipe.effect(&self.registers, &work.element) {
-            Ok(prepared) => prepared,
-            Err(why) => {
-                let _ended = self.plain.abort(WORKER);
-                return Ok(Turned::Refused { element, why });
-            }
-        };
-        match self.plain.commit(WORKER, prepared.drafts.as_slice()) {
-            Ok(Outcome::Committed { first, count }) => {
-                self.registers.set(work.element.body[0], prepared.after);
-                let unit = work.unit;
-                Ok(Turned::Done {
-                    unit,
-                    element,
-                    first,
-                    count,
-                })
-            }
-            Ok(Outcome::Lost) => Ok(Turned::Lost { element }),
-            Ok(Outcome::Full) => Ok(Turned::Full { element }),
-            Err(_) => Err(AllocError),
-        }
-    }
-
-    // A turn of the server: a claim and, where it takes work, a commit or an abort.
-    fn turn(&mut self, server: &ScriptServer) -> Result<Turned, AllocError>
-        requires parts { worker < self.old.plain.limits.parts }
-        requires free { (pass_at self.old.plain worker).holding ≡ None }
-        ensures gives { IfOk result (λ t. turn_of (server_view server.now) (state self.old) ≡ (t, state self.new)) }
-        ensures free { IfOk result (λ _. (pass_at self.new.plain worker).holding ≡ None) }
-        ensures limits { self.new.plain.limits ≡ self.old.plain.limits }
-    {
-        match self.plain.claim(WORKER, server.recipe.stage) {
-            Ok(Claimed::Work(work)) => self.settle(&work, &server.recipe),
-            Ok(Claimed::Idle) => Ok(Turned::Idle),
-            Ok(Claimed::NoUnit) => Ok(Turned::NoUnit),
-            Err(_) => Err(AllocError),
-        }
-    }
-
-    // Performs a turn and answers its line.
-    fn turn_line(&mut self, alloc: Global, server: &ScriptServer) -> Result<String, AllocError>
-        requires parts { worker < self.old.plain.limits.parts }
-        requires free { (pass_at self.old.plain worker).holding ≡ None }
-        ensures step { IfOk result (λ text. turn_step (server_view server.now) (state self.old) ≡ (string_bytes text, state self.new)) }
-        ensures free { IfOk result (λ _. (pass_at self.new.plain worker).holding ≡ None) }
-        ensures limits { self.new.plain.limits ≡ self.old.plain.limits }
-    {
-        let turned = self.turn(server)?;
+        let server = &servers[at];
+        let desk = &mut self.desks[at];
+        let answer = desk_acts::act(&mut self.plain, worker(at), desk, &server.recipe, act)?;
         let name = server.name.as_str();
-        let answer = ServerAnswer::Turned(turned);
         line(alloc, Answer::Server { name, answer })
     }
 
-    // The line of the replies to a request.
-    fn reply(&self, alloc: Global, root: u32) -> Result<String, AllocError>
-        ensures { IfOk result (λ text. reply_step root (state self.now) ≡ (string_bytes text, state self.now)) }
+    // The line of a register of a server.
+    fn balance_line(
+        &self,
+        alloc: Global,
+        servers: &[ScriptServer],
+        at: usize,
+        k: u64,
+    ) -> Result<String, AllocError>
+        requires ready { IsReady (map server_view servers.now) self.now }
+        requires within { at < length servers.now }
+        ensures { IfOk result (λ text. string_bytes text ≡ balance_at (slice_get (map server_view servers.now) at)
+            (slice_get self.now.desks.items at) k) }
     {
-        let replies = self.replies(alloc, root)?;
-        let replies = replies.as_slice();
-        line(alloc, Answer::Replies { root, replies })
+        let name = servers[at].name.as_str();
+        let desk = &self.desks[at];
+        if desk.is_dropped {
+            let answer = ServerAnswer::Ended;
+            return line(alloc, Answer::Server { name, answer });
+        }
+        let value = desk.registers.get(k);
+        line(alloc, Answer::Balance { name, k, value })
     }
 
-    // The replies to a request.
-    fn replies(&self, alloc: Global, root: u32) -> Result<Vec<Element>, AllocError>
-        ensures { IfOk result (λ replies. replies.items ≡ replies_below self.now.plain root (rows_of self.now.plain.limits)) }
+    // The sum of a register over all desks.
+    fn sum(&self, k: u64) -> u128
+        ensures { result ≡ register_sum k (state self.now) }
     {
-        let mut replies = Vec::new(alloc);
-        let capacity = self.plain.capacity();
-        for id in 0..capacity {
-            push_some(&mut replies, self.reply_at(root, id))?;
+        let mut sum = 0;
+        for desk in &self.desks {
+            sum += u128::from(counted_value(desk, k));
         }
-        Ok(replies)
-    }
-
-    // The reply to a request with this id, if there is one.
-    fn reply_at(&self, root: u32, id: u32) -> Option<Element>
-        ensures { result ≡ reply_of root (read_of self.now.plain id) }
-    {
-        match self.plain.read(id) {
-            Ok(look) => {
-                if is_reply(root, &look) {
-                    Some(look.element)
-                } else {
-                    None
-                }
-            }
-            Err(_) => None,
-        }
+        sum
     }
 
     /// Performs a command and answers its line.
@@ -182,77 +138,43 @@ impl PlainRun {
         servers: &[ScriptServer],
         command: Command,
     ) -> Result<String, AllocError>
-        requires ready { IsReady (map server_view servers.now) self.old.plain }
+        requires ready { IsReady (map server_view servers.now) self.old }
         requires in_range { IsInRange (length servers.now) command }
-        ensures step { IfOk result (λ text. command_step (map server_view servers.now) command (state self.old) ≡ (string_bytes text, state self.new)) }
-        ensures ready { IfOk result (λ _. IsReady (map server_view servers.now) self.new.plain) }
+        ensures step { IfOk result (λ text. command_step (map server_view servers.now) command (state self.old)
+            ≡ (string_bytes text, state self.new)) }
+        ensures ready { IfOk result (λ _. IsReady (map server_view servers.now) self.new) }
     {
         match command {
-            Command::Client(ClientAct::Submit { stage, body }) => self.submit(alloc, stage, body),
-            Command::Client(ClientAct::Reply { root }) => self.reply(alloc, root),
-            Command::Desk { server, act } => match act {
-                DeskAct::Turn => self.turn_line(alloc, &servers[server]),
-                // No script of the plain reach has another act,
-                _ => Ok(String::new(alloc)),
-            },
-            // or another command.
-            _ => Ok(String::new(alloc)),
+            Command::Client(act) => client_line(&mut self.plain, alloc, act),
+            Command::Desk { server, act } => self.desk_line(alloc, servers, server, act),
+            Command::Balance { server, k } => self.balance_line(alloc, servers, server, k),
+            Command::Sum { k } => {
+                let sum = self.sum(k);
+                line(alloc, Answer::Sum { k, sum })
+            }
+            // A script with a race isn't run.
+            Command::Race(_) => Ok(String::new(alloc)),
+            Command::Drain => {
+                self.drain(servers, Order::LeastFirst)?;
+                line(alloc, Answer::Drained)
+            }
+            Command::DrainNext => {
+                self.drain(servers, Order::InTurn)?;
+                line(alloc, Answer::Drained)
+            }
         }
-    }
-
-    // The final line of a server.
-    fn final_line(&self, alloc: Global, server: &ScriptServer) -> Result<String, AllocError>
-        ensures { IfOk result (λ text. string_bytes text ≡ final_line (state self.now) (server_view server.now)) }
-    {
-        let name = server.name.as_str();
-        let registers = self.registers.as_slice();
-        line(alloc, Answer::Final { name, registers })
-    }
-
-    /// The final lines.
-    pub fn finals(&self, alloc: Global, servers: &[ScriptServer]) -> Result<String, AllocError>
-        ensures { IfOk result (λ text. string_bytes text ≡ final_lines (map server_view servers.now) (state self.now)) }
-    {
-        let mut text = String::new(alloc);
-        for server in servers {
-            let line = self.final_line(alloc, server)?;
-            text.push_str(line.as_str())?;
-        }
-        Ok(text)
     }
 }
 
-// The registers that the server of a script begins with.
-fn first_registers(servers: &[ScriptServer]) -> Result<Registers, AllocError>
-    ensures { IfOk result (λ r. r ≡ registers_of (map server_view servers.now)) }
+// What a desk adds to the sum of a register.
+fn counted_value(desk: &PlainDesk, k: u64) -> u64
+    ensures { result ≡ counted_value k desk.now }
 {
-    match servers.first() {
-        Some(server) => server.registers.clone(),
-        None => match Registers::new(1) {
-            Some(registers) => Ok(registers),
-            None => unreachable!(),
-        },
+    if desk.is_dropped {
+        return 0;
     }
-}
-
-// Adds an element, if there is one.
-fn push_some(elements: &mut Vec<Element>, element: Option<Element>) -> Result<(), AllocError>
-    ensures { OnOk result (elements.new.items ≡ with_last elements.old.items element) }
-{
-    match element {
-        Some(element) => {
-            elements.push(element)?;
-            Ok(())
-        }
-        None => Ok(()),
+    match desk.registers.get(k) {
+        Some(value) => value,
+        None => 0,
     }
-}
-
-// Whether a look shows a reply to this request that waits.
-fn is_reply(root: u32, look: &Look) -> bool
-    ensures { result ≡ is_reply root look.now }
-{
-    look.element.stage == 15
-        && look.element.root == root
-        && matches!(look.status, Status::Waiting { attempts: _ })
 }

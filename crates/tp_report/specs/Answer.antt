@@ -22,6 +22,42 @@ use Rattle.tp_script.specs.Fault.{◌<>◌}
 abbrev pub line : List ℕ → List ℕ
 line text = text <> codes "\n"
 
+-- ---- refusals
+
+-- why a call was refused
+abbrev pub refusal_name : Refusal → List ℕ
+refusal_name refusal.NoMemory = codes "NoMemory"
+refusal_name refusal.BadLimits = codes "BadLimits"
+refusal_name refusal.BadStage = codes "BadStage"
+refusal_name refusal.NotThere = codes "NotThere"
+refusal_name (refusal.Consumed unit) = codes "Consumed " <> decimal unit
+refusal_name refusal.AlreadyKilled = codes "AlreadyKilled"
+refusal_name refusal.Full = codes "Full"
+refusal_name refusal.NotParked = codes "NotParked"
+refusal_name refusal.NoRound = codes "NoRound"
+refusal_name refusal.NotHeld = codes "NotHeld"
+refusal_name refusal.NotWaiting = codes "NotWaiting"
+refusal_name refusal.NoUnit = codes "NoUnit"
+
+-- the number of that reason
+abbrev pub refusal_number : Refusal → ℕ
+refusal_number refusal.NoMemory = 1
+refusal_number refusal.BadLimits = 2
+refusal_number refusal.BadStage = 3
+refusal_number refusal.NotThere = 4
+refusal_number (refusal.Consumed unit) = 5
+refusal_number refusal.AlreadyKilled = 6
+refusal_number refusal.Full = 7
+refusal_number refusal.NotParked = 8
+refusal_number refusal.NoRound = 9
+refusal_number refusal.NotHeld = 12
+refusal_number refusal.NotWaiting = 10
+refusal_number refusal.NoUnit = 13
+
+-- a refused call
+abbrev pub refusal_text : Refusal → List ℕ
+refusal_text why = codes "refused " <> decimal (refusal_number why) <> codes " " <> refusal_name why
+
 -- ---- servers
 
 -- what a turn came to
@@ -37,6 +73,7 @@ turned_text (turned.Full element) = codes "full " <> decimal element
 abbrev pub server_text : ServerAnswer → List ℕ
 server_text (server.Turned turned) = turned_text turned
 server_text (server.Work element unit attempt) = codes "work " <> decimal element <> codes " unit " <> decimal unit <> codes " attempt " <> decimal attempt
+server_text (server.NotTaken element why) = codes "refused " <> decimal element <> codes " " <> refusal_name why
 server_text server.Busy = codes "busy"
 server_text server.NoneOpen = codes "none"
 server_text server.Ready = codes "ready"
@@ -50,19 +87,6 @@ abbrev pub named_text : List ℕ → ServerAnswer → List ℕ
 named_text name answer = name <> codes " " <> server_text answer
 
 -- ---- elements
-
--- a refused call
-abbrev pub refusal_text : Refusal → List ℕ
-refusal_text refusal.NoMemory = codes "refused 1 NoMemory"
-refusal_text refusal.BadLimits = codes "refused 2 BadLimits"
-refusal_text refusal.BadStage = codes "refused 3 BadStage"
-refusal_text refusal.NotThere = codes "refused 4 NotThere"
-refusal_text (refusal.Consumed unit) = codes "refused 5 Consumed " <> decimal unit
-refusal_text refusal.AlreadyKilled = codes "refused 6 AlreadyKilled"
-refusal_text refusal.Full = codes "refused 7 Full"
-refusal_text refusal.NotParked = codes "refused 8 NotParked"
-refusal_text refusal.NoRound = codes "refused 9 NoRound"
-refusal_text refusal.NotHeld = codes "refused 12 NotHeld"
 
 -- a submitted element
 abbrev pub submitted_text : ℕ → List ℕ

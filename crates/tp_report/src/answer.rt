@@ -21,6 +21,11 @@ pub enum ServerAnswer {
         unit: u16,
         attempt: u8,
     },
+    /// The element was not taken, for this reason.
+    NotTaken {
+        element: u32,
+        why: Refusal,
+    },
     /// A unit of work is open, or is prepared already.
     Busy,
     /// No unit of work is open.

@@ -1,7 +1,7 @@
 //! How answers are told: the one place where the texts of a report's lines stand.
 ghost use Rattle.std.specs.Prelude.{◌≡◌, Some};
 ghost use Rattle.std.specs.Fmt.{WritesOnOk};
-ghost use Rattle.tp_report.specs.Answer.{turned_text, server_text, refusal_text, maker_text, status_text, is_short, more_words_text, element_text, look_text, reply_text, replies_text, collected_text, state_text, member_text, family_text, errors_text, counts_text, account_text, balance_text, final_text, answer_text};
+ghost use Rattle.tp_report.specs.Answer.{turned_text, server_text, refusal_name, refusal_number, refusal_text, maker_text, status_text, is_short, more_words_text, element_text, look_text, reply_text, replies_text, collected_text, state_text, member_text, family_text, errors_text, counts_text, account_text, balance_text, final_text, answer_text};
 
 use crate::answer::{Answer, ServerAnswer};
 use std::fmt;
@@ -38,6 +38,10 @@ impl fmt::Display for ServerAnswer {
                 unit,
                 attempt,
             } => write!(f, "work {element} unit {unit} attempt {attempt}"),
+            ServerAnswer::NotTaken { element, why } => {
+                write!(f, "refused {element} ")?;
+                refusal_name(f, why)
+            }
             ServerAnswer::Busy => write!(f, "busy"),
             ServerAnswer::NoneOpen => write!(f, "none"),
             ServerAnswer::Ready => write!(f, "ready"),
@@ -49,22 +53,53 @@ impl fmt::Display for ServerAnswer {
     }
 }
 
-// A refused call.
-fn refusal<W: fmt::Write>(f: &mut fmt::Formatter<W>, refusal: Refusal) -> fmt::Result
-    ensures { WritesOnOk W.write_str_gives f.old result (refusal_text refusal) f.new }
+// Why a call was refused.
+fn refusal_name<W: fmt::Write>(f: &mut fmt::Formatter<W>, why: Refusal) -> fmt::Result
+    ensures { WritesOnOk W.write_str_gives f.old result (refusal_name why) f.new }
 {
-    match refusal {
-        Refusal::NoMemory => write!(f, "refused 1 NoMemory"),
-        Refusal::BadLimits => write!(f, "refused 2 BadLimits"),
-        Refusal::BadStage => write!(f, "refused 3 BadStage"),
-        Refusal::NotThere => write!(f, "refused 4 NotThere"),
-        Refusal::Consumed { unit } => write!(f, "refused 5 Consumed {unit}"),
-        Refusal::AlreadyKilled => write!(f, "refused 6 AlreadyKilled"),
-        Refusal::Full => write!(f, "refused 7 Full"),
-        Refusal::NotParked => write!(f, "refused 8 NotParked"),
-        Refusal::NoRound => write!(f, "refused 9 NoRound"),
-        Refusal::NotHeld => write!(f, "refused 12 NotHeld"),
+    match why {
+        Refusal::NoMemory => write!(f, "NoMemory"),
+        Refusal::BadLimits => write!(f, "BadLimits"),
+        Refusal::BadStage => write!(f, "BadStage"),
+        Refusal::NotThere => write!(f, "NotThere"),
+        Refusal::Consumed { unit } => write!(f, "Consumed {unit}"),
+        Refusal::AlreadyKilled => write!(f, "AlreadyKilled"),
+        Refusal::Full => write!(f, "Full"),
+        Refusal::NotParked => write!(f, "NotParked"),
+        Refusal::NoRound => write!(f, "NoRound"),
+        Refusal::NotHeld => write!(f, "NotHeld"),
+        Refusal::NotWaiting => write!(f, "NotWaiting"),
+        Refusal::NoUnit => write!(f, "NoUnit"),
     }
+}
+
+// The number of that reason.
+fn refusal_number(why: Refusal) -> u8
+    ensures { result ≡ refusal_number why }
+{
+    match why {
+        Refusal::NoMemory => 1,
+        Refusal::BadLimits => 2,
+        Refusal::BadStage => 3,
+        Refusal::NotThere => 4,
+        Refusal::Consumed { .. } => 5,
+        Refusal::AlreadyKilled => 6,
+        Refusal::Full => 7,
+        Refusal::NotParked => 8,
+        Refusal::NoRound => 9,
+        Refusal::NotWaiting => 10,
+        Refusal::NotHeld => 12,
+        Refusal::NoUnit => 13,
+    }
+}
+
+// A refused call.
+fn refusal<W: fmt::Write>(f: &mut fmt::Formatter<W>, why: Refusal) -> fmt::Result
+    ensures { WritesOnOk W.write_str_gives f.old result (refusal_text why) f.new }
+{
+    let number = refusal_number(why);
+    write!(f, "refused {number} ")?;
+    refusal_name(f, why)
 }
 
 // Who made an element.

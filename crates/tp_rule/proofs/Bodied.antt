@@ -1,11 +1,11 @@
 -- The stores of a body, one after another.
-use Rattle.std.proofs.Common.{◌≡◌, ℕ, zero, suc, ◌≤◌, List, [], ◌∷◌, set, slice_index, refl, sym, ap, ◌∙◌, subst, ⊎_elim, arith}
+use Rattle.std.proofs.Common.{◌≡◌, ℕ, zero, suc, ◌+◌, ◌≤◌, ◌==◌, if◌then◌else◌, Bool, true, false, List, [], ◌∷◌, set, slice_index, refl, sym, ap, ◌∙◌, subst, ⊎_elim, arith}
 use Rattle.tp_model.specs.declared.trace.StepKind.TheVariants as kinds
 use Rattle.tp_model.specs.declared.trace.TraceEntry.{TraceEntry}
 use Rattle.tp_model.specs.declared.types.TheConstants.{BODY_WORDS}
 use Rattle.tp_model.specs.Steps.{IsBody}
 use Rattle.tp_model.proofs.Bodies.{four_words}
-use Rattle.tp_rule.specs.Steps.{Bodied, Fills, bodied, drafted, noted, stored, unchanged, with_body, with_word}
+use Rattle.tp_rule.specs.Steps.{Bodied, Fills, bodied, drafted, noted, stored, stores_of, stores_of_word, unchanged, with_body, with_word}
 use Rattle.tp_rule.specs.Views.{IsOnePass, blank_body, hand}
 use Rattle.tp_rule.specs.declared.view.Hand.{Hand}
 use Rattle.tp_rule.specs.declared.view.View.{View}
@@ -71,29 +71,44 @@ word_stored v u w zero k x b c one before is more =
 word_stored v u w (suc n) k x b c one before is more =
     is ∙ (ap (drafted (with_word k x)) before ∙ (word_more (stored n v) b k x (stored_one n v one) ∙ ap (λ (z : List ℕ). drafted (with_body z) (drafted unchanged (stored n v))) more))
 
--- at most n stores were
-abbrev Filled : ℕ → List ℕ → View → View → Type 0
-Filled n b v w = (m : ℕ) × (m ≤ n) × Worded m b v w
+one_more : (m x : ℕ) → stores_of_word x ≡ 1 → suc m ≡ stores_of_word x + m
+one_more m x one = omega (arith, one)
 
-filled_more : (v u w : View) (n k x : ℕ) (b c : List ℕ) → IsOnePass v → Filled n b v u → Fills u k x w → set b k x ≡ c → (x ≡ 0 → b ≡ c) → Filled (suc n) c v w
-filled_more v u w n k x b c one before fills more same = let m : ℕ = before.0 in let few = before.1 in ⊎_elim
-    (λ is. (suc m, omega arith, word_stored v u w m k x b c one before.2 is more))
-    (λ left. (m, omega arith, subst (λ z. Worded m z v w) (same left.1) (subst (λ z. Worded m b v z) (sym left.0) before.2))) fills.does
+none_more : (m x : ℕ) → x ≡ 0 → m ≡ stores_of_word x + m
+none_more m x none = omega (arith, ap stores_of_word none)
+
+-- a word takes a store unless it is 0
+filled_more : (v u w : View) (m k x : ℕ) (b c : List ℕ) → IsOnePass v → Worded m b v u → Fills u k x w → set b k x ≡ c → (x ≡ 0 → b ≡ c) → Worded (stores_of_word x + m) c v w
+filled_more v u w m k x b c one before fills more same = ⊎_elim
+    (λ is. subst (λ n. Worded n c v w) (one_more m x is.1) (word_stored v u w m k x b c one before is.0 more))
+    (λ left. subst (λ n. Worded n c v w) (none_more m x left.1) (subst (λ z. Worded m z v w) (same left.1) (subst (λ z. Worded m b v z) (sym left.0) before))) fills.does
+
+sum_few : (a b c d : ℕ) → a ≤ 1 → b ≤ 1 → c ≤ 1 → d ≤ 1 → a + (b + (c + (d + 0))) ≤ BODY_WORDS
+sum_few a b c d e f g h = omega arith
+
+if_few : (b : Bool) → (if b then 0 else 1) ≤ 1
+if_few true = omega arith
+if_few false = omega arith
+
+one_at_most : (x : ℕ) → stores_of_word x ≤ 1
+one_at_most x = if_few (x == 0)
 
 -- the body stands there, then
-bodied_by : (v w : View) (body : List ℕ) (m : ℕ) → IsOnePass v → m ≤ BODY_WORDS → Worded m body v w → Bodied body v w
-bodied_by v w body zero one few none = record {
+bodied_by : (v w : View) (body : List ℕ) (m : ℕ) → IsOnePass v → m ≡ stores_of body → m ≤ BODY_WORDS → Worded m body v w → Bodied body v w
+bodied_by v w body zero one exact few none = record {
   stores = 0;
+  exact = exact;
   few = few;
   view = none.0;
   pass = (subst IsOnePass (sym none.0) one, ap (λ (z : View). z.limits) none.0);
   hand_is = let back : v ≡ w = sym none.0 in ap hand none.0 ∙ (λ i. record (hand v) { trace = (hand (back i)).trace; next_body = none.1 i });
 }
-bodied_by v w body (suc n) one few view =
+bodied_by v w body (suc n) one exact few view =
     let last = one_after kinds.DraftStore (with_body body) (stored n v).seen (stored n v).known (stored n v) w (stored_one n v one) view in
     let is : hand w ≡ record (hand v) { trace = (noted kinds.DraftStore (stored n v).seen (hand (stored n v))).trace; next_body = body } =
     last.1 ∙ ap (λ (h : Hand). noted kinds.DraftStore (stored n v).seen (with_body body h)) (stored_kept n v one) in record {
       stores = suc n;
+      exact = exact;
       few = few;
       view = view;
       pass = (last.0, last.2 ∙ stored_limits n v);
@@ -103,12 +118,12 @@ bodied_by v w body (suc n) one few view =
 module _ (p q r s : ℕ) where
   four_filled : (v a b d w : View) → IsOnePass v → (hand v).next_body ≡ 0 ∷ 0 ∷ 0 ∷ 0 ∷ [] → Fills v 3 s a → Fills a 2 r b → Fills b 1 q d → Fills d 0 p w → Bodied (p ∷ q ∷ r ∷ s ∷ []) v w
   four_filled v a b d w one blank last third second first =
-      let none : Filled 0 (0 ∷ 0 ∷ 0 ∷ 0 ∷ []) v v = (0, omega arith, (refl, blank)) in
+      let none : Worded 0 (0 ∷ 0 ∷ 0 ∷ 0 ∷ []) v v = (refl, blank) in
       let x = filled_more v v a 0 3 s (0 ∷ 0 ∷ 0 ∷ 0 ∷ []) (0 ∷ 0 ∷ 0 ∷ s ∷ []) one none last refl (λ e. ap (λ z. 0 ∷ 0 ∷ 0 ∷ z ∷ []) (sym e)) in
-      let y = filled_more v a b 1 2 r (0 ∷ 0 ∷ 0 ∷ s ∷ []) (0 ∷ 0 ∷ r ∷ s ∷ []) one x third refl (λ e. ap (λ z. 0 ∷ 0 ∷ z ∷ s ∷ []) (sym e)) in
-      let z = filled_more v b d 2 1 q (0 ∷ 0 ∷ r ∷ s ∷ []) (0 ∷ q ∷ r ∷ s ∷ []) one y second refl (λ e. ap (λ z. 0 ∷ z ∷ r ∷ s ∷ []) (sym e)) in
-      let u = filled_more v d w 3 0 p (0 ∷ q ∷ r ∷ s ∷ []) (p ∷ q ∷ r ∷ s ∷ []) one z first refl (λ e. ap (λ y. y ∷ q ∷ r ∷ s ∷ []) (sym e)) in
-      bodied_by v w (p ∷ q ∷ r ∷ s ∷ []) u.0 one u.1 u.2
+      let y = filled_more v a b (stores_of (s ∷ [])) 2 r (0 ∷ 0 ∷ 0 ∷ s ∷ []) (0 ∷ 0 ∷ r ∷ s ∷ []) one x third refl (λ e. ap (λ z. 0 ∷ 0 ∷ z ∷ s ∷ []) (sym e)) in
+      let z = filled_more v b d (stores_of (r ∷ s ∷ [])) 1 q (0 ∷ 0 ∷ r ∷ s ∷ []) (0 ∷ q ∷ r ∷ s ∷ []) one y second refl (λ e. ap (λ z. 0 ∷ z ∷ r ∷ s ∷ []) (sym e)) in
+      let u = filled_more v d w (stores_of (q ∷ r ∷ s ∷ [])) 0 p (0 ∷ q ∷ r ∷ s ∷ []) (p ∷ q ∷ r ∷ s ∷ []) one z first refl (λ e. ap (λ y. y ∷ q ∷ r ∷ s ∷ []) (sym e)) in
+      bodied_by v w (p ∷ q ∷ r ∷ s ∷ []) (stores_of (p ∷ q ∷ r ∷ s ∷ [])) one refl (sum_few (stores_of_word p) (stores_of_word q) (stores_of_word r) (stores_of_word s) (one_at_most p) (one_at_most q) (one_at_most r) (one_at_most s)) u
 
 -- so a body is stored by those of its words that aren't 0
 pub body_stored : (body : List ℕ) (v a b d w : View) → IsBody body → IsOnePass v → (hand v).next_body ≡ blank_body → Fills v 3 (slice_index body 3) a → Fills a 2 (slice_index body 2) b

@@ -1,7 +1,7 @@
 -- What each kind of step makes of a seat's view, and what it tells. In each definition v is the view before
 -- the step, and w the view after it. A view changes in two ways alone: `after` a step, and by a split or a
 -- join of seats.
-use Rattle.std.specs.Prelude.{◌≡◌, ◌≢◌, ◌⊎◌, ℕ, zero, suc, ◌+◌, ◌-◌, ◌*◌, ◌<◌, ◌≤◌, List, [], ◌∷◌, ◌++◌, map, slice_set, Option, Some, None}
+use Rattle.std.specs.Prelude.{◌≡◌, ◌≢◌, ◌⊎◌, ℕ, zero, suc, ◌+◌, ◌-◌, ◌*◌, ◌<◌, ◌≤◌, ◌==◌, if◌then◌else◌, List, [], ◌∷◌, ◌++◌, map, slice_set, Option, Some, None}
 use mathlib.Core.List.{IsPrefix}
 use Rattle.tp_model.specs.declared.types.Element.{Element}
 use Rattle.tp_model.specs.declared.types.Limits.{Limits}
@@ -125,9 +125,18 @@ drafted f v = after kinds.DraftStore f v.seen v.known v
 abbrev pub with_word : ℕ → ℕ → Hand → Hand
 with_word k x a = record a { next_body = slice_set a.next_body k x }
 
--- the store of word k of that body, which is left out where the word is 0
+-- how many stores a word of a body takes: none where it is 0
+abbrev pub stores_of_word : ℕ → ℕ
+stores_of_word x = if x == 0 then 0 else 1
+
+-- how many a whole body takes
+abbrev pub stores_of : List ℕ → ℕ
+stores_of [] = 0
+stores_of (x ∷ xs) = stores_of_word x + stores_of xs
+
+-- the store of word k of that body, which is left out exactly where the word is 0
 pub record Fills (v : View) (k x : ℕ) (w : View) : Type 0 where
-  pub does : (w ≡ drafted (with_word k x) v) ⊎ ((w ≡ v) × (x ≡ 0))
+  pub does : ((w ≡ drafted (with_word k x) v) × (stores_of_word x ≡ 1)) ⊎ ((w ≡ v) × (x ≡ 0))
 
 -- the body of the next row is stored
 abbrev pub with_body : List ℕ → Hand → Hand
@@ -143,9 +152,10 @@ abbrev pub bodied : ℕ → List ℕ → View → View
 bodied zero body v = v
 bodied (suc n) body v = drafted (with_body body) (stored n v)
 
--- the body of the next row is stored, in at most one store for each of its words
+-- the body of the next row is stored, in one store for each of its words that isn't 0
 pub record Bodied (body : List ℕ) (v w : View) : Type 0 where
   pub stores : ℕ
+  pub exact : stores ≡ stores_of body
   pub few : stores ≤ BODY_WORDS
   pub view : w ≡ bodied stores body v
   -- so nothing else has changed in the pass but its trace

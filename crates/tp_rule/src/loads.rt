@@ -56,6 +56,21 @@ impl Words {
         Head::read(found)
     }
 
+    /// Reads the stage in the head of a row: that of its element, where one is born.
+    #[inline(always)]
+    pub fn load_stage(&self, seat: &mut Seat, row: u32) -> u8
+        requires own { IsSeatOf self.now seat.old }
+        requires one { IsPassOf self.now seat.old }
+        requires row { row < rows_of (limits_of self.now) }
+        ensures same { IsSameSeat seat.old seat.new }
+        ensures grew { Grew kinds.Load unchanged [] (view_of seat.old) (view_of seat.new) }
+        ensures born { (e : Element) → element_of (seen_by seat.new) row ≡ Some e → result ≡ e.stage }
+    {
+        let word = self.places.head(row);
+        let found = self.table.load::<LoadHead>(seat, word);
+        Head::stage(found)
+    }
+
     /// Reads a word of the body of a row: that of its element, where one is born.
     #[inline(always)]
     pub fn load_word(&self, seat: &mut Seat, row: u32, word: usize) -> u64

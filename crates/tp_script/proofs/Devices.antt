@@ -19,6 +19,7 @@ Consumes-none (Some x) = refl
 pub record ReadSoFar (old now : Option (List ℕ)) (read : List ℕ) (len asked_before asked turns : ℕ) : Type 0 where
   pub bytes : Consumes old now read
   pub short : len ≤ MOST_BYTES
+  pub some : turns ≤ len
   pub once : asked ≡ asked_before + turns
 
 pub read_more : (a b c : Option (List ℕ)) (read more : List ℕ) → Consumes a b read → Consumes b c more → Consumes a c (read ++ more)

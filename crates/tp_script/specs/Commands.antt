@@ -1,16 +1,16 @@
 -- The command lines of a script.
 use Rattle.std.specs.Prelude.{ℕ, ◌+◌, ◌-◌, ◌^◌, List, [], ◌∷◌, ◌++◌, Result, Ok, Err, nat_le, codes, if◌then◌else◌}
+use Rattle.std.specs.Str.{bytes_eq}
 use Rattle.tp_script.specs.declared.fault.LineFault.{LineFault}
 use Rattle.tp_script.specs.declared.fault.LineFault.TheVariants.{Syntax, BadNumber, BadLimits, BadName}
 use Rattle.tp_script.specs.declared.keyword.Verb.{Verb}
 use Rattle.tp_script.specs.declared.keyword.Verb.TheVariants as verb
 use Rattle.tp_script.specs.declared.script.Command.{Command}
-use Rattle.tp_script.specs.declared.script.Command.TheVariants.{Client, Desk, Balance, Sum, Race, Drain}
+use Rattle.tp_script.specs.declared.script.Command.TheVariants.{Client, Desk, Balance, Sum, Race, Drain, DrainNext}
 use Rattle.tp_script.specs.declared.script.ClientAct.TheVariants as client
+use Rattle.tp_script.specs.declared.script.DeskAct.TheVariants as desk
 use Rattle.tp_script.specs.Numbers.{passes_limit}
-use Rattle.tp_script.specs.declared.reach.Reach.{Reach}
 use Rattle.tp_script.specs.Passes.{racers}
-use Rattle.tp_script.specs.Reach.{has_whole_bodies}
 use Rattle.tp_script.specs.Script.{ScriptView, passes}
 use Rattle.tp_script.specs.ServerLines.{server_at}
 use Rattle.tp_script.specs.Terms.{◌>>=◌, require, none, one, two, number_at, is_name}
@@ -37,19 +37,15 @@ pub record SubmitWords : Type 0 where
   pub word_two : List ℕ
   pub word_three : List ℕ
 
--- STAGE KEY AMOUNT, with words 2 and 3 of the body behind where the script may go so far; missing ones are 0
-abbrev pub submit_words : Reach → List (List ℕ) → Result SubmitWords LineFault
-submit_words reach (stage ∷ key ∷ amount ∷ []) =
+-- STAGE KEY AMOUNT, with words 2 and 3 of the body behind; missing ones are 0
+abbrev pub submit_words : List (List ℕ) → Result SubmitWords LineFault
+submit_words (stage ∷ key ∷ amount ∷ []) =
     Ok (record { stage = stage; key = key; amount = amount; word_two = codes "0"; word_three = codes "0" })
-submit_words reach (stage ∷ key ∷ amount ∷ word_two ∷ []) =
-    if has_whole_bodies reach
-    then Ok (record { stage = stage; key = key; amount = amount; word_two = word_two; word_three = codes "0" })
-    else Err Syntax
-submit_words reach (stage ∷ key ∷ amount ∷ word_two ∷ word_three ∷ []) =
-    if has_whole_bodies reach
-    then Ok (record { stage = stage; key = key; amount = amount; word_two = word_two; word_three = word_three })
-    else Err Syntax
-submit_words reach ws = Err Syntax
+submit_words (stage ∷ key ∷ amount ∷ word_two ∷ []) =
+    Ok (record { stage = stage; key = key; amount = amount; word_two = word_two; word_three = codes "0" })
+submit_words (stage ∷ key ∷ amount ∷ word_two ∷ word_three ∷ []) =
+    Ok (record { stage = stage; key = key; amount = amount; word_two = word_two; word_three = word_three })
+submit_words ws = Err Syntax
 
 -- `submit STAGE KEY AMOUNT W2 W3`
 unfoldable pub submit_at : SubmitWords → Result Command LineFault
@@ -60,6 +56,13 @@ submit_at w = do
   word_two ← number_at (2 ^ 64 - 1) w.word_two
   word_three ← number_at (2 ^ 64 - 1) w.word_three
   Ok (Client (client.Submit stage (key ∷ amount ∷ word_two ∷ word_three ∷ [])))
+
+-- `take NAME ID`
+unfoldable pub take_at : List ℕ × List ℕ → ScriptView → Result Command LineFault
+take_at (name, id) s = do
+  server ← named name s
+  id ← number_at (2 ^ 32 - 1) id
+  Ok (Desk server (desk.Take id))
 
 -- `balance NAME K`
 unfoldable pub balance_at : List ℕ × List ℕ → ScriptView → Result Command LineFault
@@ -103,24 +106,31 @@ race_at w = do
   turns ← number_at 10000 w.turns
   Ok (Race (record { clients = clients; submits = submits; stage = stage; key = key; amount = amount; killers = killers; turns = turns }))
 
+-- `drain` or `drain next`
+abbrev pub drain_at : List (List ℕ) → Result Command LineFault
+drain_at [] = Ok Drain
+drain_at (w ∷ []) = if bytes_eq w (codes "next") then Ok DrainNext else Err Syntax
+drain_at ws = Err Syntax
+
 -- a command of this first word, with the words behind it
-unfoldable pub command_at : Reach → Verb → List (List ℕ) → ScriptView → Result Command LineFault
-command_at reach verb.Submit ws s = submit_words reach ws >>= λ w. submit_at w
-command_at reach verb.Kill ws s = one_id ws >>= λ id. Ok (Client (client.Kill id))
-command_at reach verb.Cancel ws s = one_id ws >>= λ root. Ok (Client (client.Cancel root))
-command_at reach verb.Requeue ws s = one_id ws >>= λ id. Ok (Client (client.Requeue id))
-command_at reach verb.Release ws s = one_id ws >>= λ id. Ok (Client (client.Release id))
-command_at reach verb.Read ws s = one_id ws >>= λ id. Ok (Client (client.Read id))
-command_at reach verb.Reply ws s = one_id ws >>= λ root. Ok (Client (client.Reply root))
-command_at reach verb.Collect ws s = one_id ws >>= λ root. Ok (Client (client.Collect root))
-command_at reach verb.Family ws s = one_id ws >>= λ root. Ok (Client (client.Family root))
-command_at reach verb.Errors ws s = none ws >>= λ _. Ok (Client client.Errors)
-command_at reach verb.Count ws s = none ws >>= λ _. Ok (Client client.Count)
-command_at reach (verb.Desk act) ws s = one_server ws s >>= λ server. Ok (Desk server act)
-command_at reach verb.Balance ws s = two ws >>= λ w. balance_at w s
-command_at reach verb.Sum ws s = one ws >>= λ w. number_at (2 ^ 64 - 1) w >>= λ k. Ok (Sum k)
-command_at reach verb.Race ws s = race_words ws >>= λ w. race_at w
-command_at reach verb.Drain ws s = none ws >>= λ _. Ok Drain
+unfoldable pub command_at : Verb → List (List ℕ) → ScriptView → Result Command LineFault
+command_at verb.Submit ws s = submit_words ws >>= λ w. submit_at w
+command_at verb.Kill ws s = one_id ws >>= λ id. Ok (Client (client.Kill id))
+command_at verb.Cancel ws s = one_id ws >>= λ root. Ok (Client (client.Cancel root))
+command_at verb.Requeue ws s = one_id ws >>= λ id. Ok (Client (client.Requeue id))
+command_at verb.Release ws s = one_id ws >>= λ id. Ok (Client (client.Release id))
+command_at verb.Read ws s = one_id ws >>= λ id. Ok (Client (client.Read id))
+command_at verb.Reply ws s = one_id ws >>= λ root. Ok (Client (client.Reply root))
+command_at verb.Collect ws s = one_id ws >>= λ root. Ok (Client (client.Collect root))
+command_at verb.Family ws s = one_id ws >>= λ root. Ok (Client (client.Family root))
+command_at verb.Errors ws s = none ws >>= λ _. Ok (Client client.Errors)
+command_at verb.Count ws s = none ws >>= λ _. Ok (Client client.Count)
+command_at (verb.Desk act) ws s = one_server ws s >>= λ server. Ok (Desk server act)
+command_at verb.Take ws s = two ws >>= λ w. take_at w s
+command_at verb.Balance ws s = two ws >>= λ w. balance_at w s
+command_at verb.Sum ws s = one ws >>= λ w. number_at (2 ^ 64 - 1) w >>= λ k. Ok (Sum k)
+command_at verb.Race ws s = race_words ws >>= λ w. race_at w
+command_at verb.Drain ws s = drain_at ws
 
 -- the script with one command more, unless it needs more passes then than there can be
 unfoldable pub with_command : Command → ScriptView → Result ScriptView LineFault

@@ -7,11 +7,9 @@ use Rattle.tp_script.specs.declared.fault.LineFault.TheVariants.{Syntax, BadLimi
 use Rattle.tp_script.specs.declared.fault.Refused.{Refused}
 use Rattle.tp_script.specs.declared.keyword.Keyword.{Keyword}
 use Rattle.tp_script.specs.declared.keyword.Keyword.TheVariants as first
-use Rattle.tp_script.specs.declared.reach.Reach.{Reach}
 use Rattle.tp_script.specs.Text.{lines, words}
 use Rattle.tp_script.specs.Commands.{command_at, with_command}
 use Rattle.tp_script.specs.Keyword.{keyword}
-use Rattle.tp_script.specs.Reach.{has}
 use Rattle.tp_script.specs.Script.{ScriptView}
 use Rattle.tp_script.specs.ServerLines.{has_commands, server_line, start_line}
 use Rattle.tp_script.specs.Terms.{◌>>=◌, require, known, none, one, three, number_at}
@@ -64,27 +62,20 @@ behind_account read = Err Order
 -- ---- a whole line, and all lines
 
 -- a line of this first word, with the words behind it
-unfoldable pub keyword_line : Reach → Keyword → List (List ℕ) → ScriptView → Result ScriptView LineFault
-keyword_line reach first.Rows ws s = one ws >>= λ w. rows_line w s
-keyword_line reach first.Units ws s = one ws >>= λ w. units_line w s
-keyword_line reach first.Limit ws s = one ws >>= λ w. limit_line w s
-keyword_line reach first.Spare ws s = one ws >>= λ w. spare_line w s
-keyword_line reach first.Server ws s = server_line reach ws s
-keyword_line reach first.Start ws s = three ws >>= λ w. start_line w s
-keyword_line reach (first.Do verb) ws s = command_at reach verb ws s >>= λ c. with_command c s
-keyword_line reach first.Account ws s = account_line ws s
-
--- the keyword that a word is, where the script may have such a line
-unfoldable pub first_word : Reach → List ℕ → Result Keyword LineFault
-first_word reach w = do
-  k ← known (keyword w) Syntax
-  _ ← require (has reach k.0) Syntax
-  Ok k.1
+unfoldable pub keyword_line : Keyword → List (List ℕ) → ScriptView → Result ScriptView LineFault
+keyword_line first.Rows ws s = one ws >>= λ w. rows_line w s
+keyword_line first.Units ws s = one ws >>= λ w. units_line w s
+keyword_line first.Limit ws s = one ws >>= λ w. limit_line w s
+keyword_line first.Spare ws s = one ws >>= λ w. spare_line w s
+keyword_line first.Server ws s = server_line ws s
+keyword_line first.Start ws s = three ws >>= λ w. start_line w s
+keyword_line (first.Do verb) ws s = command_at verb ws s >>= λ c. with_command c s
+keyword_line first.Account ws s = account_line ws s
 
 -- a line of these words says nothing where there are none
-unfoldable pub words_line : Reach → List (List ℕ) → ScriptView → Result ScriptView LineFault
-words_line reach [] s = Ok s
-words_line reach (w ∷ ws) s = first_word reach w >>= λ k. if s.account then behind_account (keyword_line reach k ws s) else keyword_line reach k ws s
+unfoldable pub words_line : List (List ℕ) → ScriptView → Result ScriptView LineFault
+words_line [] s = Ok s
+words_line (w ∷ ws) s = known (keyword w) Syntax >>= λ k. if s.account then behind_account (keyword_line k ws s) else keyword_line k ws s
 
 -- a line that begins with `#`
 abbrev pub is_comment : List ℕ → Bool
@@ -92,11 +83,11 @@ is_comment [] = false
 is_comment (b ∷ bs) = b == 35
 
 -- a line of at most 200 bytes, each a space or visible
-unfoldable pub line_at : Reach → List ℕ → ScriptView → Result ScriptView LineFault
-line_at reach line s = do
+unfoldable pub line_at : List ℕ → ScriptView → Result ScriptView LineFault
+line_at line s = do
   _ ← require (nat_le (length line) 200) TooLong
   _ ← require (list_all (λ b. nat_le 32 b && nat_le b 126) line) Syntax
-  if is_comment line then Ok s else words_line reach (words line) s
+  if is_comment line then Ok s else words_line (words line) s
 
 -- what the others say, unless line n has a fault
 abbrev pub at_line : ℕ → Result ScriptView LineFault → (ScriptView → Result ScriptView Refused) → Result ScriptView Refused
@@ -104,14 +95,14 @@ at_line n (Ok s) others = others s
 at_line n (Err fault) others = Err (record { line = n; fault = fault })
 
 -- the lines from number n on
-unfoldable pub lines_from : Reach → ℕ → List (List ℕ) → ScriptView → Result ScriptView Refused
-lines_from reach n [] s = Ok s
-lines_from reach n (line ∷ others) s = at_line n (line_at reach line s) (λ t. lines_from reach (n + 1) others t)
+unfoldable pub lines_from : ℕ → List (List ℕ) → ScriptView → Result ScriptView Refused
+lines_from n [] s = Ok s
+lines_from n (line ∷ others) s = at_line n (line_at line s) (λ t. lines_from (n + 1) others t)
 
 -- a script without lines
 abbrev pub no_lines : ScriptView
 no_lines = record { settings = record { rows = 64; units = 256; attempts = 3; spare = 0 }; servers = []; commands = []; account = false }
 
--- what the bytes of a script say that may go so far, or the line and number of its first fault
-unfoldable pub script : Reach → List ℕ → Result ScriptView Refused
-script reach bytes = if nat_lt bytes_limit (length bytes) then Err (record { line = 0; fault = TooLong }) else lines_from reach 1 (lines bytes) no_lines
+-- what the bytes of a script say, or the line and number of its first fault
+unfoldable pub script : List ℕ → Result ScriptView Refused
+script bytes = if nat_lt bytes_limit (length bytes) then Err (record { line = 0; fault = TooLong }) else lines_from 1 (lines bytes) no_lines

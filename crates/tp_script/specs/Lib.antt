@@ -2,7 +2,6 @@ pub mod Fault
 pub mod Text
 pub mod Numbers
 pub mod Devices
-pub mod Reach
 pub mod Keyword
 pub mod Passes
 pub mod Ranges

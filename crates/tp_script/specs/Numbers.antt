@@ -1,7 +1,5 @@
 -- The numbers that promises rest on. The code's constants are held to them where a contract names them.
 use Rattle.std.specs.Prelude.{ℕ}
-use Rattle.tp_script.specs.declared.reach.Reach.{Reach}
-use Rattle.tp_script.specs.declared.reach.Reach.TheVariants.{Workers}
 
 -- how many bytes a script has at most
 abbrev pub bytes_limit : ℕ
@@ -17,7 +15,3 @@ servers_limit = 8
 
 abbrev pub passes_limit : ℕ
 passes_limit = 32
-
--- the reach of the scripts that the program reads
-abbrev pub program_reach : Reach
-program_reach = Workers

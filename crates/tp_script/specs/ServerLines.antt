@@ -8,8 +8,7 @@ use Rattle.tp_server.specs.Check.{check_of}
 use Rattle.tp_script.specs.declared.fault.LineFault.{LineFault}
 use Rattle.tp_script.specs.declared.fault.LineFault.TheVariants.{Syntax, BadLimits, BadRecipe, BadName, Order}
 use Rattle.tp_script.specs.declared.script.Kind.{Kind}
-use Rattle.tp_script.specs.declared.reach.Reach.{Reach}
-use Rattle.tp_script.specs.Reach.{most_servers}
+use Rattle.tp_script.specs.Numbers.{servers_limit}
 use Rattle.tp_script.specs.Terms.{◌>>=◌, require, known, number_at, is_name, kind_at, act_at, is_output, outputs_at}
 use Rattle.tp_script.specs.Script.{ScriptView, ServerView}
 
@@ -32,13 +31,13 @@ pub record Shape : Type 0 where
   pub outputs : List (List ℕ)
 
 -- NAME KIND STAGE REGISTERS ACT OUT.., with at most four OUT of two colons each
-unfoldable pub shape_at : Reach → List (List ℕ) → Result Shape LineFault
-shape_at reach (name ∷ kind ∷ stage ∷ registers ∷ act ∷ outputs) = do
+unfoldable pub shape_at : List (List ℕ) → Result Shape LineFault
+shape_at (name ∷ kind ∷ stage ∷ registers ∷ act ∷ outputs) = do
   kind ← kind_at kind
-  deed ← act_at reach act
+  deed ← act_at act
   _ ← require (nat_le (length outputs) 4 && list_all is_output outputs) Syntax
   Ok (record { name = name; kind = kind; stage = stage; registers = registers; act = deed.0; word = deed.1; outputs = outputs })
-shape_at reach ws = Err Syntax
+shape_at ws = Err Syntax
 
 -- a name that no server has yet
 unfoldable pub new_name : List ℕ → ScriptView → Result (List ℕ) LineFault
@@ -65,13 +64,13 @@ abbrev pub with_server : ServerView → ScriptView → ScriptView
 with_server server s = record s { servers = s.servers ++ server ∷ [] }
 
 -- `server NAME KIND STAGE REGISTERS ACT OUT..`
-unfoldable pub server_line : Reach → List (List ℕ) → ScriptView → Result ScriptView LineFault
-server_line reach ws s = do
-  shape ← shape_at reach ws
+unfoldable pub server_line : List (List ℕ) → ScriptView → Result ScriptView LineFault
+server_line ws s = do
+  shape ← shape_at ws
   _ ← require (not (has_commands s)) Order
   name ← new_name shape.name s
   recipe ← recipe_at shape
-  _ ← require (nat_lt (length s.servers) (most_servers reach)) BadLimits
+  _ ← require (nat_lt (length s.servers) servers_limit) BadLimits
   registers ← registers_for recipe
   Ok (with_server (record { name = name; kind = shape.kind; recipe = recipe; registers = registers }) s)
 

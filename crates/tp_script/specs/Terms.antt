@@ -13,8 +13,6 @@ use Rattle.tp_script.specs.declared.fault.LineFault.{LineFault}
 use Rattle.tp_script.specs.declared.fault.LineFault.TheVariants.{Syntax, BadNumber}
 use Rattle.tp_script.specs.declared.script.Kind.{Kind}
 use Rattle.tp_script.specs.declared.script.Kind.TheVariants.{Eager, Lazy}
-use Rattle.tp_script.specs.declared.reach.Reach.{Reach}
-use Rattle.tp_script.specs.Reach.{has_whole_bodies}
 use Rattle.tp_script.specs.Text.{number}
 
 -- what follows, unless there is a fault
@@ -74,15 +72,15 @@ unfoldable pub place_at : List ℕ → Result ℕ LineFault
 place_at w = if bytes_eq w (codes "1") then Ok 1 else if bytes_eq w (codes "2") then Ok 2 else if bytes_eq w (codes "3") then Ok 3 else Err Syntax
 
 -- an act, and the place of its amount: 1 where none is said
-abbrev pub act_words : Reach → List (List ℕ) → Result (List ℕ × List ℕ) LineFault
-act_words reach (act ∷ []) = Ok (act, codes "1")
-act_words reach (act ∷ place ∷ []) = if has_whole_bodies reach then Ok (act, place) else Err Syntax
-act_words reach ws = Err Syntax
+abbrev pub act_words : List (List ℕ) → Result (List ℕ × List ℕ) LineFault
+act_words (act ∷ []) = Ok (act, codes "1")
+act_words (act ∷ place ∷ []) = Ok (act, place)
+act_words ws = Err Syntax
 
 -- ACT or ACT:PLACE
-unfoldable pub act_at : Reach → List ℕ → Result (Act × ℕ) LineFault
-act_at reach w = do
-  parts ← act_words reach (slice_split (λ b. b == 58) w)
+unfoldable pub act_at : List ℕ → Result (Act × ℕ) LineFault
+act_at w = do
+  parts ← act_words (slice_split (λ b. b == 58) w)
   act ← act_named parts.0
   place ← place_at parts.1
   Ok (act, place)

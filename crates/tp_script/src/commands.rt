@@ -1,15 +1,14 @@
 //! The command lines of a script.
 ghost use Rattle.std.specs.Prelude.{◌<◌, ◌≤◌, ℕ, map, vec_len, IfOk};
-ghost use Rattle.tp_script.specs.Commands.{named, one_server, one_id, submit_words, submit_at, balance_at, race_words, stage_at, race_at, command_at};
+ghost use Rattle.tp_script.specs.Commands.{named, one_server, one_id, submit_words, submit_at, take_at, balance_at, race_words, stage_at, race_at, drain_at, command_at};
 ghost use Rattle.tp_script.specs.Ranges.{IsInRange};
 ghost use Rattle.tp_script.specs.Reading.{Gives, submit_view, race_view};
 ghost use Rattle.tp_script.specs.Script.{script_view};
 
 use crate::fault::{LineError, LineFault};
 use crate::keyword::Verb;
-use crate::reach::Reach;
-use crate::script::{ClientAct, Command, Race, Script};
-use crate::terms::{is_name, none, number_at, one, two};
+use crate::script::{ClientAct, Command, DeskAct, Race, Script};
+use crate::terms::{is, is_name, none, number_at, one, two};
 
 // The one word, an id.
 #[tactic(auto, unfolding(crate::specs::Commands::one_id))]
@@ -30,27 +29,16 @@ struct SubmitWords<'a> {
     word_three: &'a [u8],
 }
 
-// STAGE KEY AMOUNT, with words 2 and 3 of the body behind where the script may go so far; missing ones are 0.
-fn submit_words<'a>(reach: Reach, words: &[&'a [u8]]) -> Result<SubmitWords<'a>, LineError>
-    ensures { Gives submit_view result (submit_words reach (map (λ x. x.now) words.now)) }
+// STAGE KEY AMOUNT, with words 2 and 3 of the body behind; missing ones are 0.
+fn submit_words<'a>(words: &[&'a [u8]]) -> Result<SubmitWords<'a>, LineError>
+    ensures { Gives submit_view result (submit_words (map (λ x. x.now) words.now)) }
 {
     let (stage, key, amount, word_two, word_three) = match words {
-        [stage, key, amount] => {
-            return Ok(SubmitWords {
-                stage,
-                key,
-                amount,
-                word_two: b"0",
-                word_three: b"0",
-            });
-        }
-        [stage, key, amount, word_two] => (stage, key, amount, word_two, b"0".as_slice()),
-        [stage, key, amount, word_two, word_three] => (stage, key, amount, word_two, *word_three),
+        [stage, key, amount] => (stage, key, amount, b"0".as_slice(), b"0".as_slice()),
+        [stage, key, amount, two] => (stage, key, amount, *two, b"0".as_slice()),
+        [stage, key, amount, two, three] => (stage, key, amount, *two, *three),
         _ => return Err(LineError::Fault(LineFault::Syntax)),
     };
-    if !reach.has_whole_bodies() {
-        return Err(LineError::Fault(LineFault::Syntax));
-    }
     Ok(SubmitWords {
         stage,
         key,
@@ -143,6 +131,24 @@ fn race_at(words: RaceWords<'_>) -> Result<Command, LineError>
     }))
 }
 
+// `drain` or `drain next`
+fn drain_at(words: &[&[u8]]) -> Result<Command, LineError>
+    ensures gives { Gives (λ c. c) result (drain_at (map (λ x. x.now) words.now)) }
+    ensures in_range { IfOk result (λ c. (servers : ℕ) → IsInRange servers c) }
+{
+    match words {
+        [] => Ok(Command::Drain),
+        [word] => {
+            if is(word, "next") {
+                Ok(Command::DrainNext)
+            } else {
+                Err(LineError::Fault(LineFault::Syntax))
+            }
+        }
+        _ => Err(LineError::Fault(LineFault::Syntax)),
+    }
+}
+
 impl Script {
     // The server of this name.
     #[tactic(auto, unfolding(crate::specs::Commands::named))]
@@ -165,6 +171,18 @@ impl Script {
         self.named(one(words)?)
     }
 
+    // `take NAME ID`
+    #[tactic(auto, unfolding(crate::specs::Commands::take_at))]
+    fn take_at(&self, words: (&[u8], &[u8])) -> Result<Command, LineError>
+        ensures gives { Gives (λ c. c) result (take_at (words.entry.0.now, words.entry.1.now) (script_view self.now)) }
+        ensures in_range { IfOk result (λ c. IsInRange (vec_len self.now.servers) c) }
+    {
+        let server = self.named(words.0)?;
+        let id = number_at(words.1, u64::from(u32::MAX))? as u32;
+        let act = DeskAct::Take { id };
+        Ok(Command::Desk { server, act })
+    }
+
     // `balance NAME K`
     #[tactic(auto, unfolding(crate::specs::Commands::balance_at))]
     fn balance_at(&self, words: (&[u8], &[u8])) -> Result<Command, LineError>
@@ -178,17 +196,12 @@ impl Script {
 
     /// The command of this first word, with the words behind it.
     #[tactic(auto, unfolding(crate::specs::Commands::command_at))]
-    pub(crate) fn command_at(
-        &self,
-        reach: Reach,
-        verb: Verb,
-        words: &[&[u8]],
-    ) -> Result<Command, LineError>
-        ensures gives { Gives (λ c. c) result (command_at reach verb (map (λ x. x.now) words.now) (script_view self.now)) }
+    pub(crate) fn command_at(&self, verb: Verb, words: &[&[u8]]) -> Result<Command, LineError>
+        ensures gives { Gives (λ c. c) result (command_at verb (map (λ x. x.now) words.now) (script_view self.now)) }
         ensures in_range { IfOk result (λ c. IsInRange (vec_len self.now.servers) c) }
     {
         match verb {
-            Verb::Submit => submit_at(submit_words(reach, words)?),
+            Verb::Submit => submit_at(submit_words(words)?),
             Verb::Kill => Ok(Command::Client(ClientAct::Kill { id: one_id(words)? })),
             Verb::Cancel => Ok(Command::Client(ClientAct::Cancel {
                 root: one_id(words)?,
@@ -217,15 +230,13 @@ impl Script {
                 server: self.one_server(words)?,
                 act,
             }),
+            Verb::Take => self.take_at(two(words)?),
             Verb::Balance => self.balance_at(two(words)?),
             Verb::Sum => Ok(Command::Sum {
                 k: number_at(one(words)?, u64::MAX)?,
             }),
             Verb::Race => race_at(race_words(words)?),
-            Verb::Drain => {
-                none(words)?;
-                Ok(Command::Drain)
-            }
+            Verb::Drain => drain_at(words),
         }
     }
 }

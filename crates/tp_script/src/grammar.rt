@@ -1,13 +1,15 @@
 //! The lines of a script, and its settings.
 ghost use Rattle.std.specs.Prelude.{◌≡◌, ◌≤◌, ◌&&◌, map, IfOk, nat_le};
 ghost use Rattle.std.specs.List.{list_all};
-ghost use Rattle.tp_script.specs.Grammar.{setting_at, rows_line, units_line, limit_line, spare_line, account_line, keyword_line, first_word, words_line, is_comment, line_at};
+ghost use Rattle.tp_script.specs.Grammar.{setting_at, rows_line, units_line, limit_line, spare_line, account_line, keyword_line, words_line, is_comment, line_at};
+ghost use Rattle.tp_script.specs.Keyword.{keyword};
+ghost use Rattle.tp_script.specs.Terms.{known};
+ghost use Rattle.tp_script.specs.declared.fault.LineFault.TheVariants.{Syntax};
 ghost use Rattle.tp_script.specs.Reading.{Gives, GivesScript};
 ghost use Rattle.tp_script.specs.Script.{script_view};
 
 use crate::fault::{LineError, LineFault};
 use crate::keyword::Keyword;
-use crate::reach::Reach;
 use crate::script::Script;
 use crate::terms::{none, number_at, one, three};
 use crate::text::words;
@@ -81,21 +83,20 @@ impl Script {
     fn keyword_line(
         &mut self,
         alloc: Global,
-        reach: Reach,
         keyword: Keyword,
         words: &[&[u8]],
     ) -> Result<(), LineError>
-        ensures { GivesScript self.new result (keyword_line reach keyword (map (λ x. x.now) words.now) (script_view self.old)) }
+        ensures { GivesScript self.new result (keyword_line keyword (map (λ x. x.now) words.now) (script_view self.old)) }
     {
         match keyword {
             Keyword::Rows => self.rows_line(one(words)?),
             Keyword::Units => self.units_line(one(words)?),
             Keyword::Limit => self.limit_line(one(words)?),
             Keyword::Spare => self.spare_line(one(words)?),
-            Keyword::Server => self.server_line(alloc, reach, words),
+            Keyword::Server => self.server_line(alloc, words),
             Keyword::Start => self.start_line(three(words)?),
             Keyword::Do(verb) => {
-                let command = self.command_at(reach, verb, words)?;
+                let command = self.command_at(verb, words)?;
                 self.add(command)
             }
             Keyword::Account => self.account_line(words),
@@ -104,15 +105,15 @@ impl Script {
 
     // What the words of a line say.
     #[tactic(auto, unfolding(crate::specs::Grammar::words_line))]
-    fn words_line(&mut self, alloc: Global, reach: Reach, words: &[&[u8]]) -> Result<(), LineError>
-        ensures { GivesScript self.new result (words_line reach (map (λ x. x.now) words.now) (script_view self.old)) }
+    fn words_line(&mut self, alloc: Global, words: &[&[u8]]) -> Result<(), LineError>
+        ensures { GivesScript self.new result (words_line (map (λ x. x.now) words.now) (script_view self.old)) }
     {
         let Some((first, others)) = words.split_first() else {
             return Ok(());
         };
-        let keyword = first_word(reach, first)?;
+        let keyword = first_word(first)?;
         let is_behind = self.account;
-        let read = self.keyword_line(alloc, reach, keyword, others);
+        let read = self.keyword_line(alloc, keyword, others);
         if !is_behind {
             return read;
         }
@@ -123,10 +124,10 @@ impl Script {
         }
     }
 
-    /// Adds what a line says, in a script that may go so far.
+    /// Adds what a line says.
     #[tactic(auto, unfolding(crate::specs::Grammar::line_at))]
-    pub(crate) fn line(&mut self, alloc: Global, reach: Reach, line: &[u8]) -> Result<(), LineError>
-        ensures { GivesScript self.new result (line_at reach line.now (script_view self.old)) }
+    pub(crate) fn line(&mut self, alloc: Global, line: &[u8]) -> Result<(), LineError>
+        ensures { GivesScript self.new result (line_at line.now (script_view self.old)) }
     {
         if line.len() > 200 {
             return Err(LineError::Fault(LineFault::TooLong));
@@ -138,23 +139,16 @@ impl Script {
             return Ok(());
         }
         let words = words(alloc, line)?;
-        self.words_line(alloc, reach, words.as_slice())
+        self.words_line(alloc, words.as_slice())
     }
 }
 
-// The keyword that a word is, where the script may have such a line.
-#[tactic(auto, unfolding(crate::specs::Grammar::first_word))]
-fn first_word(reach: Reach, word: &[u8]) -> Result<Keyword, LineError>
-    ensures { Gives (λ k. k) result (first_word reach word.now) }
+// The keyword that a word is.
+fn first_word(word: &[u8]) -> Result<Keyword, LineError>
+    ensures { Gives (λ k. k) result (known (keyword word.now) Syntax) }
 {
     match Keyword::of(word) {
-        Some((first, keyword)) => {
-            if reach.has(first) {
-                Ok(keyword)
-            } else {
-                Err(LineError::Fault(LineFault::Syntax))
-            }
-        }
+        Some(keyword) => Ok(keyword),
         None => Err(LineError::Fault(LineFault::Syntax)),
     }
 }

@@ -2,7 +2,6 @@
 ghost use Rattle.std.specs.Prelude.{◌≡◌};
 ghost use Rattle.tp_script.specs.Keyword.{keyword};
 
-use crate::reach::Reach::{self, Desks, Plain, Workers};
 use crate::script::DeskAct;
 
 /// What a line is, by its first word.
@@ -36,53 +35,56 @@ pub enum Verb {
     Count,
     /// A server's desk does this.
     Desk(DeskAct),
+    Take,
     Balance,
     Sum,
     Race,
     Drain,
 }
 
-/// The first words that lines may have: how each is written, the first reach that knows it, and what the line is.
-const FIRST_WORDS: [(&str, Reach, Keyword); 28] = [
-    ("rows", Plain, Keyword::Rows),
-    ("units", Plain, Keyword::Units),
-    ("limit", Plain, Keyword::Limit),
-    ("spare", Desks, Keyword::Spare),
-    ("server", Plain, Keyword::Server),
-    ("start", Plain, Keyword::Start),
-    ("submit", Plain, Keyword::Do(Verb::Submit)),
-    ("turn", Plain, Keyword::Do(Verb::Desk(DeskAct::Turn))),
-    ("reply", Plain, Keyword::Do(Verb::Reply)),
-    ("claim", Desks, Keyword::Do(Verb::Desk(DeskAct::Claim))),
-    ("prepare", Desks, Keyword::Do(Verb::Desk(DeskAct::Prepare))),
-    ("commit", Desks, Keyword::Do(Verb::Desk(DeskAct::Commit))),
-    ("abort", Desks, Keyword::Do(Verb::Desk(DeskAct::Abort))),
-    ("drop", Desks, Keyword::Do(Verb::Desk(DeskAct::Drop))),
-    ("kill", Desks, Keyword::Do(Verb::Kill)),
-    ("cancel", Desks, Keyword::Do(Verb::Cancel)),
-    ("requeue", Desks, Keyword::Do(Verb::Requeue)),
-    ("release", Desks, Keyword::Do(Verb::Release)),
-    ("collect", Desks, Keyword::Do(Verb::Collect)),
-    ("family", Desks, Keyword::Do(Verb::Family)),
-    ("read", Desks, Keyword::Do(Verb::Read)),
-    ("errors", Desks, Keyword::Do(Verb::Errors)),
-    ("balance", Desks, Keyword::Do(Verb::Balance)),
-    ("sum", Desks, Keyword::Do(Verb::Sum)),
-    ("count", Desks, Keyword::Do(Verb::Count)),
-    ("race", Workers, Keyword::Do(Verb::Race)),
-    ("drain", Workers, Keyword::Do(Verb::Drain)),
-    ("account", Desks, Keyword::Account),
+/// The first words that lines may have: how each is written, and what the line is.
+const FIRST_WORDS: [(&str, Keyword); 30] = [
+    ("rows", Keyword::Rows),
+    ("units", Keyword::Units),
+    ("limit", Keyword::Limit),
+    ("spare", Keyword::Spare),
+    ("server", Keyword::Server),
+    ("start", Keyword::Start),
+    ("submit", Keyword::Do(Verb::Submit)),
+    ("turn", Keyword::Do(Verb::Desk(DeskAct::Turn))),
+    ("reply", Keyword::Do(Verb::Reply)),
+    ("claim", Keyword::Do(Verb::Desk(DeskAct::Claim))),
+    ("next", Keyword::Do(Verb::Desk(DeskAct::Next))),
+    ("take", Keyword::Do(Verb::Take)),
+    ("prepare", Keyword::Do(Verb::Desk(DeskAct::Prepare))),
+    ("commit", Keyword::Do(Verb::Desk(DeskAct::Commit))),
+    ("abort", Keyword::Do(Verb::Desk(DeskAct::Abort))),
+    ("drop", Keyword::Do(Verb::Desk(DeskAct::Drop))),
+    ("kill", Keyword::Do(Verb::Kill)),
+    ("cancel", Keyword::Do(Verb::Cancel)),
+    ("requeue", Keyword::Do(Verb::Requeue)),
+    ("release", Keyword::Do(Verb::Release)),
+    ("collect", Keyword::Do(Verb::Collect)),
+    ("family", Keyword::Do(Verb::Family)),
+    ("read", Keyword::Do(Verb::Read)),
+    ("errors", Keyword::Do(Verb::Errors)),
+    ("balance", Keyword::Do(Verb::Balance)),
+    ("sum", Keyword::Do(Verb::Sum)),
+    ("count", Keyword::Do(Verb::Count)),
+    ("race", Keyword::Do(Verb::Race)),
+    ("drain", Keyword::Do(Verb::Drain)),
+    ("account", Keyword::Account),
 ];
 
 impl Keyword {
-    /// What a line of this first word is, with the first reach that knows the word.
-    pub fn of(word: &[u8]) -> Option<(Reach, Keyword)>
+    /// What a line of this first word is.
+    pub fn of(word: &[u8]) -> Option<Keyword>
         ensures { result ≡ keyword word.now }
     {
         let row = FIRST_WORDS
             .iter()
             .find(|row| row.0.as_bytes() == word)
             .copied()?;
-        Some((row.1, row.2))
+        Some(row.1)
     }
 }

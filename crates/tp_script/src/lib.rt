@@ -6,7 +6,6 @@ mod fault;
 mod grammar;
 mod keyword;
 mod parse;
-mod reach;
 mod script;
 mod servers;
 mod source;
@@ -14,8 +13,7 @@ mod terms;
 mod text;
 
 pub use fault::{LineFault, ReadFault, Refused};
-pub use parse::{read_script, read_script_at};
-pub use reach::{REACH, Reach};
+pub use parse::read_script;
 pub use script::{
     ClientAct, Command, DeskAct, Kind, MOST_PASSES, MOST_SERVERS, Race, Script, ScriptServer,
     Settings,

@@ -1,12 +1,10 @@
 //! A script from its bytes.
-ghost use Rattle.std.specs.Prelude.{◌≡◌, ◌+◌, ◌^◌, ◌<◌, ◌≤◌, IfSome, IsErrOf};
-ghost use Rattle.tp_script.specs.Numbers.{program_reach, requests_limit};
-ghost use Rattle.tp_script.specs.Devices.{StopsReading};
+ghost use Rattle.std.specs.Prelude.{◌≡◌, ◌+◌, ◌^◌, ◌<◌, ◌≤◌, IfSome, IsErrOf, IsTrue};
+ghost use Rattle.tp_script.specs.Numbers.{requests_limit};
 ghost use Rattle.tp_script.specs.Grammar.{script};
 ghost use Rattle.tp_script.specs.Reading.{Answers, fault_at};
 
 use crate::fault::{LineError, LineFault, ReadFault, Refused};
-use crate::reach::{REACH, Reach};
 use crate::script::Script;
 use crate::source::{MOST_BYTES, Source, read_all};
 use crate::text::lines;
@@ -22,9 +20,9 @@ fn at_line(line: u32, error: LineError) -> ReadFault
     }
 }
 
-/// The script that bytes say, where scripts may go so far.
-pub fn parse(alloc: Global, reach: Reach, bytes: &[u8]) -> Result<Script, ReadFault>
-    ensures script { Answers result (script reach bytes.now) }
+/// The script that bytes say.
+pub fn parse(alloc: Global, bytes: &[u8]) -> Result<Script, ReadFault>
+    ensures script { Answers result (script bytes.now) }
     ensures no_read { ¬ (IsErrOf result ReadFault.Read) }
 {
     if bytes.len() > MOST_BYTES {
@@ -34,7 +32,7 @@ pub fn parse(alloc: Global, reach: Reach, bytes: &[u8]) -> Result<Script, ReadFa
     let mut script = Script::new(alloc);
     let mut line = 1;
     for text in &lines {
-        match script.line(alloc, reach, text) {
+        match script.line(alloc, text) {
             Ok(()) => line += 1,
             Err(error) => return Err(at_line(line, error)),
         }
@@ -42,27 +40,13 @@ pub fn parse(alloc: Global, reach: Reach, bytes: &[u8]) -> Result<Script, ReadFa
     Ok(script)
 }
 
-/// The script that a source gives, where scripts may go so far.
-pub fn read_script_at<S: Source>(
-    alloc: Global,
-    reach: Reach,
-    source: &mut S,
-) -> Result<Script, ReadFault>
-    requires { S.asked source.old + requests_limit < 2 ^ 64 }
-    ensures script { IfSome (S.rest source.old) (λ bytes. Answers result (script reach bytes)) }
-    ensures asked { S.asked source.new ≤ S.asked source.old + requests_limit }
-    ensures fault { IsErrOf result ReadFault.Read → StopsReading (S.has_failed source.new) (S.asked source.old) (S.asked source.new) }
-{
-    let bytes = read_all(alloc, source)?;
-    parse(alloc, reach, bytes.as_slice())
-}
-
 /// The script that a source gives.
 pub fn read_script<S: Source>(alloc: Global, source: &mut S) -> Result<Script, ReadFault>
     requires { S.asked source.old + requests_limit < 2 ^ 64 }
-    ensures script { IfSome (S.rest source.old) (λ bytes. Answers result (script program_reach bytes)) }
+    ensures script { IfSome (S.rest source.old) (λ bytes. Answers result (script bytes)) }
     ensures asked { S.asked source.new ≤ S.asked source.old + requests_limit }
-    ensures fault { IsErrOf result ReadFault.Read → StopsReading (S.has_failed source.new) (S.asked source.old) (S.asked source.new) }
+    ensures fault { IsErrOf result ReadFault.Read → IsTrue (S.has_failed source.new) }
 {
-    read_script_at(alloc, REACH, source)
+    let bytes = read_all(alloc, source)?;
+    parse(alloc, bytes.as_slice())
 }

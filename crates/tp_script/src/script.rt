@@ -91,8 +91,12 @@ pub enum ClientAct {
 pub enum DeskAct {
     /// It takes a turn.
     Turn,
-    /// It takes an element.
+    /// It takes the element with the least id.
     Claim,
+    /// It takes the element whose turn it is.
+    Next,
+    /// It takes the element with this id.
+    Take { id: u32 },
     /// It prepares its work on the element that it took.
     Prepare,
     /// It commits its unit of work.
@@ -135,6 +139,8 @@ pub enum Command {
     Race(Race),
     /// The servers take turns until a whole round of them finds nothing.
     Drain,
+    /// The same by turns that take the element whose turn it is.
+    DrainNext,
 }
 
 impl Command {

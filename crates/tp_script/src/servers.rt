@@ -7,8 +7,7 @@ ghost use Rattle.tp_script.specs.Script.{script_view, server_view};
 ghost use Rattle.tp_script.specs.ServerLines.{server_at, shape_at, new_name, recipe_at, registers_for, server_line, begun, begin_at, start_line};
 
 use crate::fault::{LineError, LineFault};
-use crate::reach::Reach;
-use crate::script::{Kind, Script, ScriptServer};
+use crate::script::{Kind, MOST_SERVERS, Script, ScriptServer};
 use crate::terms::{act_at, all_outputs, is_name, kind_at, name_text, number_at, outputs_at};
 use std::alloc::Global;
 use std::string::String;
@@ -28,15 +27,15 @@ struct Shape<'a> {
 
 // NAME KIND STAGE REGISTERS ACT OUT..
 #[tactic(auto, unfolding(crate::specs::ServerLines::shape_at))]
-fn shape_at<'a>(alloc: Global, reach: Reach, words: &'a [&'a [u8]]) -> Result<Shape<'a>, LineError>
-    ensures gives { Gives shape_view result (shape_at reach (map (λ x. x.now) words.now)) }
+fn shape_at<'a>(alloc: Global, words: &'a [&'a [u8]]) -> Result<Shape<'a>, LineError>
+    ensures gives { Gives shape_view result (shape_at (map (λ x. x.now) words.now)) }
     ensures few { IfOk result (λ shape. length shape.outputs.now ≤ 4) }
 {
     let [name, kind, stage, registers, act, outputs @ ..] = words else {
         return Err(LineError::Fault(LineFault::Syntax));
     };
     let kind = kind_at(kind)?;
-    let (act, word) = act_at(alloc, reach, act)?;
+    let (act, word) = act_at(alloc, act)?;
     if outputs.len() > 4 || !all_outputs(outputs) {
         return Err(LineError::Fault(LineFault::Syntax));
     }
@@ -130,21 +129,16 @@ impl Script {
 
     /// `server NAME KIND STAGE REGISTERS ACT OUT..`
     #[tactic(auto, unfolding(crate::specs::ServerLines::server_line))]
-    pub(crate) fn server_line(
-        &mut self,
-        alloc: Global,
-        reach: Reach,
-        words: &[&[u8]],
-    ) -> Result<(), LineError>
-        ensures { GivesScript self.new result (server_line reach (map (λ x. x.now) words.now) (script_view self.old)) }
+    pub(crate) fn server_line(&mut self, alloc: Global, words: &[&[u8]]) -> Result<(), LineError>
+        ensures { GivesScript self.new result (server_line (map (λ x. x.now) words.now) (script_view self.old)) }
     {
-        let shape = shape_at(alloc, reach, words)?;
+        let shape = shape_at(alloc, words)?;
         if !self.commands.is_empty() {
             return Err(LineError::Fault(LineFault::Order));
         }
         let name = self.new_name(alloc, shape.name)?;
         let recipe = recipe_at(alloc, &shape)?;
-        if self.servers.len() >= reach.most_servers() {
+        if self.servers.len() >= MOST_SERVERS {
             return Err(LineError::Fault(LineFault::BadLimits));
         }
         let registers = registers_for(&recipe)?;

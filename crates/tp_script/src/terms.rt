@@ -6,7 +6,6 @@ ghost use Rattle.tp_script.specs.Reading.{Gives};
 ghost use Rattle.tp_script.specs.Terms.{none, one, two, three, number_at, is_name, kind_at, act_named, place_at, act_words, act_at, key_at, amount_at, is_output, output_at, outputs_at};
 
 use crate::fault::{LineError, LineFault};
-use crate::reach::Reach;
 use crate::script::Kind;
 use crate::text::{number, parts};
 use arrayvec::ArrayVec;
@@ -72,8 +71,8 @@ pub(crate) fn name_text(name: &[u8]) -> &str
     str::from_utf8(name).unwrap()
 }
 
-// Whether a word is this text.
-fn is(word: &[u8], text: &str) -> bool
+/// Whether a word is this text.
+pub(crate) fn is(word: &[u8], text: &str) -> bool
     ensures { result ≡ bytes_eq word.now text.now }
 {
     word == text.as_bytes()
@@ -140,29 +139,23 @@ fn place_at(word: &[u8]) -> Result<u8, LineError>
 }
 
 // An act, and the place of its amount: 1 where none is said.
-fn act_words<'a>(reach: Reach, parts: &[&'a [u8]]) -> Result<(&'a [u8], &'a [u8]), LineError>
-    ensures { Gives (λ x. (x.0.now, x.1.now)) result (act_words reach (map (λ x. x.now) parts.now)) }
+fn act_words<'a>(parts: &[&'a [u8]]) -> Result<(&'a [u8], &'a [u8]), LineError>
+    ensures { Gives (λ x. (x.0.now, x.1.now)) result (act_words (map (λ x. x.now) parts.now)) }
 {
     match parts {
         [act] => Ok((*act, b"1".as_slice())),
-        [act, place] => {
-            if reach.has_whole_bodies() {
-                Ok((*act, *place))
-            } else {
-                Err(LineError::Fault(LineFault::Syntax))
-            }
-        }
+        [act, place] => Ok((*act, *place)),
         _ => Err(LineError::Fault(LineFault::Syntax)),
     }
 }
 
 /// `ACT` or `ACT:PLACE`.
 #[tactic(auto, unfolding(crate::specs::Terms::act_at))]
-pub(crate) fn act_at(alloc: Global, reach: Reach, word: &[u8]) -> Result<(Act, u8), LineError>
-    ensures { Gives (λ x. x) result (act_at reach word.now) }
+pub(crate) fn act_at(alloc: Global, word: &[u8]) -> Result<(Act, u8), LineError>
+    ensures { Gives (λ x. x) result (act_at word.now) }
 {
     let parts = parts(alloc, word, b':')?;
-    let (act, place) = act_words(reach, parts.as_slice())?;
+    let (act, place) = act_words(parts.as_slice())?;
     Ok((act_named(act)?, place_at(place)?))
 }
 

@@ -14,19 +14,20 @@ mod plain_plays;
 mod plain_releases;
 mod plain_requeues;
 mod plain_spares;
-mod reaches;
+mod plain_takings;
+mod plain_turns;
 mod read;
 mod rows;
 
 use std::process::Abort;
 use std::thread::Threads;
 use tp_perform::run;
-use tp_reference::run_plain;
+use tp_reference::{PlainExit, run_plain};
 use tp_report::{Exit, Fault, StdSink};
 use tp_script::StdSource;
 
-/// What a script of the plain reach comes to over the manager of one thread, and what is written.
-fn written<R: AllocGlobal>(rt: &R, script: &[u8]) -> (Result<Exit, Fault>, Vec<u8>) {
+/// What a script comes to over the manager of one thread, and what is written.
+fn written<R: AllocGlobal>(rt: &R, script: &[u8]) -> (Result<PlainExit, Fault>, Vec<u8>) {
     let mut source = StdSource::new(script);
     let mut held = Vec::new(rt.alloc());
     let answer = {
@@ -50,14 +51,23 @@ fn performed<R: AllocGlobal + Threads + Sync>(
     (answer, held)
 }
 
-/// What a script of the plain reach comes to over either manager.
+/// How a run over the manager of one thread ends where one over the shared manager ends so.
+fn plain_of(answer: Result<Exit, Fault>) -> Result<PlainExit, Fault> {
+    match answer {
+        Ok(Exit::Done) => Ok(PlainExit::Done),
+        Ok(Exit::Refused) => Ok(PlainExit::Refused),
+        Err(fault) => Err(fault),
+    }
+}
+
+/// What a script without a race comes to over either manager.
 fn agreed<R: Abort + AllocGlobal + Threads + Sync>(
     rt: &R,
     script: &str,
-) -> (Result<Exit, Fault>, Vec<u8>) {
+) -> (Result<PlainExit, Fault>, Vec<u8>) {
     let (answer, held) = written(rt, script.as_bytes());
     let (shared, lines) = performed(rt, script.as_bytes());
-    assert_eq!(rt; shared, answer, "at {script:?}");
+    assert_eq!(rt; plain_of(shared), answer, "at {script:?}");
     assert_eq!(rt; lines.as_slice(), held.as_slice(), "at {script:?}");
     (answer, held)
 }

@@ -46,9 +46,52 @@ pub fn claim(
     let before = diary.now();
     let answer = manager.claim(pass, stage);
     if let Claimed::Work(work) = answer {
-        diary.last = work.element.id;
+        diary.take(work.element);
     }
     diary.note(before, Made::Claim { stage, answer })?;
+    Ok(pass.has_open())
+}
+
+/// Whether the pass has a unit open now.
+pub fn claim_next(
+    manager: &Manager,
+    pass: &mut Pass,
+    diary: &mut Diary,
+    stage: u8,
+) -> Result<bool, Trouble>
+    requires own { IsOf manager.now pass.old }
+    requires free { pass.old.open_unit ≡ None }
+    requires stage { (1 ≤ stage) × (stage ≤ 14) }
+    ensures own { IsOf manager.now pass.new }
+    ensures open_unit { IfOk result (λ has. has ≡ is_some pass.new.open_unit) }
+{
+    let before = diary.now();
+    let answer = manager.claim_next(pass, stage);
+    if let Claimed::Work(work) = answer {
+        diary.take(work.element);
+    }
+    diary.note(before, Made::ClaimNext { stage, answer })?;
+    Ok(pass.has_open())
+}
+
+/// Whether the pass has a unit open now.
+pub fn claim_id(
+    manager: &Manager,
+    pass: &mut Pass,
+    diary: &mut Diary,
+    id: u32,
+) -> Result<bool, Trouble>
+    requires own { IsOf manager.now pass.old }
+    requires free { pass.old.open_unit ≡ None }
+    ensures own { IsOf manager.now pass.new }
+    ensures open_unit { IfOk result (λ has. has ≡ is_some pass.new.open_unit) }
+{
+    let before = diary.now();
+    let answer = manager.claim_id(pass, id);
+    if let Ok(work) = answer {
+        diary.take(work.element);
+    }
+    diary.note(before, Made::ClaimId { id, answer })?;
     Ok(pass.has_open())
 }
 
@@ -110,6 +153,22 @@ pub fn abort(manager: &Manager, pass: &mut Pass, diary: &mut Diary) -> Result<()
     let before = diary.now();
     let answer = manager.abort(pass);
     diary.note(before, Made::Abort { answer })
+}
+
+pub fn release(
+    manager: &Manager,
+    pass: &mut Pass,
+    diary: &mut Diary,
+    id: u32,
+) -> Result<(), Trouble>
+    requires own { IsOf manager.now pass.old }
+    requires free { pass.old.open_unit ≡ None }
+    ensures own { IsOf manager.now pass.new }
+    ensures free { pass.new.open_unit ≡ None }
+{
+    let before = diary.now();
+    let answer = manager.release(pass, id);
+    diary.note(before, Made::Release { id, answer })
 }
 
 pub fn kill(manager: &Manager, pass: &mut Pass, diary: &mut Diary, id: u32) -> Result<(), Trouble>
@@ -182,6 +241,56 @@ pub fn reply(
     let answer = manager.reply(pass, root, from);
     diary.note(before, Made::Reply { root, from, answer })?;
     Ok(answer)
+}
+
+pub fn collect(
+    manager: &Manager,
+    pass: &mut Pass,
+    diary: &mut Diary,
+    id: u32,
+) -> Result<(), Trouble>
+    requires own { IsOf manager.now pass.old }
+    requires free { pass.old.open_unit ≡ None }
+    ensures own { IsOf manager.now pass.new }
+    ensures free { pass.new.open_unit ≡ None }
+{
+    let before = diary.now();
+    let answer = manager.collect(pass, id);
+    diary.note(before, Made::Collect { id, answer })
+}
+
+pub fn collect_next(
+    manager: &Manager,
+    pass: &mut Pass,
+    diary: &mut Diary,
+    root: u32,
+) -> Result<(), Trouble>
+    requires own { IsOf manager.now pass.old }
+    requires free { pass.old.open_unit ≡ None }
+    ensures own { IsOf manager.now pass.new }
+    ensures free { pass.new.open_unit ≡ None }
+{
+    let before = diary.now();
+    let answer = manager.collect_next(pass, root);
+    diary.note(before, Made::CollectNext { root, answer })
+}
+
+/// The id of the element that was found.
+pub fn family(
+    manager: &Manager,
+    pass: &mut Pass,
+    diary: &mut Diary,
+    root: u32,
+    from: u32,
+) -> Result<Option<u32>, Trouble>
+    requires own { IsOf manager.now pass.old }
+    ensures own { IsOf manager.now pass.new }
+    ensures open_unit { pass.new.open_unit ≡ pass.old.open_unit }
+{
+    let before = diary.now();
+    let answer = manager.family(pass, root, from);
+    diary.note(before, Made::Family { root, from, answer })?;
+    Ok(answer.map(|look| look.element.id))
 }
 
 pub fn next_error(

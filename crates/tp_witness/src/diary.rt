@@ -4,7 +4,10 @@ use crate::dice::Dice;
 use crate::trouble::Trouble;
 use std::alloc::Global;
 use std::sync::atomic::{AtomicU64, Ordering};
-use tp_model::types::{Body, Cancelled, Claimed, Ended, Killed, Look, Outcome, Refusal, Status};
+use tp_model::types::{
+    Body, Cancelled, Claimed, Element, Ended, Killed, Look, Outcome, Refusal, Released, Status,
+    Work,
+};
 
 /// A call, with all that it was given, and its answer.
 #[derive(Clone, Copy, Debug)]
@@ -18,6 +21,14 @@ pub enum Made {
         stage: u8,
         answer: Claimed,
     },
+    ClaimNext {
+        stage: u8,
+        answer: Claimed,
+    },
+    ClaimId {
+        id: u32,
+        answer: Result<Work, Refusal>,
+    },
     /// So many drafts: they go to one stage, the first with this body, and each further one with a body in which each
     /// word but the key is one more.
     Commit {
@@ -28,6 +39,10 @@ pub enum Made {
     },
     Abort {
         answer: Ended,
+    },
+    Release {
+        id: u32,
+        answer: Result<Released, Refusal>,
     },
     Kill {
         id: u32,
@@ -49,6 +64,19 @@ pub enum Made {
         root: u32,
         from: u32,
         answer: Option<u32>,
+    },
+    Collect {
+        id: u32,
+        answer: Result<Element, Refusal>,
+    },
+    CollectNext {
+        root: u32,
+        answer: Option<Element>,
+    },
+    Family {
+        root: u32,
+        from: u32,
+        answer: Option<Look>,
     },
     NextError {
         from: u32,
@@ -74,6 +102,8 @@ pub struct Diary<'a> {
     pub newest: u32,
     /// The last element that it has claimed, or read as held.
     pub last: u32,
+    /// The root of the last element that it has claimed.
+    pub root: u32,
 }
 
 impl<'a> Diary<'a> {
@@ -84,6 +114,7 @@ impl<'a> Diary<'a> {
             dice,
             newest: 0,
             last: 0,
+            root: 0,
         }
     }
 
@@ -95,6 +126,12 @@ impl<'a> Diary<'a> {
     /// Whether the counter was read so often, by whatever thread.
     pub fn is_past(&self, count: u64) -> bool {
         self.clock.load(Ordering::SeqCst) >= count
+    }
+
+    /// Remembers an element that it has claimed.
+    pub fn take(&mut self, element: Element) {
+        self.last = element.id;
+        self.root = element.root;
     }
 
     /// Remembers an element that was read as held.

@@ -1,4 +1,4 @@
-//! Four threads of clients, servers, killers and cancellers at one manager. Each writes down its calls and
+//! Four threads of clients, servers, supervisors, killers and cancellers at one manager. Each writes down its calls and
 //! their answers, and what a shared counter said before and after each; all is printed, with how each element
 //! stands at the end. What the logs say is for another to judge, who trusts nothing here: `tools/witness`.
 //!
@@ -15,7 +15,7 @@ mod dice;
 mod playing;
 mod trouble;
 
-use calls::read;
+use calls::{abort, read, release};
 use diary::Diary;
 use dice::Dice;
 use playing::four;
@@ -125,13 +125,20 @@ fn passes(manager: &Manager, keeper: &mut Keeper) -> Result<(Pass, Pass, Pass, P
     Ok((first, second, third, fourth))
 }
 
-/// How each element stands at the end, as the manager shows it.
+/// How each element stands at the end, as the manager shows it. Of those that are held still about half are released.
 fn read_all(manager: &Manager, pass: &mut Pass, diary: &mut Diary) -> Result<(), Trouble>
     requires own { IsOf manager.now pass.old }
     ensures own { IsOf manager.now pass.new }
 {
+    if pass.has_open() {
+        abort(manager, pass, diary)?;
+    }
     for id in 0..manager.capacity() {
         read(manager, pass, diary, id)?;
+        if diary.last == id && diary.dice.below(2) == 0 {
+            release(manager, pass, diary, id)?;
+            read(manager, pass, diary, id)?;
+        }
     }
     Ok(())
 }

@@ -3,7 +3,10 @@ ghost use denote.Param.Send.{IsSync};
 ghost use Rattle.std.specs.Prelude.{◌≡◌, None, IsSome, OnOk};
 ghost use Rattle.tp_manager.specs.Shown.{IsOf};
 
-use crate::calls::{abort, cancel, claim, commit, kill, next_error, read, reply, requeue, submit};
+use crate::calls::{
+    abort, cancel, claim, claim_id, claim_next, collect, collect_next, commit, family, kill,
+    next_error, read, release, reply, requeue, submit,
+};
 use crate::diary::Diary;
 use crate::trouble::Trouble;
 use std::thread::{self, Threads, join_mut};
@@ -115,14 +118,19 @@ fn take_turn(manager: &Manager, pass: &mut Pass, diary: &mut Diary) -> Result<()
     ensures free { OnOk result (pass.new.open_unit ≡ None) }
 {
     let id = some_id(diary);
-    match diary.dice.below(16) {
-        0..=3 => send(manager, pass, diary),
-        4..=8 => serve(manager, pass, diary),
-        9 => hunt(manager, pass, diary),
-        10 => cancel(manager, pass, diary, id),
-        11 => list_replies(manager, pass, diary, id),
-        12 => list_errors(manager, pass, diary),
-        13 => requeue(manager, pass, diary, id),
+    match diary.dice.below(24) {
+        0..=4 => send(manager, pass, diary),
+        5..=11 => serve(manager, pass, diary),
+        12 => hunt(manager, pass, diary),
+        13 => supervise(manager, pass, diary),
+        14 => cancel(manager, pass, diary, id),
+        15 => list_replies(manager, pass, diary, id),
+        16 => take_reply(manager, pass, diary, id),
+        17 => take_replies(manager, pass, diary),
+        18 => list_errors(manager, pass, diary),
+        19 => requeue(manager, pass, diary, id),
+        20 => collect(manager, pass, diary, id),
+        21 => follow(manager, pass, diary),
         _ => read(manager, pass, diary, id),
     }
 }
@@ -146,7 +154,59 @@ fn list_replies(
     Ok(())
 }
 
-/// The same of parked elements, and another round for the first of them.
+/// The first reply to a request is collected or killed, and then collected once more.
+fn take_reply(
+    manager: &Manager,
+    pass: &mut Pass,
+    diary: &mut Diary,
+    root: u32,
+) -> Result<(), Trouble>
+    requires own { IsOf manager.now pass.old }
+    requires free { pass.old.open_unit ≡ None }
+    ensures own { IsOf manager.now pass.new }
+    ensures free { OnOk result (pass.new.open_unit ≡ None) }
+{
+    if let Some(id) = reply(manager, pass, diary, root, 0)? {
+        if diary.dice.below(4) == 0 {
+            kill(manager, pass, diary, id)?;
+        } else {
+            collect(manager, pass, diary, id)?;
+        }
+        collect(manager, pass, diary, id)?;
+    }
+    Ok(())
+}
+
+/// Two replies to the request that the thread was last at are collected.
+fn take_replies(manager: &Manager, pass: &mut Pass, diary: &mut Diary) -> Result<(), Trouble>
+    requires own { IsOf manager.now pass.old }
+    requires free { pass.old.open_unit ≡ None }
+    ensures own { IsOf manager.now pass.new }
+    ensures free { OnOk result (pass.new.open_unit ≡ None) }
+{
+    let root = diary.root;
+    collect_next(manager, pass, diary, root)?;
+    collect_next(manager, pass, diary, root)
+}
+
+/// Some elements of the request that the thread was last at, one after another.
+fn follow(manager: &Manager, pass: &mut Pass, diary: &mut Diary) -> Result<(), Trouble>
+    requires own { IsOf manager.now pass.old }
+    ensures own { IsOf manager.now pass.new }
+    ensures open_unit { pass.new.open_unit ≡ pass.old.open_unit }
+{
+    let root = diary.root;
+    let mut from = 0;
+    for _past in 0..4u32 {
+        match family(manager, pass, diary, root, from)? {
+            Some(id) => from = id.saturating_add(1),
+            None => return Ok(()),
+        }
+    }
+    Ok(())
+}
+
+/// The first element that is parked, the first from that one on, and the first behind it; and another round for the first.
 fn list_errors(manager: &Manager, pass: &mut Pass, diary: &mut Diary) -> Result<(), Trouble>
     requires own { IsOf manager.now pass.old }
     requires free { pass.old.open_unit ≡ None }
@@ -195,7 +255,13 @@ fn serve(manager: &Manager, pass: &mut Pass, diary: &mut Diary) -> Result<(), Tr
         1 => 14,
         _ => 3,
     };
-    if claim(manager, pass, diary, stage)? {
+    let id = some_id(diary);
+    let is_busy = match diary.dice.below(4) {
+        0 => claim_id(manager, pass, diary, id)?,
+        1 => claim_next(manager, pass, diary, stage)?,
+        _ => claim(manager, pass, diary, stage)?,
+    };
+    if is_busy {
         work(manager, pass, diary)
     } else {
         Ok(())
@@ -249,6 +315,18 @@ fn hunt(manager: &Manager, pass: &mut Pass, diary: &mut Diary) -> Result<(), Tro
     look_around(manager, pass, diary)?;
     let id = diary.last;
     kill(manager, pass, diary, id)
+}
+
+/// A supervisor's calls: a few reads, and a release of what they may have told is held.
+fn supervise(manager: &Manager, pass: &mut Pass, diary: &mut Diary) -> Result<(), Trouble>
+    requires own { IsOf manager.now pass.old }
+    requires free { pass.old.open_unit ≡ None }
+    ensures own { IsOf manager.now pass.new }
+    ensures free { OnOk result (pass.new.open_unit ≡ None) }
+{
+    look_around(manager, pass, diary)?;
+    let id = diary.last;
+    release(manager, pass, diary, id)
 }
 
 /// A few reads.

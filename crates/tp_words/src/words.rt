@@ -3,7 +3,7 @@
 //! `Head`, `Claim` and `UnitWord` can each hold more than the words tell; `pack` asks for a value that a word can tell,
 //! and `unpack` answers such values alone. `unpack` undoes `pack`, and `pack` undoes `unpack`. `read` is the same for a
 //! number of which it is proved that it is such a word. A `FoundClaim` is a claim beside the word that tells it.
-ghost use Rattle.std.specs.Prelude.{◌≡◌, ◌↔◌, IfSome, IsSome, Option, Some};
+ghost use Rattle.std.specs.Prelude.{◌≡◌, ◌↔◌, ℕ, IfSome, IsSome, Option, Some};
 ghost use Rattle.std.specs.Option.{option_map};
 ghost use Rattle.tp_model.specs.History.{UnitEnd};
 ghost use Rattle.tp_model.specs.Words.{ClaimWord, TakenWord, kill_word, round_in};
@@ -74,6 +74,7 @@ pub enum UnitWord {
 impl Head {
     ghost use Rattle.tp_words.specs.Words.{pack_head, IsFitHead, IsHeadWord};
     ghost use Rattle.tp_words.specs.declared.words.Head.{Head};
+    ghost use Rattle.tp_words.specs.declared.words.Head.TheVariants.{There};
 
     /// The word that tells this.
     #[inline(always)]
@@ -113,6 +114,16 @@ impl Head {
             root: (word % HEAD_BY / HEAD_ROOT) as u16,
             by: if by == 0 { None } else { Some((by - 1) as u16) },
         }
+    }
+
+    /// The stage that the head word of an element or a draft tells, without the rest.
+    #[inline(always)]
+    pub fn stage(word: u64) -> u8
+        requires { (h : Head) × IsFitHead h × (word ≡ pack_head h) }
+        ensures { (stage root : ℕ) (by : Option ℕ) → IsFitHead (There stage root by) → word ≡ pack_head (There stage root by)
+            → result ≡ stage }
+    {
+        (word % HEAD_ROOT / HEAD_STAGE) as u8
     }
 
     /// What the word tells, or `None` for a number that is no head word.

@@ -21,6 +21,8 @@ use Rattle.tp_desk.proofs.Serves.{ended_none, leaves_then, serves_more, serves_n
 use Rattle.tp_workers.proofs.FoldStarts.{desk_at}
 use Rattle.tp_workers.specs.declared.crew.Crew.{Crew}
 use Rattle.tp_workers.specs.declared.fold_start.FoldStart.{FoldStart}
+use Rattle.tp_desk.specs.declared.order.Order.{Order}
+use Rattle.tp_workers.specs.declared.plan.Plan.{Plan}
 use Rattle.tp_workers.specs.declared.tally.Shift.{Shift}
 use Rattle.tp_manager.specs.Calls.{Follows}
 use Rattle.tp_workers.specs.Crew.{IsSteadyCrew, OwnCall, folds}
@@ -262,17 +264,17 @@ module _ {B : Type 0} (behaviour : B → Behaviour) (registers : B → List ℕ)
       (subst (λ (l : List PassShown). HaveServed behaviour registers begun l ws) (sym ep) (subst (λ (l : List B). HaveServed behaviour registers begun ps l) (sym eu) h)) k
 
   module _ (begun : List (PassShown × B)) (ps xs : List PassShown) (us ws : List B) (s : Shift) (qs : List PassShown) (vs : List B) where
-    pub served_drained : xs ≡ ps → ws ≡ us → length vs ≡ length ws → HaveServed behaviour registers begun ps us
-        → RanEach (DeskDrained behaviour registers pending m) (desks_in (length ws) xs) ws s (desks_in (length ws) qs) vs
+    pub served_drained : (order : Order) → xs ≡ ps → ws ≡ us → length vs ≡ length ws → HaveServed behaviour registers begun ps us
+        → RanEach (DeskDrained behaviour registers pending m order) (desks_in (length ws) xs) ws s (desks_in (length ws) qs) vs
         → HaveServed behaviour registers begun qs vs
-    served_drained ep eu long h k =
-        served_by (DeskDrained behaviour registers pending m) (λ x t y r. record { leaves = r.leaves; behaviour_is = r.behaviour_is }) begun ps xs us ws s qs vs ep eu long h k
+    served_drained order ep eu long h k =
+        served_by (DeskDrained behaviour registers pending m order) (λ x t y r. record { leaves = r.leaves; behaviour_is = r.behaviour_is }) begun ps xs us ws s qs vs ep eu long h k
 
-    pub served_shift : (turns : ℕ) → xs ≡ ps → ws ≡ us → length vs ≡ length ws → HaveServed behaviour registers begun ps us
-        → RanEach (DeskRan behaviour registers pending m turns) (desks_in (length ws) xs) ws s (desks_in (length ws) qs) vs
+    pub served_shift : (plan : Plan) → xs ≡ ps → ws ≡ us → length vs ≡ length ws → HaveServed behaviour registers begun ps us
+        → RanEach (DeskRan behaviour registers pending m plan) (desks_in (length ws) xs) ws s (desks_in (length ws) qs) vs
         → HaveServed behaviour registers begun qs vs
-    served_shift turns ep eu long h k =
-        served_by (DeskRan behaviour registers pending m turns) (λ x t y r. record { leaves = r.leaves; behaviour_is = r.behaviour_is }) begun ps xs us ws s qs vs ep eu long h k
+    served_shift plan ep eu long h k =
+        served_by (DeskRan behaviour registers pending m plan) (λ x t y r. record { leaves = r.leaves; behaviour_is = r.behaviour_is }) begun ps xs us ws s qs vs ep eu long h k
 
 module _ {X : Type 0} {F : X → Type 0} (behaviour : DynBox X Global F → Behaviour) (registers : DynBox X Global F → List ℕ)
     (pending : DynBox X Global F → Option Pending) where

@@ -8,6 +8,7 @@ use Rattle.tp_manager.specs.Calls.{claims_in}
 use Rattle.tp_manager.specs.Shown.{ManagerShown, PassShown}
 use Rattle.tp_desk.specs.Serving.{AreEnded, Leaves, Serves, gained}
 use Rattle.tp_desk.proofs.Serves.{ended_none, leaves_then, serves_none}
+use Rattle.tp_desk.specs.declared.order.Order.{Order}
 use Rattle.tp_workers.specs.declared.tally.Shift.{Shift}
 use Rattle.tp_workers.specs.Calling.{Called}
 use Rattle.tp_workers.specs.Desks.{IsDeskOf, Place, TakesTurn, place}
@@ -39,12 +40,12 @@ plus_swap a b c d =
     let e11 = four a.missing b.missing c.missing d.missing in
     cc
 
-module _ {B : Type 0} (behaviour : B → Behaviour) (registers : B → List ℕ) (pending : B → Option Pending) (m : ManagerShown) where
+module _ {B : Type 0} (behaviour : B → Behaviour) (registers : B → List ℕ) (pending : B → Option Pending) (m : ManagerShown) (order : Order) where
   abbrev Ready : PassShown × B → Type 0
   Ready x = IsDeskOf behaviour registers pending m x
 
   abbrev Took : PassShown × B → Shift → PassShown × B → Type 0
-  Took x s y = TookTurn behaviour registers pending m x s y
+  Took x s y = TookTurn behaviour registers pending m order x s y
 
   abbrev at : PassShown × B → Place
   at x = place behaviour registers pending x
@@ -56,7 +57,7 @@ module _ {B : Type 0} (behaviour : B → Behaviour) (registers : B → List ℕ)
   -- turns were taken so far
   pub record Going (old : PassShown × B) (counts : Shift) (new : PassShown × B) : Type 0 where
     pub taken : ℕ
-    pub calls : Called (TakesTurn m.limits) turn_count taken (at old) counts (at new)
+    pub calls : Called (TakesTurn order m.limits) turn_count taken (at old) counts (at new)
     pub few : counts.done ≤ 1024
     pub serves : Serves (behaviour old.1) (registers old.1) (registers new.1) old.0 new.0
     pub ended : AreEnded None (gained old.0.mine new.0.mine) new.0.seen
@@ -66,12 +67,12 @@ module _ {B : Type 0} (behaviour : B → Behaviour) (registers : B → List ℕ)
   going_all : (xs : List (PassShown × B)) → All Ready xs → RanAll Going xs none xs
   going_all [] ready = refl
   going_all (x ∷ xs) ready =
-      (none, none, record { taken = 0; calls = called_none (TakesTurn m.limits) turn_count (at x); few = omega arith; serves = serves_none (behaviour x.1) (registers x.1) x.0; ended = ended_none x.0; behaviour_is = refl; ready = All-head Ready x xs ready }, going_all xs (All-tail Ready x xs ready), refl)
+      (none, none, record { taken = 0; calls = called_none (TakesTurn order m.limits) turn_count (at x); few = omega arith; serves = serves_none (behaviour x.1) (registers x.1) x.0; ended = ended_none x.0; behaviour_is = refl; ready = All-head Ready x xs ready }, going_all xs (All-tail Ready x xs ready), refl)
 
   few_more : (x y z : PassShown × B) (s t : Shift) → Going x s y → Took y t z → s.done + t.done ≤ 1024
   few_more x y z s t h k =
       let same : t.done ≡ (turn_count k.turned).done = ap (λ (u : Shift). u.done) k.counted in
-      omega (arith, same, turns_claim m.limits h.taken (at x) (at y) s h.calls, turn_room m.limits (behaviour y.1) (registers y.1) y.0 z.0 k.turned k.turn.answer, k.limits.units.1)
+      omega (arith, same, turns_claim order m.limits h.taken (at x) (at y) s h.calls, turn_room order m.limits (behaviour y.1) (registers y.1) y.0 z.0 k.turned k.turn.answer, k.limits.units.1)
 
   leaves_on : (x y z : PassShown × B) (s t : Shift) → Going x s y → Took y t z → Leaves (behaviour x.1) (registers x.1) (registers z.1) x.0 z.0
   leaves_on x y z s t h k =
@@ -80,7 +81,7 @@ module _ {B : Type 0} (behaviour : B → Behaviour) (registers : B → List ℕ)
   one_round : (x y z : PassShown × B) (s t : Shift) → Going x s y → Took y t z → Going x (plus s t) z
   one_round x y z s t h k = record {
     taken = h.taken + 1;
-    calls = called_more (TakesTurn m.limits) turn_count h.taken k.turned (at x) (at y) (at z) s t (plus s t) h.calls k.turn k.counted refl;
+    calls = called_more (TakesTurn order m.limits) turn_count h.taken k.turned (at x) (at y) (at z) s t (plus s t) h.calls k.turn k.counted refl;
     few = few_more x y z s t h k;
     serves = (leaves_on x y z s t h k).serves;
     ended = (leaves_on x y z s t h k).ended;
@@ -109,7 +110,7 @@ module _ {B : Type 0} (behaviour : B → Behaviour) (registers : B → List ℕ)
   turn_left : (x : PassShown × B) (s : Shift) (y : PassShown × B) → Took x s y → claimed s + left_of y.0 ≡ left_of x.0
   turn_left x s y k =
       let same : claimed s ≡ claimed (turn_count k.turned) = ap claimed k.counted in
-      omega (arith, same, turn_claims m.limits (behaviour x.1) (registers x.1) x.0 y.0 k.turned k.turn.answer, turn_room m.limits (behaviour x.1) (registers x.1) x.0 y.0 k.turned k.turn.answer)
+      omega (arith, same, turn_claims order m.limits (behaviour x.1) (registers x.1) x.0 y.0 k.turned k.turn.answer, turn_room order m.limits (behaviour x.1) (registers x.1) x.0 y.0 k.turned k.turn.answer)
 
   round_left : (xs : List (PassShown × B)) (s : Shift) (ys : List (PassShown × B)) → RanAll Took xs s ys → claimed s + sum_by (λ (x : PassShown × B). left_of x.0) ys ≡ sum_by (λ (x : PassShown × B). left_of x.0) xs
   round_left [] s [] h = omega (arith, ap claimed h)
@@ -119,15 +120,15 @@ module _ {B : Type 0} (behaviour : B → Behaviour) (registers : B → List ℕ)
       let f : PassShown × B → ℕ = λ z. left_of z.0 in
       omega (arith, ap claimed h.4, claimed_plus h.0 h.1, turn_left x h.0 y h.2, round_left xs h.1 ys h.3, sum_by-cons f x xs, sum_by-cons f y ys)
 
-  idles : (x y z : PassShown × B) (s t : Shift) → Going x s y → Took y t z → claimed t ≡ 0 → EndsIdle m.limits (at x) (at z)
+  idles : (x y z : PassShown × B) (s t : Shift) → Going x s y → Took y t z → claimed t ≡ 0 → EndsIdle order m.limits (at x) (at z)
   idles x y z s t h k idle =
       record { taken = h.taken; counts = s; before = at y; calls = h.calls; last = k.turned; turn = k.turn; idle = sym (ap claimed k.counted) ∙ idle }
 
-  last_turn : (x y z : PassShown × B) (s t : Shift) → Going x s y → Took y t z → claimed t ≡ 0 → LastTurn behaviour registers pending m x t z
+  last_turn : (x y z : PassShown × B) (s t : Shift) → Going x s y → Took y t z → claimed t ≡ 0 → LastTurn behaviour registers pending m order x t z
   unfolding idles
   last_turn x y z s t h k idle = record { ends = idles x y z s t h k idle; counted = k.counted }
 
-  last_all : (xs ys zs : List (PassShown × B)) (s t : Shift) → RanAll Going xs s ys → RanAll Took ys t zs → claimed t ≡ 0 → RanAll (LastTurn behaviour registers pending m) xs t zs
+  last_all : (xs ys zs : List (PassShown × B)) (s t : Shift) → RanAll Going xs s ys → RanAll Took ys t zs → claimed t ≡ 0 → RanAll (LastTurn behaviour registers pending m order) xs t zs
   last_all [] [] [] s t h k idle = k
   last_all [] [] (z ∷ zs) s t h k idle = absurd k
   last_all [] (y ∷ ys) zs s t h k idle = absurd h
@@ -137,13 +138,13 @@ module _ {B : Type 0} (behaviour : B → Behaviour) (registers : B → List ℕ)
       let both : claimed t ≡ claimed k.0 + claimed k.1 = ap claimed k.4 ∙ claimed_plus k.0 k.1 in
       (k.0, k.1, last_turn x y z h.0 k.0 h.2 k.2 (omega (arith, both)), last_all xs ys zs h.1 k.1 h.3 k.3 (omega (arith, both)), k.4)
 
-  ends : (x y z : PassShown × B) (s t : Shift) → Going x s y → Took y t z → claimed t ≡ 0 → DeskDrained behaviour registers pending m x (plus s t) z
+  ends : (x y z : PassShown × B) (s t : Shift) → Going x s y → Took y t z → claimed t ≡ 0 → DeskDrained behaviour registers pending m order x (plus s t) z
   ends x y z s t h k idle =
       let now : Going x (plus s t) z = one_round x y z s t h k in
       record {
         taken = now.taken;
         calls = now.calls;
-        done = turns_commit m.limits now.taken (at x) (at z) (plus s t) now.calls;
+        done = turns_commit order m.limits now.taken (at x) (at z) (plus s t) now.calls;
         few = now.few;
         idle = idles x y z s t h k idle;
         leaves = leaves_on x y z s t h k;
@@ -151,7 +152,7 @@ module _ {B : Type 0} (behaviour : B → Behaviour) (registers : B → List ℕ)
         ready = now.ready;
       }
 
-  ends_all : (xs ys zs : List (PassShown × B)) (s t : Shift) → RanAll Going xs s ys → RanAll Took ys t zs → claimed t ≡ 0 → RanAll (DeskDrained behaviour registers pending m) xs (plus s t) zs
+  ends_all : (xs ys zs : List (PassShown × B)) (s t : Shift) → RanAll Going xs s ys → RanAll Took ys t zs → claimed t ≡ 0 → RanAll (DeskDrained behaviour registers pending m order) xs (plus s t) zs
   ends_all [] [] [] s t h k idle = ap₂ plus h k
   ends_all [] [] (z ∷ zs) s t h k idle = absurd k
   ends_all [] (y ∷ ys) zs s t h k idle = absurd h
@@ -175,17 +176,17 @@ module _ {B : Type 0} (behaviour : B → Behaviour) (registers : B → List ℕ)
     round_smaller e h some =
         omega (arith, round_left (zip xs us) s (zip ys vs) h.ran, some, sum_first left_of xs us e, sum_first left_of ys vs (each_paired Took xs us s ys vs e h))
 
-    pub drained_sum : length xs ≡ length us → RanEach (DeskDrained behaviour registers pending m) xs us s ys vs → s.done + sum_by commits_in xs ≡ sum_by commits_in ys
-    drained_sum e h = each_gains (DeskDrained behaviour registers pending m) xs us s ys vs (λ c. c.done) commits_in refl (λ a b. refl) (λ x t y r. r.done) e h
+    pub drained_sum : length xs ≡ length us → RanEach (DeskDrained behaviour registers pending m order) xs us s ys vs → s.done + sum_by commits_in xs ≡ sum_by commits_in ys
+    drained_sum e h = each_gains (DeskDrained behaviour registers pending m order) xs us s ys vs (λ c. c.done) commits_in refl (λ a b. refl) (λ x t y r. r.done) e h
 
-    pub drained_free : length xs ≡ length us → RanEach (DeskDrained behaviour registers pending m) xs us s ys vs → All (IsFreePass m) ys
-    drained_free e h = passes_free m (DeskDrained behaviour registers pending m) (λ x t y r. r.ready.pass) xs us s ys vs e h
+    pub drained_free : length xs ≡ length us → RanEach (DeskDrained behaviour registers pending m order) xs us s ys vs → All (IsFreePass m) ys
+    drained_free e h = passes_free m (DeskDrained behaviour registers pending m order) (λ x t y r. r.ready.pass) xs us s ys vs e h
 
-    pub drained_numbers : length xs ≡ length us → RanEach (DeskDrained behaviour registers pending m) xs us s ys vs → numbers ys ≡ numbers xs
-    drained_numbers e h = same_numbers m (DeskDrained behaviour registers pending m) (λ x t y r. r.leaves.serves.number) xs us s ys vs e h
+    pub drained_numbers : length xs ≡ length us → RanEach (DeskDrained behaviour registers pending m order) xs us s ys vs → numbers ys ≡ numbers xs
+    drained_numbers e h = same_numbers m (DeskDrained behaviour registers pending m order) (λ x t y r. r.leaves.serves.number) xs us s ys vs e h
 
-    pub drained_clear : length xs ≡ length us → RanEach (DeskDrained behaviour registers pending m) xs us s ys vs → All (λ b. pending b ≡ None) vs
-    drained_clear e h = servers_clear m behaviour registers pending (DeskDrained behaviour registers pending m) (λ x t y r. r.ready) xs us s ys vs e h
+    pub drained_clear : length xs ≡ length us → RanEach (DeskDrained behaviour registers pending m order) xs us s ys vs → All (λ b. pending b ≡ None) vs
+    drained_clear e h = servers_clear m behaviour registers pending (DeskDrained behaviour registers pending m order) (λ x t y r. r.ready) xs us s ys vs e h
 
   pub going_none : (xs : List PassShown) (us : List B) → length xs ≡ length us → All (IsFreePass m) xs → All (λ b. pending b ≡ None) us → RanEach Going xs us none xs us
   going_none xs us e free clear = record { ran = going_all (zip xs us) (desks_ready m behaviour registers pending xs us e free clear); on_kept = refl; by_kept = refl }
@@ -194,8 +195,8 @@ module _ {B : Type 0} (behaviour : B → Behaviour) (registers : B → List ℕ)
   going_on xs us ys vs zs ws s t h k = record { ran = going_round (zip xs us) (zip ys vs) (zip zs ws) s t h.ran k.ran; on_kept = k.on_kept ∙ h.on_kept; by_kept = k.by_kept ∙ h.by_kept }
 
   -- the last round claimed nothing
-  pub all_end : (xs : List PassShown) (us : List B) (ys : List PassShown) (vs : List B) (zs : List PassShown) (ws : List B) (s t : Shift) → RanEach Going xs us s ys vs → RanEach Took ys vs t zs ws → claimed t ≡ 0 → RanEach (DeskDrained behaviour registers pending m) xs us (plus s t) zs ws
+  pub all_end : (xs : List PassShown) (us : List B) (ys : List PassShown) (vs : List B) (zs : List PassShown) (ws : List B) (s t : Shift) → RanEach Going xs us s ys vs → RanEach Took ys vs t zs ws → claimed t ≡ 0 → RanEach (DeskDrained behaviour registers pending m order) xs us (plus s t) zs ws
   all_end xs us ys vs zs ws s t h k idle = record { ran = ends_all (zip xs us) (zip ys vs) (zip zs ws) s t h.ran k.ran idle; on_kept = k.on_kept ∙ h.on_kept; by_kept = k.by_kept ∙ h.by_kept }
 
-  pub all_last : (xs : List PassShown) (us : List B) (ys : List PassShown) (vs : List B) (zs : List PassShown) (ws : List B) (s t : Shift) → RanEach Going xs us s ys vs → RanEach Took ys vs t zs ws → claimed t ≡ 0 → RanEach (LastTurn behaviour registers pending m) xs us t zs ws
+  pub all_last : (xs : List PassShown) (us : List B) (ys : List PassShown) (vs : List B) (zs : List PassShown) (ws : List B) (s t : Shift) → RanEach Going xs us s ys vs → RanEach Took ys vs t zs ws → claimed t ≡ 0 → RanEach (LastTurn behaviour registers pending m order) xs us t zs ws
   all_last xs us ys vs zs ws s t h k idle = record { ran = last_all (zip xs us) (zip ys vs) (zip zs ws) s t h.ran k.ran idle; on_kept = k.on_kept ∙ h.on_kept; by_kept = k.by_kept ∙ h.by_kept }

@@ -33,6 +33,8 @@ one_refusal refusals.Full = refl
 one_refusal refusals.NotParked = refl
 one_refusal refusals.NoRound = refl
 one_refusal refusals.NotHeld = refl
+one_refusal refusals.NotWaiting = refl
+one_refusal refusals.NoUnit = refl
 
 pub one_kill : (r : Result Killed Refusal) → total (kill_count r) ≡ 1
 one_kill (Ok killed) = refl
@@ -49,6 +51,8 @@ none_killed refusals.Full = refl
 none_killed refusals.NotParked = refl
 none_killed refusals.NoRound = refl
 none_killed refusals.NotHeld = refl
+none_killed refusals.NotWaiting = refl
+none_killed refusals.NoUnit = refl
 
 module _ (l : Limits) where
   -- aborts are no kills
@@ -118,6 +122,8 @@ module _ (l : Limits) where
   fails_gained id p q refusals.NotParked h = absurd h
   fails_gained id p q refusals.NoRound h = absurd h
   fails_gained id p q refusals.NotHeld h = absurd h
+  fails_gained id p q refusals.NotWaiting h = absurd h
+  fails_gained id p q refusals.NoUnit h = absurd h
 
   kill_gained : (id : ℕ) (p : PassShown) (r : Result Killed Refusal) (q : PassShown) → KillsOnce l id p r q → GainsOnly (IsKillWork l p.number id (id + 1) p.seen q.seen) p q
   kill_gained id p (Ok killed) q h =
@@ -147,6 +153,8 @@ module _ (l : Limits) where
   fails_counted id p q refusals.NotParked h = absurd h
   fails_counted id p q refusals.NoRound h = absurd h
   fails_counted id p q refusals.NotHeld h = absurd h
+  fails_counted id p q refusals.NotWaiting h = absurd h
+  fails_counted id p q refusals.NoUnit h = absurd h
 
   kill_counted : (id : ℕ) (p : PassShown) (r : Result Killed Refusal) (q : PassShown) → KillsOnce l id p r q → (kill_count r).killed + kills_in p ≡ kills_in q
   kill_counted id p (Ok killed) q h =

@@ -11,6 +11,7 @@ use Rattle.tp_manager.specs.Shown.{ManagerShown, PassShown}
 use Rattle.tp_desk.specs.declared.turned.Turned.{Turned}
 use Rattle.tp_desk.specs.declared.turned.Turned.TheVariants as turneds
 use Rattle.tp_workers.specs.declared.killer.KillJob.{KillJob}
+use Rattle.tp_workers.specs.declared.plan.Plan.{Plan}
 use Rattle.tp_workers.specs.declared.tally.Shift.{Shift}
 use Rattle.tp_workers.specs.Clients.{ClientRan, IsClientJob, IsClientOf, JobShown}
 use Rattle.tp_workers.specs.Desks.{DeskRan, IsDeskOf}
@@ -49,6 +50,8 @@ refusal_part refusals.Full = refl
 refusal_part refusals.NotParked = refl
 refusal_part refusals.NoRound = refl
 refusal_part refusals.NotHeld = refl
+refusal_part refusals.NotWaiting = refl
+refusal_part refusals.NoUnit = refl
 
 kill_part : (r : Result Killed Refusal) → kill_count r ≡ killer_part (kill_count r)
 kill_part (Ok killed) = refl
@@ -158,48 +161,48 @@ module _ (m : ManagerShown) where
   pub ids_sum : (xs : List PassShown) (us : List KillJob) (s : Shift) (ys : List PassShown) (vs : List KillJob) → length xs ≡ length us → RanEach (KillerRan m) xs us s ys vs → s.killed + s.late + s.already + s.missing ≡ sum_by size_of_range us
   ids_sum xs us s ys vs e h = ran_asked (KillerRan m) (λ t. t.killed + t.late + t.already + t.missing) (λ x. size_of_range x.1) refl (λ a b. omega arith) killer_calls (zip xs us) s (zip ys vs) h.ran ∙ sum_second size_of_range xs us e
 
-module _ {B : Type 0} (behaviour : B → Behaviour) (registers : B → List ℕ) (pending : B → Option Pending) (m : ManagerShown) (turns : ℕ) where
-  desk_counts : (x : PassShown × B) (s : Shift) (y : PassShown × B) → DeskRan behaviour registers pending m turns x s y → s ≡ desk_part s
+module _ {B : Type 0} (behaviour : B → Behaviour) (registers : B → List ℕ) (pending : B → Option Pending) (m : ManagerShown) (plan : Plan) where
+  desk_counts : (x : PassShown × B) (s : Shift) (y : PassShown × B) → DeskRan behaviour registers pending m plan x s y → s ≡ desk_part s
   desk_counts x s y r = called_counts _ turn_count (λ t. t ≡ desk_part t) refl (λ a b p q. ap₂ plus p q) turn_part r.turns_taken.taken _ _ s r.turns_taken.calls
 
   -- the counts of desks stand in the desks' part
-  pub desks_part : (xs : List PassShown) (us : List B) (s : Shift) (ys : List PassShown) (vs : List B) → RanEach (DeskRan behaviour registers pending m turns) xs us s ys vs → RanEach (DeskRan behaviour registers pending m turns) xs us (desk_part s) ys vs
+  pub desks_part : (xs : List PassShown) (us : List B) (s : Shift) (ys : List PassShown) (vs : List B) → RanEach (DeskRan behaviour registers pending m plan) xs us s ys vs → RanEach (DeskRan behaviour registers pending m plan) xs us (desk_part s) ys vs
   desks_part xs us s ys vs h =
-      subst (λ (t : Shift). RanEach (DeskRan behaviour registers pending m turns) xs us t ys vs) (ran_keeps (DeskRan behaviour registers pending m turns) (λ t. t ≡ desk_part t) refl (λ a b p q. ap₂ plus p q) desk_counts (zip xs us) s (zip ys vs) h.ran) h
+      subst (λ (t : Shift). RanEach (DeskRan behaviour registers pending m plan) xs us t ys vs) (ran_keeps (DeskRan behaviour registers pending m plan) (λ t. t ≡ desk_part t) refl (λ a b p q. ap₂ plus p q) desk_counts (zip xs us) s (zip ys vs) h.ran) h
 
   -- and so is their sum where each is told
   pub desks_told : (xs : List PassShown) (us : List B) (places : List Shift) (s r : Shift) (ys : List PassShown) (vs : List B) (told : List Shift)
-      → r ≡ desk_part s → RanEach (DeskRan behaviour registers pending m turns) xs us s ys vs
-      → AreTold (DeskRan behaviour registers pending m turns) xs us places s ys vs told
-      → AreTold (DeskRan behaviour registers pending m turns) xs us places r ys vs told
+      → r ≡ desk_part s → RanEach (DeskRan behaviour registers pending m plan) xs us s ys vs
+      → AreTold (DeskRan behaviour registers pending m plan) xs us places s ys vs told
+      → AreTold (DeskRan behaviour registers pending m plan) xs us places r ys vs told
   desks_told xs us places s r ys vs told e h each =
-      let part : s ≡ desk_part s = ran_keeps (DeskRan behaviour registers pending m turns) (λ t. t ≡ desk_part t) refl (λ a b p q. ap₂ plus p q) desk_counts (zip xs us) s (zip ys vs) h.ran in
-      subst (λ (t : Shift). AreTold (DeskRan behaviour registers pending m turns) xs us places t ys vs told) (part ∙ sym e) each
+      let part : s ≡ desk_part s = ran_keeps (DeskRan behaviour registers pending m plan) (λ t. t ≡ desk_part t) refl (λ a b p q. ap₂ plus p q) desk_counts (zip xs us) s (zip ys vs) h.ran in
+      subst (λ (t : Shift). AreTold (DeskRan behaviour registers pending m plan) xs us places t ys vs told) (part ∙ sym e) each
 
-  desk_turns : (x : PassShown × B) (s : Shift) (y : PassShown × B) → DeskRan behaviour registers pending m turns x s y → s.nounit ≡ 0 → total s ≡ turns
+  desk_turns : (x : PassShown × B) (s : Shift) (y : PassShown × B) → DeskRan behaviour registers pending m plan x s y → s.nounit ≡ 0 → total s ≡ plan.turns
   desk_turns x s y r e = called_total _ turn_count one_turn r.turns_taken.taken _ _ s r.turns_taken.calls ∙ r.turns_taken.all_taken e
 
-  turns_taken : (xs : List (PassShown × B)) (s : Shift) (ys : List (PassShown × B)) → RanAll (DeskRan behaviour registers pending m turns) xs s ys → s.nounit ≡ 0 → total s ≡ turns * length xs
+  turns_taken : (xs : List (PassShown × B)) (s : Shift) (ys : List (PassShown × B)) → RanAll (DeskRan behaviour registers pending m plan) xs s ys → s.nounit ≡ 0 → total s ≡ plan.turns * length xs
   turns_taken [] s [] h e = ap total h ∙ omega arith
   turns_taken [] s (y ∷ ys) h e = absurd h
   turns_taken (x ∷ xs) s [] h e = absurd h
   turns_taken (x ∷ xs) s (y ∷ ys) h e =
       let both : s.nounit ≡ h.0.nounit + h.1.nounit = ap (λ (u : Shift). u.nounit) h.4 in
       let all : total s ≡ total h.0 + total h.1 = ap total h.4 ∙ total_plus h.0 h.1 in
-      let one : total h.0 ≡ turns = desk_turns x h.0 y h.2 (omega arith) in
-      let rest : total h.1 ≡ turns * length xs = turns_taken xs h.1 ys h.3 (omega arith) in
-      all ∙ ap₂ ◌+◌ one rest ∙ one_more turns (length xs)
+      let one : total h.0 ≡ plan.turns = desk_turns x h.0 y h.2 (omega arith) in
+      let rest : total h.1 ≡ plan.turns * length xs = turns_taken xs h.1 ys h.3 (omega arith) in
+      all ∙ ap₂ ◌+◌ one rest ∙ one_more plan.turns (length xs)
 
   -- all turns were taken, where no desk was out of units
-  pub turns_sum : (xs : List (PassShown × B)) (s : Shift) (ys : List (PassShown × B)) → RanAll (DeskRan behaviour registers pending m turns) xs s ys → s.nounit ≡ 0 → s.done + s.refused + s.lost + s.full + s.idle ≡ turns * length xs
+  pub turns_sum : (xs : List (PassShown × B)) (s : Shift) (ys : List (PassShown × B)) → RanAll (DeskRan behaviour registers pending m plan) xs s ys → s.nounit ≡ 0 → s.done + s.refused + s.lost + s.full + s.idle ≡ plan.turns * length xs
   turns_sum xs s ys h e =
-      let t : total s ≡ turns * length xs = turns_taken xs s ys h e in
-      let part : total s ≡ total (desk_part s) = ap total (ran_keeps (DeskRan behaviour registers pending m turns) (λ u. u ≡ desk_part u) refl (λ a b p q. ap₂ plus p q) desk_counts xs s ys h) in
+      let t : total s ≡ plan.turns * length xs = turns_taken xs s ys h e in
+      let part : total s ≡ total (desk_part s) = ap total (ran_keeps (DeskRan behaviour registers pending m plan) (λ u. u ≡ desk_part u) refl (λ a b p q. ap₂ plus p q) desk_counts xs s ys h) in
       omega arith
 
-  pub turns_all : (xs : List PassShown) (us : List B) (s : Shift) (ys : List PassShown) (vs : List B) → length xs ≡ length us → RanEach (DeskRan behaviour registers pending m turns) xs us s ys vs → s.nounit ≡ 0 → s.done + s.refused + s.lost + s.full + s.idle ≡ turns * length xs
+  pub turns_all : (xs : List PassShown) (us : List B) (s : Shift) (ys : List PassShown) (vs : List B) → length xs ≡ length us → RanEach (DeskRan behaviour registers pending m plan) xs us s ys vs → s.nounit ≡ 0 → s.done + s.refused + s.lost + s.full + s.idle ≡ plan.turns * length xs
   turns_all xs us s ys vs e h none =
-      turns_sum (zip xs us) s (zip ys vs) h.ran none ∙ ap (λ (n : ℕ). turns * n) (zip_length xs us e)
+      turns_sum (zip xs us) s (zip ys vs) h.ran none ∙ ap (λ (n : ℕ). plan.turns * n) (zip_length xs us e)
 
 -- of lists side by side, what holds of each place holds of each element of the first
 pub all_first : {T U : Type 0} (P : T → Type 0) (xs : List T) (ys : List U) → length xs ≡ length ys → All (λ (x : T × U). P x.0) (zip xs ys) → All P xs

@@ -16,11 +16,14 @@ use Rattle.tp_manager.specs.Calls.{Ends, claims_in, one_claim}
 use Rattle.tp_manager.specs.Shown.{ManagerShown, PassShown}
 use Rattle.tp_desk.specs.InHand.{InHand}
 use Rattle.tp_desk.specs.Serving.{Leaves}
+use Rattle.tp_desk.proofs.Keeping.{idle_by, nounit_by, opens_by}
 use Rattle.tp_desk.specs.declared.desk.Desk.{Desk}
+use Rattle.tp_desk.specs.declared.order.Order.{Order}
 use Rattle.tp_desk.specs.declared.turned.Turned.{Turned}
 use Rattle.tp_desk.specs.declared.turned.Turned.TheVariants as turneds
 use Rattle.tp_desk.specs.Steady.{IsSameDesk, shown}
 use Rattle.tp_desk.specs.Turns.{EndsOpen, Turns, Works, WorksOff}
+use Rattle.tp_workers.specs.declared.plan.Plan.{Plan}
 use Rattle.tp_workers.specs.declared.tally.Shift.{Shift}
 use Rattle.tp_workers.specs.Calling.{Called, Chain}
 use Rattle.tp_workers.specs.Desks.{DeskRan, DeskWorked, IsDeskOf, IsResting, Place, TakesTurn, TakesTurns, WorksOn, place, place_of}
@@ -58,30 +61,30 @@ work_adds behaviour registers work p q (turneds.Full element) (a, (drafts, made,
     ⊎_elim (λ adds. one p q (Abort p.number u) 0 0 adds.mine refl refl) (λ loses. quiet p q loses.0) how
 
 -- an element was claimed, and this became of it
-works_adds : (l : Limits) (behaviour : Behaviour) (registers : List ℕ) (p q : PassShown) (t : Turned) → Works l behaviour registers p q t → Adds ((turn_count t).done + 0) 1 p q
-works_adds l behaviour registers p q t h =
-    then 0 1 (turn_count t).done 0 p h.between q (one p h.between _ 0 1 h.takes.opens.adds.mine refl refl) (work_adds behaviour registers h.work h.between q t h.off)
+works_adds : (order : Order) (l : Limits) (behaviour : Behaviour) (registers : List ℕ) (p q : PassShown) (t : Turned) → Works order l behaviour registers p q t → Adds ((turn_count t).done + 0) 1 p q
+works_adds order l behaviour registers p q t h =
+    then 0 1 (turn_count t).done 0 p h.between q (one p h.between _ 0 1 (opens_by order l behaviour.stage h.work p h.between h.takes).adds.mine refl refl) (work_adds behaviour registers h.work h.between q t h.off)
 
-turn_adds : (l : Limits) (behaviour : Behaviour) (registers : List ℕ) (p q : PassShown) (t : Turned) → Turns l behaviour registers p q t → Adds (turn_count t).done (claimed (turn_count t)) p q
-turn_adds l behaviour registers p q turneds.Idle h = quiet p q h.1.mine
-turn_adds l behaviour registers p q turneds.NoUnit h = quiet p q (ap (λ (s : PassShown). s.mine) h.1)
-turn_adds l behaviour registers p q (turneds.Done unit element first count) h = works_adds l behaviour registers p q (turneds.Done unit element first count) h
-turn_adds l behaviour registers p q (turneds.Refused element why) h = works_adds l behaviour registers p q (turneds.Refused element why) h
-turn_adds l behaviour registers p q (turneds.Lost element) h = works_adds l behaviour registers p q (turneds.Lost element) h
-turn_adds l behaviour registers p q (turneds.Full element) h = works_adds l behaviour registers p q (turneds.Full element) h
+turn_adds : (order : Order) (l : Limits) (behaviour : Behaviour) (registers : List ℕ) (p q : PassShown) (t : Turned) → Turns order l behaviour registers p q t → Adds (turn_count t).done (claimed (turn_count t)) p q
+turn_adds order l behaviour registers p q turneds.Idle h = quiet p q (idle_by order l behaviour.stage p q h).1.mine
+turn_adds order l behaviour registers p q turneds.NoUnit h = quiet p q (ap (λ (s : PassShown). s.mine) (nounit_by order l behaviour.stage p q h).1)
+turn_adds order l behaviour registers p q (turneds.Done unit element first count) h = works_adds order l behaviour registers p q (turneds.Done unit element first count) h
+turn_adds order l behaviour registers p q (turneds.Refused element why) h = works_adds order l behaviour registers p q (turneds.Refused element why) h
+turn_adds order l behaviour registers p q (turneds.Lost element) h = works_adds order l behaviour registers p q (turneds.Lost element) h
+turn_adds order l behaviour registers p q (turneds.Full element) h = works_adds order l behaviour registers p q (turneds.Full element) h
 
 -- a turn uses up the units that it claims
-pub turn_claims : (l : Limits) (behaviour : Behaviour) (registers : List ℕ) (p q : PassShown) (t : Turned) → Turns l behaviour registers p q t → claimed (turn_count t) + claims_in p.mine ≡ claims_in q.mine
-turn_claims l behaviour registers p q t h = (turn_adds l behaviour registers p q t h).taken_is
+pub turn_claims : (order : Order) (l : Limits) (behaviour : Behaviour) (registers : List ℕ) (p q : PassShown) (t : Turned) → Turns order l behaviour registers p q t → claimed (turn_count t) + claims_in p.mine ≡ claims_in q.mine
+turn_claims order l behaviour registers p q t h = (turn_adds order l behaviour registers p q t h).taken_is
 
 -- a turn claims an element only where a unit is left
-pub turn_room : (l : Limits) (behaviour : Behaviour) (registers : List ℕ) (p q : PassShown) (t : Turned) → Turns l behaviour registers p q t → claimed (turn_count t) + claims_in p.mine ≤ l.units
-turn_room l behaviour registers p q turneds.Idle h = omega (arith, h.0)
-turn_room l behaviour registers p q turneds.NoUnit h = omega (arith, h.0)
-turn_room l behaviour registers p q (turneds.Done unit element first count) h = omega (arith, h.takes.opens.room)
-turn_room l behaviour registers p q (turneds.Refused element why) h = omega (arith, h.takes.opens.room)
-turn_room l behaviour registers p q (turneds.Lost element) h = omega (arith, h.takes.opens.room)
-turn_room l behaviour registers p q (turneds.Full element) h = omega (arith, h.takes.opens.room)
+pub turn_room : (order : Order) (l : Limits) (behaviour : Behaviour) (registers : List ℕ) (p q : PassShown) (t : Turned) → Turns order l behaviour registers p q t → claimed (turn_count t) + claims_in p.mine ≤ l.units
+turn_room order l behaviour registers p q turneds.Idle h = omega (arith, (idle_by order l behaviour.stage p q h).0)
+turn_room order l behaviour registers p q turneds.NoUnit h = omega (arith, (nounit_by order l behaviour.stage p q h).0)
+turn_room order l behaviour registers p q (turneds.Done unit element first count) h = omega (arith, (opens_by order l behaviour.stage h.work p h.between h.takes).room)
+turn_room order l behaviour registers p q (turneds.Refused element why) h = omega (arith, (opens_by order l behaviour.stage h.work p h.between h.takes).room)
+turn_room order l behaviour registers p q (turneds.Lost element) h = omega (arith, (opens_by order l behaviour.stage h.work p h.between h.takes).room)
+turn_room order l behaviour registers p q (turneds.Full element) h = omega (arith, (opens_by order l behaviour.stage h.work p h.between h.takes).room)
 
 pub one_turn : (t : Turned) → total (turn_count t) ≡ 1
 one_turn turneds.Idle = refl
@@ -92,19 +95,19 @@ one_turn (turneds.Lost element) = refl
 one_turn (turneds.Full element) = refl
 
 -- turns one after another count their commits, and their claims
-module _ (l : Limits) (n : ℕ) (x y : Place) (s : Shift) (h : Called (TakesTurn l) turn_count n x s y) where
+module _ (order : Order) (l : Limits) (n : ℕ) (x y : Place) (s : Shift) (h : Called (TakesTurn order l) turn_count n x s y) where
   pub turns_commit : s.done + commits_in x.pass ≡ commits_in y.pass
   turns_commit =
-      called_gains (TakesTurn l) turn_count (λ (c : Shift). c.done) (λ (p : Place). commits_in p.pass) refl (λ a b. refl)
-      (λ p t q r. (turn_adds l p.behaviour p.registers p.pass q.pass t r.answer).done_is) n x y s h
+      called_gains (TakesTurn order l) turn_count (λ (c : Shift). c.done) (λ (p : Place). commits_in p.pass) refl (λ a b. refl)
+      (λ p t q r. (turn_adds order l p.behaviour p.registers p.pass q.pass t r.answer).done_is) n x y s h
 
   pub turns_claim : claimed s + claims_in x.pass.mine ≡ claims_in y.pass.mine
   turns_claim =
-      called_gains (TakesTurn l) turn_count claimed (λ (p : Place). claims_in p.pass.mine) refl (λ a b. omega arith)
-      (λ p t q r. turn_claims l p.behaviour p.registers p.pass q.pass t r.answer) n x y s h
+      called_gains (TakesTurn order l) turn_count claimed (λ (p : Place). claims_in p.pass.mine) refl (λ a b. omega arith)
+      (λ p t q r. turn_claims order l p.behaviour p.registers p.pass q.pass t r.answer) n x y s h
 
   pub turns_total : total s ≡ n
-  turns_total = called_total (TakesTurn l) turn_count one_turn n x y s h
+  turns_total = called_total (TakesTurn order l) turn_count one_turn n x y s h
 
 module _ {X : Type 0} {F : X → Type 0} (behaviour : (x : X) × F x → Behaviour) (registers : (x : X) × F x → List ℕ) (pending : (x : X) × F x → Option Pending) where
   abbrev Lent : Type 0
@@ -117,23 +120,23 @@ module _ {X : Type 0} {F : X → Type 0} (behaviour : (x : X) × F x → Behavio
   of_desk d = place_of behaviour registers pending d
 
   -- the desk took n turns so far
-  pub record SoFar (n : ℕ) (old : Desk X F) (counts : Shift) (new : Desk X F) : Type 0 where
-    pub calls : Called (TakesTurn old.manager.now.limits) turn_count n (of_desk old) counts (of_desk new)
+  pub record SoFar (order : Order) (n : ℕ) (old : Desk X F) (counts : Shift) (new : Desk X F) : Type 0 where
+    pub calls : Called (TakesTurn order old.manager.now.limits) turn_count n (of_desk old) counts (of_desk new)
     pub same : IsSameDesk old new
     pub resting : IsResting behaviour registers pending new
 
-  pub none_so_far : (d : Desk X F) → IsResting behaviour registers pending d → SoFar 0 d none d
-  none_so_far d resting = record {
-    calls = called_none (TakesTurn d.manager.now.limits) turn_count (of_desk d);
+  pub none_so_far : (order : Order) (d : Desk X F) → IsResting behaviour registers pending d → SoFar order 0 d none d
+  none_so_far order d resting = record {
+    calls = called_none (TakesTurn order d.manager.now.limits) turn_count (of_desk d);
     same = record { manager = refl; pass = refl; server = refl; first_pass = refl; first_server = refl };
     resting = resting;
   }
 
-  pub one_more : (n : ℕ) (t : Turned) (x y z : Desk X F) (s u v : Shift) → SoFar n x s y → IsSameDesk y z → TakesTurn y.manager.now.limits (of_desk y) t (of_desk z)
-      → IsResting behaviour registers pending z → u ≡ turn_count t → v ≡ plus s u → SoFar (n + 1) x v z
-  one_more n t x y z s u v h same turn resting is both = record {
-    calls = called_more (TakesTurn x.manager.now.limits) turn_count n t (of_desk x) (of_desk y) (of_desk z) s u v h.calls
-        (subst (λ k. TakesTurn k.now.limits (of_desk y) t (of_desk z)) h.same.manager turn) is both;
+  pub one_more : (order : Order) (n : ℕ) (t : Turned) (x y z : Desk X F) (s u v : Shift) → SoFar order n x s y → IsSameDesk y z → TakesTurn order y.manager.now.limits (of_desk y) t (of_desk z)
+      → IsResting behaviour registers pending z → u ≡ turn_count t → v ≡ plus s u → SoFar order (n + 1) x v z
+  one_more order n t x y z s u v h same turn resting is both = record {
+    calls = called_more (TakesTurn order x.manager.now.limits) turn_count n t (of_desk x) (of_desk y) (of_desk z) s u v h.calls
+        (subst (λ k. TakesTurn order k.now.limits (of_desk y) t (of_desk z)) h.same.manager turn) is both;
     same = record {
       manager = same.manager ∙ h.same.manager;
       pass = same.pass ∙ h.same.pass;
@@ -190,28 +193,28 @@ module _ {X : Type 0} {F : X → Type 0} (behaviour : (x : X) × F x → Behavio
         (subst (λ (s : DynBox X Global F). Leaves (shown behaviour y.1) (shown registers s) (shown registers y.1) x.0 y.0) start
         (subst (λ (p : PassShown). Leaves (shown behaviour y.1) (shown registers e.first_server.value) (shown registers y.1) p y.0) first lending.left))
 
-    same_behaviour : (ts : List Turned) (l : Limits) (p q : Place) → Chain (TakesTurn l) p ts q → q.behaviour ≡ p.behaviour
-    same_behaviour [] l p q h = ap (λ (r : Place). r.behaviour) h
-    same_behaviour (t ∷ ts) l p q h = same_behaviour ts l h.0 q h.2 ∙ h.1.behaviour_is
+    same_behaviour : (order : Order) (ts : List Turned) (l : Limits) (p q : Place) → Chain (TakesTurn order l) p ts q → q.behaviour ≡ p.behaviour
+    same_behaviour order [] l p q h = ap (λ (r : Place). r.behaviour) h
+    same_behaviour order (t ∷ ts) l p q h = same_behaviour order ts l h.0 q h.2 ∙ h.1.behaviour_is
 
-    pub desk_ran : (turns : ℕ) (counts : Shift) → TakesTurns d.manager.now.limits turns (of_desk d) counts (of_desk e)
-        → DeskRan (shown behaviour) (shown registers) (shown pending) m turns x counts y
-    desk_ran turns counts taken =
-        let now : TakesTurns m.limits turns (at x) counts (at y) =
-        subst (λ (k : ManagerShown). TakesTurns k.limits turns (at x) counts (at y)) lending.manager (lent_as (λ a b. TakesTurns d.manager.now.limits turns a counts b) taken) in
-        let whole : shown behaviour y.1 ≡ shown behaviour x.1 = same_behaviour now.calls.answers m.limits (at x) (at y) now.calls.each in
+    pub desk_ran : (plan : Plan) (counts : Shift) → TakesTurns plan d.manager.now.limits (of_desk d) counts (of_desk e)
+        → DeskRan (shown behaviour) (shown registers) (shown pending) m plan x counts y
+    desk_ran plan counts taken =
+        let now : TakesTurns plan m.limits (at x) counts (at y) =
+        subst (λ (k : ManagerShown). TakesTurns plan k.limits (at x) counts (at y)) lending.manager (lent_as (λ a b. TakesTurns plan d.manager.now.limits a counts b) taken) in
+        let whole : shown behaviour y.1 ≡ shown behaviour x.1 = same_behaviour plan.order now.calls.answers m.limits (at x) (at y) now.calls.each in
         record {
           turns_taken = now;
-          done = turns_commit m.limits now.taken (at x) (at y) counts now.calls;
+          done = turns_commit plan.order m.limits now.taken (at x) (at y) counts now.calls;
           leaves = lent_leaves whole;
           behaviour_is = whole;
           ready = lending.ready;
         }
 
-    pub desk_worked : (turns : ℕ) (counts : Shift) → WorksOn d.manager.now.limits turns (of_desk d) counts (of_desk e)
-        → DeskWorked (shown behaviour) (shown registers) (shown pending) m turns x counts y
-    desk_worked turns counts worked =
-        let ran = desk_ran worked.taken counts (record { taken = worked.taken; calls = worked.calls; at_most = omega arith; all_taken = λ e. refl }) in
+    pub desk_worked : (plan : Plan) (counts : Shift) → WorksOn plan d.manager.now.limits (of_desk d) counts (of_desk e)
+        → DeskWorked (shown behaviour) (shown registers) (shown pending) m plan x counts y
+    desk_worked plan counts worked =
+        let ran = desk_ran (record plan { turns = worked.taken }) counts (record { taken = worked.taken; calls = worked.calls; at_most = omega arith; all_taken = λ e. refl }) in
         record {
           turns_taken = record {
             taken = ran.turns_taken.taken;
@@ -225,11 +228,11 @@ module _ {X : Type 0} {F : X → Type 0} (behaviour : (x : X) × F x → Behavio
           ready = ran.ready;
         }
 
-    pub desk_took : (t : Turned) (counts : Shift) → TakesTurn d.manager.now.limits (of_desk d) t (of_desk e) → AreLimits d.manager.now.limits → counts ≡ turn_count t
-        → TookTurn (shown behaviour) (shown registers) (shown pending) m x counts y
-    desk_took t counts turn limits counted =
-        let now : TakesTurn m.limits (at x) t (at y) =
-        subst (λ (k : ManagerShown). TakesTurn k.limits (at x) t (at y)) lending.manager (lent_as (λ a b. TakesTurn d.manager.now.limits a t b) turn) in
+    pub desk_took : (order : Order) (t : Turned) (counts : Shift) → TakesTurn order d.manager.now.limits (of_desk d) t (of_desk e) → AreLimits d.manager.now.limits → counts ≡ turn_count t
+        → TookTurn (shown behaviour) (shown registers) (shown pending) m order x counts y
+    desk_took order t counts turn limits counted =
+        let now : TakesTurn order m.limits (at x) t (at y) =
+        subst (λ (k : ManagerShown). TakesTurn order k.limits (at x) t (at y)) lending.manager (lent_as (λ a b. TakesTurn order d.manager.now.limits a t b) turn) in
         record {
           turned = t;
           turn = now;

@@ -12,3 +12,4 @@ pub mod CrewPasses
 pub mod Folds
 pub mod FoldStarts
 pub mod Crew
+pub mod Plans

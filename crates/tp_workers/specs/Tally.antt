@@ -65,6 +65,8 @@ refusal_count refusals.Full = record none { missing = 1 }
 refusal_count refusals.NotParked = record none { missing = 1 }
 refusal_count refusals.NoRound = record none { missing = 1 }
 refusal_count refusals.NotHeld = record none { missing = 1 }
+refusal_count refusals.NotWaiting = record none { missing = 1 }
+refusal_count refusals.NoUnit = record none { missing = 1 }
 
 -- a kill with this answer
 abbrev pub kill_count : Result Killed Refusal → Shift

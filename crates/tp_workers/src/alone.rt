@@ -5,12 +5,13 @@ ghost use Rattle.tp_workers.specs.Desks.{DeskWorked, IsDeskOf, IsResting, WorksO
 
 use crate::desks::turn_at;
 use crate::gate::NoGate;
+use crate::plan::Plan;
 use crate::tally::Shift;
 use tp_desk::Desk;
 use tp_manager::{Manager, Pass};
 use tp_server::Server;
 
-/// Has a desk of this pass and this server take turns on the caller's thread: so many, or fewer where one
+/// Has a desk of this pass and this server take turns on the caller's thread: as many as planned, or fewer where one
 /// finds nothing to
 /// wait, or no unit left. The pass comes from this manager's keeper and has no unit open, and the server
 /// has nothing prepared;
@@ -19,27 +20,27 @@ pub fn work_off(
     manager: &Manager,
     pass: &mut Pass,
     server: &mut Box<dyn Server + Send>,
-    turns: u32,
+    plan: Plan,
 ) -> Shift
     requires ready { IsDeskOf behaviour registers pending manager.now (pass.old, server.old) }
-    ensures { DeskWorked behaviour registers pending manager.now turns (pass.old, server.old) result (pass.new, server.new) }
+    ensures { DeskWorked behaviour registers pending manager.now plan (pass.old, server.old) result (pass.new, server.new) }
 {
     let mut desk = Desk::new(manager, pass, server);
-    let counts = turns_until_idle(&mut desk, turns);
+    let counts = turns_until_idle(&mut desk, plan);
     desk.end();
     counts
 }
 
-fn turns_until_idle(desk: &mut Desk, turns: u32) -> Shift
+fn turns_until_idle(desk: &mut Desk, plan: Plan) -> Shift
     requires resting { IsResting behaviour registers pending desk.old }
     ensures same { IsSameDesk desk.old desk.new }
-    ensures turns { WorksOn desk.old.manager.now.limits turns
+    ensures turns { WorksOn plan desk.old.manager.now.limits
         (place_of behaviour registers pending desk.old) result (place_of behaviour registers pending desk.new) }
     ensures resting { IsResting behaviour registers pending desk.new }
 {
     let mut counts = Shift::none();
-    for _i in 0..turns {
-        let turned = turn_at(desk, 0, &NoGate);
+    for _i in 0..plan.turns {
+        let turned = turn_at(desk, plan.order, 0, &NoGate);
         counts = counts.plus(Shift::of_turn(turned));
         if counts.idle > 0 {
             return counts;

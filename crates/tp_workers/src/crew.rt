@@ -18,12 +18,14 @@ ghost use Rattle.tp_workers.specs.declared.tally.Shift.{Shift};
 use crate::client::ClientJob;
 use crate::fold_start::FoldStart;
 use crate::gate::Gate;
+use crate::plan::Plan;
 use crate::rounds::{Drained, drain};
 use crate::tally::Shift;
 use crate::work::shift;
 use std::alloc::{AllocError, Global};
 use std::mem::swap;
 use std::thread::Threads;
+use tp_desk::Order;
 use tp_manager::{Keeper, MakeFault, Manager, Pass};
 use tp_model::types::{Account, Limits};
 use tp_server::Server;
@@ -103,16 +105,17 @@ fn drain_desks(
     manager: &Manager,
     passes: &mut [Pass],
     boxes: &mut [Box<dyn Server + Send>],
+    order: Order,
 ) -> Drained
     requires enough { 1 + length boxes.old ≤ length passes.old }
     requires few { length passes.old ≤ 32 }
     requires free { All (IsFreePass manager.now) passes.old }
     requires clear { All (λ server. pending server ≡ None) boxes.old }
     ensures desks { (counts : Shift) × (result.done ≡ counts.done)
-        × RanEach (DeskDrained behaviour registers pending manager.now)
+        × RanEach (DeskDrained behaviour registers pending manager.now order)
         (desks_in (length boxes.old) passes.old) boxes.old counts (desks_in (length boxes.old) passes.new) boxes.new }
     ensures last_turns { (counts : Shift) × (result.nounit ≡ counts.nounit)
-        × RanEach (LastTurn behaviour registers pending manager.now)
+        × RanEach (LastTurn behaviour registers pending manager.now order)
         (desks_in (length boxes.old) passes.old) boxes.old counts (desks_in (length boxes.old) passes.new) boxes.new }
     ensures done { result.done + sum_by commits_in (desks_in (length boxes.old) passes.old)
         ≡ sum_by commits_in (desks_in (length boxes.old) passes.new) }
@@ -125,7 +128,7 @@ fn drain_desks(
 {
     let (_own, others) = passes.split_at_mut(1);
     let (desks, _clients) = others.split_at_mut(boxes.len());
-    drain(manager, desks, boxes)
+    drain(manager, desks, boxes, order)
 }
 
 /// Has the desks and the clients of a crew with these passes work, each on a thread of its own.
@@ -135,7 +138,7 @@ fn shift_all<R: Threads + Sync, G: Gate>(
     passes: &mut [Pass],
     boxes: &mut [Box<dyn Server + Send>],
     jobs: &mut [ClientJob],
-    turns: u32,
+    plan: Plan,
     counts: &mut [Shift],
     gate: &G,
 ) -> Shift
@@ -143,15 +146,15 @@ fn shift_all<R: Threads + Sync, G: Gate>(
     requires free { All (IsFreePass manager.now) passes.old }
     requires clear { All (λ server. pending server ≡ None) boxes.old }
     requires jobs { All IsClientJob jobs.old }
-    requires turns_fit { turns * length boxes.old < 2 ^ 32 }
+    requires turns_fit { plan.turns * length boxes.old < 2 ^ 32 }
     requires counts_fit { sum_by calls_of jobs.old < 2 ^ 32 }
-    ensures desks { RanEach (DeskRan behaviour registers pending manager.now turns)
+    ensures desks { RanEach (DeskRan behaviour registers pending manager.now plan)
         (desks_in (length boxes.old) passes.old) boxes.old (desk_part result)
         (desks_in (length boxes.old) passes.new) boxes.new }
     ensures clients { RanEach (ClientRan manager.now)
         (clients_in (length boxes.old) passes.old) jobs.old (client_part result)
         (clients_in (length boxes.old) passes.new) jobs.new }
-    ensures each_desk { AreTold (DeskRan behaviour registers pending manager.now turns)
+    ensures each_desk { AreTold (DeskRan behaviour registers pending manager.now plan)
         (desks_in (length boxes.old) passes.old) boxes.old counts.old (desk_part result)
         (desks_in (length boxes.old) passes.new) boxes.new counts.new }
     ensures own { own_in passes.new ≡ own_in passes.old }
@@ -165,7 +168,7 @@ fn shift_all<R: Threads + Sync, G: Gate>(
     ensures submitted { result.submitted + sum_by enqueues_in (clients_in (length boxes.old) passes.old)
         ≡ sum_by enqueues_in (clients_in (length boxes.old) passes.new) }
     ensures all_turns { result.nounit ≡ 0
-        → result.done + result.refused + result.lost + result.full + result.idle ≡ turns * length boxes.old }
+        → result.done + result.refused + result.lost + result.full + result.idle ≡ plan.turns * length boxes.old }
     ensures all_calls { result.submitted + result.submit_full ≡ sum_by calls_of jobs.old }
 {
     let (_own, others) = passes.split_at_mut(1);
@@ -179,7 +182,7 @@ fn shift_all<R: Threads + Sync, G: Gate>(
         jobs,
         &mut [],
         &mut [],
-        turns,
+        plan,
         counts,
         gate,
     )
@@ -223,7 +226,7 @@ impl Crew {
         })
     }
 
-    /// Has the boxes' desks take so many turns, or fewer where a pass has no unit left, and the clients do
+    /// Has the boxes' desks take as many turns as planned, or fewer where a pass has no unit left, and the clients do
     /// these jobs, each on a
     /// thread of its own, until all are through. The answer is what all did together; where `counts` has a
     /// place for each box,
@@ -231,7 +234,7 @@ impl Crew {
     pub fn shift<R: Threads + Sync, G: Gate>(
         &mut self,
         rt: &R,
-        turns: u32,
+        plan: Plan,
         jobs: &mut [ClientJob],
         counts: &mut [Shift],
         gate: &G,
@@ -239,17 +242,17 @@ impl Crew {
         requires steady { IsSteadyCrew behaviour registers pending self.old }
         requires paired { length jobs.old ≡ self.old.clients }
         requires jobs { All IsClientJob jobs.old }
-        requires turns_fit { turns * length self.old.boxes.items < 2 ^ 32 }
+        requires turns_fit { plan.turns * length self.old.boxes.items < 2 ^ 32 }
         requires counts_fit { sum_by calls_of jobs.old < 2 ^ 32 }
         ensures steady { IsSteadyCrew behaviour registers pending self.new }
         ensures same { IsSameCrew self.old self.new }
-        ensures desks { RanEach (DeskRan behaviour registers pending self.old.manager turns)
+        ensures desks { RanEach (DeskRan behaviour registers pending self.old.manager plan)
             (desks_in (length self.old.boxes.items) self.old.passes.items) self.old.boxes.items (desk_part result)
             (desks_in (length self.old.boxes.items) self.new.passes.items) self.new.boxes.items }
         ensures clients { RanEach (ClientRan self.old.manager)
             (clients_in (length self.old.boxes.items) self.old.passes.items) jobs.old (client_part result)
             (clients_in (length self.old.boxes.items) self.new.passes.items) jobs.new }
-        ensures each_desk { AreTold (DeskRan behaviour registers pending self.old.manager turns)
+        ensures each_desk { AreTold (DeskRan behaviour registers pending self.old.manager plan)
             (desks_in (length self.old.boxes.items) self.old.passes.items) self.old.boxes.items counts.old (desk_part result)
             (desks_in (length self.old.boxes.items) self.new.passes.items) self.new.boxes.items counts.new }
         ensures own { own_in self.new.passes.items ≡ own_in self.old.passes.items }
@@ -261,7 +264,7 @@ impl Crew {
             + sum_by enqueues_in (clients_in (length self.old.boxes.items) self.old.passes.items)
             ≡ sum_by enqueues_in (clients_in (length self.old.boxes.items) self.new.passes.items) }
         ensures all_turns { result.nounit ≡ 0
-            → result.done + result.refused + result.lost + result.full + result.idle ≡ turns * length self.old.boxes.items }
+            → result.done + result.refused + result.lost + result.full + result.idle ≡ plan.turns * length self.old.boxes.items }
         ensures all_calls { result.submitted + result.submit_full ≡ sum_by calls_of jobs.old }
     {
         shift_all(
@@ -270,23 +273,24 @@ impl Crew {
             &mut self.passes,
             &mut self.boxes,
             jobs,
-            turns,
+            plan,
             counts,
             gate,
         )
     }
 
-    /// Has the boxes' desks take turns on the caller's thread, one turn each in a round, until a whole round claims nothing.
-    pub fn drain(&mut self) -> Drained
+    /// Has the boxes' desks take turns on the caller's thread, one turn each in a round, whose claims are in this order, until a
+    /// whole round claims nothing.
+    pub fn drain(&mut self, order: Order) -> Drained
         requires steady { IsSteadyCrew behaviour registers pending self.old }
         ensures steady { IsSteadyCrew behaviour registers pending self.new }
         ensures same { IsSameCrew self.old self.new }
         ensures desks { (counts : Shift) × (result.done ≡ counts.done)
-            × RanEach (DeskDrained behaviour registers pending self.old.manager)
+            × RanEach (DeskDrained behaviour registers pending self.old.manager order)
             (desks_in (length self.old.boxes.items) self.old.passes.items) self.old.boxes.items counts
             (desks_in (length self.old.boxes.items) self.new.passes.items) self.new.boxes.items }
         ensures last_turns { (counts : Shift) × (result.nounit ≡ counts.nounit)
-            × RanEach (LastTurn behaviour registers pending self.old.manager)
+            × RanEach (LastTurn behaviour registers pending self.old.manager order)
             (desks_in (length self.old.boxes.items) self.old.passes.items) self.old.boxes.items counts
             (desks_in (length self.old.boxes.items) self.new.passes.items) self.new.boxes.items }
         ensures done { result.done + sum_by commits_in (desks_in (length self.old.boxes.items) self.old.passes.items)
@@ -296,7 +300,7 @@ impl Crew {
             ≡ clients_in (length self.old.boxes.items) self.old.passes.items }
         ensures keeper { self.new.keeper ≡ self.old.keeper }
     {
-        drain_desks(&self.manager, &mut self.passes, &mut self.boxes)
+        drain_desks(&self.manager, &mut self.passes, &mut self.boxes, order)
     }
 
     /// How many elements there are of each kind of status, in all and by stage.

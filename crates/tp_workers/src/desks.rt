@@ -9,57 +9,59 @@ ghost use Rattle.tp_workers.specs.Drained.{TookTurn};
 ghost use Rattle.tp_workers.specs.Tally.{total};
 
 use crate::gate::{Gate, Point};
+use crate::plan::Plan;
 use crate::tally::Shift;
-use tp_desk::{Desk, Turned};
+use tp_desk::{Desk, Order, Turned};
 use tp_manager::{Manager, Pass};
 use tp_model::types::{Claimed, Work};
 use tp_server::Server;
 
-/// Has a desk take so many turns, or fewer where its pass has no unit left.
+/// Has a desk take as many turns as planned, or fewer where its pass has no unit left.
 pub(crate) fn run_desk<G: Gate>(
     manager: &Manager,
     pass: &mut Pass,
     server: &mut Box<dyn Server + Send>,
-    turns: u32,
+    plan: Plan,
     worker: u32,
     gate: &G,
 ) -> Shift
     requires ready { IsDeskOf behaviour registers pending manager.now (pass.old, server.old) }
-    ensures ran { DeskRan behaviour registers pending manager.now turns (pass.old, server.old) result (pass.new, server.new) }
-    ensures bound { total result ≤ turns }
+    ensures ran { DeskRan behaviour registers pending manager.now plan (pass.old, server.old) result (pass.new, server.new) }
+    ensures bound { total result ≤ plan.turns }
 {
     let mut desk = Desk::new(manager, pass, server);
-    let counts = take_turns(&mut desk, turns, worker, gate);
+    let counts = take_turns(&mut desk, plan, worker, gate);
     desk.end();
     counts
 }
 
-/// Has a desk take one turn.
+/// Has a desk take one turn, whose claim is in this order.
 pub(crate) fn take_turn(
     manager: &Manager,
     pass: &mut Pass,
     server: &mut Box<dyn Server + Send>,
+    order: Order,
 ) -> Shift
     requires ready { IsDeskOf behaviour registers pending manager.now (pass.old, server.old) }
-    ensures took { TookTurn behaviour registers pending manager.now (pass.old, server.old) result (pass.new, server.new) }
+    ensures took { TookTurn behaviour registers pending manager.now order (pass.old, server.old) result (pass.new, server.new) }
 {
     let mut desk = Desk::new(manager, pass, server);
-    let turned = desk.turn();
+    let turned = desk.turn_by(order);
     desk.end();
     Shift::of_turn(turned)
 }
 
-fn take_turns<G: Gate>(desk: &mut Desk, turns: u32, worker: u32, gate: &G) -> Shift
+fn take_turns<G: Gate>(desk: &mut Desk, plan: Plan, worker: u32, gate: &G) -> Shift
     requires resting { IsResting behaviour registers pending desk.old }
     ensures same { IsSameDesk desk.old desk.new }
-    ensures turns { TakesTurns desk.old.manager.now.limits turns
+    ensures turns { TakesTurns plan desk.old.manager.now.limits
         (place_of behaviour registers pending desk.old) result (place_of behaviour registers pending desk.new) }
     ensures resting { IsResting behaviour registers pending desk.new }
-    ensures bound { total result ≤ turns }
+    ensures bound { total result ≤ plan.turns }
 {
     let mut counts = Shift::none();
-    for _i in 0..turns {
-        let turned = turn_at(desk, worker, gate);
+    for _i in 0..plan.turns {
+        let turned = turn_at(desk, plan.order, worker, gate);
         counts = counts.plus(Shift::of_turn(turned));
         if counts.nounit > 0 {
             return counts;
@@ -69,31 +71,31 @@ fn take_turns<G: Gate>(desk: &mut Desk, turns: u32, worker: u32, gate: &G) -> Sh
 }
 
 /// A turn with a pause at each of its points.
-pub(crate) fn turn_at<G: Gate>(desk: &mut Desk, worker: u32, gate: &G) -> Turned
+pub(crate) fn turn_at<G: Gate>(desk: &mut Desk, order: Order, worker: u32, gate: &G) -> Turned
     requires resting { IsResting behaviour registers pending desk.old }
     ensures same { IsSameDesk desk.old desk.new }
-    ensures turn { TakesTurn desk.old.manager.now.limits
+    ensures turn { TakesTurn order desk.old.manager.now.limits
         (place_of behaviour registers pending desk.old) result (place_of behaviour registers pending desk.new) }
     ensures resting { IsResting behaviour registers pending desk.new }
 {
     gate.pause(worker, Point::Start);
-    let turned = claim_at(desk, worker, gate);
+    let turned = claim_at(desk, order, worker, gate);
     gate.pause(worker, Point::Settled);
     turned
 }
 
-fn claim_at<G: Gate>(desk: &mut Desk, worker: u32, gate: &G) -> Turned
+fn claim_at<G: Gate>(desk: &mut Desk, order: Order, worker: u32, gate: &G) -> Turned
     requires steady { SteadyDesk (shown behaviour) (shown registers) (shown pending) desk.old }
     requires free { desk.old.work ≡ None }
     ensures same { IsSameDesk desk.old desk.new }
     ensures behaviour { shown behaviour desk.new.server.now ≡ shown behaviour desk.old.server.now }
     ensures free { desk.new.work ≡ None }
-    ensures follows { Follows (turn_steps desk.old.manager.now.limits) desk.old.pass.now desk.new.pass.now }
-    ensures answer { Turns desk.old.manager.now.limits (shown behaviour desk.old.server.now)
+    ensures follows { Follows (turn_steps order desk.old.manager.now.limits) desk.old.pass.now desk.new.pass.now }
+    ensures answer { Turns order desk.old.manager.now.limits (shown behaviour desk.old.server.now)
         (shown registers desk.old.server.now) desk.old.pass.now desk.new.pass.now result }
     ensures steady { SteadyDesk (shown behaviour) (shown registers) (shown pending) desk.new }
 {
-    match desk.claim() {
+    match desk.claim_by(order) {
         Claimed::Idle => Turned::Idle,
         Claimed::NoUnit => Turned::NoUnit,
         Claimed::Work(work) => work_at(desk, work, worker, gate),

@@ -10,6 +10,7 @@ ghost use Rattle.tp_workers.specs.Ran.{RanEach};
 use crate::desks::take_turn;
 use crate::fork::in_turn;
 use crate::tally::Shift;
+use tp_desk::Order;
 use tp_manager::{Manager, Pass};
 use tp_server::Server;
 
@@ -22,22 +23,24 @@ pub struct Drained {
     pub nounit: u32,
 }
 
-/// Has a desk of each pass with the server at its place take turns on the caller's thread, one turn each in a round, until a
+/// Has a desk of each pass with the server at its place take turns on the caller's thread, one turn each in a round, whose
+/// claims are in this order, until a
 /// whole round claims nothing: each desk's last turn found nothing to wait, or no unit left. All passes come from this manager's keeper and have no unit open, and the servers have nothing
 /// prepared; so it is afterwards.
 pub fn drain(
     manager: &Manager,
     passes: &mut [Pass],
     servers: &mut [Box<dyn Server + Send>],
+    order: Order,
 ) -> Drained
     requires paired { length passes.old ≡ length servers.old }
     requires free { All (IsFreePass manager.now) passes.old }
     requires clear { All (λ server. pending server ≡ None) servers.old }
     requires fit { length passes.old * 1024 < 2 ^ 32 }
     ensures desks { (counts : Shift) × (result.done ≡ counts.done)
-        × RanEach (DeskDrained behaviour registers pending manager.now) passes.old servers.old counts passes.new servers.new }
+        × RanEach (DeskDrained behaviour registers pending manager.now order) passes.old servers.old counts passes.new servers.new }
     ensures last_turns { (counts : Shift) × (result.nounit ≡ counts.nounit)
-        × RanEach (LastTurn behaviour registers pending manager.now) passes.old servers.old counts passes.new servers.new }
+        × RanEach (LastTurn behaviour registers pending manager.now order) passes.old servers.old counts passes.new servers.new }
     ensures free { All (IsFreePass manager.now) passes.new }
     ensures clear { All (λ server. pending server ≡ None) servers.new }
     ensures numbered { numbers passes.new ≡ numbers passes.old }
@@ -46,7 +49,7 @@ pub fn drain(
 {
     let mut done = 0u32;
     'rounds: loop {
-        let counts = round(manager, passes, servers);
+        let counts = round(manager, passes, servers, order);
         done += counts.done;
         if !counts.has_claimed() {
             return Drained {
@@ -58,18 +61,23 @@ pub fn drain(
 }
 
 /// One turn of each desk.
-fn round(manager: &Manager, passes: &mut [Pass], servers: &mut [Box<dyn Server + Send>]) -> Shift
+fn round(
+    manager: &Manager,
+    passes: &mut [Pass],
+    servers: &mut [Box<dyn Server + Send>],
+    order: Order,
+) -> Shift
     requires paired { length passes.old ≡ length servers.old }
     requires free { All (IsFreePass manager.now) passes.old }
     requires clear { All (λ server. pending server ≡ None) servers.old }
     requires fit { length passes.old < 2 ^ 32 }
-    ensures ran { RanEach (TookTurn behaviour registers pending manager.now)
+    ensures ran { RanEach (TookTurn behaviour registers pending manager.now order)
         passes.old servers.old result passes.new servers.new }
 {
     let run = |pass: &mut Pass, server: &mut Box<dyn Server + Send>, _worker: u32| -> Shift
         requires { IsDeskOf behaviour registers pending manager.now (pass.now, server.now) }
-        ensures { TookTurn behaviour registers pending manager.entry.now
+        ensures { TookTurn behaviour registers pending manager.entry.now order
             (pass.entry.now, server.entry.now) result (pass.exit.now, server.exit.now) }
-    { take_turn(manager, pass, server) };
+    { take_turn(manager, pass, server, order) };
     in_turn(&run, 0, passes, servers)
 }

@@ -14,6 +14,7 @@ use crate::desks::run_desk;
 use crate::fork::{fork_three, number_after};
 use crate::gate::Gate;
 use crate::killer::{KillJob, run_killer};
+use crate::plan::Plan;
 use crate::tally::Shift;
 use std::thread::Threads;
 use tp_manager::{Manager, Pass};
@@ -21,7 +22,7 @@ use tp_server::Server;
 
 /// Runs a desk of each of the first passes with the server at its place, a client of each of the second with the job at its
 /// place, and a killer of each of the third with the job at its place, each on a thread of its own, until all are through. A
-/// desk takes so many turns, or fewer where its pass has no unit left. The answer is what all did
+/// desk takes as many turns as planned, claiming in the planned order, or fewer where its pass has no unit left. The answer is what all did
 /// together; where `counts` has
 /// a place for each desk, what each desk did is left there.
 ///
@@ -36,7 +37,7 @@ pub fn shift<R: Threads + Sync, G: Gate>(
     clients: &mut [ClientJob],
     killer_passes: &mut [Pass],
     killers: &mut [KillJob],
-    turns: u32,
+    plan: Plan,
     counts: &mut [Shift],
     gate: &G,
 ) -> Shift
@@ -49,18 +50,18 @@ pub fn shift<R: Threads + Sync, G: Gate>(
     requires client_jobs { All IsClientJob clients.old }
     requires killers_free { All (IsFreePass manager.now) killer_passes.old }
     requires kill_jobs { All IsKillJob killers.old }
-    requires turns_fit { turns * length desk_passes.old < 2 ^ 32 }
+    requires turns_fit { plan.turns * length desk_passes.old < 2 ^ 32 }
     requires counts_fit { sum_by calls_of clients.old < 2 ^ 32 }
     requires ranges_fit { sum_by size_of_range killers.old < 2 ^ 32 }
 
     // Each worker did what its own counts say, and the answer adds them up.
-    ensures desks { RanEach (DeskRan behaviour registers pending manager.now turns)
+    ensures desks { RanEach (DeskRan behaviour registers pending manager.now plan)
         desk_passes.old servers.old (desk_part result) desk_passes.new servers.new }
     ensures clients { RanEach (ClientRan manager.now)
         client_passes.old clients.old (client_part result) client_passes.new clients.new }
     ensures killers { RanEach (KillerRan manager.now)
         killer_passes.old killers.old (killer_part result) killer_passes.new killers.new }
-    ensures each_desk { AreTold (DeskRan behaviour registers pending manager.now turns)
+    ensures each_desk { AreTold (DeskRan behaviour registers pending manager.now plan)
         desk_passes.old servers.old counts.old (desk_part result) desk_passes.new servers.new counts.new }
 
     // All of them can be put to work again.
@@ -82,15 +83,15 @@ pub fn shift<R: Threads + Sync, G: Gate>(
     ensures submitted { result.submitted + sum_by enqueues_in client_passes.old ≡ sum_by enqueues_in client_passes.new }
     ensures killed { result.killed + sum_by kills_in killer_passes.old ≡ sum_by kills_in killer_passes.new }
     ensures all_turns { result.nounit ≡ 0
-        → result.done + result.refused + result.lost + result.full + result.idle ≡ turns * length desk_passes.old }
+        → result.done + result.refused + result.lost + result.full + result.idle ≡ plan.turns * length desk_passes.old }
     ensures all_calls { result.submitted + result.submit_full ≡ sum_by calls_of clients.old }
     ensures all_ids { result.killed + result.late + result.already + result.missing ≡ sum_by size_of_range killers.old }
 {
     let desk = |pass: &mut Pass, server: &mut Box<dyn Server + Send>, worker: u32| -> Shift
         requires { IsDeskOf behaviour registers pending manager.now (pass.now, server.now) }
-        ensures { DeskRan behaviour registers pending manager.entry.now turns
-            (pass.entry.now, server.entry.now) result (pass.exit.now, server.exit.now) × (total result ≤ turns) }
-    { run_desk(manager, pass, server, turns, worker, gate) };
+        ensures { DeskRan behaviour registers pending manager.entry.now plan
+            (pass.entry.now, server.entry.now) result (pass.exit.now, server.exit.now) × (total result ≤ plan.turns) }
+    { run_desk(manager, pass, server, plan, worker, gate) };
     let client = |pass: &mut Pass, job: &mut ClientJob, worker: u32| -> Shift
         requires { IsClientOf manager.now (pass.now, job.now) × (calls_of job.now < 2 ^ 32) }
         ensures { ClientRan manager.entry.now (pass.entry.now, job.entry.now) result (pass.exit.now, job.exit.now)

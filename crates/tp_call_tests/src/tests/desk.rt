@@ -7,6 +7,7 @@ mod asking;
 mod calls;
 mod counting;
 mod drops;
+mod given;
 mod lender;
 mod plays;
 mod router;

@@ -13,6 +13,7 @@ mod refusals;
 mod releases;
 mod requeues;
 mod spares;
+mod takings;
 mod threads;
 mod turns;
 

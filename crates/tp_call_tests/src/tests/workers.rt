@@ -16,6 +16,7 @@ mod race;
 mod storm;
 mod together;
 mod tree;
+mod turns;
 
 use std::process::Abort;
 use std::sync::atomic::{AtomicU64, Ordering};

@@ -84,6 +84,10 @@ fn lines_of_servers(rt: HostRuntime) -> Result<(), Fail> {
         element: 0,
         why: Declined::Short,
     };
+    let not_waiting = ServerAnswer::NotTaken {
+        element: 4,
+        why: Refusal::NotWaiting,
+    };
     for (answer, want) in [
         (turn(Turned::Idle), "a idle\n"),
         (turn(Turned::NoUnit), "a nounit\n"),
@@ -93,6 +97,7 @@ fn lines_of_servers(rt: HostRuntime) -> Result<(), Fail> {
         (turn(Turned::Full { element: 3 }), "a full 3\n"),
         (of_a(ServerAnswer::Busy), "a busy\n"),
         (of_a(work), "a work 4 unit 512 attempt 2\n"),
+        (of_a(not_waiting), "a refused 4 NotWaiting\n"),
         (of_a(ServerAnswer::Ready), "a ready\n"),
         (of_a(ServerAnswer::NoneOpen), "a none\n"),
         (of_a(ServerAnswer::Aborted { element: 9 }), "a aborted 9\n"),
@@ -163,6 +168,8 @@ fn lines_of_elements(rt: HostRuntime) -> Result<(), Fail> {
         (Refusal::NotParked, "refused 8 NotParked\n"),
         (Refusal::NoRound, "refused 9 NoRound\n"),
         (Refusal::NotHeld, "refused 12 NotHeld\n"),
+        (Refusal::NotWaiting, "refused 10 NotWaiting\n"),
+        (Refusal::NoUnit, "refused 13 NoUnit\n"),
     ] {
         is_told(&rt, Answer::Refused(refusal), want)?;
     }

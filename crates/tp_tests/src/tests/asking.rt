@@ -80,6 +80,36 @@ pub(crate) fn claim(plain: &mut Plain, caller: u16, stage: u8) -> Option<Claimed
     plain.claim(caller, stage).ok()
 }
 
+/// What a claim in turn answers.
+pub(crate) fn claim_next(plain: &mut Plain, caller: u16, stage: u8) -> Option<Claimed>
+    requires pass { caller < plain.old.limits.parts }
+    requires server { IsServerStage stage }
+    ensures { plain.new.limits ≡ plain.old.limits }
+{
+    if plain.has_open(caller) {
+        return None;
+    }
+    plain.claim_next(caller, stage).ok()
+}
+
+/// What a claim of a given element answers: the element's id and the attempt, or the refusal. None with a unit in hand.
+pub(crate) fn claim_id(
+    plain: &mut Plain,
+    caller: u16,
+    id: u32,
+) -> Option<Result<(u32, u8), Refusal>>
+    requires pass { caller < plain.old.limits.parts }
+    ensures { plain.new.limits ≡ plain.old.limits }
+{
+    if plain.has_open(caller) {
+        return None;
+    }
+    match plain.claim_id(caller, id) {
+        Ok(work) => Some(Ok((work.element.id, work.attempt))),
+        Err(refusal) => Some(Err(refusal)),
+    }
+}
+
 /// The work that a claim takes.
 pub(crate) fn work(plain: &mut Plain, caller: u16, stage: u8) -> Option<Work>
     requires pass { caller < plain.old.limits.parts }
@@ -151,6 +181,28 @@ pub(crate) fn collects(
     ensures { plain.new.limits ≡ plain.old.limits }
 {
     !plain.has_open(caller) && plain.collect(caller, id) == answer
+}
+
+/// Whether a collect of the next reply by a pass with nothing in its hand takes the reply with this id.
+pub(crate) fn collects_next(plain: &mut Plain, caller: u16, root: u32, answer: Option<u32>) -> bool
+    requires { caller < plain.old.limits.parts }
+    ensures { plain.new.limits ≡ plain.old.limits }
+{
+    if plain.has_open(caller) {
+        return false;
+    }
+    match plain.collect_next(caller, root) {
+        Some(reply) => answer == Some(reply.id),
+        None => answer == None,
+    }
+}
+
+/// Whether the next element of the request is the one with this id and this status.
+pub(crate) fn follows(plain: &Plain, root: u32, from: u32, answer: Option<(u32, Status)>) -> bool {
+    match plain.family(root, from) {
+        Some(look) => answer == Some((look.element.id, look.status)),
+        None => answer == None,
+    }
 }
 
 /// Whether a cancel by a pass with nothing in its hand answers this.

@@ -3,10 +3,11 @@
 ghost use Rattle.std.specs.Prelude.{◌≡◌};
 
 use super::devices::{Reader, Writer};
+use super::plain_of;
 use std::thread::Threads;
 use tp_perform::run;
-use tp_reference::run_plain;
-use tp_report::{Exit, Fault};
+use tp_reference::{PlainExit, run_plain};
+use tp_report::Fault;
 
 const SCRIPT: &str =
     "rows 8\nserver a eager 1 1 add 15:same:after\nsubmit 1 0 10\nturn a\nreply 0\n";
@@ -39,11 +40,11 @@ fn run_over<R: AllocGlobal + Threads + Sync>(
     shared: bool,
     reader: &mut Reader<'_>,
     writer: &mut Writer,
-) -> Result<Exit, Fault>
+) -> Result<PlainExit, Fault>
     requires { reader.old.calls ≡ 0 }
 {
     if shared {
-        run(rt, rt.alloc(), reader, writer)
+        plain_of(run(rt, rt.alloc(), reader, writer))
     } else {
         run_plain(rt.alloc(), reader, writer)
     }
@@ -54,7 +55,7 @@ fn one_byte_a_call(rt: HostRuntime) {
     for shared in [false, true] {
         let mut writer = writer(&rt, 1, 0);
         let answer = run_over(&rt, shared, &mut reader(1, 0), &mut writer);
-        assert_eq!(rt; answer, Ok(Exit::Done));
+        assert_eq!(rt; answer, Ok(PlainExit::Done));
         assert_eq!(rt; writer.taken.as_slice(), REPORT.as_bytes());
     }
 }

@@ -2,8 +2,8 @@
 ghost use Rattle.std.specs.Prelude.{◌≡◌, ◌<◌};
 
 use super::asking::{
-    aborts, cancels, claim, collects, commits, kills, reads, releases, requeues, stands, submits,
-    work,
+    aborts, cancels, claim, claim_id, claim_next, collects, collects_next, commits, follows, kills,
+    reads, releases, requeues, stands, submits, work,
 };
 use std::process::Abort;
 use tp_model::types::{
@@ -28,6 +28,12 @@ pub(crate) enum Call<'a> {
     Claims(u8, Claimed),
     /// A claim in the stage that takes the element with this id.
     Takes(u8, u32),
+    /// A claim in turn in the stage.
+    ClaimsNext(u8, Claimed),
+    /// A claim in turn that takes the element with this id.
+    TakesNext(u8, u32),
+    /// A claim of the element with this id: its id and the attempt.
+    ClaimsId(u32, Result<(u32, u8), Refusal>),
     /// An abort of what is in hand.
     Aborts(Ended),
     /// A commit of what is in hand, with these outputs.
@@ -38,6 +44,10 @@ pub(crate) enum Call<'a> {
     Releases(u32, Result<Released, Refusal>),
     /// A collect of the reply.
     Collects(u32, Result<Element, Refusal>),
+    /// A collect of the next reply to the request: its id.
+    CollectsNext(u32, Option<u32>),
+    /// The next element of the request from this id on: its id and how it stands.
+    Follows(u32, u32, Option<(u32, Status)>),
     /// A cancel of the request.
     Cancels(u32, Result<Cancelled, Refusal>),
     /// A requeue of the element.
@@ -74,6 +84,28 @@ fn takes(plain: &mut Plain, caller: u16, stage: u8, id: u32) -> bool
     }
 }
 
+/// Whether a claim in turn answers this.
+fn claims_next(plain: &mut Plain, caller: u16, stage: u8, answer: Claimed) -> bool
+    requires { caller < plain.old.limits.parts }
+    ensures { plain.new.limits ≡ plain.old.limits }
+{
+    stage >= 1 && stage <= 14 && claim_next(plain, caller, stage) == Some(answer)
+}
+
+/// Whether a claim in turn takes the element with this id.
+fn takes_next(plain: &mut Plain, caller: u16, stage: u8, id: u32) -> bool
+    requires { caller < plain.old.limits.parts }
+    ensures { plain.new.limits ≡ plain.old.limits }
+{
+    if stage < 1 || stage > 14 {
+        return false;
+    }
+    match claim_next(plain, caller, stage) {
+        Some(Claimed::Work(work)) => work.element.id == id,
+        _ => false,
+    }
+}
+
 /// Whether the call gives its answer.
 fn answers(plain: &mut Plain, caller: u16, call: Call<'_>) -> bool
     requires { caller < plain.old.limits.parts }
@@ -84,6 +116,9 @@ fn answers(plain: &mut Plain, caller: u16, call: Call<'_>) -> bool
         Call::SubmitsBody(stage, body, answer) => plain.submit(caller, stage, body) == answer,
         Call::Claims(stage, answer) => claims(plain, caller, stage, answer),
         Call::Takes(stage, id) => takes(plain, caller, stage, id),
+        Call::ClaimsNext(stage, answer) => claims_next(plain, caller, stage, answer),
+        Call::TakesNext(stage, id) => takes_next(plain, caller, stage, id),
+        Call::ClaimsId(id, answer) => claim_id(plain, caller, id) == Some(answer),
         Call::Aborts(answer) => aborts(plain, caller, answer),
         Call::Commits(drafts, answer) => {
             drafts.len() <= 4 && commits(plain, caller, drafts, Ok(answer))
@@ -91,6 +126,8 @@ fn answers(plain: &mut Plain, caller: u16, call: Call<'_>) -> bool
         Call::Kills(id, answer) => kills(plain, caller, id, answer),
         Call::Releases(id, answer) => releases(plain, caller, id, answer),
         Call::Collects(id, answer) => collects(plain, caller, id, answer),
+        Call::CollectsNext(root, answer) => collects_next(plain, caller, root, answer),
+        Call::Follows(root, from, answer) => follows(plain, root, from, answer),
         Call::Cancels(root, answer) => cancels(plain, caller, root, answer),
         Call::Requeues(id, answer) => requeues(plain, caller, id, answer),
         Call::Reads(id, answer) => reads(plain, id, answer),

@@ -1,10 +1,10 @@
 //! What a script says, as it is read.
 
 use tp_model::types::Body;
-use tp_script::{ClientAct, Command, DeskAct, Kind, Race, Reach, StdSource, read_script_at};
+use tp_script::{ClientAct, Command, DeskAct, Kind, Race, StdSource, read_script};
 
 const SCRIPT: &str =
-    "units 3\nspare 256\nserver a eager 1 2 add:3\nserver b lazy 2 1 take 15:7:after\nstart a 1 5\nsubmit 9 8 7\nsubmit 9 8 7 6\nsubmit 9 8 7 6 5\nturn b\nreply 6\nclaim a\nprepare b\ncommit a\nabort b\ndrop a\nkill 5\ncancel 6\nrequeue 7\nread 4\nerrors\nbalance b 3\nsum 2\ncount\nrace 4 256 14 3 2 1 10000\ndrain\naccount\n";
+    "units 3\nspare 256\nserver a eager 1 2 add:3\nserver b lazy 2 1 take 15:7:after\nstart a 1 5\nsubmit 9 8 7\nsubmit 9 8 7 6\nsubmit 9 8 7 6 5\nturn b\nreply 6\nclaim a\nnext b\ntake b 9\nprepare b\ncommit a\nabort b\ndrop a\nkill 5\ncancel 6\nrequeue 7\nread 4\nerrors\nbalance b 3\nsum 2\ncount\nrace 4 256 14 3 2 1 10000\ndrain\ndrain next\naccount\n";
 
 /// The client's command.
 fn client(act: ClientAct) -> Command {
@@ -24,7 +24,7 @@ fn desk(server: usize, act: DeskAct) -> Command {
 #[test]
 fn each_command(rt: HostRuntime) {
     let mut source = StdSource::new(SCRIPT.as_bytes());
-    match read_script_at(rt.alloc(), Reach::Workers, &mut source) {
+    match read_script(rt.alloc(), &mut source) {
         Ok(script) => {
             // The client, two servers, four clients and a killer.
             assert_eq!(rt; script.passes(), 8);
@@ -50,6 +50,8 @@ fn each_command(rt: HostRuntime) {
                 desk(1, DeskAct::Turn),
                 client(ClientAct::Reply { root: 6 }),
                 desk(0, DeskAct::Claim),
+                desk(1, DeskAct::Next),
+                desk(1, DeskAct::Take { id: 9 }),
                 desk(1, DeskAct::Prepare),
                 desk(0, DeskAct::Commit),
                 desk(1, DeskAct::Abort),
@@ -72,6 +74,7 @@ fn each_command(rt: HostRuntime) {
                     turns: 10_000,
                 }),
                 Command::Drain,
+                Command::DrainNext,
             ];
             assert_eq!(rt; script.commands.as_slice(), commands.as_slice());
             assert!(rt; script.account);

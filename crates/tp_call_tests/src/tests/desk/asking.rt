@@ -41,6 +41,36 @@ pub(super) fn takes(desk: &mut Desk, id: u32) -> bool
     }
 }
 
+/// Whether a claim in turn takes the element with this id.
+pub(super) fn takes_next(desk: &mut Desk, id: u32) -> bool
+    requires { SteadyDesk (shown behaviour) (shown registers) (shown pending) desk.old }
+    ensures same { IsSameDesk desk.old desk.new }
+    ensures steady { SteadyDesk (shown behaviour) (shown registers) (shown pending) desk.new }
+{
+    if desk.has_open() {
+        return false;
+    }
+    match desk.claim_next() {
+        Claimed::Work(work) => work.element.id == id,
+        _ => false,
+    }
+}
+
+/// Whether a claim of the element with this id answers this: the id of what it took, and the attempt.
+pub(super) fn claims_id(desk: &mut Desk, id: u32, answer: Result<(u32, u8), Refusal>) -> bool
+    requires { SteadyDesk (shown behaviour) (shown registers) (shown pending) desk.old }
+    ensures same { IsSameDesk desk.old desk.new }
+    ensures steady { SteadyDesk (shown behaviour) (shown registers) (shown pending) desk.new }
+{
+    if desk.has_open() {
+        return false;
+    }
+    match desk.claim_id(id) {
+        Ok(work) => answer == Ok((work.element.id, work.attempt)),
+        Err(refusal) => answer == Err(refusal),
+    }
+}
+
 /// Whether the server's preparation of the work in hand answers this.
 pub(super) fn prepares(desk: &mut Desk, answer: Result<(), Declined>) -> bool
     requires { SteadyDesk (shown behaviour) (shown registers) (shown pending) desk.old }
@@ -75,6 +105,15 @@ pub(super) fn turns(desk: &mut Desk, answer: Turned) -> bool
     ensures steady { SteadyDesk (shown behaviour) (shown registers) (shown pending) desk.new }
 {
     !desk.has_open() && desk.turn() == answer
+}
+
+/// Whether a turn whose claim is in turn comes to this.
+pub(super) fn turns_next(desk: &mut Desk, answer: Turned) -> bool
+    requires { SteadyDesk (shown behaviour) (shown registers) (shown pending) desk.old }
+    ensures same { IsSameDesk desk.old desk.new }
+    ensures steady { SteadyDesk (shown behaviour) (shown registers) (shown pending) desk.new }
+{
+    !desk.has_open() && desk.turn_next() == answer
 }
 
 /// Whether a request of stage 1 with the key 0, this amount, and 8 and 9 behind it is accepted as the element with this

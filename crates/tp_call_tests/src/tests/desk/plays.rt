@@ -33,6 +33,10 @@ pub(super) enum Does {
     Claims(Claimed),
     /// A claim that takes the element with this id.
     Takes(u32),
+    /// A claim in turn that takes the element with this id.
+    TakesNext(u32),
+    /// A claim of the element with this id: its id and the attempt.
+    ClaimsId(u32, Result<(u32, u8), Refusal>),
     /// The preparation of what is in hand.
     Prepares(Result<(), Declined>),
     /// A commit of what is prepared.
@@ -41,6 +45,8 @@ pub(super) enum Does {
     Aborts(Ended),
     /// A whole turn.
     Turns(Turned),
+    /// A whole turn whose claim is in turn.
+    TurnsNext(Turned),
     /// What is in hand.
     InHand(Option<Work>),
     /// Whether something is in hand.
@@ -95,10 +101,13 @@ fn is_done(manager: &Manager, client: &mut Pass, desk: &mut Desk, call: Does) ->
     match call {
         Does::Claims(answer) => asking::claims(desk, answer),
         Does::Takes(id) => asking::takes(desk, id),
+        Does::TakesNext(id) => asking::takes_next(desk, id),
+        Does::ClaimsId(id, answer) => asking::claims_id(desk, id, answer),
         Does::Prepares(answer) => asking::prepares(desk, answer),
         Does::Commits(outcome) => asking::commits(desk, outcome),
         Does::Aborts(answer) => asking::aborts(desk, answer),
         Does::Turns(answer) => asking::turns(desk, answer),
+        Does::TurnsNext(answer) => asking::turns_next(desk, answer),
         Does::InHand(answer) => desk.in_hand() == answer,
         Does::HasOpen(answer) => desk.has_open() == answer,
         Does::IsPrepared(answer) => desk.is_prepared() == answer,

@@ -3,7 +3,7 @@
 use super::plays::Asks::{Kills, NextError, Reads, Submits};
 use super::plays::Does::{
     Aborts, Balance, Claims, Client, Commits, HasOpen, InHand, IsPrepared, Prepares, Stage, Takes,
-    Turns,
+    TakesNext, Turns, TurnsNext,
 };
 use super::plays::Step::{Asked, Ended};
 use super::plays::plays;
@@ -99,4 +99,52 @@ fn full_then_no_unit(rt: HostRuntime) {
     let calls = [Turns(Turned::Full { element: 0 }), Turns(Turned::NoUnit)];
     let server = eager(&rt, recipe(1, Act::Pass, &[REPLY, REPLY]));
     plays(&rt, 1, 1, server, &[Asked(Submits(1, 0)), Ended(&calls)]);
+}
+
+/// A turn that consumed the element with this unit, and made nothing.
+fn done(element: u32, unit: u16) -> Turned {
+    Turned::Done {
+        unit,
+        element,
+        first: 0,
+        count: 0,
+    }
+}
+
+/// The element 0 asks for more than there is, and is declined each time.
+const SHORT: Turned = Turned::Refused {
+    element: 0,
+    why: Declined::Short,
+};
+
+#[test]
+fn turns_go_round(rt: HostRuntime) {
+    let calls = [
+        TurnsNext(SHORT),
+        TurnsNext(done(1, 9)),
+        TurnsNext(SHORT),
+        TurnsNext(SHORT),
+        TurnsNext(Turned::Idle),
+    ];
+    let steps = [
+        Asked(Submits(9, 0)),
+        Asked(Submits(0, 1)),
+        Ended(&calls),
+        Asked(NextError(0, Some(0))),
+    ];
+    plays(&rt, 4, 8, lazy(&rt, recipe(1, Act::Take, &[])), &steps);
+}
+
+// The place of claims in turn is the pass's, so that a later desk of the pass goes on from it.
+#[test]
+fn a_later_desk_goes_on(rt: HostRuntime) {
+    let first = [TurnsNext(SHORT)];
+    let second = [TurnsNext(done(1, 9)), TurnsNext(SHORT)];
+    let steps = [
+        Asked(Submits(9, 0)),
+        Asked(Submits(0, 1)),
+        Ended(&first),
+        Ended(&second),
+    ];
+    plays(&rt, 4, 8, lazy(&rt, recipe(1, Act::Take, &[])), &steps);
 }

@@ -74,6 +74,25 @@ pub(super) fn takes_next(manager: &Manager, pass: &mut Pass, stage: u8, id: u32)
     }
 }
 
+/// What a claim of a given element answers: the element's id and the attempt, or the refusal.
+pub(super) fn claims_id(
+    manager: &Manager,
+    pass: &mut Pass,
+    id: u32,
+    answer: Result<(u32, u8), Refusal>,
+) -> bool
+    requires { IsOf manager.now pass.old }
+    ensures { IsOf manager.now pass.new }
+{
+    if pass.has_open() {
+        return false;
+    }
+    match manager.claim_id(pass, id) {
+        Ok(work) => answer == Ok((work.element.id, work.attempt)),
+        Err(refusal) => answer == Err(refusal),
+    }
+}
+
 /// Whether the pass's own abort ends its unit.
 pub(super) fn aborts(manager: &Manager, pass: &mut Pass) -> bool
     requires { IsOf manager.now pass.old }
@@ -132,6 +151,19 @@ pub(super) fn collects(
     ensures { IsOf manager.now pass.new }
 {
     !pass.has_open() && manager.collect(pass, id) == answer
+}
+
+/// Whether a collect of the request's next reply answers the one with this id.
+pub(super) fn collects_next(
+    manager: &Manager,
+    pass: &mut Pass,
+    root: u32,
+    answer: Option<u32>,
+) -> bool
+    requires { IsOf manager.now pass.old }
+    ensures { IsOf manager.now pass.new }
+{
+    !pass.has_open() && manager.collect_next(pass, root).map(|it| it.id) == answer
 }
 
 /// Whether a cancel answers this.

@@ -2,8 +2,8 @@
 
 use super::accounts::accounts_of;
 use super::plays::Call::{
-    Aborts, Cancels, Capacity, Claims, Commits, Finds, Low, NextError, Reads, Reply, SeenBlocks,
-    Submits, Takes,
+    Aborts, Cancels, Capacity, Claims, Commits, Finds, Low, MadeWith, NextError, Reads, Reply,
+    Room, SeenBlocks, Submits, Takes,
 };
 use super::plays::{CLIENT, SERVER, plays};
 use super::{NEW, SMALL, draft, output, request, work};
@@ -28,9 +28,13 @@ fn part_then_block(rt: HostRuntime) {
     let limits = Limits { spare: 1, ..BLOCKS };
     let calls = [
         (CLIENT, Capacity(10)),
+        (CLIENT, MadeWith(limits)),
+        (CLIENT, Room(1, 8)),
         (CLIENT, Submits(1, BODY, Ok(0))),
         (CLIENT, SeenBlocks(0)),
+        (CLIENT, Room(0, 8)),
         (CLIENT, Submits(1, BODY, Ok(2))),
+        (CLIENT, Room(7, 8)),
         (CLIENT, Submits(1, BODY, Ok(3))),
         (CLIENT, Submits(1, BODY, Ok(4))),
         (CLIENT, Submits(1, BODY, Ok(5))),
@@ -47,6 +51,8 @@ fn part_then_block(rt: HostRuntime) {
         (SERVER, Submits(1, BODY, Ok(1))),
         (SERVER, Submits(1, BODY, Err(Refusal::Full))),
         (SERVER, SeenBlocks(1)),
+        (SERVER, Takes(1, 0)),
+        (SERVER, Room(0, 7)),
     ];
     plays(&rt, limits, &calls);
 }
@@ -201,9 +207,9 @@ fn cancel_in_a_later_block(rt: HostRuntime) {
             SERVER,
             Commits(&drafts, Outcome::Committed { first: 2, count: 2 }),
         ),
-        // The client finds the block that was drawn since it looked.
+        // The client comes to the outputs in the block that was drawn since it looked, and asks for no block.
         (CLIENT, Cancels(0, Ok(Cancelled { killed: 2 }))),
-        (CLIENT, SeenBlocks(1)),
+        (CLIENT, SeenBlocks(0)),
         (SERVER, Claims(2, Claimed::Idle)),
     ];
     plays(&rt, BLOCKS, &calls);

@@ -101,12 +101,11 @@ fn mark_passes_dead_drafts(rt: HostRuntime) {
         (SERVER, Commits(&drafts[..1], one)),
         (SERVER, Claims(1, Claimed::Idle)),
         (SERVER, Low(1, 0, 2)),
-        // The reply that is born behind them is of no use to a claim, but it is to who asks for replies.
+        // The reply that is born behind them is of no use to a claim. Who asks for it comes to it from its request.
         (SERVER, Low(1, 1, 3)),
         (CLIENT, Reply(0, 0, None)),
-        (CLIENT, Low(15, 0, 2)),
-        (CLIENT, Low(15, 1, 2)),
         (CLIENT, Reply(1, 0, Some(6))),
+        (CLIENT, Low(15, 1, 0)),
     ];
     plays(&rt, limits, &calls);
 }
@@ -132,8 +131,9 @@ fn stages_have_marks_of_their_own(rt: HostRuntime) {
         (CLIENT, NextError(0, None)),
         (CLIENT, Low(0, 0, 1)),
         (CLIENT, Low(0, 1, 1)),
+        // A reply is found through its family, and no mark is raised.
         (CLIENT, Reply(0, 0, Some(4))),
-        (CLIENT, Low(15, 0, 3)),
+        (CLIENT, Low(15, 0, 0)),
         (CLIENT, Low(15, 1, 0)),
         // There is no such stage, and no such part.
         (CLIENT, Low(16, 0, 0)),

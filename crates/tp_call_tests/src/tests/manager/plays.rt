@@ -5,7 +5,7 @@ ghost use Rattle.tp_manager.specs.Shown.{IsOf};
 use super::asking;
 use crate::tests::fixture::two;
 use std::process::Abort;
-use tp_manager::{Manager, Pass};
+use tp_manager::{Manager, Pass, Room};
 use tp_model::types::{
     Body, Cancelled, Claimed, Draft, Element, Killed, Limits, Look, Outcome, Refusal, Released,
     Status,
@@ -29,6 +29,8 @@ pub(super) enum Call<'a> {
     TakesNext(u8, u32),
     /// A claim in turn in the stage that finds none.
     NextIdle(u8),
+    /// A claim of the element with this id: its id and the attempt.
+    ClaimsId(u32, Result<(u32, u8), Refusal>),
     /// The pass's own abort of what it has in hand.
     Aborts,
     /// A commit of what is in hand, with these outputs.
@@ -39,10 +41,14 @@ pub(super) enum Call<'a> {
     Releases(u32, Result<Released, Refusal>),
     /// A collect of the reply.
     Collects(u32, Result<Element, Refusal>),
+    /// A collect of the request's next reply: its id.
+    CollectsNext(u32, Option<u32>),
     /// A cancel of the request.
     Cancels(u32, Result<Cancelled, Refusal>),
     /// A requeue of the element.
     Requeues(u32, Result<u8, Refusal>),
+    /// How many further rounds the element was given.
+    Rounds(u32, Result<u8, Refusal>),
     /// A read of the element.
     Reads(u32, Result<Look, Refusal>),
     /// A read that finds this element, with this status.
@@ -51,10 +57,16 @@ pub(super) enum Call<'a> {
     Stands(u32, Status),
     /// The request's first reply from this id on.
     Reply(u32, u32, Option<u32>),
+    /// The request's first element from this id on: its id, and how it stands.
+    Family(u32, u32, Option<(u32, Status)>),
     /// The first parked element from this id on.
     NextError(u32, Option<u32>),
     /// How many elements the manager has room for.
     Capacity(u32),
+    /// The limits that the manager was made with.
+    MadeWith(Limits),
+    /// How many rows and units are left to the pass.
+    Room(u16, u16),
     /// Whether a unit is in hand.
     HasOpen(bool),
     /// The mark about a stage of a part.
@@ -74,21 +86,30 @@ fn answers(manager: &Manager, pass: &mut Pass, call: Call<'_>) -> bool
         Call::Takes(stage, id) => asking::takes(manager, pass, stage, id),
         Call::TakesNext(stage, id) => asking::takes_next(manager, pass, stage, id),
         Call::NextIdle(stage) => asking::claim_next(manager, pass, stage) == Some(Claimed::Idle),
+        Call::ClaimsId(id, answer) => asking::claims_id(manager, pass, id, answer),
         Call::Aborts => asking::aborts(manager, pass),
         Call::Commits(drafts, outcome) => asking::commits(manager, pass, drafts, outcome),
         Call::Kills(id, answer) => asking::kills(manager, pass, id, answer),
         Call::Releases(id, answer) => asking::releases(manager, pass, id, answer),
         Call::Collects(id, answer) => asking::collects(manager, pass, id, answer),
+        Call::CollectsNext(root, answer) => asking::collects_next(manager, pass, root, answer),
         Call::Cancels(root, answer) => asking::cancels(manager, pass, root, answer),
         Call::Requeues(id, answer) => asking::requeues(manager, pass, id, answer),
+        Call::Rounds(id, answer) => manager.rounds(pass, id) == answer,
         Call::Reads(id, answer) => asking::reads(manager, pass, id, answer),
         Call::Finds(element, status) => {
             asking::reads(manager, pass, element.id, Ok(Look { element, status }))
         }
         Call::Stands(id, status) => asking::stands(manager, pass, id, status),
         Call::Reply(root, from, answer) => manager.reply(pass, root, from) == answer,
+        Call::Family(root, from, answer) => {
+            let look = manager.family(pass, root, from);
+            look.map(|it| (it.element.id, it.status)) == answer
+        }
         Call::NextError(from, answer) => manager.next_error(pass, from) == answer,
         Call::Capacity(answer) => manager.capacity() == answer,
+        Call::MadeWith(answer) => manager.limits() == answer,
+        Call::Room(rows, units) => manager.room(pass) == Room { rows, units },
         Call::HasOpen(answer) => pass.has_open() == answer,
         Call::Low(stage, part, answer) => pass.low(stage, part) == answer,
         Call::SeenBlocks(answer) => pass.seen_blocks() == answer,

@@ -1,7 +1,8 @@
 //! Elements that are released from the units that hold them, and replies that are collected.
 
 use super::plays::Call::{
-    Aborts, Collects, Commits, Finds, Kills, Releases, Reply, Requeues, Stands, Submits, Takes,
+    Aborts, Collects, CollectsNext, Commits, Finds, Kills, Releases, Reply, Requeues, Stands,
+    Submits, Takes,
 };
 use super::plays::{CLIENT, SERVER, plays};
 use super::{NEW, SMALL, draft, output};
@@ -77,6 +78,32 @@ fn a_reply_once(rt: HostRuntime) {
         (CLIENT, Finds(reply, Status::Killed)),
         (CLIENT, Reply(0, 0, None)),
         (CLIENT, Collects(5, Err(Refusal::BadStage))),
+    ];
+    plays(&rt, SMALL, &calls);
+}
+
+/// Unit 2 makes the replies 4, 5 and 6 of request 0. One is killed, and the others are collected in order.
+#[test]
+fn replies_one_after_another(rt: HostRuntime) {
+    let reply = draft(&rt, 15, [0, 1, 2, 3]);
+    let calls = [
+        (CLIENT, CollectsNext(0, None)),
+        (CLIENT, CollectsNext(4_000_000_000, None)),
+        (CLIENT, Submits(1, [0, 9, 0, 0], Ok(0))),
+        (CLIENT, CollectsNext(0, None)),
+        (SERVER, Takes(1, 0)),
+        (
+            SERVER,
+            Commits(&[reply; 3], Outcome::Committed { first: 4, count: 3 }),
+        ),
+        // An output is no request.
+        (CLIENT, CollectsNext(4, None)),
+        (CLIENT, Kills(5, Ok(Killed { units_aborted: 0 }))),
+        (CLIENT, CollectsNext(0, Some(4))),
+        (SERVER, CollectsNext(0, Some(6))),
+        (CLIENT, CollectsNext(0, None)),
+        (CLIENT, Stands(4, Status::Killed)),
+        (CLIENT, Stands(6, Status::Killed)),
     ];
     plays(&rt, SMALL, &calls);
 }

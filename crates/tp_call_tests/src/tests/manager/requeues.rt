@@ -1,9 +1,9 @@
 //! Parked elements that are given another round, and elements that aren't.
-ghost use Rattle.std.specs.Prelude.{◌<◌, All};
+ghost use Rattle.std.specs.Prelude.{◌<◌, ◌≤◌, All};
 ghost use Rattle.tp_manager.specs.Shown.{IsOf};
 
 use super::plays::Call::{
-    Aborts, Claims, Commits, Finds, HasOpen, Kills, NextError, Requeues, Submits, Takes,
+    Aborts, Claims, Commits, Finds, HasOpen, Kills, NextError, Requeues, Rounds, Submits, Takes,
 };
 use super::plays::{CLIENT, SERVER, play, plays};
 use super::{NEW, NOTHING, request, work};
@@ -50,11 +50,14 @@ fn parks<R: Abort>(rt: &R, manager: &Manager, passes: &mut [Pass], unit: u16)
 
 /// Element 0 is given this round, and waits as a new one does.
 fn goes_on<R: Abort>(rt: &R, manager: &Manager, passes: &mut [Pass], round: u8)
-    requires { All (IsOf manager.now) passes.old }
+    requires own { All (IsOf manager.now) passes.old }
+    requires later { 1 ≤ round }
     ensures { All (IsOf manager.now) passes.new }
 {
     let calls = [
+        (CLIENT, Rounds(0, Ok(round - 1))),
         (CLIENT, Requeues(0, Ok(round))),
+        (SERVER, Rounds(0, Ok(round))),
         (SERVER, Finds(request(0, 1, BODY), NEW)),
         (SERVER, NextError(0, None)),
     ];
@@ -83,6 +86,7 @@ fn three_rounds(rt: HostRuntime) {
         (CLIENT, Finds(request(0, 1, BODY), PARKED)),
         (CLIENT, Kills(0, Ok(Killed { units_aborted: 0 }))),
         (CLIENT, Requeues(0, Err(Refusal::NotParked))),
+        (CLIENT, Rounds(0, Ok(3))),
     ];
     play(&rt, &manager, &mut passes, &calls);
 }
@@ -92,6 +96,8 @@ fn nothing_to_requeue(rt: HostRuntime) {
     let calls = [
         (CLIENT, Requeues(0, Err(Refusal::NotThere))),
         (CLIENT, Requeues(8, Err(Refusal::NotThere))),
+        (CLIENT, Rounds(0, Err(Refusal::NotThere))),
+        (CLIENT, Rounds(8, Err(Refusal::NotThere))),
         (CLIENT, Submits(1, BODY, Ok(0))),
         (CLIENT, Requeues(0, Err(Refusal::NotParked))),
         (SERVER, Takes(1, 0)),

@@ -7,10 +7,11 @@ use crate::tests::fixture::{eager, lazy, recipe};
 use crate::tests::workers::{client, manager, pair, pass};
 use std::process::Abort;
 use std::thread::Threads;
+use tp_desk::Order;
 use tp_manager::{Keeper, Manager, Pass};
 use tp_model::types::{Account, Limits};
 use tp_server::{Act, Server};
-use tp_workers::{Drained, KillJob, NoGate, Shift, drain, shift};
+use tp_workers::{Drained, KillJob, NoGate, Plan, Shift, drain, shift};
 
 /// The closing account, if these are all passes of the keeper.
 fn accounted(manager: &Manager, keeper: &mut Keeper, passes: &mut [Pass]) -> Option<Account>
@@ -48,11 +49,11 @@ fn raced<R: Threads + Sync + Abort + AllocGlobal>(
         &mut [client(rt, 1, 50), client(rt, 1, 50)],
         killers,
         &mut [KillJob { first: 0, end: 128 }],
-        100,
+        Plan::least_first(100),
         &mut [],
         &NoGate,
     );
-    let drained = drain(manager, desks, servers);
+    let drained = drain(manager, desks, servers, Order::LeastFirst);
     let account = accounted(manager, keeper, passes);
     (counts, drained, account)
 }

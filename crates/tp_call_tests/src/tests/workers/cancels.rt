@@ -12,7 +12,7 @@ use std::thread::{Threads, join_mut};
 use tp_manager::{Manager, Pass};
 use tp_model::types::{Cancelled, Limits, Refusal};
 use tp_server::{Act, Server};
-use tp_workers::{Gate, Point, Shift, shift};
+use tp_workers::{Gate, Plan, Point, Shift, shift};
 
 const LIMITS: Limits = Limits {
     parts: 3,
@@ -72,7 +72,7 @@ fn turn<R: Threads + Sync>(
         &mut [],
         &mut [],
         &mut [],
-        1,
+        Plan::least_first(1),
         &mut [],
         gate,
     )

@@ -7,7 +7,7 @@ use std::process::Abort;
 use std::thread::Threads;
 use tp_manager::{Manager, Pass};
 use tp_model::types::{Limits, Refusal, Status};
-use tp_workers::{KillJob, NoGate, Shift, shift};
+use tp_workers::{KillJob, NoGate, Plan, Shift, shift};
 
 /// A shift of one client alone, which submits three times.
 pub(super) fn submits_three<R: Threads + Sync + Abort + AllocGlobal>(
@@ -27,7 +27,7 @@ pub(super) fn submits_three<R: Threads + Sync + Abort + AllocGlobal>(
         &mut [client(rt, 1, 3)],
         &mut [],
         &mut [],
-        0,
+        Plan::least_first(0),
         &mut [],
         &NoGate,
     )
@@ -49,7 +49,7 @@ fn kills_four<R: Threads + Sync>(rt: &R, manager: &Manager, killers: &mut [Pass]
         &mut [],
         killers,
         &mut [KillJob { first: 0, end: 4 }],
-        0,
+        Plan::least_first(0),
         &mut [],
         &NoGate,
     )

@@ -4,9 +4,10 @@ ghost use Rattle.std.specs.Prelude.{◌≡◌, None, All, length};
 use crate::tests::fixture::{eager, lazy, recipe};
 use crate::tests::workers::client;
 use std::process::Abort;
+use tp_desk::Order;
 use tp_manager::MakeFault;
 use tp_server::{Act, Server};
-use tp_workers::{Crew, CrewLimits, NoGate, Shift};
+use tp_workers::{Crew, CrewLimits, NoGate, Plan, Shift};
 
 /// Two boxes with nothing prepared.
 fn boxes<R: Abort + AllocGlobal>(rt: &R) -> Vec<Box<dyn Server + Send>>
@@ -46,18 +47,24 @@ fn turns_of(counts: &Shift) -> u32 {
 fn crew_at_work(rt: HostRuntime) {
     let mut crew = Crew::new(rt.alloc(), limits(), boxes(&rt), 1).expect(&rt, "no crew");
     let mut each = [Shift::default(); 2];
-    let counts = crew.shift(&rt, 20, &mut [client(&rt, 1, 10)], &mut each, &NoGate);
+    let counts = crew.shift(
+        &rt,
+        Plan::least_first(20),
+        &mut [client(&rt, 1, 10)],
+        &mut each,
+        &NoGate,
+    );
     assert_eq!(rt; turns_of(&each[0]), 20);
     assert_eq!(rt; turns_of(&each[1]), 20);
     assert_eq!(rt; each[0].done.wrapping_add(each[1].done), counts.done);
-    let drained = crew.drain();
+    let drained = crew.drain(Order::LeastFirst);
     let total = crew.account().total;
     assert_eq!(rt; counts.submitted, 10);
     assert_eq!(rt; counts.done.wrapping_add(drained.done), 10);
     assert_eq!(rt; total.consumed, 10);
     let mut other = eager(&rt, recipe(1, Act::Add, &[]));
     crew.swap(0, &mut other);
-    assert_eq!(rt; crew.drain().done, 0);
+    assert_eq!(rt; crew.drain(Order::LeastFirst).done, 0);
     let ended = crew.end();
     assert_eq!(rt; ended.len(), 2);
     drop(ended);

@@ -9,7 +9,7 @@ use std::thread::Threads;
 use tp_manager::{Manager, Pass};
 use tp_model::types::Limits;
 use tp_server::{Act, Server};
-use tp_workers::{NoGate, Shift, shift};
+use tp_workers::{NoGate, Plan, Shift, shift};
 
 const LIMITS: Limits = Limits {
     parts: 2,
@@ -38,7 +38,7 @@ fn two_turns<R: Threads + Sync>(
         &mut [],
         &mut [],
         &mut [],
-        2,
+        Plan::least_first(2),
         &mut [],
         &NoGate,
     )

@@ -5,7 +5,7 @@ use crate::tests::workers::{hold, manager, pair, pass, two};
 use std::sync::atomic::{AtomicU64, Ordering};
 use tp_model::types::Limits;
 use tp_server::{Act, Server};
-use tp_workers::{Gate, Point, Shift, shift};
+use tp_workers::{Gate, Plan, Point, Shift, shift};
 
 /// Holds worker 1 at its start until worker 0 has claimed, and worker 0, once prepared, until worker 1 has settled.
 #[derive(Drop)]
@@ -59,7 +59,7 @@ fn two_desks_overlap(rt: HostRuntime) {
         &mut [],
         &mut [],
         &mut [],
-        1,
+        Plan::least_first(1),
         &mut each,
         &gate,
     );

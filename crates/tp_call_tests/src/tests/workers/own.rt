@@ -5,9 +5,10 @@ ghost use Rattle.std.specs.Prelude.{◌≡◌, ◌+◌, ◌%◌, ◌^◌, [], �
 
 use crate::tests::workers::client;
 use std::process::Abort;
+use tp_desk::Order;
 use tp_model::types::Element;
 use tp_server::{Declined, Effect, Handler, OwnServer, Server, three};
-use tp_workers::{Crew, CrewLimits, NoGate};
+use tp_workers::{Crew, CrewLimits, NoGate, Plan};
 
 /// The two registers after one element more: how many there were, and what their amounts add up to.
 fn booked(registers: &[u64; 2], element: &Element) -> [u64; 2]
@@ -107,8 +108,8 @@ fn storm_of_own_work(rt: HostRuntime) {
     };
     let mut crew = Crew::new(rt.alloc(), limits, boxes(&rt), 2).expect(&rt, "no crew");
     let mut jobs = [client(&rt, 3, 60), client(&rt, 5, 40)];
-    let counts = crew.shift(&rt, 120, &mut jobs, &mut [], &NoGate);
-    let drained = crew.drain();
+    let counts = crew.shift(&rt, Plan::least_first(120), &mut jobs, &mut [], &NoGate);
+    let drained = crew.drain(Order::LeastFirst);
     assert_eq!(rt; counts.submitted, 100);
     assert_eq!(rt; counts.done.wrapping_add(drained.done), 200);
     assert_eq!(rt; drained.nounit, 0);

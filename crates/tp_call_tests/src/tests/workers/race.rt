@@ -7,10 +7,11 @@ use crate::tests::fixture::{eager, lazy, recipe};
 use crate::tests::workers::{client, manager, pair, pass, survey, two};
 use std::process::Abort;
 use std::thread::Threads;
+use tp_desk::Order;
 use tp_manager::{Manager, Pass};
 use tp_model::types::Limits;
 use tp_server::{Act, Server};
-use tp_workers::{Drained, KillJob, NoGate, Shift, drain, shift};
+use tp_workers::{Drained, KillJob, NoGate, Plan, Shift, drain, shift};
 
 /// Two desks, two clients and a killer race, then the desks drain.
 fn raced<R: Threads + Sync + Abort + AllocGlobal>(
@@ -36,11 +37,11 @@ fn raced<R: Threads + Sync + Abort + AllocGlobal>(
         &mut [client(rt, 1, 50), client(rt, 1, 50)],
         killers,
         &mut [KillJob { first: 0, end: 128 }],
-        100,
+        Plan::least_first(100),
         &mut [],
         &NoGate,
     );
-    let drained = drain(manager, desks, servers);
+    let drained = drain(manager, desks, servers, Order::LeastFirst);
     (counts, drained)
 }
 

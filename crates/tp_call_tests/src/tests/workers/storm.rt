@@ -7,10 +7,11 @@ ghost use Rattle.tp_workers.specs.Free.{IsFreePass};
 use crate::tests::fixture::{eager, lazy, output, recipe};
 use crate::tests::workers::{Standing, manager, pass, survey, three, three_passes, two};
 use std::thread::{Threads, join_mut};
+use tp_desk::Order;
 use tp_manager::{Manager, Pass};
 use tp_model::types::Limits;
 use tp_server::{Act, Server};
-use tp_workers::{NoGate, Shift, drain, shift};
+use tp_workers::{NoGate, Plan, Shift, drain, shift};
 
 /// The requests 0 to 49 are cancelled, and those behind them are not.
 const CANCELLED: u32 = 50;
@@ -71,7 +72,7 @@ fn turns<R: Threads + Sync>(
         &mut [],
         &mut [],
         &mut [],
-        200,
+        Plan::least_first(200),
         &mut [],
         &NoGate,
     )
@@ -188,7 +189,7 @@ fn storm(rt: HostRuntime) {
     assert_eq!(rt; before.killed, one.wrapping_add(other));
 
     // A drain finds nothing of them, and consumes all else.
-    let _drained = drain(&manager, &mut desks, &mut servers);
+    let _drained = drain(&manager, &mut desks, &mut servers, Order::LeastFirst);
     let after = families(&manager, &mut client);
     assert!(rt; after.waiting == 0 && after.other == 0);
     assert_eq!(rt; after.consumed, before.consumed);

@@ -5,7 +5,7 @@ use crate::tests::workers::{client, hold, manager, pair, two};
 use std::sync::atomic::{AtomicU64, Ordering};
 use tp_model::types::Limits;
 use tp_server::{Act, Server};
-use tp_workers::{Gate, KillJob, Point, shift};
+use tp_workers::{Gate, KillJob, Plan, Point, shift};
 
 /// Holds each worker at its start until all have come there. Each has one turn or call.
 #[derive(Drop)]
@@ -54,7 +54,7 @@ fn six_start_together(rt: HostRuntime) {
         &mut [client(&rt, 1, 1), client(&rt, 1, 1)],
         &mut killers,
         &mut [KillJob { first: 0, end: 1 }, KillJob { first: 1, end: 2 }],
-        1,
+        Plan::least_first(1),
         &mut [],
         &gate,
     );

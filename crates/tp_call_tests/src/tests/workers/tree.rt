@@ -10,7 +10,7 @@ use std::thread::Threads;
 use tp_manager::{Manager, Pass};
 use tp_model::types::Limits;
 use tp_server::{Act, Server};
-use tp_workers::{KillJob, NoGate, Shift, shift};
+use tp_workers::{KillJob, NoGate, Plan, Shift, shift};
 
 /// All work at once: the desks with so many turns, the clients and the killers.
 fn all_work<R: Threads + Sync + Abort + AllocGlobal>(
@@ -41,7 +41,7 @@ fn all_work<R: Threads + Sync + Abort + AllocGlobal>(
         &mut [client(rt, 1, 40), client(rt, 3, 40)],
         killers,
         &mut [low, high],
-        200,
+        Plan::least_first(200),
         &mut [],
         &NoGate,
     )

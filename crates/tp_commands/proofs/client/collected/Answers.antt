@@ -1,32 +1,23 @@
-use Rattle.std.proofs.Common.{◌≡◌, arith, ◌∙◌, ap, sym, subst}
+use Rattle.std.proofs.Common.{[], ap, ◌∙◌}
 use Rattle.std.proofs.lemmas.Result.{IfOk-weaker}
-use Rattle.tp_model.specs.Steps.{rows_of}
-use Rattle.tp_report.specs.Answer.{line, collected_text}
-use Rattle.tp_commands.specs.Asked.{TellsCollected, with_one}
-use Rattle.tp_commands.proofs.Listings.{reply_taken}
-use Rattle.tp_commands.proofs.client.collected.Goals.{in-Some+in_ok-push, in_default}
+use Rattle.tp_model.specs.declared.types.Limits.{Limits}
+use Rattle.tp_manager.specs.Bounds.{collect_next_steps}
+use Rattle.tp_report.specs.Answer.{collected_text, line}
+use Rattle.tp_commands.specs.Asked.{TellsCollected}
+use Rattle.tp_commands.proofs.Collections.{fewer_alive}
+use Rattle.tp_commands.proofs.Listings.{no_more_found}
 use Rattle.tp_commands.proofs.client.collected.Goals as goal
 
-pub loop-id-preserved : goal.loop-id-preserved
-loop-id-preserved c =
-    let read = c.collect_at.ensures.tells in
-    elim c.match-collect_at.branch [
-      | in-Some+in_ok-push w ↦ record {
-        free = c.collect_at.ensures.free;
-        number = c.collect_at.ensures.number ∙ c.loop-id.invariant.number;
-        found = reply_taken c.args.manager.now.limits c.args.root c.loop-id.id c.args.client.now c.loop-id.client c.collect_at.new.client c.loop-id.found.items _ read.0 read.1 c.collect_at.result c.loop-id.invariant.found read.2 read.3
-            (ap (λ v. v.items) w.found-is ∙ (w.in_ok-push.ensures.items ∙ ap (with_one c.loop-id.found.items) (sym w.in-Some.is)));
-      }
-      | in_default w ↦ record {
-        free = c.collect_at.ensures.free;
-        number = c.collect_at.ensures.number ∙ c.loop-id.invariant.number;
-        found = reply_taken c.args.manager.now.limits c.args.root c.loop-id.id c.args.client.now c.loop-id.client c.collect_at.new.client c.loop-id.found.items _ read.0 read.1 c.collect_at.result c.loop-id.invariant.found read.2 read.3
-            (ap (λ v. v.items) w.found-is ∙ ap (with_one c.loop-id.found.items) (sym w.in_default.is));
-      }
-    ]
+pub loop-reply-smaller : goal.loop-reply-smaller
+loop-reply-smaller c =
+    let l : Limits = c.args.manager.now.limits in
+    fewer_alive l c.args.root (collect_next_steps l) c.in-Some.reply c.loop-reply.client c.collect_next.new.pass c.collect_next.ensures.own.1 c.collect_next.ensures.follows c.in-Some.ensures.answer
 
 pub returns-clause-tells : goal.returns-clause-tells
 returns-clause-tells c =
-    let last : c.loop-id.id ≡ rows_of c.args.manager.now.limits = omega (arith, c.loop-id-test.false, c.loop-id.auto.id-end, c.capacity-id-end.ensures) in
-    let all = subst (λ n. TellsCollected c.args.manager.now.limits c.args.root n c.args.client.now c.loop-id.found.items c.loop-id.client) last c.loop-id.invariant.found in
-    IfOk-weaker c.line.result _ _ (λ text is. (c.loop-id.found.items, all, is ∙ ap (λ xs. line (collected_text c.args.root xs)) c.as_slice-replies.ensures.value)) c.line.ensures.text
+    let l : Limits = c.args.manager.now.limits in let root = c.args.root in
+    let last = c.collect_next.new.pass in
+    let none : TellsCollected l root c.loop-reply.client [] last = (record { follows = c.collect_next.ensures.follows; limits = c.collect_next.ensures.own.1; turn = c.collect_next.ensures.turn }, c.collect_next.ensures.looks, c.in_default.ensures.answer) in
+    let all : TellsCollected l root c.args.client.now c.loop-reply.found.items last =
+    no_more_found (TellsCollected l root c.loop-reply.client) (TellsCollected l root c.args.client.now) c.loop-reply.found.items last c.loop-reply.invariant.found none in
+    IfOk-weaker c.line.result _ _ (λ text is. (c.loop-reply.found.items, all, is ∙ ap (λ xs. line (collected_text root xs)) c.as_slice-replies.ensures.value)) c.line.ensures.text

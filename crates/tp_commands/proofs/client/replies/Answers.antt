@@ -1,32 +1,30 @@
-use Rattle.std.proofs.Common.{◌≡◌, arith, ◌∙◌, ap, sym, subst}
+use Rattle.std.proofs.Common.{◌+◌, [], inl, inr, arith, ◌∙◌, ap}
 use Rattle.std.proofs.lemmas.Result.{IfOk-weaker}
-use Rattle.tp_model.specs.Steps.{rows_of}
+use Rattle.tp_model.specs.declared.types.Limits.{Limits}
 use Rattle.tp_report.specs.Answer.{line, replies_text}
-use Rattle.tp_commands.specs.Asked.{TellsReplies, with_one}
-use Rattle.tp_commands.proofs.Listings.{read_listed}
-use Rattle.tp_commands.proofs.client.replies.Goals.{in-Some+in_ok-push, in_default}
+use Rattle.tp_commands.specs.Asked.{TellsReplies}
+use Rattle.tp_commands.proofs.Listings.{no_more_found, one_more_found}
+use Rattle.tp_commands.proofs.client.replies.Goals.{else-loop-from-test, then-loop-from-test+in_default}
 use Rattle.tp_commands.proofs.client.replies.Goals as goal
 
-pub loop-id-preserved : goal.loop-id-preserved
-loop-id-preserved c =
-    let read = c.reply_at.ensures.tells in
-    elim c.match-reply_at.branch [
-      | in-Some+in_ok-push w ↦ record {
-        free = c.reply_at.ensures.free;
-        number = c.reply_at.ensures.number ∙ c.loop-id.invariant.number;
-        found = read_listed c.args.manager.now.limits c.args.root c.loop-id.id c.args.client.now c.loop-id.client c.reply_at.new.client c.loop-id.found.items _ read.0 c.loop-id.invariant.found read.1
-            (ap (λ v. v.items) w.found-is ∙ (w.in_ok-push.ensures.items ∙ ap (with_one c.loop-id.found.items) (sym w.in-Some.is ∙ read.2)));
-      }
-      | in_default w ↦ record {
-        free = c.reply_at.ensures.free;
-        number = c.reply_at.ensures.number ∙ c.loop-id.invariant.number;
-        found = read_listed c.args.manager.now.limits c.args.root c.loop-id.id c.args.client.now c.loop-id.client c.reply_at.new.client c.loop-id.found.items _ read.0 c.loop-id.invariant.found read.1
-            (ap (λ v. v.items) w.found-is ∙ ap (with_one c.loop-id.found.items) (sym w.in_default.is ∙ read.2));
-      }
-    ]
+pub loop-from-preserved : goal.loop-from-preserved
+loop-from-preserved c = let l : Limits = c.args.manager.now.limits in let root = c.args.root in record {
+  free = c.next_reply.ensures.free;
+  number = c.next_reply.ensures.number ∙ c.loop-from.invariant.number;
+  capacity = c.capacity-capacity.ensures;
+  found = λ more last rest. rw c.in_ok-push.ensures.items (one_more_found (TellsReplies l root c.loop-from.from c.loop-from.client) (TellsReplies l root (c.in-Some.reply.id + 1) c.next_reply.new.client) (TellsReplies l root 0 c.args.client.now)
+      c.loop-from.found.items c.in-Some.reply c.loop-from.invariant.found
+      (λ more last rest. (c.next_reply.new.client, c.in-Some.ensures.tells, rest)) more last rest);
+}
 
 pub returns-clause-tells : goal.returns-clause-tells
 returns-clause-tells c =
-    let last : c.loop-id.id ≡ rows_of c.args.manager.now.limits = omega (arith, c.loop-id-test.false, c.loop-id.auto.id-end, c.capacity-id-end.ensures) in
-    let all = subst (λ n. TellsReplies c.args.manager.now.limits c.args.root n c.args.client.now c.loop-id.found.items c.loop-id.client) last c.loop-id.invariant.found in
-    IfOk-weaker c.line.result _ _ (λ text is. (c.loop-id.found.items, all, is ∙ ap (λ xs. line (replies_text c.args.root xs)) c.as_slice-replies.ensures.value)) c.line.ensures.text
+    let l : Limits = c.args.manager.now.limits in let root = c.args.root in
+    let last = c.loop-from-test.client in
+    let none : TellsReplies l root c.loop-from.from c.loop-from.client [] last = elim c.loop-from-test.branch [
+      | else-loop-from-test w ↦ inr (omega (arith, c.capacity-capacity.ensures, w.loop-from-test.false), w.client-is)
+      | then-loop-from-test+in_default w ↦ inl (rw w.client-is w.in_default.ensures.tells)
+    ] in
+    let all : TellsReplies l root 0 c.args.client.now c.loop-from.found.items last =
+    no_more_found (TellsReplies l root c.loop-from.from c.loop-from.client) (TellsReplies l root 0 c.args.client.now) c.loop-from.found.items last c.loop-from.invariant.found none in
+    IfOk-weaker c.line.result _ _ (λ text is. (c.loop-from.found.items, all, is ∙ ap (λ xs. line (replies_text root xs)) c.as_slice-replies.ensures.value)) c.line.ensures.text

@@ -1,11 +1,20 @@
-use Rattle.std.proofs.Common.{◌≡◌}
+use Rattle.std.proofs.Common.{◌≡◌, ◌-◌, ◌++◌, List}
+use Rattle.tp_model.specs.declared.types.Element.{Element}
+use Rattle.tp_model.specs.Steps.{rows_of}
+use Rattle.tp_manager.specs.Shown.{PassShown}
 use Rattle.tp_workers.specs.Free.{IsFreePass}
 use Rattle.tp_commands.specs.Asked.{TellsReplies}
 use Rattle.tp_commands.proofs.client.replies.Given as goal
 
-abbrev pub invariant-loop-id : goal.invariant-loop-id
-invariant-loop-id l = record {
+abbrev pub invariant-loop-from : goal.invariant-loop-from
+invariant-loop-from l = record {
   free : IsFreePass l.manager l.client;
   number : l.client.number ≡ l.initial.client.number;
-  found : TellsReplies l.manager.limits l.root l.id l.initial.client l.found.items l.client;
+  capacity : l.capacity ≡ rows_of l.manager.limits;
+  -- what is found from here on stands behind what was found
+  found : (more : List Element) (last : PassShown) → TellsReplies l.manager.limits l.root l.from l.client more last
+      → TellsReplies l.manager.limits l.root 0 l.fn.client (l.found.items ++ more) last;
 }
+
+abbrev pub decreases-loop-from : goal.decreases-loop-from
+decreases-loop-from l = l.capacity - l.from

@@ -1,4 +1,5 @@
-use Rattle.std.proofs.Common.{arith}
+use Rattle.std.proofs.Common.{ap, arith}
+use Rattle.tp_workers.specs.declared.plan.Plan.{Plan}
 use Rattle.tp_desk.proofs.Books.{serves_raised}
 use Rattle.tp_workers.proofs.Turns.{turns_total}
 use Rattle.tp_images.proofs.delivery.deliver.Goals as goal
@@ -10,4 +11,4 @@ returns-clause-counts_all g c =
 
 pub returns-clause-at_most : goal.returns-clause-at_most
 returns-clause-at_most g c =
-    omega (arith, turns_total _ _ _ _ _ c.work_off.ensures.turns_taken.calls, c.work_off.ensures.turns_taken.at_most)
+    omega (arith, turns_total _ _ _ _ _ _ c.work_off.ensures.turns_taken.calls, c.work_off.ensures.turns_taken.at_most, ap (λ (p : Plan). p.turns) c.least_first.ensures)

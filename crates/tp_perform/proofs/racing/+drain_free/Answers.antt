@@ -38,4 +38,4 @@ returns-clause-desks g t c =
     let os = c.args.places.now in
     let inside : c.args.at < length os = omega (arith, c.requires.within.1, c.if-at-places.false) in
     let long = shown_length _ _ _ c.args.passes.now c.args.servers.now os c.requires.lie in
-    parts_back (λ o n. TakesPart (is_free o) (EndsIdle c.args.manager.now.limits) o n) _ _ _ _ c.args.front c.args.at (omega (arith, long, c.requires.within.0, inside)) (omega (arith, long, inside)) c.swap_places.ensures.shown c.drain_free-2.ensures.desks c.swap_places-2.ensures.shown
+    parts_back (λ o n. TakesPart (is_free o) (EndsIdle c.args.order c.args.manager.now.limits) o n) _ _ _ _ c.args.front c.args.at (omega (arith, long, c.requires.within.0, inside)) (omega (arith, long, inside)) c.swap_places.ensures.shown c.drain_free-2.ensures.desks c.swap_places-2.ensures.shown

@@ -52,7 +52,7 @@ returns-clause-lie g c =
     let after : AllLie (λ b. (goal.Server-dyn g (b.vtable, b.value)).behaviour b.value) (λ b. (goal.Server-dyn g (b.vtable, b.value)).registers b.value) (λ b. (goal.Server-dyn g (b.vtable, b.value)).pending b.value) c.split_at_mut-desks.result.1.now c.split_at_mut-boxes.result.1.now (drop n os) = rw (c.split_at_mut-desks.ensures.back, c.split_at_mut-boxes.ensures.back) (lie_back (λ b. (goal.Server-dyn g (b.vtable, b.value)).behaviour b.value) (λ b. (goal.Server-dyn g (b.vtable, b.value)).registers b.value) (λ b. (goal.Server-dyn g (b.vtable, b.value)).pending b.value) n ps ss os c.requires.lie) in
     let ran = c.drain.ensures.desks.2 in
     let worked : AllLie (λ b. (goal.Server-dyn g (b.vtable, b.value)).behaviour b.value) (λ b. (goal.Server-dyn g (b.vtable, b.value)).registers b.value) (λ b. (goal.Server-dyn g (b.vtable, b.value)).pending b.value) c.drain.new.passes c.drain.new.servers (take n os) =
-    lie_worked (λ b. (goal.Server-dyn g (b.vtable, b.value)).behaviour b.value) (λ b. (goal.Server-dyn g (b.vtable, b.value)).registers b.value) (λ b. (goal.Server-dyn g (b.vtable, b.value)).pending b.value) m (DeskDrained (λ b. (goal.Server-dyn g (b.vtable, b.value)).behaviour b.value) (λ b. (goal.Server-dyn g (b.vtable, b.value)).registers b.value) (λ b. (goal.Server-dyn g (b.vtable, b.value)).pending b.value) m) (λ x s y r. record { leaves = r.leaves; behaviour_is = r.behaviour_is; ready = r.ready }) c.split_at_mut-desks.result.0.now c.split_at_mut-boxes.result.0.now (take n os) _ c.drain.new.passes c.drain.new.servers
+    lie_worked (λ b. (goal.Server-dyn g (b.vtable, b.value)).behaviour b.value) (λ b. (goal.Server-dyn g (b.vtable, b.value)).registers b.value) (λ b. (goal.Server-dyn g (b.vtable, b.value)).pending b.value) m (DeskDrained (λ b. (goal.Server-dyn g (b.vtable, b.value)).behaviour b.value) (λ b. (goal.Server-dyn g (b.vtable, b.value)).registers b.value) (λ b. (goal.Server-dyn g (b.vtable, b.value)).pending b.value) m c.args.order) (λ x s y r. record { leaves = r.leaves; behaviour_is = r.behaviour_is; ready = r.ready }) c.split_at_mut-desks.result.0.now c.split_at_mut-boxes.result.0.now (take n os) _ c.drain.new.passes c.drain.new.servers
     before (all_free _ c.requires.free) ran.on_kept ran.by_kept ran.ran in
     subst (AllLie (λ b. (goal.Server-dyn g (b.vtable, b.value)).behaviour b.value) (λ b. (goal.Server-dyn g (b.vtable, b.value)).registers b.value) (λ b. (goal.Server-dyn g (b.vtable, b.value)).pending b.value) (c.drain.new.passes ++ c.split_at_mut-desks.result.1.now) (c.drain.new.servers ++ c.split_at_mut-boxes.result.1.now)) (take-append-drop n os)
     (lie_append (λ b. (goal.Server-dyn g (b.vtable, b.value)).behaviour b.value) (λ b. (goal.Server-dyn g (b.vtable, b.value)).registers b.value) (λ b. (goal.Server-dyn g (b.vtable, b.value)).pending b.value) c.drain.new.passes c.drain.new.servers (take n os) c.split_at_mut-desks.result.1.now c.split_at_mut-boxes.result.1.now (drop n os) worked after)
@@ -68,7 +68,7 @@ returns-clause-desks g c =
     let after : AllLie (λ b. (goal.Server-dyn g (b.vtable, b.value)).behaviour b.value) (λ b. (goal.Server-dyn g (b.vtable, b.value)).registers b.value) (λ b. (goal.Server-dyn g (b.vtable, b.value)).pending b.value) c.split_at_mut-desks.result.1.now c.split_at_mut-boxes.result.1.now (drop n os) = rw (c.split_at_mut-desks.ensures.back, c.split_at_mut-boxes.ensures.back) (lie_back (λ b. (goal.Server-dyn g (b.vtable, b.value)).behaviour b.value) (λ b. (goal.Server-dyn g (b.vtable, b.value)).registers b.value) (λ b. (goal.Server-dyn g (b.vtable, b.value)).pending b.value) n ps ss os c.requires.lie) in
     let ran = c.drain.ensures.desks.2 in
     let worked : AllLie (λ b. (goal.Server-dyn g (b.vtable, b.value)).behaviour b.value) (λ b. (goal.Server-dyn g (b.vtable, b.value)).registers b.value) (λ b. (goal.Server-dyn g (b.vtable, b.value)).pending b.value) c.drain.new.passes c.drain.new.servers (take n os) =
-    lie_worked (λ b. (goal.Server-dyn g (b.vtable, b.value)).behaviour b.value) (λ b. (goal.Server-dyn g (b.vtable, b.value)).registers b.value) (λ b. (goal.Server-dyn g (b.vtable, b.value)).pending b.value) m (DeskDrained (λ b. (goal.Server-dyn g (b.vtable, b.value)).behaviour b.value) (λ b. (goal.Server-dyn g (b.vtable, b.value)).registers b.value) (λ b. (goal.Server-dyn g (b.vtable, b.value)).pending b.value) m) (λ x s y r. record { leaves = r.leaves; behaviour_is = r.behaviour_is; ready = r.ready }) c.split_at_mut-desks.result.0.now c.split_at_mut-boxes.result.0.now (take n os) _ c.drain.new.passes c.drain.new.servers
+    lie_worked (λ b. (goal.Server-dyn g (b.vtable, b.value)).behaviour b.value) (λ b. (goal.Server-dyn g (b.vtable, b.value)).registers b.value) (λ b. (goal.Server-dyn g (b.vtable, b.value)).pending b.value) m (DeskDrained (λ b. (goal.Server-dyn g (b.vtable, b.value)).behaviour b.value) (λ b. (goal.Server-dyn g (b.vtable, b.value)).registers b.value) (λ b. (goal.Server-dyn g (b.vtable, b.value)).pending b.value) m c.args.order) (λ x s y r. record { leaves = r.leaves; behaviour_is = r.behaviour_is; ready = r.ready }) c.split_at_mut-desks.result.0.now c.split_at_mut-boxes.result.0.now (take n os) _ c.drain.new.passes c.drain.new.servers
     before (all_free _ c.requires.free) ran.on_kept ran.by_kept ran.ran in
-    parts_front (λ b. (goal.Server-dyn g (b.vtable, b.value)).behaviour b.value) (λ b. (goal.Server-dyn g (b.vtable, b.value)).registers b.value) (λ b. (goal.Server-dyn g (b.vtable, b.value)).pending b.value) (DeskDrained (λ b. (goal.Server-dyn g (b.vtable, b.value)).behaviour b.value) (λ b. (goal.Server-dyn g (b.vtable, b.value)).registers b.value) (λ b. (goal.Server-dyn g (b.vtable, b.value)).pending b.value) c.args.manager.now) (EndsIdle c.args.manager.now.limits) (λ x s y r. r.idle) n ps ss os c.split_at_mut-desks.result.0.now c.split_at_mut-desks.result.1.now c.split_at_mut-boxes.result.0.now c.split_at_mut-boxes.result.1.now _ c.drain.new.passes c.drain.new.servers
+    parts_front (λ b. (goal.Server-dyn g (b.vtable, b.value)).behaviour b.value) (λ b. (goal.Server-dyn g (b.vtable, b.value)).registers b.value) (λ b. (goal.Server-dyn g (b.vtable, b.value)).pending b.value) (DeskDrained (λ b. (goal.Server-dyn g (b.vtable, b.value)).behaviour b.value) (λ b. (goal.Server-dyn g (b.vtable, b.value)).registers b.value) (λ b. (goal.Server-dyn g (b.vtable, b.value)).pending b.value) c.args.manager.now c.args.order) (EndsIdle c.args.order c.args.manager.now.limits) (λ x s y r. r.idle) n ps ss os c.split_at_mut-desks.result.0.now c.split_at_mut-desks.result.1.now c.split_at_mut-boxes.result.0.now c.split_at_mut-boxes.result.1.now _ c.drain.new.passes c.drain.new.servers
     c.split_at_mut-desks.ensures.value c.split_at_mut-boxes.ensures.value before after worked c.requires.free (passed_behind os n (length os) (omega arith) c.requires.passed) ran.on_kept ran.by_kept ran.ran

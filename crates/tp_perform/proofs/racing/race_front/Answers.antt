@@ -5,6 +5,7 @@ use Rattle.tp_manager.specs.Shown.{IsOf}
 use Rattle.tp_workers.specs.Free.{IsFreePass}
 use Rattle.tp_workers.specs.Clients.{ClientRan}
 use Rattle.tp_workers.specs.Desks.{DeskRan}
+use Rattle.tp_workers.specs.Plans.{least_first}
 use Rattle.tp_workers.specs.Killers.{KillerRan}
 use Rattle.tp_workers.specs.Ran.{RanEach}
 use Rattle.tp_workers.specs.Sums.{client_part, killer_part}
@@ -57,7 +58,7 @@ returns-clause-lie g c =
     let after : AllLie (λ b. (goal.Server-dyn g (b.vtable, b.value)).behaviour b.value) (λ b. (goal.Server-dyn g (b.vtable, b.value)).registers b.value) (λ b. (goal.Server-dyn g (b.vtable, b.value)).pending b.value) c.split_at_mut-desks.result.1.now c.split_at_mut-boxes.result.1.now (drop n os) = rw (c.split_at_mut-desks.ensures.back, c.split_at_mut-boxes.ensures.back) (lie_back (λ b. (goal.Server-dyn g (b.vtable, b.value)).behaviour b.value) (λ b. (goal.Server-dyn g (b.vtable, b.value)).registers b.value) (λ b. (goal.Server-dyn g (b.vtable, b.value)).pending b.value) n ps ss os c.requires.lie) in
     let ran = c.shift-counts.ensures.desks in
     let worked : AllLie (λ b. (goal.Server-dyn g (b.vtable, b.value)).behaviour b.value) (λ b. (goal.Server-dyn g (b.vtable, b.value)).registers b.value) (λ b. (goal.Server-dyn g (b.vtable, b.value)).pending b.value) c.shift-counts.new.desk_passes c.shift-counts.new.servers (take n os) =
-    lie_worked (λ b. (goal.Server-dyn g (b.vtable, b.value)).behaviour b.value) (λ b. (goal.Server-dyn g (b.vtable, b.value)).registers b.value) (λ b. (goal.Server-dyn g (b.vtable, b.value)).pending b.value) m (DeskRan (λ b. (goal.Server-dyn g (b.vtable, b.value)).behaviour b.value) (λ b. (goal.Server-dyn g (b.vtable, b.value)).registers b.value) (λ b. (goal.Server-dyn g (b.vtable, b.value)).pending b.value) m c.args.turns) (λ x s y r. record { leaves = r.leaves; behaviour_is = r.behaviour_is; ready = r.ready }) c.split_at_mut-desks.result.0.now c.split_at_mut-boxes.result.0.now (take n os) _ c.shift-counts.new.desk_passes c.shift-counts.new.servers
+    lie_worked (λ b. (goal.Server-dyn g (b.vtable, b.value)).behaviour b.value) (λ b. (goal.Server-dyn g (b.vtable, b.value)).registers b.value) (λ b. (goal.Server-dyn g (b.vtable, b.value)).pending b.value) m (DeskRan (λ b. (goal.Server-dyn g (b.vtable, b.value)).behaviour b.value) (λ b. (goal.Server-dyn g (b.vtable, b.value)).registers b.value) (λ b. (goal.Server-dyn g (b.vtable, b.value)).pending b.value) m (least_first c.args.turns)) (λ x s y r. record { leaves = r.leaves; behaviour_is = r.behaviour_is; ready = r.ready }) c.split_at_mut-desks.result.0.now c.split_at_mut-boxes.result.0.now (take n os) _ c.shift-counts.new.desk_passes c.shift-counts.new.servers
     before (all_free _ c.requires.free) ran.on_kept ran.by_kept ran.ran in
     subst (AllLie (λ b. (goal.Server-dyn g (b.vtable, b.value)).behaviour b.value) (λ b. (goal.Server-dyn g (b.vtable, b.value)).registers b.value) (λ b. (goal.Server-dyn g (b.vtable, b.value)).pending b.value) (c.shift-counts.new.desk_passes ++ c.split_at_mut-desks.result.1.now) (c.shift-counts.new.servers ++ c.split_at_mut-boxes.result.1.now)) (take-append-drop n os)
     (lie_append (λ b. (goal.Server-dyn g (b.vtable, b.value)).behaviour b.value) (λ b. (goal.Server-dyn g (b.vtable, b.value)).registers b.value) (λ b. (goal.Server-dyn g (b.vtable, b.value)).pending b.value) c.shift-counts.new.desk_passes c.shift-counts.new.servers (take n os) c.split_at_mut-desks.result.1.now c.split_at_mut-boxes.result.1.now (drop n os) worked after)
@@ -73,9 +74,9 @@ returns-clause-desks g c =
     let after : AllLie (λ b. (goal.Server-dyn g (b.vtable, b.value)).behaviour b.value) (λ b. (goal.Server-dyn g (b.vtable, b.value)).registers b.value) (λ b. (goal.Server-dyn g (b.vtable, b.value)).pending b.value) c.split_at_mut-desks.result.1.now c.split_at_mut-boxes.result.1.now (drop n os) = rw (c.split_at_mut-desks.ensures.back, c.split_at_mut-boxes.ensures.back) (lie_back (λ b. (goal.Server-dyn g (b.vtable, b.value)).behaviour b.value) (λ b. (goal.Server-dyn g (b.vtable, b.value)).registers b.value) (λ b. (goal.Server-dyn g (b.vtable, b.value)).pending b.value) n ps ss os c.requires.lie) in
     let ran = c.shift-counts.ensures.desks in
     let worked : AllLie (λ b. (goal.Server-dyn g (b.vtable, b.value)).behaviour b.value) (λ b. (goal.Server-dyn g (b.vtable, b.value)).registers b.value) (λ b. (goal.Server-dyn g (b.vtable, b.value)).pending b.value) c.shift-counts.new.desk_passes c.shift-counts.new.servers (take n os) =
-    lie_worked (λ b. (goal.Server-dyn g (b.vtable, b.value)).behaviour b.value) (λ b. (goal.Server-dyn g (b.vtable, b.value)).registers b.value) (λ b. (goal.Server-dyn g (b.vtable, b.value)).pending b.value) m (DeskRan (λ b. (goal.Server-dyn g (b.vtable, b.value)).behaviour b.value) (λ b. (goal.Server-dyn g (b.vtable, b.value)).registers b.value) (λ b. (goal.Server-dyn g (b.vtable, b.value)).pending b.value) m c.args.turns) (λ x s y r. record { leaves = r.leaves; behaviour_is = r.behaviour_is; ready = r.ready }) c.split_at_mut-desks.result.0.now c.split_at_mut-boxes.result.0.now (take n os) _ c.shift-counts.new.desk_passes c.shift-counts.new.servers
+    lie_worked (λ b. (goal.Server-dyn g (b.vtable, b.value)).behaviour b.value) (λ b. (goal.Server-dyn g (b.vtable, b.value)).registers b.value) (λ b. (goal.Server-dyn g (b.vtable, b.value)).pending b.value) m (DeskRan (λ b. (goal.Server-dyn g (b.vtable, b.value)).behaviour b.value) (λ b. (goal.Server-dyn g (b.vtable, b.value)).registers b.value) (λ b. (goal.Server-dyn g (b.vtable, b.value)).pending b.value) m (least_first c.args.turns)) (λ x s y r. record { leaves = r.leaves; behaviour_is = r.behaviour_is; ready = r.ready }) c.split_at_mut-desks.result.0.now c.split_at_mut-boxes.result.0.now (take n os) _ c.shift-counts.new.desk_passes c.shift-counts.new.servers
     before (all_free _ c.requires.free) ran.on_kept ran.by_kept ran.ran in
-    parts_front (λ b. (goal.Server-dyn g (b.vtable, b.value)).behaviour b.value) (λ b. (goal.Server-dyn g (b.vtable, b.value)).registers b.value) (λ b. (goal.Server-dyn g (b.vtable, b.value)).pending b.value) (DeskRan (λ b. (goal.Server-dyn g (b.vtable, b.value)).behaviour b.value) (λ b. (goal.Server-dyn g (b.vtable, b.value)).registers b.value) (λ b. (goal.Server-dyn g (b.vtable, b.value)).pending b.value) c.args.manager.now c.args.turns) (TookTurns c.args.manager.now.limits c.args.turns) (λ x s y r. (s, r.turns_taken)) n ps ss os c.split_at_mut-desks.result.0.now c.split_at_mut-desks.result.1.now c.split_at_mut-boxes.result.0.now c.split_at_mut-boxes.result.1.now _ c.shift-counts.new.desk_passes c.shift-counts.new.servers
+    parts_front (λ b. (goal.Server-dyn g (b.vtable, b.value)).behaviour b.value) (λ b. (goal.Server-dyn g (b.vtable, b.value)).registers b.value) (λ b. (goal.Server-dyn g (b.vtable, b.value)).pending b.value) (DeskRan (λ b. (goal.Server-dyn g (b.vtable, b.value)).behaviour b.value) (λ b. (goal.Server-dyn g (b.vtable, b.value)).registers b.value) (λ b. (goal.Server-dyn g (b.vtable, b.value)).pending b.value) c.args.manager.now (least_first c.args.turns)) (TookTurns c.args.manager.now.limits c.args.turns) (λ x s y r. (s, r.turns_taken)) n ps ss os c.split_at_mut-desks.result.0.now c.split_at_mut-desks.result.1.now c.split_at_mut-boxes.result.0.now c.split_at_mut-boxes.result.1.now _ c.shift-counts.new.desk_passes c.shift-counts.new.servers
     c.split_at_mut-desks.ensures.value c.split_at_mut-boxes.ensures.value before after worked c.requires.free (passed_behind os n (length os) (omega arith) c.requires.passed) ran.on_kept ran.by_kept ran.ran
 
 pub returns-clause-ran : goal.returns-clause-ran

@@ -1,8 +1,8 @@
-use Rattle.std.proofs.Common.{◌≡◌, ◌∙◌, inl, inr, arith, length, rules, sym}
+use Rattle.std.proofs.Common.{◌≡◌, ◌∙◌, ap, inl, inr, arith, length, sym}
 use Rattle.std.proofs.lemmas.List.{length-map}
 use Rattle.std.proofs.lemmas.Result.{on_err_weaker, on_ok_weaker}
 use Rattle.tp_script.specs.Script.{script_view, server_view}
-use Rattle.tp_perform.proofs.Beginnings.{begins_of, performed_of}
+use Rattle.tp_perform.proofs.Beginnings.{begins_of, performed_of, recipes_shown, registers_shown}
 use Rattle.tp_report.proofs.Devices.{always_err}
 use Rattle.tp_report.proofs.LineProofs.{err_then, front_fewer, lines_then, lines_then_front, ok_then}
 use Rattle.tp_perform.proofs.Everyone.{all_same}
@@ -26,9 +26,10 @@ close-requires-clause-all g c = all_same c.args.keeper.now c.args.passes.now c.p
 pub returns-clause-told : goal.returns-clause-told
 returns-clause-told g c =
     let commands = c.in_ok-perform.ensures.told in
-    let count : length c.settle.new.servers ≡ length c.args.script.now.servers.items = search rules in
+    let count : length c.args.boxes.now ≡ length c.args.script.now.servers.items = sym (length-map c.args.boxes.now _) ∙ (ap length c.requires.behaviours ∙ length-map c.args.script.now.servers.items _) in
     let many = count ∙ sym (length-map c.args.script.now.servers.items server_view) in
-    let begins = begins_of _ _ _ (script_view c.args.script.now) c.args.manager.now c.args.passes.now _ commands.0 commands.2 many c.requires.limits c.requires.enough c.requires.given.1 c.requires.passes c.requires.new in
+    let begins = begins_of _ _ _ (script_view c.args.script.now) c.args.manager.now c.args.passes.now _ commands.0 commands.2 many c.requires.limits c.requires.enough c.requires.given.1 c.requires.passes c.requires.new
+    (c.requires.behaviours ∙ recipes_shown c.args.script.now.servers.items) (c.requires.registers ∙ registers_shown c.args.script.now.servers.items) in
     let performed = performed_of (script_view c.args.script.now) c.args.manager.now commands.0 commands.1 (g.W.Sink.contents c.args.writer.now) (g.W.Sink.contents c.perform.new.writer) c.perform.new.passes _ _ begins many commands.3 commands.4 commands.5 in
     on_ok_weaker c.close.result (λ account. record {
       performed = performed;
@@ -43,26 +44,29 @@ returns-clause-told g c =
 pub returns-in_err-perform-clause-told_front : goal.returns-in_err-perform-clause-told_front
 returns-in_err-perform-clause-told_front g c =
     let commands = c.in_err-perform.ensures.told_front in
-    let count : length c.settle.new.servers ≡ length c.args.script.now.servers.items = search rules in
+    let count : length c.args.boxes.now ≡ length c.args.script.now.servers.items = sym (length-map c.args.boxes.now _) ∙ (ap length c.requires.behaviours ∙ length-map c.args.script.now.servers.items _) in
     let many = count ∙ sym (length-map c.args.script.now.servers.items server_view) in
-    let begins = begins_of _ _ _ (script_view c.args.script.now) c.args.manager.now c.args.passes.now _ commands.0 commands.1 many c.requires.limits c.requires.enough c.requires.given.1 c.requires.passes c.requires.new in
+    let begins = begins_of _ _ _ (script_view c.args.script.now) c.args.manager.now c.args.passes.now _ commands.0 commands.1 many c.requires.limits c.requires.enough c.requires.given.1 c.requires.passes c.requires.new
+    (c.requires.behaviours ∙ recipes_shown c.args.script.now.servers.items) (c.requires.registers ∙ registers_shown c.args.script.now.servers.items) in
     always_err c.from_residual.result (inr (c.args.manager.now, inl (record { first = commands.0; begins = begins; told = commands.2 })))
 
 pub returns-in_err-finals-clause-told_front : goal.returns-in_err-finals-clause-told_front
 returns-in_err-finals-clause-told_front g c =
     let commands = c.in_ok-perform.ensures.told in
-    let count : length c.settle.new.servers ≡ length c.args.script.now.servers.items = search rules in
+    let count : length c.args.boxes.now ≡ length c.args.script.now.servers.items = sym (length-map c.args.boxes.now _) ∙ (ap length c.requires.behaviours ∙ length-map c.args.script.now.servers.items _) in
     let many = count ∙ sym (length-map c.args.script.now.servers.items server_view) in
-    let begins = begins_of _ _ _ (script_view c.args.script.now) c.args.manager.now c.args.passes.now _ commands.0 commands.2 many c.requires.limits c.requires.enough c.requires.given.1 c.requires.passes c.requires.new in
+    let begins = begins_of _ _ _ (script_view c.args.script.now) c.args.manager.now c.args.passes.now _ commands.0 commands.2 many c.requires.limits c.requires.enough c.requires.given.1 c.requires.passes c.requires.new
+    (c.requires.behaviours ∙ recipes_shown c.args.script.now.servers.items) (c.requires.registers ∙ registers_shown c.args.script.now.servers.items) in
     let performed = performed_of (script_view c.args.script.now) c.args.manager.now commands.0 commands.1 (g.W.Sink.contents c.args.writer.now) (g.W.Sink.contents c.perform.new.writer) c.perform.new.passes _ _ begins many commands.3 commands.4 commands.5 in
     always_err c.from_residual-in_err-finals.result (inr (c.args.manager.now, inr (inl (record { performed = performed; finals = c.in_err-finals.ensures.told_front }))))
 
 pub returns-clause-told_front : goal.returns-clause-told_front
 returns-clause-told_front g c =
     let commands = c.in_ok-perform.ensures.told in
-    let count : length c.settle.new.servers ≡ length c.args.script.now.servers.items = search rules in
+    let count : length c.args.boxes.now ≡ length c.args.script.now.servers.items = sym (length-map c.args.boxes.now _) ∙ (ap length c.requires.behaviours ∙ length-map c.args.script.now.servers.items _) in
     let many = count ∙ sym (length-map c.args.script.now.servers.items server_view) in
-    let begins = begins_of _ _ _ (script_view c.args.script.now) c.args.manager.now c.args.passes.now _ commands.0 commands.2 many c.requires.limits c.requires.enough c.requires.given.1 c.requires.passes c.requires.new in
+    let begins = begins_of _ _ _ (script_view c.args.script.now) c.args.manager.now c.args.passes.now _ commands.0 commands.2 many c.requires.limits c.requires.enough c.requires.given.1 c.requires.passes c.requires.new
+    (c.requires.behaviours ∙ recipes_shown c.args.script.now.servers.items) (c.requires.registers ∙ registers_shown c.args.script.now.servers.items) in
     let performed = performed_of (script_view c.args.script.now) c.args.manager.now commands.0 commands.1 (g.W.Sink.contents c.args.writer.now) (g.W.Sink.contents c.perform.new.writer) c.perform.new.passes _ _ begins many commands.3 commands.4 commands.5 in
     on_err_weaker c.close.result (λ account. inr (
       c.args.manager.now,

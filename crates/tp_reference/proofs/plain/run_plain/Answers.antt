@@ -1,8 +1,7 @@
-use Rattle.tp_script.specs.declared.reach.Reach.TheVariants.{Plain}
 use Rattle.tp_script.specs.Grammar.{script}
-use Rattle.tp_reference.specs.PlainReport.{plain_report_of}
+use Rattle.tp_reference.specs.PlainReport.{report_of_read}
 use Rattle.tp_report.proofs.Devices.{front_none, if_some}
 use Rattle.tp_reference.proofs.plain.run_plain.Goals as goal
 
 pub returns-in-Err-NoMemory-clause-report : goal.returns-in-Err-NoMemory-clause-report
-returns-in-Err-NoMemory-clause-report g c = if_some (g.R.Source.rest c.args.reader.now) _ (λ bytes. front_none (g.W.Sink.contents c.args.writer.now) (plain_report_of (script Plain bytes)))
+returns-in-Err-NoMemory-clause-report g c = if_some (g.R.Source.rest c.args.reader.now) _ (λ bytes. front_none (g.W.Sink.contents c.args.writer.now) (report_of_read (script bytes)))

@@ -1,14 +1,20 @@
-use Rattle.std.proofs.Common.{length, [], map, arith, ap, refl}
+use Rattle.std.proofs.Common.{length, [], map, arith, ap, refl, sym}
 use Rattle.std.specs.Prelude.{string_bytes}
 use Rattle.tp_script.specs.Script.{script_view, server_view}
 use Rattle.tp_reference.specs.PlainRunning.{state}
-use Rattle.tp_reference.specs.PlainReport.{plain_report}
+use Rattle.tp_reference.specs.PlainReport.{report_of, reports}
 use Rattle.tp_report.proofs.Devices.{front_of, written_line, front_more, front_last, written_last, always_err, Appends-none}
 use Rattle.tp_reference.proofs.ReportLemmas.{reports_more, reports_done}
 use Rattle.tp_reference.proofs.plain_report.write_plain_report.Goals as goal
 
 pub returns-in_err-run-clause-front : goal.returns-in_err-run-clause-front
-returns-in_err-run-clause-front g c = always_err c.from_residual.result (front_of _ _ _ (plain_report (script_view c.args.script.now)) ([], refl, Appends-none (g.W.Sink.contents c.args.sink.now)))
+returns-in_err-run-clause-front g c = always_err c.from_residual.result (front_of _ _ _ (report_of (script_view c.args.script.now)) ([], refl, Appends-none (g.W.Sink.contents c.args.sink.now)))
+
+pub loop-command-init : goal.loop-command-init
+loop-command-init g c = record {
+  written = ([], ap (reports (map server_view c.args.script.now.servers.items) c.args.script.now.account c.args.script.now.commands.items) (sym c.in_ok-run.ensures.begins), Appends-none (g.W.Sink.contents c.args.sink.now));
+  ready = c.in_ok-run.ensures.ready;
+}
 
 pub returns-in_err-line-clause-front : goal.returns-in_err-line-clause-front
 returns-in_err-line-clause-front g c = always_err c.from_residual-in_err-line.result (front_of _ _ _ _ c.loop-command.invariant.written)
@@ -16,14 +22,14 @@ returns-in_err-line-clause-front g c = always_err c.from_residual-in_err-line.re
 pub returns-in_err-write_all-clause-front : goal.returns-in_err-write_all-clause-front
 returns-in_err-write_all-clause-front g c =
     let step = rw (c.as_slice.ensures.value, c.deref-command-items.ensures.value) at c.in_ok-line.ensures.step in
-    let more = reports_more (map server_view c.args.script.now.servers.items) c.args.script.now.commands.items c.loop-command.command-index _ (state c.loop-command.run) (state c.command.new.self) (string_bytes c.in_ok-line.line) (omega (arith, ap length c.deref-command-items.ensures.value)) step in
+    let more = reports_more (map server_view c.args.script.now.servers.items) c.args.script.now.account c.args.script.now.commands.items c.loop-command.command-index _ (state c.loop-command.run) (state c.command.new.self) (string_bytes c.in_ok-line.line) (omega (arith, ap length c.deref-command-items.ensures.value)) step in
     let here = rw more at c.loop-command.invariant.written in
     always_err c.from_residual-in_err-write_all.result (front_more _ (g.W.Sink.contents c.loop-command.sink) _ _ (string_bytes c.in_ok-line.line) _ here (rw c.as_bytes.ensures.value at c.in_err-write_all.ensures.err))
 
 pub loop-command-preserved : goal.loop-command-preserved
 loop-command-preserved g c =
     let step = rw (c.as_slice.ensures.value, c.deref-command-items.ensures.value) at c.in_ok-line.ensures.step in
-    let more = reports_more (map server_view c.args.script.now.servers.items) c.args.script.now.commands.items c.loop-command.command-index _ (state c.loop-command.run) (state c.command.new.self) (string_bytes c.in_ok-line.line) (omega (arith, ap length c.deref-command-items.ensures.value)) step in
+    let more = reports_more (map server_view c.args.script.now.servers.items) c.args.script.now.account c.args.script.now.commands.items c.loop-command.command-index _ (state c.loop-command.run) (state c.command.new.self) (string_bytes c.in_ok-line.line) (omega (arith, ap length c.deref-command-items.ensures.value)) step in
     let here = rw more at c.loop-command.invariant.written in
     record {
       written = written_line _ (g.W.Sink.contents c.loop-command.sink) _ _ (string_bytes c.in_ok-line.line) _ here (rw c.as_bytes.ensures.value at c.in_ok-write_all.ensures.ok);
@@ -38,14 +44,14 @@ returns-in_err-last-clause-front g c = always_err c.from_residual-in_err-last.re
 
 pub returns-in_err-write_all-2-clause-front : goal.returns-in_err-write_all-2-clause-front
 returns-in_err-write_all-2-clause-front g c =
-    let done = reports_done (map server_view c.args.script.now.servers.items) c.args.script.now.commands.items c.loop-command.command-index (state c.loop-command.run) (omega (arith, ap length c.deref-command-items.ensures.value)) in
+    let done = reports_done (map server_view c.args.script.now.servers.items) c.args.script.now.account c.args.script.now.commands.items c.loop-command.command-index (state c.loop-command.run) (omega (arith, ap length c.deref-command-items.ensures.value)) in
     let last = rw c.as_slice-2.ensures.value at c.in_ok-last.ensures in
     let here = rw (done, ← last) at c.loop-command.invariant.written in
     always_err c.from_residual-in_err-write_all-2.result (front_last _ (g.W.Sink.contents c.loop-command.sink) _ _ (string_bytes c.in_ok-last.last) here (rw c.as_bytes-2.ensures.value at c.in_err-write_all-2.ensures.err))
 
 pub returns-clause-done : goal.returns-clause-done
 returns-clause-done g c =
-    let done = reports_done (map server_view c.args.script.now.servers.items) c.args.script.now.commands.items c.loop-command.command-index (state c.loop-command.run) (omega (arith, ap length c.deref-command-items.ensures.value)) in
+    let done = reports_done (map server_view c.args.script.now.servers.items) c.args.script.now.account c.args.script.now.commands.items c.loop-command.command-index (state c.loop-command.run) (omega (arith, ap length c.deref-command-items.ensures.value)) in
     let last = rw c.as_slice-2.ensures.value at c.in_ok-last.ensures in
     let here = rw (done, ← last) at c.loop-command.invariant.written in
     written_last _ (g.W.Sink.contents c.loop-command.sink) _ _ (string_bytes c.in_ok-last.last) here (rw c.as_bytes-2.ensures.value at c.in_ok-write_all-2.ensures.ok)

@@ -1,7 +1,7 @@
 use Rattle.std.proofs.Common.{drop, map}
 use Rattle.tp_report.specs.Written.{IsWrittenUpTo}
 use Rattle.tp_script.specs.Script.{script_view, server_view}
-use Rattle.tp_reference.specs.PlainReport.{plain_report, reports}
+use Rattle.tp_reference.specs.PlainReport.{report_of, reports}
 use Rattle.tp_reference.specs.PlainRunning.{state, IsReady}
 use Rattle.tp_reference.proofs.plain_report.write_plain_report.Given as goal
 
@@ -10,7 +10,7 @@ abbrev pub invariant-loop-command : goal.invariant-loop-command
 invariant-loop-command g l =
     record {
       written :
-          IsWrittenUpTo (g.W.Sink.contents l.fn.sink) (g.W.Sink.contents l.sink) (plain_report (script_view l.script))
-          (reports (map server_view l.script.servers.items) (drop l.command-index l.script.commands.items) (state l.run));
-      ready : IsReady (map server_view l.script.servers.items) l.run.plain;
+          IsWrittenUpTo (g.W.Sink.contents l.fn.sink) (g.W.Sink.contents l.sink) (report_of (script_view l.script))
+          (reports (map server_view l.script.servers.items) l.script.account (drop l.command-index l.script.commands.items) (state l.run));
+      ready : IsReady (map server_view l.script.servers.items) l.run;
     }

@@ -5,4 +5,4 @@ use Rattle.tp_script.specs.Script.{script_view}
 use Rattle.tp_script.proofs.parse.parse.Given as goal
 
 abbrev pub invariant-loop-text : goal.invariant-loop-text
-invariant-loop-text l = (lines_from l.reach l.line (map (λ x. x.now) (drop l.text-index l.text-items)) (script_view l.script) ≡ lines_from l.reach 1 (lines l.bytes) no_lines) × (l.line ≡ l.text-index + 1)
+invariant-loop-text l = (lines_from l.line (map (λ x. x.now) (drop l.text-index l.text-items)) (script_view l.script) ≡ lines_from 1 (lines l.bytes) no_lines) × (l.line ≡ l.text-index + 1)

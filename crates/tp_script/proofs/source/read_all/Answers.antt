@@ -1,4 +1,4 @@
-use Rattle.std.proofs.Common.{◌≡◌, ◌-◌, ◌<◌, ◌≤◌, ◌++◌, length, take, arith, ap}
+use Rattle.std.proofs.Common.{◌≡◌, ◌+◌, ◌-◌, ◌<◌, ◌≤◌, ◌++◌, ◌∙◌, length, take, arith, ap}
 use Rattle.std.proofs.lemmas.List.{length-take, length-append, length-replicate}
 use Rattle.std.proofs.lemmas.Grind.{common_steps}
 use Rattle.std.specs.Io.KnownBytes.{Consumes}
@@ -23,4 +23,11 @@ returns-then-len-gt-MOST_BYTES-clause-bytes g c =
 pub loop-preserved : goal.loop-preserved
 loop-preserved g c =
     let grown : c.extend_from_slice.new.self.items ≡ c.loop.read.items ++ take c.in_ok-n.n c.read.new.buffer = grind (arith, common_steps, c.in_ok-extend_from_slice.ensures.items) in
-    record { bytes = rw grown (read_more _ _ _ _ _ c.loop.invariant.bytes c.in_ok-n.ensures.bytes.0); short = omega arith; once = omega arith }
+    let longer : length c.extend_from_slice.new.self.items ≡ length c.loop.read.items + c.in_ok-n.n =
+    ap length grown ∙ (length-append c.loop.read.items (take c.in_ok-n.n c.read.new.buffer) ∙ ap (λ z. length c.loop.read.items + z) (omega (arith, length-take c.in_ok-n.n c.read.new.buffer, c.in_ok-n.ensures.count))) in
+    record {
+      bytes = rw grown (read_more _ _ _ _ _ c.loop.invariant.bytes c.in_ok-n.ensures.bytes.0);
+      short = omega arith;
+      some = omega (arith, longer, c.loop.invariant.some, c.if-n-eq0.false, c.loop.read.ok.0, c.extend_from_slice.new.self.ok.0);
+      once = omega arith;
+    }

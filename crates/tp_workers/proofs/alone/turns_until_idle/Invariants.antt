@@ -4,7 +4,7 @@ use Rattle.tp_workers.proofs.alone.turns_until_idle.Given as goal
 
 abbrev pub invariant-loop-i : goal.invariant-loop-i
 invariant-loop-i g l = record {
-  so_far : SoFar (λ v. (goal.Server-dyn g v).behaviour v.1) (λ v. (goal.Server-dyn g v).registers v.1) (λ v. (goal.Server-dyn g v).pending v.1) l._i l.fn.desk l.counts l.desk;
+  so_far : SoFar (λ v. (goal.Server-dyn g v).behaviour v.1) (λ v. (goal.Server-dyn g v).registers v.1) (λ v. (goal.Server-dyn g v).pending v.1) l.plan.order l._i l.fn.desk l.counts l.desk;
   none_idle : l.counts.idle ≡ 0;
   none_left_out : l.counts.nounit ≡ 0;
 }

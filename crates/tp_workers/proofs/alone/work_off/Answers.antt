@@ -19,4 +19,4 @@ returns g c =
       left = search rules;
       ready = search rules;
     })
-    c.args.turns c.turns_until_idle-counts.result c.turns_until_idle-counts.ensures.turns
+    c.args.plan c.turns_until_idle-counts.result c.turns_until_idle-counts.ensures.turns

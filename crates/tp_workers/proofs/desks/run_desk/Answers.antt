@@ -19,4 +19,4 @@ returns-clause-ran g c =
       left = search rules;
       ready = search rules;
     })
-    c.args.turns c.take_turns-counts.result c.take_turns-counts.ensures.turns
+    c.args.plan c.take_turns-counts.result c.take_turns-counts.ensures.turns

@@ -4,21 +4,21 @@ use Rattle.tp_workers.proofs.desks.take_turn.Goals as goal
 
 pub returns : goal.returns
 returns g c = record {
-  took = desk_took (λ v. (goal.Server-dyn g v).behaviour v.1) (λ v. (goal.Server-dyn g v).registers v.1) (λ v. (goal.Server-dyn g v).pending v.1) c.args.manager.now (c.args.pass.now, c.args.server.now) c.new-desk.result c.turn-turned.new.self _
+  took = desk_took (λ v. (goal.Server-dyn g v).behaviour v.1) (λ v. (goal.Server-dyn g v).registers v.1) (λ v. (goal.Server-dyn g v).pending v.1) c.args.manager.now (c.args.pass.now, c.args.server.now) c.new-desk.result c.turn_by-turned.new.self _
       (record {
         manager = c.new-desk.ensures.manager;
         pass = c.new-desk.ensures.pass;
         server = c.new-desk.ensures.server;
         first_pass = c.new-desk.ensures.first_pass;
         first_server = c.new-desk.ensures.first_server;
-        same = c.turn-turned.ensures.same;
-        resting = record { steady = c.turn-turned.ensures.steady; free = c.turn-turned.ensures.free };
+        same = c.turn_by-turned.ensures.same;
+        resting = record { steady = c.turn_by-turned.ensures.steady; free = c.turn_by-turned.ensures.free };
         ends = search rules;
         behaviour_is = search rules;
         registers_are = search rules;
         left = search rules;
         ready = search rules;
       })
-      c.turn-turned.result _ (record { answer = c.turn-turned.ensures.answer; follows = c.turn-turned.ensures.follows; behaviour_is = c.turn-turned.ensures.behaviour })
-      c.turn-turned.ensures.limits c.of_turn.ensures;
+      c.args.order c.turn_by-turned.result _ (record { answer = c.turn_by-turned.ensures.answer; follows = c.turn_by-turned.ensures.follows; behaviour_is = c.turn_by-turned.ensures.behaviour })
+      c.turn_by-turned.ensures.limits c.of_turn.ensures;
 }

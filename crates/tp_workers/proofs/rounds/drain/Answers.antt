@@ -5,56 +5,56 @@ use Rattle.tp_workers.proofs.Shifts.{each_paired}
 use Rattle.tp_workers.proofs.rounds.drain.Goals as goal
 
 pub rounds-init : goal.rounds-init
-rounds-init g c = record { counts = none; ran = going_none _ _ _ c.args.manager.now _ _ c.requires.paired c.requires.free c.requires.clear; counted = refl }
+rounds-init g c = record { counts = none; ran = going_none _ _ _ c.args.manager.now c.args.order _ _ c.requires.paired c.requires.free c.requires.clear; counted = refl }
 
 pub round-counts-requires-clause-paired : goal.round-counts-requires-clause-paired
 round-counts-requires-clause-paired g c = each_paired _ _ _ _ _ _ c.requires.paired c.rounds.invariant.ran
 
 pub round-counts-requires-clause-free : goal.round-counts-requires-clause-free
-round-counts-requires-clause-free g c = going_free _ _ _ c.args.manager.now _ _ _ _ _ c.requires.paired c.rounds.invariant.ran
+round-counts-requires-clause-free g c = going_free _ _ _ c.args.manager.now c.args.order _ _ _ _ _ c.requires.paired c.rounds.invariant.ran
 
 pub round-counts-requires-clause-clear : goal.round-counts-requires-clause-clear
-round-counts-requires-clause-clear g c = going_clear _ _ _ c.args.manager.now _ _ _ _ _ c.requires.paired c.rounds.invariant.ran
+round-counts-requires-clause-clear g c = going_clear _ _ _ c.args.manager.now c.args.order _ _ _ _ _ c.requires.paired c.rounds.invariant.ran
 
 pub round-counts-requires-clause-fit : goal.round-counts-requires-clause-fit
 round-counts-requires-clause-fit g c = let same = c.rounds.invariant.ran.on_kept in omega arith
 
 pub overflow_add-done : goal.overflow_add-done
 overflow_add-done g c =
-    let few = going_few _ _ _ c.args.manager.now _ _ _ _ _ c.requires.paired (going_on _ _ _ c.args.manager.now _ _ _ _ _ _ _ _ c.rounds.invariant.ran c.round-counts.ensures.ran) in
+    let few = going_few _ _ _ c.args.manager.now c.args.order _ _ _ _ _ c.requires.paired (going_on _ _ _ c.args.manager.now c.args.order _ _ _ _ _ _ _ _ c.rounds.invariant.ran c.round-counts.ensures.ran) in
     omega (arith, few, c.rounds.invariant.counted)
 
 pub returns-then-not-has_claimed-clause-desks : goal.returns-then-not-has_claimed-clause-desks
 returns-then-not-has_claimed-clause-desks g c =
-    (plus c.rounds.invariant.counts c.round-counts.result, omega (arith, c.rounds.invariant.counted), all_end _ _ _ c.args.manager.now _ _ _ _ _ _ _ _ c.rounds.invariant.ran c.round-counts.ensures.ran c.if-not-has_claimed.ensures.unclaimed)
+    (plus c.rounds.invariant.counts c.round-counts.result, omega (arith, c.rounds.invariant.counted), all_end _ _ _ c.args.manager.now c.args.order _ _ _ _ _ _ _ _ c.rounds.invariant.ran c.round-counts.ensures.ran c.if-not-has_claimed.ensures.unclaimed)
 
 pub returns-then-not-has_claimed-clause-last_turns : goal.returns-then-not-has_claimed-clause-last_turns
 returns-then-not-has_claimed-clause-last_turns g c =
-    (c.round-counts.result, omega arith, all_last _ _ _ c.args.manager.now _ _ _ _ _ _ _ _ c.rounds.invariant.ran c.round-counts.ensures.ran c.if-not-has_claimed.ensures.unclaimed)
+    (c.round-counts.result, omega arith, all_last _ _ _ c.args.manager.now c.args.order _ _ _ _ _ _ _ _ c.rounds.invariant.ran c.round-counts.ensures.ran c.if-not-has_claimed.ensures.unclaimed)
 
 pub returns-then-not-has_claimed-clause-done : goal.returns-then-not-has_claimed-clause-done
 returns-then-not-has_claimed-clause-done g c =
-    let sum = drained_sum _ _ _ c.args.manager.now _ _ _ _ _ c.requires.paired (all_end _ _ _ c.args.manager.now _ _ _ _ _ _ _ _ c.rounds.invariant.ran c.round-counts.ensures.ran c.if-not-has_claimed.ensures.unclaimed) in
+    let sum = drained_sum _ _ _ c.args.manager.now c.args.order _ _ _ _ _ c.requires.paired (all_end _ _ _ c.args.manager.now c.args.order _ _ _ _ _ _ _ _ c.rounds.invariant.ran c.round-counts.ensures.ran c.if-not-has_claimed.ensures.unclaimed) in
     omega (arith, sum, c.rounds.invariant.counted)
 
 pub returns-then-not-has_claimed-clause-free : goal.returns-then-not-has_claimed-clause-free
-returns-then-not-has_claimed-clause-free g c = drained_free _ _ _ c.args.manager.now _ _ _ _ _ c.requires.paired (returns-then-not-has_claimed-clause-desks g c).2
+returns-then-not-has_claimed-clause-free g c = drained_free _ _ _ c.args.manager.now c.args.order _ _ _ _ _ c.requires.paired (returns-then-not-has_claimed-clause-desks g c).2
 
 pub returns-then-not-has_claimed-clause-clear : goal.returns-then-not-has_claimed-clause-clear
-returns-then-not-has_claimed-clause-clear g c = drained_clear _ _ _ c.args.manager.now _ _ _ _ _ c.requires.paired (returns-then-not-has_claimed-clause-desks g c).2
+returns-then-not-has_claimed-clause-clear g c = drained_clear _ _ _ c.args.manager.now c.args.order _ _ _ _ _ c.requires.paired (returns-then-not-has_claimed-clause-desks g c).2
 
 pub returns-then-not-has_claimed-clause-numbered : goal.returns-then-not-has_claimed-clause-numbered
-returns-then-not-has_claimed-clause-numbered g c = drained_numbers _ _ _ c.args.manager.now _ _ _ _ _ c.requires.paired (returns-then-not-has_claimed-clause-desks g c).2
+returns-then-not-has_claimed-clause-numbered g c = drained_numbers _ _ _ c.args.manager.now c.args.order _ _ _ _ _ c.requires.paired (returns-then-not-has_claimed-clause-desks g c).2
 
 pub returns-then-not-has_claimed-clause-kept : goal.returns-then-not-has_claimed-clause-kept
 returns-then-not-has_claimed-clause-kept g c = let all = (returns-then-not-has_claimed-clause-desks g c).2 in (all.on_kept, all.by_kept)
 
 pub rounds-smaller : goal.rounds-smaller
-rounds-smaller g c = round_smaller _ _ _ c.args.manager.now _ _ _ _ _ (each_paired _ _ _ _ _ _ c.requires.paired c.rounds.invariant.ran) c.round-counts.ensures.ran c.if-not-has_claimed.ensures.claimed
+rounds-smaller g c = round_smaller _ _ _ c.args.manager.now c.args.order _ _ _ _ _ (each_paired _ _ _ _ _ _ c.requires.paired c.rounds.invariant.ran) c.round-counts.ensures.ran c.if-not-has_claimed.ensures.claimed
 
 pub rounds-preserved : goal.rounds-preserved
 rounds-preserved g c = record {
   counts = plus c.rounds.invariant.counts c.round-counts.result;
-  ran = going_on _ _ _ c.args.manager.now _ _ _ _ _ _ _ _ c.rounds.invariant.ran c.round-counts.ensures.ran;
+  ran = going_on _ _ _ c.args.manager.now c.args.order _ _ _ _ _ _ _ _ c.rounds.invariant.ran c.round-counts.ensures.ran;
   counted = omega (arith, c.rounds.invariant.counted);
 }

@@ -8,9 +8,9 @@ use Rattle.tp_workers.proofs.rounds.drain.Given as goal
 abbrev pub invariant-rounds : goal.invariant-rounds
 invariant-rounds g l = record {
   counts : Shift;
-  ran : RanEach (Going (shown (λ v. (goal.Server-dyn g v).behaviour v.1)) (shown (λ v. (goal.Server-dyn g v).registers v.1)) (shown (λ v. (goal.Server-dyn g v).pending v.1)) l.manager) l.fn.passes l.fn.servers counts l.passes l.servers;
+  ran : RanEach (Going (shown (λ v. (goal.Server-dyn g v).behaviour v.1)) (shown (λ v. (goal.Server-dyn g v).registers v.1)) (shown (λ v. (goal.Server-dyn g v).pending v.1)) l.manager l.order) l.fn.passes l.fn.servers counts l.passes l.servers;
   counted : l.done ≡ counts.done;
 }
 
 abbrev pub decreases-rounds : goal.decreases-rounds
-decreases-rounds g l = sum_by (left_of (shown (λ v. (goal.Server-dyn g v).behaviour v.1)) (shown (λ v. (goal.Server-dyn g v).registers v.1)) (shown (λ v. (goal.Server-dyn g v).pending v.1)) l.manager) l.passes
+decreases-rounds g l = sum_by (left_of (shown (λ v. (goal.Server-dyn g v).behaviour v.1)) (shown (λ v. (goal.Server-dyn g v).registers v.1)) (shown (λ v. (goal.Server-dyn g v).pending v.1)) l.manager l.order) l.passes

@@ -13,4 +13,4 @@ in_turn-requires g c = record {
 }
 
 pub returns : goal.returns
-returns g c = record { ran = each_as (ran_as _ _ (TookTurn _ _ _ c.args.manager.now) (λ p p' q q' n s post. post)) _ _ _ _ _ c.in_turn.ensures.ran }
+returns g c = record { ran = each_as (ran_as _ _ (TookTurn _ _ _ c.args.manager.now c.args.order) (λ p p' q q' n s post. post)) _ _ _ _ _ c.in_turn.ensures.ran }

@@ -11,7 +11,7 @@ use Rattle.tp_workers.proofs.work.shift.Goals as goal
 
 pub fork_three-requires-clause-xs_may : goal.fork_three-requires-clause-xs_may
 fork_three-requires-clause-xs_may g c κs within =
-    may_run _ _ (IsDeskOf _ _ _ c.args.manager.now) (λ d. c.args.turns) (λ p q n ready. (ready, search rules)) (λ p p' q q' n s post. post.1) _ _ c.requires.servers_paired (desks_ready c.args.manager.now _ _ _ _ _ c.requires.servers_paired c.requires.desks_free c.requires.servers_clear) (let e = const_fits c.args.turns _ _ c.requires.servers_paired in omega (arith, e, c.requires.turns_fit))
+    may_run _ _ (IsDeskOf _ _ _ c.args.manager.now) (λ d. c.args.plan.turns) (λ p q n ready. (ready, search rules)) (λ p p' q q' n s post. post.1) _ _ c.requires.servers_paired (desks_ready c.args.manager.now _ _ _ _ _ c.requires.servers_paired c.requires.desks_free c.requires.servers_clear) (let e = const_fits c.args.plan.turns _ _ c.requires.servers_paired in omega (arith, e, c.requires.turns_fit))
 
 pub fork_three-requires-clause-ys_may : goal.fork_three-requires-clause-ys_may
 fork_three-requires-clause-ys_may g c κs within =
@@ -23,12 +23,12 @@ fork_three-requires-clause-zs_may g c κs within =
 
 pub returns-clause-desks : goal.returns-clause-desks
 returns-clause-desks g c =
-    each_counted _ _ _ _ _ _ _ c.of_kinds.ensures.desks (desks_part _ _ _ c.args.manager.now c.args.turns _ _ _ _ _ (each_as (ran_as _ _ (DeskRan _ _ _ c.args.manager.now c.args.turns) (λ p p' q q' n s post. post.0)) _ _ _ _ _ c.fork_three.ensures.xs_ran))
+    each_counted _ _ _ _ _ _ _ c.of_kinds.ensures.desks (desks_part _ _ _ c.args.manager.now c.args.plan _ _ _ _ _ (each_as (ran_as _ _ (DeskRan _ _ _ c.args.manager.now c.args.plan) (λ p p' q q' n s post. post.0)) _ _ _ _ _ c.fork_three.ensures.xs_ran))
 
 pub returns-clause-each_desk : goal.returns-clause-each_desk
 returns-clause-each_desk g c =
-    let known = ran_as _ _ (DeskRan _ _ _ c.args.manager.now c.args.turns) (λ p p' q q' n s post. post.0) in
-    desks_told _ _ _ c.args.manager.now c.args.turns _ _ _ _ _ _ _ _ c.of_kinds.ensures.desks
+    let known = ran_as _ _ (DeskRan _ _ _ c.args.manager.now c.args.plan) (λ p p' q q' n s post. post.0) in
+    desks_told _ _ _ c.args.manager.now c.args.plan _ _ _ _ _ _ _ _ c.of_kinds.ensures.desks
     (each_as known _ _ _ _ _ c.fork_three.ensures.xs_ran)
     (told_weaker _ _ known _ _ _ _ _ _ _ c.fork_three.ensures.xs_told)
 
@@ -86,7 +86,7 @@ pub returns-clause-killed : goal.returns-clause-killed
 returns-clause-killed g c = each_gains _ _ _ _ _ _ (λ s. s.killed) kills_in refl (λ a b. refl) (λ x t y r. r.killed) c.requires.killers_paired (returns-clause-killers g c)
 
 pub returns-clause-all_turns : goal.returns-clause-all_turns
-returns-clause-all_turns g c = turns_all _ _ _ c.args.manager.now c.args.turns _ _ _ _ _ c.requires.servers_paired (returns-clause-desks g c)
+returns-clause-all_turns g c = turns_all _ _ _ c.args.manager.now c.args.plan _ _ _ _ _ c.requires.servers_paired (returns-clause-desks g c)
 
 pub returns-clause-all_calls : goal.returns-clause-all_calls
 returns-clause-all_calls g c = calls_sum c.args.manager.now _ _ _ _ _ c.requires.clients_paired (returns-clause-clients g c)

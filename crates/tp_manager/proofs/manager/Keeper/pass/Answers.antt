@@ -5,8 +5,8 @@ use Rattle.tp_rule.specs.declared.view.Hand.{Hand}
 use Rattle.tp_manager.proofs.Fresh.{keeps_on, none_in, no_lows, fresh_hand, fresh_seen, fresh_rests, fresh_shows, fresh_limits}
 use Rattle.tp_manager.proofs.manager.Keeper.pass.Goals as goal
 
-pub invariant_of-result : goal.invariant_of-result
-invariant_of-result c = (
+pub invariant_of-result-2 : goal.invariant_of-result-2
+invariant_of-result-2 c = (
   fresh_rests c.self.inside.seat c.self.inside.limits c.self.inside.given c.self.invariant c.if-self.false c.hand_out-seat.result c.hand_out-seat.ensures.hands_out,
   λ k p some. absurd (let none = no_lows 16 33 k p in omega arith),
 )

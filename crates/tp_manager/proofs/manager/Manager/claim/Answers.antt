@@ -3,7 +3,9 @@ use Rattle.tp_model.specs.declared.types.Limits.{Limits}
 use Rattle.tp_model.specs.declared.types.Claimed.TheVariants as claimeds
 use Rattle.tp_rule.specs.Tables.{limits_of}
 use Rattle.tp_rule.specs.Views.{view_of}
-use Rattle.tp_manager.specs.Shown.{ManagerShown, PassShown, marks_of, shown, spot}
+use Rattle.tp_manager.specs.Shown.{ManagerShown, PassShown, Spot, marks_of, shown, spot}
+use Rattle.tp_manager.specs.Raises.{RaisesMarks}
+use Rattle.tp_manager.proofs.Rests.{rests_before, rests_shown, spare_before, spare_shown}
 use Rattle.tp_manager.specs.Bounds.{claim_steps, claim_steps_left, marked_steps, part_steps, spare_left, try_steps}
 use Rattle.tp_manager.specs.Calls.{Claims, Takes}
 use Rattle.tp_manager.specs.Walks.{RemembersAll, Steady}
@@ -42,7 +44,7 @@ most l k lows same = subst (λ (z : Limits). 1 + marked_steps l try_steps lows �
 few : (c : After-choose_unit) → 1 + marked_steps (limits_of c.self.inside.shared.words) try_steps (marks_of c.pass.inside.lows c.args.stage) ≤ claim_steps_left c.args.self.now.limits (marks_of c.args.pass.now.lows c.args.stage)
 few c = let l : Limits = limits_of c.self.inside.shared.words in
     claim_shown l c.args.self.now.limits (marks_of c.pass.inside.lows c.args.stage) (marks_of c.args.pass.now.lows c.args.stage) _ (limits c) (ap (λ (p : PassShown). marks_of p.lows c.args.stage) c.pass.view_is)
-    (claim_few l (marks_of c.pass.inside.lows c.args.stage) c.args.stage (view_of c.pass.inside.seat) (steady c).known (c.pass.invariant.1 c.args.stage))
+    (claim_few l (marks_of c.pass.inside.lows c.args.stage) c.args.stage (view_of c.pass.inside.seat) (lim c) (steady c).known (c.pass.invariant.1 c.args.stage))
 
 pub scan-requires-clause-remembers : goal.scan-requires-clause-remembers
 scan-requires-clause-remembers c = known (goal.at.scan-requires-clause-remembers c).After-choose_unit c.args.stage
@@ -104,4 +106,30 @@ returns-clause-answer c = let at = (goal.at.returns-clause-answer c).After-choos
           c.pass.invariant.0 (not at) (ap (λ (z : Limits). c.pass.inside.number * z.units + c.pass.inside.used) (sym c.self.inside.shared.same));
       first = took_first l u _ (view_of c.choose_unit.new.seat) (steady at) c.choose_unit.ensures.chooses _ 0 c.args.stage c.in-Some.taken.attempt _ c.in-Some.taken.element told.0 (λ i. i < c.in-Some.taken.element.id) (λ i inside less. told.0.passed i (omega arith) less)
           (spot c.pass.inside.seat.table c.pass.inside.lows c.pass.inside.run.drawn c.pass.inside.from) (spot c.scan.new.seat.table (set c.pass.inside.lows c.args.stage c.scan.new.lows) c.scan.new.drawn c.pass.inside.from) c.args.pass.now c.pass.view_is;
+    }
+
+pub returns-in_default-clause-raises : goal.returns-in_default-clause-raises
+returns-in_default-clause-raises c = let at = (goal.at.returns-in_default-clause-raises c).After-choose_unit in let l : Limits = limits_of c.self.inside.shared.words in let told = c.in_default.ensures.told in
+    let v = view_of c.pass.inside.seat in let w = view_of c.choose_unit.new.seat in let y = view_of c.scan.new.seat in let a = chose_walked l _ v w (steady at) c.choose_unit.ensures.chooses in
+    let t : Spot = spot c.pass.inside.seat.table c.pass.inside.lows c.pass.inside.run.drawn c.pass.inside.from in
+    subst (λ (z : Limits). RaisesMarks z c.args.stage c.args.pass.now (shown (spot c.scan.new.seat.table (set c.pass.inside.lows c.args.stage c.scan.new.lows) c.scan.new.drawn c.pass.inside.from) y) claimeds.Idle) (limits at)
+    record {
+      parts = λ p inside came. rests_shown l c.args.stage c.pass.inside.lows c.scan.new.lows (kinds at) c.scan.new.seat.table c.scan.new.drawn c.pass.inside.from t v y c.args.pass.now c.pass.view_is p
+          (rests_before l 1 _ _ told.marks v w y a told.walk c.args.stage p _ (c.in_default.ensures.rests p inside tt));
+      blocks = λ came. spare_shown l c.args.stage c.pass.inside.lows c.scan.new.lows (kinds at) c.scan.new.seat.table c.scan.new.drawn c.pass.inside.from t v y c.args.pass.now c.pass.view_is
+          (spare_before l 1 _ _ told.marks v w y a told.walk c.args.stage _ _ (c.in_default.ensures.spare tt));
+    }
+
+pub returns-clause-raises : goal.returns-clause-raises
+returns-clause-raises c = let at = (goal.at.returns-clause-raises c).After-choose_unit in let l : Limits = limits_of c.self.inside.shared.words in let told = c.in-Some.ensures.told.0 in
+    let u : ℕ = c.pass.inside.number * c.self.inside.shared.places.limits.units + c.pass.inside.used in
+    let v = view_of c.pass.inside.seat in let w = view_of c.choose_unit.new.seat in let y = view_of c.scan.new.seat in let a = chose_walked l _ v w (steady at) c.choose_unit.ensures.chooses in
+    let t : Spot = spot c.pass.inside.seat.table c.pass.inside.lows c.pass.inside.run.drawn c.pass.inside.from in
+    subst (λ (z : Limits). RaisesMarks z c.args.stage c.args.pass.now (shown (spot c.scan.new.seat.table (set c.pass.inside.lows c.args.stage c.scan.new.lows) c.scan.new.drawn c.pass.inside.from) y)
+    (claimeds.Work (record { unit = u; element = c.in-Some.taken.element; attempt = c.in-Some.taken.attempt }))) (limits at)
+    record {
+      parts = λ p inside came. rests_shown l c.args.stage c.pass.inside.lows c.scan.new.lows (kinds at) c.scan.new.seat.table c.scan.new.drawn c.pass.inside.from t v y c.args.pass.now c.pass.view_is p
+          (rests_before l 1 _ _ told.marks v w y a told.walk c.args.stage p _ (c.in-Some.ensures.rests p inside came));
+      blocks = λ came. spare_shown l c.args.stage c.pass.inside.lows c.scan.new.lows (kinds at) c.scan.new.seat.table c.scan.new.drawn c.pass.inside.from t v y c.args.pass.now c.pass.view_is
+          (spare_before l 1 _ _ told.marks v w y a told.walk c.args.stage _ _ (c.in-Some.ensures.spare came));
     }

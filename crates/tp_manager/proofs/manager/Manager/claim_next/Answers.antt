@@ -3,15 +3,17 @@ use Rattle.tp_model.specs.declared.types.Limits.{Limits}
 use Rattle.tp_model.specs.declared.types.Claimed.TheVariants as claimeds
 use Rattle.tp_rule.specs.Tables.{limits_of}
 use Rattle.tp_rule.specs.Views.{seen_by, view_of}
-use Rattle.tp_manager.specs.Shown.{ManagerShown, PassShown, shown, spot, turn_of}
-use Rattle.tp_manager.specs.Bounds.{drawn_steps, claim_next_steps, try_steps}
+use Rattle.tp_manager.specs.Shown.{ManagerShown, PassShown, marks_of, shown, spot, turn_of}
+use Rattle.tp_model.specs.declared.types.TheConstants.{BLOCK_ROWS}
+use Rattle.tp_manager.proofs.Makes.{made, made_then, walked_made}
+use Rattle.tp_manager.specs.Bounds.{drawn_steps, claim_next_steps, claim_next_steps_left, scan_steps, try_steps}
 use Rattle.tp_model.specs.Steps.{rows_of}
 use Rattle.tp_model.proofs.Later.{births_inside}
 use Rattle.tp_manager.proofs.Cancels.{few_rows}
 use Rattle.tp_manager.specs.Calls.{Claims, IsBefore, TakesNext}
 use Rattle.tp_manager.specs.Walks.{RemembersAll, Steady}
 use Rattle.tp_manager.proofs.Walks.{follows, remembers}
-use Rattle.tp_manager.proofs.Lows.{remembers_in, rises_in}
+use Rattle.tp_manager.proofs.Lows.{next_few, next_shown, remembers_in, rises_in}
 use Rattle.tp_manager.proofs.Passes.{done_walked, drawn_walked, rests_drawn, steady_at}
 use Rattle.tp_manager.proofs.Claims.{chose_steady, chose_walked, chose_rests, idle_walked, idle_answer, took_walked, took_answer, took_first, took_rests}
 use Rattle.tp_manager.proofs.manager.Manager.claim_next.Goals as goal
@@ -102,3 +104,24 @@ returns-clause-answer c = let at = (goal.at.returns-clause-answer c).After-choos
 pub go_on_behind-requires-clause-few : goal.go_on_behind-requires-clause-few
 go_on_behind-requires-clause-few c = let l : Limits = limits_of c.self.inside.shared.words in let told = c.in-Some.ensures.told in let few = few_rows l c.self.inside.shared.words.places.valid in
     let inside = births_inside l (seen_by c.scan_turn.new.seat) told.0.took.walk.steady.shows.legal c.in-Some.taken.element told.0.took.born in omega arith
+
+-- the steps by the marks are those of the scan, and the choice
+abbrev scans : (c : After-choose_unit) → ℕ
+scans c = let l : Limits = limits_of c.self.inside.shared.words in 2 * scan_steps l try_steps 3 (marks_of c.pass.inside.lows c.args.stage) l.parts + (2 * drawn_steps l.spare + BLOCK_ROWS * l.spare * try_steps)
+
+left : (c : After-choose_unit) → 1 + scans c ≤ claim_next_steps_left c.args.self.now.limits (marks_of c.args.pass.now.lows c.args.stage)
+left c = let l : Limits = limits_of c.self.inside.shared.words in let lows = marks_of c.pass.inside.lows c.args.stage in
+    next_shown l c.args.self.now.limits lows (marks_of c.args.pass.now.lows c.args.stage) (1 + scans c) (limits c) (ap (λ (p : PassShown). marks_of p.lows c.args.stage) c.pass.view_is)
+    (next_few l lows c.args.stage (view_of c.pass.inside.seat) (lim c) (steady c).known (c.pass.invariant.1 c.args.stage))
+
+pub returns-in_default-clause-few : goal.returns-in_default-clause-few
+returns-in_default-clause-few c = let at = (goal.at.returns-in_default-clause-few c).After-choose_unit in let l : Limits = limits_of c.self.inside.shared.words in let told = c.in_default.ensures.told in
+    let v = view_of c.pass.inside.seat in let w = view_of c.choose_unit.new.seat in let y = view_of c.scan_turn.new.seat in let a = chose_walked l _ v w (steady at) c.choose_unit.ensures.chooses in
+    follows (spot c.pass.inside.seat.table c.pass.inside.lows c.pass.inside.run.drawn c.pass.inside.from) (spot c.scan_turn.new.seat.table (set c.pass.inside.lows c.args.stage c.scan_turn.new.lows) c.scan_turn.new.drawn c.pass.inside.from) (rises_in c.pass.inside.lows c.scan_turn.new.lows c.args.stage (kinds at) c.scan_turn.ensures.lows, c.scan_turn.ensures.risen) v y c.args.pass.now c.pass.view_is l _ _
+    (walked_made l _ _ v y (idle_walked l _ v w (steady at) c.choose_unit.ensures.chooses _ c.args.stage y told) (1 + scans at) (made_then 1 (scans at) v w y (made l 1 _ v w a) c.scan_turn.ensures.few)) _ (left at)
+
+pub returns-clause-few : goal.returns-clause-few
+returns-clause-few c = let at = (goal.at.returns-clause-few c).After-choose_unit in let l : Limits = limits_of c.self.inside.shared.words in let told = c.in-Some.ensures.told in
+    let v = view_of c.pass.inside.seat in let w = view_of c.choose_unit.new.seat in let y = view_of c.scan_turn.new.seat in let a = chose_walked l _ v w (steady at) c.choose_unit.ensures.chooses in
+    follows (spot c.pass.inside.seat.table c.pass.inside.lows c.pass.inside.run.drawn c.pass.inside.from) (spot c.scan_turn.new.seat.table (set c.pass.inside.lows c.args.stage c.scan_turn.new.lows) c.scan_turn.new.drawn c.go_on_behind.new.turns) (rises_in c.pass.inside.lows c.scan_turn.new.lows c.args.stage (kinds at) c.scan_turn.ensures.lows, c.scan_turn.ensures.risen) v y c.args.pass.now c.pass.view_is l _ _
+    (walked_made l _ _ v y (took_walked l _ v w (steady at) c.choose_unit.ensures.chooses _ c.in-Some.taken.element.id c.args.stage _ y _ told.0.took) (1 + scans at) (made_then 1 (scans at) v w y (made l 1 _ v w a) c.scan_turn.ensures.few)) _ (left at)

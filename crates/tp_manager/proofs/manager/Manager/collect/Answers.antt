@@ -134,4 +134,4 @@ returns-in-Err-clause-open_unit c = let at = goal.at.returns-in-Err-clause-open_
 pub returns-in-Err-clause-answer : goal.returns-in-Err-clause-answer
 returns-in-Err-clause-answer c = let at = goal.at.returns-in-Err-clause-answer c in let l : Limits = limits_of c.self.inside.shared.words in let n = none at.After-birth_from in let told = c.in-Err.ensures.told in let there = c.in-Some.ensures.told.0 in
     subst (λ (z : Limits). CollectFails z c.args.id c.args.pass.now (shown (spot c.collect_row.new.seat.table c.pass.inside.lows c.pass.inside.run.drawn c.pass.inside.from) (view_of c.collect_row.new.seat)) c.in-Err.refusal) (limits at.After-rows)
-    (collect_shown (spot c.pass.inside.seat.table c.pass.inside.lows c.pass.inside.run.drawn c.pass.inside.from) (spot c.collect_row.new.seat.table c.pass.inside.lows c.pass.inside.run.drawn c.pass.inside.from) (view_of c.pass.inside.seat) (view_of c.birth_from.new.seat) (view_of c.collect_row.new.seat) c.args.pass.now c.pass.view_is l birth_steps take_steps n told.0 c.args.id c.in-Err.refusal (there.0, there.1) told.1)
+    (collect_shown (spot c.pass.inside.seat.table c.pass.inside.lows c.pass.inside.run.drawn c.pass.inside.from) (spot c.collect_row.new.seat.table c.pass.inside.lows c.pass.inside.run.drawn c.pass.inside.from) (view_of c.pass.inside.seat) (view_of c.birth_from.new.seat) (view_of c.collect_row.new.seat) c.args.pass.now c.pass.view_is l birth_steps take_steps n told.0 c.args.id c.in-Err.refusal (there.0, there.1, head_stage there.0 _ _ _ there.2 ∙ c.if-birth-ne15.false) told.1)

@@ -1,4 +1,4 @@
-use Rattle.std.proofs.Common.{◌≡◌, ◌+◌, ◌-◌, ◌<◌, ◌≤◌, sym, refl, ap, ◌∙◌, subst, inr, arith}
+use Rattle.std.proofs.Common.{Bool, true, false, ℕ, List, rules, ◌≡◌, ◌+◌, ◌-◌, ◌<◌, ◌≤◌, sym, refl, ap, ◌∙◌, subst, inr, arith}
 use Rattle.tp_model.specs.declared.types.Limits.{Limits}
 use Rattle.tp_rule.specs.Tables.{limits_of}
 use Rattle.tp_rule.specs.Views.{view_of}
@@ -6,7 +6,9 @@ use Rattle.tp_manager.specs.Bounds.{draw_steps, room_steps}
 use Rattle.tp_manager.specs.Shown.{ManagerShown, PassShown, spot}
 use Rattle.tp_manager.specs.declared.manager.Run.{Run}
 use Rattle.tp_manager.proofs.Rooms.{drew_shown, tried_same, tried_shown}
-use Rattle.tp_manager.proofs.Walks.{follows, rises_same}
+use Rattle.tp_manager.specs.Walks.{Walked}
+use Rattle.tp_model.specs.declared.trace.TraceEntry.{TraceEntry}
+use Rattle.tp_manager.proofs.Walks.{follows, remembers, rises_same}
 use Rattle.tp_manager.proofs.manager.Manager.has_room.Goals as goal
 use Rattle.tp_manager.proofs.manager.Manager.has_room.Goals.{After-draw_on}
 
@@ -26,7 +28,7 @@ returns-clause-yes c = λ q. let at = (goal.at.returns-clause-yes c).After-draw_
       few at,
       d.0,
       drew_shown t t' c.args.pass.now l (draw_steps l + c.pass.inside.run.left) d.0 v w c.pass.view_is c.draw_on.ensures.same refl refl (lim at) d.1,
-      let is = d.4 in omega arith,
+      (let is = d.4 in let up = c.draw_on.ensures.fresh q in let seen = ap (λ (p : PassShown). p.seen_blocks) c.pass.view_is in (omega arith, omega arith)),
       follows t t' (rises_same c.pass.inside.lows, c.draw_on.ensures.risen) v w c.args.pass.now c.pass.view_is l (draw_steps l + c.pass.inside.run.left) d.1.marks d.1.walk (room_steps c.args.self.now.limits c.args.rows)
           (let e = ap (λ (z : Limits). z.spare) (limits at) in let less = c.if-rows-pass.false in omega arith),
     )
@@ -43,3 +45,12 @@ returns-clause-no c = λ q. let at = (goal.at.returns-clause-no c).After-draw_on
       },
       follows t t' (rises_same c.pass.inside.lows, c.draw_on.ensures.risen) v w c.args.pass.now c.pass.view_is l n d.0.marks d.0.walk (draw_steps c.args.self.now.limits) (let e = ap (λ (z : Limits). z.spare) (limits at) in omega arith),
     )
+
+-- the steps, whether a block was drawn or not
+walked : (c : After-draw_on) (t : Bool) → c.draw_on.result ≡ t → (n : ℕ) × (ms : List TraceEntry) × Walked (limits_of c.self.inside.shared.words) n ms (view_of c.pass.inside.seat) (view_of c.draw_on.new.seat)
+walked c true drew = let d = (c.draw_on.ensures.yes drew).1 in (_, d.marks, d.walk)
+walked c false none = let d = (c.draw_on.ensures.no none).0 in (_, d.marks, d.walk)
+
+pub invariant_of-pass : goal.invariant_of-pass
+invariant_of-pass c = let a = walked (goal.at.invariant_of-pass c).After-draw_on c.draw_on.result refl in
+    (search rules, remembers c.pass.inside.lows _ a.0 a.1 (view_of c.pass.inside.seat) (view_of c.draw_on.new.seat) a.2 c.pass.invariant.1)

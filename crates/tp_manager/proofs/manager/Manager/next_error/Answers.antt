@@ -5,7 +5,6 @@ use Rattle.tp_rule.specs.Tables.{limits_of}
 use Rattle.tp_rule.specs.Views.{view_of}
 use Rattle.tp_manager.specs.Shown.{ManagerShown, PassShown, marks_of, shown, spot}
 use Rattle.tp_manager.specs.Lists.{NoneParked, NextError}
-use Rattle.tp_manager.specs.declared.listing.Wanted.TheVariants as wanteds
 use Rattle.tp_manager.specs.Bounds.{next_error_steps, listing_steps_left, look_steps, marked_steps}
 use Rattle.tp_manager.specs.Calls.{Follows}
 use Rattle.tp_manager.specs.Walks.{Acted, IsKnown}
@@ -23,7 +22,7 @@ limits : (c : After-rows) → limits_of c.self.inside.shared.words ≡ c.args.se
 limits c = c.self.inside.shared.same ∙ ap (λ (m : ManagerShown). m.limits) c.self.view_is
 
 whole : (c : After-find) → Acted (limits_of c.self.inside.shared.words) (marked_steps (limits_of c.self.inside.shared.words) (look_steps (limits_of c.self.inside.shared.words)) (marks_of c.pass.inside.lows 0)) (view_of c.pass.inside.seat) (view_of c.find.new.seat)
-whole c = finds_acted _ wanteds.Error _ c.args.from _ _ _ c.find.result c.find.ensures.told
+whole c = finds_acted _ _ c.args.from _ _ _ c.find.result c.find.ensures.told
 
 pub returns-then-from-rows-clause-answer : goal.returns-then-from-rows-clause-answer
 returns-then-from-rows-clause-answer c = let at = (goal.at.returns-then-from-rows-clause-answer c).After-rows in let v = view_of c.pass.inside.seat in let t = (spot c.pass.inside.seat.table c.pass.inside.lows c.pass.inside.run.drawn c.pass.inside.from) in
@@ -52,7 +51,7 @@ returns-clause-follows c = let at = goal.at.returns-clause-follows c in let l = 
 pub returns-clause-few : goal.returns-clause-few
 returns-clause-few c = let at = goal.at.returns-clause-few c in let l = limits_of c.self.inside.shared.words in
     within at.After-find (listing_steps_left c.args.self.now.limits (marks_of c.args.pass.now.lows 0)) (listing_shown l c.args.self.now.limits (marks_of c.pass.inside.lows 0) (marks_of c.args.pass.now.lows 0) _ (limits at.After-rows) (ap (λ (p : PassShown). marks_of p.lows 0) c.pass.view_is)
-    (listing_few l (marks_of c.pass.inside.lows 0) 0 (view_of c.pass.inside.seat) (subst (λ (z : Limits). IsKnown z (view_of c.pass.inside.seat)) (lim at.After-rows) c.pass.invariant.0.steady.known) (c.pass.invariant.1 0)))
+    (listing_few l (marks_of c.pass.inside.lows 0) 0 (view_of c.pass.inside.seat) (lim at.After-rows) (subst (λ (z : Limits). IsKnown z (view_of c.pass.inside.seat)) (lim at.After-rows) c.pass.invariant.0.steady.known) (c.pass.invariant.1 0)))
 
 pub returns-then-from-rows-clause-few : goal.returns-then-from-rows-clause-few
 returns-then-from-rows-clause-few c = let at = (goal.at.returns-then-from-rows-clause-few c).After-rows in let v = view_of c.pass.inside.seat in let t = spot c.pass.inside.seat.table c.pass.inside.lows c.pass.inside.run.drawn c.pass.inside.from in

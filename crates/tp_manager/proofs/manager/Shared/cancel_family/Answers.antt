@@ -1,67 +1,94 @@
-use Rattle.std.proofs.Common.{◌≡◌, ◌+◌, ◌*◌, ◌≤◌, ◌&&◌, ℕ, List, sym, ◌∙◌, ap, arith, rules}
+use Rattle.std.proofs.Common.{◌≡◌, ◌+◌, ◌*◌, ◌<◌, ◌≤◌, ℕ, List, refl, sym, ◌∙◌, subst, arith, rules}
 use Rattle.tp_model.specs.declared.types.Limits.{Limits}
+use Rattle.tp_model.specs.Families.{IsOfFamily}
 use Rattle.tp_model.specs.Steps.{most_rows, rows_of}
 use Rattle.tp_rule.specs.Tables.{limits_of}
 use Rattle.tp_rule.specs.Views.{seen_by, view_of}
-use Rattle.tp_rule.specs.declared.view.View.{View}
-use Rattle.tp_model.specs.declared.trace.TraceEntry.{TraceEntry}
-use Rattle.tp_manager.specs.Walks.{Walked}
-use Rattle.tp_manager.specs.Bounds.{round_steps}
-use Rattle.tp_manager.specs.Rounds.{AreKnown, is_done, is_looked}
-use Rattle.tp_manager.proofs.Seeks.{rows_more}
-use Rattle.tp_manager.proofs.Counts.{count_most}
-use Rattle.tp_manager.proofs.Cancels.{few_rows, known_later, over_unlooked, rounded_none, rounded_few, rounded_next, rounded_last, cancels_few}
+use Rattle.tp_manager.specs.Bounds.{end_steps, ends_steps}
+use Rattle.tp_manager.specs.Endings.{Cancelling}
+use Rattle.tp_manager.specs.Aheads.{IsAhead, IsSorted}
+use Rattle.tp_manager.specs.declared.ahead.Ahead.{Ahead}
+use Rattle.tp_manager.proofs.Cancels.{few_rows}
+use Rattle.tp_manager.proofs.Endings.{cancelling_begins, cancelling_ends, cancelling_few, cancelling_most, cancelling_outputs, cancelling_there, cancelling_unworked}
+use Rattle.tp_manager.proofs.Listings.{outputs_inside}
 use Rattle.tp_manager.proofs.manager.Shared.cancel_family.Goals as goal
-use Rattle.tp_manager.proofs.manager.Shared.cancel_family.Goals.{After-rows-rows}
+use Rattle.tp_manager.proofs.manager.Shared.cancel_family.Goals.{In-Some, in-Outputs, in-Killed, in-Before}
 
-size : (c : After-rows-rows) → rows_of (limits_of c.args.self.now.words) ≤ most_rows
-size c = few_rows (limits_of c.args.self.now.words) c.args.self.now.words.places.valid
-
-rows : (c : After-rows-rows) → c.rows-rows.result ≡ rows_of (limits_of c.args.self.now.words)
-rows c = c.rows-rows.ensures ∙ ap rows_of (sym c.args.self.now.same)
-
--- the marks are known at any later time
-known : (c : After-rows-rows) (n : ℕ) (ms : List TraceEntry) (w : View) → Walked (limits_of c.args.self.now.words) n ms (view_of c.args.seat.now) w → AreKnown (limits_of c.args.self.now.words) c.args.marks.now w
-known c n ms w a = known_later (limits_of c.args.self.now.words) c.args.marks.now c.args.self.now.words.places.valid n ms (view_of c.args.seat.now) w a c.requires.known
+-- the element that was taken is of the family
+of : (c : In-Some) → (c.in-Some.row < rows_of (limits_of c.args.self.now.words)) × IsOfFamily (seen_by c.loop-past.seat) c.args.root c.in-Some.row
+of c = let l : Limits = limits_of c.args.self.now.words in
+    cancelling_there l c.args.root (ends_steps l c.loop-past._past) c.loop-past._past c.loop-past.killed c.in-Some.row (IsAhead c.loop-past.ahead c.loop-past.rows) (view_of c.args.seat.now) (view_of c.loop-past.seat) c.loop-past.invariant.cancelling c.in-Some.ensures.least.0.0
 
 next : (p s : ℕ) → p * s + s ≤ (p + 1) * s
 next p s = omega arith
 
 pub loop-past-init : goal.loop-past-init
-loop-past-init c = let l : Limits = limits_of c.args.self.now.words in let L = is_looked l c.args.marks.now in let s = round_steps l in let v = view_of c.args.seat.now in record {
+loop-past-init c = let l : Limits = limits_of c.args.self.now.words in let v = view_of c.args.seat.now in record {
+  sorted = c.of-ahead.ensures.sorted c.args.rows.now c.requires.none;
   same = search rules;
-  drawn = c.requires.drawn;
-  risen = omega arith;
-  rounded = rounded_few l c.args.root L 0 (0 * s) 0 0 0 v v (omega arith) (rounded_none l c.args.root L v c.requires.steady);
+  cancelling = cancelling_few l c.args.root 0 (ends_steps l 0) 0 0 (IsAhead c.of-ahead.result c.args.rows.now) v v (omega arith)
+      (cancelling_begins l c.args.root (IsAhead c.of-ahead.result c.args.rows.now) v c.requires.steady c.requires.request.1 ((c.of-ahead.ensures.has c.args.rows.now c.requires.none c.args.root).1 refl)
+      (λ i has. (c.of-ahead.ensures.has c.args.rows.now c.requires.none i).0 has));
 }
 
-pub overflow_add-killed : goal.overflow_add-killed
-overflow_add-killed c = let at = goal.at.overflow_add-killed c in
-    let s = size at.After-rows-rows in let e = rows at.After-rows-rows in let less = c.loop-past-test.true in
-    let first = c.loop-past.invariant.rounded.few in let second = c.cancel_round-tally.ensures.told.few in
+pub returns-in_default-clause-told : goal.returns-in_default-clause-told
+returns-in_default-clause-told c = let l : Limits = limits_of c.args.self.now.words in
+    cancelling_ends l c.args.root c.loop-past._past c.loop-past.killed (IsAhead c.loop-past.ahead c.loop-past.rows) (view_of c.args.seat.now) (view_of c.loop-past.seat) c.in_default.ensures.least.0 c.loop-past.invariant.cancelling
+
+pub end_row-requires-clause-row : goal.end_row-requires-clause-row
+end_row-requires-clause-row c = let t = of (goal.at.end_row-requires-clause-row c).In-Some in (t.0, (t.1.0, t.1.1))
+
+pub insert_rows-requires-clause-inside : goal.insert_rows-requires-clause-inside
+insert_rows-requires-clause-inside c = λ i low high. let l : Limits = limits_of c.args.self.now.words in let f = of (goal.at.insert_rows-requires-clause-inside c).In-Some in
+    let e = c.in-Outputs.ensures.told c.args.root f.1 in let t = e.is in
+    let inside = outputs_inside l (seen_by c.end_row.new.seat) t.0 c.in-Outputs.first c.in-Outputs.count i e.swept.gained.walk.steady.shows.legal t.5 low high in
+    let few : rows_of l ≤ most_rows = few_rows l c.args.self.now.words.places.valid in
     omega arith
 
 pub loop-past-preserved : goal.loop-past-preserved
-loop-past-preserved c = let l : Limits = limits_of c.args.self.now.words in let L = is_looked l c.args.marks.now in let s = round_steps l in let p = c.loop-past._past in let r = c.cancel_round-tally.result in let at = goal.at.loop-past-preserved c in
-    let v = view_of c.args.seat.now in let w = view_of c.loop-past.seat in let y = view_of c.cancel_round-tally.new.seat in record {
+loop-past-preserved c =
+    let l : Limits = limits_of c.args.self.now.words in let v = view_of c.args.seat.now in let w = view_of c.loop-past.seat in let y = view_of c.end_row.new.seat in
+    let p = c.loop-past._past in let root = c.args.root in let row = c.in-Some.row in let k = c.loop-past.killed in
+    let n = ends_steps l p in let m = end_steps l in let all = ends_steps l (p + 1) in
+    let s = c.loop-past.invariant.cancelling in let f = (of (goal.at.loop-past-preserved c).In-Some).1 in
+    let Left = IsAhead c.loop-past.ahead c.loop-past.rows in let Less = IsAhead c.take_least.new.self c.take_least.new.rows in let taken = c.in-Some.ensures.least in record {
+      sorted = elim c.match-end_row.branch [
+        | in-Outputs b ↦
+            subst (λ (rs : List ℕ). IsSorted c.match-end_row.ahead rs) (sym b.rows-is)
+            (subst (λ (a : Ahead). IsSorted a b.insert_rows.new.rows) (sym b.ahead-is) b.insert_rows.ensures.sorted)
+        | in-Killed b ↦
+            subst (λ (rs : List ℕ). IsSorted c.match-end_row.ahead rs) (sym b.rows-is)
+            (subst (λ (a : Ahead). IsSorted a c.take_least.new.rows) (sym b.ahead-is) c.in-Some.ensures.sorted)
+        | in-Before b ↦
+            subst (λ (rs : List ℕ). IsSorted c.match-end_row.ahead rs) (sym b.rows-is)
+            (subst (λ (a : Ahead). IsSorted a c.take_least.new.rows) (sym b.ahead-is) c.in-Some.ensures.sorted)
+      ];
       same = search rules;
-      drawn = c.cancel_round-tally.ensures.drawn;
-      risen = let up = c.loop-past.invariant.risen in let on = c.cancel_round-tally.ensures.risen in omega arith;
-      rounded = rounded_few l c.args.root L (p * s + s) ((p + 1) * s) (p + 1) r.found (c.loop-past.killed + r.killed) v y (next p s)
-          (rounded_next l c.args.root L (p * s) s p c.loop-past.found r.found c.loop-past.killed r.killed v w y (size at.After-rows-rows) c.if-tally-found.false c.loop-past.invariant.rounded c.cancel_round-tally.ensures.told);
+      cancelling = elim c.match-end_row.branch [
+        | in-Outputs b ↦
+            subst (λ (rs : List ℕ). Cancelling l all root (p + 1) c.match-end_row.killed (IsAhead c.match-end_row.ahead rs) v y) (sym b.rows-is)
+            (subst (λ (a : Ahead). Cancelling l all root (p + 1) c.match-end_row.killed (IsAhead a b.insert_rows.new.rows) v y) (sym b.ahead-is)
+            (subst (λ (z : ℕ). Cancelling l all root (p + 1) z (IsAhead b.insert_rows.new.self b.insert_rows.new.rows) v y) (let same : k + 0 ≡ k = omega arith in same ∙ sym b.killed-is)
+            (cancelling_few l root (n + m) all (p + 1) (k + 0) (IsAhead b.insert_rows.new.self b.insert_rows.new.rows) v y (next p m)
+            (cancelling_outputs l root n m p k row b.in-Outputs.first b.in-Outputs.count Left Less (IsAhead b.insert_rows.new.self b.insert_rows.new.rows) v w y taken.0.0 taken.0.1 taken.1 b.insert_rows.ensures.has s (b.in-Outputs.ensures.told root f)))))
+        | in-Killed b ↦
+            subst (λ (rs : List ℕ). Cancelling l all root (p + 1) c.match-end_row.killed (IsAhead c.match-end_row.ahead rs) v y) (sym b.rows-is)
+            (subst (λ (a : Ahead). Cancelling l all root (p + 1) c.match-end_row.killed (IsAhead a c.take_least.new.rows) v y) (sym b.ahead-is)
+            (subst (λ (z : ℕ). Cancelling l all root (p + 1) z Less v y) (sym b.killed-is)
+            (cancelling_few l root (n + m) all (p + 1) (k + 1) Less v y (next p m)
+            (cancelling_unworked l root n m p k row Left Less _ v w y taken.0.0 taken.0.1 taken.1 s (b.in-Killed.ensures.told root f) (b.in-Killed.ensures.told root f).is))))
+        | in-Before b ↦
+            subst (λ (rs : List ℕ). Cancelling l all root (p + 1) c.match-end_row.killed (IsAhead c.match-end_row.ahead rs) v y) (sym b.rows-is)
+            (subst (λ (a : Ahead). Cancelling l all root (p + 1) c.match-end_row.killed (IsAhead a c.take_least.new.rows) v y) (sym b.ahead-is)
+            (subst (λ (z : ℕ). Cancelling l all root (p + 1) z Less v y) (let same : k + 0 ≡ k = omega arith in same ∙ sym b.killed-is)
+            (cancelling_few l root (n + m) all (p + 1) (k + 0) Less v y (next p m)
+            (cancelling_unworked l root n m p k row Left Less _ v w y taken.0.0 taken.0.1 taken.1 s (b.in-Before.ensures.told root f) (b.in-Before.ensures.told root f).is))))
+      ];
     }
 
-pub returns-then-tally-found-clause-told : goal.returns-then-tally-found-clause-told
-returns-then-tally-found-clause-told c = let l : Limits = limits_of c.args.self.now.words in let L = is_looked l c.args.marks.now in let s = round_steps l in let p = c.loop-past._past in let r = c.cancel_round-tally.result in let at = goal.at.returns-then-tally-found-clause-told c in
-    let e = rows at.After-rows-rows in let less = c.loop-past-test.true in
-    let v = view_of c.args.seat.now in let w = view_of c.loop-past.seat in let y = view_of c.cancel_round-tally.new.seat in
-    cancels_few l c.args.root (p * s + s) ((rows_of l + 1) * s) (c.loop-past.killed + r.killed) v y (rows_more p (rows_of l + 1) s (omega arith))
-    (rounded_last l c.args.root L (p * s) s p c.loop-past.found r.found c.loop-past.killed r.killed v w y c.if-tally-found.true c.requires.request
-    (λ i inside. over_unlooked l c.args.marks.now c.args.self.now.words.places.valid c.args.root i w c.loop-past.invariant.rounded.swept.gained.walk.steady.known (known at.After-rows-rows _ _ _ c.loop-past.invariant.rounded.swept.gained.walk) inside) c.loop-past.invariant.rounded c.cancel_round-tally.ensures.told)
-
 pub unreachable-requires : goal.unreachable-requires
-unreachable-requires c = let l : Limits = limits_of c.args.self.now.words in let at = goal.at.unreachable-requires c in
-    let e = rows at.After-rows-rows in let all = c.loop-past-test.false in
-    let more = c.loop-past.invariant.rounded.more in let most = c.loop-past.invariant.rounded.most in
-    let few = count_most (λ i. is_looked l c.args.marks.now i && is_done l c.args.root (seen_by c.loop-past.seat) i) (rows_of l) in
+unreachable-requires c =
+    let l : Limits = limits_of c.args.self.now.words in
+    let over = c.loop-past-test.false in let rows : rows_of l ≤ most_rows = few_rows l c.args.self.now.words.places.valid in
+    let few = cancelling_most l c.args.root (ends_steps l c.loop-past._past) c.loop-past._past c.loop-past.killed (IsAhead c.loop-past.ahead c.loop-past.rows) (view_of c.args.seat.now) (view_of c.loop-past.seat) c.loop-past.invariant.cancelling in
     omega arith

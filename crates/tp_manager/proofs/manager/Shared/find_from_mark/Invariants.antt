@@ -2,7 +2,7 @@ use Rattle.std.proofs.Common.{◌≡◌, ◌+◌, ◌-◌, ◌*◌, ◌≤◌}
 use Rattle.tp_rule.specs.Tables.{limits_of}
 use Rattle.tp_rule.specs.Views.{IsSameSeat, view_of}
 use Rattle.tp_manager.specs.Bounds.{look_steps}
-use Rattle.tp_manager.specs.Finds.{PassedOver, kind_of}
+use Rattle.tp_manager.specs.Finds.{PassedOver}
 use Rattle.tp_manager.specs.Walks.{Begun, Rose}
 use Rattle.tp_manager.proofs.manager.Shared.find_from_mark.Given as goal
 
@@ -12,9 +12,9 @@ invariant-loop-row l = record {
   inside : l.row ≤ l.end;
   lows : l.lows ≡ l.initial.lows;
   low : l.low ≤ l.row;
-  rose : Rose (kind_of l.wanted) (view_of l.seat) (l.first + l.mark) l.low;
+  rose : Rose 0 (view_of l.seat) (l.first + l.mark) l.low;
   same : IsSameSeat l.initial.seat l.seat;
-  begun : Begun (limits_of l.self.words) (PassedOver (limits_of l.self.words) l.wanted) ((l.row - l.start) * look_steps (limits_of l.self.words)) l.start l.row (view_of l.initial.seat) (view_of l.seat);
+  begun : Begun (limits_of l.self.words) (PassedOver (limits_of l.self.words)) ((l.row - l.start) * look_steps (limits_of l.self.words)) l.start l.row (view_of l.initial.seat) (view_of l.seat);
 }
 
 abbrev pub decreases-loop-row : goal.decreases-loop-row

@@ -11,5 +11,5 @@ use Rattle.tp_manager.proofs.manager.Shared.find_in_blocks.Goals as goal
 
 pub returns-clause-told : goal.returns-clause-told
 returns-clause-told c = let l : Limits = limits_of c.args.self.now.words in let load = c.in-Some.ensures.told in let one = drawn_one l.spare load.0 in let n = slice_index c.args.lows.now l.parts in let s = look_steps l in
-    find_drawn l c.args.wanted (2 + (BLOCK_ROWS * l.spare - n) * s) (spare_left l s n) c.args.from (rows_of l) (view_of c.args.seat.now) (view_of c.blocks_end.new.seat) (view_of c.find_spare.new.seat) c.find_spare.result
+    find_drawn l (2 + (BLOCK_ROWS * l.spare - n) * s) (spare_left l s n) c.args.from (rows_of l) (view_of c.args.seat.now) (view_of c.blocks_end.new.seat) (view_of c.find_spare.new.seat) c.find_spare.result
     (omega arith) load.1 c.find_spare.ensures.told

@@ -3,7 +3,7 @@ use Rattle.tp_model.specs.declared.types.Limits.{Limits}
 use Rattle.tp_rule.specs.Tables.{limits_of}
 use Rattle.tp_rule.specs.Views.{view_of}
 use Rattle.tp_manager.specs.Bounds.{look_steps}
-use Rattle.tp_manager.specs.Finds.{PassedOver, kind_of}
+use Rattle.tp_manager.specs.Finds.{PassedOver}
 use Rattle.tp_manager.proofs.Finds.{finds_behind, none_over, over_remembered, over_widens}
 use Rattle.tp_manager.proofs.Lows.{lows_inside}
 use Rattle.tp_manager.proofs.Seeks.{sought_bare}
@@ -16,7 +16,7 @@ first : (c : After-later-start) → c.args.part * (limits_of c.args.self.now.wor
 first c = ap (λ (z : Limits). c.args.part * z.rows) c.args.self.now.same
 
 pub is_bare-requires-clause-row : goal.is_bare-requires-clause-row
-is_bare-requires-clause-row c = let l : Limits = limits_of c.args.self.now.words in let inside = lows_inside l c.args.lows.now (kind_of c.args.wanted) (view_of c.args.seat.now) c.requires.steady.known c.requires.remembers c.args.part in
+is_bare-requires-clause-row c = let l : Limits = limits_of c.args.self.now.words in let inside = lows_inside l c.args.lows.now 0 (view_of c.args.seat.now) c.requires.steady.pass.1 c.requires.steady.known c.requires.remembers c.args.part in
     let e = first (goal.at.is_bare-requires-clause-row c).After-later-start in let low = c.requires.from.1 in let high = c.requires.from.2 in let most = c.later-start.ensures.most.0 in (
       omega arith,
       ⊎_elim (λ (q : c.later-start.result ≡ c.args.from). let r : c.later-start.result ≤ c.args.part * l.rows + l.rows = omega arith in r)
@@ -27,16 +27,16 @@ pub returns-then-is_bare-clause-told : goal.returns-then-is_bare-clause-told
 returns-then-is_bare-clause-told c = let l : Limits = limits_of c.args.self.now.words in let bare = c.is_bare.ensures.bare c.if-is_bare.true in
     let low = slice_index c.args.lows.now c.args.part in let e = first (goal.at.returns-then-is_bare-clause-told c).After-later-start in let from_on = c.requires.from.1 in
     sought_few l 1 (3 + (l.rows - low) * look_steps l) _ _ _ (omega arith)
-    (sought_bare l (PassedOver l c.args.wanted) (over_widens l c.args.wanted) c.args.from c.later-start.result (c.args.part * l.rows + l.rows) (view_of c.args.seat.now) (view_of c.is_bare.new.seat) bare.0 (none_over l c.args.wanted)
+    (sought_bare l (PassedOver l) (over_widens l) c.args.from c.later-start.result (c.args.part * l.rows + l.rows) (view_of c.args.seat.now) (view_of c.is_bare.new.seat) bare.0 (none_over l)
     (λ i from below. ⊎_elim (λ (q : c.later-start.result ≡ c.args.from). absurd (omega arith))
     (λ (q : c.later-start.result ≡ c.args.part * c.args.self.now.places.limits.rows + low).
-    over_remembered l c.args.wanted c.args.lows.now c.args.part i (view_of c.args.seat.now) (view_of c.is_bare.new.seat) c.requires.remembers bare.0.walk.knows bare.0.walk.steady (omega arith) (omega arith))
+    over_remembered l c.args.lows.now c.args.part i _ _ (view_of c.args.seat.now) (view_of c.is_bare.new.seat) c.requires.remembers bare.0.walk (omega arith) (omega arith))
     c.later-start.ensures.one) bare.1)
 
 pub find_from_mark-requires-clause-remembers : goal.find_from_mark-requires-clause-remembers
-find_from_mark-requires-clause-remembers c = remembers_kind (kind_of c.args.wanted) c.args.lows.now _ _ _ _ _ (c.is_bare.ensures.more c.if-is_bare.false).walk c.requires.remembers
+find_from_mark-requires-clause-remembers c = remembers_kind 0 c.args.lows.now _ _ _ _ _ (c.is_bare.ensures.more c.if-is_bare.false).walk c.requires.remembers
 
 pub returns-clause-told : goal.returns-clause-told
 returns-clause-told c = let l : Limits = limits_of c.args.self.now.words in let m : ℕ = (l.rows - slice_index c.args.lows.now c.args.part) * look_steps l in
-    finds_behind l c.args.wanted 1 (2 + m) (3 + m) c.args.from (c.args.part * l.rows + l.rows) (view_of c.args.seat.now) (view_of c.is_bare.new.seat) (view_of c.find_from_mark.new.seat) c.find_from_mark.result (omega arith)
+    finds_behind l 1 (2 + m) (3 + m) c.args.from (c.args.part * l.rows + l.rows) (view_of c.args.seat.now) (view_of c.is_bare.new.seat) (view_of c.find_from_mark.new.seat) c.find_from_mark.result (omega arith)
     (c.is_bare.ensures.more c.if-is_bare.false) c.find_from_mark.ensures.told

@@ -4,7 +4,7 @@ use Rattle.tp_model.specs.Steps.{part_rows}
 use Rattle.tp_rule.specs.Tables.{limits_of}
 use Rattle.tp_rule.specs.Views.{SeatShown, view_of}
 use Rattle.tp_manager.specs.Bounds.{look_steps, scan_steps}
-use Rattle.tp_manager.specs.Finds.{PassedOver, kind_of}
+use Rattle.tp_manager.specs.Finds.{PassedOver}
 use Rattle.tp_manager.specs.Walks.{Begun, EachRow, Remembers, Sought}
 use Rattle.tp_manager.specs.Shown.{Rises}
 use Rattle.tp_manager.proofs.Lows.{rises_then, scan_next, scan_rises}
@@ -46,7 +46,7 @@ returns-in-Some-clause-lows c = rises_then c.args.lows.now c.loop-part.lows c.fi
 
 pub returns-in-Some-clause-told : goal.returns-in-Some-clause-told
 returns-in-Some-clause-told c = let l : Limits = limits_of c.args.self.now.words in let told = c.in-Some.ensures.told in let i = c.loop-part.invariant in
-    let n = c.loop-part.part in let s = look_steps l in let P = PassedOver l c.args.wanted in let from_on = i.from in let low = told.0 in let high = told.1 in let lows = c.args.lows.now in
+    let n = c.loop-part.part in let s = look_steps l in let P = PassedOver l in let from_on = i.from in let low = told.0 in let high = told.1 in let lows = c.args.lows.now in
     let end = inside l c.args.self.now.places.limits c.args.self.now.same n c.loop-part-test.true in
     let a : n * l.rows ≡ n * c.args.self.now.places.limits.rows = ap (λ (z : Limits). n * z.rows) c.args.self.now.same in
     let b : l.rows ≡ c.args.self.now.places.limits.rows = ap (λ (z : Limits). z.rows) c.args.self.now.same in
@@ -56,12 +56,12 @@ returns-in-Some-clause-told c = let l : Limits = limits_of c.args.self.now.words
       omega arith,
       told.2,
       sought_few l (scan_steps l s 3 lows n + part_cost l lows n) (scan_steps l s 3 lows l.parts) (EachRow P c.args.from c.in-Some.id) _ _ (omega arith)
-          (begun_sought l P (over_widens l c.args.wanted) (scan_steps l s 3 lows n) c.args.from (part_cost l lows n) c.loop-part.row _ _ _ i.begun c.in-Some.id from_on
+          (begun_sought l P (over_widens l) (scan_steps l s 3 lows n) c.args.from (part_cost l lows n) c.loop-part.row _ _ _ i.begun c.in-Some.id from_on
           (subst (λ m. Sought l (3 + (l.rows - m) * s) (EachRow P c.loop-part.row c.in-Some.id) (view_of c.loop-part.seat) (view_of c.find_in_part.new.seat)) (i.rest n (omega arith)) told.3)),
     )
 
 pub loop-part-preserved : goal.loop-part-preserved
-loop-part-preserved c = let l : Limits = limits_of c.args.self.now.words in let i = c.loop-part.invariant in let n = c.loop-part.part in let s = look_steps l in let P = PassedOver l c.args.wanted in let W = over_widens l c.args.wanted in let lows = c.args.lows.now in
+loop-part-preserved c = let l : Limits = limits_of c.args.self.now.words in let i = c.loop-part.invariant in let n = c.loop-part.part in let s = look_steps l in let P = PassedOver l in let W = over_widens l in let lows = c.args.lows.now in
     let from_on = i.from in let reach = i.reach in let next = suc-mul n c.args.self.now.places.limits.rows in let more = scan_next l lows s 3 n in
     let rest : (n + 1) * c.args.self.now.places.limits.rows ≡ n * c.args.self.now.places.limits.rows + c.args.self.now.places.limits.rows = omega arith in
     elim c.if-row-end.branch [
@@ -74,7 +74,7 @@ loop-part-preserved c = let l : Limits = limits_of c.args.self.now.words in let 
             reach = omega arith;
             inside = omega arith;
             same = ap (λ (z : SeatShown). z.table) w.seat-is ∙ (found.same ∙ i.same);
-            remembers = subst (λ (z : SeatShown × List ℕ). Remembers (kind_of c.args.wanted) (view_of z.0) z.1) (λ j. (sym w.seat-is j, sym w.lows-is j)) found.remembers;
+            remembers = subst (λ (z : SeatShown × List ℕ). Remembers 0 (view_of z.0) z.1) (λ j. (sym w.seat-is j, sym w.lows-is j)) found.remembers;
             rises = subst (Rises lows) (sym w.lows-is) (rises_then lows c.loop-part.lows _ i.rises found.lows.0);
             rest = λ q low. ap (λ z. slice_index z q) w.lows-is ∙ (found.lows.1 q (λ is. absurd (omega arith)) ∙ i.rest q (omega arith));
             begun = begun_few l P W (scan_steps l s 3 lows n + part_cost l lows n) c.args.from _ _ _ _ more
@@ -88,7 +88,7 @@ loop-part-preserved c = let l : Limits = limits_of c.args.self.now.words in let 
             reach = omega arith;
             inside = omega arith;
             same = ap (λ (z : SeatShown). z.table) w.seat-is ∙ i.same;
-            remembers = subst (λ (z : SeatShown × List ℕ). Remembers (kind_of c.args.wanted) (view_of z.0) z.1) (λ j. (sym w.seat-is j, sym w.lows-is j)) i.remembers;
+            remembers = subst (λ (z : SeatShown × List ℕ). Remembers 0 (view_of z.0) z.1) (λ j. (sym w.seat-is j, sym w.lows-is j)) i.remembers;
             rises = subst (Rises lows) (sym w.lows-is) i.rises;
             rest = λ q low. ap (λ z. slice_index z q) w.lows-is ∙ i.rest q (omega arith);
             begun = subst (λ (z : ℕ × SeatShown). Begun l P (scan_steps l s 3 lows (n + 1)) c.args.from z.0 (view_of c.args.seat.now) (view_of z.1)) (λ j. (sym w.row-is j, sym w.seat-is j))
@@ -97,7 +97,7 @@ loop-part-preserved c = let l : Limits = limits_of c.args.self.now.words in let 
     ]
 
 pub returns-clause-told : goal.returns-clause-told
-returns-clause-told c = let l : Limits = limits_of c.args.self.now.words in let i = c.loop-part.invariant in let n = c.loop-part.part in let s = look_steps l in let P = PassedOver l c.args.wanted in let lows = c.args.lows.now in
+returns-clause-told c = let l : Limits = limits_of c.args.self.now.words in let i = c.loop-part.invariant in let n = c.loop-part.part in let s = look_steps l in let P = PassedOver l in let lows = c.args.lows.now in
     let first = c.requires.from in let high = i.inside in let reach = i.reach in let low = c.loop-part-test.false in let end = c.loop-part.auto.part-end in
     let p : l.parts ≡ c.args.self.now.places.limits.parts = ap (λ (z : Limits). z.parts) c.args.self.now.same in
     let same : n ≡ c.args.self.now.places.limits.parts = omega arith in
@@ -105,4 +105,4 @@ returns-clause-told c = let l : Limits = limits_of c.args.self.now.words in let 
     let all : c.loop-part.row ≡ part_rows l = omega arith in
     sought_few l (scan_steps l s 3 lows n) (scan_steps l s 3 lows l.parts) _ _ _ (scan_rises l lows s 3 n l.parts (omega arith))
     (subst (λ m. Sought l (scan_steps l s 3 lows n) (EachRow P c.args.from m) (view_of c.args.seat.now) (view_of c.loop-part.seat)) all
-    (begun_done l P (over_widens l c.args.wanted) (scan_steps l s 3 lows n) c.args.from c.loop-part.row _ _ i.begun (omega arith)))
+    (begun_done l P (over_widens l) (scan_steps l s 3 lows n) c.args.from c.loop-part.row _ _ i.begun (omega arith)))

@@ -2,22 +2,21 @@ use Rattle.std.proofs.Common.{◌≡◌, ◌+◌, ◌-◌, ◌*◌, ◌<◌, ◌
 use Rattle.tp_model.specs.declared.types.Limits.{Limits}
 use Rattle.tp_model.specs.declared.types.TheConstants.{BLOCK_ROWS}
 use Rattle.tp_model.specs.Steps.{part_rows, rows_of}
-use Rattle.tp_rule.specs.Steps.{AreOver}
 use Rattle.tp_rule.specs.Tables.{limits_of}
 use Rattle.tp_rule.specs.Views.{seen_by, view_of}
 use Rattle.tp_rule.specs.declared.view.Known.TheVariants.{PartMark}
 use Rattle.tp_rule.specs.declared.view.View.{View}
 use Rattle.tp_manager.specs.Bounds.{look_steps}
-use Rattle.tp_manager.specs.Finds.{Hits, PassedOver, kind_of}
+use Rattle.tp_manager.specs.Finds.{Hits, PassedOver}
 use Rattle.tp_manager.specs.Walks.{Begun, EachRow, Looked, Remembers, RisesAt, Rose, Sought}
-use Rattle.tp_manager.proofs.Finds.{none_over, over_low, over_widens, sought_raised}
+use Rattle.tp_manager.proofs.Finds.{not_server, none_over, over_low, over_widens, sought_raised}
 use Rattle.tp_manager.proofs.Lows.{rises_at_then}
 use Rattle.tp_manager.proofs.Marks.{goes_walked, rose_none, rose_then}
 use Rattle.tp_manager.proofs.Seeks.{begun_few, begun_hit, begun_looked, begun_on, rows_more, sought_from}
 use Rattle.tp_manager.proofs.Spares.{sought_passed}
 use Rattle.tp_manager.proofs.Walks.{remembers_kind, sought_few}
 use Rattle.tp_manager.proofs.manager.Shared.find_spare.Goals as goal
-use Rattle.tp_manager.proofs.manager.Shared.find_spare.Goals.{After-later-start, After-is_wanted_at, After-loop-row, After-mark_at-mark, After-part_rows}
+use Rattle.tp_manager.proofs.manager.Shared.find_spare.Goals.{After-later-start, After-is_parked_at, After-loop-row, After-mark_at-mark, After-part_rows}
 
 abbrev parts : (c : After-mark_at-mark) → c.args.self.now.places.limits.parts ≡ (limits_of c.args.self.now.words).parts
 parts c = ap (λ (z : Limits). z.parts) (sym c.args.self.now.same)
@@ -34,74 +33,73 @@ above : (c : After-mark_at-mark) → slice_index c.args.lows.now (limits_of c.ar
 above c = subst (λ p. slice_index c.args.lows.now p ≤ c.mark_at-mark.result) (parts c)
     (let up = c.mark_at-mark.ensures.lows.1.0 c.args.self.now.places.limits.parts in let is = c.mark_at-mark.ensures.lows.0 in omega arith)
 
--- the kind of the mark
-kind : (c : After-mark_at-mark) → c.kind_of-kind.result ≡ kind_of c.args.wanted
-kind c = c.kind_of-kind.ensures.answer
-
 -- the rows before the start are below the mark
 skipped : (c : After-later-start) (i : ℕ) → c.args.from ≤ i → i < c.later-start.result
-    → PassedOver (limits_of c.args.self.now.words) c.args.wanted i (seen_by c.mark_at-mark.new.seat) (seen_by c.mark_at-mark.new.seat)
+    → PassedOver (limits_of c.args.self.now.words) i (seen_by c.mark_at-mark.new.seat) (seen_by c.mark_at-mark.new.seat)
 skipped c i low high = let l : Limits = limits_of c.args.self.now.words in let from_on = c.requires.from.0 in
     let e : c.args.self.now.places.limits.parts * l.rows ≡ c.part_rows.result = ap (λ (z : Limits). c.args.self.now.places.limits.parts * z.rows) c.args.self.now.same ∙ sym c.part_rows.ensures in
     let f : part_rows l ≡ c.part_rows.result = ap part_rows c.args.self.now.same ∙ sym c.part_rows.ensures in ⊎_elim
     (λ (q : c.later-start.result ≡ c.args.from). absurd (omega arith))
-    (λ (q : c.later-start.result ≡ c.part_rows.result + c.mark_at-mark.result). over_low l c.args.wanted (seen_by c.mark_at-mark.new.seat) c.args.self.now.places.limits.parts c.mark_at-mark.result i c.mark_at-mark.ensures.acted.walk.steady.shows.legal (subst (λ k. AreOver l k (seen_by c.mark_at-mark.new.seat) c.args.self.now.places.limits.parts c.mark_at-mark.result) c.kind_of-kind.ensures.answer c.mark_at-mark.ensures.low.1) (omega arith) (omega arith))
+    (λ (q : c.later-start.result ≡ c.part_rows.result + c.mark_at-mark.result). over_low l (seen_by c.mark_at-mark.new.seat) c.args.self.now.places.limits.parts c.mark_at-mark.result i c.mark_at-mark.ensures.acted.walk.steady.shows.legal c.mark_at-mark.ensures.low.1 (omega arith) (omega arith))
     c.later-start.ensures.one
 
 -- the mark, and then the rows from the start on
-from_mark : (c : After-later-start) (m n : ℕ) (y : View) → Begun (limits_of c.args.self.now.words) (PassedOver (limits_of c.args.self.now.words) c.args.wanted) m c.later-start.result n (view_of c.mark_at-mark.new.seat) y
-    → Sought (limits_of c.args.self.now.words) (1 + m) (EachRow (PassedOver (limits_of c.args.self.now.words) c.args.wanted) c.args.from n) (view_of c.args.seat.now) y
+from_mark : (c : After-later-start) (m n : ℕ) (y : View) → Begun (limits_of c.args.self.now.words) (PassedOver (limits_of c.args.self.now.words)) m c.later-start.result n (view_of c.mark_at-mark.new.seat) y
+    → Sought (limits_of c.args.self.now.words) (1 + m) (EachRow (PassedOver (limits_of c.args.self.now.words)) c.args.from n) (view_of c.args.seat.now) y
 from_mark c m n y b = let l : Limits = limits_of c.args.self.now.words in
-    sought_from l (PassedOver l c.args.wanted) (over_widens l c.args.wanted) m c.args.from c.later-start.result n (view_of c.args.seat.now) (view_of c.mark_at-mark.new.seat) y c.mark_at-mark.ensures.acted b (skipped c)
+    sought_from l (PassedOver l) (over_widens l) m c.args.from c.later-start.result n (view_of c.args.seat.now) (view_of c.mark_at-mark.new.seat) y c.mark_at-mark.ensures.acted b (skipped c)
 
 -- the steps from the mark up to the row
-since : (c : After-is_wanted_at) → Looked (limits_of c.args.self.now.words) ((c.loop-row.row - c.later-start.result) * look_steps (limits_of c.args.self.now.words)) (view_of c.mark_at-mark.new.seat) (view_of c.loop-row.seat)
+since : (c : After-is_parked_at) → Looked (limits_of c.args.self.now.words) ((c.loop-row.row - c.later-start.result) * look_steps (limits_of c.args.self.now.words)) (view_of c.mark_at-mark.new.seat) (view_of c.loop-row.seat)
 since c = let l : Limits = limits_of c.args.self.now.words in
-    begun_looked l (PassedOver l c.args.wanted) (over_widens l c.args.wanted) _ _ c.loop-row.row _ _ c.loop-row.invariant.begun c.mark_at-mark.ensures.acted.walk.steady
+    begun_looked l (PassedOver l) (over_widens l) _ _ c.loop-row.row _ _ c.loop-row.invariant.begun c.mark_at-mark.ensures.acted.walk.steady
 
 -- what is known of no use after one more row
-rose : (c : After-is_wanted_at) → Rose (kind_of c.args.wanted) (view_of c.is_wanted_at.new.seat) (c.part_rows.result + c.mark_at-mark.result) c.is_wanted_at.new.low
+rose : (c : After-is_parked_at) → Rose 0 (view_of c.is_parked_at.new.seat) (c.part_rows.result + c.mark_at-mark.result) c.is_parked_at.new.low
 rose c = let l : Limits = limits_of c.args.self.now.words in
-    rose_then l (kind_of c.args.wanted) (view_of c.loop-row.seat) (view_of c.is_wanted_at.new.seat) _ c.loop-row.low c.is_wanted_at.new.low (goes_walked l _ _ (view_of c.loop-row.seat) _ (since c).walk.steady.pass.1 c.is_wanted_at.ensures.acted.walk) c.loop-row.invariant.rose c.is_wanted_at.ensures.low.1
+    rose_then l 0 (view_of c.loop-row.seat) (view_of c.is_parked_at.new.seat) _ c.loop-row.low c.is_parked_at.new.low (goes_walked l _ _ (view_of c.loop-row.seat) _ (since c).walk.steady.pass.1 c.is_parked_at.ensures.acted.walk) c.loop-row.invariant.rose c.is_parked_at.ensures.low.1
+
+pub mark_at-mark-requires-clause-listed : goal.mark_at-mark-requires-clause-listed
+mark_at-mark-requires-clause-listed c = not_server
 
 pub mark_at-mark-requires-clause-remembers : goal.mark_at-mark-requires-clause-remembers
-mark_at-mark-requires-clause-remembers c = subst (λ k. Remembers k (view_of c.args.seat.now) c.args.lows.now) (sym c.kind_of-kind.ensures.answer) c.requires.remembers
+mark_at-mark-requires-clause-remembers c = c.requires.remembers
 
 pub raise_to-requires-clause-low : goal.raise_to-requires-clause-low
 raise_to-requires-clause-low c = let l : Limits = limits_of c.args.self.now.words in let at = goal.at.raise_to-requires-clause-low c in let e = first at.After-part_rows in let f = front at.After-part_rows in
-    let low = c.is_wanted_at.ensures.low.0 in let top = c.is_wanted_at.ensures.on.inside in (
+    let low = c.is_parked_at.ensures.low.0 in let top = c.is_parked_at.ensures.on.inside in (
       (λ not. absurd (not (parts at.After-mark_at-mark)), λ _. omega arith),
-      subst (λ (z : ℕ × ℕ). Rose z.0 (view_of c.is_wanted_at.new.seat) (z.1 + c.mark_at-mark.result) c.is_wanted_at.new.low) (λ i. (sym (kind at.After-mark_at-mark) i, sym e i)) (rose at.After-is_wanted_at),
+      subst (λ (z : ℕ). Rose 0 (view_of c.is_parked_at.new.seat) (z + c.mark_at-mark.result) c.is_parked_at.new.low) (sym e) (rose at.After-is_parked_at),
     )
 
 pub raise_to-requires-clause-mark : goal.raise_to-requires-clause-mark
-raise_to-requires-clause-mark c = let at = (goal.at.raise_to-requires-clause-mark c).After-is_wanted_at in let p : ℕ = c.args.self.now.places.limits.parts in let known = PartMark c.kind_of-kind.result p c.mark_at-mark.result in
-    (c.is_wanted_at.ensures.acted.walk.knows known ((since at).walk.knows known c.mark_at-mark.ensures.knows), ap (λ lows. slice_index lows p) c.loop-row.invariant.lows ∙ c.mark_at-mark.ensures.lows.0)
+raise_to-requires-clause-mark c = let at = (goal.at.raise_to-requires-clause-mark c).After-is_parked_at in let p : ℕ = c.args.self.now.places.limits.parts in let known = PartMark 0 p c.mark_at-mark.result in
+    (c.is_parked_at.ensures.acted.walk.knows known ((since at).walk.knows known c.mark_at-mark.ensures.knows), ap (λ lows. slice_index lows p) c.loop-row.invariant.lows ∙ c.mark_at-mark.ensures.lows.0)
 
 pub raise_to-requires-clause-remembers : goal.raise_to-requires-clause-remembers
-raise_to-requires-clause-remembers c = let at = (goal.at.raise_to-requires-clause-remembers c).After-is_wanted_at in let k = c.kind_of-kind.result in
-    subst (Remembers k (view_of c.is_wanted_at.new.seat)) (sym c.loop-row.invariant.lows) (remembers_kind k c.mark_at-mark.new.lows _ _ _ _ _ c.is_wanted_at.ensures.acted.walk (remembers_kind k c.mark_at-mark.new.lows _ _ _ _ _ (since at).walk c.mark_at-mark.ensures.remembers))
+raise_to-requires-clause-remembers c = let at = (goal.at.raise_to-requires-clause-remembers c).After-is_parked_at in let k : ℕ = 0 in
+    subst (Remembers k (view_of c.is_parked_at.new.seat)) (sym c.loop-row.invariant.lows) (remembers_kind k c.mark_at-mark.new.lows _ _ _ _ _ c.is_parked_at.ensures.acted.walk (remembers_kind k c.mark_at-mark.new.lows _ _ _ _ _ (since at).walk c.mark_at-mark.ensures.remembers))
 
-pub returns-then-is_wanted_at-clause-remembers : goal.returns-then-is_wanted_at-clause-remembers
-returns-then-is_wanted_at-clause-remembers c = subst (λ k. Remembers k (view_of c.raise_to.new.seat) c.raise_to.new.lows) c.kind_of-kind.ensures.answer c.raise_to.ensures.remembers
+pub returns-then-is_parked_at-clause-remembers : goal.returns-then-is_parked_at-clause-remembers
+returns-then-is_parked_at-clause-remembers c = c.raise_to.ensures.remembers
 
-pub returns-then-is_wanted_at-clause-lows : goal.returns-then-is_wanted_at-clause-lows
-returns-then-is_wanted_at-clause-lows c = subst (λ p. RisesAt p c.args.lows.now c.raise_to.new.lows) (parts (goal.at.returns-then-is_wanted_at-clause-lows c).After-mark_at-mark)
+pub returns-then-is_parked_at-clause-lows : goal.returns-then-is_parked_at-clause-lows
+returns-then-is_parked_at-clause-lows c = subst (λ p. RisesAt p c.args.lows.now c.raise_to.new.lows) (parts (goal.at.returns-then-is_parked_at-clause-lows c).After-mark_at-mark)
     (rises_at_then _ c.args.lows.now c.mark_at-mark.new.lows c.raise_to.new.lows c.mark_at-mark.ensures.lows.1 (subst (λ lows. RisesAt c.args.self.now.places.limits.parts lows c.raise_to.new.lows) c.loop-row.invariant.lows c.raise_to.ensures.lows))
 
-pub returns-then-is_wanted_at-clause-told : goal.returns-then-is_wanted_at-clause-told
-returns-then-is_wanted_at-clause-told c = let l : Limits = limits_of c.args.self.now.words in let at = goal.at.returns-then-is_wanted_at-clause-told c in let s = look_steps l in let i = c.loop-row.invariant in
-    let P = PassedOver l c.args.wanted in let d : ℕ = c.loop-row.row - c.later-start.result in let most = c.later-start.ensures.most in let behind = most.1 in let on = most.0 in let start = i.start in
+pub returns-then-is_parked_at-clause-told : goal.returns-then-is_parked_at-clause-told
+returns-then-is_parked_at-clause-told c = let l : Limits = limits_of c.args.self.now.words in let at = goal.at.returns-then-is_parked_at-clause-told c in let s = look_steps l in let i = c.loop-row.invariant in
+    let P = PassedOver l in let d : ℕ = c.loop-row.row - c.later-start.result in let most = c.later-start.ensures.most in let behind = most.1 in let on = most.0 in let start = i.start in
     let low = above at.After-mark_at-mark in let f = front at.After-part_rows in let less = c.loop-row-test.true in let top = c.requires.end.1 in
     let room : d * s + s ≤ (BLOCK_ROWS * l.spare - slice_index c.args.lows.now l.parts) * s = rows_more d (BLOCK_ROWS * l.spare - slice_index c.args.lows.now l.parts) s (omega arith) in (
       omega arith,
       omega arith,
-      subst (Hits l c.args.wanted c.loop-row.row) (sym c.raise_to.ensures.seen) (c.is_wanted_at.ensures.yes c.if-is_wanted_at.true),
-      sought_passed l P (over_widens l c.args.wanted) (2 + (BLOCK_ROWS * l.spare - slice_index c.args.lows.now l.parts) * s) c.args.from c.loop-row.row c.loop-row.row (view_of c.args.seat.now) (view_of c.raise_to.new.seat)
+      subst (Hits l c.loop-row.row) (sym c.raise_to.ensures.seen) (c.is_parked_at.ensures.yes c.if-is_parked_at.true),
+      sought_passed l P (over_widens l) (2 + (BLOCK_ROWS * l.spare - slice_index c.args.lows.now l.parts) * s) c.args.from c.loop-row.row c.loop-row.row (view_of c.args.seat.now) (view_of c.raise_to.new.seat)
           (sought_few l ((1 + (d * s + s)) + 1) (2 + (BLOCK_ROWS * l.spare - slice_index c.args.lows.now l.parts) * s) (EachRow P c.args.from c.loop-row.row) _ _ (omega arith)
-          (sought_raised l c.args.wanted (1 + (d * s + s)) c.args.from c.loop-row.row (view_of c.args.seat.now) (view_of c.is_wanted_at.new.seat) (view_of c.raise_to.new.seat)
-          (from_mark at.After-later-start (d * s + s) c.loop-row.row (view_of c.is_wanted_at.new.seat)
-          (inr (begun_hit l P (over_widens l c.args.wanted) (d * s) c.later-start.result s c.loop-row.row _ _ _ i.begun c.is_wanted_at.ensures.acted))) c.raise_to.ensures.looked))
+          (sought_raised l (1 + (d * s + s)) c.args.from c.loop-row.row (view_of c.args.seat.now) (view_of c.is_parked_at.new.seat) (view_of c.raise_to.new.seat)
+          (from_mark at.After-later-start (d * s + s) c.loop-row.row (view_of c.is_parked_at.new.seat)
+          (inr (begun_hit l P (over_widens l) (d * s) c.later-start.result s c.loop-row.row _ _ _ i.begun c.is_parked_at.ensures.acted))) c.raise_to.ensures.looked))
           (λ j from_on below. absurd (omega arith)),
     )
 
@@ -114,45 +112,45 @@ loop-row-init c = let l : Limits = limits_of c.args.self.now.words in let at = g
   same = search rules;
   lows = refl;
   low = let most = c.later-start.ensures.most.1 in omega arith;
-  rose = rose_none l (kind_of c.args.wanted) (view_of c.mark_at-mark.new.seat) _;
+  rose = rose_none l 0 (view_of c.mark_at-mark.new.seat) _;
   begun = inl (search rules, search rules);
 }
 
 pub loop-row-preserved : goal.loop-row-preserved
-loop-row-preserved c = let l : Limits = limits_of c.args.self.now.words in let at = goal.at.loop-row-preserved c in let s = look_steps l in let i = c.loop-row.invariant in let start = i.start in let on = c.is_wanted_at.ensures.on.on in
-    let P = PassedOver l c.args.wanted in let W = over_widens l c.args.wanted in let F = c.later-start.result in let d : ℕ = c.loop-row.row - F in record {
+loop-row-preserved c = let l : Limits = limits_of c.args.self.now.words in let at = goal.at.loop-row-preserved c in let s = look_steps l in let i = c.loop-row.invariant in let start = i.start in let on = c.is_parked_at.ensures.on.on in
+    let P = PassedOver l in let W = over_widens l in let F = c.later-start.result in let d : ℕ = c.loop-row.row - F in record {
       start = omega arith;
-      inside = c.is_wanted_at.ensures.on.inside;
+      inside = c.is_parked_at.ensures.on.inside;
       same = search rules;
       lows = i.lows;
-      low = c.is_wanted_at.ensures.low.0;
-      rose = rose at.After-is_wanted_at;
-      begun = begun_few l P W (d * s + s) F _ c.is_wanted_at.new.row _ _ (rows_more d (c.is_wanted_at.new.row - F) s (omega arith))
-          (begun_on l P W (d * s) F s c.loop-row.row _ _ _ i.begun c.is_wanted_at.new.row start (c.is_wanted_at.ensures.no c.if-is_wanted_at.false));
+      low = c.is_parked_at.ensures.low.0;
+      rose = rose at.After-is_parked_at;
+      begun = begun_few l P W (d * s + s) F _ c.is_parked_at.new.row _ _ (rows_more d (c.is_parked_at.new.row - F) s (omega arith))
+          (begun_on l P W (d * s) F s c.loop-row.row _ _ _ i.begun c.is_parked_at.new.row start (c.is_parked_at.ensures.no c.if-is_parked_at.false));
     }
 
 -- the steps from the mark to the end
 all_since : (c : After-loop-row) → Looked (limits_of c.args.self.now.words) ((c.loop-row.row - c.later-start.result) * look_steps (limits_of c.args.self.now.words)) (view_of c.mark_at-mark.new.seat) (view_of c.loop-row.seat)
 all_since c = let l : Limits = limits_of c.args.self.now.words in
-    begun_looked l (PassedOver l c.args.wanted) (over_widens l c.args.wanted) _ _ c.loop-row.row _ _ c.loop-row.invariant.begun c.mark_at-mark.ensures.acted.walk.steady
+    begun_looked l (PassedOver l) (over_widens l) _ _ c.loop-row.row _ _ c.loop-row.invariant.begun c.mark_at-mark.ensures.acted.walk.steady
 
 pub raise_to-requires-2-clause-low : goal.raise_to-requires-2-clause-low
 raise_to-requires-2-clause-low c = let l : Limits = limits_of c.args.self.now.words in let at = goal.at.raise_to-requires-2-clause-low c in let e = first at.After-part_rows in let f = front at.After-part_rows in
     let i = c.loop-row.invariant in let high = i.inside in let low = i.low in (
       (λ not. absurd (not (parts at.After-mark_at-mark)), λ _. omega arith),
-      subst (λ (z : ℕ × ℕ). Rose z.0 (view_of c.loop-row.seat) (z.1 + c.mark_at-mark.result) c.loop-row.low) (λ j. (sym (kind at.After-mark_at-mark) j, sym e j)) i.rose,
+      subst (λ (z : ℕ). Rose 0 (view_of c.loop-row.seat) (z + c.mark_at-mark.result) c.loop-row.low) (sym e) i.rose,
     )
 
 pub raise_to-requires-2-clause-mark : goal.raise_to-requires-2-clause-mark
 raise_to-requires-2-clause-mark c = let p : ℕ = c.args.self.now.places.limits.parts in
-    ((all_since (goal.at.raise_to-requires-2-clause-mark c).After-loop-row).walk.knows (PartMark c.kind_of-kind.result p c.mark_at-mark.result) c.mark_at-mark.ensures.knows, ap (λ lows. slice_index lows p) c.loop-row.invariant.lows ∙ c.mark_at-mark.ensures.lows.0)
+    ((all_since (goal.at.raise_to-requires-2-clause-mark c).After-loop-row).walk.knows (PartMark 0 p c.mark_at-mark.result) c.mark_at-mark.ensures.knows, ap (λ lows. slice_index lows p) c.loop-row.invariant.lows ∙ c.mark_at-mark.ensures.lows.0)
 
 pub raise_to-requires-2-clause-remembers : goal.raise_to-requires-2-clause-remembers
-raise_to-requires-2-clause-remembers c = let k = c.kind_of-kind.result in
+raise_to-requires-2-clause-remembers c = let k : ℕ = 0 in
     subst (Remembers k (view_of c.loop-row.seat)) (sym c.loop-row.invariant.lows) (remembers_kind k c.mark_at-mark.new.lows _ _ _ _ _ (all_since (goal.at.raise_to-requires-2-clause-remembers c).After-loop-row).walk c.mark_at-mark.ensures.remembers)
 
 pub returns-clause-remembers : goal.returns-clause-remembers
-returns-clause-remembers c = subst (λ k. Remembers k (view_of c.raise_to-2.new.seat) c.raise_to-2.new.lows) c.kind_of-kind.ensures.answer c.raise_to-2.ensures.remembers
+returns-clause-remembers c = c.raise_to-2.ensures.remembers
 
 pub returns-clause-lows : goal.returns-clause-lows
 returns-clause-lows c = subst (λ p. RisesAt p c.args.lows.now c.raise_to-2.new.lows) (parts (goal.at.returns-clause-lows c).After-mark_at-mark)
@@ -160,10 +158,10 @@ returns-clause-lows c = subst (λ p. RisesAt p c.args.lows.now c.raise_to-2.new.
 
 pub returns-clause-told : goal.returns-clause-told
 returns-clause-told c = let l : Limits = limits_of c.args.self.now.words in let at = goal.at.returns-clause-told c in let i = c.loop-row.invariant in
-    let s = look_steps l in let P = PassedOver l c.args.wanted in let d : ℕ = c.loop-row.row - c.later-start.result in
+    let s = look_steps l in let P = PassedOver l in let d : ℕ = c.loop-row.row - c.later-start.result in
     let past = c.loop-row-test.false in let top = i.inside in let start = c.later-start.ensures.most.1 in let low = above at.After-mark_at-mark in let f = front at.After-part_rows in
     let few : d * s ≤ (BLOCK_ROWS * l.spare - slice_index c.args.lows.now l.parts) * s = mul-le-mul_right s (omega arith) in
-    sought_passed l P (over_widens l c.args.wanted) (2 + (BLOCK_ROWS * l.spare - slice_index c.args.lows.now l.parts) * s) c.args.from c.loop-row.row (rows_of l) (view_of c.args.seat.now) (view_of c.raise_to-2.new.seat)
+    sought_passed l P (over_widens l) (2 + (BLOCK_ROWS * l.spare - slice_index c.args.lows.now l.parts) * s) c.args.from c.loop-row.row (rows_of l) (view_of c.args.seat.now) (view_of c.raise_to-2.new.seat)
     (sought_few l ((1 + d * s) + 1) (2 + (BLOCK_ROWS * l.spare - slice_index c.args.lows.now l.parts) * s) (EachRow P c.args.from c.loop-row.row) _ _ (omega arith)
-    (sought_raised l c.args.wanted (1 + d * s) c.args.from c.loop-row.row (view_of c.args.seat.now) (view_of c.loop-row.seat) (view_of c.raise_to-2.new.seat) (from_mark at.After-later-start (d * s) c.loop-row.row (view_of c.loop-row.seat) i.begun) c.raise_to-2.ensures.looked))
-    (λ j from_on high. none_over l c.args.wanted j (seen_by c.args.seat.now) (c.requires.end.2 j (omega arith) high))
+    (sought_raised l (1 + d * s) c.args.from c.loop-row.row (view_of c.args.seat.now) (view_of c.loop-row.seat) (view_of c.raise_to-2.new.seat) (from_mark at.After-later-start (d * s) c.loop-row.row (view_of c.loop-row.seat) i.begun) c.raise_to-2.ensures.looked))
+    (λ j from_on high. none_over l j (seen_by c.args.seat.now) (c.requires.end.2 j (omega arith) high))

@@ -1,10 +1,11 @@
-use Rattle.std.proofs.Common.{◌≡◌, ◌+◌, ◌-◌, ◌*◌, ◌≤◌, ap, arith, subst}
+use Rattle.std.proofs.Common.{rules, inl, ◌≡◌, ◌+◌, ◌-◌, ◌*◌, ◌≤◌, ap, arith, subst}
 use Rattle.tp_model.specs.declared.types.Limits.{Limits}
 use Rattle.tp_rule.specs.Rule.{IsInside}
 use Rattle.tp_rule.specs.Tables.{limits_of}
 use Rattle.tp_rule.specs.Views.{view_of}
 use Rattle.tp_manager.specs.Walks.{Looked, Rose}
-use Rattle.tp_manager.proofs.Walks.{looked_few, looked_none}
+use Rattle.tp_manager.proofs.Rests.{remembers_set}
+use Rattle.tp_manager.proofs.Walks.{looked_few, looked_none, remembers_kind}
 use Rattle.tp_manager.proofs.Marks.{raised_looked, rose_low}
 use Rattle.tp_manager.proofs.manager.Shared.raise_to.Goals as goal
 use Rattle.tp_manager.proofs.manager.Shared.raise_to.Goals.{After-raise}
@@ -27,6 +28,15 @@ returns-then-not-raise-clause-looked c = one (goal.at.returns-then-not-raise-cla
 
 pub returns-clause-looked : goal.returns-clause-looked
 returns-clause-looked c = one (goal.at.returns-clause-looked c).After-raise
+
+pub returns-then-not-raise-clause-remembers : goal.returns-then-not-raise-clause-remembers
+returns-then-not-raise-clause-remembers c = remembers_kind c.args.kind c.args.lows.now _ _ _ _ _ (one (goal.at.returns-then-not-raise-clause-remembers c).After-raise).walk c.requires.remembers
+
+pub returns-clause-remembers : goal.returns-clause-remembers
+returns-clause-remembers c = let at = (goal.at.returns-clause-remembers c).After-raise in let a = (one at).walk in
+    let all = c.told-lows in let top = c.args.self.now.words.places.valid.parts.1 in let inside = c.requires.part in
+    remembers_set c.args.kind c.args.part _ c.args.lows.now (view_of c.raise.new.seat) (omega arith) (inl (c.raise.ensures.hit (search rules)))
+    (remembers_kind c.args.kind c.args.lows.now _ _ _ _ _ a c.requires.remembers)
 
 pub returns-then-to-mark-clause-looked : goal.returns-then-to-mark-clause-looked
 returns-then-to-mark-clause-looked c = let l : Limits = limits_of c.args.self.now.words in let v = view_of c.args.seat.now in looked_few l 0 1 v v (omega arith) (looked_none l v c.requires.steady)

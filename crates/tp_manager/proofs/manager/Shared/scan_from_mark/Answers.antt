@@ -1,5 +1,4 @@
-use Rattle.std.proofs.Common.{inr, ⊎_elim, ◌<◌, ◌≡◌, ◌+◌, ◌-◌, ◌*◌, ◌≤◌, ℕ, List, inl, slice_index, refl, sym, ◌∙◌, ap, subst, arith, rules, mul-le-mul_right}
-use mathlib.Core.List.{IsPrefix}
+use Rattle.std.proofs.Common.{inr, ⊎_elim, ◌<◌, ◌≡◌, ◌+◌, ◌-◌, ◌*◌, ◌≤◌, ℕ, List, inl, slice_index, refl, sym, ap, subst, arith, rules, mul-le-mul_right}
 use Rattle.tp_model.specs.declared.types.Limits.{Limits}
 use Rattle.tp_model.specs.declared.trace.TraceEntry.{TraceEntry}
 use Rattle.tp_model.specs.Steps.{IsRowOf}
@@ -8,35 +7,36 @@ use Rattle.tp_rule.specs.Tables.{limits_of}
 use Rattle.tp_rule.specs.Views.{seen_by, view_of}
 use Rattle.tp_manager.specs.Bounds.{try_steps}
 use Rattle.tp_manager.specs.Walks.{EachRow, Looked, OfPart, PassedBy, Remembers, RemembersDone, RisesAt, Rose, Sought, Walked, WasOfUse}
-use Rattle.tp_manager.proofs.Walks.{looked, looked_begins, remembers_kind, sought_few, walked_begins}
+use Rattle.tp_manager.proofs.Rests.{rests_by}
+use Rattle.tp_manager.proofs.Walks.{looked_begins, remembers_kind, sought_few, walked_begins, walked_then}
 use Rattle.tp_rule.specs.declared.view.Known.TheVariants.{PartMark}
 use mathlib.Core.Logic.{dite}
 use native.Mathlib.Decide.{dec_le}
 use Rattle.tp_manager.proofs.Lows.{rises_at_then}
 use Rattle.tp_manager.proofs.Passes.{done_walked}
-use Rattle.tp_manager.proofs.Marks.{done_passed, goes_walked, over_passed, past_near, rose_past, rests_by, rests_later, rose_then, took_looked, use_later}
+use Rattle.tp_manager.proofs.Marks.{done_passed, goes_walked, over_passed, past_near, rose_both, rose_past, rose_then, took_looked, use_later}
 use Rattle.tp_manager.proofs.Scans.{passed_widens, took_few, took_from, took_then}
 use Rattle.tp_manager.proofs.Seeks.{part_on, begun_few, begun_looked, begun_on, rows_more, sought_from, sought_then}
 use Rattle.tp_manager.proofs.manager.Shared.scan_from_mark.Goals as goal
-use Rattle.tp_manager.proofs.manager.Shared.scan_from_mark.Goals.{After-loop-row, After-mark_at-mark, After-past_done-begin, After-try_row}
+use Rattle.tp_manager.proofs.manager.Shared.scan_from_mark.Goals.{After-loop-row, After-low_at-mark, After-past_done-begin, After-try_row}
 
 -- where the part begins, and where the scan does
-first : (c : After-mark_at-mark) → c.args.part * (limits_of c.args.self.now.words).rows ≡ c.args.part * c.args.self.now.places.limits.rows
+first : (c : After-low_at-mark) → c.args.part * (limits_of c.args.self.now.words).rows ≡ c.args.part * c.args.self.now.places.limits.rows
 first c = ap (λ (z : Limits). c.args.part * z.rows) c.args.self.now.same
 
-wide : (c : After-mark_at-mark) → (limits_of c.args.self.now.words).rows ≡ c.args.self.now.places.limits.rows
+wide : (c : After-low_at-mark) → (limits_of c.args.self.now.words).rows ≡ c.args.self.now.places.limits.rows
 wide c = ap (λ (z : Limits). z.rows) c.args.self.now.same
 
 abbrev from : (c : After-past_done-begin) → ℕ
-from c = c.args.part * c.args.self.now.places.limits.rows + c.mark_at-mark.result
+from c = c.args.part * c.args.self.now.places.limits.rows + slice_index c.low_at-mark.new.lows c.args.part
 
 -- what the pass remembers as done is so behind the load of the mark
-still_done : (c : After-mark_at-mark) → RemembersDone (view_of c.mark_at-mark.new.seat) c.args.done
-still_done c = done_walked _ 1 _ _ _ c.args.done c.requires.steady.pass.1 c.mark_at-mark.ensures.acted.walk c.requires.done
+still_done : (c : After-low_at-mark) → RemembersDone (view_of c.low_at-mark.new.seat) c.args.done
+still_done c = done_walked _ 1 _ _ _ c.args.done c.requires.steady.pass.1 c.low_at-mark.ensures.acted.walk c.requires.done
 
 -- the scan begins at the mark, or one row behind it
 begins : (c : After-past_done-begin) → (from c ≤ c.past_done-begin.result) × (c.past_done-begin.result ≤ from c + 1) × (c.past_done-begin.result ≤ c.args.part * c.args.self.now.places.limits.rows + c.args.self.now.places.limits.rows)
-begins c = let inside = c.mark_at-mark.ensures.low.0 in let w = ap (λ (z : Limits). z.rows) c.args.self.now.same in
+begins c = let inside = c.low_at-mark.ensures.low.0 in let w = ap (λ (z : Limits). z.rows) c.args.self.now.same in
     past_near (limits_of c.args.self.now.words) c.past_done-begin.result (from c) _ c.args.done (omega arith) c.past_done-begin.ensures
 
 -- the row is of the part, and so is what comes next, but for the part's end
@@ -47,79 +47,97 @@ near c = let l : Limits = limits_of c.args.self.now.words in let i = c.loop-row.
     let own : IsRowOf l c.args.part c.loop-row.row = (c.requires.part, omega arith, omega arith) in (own, part_on l c.loop-row.row c.try_row.new.row c.args.part c.try_row.ensures.on own)
 
 -- the steps from the mark up to the row
-since : (c : After-try_row) → Looked (limits_of c.args.self.now.words) ((c.loop-row.row - c.past_done-begin.result) * try_steps) (view_of c.mark_at-mark.new.seat) (view_of c.loop-row.seat)
+since : (c : After-try_row) → Looked (limits_of c.args.self.now.words) ((c.loop-row.row - c.past_done-begin.result) * try_steps) (view_of c.low_at-mark.new.seat) (view_of c.loop-row.seat)
 since c = let l : Limits = limits_of c.args.self.now.words in
-    begun_looked l (PassedBy l c.args.stage) (passed_widens l c.args.stage) _ _ c.loop-row.row _ _ c.loop-row.invariant.begun c.mark_at-mark.ensures.acted.walk.steady
+    begun_looked l (PassedBy l c.args.stage) (passed_widens l c.args.stage) _ _ c.loop-row.row _ _ c.loop-row.invariant.begun c.low_at-mark.ensures.acted.walk.steady
 
 -- the rows before the first that is looked at are over
-under : (c : After-past_done-begin) (j : ℕ) → c.args.part * (limits_of c.args.self.now.words).rows ≤ j → j < c.past_done-begin.result → PassedBy (limits_of c.args.self.now.words) c.args.stage j (seen_by c.mark_at-mark.new.seat) (seen_by c.mark_at-mark.new.seat)
-under c j from_on below = let l : Limits = limits_of c.args.self.now.words in let e = ap (λ (z : Limits). c.args.part * z.rows) c.args.self.now.same in let old = done_walked l 1 _ _ _ c.args.done c.requires.steady.pass.1 c.mark_at-mark.ensures.acted.walk c.requires.done in
+under : (c : After-past_done-begin) (j : ℕ) → c.args.part * (limits_of c.args.self.now.words).rows ≤ j → j < c.past_done-begin.result → PassedBy (limits_of c.args.self.now.words) c.args.stage j (seen_by c.low_at-mark.new.seat) (seen_by c.low_at-mark.new.seat)
+under c j from_on below = let l : Limits = limits_of c.args.self.now.words in let e = ap (λ (z : Limits). c.args.part * z.rows) c.args.self.now.same in let old = done_walked l 1 _ _ _ c.args.done c.requires.steady.pass.1 c.low_at-mark.ensures.acted.walk c.requires.done in
     dite (dec_le (from c) j)
-    (λ past. done_passed l c.args.stage (view_of c.mark_at-mark.new.seat) c.past_done-begin.result (from c) _ c.args.done c.mark_at-mark.ensures.acted.walk.steady.pass.1 old c.past_done-begin.ensures j past below)
-    (λ not. over_passed l c.args.stage (seen_by c.mark_at-mark.new.seat) c.args.part c.mark_at-mark.result j c.requires.stage.0 c.mark_at-mark.ensures.low.1 from_on (omega arith))
+    (λ past. done_passed l c.args.stage (view_of c.low_at-mark.new.seat) c.past_done-begin.result (from c) _ c.args.done c.low_at-mark.ensures.acted.walk.steady.pass.1 old c.past_done-begin.ensures j past below)
+    (λ not. over_passed l c.args.stage (seen_by c.low_at-mark.new.seat) c.args.part (slice_index c.low_at-mark.new.lows c.args.part) j c.requires.stage.0 c.low_at-mark.ensures.low.1 from_on (omega arith))
 
 -- what is known finished after one more row
 rose : (c : After-try_row) (n : ℕ) (ms : List TraceEntry) → Walked (limits_of c.args.self.now.words) n ms (view_of c.loop-row.seat) (view_of c.try_row.new.seat)
-    → Rose c.args.stage (view_of c.try_row.new.seat) (c.args.part * c.args.self.now.places.limits.rows + c.mark_at-mark.result) c.try_row.new.low
+    → Rose c.args.stage (view_of c.try_row.new.seat) (c.args.part * c.args.self.now.places.limits.rows + c.low_at-mark.result) c.try_row.new.low
 rose c n ms a = let l : Limits = limits_of c.args.self.now.words in let v = view_of c.loop-row.seat in
     rose_then l c.args.stage v (view_of c.try_row.new.seat) _ c.loop-row.low c.try_row.new.low (goes_walked l n ms v _ (since c).walk.steady.pass.1 a) c.loop-row.invariant.rose c.try_row.ensures.low.1
 
 -- the first row that isn't known of no use, after one more row
 stuck : (c : After-try_row) (n : ℕ) (ms : List TraceEntry) → Walked (limits_of c.args.self.now.words) n ms (view_of c.loop-row.seat) (view_of c.try_row.new.seat) → c.try_row.new.low < c.try_row.new.row
-    → WasOfUse (limits_of c.args.self.now.words) c.args.stage c.try_row.new.low (seen_by c.mark_at-mark.new.seat) (seen_by c.try_row.new.seat)
-stuck c n ms a less = let l : Limits = limits_of c.args.self.now.words in let h = seen_by c.mark_at-mark.new.seat in let i = c.loop-row.invariant in
+    → WasOfUse (limits_of c.args.self.now.words) c.args.stage c.try_row.new.low (seen_by c.low_at-mark.new.seat) (seen_by c.try_row.new.seat)
+stuck c n ms a less = let l : Limits = limits_of c.args.self.now.words in let h = seen_by c.low_at-mark.new.seat in let i = c.loop-row.invariant in
     ⊎_elim (λ t. subst (λ z. WasOfUse l c.args.stage z h (seen_by c.try_row.new.seat)) (sym t.1) (use_later l c.args.stage c.loop-row.low h h _ _ (begins_refl h) (walked_begins l n ms _ _ a) (i.stuck t.0)))
     (λ was. use_later l c.args.stage c.try_row.new.low h (seen_by c.loop-row.seat) _ _ (looked_begins l _ _ _ (since c)) (begins_refl _) was) (c.try_row.ensures.stays less)
 
--- what the call had seen before the mark was loaded
-earlier : (c : After-mark_at-mark) → IsPrefix (seen_by c.args.seat.now) (seen_by c.mark_at-mark.new.seat)
-earlier c = let l : Limits = limits_of c.args.self.now.words in looked_begins l 1 _ _ (looked l 1 _ _ c.mark_at-mark.ensures.acted)
+-- the steps from the mark to the end of the part
+all_since : (c : After-loop-row) → Looked (limits_of c.args.self.now.words) ((c.loop-row.row - c.past_done-begin.result) * try_steps) (view_of c.low_at-mark.new.seat) (view_of c.loop-row.seat)
+all_since c = let l : Limits = limits_of c.args.self.now.words in
+    begun_looked l (PassedBy l c.args.stage) (passed_widens l c.args.stage) _ _ c.loop-row.row _ _ c.loop-row.invariant.begun c.low_at-mark.ensures.acted.walk.steady
 
 pub returns-in-Some-clause-rests : goal.returns-in-Some-clause-rests
-returns-in-Some-clause-rests c = let l : Limits = limits_of c.args.self.now.words in let at = goal.at.returns-in-Some-clause-rests c in let w = view_of c.raise_to.new.seat in
-    rests_later l c.args.stage c.args.part _ (seen_by c.args.seat.now) (seen_by c.mark_at-mark.new.seat) w w (earlier at.After-mark_at-mark) (begins_refl w.seen) (λ x q. q)
-    (rests_by l c.args.stage c.args.part _ c.try_row.new.low c.try_row.new.row c.mark_at-mark.result (seen_by c.mark_at-mark.new.seat) (view_of c.try_row.new.seat) w c.raise_to.ensures.seen c.raise_to.ensures.raised
-    (stuck at.After-try_row _ _ c.in-Some.ensures.told.0.walk) (inl c.in-Some.ensures.behind))
+returns-in-Some-clause-rests c = let l : Limits = limits_of c.args.self.now.words in let at = goal.at.returns-in-Some-clause-rests c in let t = c.in-Some.ensures.told.0 in
+    rests_by l 1 _ _ (view_of c.args.seat.now) (view_of c.low_at-mark.new.seat) (view_of c.try_row.new.seat) (view_of c.raise_low.new.seat) c.low_at-mark.ensures.acted
+    (walked_then l _ 1 _ _ _ _ _ (walked_then l _ _ _ _ _ _ _ (since at.After-try_row).walk t.walk) c.raise_low.ensures.looked.walk) c.raise_low.ensures.seen
+    c.args.stage c.args.part _ c.try_row.new.low c.try_row.new.row c.raise_low.ensures.rests (stuck at.After-try_row _ _ t.walk) (inl c.in-Some.ensures.behind.0)
 
 pub returns-clause-rests : goal.returns-clause-rests
-returns-clause-rests c = let l : Limits = limits_of c.args.self.now.words in let at = (goal.at.returns-clause-rests c).After-mark_at-mark in let w = view_of c.raise_to-2.new.seat in let i = c.loop-row.invariant in
-    let high = i.inside in let low = i.low in let past = c.loop-row-test.false in let e = first at in let wd = wide at in
-    rests_later l c.args.stage c.args.part _ (seen_by c.args.seat.now) (seen_by c.mark_at-mark.new.seat) w w (earlier at) (begins_refl w.seen) (λ x q. q)
-    (rests_by l c.args.stage c.args.part _ c.loop-row.low c.loop-row.row c.mark_at-mark.result (seen_by c.mark_at-mark.new.seat) (view_of c.loop-row.seat) w c.raise_to-2.ensures.seen c.raise_to-2.ensures.raised i.stuck
-    (dite (dec_le (c.loop-row.low + 1) c.loop-row.row) (λ less. let r : c.loop-row.low < c.loop-row.row = omega arith in inl r) (λ not. inr (omega arith))))
+returns-clause-rests c = let l : Limits = limits_of c.args.self.now.words in let at = goal.at.returns-clause-rests c in let i = c.loop-row.invariant in
+    let high = i.inside in let low = i.low in let past = c.loop-row-test.false in let e = first at.After-low_at-mark in let wd = wide at.After-low_at-mark in
+    rests_by l 1 _ _ (view_of c.args.seat.now) (view_of c.low_at-mark.new.seat) (view_of c.loop-row.seat) (view_of c.raise_low-2.new.seat) c.low_at-mark.ensures.acted
+    (walked_then l _ 1 _ _ _ _ _ (all_since at.After-loop-row).walk c.raise_low-2.ensures.looked.walk) c.raise_low-2.ensures.seen
+    c.args.stage c.args.part _ c.loop-row.low c.loop-row.row c.raise_low-2.ensures.rests i.stuck
+    (dite (dec_le (c.loop-row.low + 1) c.loop-row.row) (λ less. let r : c.loop-row.low < c.loop-row.row = omega arith in inl r) (λ not. inr (omega arith)))
 
--- the pass remembered no more than was found
-above : (c : After-mark_at-mark) → slice_index c.args.lows.now c.args.part ≤ c.mark_at-mark.result
-above c = let up = c.mark_at-mark.ensures.lows.1.0 c.args.part in let is = c.mark_at-mark.ensures.lows.0 in omega arith
+pub returns-in-Some-clause-inside : goal.returns-in-Some-clause-inside
+returns-in-Some-clause-inside c = let n = near (goal.at.returns-in-Some-clause-inside c).After-try_row in let is = c.in-Some.ensures.behind.1 in let high = n.0.2 in omega arith
 
-pub raise_to-requires-clause-low : goal.raise_to-requires-clause-low
-raise_to-requires-clause-low c = let l : Limits = limits_of c.args.self.now.words in let at = (goal.at.raise_to-requires-clause-low c).After-try_row in let t = c.in-Some.ensures.told.0 in
+-- the pass remembered no more than it does now
+above : (c : After-low_at-mark) → slice_index c.args.lows.now c.args.part ≤ slice_index c.low_at-mark.new.lows c.args.part
+above c = c.low_at-mark.ensures.lows.0 c.args.part
+
+-- nor less than the mark that was found
+found : (c : After-low_at-mark) → c.low_at-mark.result ≤ slice_index c.low_at-mark.new.lows c.args.part
+found c = let up = c.low_at-mark.ensures.rose.0 in omega arith
+
+-- the scan began no row before it
+under_low : (c : After-past_done-begin) (lows : List ℕ) (low : ℕ) → lows ≡ c.low_at-mark.new.lows → c.past_done-begin.result ≤ low → c.args.part * (limits_of c.args.self.now.words).rows + slice_index lows c.args.part ≤ low
+under_low c lows low same up = let behind = (begins c).0 in let e = ap (λ (z : Limits). c.args.part * z.rows) c.args.self.now.same in
+    subst (λ z. c.args.part * (limits_of c.args.self.now.words).rows + slice_index z c.args.part ≤ low) (sym same) (omega arith)
+
+more : (c : After-try_row) → c.past_done-begin.result ≤ c.try_row.new.low
+more c = let up = c.loop-row.invariant.above in let on = c.try_row.ensures.low.1.0 in omega arith
+
+pub raise_low-requires-clause-low : goal.raise_low-requires-clause-low
+raise_low-requires-clause-low c = let l : Limits = limits_of c.args.self.now.words in let at = (goal.at.raise_low-requires-clause-low c).After-try_row in let t = c.in-Some.ensures.told.0 in
     let on = (near at).1 in let low = c.try_row.ensures.low.0 in (
       omega arith,
-      subst (λ z. Rose c.args.stage (view_of c.try_row.new.seat) (z + c.mark_at-mark.result) c.try_row.new.low) (sym (first (goal.at.raise_to-requires-clause-low c).After-mark_at-mark))
+      under_low (goal.at.raise_low-requires-clause-low c).After-past_done-begin c.loop-row.lows c.try_row.new.low c.loop-row.invariant.lows (more at),
+      subst (λ z. Rose c.args.stage (view_of c.try_row.new.seat) (z + c.low_at-mark.result) c.try_row.new.low) (sym (first (goal.at.raise_low-requires-clause-low c).After-low_at-mark))
           (rose at _ _ t.walk),
     )
 
-pub raise_to-requires-clause-mark : goal.raise_to-requires-clause-mark
-raise_to-requires-clause-mark c = let at = (goal.at.raise_to-requires-clause-mark c).After-try_row in let known = PartMark c.args.stage c.args.part c.mark_at-mark.result in
-    (c.in-Some.ensures.told.0.walk.knows known ((since at).walk.knows known c.mark_at-mark.ensures.knows), ap (λ lows. slice_index lows c.args.part) c.loop-row.invariant.lows ∙ c.mark_at-mark.ensures.lows.0)
+pub raise_low-requires-clause-mark : goal.raise_low-requires-clause-mark
+raise_low-requires-clause-mark c = let at = (goal.at.raise_low-requires-clause-mark c).After-try_row in let low = (goal.at.raise_low-requires-clause-mark c).After-low_at-mark in let known = PartMark c.args.stage c.args.part c.low_at-mark.result in
+    (c.in-Some.ensures.told.0.walk.knows known ((since at).walk.knows known c.low_at-mark.ensures.knows), subst (λ lows. c.low_at-mark.result ≤ slice_index lows c.args.part) (sym c.loop-row.invariant.lows) (found low))
 
-pub raise_to-requires-clause-remembers : goal.raise_to-requires-clause-remembers
-raise_to-requires-clause-remembers c = let at = (goal.at.raise_to-requires-clause-remembers c).After-try_row in
-    subst (Remembers c.args.stage (view_of c.try_row.new.seat)) (sym c.loop-row.invariant.lows) (remembers_kind c.args.stage c.mark_at-mark.new.lows _ _ _ _ _ c.in-Some.ensures.told.0.walk (remembers_kind c.args.stage c.mark_at-mark.new.lows _ _ _ _ _ (since at).walk c.mark_at-mark.ensures.remembers))
+pub raise_low-requires-clause-remembers : goal.raise_low-requires-clause-remembers
+raise_low-requires-clause-remembers c = let at = (goal.at.raise_low-requires-clause-remembers c).After-try_row in
+    subst (Remembers c.args.stage (view_of c.try_row.new.seat)) (sym c.loop-row.invariant.lows) (remembers_kind c.args.stage c.low_at-mark.new.lows _ _ _ _ _ c.in-Some.ensures.told.0.walk (remembers_kind c.args.stage c.low_at-mark.new.lows _ _ _ _ _ (since at).walk c.low_at-mark.ensures.remembers))
 
 pub returns-in-Some-clause-lows : goal.returns-in-Some-clause-lows
-returns-in-Some-clause-lows c = rises_at_then c.args.part c.args.lows.now c.mark_at-mark.new.lows c.raise_to.new.lows c.mark_at-mark.ensures.lows.1 (subst (λ lows. RisesAt c.args.part lows c.raise_to.new.lows) c.loop-row.invariant.lows c.raise_to.ensures.lows)
+returns-in-Some-clause-lows c = rises_at_then c.args.part c.args.lows.now c.low_at-mark.new.lows c.raise_low.new.lows c.low_at-mark.ensures.lows (subst (λ lows. RisesAt c.args.part lows c.raise_low.new.lows) c.loop-row.invariant.lows c.raise_low.ensures.lows)
 
 pub returns-in-Some-clause-told : goal.returns-in-Some-clause-told
 returns-in-Some-clause-told c = let l : Limits = limits_of c.args.self.now.words in let s = try_steps in let at = goal.at.returns-in-Some-clause-told c in let n = near at.After-try_row in let start = c.loop-row.invariant.from in let behind = (begins at.After-past_done-begin).0 in
-    let e = first at.After-mark_at-mark in let high = n.0.2 in let d : ℕ = c.loop-row.row - c.past_done-begin.result in
-    let low = above at.After-mark_at-mark in
+    let e = first at.After-low_at-mark in let high = n.0.2 in let d : ℕ = c.loop-row.row - c.past_done-begin.result in
+    let low = above at.After-low_at-mark in
     let room : d * s + s ≤ (l.rows - slice_index c.args.lows.now c.args.part) * s = rows_more d (l.rows - slice_index c.args.lows.now c.args.part) s (omega arith) in (
       took_few l c.args.stage c.args.unit c.in-Some.taken.attempt c.in-Some.taken.element ((1 + (d * s + s)) + 1) (2 + (l.rows - slice_index c.args.lows.now c.args.part) * s) (c.args.part * l.rows) _ _ (omega arith)
           (took_looked l (c.args.part * l.rows) c.args.stage c.args.unit c.in-Some.taken.attempt c.in-Some.taken.element (1 + (d * s + s)) 1 _ _ _
-          (took_from l c.args.stage c.args.unit c.in-Some.taken.attempt c.in-Some.taken.element (d * s + s) (c.args.part * l.rows) c.past_done-begin.result _ _ _ (omega arith) c.mark_at-mark.ensures.acted (under at.After-past_done-begin)
-          (took_then l c.args.stage c.args.unit c.in-Some.taken.attempt c.in-Some.taken.element (d * s) s c.past_done-begin.result c.loop-row.row _ _ _ start c.loop-row.invariant.begun c.in-Some.ensures.told.0)) c.raise_to.ensures.looked c.raise_to.ensures.seen),
+          (took_from l c.args.stage c.args.unit c.in-Some.taken.attempt c.in-Some.taken.element (d * s + s) (c.args.part * l.rows) c.past_done-begin.result _ _ _ (omega arith) c.low_at-mark.ensures.acted (under at.After-past_done-begin)
+          (took_then l c.args.stage c.args.unit c.in-Some.taken.attempt c.in-Some.taken.element (d * s) s c.past_done-begin.result c.loop-row.row _ _ _ start c.loop-row.invariant.begun c.in-Some.ensures.told.0)) c.raise_low.ensures.looked c.raise_low.ensures.seen),
       c.in-Some.ensures.told.1,
     )
 
@@ -129,8 +147,11 @@ loop-row-init c = let at = goal.at.loop-row-init c in let b = begins at.After-pa
   lows = refl;
   from = omega arith;
   inside = inside;
+  above = omega arith;
   low = omega arith;
-  rose = rose_past (limits_of c.args.self.now.words) (view_of c.mark_at-mark.new.seat) c.past_done-begin.result (from at.After-past_done-begin) _ c.args.done (still_done at.After-mark_at-mark) c.past_done-begin.ensures b.0 c.args.stage;
+  rose = rose_both (limits_of c.args.self.now.words) c.args.stage (view_of c.low_at-mark.new.seat) _ (from at.After-past_done-begin) _
+      (subst (λ z. Rose c.args.stage (view_of c.low_at-mark.new.seat) (z + c.low_at-mark.result) (z + slice_index c.low_at-mark.new.lows c.args.part)) (first at.After-low_at-mark) c.low_at-mark.ensures.rose)
+      (rose_past (limits_of c.args.self.now.words) (view_of c.low_at-mark.new.seat) c.past_done-begin.result (from at.After-past_done-begin) _ c.args.done (still_done at.After-low_at-mark) c.past_done-begin.ensures b.0 c.args.stage);
   stuck = λ less. absurd (omega arith);
   begun = inl (refl, refl);
 }
@@ -138,45 +159,43 @@ loop-row-init c = let at = goal.at.loop-row-init c in let b = begins at.After-pa
 pub loop-row-preserved : goal.loop-row-preserved
 loop-row-preserved c = let l : Limits = limits_of c.args.self.now.words in let at = goal.at.loop-row-preserved c in let t = c.in_default.ensures.told in let i = c.loop-row.invariant in let on = c.try_row.ensures.on.on in let n = near at.After-try_row in
     let s = try_steps in let P = PassedBy l c.args.stage in let F : ℕ = c.past_done-begin.result in let d : ℕ = c.loop-row.row - F in
-    let start = i.from in let e = first at.After-mark_at-mark in let w = wide at.After-mark_at-mark in let top = n.1 in record {
+    let start = i.from in let e = first at.After-low_at-mark in let w = wide at.After-low_at-mark in let top = n.1 in record {
       same = search rules;
       lows = i.lows;
       from = omega arith;
       inside = omega arith;
+      above = more at.After-try_row;
       low = c.try_row.ensures.low.0;
       rose = rose at.After-try_row _ _ t.walk;
       stuck = stuck at.After-try_row _ _ t.walk;
       begun = begun_few l P (passed_widens l c.args.stage) (d * s + s) F _ c.try_row.new.row _ _ (rows_more d (c.try_row.new.row - F) s (omega arith)) (begun_on l P (passed_widens l c.args.stage) (d * s) F s c.loop-row.row _ _ _ i.begun c.try_row.new.row start t);
     }
 
--- the steps from the mark to the end of the part
-all_since : (c : After-loop-row) → Looked (limits_of c.args.self.now.words) ((c.loop-row.row - c.past_done-begin.result) * try_steps) (view_of c.mark_at-mark.new.seat) (view_of c.loop-row.seat)
-all_since c = let l : Limits = limits_of c.args.self.now.words in
-    begun_looked l (PassedBy l c.args.stage) (passed_widens l c.args.stage) _ _ c.loop-row.row _ _ c.loop-row.invariant.begun c.mark_at-mark.ensures.acted.walk.steady
-
-pub raise_to-requires-2-clause-low : goal.raise_to-requires-2-clause-low
-raise_to-requires-2-clause-low c = let at = (goal.at.raise_to-requires-2-clause-low c).After-mark_at-mark in let i = c.loop-row.invariant in let e = first at in let w = wide at in let high = i.inside in let low = i.low in (
+pub raise_low-requires-2-clause-low : goal.raise_low-requires-2-clause-low
+raise_low-requires-2-clause-low c = let at = (goal.at.raise_low-requires-2-clause-low c).After-low_at-mark in let i = c.loop-row.invariant in let e = first at in let w = wide at in let high = i.inside in let low = i.low in (
   omega arith,
-  subst (λ z. Rose c.args.stage (view_of c.loop-row.seat) (z + c.mark_at-mark.result) c.loop-row.low) (sym e) i.rose,
+  under_low (goal.at.raise_low-requires-2-clause-low c).After-past_done-begin c.loop-row.lows c.loop-row.low i.lows i.above,
+  subst (λ z. Rose c.args.stage (view_of c.loop-row.seat) (z + c.low_at-mark.result) c.loop-row.low) (sym e) i.rose,
 )
 
-pub raise_to-requires-2-clause-mark : goal.raise_to-requires-2-clause-mark
-raise_to-requires-2-clause-mark c = ((all_since (goal.at.raise_to-requires-2-clause-mark c).After-loop-row).walk.knows (PartMark c.args.stage c.args.part c.mark_at-mark.result) c.mark_at-mark.ensures.knows, ap (λ lows. slice_index lows c.args.part) c.loop-row.invariant.lows ∙ c.mark_at-mark.ensures.lows.0)
+pub raise_low-requires-2-clause-mark : goal.raise_low-requires-2-clause-mark
+raise_low-requires-2-clause-mark c = let at = goal.at.raise_low-requires-2-clause-mark c in
+    ((all_since at.After-loop-row).walk.knows (PartMark c.args.stage c.args.part c.low_at-mark.result) c.low_at-mark.ensures.knows, subst (λ lows. c.low_at-mark.result ≤ slice_index lows c.args.part) (sym c.loop-row.invariant.lows) (found at.After-low_at-mark))
 
-pub raise_to-requires-2-clause-remembers : goal.raise_to-requires-2-clause-remembers
-raise_to-requires-2-clause-remembers c = subst (Remembers c.args.stage (view_of c.loop-row.seat)) (sym c.loop-row.invariant.lows) (remembers_kind c.args.stage c.mark_at-mark.new.lows _ _ _ _ _ (all_since (goal.at.raise_to-requires-2-clause-remembers c).After-loop-row).walk c.mark_at-mark.ensures.remembers)
+pub raise_low-requires-2-clause-remembers : goal.raise_low-requires-2-clause-remembers
+raise_low-requires-2-clause-remembers c = subst (Remembers c.args.stage (view_of c.loop-row.seat)) (sym c.loop-row.invariant.lows) (remembers_kind c.args.stage c.low_at-mark.new.lows _ _ _ _ _ (all_since (goal.at.raise_low-requires-2-clause-remembers c).After-loop-row).walk c.low_at-mark.ensures.remembers)
 
 pub returns-clause-lows : goal.returns-clause-lows
-returns-clause-lows c = rises_at_then c.args.part c.args.lows.now c.mark_at-mark.new.lows c.raise_to-2.new.lows c.mark_at-mark.ensures.lows.1 (subst (λ lows. RisesAt c.args.part lows c.raise_to-2.new.lows) c.loop-row.invariant.lows c.raise_to-2.ensures.lows)
+returns-clause-lows c = rises_at_then c.args.part c.args.lows.now c.low_at-mark.new.lows c.raise_low-2.new.lows c.low_at-mark.ensures.lows (subst (λ lows. RisesAt c.args.part lows c.raise_low-2.new.lows) c.loop-row.invariant.lows c.raise_low-2.ensures.lows)
 
 pub returns-clause-told : goal.returns-clause-told
-returns-clause-told c = let l : Limits = limits_of c.args.self.now.words in let s = try_steps in let at = (goal.at.returns-clause-told c).After-mark_at-mark in let i = c.loop-row.invariant in
+returns-clause-told c = let l : Limits = limits_of c.args.self.now.words in let s = try_steps in let at = (goal.at.returns-clause-told c).After-low_at-mark in let i = c.loop-row.invariant in
     let high = i.inside in let low = c.loop-row-test.false in let e = first at in let w = wide at in let up = above at in
     let P = PassedBy l c.args.stage in let F : ℕ = c.past_done-begin.result in let near_mark = begins (goal.at.returns-clause-told c).After-past_done-begin in let behind = near_mark.0 in let d : ℕ = c.loop-row.row - F in
     let all : c.loop-row.row ≡ c.args.part * l.rows + l.rows = omega arith in
     let few : d * s ≤ (l.rows - slice_index c.args.lows.now c.args.part) * s = mul-le-mul_right s (omega arith) in
-    let sought = sought_from l P (passed_widens l c.args.stage) (d * s) (c.args.part * l.rows) F c.loop-row.row (view_of c.args.seat.now) (view_of c.mark_at-mark.new.seat) (view_of c.loop-row.seat) c.mark_at-mark.ensures.acted i.begun
+    let sought = sought_from l P (passed_widens l c.args.stage) (d * s) (c.args.part * l.rows) F c.loop-row.row (view_of c.args.seat.now) (view_of c.low_at-mark.new.seat) (view_of c.loop-row.seat) c.low_at-mark.ensures.acted i.begun
     (under (goal.at.returns-clause-told c).After-past_done-begin) in
     sought_few l ((1 + d * s) + 1) (2 + (l.rows - slice_index c.args.lows.now c.args.part) * s) _ _ _ (omega arith)
     (sought_then l (1 + d * s) 1 (OfPart l P c.args.part) _ _ _ (λ a b g later each j p q. passed_widens l c.args.stage j a a b g (begins_refl a) later (each j p q))
-    (subst (λ n. Sought l (1 + d * s) (EachRow P (c.args.part * l.rows) n) (view_of c.args.seat.now) (view_of c.loop-row.seat)) all sought) c.raise_to-2.ensures.looked)
+    (subst (λ n. Sought l (1 + d * s) (EachRow P (c.args.part * l.rows) n) (view_of c.args.seat.now) (view_of c.loop-row.seat)) all sought) c.raise_low-2.ensures.looked)

@@ -11,6 +11,7 @@ invariant-loop-row l = record {
   lows : l.lows ≡ l.initial.lows;
   from : l.begin ≤ l.row;
   inside : l.row ≤ l.end;
+  above : l.begin ≤ l.low;
   low : l.low ≤ l.row;
   rose : Rose l.stage (view_of l.seat) (l.first + l.mark) l.low;
   stuck : l.low < l.row → WasOfUse (limits_of l.self.words) l.stage l.low (seen_by l.initial.seat) (seen_by l.seat);

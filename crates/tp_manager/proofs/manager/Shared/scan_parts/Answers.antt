@@ -1,4 +1,4 @@
-use Rattle.std.proofs.Common.{◌≡◌, ◌+◌, ◌-◌, ◌*◌, ◌<◌, slice_index, sym, ◌∙◌, refl, ap, inl, arith, rules, subst, mul-le-mul_right}
+use Rattle.std.proofs.Common.{suc, ◌≡◌, ◌+◌, ◌-◌, ◌*◌, ◌<◌, slice_index, sym, ◌∙◌, refl, ap, inl, arith, rules, subst, mul-le-mul_right, suc-mul}
 use Rattle.tp_model.specs.declared.types.Limits.{Limits}
 use Rattle.tp_rule.specs.Tables.{limits_of}
 use Rattle.tp_rule.specs.Views.{view_of}
@@ -7,16 +7,22 @@ use Rattle.tp_manager.specs.Walks.{EachRow, OfPart, PassedBy, Sought, Took}
 use Rattle.tp_manager.proofs.Lows.{rises_then, scan_next, scan_rises}
 use Rattle.tp_manager.proofs.Walks.{rises_none, sought_few}
 use Rattle.tp_manager.proofs.Scans.{finished_passed, passed_widens, took_then, took_few, begun_rows, finished_took}
-use Rattle.tp_manager.proofs.Seeks.{begun_done, begun_few, begun_looked, begun_on, one_row, part_widens, sought_all}
+use Rattle.tp_manager.proofs.Rests.{part_before, parts_on}
+use mathlib.Core.Logic.{dite}
+use native.Mathlib.Decide.{dec_le}
+use Rattle.tp_manager.proofs.Seeks.{rows_more, begun_done, begun_few, begun_looked, begun_on, one_row, part_widens, sought_all}
 use Rattle.tp_manager.proofs.Passes.{done_walked}
 use Rattle.tp_manager.proofs.manager.Shared.scan_parts.Goals as goal
 
 pub scan_part-requires-clause-part : goal.scan_part-requires-clause-part
 scan_part-requires-clause-part c = subst (λ (z : Limits). c.loop-part.part < z.parts) (sym c.args.self.now.same) c.loop-part-test.true
 
+pub scan_part-requires-clause-first : goal.scan_part-requires-clause-first
+scan_part-requires-clause-first c = (c.loop-part.invariant.begins ∙ ap (λ (z : Limits). c.loop-part.part * z.rows) (sym c.args.self.now.same), ap (λ (z : Limits). z.rows) (sym c.args.self.now.same))
+
 pub scan_part-requires-clause-done : goal.scan_part-requires-clause-done
 scan_part-requires-clause-done c = let l : Limits = limits_of c.args.self.now.words in let s = try_steps in let n = c.loop-part.part in
-    let gone = begun_looked l (OfPart l (PassedBy l c.args.stage)) (part_widens l (PassedBy l c.args.stage) (passed_widens l c.args.stage)) (scan_steps l s 3 c.args.lows.now n) c.first_open-first.result n _ _ c.loop-part.invariant.begun c.requires.steady in
+    let gone = begun_looked l (OfPart l (PassedBy l c.args.stage)) (part_widens l (PassedBy l c.args.stage) (passed_widens l c.args.stage)) (scan_steps l s 3 c.args.lows.now n) c.first_open-begin.result n _ _ c.loop-part.invariant.begun c.requires.steady in
     done_walked l _ gone.marks _ _ c.args.done c.requires.steady.pass.1 gone.walk c.requires.done
 
 pub loop-part-init : goal.loop-part-init
@@ -25,7 +31,10 @@ loop-part-init c = record {
   remembers = c.requires.remembers;
   rises = rises_none c.args.lows.now;
   from = omega arith;
+  begins = refl;
   rest = λ q low. refl;
+  done = λ q less. c.first_open-begin.ensures.finished q less;
+  rests = λ q low high. absurd (omega arith);
   begun = inl (refl, refl);
 }
 
@@ -34,15 +43,31 @@ returns-in-Some-clause-lows c = rises_then c.args.lows.now c.loop-part.lows c.sc
 
 pub returns-in-Some-clause-told : goal.returns-in-Some-clause-told
 returns-in-Some-clause-told c = let l : Limits = limits_of c.args.self.now.words in let s = try_steps in let P = PassedBy l c.args.stage in let n = c.loop-part.part in let i = c.loop-part.invariant in let lows = c.args.lows.now in
-    let less : n < l.parts = subst (λ (z : Limits). n < z.parts) (sym c.args.self.now.same) c.loop-part-test.true in let t = c.in-Some.taken in let first = c.first_open-first.result in
+    let less : n < l.parts = subst (λ (z : Limits). n < z.parts) (sym c.args.self.now.same) c.loop-part-test.true in let t = c.in-Some.taken in let first = c.first_open-begin.result in
     let next = scan_next l lows s 3 n in let all = scan_rises l lows s 3 (n + 1) l.parts (omega arith) in (
       took_few l c.args.stage c.args.unit t.attempt t.element (scan_steps l s 3 lows n + (3 + (l.rows - slice_index lows n) * s)) (scan_steps l s 3 lows l.parts) 0 _ _ (omega arith)
-          (finished_took l c.args.stage c.args.unit t.attempt t.element (scan_steps l s 3 lows n + (3 + (l.rows - slice_index lows n) * s)) first lows (view_of c.args.seat.now) (view_of c.scan_part.new.seat) c.requires.stage.0 c.args.self.now.words.places.valid.rows.0 c.requires.remembers c.first_open-first.ensures.finished
+          (finished_took l c.args.stage c.args.unit t.attempt t.element (scan_steps l s 3 lows n + (3 + (l.rows - slice_index lows n) * s)) first lows (view_of c.args.seat.now) (view_of c.scan_part.new.seat) c.requires.stage.0 c.args.self.now.words.places.valid.rows.0 c.requires.remembers c.first_open-begin.ensures.finished
           (took_then l c.args.stage c.args.unit t.attempt t.element (scan_steps l s 3 lows n) (3 + (l.rows - slice_index lows n) * s) (first * l.rows) (n * l.rows) (view_of c.args.seat.now) (view_of c.loop-part.seat) (view_of c.scan_part.new.seat) (mul-le-mul_right l.rows i.from)
           (begun_rows l P (scan_steps l s 3 lows n) first n _ _ i.begun)
           (subst (λ m. Took l (3 + (l.rows - m) * s) (n * l.rows) c.args.stage c.args.unit (view_of c.loop-part.seat) (view_of c.scan_part.new.seat) t.element t.attempt) (i.rest n (omega arith)) c.in-Some.ensures.told.0))),
       c.in-Some.ensures.told.1,
     )
+
+pub returns-in-Some-clause-rests : goal.returns-in-Some-clause-rests
+returns-in-Some-clause-rests c = λ p inside came. let l : Limits = limits_of c.args.self.now.words in let n = c.loop-part.part in let i = c.loop-part.invariant in let first = c.first_open-begin.result in let from = i.from in
+    let near = part_before l.rows p n c.in-Some.taken.element.id c.in-Some.ensures.inside came in
+    dite (dec_le first p)
+    (λ past. parts_on l c.args.stage first n _ _ (OfPart l (PassedBy l c.args.stage)) _ c.loop-part.lows c.scan_part.new.lows _ _ _ i.begun c.in-Some.ensures.told.0.walk i.rests c.scan_part.ensures.rests c.scan_part.ensures.lows.1 p past near)
+    (λ not. inl (c.scan_part.ensures.lows.1 p (λ is. absurd (omega arith)) ∙ i.done p (omega arith)))
+
+pub returns-clause-rests : goal.returns-clause-rests
+returns-clause-rests c = λ p inside came. let l : Limits = limits_of c.args.self.now.words in let i = c.loop-part.invariant in let first = c.first_open-begin.result in
+    let count : l.parts ≡ c.args.self.now.places.limits.parts = ap (λ (z : Limits). z.parts) c.args.self.now.same in let past = c.loop-part-test.false in
+    dite (dec_le first p) (λ low. i.rests p low (omega arith)) (λ not. inl (i.done p (omega arith)))
+
+pub returns-in-Some-clause-inside : goal.returns-in-Some-clause-inside
+returns-in-Some-clause-inside c = let l : Limits = limits_of c.args.self.now.words in let n = c.loop-part.part in
+    let less : n < l.parts = subst (λ (z : Limits). n < z.parts) (sym c.args.self.now.same) c.loop-part-test.true in let all = rows_more n l.parts l.rows less in let id = c.in-Some.ensures.inside in omega arith
 
 pub loop-part-preserved : goal.loop-part-preserved
 loop-part-preserved c = let l : Limits = limits_of c.args.self.now.words in let P = PassedBy l c.args.stage in let n = c.loop-part.part in let s = try_steps in let W = part_widens l P (passed_widens l c.args.stage) in let i = c.loop-part.invariant in let lows = c.args.lows.now in record {
@@ -50,9 +75,12 @@ loop-part-preserved c = let l : Limits = limits_of c.args.self.now.words in let 
   remembers = c.scan_part.ensures.remembers;
   rises = rises_then lows c.loop-part.lows c.scan_part.new.lows i.rises c.scan_part.ensures.lows.0;
   from = omega arith;
+  begins = let is = i.begins in let next : suc n ≡ n + 1 = omega arith in subst (λ z. c.loop-part.first + c.args.self.now.places.limits.rows ≡ z * c.args.self.now.places.limits.rows) next (omega (arith, suc-mul n c.args.self.now.places.limits.rows));
   rest = λ q low. c.scan_part.ensures.lows.1 q (λ is. absurd (omega arith)) ∙ i.rest q (omega arith);
-  begun = begun_few l (OfPart l P) W (scan_steps l s 3 lows n + (3 + (l.rows - slice_index lows n) * s)) c.first_open-first.result _ (n + 1) _ _ (scan_next l lows s 3 n)
-      (begun_on l (OfPart l P) W (scan_steps l s 3 lows n) c.first_open-first.result (3 + (l.rows - slice_index lows n) * s) n _ _ _ i.begun (n + 1) i.from
+  done = λ q less. (let from = i.from in c.scan_part.ensures.lows.1 q (λ is. absurd (omega arith)) ∙ i.done q less);
+  rests = parts_on l c.args.stage c.first_open-begin.result n _ _ (OfPart l P) _ c.loop-part.lows c.scan_part.new.lows _ _ _ i.begun c.in_default.ensures.told.walk i.rests c.scan_part.ensures.rests c.scan_part.ensures.lows.1;
+  begun = begun_few l (OfPart l P) W (scan_steps l s 3 lows n + (3 + (l.rows - slice_index lows n) * s)) c.first_open-begin.result _ (n + 1) _ _ (scan_next l lows s 3 n)
+      (begun_on l (OfPart l P) W (scan_steps l s 3 lows n) c.first_open-begin.result (3 + (l.rows - slice_index lows n) * s) n _ _ _ i.begun (n + 1) i.from
       (subst (λ m. Sought l (3 + (l.rows - m) * s) (EachRow (OfPart l P) n (n + 1)) (view_of c.loop-part.seat) (view_of c.scan_part.new.seat)) (i.rest n (omega arith))
       (one_row l (OfPart l P) (3 + (l.rows - slice_index c.loop-part.lows n) * s) n _ _ c.in_default.ensures.told)));
 }
@@ -60,9 +88,9 @@ loop-part-preserved c = let l : Limits = limits_of c.args.self.now.words in let 
 pub returns-clause-told : goal.returns-clause-told
 returns-clause-told c = let l : Limits = limits_of c.args.self.now.words in let s = try_steps in let P = PassedBy l c.args.stage in let n = c.loop-part.part in let i = c.loop-part.invariant in let lows = c.args.lows.now in
     let count : l.parts ≡ c.args.self.now.places.limits.parts = ap (λ (z : Limits). z.parts) c.args.self.now.same in let high = c.loop-part.auto.part-end in let low = c.loop-part-test.false in
-    let first = c.first_open-first.result in let within = c.first_open-first.ensures.part in let from = i.from in
+    let first = c.first_open-begin.result in let within = c.first_open-begin.ensures.part in let from = i.from in
     let all : n ≡ l.parts = omega arith in let some = c.args.self.now.words.places.valid.rows.0 in
     sought_few l (scan_steps l s 3 lows n) (scan_steps l s 3 lows l.parts) _ _ _ (scan_rises l lows s 3 n l.parts (omega arith))
-    (sought_all l (scan_steps l s 3 lows n) P _ _ (finished_passed l c.args.stage (scan_steps l s 3 lows n) first lows _ _ c.requires.stage.0 some c.requires.remembers c.first_open-first.ensures.finished
+    (sought_all l (scan_steps l s 3 lows n) P _ _ (finished_passed l c.args.stage (scan_steps l s 3 lows n) first lows _ _ c.requires.stage.0 some c.requires.remembers c.first_open-begin.ensures.finished
     (subst (λ m. Sought l (scan_steps l s 3 lows n) (EachRow (OfPart l P) first m) (view_of c.args.seat.now) (view_of c.loop-part.seat)) all
     (begun_done l (OfPart l P) (part_widens l P (passed_widens l c.args.stage)) (scan_steps l s 3 lows n) first n _ _ i.begun (omega arith)))))

@@ -11,6 +11,7 @@ invariant-loop-row l = record {
   lows : l.lows ≡ l.initial.lows;
   from : l.begin ≤ l.row;
   inside : l.row ≤ l.first + l.rows;
+  above : l.known ≤ l.low;
   low : l.low ≤ l.row;
   rose : Rose l.stage (view_of l.seat) (l.first + l.mark) l.low;
   begun : (k : ℕ) × (k ≤ l.row - l.begin) × (k ≤ l.to - l.begin) × Begun (limits_of l.self.words) (PassedBy (limits_of l.self.words) l.stage) (k * try_steps) l.begin l.row (view_of l.initial.seat) (view_of l.seat);

@@ -1,12 +1,13 @@
-use Rattle.std.proofs.Common.{◌≡◌, ◌⊎◌, ◌+◌, ◌-◌, ◌*◌, ◌<◌, ◌≤◌, ℕ, List, sym, ◌∙◌, ap, ⊎_elim, arith, subst, suc-mul, mul-le-mul_right}
+use Rattle.std.proofs.Common.{◌≡◌, ◌⊎◌, ◌+◌, ◌-◌, ◌*◌, ◌<◌, ◌≤◌, ℕ, List, slice_index, sym, ◌∙◌, ap, ⊎_elim, arith, subst, suc-mul, mul-le-mul_right}
 use Rattle.tp_model.specs.declared.types.Limits.{Limits}
 use Rattle.tp_rule.specs.Tables.{limits_of}
 use Rattle.tp_rule.specs.Views.{SeatShown, view_of}
-use Rattle.tp_manager.specs.Bounds.{try_steps}
+use Rattle.tp_manager.specs.Bounds.{scan_steps, try_steps}
 use Rattle.tp_manager.specs.Shown.{Rises}
-use Rattle.tp_manager.specs.Walks.{Begun, PassedBy, Remembers}
+use Rattle.tp_manager.specs.Walks.{Begun, Makes, PassedBy, Remembers}
 use Rattle.tp_manager.proofs.Circles.{split_rows}
-use Rattle.tp_manager.proofs.Lows.{rises_then}
+use Rattle.tp_manager.proofs.Lows.{rises_then, scan_next, scan_rises}
+use Rattle.tp_manager.proofs.Makes.{made_few, made_then}
 use Rattle.tp_manager.proofs.Passes.{done_walked}
 use Rattle.tp_manager.proofs.Scans.{passed_widens, took_few, took_then}
 use Rattle.tp_manager.proofs.Seeks.{begun_few, begun_looked, begun_on}
@@ -52,6 +53,11 @@ loop-part-preserved c = let l : Limits = limits_of c.args.self.now.words in let 
             same = ap (λ (z : SeatShown). z.table) w.seat-is ∙ (found.same ∙ i.same);
             remembers = subst (λ (z : SeatShown × List ℕ). Remembers c.args.stage (view_of z.0) z.1) (λ j. (sym w.seat-is j, sym w.lows-is j)) found.remembers;
             rises = subst (Rises lows) (sym w.lows-is) (rises_then lows c.loop-part.lows _ i.rises found.lows.0);
+            rest = λ q low. subst (λ z. slice_index z q ≡ slice_index lows q) (sym w.lows-is) (found.lows.1 q (λ is. absurd (omega arith)) ∙ i.rest q (omega arith));
+            few = subst (λ (z : SeatShown). Makes (scan_steps l s 3 lows (n + 1)) (view_of c.args.seat.now) (view_of z)) (sym w.seat-is)
+                (made_few (scan_steps l s 3 lows n + (3 + (l.rows - slice_index lows n) * s)) (scan_steps l s 3 lows (n + 1)) (view_of c.args.seat.now) (view_of w.scan_span.new.seat) (scan_next l lows s 3 n)
+                (made_then (scan_steps l s 3 lows n) (3 + (l.rows - slice_index lows n) * s) (view_of c.args.seat.now) (view_of c.loop-part.seat) (view_of w.scan_span.new.seat) i.few
+                (subst (λ m. Makes (3 + (l.rows - m) * s) (view_of c.loop-part.seat) (view_of w.scan_span.new.seat)) (i.rest n (omega arith)) found.few)));
             begun = subst (λ (z : ℕ × SeatShown). Begun l P (3 * (n + 1) + (z.0 - c.args.from) * s) c.args.from z.0 (view_of c.args.seat.now) (view_of z.1)) (λ j. (sym e j, sym w.seat-is j))
                 (begun_few l P W (3 * n + (row - c.args.from) * s + (3 + (end - row) * s)) c.args.from (3 * (n + 1) + (end - c.args.from) * s) end _ _ (more n (n + 1) c.args.from row end end s (omega arith) from_on (omega arith) (omega arith))
                 (begun_on l P W (3 * n + (row - c.args.from) * s) c.args.from (3 + (end - row) * s) row _ _ _ i.begun end from_on w.in_default.ensures.told));
@@ -64,7 +70,22 @@ loop-part-preserved c = let l : Limits = limits_of c.args.self.now.words in let 
             same = ap (λ (z : SeatShown). z.table) w.seat-is ∙ i.same;
             remembers = subst (λ (z : SeatShown × List ℕ). Remembers c.args.stage (view_of z.0) z.1) (λ j. (sym w.seat-is j, sym w.lows-is j)) i.remembers;
             rises = subst (Rises lows) (sym w.lows-is) i.rises;
+            rest = λ q low. subst (λ z. slice_index z q ≡ slice_index lows q) (sym w.lows-is) (i.rest q (omega arith));
+            few = subst (λ (z : SeatShown). Makes (scan_steps l s 3 lows (n + 1)) (view_of c.args.seat.now) (view_of z)) (sym w.seat-is)
+                (made_few (scan_steps l s 3 lows n) (scan_steps l s 3 lows (n + 1)) (view_of c.args.seat.now) (view_of c.loop-part.seat) (scan_rises l lows s 3 n (n + 1) (omega arith)) i.few);
             begun = subst (λ (z : ℕ × SeatShown). Begun l P (3 * (n + 1) + (z.0 - c.args.from) * s) c.args.from z.0 (view_of c.args.seat.now) (view_of z.1)) (λ j. (sym e j, sym w.seat-is j))
                 (begun_few l P W (3 * n + (row - c.args.from) * s) c.args.from (3 * (n + 1) + (row - c.args.from) * s) row _ _ (omega arith) i.begun);
           }
     ]
+
+pub returns-in-Some-clause-few : goal.returns-in-Some-clause-few
+returns-in-Some-clause-few c = let l : Limits = limits_of c.args.self.now.words in let i = c.loop-part.invariant in let s = try_steps in let n = c.loop-part.part in let lows = c.args.lows.now in
+    let less : n < l.parts = subst (λ (z : Limits). n < z.parts) (sym c.args.self.now.same) c.loop-part-test.true in let next = scan_next l lows s 3 n in let all = scan_rises l lows s 3 (n + 1) l.parts (omega arith) in
+    made_few (scan_steps l s 3 lows n + (3 + (l.rows - slice_index lows n) * s)) (scan_steps l s 3 lows l.parts) (view_of c.args.seat.now) (view_of c.scan_span.new.seat) (omega arith)
+    (made_then (scan_steps l s 3 lows n) (3 + (l.rows - slice_index lows n) * s) (view_of c.args.seat.now) (view_of c.loop-part.seat) (view_of c.scan_span.new.seat) i.few
+    (subst (λ m. Makes (3 + (l.rows - m) * s) (view_of c.loop-part.seat) (view_of c.scan_span.new.seat)) (i.rest n (omega arith)) c.scan_span.ensures.few))
+
+pub returns-clause-few : goal.returns-clause-few
+returns-clause-few c = let l : Limits = limits_of c.args.self.now.words in let s = try_steps in let n = c.loop-part.part in let lows = c.args.lows.now in
+    let count : l.parts ≡ c.args.self.now.places.limits.parts = ap (λ (z : Limits). z.parts) c.args.self.now.same in let high = c.loop-part.auto.part-end in
+    made_few (scan_steps l s 3 lows n) (scan_steps l s 3 lows l.parts) (view_of c.args.seat.now) (view_of c.loop-part.seat) (scan_rises l lows s 3 n l.parts (omega arith)) c.loop-part.invariant.few

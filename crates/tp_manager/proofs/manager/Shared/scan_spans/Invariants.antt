@@ -1,9 +1,9 @@
-use Rattle.std.proofs.Common.{◌-◌, ◌+◌, ◌*◌, ◌≤◌}
+use Rattle.std.proofs.Common.{◌≡◌, ℕ, slice_index, ◌-◌, ◌+◌, ◌*◌, ◌≤◌}
 use Rattle.tp_rule.specs.Tables.{limits_of}
 use Rattle.tp_rule.specs.Views.{IsSameSeat, view_of}
-use Rattle.tp_manager.specs.Bounds.{try_steps}
+use Rattle.tp_manager.specs.Bounds.{scan_steps, try_steps}
 use Rattle.tp_manager.specs.Shown.{Rises}
-use Rattle.tp_manager.specs.Walks.{Begun, PassedBy, Remembers}
+use Rattle.tp_manager.specs.Walks.{Begun, Makes, PassedBy, Remembers}
 use Rattle.tp_manager.proofs.manager.Shared.scan_spans.Given as goal
 
 abbrev pub invariant-loop-part : goal.invariant-loop-part
@@ -15,5 +15,7 @@ invariant-loop-part l = record {
   same : IsSameSeat l.initial.seat l.seat;
   remembers : Remembers l.stage (view_of l.seat) l.lows;
   rises : Rises l.initial.lows l.lows;
+  rest : (q : ℕ) → l.part ≤ q → slice_index l.lows q ≡ slice_index l.initial.lows q;
+  few : Makes (scan_steps (limits_of l.self.words) try_steps 3 l.initial.lows l.part) (view_of l.initial.seat) (view_of l.seat);
   begun : Begun (limits_of l.self.words) (PassedBy (limits_of l.self.words) l.stage) (3 * l.part + (l.row - l.from) * try_steps) l.from l.row (view_of l.initial.seat) (view_of l.seat);
 }

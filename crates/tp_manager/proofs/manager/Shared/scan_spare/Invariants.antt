@@ -1,5 +1,5 @@
-use Rattle.std.proofs.Common.{◌<◌, ◌≡◌, ◌-◌, ◌*◌, ◌≤◌}
-use Rattle.tp_model.specs.Steps.{rows_of}
+use Rattle.std.proofs.Common.{◌<◌, ◌≡◌, ◌+◌, ◌-◌, ◌*◌, ◌≤◌}
+use Rattle.tp_model.specs.Steps.{part_rows, rows_of}
 use Rattle.tp_rule.specs.Tables.{limits_of}
 use Rattle.tp_rule.specs.Views.{IsSameSeat, seen_by, view_of}
 use Rattle.tp_manager.specs.Bounds.{try_steps}
@@ -12,8 +12,9 @@ invariant-loop-row l = record {
   lows : l.lows ≡ l.initial.lows;
   from : l.begin ≤ l.row;
   inside : l.row ≤ rows_of (limits_of l.self.words);
+  above : l.begin ≤ l.low;
   low : l.low ≤ l.row;
-  rose : Rose l.stage (view_of l.seat) l.begin l.low;
+  rose : Rose l.stage (view_of l.seat) (part_rows (limits_of l.self.words) + l.mark) l.low;
   stuck : l.low < l.row → WasOfUse (limits_of l.self.words) l.stage l.low (seen_by l.initial.seat) (seen_by l.seat);
   begun : Begun (limits_of l.self.words) (PassedBy (limits_of l.self.words) l.stage) ((l.row - l.begin) * try_steps) l.begin l.row (view_of l.initial.seat) (view_of l.seat);
 }

@@ -1,13 +1,18 @@
-use Rattle.std.proofs.Common.{◌≡◌, ◌≤◌, ◌∙◌, ap, sym, ⊎_elim, arith}
+use Rattle.std.proofs.Common.{◌≡◌, ◌≤◌, ℕ, ◌+◌, ◌-◌, ◌*◌, ◌∙◌, ap, sym, subst, ⊎_elim, arith, mul-le-mul_right}
 use Rattle.tp_model.specs.declared.types.Limits.{Limits}
-use Rattle.tp_model.specs.Steps.{rows_of}
+use Rattle.tp_model.specs.Steps.{part_rows, rows_of}
 use Rattle.tp_rule.specs.Tables.{limits_of}
 use Rattle.tp_rule.specs.Views.{view_of}
-use Rattle.tp_manager.specs.Walks.{PassedBy}
+use Rattle.tp_manager.specs.Walks.{Makes, PassedBy}
 use Rattle.tp_manager.proofs.Circles.{turn_both, turn_first}
 use Rattle.tp_manager.proofs.Passes.{done_walked}
 use Rattle.tp_manager.proofs.Scans.{passed_widens, rows_some}
 use Rattle.tp_manager.proofs.Seeks.{begun_looked}
+use Rattle.std.proofs.Math.Nat.{add-mul}
+use Rattle.tp_model.specs.declared.types.TheConstants.{BLOCK_ROWS}
+use Rattle.tp_rule.specs.declared.view.View.{View}
+use Rattle.tp_manager.specs.Bounds.{drawn_steps, scan_steps, try_steps}
+use Rattle.tp_manager.proofs.Makes.{made_few, made_then, scan_less}
 use Rattle.tp_manager.proofs.manager.Shared.scan_turn.Goals as goal
 use Rattle.tp_manager.proofs.manager.Shared.scan_turn.Goals.{After-earlier-from}
 
@@ -29,3 +34,25 @@ scan_rows-requires-2-clause-done c = let l : Limits = limits_of c.args.self.now.
 pub returns-clause-told : goal.returns-clause-told
 returns-clause-told c = let at = (goal.at.returns-clause-told c).After-earlier-from in let l : Limits = limits_of c.args.self.now.words in
     turn_both l c.args.stage c.args.unit c.rows-rows.result c.earlier-from.result c.args.turn (all at) (inside at) c.earlier-from.ensures (view_of c.args.seat.now) (view_of c.scan_rows.new.seat) (view_of c.scan_rows-2.new.seat) c.scan_rows-2.result (rows_some l c.args.self.now.words.places.valid) c.in_default.ensures.told c.scan_rows-2.ensures.told
+
+-- the rows of the spare blocks, in two scans
+both : (l : Limits) (from : ℕ) → from ≤ rows_of l → (rows_of l - part_rows l - (from - part_rows l)) * try_steps + (from - part_rows l - (0 - part_rows l)) * try_steps ≤ BLOCK_ROWS * l.spare * try_steps
+both l from inside = let e = add-mul (rows_of l - part_rows l - (from - part_rows l)) (from - part_rows l - (0 - part_rows l)) try_steps in
+    let all : (rows_of l - part_rows l - (from - part_rows l)) + (from - part_rows l - (0 - part_rows l)) ≤ BLOCK_ROWS * l.spare = omega arith in
+    let few : ((rows_of l - part_rows l - (from - part_rows l)) + (from - part_rows l - (0 - part_rows l))) * try_steps ≤ BLOCK_ROWS * l.spare * try_steps = mul-le-mul_right try_steps all in omega arith
+
+-- what the first scan made
+one : (l : Limits) (rows from k : ℕ) (v w : View) → rows ≡ rows_of l → Makes (k + (drawn_steps l.spare + (rows - part_rows l - (from - part_rows l)) * try_steps)) v w → Makes (k + (drawn_steps l.spare + (rows_of l - part_rows l - (from - part_rows l)) * try_steps)) v w
+one l rows from k v w same m = subst (λ z. Makes (k + (drawn_steps l.spare + (z - part_rows l - (from - part_rows l)) * try_steps)) v w) same m
+
+pub returns-in-Some-clause-few : goal.returns-in-Some-clause-few
+returns-in-Some-clause-few c = let at = (goal.at.returns-in-Some-clause-few c).After-earlier-from in let l : Limits = limits_of c.args.self.now.words in let from = c.earlier-from.result in let k = scan_steps l try_steps 3 c.args.lows.now l.parts in
+    let e = all at in let top = inside at in let few = both l from (omega arith) in let v = view_of c.args.seat.now in let w = view_of c.scan_rows.new.seat in
+    made_few (k + (drawn_steps l.spare + (rows_of l - part_rows l - (from - part_rows l)) * try_steps)) _ v w (omega arith) (one l c.rows-rows.result from k v w e c.scan_rows.ensures.few)
+
+pub returns-clause-few : goal.returns-clause-few
+returns-clause-few c = let at = (goal.at.returns-clause-few c).After-earlier-from in let l : Limits = limits_of c.args.self.now.words in let from = c.earlier-from.result in let lows = c.args.lows.now in let lows' = c.scan_rows.new.lows in
+    let k = scan_steps l try_steps 3 lows l.parts in let k' = scan_steps l try_steps 3 lows' l.parts in let less : k' ≤ k = scan_less l try_steps 3 lows lows' c.scan_rows.ensures.lows l.parts in
+    let e = all at in let top = inside at in let few = both l from (omega arith) in let v = view_of c.args.seat.now in let w = view_of c.scan_rows.new.seat in let y = view_of c.scan_rows-2.new.seat in
+    let a : ℕ = k + (drawn_steps l.spare + (rows_of l - part_rows l - (from - part_rows l)) * try_steps) in let b : ℕ = k' + (drawn_steps l.spare + (from - part_rows l - (0 - part_rows l)) * try_steps) in
+    made_few (a + b) _ v y (omega arith) (made_then a b v w y (one l c.rows-rows.result from k v w e c.scan_rows.ensures.few) c.scan_rows-2.ensures.few)

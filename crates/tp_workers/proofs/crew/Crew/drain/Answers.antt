@@ -16,4 +16,4 @@ returns-clause-steady g c =
     (with_items_is old.boxes c.drain_desks.new.boxes (boxed ∙ sym old.boxes.ok.0))
     c.requires.steady.kept (all_same old.keeper old.passes.items c.drain_desks.new.passes numbered c.requires.steady.all) long
     c.drain_desks.ensures.free boxed c.drain_desks.ensures.clear
-    (served_drained _ _ _ old.manager (folds old) old.passes.items c.deref_mut.result.now old.boxes.items c.deref_mut-2.result.now _ c.drain_desks.new.passes c.drain_desks.new.boxes c.deref_mut.ensures.value c.deref_mut-2.ensures.value c.drain_desks.ensures.kept c.requires.steady.served c.drain_desks.ensures.desks.2)
+    (served_drained _ _ _ old.manager (folds old) old.passes.items c.deref_mut.result.now old.boxes.items c.deref_mut-2.result.now _ c.drain_desks.new.passes c.drain_desks.new.boxes c.args.order c.deref_mut.ensures.value c.deref_mut-2.ensures.value c.drain_desks.ensures.kept c.requires.steady.served c.drain_desks.ensures.desks.2)

@@ -1,0 +1,14 @@
+pub mod Parts
+pub mod Picks
+pub mod Calls
+pub mod Errors
+pub mod Replies
+pub mod Families
+pub mod Counted
+pub mod Collects
+pub mod Clients
+pub mod Commands
+pub mod Finals
+pub mod Accounts
+pub mod Takes
+pub mod Desks

@@ -1,0 +1,5 @@
+use Rattle.tp_exact.proofs.laws.exact_desk.Goals as goal
+use Rattle.tp_exact.proofs.Desks.{exact_desk}
+
+pub returns : goal.returns
+returns c = exact_desk

@@ -1,0 +1,44 @@
+-- How what is there while a script is performed stands to the computed state.
+use Rattle.std.specs.Prelude.{◌≡◌, ◌∷◌, ◌++◌, List, None, IsSome, is_some, map, if◌then◌else◌}
+use Rattle.std.specs.List.{AllZip}
+use Rattle.tp_model.specs.declared.types.Limits.{Limits}
+use Rattle.tp_model.specs.declared.event.Event.{Event}
+use Rattle.tp_manager.specs.Shown.{KeeperShown, PassShown}
+use Rattle.tp_commands.specs.Acting.{DeskShown, PlaceShown}
+use Rattle.tp_perform.specs.Told.{Scene}
+use Rattle.tp_reference.specs.declared.plain_desk.PlainDesk.{PlainDesk}
+use Rattle.tp_reference.specs.PlainReport.{State}
+use Rattle.tp_alone.specs.Thread.{AreTogether, Stays, thread_of}
+
+-- all passes of a scene: the client's, those of the desks, and those of races
+abbrev pub passes_in : Scene → List PassShown
+passes_in scene = scene.client ∷ (map (λ p. p.desk.pass) scene.places ++ scene.racers)
+
+-- a computed desk is this one: it has the same registers and the same work in hand, prepared or not
+pub record IsForDesk (x : DeskShown) (d : PlainDesk) : Type 0 where
+  pub registers : d.registers ≡ x.registers
+  pub work : (if is_some x.pass.open_unit then d.taken else None) ≡ x.work
+  pub open_is : is_some x.pass.open_unit ≡ is_some x.work
+  pub prepared : IsSome x.work → d.is_prepared ≡ is_some x.pending
+
+-- and the one at this place
+pub record IsFor (p : PlaceShown) (d : PlainDesk) : Type 0 where
+  pub desk : IsForDesk p.desk d
+  pub dropped : d.is_dropped ≡ p.is_dropped
+
+-- all passes are together, and they and the desks are those of the computed state
+pub record Stands (l : Limits) (keeper : KeeperShown) (h : List Event) (scene : Scene) (s : State) : Type 0 where
+  pub together : AreTogether l keeper (passes_in scene) h
+  pub manager : s.manager ≡ thread_of l (passes_in scene) h
+  pub desks : AllZip IsFor scene.places s.desks
+
+-- nothing has changed at a place, but that its pass has looked
+pub record OnlyLooksAt (old new : PlaceShown) : Type 0 where
+  pub pass : Stays old.desk.pass new.desk.pass
+  pub same : new ≡ record old { desk = record old.desk { pass = new.desk.pass } }
+
+-- nothing has changed in a scene, but that its passes have looked
+pub record OnlyLooks (old new : Scene) : Type 0 where
+  pub client : Stays old.client new.client
+  pub places : AllZip OnlyLooksAt old.places new.places
+  pub racers : AllZip Stays old.racers new.racers

@@ -1,0 +1,27 @@
+//! The laws of what a script is told. These functions do nothing: their contracts are the laws.
+
+ghost use Rattle.tp_exact.specs.Client.{ExactClient};
+ghost use Rattle.tp_exact.specs.Commands.{ExactCommand};
+ghost use Rattle.tp_exact.specs.Desks.{ExactDesk};
+ghost use Rattle.tp_exact.specs.Finals.{ExactAccount, ExactFinals};
+
+/// The line of a client's command where nobody else acts, and what the command leaves.
+pub fn exact_client()
+    ensures { ExactClient }
+{}
+
+/// A command of the client, or one that tells registers, performed between two gatherings: its line, and what it leaves.
+pub fn exact_command()
+    ensures { ExactCommand }
+{}
+
+/// The lines at the end: the final ones of a script without a race, and the counts of a closing account.
+pub fn exact_end()
+    ensures finals { ExactFinals }
+    ensures account { ExactAccount }
+{}
+
+/// A command on a desk that claims or gives up: a claim of the least id, in turn or of a given element, an abort or a drop.
+pub fn exact_desk()
+    ensures { ExactDesk }
+{}

@@ -1,0 +1,5 @@
+use Rattle.tp_manager.proofs.RowBits.{lowest_has}
+use Rattle.tp_manager.proofs.row_set.lowest_bit.Goals as goal
+
+pub returns-clause-least : goal.returns-clause-least
+returns-clause-least c none = (lowest_has c.args.words.now c.args.word c.requires.some (c.type_inv.words c.args.word).fits none).1

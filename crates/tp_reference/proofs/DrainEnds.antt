@@ -1,0 +1,267 @@
+-- Each round of a drain that claims something uses a unit of work, and there are so many units and no more.
+use Rattle.std.proofs.Common.{◌≡◌, ℕ, zero, suc, ◌+◌, ◌*◌, ◌<◌, ◌≤◌, ◌||◌, nat_lt, Bool, true, false, List, [], ◌∷◌, length, Option, Some, None, Result, Ok, Err, slice_index_or, slice_set, refl, sym, ◌∙◌, ap, subst, inl, inr, arith}
+use Rattle.std.specs.Prelude.{slice_get, sum_by, if◌then◌else◌}
+use Rattle.std.proofs.lemmas.Bool.{cases_lt, ltb-true}
+use Rattle.std.proofs.lemmas.Bool.Decides.{eqb_tells}
+use Rattle.std.proofs.lemmas.List.{get_or-set_same, get_or-set_other, get_or_past, length-set}
+use Rattle.std.proofs.lemmas.List.Sums.{sum_by-cons, sum_by-set}
+use Rattle.std.proofs.Math.Nat.{suc-mul}
+use Rattle.tp_model.specs.Drafts.{DraftView}
+use Rattle.tp_model.specs.declared.types.Claimed.{Claimed}
+use Rattle.tp_model.specs.declared.types.Claimed.TheVariants as claimed
+use Rattle.tp_model.specs.declared.types.Limits.{Limits}
+use Rattle.tp_model.specs.declared.types.Look.{Look}
+use Rattle.tp_model.specs.declared.types.Outcome.{Outcome}
+use Rattle.tp_model.specs.declared.types.Outcome.TheVariants as outcome
+use Rattle.tp_model.specs.declared.types.Work.{Work}
+use Rattle.tp_model.specs.History.{Aborted, Committed, UnitEnd, end_of}
+use Rattle.tp_plain.specs.declared.pass_state.PassState.{PassState}
+use Rattle.tp_plain.specs.Computed.{abort_at, abort_of, claim_found, claim_next_found, commit_at, commit_of, has_room, next_waiting, unit_in_hand}
+use Rattle.tp_plain.specs.OneThread as thread
+use Rattle.tp_plain.specs.OneThread.{no_pass, pass_at, turn_of}
+use Rattle.tp_server.specs.declared.recipe.Recipe.{Recipe}
+use Rattle.tp_server.specs.declared.recipe.Declined.{Declined}
+use Rattle.tp_server.specs.Effect.{Effect, effect_of}
+use Rattle.tp_desk.specs.declared.order.Order.{Order}
+use Rattle.tp_desk.specs.declared.order.Order.TheVariants.{LeastFirst, InTurn}
+use Rattle.tp_script.specs.Script.{ServerView}
+use Rattle.tp_reference.specs.declared.plain_desk.PlainDesk.{PlainDesk}
+use Rattle.tp_reference.specs.PlainDesks.{Acted, claim_by, committed_as, is_free, settle, settle_with, turn_as, turn_by}
+use Rattle.tp_reference.specs.PlainReport.{State, has_claimed, most_rounds, round_below, round_of, round_turn, rounds, worker}
+use Rattle.tp_reference.specs.DrainEnds.{DrainsEnd}
+
+-- how many units of work were begun
+abbrev begun : PassState → ℕ
+begun p = p.claimed
+
+abbrev units_used : List PassState → ℕ
+units_used passes = sum_by begun passes
+
+-- no pass has begun more than so many
+abbrev Within : ℕ → List PassState → Type 0
+Within units passes = (c : ℕ) → begun (slice_index_or passes c no_pass) ≤ units
+
+-- k units at least were begun, and no pass has begun more than it has
+record Spends (k : ℕ) (m m' : thread.State) : Type 0 where
+  pub limits : m'.limits ≡ m.limits
+  pub passes : length m'.passes ≡ length m.passes
+  pub used : k + units_used m.passes ≤ units_used m'.passes
+  pub within : Within m.limits.units m.passes → Within m.limits.units m'.passes
+
+spends_none : (m : thread.State) → Spends 0 m m
+spends_none m = record { limits = refl; passes = refl; used = omega arith; within = λ w. w }
+
+spends_fewer : (j k : ℕ) (m m' : thread.State) → j ≤ k → Spends k m m' → Spends j m m'
+spends_fewer j k m m' fewer s = let used = s.used in record { limits = s.limits; passes = s.passes; used = omega arith; within = s.within }
+
+spends_on : (j k : ℕ) (m m' m'' : thread.State) → Spends j m m' → Spends k m' m'' → Spends (j + k) m m''
+spends_on j k m m' m'' a b = let x = a.used in let y = b.used in record {
+  limits = b.limits ∙ a.limits;
+  passes = b.passes ∙ a.passes;
+  used = omega arith;
+  within = λ w. subst (λ (l : Limits). Within l.units m''.passes) a.limits (b.within (subst (λ (l : Limits). Within l.units m'.passes) (sym a.limits) (a.within w)));
+}
+
+-- one pass goes on, and begins k units
+spends_set : (k : ℕ) (m m' : thread.State) (c : ℕ) (p : PassState) → m'.limits ≡ m.limits → m'.passes ≡ slice_set m.passes c p → c < length m.passes → begun p ≡ begun (pass_at m c) + k
+    → (Within m.limits.units m.passes → begun p ≤ m.limits.units) → Spends k m m'
+spends_set k m m' c p same set there more fits = record {
+  limits = same;
+  passes = ap length set ∙ length-set m.passes c p;
+  used =
+      let sums = sum_by-set begun m.passes c p no_pass there in
+      let now : units_used m'.passes ≡ units_used (slice_set m.passes c p) = ap units_used set in
+      omega (arith, sums, now, more);
+  within = λ w d. subst (λ ps. begun (slice_index_or ps d no_pass) ≤ m.limits.units) (sym set) (elim (eqb_tells d c) [
+    | inl t ↦ subst (λ q. begun q ≤ m.limits.units) (sym (ap (λ e. slice_index_or (slice_set m.passes c p) e no_pass) t.1 ∙ get_or-set_same m.passes c p no_pass there)) (fits w)
+    | inr t ↦ subst (λ q. begun q ≤ m.limits.units) (sym (get_or-set_other m.passes c d p no_pass t.1)) (w d)
+  ]);
+}
+
+module _ (m : thread.State) (c : ℕ) (there : c < length m.passes) where
+  -- a pass that begins none
+  stays_at : (m' : thread.State) (p : PassState) → m'.limits ≡ m.limits → m'.passes ≡ slice_set m.passes c p → begun p ≡ begun (pass_at m c) → Spends 0 m m'
+  stays_at m' p same set is = spends_set 0 m m' c p same set there (omega (arith, is)) (λ w. let fits = w c in omega (arith, is, fits))
+
+  -- an abort
+  abort_spends : (u : ℕ) (how : Option UnitEnd) → Spends 0 m (abort_at m c u how).1
+  abort_spends u None = stays_at (abort_at m c u None).1 _ refl refl refl
+  abort_spends u (Some (Committed first count)) = stays_at (abort_at m c u (Some (Committed first count))).1 _ refl refl refl
+  abort_spends u (Some Aborted) = stays_at (abort_at m c u (Some Aborted)).1 _ refl refl refl
+
+  gives_up : Spends 0 m (abort_of m c).1
+  gives_up = abort_spends (unit_in_hand m c) (end_of m.history (unit_in_hand m c))
+
+  -- a commit
+  commit_at_spends : (u : ℕ) (drafts : List DraftView) (how : Option UnitEnd) → Spends 0 m (commit_at m c u drafts how).1
+  commit_at_spends u drafts None = stays_at (commit_at m c u drafts None).1 _ refl refl refl
+  commit_at_spends u drafts (Some (Committed first count)) = stays_at (commit_at m c u drafts (Some (Committed first count))).1 _ refl refl refl
+  commit_at_spends u drafts (Some Aborted) = stays_at (commit_at m c u drafts (Some Aborted)).1 _ refl refl refl
+
+  commit_spends : (drafts : List DraftView) → Spends 0 m (commit_of m c drafts).1
+  commit_spends drafts = go (has_room m c (length drafts))
+    where
+      go : (b : Bool) → Spends 0 m (if b then commit_at m c (unit_in_hand m c) drafts (end_of m.history (unit_in_hand m c)) else (outcome.Full, (abort_of m c).1)).1
+      go true = commit_at_spends (unit_in_hand m c) drafts (end_of m.history (unit_in_hand m c))
+      go false = gives_up
+
+  -- a claim
+  abbrev taken : Claimed → ℕ
+  taken (claimed.Work w) = 1
+  taken claimed.Idle = 0
+  taken claimed.NoUnit = 0
+
+  begins : (m' : thread.State) (p : PassState) → begun (pass_at m c) < m.limits.units → m'.limits ≡ m.limits → m'.passes ≡ slice_set m.passes c p → begun p ≡ begun (pass_at m c) + 1 → Spends 1 m m'
+  begins m' p room same set is = spends_set 1 m m' c p same set there is (λ w. omega (arith, is, room))
+
+  least_spends : (o : Option Look) → begun (pass_at m c) < m.limits.units → let r = claim_found m c o in Spends (taken r.0) m r.1
+  least_spends None room = spends_none m
+  least_spends (Some look) room = begins (claim_found m c (Some look)).1 _ room refl refl refl
+
+  next_spends : (stage : ℕ) (o : Option Look) → begun (pass_at m c) < m.limits.units → let r = claim_next_found m c stage o in Spends (taken r.0) m r.1
+  next_spends stage None room = spends_none m
+  next_spends stage (Some look) room = begins (claim_next_found m c stage (Some look)).1 _ room refl refl refl
+
+  claim_spends : (order : Order) (stage : ℕ) → let r = claim_by order m c stage in Spends (taken r.0) m r.1
+  claim_spends LeastFirst stage = go (nat_lt (pass_at m c).claimed m.limits.units) refl
+    where
+      go : (b : Bool) → nat_lt (pass_at m c).claimed m.limits.units ≡ b → let r = (if b then claim_found m c (next_waiting m 0 stage) else (claimed.NoUnit, m)) in Spends (taken r.0) m r.1
+      go true is = least_spends (next_waiting m 0 stage) (ltb-true _ _ is)
+      go false is = spends_none m
+  claim_spends InTurn stage = go (nat_lt (pass_at m c).claimed m.limits.units) refl
+    where
+      go : (b : Bool) → nat_lt (pass_at m c).claimed m.limits.units ≡ b → let r = (if b then claim_next_found m c stage (next_waiting m (turn_of m c stage) stage) else (claimed.NoUnit, m)) in Spends (taken r.0) m r.1
+      go true is = next_spends stage (next_waiting m (turn_of m c stage) stage) (ltb-true _ _ is)
+      go false is = spends_none m
+
+-- what is done with work begins no unit
+module _ (m : thread.State) (c : ℕ) (there : c < length m.passes) (work : Work) (d : PlainDesk) where
+  committed_spends : (effect : Effect) (r : Outcome × thread.State) → Spends 0 m r.1 → Spends 0 m (committed_as work effect r d).manager
+  committed_spends effect (outcome.Committed first count, t) s = s
+  committed_spends effect (outcome.Lost, t) s = s
+  committed_spends effect (outcome.Full, t) s = s
+
+  settle_spends : (r : Result Effect Declined) → Spends 0 m (settle_with work r c m d).manager
+  settle_spends (Ok effect) = committed_spends effect (commit_of m c effect.drafts) (commit_spends m c there effect.drafts)
+  settle_spends (Err why) = gives_up m c there
+
+  committed_claims : (effect : Effect) (r : Outcome × thread.State) → has_claimed (committed_as work effect r d).answer ≡ true
+  committed_claims effect (outcome.Committed first count, t) = refl
+  committed_claims effect (outcome.Lost, t) = refl
+  committed_claims effect (outcome.Full, t) = refl
+
+-- a turn begins a unit where it claims
+abbrev counts : Bool → ℕ
+counts true = 1
+counts false = 0
+
+counts_few : (b : Bool) → counts b ≤ 1
+counts_few true = omega arith
+counts_few false = omega arith
+
+counts_or : (a b : Bool) → counts (a || b) ≤ counts a + counts b
+counts_or true b = omega arith
+counts_or false b = omega arith
+
+module _ (m : thread.State) (c : ℕ) (there : c < length m.passes) (recipe : Recipe) (d : PlainDesk) where
+  turn_as_spends : (r : Claimed × thread.State) → Spends (taken m c there r.0) m r.1 → let done = turn_as recipe c r d in Spends (counts (has_claimed done.answer)) m done.manager
+  turn_as_spends (claimed.Work work, t) s =
+      let done = settle recipe work c t d in
+      let at : c < length t.passes = let long = s.passes in omega (arith, long, there) in
+      spends_fewer (counts (has_claimed done.answer)) (1 + 0) m done.manager (let few = counts_few (has_claimed done.answer) in omega arith)
+      (spends_on 1 0 m t done.manager s (settle_spends t c at work d (effect_of recipe d.registers work.element)))
+  turn_as_spends (claimed.Idle, t) s = s
+  turn_as_spends (claimed.NoUnit, t) s = s
+
+  turn_spends : (order : Order) → let done = turn_by order recipe c m d in Spends (counts (has_claimed done.answer)) m done.manager
+  turn_spends order = turn_as_spends (claim_by order m c recipe.stage) (claim_spends m c there order recipe.stage)
+
+-- a round
+module _ (order : Order) (servers : List ServerView) where
+  free_spends : (server : ServerView) (desk : PlainDesk) (i : ℕ) (s : State) → worker i < length s.manager.passes → let r = round_turn order (Some server) (Some desk) i s in Spends (counts r.0) s.manager r.1.manager
+  free_spends server desk i s there = go (is_free s.manager (worker i) desk)
+    where
+      done : Acted
+      done = turn_by order server.recipe (worker i) s.manager desk
+
+      go : (b : Bool) → let r : Bool × State = (if b then (has_claimed done.answer, record { manager = done.manager; desks = slice_set s.desks i done.desk }) else (false, s)) in Spends (counts r.0) s.manager r.1.manager
+      go true = turn_spends s.manager (worker i) there server.recipe desk order
+      go false = spends_none s.manager
+
+  one_spends : (a : Option ServerView) (b : Option PlainDesk) (i : ℕ) (s : State) → worker i < length s.manager.passes → let r = round_turn order a b i s in Spends (counts r.0) s.manager r.1.manager
+  one_spends (Some server) (Some desk) i s there = free_spends server desk i s there
+  one_spends (Some server) None i s there = spends_none s.manager
+  one_spends None b i s there = spends_none s.manager
+
+  below_spends : (n : ℕ) (s : State) → n < length s.manager.passes → let r = round_below order servers n s in Spends (counts r.0) s.manager r.1.manager
+  unfolding round_below
+  below_spends zero s there = spends_none s.manager
+  below_spends (suc i) s there =
+      let before = round_below order servers i s in
+      let turn = round_turn order (slice_get servers i) (slice_get before.1.desks i) i before.1 in
+      let first = below_spends i s (omega arith) in
+      let at : worker i < length before.1.manager.passes = let long = first.passes in omega (arith, long, there) in
+      spends_fewer (counts (before.0 || turn.0)) (counts before.0 + counts turn.0) s.manager turn.1.manager (counts_or before.0 turn.0)
+      (spends_on (counts before.0) (counts turn.0) s.manager before.1.manager turn.1.manager first (one_spends (slice_get servers i) (slice_get before.1.desks i) i before.1 at))
+
+  -- rounds, one after another
+  no_more : (n : ℕ) (s t : State) → round_of order servers s ≡ (false, t) → rounds order servers (suc n) s ≡ t
+  unfolding rounds
+  no_more n s t is = rw is refl
+
+  one_more : (n : ℕ) (s t : State) → round_of order servers s ≡ (true, t) → rounds order servers (suc n) s ≡ rounds order servers n t
+  unfolding rounds
+  one_more n s t is = rw is refl
+
+  none_yet : (s : State) → rounds order servers 0 s ≡ s
+  unfolding rounds
+  none_yet s = refl
+
+  -- the units of all passes
+  all_used : (units : ℕ) (passes : List PassState) → Within units passes → units_used passes ≤ length passes * units
+  all_used units [] w = omega arith
+  all_used units (p ∷ ps) w =
+      let first : begun p ≤ units = w 0 in
+      let rest = all_used units ps (λ c. w (suc c)) in
+      let more : length (p ∷ ps) * units ≡ length ps * units + units = suc-mul (length ps) units in
+      let sum : units_used (p ∷ ps) ≡ begun p + units_used ps = sum_by-cons begun p ps in
+      omega (arith, first, rest, more, sum)
+
+  -- there is a pass for each server, and none has begun too many units
+  abbrev IsFit : State → Type 0
+  IsFit s = (length servers < length s.manager.passes) × Within s.manager.limits.units s.manager.passes
+
+  -- more rounds that claim than there are units aren't left
+  abbrev IsEnough : ℕ → State → Type 0
+  IsEnough n s = length s.manager.passes * s.manager.limits.units < units_used s.manager.passes + n
+
+  abbrev Ends : ℕ → State → Type 0
+  Ends n s = (k : ℕ) × (k < n) × (round_of order servers (rounds order servers k s) ≡ (false, rounds order servers n s))
+
+  ends_by : (n : ℕ) (s : State) → IsFit s → IsEnough (suc n) s → ((t : State) → IsFit t → IsEnough n t → Ends n t) → (r : Bool × State) → round_of order servers s ≡ r → Ends (suc n) s
+  ends_by n s fit many later (false, t) is = (0, omega arith, ap (round_of order servers) (none_yet s) ∙ (is ∙ ap (λ (z : State). (false, z)) (sym (no_more n s t is))))
+  ends_by n s fit many later (true, t) is =
+      let one : Spends 1 s.manager t.manager = subst (λ (r : Bool × State). Spends (counts r.0) s.manager r.1.manager) is (below_spends (length servers) s fit.0) in
+      let long = one.passes in
+      let used = one.used in
+      let enough = fit.0 in
+      let same : t.manager.limits.units ≡ s.manager.limits.units = ap (λ (l : Limits). l.units) one.limits in
+      let all : length t.manager.passes * t.manager.limits.units ≡ length s.manager.passes * s.manager.limits.units = ap (λ k. k * t.manager.limits.units) long ∙ ap (λ k. length s.manager.passes * k) same in
+      let rest = later t (omega (arith, long, enough), subst (λ u. Within u t.manager.passes) (sym same) (one.within fit.1)) (omega (arith, all, used, many)) in
+      (suc rest.0, let less = rest.1 in omega (arith, less), ap (round_of order servers) (one_more rest.0 s t is) ∙ (rest.2 ∙ ap (λ (z : State). (false, z)) (sym (one_more n s t is))))
+
+  ends : (n : ℕ) (s : State) → IsFit s → IsEnough n s → Ends n s
+  ends zero s fit many = let most = all_used s.manager.limits.units s.manager.passes fit.1 in absurd (omega (arith, most, many))
+  ends (suc n) s fit many = ends_by n s fit many (ends n) (round_of order servers s) refl
+
+pub drains_end : DrainsEnd
+drains_end order servers s reached parts =
+    let long : length s.manager.passes ≡ s.manager.limits.parts = reached.passes in
+    let within : Within s.manager.limits.units s.manager.passes =
+    λ c. elim (cases_lt c s.manager.limits.parts) [
+      | inl inside ↦ (reached.fits c inside).claimed
+      | inr past ↦ subst (λ (p : PassState). begun p ≤ s.manager.limits.units) (sym (get_or_past s.manager.passes c no_pass (omega (arith, long, past)))) (omega arith)
+    ] in
+    let all : length s.manager.passes * s.manager.limits.units ≡ s.manager.limits.parts * s.manager.limits.units = ap (λ k. k * s.manager.limits.units) long in
+    let t = ends order servers (most_rounds s.manager.limits) s (omega (arith, long, parts), within) (omega (arith, all)) in
+    record { before = t.0; few = t.1; dry = t.2 }

@@ -1,0 +1,7 @@
+use Rattle.std.proofs.Common.{◌≡◌}
+use Rattle.tp_reference.specs.PlainClient.{picked_below, parked_in}
+use Rattle.tp_reference.proofs.client_acts.parked.Given as goal
+
+-- those with ids below the counter are listed
+abbrev pub invariant-loop-id : goal.invariant-loop-id
+invariant-loop-id l = l.found.items ≡ picked_below parked_in l.plain l.id

@@ -1,0 +1,263 @@
+-- The parts of a rollover put together.
+use Rattle.std.proofs.Common.{◌≡◌, ℕ, suc, ◌+◌, ◌<◌, ◌≤◌, None, All, List, [], ◌∷◌, ◌++◌, length, refl, sym, ◌∙◌, ap, subst, inr, ⊎_elim, append_assoc, arith}
+use Rattle.std.specs.List.{AllZip}
+use Rattle.std.proofs.lemmas.List.{append_cancel_left}
+use Rattle.std.proofs.lemmas.List.Elements.{All-cons}
+use mathlib.Core.List.{IsPrefix}
+use Rattle.tp_model.specs.declared.types.Limits.{Limits}
+use Rattle.tp_model.specs.declared.types.Status.TheVariants.{Waiting, Held}
+use Rattle.tp_model.specs.declared.event.Event.{Event}
+use Rattle.tp_model.specs.declared.event.Event.TheVariants.{Kill}
+use Rattle.tp_model.specs.History.{In, events_by, here, status_of, there}
+use Rattle.tp_model.specs.Steps.{IsLegal}
+use Rattle.tp_model.proofs.Bridges.{begins_trans, born_or_not, in_either, in_left, in_right}
+use Rattle.tp_model.proofs.Histories.{unborn_waits}
+use Rattle.tp_model.proofs.Later.{births_inside}
+use Rattle.tp_manager.specs.Accounts.{AreAll, AreFrom, Gathers}
+use Rattle.tp_manager.specs.Shown.{IsOf, KeeperShown, ManagerShown, PassShown}
+use Rattle.tp_alone.specs.Thread.{AreTogether, Stays}
+use Rattle.tp_alone.proofs.Apart.{zip_left}
+use Rattle.tp_alone.proofs.Gatherings.{gathered_together}
+use Rattle.tp_alone.proofs.Idle.{alone_idle}
+use Rattle.tp_rollover.specs.Answers.{IsHistoryOf, IsReady, Rolls}
+use Rattle.tp_rollover.specs.Closing.{AreEnds, IsStuck, Made, NoKill, StopsAmong}
+use Rattle.tp_rollover.specs.Finding.{AreAlive}
+use Rattle.tp_rollover.specs.Passes.{numbers}
+use Rattle.tp_rollover.specs.Phases.{FoundWhole, IsWhole, KillsAll, StopsKilling}
+use Rattle.tp_rollover.specs.Rolls.{AscendFrom, IsCarried, RollsOver, kills}
+use Rattle.tp_rollover.specs.Told.{ToldFirst, seen_first}
+use Rattle.tp_rollover.specs.declared.alive.Alive.{Alive}
+use Rattle.tp_rollover.specs.declared.moved.Moved.{Moved}
+use Rattle.tp_rollover.proofs.Ends.{not_stuck}
+use Rattle.tp_rollover.proofs.Heads.{tail_all}
+use Rattle.tp_rollover.proofs.Killing.{made_trans}
+use Rattle.tp_rollover.proofs.Lists.{from_map, in_map}
+use Rattle.tp_rollover.proofs.Seen.{between, stays_trans}
+use Rattle.tp_rollover.proofs.Since.{since, until}
+
+pub stay_trans : (ps qs rs : List PassShown) → AllZip Stays ps qs → AllZip Stays qs rs → AllZip Stays ps rs
+stay_trans [] [] rs a b = b
+stay_trans [] (q ∷ qs) rs a b = absurd a
+stay_trans (p ∷ ps) [] rs a b = absurd a
+stay_trans (p ∷ ps) (q ∷ qs) [] a b = absurd b
+stay_trans (p ∷ ps) (q ∷ qs) (r ∷ rs) a b = (stays_trans p q r a.0 b.0, stay_trans ps qs rs a.1 b.1)
+
+-- passes that have gathered are together
+all_in : {A : Type 0} (P : A → Type 0) (xs : List A) (x : A) → All P xs → In x xs → P x
+all_in P [] x all q = elim q [ ]
+all_in P (y ∷ xs) x all here = all 0 x (omega arith)
+all_in P (y ∷ xs) x all (there q) = all_in P xs x (λ k d less. all (suc k) d (omega (arith, less))) q
+
+pub gathered : (m : ManagerShown) (n : ℕ) (keeper keeper' : KeeperShown) (olds news : List PassShown)
+    → Gathers m.limits n keeper keeper' olds news → AreAll keeper' news → keeper'.given ≡ keeper.given → All (IsOf m) news
+    → AreTogether m.limits keeper' news keeper'.seen × AllZip Stays olds news
+gathered m n keeper keeper' olds news g all given own = gathered_together m.limits n keeper keeper' olds news g all given (λ p q. (all_in (IsOf m) news p own q).1)
+
+-- what the first has seen in between, where nothing has happened
+first_between : (ps qs rs : List PassShown) → AllZip Stays ps qs → AllZip Stays qs rs → seen_first rs ≡ seen_first ps → seen_first qs ≡ seen_first ps
+first_between [] [] rs a b e = refl
+first_between [] (q ∷ qs) rs a b e = absurd a
+first_between (p ∷ ps) [] rs a b e = absurd a
+first_between (p ∷ ps) (q ∷ qs) [] a b e = absurd b
+first_between (p ∷ ps) (q ∷ qs) (r ∷ rs) a b e = between p.seen q.seen r.seen a.0.sees b.0.sees e
+
+first_is : (l : Limits) (keeper : KeeperShown) (ps : List PassShown) (h : List Event) → AreTogether l keeper ps h → 1 ≤ length ps → seen_first ps ≡ h
+first_is l keeper [] h t some = absurd (omega (arith, some))
+first_is l keeper (p ∷ ps) h t some = (t.each p here).seen
+
+zip_some : (ps qs : List PassShown) → AllZip Stays ps qs → 1 ≤ length ps → 1 ≤ length qs
+zip_some [] qs a some = absurd (omega (arith, some))
+zip_some (p ∷ ps) [] a some = absurd a
+zip_some (p ∷ ps) (q ∷ qs) a some = omega arith
+
+pub nothing_happened : (l : Limits) (k k' : KeeperShown) (ps qs rs : List PassShown) (h h' : List Event) → AreTogether l k ps h → AllZip Stays ps qs → AllZip Stays qs rs → AreTogether l k' rs h' → 1 ≤ length ps
+    → (h' ≡ h) × (seen_first ps ≡ h) × (seen_first qs ≡ seen_first ps)
+nothing_happened l k k' ps qs rs h h' before a b after some =
+    let all = stay_trans ps qs rs a b in
+    let same : h' ≡ h = (alone_idle l k k' ps rs h h' before all after).0 in
+    let at : seen_first ps ≡ h = first_is l k ps h before some in
+    let end : seen_first rs ≡ h' = first_is l k' rs h' after (zip_some ps rs all some) in
+    (same, at, first_between ps qs rs a b (end ∙ (same ∙ sym at)))
+
+-- ids that ascend
+low_less : (id : Moved → ℕ) (low : ℕ) (xs : List Moved) (m : Moved) (ys : List Moved) → AscendFrom id low (xs ++ m ∷ ys) → low ≤ id m
+low_less id low [] m ys a = a.0
+low_less id low (x ∷ xs) m ys a = let r = low_less id (id x + 1) xs m ys a.1 in let s = a.0 in omega arith
+
+earlier_less : (id : Moved → ℕ) (low : ℕ) (xs : List Moved) (m : Moved) (ys : List Moved) (x : Moved) → AscendFrom id low (xs ++ m ∷ ys) → In x xs → id x < id m
+earlier_less id low [] m ys x a p = elim p [ ]
+earlier_less id low (z ∷ xs) m ys x a here = let r = low_less id (id x + 1) xs m ys a.1 in omega arith
+earlier_less id low (z ∷ xs) m ys x a (there p) = earlier_less id (id z + 1) xs m ys x a.1 p
+
+-- the kills
+kills_end : (c : ℕ) (ms : List Moved) → AreEnds (kills c ms)
+kills_end c ms e p = let t = from_map (λ (m : Moved). Kill c m.old) ms e p in inr (c, t.0.old, sym t.2)
+
+kill_id : (c d i j : ℕ) → Kill c i ≡ Kill d j → i ≡ j
+kill_id c d i j e = cc
+
+-- the first pass can't have found one that it couldn't kill
+module _ (l k : Limits) (keeper keeper' : KeeperShown) (ps qs rs : List PassShown) (h h' g : List Event) (alive : List Alive) (moved : List Moved)
+    (before : AreTogether l keeper ps h) (rest : AllZip Stays qs rs) (after : AreTogether l keeper' rs h') (whole : IsWhole l k alive moved h g) where
+  never_first : (p q r : PassShown) (os ts : List PassShown) → AreTogether l keeper (p ∷ os) h → AllZip Stays (q ∷ os) (r ∷ ts) → AreTogether l keeper' (r ∷ ts) h' → StopsAmong l.attempts moved p q → ⊥
+  never_first p q r os ts together stay end s =
+      let t = s.stops in
+      let es = kills p.number s.done ++ t.events in
+      let made : Made es p q = made_trans (kills p.number s.done) t.events p s.middle q s.killed t.made in
+      let grown : h' ≡ h ++ es = since l keeper keeper' p q r os ts h h' es together made stay end in
+      let from : IsPrefix h t.point = begins_trans h s.middle.seen t.point (subst (λ z. IsPrefix z s.middle.seen) (together.each p here).seen s.killed.sees) t.opened in
+      let to : IsPrefix t.point h' = begins_trans t.point q.seen h' t.closed (until l keeper keeper' p q r os ts h h' es together made stay end) in
+      let parts : from.0 ++ to.0 ≡ es = append_cancel_left h (from.0 ++ to.0) es (sym (append_assoc h from.0 to.0) ∙ (ap (λ z. z ++ to.0) from.1 ∙ (to.1 ∙ grown))) in
+      let inside : (e : Event) → In e from.0 → In e es = λ e p. subst (In e) parts (in_left to.0 p) in
+      let in_moved : In s.one moved = subst (In s.one) (sym s.parts) (in_right s.done here) in
+      let carried : IsCarried l.attempts h g s.one = whole.carried s.one in_moved in
+      let ends : AreEnds from.0 = λ e p. ⊎_elim (λ a. kills_end _ s.done e a) (λ b. t.ends e b) (in_either (kills _ s.done) t.events (inside e p)) in
+      let ascend : AscendFrom (λ m. m.old) 0 (s.done ++ s.one ∷ s.rest) = subst (AscendFrom (λ m. m.old) 0) s.parts whole.ascend.0 in
+      let none : NoKill s.one.old t.events → NoKill s.one.old from.0 = λ no_kills c p. ⊎_elim
+      (λ a. let m = from_map (λ (m : Moved). Kill _ m.old) s.done (Kill c s.one.old) a in
+      let same : m.0.old ≡ s.one.old = kill_id _ c m.0.old s.one.old m.2 in
+      let less : m.0.old < s.one.old = earlier_less (λ m. m.old) 0 s.done s.one s.rest m.0 ascend m.1 in omega arith)
+      (λ b. no_kills c b)
+      (in_either (kills _ s.done) t.events (inside (Kill c s.one.old) p)) in
+      not_stuck l.attempts s.one.old h from.0 t.events carried.old ends none carried.was.0 carried.alive
+      (subst (λ z. IsStuck l.attempts s.one.old t.events z) (sym from.1) t.stuck)
+
+  pub never_stops : StopsKilling l.attempts moved ps qs → ⊥
+  never_stops s = go rs rest after
+    where
+      go : (zs : List PassShown) → AllZip Stays qs zs → AreTogether l keeper' zs h' → ⊥
+      go [] zip t = subst (λ z. AllZip Stays z []) s.is zip
+      go (r ∷ ts) zip t = never_first s.old s.new r s.others ts (subst (λ z. AreTogether l keeper z h) s.was before) (subst (λ z. AllZip Stays z (r ∷ ts)) s.is zip) t s.stops
+
+  -- so it has killed all, and the old history goes on by that
+  pub all_killed : KillsAll moved ps qs → h' ≡ h ++ kills 0 moved
+  all_killed s = go rs rest after
+    where
+      go : (zs : List PassShown) → AllZip Stays qs zs → AreTogether l keeper' zs h' → h' ≡ h ++ kills 0 moved
+      go [] zip t = absurd (subst (λ z. AllZip Stays z []) s.is zip)
+      go (r ∷ ts) zip t =
+          let b : AreTogether l keeper (s.old ∷ s.others) h = subst (λ z. AreTogether l keeper z h) s.was before in
+          since l keeper keeper' s.old s.new r s.others ts h h' (kills 0 moved) b (subst (λ c. Made (kills c moved) s.old s.new) b.all.1.0 s.made) (subst (λ z. AllZip Stays z (r ∷ ts)) s.is zip) t
+
+-- what was alive, what was found whole, and the kills, make a rollover
+pub rolled : (l k : Limits) (h h' g : List Event) (alive : List Alive) (moved : List Moved)
+    → k.attempts ≡ l.attempts → IsLegal l h → IsLegal l h' → IsLegal k g → AreAlive l alive h → IsWhole l k alive moved h g → h' ≡ h ++ kills 0 moved
+    → RollsOver l k 0 h h' g moved
+rolled l k h h' g alive moved limit legal legal' new_legal found whole killed = record {
+  legal = (legal', new_legal);
+  limit = limit;
+  carried = whole.carried;
+  each = λ x born killable. let t = (found x born (births_inside l h legal x born)).1 killable in
+      let s = from_map (λ (m : Moved). m.old) moved t.0.id (subst (In t.0.id) whole.same (in_map (λ (a : Alive). a.id) alive t.0 t.1)) in
+      (s.0, s.1, s.2 ∙ t.2);
+  once = whole.ascend;
+  families = whole.families;
+  rest = λ y born. whole.only y born (births_inside k g new_legal y born);
+  idle = λ i u n held. ⊎_elim
+      (λ t. (found t.0 t.1 (births_inside l h legal t.0 t.1)).0 u n (ap (status_of l.attempts h) t.2 ∙ held))
+      (λ unborn. (let q : Waiting 0 ≡ Held u n = sym (unborn_waits l h legal i unborn) ∙ held in absurd cc))
+      (born_or_not h i);
+  killed = killed;
+}
+
+-- the history that the old passes had made
+pub history_of : (l : Limits) (keeper : KeeperShown) (olds news : List PassShown) (h : List Event) (end : KeeperShown) → AreTogether l keeper news h → AllZip Stays olds news → end.given ≡ keeper.given → IsHistoryOf end olds h
+history_of l keeper olds news h end together stay given = record {
+  own = λ p q. let t = zip_left Stays olds news p stay q in
+      let is = together.each t.0 t.1 in
+      ap (λ c. events_by c h) (sym t.2.number) ∙ (ap (events_by t.0.number) (sym is.seen) ∙ (sym is.shows.own ∙ t.2.quiet.mine));
+  others = λ c low. together.others c (subst (λ n. n ≤ c) given low);
+}
+
+-- all passes, with the same numbers
+
+head_same : (a b : ℕ) (xs ys : List ℕ) → a ∷ xs ≡ b ∷ ys → a ≡ b
+head_same a b xs ys e = cc
+
+tail_same : (a b : ℕ) (xs ys : List ℕ) → a ∷ xs ≡ b ∷ ys → xs ≡ ys
+tail_same a b xs ys e = cc
+
+from_numbers : (c : ℕ) (ps qs : List PassShown) → numbers qs ≡ numbers ps → AreFrom c ps → AreFrom c qs
+from_numbers c [] [] same all = tt
+from_numbers c [] (q ∷ qs) same all = absurd cc
+from_numbers c (p ∷ ps) [] same all = absurd cc
+from_numbers c (p ∷ ps) (q ∷ qs) same all = (head_same q.number p.number (numbers qs) (numbers ps) same ∙ all.0, from_numbers (c + 1) ps qs (tail_same q.number p.number (numbers qs) (numbers ps) same) all.1)
+
+map_long : (ps : List PassShown) → length (numbers ps) ≡ length ps
+map_long [] = refl
+map_long (p ∷ ps) = ap suc (map_long ps)
+
+long_numbers : (ps qs : List PassShown) → numbers qs ≡ numbers ps → length qs ≡ length ps
+long_numbers ps qs same = sym (map_long qs) ∙ (ap length same ∙ map_long ps)
+
+pub all_numbers : (keeper keeper' : KeeperShown) (ps qs : List PassShown) → keeper'.given ≡ keeper.given → numbers qs ≡ numbers ps → AreAll keeper ps → AreAll keeper' qs
+all_numbers keeper keeper' ps qs given same all = (long_numbers ps qs same ∙ (all.0 ∙ sym given), from_numbers 0 ps qs same all.1)
+
+pub stays_numbers : (ps qs : List PassShown) → AllZip Stays ps qs → numbers qs ≡ numbers ps
+stays_numbers [] [] zip = refl
+stays_numbers [] (q ∷ qs) zip = absurd zip
+stays_numbers (p ∷ ps) [] zip = absurd zip
+stays_numbers (p ∷ ps) (q ∷ qs) zip = let a = zip.0.number in let b = stays_numbers ps qs zip.1 in cc
+
+pub free_stays : (ps qs : List PassShown) → AllZip Stays ps qs → All (λ p. p.open_unit ≡ None) ps → All (λ p. p.open_unit ≡ None) qs
+free_stays [] [] zip free = free
+free_stays [] (q ∷ qs) zip free = absurd zip
+free_stays (p ∷ ps) [] zip free = absurd zip
+free_stays (p ∷ ps) (q ∷ qs) zip free = All-cons (λ (z : PassShown). z.open_unit ≡ None) q qs (zip.0.quiet.open_unit ∙ free 0 p (omega arith)) (free_stays ps qs zip.1 (tail_all (λ (z : PassShown). z.open_unit ≡ None) p ps free))
+
+-- all up to the kills
+module _ (m m' : ManagerShown) (a b d c : ℕ) (ok0 ok1 ok2 nk0 nk1 nk2 : KeeperShown) (olds0 olds1 olds2 olds3 olds4 olds5 news1 news2 news3 news4 : List PassShown) (alive : List Alive) (moved : List Moved) where
+  pub ready : Gathers m.limits a ok0 ok1 olds0 olds1 → AreAll ok1 olds1 → ok1.given ≡ ok0.given → All (IsOf m) olds1
+      → AllZip Stays olds1 olds2 → ToldFirst olds1 olds2 (AreAlive m.limits alive) → 1 ≤ length olds1
+      → AllZip Stays olds2 olds3
+      → Gathers m'.limits b nk0 nk1 news1 news2 → AreAll nk1 news2 → nk1.given ≡ nk0.given → All (IsOf m') news2
+      → AllZip Stays olds3 olds4 → AllZip Stays news2 news3 → FoundWhole m.limits m'.limits alive moved olds3 olds4 news2 news3 → 1 ≤ length news2
+      → Gathers m'.limits d nk1 nk2 news3 news4 → AreAll nk2 news4 → nk2.given ≡ nk1.given → All (IsOf m') news4
+      → Gathers m.limits c ok1 ok2 olds4 olds5 → AreAll ok2 olds5 → ok2.given ≡ ok1.given → All (IsOf m) olds5
+      → IsReady m.limits m'.limits ok2 nk2 olds0 olds5 news4 moved
+  ready g1 all1 given1 own1 s12 told some1 s23 g2 all2 given2 own2 s34 n23 found some2 g3 all3 given3 own3 g4 all4 given4 own4 =
+      let t1 = gathered m a ok0 ok1 olds0 olds1 g1 all1 given1 own1 in
+      let t2 = gathered m' b nk0 nk1 news1 news2 g2 all2 given2 own2 in
+      let t3 = gathered m' d nk1 nk2 news3 news4 g3 all3 given3 own3 in
+      let t4 = gathered m c ok1 ok2 olds4 olds5 g4 all4 given4 own4 in
+      let s14 = stay_trans olds1 olds2 olds4 s12 (stay_trans olds2 olds3 olds4 s23 s34) in
+      let old = nothing_happened m.limits ok1 ok2 olds1 olds4 olds5 ok1.seen ok2.seen t1.0 s14 t4.1 t4.0 some1 in
+      let new = nothing_happened m'.limits nk1 nk2 news2 news3 news4 nk1.seen nk2.seen t2.0 n23 t3.1 t3.0 some2 in
+      let at2 : seen_first olds2 ≡ seen_first olds1 = first_between olds1 olds2 olds4 s12 (stay_trans olds2 olds3 olds4 s23 s34) old.2 in
+      let at3 : seen_first olds3 ≡ seen_first olds1 = first_between olds1 olds3 olds4 (stay_trans olds1 olds2 olds3 s12 s23) s34 old.2 in
+      let h : seen_first olds1 ≡ ok2.seen = old.1 ∙ sym old.0 in
+      let g : seen_first news2 ≡ nk2.seen = new.1 ∙ sym new.0 in
+      let all_found : AreAlive m.limits alive ok2.seen = subst (AreAlive m.limits alive) h (told at2) in
+      let is_whole : IsWhole m.limits m'.limits alive moved (seen_first olds3) (seen_first news2) = found (old.2 ∙ sym at3) new.2 in
+      record {
+        history = history_of m.limits ok1 olds0 olds1 ok2.seen ok2 (subst (AreTogether m.limits ok1 olds1) (sym old.0) t1.0) t1.1 given4;
+        old_together = t4.0;
+        new_together = t3.0;
+        alive = alive;
+        found = all_found;
+        whole = subst (IsWhole m.limits m'.limits alive moved ok2.seen) g (subst (λ z. IsWhole m.limits m'.limits alive moved z (seen_first news2)) (at3 ∙ h) is_whole);
+        some = zip_some olds1 olds5 (stay_trans olds1 olds4 olds5 s14 t4.1) some1;
+      }
+
+-- and with them
+pub rolls : (m m' : ManagerShown) (c : ℕ) (ok2 ok3 nk2 : KeeperShown) (olds0 olds5 olds6 olds7 news4 : List PassShown) (moved : List Moved)
+    → m'.limits.attempts ≡ m.limits.attempts → IsReady m.limits m'.limits ok2 nk2 olds0 olds5 news4 moved → KillsAll moved olds5 olds6
+    → Gathers m.limits c ok2 ok3 olds6 olds7 → AreAll ok3 olds7 → ok3.given ≡ ok2.given → All (IsOf m) olds7
+    → Rolls m.limits m'.limits ok3 nk2 olds0 olds7 news4 moved
+rolls m m' c ok2 ok3 nk2 olds0 olds5 olds6 olds7 news4 moved limit r kill g all given own =
+    let t = gathered m c ok2 ok3 olds6 olds7 g all given own in
+    let grown = all_killed m.limits m'.limits ok2 ok3 olds5 olds6 olds7 ok2.seen ok3.seen nk2.seen r.alive moved r.old_together t.1 t.0 r.whole kill in
+    record {
+      before = ok2.seen;
+      history = record { own = r.history.own; others = λ d low. r.history.others d (subst (λ n. n ≤ d) given low) };
+      over = rolled m.limits m'.limits ok2.seen ok3.seen nk2.seen r.alive moved limit r.old_together.legal t.0.legal r.new_together.legal r.found r.whole grown;
+      old_together = t.0;
+      new_together = r.new_together;
+    }
+
+pub never : (m m' : ManagerShown) (c : ℕ) (ok2 ok3 nk2 : KeeperShown) (olds0 olds5 olds6 olds7 news4 : List PassShown) (moved : List Moved)
+    → IsReady m.limits m'.limits ok2 nk2 olds0 olds5 news4 moved → StopsKilling m.limits.attempts moved olds5 olds6
+    → Gathers m.limits c ok2 ok3 olds6 olds7 → AreAll ok3 olds7 → ok3.given ≡ ok2.given → All (IsOf m) olds7 → ⊥
+never m m' c ok2 ok3 nk2 olds0 olds5 olds6 olds7 news4 moved r stops g all given own =
+    let t = gathered m c ok2 ok3 olds6 olds7 g all given own in
+    never_stops m.limits m'.limits ok2 ok3 olds5 olds6 olds7 ok2.seen ok3.seen nk2.seen r.alive moved r.old_together t.1 t.0 r.whole stops

@@ -1,0 +1,37 @@
+-- The first of the passes, and the others.
+use Rattle.std.proofs.Common.{◌≡◌, ◌≢◌, ℕ, zero, suc, ◌+◌, ◌<◌, All, None, List, [], ◌∷◌, length, get_or, refl, sym, ◌∙◌, ap, subst, inl, inr, arith}
+use Rattle.std.proofs.lemmas.Bool.Decides.{eqb_tells}
+use Rattle.std.proofs.lemmas.List.Elements.{All-cons}
+use Rattle.std.specs.List.{AllZip}
+use Rattle.tp_manager.specs.Shown.{PassShown}
+use Rattle.tp_alone.specs.Thread.{Stays}
+use Rattle.tp_rollover.proofs.Seen.{stays_refl}
+
+pub tail_all : {A : Type 0} (P : A → Type 0) (x : A) (xs : List A) → All P (x ∷ xs) → All P xs
+tail_all P x xs all k d less = all (suc k) d (omega (arith, less))
+
+-- with another one as the first
+pub all_again : {A : Type 0} (P : A → Type 0) (xs ys : List A) (x z : A) → xs ≡ x ∷ ys → All P xs → P z → All P (z ∷ ys)
+all_again P xs ys x z is all at = All-cons P z ys at (tail_all P x ys (subst (All P) is all))
+
+pub stay_same : (ps : List PassShown) → AllZip Stays ps ps
+stay_same [] = tt
+stay_same (p ∷ ps) = (stays_refl p, stay_same ps)
+
+pub stays_again : (ps qs : List PassShown) (p q : PassShown) → ps ≡ p ∷ qs → Stays p q → AllZip Stays ps (q ∷ qs)
+stays_again ps qs p q is stays = subst (λ z. AllZip Stays z (q ∷ qs)) (sym is) (stays, stay_same qs)
+
+-- no unit is open in one more
+
+default_same : {A : Type 0} (xs : List A) (i : ℕ) (d e : A) → i < length xs → get_or xs i d ≡ get_or xs i e
+default_same [] i d e less = absurd (omega (arith, less))
+default_same (x ∷ xs) zero d e less = refl
+default_same (x ∷ xs) (suc i) d e less = default_same xs i d e (omega (arith, less))
+
+pub free_more : (ps : List PassShown) (i : ℕ) (p : PassShown) → i < length ps → ((k : ℕ) (d : PassShown) → k < i → (get_or ps k d).open_unit ≡ None)
+    → p ≡ get_or ps i p → p.open_unit ≡ None → (k : ℕ) (d : PassShown) → k < i + 1 → (get_or ps k d).open_unit ≡ None
+free_more ps i p less before is free k d low =
+    elim (eqb_tells k i) [
+      | inl q ↦ ap (λ (z : PassShown). z.open_unit) (ap (λ n. get_or ps n d) q.1 ∙ (default_same ps i d p less ∙ sym is)) ∙ free
+      | inr q ↦ let not : k ≢ i = q.1 in before k d (omega arith)
+    ]

@@ -1,0 +1,50 @@
+-- Lists of passes and of elements.
+use Rattle.std.proofs.Common.{◌≡◌, ◌⊎◌, ℕ, zero, suc, ◌+◌, ◌<◌, ◌≤◌, List, [], ◌∷◌, ◌++◌, length, map, slice_set, get_or, take, drop, refl, sym, ◌∙◌, ap, subst, inl, inr, ⊎_elim, arith}
+use Rattle.std.proofs.Math.Seq.{take-length, take-suc}
+use Rattle.tp_model.specs.History.{In, here, there}
+use Rattle.tp_model.proofs.Bridges.{in_either, in_one}
+
+-- one in place of another that looks the same
+pub map_set_same : {A B : Type 0} (f : A → B) (xs : List A) (i : ℕ) (x d : A) → i < length xs → f x ≡ f (get_or xs i d) → map f (slice_set xs i x) ≡ map f xs
+map_set_same f [] i x d within same = absurd (omega (arith, within))
+map_set_same f (y ∷ ys) zero x d within same = ap (λ z. z ∷ map f ys) same
+map_set_same f (y ∷ ys) (suc i) x d within same = ap (λ zs. f y ∷ zs) (map_set_same f ys i x d (omega (arith, within)) same)
+
+pub take_more : {A : Type 0} (xs : List A) (i : ℕ) (d : A) → i < length xs → take (i + 1) xs ≡ take i xs ++ get_or xs i d ∷ []
+take_more xs i d less = ap (λ k. take k xs) (let e : i + 1 ≡ suc i = omega arith in e) ∙ take-suc xs i d less
+
+drop_suc : {A : Type 0} (xs : List A) (i : ℕ) (d : A) → i < length xs → drop i xs ≡ get_or xs i d ∷ drop (suc i) xs
+drop_suc [] i d less = absurd (omega (arith, less))
+drop_suc (x ∷ xs) zero d less = refl
+drop_suc (x ∷ xs) (suc i) d less = drop_suc xs i d (omega (arith, less))
+
+pub drop_here : {A : Type 0} (xs : List A) (i : ℕ) (d : A) → i < length xs → drop i xs ≡ get_or xs i d ∷ drop (i + 1) xs
+drop_here xs i d less = drop_suc xs i d less ∙ ap (λ k. get_or xs i d ∷ drop k xs) (let e : suc i ≡ i + 1 = omega arith in e)
+
+-- one of the first i + 1 is one of the first i, or the next one
+pub in_take_more : {A : Type 0} (m : A) (xs : List A) (i : ℕ) (d : A) → i < length xs → In m (take (i + 1) xs) → In m (take i xs) ⊎ (m ≡ get_or xs i d)
+in_take_more m xs i d less p = ⊎_elim (λ q. inl q) (λ q. inr (in_one q)) (in_either (take i xs) (get_or xs i d ∷ []) (subst (In m) (take_more xs i d less) p))
+
+pub in_all_taken : {A : Type 0} (m : A) (xs : List A) → In m xs → In m (take (length xs) xs)
+in_all_taken m xs p = subst (In m) (sym (take-length xs)) p
+
+-- the one at a place is in the list
+pub in_at : {A : Type 0} (xs : List A) (i : ℕ) (d : A) → i < length xs → In (get_or xs i d) xs
+in_at [] i d less = absurd (omega (arith, less))
+in_at (x ∷ xs) zero d less = here
+in_at (x ∷ xs) (suc i) d less = there (in_at xs i d (omega (arith, less)))
+
+-- one that another list has the picture of
+pub in_map : {A B : Type 0} (f : A → B) (xs : List A) (x : A) → In x xs → In (f x) (map f xs)
+in_map f [] x p = elim p [ ]
+in_map f (y ∷ ys) x here = here
+in_map f (y ∷ ys) x (there p) = there (in_map f ys x p)
+
+pub from_map : {A B : Type 0} (f : A → B) (xs : List A) (y : B) → In y (map f xs) → (x : A) × In x xs × (f x ≡ y)
+from_map f [] y p = elim p [ ]
+from_map f (x ∷ xs) y here = (x, here, refl)
+from_map f (x ∷ xs) y (there p) = let t = from_map f xs y p in (t.0, there t.1, t.2)
+
+-- a loop has come to the end of the list
+pub in_taken : {A : Type 0} (m : A) (xs : List A) (i : ℕ) → length xs ≤ i → i ≤ length xs → In m xs → In m (take i xs)
+in_taken m xs i low high p = subst (λ k. In m (take k xs)) (let e : length xs ≡ i = omega (arith, low, high) in e) (in_all_taken m xs p)

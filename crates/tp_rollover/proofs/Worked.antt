@@ -1,0 +1,191 @@
+-- The worked rollover, computed.
+use Rattle.std.proofs.Common.{◌≡◌, ◌≢◌, ◌⊎◌, true, ℕ, Some, None, List, [], ◌∷◌, ◌++◌, refl, sym, ◌∙◌, ap, inl, inr, ⊎_elim, lit<, lit≤}
+use Rattle.tp_model.specs.declared.types.Element.{Element}
+use Rattle.tp_model.specs.declared.types.Status.TheVariants.{Held}
+use Rattle.tp_model.specs.declared.event.Event.{Event}
+use Rattle.tp_model.specs.declared.event.Event.TheVariants.{Enqueue, Claim, Commit, Abort, Kill}
+use Rattle.tp_model.specs.Births.{request}
+use Rattle.tp_model.specs.Counts.{is_consumed}
+use Rattle.tp_model.specs.History.{In, here, there, UnitClaim, born, claim_by, end_by, status_of}
+use Rattle.tp_model.specs.Steps.{IsKillable, IsLegal, IsOpen, Step}
+use Rattle.tp_model.proofs.Bridges.{find_in, in_one}
+use Rattle.tp_model.proofs.Histories.{legal_empty, legal_more, open_before}
+use Rattle.tp_model.proofs.Lists.{none_if, some_if}
+use Rattle.tp_rollover.specs.Checks.{AreCarried, AreFamilies, AreOnly}
+use Rattle.tp_rollover.specs.Finding.{AreAlive}
+use Rattle.tp_rollover.specs.Phases.{IsWhole}
+use Rattle.tp_rollover.specs.Rolls.{IsCarried, IsNamed}
+use Rattle.tp_rollover.specs.Worked.{WorkedPair, anew, before, first_moved, output, second_moved, small, word}
+use Rattle.tp_rollover.specs.declared.alive.Alive.{Alive}
+use Rattle.tp_rollover.specs.declared.moved.Moved.{Moved}
+use Rattle.tp_rollover.proofs.Assembly.{rolled}
+
+-- each of a list, as a product
+abbrev Each : {A : Type 0} → (A → Type 0) → List A → Type 0
+Each P [] = Unit {0}
+Each P (x ∷ xs) = P x × Each P xs
+
+from_each : {A : Type 0} (P : A → Type 0) (xs : List A) (x : A) → Each P xs → In x xs → P x
+from_each P [] x each q = elim q [ ]
+from_each P (y ∷ xs) x each here = each.0
+from_each P (y ∷ xs) x each (there q) = from_each P xs x each.1 q
+
+-- no unit is open
+abbrev NoneOpen : List Event → Type 0
+NoneOpen h = (v : ℕ) (t : UnitClaim) → ¬ IsOpen h v t
+
+-- a unit that was claimed and then ended isn't open
+closed : (h : List Event) (c u i n : ℕ) (f : Event) → NoneOpen h → ((v : ℕ) (t : UnitClaim) → ¬ (claim_by v f ≡ Some t)) → ((v : ℕ) → end_by v f ≡ None → u ≢ v)
+    → NoneOpen ((h ++ Claim c u i n ∷ []) ++ f ∷ [])
+closed h c u i n f none other ends v t is =
+    ⊎_elim (λ p. other v t p)
+    (λ p. ⊎_elim (λ q. ends v p.1 (some_if u v (record { pass = c; item = i; attempt = n }) t q).0) (λ q. none v t q.0) (open_before h (Claim c u i n) v t p.0))
+    (open_before (h ++ Claim c u i n ∷ []) f v t is)
+
+abbrev first_event : List Event
+first_event = Enqueue 0 (request 0 1 (word 5)) ∷ []
+
+none_at_first : NoneOpen first_event
+none_at_first v t is = (let claimed = is.claimed in cc)
+
+first_step : Step small [] (Enqueue 0 (request 0 1 (word 5)))
+first_step = record { row = inl (lit< tt, lit≤ tt, lit< tt); unborn = refl; stage = (lit≤ tt, lit≤ tt); body = refl; root = refl; by = refl }
+
+claim_step : Step small first_event (Claim 0 0 0 1)
+claim_step = record { unit = (lit< tt, lit≤ tt, lit< tt); unused = refl; alone = λ v t own. none_at_first v t; item = request 0 1 (word 5); born = refl; stage = (lit≤ tt, lit≤ tt); attempt = lit≤ tt; waits = refl }
+
+abbrev claimed_once : List Event
+claimed_once = Enqueue 0 (request 0 1 (word 5)) ∷ Claim 0 0 0 1 ∷ []
+
+legal_once : IsLegal small claimed_once
+legal_once = legal_more small first_event _ (legal_more small [] _ (legal_empty small) first_step) claim_step
+
+abbrev three : List Element
+three = output 1 2 10 ∷ output 2 2 20 ∷ output 3 3 30 ∷ []
+
+abbrev two : List Element
+two = output 1 2 20 ∷ output 2 3 30 ∷ []
+
+bear_three : Step small claimed_once (Commit 0 0 three)
+bear_three =
+    record {
+      taking = record { pass = 0; item = 0; attempt = 1 };
+      open_unit = record { claimed = refl; unfinished = refl };
+      own = refl;
+      item = request 0 1 (word 5);
+      taken = refl;
+      few = lit≤ tt;
+      outputs =
+          (record { place = refl; row = inl (lit< tt, lit≤ tt, lit< tt); unborn = refl; stage = (lit≤ tt, lit≤ tt); body = refl; by = refl; root_is = refl }, (record { place = refl; row = inl (lit< tt, lit≤ tt, lit< tt); unborn = refl; stage = (lit≤ tt, lit≤ tt); body = refl; by = refl; root_is = refl }, (record { place = refl; row = inl (lit< tt, lit≤ tt, lit< tt); unborn = refl; stage = (lit≤ tt, lit≤ tt); body = refl; by = refl; root_is = refl }, tt)));
+    }
+
+bear_two : Step small claimed_once (Commit 0 0 two)
+bear_two =
+    record {
+      taking = record { pass = 0; item = 0; attempt = 1 };
+      open_unit = record { claimed = refl; unfinished = refl };
+      own = refl;
+      item = request 0 1 (word 5);
+      taken = refl;
+      few = lit≤ tt;
+      outputs =
+          (record { place = refl; row = inl (lit< tt, lit≤ tt, lit< tt); unborn = refl; stage = (lit≤ tt, lit≤ tt); body = refl; by = refl; root_is = refl }, (record { place = refl; row = inl (lit< tt, lit≤ tt, lit< tt); unborn = refl; stage = (lit≤ tt, lit≤ tt); body = refl; by = refl; root_is = refl }, tt));
+    }
+
+none_by_commit : (outs : List Element) → NoneOpen (claimed_once ++ Commit 0 0 outs ∷ [])
+none_by_commit outs = closed first_event 0 0 0 1 (Commit 0 0 outs) none_at_first (λ v t q. absurd cc) (λ v e. none_if 0 v _ e)
+
+abbrev with_three : List Event
+with_three = claimed_once ++ Commit 0 0 three ∷ []
+
+abbrev with_two : List Event
+with_two = claimed_once ++ Commit 0 0 two ∷ []
+
+claim_next : Step small with_three (Claim 0 1 1 1)
+claim_next = record { unit = (lit< tt, lit≤ tt, lit< tt); unused = refl; alone = λ v t own. none_by_commit three v t; item = output 1 2 10; born = refl; stage = (lit≤ tt, lit≤ tt); attempt = lit≤ tt; waits = refl }
+
+consume_next : Step small (with_three ++ Claim 0 1 1 1 ∷ []) (Commit 0 1 [])
+consume_next = record { taking = record { pass = 0; item = 1; attempt = 1 }; open_unit = record { claimed = refl; unfinished = refl }; own = refl; item = output 1 2 10; taken = refl; few = lit≤ tt; outputs = tt }
+
+abbrev with_consumed : List Event
+with_consumed = (with_three ++ Claim 0 1 1 1 ∷ []) ++ Commit 0 1 [] ∷ []
+
+none_by_consume : NoneOpen with_consumed
+none_by_consume = closed with_three 0 1 1 1 (Commit 0 1 []) (none_by_commit three) (λ v t q. absurd cc) (λ v e. none_if 1 v _ e)
+
+claim_last : Step small with_consumed (Claim 0 2 3 1)
+claim_last = record { unit = (lit< tt, lit≤ tt, lit< tt); unused = refl; alone = λ v t own. none_by_consume v t; item = output 3 3 30; born = refl; stage = (lit≤ tt, lit≤ tt); attempt = lit≤ tt; waits = refl }
+
+park_last : Step small (with_consumed ++ Claim 0 2 3 1 ∷ []) (Abort 0 2)
+park_last = record { pass = lit< tt; taking = record { pass = 0; item = 3; attempt = 1 }; open_unit = record { claimed = refl; unfinished = refl } }
+
+legal_before : IsLegal small before
+legal_before =
+    legal_more small _ _ (legal_more small _ _ (legal_more small _ _ (legal_more small _ _ (legal_more small claimed_once _ legal_once bear_three) claim_next) consume_next) claim_last) park_last
+
+kill_first : Step small before (Kill 0 2)
+kill_first = record { pass = lit< tt; item = output 2 2 20; born = refl; free = tt }
+
+kill_second : Step small (before ++ Kill 0 2 ∷ []) (Kill 0 3)
+kill_second = record { pass = lit< tt; item = output 3 3 30; born = refl; free = tt }
+
+legal_after : IsLegal small (before ++ Kill 0 2 ∷ Kill 0 3 ∷ [])
+legal_after = legal_more small (before ++ Kill 0 2 ∷ []) _ (legal_more small before _ legal_before kill_first) kill_second
+
+claim_anew : Step small with_two (Claim 0 1 2 1)
+claim_anew = record { unit = (lit< tt, lit≤ tt, lit< tt); unused = refl; alone = λ v t own. none_by_commit two v t; item = output 2 3 30; born = refl; stage = (lit≤ tt, lit≤ tt); attempt = lit≤ tt; waits = refl }
+
+park_anew : Step small (with_two ++ Claim 0 1 2 1 ∷ []) (Abort 0 1)
+park_anew = record { pass = lit< tt; taking = record { pass = 0; item = 2; attempt = 1 }; open_unit = record { claimed = refl; unfinished = refl } }
+
+legal_anew : IsLegal small anew
+legal_anew = legal_more small _ _ (legal_more small _ _ (legal_more small claimed_once _ legal_once bear_two) claim_anew) park_anew
+
+abbrev found : List Alive
+found = record { id = 2; root = 0 } ∷ record { id = 3; root = 0 } ∷ []
+
+abbrev both : List Moved
+both = first_moved ∷ second_moved ∷ []
+
+-- how an element of the old manager was found
+abbrev Found : Element → Type 0
+Found x = ((u n : ℕ) → ¬ (status_of 1 before x.id ≡ Held u n)) × (IsKillable (status_of 1 before x.id) → (a : Alive) × In a found × (a.id ≡ x.id))
+
+all_found : AreAlive small found before
+all_found x is less = from_each Found (born before) x
+    ((λ u n p. absurd cc, λ k. absurd k), ((λ u n p. absurd cc, λ k. absurd k), ((λ u n p. absurd cc, λ k. (record { id = 2; root = 0 }, here, refl)), ((λ u n p. absurd cc, λ k. (record { id = 3; root = 0 }, there here, refl)), tt))))
+    (find_in x.id (born before) x is).0
+
+all_carried : AreCarried 1 before anew both
+all_carried m p = from_each (IsCarried 1 before anew) both m (
+  record { old = output 2 2 20; new = output 1 2 20; was = (refl, refl); is = (refl, refl); alive = tt; stage = refl; body = refl; status = refl; rounds_are = refl; request = (request 0 1 (word 5), refl, refl); itself = λ e. absurd cc },
+  (record { old = output 3 3 30; new = output 2 3 30; was = (refl, refl); is = (refl, refl); alive = tt; stage = refl; body = refl; status = refl; rounds_are = refl; request = (request 0 1 (word 5), refl, refl); itself = λ e. absurd cc }, tt),
+) p
+
+-- both are of the family of 0, in either manager
+abbrev OfOne : Moved → Type 0
+OfOne m = (m.old_root ≡ 0) × (m.new_root ≡ 0)
+
+one_family : AreFamilies both
+one_family m n p q =
+    let a = from_each OfOne both m ((refl, refl), ((refl, refl), tt)) p in
+    let b = from_each OfOne both n ((refl, refl), ((refl, refl), tt)) q in
+    (λ e. a.1 ∙ sym b.1, λ e. a.0 ∙ sym b.0)
+
+-- what is born in the new manager is named, or consumed
+abbrev Told : Element → Type 0
+Told y = IsNamed (λ m. m.new) y.id both ⊎ (is_consumed (status_of 1 anew y.id) ≡ true)
+
+all_told : AreOnly small both anew
+all_told y is less = from_each Told (born anew) y (inr refl, (inl (first_moved, here, refl), (inl (second_moved, there here, refl), tt))) (find_in y.id (born anew) y is).0
+
+whole : IsWhole small small found both before anew
+whole = record { same = refl; ascend = ((lit≤ tt, (lit≤ tt, tt)), (lit≤ tt, (lit≤ tt, tt))); families = one_family; carried = all_carried; only = all_told }
+
+pub pair : WorkedPair
+pair = record {
+  over = rolled small small before (before ++ Kill 0 2 ∷ Kill 0 3 ∷ []) anew found both refl legal_before legal_after legal_anew all_found whole refl;
+  waits = refl;
+  parked = refl;
+  left_out = λ r. (let t = r.each (output 3 3 30) refl tt in let one = ap (λ (m : Moved). m.old) (in_one t.1) in let no : 2 ≡ 3 = sym one ∙ t.2 in absurd cc);
+}

@@ -1,0 +1,12 @@
+use Rattle.std.proofs.Common.{◌≡◌, All}
+use Rattle.tp_manager.specs.Shown.{IsOf}
+use Rattle.tp_alone.specs.Thread.{Stays}
+use Rattle.tp_rollover.specs.Passes.{numbers}
+use Rattle.tp_rollover.proofs.births.bear_all.Given as goal
+
+abbrev pub invariant-loop-turn : goal.invariant-loop-turn
+invariant-loop-turn l = record {
+  own : IsOf l.old l.pass × All (IsOf l.new) l.passes;
+  stays : Stays l.initial.pass l.pass;
+  numbered : numbers l.passes ≡ numbers l.initial.passes;
+}

@@ -1,0 +1,9 @@
+use Rattle.tp_manager.specs.Shown.{IsOf}
+use Rattle.tp_alone.specs.Thread.{Stays}
+use Rattle.tp_rollover.proofs.births.drafts_of.Given as goal
+
+abbrev pub invariant-loop-place : goal.invariant-loop-place
+invariant-loop-place l = record {
+  own : IsOf l.old l.pass;
+  stays : Stays l.initial.pass l.pass;
+}

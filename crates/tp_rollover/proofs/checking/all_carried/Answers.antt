@@ -1,0 +1,18 @@
+use Rattle.std.proofs.Common.{refl}
+use Rattle.tp_rollover.proofs.Lists.{in_taken}
+use Rattle.tp_rollover.proofs.Checked.{carried_then}
+use Rattle.tp_rollover.proofs.Seen.{stays_trans}
+use Rattle.tp_rollover.proofs.checking.all_carried.Goals as goal
+
+pub loop-place-preserved : goal.loop-place-preserved
+loop-place-preserved c =
+    let i = c.loop-place.invariant in
+    record {
+      own = c.is_carried.ensures.own;
+      stays = (stays_trans c.args.old_pass.now c.loop-place.old_pass c.is_carried.new.old_pass i.stays.0 c.is_carried.ensures.stays.0, stays_trans c.args.new_pass.now c.loop-place.new_pass c.is_carried.new.new_pass i.stays.1 c.is_carried.ensures.stays.1);
+      told = carried_then c.args.old.now.limits.attempts c.args.moved.now c.loop-place.place _ c.args.old_pass.now c.loop-place.old_pass c.is_carried.new.old_pass c.args.new_pass.now c.loop-place.new_pass c.is_carried.new.new_pass c.loop-place-test.true
+          i.stays.0 c.is_carried.ensures.stays.0 i.stays.1 c.is_carried.ensures.stays.1 i.told (c.if-not-is_carried.ensures.told refl);
+    }
+
+pub returns-clause-told : goal.returns-clause-told
+returns-clause-told c told same same' m p = c.loop-place.invariant.told same same' m (in_taken m c.args.moved.now c.loop-place.place c.loop-place-test.false c.loop-place.auto.place-end p)

@@ -1,0 +1,50 @@
+-- The laws over the pair of managers.
+use Rattle.std.specs.Prelude.{◌≡◌, ◌≢◌, ℕ, ◌+◌, List, length}
+use mathlib.Core.List.{IsPrefix}
+use Rattle.tp_model.specs.declared.types.Element.{Element}
+use Rattle.tp_model.specs.declared.types.Limits.{Limits}
+use Rattle.tp_model.specs.declared.types.Status.TheVariants.{Killed}
+use Rattle.tp_model.specs.declared.event.Event.{Event}
+use Rattle.tp_model.specs.Counts.{counts}
+use Rattle.tp_model.specs.Families.{IsSettledFamily}
+use Rattle.tp_model.specs.History.{In, IsBorn, IsSettled, born, status_of}
+use Rattle.tp_model.specs.Steps.{IsLegal}
+use Rattle.tp_rollover.specs.Rolls.{RollsOver}
+use Rattle.tp_rollover.specs.declared.moved.Moved.{Moved}
+
+-- a family that is settled, as after a cancel, is settled in the new manager: at most replies of it were carried over
+abbrev pub CancelledStays : Type 0
+CancelledStays =
+    (l k : Limits) (c : ℕ) (h h' g : List Event) (moved : List Moved) → RollsOver l k c h h' g moved
+    → (m : Moved) → In m moved → IsSettledFamily l.attempts h m.old_root → IsSettledFamily k.attempts g m.new_root
+
+-- what was carried over is killed in the old manager for good, so no unit of that consumes it
+abbrev pub ConsumedInOne : Type 0
+ConsumedInOne =
+    (l k : Limits) (c : ℕ) (h h' g : List Event) (moved : List Moved) → RollsOver l k c h h' g moved
+    → (z : List Event) → IsLegal l z → IsPrefix h' z → (m : Moved) → In m moved → status_of l.attempts z m.old ≡ Killed
+
+-- and what was consumed or killed before wasn't carried over
+abbrev pub SettledNotCarried : Type 0
+SettledNotCarried =
+    (l k : Limits) (c : ℕ) (h h' g : List Event) (moved : List Moved) → RollsOver l k c h h' g moved
+    → (i : ℕ) → IsSettled (status_of l.attempts h i) → (m : Moved) → In m moved → m.old ≢ i
+
+-- in the old manager everything is consumed or killed
+abbrev pub OldIsOver : Type 0
+OldIsOver =
+    (l k : Limits) (c : ℕ) (h h' g : List Event) (moved : List Moved) → RollsOver l k c h h' g moved
+    → (x : Element) → IsBorn h' x → IsSettled (status_of l.attempts h' x.id)
+
+-- the accounts add up: what was alive is alive, and what was born beside it is consumed
+pub record AccountsAddUp (l k : Limits) (h h' g : List Event) (moved : List Moved) : Type 0 where
+  pub was : (counts l.attempts h).waiting + (counts l.attempts h).parked ≡ length moved
+  pub waiting : (counts k.attempts g).waiting ≡ (counts l.attempts h).waiting
+  pub parked : (counts k.attempts g).parked ≡ (counts l.attempts h).parked
+  pub carriers : (counts k.attempts g).consumed + length moved ≡ length (born g)
+  pub killed : (counts l.attempts h').killed ≡ (counts l.attempts h).killed + length moved
+  pub consumed : (counts l.attempts h').consumed ≡ (counts l.attempts h).consumed
+
+abbrev pub RolloverAddsUp : Type 0
+RolloverAddsUp =
+    (l k : Limits) (c : ℕ) (h h' g : List Event) (moved : List Moved) → RollsOver l k c h h' g moved → AccountsAddUp l k h h' g moved

@@ -1,0 +1,10 @@
+pub mod Rolls
+pub mod Laws
+pub mod Worked
+pub mod Told
+pub mod Passes
+pub mod Finding
+pub mod Checks
+pub mod Closing
+pub mod Phases
+pub mod Answers

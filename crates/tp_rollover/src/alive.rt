@@ -1,0 +1,74 @@
+//! What is alive in the old manager.
+ghost use Rattle.std.specs.Prelude.{◌≡◌, ◌++◌, IfOk, OnOk};
+ghost use Rattle.tp_manager.specs.Shown.{IsOf};
+ghost use Rattle.tp_alone.specs.Thread.{Stays};
+ghost use Rattle.tp_rollover.specs.Finding.{AreAlive, IsAliveAt, listed};
+ghost use Rattle.tp_rollover.specs.Told.{Told};
+
+use crate::looking::look;
+use crate::moved::RollFault;
+use std::alloc::Global;
+use tp_manager::{Manager, Pass};
+use tp_model::types::Status;
+
+/// An element that waits or is parked, and its root.
+#[derive(Clone, Copy, Debug, PartialEq, Eq)]
+pub(crate) struct Alive {
+    pub id: u32,
+    pub root: u32,
+}
+
+/// The element of the row where it is alive, `None` where it isn't or none is born. `Busy` where it is held.
+fn alive_at(manager: &Manager, pass: &mut Pass, row: u32) -> Result<Option<Alive>, RollFault>
+    requires own { IsOf manager.now pass.old }
+    ensures own { IsOf manager.now pass.new }
+    ensures stays { Stays pass.old pass.new }
+    ensures told { IfOk result (λ found. Told pass.old pass.new (IsAliveAt manager.now.limits.attempts row found)) }
+{
+    let Some(found) = look(manager, pass, row) else {
+        return Ok(None);
+    };
+    let root = found.element.root;
+    match found.status {
+        Status::Waiting { attempts: _ } => Ok(Some(Alive { id: row, root })),
+        Status::Parked { attempts: _ } => Ok(Some(Alive { id: row, root })),
+        Status::Held {
+            unit: _,
+            attempt: _,
+        } => Err(RollFault::Busy),
+        Status::Consumed { unit: _ } => Ok(None),
+        Status::Killed => Ok(None),
+    }
+}
+
+/// Puts what was found behind the others.
+fn keep(found: &mut Vec<Alive>, one: Option<Alive>) -> Result<(), RollFault>
+    ensures kept { OnOk result (found.new.items ≡ found.old.items ++ listed one) }
+{
+    match one {
+        None => Ok(()),
+        Some(one) => match found.push(one) {
+            Ok(()) => Ok(()),
+            Err(_) => Err(RollFault::NoMemory),
+        },
+    }
+}
+
+/// All elements that are alive, in the order of their ids.
+pub(crate) fn find_alive(
+    alloc: Global,
+    manager: &Manager,
+    pass: &mut Pass,
+) -> Result<Vec<Alive>, RollFault>
+    requires own { IsOf manager.now pass.old }
+    ensures own { IsOf manager.now pass.new }
+    ensures stays { Stays pass.old pass.new }
+    ensures told { IfOk result (λ found. Told pass.old pass.new (AreAlive manager.now.limits found.items)) }
+{
+    let mut found = Vec::new(alloc);
+    for row in 0..manager.capacity() {
+        let one = alive_at(manager, pass, row)?;
+        keep(&mut found, one)?;
+    }
+    Ok(found)
+}

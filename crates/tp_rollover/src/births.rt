@@ -1,0 +1,271 @@
+//! What is alive in the old manager is born in the new one. Nothing is promised here but that the old pass only
+//! looks, and that the new passes stay those of their manager: what was born is checked afterwards.
+ghost use Rattle.std.specs.Prelude.{◌≡◌, ◌≤◌, All, length};
+ghost use Rattle.tp_manager.specs.Shown.{IsOf};
+ghost use Rattle.tp_alone.specs.Thread.{Stays};
+ghost use Rattle.tp_rollover.specs.Passes.{numbers};
+
+use crate::alive::Alive;
+use crate::calls::{bear_by, submit_by};
+use crate::looking::look;
+use crate::moved::{Moved, RollFault};
+use crate::places::Cursor;
+use std::alloc::Global;
+use tp_manager::{Manager, Pass};
+use tp_model::types::{Draft, Limits};
+
+/// What stands of a family in the new manager.
+#[derive(Clone, Copy, Debug, PartialEq, Eq)]
+struct Family {
+    /// Its root there, and the element of which its next ones are born, once there is one.
+    carrier: Option<(u32, u32)>,
+    /// How many of its elements are to be born.
+    left: u32,
+}
+
+/// Elements that were born together: their root, the id of the first, and how many they are.
+#[derive(Clone, Copy, Debug, PartialEq, Eq)]
+struct Group {
+    root: u32,
+    first: u32,
+    count: usize,
+}
+
+/// The pass in whose part the row lies, or as many as there are parts for a spare one.
+fn home_of(limits: Limits, id: u32) -> usize {
+    let home = id / u32::from(limits.rows).max(1);
+    home.min(u32::from(limits.parts)) as usize
+}
+
+/// A place for the family of each root, with how many of its elements are alive.
+fn count_families(alloc: Global, capacity: u32, alive: &[Alive]) -> Result<Vec<Family>, RollFault> {
+    let mut families = Vec::new(alloc);
+    for _ in 0..capacity {
+        let family = Family {
+            carrier: None,
+            left: 0,
+        };
+        if families.push(family).is_err() {
+            return Err(RollFault::NoMemory);
+        }
+    }
+    for one in alive {
+        let root = one.root as usize;
+        if root < families.len() {
+            families[root].left = families[root].left.saturating_add(1);
+        }
+    }
+    Ok(families)
+}
+
+/// How many of these, at most four, are neighbours of one pass and one family.
+fn neighbours(limits: Limits, rest: &[Alive]) -> usize
+    requires some { 1 ≤ length rest.now }
+    ensures few { result ≤ 4 }
+    ensures some { 1 ≤ result }
+    ensures inside { result ≤ length rest.now }
+{
+    let first = rest[0];
+    let home = home_of(limits, first.id);
+    let end = rest.len().min(4);
+    for place in 1..end {
+        let next = rest[place];
+        if next.root != first.root || home_of(limits, next.id) != home {
+            return place;
+        }
+    }
+    end
+}
+
+/// How many of these are born next, where so many of the family are left; and whether a carrier is born with
+/// them, for more of it.
+fn next_group(limits: Limits, rest: &[Alive], left: u32) -> (usize, bool)
+    requires some { 1 ≤ length rest.now }
+    ensures few { result.0 ≤ 4 }
+    ensures some { 1 ≤ result.0 }
+    ensures inside { result.0 ≤ length rest.now }
+{
+    let count = neighbours(limits, rest);
+    if count == 4 && left > 4 {
+        return (3, true);
+    }
+    (count, left as usize > count)
+}
+
+/// A request like the root of a family, born by the next pass. Its id.
+fn submit_copy(
+    old: &Manager,
+    pass: &mut Pass,
+    root: u32,
+    new: &Manager,
+    passes: &mut [Pass],
+    cursor: &mut Cursor,
+    home: usize,
+) -> Result<u32, RollFault>
+    requires own { IsOf old.now pass.old × All (IsOf new.now) passes.old }
+    ensures own { IsOf old.now pass.new × All (IsOf new.now) passes.new }
+    ensures stays { Stays pass.old pass.new }
+    ensures numbers { numbers passes.new ≡ numbers passes.old }
+{
+    let Some(found) = look(old, pass, root) else {
+        return Err(RollFault::Unequal);
+    };
+    let Some(at) = cursor.next(new, passes, home, 1, 0) else {
+        return Err(RollFault::Full);
+    };
+    submit_by(new, passes, at, found.element.stage, found.element.body)
+}
+
+/// Drafts of these elements, and of a carrier: the filler, which waits until its family's next turn.
+fn drafts_of(
+    old: &Manager,
+    pass: &mut Pass,
+    group: &[Alive],
+    drafts: &mut [Draft; 4],
+) -> Result<(), RollFault>
+    requires own { IsOf old.now pass.old }
+    requires few { length group.now ≤ 4 }
+    ensures own { IsOf old.now pass.new }
+    ensures stays { Stays pass.old pass.new }
+{
+    for place in 0..group.len() {
+        let Some(found) = look(old, pass, group[place].id) else {
+            return Err(RollFault::Unequal);
+        };
+        let Some(draft) = Draft::new(found.element.stage, found.element.body) else {
+            return Err(RollFault::Unequal);
+        };
+        drafts[place] = draft;
+    }
+    Ok(())
+}
+
+/// These elements, and a further carrier where there is to be one, are born of the carrier. The id of the first.
+fn bear_group(
+    old: &Manager,
+    pass: &mut Pass,
+    group: &[Alive],
+    more: bool,
+    carrier: u32,
+    new: &Manager,
+    passes: &mut [Pass],
+    cursor: &mut Cursor,
+) -> Result<u32, RollFault>
+    requires own { IsOf old.now pass.old × All (IsOf new.now) passes.old }
+    requires some { 1 ≤ length group.now }
+    requires few { length group.now ≤ 4 }
+    ensures own { IsOf old.now pass.new × All (IsOf new.now) passes.new }
+    ensures stays { Stays pass.old pass.new }
+    ensures numbers { numbers passes.new ≡ numbers passes.old }
+{
+    let Some(filler) = Draft::new(1, [0; 4]) else {
+        return Err(RollFault::Unequal);
+    };
+    let mut drafts = [filler; 4];
+    drafts_of(old, pass, group, &mut drafts)?;
+    let count = if more && group.len() < 4 {
+        group.len() + 1
+    } else {
+        group.len()
+    };
+    let home = home_of(old.limits(), group[0].id);
+    let Some(at) = cursor.next(new, passes, home, count as u16, 1) else {
+        return Err(RollFault::Full);
+    };
+    bear_by(new, passes, at, carrier, &drafts[..count])
+}
+
+/// The next of these elements are born: a root by itself, or neighbours of one family.
+fn bear_next(
+    old: &Manager,
+    pass: &mut Pass,
+    rest: &[Alive],
+    new: &Manager,
+    passes: &mut [Pass],
+    families: &mut [Family],
+    cursor: &mut Cursor,
+) -> Result<Group, RollFault>
+    requires own { IsOf old.now pass.old × All (IsOf new.now) passes.old }
+    requires some { 1 ≤ length rest.now }
+    ensures own { IsOf old.now pass.new × All (IsOf new.now) passes.new }
+    ensures stays { Stays pass.old pass.new }
+    ensures numbers { numbers passes.new ≡ numbers passes.old }
+{
+    let next = rest[0];
+    let limits = old.limits();
+    let place = next.root as usize;
+    if place >= families.len() {
+        return Err(RollFault::Unequal);
+    }
+    let family = families[place];
+    let (root, carrier) = match family.carrier {
+        Some(carrier) => carrier,
+        None => {
+            let home = home_of(limits, next.id);
+            let id = submit_copy(old, pass, next.root, new, passes, cursor, home)?;
+            (id, id)
+        }
+    };
+    if next.id == next.root {
+        return Ok(Group {
+            root,
+            first: root,
+            count: 1,
+        });
+    }
+    let (count, more) = next_group(limits, rest, family.left);
+    let group = &rest[..count];
+    let first = bear_group(old, pass, group, more, carrier, new, passes, cursor)?;
+    families[place] = Family {
+        carrier: Some((root, first.saturating_add(count as u32))),
+        left: family.left.saturating_sub(count as u32),
+    };
+    Ok(Group { root, first, count })
+}
+
+/// Names the elements of a group that was born.
+fn name(moved: &mut Vec<Moved>, rest: &[Alive], group: Group) -> Result<(), RollFault> {
+    let mut new = group.first;
+    for place in 0..group.count.min(rest.len()) {
+        let one = Moved {
+            old: rest[place].id,
+            new,
+            old_root: rest[place].root,
+            new_root: group.root,
+        };
+        if moved.push(one).is_err() {
+            return Err(RollFault::NoMemory);
+        }
+        new = new.saturating_add(1);
+    }
+    Ok(())
+}
+
+/// All these elements are born in the new manager, in their order. What they are there.
+pub(crate) fn bear_all(
+    alloc: Global,
+    old: &Manager,
+    pass: &mut Pass,
+    alive: &[Alive],
+    new: &Manager,
+    passes: &mut [Pass],
+) -> Result<Vec<Moved>, RollFault>
+    requires own { IsOf old.now pass.old × All (IsOf new.now) passes.old }
+    ensures own { IsOf old.now pass.new × All (IsOf new.now) passes.new }
+    ensures stays { Stays pass.old pass.new }
+    ensures numbers { numbers passes.new ≡ numbers passes.old }
+{
+    let mut families = count_families(alloc, old.capacity(), alive)?;
+    let mut moved = Vec::new(alloc);
+    let mut cursor = Cursor::start();
+    for _turn in 0..alive.len() {
+        let from = moved.len();
+        if from >= alive.len() {
+            break;
+        }
+        let rest = &alive[from..];
+        let group = bear_next(old, pass, rest, new, passes, &mut families, &mut cursor)?;
+        name(&mut moved, rest, group)?;
+    }
+    Ok(moved)
+}

@@ -1,0 +1,193 @@
+//! What was born in the new manager is held against what is alive in the old one.
+ghost use Rattle.std.specs.Prelude.{◌≡◌, true, length, IsSome};
+ghost use Rattle.tp_model.specs.Steps.{IsKillable};
+ghost use Rattle.tp_manager.specs.Shown.{IsOf};
+ghost use Rattle.tp_alone.specs.Thread.{Stays};
+ghost use Rattle.tp_rollover.specs.Checks.{AreCarried, AreOnly, AreTheSame, Ascend, IsAlike, IsNamedOrConsumed};
+ghost use Rattle.tp_rollover.specs.Rolls.{IsCarried};
+ghost use Rattle.tp_rollover.specs.Told.{Told, ToldBoth};
+
+use crate::alive::Alive;
+use crate::looking::{look, rounds_had};
+use crate::moved::Moved;
+use tp_manager::{Manager, Pass};
+use tp_model::types::{Look, Status};
+
+/// Whether the element is alive.
+fn is_alive(status: Status) -> bool
+    ensures { result ≡ true → IsKillable status }
+{
+    match status {
+        Status::Waiting { attempts: _ } => true,
+        Status::Held {
+            unit: _,
+            attempt: _,
+        } => false,
+        Status::Consumed { unit: _ } => false,
+        Status::Parked { attempts: _ } => true,
+        Status::Killed => false,
+    }
+}
+
+/// Whether the one look shows an element that is alive, and the other one that stands alike, with these ids.
+fn is_alike(was: &Look, is: &Look, one: Moved) -> bool
+    ensures { result ≡ true → IsAlike was.now is.now one }
+{
+    is_alive(was.status)
+        && is.status == was.status
+        && is.element.stage == was.element.stage
+        && is.element.body == was.element.body
+        && was.element.root == one.old_root
+        && is.element.root == one.new_root
+        && (one.old != one.old_root || one.new == one.new_root)
+}
+
+/// Whether the element stands in the new manager as it does in the old one.
+fn is_carried(
+    old: &Manager,
+    old_pass: &mut Pass,
+    new: &Manager,
+    new_pass: &mut Pass,
+    one: Moved,
+) -> bool
+    requires own { IsOf old.now old_pass.old × IsOf new.now new_pass.old }
+    requires limit { new.now.limits.attempts ≡ old.now.limits.attempts }
+    ensures own { IsOf old.now old_pass.new × IsOf new.now new_pass.new }
+    ensures stays { Stays old_pass.old old_pass.new × Stays new_pass.old new_pass.new }
+    ensures told { result ≡ true → ToldBoth old_pass.old old_pass.new new_pass.old new_pass.new
+        (λ h g. IsCarried old.now.limits.attempts h g one) }
+{
+    let Some(was) = look(old, old_pass, one.old) else {
+        return false;
+    };
+    let Some(stands) = look(new, new_pass, one.new) else {
+        return false;
+    };
+    let Some(rounds_were) = rounds_had(old, old_pass, one.old) else {
+        return false;
+    };
+    let Some(rounds_are) = rounds_had(new, new_pass, one.new) else {
+        return false;
+    };
+    let Some(root) = look(new, new_pass, one.new_root) else {
+        return false;
+    };
+    if !is_alike(&was, &stands, one) {
+        return false;
+    }
+    if rounds_are != rounds_were {
+        return false;
+    }
+    root.element.by.is_none()
+}
+
+/// Whether each of these does.
+pub(crate) fn all_carried(
+    old: &Manager,
+    old_pass: &mut Pass,
+    new: &Manager,
+    new_pass: &mut Pass,
+    moved: &[Moved],
+) -> bool
+    requires own { IsOf old.now old_pass.old × IsOf new.now new_pass.old }
+    requires limit { new.now.limits.attempts ≡ old.now.limits.attempts }
+    ensures own { IsOf old.now old_pass.new × IsOf new.now new_pass.new }
+    ensures stays { Stays old_pass.old old_pass.new × Stays new_pass.old new_pass.new }
+    ensures told { result ≡ true → ToldBoth old_pass.old old_pass.new new_pass.old new_pass.new
+        (λ h g. AreCarried old.now.limits.attempts h g moved.now) }
+{
+    for place in 0..moved.len() {
+        if !is_carried(old, old_pass, new, new_pass, moved[place]) {
+            return false;
+        }
+    }
+    true
+}
+
+/// Whether the element of the row, where one is born, is the next of these or consumed. The place of the next
+/// one behind it.
+fn row_is_told(
+    manager: &Manager,
+    pass: &mut Pass,
+    row: u32,
+    moved: &[Moved],
+    place: usize,
+) -> Option<usize>
+    requires own { IsOf manager.now pass.old }
+    ensures own { IsOf manager.now pass.new }
+    ensures stays { Stays pass.old pass.new }
+    ensures told { IsSome result → Told pass.old pass.new
+        (IsNamedOrConsumed manager.now.limits.attempts row moved.now) }
+{
+    let Some(found) = look(manager, pass, row) else {
+        return Some(place);
+    };
+    if let Status::Consumed { unit: _ } = found.status {
+        return Some(place);
+    }
+    if place >= moved.len() {
+        return None;
+    }
+    if moved[place].new != row {
+        return None;
+    }
+    Some(place + 1)
+}
+
+/// Whether each element that is born there is one of these or consumed.
+pub(crate) fn are_only(manager: &Manager, pass: &mut Pass, moved: &[Moved]) -> bool
+    requires own { IsOf manager.now pass.old }
+    ensures own { IsOf manager.now pass.new }
+    ensures stays { Stays pass.old pass.new }
+    ensures told { result ≡ true → Told pass.old pass.new (AreOnly manager.now.limits moved.now) }
+{
+    let mut place = 0;
+    for row in 0..manager.capacity() {
+        let Some(next) = row_is_told(manager, pass, row, moved, place) else {
+            return false;
+        };
+        place = next;
+    }
+    true
+}
+
+/// Whether these are the same elements of the old manager, in the same order.
+pub(crate) fn are_the_same(alive: &[Alive], moved: &[Moved]) -> bool
+    ensures { result ≡ true → AreTheSame alive.now moved.now }
+{
+    if alive.len() != moved.len() {
+        return false;
+    }
+    for place in 0..moved.len() {
+        if alive[place].id != moved[place].old {
+            return false;
+        }
+    }
+    true
+}
+
+/// Whether the ids ascend in both managers.
+pub(crate) fn ascend(moved: &[Moved]) -> bool
+    ensures { result ≡ true → Ascend moved.now }
+{
+    let mut old = 0;
+    let mut new = 0;
+    for place in 0..moved.len() {
+        let one = moved[place];
+        if one.old < old {
+            return false;
+        }
+        if one.new < new {
+            return false;
+        }
+        let Some(next_old) = one.old.checked_add(1) else {
+            return false;
+        };
+        let Some(next_new) = one.new.checked_add(1) else {
+            return false;
+        };
+        old = next_old;
+        new = next_new;
+    }
+    true
+}

@@ -1,0 +1,64 @@
+//! Whether families stay families.
+ghost use Rattle.std.specs.Prelude.{◌≡◌, IfOk, true};
+ghost use Rattle.tp_rollover.specs.Checks.{AreFamilies, HasPut};
+
+use crate::moved::Moved;
+use std::alloc::{AllocError, Global};
+
+/// A table of so many places with nothing in them.
+fn places(alloc: Global, count: u32) -> Result<Vec<Option<u32>>, AllocError> {
+    let mut places = Vec::new(alloc);
+    for _ in 0..count {
+        places.push(None)?;
+    }
+    Ok(places)
+}
+
+/// Whether the place is free or has this value, which it has then. The others stay.
+fn takes(places: &mut [Option<u32>], at: u32, value: u32) -> bool
+    ensures { result ≡ true → HasPut at value places.old places.new }
+{
+    let at = at as usize;
+    if at >= places.len() {
+        return false;
+    }
+    match places[at] {
+        Some(other) => other == value,
+        None => {
+            places[at] = Some(value);
+            true
+        }
+    }
+}
+
+/// Whether two of these are of one family in the new manager exactly where they were in the old one: the new
+/// root of each old one, and the old root of each new one, are put into these tables.
+fn put_all(moved: &[Moved], new_roots: &mut [Option<u32>], old_roots: &mut [Option<u32>]) -> bool
+    ensures { result ≡ true → AreFamilies moved.now }
+{
+    for place in 0..moved.len() {
+        let one = moved[place];
+        if !takes(new_roots, one.old_root, one.new_root) {
+            return false;
+        }
+        if !takes(old_roots, one.new_root, one.old_root) {
+            return false;
+        }
+    }
+    true
+}
+
+/// Whether two of these are of one family in the new manager exactly where they were in the old one. So many
+/// elements the managers have room for.
+pub(crate) fn are_families(
+    alloc: Global,
+    moved: &[Moved],
+    old_rows: u32,
+    new_rows: u32,
+) -> Result<bool, AllocError>
+    ensures { IfOk result (λ yes. yes ≡ true → AreFamilies moved.now) }
+{
+    let mut new_roots = places(alloc, old_rows)?;
+    let mut old_roots = places(alloc, new_rows)?;
+    Ok(put_all(moved, &mut new_roots, &mut old_roots))
+}

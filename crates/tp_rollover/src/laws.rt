@@ -1,0 +1,26 @@
+//! The laws over the pair of managers. These functions do nothing: their contracts are the laws.
+
+ghost use Rattle.tp_rollover.specs.Laws.{CancelledStays, ConsumedInOne, OldIsOver, SettledNotCarried};
+ghost use Rattle.tp_rollover.specs.Worked.{WorkedPair};
+
+/// A family that was cancelled in the old manager is settled in the new one.
+pub fn cancelled_stays()
+    ensures { CancelledStays }
+{}
+
+/// What was carried over is never consumed in the old manager, and what was settled there isn't carried over.
+pub fn consumed_in_one()
+    ensures killed { ConsumedInOne }
+    ensures settled { SettledNotCarried }
+{}
+
+/// In the old manager everything is consumed or killed.
+pub fn old_is_over()
+    ensures { OldIsOver }
+{}
+
+/// A worked rollover, of a family of which one element waits and one is parked. The laws are of such pairs. Where one
+/// that was alive is left out, it is none.
+pub fn worked_pair()
+    ensures { WorkedPair }
+{}

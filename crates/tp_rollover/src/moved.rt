@@ -1,0 +1,28 @@
+//! What a rollover returns.
+
+/// One element that was carried over: its id and its root's in the old manager, and in the new one.
+#[derive(Clone, Copy, Debug, PartialEq, Eq)]
+pub struct Moved {
+    pub old: u32,
+    pub new: u32,
+    pub old_root: u32,
+    pub new_root: u32,
+}
+
+/// Why nothing was carried over. The old manager stands as it did; the new one is to be given up.
+#[derive(Clone, Copy, Debug, PartialEq, Eq)]
+pub enum RollFault {
+    /// Memory could not be had.
+    NoMemory,
+    /// The new manager has another attempt limit.
+    BadLimits,
+    /// No pass of one of the managers was given out.
+    NoPass,
+    /// A pass of the old manager has a unit of work open, or an element of it is held.
+    Busy,
+    /// The new manager has not the rows or the units for what is alive.
+    Full,
+    /// What stands in the new manager isn't what is alive in the old one, since something had happened there
+    /// before. Where nothing had, this would be an error of this crate; it came in no test.
+    Unequal,
+}

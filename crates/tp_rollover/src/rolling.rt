@@ -1,0 +1,262 @@
+//! The rollover.
+ghost use Rattle.std.specs.Prelude.{◌≡◌, ◌≤◌, All, None, IfErr, IfOk, OnOk, length, true, false};
+ghost use Rattle.std.specs.List.{AllZip};
+ghost use Rattle.tp_manager.specs.Accounts.{AreAll};
+ghost use Rattle.tp_manager.specs.Shown.{IsKeptBy, IsOf};
+ghost use Rattle.tp_alone.specs.Thread.{Stays};
+ghost use Rattle.tp_rollover.specs.Answers.{IsReady, Rolls};
+ghost use Rattle.tp_rollover.specs.Finding.{AreAlive};
+ghost use Rattle.tp_rollover.specs.Passes.{numbers};
+ghost use Rattle.tp_rollover.specs.Phases.{FoundWhole, IsWhole, KillsAll, StopsKilling};
+ghost use Rattle.tp_rollover.specs.Told.{ToldBoth, ToldFirst};
+
+use crate::alive::{Alive, find_alive};
+use crate::births::bear_all;
+use crate::checking::{all_carried, are_only, are_the_same, ascend};
+use crate::closing::kill_all;
+use crate::families::are_families;
+use crate::moved::{Moved, RollFault};
+use crate::replays::replay_all;
+use std::alloc::Global;
+use tp_manager::{Keeper, Manager, Pass};
+
+/// Whether one of these passes has a unit of work open.
+fn has_open(passes: &[Pass]) -> bool
+    ensures { result ≡ false → All (λ p. p.open_unit ≡ None) passes.now }
+{
+    for place in 0..passes.len() {
+        if passes[place].has_open() {
+            return true;
+        }
+    }
+    false
+}
+
+/// All that is alive, as the first of the passes finds it.
+fn find(alloc: Global, manager: &Manager, passes: &mut [Pass]) -> Result<Vec<Alive>, RollFault>
+    requires own { All (IsOf manager.now) passes.old }
+    ensures own { All (IsOf manager.now) passes.new }
+    ensures stays { AllZip Stays passes.old passes.new }
+    ensures told { IfOk result (λ found. ToldFirst passes.old passes.new (AreAlive manager.now.limits found.items)) }
+    ensures some { OnOk result (1 ≤ length passes.old) }
+{
+    let Some((first, _rest)) = passes.split_first_mut() else {
+        return Err(RollFault::NoPass);
+    };
+    find_alive(alloc, manager, first)
+}
+
+/// All that is alive in the old manager is born in the new one, with its attempts and rounds.
+fn carry_by(
+    alloc: Global,
+    old: &Manager,
+    pass: &mut Pass,
+    new: &Manager,
+    new_passes: &mut [Pass],
+    alive: &[Alive],
+) -> Result<Vec<Moved>, RollFault>
+    requires own { IsOf old.now pass.old × All (IsOf new.now) new_passes.old }
+    ensures own { IsOf old.now pass.new × All (IsOf new.now) new_passes.new }
+    ensures stays { Stays pass.old pass.new }
+    ensures numbers { numbers new_passes.new ≡ numbers new_passes.old }
+{
+    let moved = bear_all(alloc, old, pass, alive, new, new_passes)?;
+    replay_all(old, pass, new, new_passes, &moved)?;
+    Ok(moved)
+}
+
+/// The same, by the first of the old passes.
+fn carry(
+    alloc: Global,
+    old: &Manager,
+    old_passes: &mut [Pass],
+    new: &Manager,
+    new_passes: &mut [Pass],
+    alive: &[Alive],
+) -> Result<Vec<Moved>, RollFault>
+    requires own { All (IsOf old.now) old_passes.old × All (IsOf new.now) new_passes.old }
+    ensures own { All (IsOf old.now) old_passes.new }
+    ensures new_own { All (IsOf new.now) new_passes.new }
+    ensures stays { AllZip Stays old_passes.old old_passes.new }
+    ensures numbers { numbers new_passes.new ≡ numbers new_passes.old }
+{
+    let Some((first, _rest)) = old_passes.split_first_mut() else {
+        return Err(RollFault::NoPass);
+    };
+    carry_by(alloc, old, first, new, new_passes, alive)
+}
+
+/// Whether these are what was alive, and stand in the new manager as in the old one, and nothing else does.
+/// `Unequal` where not.
+fn hold_by(
+    alloc: Global,
+    old: &Manager,
+    pass: &mut Pass,
+    new: &Manager,
+    new_pass: &mut Pass,
+    alive: &[Alive],
+    moved: &[Moved],
+) -> Result<(), RollFault>
+    requires own { IsOf old.now pass.old × IsOf new.now new_pass.old }
+    requires limit { new.now.limits.attempts ≡ old.now.limits.attempts }
+    ensures own { IsOf old.now pass.new × IsOf new.now new_pass.new }
+    ensures stays { Stays pass.old pass.new × Stays new_pass.old new_pass.new }
+    ensures told { OnOk result (ToldBoth pass.old pass.new new_pass.old new_pass.new
+        (IsWhole old.now.limits new.now.limits alive.now moved.now)) }
+{
+    if !are_the_same(alive, moved) {
+        return Err(RollFault::Unequal);
+    }
+    if !ascend(moved) {
+        return Err(RollFault::Unequal);
+    }
+    let Ok(families) = are_families(alloc, moved, old.capacity(), new.capacity()) else {
+        return Err(RollFault::NoMemory);
+    };
+    if !families {
+        return Err(RollFault::Unequal);
+    }
+    if !all_carried(old, pass, new, new_pass, moved) {
+        return Err(RollFault::Unequal);
+    }
+    if !are_only(new, new_pass, moved) {
+        return Err(RollFault::Unequal);
+    }
+    Ok(())
+}
+
+/// The same, by the first passes of both managers.
+fn hold(
+    alloc: Global,
+    old: &Manager,
+    old_passes: &mut [Pass],
+    new: &Manager,
+    new_passes: &mut [Pass],
+    alive: &[Alive],
+    moved: &[Moved],
+) -> Result<(), RollFault>
+    requires own { All (IsOf old.now) old_passes.old × All (IsOf new.now) new_passes.old }
+    requires limit { new.now.limits.attempts ≡ old.now.limits.attempts }
+    ensures own { All (IsOf old.now) old_passes.new }
+    ensures new_own { All (IsOf new.now) new_passes.new }
+    ensures stays { AllZip Stays old_passes.old old_passes.new }
+    ensures new_stays { AllZip Stays new_passes.old new_passes.new }
+    ensures told { OnOk result (FoundWhole old.now.limits new.now.limits alive.now moved.now
+        old_passes.old old_passes.new new_passes.old new_passes.new) }
+    ensures some { OnOk result (1 ≤ length new_passes.old) }
+{
+    let Some((first, _rest)) = old_passes.split_first_mut() else {
+        return Err(RollFault::NoPass);
+    };
+    let Some((new_first, _others)) = new_passes.split_first_mut() else {
+        return Err(RollFault::NoPass);
+    };
+    hold_by(alloc, old, first, new, new_first, alive, moved)
+}
+
+/// The first of the passes kills what was carried over. Whether it did.
+fn bury(manager: &Manager, passes: &mut [Pass], moved: &[Moved]) -> bool
+    requires own { All (IsOf manager.now) passes.old }
+    requires free { All (λ p. p.open_unit ≡ None) passes.old }
+    requires some { 1 ≤ length passes.old }
+    ensures own { All (IsOf manager.now) passes.new }
+    ensures numbers { numbers passes.new ≡ numbers passes.old }
+    ensures done { result ≡ true → KillsAll moved.now passes.old passes.new }
+    ensures stops { result ≡ false → StopsKilling manager.now.limits.attempts moved.now passes.old passes.new }
+{
+    let Some((first, _rest)) = passes.split_first_mut() else {
+        unreachable!();
+    };
+    kill_all(manager, first, moved)
+}
+
+/// All up to the kills: what is alive has been born in the new manager, and was found to stand there as it does
+/// in the old one, in which nothing has happened.
+fn prepare(
+    alloc: Global,
+    old: &Manager,
+    old_keeper: &mut Keeper,
+    old_passes: &mut [Pass],
+    new: &Manager,
+    new_keeper: &mut Keeper,
+    new_passes: &mut [Pass],
+) -> Result<Vec<Moved>, RollFault>
+    requires old_keeper { IsKeptBy old.now old_keeper.old }
+    requires new_keeper { IsKeptBy new.now new_keeper.old }
+    requires own { All (IsOf old.now) old_passes.old × All (IsOf new.now) new_passes.old }
+    requires all { AreAll old_keeper.old old_passes.old × AreAll new_keeper.old new_passes.old }
+    requires limit { new.now.limits.attempts ≡ old.now.limits.attempts }
+    ensures old_keeper { IsKeptBy old.now old_keeper.new × (old_keeper.new.given ≡ old_keeper.old.given) }
+    ensures new_keeper { IsKeptBy new.now new_keeper.new × (new_keeper.new.given ≡ new_keeper.old.given) }
+    ensures own { All (IsOf old.now) old_passes.new }
+    ensures new_own { All (IsOf new.now) new_passes.new }
+    ensures all { AreAll old_keeper.new old_passes.new }
+    ensures new_all { AreAll new_keeper.new new_passes.new }
+    ensures stays { AllZip Stays old_passes.old old_passes.new }
+    ensures ready { IfOk result (λ moved. IsReady old.now.limits new.now.limits old_keeper.new new_keeper.new
+        old_passes.old old_passes.new new_passes.new moved.items) }
+{
+    old_keeper.gather(old, old_passes);
+    let alive = match find(alloc, old, old_passes) {
+        Ok(alive) => alive,
+        Err(fault) => return Err(fault),
+    };
+    let moved = match carry(alloc, old, old_passes, new, new_passes, &alive) {
+        Ok(moved) => moved,
+        Err(fault) => return Err(fault),
+    };
+    new_keeper.gather(new, new_passes);
+    match hold(alloc, old, old_passes, new, new_passes, &alive, &moved) {
+        Ok(()) => {}
+        Err(fault) => return Err(fault),
+    }
+    new_keeper.gather(new, new_passes);
+    old_keeper.gather(old, old_passes);
+    Ok(moved)
+}
+
+/// All that is alive in the old manager, each element once, goes on in the new one, and nothing else does. What
+/// each is there, in the order of their ids, which is the same in both managers. In the old one all is consumed
+/// or killed then. The slices hold every pass of their manager that was given out, in order of number
+/// (`Keeper::has_all` tests this), and in the new one nothing has happened. Where it fails, nothing has changed
+/// in the old manager, and the new one is to be given up.
+pub fn roll_over(
+    alloc: Global,
+    old: &Manager,
+    old_keeper: &mut Keeper,
+    old_passes: &mut [Pass],
+    new: &Manager,
+    new_keeper: &mut Keeper,
+    new_passes: &mut [Pass],
+) -> Result<Vec<Moved>, RollFault>
+    requires old_keeper { IsKeptBy old.now old_keeper.old }
+    requires new_keeper { IsKeptBy new.now new_keeper.old }
+    requires own { All (IsOf old.now) old_passes.old × All (IsOf new.now) new_passes.old }
+    requires all { AreAll old_keeper.old old_passes.old × AreAll new_keeper.old new_passes.old }
+    ensures old_keeper { IsKeptBy old.now old_keeper.new × (old_keeper.new.given ≡ old_keeper.old.given) }
+    ensures new_keeper { IsKeptBy new.now new_keeper.new × (new_keeper.new.given ≡ new_keeper.old.given) }
+    ensures own { All (IsOf old.now) old_passes.new × All (IsOf new.now) new_passes.new }
+    ensures all { AreAll old_keeper.new old_passes.new × AreAll new_keeper.new new_passes.new }
+    ensures moved { IfOk result (λ moved. Rolls old.now.limits new.now.limits old_keeper.new new_keeper.new
+        old_passes.old old_passes.new new_passes.new moved.items) }
+    ensures refused { IfErr result (λ fault. AllZip Stays old_passes.old old_passes.new) }
+{
+    if old.limits().attempts != new.limits().attempts {
+        return Err(RollFault::BadLimits);
+    }
+    if has_open(old_passes) {
+        return Err(RollFault::Busy);
+    }
+    let moved = match prepare(
+        alloc, old, old_keeper, old_passes, new, new_keeper, new_passes,
+    ) {
+        Ok(moved) => moved,
+        Err(fault) => return Err(fault),
+    };
+    let done = bury(old, old_passes, &moved);
+    old_keeper.gather(old, old_passes);
+    if !done {
+        unreachable!();
+    }
+    Ok(moved)
+}
