@@ -13,7 +13,8 @@ use tp_model::types::{Draft, Outcome};
 /// The passes that fill a manager with 6,144 other elements.
 const OTHERS: u32 = 24;
 
-/// So many requests, each grown to a family of this size. The elements that are left of one wait, and the last may be a reply.
+/// So many requests, each grown to a family of this size. The elements that are left of one wait, and the
+/// last may be a reply.
 #[derive(Clone, Copy)]
 struct Requests {
     count: u32,

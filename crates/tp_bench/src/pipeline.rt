@@ -71,8 +71,8 @@ fn use_once(manager: &Manager, keeper: &mut Keeper, role: &mut Role)
     role.left = role.left.saturating_sub(1);
 }
 
-/// The keeper's next pass takes the place of the role's, if there is one. It stands apart, since whoever may move a pass
-/// clears room for one on its stack in each call.
+/// The keeper's next pass takes the place of the role's, if there is one. It stands apart, since whoever may
+/// move a pass clears room for one on its stack in each call.
 #[inline(never)]
 fn renew(manager: &Manager, keeper: &mut Keeper, role: &mut Role)
     requires kept { IsKeptBy manager.now keeper.old }

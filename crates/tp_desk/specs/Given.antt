@@ -1,5 +1,5 @@
--- What a desk's claim of a given element answers. In each definition l are the manager's limits, `old` is what the pass shows
--- before the call, and `new` what it shows after it.
+-- What a desk's claim of a given element answers. In each definition l are the manager's limits, `old` is
+-- what the pass shows before the call, and `new` what it shows after it.
 use Rattle.std.specs.Prelude.{◌≡◌, ◌≢◌, ℕ, ◌+◌, List, Result, MatchResult, Some}
 use Rattle.tp_model.specs.declared.types.Element.{Element}
 use Rattle.tp_model.specs.declared.types.Limits.{Limits}

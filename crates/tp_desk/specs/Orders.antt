@@ -1,5 +1,5 @@
--- What a claim answers, by the order in which it takes what waits. `old` is what the pass shows before it, and `new` what it
--- shows after it.
+-- What a claim answers, by the order in which it takes what waits. `old` is what the pass shows before it,
+-- and `new` what it shows after it.
 use Rattle.std.specs.Prelude.{◌≡◌, ℕ, ⊤}
 use Rattle.tp_model.specs.declared.types.Claimed.{Claimed}
 use Rattle.tp_model.specs.declared.types.Limits.{Limits}

@@ -12,9 +12,10 @@ use tp_model::types::{Refusal, Work};
 use tp_server::Server;
 
 impl Desk<'_, '_, '_> {
-    /// Takes the element with this id in hand, if it waits in the server's stage. Nothing is in hand yet. `NoUnit` where the
-    /// pass has used its units; `NotThere` where no such element is born; `BadStage` where it is of another stage;
-    /// `NotWaiting` where it is held, parked, consumed or killed. A refusal uses no unit.
+    /// Takes the element with this id in hand, if it waits in the server's stage. Nothing is in hand yet.
+    /// `NoUnit` where the pass has used its units; `NotThere` where no such element is born; `BadStage` where
+    /// it is of another stage; `NotWaiting` where it is held, parked, consumed or killed. A refusal uses no
+    /// unit.
     pub fn claim_id(&mut self, id: u32) -> Result<Work, Refusal>
         requires steady { SteadyDesk behaviour registers pending self.old }
         requires free { self.old.work ≡ None }

@@ -10,7 +10,8 @@ pub fn exact_client()
     ensures { ExactClient }
 {}
 
-/// A command of the client, or one that tells registers, performed between two gatherings: its line, and what it leaves.
+/// A command of the client, or one that tells registers, performed between two gatherings: its line, and what
+/// it leaves.
 pub fn exact_command()
     ensures { ExactCommand }
 {}
@@ -21,7 +22,8 @@ pub fn exact_end()
     ensures account { ExactAccount }
 {}
 
-/// A command on a desk that claims or gives up: a claim of the least id, in turn or of a given element, an abort or a drop.
+/// A command on a desk that claims or gives up: a claim of the least id, in turn or of a given element, an
+/// abort or a drop.
 pub fn exact_desk()
     ensures { ExactDesk }
 {}

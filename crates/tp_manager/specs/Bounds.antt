@@ -142,7 +142,8 @@ spare_left l t n = 3 * drawn_steps l.spare + (BLOCK_ROWS * l.spare - n) * t
 abbrev pub listing_steps : Limits → ℕ
 listing_steps l = l.parts * find_steps l + spare_left l (look_steps l) 0
 
--- a walk that looks for replies at so many elements: the claim of each, and the word of the unit that took it or its head
+-- a walk that looks for replies at so many elements: the claim of each, and the word of the unit that took it
+-- or its head
 abbrev pub stride_steps : ℕ
 stride_steps = 2
 
@@ -163,8 +164,8 @@ family_look_steps l n = family_reply_steps n + read_steps l
 abbrev pub family_steps : Limits → ℕ
 family_steps l = family_look_steps l (rows_of l)
 
--- the collection of the next reply in a family of so many: a walk and a collection for each one that another was quicker to
--- take, and once more
+-- the collection of the next reply in a family of so many: a walk and a collection for each one that another
+-- was quicker to take, and once more
 abbrev pub one_take_steps : ℕ → ℕ
 one_take_steps n = walk_steps n + collect_steps
 

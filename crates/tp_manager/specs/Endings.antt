@@ -60,7 +60,8 @@ abbrev pub IsDone : Limits → (ℕ → Type 0) → List Event → ℕ → Type 
 IsDone l Has h i = IsUnworked l i h ⊎ ((u : ℕ) × (first : ℕ) × (count : ℕ) × (status_of l.attempts h i ≡ statuses.Consumed u)
     × (end_of h u ≡ Some (Committed first count)) × ((j : ℕ) → first ≤ j → j < first + count → Has j))
 
--- a cancel on its way: it has gone on from k elements, those of this walk, which are done with, and has killed some of them
+-- a cancel on its way: it has gone on from k elements, those of this walk, which are done with, and has
+-- killed some of them
 pub record Cancelling (l : Limits) (n root k killed : ℕ) (Left : ℕ → Type 0) (v w : View) : Type 0 where
   pub gone : ℕ → Bool
   pub tree : Tree l root k Left gone w.seen

@@ -61,8 +61,8 @@ abbrev pub IsOutputFrom : List Event → ℕ → ℕ → ℕ → Type 0
 IsOutputFrom h root i j = (x : Element) × (element_of h j ≡ Some x) × (x.root ≡ root)
     × (u : ℕ) × (t : UnitClaim) × (x.by ≡ Some u) × (claim_of h u ≡ Some t) × (t.item ≡ i)
 
--- what was found of element i, which is born in history a, by history b: the unit that consumed it has these outputs; or it
--- is a reply that waited; or it was not consumed in history a, and was killed if it is a reply
+-- what was found of element i, which is born in history a, by history b: the unit that consumed it has these
+-- outputs; or it is a reply that waited; or it was not consumed in history a, and was killed if it is a reply
 abbrev pub IsFound : Limits → ℕ → List Event → List Event → Found → Type 0
 IsFound l i a b (Outputs first count) = (u : ℕ) × (t : UnitClaim) × (claim_of b u ≡ Some t) × (t.item ≡ i)
     × (status_of l.attempts b i ≡ Consumed u) × (end_of b u ≡ Some (Committed first count))
@@ -71,7 +71,8 @@ IsFound l i a b Reply = ((x : Element) × (element_of b i ≡ Some x) × (x.stag
 IsFound l i a b Nothing = ((u : ℕ) → status_of l.attempts a i ≢ Consumed u)
     × ((x : Element) → element_of a i ≡ Some x → x.stage ≡ 15 → IsBetween a b (λ h. status_of l.attempts h i ≡ Killed))
 
--- the walk has come to each output that element i led to in history a; and a reply that is asked for was killed by history b
+-- the walk has come to each output that element i led to in history a; and a reply that is asked for was
+-- killed by history b
 pub record GoneOver (l : Limits) (Asked Has : ℕ → Type 0) (a b : List Event) (i : ℕ) : Type 0 where
   pub outputs : (u first count j : ℕ) → status_of l.attempts a i ≡ Consumed u → end_of a u ≡ Some (Committed first count)
       → first ≤ j → j < first + count → Has j
@@ -114,7 +115,8 @@ pub record Followed (l : Limits) (root from : ℕ) (least : Option ℕ) (v w : V
   pub passed : (x : Element) → element_of v.seen x.id ≡ Some x → x.root ≡ root → ¬ IsAsked from least x.id
   pub found : IfSome least (λ id. (from ≤ id) × IsOfFamily w.seen root id)
 
--- a collection of the next reply, on its way: others were quicker to take k replies, and each one before `from` was killed
+-- a collection of the next reply, on its way: others were quicker to take k replies, and each one before
+-- `from` was killed
 pub record Taking (l : Limits) (root from k : ℕ) (v w : View) : Type 0 where
   pub looked : Looked l (k * one_take_steps (length (family w.seen root))) v w
   pub killed : WereKilled l root (λ i. i < from) v.seen w.seen

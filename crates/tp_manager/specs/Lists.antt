@@ -52,8 +52,8 @@ pub record NextError (l : Limits) (from id : ℕ) (old new : PassShown) : Type 0
 abbrev pub NoneOfFamily : ℕ → ℕ → PassShown → PassShown → Type 0
 NoneOfFamily root from old new = (x : Element) → element_of (opening old new) x.id ≡ Some x → x.root ≡ root → ¬ (from ≤ x.id)
 
--- an element of the root stood so at a point, and each one with an id from `from` on that was born at the opening has no
--- lesser id
+-- an element of the root stood so at a point, and each one with an id from `from` on that was born at the
+-- opening has no lesser id
 pub record NextOfFamily (l : Limits) (root from : ℕ) (look : Look) (old new : PassShown) : Type 0 where
   pub from_on : from ≤ look.element.id
   pub root_is : look.element.root ≡ root

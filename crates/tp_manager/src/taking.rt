@@ -80,8 +80,9 @@ impl Shared {
 }
 
 impl Manager {
-    /// Takes the least reply to the request with this root that it finds waiting, once: it is killed, so that nobody else
-    /// collects it. Where another is quicker it takes the next one. The pass has no unit open. `None` where none waits.
+    /// Takes the least reply to the request with this root that it finds waiting, once: it is killed, so that
+    /// nobody else collects it. Where another is quicker it takes the next one. The pass has no unit open.
+    /// `None` where none waits.
     pub fn collect_next(&self, pass: &mut Pass, root: u32) -> Option<Element>
         requires own { IsOf self.now pass.old }
         requires free { pass.old.open_unit ≡ None }

@@ -206,7 +206,8 @@ fn follow(manager: &Manager, pass: &mut Pass, diary: &mut Diary) -> Result<(), T
     Ok(())
 }
 
-/// The first element that is parked, the first from that one on, and the first behind it; and another round for the first.
+/// The first element that is parked, the first from that one on, and the first behind it; and another round
+/// for the first.
 fn list_errors(manager: &Manager, pass: &mut Pass, diary: &mut Diary) -> Result<(), Trouble>
     requires own { IsOf manager.now pass.old }
     requires free { pass.old.open_unit ≡ None }

@@ -30,7 +30,8 @@ pub record TakesTurn (order : Order) (l : Limits) (old : Place) (turned : Turned
   pub follows : Follows (turn_steps order l) old.pass new.pass
   pub behaviour_is : new.behaviour ≡ old.behaviour
 
--- at most as many turns as planned were taken there, in the planned order, and fewer only after one that found no unit left
+-- at most as many turns as planned were taken there, in the planned order, and fewer only after one that
+-- found no unit left
 pub record TakesTurns (plan : Plan) (l : Limits) (old : Place) (counts : Shift) (new : Place) : Type 0 where
   pub taken : ℕ
   pub calls : Called (TakesTurn plan.order l) turn_count taken old counts new

@@ -279,8 +279,8 @@ impl Crew {
         )
     }
 
-    /// Has the boxes' desks take turns on the caller's thread, one turn each in a round, whose claims are in this order, until a
-    /// whole round claims nothing.
+    /// Has the boxes' desks take turns on the caller's thread, one turn each in a round, whose claims are in
+    /// this order, until a whole round claims nothing.
     pub fn drain(&mut self, order: Order) -> Drained
         requires steady { IsSteadyCrew behaviour registers pending self.old }
         ensures steady { IsSteadyCrew behaviour registers pending self.new }

@@ -50,8 +50,8 @@ fn again_and_parked(rt: HostRuntime) {
     plays(&rt, SMALL, &calls);
 }
 
-/// Each refusal: no such element, one that is held, consumed or killed, a reply, and no unit left. The units come first.
-/// A refusal uses no unit: the server has two, 2 and 3.
+/// Each refusal: no such element, one that is held, consumed or killed, a reply, and no unit left. The units
+/// come first. A refusal uses no unit: the server has two, 2 and 3.
 #[test]
 fn refused(rt: HostRuntime) {
     let drafts = [draft(&rt, 15, [0, 1, 2, 3])];

@@ -1,4 +1,5 @@
-//! Desks that claim in turn, on the caller's own thread, beside such that take the least id. All counts that aren't named are 0.
+//! Desks that claim in turn, on the caller's own thread, beside such that take the least id. All counts that
+//! aren't named are 0.
 ghost use Rattle.std.specs.Prelude.{◌≡◌, None};
 ghost use Rattle.tp_manager.specs.Shown.{IsOf};
 ghost use Rattle.tp_workers.specs.Free.{IsFreePass};
