@@ -8,7 +8,7 @@ Nothing is known here of the program but what its calls mean.
 import re
 
 # How often an element can be given another round.
-MOST_ROUNDS = 3
+MAX_ROUNDS = 3
 
 STATUSES = ("waiting", "held", "consumed", "parked", "killed")
 
@@ -170,13 +170,13 @@ class Manager:
         self.now_is(id, "killed")
 
     def requeue(self, id, round):
-        if self.status.get(id, ("",))[0] != "parked" or round != self.rounds.get(id, 0) + 1 or round > MOST_ROUNDS:
+        if self.status.get(id, ("",))[0] != "parked" or round != self.rounds.get(id, 0) + 1 or round > MAX_ROUNDS:
             raise Wrong(f"{id} can't be given round {round}")
         self.rounds[id] = round
         self.now_is(id, "waiting", 0)
 
     def no_round(self, id):
-        if self.status.get(id, ("",))[0] != "parked" or self.rounds.get(id, 0) != MOST_ROUNDS:
+        if self.status.get(id, ("",))[0] != "parked" or self.rounds.get(id, 0) != MAX_ROUNDS:
             raise Wrong(f"{id} has a round left, or isn't parked")
 
     def look(self, id, wanted, of):

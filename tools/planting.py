@@ -1,13 +1,13 @@
 """Makes one answer of a round's log wrong, so that no history agrees with it any more.
 
 Each kind of error is a method that yields the calls where it can be planted, each with its line made wrong, or, where two calls exchange
-what they took, the whole log. What a call means, and so what makes an answer wrong, is histories.py's and finding.py's to say: an error is
+what they took, the whole log. What a call means, and so what makes an answer wrong, is histories.py's and history_search.py's to say: an error is
 planted where all the rest of the log may stay as it is.
 """
 import re
 from itertools import islice
 
-from finding import find
+from history_search import find
 from histories import Wrong, read_rounds, read_value, status
 
 # How many pairs of calls are tried for one whose exchange is wrong in its order alone.

@@ -83,9 +83,9 @@ module _ (l : Limits) (keeper keeper' : KeeperShown) (olds news : List PassShown
           (end_is l keeper keeper' olds news h h' n c old new a [] (loses.0 ∙ sym (append_nil old.mine)) ∙ append_nil h)
           (freed_is (ap claims_in loses.0)) (drawn_stays l keeper keeper' olds news h h' n c old new a keeps.2)
 
-      pub already : (ended.Already, thread_of l news h') ≡ abort_of before c
-      already = ap (λ t. (ended.Already, t)) lost_leaves ∙ sym (abort_already before c u in_hand (lost_unit loses))
+      pub already : (ended.AlreadyAborted, thread_of l news h') ≡ abort_of before c
+      already = ap (λ t. (ended.AlreadyAborted, t)) lost_leaves ∙ sym (abort_already before c u in_hand (lost_unit loses))
 
 pub alone_abort : AloneAbort
 alone_abort l keeper keeper' olds news h h' n c old new ended.Aborted a turn says = aborts l keeper keeper' olds news h h' n c old new a turn says.0 says.1 says.2 says.3
-alone_abort l keeper keeper' olds news h h' n c old new ended.Already a turn says = already l keeper keeper' olds news h h' n c old new a turn says.0 says.1 says.2 says.3
+alone_abort l keeper keeper' olds news h h' n c old new ended.AlreadyAborted a turn says = already l keeper keeper' olds news h h' n c old new a turn says.0 says.1 says.2 says.3

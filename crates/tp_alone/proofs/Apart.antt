@@ -10,7 +10,7 @@ use Rattle.tp_model.specs.declared.types.Limits.{Limits}
 use Rattle.tp_model.specs.declared.event.Event.{Event}
 use Rattle.tp_model.specs.History.{In, here, there, events_by, pass_of}
 use Rattle.tp_model.proofs.Bridges.{begins_trans, in_cons, in_either, in_left, in_none, in_right}
-use Rattle.tp_manager.specs.Accounts.{AreFrom}
+use Rattle.tp_manager.specs.Accounts.{AreNumberedFrom}
 use Rattle.tp_manager.specs.Shown.{KeeperShown, PassShown}
 use Rattle.tp_alone.specs.Thread.{Alone, HasSeen, Stays}
 
@@ -40,7 +40,7 @@ module _ {A : Type 0} (R : A → A → Type 0) where
 -- Numbers of passes.
 
 -- there is one with each number
-pub numbered : (a c : ℕ) (ps : List PassShown) → AreFrom a ps → a ≤ c → c < a + length ps → (p : PassShown) × In p ps × (p.number ≡ c)
+pub numbered : (a c : ℕ) (ps : List PassShown) → AreNumberedFrom a ps → a ≤ c → c < a + length ps → (p : PassShown) × In p ps × (p.number ≡ c)
 numbered a c [] from low high = absurd (omega arith)
 numbered a c (p ∷ ps) from low high =
     elim (eqb_tells a c) [
@@ -49,18 +49,18 @@ numbered a c (p ∷ ps) from low high =
     ]
 
 -- each has one of these
-pub number_in : (a : ℕ) (ps : List PassShown) (p : PassShown) → AreFrom a ps → In p ps → (a ≤ p.number) × (p.number < a + length ps)
+pub number_in : (a : ℕ) (ps : List PassShown) (p : PassShown) → AreNumberedFrom a ps → In p ps → (a ≤ p.number) × (p.number < a + length ps)
 number_in a [] p from q = absurd (in_none q)
 number_in a (x ∷ ps) p from q = ⊎_elim
     (λ same. let at : p.number ≡ a = ap (λ (z : PassShown). z.number) same ∙ from.0 in (omega arith, omega arith))
     (λ later. let t = number_in (a + 1) ps p from.1 later in let low = t.0 in let high = t.1 in (omega arith, omega arith)) (in_cons q)
 
-pub from_parts : (a : ℕ) (ps : List PassShown) (p : PassShown) (qs : List PassShown) → AreFrom a (ps ++ p ∷ qs) → AreFrom a ps × (p.number ≡ a + length ps) × AreFrom (a + length ps + 1) qs
-from_parts a [] p qs from = (tt, from.0 ∙ (omega arith), subst (λ z. AreFrom z qs) (omega arith) from.1)
+pub from_parts : (a : ℕ) (ps : List PassShown) (p : PassShown) (qs : List PassShown) → AreNumberedFrom a (ps ++ p ∷ qs) → AreNumberedFrom a ps × (p.number ≡ a + length ps) × AreNumberedFrom (a + length ps + 1) qs
+from_parts a [] p qs from = (tt, from.0 ∙ (omega arith), subst (λ z. AreNumberedFrom z qs) (omega arith) from.1)
 from_parts a (x ∷ ps) p qs from =
     let t = from_parts (a + 1) ps p qs from.1 in
     let at = t.1 in
-    ((from.0, t.0), omega arith, subst (λ z. AreFrom z qs) (omega arith) t.2)
+    ((from.0, t.0), omega arith, subst (λ z. AreNumberedFrom z qs) (omega arith) t.2)
 
 -- Events.
 
@@ -94,8 +94,8 @@ module _ (l : Limits) (keeper keeper' : KeeperShown) (olds news : List PassShown
   pub old_seen : HasSeen l h old
   old_seen = a.before.each old old_in
 
-  pub froms : AreFrom 0 a.front × (old.number ≡ 0 + length a.front) × AreFrom (0 + length a.front + 1) a.back
-  froms = from_parts 0 a.front old a.back (subst (AreFrom 0) a.olds_are a.before.all.1)
+  pub froms : AreNumberedFrom 0 a.front × (old.number ≡ 0 + length a.front) × AreNumberedFrom (0 + length a.front + 1) a.back
+  froms = from_parts 0 a.front old a.back (subst (AreNumberedFrom 0) a.olds_are a.before.all.1)
 
   pub number_is : old.number ≡ c
   number_is = let at = froms.1 in let len = a.place in omega arith

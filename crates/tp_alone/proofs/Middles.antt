@@ -13,7 +13,7 @@ use Rattle.tp_model.specs.Steps.{IsLegal, MayUse}
 use Rattle.tp_model.proofs.Bridges.{append_nil, begins_trans, claim_later, end_stays, in_cons, in_either, in_left, in_none, in_right}
 use Rattle.tp_model.proofs.Histories.{element_of-append}
 use Rattle.tp_model.proofs.Lists.{option_or-none}
-use Rattle.tp_manager.specs.Accounts.{AreFrom}
+use Rattle.tp_manager.specs.Accounts.{AreNumberedFrom}
 use Rattle.tp_manager.specs.Shown.{KeeperShown, PassShown}
 use Rattle.tp_alone.specs.Middle.{AloneMiddle, Between, as_seen}
 use Rattle.tp_alone.specs.Thread.{AreDrawn, AreTogether, HasSeen, Stays, drawn_of}
@@ -98,10 +98,10 @@ module _ (m : List Event) (drawn : ℕ) where
   seen_in [] p r = absurd (in_none r)
   seen_in (x ∷ ps) p r = ⊎_elim (λ same. subst (λ z. In z (seen_all (x ∷ ps))) (ap (as_seen m drawn) (sym same)) here) (λ s. there (seen_in ps p s)) (in_cons r)
 
-  from_seen : (a : ℕ) (ps : List PassShown) (old new : PassShown) (qs : List PassShown) → new.number ≡ old.number → AreFrom a (ps ++ old ∷ qs) → AreFrom a (seen_all ps ++ new ∷ seen_all qs)
+  from_seen : (a : ℕ) (ps : List PassShown) (old new : PassShown) (qs : List PassShown) → new.number ≡ old.number → AreNumberedFrom a (ps ++ old ∷ qs) → AreNumberedFrom a (seen_all ps ++ new ∷ seen_all qs)
   from_seen a [] old new qs same from = (same ∙ from.0, go (a + 1) qs from.1)
     where
-      go : (a : ℕ) (qs : List PassShown) → AreFrom a qs → AreFrom a (seen_all qs)
+      go : (a : ℕ) (qs : List PassShown) → AreNumberedFrom a qs → AreNumberedFrom a (seen_all qs)
       go a [] from = tt
       go a (q ∷ qs) from = (from.0, go (a + 1) qs from.1)
   from_seen a (p ∷ ps) old new qs same from = (from.0, from_seen (a + 1) ps old new qs same from.1)
@@ -243,7 +243,7 @@ module _ (l : Limits) (keeper keeper' : KeeperShown) (olds news : List PassShown
   together : AreTogether l keeper mids m
   together = record {
     legal = b.shown.shows.legal;
-    all = (long ∙ b.before.all.0, from_seen m drawn 0 b.front old new b.back b.first.number (subst (AreFrom 0) b.olds_are b.before.all.1));
+    all = (long ∙ b.before.all.0, from_seen m drawn 0 b.front old new b.back b.first.number (subst (AreNumberedFrom 0) b.olds_are b.before.all.1));
     each = each;
     others = others;
     drawn = subst (λ d. AreDrawn d mids) (sym drawn_is) (record { seen = knows; inside = inside; owned = owned; once = once });

@@ -12,7 +12,7 @@ use Rattle.tp_model.proofs.Bridges.{begins_trans, in_none}
 use Rattle.tp_model.proofs.Histories.{legal_empty}
 use Rattle.tp_plain.specs.declared.pass_state.PassState.{PassState}
 use Rattle.tp_plain.specs.OneThread.{fresh_pass}
-use Rattle.tp_manager.specs.Accounts.{AreFrom}
+use Rattle.tp_manager.specs.Accounts.{AreNumberedFrom}
 use Rattle.tp_manager.specs.Calls.{claims_in}
 use Rattle.tp_manager.specs.Shown.{PassShown}
 use Rattle.tp_alone.specs.Laws.{AloneNone, AloneStart, AttendsStays}
@@ -68,7 +68,7 @@ module _ (l : Limits) where
       let turns : turns_in p.from ≡ replicate 16 0 = no_turns p.from fresh.turn in
       cc
 
-  fresh_states : (c : ℕ) (ps : List PassShown) → AreFrom c ps → ((p : PassShown) → In p ps → IsFresh l p) → map state_of ps ≡ map (fresh_pass l.rows) (range_with_len c (length ps))
+  fresh_states : (c : ℕ) (ps : List PassShown) → AreNumberedFrom c ps → ((p : PassShown) → In p ps → IsFresh l p) → map state_of ps ≡ map (fresh_pass l.rows) (range_with_len c (length ps))
   fresh_states c [] from all = refl
   fresh_states c (p ∷ ps) from all =
       let x = fresh_state p c (all p here) from.0 in

@@ -15,21 +15,25 @@ use Rattle.tp_model.specs.declared.types.Work.{Work}
 use Rattle.tp_model.specs.Drafts.{DraftView}
 use Rattle.tp_model.specs.History.{In, IsUnborn}
 use Rattle.tp_model.specs.Steps.{IsServerStage, rows_of}
-use Rattle.tp_plain.specs.Computed.{abort_of, cancel_of, claim_id_of, claim_next_of_stage, claim_of_stage, collect_next_of, collect_of, commit_of, family_of, kill_of, read_of, release_of, requeue_of, rounds_of, submit_of}
+use Rattle.tp_plain.specs.Computed.{abort_of, cancel_of, claim_id_of, claim_next_of_stage, claim_of_stage}
+use Rattle.tp_plain.specs.Computed.{collect_next_of, collect_of, commit_of, family_of, kill_of, read_of}
+use Rattle.tp_plain.specs.Computed.{release_of, requeue_of, rounds_of, submit_of}
 use Rattle.tp_plain.specs.Listings.{next_error_of, next_reply_of}
 use Rattle.tp_plain.specs.OneThread.{State, start}
 use Rattle.tp_manager.specs.Accounts.{AreAll, Attends, Gathers}
-use Rattle.tp_manager.specs.Calls.{AtPoint, Claims, ClaimsNext, Ends, IsQuiet, KillFails, Kills, Reads, Settles, SubmitRefused, Submits}
+use Rattle.tp_manager.specs.Calls.{AtPoint, Claims, ClaimsNext, AnswersAbort, IsQuiet, KillFails, Kills}
+use Rattle.tp_manager.specs.Calls.{Reads, Settles, SubmitRefused, Submits}
 use Rattle.tp_manager.specs.Cancels.{CancelFails, Cancels}
-use Rattle.tp_manager.specs.Lists.{AllKilled, CollectsNext, NextError, NextOfFamily, NextReply, NoneCollected, NoneOfFamily, NoneParked}
+use Rattle.tp_manager.specs.Lists.{AllKilled, CollectsNext, NextError, NextOfFamily, NextReply, NoneCollected}
+use Rattle.tp_manager.specs.Lists.{NoneOfFamily, NoneParked}
 use Rattle.tp_manager.specs.Releases.{CollectFails, Collects, ReleaseFails, Releases}
 use Rattle.tp_manager.specs.Requeues.{HasHadRounds, RequeueFails, Requeues}
 use Rattle.tp_manager.specs.Shown.{KeeperShown, PassShown}
 use Rattle.tp_manager.specs.Given.{ClaimIdFails, TakesId}
 use Rattle.tp_alone.specs.Thread.{Alone, AreTogether, IsFresh, Stays, thread_of}
 
--- what holds of a call of pass c with this answer, where nobody else acts, and the call is no claim in turn: then it
--- leaves where those begin
+-- what holds of a call of pass c with this answer, where nobody else acts, and the call is no claim in turn:
+-- then it leaves where those begin
 abbrev pub Law : {A : Type 0} → (Limits → PassShown → PassShown → A → Type 0) → (State → ℕ → A × State)
     → Type 0
 Law {A} Answers computed =
@@ -56,7 +60,8 @@ abbrev pub AloneClaimNext : Type 0
 AloneClaimNext =
     (stage : ℕ) (l : Limits) (keeper keeper' : KeeperShown) (olds news : List PassShown) (h h' : List Event)
     (n c : ℕ) (old new : PassShown) (answer : Claimed)
-    → Alone l keeper keeper' olds news h h' n c old new → IsServerStage stage → ClaimsNext l stage old new answer
+    → Alone l keeper keeper' olds news h h' n c old new → IsServerStage stage
+    → ClaimsNext l stage old new answer
     → (answer, thread_of l news h') ≡ claim_next_of_stage (thread_of l olds h) c stage
 
 -- what a claim of a given element answers
@@ -67,7 +72,7 @@ abbrev pub AloneClaimId : Type 0
 AloneClaimId = (id : ℕ) → Law (ClaimIdAnswers id) (λ s c. claim_id_of s c id)
 
 abbrev pub AloneAbort : Type 0
-AloneAbort = Law (λ l. Ends) abort_of
+AloneAbort = Law (λ l. AnswersAbort) abort_of
 
 -- what a read answers
 abbrev pub ReadAnswers : ℕ → Limits → PassShown → PassShown → Result Look Refusal → Type 0
@@ -94,7 +99,8 @@ AloneKill = (id : ℕ) → Law (KillAnswers id) (λ s c. kill_of s c id)
 
 -- what a cancel answers
 abbrev pub CancelAnswers : ℕ → Limits → PassShown → PassShown → Result Cancelled Refusal → Type 0
-CancelAnswers root l old new r = MatchResult r (λ k. Cancels l root k.killed old new) (CancelFails root old new)
+CancelAnswers root l old new r = MatchResult r (λ k. Cancels l root k.killed old new)
+    (CancelFails root old new)
 
 abbrev pub AloneCancel : Type 0
 AloneCancel = (root : ℕ) → Law (CancelAnswers root) (λ s c. cancel_of s c root)
@@ -124,8 +130,8 @@ CollectAnswers id l old new r = MatchResult r (λ x. Collects id x old new) (Col
 abbrev pub AloneCollect : Type 0
 AloneCollect = (id : ℕ) → Law (CollectAnswers id) (λ s c. collect_of s c id)
 
--- where nothing was done, however many passes are handed out, it is the manager of one thread to which nothing
--- happened
+-- where nothing was done, however many passes are handed out, it is the manager of one thread to which
+-- nothing happened
 abbrev pub AloneStart : Type 0
 AloneStart =
     (l : Limits) (keeper : KeeperShown) (passes : List PassShown) (h : List Event)

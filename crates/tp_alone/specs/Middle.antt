@@ -1,4 +1,5 @@
--- One pass made several calls between two looks together: after each of these, all could have looked together.
+-- One pass made several calls between two looks together: after each of these, all could have looked
+-- together.
 use Rattle.std.specs.Prelude.{◌≡◌, ◌⊎◌, ℕ, ◌<◌, ◌≤◌, List, ◌∷◌, ◌++◌, length, map}
 use Rattle.std.specs.List.{AllZip}
 use mathlib.Core.List.{IsPrefix}
@@ -18,8 +19,8 @@ use Rattle.tp_alone.specs.Thread.{AreTogether, HasSeen, Stays, thread_of}
 abbrev pub as_seen : List Event → ℕ → PassShown → PassShown
 as_seen h drawn p = record p { seen = h; seen_blocks = drawn }
 
--- a pass made calls: it has the same number, has seen no less, and the blocks that it drew are none of those that
--- it had seen drawn
+-- a pass made calls: it has the same number, has seen no less, and the blocks that it drew are none of those
+-- that it had seen drawn
 pub record Goes (old new : PassShown) : Type 0 where
   pub number : new.number ≡ old.number
   pub sees : IsPrefix old.seen new.seen
@@ -27,9 +28,10 @@ pub record Goes (old new : PassShown) : Type 0 where
   pub later : (b : ℕ) → In b new.blocks → In b old.blocks ⊎ (old.seen_blocks ≤ b)
   pub drawn : old.seen_blocks ≤ new.seen_blocks
 
--- all were together, the pass old went on to new and then to last, nobody else did anything, and all were together
--- again
-pub record Between (l : Limits) (keeper keeper' : KeeperShown) (olds news : List PassShown) (h h' : List Event)
+-- all were together, the pass old went on to new and then to last, nobody else did anything, and all were
+-- together again
+pub record Between (l : Limits) (keeper keeper' : KeeperShown) (olds news : List PassShown)
+    (h h' : List Event)
     (old new last : PassShown) : Type 0 where
   pub before : AreTogether l keeper olds h
   pub front : List PassShown
@@ -63,6 +65,7 @@ AloneTurn =
     → (b : Between l keeper keeper' olds news h h' old new last)
     → (n k c stage : ℕ) (work : Work) (drafts : List DraftView) (outcome : Outcome)
     → length b.front ≡ c → Follows n old new → Follows k new last → last.limits ≡ l
-    → new.from ≡ old.from → last.from ≡ new.from → Takes l stage work old new → Settles drafts new last outcome
+    → new.from ≡ old.from → last.from ≡ new.from → Takes l stage work old new
+    → Settles drafts new last outcome
     → let claimed = claim_of_stage (thread_of l olds h) c stage in
     (claimed.0 ≡ claimeds.Work work) × ((outcome, thread_of l news h') ≡ commit_of claimed.1 c drafts)

@@ -1,5 +1,5 @@
--- What keeper and passes show where all have looked together, the state of the manager of one thread that they
--- make, and what it is that one pass called while no other did.
+-- What keeper and passes show where all have looked together, the state of the manager of one thread that
+-- they make, and what it is that one pass called while no other did.
 use Rattle.std.specs.Prelude.{◌≡◌, ℕ, ◌-◌, ◌*◌, ◌<◌, ◌≤◌, None, List, [], ◌∷◌, ◌++◌, length, map, slice_index}
 use Rattle.std.specs.List.{AllZip, range_with_len}
 use mathlib.Core.List.{IsPrefix}
@@ -60,8 +60,8 @@ pub record HasSeen (l : Limits) (h : List Event) (p : PassShown) : Type 0 where
   pub seen : p.seen ≡ h
   pub shows : IsPassView l (view_in p)
 
--- these are all passes that the keeper gave out; they have all seen this legal history, in which nobody else has
--- an event; and the spare blocks that are drawn are theirs
+-- these are all passes that the keeper gave out; they have all seen this legal history, in which nobody else
+-- has an event; and the spare blocks that are drawn are theirs
 pub record AreTogether (l : Limits) (keeper : KeeperShown) (passes : List PassShown) (h : List Event)
     : Type 0 where
   pub legal : IsLegal l h
@@ -78,8 +78,8 @@ pub record Stays (old new : PassShown) : Type 0 where
   pub drawn : old.seen_blocks ≤ new.seen_blocks
   pub turn : new.from ≡ old.from
 
--- all were together, pass c made a call of at most n steps, and all were together again, with nothing done by any
--- other pass
+-- all were together, pass c made a call of at most n steps, and all were together again, with nothing done by
+-- any other pass
 pub record Alone (l : Limits) (keeper keeper' : KeeperShown) (olds news : List PassShown) (h h' : List Event)
     (n c : ℕ) (old new : PassShown) : Type 0 where
   pub before : AreTogether l keeper olds h

@@ -1,6 +1,10 @@
 //! The laws of one thread. These functions do nothing: their contracts are the laws.
 
-ghost use Rattle.tp_alone.specs.Laws.{AloneAbort, AloneCancel, AloneClaim, AloneClaimId, AloneClaimNext, AloneCollect, AloneCollectNext, AloneCommit, AloneError, AloneFamily, AloneIdle, AloneKill, AloneNone, AloneRead, AloneRelease, AloneReply, AloneRequeue, AloneRounds, AloneStart, AloneSubmit, AttendsStays, GatheredTogether};
+ghost use Rattle.tp_alone.specs.Laws.{AloneAbort, AloneCancel, AloneClaim, AloneClaimId, AloneClaimNext};
+ghost use Rattle.tp_alone.specs.Laws.{AloneCollect, AloneCollectNext, AloneCommit, AloneError, AloneFamily};
+ghost use Rattle.tp_alone.specs.Laws.{AloneIdle, AloneKill, AloneNone, AloneRead, AloneRelease, AloneReply};
+ghost use Rattle.tp_alone.specs.Laws.{AloneRequeue, AloneRounds, AloneStart, AloneSubmit, AttendsStays};
+ghost use Rattle.tp_alone.specs.Laws.{GatheredTogether};
 ghost use Rattle.tp_alone.specs.Middle.{AloneMiddle, AloneTurn};
 
 /// A submit where nobody else acts.

@@ -1,5 +1,5 @@
-//! Requests of several elements, in the largest manager: what it costs to ask for a reply to one, and to cancel it.
-//! The lock's twin is `bench/rust/families.rs`.
+//! Requests of several elements, in the largest manager: what it costs to ask for a reply to one, and to
+//! cancel it. The lock's twin is `bench/rust/families.rs`.
 ghost use Rattle.std.specs.Prelude.{◌≡◌, None, IfSome};
 ghost use Rattle.tp_manager.specs.Shown.{IsOf, IsKeptBy};
 

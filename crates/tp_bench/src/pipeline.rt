@@ -5,14 +5,15 @@
 ghost use Rattle.std.specs.Prelude.{◌≡◌, None, IfSome, IsSome};
 ghost use Rattle.tp_model.specs.Steps.{IsServerStage};
 ghost use Rattle.tp_manager.specs.Shown.{IsOf, IsKeptBy};
-ghost use Rattle.tp_bench.specs.Pipelines.{AreReady, IsReady};
+ghost use Rattle.tp_bench.specs.Pipelines.{AreReady, IsFreeRole};
 
 use crate::calls::{kept, now, pass};
 use std::io;
 use tp_manager::{Keeper, Manager, Pass};
 use tp_model::types::{Body, Claimed, Draft, Limits, Outcome};
 
-/// How many requests a pass can make, or turns of one output, and how many turns of two outputs, in its own 256 rows.
+/// How many requests a pass can make, or turns of one output, and how many turns of two outputs, in its own
+/// 256 rows.
 const ROWS: u32 = 256;
 
 const PAIRS: u32 = 128;
@@ -34,7 +35,8 @@ struct Roles {
     third: Role,
 }
 
-/// What is measured: the passes of the manager, the elements that are parked before it, and the order of the turns.
+/// What is measured: the passes of the manager, the elements that are parked before it, and the order of the
+/// turns.
 #[derive(Clone, Copy)]
 struct Pipeline {
     name: &'static str,
@@ -48,7 +50,7 @@ struct Pipeline {
 fn next_role(manager: &Manager, keeper: &mut Keeper, uses: u32) -> Option<Role>
     requires kept { IsKeptBy manager.now keeper.old }
     ensures kept { IsKeptBy manager.now keeper.new }
-    ensures ready { IfSome result (IsReady manager.now) }
+    ensures ready { IfSome result (IsFreeRole manager.now) }
 {
     let pass = pass(keeper, manager)?;
     Some(Role {
@@ -61,9 +63,9 @@ fn next_role(manager: &Manager, keeper: &mut Keeper, uses: u32) -> Option<Role>
 /// The pass of a role for one use more: the keeper's next one where its own was used as often as it can be.
 fn use_once(manager: &Manager, keeper: &mut Keeper, role: &mut Role)
     requires kept { IsKeptBy manager.now keeper.old }
-    requires ready { IsReady manager.now role.old }
+    requires ready { IsFreeRole manager.now role.old }
     ensures kept { IsKeptBy manager.now keeper.new }
-    ensures ready { IsReady manager.now role.new }
+    ensures ready { IsFreeRole manager.now role.new }
 {
     if role.left == 0 {
         renew(manager, keeper, role);
@@ -76,9 +78,9 @@ fn use_once(manager: &Manager, keeper: &mut Keeper, role: &mut Role)
 #[inline(never)]
 fn renew(manager: &Manager, keeper: &mut Keeper, role: &mut Role)
     requires kept { IsKeptBy manager.now keeper.old }
-    requires ready { IsReady manager.now role.old }
+    requires ready { IsFreeRole manager.now role.old }
     ensures kept { IsKeptBy manager.now keeper.new }
-    ensures ready { IsReady manager.now role.new }
+    ensures ready { IsFreeRole manager.now role.new }
 {
     if let Some(next) = pass(keeper, manager) {
         role.pass = next;
@@ -89,9 +91,9 @@ fn renew(manager: &Manager, keeper: &mut Keeper, role: &mut Role)
 /// A request more, by a client; 1 if it was submitted.
 fn submit_one(manager: &Manager, keeper: &mut Keeper, client: &mut Role, word: u32) -> u64
     requires kept { IsKeptBy manager.now keeper.old }
-    requires ready { IsReady manager.now client.old }
+    requires ready { IsFreeRole manager.now client.old }
     ensures kept { IsKeptBy manager.now keeper.new }
-    ensures ready { IsReady manager.now client.new }
+    ensures ready { IsFreeRole manager.now client.new }
 {
     use_once(manager, keeper, client);
     match manager.submit(&mut client.pass, 1, [0, u64::from(word), 0, 0]) {
@@ -123,10 +125,10 @@ fn commit_on(manager: &Manager, pass: &mut Pass, next: u8, body: Body) -> u64
 #[inline(never)]
 fn turn(manager: &Manager, keeper: &mut Keeper, server: &mut Role, stage: u8, next: u8) -> u64
     requires kept { IsKeptBy manager.now keeper.old }
-    requires ready { IsReady manager.now server.old }
+    requires ready { IsFreeRole manager.now server.old }
     requires stage { IsServerStage stage }
     ensures kept { IsKeptBy manager.now keeper.new }
-    ensures ready { IsReady manager.now server.new }
+    ensures ready { IsFreeRole manager.now server.new }
 {
     use_once(manager, keeper, server);
     match manager.claim(&mut server.pass, stage) {
@@ -154,7 +156,8 @@ fn all_roles(manager: &Manager, keeper: &mut Keeper, uses: u32, pairs: u32) -> O
     })
 }
 
-/// So many requests, each of which goes through all stages before the next one is made; how many turns were committed.
+/// So many requests, each of which goes through all stages before the next one is made; how many turns were
+/// committed.
 #[inline(never)]
 fn one_by_one(manager: &Manager, keeper: &mut Keeper, roles: &mut Roles, count: u32) -> u64
     requires kept { IsKeptBy manager.now keeper.old }
@@ -184,10 +187,10 @@ fn turns_of(
     count: u32,
 ) -> u64
     requires kept { IsKeptBy manager.now keeper.old }
-    requires ready { IsReady manager.now server.old }
+    requires ready { IsFreeRole manager.now server.old }
     requires stage { IsServerStage stage }
     ensures kept { IsKeptBy manager.now keeper.new }
-    ensures ready { IsReady manager.now server.new }
+    ensures ready { IsFreeRole manager.now server.new }
 {
     let mut done = 0u64;
     for _i in 0..count {

@@ -1,6 +1,7 @@
--- What a command on a server is answered, and what its desk did for it. `old` is what the desk shows before the
--- command, and `new` what it shows after it.
-use Rattle.std.specs.Prelude.{◌≡◌, ℕ, Bool, true, false, List, [], ◌∷◌, Option, Some, None, Result, Ok, Err, MatchResult, IfSome, IsSome, slice_get, slice_set}
+-- What a command on a server is answered, and what its desk did for it. `old` is what the desk shows before
+-- the command, and `new` what it shows after it.
+use Rattle.std.specs.Prelude.{◌≡◌, ℕ, Bool, true, false, List, [], ◌∷◌, Option, Some, None, Result, Ok, Err}
+use Rattle.std.specs.Prelude.{MatchResult, IfSome, IsSome, slice_get, slice_set}
 use Rattle.std.specs.Option.{option_map}
 use Rattle.std.specs.declared.alloc.Global.{Global}
 use Rattle.std.specs.declared.dyn_box.DynBox.{DynBox}
@@ -13,10 +14,10 @@ use Rattle.tp_model.specs.declared.types.Limits.{Limits}
 use Rattle.tp_model.specs.declared.types.Refusal.{Refusal}
 use Rattle.tp_model.specs.declared.types.Refusal.TheVariants as refusals
 use Rattle.tp_model.specs.declared.types.Work.{Work}
-use Rattle.tp_server.specs.Behaviour.{Behaviour}
+use Rattle.tp_server.specs.Behaviour.{Behaviour, IsMade}
 use Rattle.tp_server.specs.Pending.{Pending}
 use Rattle.tp_manager.specs.Bounds.{abort_steps, commit_steps}
-use Rattle.tp_manager.specs.Calls.{Ends, Follows}
+use Rattle.tp_manager.specs.Calls.{AnswersAbort, Follows}
 use Rattle.tp_manager.specs.Shown.{PassShown}
 use Rattle.tp_desk.specs.declared.aside.Aside.{Aside}
 use Rattle.tp_desk.specs.declared.desk.Desk.{Desk}
@@ -104,7 +105,8 @@ module _ {X : Type 0} {F : X → Type 0} (behaviour : DynBox X Global F → Beha
   places_shown ps ss os = []
 
 -- the desk at work. Where no box is in sight, a server's members are told of a pair.
-module _ {X : Type 0} {F : X → Type 0} (behaviour : (x : X) × F x → Behaviour) (registers : (x : X) × F x → List ℕ)
+module _ {X : Type 0} {F : X → Type 0} (behaviour : (x : X) × F x → Behaviour) (registers : (x : X) × F x
+    → List ℕ)
     (pending : (x : X) × F x → Option Pending) where
   abbrev pub desk_shown : Desk X F → DeskShown
   desk_shown d = record {
@@ -143,7 +145,8 @@ pub record ClaimsAt (order : Order) (l : Limits) (claimed : Claimed) (old new : 
   pub unprepared : new.pending ≡ None
 
 abbrev pub TellsClaim : Order → Limits → DeskShown → ServerAnswer → DeskShown → Type 0
-TellsClaim order l old (told.Work element unit attempt) new = (work : Work) × ClaimsAt order l (claimeds.Work work) old new
+TellsClaim order l old (told.Work element unit attempt) new = (work : Work)
+    × ClaimsAt order l (claimeds.Work work) old new
     × (element ≡ work.element.id) × (unit ≡ work.unit) × (attempt ≡ work.attempt)
 TellsClaim order l old (told.Turned turneds.Idle) new = ClaimsAt order l claimeds.Idle old new
 TellsClaim order l old (told.Turned turneds.NoUnit) new = ClaimsAt order l claimeds.NoUnit old new
@@ -175,7 +178,7 @@ pub record WorksOffAt (l : Limits) (turned : Turned) (old new : DeskShown) : Typ
   pub in_hand : old.work ≡ Some work
   pub follows : Follows (commit_steps l 4) old.pass new.pass
   pub turn : new.pass.from ≡ old.pass.from
-  pub answer : WorksOff old.behaviour old.registers work old.pass new.pass turned
+  pub answer : WorksOff old.behaviour old.registers work old.pass new.pass turned new.registers
   pub none_left : new.work ≡ None
   pub behaviour_is : new.behaviour ≡ old.behaviour
 
@@ -184,6 +187,8 @@ pub record PreparesAt (old new : DeskShown) : Type 0 where
   pub in_hand : IsSome old.work
   pub unprepared : old.pending ≡ None
   pub prepared : IsSome new.pending
+  pub drafts : List DraftView
+  pub made : IfSome old.work (λ work. IsMade old.behaviour old.registers work.element new.pending drafts)
   pub work : new.work ≡ old.work
   pub pass : new.pass ≡ old.pass
   pub server : IsSameServer old new
@@ -210,13 +215,13 @@ pub record AbortsAt (ended : Ended) (element : ℕ) (old new : DeskShown) : Type
   pub element_is : element ≡ work.element.id
   pub follows : Follows abort_steps old.pass new.pass
   pub turn : new.pass.from ≡ old.pass.from
-  pub answer : Ends old.pass new.pass ended
+  pub answer : AnswersAbort old.pass new.pass ended
   pub none_left : new.work ≡ None
   pub server : IsSameServer old new
 
 abbrev pub TellsAbort : DeskShown → ServerAnswer → DeskShown → Type 0
 TellsAbort old (told.Aborted element) new = AbortsAt endeds.Aborted element old new
-TellsAbort old (told.Already element) new = AbortsAt endeds.Already element old new
+TellsAbort old (told.AlreadyAborted element) new = AbortsAt endeds.AlreadyAborted element old new
 TellsAbort old told.NoneOpen new = (old.work ≡ None) × (new ≡ old)
 TellsAbort old other new = ⊥
 
@@ -252,7 +257,8 @@ is_drop other = false
 abbrev pub DoesUnless : Bool → Limits → DeskAct → PlaceShown → ServerAnswer → PlaceShown → Type 0
 DoesUnless true l act old a new = (a ≡ told.Ended) × (new ≡ old)
 DoesUnless false l act old a new =
-    Does l act old.desk a new.desk × (new.began ≡ old.began) × (new.is_dropped ≡ is_drop act)
+    Does l act old.desk a new.desk × (new.desk.pass.limits ≡ l) × (new.began ≡ old.began)
+    × (new.is_dropped ≡ is_drop act)
 
 abbrev pub DoesAt : Limits → DeskAct → PlaceShown → ServerAnswer → PlaceShown → Type 0
 DoesAt l act old a new = DoesUnless old.is_dropped l act old a new
@@ -269,12 +275,14 @@ pub record DoesIn (l : Limits) (act : DeskAct) (at : ℕ)
 -- ---- the end
 
 -- a desk is ended: what it had in hand is given up, and its registers stay
-pub record EndsAt (old : PlaceShown) (pass : PassShown) (registers : List ℕ) : Type 0 where
+pub record EndsDesk (old : PlaceShown) (pass : PassShown) (registers : List ℕ) : Type 0 where
   pub gives_up : EndsOpen old.desk.pass.open_unit old.desk.pass pass
+  pub follows : IfSome old.desk.pass.open_unit (λ _. Follows abort_steps old.desk.pass pass)
+  pub turn : pass.from ≡ old.desk.pass.from
   pub same : registers ≡ old.desk.registers
 
 -- so it is of each, for lists that are as long as each other
 abbrev pub AllEnded : List PlaceShown → List PassShown → List (List ℕ) → Type 0
 AllEnded [] [] [] = Unit {0}
-AllEnded (o ∷ os) (p ∷ ps) (r ∷ rs) = EndsAt o p r × AllEnded os ps rs
+AllEnded (o ∷ os) (p ∷ ps) (r ∷ rs) = EndsDesk o p r × AllEnded os ps rs
 AllEnded os ps rs = ⊥

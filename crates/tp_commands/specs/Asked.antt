@@ -9,16 +9,21 @@ use Rattle.tp_model.specs.declared.types.Refusal.TheVariants as refusals
 use Rattle.tp_model.specs.Accounts.{one_more}
 use Rattle.tp_model.specs.History.{IsUnborn}
 use Rattle.tp_model.specs.Steps.{rows_of}
-use Rattle.tp_manager.specs.Bounds.{kill_steps, cancel_steps, collect_next_steps, family_steps, next_error_steps, read_steps, release_steps, reply_steps, requeue_steps, submit_steps}
-use Rattle.tp_manager.specs.Calls.{AtPoint, Follows, HasLooked, IsQuiet, KillFails, Kills, Reads, SubmitRefused, Submits}
+use Rattle.tp_manager.specs.Bounds.{kill_steps, cancel_steps, collect_next_steps, family_steps}
+use Rattle.tp_manager.specs.Bounds.{next_error_steps, read_steps, release_steps, reply_steps, requeue_steps}
+use Rattle.tp_manager.specs.Bounds.{submit_steps}
+use Rattle.tp_manager.specs.Calls.{AtPoint, Follows, HasLooked, IsQuiet, KillFails, Kills, Reads}
+use Rattle.tp_manager.specs.Calls.{SubmitRefused, Submits}
 use Rattle.tp_manager.specs.Cancels.{CancelFails, Cancels}
-use Rattle.tp_manager.specs.Lists.{AllKilled, CollectsNext, NextError, NextOfFamily, NextReply, NoneCollected, NoneOfFamily, NoneParked}
+use Rattle.tp_manager.specs.Lists.{AllKilled, CollectsNext, NextError, NextOfFamily, NextReply, NoneCollected}
+use Rattle.tp_manager.specs.Lists.{NoneOfFamily, NoneParked}
 use Rattle.tp_manager.specs.Releases.{ReleaseFails, Releases}
 use Rattle.tp_manager.specs.Requeues.{RequeueFails, Requeues}
 use Rattle.tp_manager.specs.Shown.{PassShown}
 use Rattle.tp_report.specs.declared.answer.Answer.{Answer}
 use Rattle.tp_report.specs.declared.answer.Answer.TheVariants as answer
-use Rattle.tp_report.specs.Answer.{answer_text, collected_text, counts_text, errors_text, family_text, line, replies_text}
+use Rattle.tp_report.specs.Answer.{answer_text, collected_text, counts_text, errors_text, family_text, line}
+use Rattle.tp_report.specs.Answer.{replies_text}
 use Rattle.tp_script.specs.declared.script.ClientAct.{ClientAct}
 use Rattle.tp_script.specs.declared.script.ClientAct.TheVariants as acts
 
@@ -59,7 +64,8 @@ Cancelled l root old new (answer.Refused why) = CancelFails root old new why
 Cancelled l root old new other = ⊥
 
 abbrev pub TellsCancel : Limits → ℕ → PassShown → PassShown → Answer → Type 0
-TellsCancel l root old new a = Called l (cancel_steps l) old new × LooksAt l root old new × Cancelled l root old new a
+TellsCancel l root old new a = Called l (cancel_steps l) old new × LooksAt l root old new
+    × Cancelled l root old new a
 
 -- a requeue
 abbrev pub Requeued : Limits → ℕ → PassShown → PassShown → Answer → Type 0
@@ -86,7 +92,8 @@ HasRead l id old new (answer.Refused why) = (why ≡ refusals.NotThere) × AtPoi
 HasRead l id old new other = ⊥
 
 abbrev pub TellsRead : Limits → ℕ → PassShown → PassShown → Answer → Type 0
-TellsRead l id old new a = Called l (read_steps l) old new × IsQuiet old new × LooksAt l id old new × HasRead l id old new a
+TellsRead l id old new a = Called l (read_steps l) old new × IsQuiet old new × LooksAt l id old new
+    × HasRead l id old new a
 
 -- ---- several calls, one after another
 
@@ -121,18 +128,21 @@ TellsCollected l root old (e ∷ rest) new = (between : PassShown) × Called l (
 
 -- a listing from this id on found this element of the request, which stood so
 abbrev pub FindsMember : Limits → ℕ → ℕ → Look → PassShown → PassShown → Type 0
-FindsMember l root from look old new = Called l (family_steps l) old new × IsQuiet old new × LooksAt l from old new
+FindsMember l root from look old new = Called l (family_steps l) old new × IsQuiet old new
+    × LooksAt l from old new
     × NextOfFamily l root from look old new
 
 -- a listing from this id on found no element of the request
 abbrev pub FindsNoMember : Limits → ℕ → ℕ → PassShown → PassShown → Type 0
-FindsNoMember l root from old new = Called l (family_steps l) old new × IsQuiet old new × LooksAt l from old new
+FindsNoMember l root from old new = Called l (family_steps l) old new × IsQuiet old new
+    × LooksAt l from old new
     × NoneOfFamily root from old new
 
 -- the elements of the request from this id on, one found behind the other, until none was or no id is left
 abbrev pub TellsFamily : Limits → ℕ → ℕ → PassShown → List Look → PassShown → Type 0
 TellsFamily l root from old [] new = FindsNoMember l root from old new ⊎ ((rows_of l ≤ from) × (new ≡ old))
-TellsFamily l root from old (look ∷ rest) new = (between : PassShown) × FindsMember l root from look old between
+TellsFamily l root from old (look ∷ rest) new = (between : PassShown)
+    × FindsMember l root from look old between
     × TellsFamily l root (look.element.id + 1) between rest new
 
 -- the next parked element from this id on was found
@@ -145,7 +155,8 @@ pub record FindsError (l : Limits) (from id : ℕ) (old new : PassShown) : Type 
 -- a listing from this id on found none, or no id is left
 abbrev pub FindsNoError : Limits → ℕ → PassShown → PassShown → Type 0
 FindsNoError l from old new =
-    (Called l (next_error_steps l) old new × IsQuiet old new × LooksAt l from old new × NoneParked l (λ i. from ≤ i) old new)
+    (Called l (next_error_steps l) old new × IsQuiet old new × LooksAt l from old new
+    × NoneParked l (λ i. from ≤ i) old new)
     ⊎ ((rows_of l ≤ from) × (new ≡ old))
 
 -- the parked elements from this id on, one found behind the other

@@ -1,5 +1,7 @@
--- Where the desks of a script's servers are between commands. The first three arguments say of a box what its server shows.
-use Rattle.std.specs.Prelude.{◌≡◌, ℕ, Bool, false, ◌&&◌, not, is_some, List, [], ◌∷◌, map, zip, take, drop, Option, Some, None, IfSome}
+-- Where the desks of a script's servers are between commands. The first three arguments say of a box what its
+-- server shows.
+use Rattle.std.specs.Prelude.{◌≡◌, ℕ, Bool, false, ◌&&◌, not, is_some, List, [], ◌∷◌, map, zip, take, drop}
+use Rattle.std.specs.Prelude.{Option, Some, None, IfSome}
 use Rattle.std.specs.Option.{option_map}
 use Rattle.std.specs.declared.alloc.Global.{Global}
 use Rattle.std.specs.declared.dyn_box.DynBox.{DynBox}
@@ -27,18 +29,21 @@ IsFreeAt place = IfSome place.aside (λ a. a.work ≡ None)
 abbrev pub first_of : {X : Type 0} {F : X → Type 0} → Place X F → Option (PassShown × DynBox X Global F)
 first_of place = option_map (λ a. (a.first_pass.value, a.first_server.value)) place.aside
 
-abbrev pub firsts : {X : Type 0} {F : X → Type 0} → List (Place X F) → List (Option (PassShown × DynBox X Global F))
+abbrev pub firsts : {X : Type 0} {F : X → Type 0} → List (Place X F)
+    → List (Option (PassShown × DynBox X Global F))
 firsts places = map first_of places
 
 -- desks that begin with these
-abbrev pub all_firsts : {X : Type 0} {F : X → Type 0} → List PassShown → List (DynBox X Global F) → List (Option (PassShown × DynBox X Global F))
+abbrev pub all_firsts : {X : Type 0} {F : X → Type 0} → List PassShown → List (DynBox X Global F)
+    → List (Option (PassShown × DynBox X Global F))
 all_firsts passes servers = map Some (zip passes servers)
 
 -- the passes of so many servers, behind the client's
 abbrev pub workers : ℕ → List PassShown → List PassShown
 workers many passes = take many (drop 1 passes)
 
-module _ {X : Type 0} {F : X → Type 0} (behaviour : DynBox X Global F → Behaviour) (registers : DynBox X Global F → List ℕ) (pending : DynBox X Global F → Option Pending) where
+module _ {X : Type 0} {F : X → Type 0} (behaviour : DynBox X Global F → Behaviour)
+    (registers : DynBox X Global F → List ℕ) (pending : DynBox X Global F → Option Pending) where
   -- a desk lies aside, with which this pass and this server are steady
   abbrev pub Lies : PassShown → DynBox X Global F → Option (Aside X F) → Type 0
   Lies pass server None = ⊥
@@ -53,15 +58,18 @@ module _ {X : Type 0} {F : X → Type 0} (behaviour : DynBox X Global F → Beha
   AllLie (p ∷ ps) (s ∷ ss) [] = ⊥
   AllLie (p ∷ ps) (s ∷ ss) (o ∷ os) = Lies p s o.aside × AllLie ps ss os
 
-module _ {X : Type 0} {F : X → Type 0} (behaviour : DynBox X Global F → Behaviour) (registers : DynBox X Global F → List ℕ) where
-  -- this pass and this server are left as by the end of one desk that began so: the registers are what the behaviour makes of
-  -- what the pass has committed since
+module _ {X : Type 0} {F : X → Type 0} (behaviour : DynBox X Global F → Behaviour)
+    (registers : DynBox X Global F → List ℕ) where
+  -- this pass and this server are left as by the end of one desk that began so: the registers are what the
+  -- behaviour makes of what the pass has committed since
   abbrev pub IsLeft : Option (PassShown × DynBox X Global F) → PassShown → DynBox X Global F → Type 0
   IsLeft None pass server = ⊥
-  IsLeft (Some first) pass server = Leaves (behaviour server) (registers first.1) (registers server) first.0 pass
+  IsLeft (Some first) pass server = Leaves (behaviour server) (registers first.1)
+      (registers server) first.0 pass
 
   -- so it is of each, for lists that are as long as each other
-  abbrev pub AllLeft : List (Option (PassShown × DynBox X Global F)) → List PassShown → List (DynBox X Global F) → Type 0
+  abbrev pub AllLeft : List (Option (PassShown × DynBox X Global F)) → List PassShown
+      → List (DynBox X Global F) → Type 0
   AllLeft [] [] [] = Unit {0}
   AllLeft [] [] (s ∷ ss) = ⊥
   AllLeft [] (p ∷ ps) ss = ⊥

@@ -1,5 +1,6 @@
 //! What the script's own client asks of the manager, through its pass.
-ghost use Rattle.std.specs.Prelude.{◌≡◌, ◌-◌, ◌<◌, ◌≤◌, ◌^◌, ℕ, List, IfOk, IfSome, MatchOption, string_bytes};
+ghost use Rattle.std.specs.Prelude.{◌≡◌, ◌-◌, ◌<◌, ◌≤◌, ◌^◌, ℕ, List, IfOk, IfSome, MatchOption};
+ghost use Rattle.std.specs.Prelude.{string_bytes};
 ghost use Rattle.tp_model.specs.declared.types.Element.{Element};
 ghost use Rattle.tp_model.specs.declared.types.Look.{Look};
 ghost use Rattle.tp_model.specs.Accounts.{all_in, one_more};
@@ -8,7 +9,10 @@ ghost use Rattle.tp_report.specs.Answer.{collected_text, errors_text, family_tex
 ghost use Rattle.tp_report.specs.Lines.{IsLine};
 ghost use Rattle.tp_report.specs.declared.answer.Answer.{Answer};
 ghost use Rattle.tp_workers.specs.Free.{IsFreePass};
-ghost use Rattle.tp_commands.specs.Asked.{FindsMember, FindsNoMember, FindsNoReply, FindsReply, TellsCancel, TellsClient, TellsCollected, TellsCount, TellsErrors, TellsFamily, TellsKill, TellsRead, TellsRelease, TellsReplies, TellsRequeue, TellsSubmit};
+ghost use Rattle.tp_commands.specs.Asked.{FindsMember, FindsNoMember, FindsNoReply, FindsReply, TellsCancel};
+ghost use Rattle.tp_commands.specs.Asked.{TellsClient, TellsCollected, TellsCount, TellsErrors, TellsFamily};
+ghost use Rattle.tp_commands.specs.Asked.{TellsKill, TellsRead, TellsRelease, TellsReplies, TellsRequeue};
+ghost use Rattle.tp_commands.specs.Asked.{TellsSubmit};
 
 use std::alloc::{AllocError, Global};
 use std::string::String;

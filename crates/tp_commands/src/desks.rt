@@ -2,7 +2,9 @@
 ghost use Rattle.std.specs.Prelude.{◌≡◌, ◌<◌, All, IfOk, IfSome, length, slice_get, string_bytes};
 ghost use Rattle.tp_manager.specs.Shown.{IsOf};
 ghost use Rattle.tp_desk.specs.Steady.{IsSameDesk, SteadyDesk, shown};
-ghost use Rattle.tp_commands.specs.Acting.{Does, DoesAt, DoesIn, TellsAbort, TellsClaim, TellsCommit, TellsDrop, TellsPrepare, TellsTake, TellsTurn, desk_shown, place_shown, places_shown};
+ghost use Rattle.tp_commands.specs.Acting.{Does, DoesAt, DoesIn, TellsAbort, TellsClaim, TellsCommit};
+ghost use Rattle.tp_commands.specs.Acting.{TellsDrop, TellsPrepare, TellsTake, TellsTurn, desk_shown};
+ghost use Rattle.tp_commands.specs.Acting.{place_shown, places_shown};
 ghost use Rattle.tp_commands.specs.Places.{AllLie, Lies, first_of, firsts};
 ghost use Rattle.tp_report.specs.Answer.{line, named_text};
 ghost use Rattle.tp_report.specs.Lines.{IsLine};
@@ -256,7 +258,7 @@ fn abort(desk: &mut Desk) -> ServerAnswer
     let element = work.element.id;
     match desk.abort() {
         Ended::Aborted => ServerAnswer::Aborted { element },
-        Ended::Already => ServerAnswer::Already { element },
+        Ended::AlreadyAborted => ServerAnswer::AlreadyAborted { element },
     }
 }
 

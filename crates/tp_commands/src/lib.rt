@@ -1,5 +1,5 @@
-//! What each command of one caller does, and the line of its answer: the client's calls, what a server's desk does, and what
-//! registers hold.
+//! What each command of one caller does, and the line of its answer: the client's calls, what a server's desk
+//! does, and what registers hold.
 #![tactic(auto)]
 
 mod client;

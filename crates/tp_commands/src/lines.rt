@@ -46,7 +46,8 @@ pub(crate) fn server_line(
     answer: ServerAnswer,
 ) -> Result<String, AllocError>
     requires { server < length servers.now }
-    ensures text { IfOk result (λ text. IfSome (slice_get servers.now server) (λ it. string_bytes text ≡ line (named_text (string_bytes it.name) answer))) }
+    ensures text { IfOk result (λ text. IfSome (slice_get servers.now server)
+        (λ it. string_bytes text ≡ line (named_text (string_bytes it.name) answer))) }
     ensures line { IfOk result (λ text. IsLine (string_bytes text)) }
 {
     let name = servers[server].name.as_str();

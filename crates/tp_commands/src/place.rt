@@ -4,13 +4,13 @@ ghost use Rattle.tp_manager.specs.Shown.{IsOf};
 ghost use Rattle.tp_workers.specs.Free.{IsFreePass};
 ghost use Rattle.tp_commands.specs.Acting.{new_places, place_shown, places_shown};
 ghost use Rattle.tp_commands.specs.Places.{AllLeft, AllLie, IsLeft, Lies, all_firsts, first_of, firsts};
-ghost use Rattle.tp_commands.specs.Acting.{AllEnded, EndsAt};
-ghost use Rattle.tp_script.specs.declared.script.TheConstants.{MOST_SERVERS};
+ghost use Rattle.tp_commands.specs.Acting.{AllEnded, EndsDesk};
+ghost use Rattle.tp_script.specs.declared.script.TheConstants.{MAX_SERVERS};
 
 use arrayvec::ArrayVec;
 use tp_desk::{Aside, Desk};
 use tp_manager::{Manager, Pass};
-use tp_script::MOST_SERVERS;
+use tp_script::MAX_SERVERS;
 use tp_server::Server;
 
 /// What is kept of a server's desk between commands, while its pass and its server lie with the others.
@@ -40,11 +40,11 @@ impl Place {
 pub fn places_for(
     passes: &[Pass],
     servers: &[Box<dyn Server + Send>],
-) -> ArrayVec<Place, MOST_SERVERS>
+) -> ArrayVec<Place, MAX_SERVERS>
     requires free { All (λ pass. pass.open_unit ≡ None) passes.now }
     requires clear { All (λ server. pending server ≡ None) servers.now }
     requires paired { length passes.now ≡ length servers.now }
-    requires few { length servers.now ≤ MOST_SERVERS }
+    requires few { length servers.now ≤ MAX_SERVERS }
     ensures lie { AllLie behaviour registers pending passes.now servers.now result.items }
     ensures began { firsts result.items ≡ all_firsts passes.now servers.now }
     ensures shown { places_shown behaviour registers pending passes.now servers.now result.items
@@ -100,7 +100,7 @@ fn end_at(
     ensures free { IsFreePass manager.now pass.new }
     ensures clear { pending server.new ≡ None }
     ensures left { IsLeft behaviour registers (first_of place.old) pass.new server.new }
-    ensures ended { EndsAt (place_shown behaviour registers pending pass.old server.old place.old)
+    ensures ended { EndsDesk (place_shown behaviour registers pending pass.old server.old place.old)
         pass.new (registers server.new) }
 {
     let Some(aside) = place.aside.take() else {

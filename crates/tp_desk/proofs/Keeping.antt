@@ -14,7 +14,7 @@ use Rattle.tp_model.specs.declared.types.Refusal.{Refusal}
 use Rattle.tp_model.specs.declared.types.Refusal.TheVariants as refusals
 use Rattle.tp_model.specs.declared.types.Outcome.TheVariants as outcomes
 use Rattle.tp_model.specs.declared.types.Ended.{Ended}
-use Rattle.tp_model.specs.declared.types.Ended.TheVariants.{Aborted, Already}
+use Rattle.tp_model.specs.declared.types.Ended.TheVariants.{Aborted, AlreadyAborted}
 use Rattle.tp_model.specs.declared.event.Event.{Event}
 use Rattle.tp_model.specs.declared.event.Event.TheVariants.{Claim, Commit, Abort}
 use Rattle.tp_model.specs.Births.{outputs}
@@ -26,9 +26,9 @@ use Rattle.tp_model.proofs.Histories.{element_of-kept}
 use Rattle.tp_model.proofs.Lists.{first-kept, first-snoc, if_same, option_or-some, some_if}
 use Rattle.tp_server.specs.Behaviour.{Allows, Behaviour}
 use Rattle.tp_server.specs.Pending.{Pending, registers_of}
-use Rattle.tp_server.proofs.Made.{made_of, makes_of}
+use Rattle.tp_server.proofs.Made.{made_of}
 use Rattle.tp_manager.specs.Bounds.{abort_steps}
-use Rattle.tp_manager.specs.Calls.{Adds, Claims, Closes, Commits, Ends, Follows, IsQuiet, Loses, Opens, Settles}
+use Rattle.tp_manager.specs.Calls.{Adds, Claims, Closes, Commits, AnswersAbort, Follows, IsQuiet, Loses, Opens, Settles}
 use Rattle.tp_manager.specs.Shown.{PassShown, view_in}
 use Rattle.tp_desk.specs.Given.{GivenFails}
 use Rattle.tp_desk.specs.Orders.{ClaimsBy}
@@ -36,7 +36,7 @@ use Rattle.tp_desk.specs.declared.order.Order.{Order}
 use Rattle.tp_desk.specs.declared.order.Order.TheVariants as orders
 use Rattle.tp_desk.specs.InHand.{InHand, IsFree, IsSteady, work_of}
 use Rattle.tp_desk.specs.Serving.{AreEnded, AreFresh, Leaves, Serves, done_with, draft_in, gained}
-use Rattle.tp_desk.specs.Turns.{EndsOpen, Finishes, registers_left}
+use Rattle.tp_desk.specs.Turns.{EndsOpen, Finishes, kept_by, registers_left}
 use Rattle.tp_desk.proofs.Serves.{all_ended, ended_other, fresh_gained, gained_more, leaves_then, serves_more, still_ended}
 
 same_some : {A : Type 0} (a b : A) → Some a ≡ Some b → a ≡ b
@@ -265,17 +265,24 @@ committed behaviour r r' pending start f p q work drafts n outcomes.Lost s some 
 committed behaviour r r' pending start f p q work drafts n outcomes.Full s some follows settles made =
     subst (λ x. Leaves behaviour start x f q) (same_some _ _ (sym made)) (leaves behaviour r pending start f p work drafts s n settles.2.0 q follows settles.2.1 settles.2.3)
 
+-- the registers that a commit leaves, where this work was prepared
+left_by : (outcome : Outcome) (r r' : List ℕ) (made : Pending) → Some r' ≡ registers_left outcome r (Some made) → r' ≡ kept_by outcome r made.registers
+left_by (outcomes.Committed first count) r r' made is = same_some r' made.registers is
+left_by outcomes.Lost r r' made is = same_some r' r is
+left_by outcomes.Full r r' made is = same_some r' r is
+
 -- prepared work was committed with its drafts, whatever the answer
-pub finishes : (behaviour : Behaviour) (r : List ℕ) (pending : Option Pending) (start : List ℕ) (f p q : PassShown) (work : Option Work) (drafts : List DraftView) (outcome : Outcome)
-    → IsSteady behaviour r pending start f p work drafts → IsSome pending → Settles drafts p q outcome → IfSome work (λ w. Finishes behaviour r w p q outcome)
-finishes behaviour r pending start f p q None drafts outcome s some settles = tt
-finishes behaviour r pending start f p q (Some w) drafts outcome s some settles =
-    (drafts, makes_of behaviour r w.element pending drafts (s.in_hand.prepared some), settles)
+pub finishes : (behaviour : Behaviour) (r r' : List ℕ) (pending : Option Pending) (start : List ℕ) (f p q : PassShown) (work : Option Work) (drafts : List DraftView) (outcome : Outcome)
+    → IsSteady behaviour r pending start f p work drafts → IsSome pending → Settles drafts p q outcome → Some r' ≡ registers_left outcome r pending → IfSome work (λ w. Finishes behaviour r w p q outcome r')
+finishes behaviour r r' pending start f p q None drafts outcome s some settles is = tt
+finishes behaviour r r' None start f p q (Some w) drafts outcome s some settles is = absurd (no_some {A = Pending} None refl some)
+finishes behaviour r r' (Some made) start f p q (Some w) drafts outcome s some settles is =
+    (record { registers = made.registers; drafts = drafts }, (s.in_hand.prepared some).1, settles, left_by outcome r r' made is)
 
 -- an abort, whatever its answer
-pub gives_up : (p q : PassShown) (e : Ended) → Ends p q e → (u : ℕ) × Closes u p q × (Adds (Abort p.number u) p q ⊎ Loses u p q)
+pub gives_up : (p q : PassShown) (e : Ended) → AnswersAbort p q e → (u : ℕ) × Closes u p q × (Adds (Abort p.number u) p q ⊎ Loses u p q)
 gives_up p q Aborted ends = (ends.0, ends.1, inl ends.3)
-gives_up p q Already ends = (ends.0, ends.1, inr ends.3)
+gives_up p q AlreadyAborted ends = (ends.0, ends.1, inr ends.3)
 
 -- what a desk that ends leaves, whether a unit was open or not
 pub left : (behaviour behaviour' : Behaviour) (r r' : List ℕ) (pending : Option Pending) (start : List ℕ) (f p : PassShown) (work : Option Work) (drafts : List DraftView)

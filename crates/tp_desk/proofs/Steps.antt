@@ -8,7 +8,7 @@ use Rattle.tp_desk.specs.Turns.{Finishes, WorksOff, settled}
 use Rattle.tp_manager.specs.Shown.{PassShown}
 
 -- work whose commit had this answer came to what the turn answers
-pub works_off : (behaviour : Behaviour) (registers : List ℕ) (work : Work) (p q : PassShown) (outcome : Outcome) → Finishes behaviour registers work p q outcome → WorksOff behaviour registers work p q (settled work outcome)
-works_off behaviour registers work p q (outcomes.Committed first count) h = (refl, refl, h)
-works_off behaviour registers work p q outcomes.Lost h = (refl, h)
-works_off behaviour registers work p q outcomes.Full h = (refl, h)
+pub works_off : (behaviour : Behaviour) (registers : List ℕ) (work : Work) (p q : PassShown) (outcome : Outcome) → (left : List ℕ) → Finishes behaviour registers work p q outcome left → WorksOff behaviour registers work p q (settled work outcome) left
+works_off behaviour registers work p q (outcomes.Committed first count) left h = (refl, refl, h)
+works_off behaviour registers work p q outcomes.Lost left h = (refl, h)
+works_off behaviour registers work p q outcomes.Full left h = (refl, h)

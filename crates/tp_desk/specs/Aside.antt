@@ -8,9 +8,10 @@ use Rattle.tp_manager.specs.Shown.{PassShown}
 use Rattle.tp_desk.specs.declared.aside.Aside.{Aside}
 use Rattle.tp_desk.specs.InHand.{IsSteady}
 
--- A desk of this pass and this server would be steady with what was laid aside. The first three arguments say of a box
--- what its server shows, as those of `SteadyDesk`.
-abbrev pub SteadyAside : {X : Type 0} {F : X → Type 0} → (DynBox X Global F → Behaviour) → (DynBox X Global F → List ℕ)
+-- A desk of this pass and this server would be steady with what was laid aside. The first three arguments say
+-- of a box what its server shows, as those of `SteadyDesk`.
+abbrev pub SteadyAside : {X : Type 0} {F : X → Type 0} → (DynBox X Global F → Behaviour)
+    → (DynBox X Global F → List ℕ)
     → (DynBox X Global F → Option Pending) → Aside X F → PassShown → DynBox X Global F → Type 0
 SteadyAside behaviour registers pending a pass server =
     IsSteady (behaviour server) (registers server) (pending server) (registers a.first_server.value)

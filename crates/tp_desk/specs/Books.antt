@@ -1,4 +1,5 @@
--- What a desk leaves in its server's registers, by what each effect of the server does: laws for contracts of one's own.
+-- What a desk leaves in its server's registers, by what each effect of the server does: laws for contracts of
+-- one's own.
 use Rattle.std.specs.Prelude.{◌≡◌, ◌≤◌, ℕ, ◌+◌, Bool, IsTrue, List, [], map}
 use Rattle.std.specs.List.{flat_map, sum_by}
 use Rattle.tp_model.specs.Counts.{taken}
@@ -20,30 +21,39 @@ outputs_in other = []
 abbrev pub committed : List Event → List DraftView
 committed events = map draft_in (flat_map outputs_in events)
 
--- where each effect raises a measure by the worth of its element, it has risen by the worth of all elements that were consumed
+-- where each effect raises a measure by the worth of its element, it has risen by the worth of all elements
+-- that were consumed
 abbrev pub ServesRaised : Type 0
-ServesRaised = (behaviour : Behaviour) (measure : List ℕ → ℕ) (worth : Element → ℕ) (start registers : List ℕ) (old new : PassShown)
+ServesRaised = (behaviour : Behaviour) (measure : List ℕ → ℕ) (worth : Element → ℕ)
+    (start registers : List ℕ) (old new : PassShown)
     → Raises behaviour measure worth → Serves behaviour start registers old new
     → measure registers ≡ measure start + sum_by worth (taken (gained old.mine new.mine) new.seen)
 
 -- where each effect lowers it so, what is left and what those elements are worth make what there was
 abbrev pub ServesLowered : Type 0
-ServesLowered = (behaviour : Behaviour) (measure : List ℕ → ℕ) (worth : Element → ℕ) (start registers : List ℕ) (old new : PassShown)
+ServesLowered = (behaviour : Behaviour) (measure : List ℕ → ℕ) (worth : Element → ℕ)
+    (start registers : List ℕ) (old new : PassShown)
     → Lowers behaviour measure worth → Serves behaviour start registers old new
     → measure registers + sum_by worth (taken (gained old.mine new.mine) new.seen) ≡ measure start
 
--- where each effect raises it by the worth of its outputs, it has risen by the worth of all outputs that were committed
+-- where each effect raises it by the worth of its outputs, it has risen by the worth of all outputs that were
+-- committed
 abbrev pub ServesRaisedByOutputs : Type 0
-ServesRaisedByOutputs = (behaviour : Behaviour) (measure : List ℕ → ℕ) (worth : DraftView → ℕ) (start registers : List ℕ) (old new : PassShown)
+ServesRaisedByOutputs = (behaviour : Behaviour) (measure : List ℕ → ℕ) (worth : DraftView → ℕ)
+    (start registers : List ℕ) (old new : PassShown)
     → RaisesByOutputs behaviour measure worth → Serves behaviour start registers old new
     → measure registers ≡ measure start + sum_by worth (committed (gained old.mine new.mine))
 
 -- where no effect lowers it, it is as large as it was at least
 abbrev pub ServesNeverLower : Type 0
-ServesNeverLower = (behaviour : Behaviour) (measure : List ℕ → ℕ) (start registers : List ℕ) (old new : PassShown)
-    → NeverLowers behaviour measure → Serves behaviour start registers old new → measure start ≤ measure registers
+ServesNeverLower = (behaviour : Behaviour) (measure : List ℕ → ℕ) (start registers : List ℕ)
+    (old new : PassShown)
+    → NeverLowers behaviour measure → Serves behaviour start registers old new
+    → measure start ≤ measure registers
 
 -- where each effect preserves a test that the registers passed, they pass it still
 abbrev pub ServesPreserved : Type 0
-ServesPreserved = (behaviour : Behaviour) (test : List ℕ → Bool) (start registers : List ℕ) (old new : PassShown)
-    → Preserves behaviour (λ values. IsTrue (test values)) → Serves behaviour start registers old new → IsTrue (test start) → IsTrue (test registers)
+ServesPreserved = (behaviour : Behaviour) (test : List ℕ → Bool) (start registers : List ℕ)
+    (old new : PassShown)
+    → Preserves behaviour (λ values. IsTrue (test values)) → Serves behaviour start registers old new
+    → IsTrue (test start) → IsTrue (test registers)

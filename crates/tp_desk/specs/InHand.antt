@@ -10,7 +10,8 @@ use Rattle.tp_server.specs.Pending.{Pending}
 use Rattle.tp_manager.specs.Shown.{PassShown}
 use Rattle.tp_desk.specs.Serving.{AreEnded, Serves, gained}
 
--- the pass has the unit of this work open, claimed it since it showed `first`, and the work is prepared or not
+-- the pass has the unit of this work open, claimed it since it showed `first`, and the work is prepared or
+-- not
 pub record HoldsWork (behaviour : Behaviour) (registers : List ℕ) (pending : Option Pending)
     (work : Work) (drafts : List DraftView) (first pass : PassShown) : Type 0 where
   pub open_unit : pass.open_unit ≡ Some work.unit
@@ -24,14 +25,15 @@ pub record IsFree (pending : Option Pending) (pass : PassShown) : Type 0 where
   pub unprepared : pending ≡ None
 
 -- the work in hand, if there is any
-abbrev pub InHand : Behaviour → List ℕ → Option Pending → Option Work → List DraftView → PassShown → PassShown → Type 0
+abbrev pub InHand : Behaviour → List ℕ → Option Pending → Option Work → List DraftView → PassShown
+    → PassShown → Type 0
 InHand behaviour registers pending None drafts first pass = IsFree pending pass
 InHand behaviour registers pending (Some work) drafts first pass =
     HoldsWork behaviour registers pending work drafts first pass
 
--- What holds between the calls of a desk that began with a pass and a server which showed `first` and `start`: the
--- server's registers are led to by what the desk has committed, the work in hand is what the pass and the server say,
--- and each unit that the desk claimed has ended but for the one in hand.
+-- What holds between the calls of a desk that began with a pass and a server which showed `first` and
+-- `start`: the server's registers are led to by what the desk has committed, the work in hand is what the
+-- pass and the server say, and each unit that the desk claimed has ended but for the one in hand.
 pub record IsSteady (behaviour : Behaviour) (registers : List ℕ) (pending : Option Pending) (start : List ℕ)
     (first pass : PassShown) (work : Option Work) (drafts : List DraftView) : Type 0 where
   pub serves : Serves behaviour start registers first pass

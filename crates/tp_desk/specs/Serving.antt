@@ -20,7 +20,8 @@ gained first mine = drop (length first) mine
 
 -- the unit of each Commit among the events had claimed an element there, which was born
 abbrev pub AreTaken : List Event → List Event → Type 0
-AreTaken events h = (c u : ℕ) (outs : List Element) → In (Commit c u outs) events → (x : Element) × (taken_by events h (Commit c u outs) ≡ Some x)
+AreTaken events h = (c u : ℕ) (outs : List Element) → In (Commit c u outs) events → (x : Element)
+    × (taken_by events h (Commit c u outs) ≡ Some x)
 
 -- each unit that was claimed among the events was claimed by none before them
 abbrev pub AreFresh : List Event → List Event → Type 0
@@ -34,7 +35,8 @@ draft_in x = record { stage = x.stage; body = x.body }
 abbrev pub done_with : List Element → Element → Done
 done_with outs x = record { element = x; drafts = map draft_in outs }
 
--- the work that a Commit among `events` did: the born element that its unit claimed there, and the drafts of its outputs
+-- the work that a Commit among `events` did: the born element that its unit claimed there, and the drafts of
+-- its outputs
 abbrev pub done_by : List Event → List Event → Event → Option Done
 done_by events h (Commit c u outs) = option_map (done_with outs) (taken_by events h (Commit c u outs))
 done_by events h other = None
@@ -43,9 +45,9 @@ done_by events h other = None
 abbrev pub done : List Event → List Event → List Done
 done events h = filter_map (done_by events h) events
 
--- The pass has made events of its own and seen more, and the server's registers of committed work are those that its effects
--- over the elements that those events consumed led to, with the drafts that those events committed, from the registers with
--- which it began.
+-- The pass has made events of its own and seen more, and the server's registers of committed work are those
+-- that its effects over the elements that those events consumed led to, with the drafts that those events
+-- committed, from the registers with which it began.
 pub record Serves (behaviour : Behaviour) (start registers : List ℕ) (old new : PassShown) : Type 0 where
   pub number : new.number ≡ old.number
   pub seen : IsPrefix old.seen new.seen
@@ -58,7 +60,8 @@ pub record Serves (behaviour : Behaviour) (start registers : List ℕ) (old new 
 abbrev pub AreEnded : Option ℕ → List Event → List Event → Type 0
 AreEnded but events h = (u : ℕ) (t : UnitClaim) → claim_of events u ≡ Some t → (but ≡ Some u) ⊎ HasEnded h u
 
--- what the lenders of a pass and a server find when the desk has ended; the pass shows what every pass shows between calls
+-- what the lenders of a pass and a server find when the desk has ended; the pass shows what every pass shows
+-- between calls
 pub record Leaves (behaviour : Behaviour) (start registers : List ℕ) (old new : PassShown) : Type 0 where
   pub shows : IsPassView new.limits (view_in new)
   pub serves : Serves behaviour start registers old new

@@ -1,5 +1,5 @@
--- What holds of a desk between its calls, and what no call changes. The first three arguments say of a box what its server
--- shows: its behaviour, the registers of its committed work, and its prepared work.
+-- What holds of a desk between its calls, and what no call changes. The first three arguments say of a box
+-- what its server shows: its behaviour, the registers of its committed work, and its prepared work.
 use Rattle.std.specs.Prelude.{◌≡◌, ℕ, List, Option}
 use Rattle.std.specs.declared.alloc.Global.{Global}
 use Rattle.std.specs.declared.dyn_box.DynBox.{DynBox}
@@ -13,10 +13,12 @@ module _ {X : Type 0} {F : X → Type 0} where
   abbrev pub SteadyDesk : (DynBox X Global F → Behaviour) → (DynBox X Global F → List ℕ)
       → (DynBox X Global F → Option Pending) → Desk X F → Type 0
   SteadyDesk behaviour registers pending d =
-      IsSteady (behaviour d.server.now) (registers d.server.now) (pending d.server.now) (registers d.first_server.value)
+      IsSteady (behaviour d.server.now) (registers d.server.now) (pending d.server.now)
+      (registers d.first_server.value)
       d.first_pass.value d.pass.now d.work d.drafts.items
 
-  -- What a boxed server shows. In crates above, where a desk's fields can't be seen, its members are told of a pair.
+  -- What a boxed server shows. In crates above, where a desk's fields can't be seen, its members are told of
+  -- a pair.
   abbrev pub shown : {A : Type 0} → ((x : X) × F x → A) → DynBox X Global F → A
   shown part box = part (box.vtable, box.value)
 

@@ -8,9 +8,9 @@ use tp_model::remembered::Remembered;
 use tp_model::types::{Draft, Work};
 use tp_server::Server;
 
-/// What a desk had in hand, as a plain value that borrows nothing, until the desk goes on: meanwhile the lenders have their
-/// pass and their server. The unit of work stays open and the server stays prepared. One that is let go leaves them so:
-/// take it up again, and end the desk.
+/// What a desk had in hand, as a plain value that borrows nothing, until the desk goes on: meanwhile the
+/// lenders have their pass and their server. The unit of work stays open and the server stays prepared. One
+/// that is let go leaves them so: take it up again, and end the desk.
 #[derive(Drop)]
 pub struct Aside {
     pub(crate) work: Option<Work>,
@@ -20,7 +20,8 @@ pub struct Aside {
 }
 
 impl Aside {
-    /// What a new desk of this pass and this server has in hand, which is nothing: no unit is open, and nothing is prepared.
+    /// What a new desk of this pass and this server has in hand, which is nothing: no unit is open, and
+    /// nothing is prepared.
     pub fn nothing(pass: &Pass, server: &Box<dyn Server + Send>) -> Aside
         requires free { pass.now.open_unit ≡ None }
         requires unprepared { pending server.now ≡ None }

@@ -8,7 +8,7 @@ ghost use Rattle.tp_desk.specs.Turns.{EndsOpen};
 ghost use Rattle.tp_desk.specs.Aside.{SteadyAside};
 
 use crate::aside::Aside;
-use crate::{boxed, closing};
+use crate::{closing, server_calls};
 use arrayvec::ArrayVec;
 use tp_manager::{Manager, Pass};
 use tp_model::remembered::Remembered;
@@ -68,15 +68,16 @@ impl Desk<'_, '_, '_> {
 impl Desk<'_, '_, '_> {
     ghost use Rattle.tp_desk.specs.Steady.{SteadyDesk};
 
-    /// Lays aside what is in hand, so that the lenders have their pass and their server for a while. The unit of work stays
-    /// open and the server stays prepared, and the desk goes on by `resume`.
+    /// Lays aside what is in hand, so that the lenders have their pass and their server for a while. The unit
+    /// of work stays open and the server stays prepared, and the desk goes on by `resume`.
     pub fn lay_aside(self) -> Aside
         ensures own { IsOf self.entry.manager.now self.exit.1.0.now }
         ensures pass { self.exit.1.0.now ≡ self.entry.pass.now }
         ensures server { self.exit.1.1.0.now ≡ self.entry.server.now }
         ensures work { result.work ≡ self.entry.work }
         ensures drafts { result.drafts.items ≡ self.entry.drafts.items }
-        ensures same_first { (result.first_pass ≡ self.entry.first_pass) × (result.first_server ≡ self.entry.first_server) }
+        ensures same_first { (result.first_pass ≡ self.entry.first_pass)
+            × (result.first_server ≡ self.entry.first_server) }
         ensures steady { SteadyDesk behaviour registers pending self.entry
             → SteadyAside behaviour registers pending result self.exit.1.0.now self.exit.1.1.0.now }
     {
@@ -109,7 +110,8 @@ impl Drop for Desk<'_, '_, '_> {
         ensures registers { registers self.exit.1.1.0.now ≡ registers self.entry.server.now }
         ensures adds { EndsOpen self.entry.pass.now.open_unit self.entry.pass.now self.exit.1.0.now }
         ensures turn { self.exit.1.0.now.from ≡ self.entry.pass.now.from }
-        ensures follows { IfSome self.entry.pass.now.open_unit (λ _. Follows abort_steps self.entry.pass.now self.exit.1.0.now) }
+        ensures follows { IfSome self.entry.pass.now.open_unit (λ _.
+            Follows abort_steps self.entry.pass.now self.exit.1.0.now) }
         ensures leaves { SteadyDesk behaviour registers pending self.entry
             → Leaves (behaviour self.exit.1.1.0.now) (registers self.entry.first_server.value)
             (registers self.exit.1.1.0.now) self.entry.first_pass.value self.exit.1.0.now }
@@ -123,7 +125,7 @@ impl Drop for Desk<'_, '_, '_> {
             first_pass: _,
             first_server: _,
         } = self;
-        boxed::clear(server);
+        server_calls::clear(server);
         closing::close(manager, pass);
     }
 }

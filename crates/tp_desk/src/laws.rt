@@ -1,18 +1,19 @@
-//! The laws of what a desk has served. These functions do nothing: their contracts are the laws, to be cited in contracts of
-//! one's own behind a call of a desk.
+//! The laws of what a desk has served. These functions do nothing: their contracts are the laws, to be cited
+//! in contracts of one's own behind a call of a desk.
 
-ghost use Rattle.tp_desk.specs.Books.{ServesLowered, ServesNeverLower, ServesPreserved, ServesRaised, ServesRaisedByOutputs};
+ghost use Rattle.tp_desk.specs.Books.{ServesLowered, ServesNeverLower, ServesPreserved, ServesRaised};
+ghost use Rattle.tp_desk.specs.Books.{ServesRaisedByOutputs};
 ghost use Rattle.tp_desk.specs.Laws.{RecipeDeclines, RecipeFinishes, ServesRecipe};
 
-/// What each effect of the server adds to a measure of its registers, or takes from it, adds up over the elements that the
-/// desk's pass has consumed: so what is left and what was sold make what there was.
+/// What each effect of the server adds to a measure of its registers, or takes from it, adds up over the
+/// elements that the desk's pass has consumed: so what is left and what was sold make what there was.
 pub fn elements_add_up()
     ensures raised { ServesRaised }
     ensures lowered { ServesLowered }
 {}
 
-/// What each effect adds to a measure of the registers for the outputs that it makes adds up over the outputs that were
-/// committed.
+/// What each effect adds to a measure of the registers for the outputs that it makes adds up over the outputs
+/// that were committed.
 pub fn outputs_add_up()
     ensures { ServesRaisedByOutputs }
 {}
@@ -27,7 +28,8 @@ pub fn tests_stay_passed()
     ensures { ServesPreserved }
 {}
 
-/// Where the server follows a recipe, what its desk has served is the fold of the recipe over the elements that it committed.
+/// Where the server follows a recipe, what its desk has served is the fold of the recipe over the elements
+/// that it committed.
 pub fn serves_recipe()
     ensures { ServesRecipe }
 {}

@@ -1,17 +1,17 @@
-//! Desks: where a pass of the manager and a server come together, so that a server's work is kept exactly where its
-//! unit of work was committed.
+//! Desks: where a pass of the manager and a server come together, so that a server's work is kept exactly
+//! where its unit of work was committed.
 #![tactic(auto)]
 
 mod aside;
-mod boxed;
 mod closing;
 mod desk;
+mod desk_calls;
 mod given;
 pub mod laws;
 mod order;
+mod server_calls;
 mod turned;
 mod turning;
-mod working;
 
 pub use aside::Aside;
 pub use desk::Desk;

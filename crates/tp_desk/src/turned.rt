@@ -11,7 +11,8 @@ pub enum Turned {
     Idle,
     /// The pass has used up its units of work.
     NoUnit,
-    /// The element was consumed by this unit, with `count` outputs from the id `first` on (0 where there is none).
+    /// The element was consumed by this unit, with `count` outputs from the id `first` on (0 where there is
+    /// none).
     Done {
         unit: u16,
         element: u32,

@@ -3,6 +3,7 @@ ghost use Rattle.std.specs.Prelude.{◌≡◌, None, Some};
 ghost use Rattle.tp_model.specs.Steps.{AreLimits};
 ghost use Rattle.tp_manager.specs.Bounds.{commit_steps};
 ghost use Rattle.tp_manager.specs.Calls.{Follows};
+ghost use Rattle.tp_desk.specs.Orders.{KeepsTurn};
 ghost use Rattle.tp_desk.specs.Steady.{IsSameDesk, SteadyDesk};
 ghost use Rattle.tp_desk.specs.Turns.{Turns, WorksOff, turn_steps};
 
@@ -12,8 +13,8 @@ use crate::turned::Turned;
 use tp_model::types::{Claimed, Work};
 
 impl Desk<'_, '_, '_> {
-    /// Takes an element in hand, does its work and commits it: one claim, and where it took an element, one commit, or
-    /// one abort where the server declines it.
+    /// Takes an element in hand, does its work and commits it: one claim, and where it took an element, one
+    /// commit, or one abort where the server declines it.
     pub fn turn(&mut self) -> Turned
         requires steady { SteadyDesk behaviour registers pending self.old }
         requires free { self.old.work ≡ None }
@@ -21,15 +22,18 @@ impl Desk<'_, '_, '_> {
         ensures behaviour { behaviour self.new.server.now ≡ behaviour self.old.server.now }
         ensures free { self.new.work ≡ None }
         ensures limits { AreLimits self.old.manager.now.limits }
+        ensures turn { self.new.pass.now.from ≡ self.old.pass.now.from }
         ensures follows { Follows (turn_steps Order.LeastFirst self.old.manager.now.limits) self.old.pass.now self.new.pass.now }
-        ensures answer { Turns Order.LeastFirst self.old.manager.now.limits (behaviour self.old.server.now) (registers self.old.server.now)
-            self.old.pass.now self.new.pass.now result }
+        ensures answer { Turns Order.LeastFirst self.old.manager.now.limits (behaviour self.old.server.now)
+            (registers self.old.server.now)
+            self.old.pass.now self.new.pass.now result (registers self.new.server.now) }
         ensures steady { SteadyDesk behaviour registers pending self.new }
     {
         self.turn_by(Order::LeastFirst)
     }
 
-    /// A turn whose claim is in turn: an element that is declined isn't tried again before each other one had its turn.
+    /// A turn whose claim is in turn: an element that is declined isn't tried again before each other one had
+    /// its turn.
     pub fn turn_next(&mut self) -> Turned
         requires steady { SteadyDesk behaviour registers pending self.old }
         requires free { self.old.work ≡ None }
@@ -38,8 +42,9 @@ impl Desk<'_, '_, '_> {
         ensures free { self.new.work ≡ None }
         ensures limits { AreLimits self.old.manager.now.limits }
         ensures follows { Follows (turn_steps Order.InTurn self.old.manager.now.limits) self.old.pass.now self.new.pass.now }
-        ensures answer { Turns Order.InTurn self.old.manager.now.limits (behaviour self.old.server.now) (registers self.old.server.now)
-            self.old.pass.now self.new.pass.now result }
+        ensures answer { Turns Order.InTurn self.old.manager.now.limits (behaviour self.old.server.now)
+            (registers self.old.server.now)
+            self.old.pass.now self.new.pass.now result (registers self.new.server.now) }
         ensures steady { SteadyDesk behaviour registers pending self.new }
     {
         self.turn_by(Order::InTurn)
@@ -53,9 +58,11 @@ impl Desk<'_, '_, '_> {
         ensures behaviour { behaviour self.new.server.now ≡ behaviour self.old.server.now }
         ensures free { self.new.work ≡ None }
         ensures limits { AreLimits self.old.manager.now.limits }
+        ensures turn { KeepsTurn order self.old.pass.now self.new.pass.now }
         ensures follows { Follows (turn_steps order self.old.manager.now.limits) self.old.pass.now self.new.pass.now }
-        ensures answer { Turns order self.old.manager.now.limits (behaviour self.old.server.now) (registers self.old.server.now)
-            self.old.pass.now self.new.pass.now result }
+        ensures answer { Turns order self.old.manager.now.limits (behaviour self.old.server.now)
+            (registers self.old.server.now)
+            self.old.pass.now self.new.pass.now result (registers self.new.server.now) }
         ensures steady { SteadyDesk behaviour registers pending self.new }
     {
         match self.claim_by(order) {
@@ -73,9 +80,10 @@ impl Desk<'_, '_, '_> {
         ensures same { IsSameDesk self.old self.new }
         ensures behaviour { behaviour self.new.server.now ≡ behaviour self.old.server.now }
         ensures free { self.new.work ≡ None }
+        ensures turn { self.new.pass.now.from ≡ self.old.pass.now.from }
         ensures follows { Follows (commit_steps self.old.manager.now.limits 4) self.old.pass.now self.new.pass.now }
         ensures answer { WorksOff (behaviour self.old.server.now) (registers self.old.server.now) work
-            self.old.pass.now self.new.pass.now result }
+            self.old.pass.now self.new.pass.now result (registers self.new.server.now) }
         ensures steady { SteadyDesk behaviour registers pending self.new }
     {
         match self.prepare() {

@@ -23,11 +23,10 @@ use Rattle.tp_perform.specs.Told.{Performs, Scene}
 use Rattle.tp_reference.specs.declared.plain_desk.PlainDesk.{PlainDesk}
 use Rattle.tp_reference.specs.PlainClient.{client, client_step}
 use Rattle.tp_reference.specs.PlainReport as plain
-use Rattle.tp_reference.specs.PlainReport.{State, balance_at, command_step, with_manager}
+use Rattle.tp_reference.specs.PlainReport.{ReportState, balance_at, command_step, with_manager}
 use Rattle.tp_alone.specs.Thread.{AreTogether, Stays, thread_of}
 use Rattle.tp_exact.specs.Acts.{Acts}
-use Rattle.tp_exact.specs.Commands.{ExactCommand}
-use Rattle.tp_exact.specs.Stands.{IsFor, OnlyLooks, OnlyLooksAt, Stands, passes_in}
+use Rattle.tp_exact.specs.Stands.{IsFor, IsServedBy, OnlyLooks, OnlyLooksAt, Stands, passes_in}
 use Rattle.tp_exact.proofs.Clients.{exact_client}
 use Rattle.tp_exact.proofs.Parts.{idle}
 
@@ -41,7 +40,7 @@ module _ {A B : Type 0} (R : A → B → Type 0) where
   zip_append (x ∷ xs) (y ∷ ys) xs' ys' a b = (a.0, zip_append xs ys xs' ys' a.1 b)
 
   -- what stands beside a place
-  zip_at : (xs : List A) (ys : List B) (i : ℕ) (x : A) → AllZip R xs ys → slice_get xs i ≡ Some x → (y : B) × (slice_get ys i ≡ Some y) × R x y
+  pub zip_at : (xs : List A) (ys : List B) (i : ℕ) (x : A) → AllZip R xs ys → slice_get xs i ≡ Some x → (y : B) × (slice_get ys i ≡ Some y) × R x y
   zip_at [] [] i x a is = absurd cc
   zip_at [] (y ∷ ys) i x a is = absurd a
   zip_at (z ∷ xs) [] i x a is = absurd a
@@ -56,7 +55,7 @@ place_passes (p ∷ ps) [] a = absurd a
 place_passes (p ∷ ps) (q ∷ qs) a = (a.0.pass, place_passes ps qs a.1)
 
 -- so have those of a scene
-scene_passes : (old new : Scene) → OnlyLooks old new → AllZip Stays (passes_in old) (passes_in new)
+pub scene_passes : (old new : Scene) → OnlyLooks old new → AllZip Stays (passes_in old) (passes_in new)
 scene_passes old new looks = (looks.client, zip_append Stays (map (λ p. p.desk.pass) old.places) (map (λ p. p.desk.pass) new.places) old.racers new.racers (place_passes old.places new.places looks.places) looks.racers)
 
 -- a desk is still the one at its place
@@ -75,12 +74,23 @@ still_for p q d looks is =
       dropped = is.dropped ∙ sym (ap (λ (z : PlaceShown). z.is_dropped) looks.same);
     }
 
-still_all : (ps qs : List PlaceShown) (ds : List PlainDesk) → AllZip OnlyLooksAt ps qs → AllZip IsFor ps ds → AllZip IsFor qs ds
+pub still_all : (ps qs : List PlaceShown) (ds : List PlainDesk) → AllZip OnlyLooksAt ps qs → AllZip IsFor ps ds → AllZip IsFor qs ds
 still_all [] [] ds a b = b
 still_all [] (q ∷ qs) ds a b = absurd a
 still_all (p ∷ ps) [] ds a b = absurd a
 still_all (p ∷ ps) (q ∷ qs) [] a b = absurd b
 still_all (p ∷ ps) (q ∷ qs) (d ∷ ds) a b = (still_for p q d a.0 b.0, still_all ps qs ds a.1 b.1)
+
+-- and its server is the same
+served_still : (p q : PlaceShown) (server : ServerView) → OnlyLooksAt p q → IsServedBy p server → IsServedBy q server
+served_still p q server looks is = record { behaviour = ap (λ (z : PlaceShown). z.desk.behaviour) looks.same ∙ is.behaviour; stage = is.stage }
+
+pub served_all : (ps qs : List PlaceShown) (servers : List ServerView) → AllZip OnlyLooksAt ps qs → AllZip IsServedBy ps servers → AllZip IsServedBy qs servers
+served_all [] [] servers a b = b
+served_all [] (q ∷ qs) servers a b = absurd a
+served_all (p ∷ ps) [] servers a b = absurd a
+served_all (p ∷ ps) (q ∷ qs) [] a b = absurd b
+served_all (p ∷ ps) (q ∷ qs) (s ∷ ss) a b = (served_still p q s a.0 b.0, served_all ps qs ss a.1 b.1)
 
 -- ---- a command without a race leaves the passes of races
 
@@ -90,7 +100,7 @@ nothing (x ∷ xs) none = absurd (omega (arith, none))
 
 -- ---- the client and its scene
 
-module _ (l : Limits) (keeper keeper' : KeeperShown) (h h' : List Event) (old new next : Scene) (s : State) (stands : Stands l keeper h old s) (places : new.places ≡ old.places) (racers : new.racers ≡ old.racers)
+module _ (servers : List ServerView) (l : Limits) (keeper keeper' : KeeperShown) (h h' : List Event) (old new next : Scene) (s : ReportState) (stands : Stands servers l keeper h old s) (places : new.places ≡ old.places) (racers : new.racers ≡ old.racers)
     (looks : OnlyLooks new next) (after : AreTogether l keeper' (passes_in next) h') where
   abbrev behind : List PassShown
   behind = map (λ p. p.desk.pass) old.places ++ old.racers
@@ -105,29 +115,33 @@ module _ (l : Limits) (keeper keeper' : KeeperShown) (h h' : List Event) (old ne
   desks : AllZip IsFor next.places s.desks
   desks = still_all new.places next.places s.desks looks.places (subst (λ ps. AllZip IsFor ps s.desks) (sym places) stands.desks)
 
-  -- a client's command
-  abbrev Leads : List ℕ → List ℕ × State → Type 0
-  Leads text step = (text ≡ step.0) × Stands l keeper' h' next step.1
+  served : AllZip IsServedBy next.places servers
+  served = served_all new.places next.places servers looks.places (subst (λ ps. AllZip IsServedBy ps servers) (sym places) stands.served)
 
-  by_client : (act : ClientAct) (text : List ℕ) → TellsClient l act old.client text new.client → Leads text (with_manager s (client_step act s.manager))
+  -- a client's command
+  abbrev Leads : List ℕ → List ℕ × ReportState → Type 0
+  Leads text step = (text ≡ step.0) × Stands servers l keeper' h' next step.1
+
+  pub by_client : (act : ClientAct) (text : List ℕ) → TellsClient l act old.client text new.client → Leads text (with_manager s (client_step act s.manager))
   by_client act text tells =
       let is : thread.State = thread_of l (passes_in next) h' in
       let law = exact_client act l keeper keeper' (passes_in old) (passes_in next) h h' old.client new.client text acts tells in
       let now = law ∙ ap (client_step act) (sym stands.manager) in
-      subst (λ r. Leads text (with_manager s r)) now (refl, record { together = after; manager = refl; desks = desks })
+      subst (λ r. Leads text (with_manager s r)) now (refl, record { together = after; manager = refl; desks = desks; served = served })
 
   -- nothing was done
-  idles : new.client ≡ old.client → Stands l keeper' h' next s
+  pub idles : new.client ≡ old.client → Stands servers l keeper' h' next s
   idles same = record {
     together = after;
     manager = stands.manager ∙ sym (idle l keeper keeper' (passes_in old) (passes_in next) h h' client old.client new.client acts same);
     desks = desks;
+    served = served;
   }
 
 -- ---- registers
 
 -- a register that is told
-told_so : (server : ServerView) (k : ℕ) (place : PlaceShown) (d : PlainDesk) (text : List ℕ) → IsFor place d → TellsBalance server.name k place.desk.registers place.is_dropped text → text ≡ balance_at (Some server) (Some d) k
+pub told_so : (server : ServerView) (k : ℕ) (place : PlaceShown) (d : PlainDesk) (text : List ℕ) → IsFor place d → TellsBalance server.name k place.desk.registers place.is_dropped text → text ≡ balance_at (Some server) (Some d) k
 told_so server k place d text is tells = go place.is_dropped tells is.dropped
   where
     go : (b : Bool) → TellsBalance server.name k place.desk.registers b text → d.is_dropped ≡ b → text ≡ balance_at (Some server) (Some d) k
@@ -140,7 +154,7 @@ counted_so true o = refl
 counted_so false None = refl
 counted_so false (Some v) = refl
 
-summed_so : (k : ℕ) (ps : List PlaceShown) (ds : List PlainDesk) → AllZip IsFor ps ds → register_sum k ps ≡ sum_by (plain.counted_value k) ds
+pub summed_so : (k : ℕ) (ps : List PlaceShown) (ds : List PlainDesk) → AllZip IsFor ps ds → register_sum k ps ≡ sum_by (plain.counted_value k) ds
 summed_so k [] [] a = refl
 summed_so k [] (d ∷ ds) a = absurd a
 summed_so k (p ∷ ps) [] a = absurd a
@@ -154,28 +168,8 @@ summed_so k (p ∷ ps) (d ∷ ds) a =
     let second = sum_by-cons (plain.counted_value k) d ds in
     first ∙ (ap (λ n. n + register_sum k ps) one ∙ (ap (λ n. plain.counted_value k d + n) (summed_so k ps ds a.1) ∙ sym second))
 
--- ---- each of these commands
+-- ---- a command without a race
 
 -- the passes of races are as they were
-racers_kept : (m : ManagerShown) (script : ScriptView) (c : Command) (raced : ℕ) (old : Scene) (text : List ℕ) (new : Scene) (p : Performs m script c raced old text new) → p.after ≡ p.here → new.racers ≡ old.racers
+pub racers_kept : (m : ManagerShown) (script : ScriptView) (c : Command) (raced : ℕ) (old : Scene) (text : List ℕ) (new : Scene) (p : Performs m script c raced old text new) → p.after ≡ p.here → new.racers ≡ old.racers
 racers_kept m script c raced old text new p same = p.kept ∙ (ap (λ z. p.front ++ (z ++ p.back)) same ∙ sym p.parts)
-
-pub exact_command : ExactCommand
-exact_command (command.Client act) covered m script raced keeper keeper' h h' old new next text s stands p looks after =
-    by_client m.limits keeper keeper' h h' old new next s stands p.tells.others.places (racers_kept m script (command.Client act) raced old text new p p.tells.others.racers) looks after act text p.tells.tells
-exact_command (command.Balance at k) covered m script raced keeper keeper' h h' old new next text s stands p looks after =
-    let t = p.tells in
-    let places : new.places ≡ old.places = ap (λ (z : Scene). z.places) t.same in
-    let racers = racers_kept m script (command.Balance at k) raced old text new p (ap (λ (z : Scene). z.racers) t.same) in
-    let d = zip_at IsFor old.places s.desks at t.place stands.desks t.there in (
-      told_so t.server k t.place d.0 text d.2 t.tells ∙ (ap (λ o. balance_at (Some t.server) o k) (sym d.1) ∙ ap (λ o. balance_at o (slice_get s.desks at) k) (sym t.named)),
-      idles m.limits keeper keeper' h h' old new next s stands places racers looks after (ap (λ (z : Scene). z.client) t.same),
-    )
-exact_command (command.Sum k) covered m script raced keeper keeper' h h' old new next text s stands p looks after =
-    let t = p.tells in
-    let places : new.places ≡ old.places = ap (λ (z : Scene). z.places) t.1 in
-    let racers = racers_kept m script (command.Sum k) raced old text new p (ap (λ (z : Scene). z.racers) t.1) in (
-      t.0 ∙ ap (λ n. line (answer_text (answer.Sum k n))) (summed_so k old.places s.desks stands.desks),
-      idles m.limits keeper keeper' h h' old new next s stands places racers looks after (ap (λ (z : Scene). z.client) t.1),
-    )
-exact_command other covered m script raced keeper keeper' h h' old new next text s stands p looks after = absurd covered

@@ -18,7 +18,7 @@ use Rattle.tp_plain.specs.OneThread.{no_pass, pass_at}
 use Rattle.tp_server.specs.declared.recipe.Recipe.{Recipe}
 use Rattle.tp_server.specs.Pending.{Pending}
 use Rattle.tp_manager.specs.Bounds.{abort_steps}
-use Rattle.tp_manager.specs.Calls.{Ends, Follows}
+use Rattle.tp_manager.specs.Calls.{AnswersAbort, Follows}
 use Rattle.tp_manager.specs.Shown.{KeeperShown, PassShown}
 use Rattle.tp_desk.specs.declared.order.Order.{Order}
 use Rattle.tp_desk.specs.declared.order.Order.TheVariants as orders
@@ -31,12 +31,11 @@ use Rattle.tp_report.specs.declared.answer.ServerAnswer.TheVariants as told
 use Rattle.tp_script.specs.declared.script.DeskAct.TheVariants as acts
 use Rattle.tp_commands.specs.Acting.{AbortsAt, ClaimsAt, DeskShown, TellsAbort, TellsClaim, TellsDrop, TakesAt, TellsTake}
 use Rattle.tp_reference.specs.declared.plain_desk.PlainDesk.{PlainDesk}
-use Rattle.tp_reference.specs.PlainDesks.{Acted, abort_step, abort_work, aborted_as, claim_by, claim_step, claimed_as, drop_step, given_up, has_open, in_hand, nothing_done, with_drop, claim_given, given_as, take_step}
+use Rattle.tp_reference.specs.PlainDesks.{DeskAnswered, abort_step, abort_work, aborted_as, claim_by, claim_step, claimed_as, drop_step, given_up, has_open, in_hand, nothing_done, with_drop, claim_given, given_as, take_step}
 use Rattle.tp_alone.specs.Thread.{Alone, not_given, state_of, thread_of}
 use Rattle.tp_alone.proofs.Aborts.{alone_abort}
 use Rattle.tp_alone.proofs.Claims.{alone_claim, alone_claim_next}
 use Rattle.tp_exact.specs.Acts.{Acts}
-use Rattle.tp_exact.specs.Desks.{ExactDesk}
 use Rattle.tp_exact.specs.Stands.{IsForDesk}
 use Rattle.tp_exact.proofs.Parts.{idle}
 use Rattle.tp_exact.proofs.Takes.{gives}
@@ -50,31 +49,31 @@ pass_here (q ∷ qs) back p rest (suc c) at = pass_here qs back p rest c (omega 
 
 module _ (recipe : Recipe) (l : Limits) (keeper keeper' : KeeperShown) (olds news : List PassShown) (h h' : List Event) (c : ℕ) (old new : DeskShown) (d : PlainDesk)
     (a : Acts l keeper keeper' olds news h h' c old.pass new.pass) (limits : new.pass.limits ≡ l) (is : IsForDesk old d) where
-  abbrev m : thread.State
+  abbrev pub m : thread.State
   m = thread_of l olds h
 
-  abbrev Exact : ServerAnswer → Acted → Type 0
+  abbrev pub Exact : ServerAnswer → DeskAnswered → Type 0
   Exact answer done = (answer ≡ done.answer) × (thread_of l news h' ≡ done.manager) × IsForDesk new done.desk
 
   holds : (pass_at m c).holding ≡ old.pass.open_unit
   holds = ap (λ (p : PassState). p.holding) (ap (λ ps. slice_index_or (map state_of ps ++ not_given l (length olds)) c no_pass) a.olds_are ∙ pass_here a.front a.back old.pass (not_given l (length olds)) c a.place)
 
-  open_so : has_open m c ≡ is_some old.work
+  pub open_so : has_open m c ≡ is_some old.work
   open_so = ap (λ (o : Option ℕ). is_some o) holds ∙ is.open_is
 
-  hand_so : in_hand m c d ≡ old.work
+  pub hand_so : in_hand m c d ≡ old.work
   hand_so = ap (λ (o : Option ℕ). if is_some o then d.taken else None) holds ∙ is.work
 
   alone : (n : ℕ) → Follows n old.pass new.pass → Alone l keeper keeper' olds news h h' n c old.pass new.pass
   alone n f = record { before = a.before; front = a.front; back = a.back; olds_are = a.olds_are; place = a.place; limits = limits; follows = f; others = a.others; after = a.after }
 
   -- nothing was done
-  same : (answer : ServerAnswer) → new ≡ old → Exact answer (nothing_done answer m d)
+  pub same : (answer : ServerAnswer) → new ≡ old → Exact answer (nothing_done answer m d)
   same answer none = (refl, idle l keeper keeper' olds news h h' c old.pass new.pass a (ap (λ (x : DeskShown). x.pass) none), subst (λ x. IsForDesk x d) (sym none) is)
 
   -- ---- claims
 
-  claims_none : (new.pass.open_unit ≡ None) → new.work ≡ None → new.registers ≡ old.registers → IsForDesk new d
+  pub claims_none : (new.pass.open_unit ≡ None) → new.work ≡ None → new.registers ≡ old.registers → IsForDesk new d
   claims_none shut none registers = record {
     registers = is.registers ∙ sym registers;
     work = ap (λ (o : Option ℕ). if is_some o then d.taken else None) shut ∙ sym none;
@@ -86,7 +85,7 @@ module _ (recipe : Recipe) (l : Limits) (keeper keeper' : KeeperShown) (olds new
   shut_of None none = refl
   shut_of (Some u) none = absurd cc
 
-  was_shut : old.work ≡ None → old.pass.open_unit ≡ None
+  pub was_shut : old.work ≡ None → old.pass.open_unit ≡ None
   was_shut none = shut_of old.pass.open_unit (is.open_is ∙ ap (λ (o : Option Work). is_some o) none)
 
   module _ (server : IsServerStage recipe.stage) (stage : old.behaviour.stage ≡ recipe.stage) where
@@ -116,7 +115,7 @@ module _ (recipe : Recipe) (l : Limits) (keeper keeper' : KeeperShown) (olds new
     work_told : (element unit attempt : ℕ) (work : Work) → element ≡ work.element.id → unit ≡ work.unit → attempt ≡ work.attempt → told.Work element unit attempt ≡ told.Work work.element.id work.unit work.attempt
     work_told element unit attempt work x y z = cc
 
-    claims : (order : Order) (answer : ServerAnswer) → TellsClaim order l old answer new → Exact answer (claim_step order recipe c m d)
+    pub claims : (order : Order) (answer : ServerAnswer) → TellsClaim order l old answer new → Exact answer (claim_step order recipe c m d)
     claims order (told.Work element unit attempt) t =
         let f = t.1 in
         let shown = opened order t.0 f in
@@ -156,7 +155,7 @@ module _ (recipe : Recipe) (l : Limits) (keeper keeper' : KeeperShown) (olds new
         go refusals.NotWaiting says = says.1.open_unit ∙ was_shut f.idle
         go other says = absurd says
 
-    takes : (id : ℕ) (answer : ServerAnswer) → TellsTake l id old answer new → Exact answer (take_step recipe id c m d)
+    pub takes : (id : ℕ) (answer : ServerAnswer) → TellsTake l id old answer new → Exact answer (take_step recipe id c m d)
     takes id (told.Work element unit attempt) t =
         let f = t.1 in
         let shown : new.pass.open_unit ≡ Some t.0.unit = f.answer.0.open_unit in
@@ -189,18 +188,18 @@ module _ (recipe : Recipe) (l : Limits) (keeper keeper' : KeeperShown) (olds new
     prepared = λ some. (let clash : false ≡ true = sym (ap (λ (o : Option Work). is_some o) none) ∙ some in absurd cc);
   }
 
-  closed : (ended : Ended) → Ends old.pass new.pass ended → new.pass.open_unit ≡ None
+  pub closed : (ended : Ended) → AnswersAbort old.pass new.pass ended → new.pass.open_unit ≡ None
   closed endeds.Aborted ends = ends.1.open_unit
-  closed endeds.Already ends = ends.1.open_unit
+  closed endeds.AlreadyAborted ends = ends.1.open_unit
 
   aborts_by : (ended : Ended) (element : ℕ) (f : AbortsAt ended element old new) → aborted_as f.work (ended, thread_of l news h') d ≡ abort_step c m d
   aborts_by ended element f =
       ap (λ r. aborted_as f.work r d) (alone_abort l keeper keeper' olds news h h' abort_steps c old.pass new.pass ended (alone abort_steps f.follows) f.turn f.answer)
       ∙ ap (λ o. abort_work o c m d) (sym (hand_so ∙ f.in_hand))
 
-  aborts : (answer : ServerAnswer) → TellsAbort old answer new → Exact answer (abort_step c m d)
+  pub aborts : (answer : ServerAnswer) → TellsAbort old answer new → Exact answer (abort_step c m d)
   aborts (told.Aborted element) f = subst (Exact (told.Aborted element)) (aborts_by endeds.Aborted element f) (ap (λ i. told.Aborted i) f.element_is, refl, cleared_for (closed endeds.Aborted f.answer) f.none_left f.server.1 (aborted_as f.work (endeds.Aborted, thread_of l news h') d).desk refl)
-  aborts (told.Already element) f = subst (Exact (told.Already element)) (aborts_by endeds.Already element f) (ap (λ i. told.Already i) f.element_is, refl, cleared_for (closed endeds.Already f.answer) f.none_left f.server.1 (aborted_as f.work (endeds.Already, thread_of l news h') d).desk refl)
+  aborts (told.AlreadyAborted element) f = subst (Exact (told.AlreadyAborted element)) (aborts_by endeds.AlreadyAborted element f) (ap (λ i. told.AlreadyAborted i) f.element_is, refl, cleared_for (closed endeds.AlreadyAborted f.answer) f.none_left f.server.1 (aborted_as f.work (endeds.AlreadyAborted, thread_of l news h') d).desk refl)
   aborts told.NoneOpen t = subst (Exact told.NoneOpen) (ap (λ o. abort_work o c m d) (sym (hand_so ∙ t.0))) (same told.NoneOpen t.1)
   aborts other t = absurd t
 
@@ -215,16 +214,8 @@ module _ (recipe : Recipe) (l : Limits) (keeper keeper' : KeeperShown) (olds new
     ap (λ (p : PassShown). p.open_unit) none ∙ at,
   )
 
-  drops : (answer : ServerAnswer) → TellsDrop old answer new → Exact answer (drop_step c m d)
+  pub drops : (answer : ServerAnswer) → TellsDrop old answer new → Exact answer (drop_step c m d)
   drops told.Dropped f =
       let t = given_by old.pass.open_unit refl f.gives_up f.follows f.turn in
       (refl, t.0, cleared_for t.1 f.none_left f.server.1 (with_drop d) refl)
   drops other t = absurd t
-
-pub exact_desk : ExactDesk
-exact_desk acts.Claim covered recipe l keeper keeper' olds news h h' c old new answer d server stage limits a is t = claims recipe l keeper keeper' olds news h h' c old new d a limits is server stage orders.LeastFirst answer t
-exact_desk acts.Next covered recipe l keeper keeper' olds news h h' c old new answer d server stage limits a is t = claims recipe l keeper keeper' olds news h h' c old new d a limits is server stage orders.InTurn answer t
-exact_desk (acts.Take id) covered recipe l keeper keeper' olds news h h' c old new answer d server stage limits a is t = takes recipe l keeper keeper' olds news h h' c old new d a limits is server stage id answer t
-exact_desk acts.Abort covered recipe l keeper keeper' olds news h h' c old new answer d server stage limits a is t = aborts recipe l keeper keeper' olds news h h' c old new d a limits is answer t
-exact_desk acts.Drop covered recipe l keeper keeper' olds news h h' c old new answer d server stage limits a is t = drops recipe l keeper keeper' olds news h h' c old new d a limits is answer t
-exact_desk other covered recipe l keeper keeper' olds news h h' c old new answer d server stage limits a is t = absurd covered

@@ -12,3 +12,13 @@ pub mod Finals
 pub mod Accounts
 pub mod Takes
 pub mod Desks
+pub mod Halves
+pub mod Turns
+pub mod DeskActs
+pub mod Places
+pub mod Covered
+pub mod Scenes
+pub mod Begins
+pub mod Chain
+pub mod Scripts
+pub mod Fronts

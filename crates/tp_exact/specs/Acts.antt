@@ -6,8 +6,8 @@ use Rattle.tp_model.specs.declared.event.Event.{Event}
 use Rattle.tp_manager.specs.Shown.{KeeperShown, PassShown}
 use Rattle.tp_alone.specs.Thread.{AreTogether, Stays}
 
--- all were together, pass c made calls, however many, and all were together again, with nothing done by any other
--- pass
+-- all were together, pass c made calls, however many, and all were together again, with nothing done by any
+-- other pass
 pub record Acts (l : Limits) (keeper keeper' : KeeperShown) (olds news : List PassShown) (h h' : List Event)
     (c : ℕ) (old new : PassShown) : Type 0 where
   pub before : AreTogether l keeper olds h

@@ -9,8 +9,8 @@ use Rattle.tp_reference.specs.PlainClient.{client, client_step}
 use Rattle.tp_alone.specs.Thread.{thread_of}
 use Rattle.tp_exact.specs.Acts.{Acts}
 
--- the line of a client's command is the one that is computed of the state before it, and so is the state that it
--- leaves
+-- the line of a client's command is the one that is computed of the state before it, and so is the state that
+-- it leaves
 abbrev pub ExactClient : Type 0
 ExactClient =
     (act : ClientAct) (l : Limits) (keeper keeper' : KeeperShown) (olds news : List PassShown)

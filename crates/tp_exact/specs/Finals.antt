@@ -19,7 +19,8 @@ ExactFinals =
     → has_race script.commands ≡ false → registers ≡ map (λ d. d.registers) desks
     → finals_of script registers ≡ finals_below script.servers desks (length script.servers)
 
--- where all are together, the account of what they have seen has in all what is computed by counting the elements
+-- where all are together, the account of what they have seen has in all what is computed by counting the
+-- elements
 abbrev pub ExactAccount : Type 0
 ExactAccount =
     (l : Limits) (keeper : KeeperShown) (passes : List PassShown) (h : List Event)

@@ -4,3 +4,4 @@ pub mod Stands
 pub mod Commands
 pub mod Finals
 pub mod Desks
+pub mod Script

@@ -3,11 +3,14 @@ use Rattle.std.specs.Prelude.{◌≡◌, ◌∷◌, ◌++◌, List, None, IsSome
 use Rattle.std.specs.List.{AllZip}
 use Rattle.tp_model.specs.declared.types.Limits.{Limits}
 use Rattle.tp_model.specs.declared.event.Event.{Event}
+use Rattle.tp_model.specs.Steps.{IsServerStage}
+use Rattle.tp_server.specs.Behaviour.{behaviour_of}
 use Rattle.tp_manager.specs.Shown.{KeeperShown, PassShown}
+use Rattle.tp_script.specs.Script.{ServerView}
 use Rattle.tp_commands.specs.Acting.{DeskShown, PlaceShown}
 use Rattle.tp_perform.specs.Told.{Scene}
 use Rattle.tp_reference.specs.declared.plain_desk.PlainDesk.{PlainDesk}
-use Rattle.tp_reference.specs.PlainReport.{State}
+use Rattle.tp_reference.specs.PlainReport.{ReportState}
 use Rattle.tp_alone.specs.Thread.{AreTogether, Stays, thread_of}
 
 -- all passes of a scene: the client's, those of the desks, and those of races
@@ -26,11 +29,21 @@ pub record IsFor (p : PlaceShown) (d : PlainDesk) : Type 0 where
   pub desk : IsForDesk p.desk d
   pub dropped : d.is_dropped ≡ p.is_dropped
 
--- all passes are together, and they and the desks are those of the computed state
-pub record Stands (l : Limits) (keeper : KeeperShown) (h : List Event) (scene : Scene) (s : State) : Type 0 where
+-- the server at this place does what the recipe of the script's server says, and may take elements of its
+-- stage
+pub record IsServedBy (p : PlaceShown) (server : ServerView) : Type 0 where
+  pub behaviour : p.desk.behaviour ≡ behaviour_of server.recipe
+  pub stage : IsServerStage server.recipe.stage
+
+-- all passes are together, they and the desks are those of the computed state, and the desks are of these
+-- servers
+pub record Stands (servers : List ServerView) (l : Limits) (keeper : KeeperShown) (h : List Event)
+    (scene : Scene)
+    (s : ReportState) : Type 0 where
   pub together : AreTogether l keeper (passes_in scene) h
   pub manager : s.manager ≡ thread_of l (passes_in scene) h
   pub desks : AllZip IsFor scene.places s.desks
+  pub served : AllZip IsServedBy scene.places servers
 
 -- nothing has changed at a place, but that its pass has looked
 pub record OnlyLooksAt (old new : PlaceShown) : Type 0 where

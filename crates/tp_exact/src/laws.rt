@@ -4,14 +4,15 @@ ghost use Rattle.tp_exact.specs.Client.{ExactClient};
 ghost use Rattle.tp_exact.specs.Commands.{ExactCommand};
 ghost use Rattle.tp_exact.specs.Desks.{ExactDesk};
 ghost use Rattle.tp_exact.specs.Finals.{ExactAccount, ExactFinals};
+ghost use Rattle.tp_exact.specs.Script.{ExactFront, ExactScript};
 
 /// The line of a client's command where nobody else acts, and what the command leaves.
 pub fn exact_client()
     ensures { ExactClient }
 {}
 
-/// A command of the client, or one that tells registers, performed between two gatherings: its line, and what
-/// it leaves.
+/// A command of the client or of a desk, or one that tells registers, performed between two gatherings: its
+/// line, and what it leaves.
 pub fn exact_command()
     ensures { ExactCommand }
 {}
@@ -22,8 +23,15 @@ pub fn exact_end()
     ensures account { ExactAccount }
 {}
 
-/// A command on a desk that claims or gives up: a claim of the least id, in turn or of a given element, an
-/// abort or a drop.
+/// A command on a desk: a turn or one of its parts, a claim in turn or of a given element, an abort or a
+/// drop.
 pub fn exact_desk()
     ensures { ExactDesk }
+{}
+
+/// The report of a whole script of such commands, which asks for no account: it is the computed one, and after
+/// a fault a prefix of it.
+pub fn exact_script()
+    ensures whole { ExactScript }
+    ensures front { ExactFront }
 {}

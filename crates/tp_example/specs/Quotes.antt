@@ -1,5 +1,6 @@
 -- What a quoting server does, whose prices come from outside.
-use Rattle.std.specs.Prelude.{ℕ, ◌+◌, ◌^◌, nat_lt, List, [], ◌∷◌, Option, Some, None, Result, Ok, Err, if◌then◌else◌, slice_index}
+use Rattle.std.specs.Prelude.{ℕ, ◌+◌, ◌^◌, nat_lt, List, [], ◌∷◌, Option, Some, None, Result, Ok, Err}
+use Rattle.std.specs.Prelude.{if◌then◌else◌, slice_index}
 use Rattle.tp_model.specs.declared.types.Element.{Element}
 use Rattle.tp_server.specs.Behaviour.{Behaviour}
 use Rattle.tp_server.specs.Effect.{Effect}

@@ -1,5 +1,6 @@
 -- What the shop does with an order.
-use Rattle.std.specs.Prelude.{ℕ, ◌+◌, ◌-◌, ◌*◌, ◌^◌, ◌==◌, nat_le, nat_lt, List, [], ◌∷◌, Result, Ok, Err, if◌then◌else◌, slice_index}
+use Rattle.std.specs.Prelude.{ℕ, ◌+◌, ◌-◌, ◌*◌, ◌^◌, ◌==◌, nat_le, nat_lt, List, [], ◌∷◌, Result, Ok, Err}
+use Rattle.std.specs.Prelude.{if◌then◌else◌, slice_index}
 use Rattle.tp_model.specs.declared.types.Element.{Element}
 use Rattle.tp_server.specs.Behaviour.{Behaviour}
 use Rattle.tp_server.specs.Effect.{Effect}

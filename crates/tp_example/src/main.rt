@@ -17,7 +17,7 @@ use tp_desk::Desk;
 use tp_manager::{Keeper, Manager, Pass};
 use tp_model::types::Limits;
 use tp_server::{OwnServer, Server};
-use tp_workers::Trouble;
+use tp_workers::ProgramFault;
 
 fn main(rt: HostRuntime) -> ExitCode {
     match trade(&rt) {
@@ -30,7 +30,7 @@ fn main(rt: HostRuntime) -> ExitCode {
 }
 
 /// A day of the shop, with a client's pass and one for the shop's server.
-fn trade(rt: &HostRuntime) -> Result<(), Trouble> {
+fn trade(rt: &HostRuntime) -> Result<(), ProgramFault> {
     let limits = Limits {
         parts: 2,
         rows: 8,
@@ -50,7 +50,7 @@ fn orders(
     manager: &Manager,
     client: &mut Pass,
     shop: &mut Pass,
-) -> Result<(), Trouble>
+) -> Result<(), ProgramFault>
     requires client { IsOf manager.now client.old }
     requires shop { IsOf manager.now shop.old }
     requires free { (client.old.open_unit ≡ None) × (shop.old.open_unit ≡ None) }
@@ -78,7 +78,7 @@ fn open_shop(
     manager: &Manager,
     pass: &mut Pass,
     goods: u64,
-) -> Result<(), Trouble>
+) -> Result<(), ProgramFault>
     requires own { IsOf manager.now pass.old }
     requires free { pass.old.open_unit ≡ None }
     ensures own { IsOf manager.now pass.new }
@@ -110,7 +110,7 @@ impl Prices for PriceList {
 }
 
 /// Answers one question for a price.
-fn give_quotes(rt: &HostRuntime, manager: &Manager, pass: &mut Pass) -> Result<(), Trouble>
+fn give_quotes(rt: &HostRuntime, manager: &Manager, pass: &mut Pass) -> Result<(), ProgramFault>
     requires own { IsOf manager.now pass.old }
     requires free { pass.old.open_unit ≡ None }
     ensures own { IsOf manager.now pass.new }
@@ -126,7 +126,12 @@ fn give_quotes(rt: &HostRuntime, manager: &Manager, pass: &mut Pass) -> Result<(
 }
 
 /// What became of an order.
-fn tell(rt: &HostRuntime, manager: &Manager, client: &mut Pass, order: u32) -> Result<(), Trouble>
+fn tell(
+    rt: &HostRuntime,
+    manager: &Manager,
+    client: &mut Pass,
+    order: u32,
+) -> Result<(), ProgramFault>
     requires own { IsOf manager.now client.old }
     ensures own { IsOf manager.now client.new }
 {
@@ -147,7 +152,7 @@ fn tell_price(
     manager: &Manager,
     client: &mut Pass,
     question: u32,
-) -> Result<(), Trouble>
+) -> Result<(), ProgramFault>
     requires own { IsOf manager.now client.old }
     ensures own { IsOf manager.now client.new }
 {

@@ -11,7 +11,8 @@ pub trait Prices: Drop {
     fn price(&self, goods: u64) -> Option<u64>;
 }
 
-/// Replies to each question of stage 3 with the price of the goods in its word 0. The one register counts the quotes.
+/// Replies to each question of stage 3 with the price of the goods in its word 0. The one register counts the
+/// quotes.
 #[derive(Drop)]
 pub struct Quotes<P: Prices> {
     pub prices: P,

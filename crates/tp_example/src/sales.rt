@@ -4,7 +4,7 @@ ghost use Rattle.tp_model.specs.Counts.{taken};
 ghost use Rattle.tp_manager.specs.Shown.{IsOf};
 ghost use Rattle.tp_desk.specs.Serving.{gained};
 ghost use Rattle.tp_server.specs.Books.{Lowers, Raises};
-ghost use Rattle.tp_workers.specs.Desks.{WorksOn, place};
+ghost use Rattle.tp_workers.specs.Desks.{DeskWorksOn, place};
 ghost use Rattle.tp_workers.specs.Gains.{commits_in};
 ghost use Rattle.tp_workers.specs.Plans.{least_first};
 ghost use Rattle.tp_workers.specs.declared.tally.Shift.{Shift};
@@ -22,8 +22,8 @@ pub struct Sales {
     pub short: u32,
 }
 
-/// Sells in at most so many turns, or until no order waits. What is left in stock and what the orders took that were
-/// committed meanwhile make what there was before, whatever other threads did.
+/// Sells in at most so many turns, or until no order waits. What is left in stock and what the orders took
+/// that were committed meanwhile make what there was before, whatever other threads did.
 pub fn sell(
     manager: &Manager,
     pass: &mut Pass,
@@ -42,7 +42,7 @@ pub fn sell(
         (taken (gained pass.old.mine pass.new.mine) pass.new.seen) }
     ensures sold { result.sold + commits_in pass.old ≡ commits_in pass.new }
     ensures short { (counts : Shift) × (result.sold ≡ counts.done) × (result.short ≡ counts.refused)
-        × WorksOn (least_first turns) manager.now.limits (place behaviour registers pending (pass.old, stock.old)) counts
+        × DeskWorksOn (least_first turns) manager.now.limits (place behaviour registers pending (pass.old, stock.old)) counts
         (place behaviour registers pending (pass.new, stock.new)) }
     ensures turns { result.sold + result.short ≤ turns }
 {

@@ -5,12 +5,14 @@ ghost use Rattle.tp_example.specs.Shop.{sell, shop};
 use tp_model::types::Element;
 use tp_server::{Declined, Effect, Handler};
 
-/// Sells each order of stage 1 from the stock. An order for nothing is declined for a reason of the shop's own, and one for
-/// more than is left as `Short`. The registers are what is left in stock, and what was taken.
+/// Sells each order of stage 1 from the stock. An order for nothing is declined for a reason of the shop's
+/// own, and one for more than is left as `Short`. The registers are what is left in stock, and what was
+/// taken.
 ///
-/// The words of an order's body are which goods it asks for, how many, for which customer, and at which price. The output
-/// has the goods and the customer, what is left in place of how many, and what they cost in place of the price. It goes to
-/// the packers of stage 2 where the order is for six or more, and else it is the reply.
+/// The words of an order's body are which goods it asks for, how many, for which customer, and at which
+/// price. The output has the goods and the customer, what is left in place of how many, and what they cost in
+/// place of the price. It goes to the packers of stage 2 where the order is for six or more, and else it is
+/// the reply.
 #[derive(Drop)]
 pub struct Stock;
 

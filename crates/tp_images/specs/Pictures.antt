@@ -1,6 +1,7 @@
--- What each server of the pipeline does with a picture. The words of a picture's body are its format, its bytes, its customer and
--- its job.
-use Rattle.std.specs.Prelude.{ℕ, ◌+◌, ◌-◌, ◌/◌, ◌^◌, nat_le, nat_lt, List, [], ◌∷◌, Result, Ok, Err, if◌then◌else◌, slice_index}
+-- What each server of the pipeline does with a picture. The words of a picture's body are its format, its
+-- bytes, its customer and its job.
+use Rattle.std.specs.Prelude.{ℕ, ◌+◌, ◌-◌, ◌/◌, ◌^◌, nat_le, nat_lt, List, [], ◌∷◌, Result, Ok, Err}
+use Rattle.std.specs.Prelude.{if◌then◌else◌, slice_index}
 use Rattle.tp_model.specs.declared.types.Element.{Element}
 use Rattle.tp_server.specs.Behaviour.{Behaviour}
 use Rattle.tp_server.specs.Effect.{Effect}
@@ -21,7 +22,13 @@ route bytes = if nat_le bytes 1000 then 3 else 2
 abbrev pub validated : ℕ → Element → Result Effect Declined
 validated formats picture =
     if nat_lt (format_of picture) formats
-    then Ok (record { registers = []; drafts = record { stage = route (bytes_of picture); body = picture.body } ∷ [] })
+    then Ok (record {
+      registers = [];
+      drafts = record {
+        stage = route (bytes_of picture);
+        body = picture.body;
+      } ∷ [];
+    })
     else Err (Own 1)
 
 abbrev pub validator : ℕ → Behaviour
@@ -36,13 +43,15 @@ resized space picture = record {
   registers = (space - resized_to picture) ∷ [];
   drafts = record {
     stage = 3;
-    body = format_of picture ∷ resized_to picture ∷ slice_index picture.body 2 ∷ slice_index picture.body 3 ∷ [];
+    body = format_of picture ∷ resized_to picture ∷ slice_index picture.body 2 ∷ slice_index picture.body 3
+        ∷ [];
   } ∷ [];
 }
 
 -- the resizer has one register, the disk space that is left; it declines for its own reason what doesn't fit
 abbrev pub resize : List ℕ → Element → Result Effect Declined
-resize (space ∷ []) picture = if nat_le (resized_to picture) space then Ok (resized space picture) else Err (Own 2)
+resize (space ∷ []) picture = if nat_le (resized_to picture) space then Ok (resized space picture)
+    else Err (Own 2)
 resize other picture = Err NoRegister
 
 abbrev pub resizer : Behaviour
@@ -58,7 +67,8 @@ notice count bytes picture = record {
 abbrev pub notify : List ℕ → Element → Result Effect Declined
 notify (count ∷ bytes ∷ []) picture =
     if nat_lt (count + 1) (2 ^ 64)
-    then (if nat_lt (bytes + bytes_of picture) (2 ^ 64) then Ok (notice count bytes picture) else Err TooLarge)
+    then (if nat_lt (bytes + bytes_of picture) (2 ^ 64) then Ok (notice count bytes picture)
+    else Err TooLarge)
     else Err TooLarge
 notify other picture = Err NoRegister
 

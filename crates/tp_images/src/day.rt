@@ -9,7 +9,7 @@ use crate::servers::{Notifier, Resizer, Validator};
 use std::thread::Threads;
 use tp_desk::Order;
 use tp_server::{OwnServer, Server, three};
-use tp_workers::{ClientJob, Crew, CrewLimits, NoGate, Plan, Trouble};
+use tp_workers::{ClientJob, Crew, CrewLimits, NoGate, Plan, ProgramFault};
 
 pub type Boxed = Box<dyn Server + Send>;
 
@@ -21,7 +21,7 @@ pub const LIMITS: CrewLimits = CrewLimits {
 };
 
 /// Hires three servers and one client, and has a newer validator ready.
-pub fn work<R: AllocGlobal + Print + Threads + Sync>(rt: &R) -> Result<(), Trouble> {
+pub fn work<R: AllocGlobal + Print + Threads + Sync>(rt: &R) -> Result<(), ProgramFault> {
     let validator: Boxed = Box::new(rt.alloc(), OwnServer::new(Validator { formats: 3 }, []))?;
     let resizer: Boxed = Box::new(rt.alloc(), OwnServer::new(Resizer, [50_000]))?;
     let notifier: Boxed = Box::new(rt.alloc(), OwnServer::new(Notifier, [0, 0]))?;
@@ -39,7 +39,7 @@ fn run<R: Print + Threads + Sync>(
     crew: &mut Crew,
     newer: &mut Boxed,
     job: ClientJob,
-) -> Result<(), Trouble>
+) -> Result<(), ProgramFault>
     requires steady { IsSteadyCrew behaviour registers pending crew.old }
     requires hired { (length crew.old.boxes.items ≡ 3) × (crew.old.clients ≡ 1) }
     requires newer { pending newer.old ≡ None }
@@ -72,7 +72,7 @@ fn run<R: Print + Threads + Sync>(
 }
 
 /// What became of a request.
-fn tell<R: Print>(rt: &R, crew: &mut Crew, request: u32) -> Result<(), Trouble>
+fn tell<R: Print>(rt: &R, crew: &mut Crew, request: u32) -> Result<(), ProgramFault>
     requires { IsSteadyCrew (shown behaviour) (shown registers) (shown pending) crew.old }
     ensures steady { OnOk result (IsSteadyCrew (shown behaviour) (shown registers) (shown pending) crew.new) }
     ensures boxes { OnOk result (length crew.new.boxes.items ≡ length crew.old.boxes.items) }
@@ -88,7 +88,7 @@ fn tell<R: Print>(rt: &R, crew: &mut Crew, request: u32) -> Result<(), Trouble>
 }
 
 /// The requests of which an element is parked.
-fn parked<R: Print>(rt: &R, crew: &mut Crew) -> Result<(), Trouble>
+fn parked<R: Print>(rt: &R, crew: &mut Crew) -> Result<(), ProgramFault>
     requires { IsSteadyCrew (shown behaviour) (shown registers) (shown pending) crew.old }
     ensures steady { OnOk result (IsSteadyCrew (shown behaviour) (shown registers) (shown pending) crew.new) }
     ensures boxes { OnOk result (length crew.new.boxes.items ≡ length crew.old.boxes.items) }
@@ -109,7 +109,7 @@ fn parked<R: Print>(rt: &R, crew: &mut Crew) -> Result<(), Trouble>
 }
 
 /// The notifier's books, and the account of the day.
-fn close<R: Print>(rt: &R, crew: &mut Crew) -> Result<(), Trouble>
+fn close<R: Print>(rt: &R, crew: &mut Crew) -> Result<(), ProgramFault>
     requires { IsSteadyCrew (shown behaviour) (shown registers) (shown pending) crew.old }
 {
     if let Some(notifier) = crew.server(2) {

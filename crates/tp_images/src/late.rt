@@ -9,11 +9,11 @@ use tp_desk::Desk;
 use tp_manager::Keeper;
 use tp_model::types::{Claimed, Outcome};
 use tp_server::OwnServer;
-use tp_workers::Trouble;
+use tp_workers::ProgramFault;
 
 /// A worker without a server resizes a picture, a notifier tells of it, and a request is cancelled while
 /// the resizer works on it.
-pub fn work<R: AllocGlobal + Print>(rt: &R) -> Result<(), Trouble> {
+pub fn work<R: AllocGlobal + Print>(rt: &R) -> Result<(), ProgramFault> {
     let (manager, mut keeper) = Keeper::new(rt.alloc(), LIMITS.with_parts(2))?;
     let mut front = keeper.pass(&manager)?;
     let mut worker = keeper.pass(&manager)?;

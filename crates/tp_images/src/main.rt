@@ -7,9 +7,9 @@ mod late;
 mod own_calls;
 mod servers;
 
-use tp_workers::Trouble;
+use tp_workers::ProgramFault;
 
-fn main(rt: HostRuntime) -> Result<(), Trouble> {
+fn main(rt: HostRuntime) -> Result<(), ProgramFault> {
     day::work(&rt)?;
     late::work(&rt)
 }

@@ -1,4 +1,5 @@
-//! The servers of the three stages. The words of a picture's body are its format, its bytes, its customer and its job.
+//! The servers of the three stages. The words of a picture's body are its format, its bytes, its customer and
+//! its job.
 ghost use Rattle.std.specs.Prelude.{◌≡◌};
 ghost use Rattle.tp_images.specs.Pictures.{notifier, resize, resizer, validated, validator};
 

@@ -14,11 +14,11 @@ use Rattle.tp_model.specs.Steps.{IsLegal}
 use Rattle.tp_model.proofs.Bridges.{begins_refl, in_none}
 use Rattle.tp_rule.specs.Views.{SeatShown, fresh_from, view_of}
 use Rattle.tp_rule.specs.declared.view.View.{View}
-use Rattle.tp_manager.specs.Accounts.{Accounts, AreAll, AreFrom, Attends, HaveDrawn, steps_together, Gathers}
+use Rattle.tp_manager.specs.Accounts.{Accounts, AreAll, AreNumberedFrom, Attends, HaveDrawn, steps_together, Gathers}
 use Rattle.tp_manager.specs.Bounds.{account_steps, first_steps, kept_steps, led_steps, gather_first, gather_kept, gather_steps}
 use Rattle.tp_manager.specs.Calls.{steps_of}
 use Rattle.tp_manager.specs.Shown.{Climbs, Spot, KeeperShown, PassShown, shown, steps_in}
-use Rattle.tp_manager.specs.Together.{AreLots, HasSeen, HaveFound, IsAt, Joins, lots, GathersWith}
+use Rattle.tp_manager.specs.Together.{AreLots, HasLookedOn, HaveFound, IsAt, Joins, lots, GathersWith}
 use Rattle.tp_manager.specs.Walks.{Keeps, untraced}
 use Rattle.tp_manager.proofs.Closing.{joins_at, joins_long, untraced_long}
 use Rattle.tp_manager.proofs.Follows.{follows_within}
@@ -29,16 +29,16 @@ use Rattle.tp_manager.proofs.Walks as walks
 use Rattle.tp_manager.proofs.Walks.{follows, has_looked}
 
 -- no pass that isn't given out has an event in what all have seen
-none_given : (l : Limits) (given k : ℕ) (h : List Event) (v w : View) → given ≤ l.parts → IsLegal l h → untraced v.hands ≡ fresh_from l given (l.parts - given) → HasSeen l k h v w → (c : ℕ) → given ≤ c → events_by c h ≡ []
+none_given : (l : Limits) (given k : ℕ) (h : List Event) (v w : View) → given ≤ l.parts → IsLegal l h → untraced v.hands ≡ fresh_from l given (l.parts - given) → HasLookedOn l k h v w → (c : ℕ) → given ≤ c → events_by c h ≡ []
 none_given l given k h v w below legal fresh seen c low = ⊎_elim
     (λ t. let out : l.parts ≤ c = t.1 in none_beyond l c out [] h legal)
     (λ t. let within : c < l.parts = t.1 in none_of_fresh l given h w.hands below (seen.hands ∙ fresh) seen.mine c low within)
     (leb_tells l.parts c)
 
 -- the keeper after it has looked
-pub keeps_seen : (seat next : SeatShown) (l k : Limits) (given n : ℕ) (h : List Event) → k ≡ l → Keeps seat l given → IsLegal k h → HasSeen k n h (view_of seat) (view_of next) → Keeps next l given
+pub keeps_seen : (seat next : SeatShown) (l k : Limits) (given n : ℕ) (h : List Event) → k ≡ l → Keeps seat l given → IsLegal k h → HasLookedOn k n h (view_of seat) (view_of next) → Keeps next l given
 keeps_seen seat next l k given n h same keeps legal' seen' =
-    let seen : HasSeen l n h (view_of seat) (view_of next) = subst (λ (z : Limits). HasSeen z n h (view_of seat) (view_of next)) same seen' in
+    let seen : HasLookedOn l n h (view_of seat) (view_of next) = subst (λ (z : Limits). HasLookedOn z n h (view_of seat) (view_of next)) same seen' in
     let legal : IsLegal l h = subst (λ (z : Limits). IsLegal z h) same legal' in record {
       valid = keeps.valid;
       limits_are = seen.limits;
@@ -63,7 +63,7 @@ module _ (table : TableId) (l : Limits) (h : List Event) (k : ℕ) where
   few_together (p ∷ ps) [] a = absurd a
   few_together (p ∷ ps) (q ∷ qs) a = let one = a.0.attends.follows.few in let rest = few_together ps qs a.1 in omega arith
 
-  from_still : (c : ℕ) (olds news : List PassShown) → AreFrom c olds → AllZip (Joins table l k h) olds news → AreFrom c news
+  from_still : (c : ℕ) (olds news : List PassShown) → AreNumberedFrom c olds → AllZip (Joins table l k h) olds news → AreNumberedFrom c news
   from_still c [] [] from a = tt
   from_still c [] (q ∷ qs) from a = absurd a
   from_still c (p ∷ ps) [] from a = absurd a
@@ -109,7 +109,7 @@ module _ (table : TableId) (l : Limits) (f k j n : ℕ) (t t' : Spot) (rises : C
   -- they are all passes still, in order of number
   pub all_still : (keeper : KeeperShown) → AreAll keeper ps → (keeper' : KeeperShown) → keeper'.given ≡ keeper.given → AreAll keeper' (shown t' w ∷ news)
   all_still keeper all keeper' same =
-      let from : AreFrom 0 (old ∷ olds) = subst (AreFrom 0) split all.1 in
+      let from : AreNumberedFrom 0 (old ∷ olds) = subst (AreNumberedFrom 0) split all.1 in
       let many = all.0 in
       let e = long in
       let rest = joins_long table l j w.seen olds news c.passes in

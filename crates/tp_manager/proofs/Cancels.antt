@@ -6,7 +6,7 @@ use Rattle.tp_model.specs.declared.event.Event.{Event}
 use Rattle.tp_model.specs.declared.event.Event.TheVariants.{Enqueue, Claim, Commit, Abort, Kill, Requeue}
 use Rattle.tp_model.specs.History.{here, there}
 use Rattle.tp_model.specs.Families.{IsRequest}
-use Rattle.tp_model.specs.Steps.{AreLimits, most_rows, rows_of}
+use Rattle.tp_model.specs.Steps.{AreLimits, max_rows, rows_of}
 use Rattle.tp_model.proofs.Bridges.{begins_refl, begins_trans, found_later, in_either, in_none, in_one}
 use Rattle.tp_rule.specs.Views.{SeatShown, hand, view_of}
 use Rattle.tp_rule.specs.declared.view.View.{View}
@@ -20,7 +20,7 @@ use Rattle.tp_manager.specs.Walks.{Looked, Rests}
 use Rattle.tp_manager.proofs.Gains.{gained_begins, gained_few, gained_looked, gained_then, rests_gained}
 
 -- how many rows there may be
-pub few_rows : (l : Limits) → AreLimits l → rows_of l ≤ most_rows
+pub few_rows : (l : Limits) → AreLimits l → rows_of l ≤ max_rows
 few_rows l fair =
     let parts : l.parts ≤ 32 = fair.parts.1 in
     let rows : l.rows ≤ 256 = fair.rows.1 in

@@ -20,7 +20,7 @@ use Rattle.tp_rule.specs.Steps.{noted}
 use Rattle.tp_rule.specs.Views.{hand}
 use Rattle.tp_rule.specs.declared.view.Hand.{Hand}
 use Rattle.tp_rule.specs.declared.view.View.{View}
-use Rattle.tp_manager.specs.Accounts.{AreFrom}
+use Rattle.tp_manager.specs.Accounts.{AreNumberedFrom}
 use Rattle.tp_manager.specs.Bounds.{first_steps, gather_first, gather_kept, kept_steps, lead_steps, led_steps, look_steps, meet_steps}
 use Rattle.tp_manager.specs.Meetings.{load}
 use Rattle.tp_manager.specs.Shown.{PassShown, steps_in}
@@ -67,7 +67,7 @@ module _ (table : TableId) (l : Limits) where
   joins_long n h (p ∷ ps) (q ∷ qs) a = let e = joins_long n h ps qs a.1 in omega arith
 
   -- what pass c did between two looks together: nothing
-  own_passes : (n k : ℕ) (h g : List Event) (a c : ℕ) (olds mids news : List PassShown) → AreFrom a olds → a ≤ c → c < a + length olds → AllZip (Joins table l n h) olds mids → AllZip (Joins table l k g) mids news → events_by c g ≡ events_by c h
+  own_passes : (n k : ℕ) (h g : List Event) (a c : ℕ) (olds mids news : List PassShown) → AreNumberedFrom a olds → a ≤ c → c < a + length olds → AllZip (Joins table l n h) olds mids → AllZip (Joins table l k g) mids news → events_by c g ≡ events_by c h
   own_passes n k h g a c [] mids news from low high x y = absurd (omega arith)
   own_passes n k h g a c (p ∷ ps) [] news from low high x y = absurd x
   own_passes n k h g a c (p ∷ ps) (m ∷ ms) [] from low high x y = absurd y
@@ -179,12 +179,12 @@ module _ (table : TableId) (l : Limits) (v v2 v3 w v' p w' : View) (olds mids ne
   }
 
 -- these passes have the numbers from c on
-pub from_places : (c : ℕ) (ps : List PassShown) → ((k : ℕ) (d : PassShown) → k < length ps → (slice_index_or ps k d).number ≡ c + k) → AreFrom c ps
+pub from_places : (c : ℕ) (ps : List PassShown) → ((k : ℕ) (d : PassShown) → k < length ps → (slice_index_or ps k d).number ≡ c + k) → AreNumberedFrom c ps
 from_places c [] f = tt
 from_places c (p ∷ ps) f = let none : c + 0 ≡ c = omega arith in
     (f 0 p (omega arith) ∙ none, from_places (c + 1) ps (λ k d less. let next : c + suc k ≡ c + 1 + k = omega arith in f (suc k) d (omega arith) ∙ next))
 
-pub number_at : (c : ℕ) (ps : List PassShown) (k : ℕ) (d : PassShown) → AreFrom c ps → k < length ps → (slice_index_or ps k d).number ≡ c + k
+pub number_at : (c : ℕ) (ps : List PassShown) (k : ℕ) (d : PassShown) → AreNumberedFrom c ps → k < length ps → (slice_index_or ps k d).number ≡ c + k
 number_at c [] k d from less = absurd (omega arith)
 number_at c (p ∷ ps) zero d from less = let none : c ≡ c + 0 = omega arith in from.0 ∙ none
 number_at c (p ∷ ps) (suc k) d from less = let next : c + 1 + k ≡ c + suc k = omega arith in number_at (c + 1) ps k d from.1 (omega arith) ∙ next

@@ -30,7 +30,7 @@ use Rattle.tp_manager.specs.declared.cancelling.Ended.{Ended}
 use Rattle.tp_manager.specs.declared.cancelling.Ended.TheVariants.{Killed, Outputs, Before}
 use Rattle.tp_manager.specs.Bounds.{end_steps, ends_steps}
 use Rattle.tp_manager.specs.Cancels.{IsDoneAt, IsTarget}
-use Rattle.tp_manager.specs.Endings.{Cancelling, CancelsIn, EndsAt, IsDone, IsEnded, IsUnworked, killed_in, killed_there}
+use Rattle.tp_manager.specs.Endings.{Cancelling, CancelsIn, EndsAt, IsWalkedOut, IsEnded, IsUnworked, killed_in, killed_there}
 use Rattle.tp_manager.specs.Families.{IsOutputFrom, Reached, and_from}
 use Rattle.tp_manager.specs.Kills.{FailsIn, IsPastKill, KillsIn}
 use Rattle.tp_manager.specs.Walks.{Looked, Steady}
@@ -128,7 +128,7 @@ reply_same : (h : List Event) (x y : Element) → element_of h x.id ≡ Some x �
 reply_same h x y a b staged = let same : x ≡ y = cc in ap (λ (e : Element). e.stage) same ∙ staged
 
 module _ (l : Limits) (root : ℕ) where
-  done_later : (i : ℕ) (Has Has' : ℕ → Type 0) (a b : List Event) → IsLegal l b → IsPrefix a b → ((j : ℕ) → Has j → Has' j) → IsDone l Has a i → IsDone l Has' b i
+  done_later : (i : ℕ) (Has Has' : ℕ → Type 0) (a b : List Event) → IsLegal l b → IsPrefix a b → ((j : ℕ) → Has j → Has' j) → IsWalkedOut l Has a i → IsWalkedOut l Has' b i
   done_later i Has Has' a b legal begins more (inl t) = inl (unworked_later l i a b legal begins t)
   done_later i Has Has' a b legal begins more (inr t) = inr (
     t.0,
@@ -140,7 +140,7 @@ module _ (l : Limits) (root : ℕ) where
   )
 
   -- what it leads to at any later time was come to
-  done_leads : (i j : ℕ) (Has : ℕ → Type 0) (a b : List Event) → IsLegal l b → IsPrefix a b → IsDone l Has a i → LeadsTo l.attempts b i j → LeadsTo l.attempts a i j × Has j
+  done_leads : (i j : ℕ) (Has : ℕ → Type 0) (a b : List Event) → IsLegal l b → IsPrefix a b → IsWalkedOut l Has a i → LeadsTo l.attempts b i j → LeadsTo l.attempts a i j × Has j
   done_leads i j Has a b legal begins (inl t) led = absurd (unworked_not l i b led.unit legal (unworked_later l i a b legal begins t) led.consumed)
   done_leads i j Has a b legal begins (inr t) led =
       let now = consumed_later l a b i t.0 legal begins t.3 in
@@ -184,7 +184,7 @@ module _ (l : Limits) (root : ℕ) where
   -- one element more
   module _ (n m k killed i : ℕ) (Left Next Adds : ℕ → Type 0) (r : Ended) (v w y : View) (left : Left i) (least : (j : ℕ) → Left j → i ≤ j)
       (only : (j : ℕ) → Next j → (Left j × (j ≢ i)) ⊎ Adds j) (kept : (j : ℕ) → Left j → j ≢ i → Next j) (adds : (j : ℕ) → Adds j → IsOutputFrom y.seen root i j × LeadsTo l.attempts y.seen i j)
-      (s : Cancelling l n root k killed Left v w) (e : EndsAt l m root i r w y) (here_done : IsDone l Next y.seen i) where
+      (s : Cancelling l n root k killed Left v w) (e : EndsAt l m root i r w y) (here_done : IsWalkedOut l Next y.seen i) where
     begins : IsPrefix w.seen y.seen
     begins = swept_begins l root m e.events w y e.swept
 
@@ -231,7 +231,7 @@ module _ (l : Limits) (root : ℕ) where
       up = up;
       in_order = order;
       done = λ j is. ⊎_elim
-          (λ q. subst (IsDone l (Reached Next (and_from i s.gone)) y.seen) (sym q) (done_later i Next (Reached Next (and_from i s.gone)) y.seen y.seen legal (begins_refl y.seen) (λ z x. inl x) here_done))
+          (λ q. subst (IsWalkedOut l (Reached Next (and_from i s.gone)) y.seen) (sym q) (done_later i Next (Reached Next (and_from i s.gone)) y.seen y.seen legal (begins_refl y.seen) (λ z x. inl x) here_done))
           (λ old. done_later j (Reached Left s.gone) (Reached Next (and_from i s.gone)) w.seen y.seen legal begins more (s.done j old))
           (gone_either i s.gone j is);
       events = s.events ++ e.events;
@@ -322,7 +322,7 @@ module _ (l : Limits) (root : ℕ) where
             (done_leads i j (Reached Left s.gone) w.seen w.seen legal (begins_refl w.seen) (s.done i is) (record { unit = u; consumed = status; first = f; count = m; ended = ended; low = low; high = high })).1;
       }
 
-      over : (x : Element) → IsBorn w.seen x → x.stage ≢ 15 → IsDone l (Reached Left s.gone) w.seen x.id → IsSettled (status_of l.attempts w.seen x.id)
+      over : (x : Element) → IsBorn w.seen x → x.stage ≢ 15 → IsWalkedOut l (Reached Left s.gone) w.seen x.id → IsSettled (status_of l.attempts w.seen x.id)
       over x born not (inl (inl killed)) = subst IsSettled (sym killed) tt
       over x born not (inl (inr t)) = absurd (not (reply_same w.seen x t.0 (born_at w.seen x.id x born refl) t.1 t.2))
       over x born not (inr t) = subst IsSettled (sym t.3) tt

@@ -23,13 +23,13 @@ use Rattle.tp_model.proofs.Bridges.{begins_refl, begins_trans, found_later}
 use Rattle.tp_model.proofs.Later.{births_inside}
 use Rattle.tp_words.specs.Words.{head_of}
 use Rattle.tp_words.specs.declared.words.Head.{Head}
-use Rattle.tp_words.specs.declared.words.Head.TheVariants.{There}
+use Rattle.tp_words.specs.declared.words.Head.TheVariants.{Filled}
 use Rattle.tp_rule.specs.Rule.{Concerns}
-use Rattle.tp_rule.specs.Steps.{AreOver}
+use Rattle.tp_rule.specs.Steps.{AreFinishedFor}
 use Rattle.tp_rule.specs.declared.view.View.{View}
-use Rattle.tp_manager.specs.declared.looking.Birth.{Birth}
+use Rattle.tp_manager.specs.declared.row_reads.Birth.{Birth}
 use Rattle.tp_manager.specs.Calls.{AtPoint, IsWaiting, opening}
-use Rattle.tp_manager.specs.Looks.{IsThere}
+use Rattle.tp_manager.specs.Looks.{IsBornAs}
 use Rattle.tp_manager.specs.Shown.{Spot, PassShown, shown}
 use Rattle.tp_manager.specs.Walks.{Acted, EachRow, Looked, Remembers, Steady, Walked, Begun, Sought}
 use Rattle.tp_manager.specs.Lists.{AllKilled, NextError, NoneParked}
@@ -94,7 +94,7 @@ module _ (l : Limits) where
   over_found i a b s begins status not = λ x p. (b, begins, begins_refl b, λ is. not (subst IsParked (sym status) is))
 
 -- the element of a row that was found, and is parked
-pub hits_at : (l : Limits) (i : ℕ) (h : List Event) (birth : Birth) (s : Status) → IsThere h i birth → s ≡ status_of l.attempts h i → IsParked s → Hits l i h
+pub hits_at : (l : Limits) (i : ℕ) (h : List Event) (birth : Birth) (s : Status) → IsBornAs h i birth → s ≡ status_of l.attempts h i → IsParked s → Hits l i h
 hits_at l i h birth s t status is = (t.0, t.1, subst IsParked status is)
 
 -- nothing was passed over in a row in which nothing is born
@@ -151,7 +151,7 @@ pub over_aside : (l : Limits) (i : ℕ) (a h : List Event) → IsLegal l h → I
 over_aside l i a h legal begins aside x p = let born = found_later a h begins i x p in
     (h, begins, begins_refl h, not_parked x.stage (status_of l.attempts h i) (reply_not_parked l h i x legal born) (λ about. absurd (aside x born about)))
 
-pub over_low : (l : Limits) (h : List Event) (p n i : ℕ) → IsLegal l h → AreOver l 0 h p n → p * l.rows ≤ i → i < p * l.rows + n → PassedOver l i h h
+pub over_low : (l : Limits) (h : List Event) (p n i : ℕ) → IsLegal l h → AreFinishedFor l 0 h p n → p * l.rows ≤ i → i < p * l.rows + n → PassedOver l i h h
 over_low l h p n i legal over low high x born = (h, begins_refl h, begins_refl h, not_parked x.stage (status_of l.attempts h i) (reply_not_parked l h i x legal born) (over i low high x born))
 
 -- what the pass remembers tells of the rows below a mark also later
@@ -164,7 +164,7 @@ pub not_server : ¬ IsServerStage 0
 not_server fair = let low = fair.0 in omega arith
 
 -- an element whose head is of a stage that a kind isn't about is of that stage
-pub head_aside : (c : ℕ) (head : Head) (x : Element) → head ≡ head_of x → ((found root : ℕ) (by : Option ℕ) → head ≡ There found root by → ¬ Concerns c found) → ¬ Concerns c x.stage
+pub head_aside : (c : ℕ) (head : Head) (x : Element) → head ≡ head_of x → ((found root : ℕ) (by : Option ℕ) → head ≡ Filled found root by → ¬ Concerns c found) → ¬ Concerns c x.stage
 head_aside c head x is aside = aside x.stage x.root x.by is
 
 -- a listing of some rows, behind a look that found nothing

@@ -15,7 +15,7 @@ use Rattle.tp_model.proofs.Bodies.{found_whole, four_words}
 use Rattle.tp_model.proofs.Bridges.{born_or_not, born_at, found_later}
 use Rattle.tp_model.proofs.Later.{committed_born, claim_stands, status_found, status_aborted}
 use Rattle.tp_words.specs.declared.words.Head.{Head}
-use Rattle.tp_words.specs.declared.words.Head.TheVariants.{Empty, There}
+use Rattle.tp_words.specs.declared.words.Head.TheVariants.{Empty, Filled}
 use Rattle.tp_words.specs.declared.words.Claim.{Claim}
 use Rattle.tp_words.specs.declared.words.Claim.TheVariants as claims
 use Rattle.tp_words.specs.Words.{claim_value, head_of}
@@ -23,8 +23,8 @@ use Rattle.tp_rule.specs.Steps.{Grew}
 use Rattle.tp_rule.specs.declared.view.Hand.{Hand}
 use Rattle.tp_rule.specs.declared.view.Known.TheVariants.{RowHead}
 use Rattle.tp_rule.specs.declared.view.View.{View}
-use Rattle.tp_manager.specs.declared.looking.Birth.{Birth}
-use Rattle.tp_manager.specs.Looks.{GoesOn, HeadFound, IsThere}
+use Rattle.tp_manager.specs.declared.row_reads.Birth.{Birth}
+use Rattle.tp_manager.specs.Looks.{GoesOn, HeadFound, IsBornAs}
 use Rattle.tp_rule.proofs.Births.{by_unit}
 
 -- behind the last row of its part or spare block a scan goes on
@@ -40,12 +40,12 @@ goes_end l k same i next t inside = subst (λ (z : Limits). GoesOn z i next) (sy
 pub unborn_if : (h : List Event) (i : ℕ) → ((x : Element) → element_of h i ≡ Some x → ⊥) → IsUnborn h i
 unborn_if h i not = ⊎_elim (λ t. absurd (not t.0 (born_at h i t.0 t.1 t.2))) (λ un. un) (born_or_not h i)
 
-same_by : (x : Element) (s r u : ℕ) (b : Option ℕ) (head : Head) → head ≡ There s r b → head ≡ head_of x → b ≡ Some u → x.by ≡ Some u
+same_by : (x : Element) (s r u : ℕ) (b : Option ℕ) (head : Head) → head ≡ Filled s r b → head ≡ head_of x → b ≡ Some u → x.by ≡ Some u
 same_by x s r u b head is e q = cc
 
 -- a head that isn't empty is that of the element that is born by now
-pub head_now : (kind : StepKind) (f : Hand → Hand) (es : List Event) (v w : View) (i s r : ℕ) (b : Option ℕ) (head : Head) → HeadFound v i head → Grew kind f es v w → head ≡ There s r b → (x : Element) → element_of w.seen i ≡ Some x → head ≡ head_of x
-head_now kind f es v w i s r b head t g is x p = g.is_so (RowHead i head) (g.knows (RowHead i head) t.knows) (λ empty. let e : There s r b ≡ Empty = sym is ∙ empty in absurd cc) x p
+pub head_now : (kind : StepKind) (f : Hand → Hand) (es : List Event) (v w : View) (i s r : ℕ) (b : Option ℕ) (head : Head) → HeadFound v i head → Grew kind f es v w → head ≡ Filled s r b → (x : Element) → element_of w.seen i ≡ Some x → head ≡ head_of x
+head_now kind f es v w i s r b head t g is x p = g.is_so (RowHead i head) (g.knows (RowHead i head) t.knows) (λ empty. let e : Filled s r b ≡ Empty = sym is ∙ empty in absurd cc) x p
 
 -- what isn't born wasn't before
 pub unborn_before : (a b : List Event) (i : ℕ) → IsPrefix a b → IsUnborn b i → IsUnborn a i
@@ -56,24 +56,24 @@ module _ (l : Limits) where
   pub none_empty : (v : View) (i : ℕ) (head : Head) → HeadFound v i head → head ≡ Empty → IsUnborn v.seen i
   none_empty v i head t is = unborn_if v.seen i (λ x p. let e = sym is ∙ t.born x p in absurd cc)
 
-  pub none_outside : (v : View) (i s r u : ℕ) (b : Option ℕ) (head : Head) → head ≡ There s r b → b ≡ Some u → HeadFound v i head → IsLegal l v.seen → ¬ (u < units_of l) → IsUnborn v.seen i
+  pub none_outside : (v : View) (i s r u : ℕ) (b : Option ℕ) (head : Head) → head ≡ Filled s r b → b ≡ Some u → HeadFound v i head → IsLegal l v.seen → ¬ (u < units_of l) → IsUnborn v.seen i
   none_outside v i s r u b head is q t legal out = unborn_if v.seen i (λ x p. out (by_unit l v.seen legal i x u p (same_by x s r u b head is (t.born x p) q)).inside)
 
   -- the unit has made no element i
   abbrev pub MadeNot : List Event → ℕ → ℕ → Type 0
   MadeNot h i u = (f m : ℕ) → end_of h u ≡ Some (Committed f m) → f ≤ i → i < f + m → ⊥
 
-  pub none_unit : (h : List Event) (i s r u : ℕ) (b : Option ℕ) (head : Head) → head ≡ There s r b → b ≡ Some u → ((x : Element) → element_of h i ≡ Some x → head ≡ head_of x) → IsLegal l h → MadeNot h i u → IsUnborn h i
+  pub none_unit : (h : List Event) (i s r u : ℕ) (b : Option ℕ) (head : Head) → head ≡ Filled s r b → b ≡ Some u → ((x : Element) → element_of h i ≡ Some x → head ≡ head_of x) → IsLegal l h → MadeNot h i u → IsUnborn h i
   none_unit h i s r u b head is q told legal not = unborn_if h i (λ x p. let m = by_unit l h legal i x u p (same_by x s r u b head is (told x p) q) in not m.from m.count m.committed m.low m.high)
 
-  pub there_unit : (h : List Event) (i u f m s r : ℕ) (b : Option ℕ) (head : Head) → IsLegal l h → end_of h u ≡ Some (Committed f m) → f ≤ i → i < f + m → head ≡ There s r b
-      → ((e : Element) → element_of h i ≡ Some e → head ≡ head_of e) → (e : Element) × (element_of h i ≡ Some e) × (head_of e ≡ There s r b)
+  pub there_unit : (h : List Event) (i u f m s r : ℕ) (b : Option ℕ) (head : Head) → IsLegal l h → end_of h u ≡ Some (Committed f m) → f ≤ i → i < f + m → head ≡ Filled s r b
+      → ((e : Element) → element_of h i ≡ Some e → head ≡ head_of e) → (e : Element) × (element_of h i ≡ Some e) × (head_of e ≡ Filled s r b)
   there_unit h i u f m s r b head legal end_is low high is told = let x = committed_born l h legal u f m i end_is low high in (x.0, x.1, sym (told x.0 x.1) ∙ is)
 
-pub there_later : (h g : List Event) (i : ℕ) (b : Birth) → IsPrefix h g → IsThere h i b → IsThere g i b
+pub there_later : (h g : List Event) (i : ℕ) (b : Birth) → IsPrefix h g → IsBornAs h i b → IsBornAs g i b
 there_later h g i b begins t = (t.0, found_later h g begins i t.0 t.1, t.2)
 
-same_head : (e : Element) (b : Birth) → head_of e ≡ There b.stage b.root b.by → (e.stage ≡ b.stage) × (e.root ≡ b.root) × (e.by ≡ b.by)
+same_head : (e : Element) (b : Birth) → head_of e ≡ Filled b.stage b.root b.by → (e.stage ≡ b.stage) × (e.root ≡ b.root) × (e.by ≡ b.by)
 same_head e b h = (cc, cc, cc)
 
 -- the four words that were found of a born element, one after another, are its body
@@ -88,7 +88,7 @@ body_there l h a b c d i w x y z legal in_a in_b in_c in_d first second third la
     let t = last e (found_later h d in_d i e p) in
     (λ j. q j ∷ r j ∷ s j ∷ t j ∷ []) ∙ sym (four_words e.body (found_whole l h legal i e p))
 
-pub element_there : (h g : List Event) (i : ℕ) (body : List ℕ) (b : Birth) → IsPrefix h g → IsThere h i b → ((e : Element) → element_of h i ≡ Some e → body ≡ e.body)
+pub element_there : (h g : List Event) (i : ℕ) (body : List ℕ) (b : Birth) → IsPrefix h g → IsBornAs h i b → ((e : Element) → element_of h i ≡ Some e → body ≡ e.body)
     → ((e : Element) → element_of h i ≡ Some e → e.id ≡ i) → element_of g i ≡ Some (record { id = i; stage = b.stage; root = b.root; body = body; by = b.by })
 element_there h g i body b begins t bodies ids =
     let e = t.0 in

@@ -12,7 +12,7 @@ use Rattle.tp_rule.specs.Views.{first_hand, fresh, fresh_from, hand}
 use Rattle.tp_rule.specs.declared.view.Hand.{Hand}
 use Rattle.tp_rule.specs.declared.view.View.{View}
 use Rattle.tp_rule.proofs.Seats.{in_map, in_map_to}
-use Rattle.tp_manager.specs.Accounts.{AreFrom, HaveDrawn, blocks_together}
+use Rattle.tp_manager.specs.Accounts.{AreNumberedFrom, HaveDrawn, blocks_together}
 use Rattle.tp_manager.specs.Shown.{PassShown}
 use Rattle.tp_manager.specs.Together.{AreEvery, AreLots, HaveFound, Lot, lot_of, lot_shown, lots}
 use Rattle.tp_manager.specs.Walks.{untraced}
@@ -122,7 +122,7 @@ together n [] below = upto_nil n
 together n (p ∷ ps) below = let one = upto_all 0 n p.blocks (below p here) in let rest = together n ps (λ q i. below q (there i)) in let both = upto_cons n p ps in omega arith
 
 -- the numbers of these passes are not below the first
-number_from : (c : ℕ) (ps : List PassShown) (p : PassShown) → AreFrom c ps → In p ps → c ≤ p.number
+number_from : (c : ℕ) (ps : List PassShown) (p : PassShown) → AreNumberedFrom c ps → In p ps → c ≤ p.number
 number_from c [] p from i = absurd (in_none i)
 number_from c (q ∷ qs) p from i = ⊎_elim (λ e. let is : p.number ≡ c = ap (λ (z : PassShown). z.number) e ∙ from.0 in omega arith) (λ j. let more = number_from (c + 1) qs p from.1 j in omega arith) (in_cons i)
 
@@ -132,7 +132,7 @@ module _ (n : ℕ) (b : ℕ) where
   none_in (p ∷ ps) not = let one = times_none b p.blocks (not p here) in let rest = none_in ps (λ q i. not q (there i)) in omega arith
 
   -- a block that one of them has drawn alone is there once
-  once_in : (c : ℕ) (ps : List PassShown) → AreFrom c ps → ((p : PassShown) → In p ps → Ascend 0 n p.blocks) → ((p q : PassShown) → In p ps → In q ps → In b p.blocks → In b q.blocks → p.number ≡ q.number)
+  once_in : (c : ℕ) (ps : List PassShown) → AreNumberedFrom c ps → ((p : PassShown) → In p ps → Ascend 0 n p.blocks) → ((p q : PassShown) → In p ps → In q ps → In b p.blocks → In b q.blocks → p.number ≡ q.number)
       → (p : PassShown) → In p ps → In b p.blocks → times_in b ps ≡ 1
   once_in c [] from below alone p i has = absurd (in_none i)
   once_in c (q ∷ qs) from below alone p i has = ⊎_elim
@@ -143,7 +143,7 @@ module _ (n : ℕ) (b : ℕ) where
       (in_cons i)
 
 -- the blocks below n are drawn by these passes, each by one alone: so they have drawn n
-total_is : (c n : ℕ) (ps : List PassShown) → AreFrom c ps → ((p : PassShown) → In p ps → Ascend 0 n p.blocks) → ((b : ℕ) → b < n → (p : PassShown) × In p ps × In b p.blocks)
+total_is : (c n : ℕ) (ps : List PassShown) → AreNumberedFrom c ps → ((p : PassShown) → In p ps → Ascend 0 n p.blocks) → ((b : ℕ) → b < n → (p : PassShown) × In p ps × In b p.blocks)
     → ((p q : PassShown) (b : ℕ) → In p ps → In q ps → In b p.blocks → In b q.blocks → p.number ≡ q.number) → blocks_together ps ≡ n
 total_is c n ps from below all alone = sym (together n ps below) ∙ counted n (omega arith)
   where
@@ -153,7 +153,7 @@ total_is c n ps from below all alone = sym (together n ps below) ∙ counted n (
         let one = once_in n k c ps from below (λ p q i j x y. alone p q k i j x y) t.0 t.1 t.2 in omega arith
 
 -- each of these numbers is that of one of the passes
-from_has : (c d : ℕ) (ps : List PassShown) → AreFrom c ps → c ≤ d → d < c + length ps → (p : PassShown) × In p ps × (p.number ≡ d)
+from_has : (c d : ℕ) (ps : List PassShown) → AreNumberedFrom c ps → c ≤ d → d < c + length ps → (p : PassShown) × In p ps × (p.number ≡ d)
 from_has c d [] from low high = absurd (omega arith)
 from_has c d (p ∷ ps) from low high = dite (ℕ_discrete c d) (λ e. (p, here, from.0 ∙ e)) (λ other. let t = from_has (c + 1) d ps from.1 (omega arith) (omega arith) in (t.0, there t.1, t.2))
 
@@ -181,7 +181,7 @@ found_in n [] p found i = absurd (in_none i)
 found_in n (q ∷ qs) p found i = ⊎_elim (λ e. ap (λ (z : PassShown). z.seen_blocks) e ∙ found.0) (λ j. found_in n qs p found.1 j) (in_cons i)
 
 -- all passes that are given out, and the others, which have done nothing
-pub have_drawn : (l : Limits) (n : ℕ) (w w' : View) (p : PassShown) (ps : List PassShown) → lot_shown p ≡ lot_of (hand w) → AreFrom 0 (p ∷ ps) → length ps + 1 ≤ l.parts
+pub have_drawn : (l : Limits) (n : ℕ) (w w' : View) (p : PassShown) (ps : List PassShown) → lot_shown p ≡ lot_of (hand w) → AreNumberedFrom 0 (p ∷ ps) → length ps + 1 ≤ l.parts
     → untraced w'.hands ≡ fresh_from l (length ps + 1) (l.parts - (length ps + 1)) → AreLots l n (lots w w' ps) → HaveFound n (p ∷ ps) → HaveDrawn n (p ∷ ps)
 have_drawn l n w w' p ps is from few fresh r found = record {
   found = λ q i. found_in n (p ∷ ps) q found i;

@@ -9,7 +9,7 @@ use Rattle.tp_model.specs.declared.types.TheConstants.{BLOCK_ROWS}
 use Rattle.tp_rule.specs.Steps.{IsLow}
 use Rattle.tp_rule.specs.declared.view.View.{View}
 use Rattle.tp_rule.specs.Rule.{IsInside}
-use Rattle.tp_manager.specs.Shown.{AllRise, Rises, marks_of}
+use Rattle.tp_manager.specs.Shown.{AllRise, NoneFalls, marks_of}
 use Rattle.tp_manager.specs.Bounds.{claim_next_steps_left, claim_steps_left, drawn_steps, listing_steps_left, look_steps, low_sum, marked_steps, rows_left, scan_steps, spare_left, try_steps}
 use Rattle.tp_manager.specs.Walks.{IsKnown, MayRemember, Remembers, RemembersAll, RisesAt, Steady}
 use Rattle.tp_manager.proofs.Marks.{low_any}
@@ -94,7 +94,7 @@ claim_shown l k lows lows' n same shown le = subst (λ (z : Limits × List ℕ).
 pub next_shown : (l k : Limits) (lows lows' : List ℕ) (n : ℕ) → l ≡ k → lows ≡ lows' → n ≤ claim_next_steps_left l lows → n ≤ claim_next_steps_left k lows'
 next_shown l k lows lows' n same shown le = subst (λ (z : Limits × List ℕ). n ≤ claim_next_steps_left z.0 z.1) (λ i. (same i, shown i)) le
 
-pub rises_then : (a b c : List ℕ) → Rises a b → Rises b c → Rises a c
+pub rises_then : (a b c : List ℕ) → NoneFalls a b → NoneFalls b c → NoneFalls a c
 rises_then a b c r t p = let up = r p in let on = t p in omega arith
 
 pub rises_at_then : (p : ℕ) (a b c : List ℕ) → RisesAt p a b → RisesAt p b c → RisesAt p a c
@@ -106,7 +106,7 @@ drawn_one zero some = absurd (omega arith)
 drawn_one (suc spare) some = refl
 
 -- the marks of other kinds stay as they are
-pub rises_in : (lows : List (List ℕ)) (row : List ℕ) (c : ℕ) → c < length lows → Rises (marks_of lows c) row → AllRise lows (set lows c row)
+pub rises_in : (lows : List (List ℕ)) (row : List ℕ) (c : ℕ) → c < length lows → NoneFalls (marks_of lows c) row → AllRise lows (set lows c row)
 rises_in lows row c inside rises d p = dite (ℕ_discrete d c)
     (λ same. subst (λ z. slice_index (marks_of lows z) p ≤ slice_index (marks_of (set lows c row) z) p) (sym same) (subst (λ z. slice_index (marks_of lows c) p ≤ slice_index z p) (sym (get_or-set_same lows c row [] inside)) (rises p)))
     (λ other. subst (λ z. slice_index (marks_of lows d) p ≤ slice_index z p) (sym (get_or-set_other lows c d row [] other)) (omega arith))

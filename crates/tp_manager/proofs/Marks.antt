@@ -12,19 +12,19 @@ use Rattle.tp_model.specs.History.{IsSettled, IsUnborn, element_of, status_of}
 use Rattle.tp_model.proofs.Bridges.{begins_refl, begins_trans, found_later}
 use Rattle.tp_rule.specs.Rule.{Concerns, IsInside, IsOther, IsSettledRow}
 use Rattle.tp_rule.proofs.Tellings.{inside_below, other_full}
-use Rattle.tp_rule.specs.Steps.{AreOver, HasAside, HasDead, IsLow, IsSo, Knows, Raises, noted, unchanged}
+use Rattle.tp_rule.specs.Steps.{AreFinishedFor, HasAside, HasDead, IsLow, IsSo, Knows, RaisesMark, noted, unchanged}
 use Rattle.tp_rule.specs.Views.{hand}
 use Rattle.tp_rule.specs.declared.view.Hand.{Hand}
 use Rattle.tp_rule.specs.declared.view.Known.TheVariants.{PartMark, RowHead}
 use Rattle.tp_rule.specs.declared.view.View.{View}
 use Rattle.tp_manager.proofs.Unseen.{unseen_hand, unseen_steady, unseen_walked}
 use Rattle.tp_manager.specs.Calls.{IsWaiting}
-use Rattle.tp_manager.specs.Looks.{IsThere}
-use Rattle.tp_manager.specs.declared.looking.Birth.{Birth}
+use Rattle.tp_manager.specs.Looks.{IsBornAs}
+use Rattle.tp_manager.specs.declared.row_reads.Birth.{Birth}
 use Rattle.tp_manager.specs.Raises.{IsOfUse}
 use Rattle.tp_manager.specs.Walks.{Looked, MayRemember, PassedBy, Remembers, RemembersDone, Rose, Steady, Took, Walked, WasOfUse, WasUnsettled, with_trace, EachRow}
 use Rattle.tp_words.specs.declared.words.Head.{Head}
-use Rattle.tp_words.specs.declared.words.Head.TheVariants.{Empty, Void, There}
+use Rattle.tp_words.specs.declared.words.Head.TheVariants.{Empty, Void, Filled}
 use Rattle.tp_model.specs.Passes.{opening_of}
 use Rattle.tp_manager.proofs.Points.{has_more, opening_kept}
 use Rattle.tp_words.specs.Words.{head_of}
@@ -33,7 +33,7 @@ use Rattle.tp_manager.proofs.Looks.{none_unit}
 use Rattle.tp_manager.proofs.Walks.{remembers_kind, walked_begins, walked_then}
 use Rattle.tp_manager.proofs.Useless.{Goes, useless_later}
 
-module _ (l : Limits) (c p m n : ℕ) (v w : View) (s : Steady l v) (r : Raises v c p m n w) (new : IsLow l c v.seen p n) (up : m < n) where
+module _ (l : Limits) (c p m n : ℕ) (v w : View) (s : Steady l v) (r : RaisesMark v c p m n w) (new : IsLow l c v.seen p n) (up : m < n) where
   raised_hand : hand w ≡ noted kinds.Raise v.seen (hand v)
   raised_hand = unseen_hand l kinds.Raise unchanged w.known v w s r.0
 
@@ -78,7 +78,7 @@ module _ (l : Limits) where
   rose_both d v a b c r t = let up = r.0 in let on = t.0 in (omega arith, λ i low high. dite (dec_le b i) (λ past. t.1 i past high) (λ not. r.1 i low (omega arith)))
 
   -- one more row, whose element is consumed or killed
-  pub rose_one : (c : ℕ) (v : View) (a b row : ℕ) (birth : Birth) (s : Status) → v.limits ≡ l → IsThere v.seen row birth → s ≡ status_of l.attempts v.seen row → (b ≡ a) ⊎ ((b ≡ a + 1) × (a ≡ row) × IsSettled s) → Rose c v a b
+  pub rose_one : (c : ℕ) (v : View) (a b row : ℕ) (birth : Birth) (s : Status) → v.limits ≡ l → IsBornAs v.seen row birth → s ≡ status_of l.attempts v.seen row → (b ≡ a) ⊎ ((b ≡ a + 1) × (a ≡ row) × IsSettled s) → Rose c v a b
   rose_one c v a b row birth s lim there is o = ⊎_elim (λ e. (omega arith, λ i low high. absurd (omega arith)))
       (λ t. (
         let up = t.0 in omega arith,
@@ -92,7 +92,7 @@ module _ (l : Limits) where
       (λ t. (let up = t.0 in omega arith, λ i low high. let same : row ≡ i = (let up = t.0 in let at = t.1 in omega arith) in inl (inr (subst (HasDead v) same dead)))) o
 
   -- or whose head is void, or of a stage that the kind isn't about
-  pub rose_aside : (c : ℕ) (v : View) (a b row : ℕ) (head : Head) → Knows v (RowHead row head) → ((stage root : ℕ) (by : Option ℕ) → head ≡ There stage root by → ¬ Concerns c stage)
+  pub rose_aside : (c : ℕ) (v : View) (a b row : ℕ) (head : Head) → Knows v (RowHead row head) → ((stage root : ℕ) (by : Option ℕ) → head ≡ Filled stage root by → ¬ Concerns c stage)
       → (b ≡ a) ⊎ ((b ≡ a + 1) × (a ≡ row) × ¬ (head ≡ Empty)) → Rose c v a b
   rose_aside c v a b row Empty known not o = ⊎_elim (λ e. (omega arith, λ i low high. absurd (omega arith))) (λ t. absurd (t.2 refl)) o
   rose_aside c v a b row Void known not o = ⊎_elim (λ e. (omega arith, λ i low high. absurd (omega arith)))
@@ -100,18 +100,18 @@ module _ (l : Limits) where
         let up = t.0 in omega arith,
         λ i low high. let same : row ≡ i = (let up = t.0 in let at = t.1 in omega arith) in inr (Void, subst (λ z. Knows v (RowHead z Void)) same known, tt),
       )) o
-  rose_aside c v a b row (There stage root by) known not o = ⊎_elim (λ e. (omega arith, λ i low high. absurd (omega arith)))
+  rose_aside c v a b row (Filled stage root by) known not o = ⊎_elim (λ e. (omega arith, λ i low high. absurd (omega arith)))
       (λ t. (
         let up = t.0 in omega arith,
         λ i low high. let same : row ≡ i = (let up = t.0 in let at = t.1 in omega arith) in
-            inr (There stage root by, subst (λ z. Knows v (RowHead z (There stage root by))) same known, not stage root by refl),
+            inr (Filled stage root by, subst (λ z. Knows v (RowHead z (Filled stage root by))) same known, not stage root by refl),
       )) o
 
   -- no element is born in a row whose draft is dead
   dead_over : (v : View) (i : ℕ) → Steady l v → HasDead v i → (x : Element) → element_of v.seen i ≡ Some x → ⊥
   dead_over v i s n x born =
-      let head : There n.0 n.1 (Some n.2) ≡ head_of x = s.known (RowHead i (There n.0 n.1 (Some n.2))) n.3 (λ e. absurd cc) x born in
-      let none = none_unit l v.seen i n.0 n.1 n.2 (Some n.2) (There n.0 n.1 (Some n.2)) refl refl (s.known (RowHead i (There n.0 n.1 (Some n.2))) n.3 (λ e. absurd cc)) s.shows.legal (λ f m e low high. let gone = n.4 in absurd cc) in
+      let head : Filled n.0 n.1 (Some n.2) ≡ head_of x = s.known (RowHead i (Filled n.0 n.1 (Some n.2))) n.3 (λ e. absurd cc) x born in
+      let none = none_unit l v.seen i n.0 n.1 n.2 (Some n.2) (Filled n.0 n.1 (Some n.2)) refl refl (s.known (RowHead i (Filled n.0 n.1 (Some n.2))) n.3 (λ e. absurd cc)) s.shows.legal (λ f m e low high. let gone = n.4 in absurd cc) in
       let e : None ≡ Some x = sym none ∙ born in absurd cc
 
   -- an element in a row whose head is known of no use is of a stage that the kind isn't about
@@ -151,7 +151,7 @@ module _ (l : Limits) where
   not_waiting s settled w = subst IsSettled w.1 settled
 
   -- what is over is passed by
-  pub over_passed : (stage : ℕ) (h : List Event) (p n i : ℕ) → 1 ≤ stage → AreOver l stage h p n → p * l.rows ≤ i → i < p * l.rows + n → PassedBy l stage i h h
+  pub over_passed : (stage : ℕ) (h : List Event) (p n i : ℕ) → 1 ≤ stage → AreFinishedFor l stage h p n → p * l.rows ≤ i → i < p * l.rows + n → PassedBy l stage i h h
   over_passed stage h p n i server over low high x born st = (h, begins_refl h, begins_refl h, not_waiting (status_of l.attempts h i) (over i low high x born (concerned stage x.stage server st)))
 
   -- a scan that begins at row x, or behind it where that row is done
@@ -196,10 +196,10 @@ module _ (l : Limits) where
   pub use_empty : (stage i : ℕ) (h : List Event) (head : Head) → ((x : Element) → element_of h i ≡ Some x → head ≡ head_of x) → ¬ ¬ (head ≡ Empty) → IsOfUse l stage i h
   use_empty stage i h Empty is none x born = let e : Empty ≡ head_of x = is x born in absurd cc
   use_empty stage i h Void is none x born = absurd (none (λ e. absurd cc))
-  use_empty stage i h (There found root by) is none x born = absurd (none (λ e. absurd cc))
+  use_empty stage i h (Filled found root by) is none x born = absurd (none (λ e. absurd cc))
 
   -- and one with an element of the stage that was neither consumed nor killed
-  pub use_found : (stage i : ℕ) (a b g : List Event) (birth : Birth) → IsPrefix b g → IsThere g i birth → birth.stage ≡ stage → WasUnsettled l i a b → WasOfUse l stage i a b
+  pub use_found : (stage i : ℕ) (a b g : List Event) (birth : Birth) → IsPrefix b g → IsBornAs g i birth → birth.stage ≡ stage → WasUnsettled l i a b → WasOfUse l stage i a b
   use_found stage i a b g birth begins there staged was = (
     was.0,
     was.1,
@@ -212,7 +212,7 @@ module _ (l : Limits) where
       one : (x y : Element) → element_of g i ≡ Some x → element_of g i ≡ Some y → x ≡ y
       one x y p q = cc
 
-      of_head : (e : Element) → head_of e ≡ There birth.stage birth.root birth.by → e.stage ≡ birth.stage
+      of_head : (e : Element) → head_of e ≡ Filled birth.stage birth.root birth.by → e.stage ≡ birth.stage
       of_head e p = cc
 
   pub use_later : (stage i : ℕ) (a a' b b' : List Event) → IsPrefix a a' → IsPrefix b b' → WasOfUse l stage i a' b → WasOfUse l stage i a b'

@@ -6,7 +6,7 @@ use Rattle.tp_model.specs.History.{here, there, events_by}
 use Rattle.tp_model.specs.Passes.{IsOwnOpen, IsRun}
 use Rattle.tp_model.specs.Steps.{IsLegal}
 use Rattle.tp_model.proofs.Bridges.{begins_refl}
-use Rattle.tp_rule.specs.Steps.{IsSo, Meets}
+use Rattle.tp_rule.specs.Steps.{IsSo, SeatsMeet}
 use Rattle.tp_rule.specs.Views.{IsOnePass, hand}
 use Rattle.tp_rule.specs.declared.view.Hand.{Hand}
 use Rattle.tp_rule.specs.declared.view.View.{View}
@@ -33,7 +33,7 @@ module _ (l : Limits) (v w : View) (s : Steady l v) (one : IsOnePass w) (lim : w
     known = known;
   }
 
-module _ (l : Limits) (v w x y : View) (sv : Steady l v) (sw : Steady l w) (m : Meets v w x y) where
+module _ (l : Limits) (v w x y : View) (sv : Steady l v) (sw : Steady l w) (m : SeatsMeet v w x y) where
   legal : IsLegal l x.seen
   legal = subst (λ (z : Limits). IsLegal z x.seen) sv.pass.1 m.legal
 

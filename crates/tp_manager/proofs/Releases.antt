@@ -15,7 +15,7 @@ use Rattle.tp_model.proofs.Histories.{legal_at, legal_start}
 use Rattle.tp_model.proofs.Bridges.{begins_trans, found_later, status_taken}
 use Rattle.tp_model.proofs.Later.{claim_stands, stood}
 use Rattle.tp_words.specs.Words.{head_of}
-use Rattle.tp_words.specs.declared.words.Head.TheVariants.{There}
+use Rattle.tp_words.specs.declared.words.Head.TheVariants.{Filled}
 use Rattle.tp_rule.specs.Steps.{AllowsKill, HasElement, MakesAbort}
 use Rattle.tp_rule.specs.Views.{SeatShown, hand, view_of}
 use Rattle.tp_rule.specs.declared.view.View.{View}
@@ -60,7 +60,7 @@ killed_awaits : ¬ IsWaiting Killed
 killed_awaits w = let e = w.1 in cc
 
 -- the head of an element tells its stage
-pub head_stage : (x : Element) (s r : ℕ) (by : Option ℕ) → head_of x ≡ There s r by → x.stage ≡ s
+pub head_stage : (x : Element) (s r : ℕ) (by : Option ℕ) → head_of x ≡ Filled s r by → x.stage ≡ s
 head_stage x s r by is = cc
 
 module _ (l : Limits) where

@@ -3,7 +3,7 @@ use Rattle.std.proofs.Common.{◌≡◌, ◌≢◌, ℕ, ◌+◌, ◌<◌, ◌�
 use Rattle.std.proofs.lemmas.Bool.Decides.{nat_tests}
 use mathlib.Core.List.{IsPrefix}
 use Rattle.tp_model.specs.declared.types.Limits.{Limits}
-use Rattle.tp_model.specs.declared.types.TheConstants.{MOST_ROUNDS}
+use Rattle.tp_model.specs.declared.types.TheConstants.{MAX_ROUNDS}
 use Rattle.tp_model.specs.declared.types.Refusal.{Refusal}
 use Rattle.tp_model.specs.declared.types.Refusal.TheVariants as refusals
 use Rattle.tp_model.specs.declared.types.Status.TheVariants.{Waiting, Held, Consumed, Parked, Killed}
@@ -89,7 +89,7 @@ module _ (l : Limits) where
 
   -- the unit of the last attempt of the last round was found aborted
   pub no_round : (a b : List Event) (i n u r : ℕ) → IsLegal l b → IsPrefix a b → claim_word a i ≡ TakenWord n u r → end_of b u ≡ Some Aborted → l.attempts ≤ n → 3 ≤ r
-      → IsBetween a b (λ h. IsParked (status_of l.attempts h i) × (rounds h i ≡ MOST_ROUNDS))
+      → IsBetween a b (λ h. IsParked (status_of l.attempts h i) × (rounds h i ≡ MAX_ROUNDS))
   no_round a b i n u r legal begins is ended high last =
       let t = stood l a i n u r b legal begins is ended in
       let at : IsLegal l t.0 = t.5 in

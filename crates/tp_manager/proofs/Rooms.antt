@@ -13,7 +13,7 @@ use Rattle.tp_rule.specs.Views.{hand}
 use Rattle.tp_rule.specs.declared.view.Hand.{Hand}
 use Rattle.tp_rule.specs.declared.view.View.{View}
 use Rattle.tp_manager.specs.Bounds.{room_steps}
-use Rattle.tp_manager.specs.Calls.{Closes, Ends, FindsNoBlock, Follows, Settles, Submits, UsesRows}
+use Rattle.tp_manager.specs.Calls.{Closes, AnswersAbort, FindsNoBlock, Follows, Settles, Submits, UsesRows}
 use Rattle.tp_manager.specs.Draws.{HasRoom, NoRoom, on_block}
 use Rattle.tp_manager.specs.Shown.{PassShown, Spot, shown}
 use Rattle.tp_manager.specs.Walks.{Drew, Tried}
@@ -129,15 +129,15 @@ module _ (l : Limits) (p m q : PassShown) where
       }
 
   -- no room, and the unit is given up
-  pub none_settles : (ds : List DraftView) (e : Ended) → NoRoom l (length ds) p m → q.seen_blocks ≡ m.seen_blocks → Ends m q e → Settles ds p q outcomes.Full
+  pub none_settles : (ds : List DraftView) (e : Ended) → NoRoom l (length ds) p m → q.seen_blocks ≡ m.seen_blocks → AnswersAbort m q e → Settles ds p q outcomes.Full
   none_settles ds e none kept ends =
       let n : FindsNoBlock (length ds) p m = none.0 in
       let blocks : q.seen_blocks ≡ p.limits.spare = kept ∙ ap (λ (z : PassShown). z.seen_blocks) n.same in
-      go e blocks (subst (λ z. Ends z q e) n.same ends)
+      go e blocks (subst (λ z. AnswersAbort z q e) n.same ends)
     where
-      go : (e : Ended) → q.seen_blocks ≡ p.limits.spare → Ends (record p { trace = m.trace; seen_blocks = p.limits.spare }) q e → Settles ds p q outcomes.Full
+      go : (e : Ended) → q.seen_blocks ≡ p.limits.spare → AnswersAbort (record p { trace = m.trace; seen_blocks = p.limits.spare }) q e → Settles ds p q outcomes.Full
       go endeds.Aborted blocks r = (none.0.few, blocks, (r.0, record { was_open = r.1.was_open; open_unit = r.1.open_unit; ended = r.1.ended }, r.2, inl (record { mine = r.3.mine; before = r.3.before; seen = r.3.seen; begins = r.3.begins })))
-      go endeds.Already blocks r = (none.0.few, blocks, (r.0, record { was_open = r.1.was_open; open_unit = r.1.open_unit; ended = r.1.ended }, r.2, inr r.3))
+      go endeds.AlreadyAborted blocks r = (none.0.few, blocks, (r.0, record { was_open = r.1.was_open; open_unit = r.1.open_unit; ended = r.1.ended }, r.2, inr r.3))
 
 -- whatever a commit answers, the unit is closed
 pub settles_closes : (ds : List DraftView) (p q : PassShown) (o : Outcome) → Settles ds p q o → (u : ℕ) × Closes u p q

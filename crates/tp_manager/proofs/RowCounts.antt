@@ -15,10 +15,10 @@ use Rattle.tp_model.proofs.Bridges.{append_nil, element_of-id, find_in}
 use Rattle.tp_model.proofs.RowTallies.{row_empty, row_full}
 use Rattle.tp_model.proofs.Stages.{account_last, born_staged}
 use Rattle.tp_words.specs.Words.{head_of}
-use Rattle.tp_words.specs.declared.words.Head.TheVariants.{There}
-use Rattle.tp_manager.specs.Looks.{IsThere}
+use Rattle.tp_words.specs.declared.words.Head.TheVariants.{Filled}
+use Rattle.tp_manager.specs.Looks.{IsBornAs}
 use Rattle.tp_manager.specs.Together.{IsWithin, account_below, no_counts, with_one}
-use Rattle.tp_manager.specs.declared.looking.Birth.{Birth}
+use Rattle.tp_manager.specs.declared.row_reads.Birth.{Birth}
 
 -- what is within a bound is within a greater one
 pub within_more : (n m : ℕ) (a : Account) → n ≤ m → IsWithin n a → IsWithin m a
@@ -29,13 +29,13 @@ within_more n m a le w = record {
 }
 
 -- the element whose head this is has its stage
-same_stage : (x : Element) (b : Birth) → head_of x ≡ There b.stage b.root b.by → x.stage ≡ b.stage
+same_stage : (x : Element) (b : Birth) → head_of x ≡ Filled b.stage b.root b.by → x.stage ≡ b.stage
 same_stage x b e = cc
 
 stage_of : (l : Limits) (h : List Event) (i : ℕ) (x : Element) → IsLegal l h → element_of h i ≡ Some x → IsStage x.stage
 stage_of l h i x legal at = born_staged l h legal x (find_in i (born h) x at).0
 
-pub stage_there : (l : Limits) (h : List Event) (i : ℕ) (b : Birth) → IsLegal l h → IsThere h i b → IsStage b.stage
+pub stage_there : (l : Limits) (h : List Event) (i : ℕ) (b : Birth) → IsLegal l h → IsBornAs h i b → IsStage b.stage
 stage_there l h i b legal t = subst IsStage (same_stage t.0 b t.2) (stage_of l h i t.0 legal t.1)
 
 -- a row without an element adds nothing
@@ -49,7 +49,7 @@ none_more l h n (suc m) le none = dite (dec_le n m)
     (λ not. let same : n ≡ suc m = omega arith in ap (account_below l h) same)
 
 -- and one with an element adds that
-pub one_counted : (l : Limits) (h : List Event) (n : ℕ) (b : Birth) (s : Status) (a : Account) → IsLegal l h → IsThere h n b → s ≡ status_of l.attempts h n → a ≡ account_below l h n → with_one b.stage s a ≡ account_below l h (n + 1)
+pub one_counted : (l : Limits) (h : List Event) (n : ℕ) (b : Birth) (s : Status) (a : Account) → IsLegal l h → IsBornAs h n b → s ≡ status_of l.attempts h n → a ≡ account_below l h n → with_one b.stage s a ≡ account_below l h (n + 1)
 one_counted l h n b s a legal t is before =
     let x : Element = t.0 in
     let stands : s ≡ status_of l.attempts h x.id = is ∙ ap (status_of l.attempts h) (sym (element_of-id h n x t.1)) in

@@ -22,7 +22,7 @@ use Rattle.tp_rule.specs.Views.{hand}
 use Rattle.tp_rule.specs.declared.view.Hand.{Hand}
 use Rattle.tp_rule.specs.declared.view.View.{View}
 use Rattle.tp_manager.specs.Calls.{IsWaiting}
-use Rattle.tp_manager.specs.Looks.{Stands}
+use Rattle.tp_manager.specs.Looks.{HasStand}
 use Rattle.tp_manager.specs.declared.scanning.Stand.TheVariants.{Busy, Over, Ready}
 use Rattle.tp_manager.proofs.Looks.{consumed_now, held_yet}
 use Rattle.tp_manager.specs.Walks.{AreFinished, EachRow, Looked, OfPart, PassedBy, Remembers, Sought, Took, WasUnsettled, with_trace, Begun, Acted}
@@ -76,17 +76,17 @@ again_waits limit n u less = go (nat_lt n limit) refl
     go false e = let above : limit ≤ n = grind (arith, nat_tests) in absurd (omega arith)
 
 module _ (l : Limits) (i : ℕ) (a b : List Event) where
-  pub stands_last : (n u r : ℕ) → IsLegal l a → IsPrefix a b → claim_word a i ≡ TakenWord n u r → l.attempts ≤ n → Stands l i a b (TakenWord n u r) Busy
+  pub stands_last : (n u r : ℕ) → IsLegal l a → IsPrefix a b → claim_word a i ≡ TakenWord n u r → l.attempts ≤ n → HasStand l i a b (TakenWord n u r) Busy
   stands_last n u r legal begins found last =
       (a, begins_refl a, begins, subst (λ s. ¬ IsWaiting s) (sym (status_by_words l a i legal ∙ ap (word_status l.attempts a) found)) (last_not l.attempts n u (end_of a u) last))
 
-  pub stands_held : (n u r : ℕ) → IsLegal l b → IsPrefix a b → claim_word a i ≡ TakenWord n u r → None ≡ end_of b u → Stands l i a b (TakenWord n u r) Busy
+  pub stands_held : (n u r : ℕ) → IsLegal l b → IsPrefix a b → claim_word a i ≡ TakenWord n u r → None ≡ end_of b u → HasStand l i a b (TakenWord n u r) Busy
   stands_held n u r legal begins found open_is = (b, begins, begins_refl b, subst (λ s. ¬ IsWaiting s) (held_yet l a b legal begins i n u found open_is) (held_not u n))
 
   pub stands_killed : (n u r : ℕ) → IsLegal l a → claim_word a i ≡ KilledWord n u r → IsSettled (status_of l.attempts a i)
   stands_killed n u r legal found = subst IsSettled (sym (status_killed l a i n u legal found)) tt
 
-  pub stands_over : (n u r f m : ℕ) → IsLegal l b → IsPrefix a b → claim_word a i ≡ TakenWord n u r → Some (Committed f m) ≡ end_of b u → Stands l i a b (TakenWord n u r) Over
+  pub stands_over : (n u r f m : ℕ) → IsLegal l b → IsPrefix a b → claim_word a i ≡ TakenWord n u r → Some (Committed f m) ≡ end_of b u → HasStand l i a b (TakenWord n u r) Over
   stands_over n u r f m legal begins found ended = subst IsSettled (consumed_now l a b legal begins i n u f m found ended) tt
 
   pub unsettled_taken : (n u r : ℕ) → IsLegal l a → IsPrefix a b → claim_word a i ≡ TakenWord n u r → Some Aborted ≡ end_of b u → WasUnsettled l i a b
@@ -107,7 +107,7 @@ module _ (l : Limits) (i : ℕ) (a b : List Event) where
   pub unsettled_waits : (n : ℕ) → IsPrefix a b → status_of l.attempts a i ≡ Waiting n → WasUnsettled l i a b
   unsettled_waits n begins waits = (a, begins_refl a, begins, λ settled. subst IsSettled waits settled)
 
-  pub stands_ready : (n u r : ℕ) → Some Aborted ≡ end_of b u → n < l.attempts → Stands l i a b (TakenWord n u r) (Ready n)
+  pub stands_ready : (n u r : ℕ) → Some Aborted ≡ end_of b u → n < l.attempts → HasStand l i a b (TakenWord n u r) (Ready n)
   stands_ready n u r ended less = let same : n ≡ n + 1 - 1 = omega arith in
       ((omega arith, ap (taken_status l.attempts n u) (sym ended) ∙ (again_waits l.attempts n u less ∙ ap Waiting same)), less)
 

@@ -14,12 +14,12 @@ use Rattle.tp_model.specs.Steps.{IsLegal, rows_of}
 use Rattle.tp_model.proofs.Bridges.{begins_refl, begins_trans, element_of-id, found_later, is_born}
 use Rattle.tp_model.proofs.Later.{births_inside}
 use Rattle.tp_rule.specs.declared.view.View.{View}
-use Rattle.tp_manager.specs.declared.looking.Birth.{Birth}
+use Rattle.tp_manager.specs.declared.row_reads.Birth.{Birth}
 use Rattle.tp_manager.specs.Bounds.{collect_steps, one_take_steps, takes_steps, walk_steps}
 use Rattle.tp_manager.specs.Families.{IsAsked, Listed, Taken, Taking, WereKilled, count_below, in_family, is_member}
 use Rattle.tp_manager.specs.Kills.{Slain}
 use Rattle.tp_manager.specs.Lists.{HasReply, IsReply}
-use Rattle.tp_manager.specs.Looks.{IsThere}
+use Rattle.tp_manager.specs.Looks.{IsBornAs}
 use Rattle.tp_manager.specs.Releases.{IsPastCollect}
 use Rattle.tp_manager.specs.Requeues.{IsBetween}
 use Rattle.tp_manager.specs.Walks.{Looked, Steady}
@@ -45,7 +45,7 @@ past_killed l i a b refusals.NotHeld p = absurd p
 past_killed l i a b refusals.NotWaiting p = absurd p
 past_killed l i a b refusals.NoUnit p = absurd p
 
-pub staged : (h : List Event) (i : ℕ) (x : Element) (b : Birth) → element_of h i ≡ Some x → x.stage ≡ 15 → IsThere h i b → b.stage ≡ 15
+pub staged : (h : List Event) (i : ℕ) (x : Element) (b : Birth) → element_of h i ≡ Some x → x.stage ≡ 15 → IsBornAs h i b → b.stage ≡ 15
 staged h i x b born is t = sym (head_stage t.0 b.stage b.root b.by t.2) ∙ (same_stage t.1 ∙ is)
   where
     same_stage : element_of h i ≡ Some t.0 → t.0.stage ≡ x.stage

@@ -8,7 +8,7 @@ use Rattle.tp_model.specs.Steps.{IsLegal, IsServerStage}
 use Rattle.tp_model.proofs.Bridges.{end_stays, found_later}
 use Rattle.tp_model.proofs.LawProofs.{settled_stay}
 use Rattle.tp_rule.specs.Rule.{IsInside, IsSettledRow}
-use Rattle.tp_rule.specs.Steps.{IsDone, Knows, KnowsUseless}
+use Rattle.tp_rule.specs.Steps.{KnowsFinished, Knows, KnowsUseless}
 use Rattle.tp_rule.specs.declared.view.Known.{Known}
 use Rattle.tp_rule.specs.declared.view.Known.TheVariants.{PartMark}
 use Rattle.tp_rule.specs.declared.view.View.{View}
@@ -26,7 +26,7 @@ module _ (l : Limits) where
   settled_row h g i legal begins s = (s.0, found_later h g begins i s.0 s.1, subst IsSettled (sym (settled_stay l h g i legal begins s.2)) s.2)
 
   -- what a seat knows finished it knows later too
-  done_later : (v w : View) (i : ℕ) → Goes l v w → IsDone v i → IsDone w i
+  done_later : (v w : View) (i : ℕ) → Goes l v w → KnowsFinished v i → KnowsFinished w i
   done_later v w i g d = ⊎_elim
       (λ s. inl (subst (λ (z : Limits). IsSettledRow z w.seen i) (sym g.limits.1) (settled_row v.seen w.seen i g.legal g.begins (subst (λ (z : Limits). IsSettledRow z v.seen i) g.limits.0 s))))
       (λ n. inr (n.0, n.1, n.2, g.knows _ n.3, end_stays v.seen w.seen n.2 Aborted g.begins n.4)) d

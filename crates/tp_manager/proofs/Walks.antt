@@ -15,7 +15,7 @@ use Rattle.tp_rule.specs.declared.view.Hand.{Hand}
 use Rattle.tp_rule.specs.declared.view.View.{View}
 use Rattle.tp_rule.proofs.Reading.{one_after, grew_begins}
 use Rattle.tp_manager.specs.Calls.{Follows, AtPoint, HasLooked, steps_of, opening}
-use Rattle.tp_manager.specs.Shown.{AllRise, Climbs, Rises, marks_of, Spot, PassShown, shown}
+use Rattle.tp_manager.specs.Shown.{AllRise, Climbs, NoneFalls, marks_of, Spot, PassShown, shown}
 use Rattle.tp_manager.specs.Walks.{MayRemember, Remembers, RemembersAll, Steady, Walked, Looked, Acted, Sought, opening_in, pass_in, with_trace}
 use Rattle.tp_manager.proofs.Useless.{Goes, may_later}
 use Rattle.tp_manager.proofs.Points.{opening_one, opening_later, opening_kept, opens_later, has_more, drop_steps}
@@ -187,7 +187,7 @@ rises_same lows c p = omega arith
 pub climbs_same : (lows : List (List ℕ)) (drawn : ℕ) → AllRise lows lows × (drawn ≤ drawn)
 climbs_same lows drawn = (rises_same lows, omega arith)
 
-pub rises_none : (lows : List ℕ) → Rises lows lows
+pub rises_none : (lows : List ℕ) → NoneFalls lows lows
 rises_none lows p = omega arith
 
 -- what the pass remembers of one kind is known at any later time

@@ -14,13 +14,13 @@ use Rattle.tp_manager.specs.Calls.{Follows, HasLooked, IsQuiet, steps_of}
 use Rattle.tp_manager.specs.Shown.{KeeperShown, PassShown}
 
 -- these passes have the numbers c, c + 1, ..
-abbrev pub AreFrom : ℕ → List PassShown → Type 0
-AreFrom c [] = Unit {0}
-AreFrom c (p ∷ ps) = (p.number ≡ c) × AreFrom (c + 1) ps
+abbrev pub AreNumberedFrom : ℕ → List PassShown → Type 0
+AreNumberedFrom c [] = Unit {0}
+AreNumberedFrom c (p ∷ ps) = (p.number ≡ c) × AreNumberedFrom (c + 1) ps
 
 -- these are all passes that the keeper gave out, in order of number
 abbrev pub AreAll : KeeperShown → List PassShown → Type 0
-AreAll keeper passes = (length passes ≡ keeper.given) × AreFrom 0 passes
+AreAll keeper passes = (length passes ≡ keeper.given) × AreNumberedFrom 0 passes
 
 -- a pass has looked, in at most n steps, has done nothing else, and has then seen h. Its own events are those
 -- of h with its number, as always (`Follows`)
@@ -48,12 +48,14 @@ pub record HaveDrawn (n : ℕ) (passes : List PassShown) : Type 0 where
   pub found : (p : PassShown) → In p passes → p.seen_blocks ≡ n
   pub below : (p : PassShown) → In p passes → Ascend 0 n p.blocks
   pub all : (b : ℕ) → b < n → (p : PassShown) × In p passes × In b p.blocks
-  pub alone : (p q : PassShown) (b : ℕ) → In p passes → In q passes → In b p.blocks → In b q.blocks → p.number ≡ q.number
+  pub alone : (p q : PassShown) (b : ℕ) → In p passes → In q passes → In b p.blocks → In b q.blocks
+      → p.number ≡ q.number
   pub total : blocks_together passes ≡ n
 
--- in at most n steps each the keeper and all passes have seen one and the same legal history, which begins with
--- what each had seen; nobody else has an event in it; and all have found how many spare blocks are drawn
-pub record Gathers (l : Limits) (n : ℕ) (keeper keeper' : KeeperShown) (olds news : List PassShown) : Type 0 where
+-- in at most n steps each the keeper and all passes have seen one and the same legal history, which begins
+-- with what each had seen; nobody else has an event in it; and all have found how many spare blocks are drawn
+pub record Gathers (l : Limits) (n : ℕ) (keeper keeper' : KeeperShown)
+    (olds news : List PassShown) : Type 0 where
   pub legal : IsLegal l keeper'.seen
   pub begins : IsPrefix keeper.seen keeper'.seen
   pub passes : AllZip (Attends n keeper'.seen) olds news

@@ -1,5 +1,6 @@
 -- What a walk has come to and not gone on from: two runs of rows, or a set of rows as bits.
-use Rattle.std.specs.Prelude.{◌≡◌, ◌≢◌, ◌⊎◌, ◌↔◌, ℕ, ◌<◌, ◌≤◌, ◌==◌, cond, true, false, Option, Some, None, List}
+use Rattle.std.specs.Prelude.{◌≡◌, ◌≢◌, ◌⊎◌, ◌↔◌, ℕ, ◌<◌, ◌≤◌, ◌==◌, cond, true, false, Option, Some, None}
+use Rattle.std.specs.Prelude.{List}
 use Rattle.tp_manager.specs.declared.ahead.Ahead.{Ahead}
 use Rattle.tp_manager.specs.RowSets.{Has, IsEmpty}
 

@@ -3,7 +3,7 @@ use Rattle.std.specs.Prelude.{◌≡◌, ℕ, zero, suc, ◌+◌, ◌-◌, ◌*�
 use Rattle.tp_model.specs.declared.types.Limits.{Limits}
 use Rattle.tp_model.specs.Steps.{AreLimits, part_rows, rows_of, tries, changes}
 use Rattle.tp_model.specs.Words.{ClaimWord, FreeWord, TakenWord, KilledWord, AgainWord}
-use Rattle.tp_model.specs.declared.types.TheConstants.{BLOCK_ROWS, BODY_WORDS, MOST_ROUNDS}
+use Rattle.tp_model.specs.declared.types.TheConstants.{BLOCK_ROWS, BODY_WORDS, MAX_ROUNDS}
 
 -- the words of an element's body
 abbrev pub body_steps : ℕ
@@ -58,10 +58,10 @@ read_steps l = birth_steps + body_steps + status_steps l
 
 -- how often an element can still be found untaken in its round, from this claim on: once in each round
 abbrev pub untaken_left : ClaimWord → ℕ
-untaken_left FreeWord = MOST_ROUNDS + 1
-untaken_left (TakenWord n u r) = MOST_ROUNDS - r
+untaken_left FreeWord = MAX_ROUNDS + 1
+untaken_left (TakenWord n u r) = MAX_ROUNDS - r
 untaken_left (KilledWord n u r) = 0
-untaken_left (AgainWord r) = MOST_ROUNDS + 1 - r
+untaken_left (AgainWord r) = MAX_ROUNDS + 1 - r
 
 -- the kill of an element whose claim was found, with so many attempts left: for each the unit's word and the
 -- claim, and the claim where it is found untaken
@@ -128,13 +128,13 @@ cancel_steps l = family_cancel_steps l (rows_of l)
 abbrev pub look_steps : Limits → ℕ
 look_steps l = birth_steps + status_steps l
 
--- what a listing makes in a part: a look before its mark, the mark, those at every row, and the exchange of the
--- mark
+-- what a listing makes in a part: a look before its mark, the mark, those at every row, and the exchange of
+-- the mark
 abbrev pub find_steps : Limits → ℕ
 find_steps l = 2 + l.rows * look_steps l + 1
 
--- a scan of the spare blocks that begins at their mark, with t steps at each row: that load, the mark, those at every
--- row but the n below the mark, and the exchange of the mark
+-- a scan of the spare blocks that begins at their mark, with t steps at each row: that load, the mark, those
+-- at every row but the n below the mark, and the exchange of the mark
 abbrev pub spare_left : Limits → ℕ → ℕ → ℕ
 spare_left l t n = 3 * drawn_steps l.spare + (BLOCK_ROWS * l.spare - n) * t
 
@@ -181,8 +181,8 @@ collect_next_steps l = family_collect_steps (rows_of l)
 abbrev pub next_error_steps : Limits → ℕ
 next_error_steps l = listing_steps l
 
--- what a claim makes at a row: whether an element is born there, its claim, the word of its unit, the body, and
--- the exchange
+-- what a claim makes at a row: whether an element is born there, its claim, the word of its unit, the body,
+-- and the exchange
 abbrev pub try_steps : ℕ
 try_steps = birth_steps + 2 + body_steps + 1
 
@@ -194,7 +194,8 @@ part_steps l = 2 + l.rows * try_steps + 1
 abbrev pub claim_steps : Limits → ℕ
 claim_steps l = 1 + (l.parts * part_steps l + spare_left l try_steps 0)
 
--- a claim of a given element that is born: its claim, the word of the unit that took it, its body, and the exchange
+-- a claim of a given element that is born: its claim, the word of the unit that took it, its body, and the
+-- exchange
 abbrev pub given_steps : ℕ
 given_steps = 2 + body_steps + 1
 

@@ -22,7 +22,8 @@ use Rattle.tp_model.specs.declared.types.TheConstants.{BLOCK_ROWS}
 use Rattle.tp_model.specs.declared.event.Event.{Event}
 use Rattle.tp_model.specs.declared.event.Event.TheVariants.{Enqueue, Claim, Commit, Abort, Kill}
 use Rattle.tp_model.specs.declared.trace.TraceEntry.{TraceEntry}
-use Rattle.tp_model.specs.History.{In, IsClaim, IsUnborn, UnitEnd, claim_of, element_of, end_of, first_id, status_of}
+use Rattle.tp_model.specs.History.{In, IsClaim, IsUnborn, UnitEnd, claim_of, element_of, end_of, first_id}
+use Rattle.tp_model.specs.History.{status_of}
 use Rattle.tp_model.specs.Births.{outputs, request}
 use Rattle.tp_model.specs.Steps.{IsServerStage, block_first, tries}
 use Rattle.tp_model.specs.Passes.{HasLook, IsPassView, IsPoint, opening_of}
@@ -147,7 +148,8 @@ FoundNone l stage old new = (x : Element) → element_of (opening old new) x.id 
 
 -- the same of each with a lesser id than this one
 abbrev pub FoundNoneBelow : Limits → ℕ → ℕ → PassShown → PassShown → Type 0
-FoundNoneBelow l stage id old new = (x : Element) → element_of (opening old new) x.id ≡ Some x → x.stage ≡ stage
+FoundNoneBelow l stage id old new = (x : Element) → element_of (opening old new) x.id ≡ Some x
+    → x.stage ≡ stage
     → x.id < id → AtPoint old new (λ h. ¬ IsWaiting (status_of l.attempts h x.id))
 
 -- where the ids are a circle, which goes on from `from`, i comes before this id
@@ -156,7 +158,8 @@ IsBefore from id i = ((from ≤ i) × (i < id)) ⊎ ((id < from) × ((from ≤ i
 
 -- the same of each whose id comes before this one
 abbrev pub FoundNoneBefore : Limits → ℕ → ℕ → ℕ → PassShown → PassShown → Type 0
-FoundNoneBefore l stage from id old new = (x : Element) → element_of (opening old new) x.id ≡ Some x → x.stage ≡ stage
+FoundNoneBefore l stage from id old new = (x : Element) → element_of (opening old new) x.id ≡ Some x
+    → x.stage ≡ stage
     → IsBefore from id x.id → AtPoint old new (λ h. ¬ IsWaiting (status_of l.attempts h x.id))
 
 -- the pass has a new unit open, which took the element
@@ -215,9 +218,10 @@ abbrev pub Loses : ℕ → PassShown → PassShown → Type 0
 Loses u old new = (new.mine ≡ old.mine) × EndedByOther old.number u new.seen
 
 -- what an abort answers
-abbrev pub Ends : PassShown → PassShown → Ended → Type 0
-Ends old new endeds.Aborted = (u : ℕ) × Closes u old new × KeepsRun old new × Adds (Abort old.number u) old new
-Ends old new endeds.Already = (u : ℕ) × Closes u old new × KeepsRun old new × Loses u old new
+abbrev pub AnswersAbort : PassShown → PassShown → Ended → Type 0
+AnswersAbort old new endeds.Aborted = (u : ℕ) × Closes u old new × KeepsRun old new
+    × Adds (Abort old.number u) old new
+AnswersAbort old new endeds.AlreadyAborted = (u : ℕ) × Closes u old new × KeepsRun old new × Loses u old new
 
 -- the element that unit u of pass c took has this root
 abbrev pub IsRoot : List Event → ℕ → ℕ → ℕ → Type 0
@@ -245,7 +249,8 @@ pub record Commits (first count : ℕ) (drafts : List DraftView) (old new : Pass
 abbrev pub Settles : List DraftView → PassShown → PassShown → Outcome → Type 0
 Settles drafts old new outcomes.Full = (old.left < length drafts) × (new.seen_blocks ≡ old.limits.spare)
     × ((u : ℕ) × Closes u old new × KeepsRun old new × (Adds (Abort old.number u) old new ⊎ Loses u old new))
-Settles drafts old new outcomes.Lost = (u : ℕ) × Closes u old new × (row : ℕ) × UsesRows (length drafts) row old new
+Settles drafts old new outcomes.Lost = (u : ℕ) × Closes u old new × (row : ℕ)
+    × UsesRows (length drafts) row old new
     × Loses u old new
 Settles drafts old new (outcomes.Committed first count) = Commits first count drafts old new
 

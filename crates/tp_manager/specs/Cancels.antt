@@ -2,6 +2,7 @@
 -- what the pass shows before the call, and `new` what it shows after it.
 use Rattle.std.specs.Prelude.{◌≡◌, ◌≢◌, ◌⊎◌, ℕ, ◌+◌, Some, List, [], ◌∷◌, ◌++◌}
 use mathlib.Core.List.{IsPrefix}
+use Rattle.tp_model.specs.declared.types.TheConstants.{REPLY_STAGE}
 use Rattle.tp_model.specs.declared.types.Element.{Element}
 use Rattle.tp_model.specs.declared.types.Limits.{Limits}
 use Rattle.tp_model.specs.declared.types.Refusal.{Refusal}
@@ -17,7 +18,7 @@ use Rattle.tp_manager.specs.Calls.{AreOfHolders, AtPoint, IsQuiet, KeepsRun}
 
 -- element i is born, of the family, and no reply
 abbrev pub IsTarget : ℕ → ℕ → List Event → Type 0
-IsTarget root i h = (x : Element) × (element_of h i ≡ Some x) × (x.root ≡ root) × (x.stage ≢ 15)
+IsTarget root i h = (x : Element) × (element_of h i ≡ Some x) × (x.root ≡ root) × (x.stage ≢ REPLY_STAGE)
 
 -- the event is, between two histories, a Kill by pass c of an element of the family that is no reply, or an
 -- Abort by it of a unit that held one where the Abort stands
@@ -26,7 +27,8 @@ pub record IsOfCancel (l : Limits) (c root : ℕ) (from to : List Event) (e : Ev
   pub before : List Event
   pub begins : IsPrefix from before
   pub target : IsTarget root item before
-  pub does : (e ≡ Kill c item) ⊎ ((u : ℕ) × (n : ℕ) × (e ≡ Abort c u) × (status_of l.attempts before item ≡ Held u n))
+  pub does : (e ≡ Kill c item) ⊎ ((u : ℕ) × (n : ℕ) × (e ≡ Abort c u)
+      × (status_of l.attempts before item ≡ Held u n))
   pub within : IsPrefix (before ++ e ∷ []) to
 
 -- each of these events is one
@@ -55,9 +57,9 @@ AreInTurn l c root from to (i ∷ ids) es = (own : List Event) × (rest : List E
     × IsDoneAt l c root from to i own × AreInTurn l c root from to ids rest
 
 -- the pass has made these events, among them so many Kills; the root is a client's element, and its family is
--- settled: of it nothing is claimed or committed any more, and nothing is born. It was at one element after the
--- other, in the order of a walk through the whole family: always the least id that the walk had come to and not
--- gone on from
+-- settled: of it nothing is claimed or committed any more, and nothing is born. It was at one element after
+-- the other, in the order of a walk through the whole family: always the least id that the walk had come to
+-- and not gone on from
 pub record Cancels (l : Limits) (root killed : ℕ) (old new : PassShown) : Type 0 where
   pub events : List Event
   pub counted : kills_in events ≡ killed
@@ -74,4 +76,5 @@ pub record Cancels (l : Limits) (root killed : ℕ) (old new : PassShown) : Type
 
 -- why a cancel was refused: at a point the root was no client's element
 abbrev pub CancelFails : ℕ → PassShown → PassShown → Refusal → Type 0
-CancelFails root old new e = (e ≡ refusals.NotThere) × IsQuiet old new × AtPoint old new (λ h. ¬ IsRequest h root)
+CancelFails root old new e = (e ≡ refusals.NotThere) × IsQuiet old new
+    × AtPoint old new (λ h. ¬ IsRequest h root)

@@ -1,6 +1,7 @@
 -- What a cancel does on its way. In each definition l are the table's limits, root is the id of the request,
 -- v is the view before, and w the view after.
 use Rattle.std.specs.Prelude.{◌≡◌, ◌⊎◌, ℕ, ◌+◌, ◌<◌, ◌≤◌, Bool, true, Some, List, [], ◌∷◌, ◌++◌, length}
+use Rattle.tp_model.specs.declared.types.TheConstants.{REPLY_STAGE}
 use Rattle.tp_model.specs.declared.types.Element.{Element}
 use Rattle.tp_model.specs.declared.types.Limits.{Limits}
 use Rattle.tp_model.specs.declared.types.Status.TheVariants as statuses
@@ -38,7 +39,8 @@ killed_there i other = []
 
 -- no unit takes the element: it was killed, or is a reply
 abbrev pub IsUnworked : Limits → ℕ → List Event → Type 0
-IsUnworked l i h = (status_of l.attempts h i ≡ statuses.Killed) ⊎ ((x : Element) × (element_of h i ≡ Some x) × (x.stage ≡ 15))
+IsUnworked l i h = (status_of l.attempts h i ≡ statuses.Killed) ⊎ ((x : Element) × (element_of h i ≡ Some x)
+    × (x.stage ≡ REPLY_STAGE))
 
 -- what is so of element i where a cancel came to this
 abbrev pub IsEnded : Limits → ℕ → List Event → Ended → Type 0
@@ -55,9 +57,11 @@ pub record EndsAt (l : Limits) (n root i : ℕ) (r : Ended) (v w : View) : Type 
   pub at : IsDoneAt l (hand v).number root v.seen w.seen i events
   pub is : IsEnded l i w.seen r
 
--- element i is done with: no unit takes it, or one has consumed it, and the walk has come to each of its outputs
-abbrev pub IsDone : Limits → (ℕ → Type 0) → List Event → ℕ → Type 0
-IsDone l Has h i = IsUnworked l i h ⊎ ((u : ℕ) × (first : ℕ) × (count : ℕ) × (status_of l.attempts h i ≡ statuses.Consumed u)
+-- element i is done with: no unit takes it, or one has consumed it, and the walk has come to each of its
+-- outputs
+abbrev pub IsWalkedOut : Limits → (ℕ → Type 0) → List Event → ℕ → Type 0
+IsWalkedOut l Has h i = IsUnworked l i h ⊎ ((u : ℕ) × (first : ℕ) × (count : ℕ)
+    × (status_of l.attempts h i ≡ statuses.Consumed u)
     × (end_of h u ≡ Some (Committed first count)) × ((j : ℕ) → first ≤ j → j < first + count → Has j))
 
 -- a cancel on its way: it has gone on from k elements, those of this walk, which are done with, and has
@@ -70,7 +74,7 @@ pub record Cancelling (l : Limits) (n root k killed : ℕ) (Left : ℕ → Type 
   pub only : (i : ℕ) → In i walk → gone i ≡ true
   pub up : (i : ℕ) → Reached Left gone i → IsReached l.attempts w.seen root walk i
   pub in_order : IsWalk l.attempts w.seen root [] walk
-  pub done : (i : ℕ) → gone i ≡ true → IsDone l (Reached Left gone) w.seen i
+  pub done : (i : ℕ) → gone i ≡ true → IsWalkedOut l (Reached Left gone) w.seen i
   pub events : List Event
   pub swept : Swept l n root events v w
   pub counted : length (killed_in events) ≡ killed

@@ -1,6 +1,8 @@
--- How a walk goes through a family. In each definition l are the table's limits, root is the id of the request, `Left`
--- says from which elements the walk has still to go on, and `gone` from which it has gone on.
-use Rattle.std.specs.Prelude.{◌≡◌, ◌≢◌, ◌⊎◌, ℕ, zero, suc, ◌+◌, ◌*◌, ◌<◌, ◌≤◌, ◌==◌, ◌||◌, cond, Bool, true, false, Option, Some, None, IfSome, length, List, []}
+-- How a walk goes through a family. In each definition l are the table's limits, root is the id of the
+-- request, `Left` says from which elements the walk has still to go on, and `gone` from which it has gone on.
+use Rattle.std.specs.Prelude.{◌≡◌, ◌≢◌, ◌⊎◌, ℕ, zero, suc, ◌+◌, ◌*◌, ◌<◌, ◌≤◌, ◌==◌, ◌||◌, cond, Bool, true}
+use Rattle.std.specs.Prelude.{false, Option, Some, None, IfSome, length, List, []}
+use Rattle.tp_model.specs.declared.types.TheConstants.{REPLY_STAGE}
 use Rattle.tp_model.specs.declared.types.Element.{Element}
 use Rattle.tp_model.specs.declared.types.Limits.{Limits}
 use Rattle.tp_model.specs.declared.types.Status.TheVariants.{Consumed, Killed}
@@ -38,7 +40,8 @@ Reached Left gone i = Left i ⊎ (gone i ≡ true)
 
 -- the element is an output of a unit that took one from which the walk has gone on
 abbrev pub HasParent : List Event → (ℕ → Bool) → Element → Type 0
-HasParent h gone x = (u : ℕ) × (t : UnitClaim) × (x.by ≡ Some u) × (claim_of h u ≡ Some t) × (gone t.item ≡ true)
+HasParent h gone x = (u : ℕ) × (t : UnitClaim) × (x.by ≡ Some u) × (claim_of h u ≡ Some t)
+    × (gone t.item ≡ true)
 
 -- element i is of the family, and the walk came to it from another one, if it isn't the root
 abbrev pub IsComeTo : List Event → ℕ → (ℕ → Bool) → ℕ → Type 0
@@ -46,7 +49,8 @@ IsComeTo h root gone i = (x : Element) × (element_of h i ≡ Some x) × (x.root
     × (((i ≡ root) × (x.by ≡ None)) ⊎ HasParent h gone x)
 
 -- the walk has gone on from k elements, each of them once
-pub record Tree (l : Limits) (root k : ℕ) (Left : ℕ → Type 0) (gone : ℕ → Bool) (h : List Event) : Type 0 where
+pub record Tree (l : Limits) (root k : ℕ) (Left : ℕ → Type 0) (gone : ℕ → Bool)
+    (h : List Event) : Type 0 where
   pub counted : count_below gone (rows_of l) ≡ k
   pub apart : (i : ℕ) → Left i → gone i ≡ true → ⊥
   pub root_too : Reached Left gone root
@@ -66,17 +70,19 @@ IsOutputFrom h root i j = (x : Element) × (element_of h j ≡ Some x) × (x.roo
 abbrev pub IsFound : Limits → ℕ → List Event → List Event → Found → Type 0
 IsFound l i a b (Outputs first count) = (u : ℕ) × (t : UnitClaim) × (claim_of b u ≡ Some t) × (t.item ≡ i)
     × (status_of l.attempts b i ≡ Consumed u) × (end_of b u ≡ Some (Committed first count))
-IsFound l i a b Reply = ((x : Element) × (element_of b i ≡ Some x) × (x.stage ≡ 15))
+IsFound l i a b Reply = ((x : Element) × (element_of b i ≡ Some x) × (x.stage ≡ REPLY_STAGE))
     × IsBetween a b (λ h. IsWaiting (status_of l.attempts h i))
 IsFound l i a b Nothing = ((u : ℕ) → status_of l.attempts a i ≢ Consumed u)
-    × ((x : Element) → element_of a i ≡ Some x → x.stage ≡ 15 → IsBetween a b (λ h. status_of l.attempts h i ≡ Killed))
+    × ((x : Element) → element_of a i ≡ Some x → x.stage ≡ REPLY_STAGE
+    → IsBetween a b (λ h. status_of l.attempts h i ≡ Killed))
 
 -- the walk has come to each output that element i led to in history a; and a reply that is asked for was
 -- killed by history b
 pub record GoneOver (l : Limits) (Asked Has : ℕ → Type 0) (a b : List Event) (i : ℕ) : Type 0 where
-  pub outputs : (u first count j : ℕ) → status_of l.attempts a i ≡ Consumed u → end_of a u ≡ Some (Committed first count)
+  pub outputs : (u first count j : ℕ) → status_of l.attempts a i ≡ Consumed u
+      → end_of a u ≡ Some (Committed first count)
       → first ≤ j → j < first + count → Has j
-  pub killed : (x : Element) → element_of a i ≡ Some x → x.stage ≡ 15 → Asked i
+  pub killed : (x : Element) → element_of a i ≡ Some x → x.stage ≡ REPLY_STAGE → Asked i
       → IsBetween a b (λ h. status_of l.attempts h i ≡ Killed)
 
 -- an id from `from` on, and before the one that was found, if any was
@@ -84,7 +90,8 @@ abbrev pub IsAsked : ℕ → Option ℕ → ℕ → Type 0
 IsAsked from least i = (from ≤ i) × IfSome least (λ id. i < id)
 
 -- a walk that looks for replies, on its way: since history a, and with the least one that it found to wait
-pub record Listing (l : Limits) (root from k : ℕ) (Left : ℕ → Type 0) (least : Option ℕ) (a : List Event) (w : View) : Type 0 where
+pub record Listing (l : Limits) (root from k : ℕ) (Left : ℕ → Type 0) (least : Option ℕ) (a : List Event)
+    (w : View) : Type 0 where
   pub gone : ℕ → Bool
   pub tree : Tree l root k Left gone w.seen
   pub over : (i : ℕ) → gone i ≡ true → GoneOver l (IsAsked from least) (Reached Left gone) a w.seen i
@@ -102,7 +109,8 @@ pub record Listed (l : Limits) (root from : ℕ) (least : Option ℕ) (v w : Vie
   pub found : IfSome least (λ id. (from ≤ id) × IsBetween v.seen w.seen (HasReply l root id))
 
 -- a walk that looks for any element, on its way: since history a, and with the least one that it came to
-pub record Following (l : Limits) (root from k : ℕ) (Left : ℕ → Type 0) (least : Option ℕ) (a : List Event) (w : View) : Type 0 where
+pub record Following (l : Limits) (root from k : ℕ) (Left : ℕ → Type 0) (least : Option ℕ) (a : List Event)
+    (w : View) : Type 0 where
   pub gone : ℕ → Bool
   pub tree : Tree l root k Left gone w.seen
   pub over : (i : ℕ) → gone i ≡ true → GoneOver l (λ j. ⊥) (Reached Left gone) a w.seen i
@@ -123,7 +131,8 @@ pub record Taking (l : Limits) (root from k : ℕ) (v w : View) : Type 0 where
   pub tries : k ≤ count_below (in_family root w.seen) from
   pub inside : from ≤ rows_of l
 
--- in at most n steps: the least reply that waited was killed, and each one before it had been; or each one had been
+-- in at most n steps: the least reply that waited was killed, and each one before it had been; or each one
+-- had been
 abbrev pub Taken : Limits → ℕ → ℕ → View → View → Option Element → Type 0
 Taken l n root v w None = Looked l n v w × WereKilled l root (λ i. Unit {0}) v.seen w.seen
 Taken l n root v w (Some x) = Slain l n x.id [] v w × (element_of w.seen x.id ≡ Some x) × IsReply root x

@@ -1,6 +1,7 @@
--- What a claim of a given element answers. In each definition l are the table's limits, `old` is what the pass shows
--- before the call, and `new` what it shows after it.
+-- What a claim of a given element answers. In each definition l are the table's limits, `old` is what the
+-- pass shows before the call, and `new` what it shows after it.
 use Rattle.std.specs.Prelude.{◌≡◌, ◌≢◌, ℕ, ◌<◌, Some, List}
+use Rattle.tp_model.specs.declared.types.TheConstants.{REPLY_STAGE}
 use Rattle.tp_model.specs.declared.types.Element.{Element}
 use Rattle.tp_model.specs.declared.types.Limits.{Limits}
 use Rattle.tp_model.specs.declared.types.Refusal.{Refusal}
@@ -20,11 +21,11 @@ pub record TakesId (l : Limits) (id : ℕ) (work : Work) (old new : PassShown) :
 
 -- an element with this id is born, and is a reply
 abbrev pub HasReplyStage : ℕ → List Event → Type 0
-HasReplyStage id h = (x : Element) × (element_of h id ≡ Some x) × (x.stage ≡ 15)
+HasReplyStage id h = (x : Element) × (element_of h id ≡ Some x) × (x.stage ≡ REPLY_STAGE)
 
 -- an element with this id is born, is no reply, and doesn't wait
 abbrev pub HasUnwaiting : Limits → ℕ → List Event → Type 0
-HasUnwaiting l id h = (x : Element) × (element_of h id ≡ Some x) × (x.stage ≢ 15)
+HasUnwaiting l id h = (x : Element) × (element_of h id ≡ Some x) × (x.stage ≢ REPLY_STAGE)
     × ¬ IsWaiting (status_of l.attempts h id)
 
 -- the pass had a unit left, and has used none; and this was so at a point

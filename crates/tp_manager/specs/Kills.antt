@@ -44,7 +44,8 @@ takers other = 0
 -- the element may be killed, whose claim word is this one: the unit that had taken it is aborted, in one step
 -- and by so many own Aborts, none or one
 abbrev pub Loosened : Limits → ℕ → ClaimWord → ℕ → View → View → Type 0
-Loosened l i word count v w = (es : List Event) × (length es ≡ count) × (count ≤ takers word) × Freed l (takers word) i es v w
+Loosened l i word count v w = (es : List Event) × (length es ≡ count) × (count ≤ takers word)
+    × Freed l (takers word) i es v w
     × AllowsKill l w.seen word
 
 -- the element was killed, in at most n steps, after so many own Aborts, at most `left`
@@ -53,4 +54,5 @@ KillsIn l n i left count v w = (es : List Event) × (length es ≡ count) × (co
 
 -- it was not, in at most n steps, after at most `left` own Aborts
 abbrev pub FailsIn : Limits → ℕ → ℕ → ℕ → Refusal → View → View → Type 0
-FailsIn l n i left e v w = (es : List Event) × (length es ≤ left) × Freed l n i es v w × IsPastKill l w.seen i e
+FailsIn l n i left e v w = (es : List Event) × (length es ≤ left) × Freed l n i es v w
+    × IsPastKill l w.seen i e

@@ -1,6 +1,7 @@
 -- What the listings answer. In each definition `old` is what the pass shows before the call, and `new` what
 -- it shows after it.
 use Rattle.std.specs.Prelude.{◌≡◌, ℕ, ◌<◌, ◌≤◌, List, Some}
+use Rattle.tp_model.specs.declared.types.TheConstants.{REPLY_STAGE}
 use Rattle.tp_model.specs.declared.types.Element.{Element}
 use Rattle.tp_model.specs.declared.types.Limits.{Limits}
 use Rattle.tp_model.specs.declared.types.Look.{Look}
@@ -14,7 +15,7 @@ use Rattle.tp_manager.specs.Releases.{Collects}
 
 -- the element is a reply to the request with this root
 abbrev pub IsReply : ℕ → Element → Type 0
-IsReply root x = (x.stage ≡ 15) × (x.root ≡ root)
+IsReply root x = (x.stage ≡ REPLY_STAGE) × (x.root ≡ root)
 
 -- a reply of this root with this id is born, and waits
 abbrev pub HasReply : Limits → ℕ → ℕ → List Event → Type 0
@@ -28,7 +29,8 @@ HasError l id h = (x : Element) × (element_of h id ≡ Some x) × IsParked (sta
 -- each reply of the root that was born at the opening with one of these ids had a point at which it was
 -- killed
 abbrev pub AllKilled : Limits → ℕ → (ℕ → Type 0) → PassShown → PassShown → Type 0
-AllKilled l root Ids old new = (x : Element) → element_of (opening old new) x.id ≡ Some x → IsReply root x → Ids x.id
+AllKilled l root Ids old new = (x : Element) → element_of (opening old new) x.id ≡ Some x → IsReply root x
+    → Ids x.id
     → AtPoint old new (λ h. status_of l.attempts h x.id ≡ Killed)
 
 -- each element that was born at the opening with one of these ids had a point at which it wasn't parked
@@ -50,7 +52,8 @@ pub record NextError (l : Limits) (from id : ℕ) (old new : PassShown) : Type 0
 
 -- no element of this root with an id from `from` on was born at the opening
 abbrev pub NoneOfFamily : ℕ → ℕ → PassShown → PassShown → Type 0
-NoneOfFamily root from old new = (x : Element) → element_of (opening old new) x.id ≡ Some x → x.root ≡ root → ¬ (from ≤ x.id)
+NoneOfFamily root from old new = (x : Element) → element_of (opening old new) x.id ≡ Some x → x.root ≡ root
+    → ¬ (from ≤ x.id)
 
 -- an element of the root stood so at a point, and each one with an id from `from` on that was born at the
 -- opening has no lesser id
@@ -61,7 +64,8 @@ pub record NextOfFamily (l : Limits) (root from : ℕ) (look : Look) (old new : 
   pub least : (x : Element) → element_of (opening old new) x.id ≡ Some x → x.root ≡ root → from ≤ x.id
       → look.element.id ≤ x.id
 
--- the pass has killed this reply of the root, and nothing else; and each one with a lesser id was killed at a point
+-- the pass has killed this reply of the root, and nothing else; and each one with a lesser id was killed at a
+-- point
 pub record CollectsNext (l : Limits) (root : ℕ) (x : Element) (old new : PassShown) : Type 0 where
   pub collects : Collects x.id x old new
   pub root_is : x.root ≡ root

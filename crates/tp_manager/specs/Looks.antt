@@ -8,7 +8,7 @@ use Rattle.tp_model.specs.History.{IsSettled, IsUnborn, element_of, status_of}
 use Rattle.tp_model.specs.Steps.{IsArea, rows_of, tries}
 use Rattle.tp_model.specs.Words.{ClaimWord, FreeWord, TakenWord, KilledWord, AgainWord}
 use Rattle.tp_words.specs.declared.words.Head.{Head}
-use Rattle.tp_words.specs.declared.words.Head.TheVariants.{There}
+use Rattle.tp_words.specs.declared.words.Head.TheVariants.{Filled}
 use Rattle.tp_words.specs.Words.{head_of}
 use Rattle.tp_rule.specs.Rule.{IsDraft}
 use Rattle.tp_rule.specs.Steps.{AllowsClaim, HasDead, Knows}
@@ -17,9 +17,9 @@ use Rattle.tp_rule.specs.declared.view.View.{View}
 use Rattle.tp_manager.specs.Calls.{IsWaiting}
 use Rattle.tp_manager.specs.declared.scanning.Stand.{Stand}
 use Rattle.tp_manager.specs.declared.scanning.Stand.TheVariants.{Ready, Over, Busy}
-use Rattle.tp_manager.specs.declared.looking.Birth.{Birth}
-use Rattle.tp_manager.specs.declared.looking.Contents.{Contents}
-use Rattle.tp_manager.specs.declared.looking.Contents.TheVariants.{Holds, DeadDraft, Nothing}
+use Rattle.tp_manager.specs.declared.row_reads.Birth.{Birth}
+use Rattle.tp_manager.specs.declared.row_reads.Contents.{Contents}
+use Rattle.tp_manager.specs.declared.row_reads.Contents.TheVariants.{Holds, DeadDraft, Nothing}
 
 -- what the head tells that the pass found in row i: it is that of the born element, or empty or naming a unit
 -- where none is born; and the pass remembers it
@@ -36,22 +36,23 @@ pub record GoesOn (l : Limits) (i next : ℕ) : Type 0 where
   pub area : (first end : ℕ) → IsArea l first end → first ≤ i → i < end → next ≤ end
 
 -- an element with this head is born in row i
-abbrev pub IsThere : List Event → ℕ → Birth → Type 0
-IsThere h i b = (e : Element) × (element_of h i ≡ Some e) × (head_of e ≡ There b.stage b.root b.by)
+abbrev pub IsBornAs : List Event → ℕ → Birth → Type 0
+IsBornAs h i b = (e : Element) × (element_of h i ≡ Some e) × (head_of e ≡ Filled b.stage b.root b.by)
 
 -- row i, whose head was found to be this, holds this
 abbrev pub Contains : View → ℕ → Head → Contents → Type 0
-Contains v i head (Holds birth) = IsThere v.seen i birth × (head ≡ There birth.stage birth.root birth.by)
+Contains v i head (Holds birth) = IsBornAs v.seen i birth × (head ≡ Filled birth.stage birth.root birth.by)
 Contains v i head DeadDraft = IsUnborn v.seen i × HasDead v i
 Contains v i head Nothing = IsUnborn v.seen i
 
--- the element of row i, whose claim word was found in history a to be w, stands so in history b: where that claim
--- still stands the next attempt may begin; or it is consumed or killed; or there is a history from a to b in
--- which it doesn't wait
-abbrev pub Stands : Limits → ℕ → List Event → List Event → ClaimWord → Stand → Type 0
-Stands l i a b w (Ready n) = AllowsClaim l b w (n + 1) × (n < l.attempts)
-Stands l i a b w Over = IsSettled (status_of l.attempts b i)
-Stands l i a b w Busy = (p : List Event) × IsPrefix a p × IsPrefix p b × ¬ IsWaiting (status_of l.attempts p i)
+-- the element of row i, whose claim word was found in history a to be w, stands so in history b: where that
+-- claim still stands the next attempt may begin; or it is consumed or killed; or there is a history from a to
+-- b in which it doesn't wait
+abbrev pub HasStand : Limits → ℕ → List Event → List Event → ClaimWord → Stand → Type 0
+HasStand l i a b w (Ready n) = AllowsClaim l b w (n + 1) × (n < l.attempts)
+HasStand l i a b w Over = IsSettled (status_of l.attempts b i)
+HasStand l i a b w Busy = (p : List Event) × IsPrefix a p × IsPrefix p b
+    × ¬ IsWaiting (status_of l.attempts p i)
 
 -- there are at most so many attempts from this claim on, in all rounds; those of the rounds before it are
 -- over

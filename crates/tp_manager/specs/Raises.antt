@@ -1,5 +1,5 @@
--- How far a claim raises the marks that a pass remembers. In each definition `old` is what the pass shows before
--- the call, and `new` what it shows after it.
+-- How far a claim raises the marks that a pass remembers. In each definition `old` is what the pass shows
+-- before the call, and `new` what it shows after it.
 use Rattle.std.specs.Prelude.{◌≡◌, ◌⊎◌, ℕ, ◌+◌, ◌*◌, ◌<◌, ◌≤◌, List, Some, slice_index}
 use Rattle.tp_model.specs.declared.types.Claimed.{Claimed}
 use Rattle.tp_model.specs.declared.types.Claimed.TheVariants as claimeds
@@ -19,8 +19,8 @@ abbrev pub IsOfUse : Limits → ℕ → ℕ → List Event → Type 0
 IsOfUse l stage i h = (x : Element) → element_of h i ≡ Some x
     → (x.stage ≡ stage) × ¬ IsSettled (status_of l.attempts h i)
 
--- the mark that the pass remembers of part p is the part's end, or its row may have been of use at a point of the
--- call
+-- the mark that the pass remembers of part p is the part's end, or its row may have been of use at a point of
+-- the call
 abbrev pub RestsInPart : Limits → ℕ → ℕ → PassShown → PassShown → Type 0
 RestsInPart l stage p old new = (low_of new stage p ≡ l.rows)
     ⊎ AtPoint old new (IsOfUse l stage (p * l.rows + low_of new stage p))
@@ -45,9 +45,10 @@ pub record RaisesMarks (l : Limits) (stage : ℕ) (old new : PassShown) (claimed
 abbrev pub WereUseless : Limits → ℕ → ℕ → ℕ → PassShown → PassShown → Type 0
 WereUseless l stage first end old new = (i : ℕ) → first ≤ i → i < end → ¬ AtPoint old new (IsOfUse l stage i)
 
--- the first rows of each part, so many as `ns` has at its place, were of no use during a claim that came to the part;
--- and so many of the spare rows, for which it has the next number
-pub record CountsUseless (l : Limits) (stage : ℕ) (ns : List ℕ) (claimed : Claimed) (old new : PassShown) : Type 0 where
+-- the first rows of each part, so many as `ns` has at its place, were of no use during a claim that came to
+-- the part; and so many of the spare rows, for which it has the next number
+pub record CountsUseless (l : Limits) (stage : ℕ) (ns : List ℕ) (claimed : Claimed)
+    (old new : PassShown) : Type 0 where
   pub parts : (p : ℕ) → p < l.parts → 0 < slice_index ns p
       → ComesTo (p * l.rows) claimed × (slice_index ns p ≤ l.rows)
       × WereUseless l stage (p * l.rows) (p * l.rows + slice_index ns p) old new
@@ -58,5 +59,7 @@ pub record CountsUseless (l : Limits) (stage : ℕ) (ns : List ℕ) (claimed : C
 -- of two claims of a stage by one pass, with whatever calls between, the second makes no step at those rows
 abbrev pub FewAgain : Limits → ℕ → Type 0
 FewAgain l stage = (ns : List ℕ) (claimed : Claimed) (old mid again new : PassShown)
-    → RaisesMarks l stage old mid claimed → CountsUseless l stage ns claimed old mid → AllRise mid.lows again.lows
-    → Follows (claim_steps_left l (marks_of again.lows stage)) again new → Follows (claim_steps_left l ns) again new
+    → RaisesMarks l stage old mid claimed → CountsUseless l stage ns claimed old mid
+    → AllRise mid.lows again.lows
+    → Follows (claim_steps_left l (marks_of again.lows stage)) again new
+    → Follows (claim_steps_left l ns) again new

@@ -1,7 +1,9 @@
--- What a release answers, and what a collect. In each definition l are the table's limits, `old` is what the pass
--- shows before the call, and `new` what it shows after it; i is the row, v the view before, and w the view after.
+-- What a release answers, and what a collect. In each definition l are the table's limits, `old` is what the
+-- pass shows before the call, and `new` what it shows after it; i is the row, v the view before, and w the
+-- view after.
 use Rattle.std.specs.Prelude.{◌≡◌, ◌≢◌, ℕ, Some, List, [], ◌∷◌, ◌++◌}
 use mathlib.Core.List.{IsPrefix}
+use Rattle.tp_model.specs.declared.types.TheConstants.{REPLY_STAGE}
 use Rattle.tp_model.specs.declared.types.Element.{Element}
 use Rattle.tp_model.specs.declared.types.Limits.{Limits}
 use Rattle.tp_model.specs.declared.types.Refusal.{Refusal}
@@ -43,17 +45,18 @@ ReleaseFails l id old new other = ⊥
 pub record Collects (id : ℕ) (x : Element) (old new : PassShown) : Type 0 where
   pub adds : Adds (Kill old.number id) old new
   pub is_born : element_of new.seen id ≡ Some x
-  pub is_reply : x.stage ≡ 15
+  pub is_reply : x.stage ≡ REPLY_STAGE
   pub open_unit : new.open_unit ≡ old.open_unit
   pub run : KeepsRun old new
 
 -- an element with this id is born, and no reply
 abbrev pub HasNoReply : ℕ → List Event → Type 0
-HasNoReply id h = (x : Element) × (element_of h id ≡ Some x) × (x.stage ≢ 15)
+HasNoReply id h = (x : Element) × (element_of h id ≡ Some x) × (x.stage ≢ REPLY_STAGE)
 
 -- a reply with this id is born, and was killed
 abbrev pub HasKilledReply : Limits → ℕ → List Event → Type 0
-HasKilledReply l id h = (x : Element) × (element_of h id ≡ Some x) × (x.stage ≡ 15) × (status_of l.attempts h id ≡ Killed)
+HasKilledReply l id h = (x : Element) × (element_of h id ≡ Some x) × (x.stage ≡ REPLY_STAGE)
+    × (status_of l.attempts h id ≡ Killed)
 
 -- why a collect was refused; it has done nothing then
 abbrev pub CollectFails : Limits → ℕ → PassShown → PassShown → Refusal → Type 0

@@ -5,7 +5,7 @@ use Rattle.std.specs.Prelude.{◌≡◌, ℕ, ◌≤◌, List, [], ◌∷◌, �
 use mathlib.Core.List.{IsPrefix}
 use Rattle.tp_model.specs.declared.types.Element.{Element}
 use Rattle.tp_model.specs.declared.types.Limits.{Limits}
-use Rattle.tp_model.specs.declared.types.TheConstants.{MOST_ROUNDS}
+use Rattle.tp_model.specs.declared.types.TheConstants.{MAX_ROUNDS}
 use Rattle.tp_model.specs.declared.types.Refusal.{Refusal}
 use Rattle.tp_model.specs.declared.types.Refusal.TheVariants as refusals
 use Rattle.tp_model.specs.declared.event.Event.{Event}
@@ -23,7 +23,7 @@ use Rattle.tp_manager.specs.Walks.{Walked, with_trace}
 -- the pass has given the element this round, and has done nothing else
 pub record Requeues (id round : ℕ) (old new : PassShown) : Type 0 where
   pub low : 1 ≤ round
-  pub high : round ≤ MOST_ROUNDS
+  pub high : round ≤ MAX_ROUNDS
   pub adds : Adds (Requeue old.number id round) old new
   pub open_unit : new.open_unit ≡ old.open_unit
   pub run : KeepsRun old new
@@ -34,7 +34,8 @@ HasUnparked l id h = (x : Element) × (element_of h id ≡ Some x) × ¬ IsParke
 
 -- an element with this id is born, is parked, and has had all its rounds
 abbrev pub HasNoRound : Limits → ℕ → List Event → Type 0
-HasNoRound l id h = (x : Element) × (element_of h id ≡ Some x) × IsParked (status_of l.attempts h id) × (rounds h id ≡ MOST_ROUNDS)
+HasNoRound l id h = (x : Element) × (element_of h id ≡ Some x) × IsParked (status_of l.attempts h id)
+    × (rounds h id ≡ MAX_ROUNDS)
 
 -- why a requeue was refused; it has done nothing then
 abbrev pub RequeueFails : Limits → ℕ → PassShown → PassShown → Refusal → Type 0
@@ -51,7 +52,7 @@ HasHadRounds id n h = ((x : Element) × (element_of h id ≡ Some x)) × (rounds
 -- else has changed in it but its trace
 pub record Renewed (l : Limits) (n i round : ℕ) (v w : View) : Type 0 where
   pub low : 1 ≤ round
-  pub high : round ≤ MOST_ROUNDS
+  pub high : round ≤ MAX_ROUNDS
   pub marks : List TraceEntry
   pub walk : Walked l n marks v w
   pub kept : hand w ≡ with_trace (hand w).trace (with_event (Requeue (hand v).number i round) (hand v))
@@ -66,5 +67,6 @@ IsBetween a b Holds = (p : List Event) × IsPrefix a p × IsPrefix p b × Holds 
 -- why element i, which is born in history a, can't be given another round by history b
 abbrev pub IsPastRequeue : Limits → ℕ → List Event → List Event → Refusal → Type 0
 IsPastRequeue l i a b refusals.NotParked = IsBetween a b (λ h. ¬ IsParked (status_of l.attempts h i))
-IsPastRequeue l i a b refusals.NoRound = IsBetween a b (λ h. IsParked (status_of l.attempts h i) × (rounds h i ≡ MOST_ROUNDS))
+IsPastRequeue l i a b refusals.NoRound = IsBetween a b (λ h. IsParked (status_of l.attempts h i)
+    × (rounds h i ≡ MAX_ROUNDS))
 IsPastRequeue l i a b other = ⊥

@@ -25,8 +25,9 @@ pub record KeeperShown : Type 0 where
   pub steps : ℕ
 
 -- a pass shows these, what the definitions say that a pass shows, the marks of each kind and part as it last
--- loaded or set them, or would have set them had not another pass raised them, how many spare blocks are drawn by
--- what it loaded, and for each stage the row behind the element that it took last in its turn (`claim_next`), 0 before
+-- loaded or set them, or would have set them had not another pass raised them, how many spare blocks are
+-- drawn by what it loaded, and for each stage the row behind the element that it took last in its turn
+-- (`claim_next`), 0 before
 pub record PassShown : Type 0 where
   pub table : TableId
   pub limits : Limits
@@ -73,12 +74,12 @@ abbrev pub turn_of : PassShown → ℕ → ℕ
 turn_of p stage = slice_index p.from stage
 
 -- no mark of a kind is below what it was
-abbrev pub Rises : List ℕ → List ℕ → Type 0
-Rises lows lows' = (p : ℕ) → slice_index lows p ≤ slice_index lows' p
+abbrev pub NoneFalls : List ℕ → List ℕ → Type 0
+NoneFalls lows lows' = (p : ℕ) → slice_index lows p ≤ slice_index lows' p
 
 -- and none of any kind
 abbrev pub AllRise : List (List ℕ) → List (List ℕ) → Type 0
-AllRise lows lows' = (c : ℕ) → Rises (marks_of lows c) (marks_of lows' c)
+AllRise lows lows' = (c : ℕ) → NoneFalls (marks_of lows c) (marks_of lows' c)
 
 -- the pass comes from this manager's keeper
 abbrev pub IsOf : ManagerShown → PassShown → Type 0

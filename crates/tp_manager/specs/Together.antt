@@ -1,5 +1,6 @@
 -- Passes that look together, on their way. In each definition l are the table's limits.
-use Rattle.std.specs.Prelude.{◌≡◌, ℕ, ◌+◌, ◌-◌, ◌*◌, ◌<◌, ◌≤◌, All, List, [], ◌∷◌, ◌++◌, length, map, slice_index_or, slice_set, Some}
+use Rattle.std.specs.Prelude.{◌≡◌, ℕ, ◌+◌, ◌-◌, ◌*◌, ◌<◌, ◌≤◌, All, List, [], ◌∷◌, ◌++◌, length, map}
+use Rattle.std.specs.Prelude.{slice_index_or, slice_set, Some}
 use Rattle.std.specs.List.{AllZip}
 use mathlib.Core.List.{IsPrefix}
 use Rattle.atomic_table.specs.Seated.{TableId}
@@ -18,7 +19,7 @@ use Rattle.tp_rule.specs.declared.view.Known.TheVariants.{BlocksDrawn}
 use Rattle.tp_rule.specs.Views.{fresh_from, hand}
 use Rattle.tp_rule.specs.declared.view.Hand.{Hand}
 use Rattle.tp_rule.specs.declared.view.View.{View}
-use Rattle.tp_manager.specs.Accounts.{AreFrom, Attends}
+use Rattle.tp_manager.specs.Accounts.{AreNumberedFrom, Attends}
 use Rattle.tp_manager.specs.Bounds.{first_steps, kept_steps, led_steps, lead_steps}
 use Rattle.tp_manager.specs.Shown.{PassShown, steps_in}
 use Rattle.tp_manager.specs.Walks.{Acted, IsKnown, RemembersDrawn, untraced}
@@ -57,11 +58,11 @@ pub record LooksWith (table : TableId) (l : Limits) (n : ℕ) (v w v' w' : View)
 pub record AreAllPasses (l : Limits) (v v' : View) (passes : List PassShown) : Type 0 where
   pub few : length passes + 1 ≤ l.parts
   pub first : (hand v).number ≡ 0
-  pub passes_are : AreFrom 1 passes
+  pub passes_are : AreNumberedFrom 1 passes
   pub others : untraced v'.hands ≡ fresh_from l (length passes + 1) (l.parts - (length passes + 1))
 
 -- the passes of a seat, however many, have looked so many times, and have done nothing else
-pub record HasSeen (l : Limits) (n : ℕ) (h : List Event) (v w : View) : Type 0 where
+pub record HasLookedOn (l : Limits) (n : ℕ) (h : List Event) (v w : View) : Type 0 where
   pub seen : w.seen ≡ h
   pub limits : w.limits ≡ l
   pub hands : untraced w.hands ≡ untraced v.hands
@@ -69,12 +70,12 @@ pub record HasSeen (l : Limits) (n : ℕ) (h : List Event) (v w : View) : Type 0
   pub known : IsKnown l w
   pub steps : steps_in w.hands ≡ steps_in v.hands + n * length v.hands
 
--- the first pass looked together with those of another seat, which had seen no more, and with these: the first
--- in at most f steps, those of the other seat in k each, and these in at most j each
+-- the first pass looked together with those of another seat, which had seen no more, and with these: the
+-- first in at most f steps, those of the other seat in k each, and these in at most j each
 pub record GathersWith (table : TableId) (l : Limits) (f k j : ℕ) (v w v' w' : View)
     (olds news : List PassShown) : Type 0 where
   pub first : Acted l f v w
-  pub others : HasSeen l k w.seen v' w'
+  pub others : HasLookedOn l k w.seen v' w'
   pub saw : IsPrefix v'.seen w.seen
   pub passes : AllZip (Joins table l j w.seen) olds news
 
@@ -105,14 +106,15 @@ lots v v' passes = lot_of (hand v) ∷ (map lot_of v'.hands ++ map lot_shown pas
 abbrev pub AreEvery : Limits → List Lot → Type 0
 AreEvery l xs = (c : ℕ) → c < l.parts → (x : Lot) × In x xs × (x.number ≡ c)
 
--- n spare blocks are drawn: each that one of these passes has drawn is one of them, and no other pass's, and where
--- these are every pass of the table, each of them is one that a pass has drawn
+-- n spare blocks are drawn: each that one of these passes has drawn is one of them, and no other pass's, and
+-- where these are every pass of the table, each of them is one that a pass has drawn
 pub record AreLots (l : Limits) (n : ℕ) (xs : List Lot) : Type 0 where
   pub below : (x : Lot) → In x xs → Ascend 0 n x.blocks
   pub alone : (x y : Lot) (b : ℕ) → In x xs → In y xs → In b x.blocks → In b y.blocks → x.number ≡ y.number
   pub all : AreEvery l xs → (b : ℕ) → b < n → (x : Lot) × In x xs × In b x.blocks
 
--- the first pass and another seat, w and w' by now, have found n blocks drawn, no fewer than either knew before
+-- the first pass and another seat, w and w' by now, have found n blocks drawn, no fewer than either knew
+-- before
 pub record FoundDrawn (n : ℕ) (v w v' w' : View) : Type 0 where
   pub first : RemembersDrawn w n
   pub others : RemembersDrawn w' n

@@ -21,14 +21,16 @@ Resumes before next = (stage : ℕ) → turn_of next stage ≡ turn_of before st
 -- these are claims in turn by a pass, of any stages, in their order
 abbrev pub AreTurns : Limits → PassShown → List Taking → Type 0
 AreTurns l before [] = Unit {0}
-AreTurns l before (t ∷ ts) = Resumes before t.old × TakesNext l t.stage t.work t.old t.new × AreTurns l t.new ts
+AreTurns l before (t ∷ ts) = Resumes before t.old × TakesNext l t.stage t.work t.old t.new
+    × AreTurns l t.new ts
 
 -- the claim took the element, or had a point at which that did not wait
 abbrev pub HasTurn : Limits → Element → Taking → Type 0
-HasTurn l y t = (y.id ≡ t.work.element.id) ⊎ AtPoint t.old t.new (λ h. ¬ IsWaiting (status_of l.attempts h y.id))
+HasTurn l y t = (y.id ≡ t.work.element.id)
+    ⊎ AtPoint t.old t.new (λ h. ¬ IsWaiting (status_of l.attempts h y.id))
 
--- where a pass takes an element in turn, and takes it in turn again behind the claims ts, each other element of the
--- stage that was born by then has its turn in a claim of the stage between the two, or in the second
+-- where a pass takes an element in turn, and takes it in turn again behind the claims ts, each other element
+-- of the stage that was born by then has its turn in a claim of the stage between the two, or in the second
 abbrev pub EachHasItsTurn : Limits → Type 0
 EachHasItsTurn l =
     (first again : Taking) (ts : List Taking) (y : Element)

@@ -19,7 +19,8 @@ IdsGoUp l = (k first : ℕ) (old new : PassShown) → old.limits ≡ l
     → IsPassView l (view_in old) → IsPassView l (view_in new)
     → UsesRows k first old new → GoesUp k first old new
 
--- a pass used k rows from `first` on in the call from a to b, and m rows from `second` on in a later one, from c to d
+-- a pass used k rows from `first` on in the call from a to b, and m rows from `second` on in a later one,
+-- from c to d
 pub record UsesLater (l : Limits) (k first m second : ℕ) (a b c d : PassShown) : Type 0 where
   pub earlier : UsesRows k first a b
   pub between : b.next ≤ c.next
@@ -28,8 +29,8 @@ pub record UsesLater (l : Limits) (k first m second : ℕ) (a b c d : PassShown)
   pub shows : IsPassView l (view_in a) × IsPassView l (view_in b)
   pub shows_later : IsPassView l (view_in c) × IsPassView l (view_in d)
 
--- first in, first out: where a claim takes what the later of two calls of one pass made, each element of the stage
--- that the earlier made, and that was born at the opening, has a point at which it did not wait
+-- first in, first out: where a claim takes what the later of two calls of one pass made, each element of the
+-- stage that the earlier made, and that was born at the opening, has a point at which it did not wait
 abbrev pub FirstInFirstOut : Limits → Type 0
 FirstInFirstOut l = (k first m second stage : ℕ) (a b c d old new : PassShown) (work : Work) (x : Element)
     → UsesLater l k first m second a b c d → Takes l stage work old new → second ≤ work.element.id

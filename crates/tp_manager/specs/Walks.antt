@@ -1,6 +1,7 @@
 -- What the view of a pass keeps over some of a call's steps. In each definition l are the table's limits, v
 -- is the view before, and w the view after.
-use Rattle.std.specs.Prelude.{◌≡◌, ◌≢◌, ◌⊎◌, ℕ, ◌+◌, ◌-◌, ◌*◌, ◌<◌, ◌≤◌, List, [], ◌∷◌, ◌++◌, length, drop, map, Option, Some, None, slice_index}
+use Rattle.std.specs.Prelude.{◌≡◌, ◌≢◌, ◌⊎◌, ℕ, ◌+◌, ◌-◌, ◌*◌, ◌<◌, ◌≤◌, List, [], ◌∷◌, ◌++◌, length, drop}
+use Rattle.std.specs.Prelude.{map, Option, Some, None, slice_index}
 use mathlib.Core.List.{IsPrefix}
 use Rattle.tp_model.specs.declared.types.Element.{Element}
 use Rattle.tp_model.specs.declared.types.Limits.{Limits}
@@ -21,7 +22,7 @@ use Rattle.tp_rule.specs.Steps.{IsSo, KnowsUseless, Knows, claimed, with_block, 
 use Rattle.tp_rule.specs.declared.view.Known.{Known}
 use Rattle.tp_rule.specs.declared.view.Known.TheVariants.{BlocksDrawn, MarkAbove, PartMark}
 use Rattle.tp_manager.specs.Bounds.{draft_steps}
-use Rattle.tp_manager.specs.Shown.{Rises, marks_of}
+use Rattle.tp_manager.specs.Shown.{NoneFalls, marks_of}
 use Rattle.tp_manager.specs.Calls.{IsWaiting, claims_in, IsBefore}
 use Rattle.tp_manager.specs.Raises.{IsOfUse}
 
@@ -137,12 +138,13 @@ pub record Rests (seat : SeatShown) (number : ℕ) (run : Run) (used : ℕ) (tas
   pub open_is : (hand (view_of seat)).open_unit ≡ unit_in task
   pub work : IsTask (view_of seat).seen number task
 
--- the seat knows each row from a on and below b of no use to kind c: so a mark of that kind may rise from a to b
+-- the seat knows each row from a on and below b of no use to kind c: so a mark of that kind may rise from a
+-- to b
 abbrev pub Rose : ℕ → View → ℕ → ℕ → Type 0
 Rose c v a b = (a ≤ b) × ((i : ℕ) → a ≤ i → i < b → KnowsUseless v c i)
 
--- a raise to n of the mark of a server stage failed, since another pass had raised it above the number that was
--- found; and so each row from that number on and below n is known of no use
+-- a raise to n of the mark of a server stage failed, since another pass had raised it above the number that
+-- was found; and so each row from that number on and below n is known of no use
 pub record Missed (l : Limits) (c : ℕ) (v : View) (p n : ℕ) : Type 0 where
   pub stage : IsServerStage c
   pub found : ℕ
@@ -169,7 +171,7 @@ AreFinished l lows n = (p : ℕ) → p < n → slice_index lows p ≡ l.rows
 
 -- no mark that the pass remembers fell, and it remembers no other than that of part p
 abbrev pub RisesAt : ℕ → List ℕ → List ℕ → Type 0
-RisesAt p lows lows' = Rises lows lows' × ((q : ℕ) → q ≢ p → slice_index lows' q ≡ slice_index lows q)
+RisesAt p lows lows' = NoneFalls lows lows' × ((q : ℕ) → q ≢ p → slice_index lows' q ≡ slice_index lows q)
 
 -- the passes without their traces
 abbrev pub untraced : List Hand → List Hand
@@ -217,8 +219,8 @@ abbrev pub WasOfUse : Limits → ℕ → ℕ → List Event → List Event → T
 WasOfUse l stage i a b = (p : List Event) × IsPrefix a p × IsPrefix p b × IsOfUse l stage i p
 
 -- at most n steps lead from v to w
-abbrev pub Makes : ℕ → View → View → Type 0
-Makes n v w = length (hand w).trace ≤ length (hand v).trace + n
+abbrev pub StepsTo : ℕ → View → View → Type 0
+StepsTo n v w = length (hand w).trace ≤ length (hand v).trace + n
 
 -- what was seen at the opening of the steps from v to w
 abbrev pub opening_in : View → View → List Event
@@ -251,8 +253,8 @@ Begun l Passed steps from n v w = ((n ≡ from) × (w ≡ v)) ⊎ Sought l steps
 abbrev pub IsSpare : ℕ → View → Type 0
 IsSpare u v = ((hand v).spare_unit ≡ Some u) × ((hand v).open_unit ≡ None)
 
--- in at most n steps unit u took the element e for this attempt, and that was the last of what was seen. The rows
--- from `from` on and before that of the element were passed since the first of these steps looked
+-- in at most n steps unit u took the element e for this attempt, and that was the last of what was seen. The
+-- rows from `from` on and before that of the element were passed since the first of these steps looked
 pub record Took (l : Limits) (n from stage u : ℕ) (v w : View) (e : Element) (attempt : ℕ) : Type 0 where
   pub marks : List TraceEntry
   pub walk : Walked l n marks v w
@@ -266,10 +268,12 @@ pub record Took (l : Limits) (n from stage u : ℕ) (v w : View) (e : Element) (
   pub step : HasLook marks
   pub passed : EachRow (PassedBy l stage) from e.id (opening_of v.seen marks) w.seen
 
--- the same where the rows are a circle, of which those from `from` on and before that of the element were passed
+-- the same where the rows are a circle, of which those from `from` on and before that of the element were
+-- passed
 pub record TookNext (l : Limits) (n from stage u : ℕ) (v w : View) (e : Element) (attempt : ℕ) : Type 0 where
   pub took : Took l n e.id stage u v w e attempt
-  pub passed : (i : ℕ) → i < rows_of l → IsBefore from e.id i → PassedBy l stage i (opening_of v.seen took.marks) w.seen
+  pub passed : (i : ℕ) → i < rows_of l → IsBefore from e.id i
+      → PassedBy l stage i (opening_of v.seen took.marks) w.seen
 
 -- no row from row `end` on has an element
 abbrev pub NoneBehind : Limits → ℕ → View → Type 0

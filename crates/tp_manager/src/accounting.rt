@@ -3,10 +3,11 @@ ghost use Rattle.std.specs.Prelude.{◌≡◌, ◌+◌, ◌*◌, ◌<◌, ◌≤
 ghost use mathlib.Core.List.{IsPrefix};
 ghost use Rattle.tp_model.specs.declared.event.Event.{Event};
 ghost use Rattle.tp_model.specs.Accounts.{account_among, all_in, one_more};
-ghost use Rattle.tp_model.specs.Steps.{most_rows, rows_of, IsStage};
-ghost use Rattle.tp_rule.specs.Tables.{limits_of, table_of, IsSeatOf};
+ghost use Rattle.tp_model.specs.Steps.{max_rows, rows_of, IsStage};
+ghost use Rattle.tp_rule.specs.Tables.{table_limits, table_of, IsSeatOf};
 ghost use Rattle.tp_rule.specs.Views.{seen_by, view_of, IsSameSeat};
-ghost use Rattle.tp_manager.specs.Bounds.{account_steps, gather_first, gather_kept, gather_steps, led_steps, look_steps, meet_steps};
+ghost use Rattle.tp_manager.specs.Bounds.{account_steps, gather_first, gather_kept, gather_steps, led_steps};
+ghost use Rattle.tp_manager.specs.Bounds.{look_steps, meet_steps};
 ghost use Rattle.tp_manager.specs.Accounts.{Accounts, AreAll, Gathers, steps_together};
 ghost use Rattle.tp_manager.specs.Shown.{IsKeptBy, IsOf};
 ghost use Rattle.tp_manager.specs.Together.{IsAt, LooksOn, LooksWith, AreAllPasses, CountsWith, GathersWith};
@@ -41,7 +42,7 @@ fn no_account() -> Account
 
 /// These counts with one more element, which stands so.
 fn counts_with(counts: Counts, status: Status) -> Counts
-    requires few { all_in counts ≤ most_rows }
+    requires few { all_in counts ≤ max_rows }
     ensures { result ≡ one_more status counts }
 {
     let mut counts = counts;
@@ -61,7 +62,7 @@ fn counts_with(counts: Counts, status: Status) -> Counts
 /// Counts one more element of this stage, which stands so.
 fn count_one(account: &mut Account, stage: u8, status: Status)
     requires stage { IsStage stage }
-    requires few { IsWithin most_rows account.old }
+    requires few { IsWithin max_rows account.old }
     ensures counted { account.new ≡ with_one stage status account.old }
     ensures within { (n : ℕ) → IsWithin n account.old → IsWithin (n + 1) account.new }
 {
@@ -75,15 +76,16 @@ impl Shared {
     /// what either seat had seen. How many spare blocks are drawn, which all have found then.
     fn meet_seat(&self, first: &mut Seat, others: &mut Seat) -> u16
         requires own { IsSeatOf self.now.words first.old × IsSeatOf self.now.words others.old }
-        requires steady { Steady (limits_of self.now.words) (view_of first.old) }
+        requires steady { Steady (table_limits self.now.words) (view_of first.old) }
         ensures same { IsSameSeat first.old first.new × IsSameSeat others.old others.new }
-        ensures acted { Acted (limits_of self.now.words) meet_steps (view_of first.old) (view_of first.new) }
-        ensures others { LooksOn (limits_of self.now.words) (seen_by first.new)
+        ensures acted { Acted (table_limits self.now.words) meet_steps (view_of first.old)
+            (view_of first.new) }
+        ensures others { LooksOn (table_limits self.now.words) (seen_by first.new)
             (view_of others.old) (view_of others.new) }
         ensures saw { IsPrefix (seen_by others.old) (seen_by first.new) }
         ensures found { FoundDrawn result
             (view_of first.old) (view_of first.new) (view_of others.old) (view_of others.new) }
-        ensures shares { AreLots (limits_of self.now.words) result
+        ensures shares { AreLots (table_limits self.now.words) result
             (lots (view_of first.new) (view_of others.new) []) }
     {
         let words = &self.words;
@@ -98,15 +100,16 @@ impl Shared {
     /// pass meets that. How many spare blocks are drawn, which each of these passes remembers.
     fn look_together(&self, first: &mut Seat, others: &mut Seat, passes: &mut [Pass]) -> u16
         requires own { IsSeatOf self.now.words first.old × IsSeatOf self.now.words others.old }
-        requires steady { Steady (limits_of self.now.words) (view_of first.old) }
-        requires passes { All (IsAt (table_of self.now.words) (limits_of self.now.words)) passes.old }
+        requires steady { Steady (table_limits self.now.words) (view_of first.old) }
+        requires passes { All (IsAt (table_of self.now.words) (table_limits self.now.words)) passes.old }
         ensures same { IsSameSeat first.old first.new × IsSameSeat others.old others.new }
-        ensures look { LooksWith (table_of self.now.words) (limits_of self.now.words) (length passes.old + 1)
+        ensures look { LooksWith (table_of self.now.words) (table_limits self.now.words)
+            (length passes.old + 1)
             (view_of first.old) (view_of first.new) (view_of others.old) (view_of others.new)
             passes.old passes.new }
         ensures found { FoundDrawn result
             (view_of first.old) (view_of first.new) (view_of others.old) (view_of others.new) }
-        ensures shares { AreLots (limits_of self.now.words) result
+        ensures shares { AreLots (table_limits self.now.words) result
             (lots (view_of first.new) (view_of others.new) passes.new) }
         ensures seen { HaveFound result passes.new }
     {
@@ -124,15 +127,15 @@ impl Shared {
     /// Counts the element of one more row, if one is born; `row` goes on.
     fn count_row(&self, seat: &mut Seat, row: &mut u32, account: &mut Account)
         requires own { IsSeatOf self.now.words seat.old }
-        requires steady { Steady (limits_of self.now.words) (view_of seat.old) }
-        requires row { row.old < rows_of (limits_of self.now.words) }
+        requires steady { Steady (table_limits self.now.words) (view_of seat.old) }
+        requires row { row.old < rows_of (table_limits self.now.words) }
         requires few { IsWithin row.old account.old }
         ensures same { IsSameSeat seat.old seat.new }
-        ensures on { GoesOn (limits_of self.now.words) row.old row.new }
-        ensures looked { let l = limits_of self.now.words in
+        ensures on { GoesOn (table_limits self.now.words) row.old row.new }
+        ensures looked { let l = table_limits self.now.words in
             Looked l (look_steps l) (view_of seat.old) (view_of seat.new) }
         ensures few { IsWithin row.new account.new }
-        ensures counted { let l = limits_of self.now.words in
+        ensures counted { let l = table_limits self.now.words in
             account.old ≡ account_below l (seen_by seat.old) row.old
             → HasCounted l row.new (view_of seat.old) (view_of seat.new) account.new }
     {
@@ -149,11 +152,11 @@ impl Shared {
     /// happened meanwhile.
     fn count_rows(&self, seat: &mut Seat) -> Account
         requires own { IsSeatOf self.now.words seat.old }
-        requires steady { Steady (limits_of self.now.words) (view_of seat.old) }
+        requires steady { Steady (table_limits self.now.words) (view_of seat.old) }
         ensures same { IsSameSeat seat.old seat.new }
-        ensures looked { let l = limits_of self.now.words in
+        ensures looked { let l = table_limits self.now.words in
             Looked l (rows_of l * look_steps l) (view_of seat.old) (view_of seat.new) }
-        ensures counted { let l = limits_of self.now.words in
+        ensures counted { let l = table_limits self.now.words in
             HasCounted l (rows_of l) (view_of seat.old) (view_of seat.new) result }
     {
         let rows = self.places.rows();
@@ -169,16 +172,16 @@ impl Shared {
     /// spare blocks are drawn.
     fn gather_with(&self, first: &mut Seat, keeper: &mut Seat, passes: &mut [Pass]) -> u16
         requires own { IsSeatOf self.now.words first.old × IsSeatOf self.now.words keeper.old }
-        requires steady { Steady (limits_of self.now.words) (view_of first.old) }
-        requires passes { All (IsAt (table_of self.now.words) (limits_of self.now.words)) passes.old }
+        requires steady { Steady (table_limits self.now.words) (view_of first.old) }
+        requires passes { All (IsAt (table_of self.now.words) (table_limits self.now.words)) passes.old }
         ensures same { IsSameSeat first.old first.new × IsSameSeat keeper.old keeper.new }
-        ensures gathers { GathersWith (table_of self.now.words) (limits_of self.now.words)
+        ensures gathers { GathersWith (table_of self.now.words) (table_limits self.now.words)
             (gather_first (length passes.old + 1)) gather_kept led_steps
             (view_of first.old) (view_of first.new) (view_of keeper.old) (view_of keeper.new)
             passes.old passes.new }
         ensures drawn { RemembersDrawn (view_of first.new) result }
         ensures risen { (n : ℕ) → Knows (view_of first.old) (BlocksDrawn n) → n ≤ result }
-        ensures shares { AreLots (limits_of self.now.words) result
+        ensures shares { AreLots (table_limits self.now.words) result
             (lots (view_of first.new) (view_of keeper.new) passes.new) }
         ensures seen { HaveFound result passes.new }
     {
@@ -190,17 +193,18 @@ impl Shared {
     /// these, which are all others; and how many spare blocks are drawn.
     fn count_with(&self, first: &mut Seat, keeper: &mut Seat, passes: &mut [Pass]) -> (Account, u16)
         requires own { IsSeatOf self.now.words first.old × IsSeatOf self.now.words keeper.old }
-        requires steady { Steady (limits_of self.now.words) (view_of first.old) }
-        requires passes { All (IsAt (table_of self.now.words) (limits_of self.now.words)) passes.old }
-        requires all { AreAllPasses (limits_of self.now.words)
+        requires steady { Steady (table_limits self.now.words) (view_of first.old) }
+        requires passes { All (IsAt (table_of self.now.words) (table_limits self.now.words)) passes.old }
+        requires all { AreAllPasses (table_limits self.now.words)
             (view_of first.old) (view_of keeper.old) passes.old }
         ensures same { IsSameSeat first.old first.new × IsSameSeat keeper.old keeper.new }
-        ensures counts { CountsWith (table_of self.now.words) (limits_of self.now.words) (length passes.old + 1)
+        ensures counts { CountsWith (table_of self.now.words) (table_limits self.now.words)
+            (length passes.old + 1)
             (view_of first.old) (view_of first.new) (view_of keeper.old) (view_of keeper.new)
             passes.old passes.new result.0 }
         ensures drawn { RemembersDrawn (view_of first.new) result.1 }
         ensures risen { (n : ℕ) → Knows (view_of first.old) (BlocksDrawn n) → n ≤ result.1 }
-        ensures shares { AreLots (limits_of self.now.words) result.1
+        ensures shares { AreLots (table_limits self.now.words) result.1
             (lots (view_of first.new) (view_of keeper.new) passes.new) }
         ensures seen { HaveFound result.1 passes.new }
     {
@@ -229,8 +233,8 @@ impl Keeper {
     }
 
     /// All passes look until all have seen one history, and how many spare blocks are drawn. The slice holds
-    /// every pass that was given out, in order of number (`has_all` tests this), and the keeper stands for the
-    /// others. It takes no memory.
+    /// every pass that was given out, in order of number (`has_all` tests this), and the keeper stands for
+    /// the others. It takes no memory.
     pub fn gather(&mut self, manager: &Manager, passes: &mut [Pass])
         requires keeper { IsKeptBy manager.now self.old }
         requires own { All (IsOf manager.now) passes.old }

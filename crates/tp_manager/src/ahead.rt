@@ -89,8 +89,8 @@ impl Ahead {
         None
     }
 
-    /// Puts the rows from `first` on and before `end` beside the first run, which has a row, if it can: whether
-    /// it did.
+    /// Puts the rows from `first` on and before `end` beside the first run, which has a row, if it can:
+    /// whether it did.
     #[inline(always)]
     fn place(&mut self, first: u32, end: u32) -> bool
         requires sorted { AreSorted self.old }
@@ -160,7 +160,8 @@ impl Ahead {
         requires sorted { IsSorted self.old rows.old }
         requires run { first < end → end ≤ 12288 }
         ensures sorted { IsSorted self.new rows.new }
-        ensures has { (i : ℕ) → IsAhead self.new rows.new i ↔ (IsAhead self.old rows.old i ⊎ InRun first end i) }
+        ensures has { (i : ℕ) → IsAhead self.new rows.new i ↔ (IsAhead self.old rows.old i
+            ⊎ InRun first end i) }
     {
         rows.insert_run(self.next, self.end);
         rows.insert_run(self.far, self.far_end);

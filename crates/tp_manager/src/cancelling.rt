@@ -1,7 +1,8 @@
 //! The cancel of a whole request.
 //!
-//! A walk through the family, from the root on: at each element that it comes to, it kills what is no reply, and goes
-//! on to the outputs of the unit that consumed it, if one did. Nothing is born behind it: see docs/CANCEL.md.
+//! A walk through the family, from the root on: at each element that it comes to, it kills what is no reply,
+//! and goes on to the outputs of the unit that consumed it, if one did. Nothing is born behind it: see
+//! docs/CANCEL.md.
 ghost use Rattle.std.specs.Prelude.{◌≡◌, ◌<◌, ℕ, [], length, MatchResult, None};
 ghost use Rattle.tp_model.specs.declared.types.Status.TheVariants.{Consumed};
 ghost use Rattle.tp_model.specs.Families.{IsOfFamily, IsRequest, family};
@@ -9,7 +10,7 @@ ghost use Rattle.tp_model.specs.History.{status_of};
 ghost use Rattle.tp_model.specs.Steps.{rows_of};
 ghost use Rattle.tp_rule.specs.Steps.{HasElement};
 ghost use Rattle.tp_rule.specs.Views.{hand_of, seen_by, view_of, IsSameSeat};
-ghost use Rattle.tp_rule.specs.Tables.{limits_of, IsSeatOf};
+ghost use Rattle.tp_rule.specs.Tables.{table_limits, IsSeatOf};
 ghost use Rattle.tp_manager.specs.Shown.{IsOf};
 ghost use Rattle.tp_manager.specs.Bounds.{cancel_steps, end_steps, ends_steps, family_cancel_steps};
 ghost use Rattle.tp_manager.specs.Calls.{Follows, HasLooked};
@@ -22,7 +23,7 @@ ghost use Rattle.tp_manager.specs.Walks.{Looked, Steady};
 use crate::ahead::Ahead;
 use crate::manager::{Manager, Pass, Shared};
 use crate::row_set::RowSet;
-use crate::walking::{MOST_ROWS, is_reply};
+use crate::walking::{MAX_ROWS, is_reply};
 use tp_model::types::{Cancelled, Refusal};
 use tp_rule::Seat;
 use tp_words::UnitWord;
@@ -42,11 +43,11 @@ impl Shared {
     /// The outputs of the unit that consumed the element of the row. One step.
     fn outputs_of(&self, seat: &mut Seat, row: u32, unit: u16) -> Ended
         requires own { IsSeatOf self.now.words seat.old }
-        requires steady { Steady (limits_of self.now.words) (view_of seat.old) }
-        requires consumed { status_of (limits_of self.now.words).attempts (seen_by seat.old) row ≡ Consumed unit }
+        requires steady { Steady (table_limits self.now.words) (view_of seat.old) }
+        requires consumed { status_of (table_limits self.now.words).attempts (seen_by seat.old) row ≡ Consumed unit }
         ensures same { IsSameSeat seat.old seat.new }
-        ensures looked { Looked (limits_of self.now.words) 1 (view_of seat.old) (view_of seat.new) }
-        ensures told { IsEnded (limits_of self.now.words) row (seen_by seat.new) result }
+        ensures looked { Looked (table_limits self.now.words) 1 (view_of seat.old) (view_of seat.new) }
+        ensures told { IsEnded (table_limits self.now.words) row (seen_by seat.new) result }
         ensures none { killed_there row result ≡ [] }
     {
         match self.words.load_unit(seat, unit) {
@@ -59,11 +60,11 @@ impl Shared {
     /// What stands where a kill of the row's element was refused. At most one step.
     fn left_by(&self, seat: &mut Seat, row: u32, refusal: Refusal) -> Ended
         requires own { IsSeatOf self.now.words seat.old }
-        requires steady { Steady (limits_of self.now.words) (view_of seat.old) }
-        requires past { IsPastKill (limits_of self.now.words) (seen_by seat.old) row refusal }
+        requires steady { Steady (table_limits self.now.words) (view_of seat.old) }
+        requires past { IsPastKill (table_limits self.now.words) (seen_by seat.old) row refusal }
         ensures same { IsSameSeat seat.old seat.new }
-        ensures looked { Looked (limits_of self.now.words) 1 (view_of seat.old) (view_of seat.new) }
-        ensures told { IsEnded (limits_of self.now.words) row (seen_by seat.new) result }
+        ensures looked { Looked (table_limits self.now.words) 1 (view_of seat.old) (view_of seat.new) }
+        ensures told { IsEnded (table_limits self.now.words) row (seen_by seat.new) result }
         ensures none { killed_there row result ≡ [] }
     {
         match refusal {
@@ -76,11 +77,12 @@ impl Shared {
     #[inline(always)]
     fn end_row(&self, seat: &mut Seat, row: u32) -> Ended
         requires own { IsSeatOf self.now.words seat.old }
-        requires steady { Steady (limits_of self.now.words) (view_of seat.old) }
-        requires row { (row < rows_of (limits_of self.now.words)) × HasElement (seen_by seat.old) row }
+        requires steady { Steady (table_limits self.now.words) (view_of seat.old) }
+        requires row { (row < rows_of (table_limits self.now.words)) × HasElement (seen_by seat.old) row }
         requires free { (hand_of seat.old).open_unit ≡ None }
         ensures same { IsSameSeat seat.old seat.new }
-        ensures told { let l = limits_of self.now.words in (root : ℕ) → IsOfFamily (seen_by seat.old) root row
+        ensures told { let l = table_limits self.now.words in (root : ℕ)
+            → IsOfFamily (seen_by seat.old) root row
             → EndsAt l (end_steps l) root row result (view_of seat.old) (view_of seat.new) }
     {
         let head = self.head_at(seat, row);
@@ -93,23 +95,24 @@ impl Shared {
         }
     }
 
-    /// Goes through the family, and ends the work on each element that it comes to. How many elements it killed.
-    /// The set is empty before and after.
+    /// Goes through the family, and ends the work on each element that it comes to. How many elements it
+    /// killed. The set is empty before and after.
     fn cancel_family(&self, seat: &mut Seat, rows: &mut RowSet, root: u32) -> u32
         requires own { IsSeatOf self.now.words seat.old }
-        requires steady { Steady (limits_of self.now.words) (view_of seat.old) }
-        requires request { (root < rows_of (limits_of self.now.words)) × IsRequest (seen_by seat.old) root }
+        requires steady { Steady (table_limits self.now.words) (view_of seat.old) }
+        requires request { (root < rows_of (table_limits self.now.words))
+            × IsRequest (seen_by seat.old) root }
         requires free { (hand_of seat.old).open_unit ≡ None }
         requires none { IsEmpty rows.old }
         ensures same { IsSameSeat seat.old seat.new }
         ensures none { IsEmpty rows.new }
-        ensures told { let l = limits_of self.now.words in
+        ensures told { let l = table_limits self.now.words in
             CancelsIn l (ends_steps l (length (family (seen_by seat.new) root))) root result
             (view_of seat.old) (view_of seat.new) }
     {
         let mut killed = 0;
         let mut ahead = Ahead::of(root);
-        for _past in 0..MOST_ROWS + 1 {
+        for _past in 0..MAX_ROWS + 1 {
             let Some(row) = ahead.take_least(rows) else {
                 return killed;
             };
@@ -129,8 +132,9 @@ impl Manager {
     /// of them is consumed or killed, and none is born, claimed or committed any more. Replies are left
     /// alone. The pass has no unit open.
     ///
-    /// It goes from the root to the outputs of the unit that consumed it, and on, always from the least id that it has
-    /// come to and not gone on from, and through nothing else: `few` names how many elements that are.
+    /// It goes from the root to the outputs of the unit that consumed it, and on, always from the least id
+    /// that it has come to and not gone on from, and through nothing else: `few` names how many elements that
+    /// are.
     ///
     /// `NotThere` where no client's element with this id is born.
     pub fn cancel(&self, pass: &mut Pass, root: u32) -> Result<Cancelled, Refusal>

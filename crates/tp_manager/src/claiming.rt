@@ -58,15 +58,16 @@ impl Manager {
     }
 }
 
-/// Of two claims of a stage by one pass, the second looks at none of the first rows of a part, or of the spare
-/// blocks, that the first came to and that were of no use to the stage meanwhile. So it costs what the rows that
-/// are left cost, and at most three steps a part. The function does nothing: its contract is the law.
+/// Of two claims of a stage by one pass, the second looks at none of the first rows of a part, or of the
+/// spare blocks, that the first came to and that were of no use to the stage meanwhile. So it costs what the
+/// rows that are left cost, and at most three steps a part. The function does nothing: its contract is the
+/// law.
 pub fn few_again()
     ensures few { (l : Limits) (stage : ℕ) → FewAgain l stage }
 {}
 
-/// Of the elements of a stage that one pass made, a claim takes one of an earlier call before those of a later call,
-/// but for what it found not to wait. The function does nothing: its contract is the law.
+/// Of the elements of a stage that one pass made, a claim takes one of an earlier call before those of a
+/// later call, but for what it found not to wait. The function does nothing: its contract is the law.
 pub fn first_in_first_out()
     ensures first { (l : Limits) → FirstInFirstOut l }
 {}

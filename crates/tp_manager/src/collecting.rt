@@ -1,22 +1,23 @@
 //! The collection of a reply.
+ghost use Rattle.tp_model.specs.declared.types.TheConstants.{REPLY_STAGE};
 ghost use Rattle.std.specs.Prelude.{◌≡◌, ◌<◌, ℕ, [], MatchResult, None, Some, true, false};
 ghost use Rattle.tp_model.specs.History.{element_of};
 ghost use Rattle.tp_model.specs.Steps.{rows_of};
 ghost use Rattle.tp_model.specs.Words.{KilledWord};
 ghost use Rattle.tp_words.specs.Words.{claim_value};
 ghost use Rattle.tp_rule.specs.Views.{hand_of, seen_by, view_of, IsSameSeat};
-ghost use Rattle.tp_rule.specs.Tables.{limits_of, IsSeatOf};
+ghost use Rattle.tp_rule.specs.Tables.{table_limits, IsSeatOf};
 ghost use Rattle.tp_manager.specs.Shown.{IsOf};
 ghost use Rattle.tp_manager.specs.Bounds.{collect_steps, take_steps};
 ghost use Rattle.tp_manager.specs.Calls.{Follows, HasLooked};
 ghost use Rattle.tp_manager.specs.Kills.{Slain};
-ghost use Rattle.tp_manager.specs.Looks.{IsThere};
+ghost use Rattle.tp_manager.specs.Looks.{IsBornAs};
 ghost use Rattle.tp_manager.specs.Walks.{Steady, Looked};
 ghost use Rattle.tp_manager.specs.Releases.{Collects, CollectFails, IsPastCollect};
 
-use crate::looking::Birth;
 use crate::manager::{Manager, Pass, Shared};
-use tp_model::types::{Element, Refusal};
+use crate::row_reads::Birth;
+use tp_model::types::{Element, REPLY_STAGE, Refusal};
 use tp_rule::Seat;
 use tp_words::Claim;
 
@@ -51,14 +52,14 @@ impl Shared {
         birth: Birth,
     ) -> Result<Element, Refusal>
         requires own { IsSeatOf self.now.words seat.old }
-        requires steady { Steady (limits_of self.now.words) (view_of seat.old) }
-        requires row { row < rows_of (limits_of self.now.words) }
-        requires there { IsThere (seen_by seat.old) row birth }
-        requires reply { birth.stage ≡ 15 }
+        requires steady { Steady (table_limits self.now.words) (view_of seat.old) }
+        requires row { row < rows_of (table_limits self.now.words) }
+        requires there { IsBornAs (seen_by seat.old) row birth }
+        requires reply { birth.stage ≡ REPLY_STAGE }
         ensures same { IsSameSeat seat.old seat.new }
-        ensures told { let l = limits_of self.now.words in MatchResult result
+        ensures told { let l = table_limits self.now.words in MatchResult result
             (λ x. Slain l take_steps row [] (view_of seat.old) (view_of seat.new)
-            × (element_of (seen_by seat.new) row ≡ Some x) × (x.stage ≡ 15))
+            × (element_of (seen_by seat.new) row ≡ Some x) × (x.stage ≡ REPLY_STAGE))
             (λ refusal. Looked l take_steps (view_of seat.old) (view_of seat.new)
             × IsPastCollect l row (seen_by seat.old) (seen_by seat.new) refusal) }
     {
@@ -75,8 +76,8 @@ impl Shared {
 }
 
 impl Manager {
-    /// Takes the reply with this id, once: it is killed, so that nobody else collects it. The pass has no unit
-    /// open. `NotThere` where no element with this id is born, `BadStage` where it is no reply, and
+    /// Takes the reply with this id, once: it is killed, so that nobody else collects it. The pass has no
+    /// unit open. `NotThere` where no element with this id is born, `BadStage` where it is no reply, and
     /// `AlreadyKilled` where it was collected or killed before.
     pub fn collect(&self, pass: &mut Pass, id: u32) -> Result<Element, Refusal>
         requires own { IsOf self.now pass.old }
@@ -99,7 +100,7 @@ impl Manager {
         let Some(birth) = shared.birth_from(seat, id, head) else {
             return Err(Refusal::NotThere);
         };
-        if birth.stage != 15 {
+        if birth.stage != REPLY_STAGE {
             return Err(Refusal::BadStage);
         }
         match shared.collect_row(seat, id, birth) {

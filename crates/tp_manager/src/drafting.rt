@@ -4,7 +4,7 @@ ghost use Rattle.std.specs.List.{All};
 ghost use Rattle.tp_model.specs.Births.{IsWhole, outputs};
 ghost use Rattle.tp_model.specs.Steps.{rows_of};
 ghost use Rattle.tp_rule.specs.Views.{hand_of, next_row, view_of, IsNextRow, IsSameSeat};
-ghost use Rattle.tp_rule.specs.Tables.{limits_of, IsSeatOf};
+ghost use Rattle.tp_rule.specs.Tables.{table_limits, IsSeatOf};
 ghost use Rattle.tp_manager.specs.Walks.{output, IsBlank, Steady, Wrote};
 
 use crate::manager::Shared;
@@ -15,13 +15,13 @@ impl Shared {
     /// Writes a draft into the next row of the pass, which has the unit open. At most five steps.
     fn write_one(&self, seat: &mut Seat, row: u32, draft: Draft, root: u16, unit: u16)
         requires own { IsSeatOf self.now.words seat.old }
-        requires steady { Steady (limits_of self.now.words) (view_of seat.old) }
-        requires next { IsNextRow (limits_of self.now.words) (view_of seat.old) row }
+        requires steady { Steady (table_limits self.now.words) (view_of seat.old) }
+        requires next { IsNextRow (table_limits self.now.words) (view_of seat.old) row }
         requires fits { unit < 65535 }
         requires open_unit { (hand_of seat.old).open_unit ≡ Some unit }
         requires blank { IsBlank (view_of seat.old) }
         ensures same { IsSameSeat seat.old seat.new }
-        ensures wrote { let l = limits_of self.now.words in
+        ensures wrote { let l = table_limits self.now.words in
             Wrote l (output unit root row draft ∷ []) (view_of seat.old) (view_of seat.new) }
         ensures whole { IsWhole draft }
     {
@@ -40,16 +40,16 @@ impl Shared {
         unit: u16,
     )
         requires own { IsSeatOf self.now.words seat.old }
-        requires steady { Steady (limits_of self.now.words) (view_of seat.old) }
+        requires steady { Steady (table_limits self.now.words) (view_of seat.old) }
         requires next { first ≡ next_row (view_of seat.old) }
-        requires room { let l = limits_of self.now.words in
+        requires room { let l = table_limits self.now.words in
             (length drafts.now ≤ (hand_of seat.old).left)
             × (first + length drafts.now ≤ rows_of l) }
         requires fits { unit < 65535 }
         requires open_unit { (hand_of seat.old).open_unit ≡ Some unit }
         requires blank { IsBlank (view_of seat.old) }
         ensures same { IsSameSeat seat.old seat.new }
-        ensures wrote { let l = limits_of self.now.words in
+        ensures wrote { let l = table_limits self.now.words in
             Wrote l (outputs unit root first drafts.now) (view_of seat.old) (view_of seat.new) }
         ensures whole { All IsWhole drafts.now }
     {

@@ -1,7 +1,7 @@
 //! Rows from the spare blocks.
 ghost use Rattle.std.specs.Prelude.{◌≡◌, ◌+◌, ◌-◌, ◌<◌, ◌≤◌, [], true, false};
 ghost use Rattle.tp_rule.specs.Views.{hand_of, view_of, IsSameSeat};
-ghost use Rattle.tp_rule.specs.Tables.{limits_of, IsSeatOf};
+ghost use Rattle.tp_rule.specs.Tables.{table_limits, IsSeatOf};
 ghost use Rattle.tp_manager.specs.Shown.{IsOf};
 ghost use Rattle.tp_manager.specs.Draws.{Drawn, HasRoom, NoRoom};
 ghost use Rattle.tp_manager.specs.Bounds.{draw_steps};
@@ -19,7 +19,7 @@ impl Shared {
     /// block, since an exchange of their counter that fails has found it higher.
     fn draw(&self, seat: &mut Seat, run: &mut Run) -> bool
         requires own { IsSeatOf self.now.words seat.old }
-        requires steady { Steady (limits_of self.now.words) (view_of seat.old) }
+        requires steady { Steady (table_limits self.now.words) (view_of seat.old) }
         requires drawn { RemembersDrawn (view_of seat.old) run.old.drawn }
         requires no_drafts { (hand_of seat.old).drafts ≡ [] }
         ensures same { IsSameSeat seat.old seat.new }
@@ -27,9 +27,9 @@ impl Shared {
         ensures risen { run.old.drawn ≤ run.new.drawn }
         ensures fresh { result ≡ true → run.old.drawn < run.new.drawn }
         ensures done { run.new.done ≡ run.old.done }
-        ensures yes { result ≡ true → let l = limits_of self.now.words in
+        ensures yes { result ≡ true → let l = table_limits self.now.words in
             Drawn l (draw_steps l) (view_of seat.old) (view_of seat.new) run.new }
-        ensures no { result ≡ false → let l = limits_of self.now.words in
+        ensures no { result ≡ false → let l = table_limits self.now.words in
             Tried l (l.spare - run.old.drawn) (view_of seat.old) (view_of seat.new)
             × (run.new ≡ record run.old { drawn = l.spare }) }
     {
@@ -54,10 +54,10 @@ impl Shared {
     /// each.
     fn void_rows(&self, seat: &mut Seat, first: u32, count: u16)
         requires own { IsSeatOf self.now.words seat.old }
-        requires steady { Steady (limits_of self.now.words) (view_of seat.old) }
-        requires left { AreLeft (limits_of self.now.words) (view_of seat.old) first count }
+        requires steady { Steady (table_limits self.now.words) (view_of seat.old) }
+        requires left { AreLeft (table_limits self.now.words) (view_of seat.old) first count }
         ensures same { IsSameSeat seat.old seat.new }
-        ensures tried { Tried (limits_of self.now.words) count (view_of seat.old) (view_of seat.new) }
+        ensures tried { Tried (table_limits self.now.words) count (view_of seat.old) (view_of seat.new) }
         ensures headed { AreHeaded (view_of seat.new) first count }
     {
         for i in 0..count {
@@ -65,11 +65,11 @@ impl Shared {
         }
     }
 
-    /// Draws a spare block, unless all are drawn. Then none of the rows that the pass leaves behind is empty: so
-    /// marks of the spare rows can rise over them.
+    /// Draws a spare block, unless all are drawn. Then none of the rows that the pass leaves behind is empty:
+    /// so marks of the spare rows can rise over them.
     fn draw_on(&self, seat: &mut Seat, run: &mut Run) -> bool
         requires own { IsSeatOf self.now.words seat.old }
-        requires steady { Steady (limits_of self.now.words) (view_of seat.old) }
+        requires steady { Steady (table_limits self.now.words) (view_of seat.old) }
         requires drawn { RemembersDrawn (view_of seat.old) run.old.drawn }
         requires no_drafts { (hand_of seat.old).drafts ≡ [] }
         requires run { ((hand_of seat.old).next ≡ run.old.next) × ((hand_of seat.old).left ≡ run.old.left) }
@@ -78,10 +78,10 @@ impl Shared {
         ensures risen { run.old.drawn ≤ run.new.drawn }
         ensures fresh { result ≡ true → run.old.drawn < run.new.drawn }
         ensures done { run.new.done ≡ run.old.done }
-        ensures yes { result ≡ true → let l = limits_of self.now.words in
+        ensures yes { result ≡ true → let l = table_limits self.now.words in
             Drawn l (draw_steps l + run.old.left) (view_of seat.old) (view_of seat.new) run.new }
         ensures headed { result ≡ true → AreHeaded (view_of seat.new) run.old.next run.old.left }
-        ensures no { result ≡ false → let l = limits_of self.now.words in
+        ensures no { result ≡ false → let l = table_limits self.now.words in
             Tried l (l.spare - run.old.drawn) (view_of seat.old) (view_of seat.new)
             × (run.new ≡ record run.old { drawn = l.spare }) }
     {
@@ -113,8 +113,8 @@ impl Manager {
     }
 }
 
-/// The rows that a pass uses lie above all that it has used before. The function does nothing: its contract is the
-/// law.
+/// The rows that a pass uses lie above all that it has used before. The function does nothing: its contract
+/// is the law.
 pub fn ids_go_up()
     ensures up { (l : Limits) → IdsGoUp l }
 {}

@@ -2,14 +2,14 @@
 ghost use Rattle.std.specs.Prelude.{◌≡◌, ◌≤◌, None, IfSome, IsSome, length};
 ghost use Rattle.tp_manager.specs.Shown.{IsOf};
 ghost use Rattle.tp_manager.specs.Bounds.{abort_steps, close_steps, commit_steps};
-ghost use Rattle.tp_manager.specs.Calls.{Ends, Follows, HasEnded, Settles};
+ghost use Rattle.tp_manager.specs.Calls.{AnswersAbort, Follows, HasEnded, Settles};
 
 use crate::manager::{Manager, Pass};
 use tp_model::types::{Draft, Ended, Outcome};
 
 impl Manager {
-    /// Gives up the open unit of work: its element waits again, or is parked. `Already` where another caller
-    /// had aborted the unit. Either way the pass has no unit open any more.
+    /// Gives up the open unit of work: its element waits again, or is parked. `AlreadyAborted` where another
+    /// caller had aborted the unit. Either way the pass has no unit open any more.
     pub fn abort(&self, pass: &mut Pass) -> Ended
         requires own { IsOf self.now pass.old }
         requires busy { IsSome pass.old.open_unit }
@@ -18,7 +18,7 @@ impl Manager {
         ensures follows { Follows abort_steps pass.old pass.new }
         ensures free { pass.new.open_unit ≡ None }
         ensures ended { IfSome pass.old.open_unit (HasEnded pass.new.seen) }
-        ensures answer { Ends pass.old pass.new result }
+        ensures answer { AnswersAbort pass.old pass.new result }
         ensures kept { pass.new.seen_blocks ≡ pass.old.seen_blocks }
     {
         let shared = &self.shared;
@@ -33,7 +33,7 @@ impl Manager {
             }
             Err(_) => {
                 pass.task = None;
-                Ended::Already
+                Ended::AlreadyAborted
             }
         }
     }

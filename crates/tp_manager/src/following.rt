@@ -4,7 +4,7 @@ ghost use Rattle.tp_model.specs.Families.{family};
 ghost use Rattle.tp_model.specs.Steps.{rows_of};
 ghost use Rattle.tp_rule.specs.Steps.{HasElement};
 ghost use Rattle.tp_rule.specs.Views.{seen_by, view_of, IsSameSeat};
-ghost use Rattle.tp_rule.specs.Tables.{limits_of, IsSeatOf};
+ghost use Rattle.tp_rule.specs.Tables.{table_limits, IsSeatOf};
 ghost use Rattle.tp_manager.specs.Shown.{IsOf};
 ghost use Rattle.tp_manager.specs.Bounds.{family_look_steps, family_steps, read_steps};
 ghost use Rattle.tp_manager.specs.Calls.{Follows, HasLooked, IsLook, IsQuiet};
@@ -19,11 +19,12 @@ impl Shared {
     /// The element that is born in the row, and how it stands.
     fn look_at(&self, seat: &mut Seat, row: u32) -> Look
         requires own { IsSeatOf self.now.words seat.old }
-        requires steady { Steady (limits_of self.now.words) (view_of seat.old) }
-        requires row { (row < rows_of (limits_of self.now.words)) × HasElement (seen_by seat.old) row }
+        requires steady { Steady (table_limits self.now.words) (view_of seat.old) }
+        requires row { (row < rows_of (table_limits self.now.words)) × HasElement (seen_by seat.old) row }
         ensures same { IsSameSeat seat.old seat.new }
-        ensures looked { let l = limits_of self.now.words in Looked l (read_steps l) (view_of seat.old) (view_of seat.new) }
-        ensures told { IsLook (limits_of self.now.words) row result (seen_by seat.new) }
+        ensures looked { let l = table_limits self.now.words in Looked l (read_steps l) (view_of seat.old)
+            (view_of seat.new) }
+        ensures told { IsLook (table_limits self.now.words) row result (seen_by seat.new) }
     {
         let head = self.head_at(seat, row);
         let Some(birth) = self.birth_from(seat, row, head) else {
@@ -36,8 +37,8 @@ impl Shared {
 }
 
 impl Manager {
-    /// The element of the request with this root that has the least id from this one on, and how it stands: so where
-    /// an order is. `None` where there is none.
+    /// The element of the request with this root that has the least id from this one on, and how it stands:
+    /// so where an order is. `None` where there is none.
     pub fn family(&self, pass: &mut Pass, root: u32, from: u32) -> Option<Look>
         requires own { IsOf self.now pass.old }
         ensures own { IsOf self.now pass.new }

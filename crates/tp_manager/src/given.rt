@@ -3,19 +3,19 @@ ghost use Rattle.std.specs.Prelude.{◌≡◌, ◌<◌, None, MatchOption, Match
 ghost use Rattle.tp_model.specs.History.{status_of};
 ghost use Rattle.tp_model.specs.Steps.{AreLimits, IsServerStage, rows_of};
 ghost use Rattle.tp_rule.specs.Views.{seen_by, view_of, IsSameSeat};
-ghost use Rattle.tp_rule.specs.Tables.{limits_of, IsSeatOf};
+ghost use Rattle.tp_rule.specs.Tables.{table_limits, IsSeatOf};
 ghost use Rattle.tp_manager.specs.Shown.{IsOf};
 ghost use Rattle.tp_manager.specs.Bounds.{claim_id_steps, given_steps};
 ghost use Rattle.tp_manager.specs.Calls.{claims_in, Follows, HasLooked, IsWaiting};
 ghost use Rattle.tp_manager.specs.Given.{ClaimIdFails, TakesId};
-ghost use Rattle.tp_manager.specs.Looks.{IsThere};
+ghost use Rattle.tp_manager.specs.Looks.{IsBornAs};
 ghost use Rattle.tp_manager.specs.Requeues.{IsBetween};
 ghost use Rattle.tp_manager.specs.Walks.{IsSpare, Looked, Steady, Took};
 
-use crate::looking::Birth;
 use crate::manager::{Manager, Pass, Shared, Task};
+use crate::row_reads::Birth;
 use crate::scanning::{Stand, Taken};
-use tp_model::types::{Refusal, Work};
+use tp_model::types::{REPLY_STAGE, Refusal, Work};
 use tp_rule::Seat;
 
 impl Shared {
@@ -23,13 +23,13 @@ impl Shared {
     /// moment.
     fn claim_row(&self, seat: &mut Seat, row: u32, birth: Birth, unit: u16) -> Option<Taken>
         requires own { IsSeatOf self.now.words seat.old }
-        requires steady { Steady (limits_of self.now.words) (view_of seat.old) }
-        requires row { row < rows_of (limits_of self.now.words) }
-        requires there { IsThere (seen_by seat.old) row birth }
+        requires steady { Steady (table_limits self.now.words) (view_of seat.old) }
+        requires row { row < rows_of (table_limits self.now.words) }
+        requires there { IsBornAs (seen_by seat.old) row birth }
         requires stage { IsServerStage birth.stage }
         requires spare { IsSpare unit (view_of seat.old) × (unit < 65535) }
         ensures same { IsSameSeat seat.old seat.new }
-        ensures told { let l = limits_of self.now.words in let n = given_steps in MatchOption result
+        ensures told { let l = table_limits self.now.words in let n = given_steps in MatchOption result
             (Looked l n (view_of seat.old) (view_of seat.new)
             × IsBetween (seen_by seat.old) (seen_by seat.new) (λ h. ¬ IsWaiting (status_of l.attempts h row)))
             (λ t. Took l n row t.element.stage unit (view_of seat.old) (view_of seat.new) t.element t.attempt
@@ -86,7 +86,7 @@ impl Manager {
         let Some(birth) = shared.birth_from(seat, id, head) else {
             return Err(Refusal::NotThere);
         };
-        if birth.stage == 15 {
+        if birth.stage == REPLY_STAGE {
             return Err(Refusal::BadStage);
         }
         let Some(taken) = shared.claim_row(seat, id, birth, unit) else {

@@ -5,7 +5,7 @@ ghost use Rattle.tp_model.specs.Words.{claim_word};
 ghost use Rattle.tp_words.specs.Words.{claim_value, IsFitClaim};
 ghost use Rattle.tp_rule.specs.Steps.{HasElement};
 ghost use Rattle.tp_rule.specs.Views.{hand_of, seen_by, view_of, IsSameSeat};
-ghost use Rattle.tp_rule.specs.Tables.{limits_of, IsSeatOf};
+ghost use Rattle.tp_rule.specs.Tables.{table_limits, IsSeatOf};
 ghost use Rattle.tp_manager.specs.Shown.{IsOf};
 ghost use Rattle.tp_manager.specs.Calls.{Follows, HasLooked, Kills, KillFails};
 ghost use Rattle.tp_manager.specs.Walks.{Steady, Looked};
@@ -47,12 +47,12 @@ impl Shared {
     #[inline(always)]
     fn loosen(&self, seat: &mut Seat, row: u32, claim: Claim) -> Result<u8, Refusal>
         requires own { IsSeatOf self.now.words seat.old }
-        requires steady { Steady (limits_of self.now.words) (view_of seat.old) }
-        requires row { row < rows_of (limits_of self.now.words) }
+        requires steady { Steady (table_limits self.now.words) (view_of seat.old) }
+        requires row { row < rows_of (table_limits self.now.words) }
         requires found { claim_value claim ≡ claim_word (seen_by seat.old) row }
         requires free { (hand_of seat.old).open_unit ≡ None }
         ensures same { IsSameSeat seat.old seat.new }
-        ensures told { let l = limits_of self.now.words in let word = claim_value claim in MatchResult result
+        ensures told { let l = table_limits self.now.words in let word = claim_value claim in MatchResult result
             (λ count. Loosened l row word count (view_of seat.old) (view_of seat.new))
             (λ refusal. Looked l (takers word) (view_of seat.old) (view_of seat.new)
             × IsPastKill l (seen_by seat.new) row refusal) }
@@ -93,14 +93,14 @@ impl Shared {
         left: u8,
     ) -> Result<u8, Refusal>
         requires own { IsSeatOf self.now.words seat.old }
-        requires steady { Steady (limits_of self.now.words) (view_of seat.old) }
-        requires row { (row < rows_of (limits_of self.now.words)) × HasElement (seen_by seat.old) row }
+        requires steady { Steady (table_limits self.now.words) (view_of seat.old) }
+        requires row { (row < rows_of (table_limits self.now.words)) × HasElement (seen_by seat.old) row }
         requires found { (claim_value claim.tells ≡ claim_word (seen_by seat.old) row)
             × IsFitClaim (claim_value claim.tells) }
         requires free { (hand_of seat.old).open_unit ≡ None }
-        requires enough { IsEnough (limits_of self.now.words) left (claim_value claim.tells) }
+        requires enough { IsEnough (table_limits self.now.words) left (claim_value claim.tells) }
         ensures same { IsSameSeat seat.old seat.new }
-        ensures told { let l = limits_of self.now.words in let n = slay_from left (claim_value claim.tells) in
+        ensures told { let l = table_limits self.now.words in let n = slay_from left (claim_value claim.tells) in
             MatchResult result
             (λ count. KillsIn l n row left count (view_of seat.old) (view_of seat.new))
             (λ refusal. FailsIn l n row left refusal (view_of seat.old) (view_of seat.new)) }
@@ -128,14 +128,14 @@ impl Shared {
         left: u8,
     ) -> Result<u8, Refusal>
         requires own { IsSeatOf self.now.words seat.old }
-        requires steady { Steady (limits_of self.now.words) (view_of seat.old) }
-        requires row { (row < rows_of (limits_of self.now.words)) × HasElement (seen_by seat.old) row }
+        requires steady { Steady (table_limits self.now.words) (view_of seat.old) }
+        requires row { (row < rows_of (table_limits self.now.words)) × HasElement (seen_by seat.old) row }
         requires found { (claim_value claim.tells ≡ claim_word (seen_by seat.old) row)
             × IsFitClaim (claim_value claim.tells) }
         requires free { (hand_of seat.old).open_unit ≡ None }
-        requires enough { IsEnough (limits_of self.now.words) left (claim_value claim.tells) }
+        requires enough { IsEnough (table_limits self.now.words) left (claim_value claim.tells) }
         ensures same { IsSameSeat seat.old seat.new }
-        ensures told { let l = limits_of self.now.words in let n = slay_from left (claim_value claim.tells) in
+        ensures told { let l = table_limits self.now.words in let n = slay_from left (claim_value claim.tells) in
             MatchResult result
             (λ count. KillsIn l n row left count (view_of seat.old) (view_of seat.new))
             (λ refusal. FailsIn l n row left refusal (view_of seat.old) (view_of seat.new)) }
@@ -148,11 +148,11 @@ impl Shared {
     #[inline(always)]
     pub(crate) fn kill_row(&self, seat: &mut Seat, row: u32) -> Result<u8, Refusal>
         requires own { IsSeatOf self.now.words seat.old }
-        requires steady { Steady (limits_of self.now.words) (view_of seat.old) }
-        requires row { (row < rows_of (limits_of self.now.words)) × HasElement (seen_by seat.old) row }
+        requires steady { Steady (table_limits self.now.words) (view_of seat.old) }
+        requires row { (row < rows_of (table_limits self.now.words)) × HasElement (seen_by seat.old) row }
         requires free { (hand_of seat.old).open_unit ≡ None }
         ensures same { IsSameSeat seat.old seat.new }
-        ensures told { let l = limits_of self.now.words in let n = slay_steps l in MatchResult result
+        ensures told { let l = table_limits self.now.words in let n = slay_steps l in MatchResult result
             (λ count. KillsIn l n row (tries l.attempts) count (view_of seat.old) (view_of seat.new))
             (λ refusal. FailsIn l n row (tries l.attempts) refusal (view_of seat.old) (view_of seat.new)) }
     {

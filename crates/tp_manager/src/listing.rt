@@ -1,26 +1,29 @@
 //! The next element of the error queue.
-ghost use Rattle.std.specs.Prelude.{◌≡◌, ◌⊎◌, ◌+◌, ◌-◌, ◌*◌, ◌<◌, ◌≤◌, ℕ, slice_index, IfSome, MatchOption, Option, true, false};
+ghost use Rattle.std.specs.Prelude.{◌≡◌, ◌⊎◌, ◌+◌, ◌-◌, ◌*◌, ◌<◌, ◌≤◌, ℕ, slice_index, IfSome, MatchOption};
+ghost use Rattle.std.specs.Prelude.{Option, true, false};
 ghost use Rattle.tp_model.specs.declared.types.Element.{Element as element};
 ghost use Rattle.tp_model.specs.declared.types.Status.{Status as status};
 ghost use Rattle.tp_model.specs.Steps.{part_rows, rows_of, IsParked, IsRowOf};
 ghost use Rattle.tp_rule.specs.Views.{seen_by, view_of, IsSameSeat};
-ghost use Rattle.tp_rule.specs.Tables.{limits_of, IsSeatOf};
+ghost use Rattle.tp_rule.specs.Tables.{table_limits, IsSeatOf};
 ghost use Rattle.tp_words.specs.Words.{head_of};
-ghost use Rattle.tp_words.specs.declared.words.Head.TheVariants.{There};
+ghost use Rattle.tp_words.specs.declared.words.Head.TheVariants.{Filled};
 ghost use Rattle.tp_words.specs.declared.places.TheConstants.{MARK_KINDS};
 ghost use Rattle.tp_rule.specs.Rule.{Concerns};
-ghost use Rattle.tp_manager.specs.Shown.{marks_of, IsOf, Rises};
-ghost use Rattle.tp_manager.specs.Bounds.{listing_steps_left, look_steps, marked_steps, next_error_steps, scan_steps, spare_left};
+ghost use Rattle.tp_manager.specs.Shown.{marks_of, IsOf, NoneFalls};
+ghost use Rattle.tp_manager.specs.Bounds.{listing_steps_left, look_steps, marked_steps, next_error_steps};
+ghost use Rattle.tp_manager.specs.Bounds.{scan_steps, spare_left};
 ghost use Rattle.tp_manager.specs.Calls.{Follows, HasLooked, IsQuiet};
 ghost use Rattle.tp_manager.specs.Lists.{NoneParked, NextError};
 ghost use Rattle.tp_manager.specs.Looks.{GoesOn};
-ghost use Rattle.tp_manager.specs.Walks.{Acted, Begun, EachRow, Remembers, RemembersDrawn, RisesAt, Rose, Sought, Steady};
+ghost use Rattle.tp_manager.specs.Walks.{Acted, Begun, EachRow, Remembers, RemembersDrawn, RisesAt, Rose};
+ghost use Rattle.tp_manager.specs.Walks.{Sought, Steady};
 ghost use Rattle.tp_manager.specs.Finds.{Finds, Hits, PassedOver};
 
-use crate::looking::Contents;
 use crate::manager::{Manager, Pass, Shared};
 use crate::marking::{low_after, past, past_other};
-use tp_model::types::Status;
+use crate::row_reads::Contents;
+use tp_model::types::{REPLY_STAGE, Status};
 use tp_rule::Seat;
 use tp_words::Head;
 
@@ -36,19 +39,19 @@ fn is_parked(status: Status) -> bool
 /// Whether the marks at which a listing starts are about an element with this head.
 #[inline(always)]
 fn is_listed(head: Head) -> bool
-    ensures aside { result ≡ false → (found root : ℕ) (by : Option ℕ) → head ≡ There found root by
+    ensures aside { result ≡ false → (found root : ℕ) (by : Option ℕ) → head ≡ Filled found root by
         → ¬ Concerns 0 found }
-    ensures about { result ≡ true → (found root : ℕ) (by : Option ℕ) → head ≡ There found root by
+    ensures about { result ≡ true → (found root : ℕ) (by : Option ℕ) → head ≡ Filled found root by
         → Concerns 0 found }
 {
     match head {
         Head::Empty => false,
         Head::Void => false,
-        Head::There {
+        Head::Filled {
             stage,
             root: _,
             by: _,
-        } => stage != 15,
+        } => stage != REPLY_STAGE,
     }
 }
 
@@ -67,16 +70,16 @@ impl Shared {
     #[inline(always)]
     pub(crate) fn is_parked_at(&self, seat: &mut Seat, row: &mut u32, low: &mut u32) -> bool
         requires own { IsSeatOf self.now.words seat.old }
-        requires steady { Steady (limits_of self.now.words) (view_of seat.old) }
-        requires row { row.old < rows_of (limits_of self.now.words) }
+        requires steady { Steady (table_limits self.now.words) (view_of seat.old) }
+        requires row { row.old < rows_of (table_limits self.now.words) }
         requires low { low.old ≤ row.old }
         ensures same { IsSameSeat seat.old seat.new }
-        ensures on { GoesOn (limits_of self.now.words) row.old row.new }
+        ensures on { GoesOn (table_limits self.now.words) row.old row.new }
         ensures low { (low.new ≤ row.new) × Rose 0 (view_of seat.new) low.old low.new }
-        ensures acted { let l = limits_of self.now.words in
+        ensures acted { let l = table_limits self.now.words in
             Acted l (look_steps l) (view_of seat.old) (view_of seat.new) }
-        ensures yes { result ≡ true → Hits (limits_of self.now.words) row.old (seen_by seat.new) }
-        ensures no { result ≡ false → let l = limits_of self.now.words in
+        ensures yes { result ≡ true → Hits (table_limits self.now.words) row.old (seen_by seat.new) }
+        ensures no { result ≡ false → let l = table_limits self.now.words in
             Sought l (look_steps l) (EachRow (PassedOver l) row.old row.new)
             (view_of seat.old) (view_of seat.new) }
     {
@@ -109,13 +112,13 @@ impl Shared {
         from: u32,
     ) -> Option<u32>
         requires own { IsSeatOf self.now.words seat.old }
-        requires steady { Steady (limits_of self.now.words) (view_of seat.old) }
-        requires from { IsRowOf (limits_of self.now.words) part from }
+        requires steady { Steady (table_limits self.now.words) (view_of seat.old) }
+        requires from { IsRowOf (table_limits self.now.words) part from }
         requires remembers { Remembers 0 (view_of seat.old) lows.old }
         ensures same { IsSameSeat seat.old seat.new }
         ensures remembers { Remembers 0 (view_of seat.new) lows.new }
         ensures lows { RisesAt part lows.old lows.new }
-        ensures told { let l = limits_of self.now.words in
+        ensures told { let l = table_limits self.now.words in
             Finds l (2 + (l.rows - slice_index lows.old part) * look_steps l) from (part * l.rows + l.rows)
             (view_of seat.old) (view_of seat.new) result }
     {
@@ -149,13 +152,13 @@ impl Shared {
         from: u32,
     ) -> Option<u32>
         requires own { IsSeatOf self.now.words seat.old }
-        requires steady { Steady (limits_of self.now.words) (view_of seat.old) }
-        requires from { IsRowOf (limits_of self.now.words) part from }
+        requires steady { Steady (table_limits self.now.words) (view_of seat.old) }
+        requires from { IsRowOf (table_limits self.now.words) part from }
         requires remembers { Remembers 0 (view_of seat.old) lows.old }
         ensures same { IsSameSeat seat.old seat.new }
         ensures remembers { Remembers 0 (view_of seat.new) lows.new }
         ensures lows { RisesAt part lows.old lows.new }
-        ensures told { let l = limits_of self.now.words in
+        ensures told { let l = table_limits self.now.words in
             Finds l (3 + (l.rows - slice_index lows.old part) * look_steps l) from (part * l.rows + l.rows)
             (view_of seat.old) (view_of seat.new) result }
     {
@@ -170,13 +173,13 @@ impl Shared {
     /// The first row of the parts, from this one on, whose element is looked for.
     fn find_in_parts(&self, seat: &mut Seat, lows: &mut [u16; 33], from: u32) -> Option<u32>
         requires own { IsSeatOf self.now.words seat.old }
-        requires steady { Steady (limits_of self.now.words) (view_of seat.old) }
-        requires from { from < part_rows (limits_of self.now.words) }
+        requires steady { Steady (table_limits self.now.words) (view_of seat.old) }
+        requires from { from < part_rows (table_limits self.now.words) }
         requires remembers { Remembers 0 (view_of seat.old) lows.old }
         ensures same { IsSameSeat seat.old seat.new }
         ensures remembers { Remembers 0 (view_of seat.new) lows.new }
-        ensures lows { Rises lows.old lows.new }
-        ensures told { let l = limits_of self.now.words in
+        ensures lows { NoneFalls lows.old lows.new }
+        ensures told { let l = table_limits self.now.words in
             Finds l (scan_steps l (look_steps l) 3 lows.old l.parts) from (part_rows l)
             (view_of seat.old) (view_of seat.new) result }
     {
@@ -203,16 +206,16 @@ impl Shared {
         from: u32,
     ) -> Option<u32>
         requires own { IsSeatOf self.now.words seat.old }
-        requires steady { Steady (limits_of self.now.words) (view_of seat.old) }
+        requires steady { Steady (table_limits self.now.words) (view_of seat.old) }
         requires remembers { Remembers 0 (view_of seat.old) lows.old }
         requires drawn { RemembersDrawn (view_of seat.old) drawn.old }
-        requires from { let l = limits_of self.now.words in (part_rows l ≤ from) × (from ≤ rows_of l) }
+        requires from { let l = table_limits self.now.words in (part_rows l ≤ from) × (from ≤ rows_of l) }
         ensures same { IsSameSeat seat.old seat.new }
         ensures drawn { RemembersDrawn (view_of seat.new) drawn.new }
         ensures risen { drawn.old ≤ drawn.new }
         ensures remembers { Remembers 0 (view_of seat.new) lows.new }
-        ensures lows { Rises lows.old lows.new }
-        ensures told { let l = limits_of self.now.words in
+        ensures lows { NoneFalls lows.old lows.new }
+        ensures told { let l = table_limits self.now.words in
             let n = spare_left l (look_steps l) (slice_index lows.old l.parts) in let P = PassedOver l in MatchOption result
             (Begun l P n from (rows_of l) (view_of seat.old) (view_of seat.new))
             (λ id. (from ≤ id) × (id < rows_of l) × Hits l id (seen_by seat.new)
@@ -227,17 +230,17 @@ impl Shared {
     /// The first row from this one on whose element is looked for.
     fn find(&self, seat: &mut Seat, lows: &mut [u16; 33], drawn: &mut u16, from: u32) -> Option<u32>
         requires own { IsSeatOf self.now.words seat.old }
-        requires steady { Steady (limits_of self.now.words) (view_of seat.old) }
-        requires from { from < rows_of (limits_of self.now.words) }
+        requires steady { Steady (table_limits self.now.words) (view_of seat.old) }
+        requires from { from < rows_of (table_limits self.now.words) }
         requires remembers { Remembers 0 (view_of seat.old) lows.old }
         requires drawn { RemembersDrawn (view_of seat.old) drawn.old }
         ensures same { IsSameSeat seat.old seat.new }
         ensures remembers { Remembers 0 (view_of seat.new) lows.new }
         ensures drawn { RemembersDrawn (view_of seat.new) drawn.new }
         ensures risen { drawn.old ≤ drawn.new }
-        ensures lows { Rises lows.old lows.new }
-        ensures inside { IfSome result (λ id. id < rows_of (limits_of self.now.words)) }
-        ensures told { let l = limits_of self.now.words in let t = look_steps l in
+        ensures lows { NoneFalls lows.old lows.new }
+        ensures inside { IfSome result (λ id. id < rows_of (table_limits self.now.words)) }
+        ensures told { let l = table_limits self.now.words in let t = look_steps l in
             Finds l (marked_steps l t lows.old) from (rows_of l)
             (view_of seat.old) (view_of seat.new) result }
     {

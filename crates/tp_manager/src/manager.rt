@@ -1,9 +1,10 @@
 //! The manager, the keeper that hands out its passes, and the passes.
-ghost use Rattle.std.specs.Prelude.{◌≡◌, ◌↔◌, ◌+◌, ◌-◌, ◌*◌, ◌<◌, ◌≤◌, ℕ, [], length, true, false, None, IfOk, IfErr, is_some, Err};
+ghost use Rattle.std.specs.Prelude.{◌≡◌, ◌↔◌, ◌+◌, ◌-◌, ◌*◌, ◌<◌, ◌≤◌, ℕ, [], length, true, false, None};
+ghost use Rattle.std.specs.Prelude.{IfOk, IfErr, is_some, Err};
 ghost use Rattle.tp_model.specs.Steps.{AreLimits, rows_of};
 ghost use Rattle.tp_model.specs.Passes.{IsPassView};
 ghost use Rattle.tp_rule.specs.Views.{fresh_from, view_of};
-ghost use Rattle.tp_rule.specs.Tables.{limits_of};
+ghost use Rattle.tp_rule.specs.Tables.{table_limits};
 ghost use Rattle.tp_rule.specs.Steps.{IsLow};
 ghost use Rattle.tp_manager.specs.Calls.{Follows, claims_in};
 ghost use Rattle.tp_manager.specs.Shown.{low_of, turn_of, view_in, IsOf, IsKeptBy};
@@ -32,7 +33,7 @@ pub enum MakeFault {
 pub(crate) struct Shared {
     pub words: Words,
     pub places: Places,
-    pub ghost same: { limits_of words ≡ places.limits },
+    pub ghost same: { table_limits words ≡ places.limits },
 }
 
 /// A manager of queued requests, that callers share: each call takes `&self` and the caller's own pass.
@@ -112,8 +113,8 @@ pub struct Pass {
     pub(crate) run: Run,
     pub(crate) used: u16,
     pub(crate) task: Option<Task>,
-    /// The marks of each kind and part, as the pass last loaded or set them, or as far as a raise of a stage's mark
-    /// that failed would have set it.
+    /// The marks of each kind and part, as the pass last loaded or set them, or as far as a raise of a
+    /// stage's mark that failed would have set it.
     pub(crate) lows: [[u16; 33]; 16],
     /// For each stage the row behind the element that it took last in its turn.
     pub(crate) from: [u32; 16],

@@ -8,7 +8,7 @@ ghost use Rattle.tp_rule.specs.Views.{seen_by, view_of, IsSameSeat};
 ghost use Rattle.tp_rule.specs.Rule.{IsInside};
 ghost use Rattle.tp_rule.specs.Steps.{IsLow, Knows};
 ghost use Rattle.tp_rule.specs.declared.view.Known.TheVariants.{MarkAbove, PartMark};
-ghost use Rattle.tp_rule.specs.Tables.{limits_of, IsSeatOf};
+ghost use Rattle.tp_rule.specs.Tables.{table_limits, IsSeatOf};
 ghost use Rattle.tp_manager.specs.Walks.{Acted, Looked, Remembers, RisesAt, Rose, Steady};
 
 use crate::manager::Shared;
@@ -27,7 +27,7 @@ pub(crate) fn past_other(low: u32, row: u32, head: Head) -> u32
     match head {
         Head::Empty => low,
         Head::Void => past(low, row),
-        Head::There {
+        Head::Filled {
             stage: _,
             root: _,
             by: _,
@@ -74,17 +74,17 @@ impl Shared {
     #[inline(always)]
     pub(crate) fn mark_at(&self, seat: &mut Seat, lows: &mut [u16; 33], kind: u8, part: u16) -> u16
         requires own { IsSeatOf self.now.words seat.old }
-        requires steady { Steady (limits_of self.now.words) (view_of seat.old) }
+        requires steady { Steady (table_limits self.now.words) (view_of seat.old) }
         requires kind { kind < MARK_KINDS }
         requires listed { ¬ IsServerStage kind }
-        requires part { part ≤ (limits_of self.now.words).parts }
+        requires part { part ≤ (table_limits self.now.words).parts }
         requires remembers { Remembers kind (view_of seat.old) lows.old }
         ensures same { IsSameSeat seat.old seat.new }
-        ensures acted { Acted (limits_of self.now.words) 1 (view_of seat.old) (view_of seat.new) }
+        ensures acted { Acted (table_limits self.now.words) 1 (view_of seat.old) (view_of seat.new) }
         ensures knows { Knows (view_of seat.new) (PartMark kind part result) }
         ensures remembers { Remembers kind (view_of seat.new) lows.new }
         ensures lows { (slice_index lows.new part ≡ result) × RisesAt part lows.old lows.new }
-        ensures low { IsLow (limits_of self.now.words) kind (seen_by seat.new) part result }
+        ensures low { IsLow (table_limits self.now.words) kind (seen_by seat.new) part result }
     {
         let mark = self.words.load_mark(seat, kind, part);
         lows[part as usize] = mark;
@@ -104,19 +104,20 @@ impl Shared {
         low: u32,
     )
         requires own { IsSeatOf self.now.words seat.old }
-        requires steady { Steady (limits_of self.now.words) (view_of seat.old) }
+        requires steady { Steady (table_limits self.now.words) (view_of seat.old) }
         requires kind { kind < MARK_KINDS }
-        requires part { part ≤ (limits_of self.now.words).parts }
-        requires mark { Knows (view_of seat.old) (PartMark kind part mark) × (slice_index lows.old part ≡ mark) }
+        requires part { part ≤ (table_limits self.now.words).parts }
+        requires mark { Knows (view_of seat.old) (PartMark kind part mark)
+            × (slice_index lows.old part ≡ mark) }
         requires remembers { Remembers kind (view_of seat.old) lows.old }
-        requires low { let l = limits_of self.now.words in IsInside l part (low - part * l.rows)
+        requires low { let l = table_limits self.now.words in IsInside l part (low - part * l.rows)
             × Rose kind (view_of seat.old) (part * l.rows + mark) low }
         ensures same { IsSameSeat seat.old seat.new }
-        ensures looked { Looked (limits_of self.now.words) 1 (view_of seat.old) (view_of seat.new) }
+        ensures looked { Looked (table_limits self.now.words) 1 (view_of seat.old) (view_of seat.new) }
         ensures seen { seen_by seat.new ≡ seen_by seat.old }
         ensures remembers { Remembers kind (view_of seat.new) lows.new }
         ensures lows { RisesAt part lows.old lows.new }
-        ensures raised { let l = limits_of self.now.words in (part * l.rows + slice_index lows.new part ≡ low)
+        ensures raised { let l = table_limits self.now.words in (part * l.rows + slice_index lows.new part ≡ low)
             ⊎ ((slice_index lows.new part ≡ mark) × Knows (view_of seat.new) (MarkAbove kind part mark)) }
     {
         let first = part as u32 * self.places.limits.rows as u32;
@@ -130,23 +131,23 @@ impl Shared {
         lows[part as usize] = to;
     }
 
-    /// The mark of a stage of a part, or of the spare rows where `part` is the number of parts, as it stands in the
-    /// table. What the pass remembers is that, or what it remembered where that is more: no row of the part below it
-    /// has an element of the stage that isn't consumed or killed. One step.
+    /// The mark of a stage of a part, or of the spare rows where `part` is the number of parts, as it stands
+    /// in the table. What the pass remembers is that, or what it remembered where that is more: no row of the
+    /// part below it has an element of the stage that isn't consumed or killed. One step.
     #[inline(always)]
     pub(crate) fn low_at(&self, seat: &mut Seat, lows: &mut [u16; 33], stage: u8, part: u16) -> u16
         requires own { IsSeatOf self.now.words seat.old }
-        requires steady { Steady (limits_of self.now.words) (view_of seat.old) }
+        requires steady { Steady (table_limits self.now.words) (view_of seat.old) }
         requires stage { IsServerStage stage }
-        requires part { part ≤ (limits_of self.now.words).parts }
+        requires part { part ≤ (table_limits self.now.words).parts }
         requires remembers { Remembers stage (view_of seat.old) lows.old }
         ensures same { IsSameSeat seat.old seat.new }
-        ensures acted { Acted (limits_of self.now.words) 1 (view_of seat.old) (view_of seat.new) }
+        ensures acted { Acted (table_limits self.now.words) 1 (view_of seat.old) (view_of seat.new) }
         ensures knows { Knows (view_of seat.new) (PartMark stage part result) }
         ensures remembers { Remembers stage (view_of seat.new) lows.new }
         ensures lows { RisesAt part lows.old lows.new }
-        ensures low { IsLow (limits_of self.now.words) stage (seen_by seat.new) part (slice_index lows.new part) }
-        ensures rose { let l = limits_of self.now.words in
+        ensures low { IsLow (table_limits self.now.words) stage (seen_by seat.new) part (slice_index lows.new part) }
+        ensures rose { let l = table_limits self.now.words in
             Rose stage (view_of seat.new) (part * l.rows + result) (part * l.rows + slice_index lows.new part) }
     {
         let mark = self.words.load_mark(seat, stage, part);
@@ -156,9 +157,9 @@ impl Shared {
         mark
     }
 
-    /// Raises the mark of a stage of a part, or of the spare rows, where the first row that isn't known of no use is
-    /// behind it. The pass remembers that row, also where another pass has raised the mark meanwhile. At most one
-    /// step.
+    /// Raises the mark of a stage of a part, or of the spare rows, where the first row that isn't known of no
+    /// use is behind it. The pass remembers that row, also where another pass has raised the mark meanwhile.
+    /// At most one step.
     pub(crate) fn raise_low(
         &self,
         seat: &mut Seat,
@@ -169,20 +170,21 @@ impl Shared {
         low: u32,
     )
         requires own { IsSeatOf self.now.words seat.old }
-        requires steady { Steady (limits_of self.now.words) (view_of seat.old) }
+        requires steady { Steady (table_limits self.now.words) (view_of seat.old) }
         requires stage { IsServerStage stage }
-        requires part { part ≤ (limits_of self.now.words).parts }
-        requires mark { Knows (view_of seat.old) (PartMark stage part mark) × (mark ≤ slice_index lows.old part) }
+        requires part { part ≤ (table_limits self.now.words).parts }
+        requires mark { Knows (view_of seat.old) (PartMark stage part mark)
+            × (mark ≤ slice_index lows.old part) }
         requires remembers { Remembers stage (view_of seat.old) lows.old }
-        requires low { let l = limits_of self.now.words in IsInside l part (low - part * l.rows)
+        requires low { let l = table_limits self.now.words in IsInside l part (low - part * l.rows)
             × (part * l.rows + slice_index lows.old part ≤ low)
             × Rose stage (view_of seat.old) (part * l.rows + mark) low }
         ensures same { IsSameSeat seat.old seat.new }
-        ensures looked { Looked (limits_of self.now.words) 1 (view_of seat.old) (view_of seat.new) }
+        ensures looked { Looked (table_limits self.now.words) 1 (view_of seat.old) (view_of seat.new) }
         ensures seen { seen_by seat.new ≡ seen_by seat.old }
         ensures remembers { Remembers stage (view_of seat.new) lows.new }
         ensures lows { RisesAt part lows.old lows.new }
-        ensures rests { part * (limits_of self.now.words).rows + slice_index lows.new part ≡ low }
+        ensures rests { part * (table_limits self.now.words).rows + slice_index lows.new part ≡ low }
     {
         let first = part as u32 * self.places.limits.rows as u32;
         let to = (low - first) as u16;
@@ -198,15 +200,16 @@ impl Shared {
     #[inline(always)]
     pub(crate) fn is_bare(&self, seat: &mut Seat, part: u16, row: u32, done: Option<u32>) -> bool
         requires own { IsSeatOf self.now.words seat.old }
-        requires steady { Steady (limits_of self.now.words) (view_of seat.old) }
-        requires part { part < (limits_of self.now.words).parts }
-        requires row { let l = limits_of self.now.words in
+        requires steady { Steady (table_limits self.now.words) (view_of seat.old) }
+        requires part { part < (table_limits self.now.words).parts }
+        requires row { let l = table_limits self.now.words in
             (part * l.rows ≤ row) × (row ≤ part * l.rows + l.rows) }
         ensures same { IsSameSeat seat.old seat.new }
-        ensures bare { result ≡ true → let l = limits_of self.now.words in
+        ensures bare { result ≡ true → let l = table_limits self.now.words in
             Acted l 1 (view_of seat.old) (view_of seat.new)
             × ((i : ℕ) → row ≤ i → i < part * l.rows + l.rows → IsUnborn (seen_by seat.new) i) }
-        ensures more { result ≡ false → Looked (limits_of self.now.words) 1 (view_of seat.old) (view_of seat.new) }
+        ensures more { result ≡ false → Looked (table_limits self.now.words) 1 (view_of seat.old)
+            (view_of seat.new) }
     {
         let rows = self.places.limits.rows as u32;
         self.is_bare_to(seat, part, row, part as u32 * rows + rows, done)
@@ -223,15 +226,16 @@ impl Shared {
         done: Option<u32>,
     ) -> bool
         requires own { IsSeatOf self.now.words seat.old }
-        requires steady { Steady (limits_of self.now.words) (view_of seat.old) }
-        requires part { part < (limits_of self.now.words).parts }
-        requires row { let l = limits_of self.now.words in
+        requires steady { Steady (table_limits self.now.words) (view_of seat.old) }
+        requires part { part < (table_limits self.now.words).parts }
+        requires row { let l = table_limits self.now.words in
             (part * l.rows ≤ row) × (row ≤ end) × (end ≡ part * l.rows + l.rows) }
         ensures same { IsSameSeat seat.old seat.new }
-        ensures bare { result ≡ true → let l = limits_of self.now.words in
+        ensures bare { result ≡ true → let l = table_limits self.now.words in
             Acted l 1 (view_of seat.old) (view_of seat.new)
             × ((i : ℕ) → row ≤ i → i < part * l.rows + l.rows → IsUnborn (seen_by seat.new) i) }
-        ensures more { result ≡ false → Looked (limits_of self.now.words) 1 (view_of seat.old) (view_of seat.new) }
+        ensures more { result ≡ false → Looked (table_limits self.now.words) 1 (view_of seat.old)
+            (view_of seat.new) }
     {
         if row == end {
             return false;

@@ -3,7 +3,7 @@ ghost use Rattle.std.specs.Prelude.{◌≡◌, ◌<◌, MatchResult, None};
 ghost use Rattle.tp_model.specs.Steps.{rows_of};
 ghost use Rattle.tp_rule.specs.Steps.{HasElement};
 ghost use Rattle.tp_rule.specs.Views.{hand_of, seen_by, view_of, IsSameSeat};
-ghost use Rattle.tp_rule.specs.Tables.{limits_of, IsSeatOf};
+ghost use Rattle.tp_rule.specs.Tables.{table_limits, IsSeatOf};
 ghost use Rattle.tp_manager.specs.Shown.{IsOf};
 ghost use Rattle.tp_manager.specs.Bounds.{free_steps, release_steps};
 ghost use Rattle.tp_manager.specs.Calls.{Follows, HasLooked};
@@ -19,11 +19,11 @@ impl Shared {
     /// Aborts the unit that holds the element that is born in the row. At most two steps.
     fn release_row(&self, seat: &mut Seat, row: u32) -> Result<Released, Refusal>
         requires own { IsSeatOf self.now.words seat.old }
-        requires steady { Steady (limits_of self.now.words) (view_of seat.old) }
-        requires row { (row < rows_of (limits_of self.now.words)) × HasElement (seen_by seat.old) row }
+        requires steady { Steady (table_limits self.now.words) (view_of seat.old) }
+        requires row { (row < rows_of (table_limits self.now.words)) × HasElement (seen_by seat.old) row }
         requires free { (hand_of seat.old).open_unit ≡ None }
         ensures same { IsSameSeat seat.old seat.new }
-        ensures told { let l = limits_of self.now.words in MatchResult result
+        ensures told { let l = table_limits self.now.words in MatchResult result
             (λ r. Freeing l free_steps row r.unit r.attempt (view_of seat.old) (view_of seat.new))
             (λ refusal. Looked l free_steps (view_of seat.old) (view_of seat.new)
             × IsPastRelease l row (seen_by seat.old) (seen_by seat.new) refusal) }
@@ -54,9 +54,9 @@ impl Shared {
 }
 
 impl Manager {
-    /// Aborts the unit of work that holds the element with this id: the element waits again, or is parked where
-    /// that was the last attempt of its round. The pass has no unit open. `NotThere` where no such element is
-    /// born, and `NotHeld`.
+    /// Aborts the unit of work that holds the element with this id: the element waits again, or is parked
+    /// where that was the last attempt of its round. The pass has no unit open. `NotThere` where no such
+    /// element is born, and `NotHeld`.
     pub fn release(&self, pass: &mut Pass, id: u32) -> Result<Released, Refusal>
         requires own { IsOf self.now pass.old }
         requires free { pass.old.open_unit ≡ None }

@@ -3,7 +3,7 @@ ghost use Rattle.std.specs.Prelude.{◌≡◌, ◌<◌, MatchResult};
 ghost use Rattle.tp_model.specs.Steps.{rows_of};
 ghost use Rattle.tp_rule.specs.Steps.{HasElement};
 ghost use Rattle.tp_rule.specs.Views.{seen_by, view_of, IsSameSeat};
-ghost use Rattle.tp_rule.specs.Tables.{limits_of, IsSeatOf};
+ghost use Rattle.tp_rule.specs.Tables.{table_limits, IsSeatOf};
 ghost use Rattle.tp_manager.specs.Shown.{IsOf};
 ghost use Rattle.tp_manager.specs.Bounds.{renew_steps, requeue_steps};
 ghost use Rattle.tp_manager.specs.Calls.{Follows, HasLooked};
@@ -11,7 +11,7 @@ ghost use Rattle.tp_manager.specs.Walks.{Steady, Looked};
 ghost use Rattle.tp_manager.specs.Requeues.{Renewed, IsPastRequeue, Requeues, RequeueFails};
 
 use crate::manager::{Manager, Pass, Shared};
-use tp_model::types::{MOST_ROUNDS, Refusal};
+use tp_model::types::{MAX_ROUNDS, Refusal};
 use tp_rule::Seat;
 use tp_words::{Claim, UnitWord};
 
@@ -20,10 +20,10 @@ impl Shared {
     /// three steps.
     fn requeue_row(&self, seat: &mut Seat, row: u32) -> Result<u8, Refusal>
         requires own { IsSeatOf self.now.words seat.old }
-        requires steady { Steady (limits_of self.now.words) (view_of seat.old) }
-        requires row { (row < rows_of (limits_of self.now.words)) × HasElement (seen_by seat.old) row }
+        requires steady { Steady (table_limits self.now.words) (view_of seat.old) }
+        requires row { (row < rows_of (table_limits self.now.words)) × HasElement (seen_by seat.old) row }
         ensures same { IsSameSeat seat.old seat.new }
-        ensures told { let l = limits_of self.now.words in MatchResult result
+        ensures told { let l = table_limits self.now.words in MatchResult result
             (λ round. Renewed l renew_steps row round (view_of seat.old) (view_of seat.new))
             (λ refusal. Looked l renew_steps (view_of seat.old) (view_of seat.new)
             × IsPastRequeue l row (seen_by seat.old) (seen_by seat.new) refusal) }
@@ -49,7 +49,7 @@ impl Shared {
                     UnitWord::Undecided => Err(Refusal::NotParked),
                     UnitWord::Committed { first: _, count: _ } => Err(Refusal::NotParked),
                     UnitWord::Aborted => {
-                        if round >= MOST_ROUNDS {
+                        if round >= MAX_ROUNDS {
                             return Err(Refusal::NoRound);
                         }
                         match self.words.requeue_exchange(seat, row, claim) {

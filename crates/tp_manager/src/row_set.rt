@@ -1,11 +1,13 @@
-//! A set of rows, of which the least is taken in a few instructions. Few walks come to it, so it isn't inlined.
-ghost use Rattle.std.specs.Prelude.{◌≡◌, ◌≢◌, ◌⊎◌, ◌↔◌, ◌/◌, ◌%◌, ◌*◌, ◌<◌, ◌≤◌, ℕ, length, slice_index, MatchOption};
+//! A set of rows, of which the least is taken in a few instructions. Few walks come to it, so it isn't
+//! inlined.
+ghost use Rattle.std.specs.Prelude.{◌≡◌, ◌≢◌, ◌⊎◌, ◌↔◌, ◌/◌, ◌%◌, ◌*◌, ◌<◌, ◌≤◌, ℕ, length, slice_index};
+ghost use Rattle.std.specs.Prelude.{MatchOption};
 ghost use Rattle.tp_manager.specs.RowSets.{Has, IsEmpty, IsLeast};
 
 use std::marker::Model;
 
-/// A set of rows below 12,288, which is more than the largest manager has: row i is bit i % 64 of word i / 64. And
-/// which of these words are not 0, in the same way.
+/// A set of rows below 12,288, which is more than the largest manager has: row i is bit i % 64 of word i /
+/// 64. And which of these words are not 0, in the same way.
 #[derive(Drop)]
 pub(crate) struct RowSet {
     words: [u64; 192],
@@ -23,7 +25,8 @@ impl Model for RowSet {
     ghost invariant = { λ s. IsSummed s.words s.groups };
 }
 
-/// A set that is empty, but while a walk goes on: a walk takes out again what it put in, and so no call clears it.
+/// A set that is empty, but while a walk goes on: a walk takes out again what it put in, and so no call
+/// clears it.
 #[derive(Drop)]
 pub(crate) struct NoRows {
     pub rows: RowSet,

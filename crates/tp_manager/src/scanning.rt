@@ -5,24 +5,26 @@ ghost use Rattle.tp_model.specs.declared.types.Element.{Element as element};
 ghost use Rattle.tp_model.specs.Steps.{block_first, part_rows, rows_of, IsServerStage};
 ghost use Rattle.tp_words.specs.Words.{claim_value, head_of, IsFitClaim};
 ghost use Rattle.tp_model.specs.Words.{claim_word, TakenWord};
-ghost use Rattle.tp_words.specs.declared.words.Head.TheVariants.{Empty, There};
+ghost use Rattle.tp_words.specs.declared.words.Head.TheVariants.{Empty, Filled};
 ghost use Rattle.tp_words.specs.declared.places.TheConstants.{MARK_KINDS};
 ghost use Rattle.tp_rule.specs.Views.{seen_by, view_of, IsSameSeat};
 ghost use Rattle.tp_rule.specs.Steps.{Knows};
 ghost use Rattle.tp_rule.specs.declared.view.Known.TheVariants.{PartMark};
-ghost use Rattle.tp_rule.specs.Tables.{limits_of, IsSeatOf};
+ghost use Rattle.tp_rule.specs.Tables.{table_limits, IsSeatOf};
 ghost use Rattle.tp_manager.specs.Bounds.{marked_steps, scan_steps, spare_left, try_steps};
-ghost use Rattle.tp_manager.specs.Shown.{Rises};
+ghost use Rattle.tp_manager.specs.Shown.{NoneFalls};
 ghost use Rattle.tp_manager.specs.declared.scanning.Stand.TheVariants as stands;
-ghost use Rattle.tp_manager.specs.Looks.{GoesOn, Stands};
+ghost use Rattle.tp_manager.specs.Looks.{GoesOn, HasStand};
 ghost use Rattle.tp_manager.specs.Spares.{SpareRests};
-ghost use Rattle.tp_manager.specs.Walks.{AreFinished, Begun, CameTo, RestInParts, RestsAt, WasOfUse, WasUnsettled};
-ghost use Rattle.tp_manager.specs.Walks.{RemembersDone, RemembersDrawn, Steady, Looked, Sought, EachRow, OfPart};
+ghost use Rattle.tp_manager.specs.Walks.{AreFinished, Begun, CameTo, RestInParts, RestsAt, WasOfUse};
+ghost use Rattle.tp_manager.specs.Walks.{WasUnsettled};
+ghost use Rattle.tp_manager.specs.Walks.{RemembersDone, RemembersDrawn, Steady, Looked, Sought, EachRow};
+ghost use Rattle.tp_manager.specs.Walks.{OfPart};
 ghost use Rattle.tp_manager.specs.Walks.{PassedBy, Remembers, RisesAt, Rose, IsSpare, Took};
 
-use crate::looking::Contents;
 use crate::manager::Shared;
 use crate::marking::{past, past_other};
+use crate::row_reads::Contents;
 use tp_model::types::Element;
 use tp_rule::Seat;
 use tp_words::{Claim, FoundClaim, Head, UnitWord};
@@ -51,12 +53,13 @@ pub(crate) enum Stand {
 fn is_of_stage(head: Head, stage: u8) -> bool
     ensures yes { result ≡ true → (e : element) → head ≡ head_of e → e.stage ≡ stage }
     ensures no { result ≡ false → (e : element) → head ≡ head_of e → ¬ (e.stage ≡ stage) }
-    ensures aside { result ≡ false → (found root : ℕ) (by : Option ℕ) → head ≡ There found root by → ¬ (found ≡ stage) }
+    ensures aside { result ≡ false → (found root : ℕ) (by : Option ℕ) → head ≡ Filled found root by
+        → ¬ (found ≡ stage) }
 {
     match head {
         Head::Empty => false,
         Head::Void => false,
-        Head::There {
+        Head::Filled {
             stage: found,
             root: _,
             by: _,
@@ -89,18 +92,18 @@ impl Shared {
         whole: bool,
     ) -> Stand
         requires own { IsSeatOf self.now.words seat.old }
-        requires steady { Steady (limits_of self.now.words) (view_of seat.old) }
-        requires row { row < rows_of (limits_of self.now.words) }
+        requires steady { Steady (table_limits self.now.words) (view_of seat.old) }
+        requires row { row < rows_of (table_limits self.now.words) }
         requires found { (claim_value claim.tells ≡ claim_word (seen_by seat.old) row)
             × IsFitClaim (claim_value claim.tells) }
         ensures same { IsSameSeat seat.old seat.new }
-        ensures looked { Looked (limits_of self.now.words) 1 (view_of seat.old) (view_of seat.new) }
-        ensures stands { Stands (limits_of self.now.words) row (seen_by seat.old) (seen_by seat.new)
+        ensures looked { Looked (table_limits self.now.words) 1 (view_of seat.old) (view_of seat.new) }
+        ensures stands { HasStand (table_limits self.now.words) row (seen_by seat.old) (seen_by seat.new)
             (claim_value claim.tells) result }
-        ensures unsettled { whole ≡ true → ¬ (result ≡ stands.Over) → let l = limits_of self.now.words in
+        ensures unsettled { whole ≡ true → ¬ (result ≡ stands.Over) → let l = table_limits self.now.words in
             WasUnsettled l row (seen_by seat.old) (seen_by seat.new) }
         ensures last { whole ≡ false → (n u r : ℕ) → claim_value claim.tells ≡ TakenWord n u r
-            → (limits_of self.now.words).attempts ≤ n → seat.new ≡ seat.old }
+            → (table_limits self.now.words).attempts ≤ n → seat.new ≡ seat.old }
     {
         match claim.tells {
             Claim::Free => Stand::Ready { attempts: 0 },
@@ -146,19 +149,19 @@ impl Shared {
         unit: u16,
     ) -> Option<Taken>
         requires own { IsSeatOf self.now.words seat.old }
-        requires steady { Steady (limits_of self.now.words) (view_of seat.old) }
-        requires row { row.old < rows_of (limits_of self.now.words) }
+        requires steady { Steady (table_limits self.now.words) (view_of seat.old) }
+        requires row { row.old < rows_of (table_limits self.now.words) }
         requires low { low.old ≤ row.old }
         requires stage { IsServerStage stage }
         requires spare { IsSpare unit (view_of seat.old) × (unit < 65535) }
         ensures same { IsSameSeat seat.old seat.new }
-        ensures on { GoesOn (limits_of self.now.words) row.old row.new }
+        ensures on { GoesOn (table_limits self.now.words) row.old row.new }
         ensures low { (low.new ≤ row.new) × Rose stage (view_of seat.new) low.old low.new }
-        ensures stays { low.new < row.new → let l = limits_of self.now.words in
+        ensures stays { low.new < row.new → let l = table_limits self.now.words in
             ((low.old < row.old) × (low.new ≡ low.old))
             ⊎ WasOfUse l stage low.new (seen_by seat.old) (seen_by seat.new) }
         ensures behind { IfSome result (λ t. (low.new < row.new) × (t.element.id ≡ row.old)) }
-        ensures told { let l = limits_of self.now.words in let n = try_steps in MatchOption result
+        ensures told { let l = table_limits self.now.words in let n = try_steps in MatchOption result
             (Sought l n (EachRow (PassedBy l stage) row.old row.new) (view_of seat.old) (view_of seat.new))
             (λ t. Took l n row.old stage unit (view_of seat.old) (view_of seat.new) t.element t.attempt
             × (t.element.root ≡ t.root)) }
@@ -210,23 +213,24 @@ impl Shared {
         unit: u16,
     ) -> Option<Taken>
         requires own { IsSeatOf self.now.words seat.old }
-        requires steady { Steady (limits_of self.now.words) (view_of seat.old) }
+        requires steady { Steady (table_limits self.now.words) (view_of seat.old) }
         requires remembers { Remembers stage (view_of seat.old) lows.old }
-        requires part { part < (limits_of self.now.words).parts }
+        requires part { part < (table_limits self.now.words).parts }
         requires done { RemembersDone (view_of seat.old) done }
         requires stage { IsServerStage stage }
         requires spare { IsSpare unit (view_of seat.old) × (unit < 65535) }
         ensures same { IsSameSeat seat.old seat.new }
         ensures remembers { Remembers stage (view_of seat.new) lows.new }
         ensures lows { RisesAt part lows.old lows.new }
-        ensures rests { let l = limits_of self.now.words in
+        ensures rests { let l = table_limits self.now.words in
             RestsAt l stage part (slice_index lows.new part) (view_of seat.old) (view_of seat.new) }
-        ensures inside { let l = limits_of self.now.words in
+        ensures inside { let l = table_limits self.now.words in
             IfSome result (λ t. t.element.id < part * l.rows + l.rows) }
-        ensures told { let l = limits_of self.now.words in
+        ensures told { let l = table_limits self.now.words in
             let n = 2 + (l.rows - slice_index lows.old part) * try_steps in MatchOption result
             (Sought l n (OfPart l (PassedBy l stage) part) (view_of seat.old) (view_of seat.new))
-            (λ t. Took l n (part * l.rows) stage unit (view_of seat.old) (view_of seat.new) t.element t.attempt
+            (λ t. Took l n (part * l.rows) stage unit (view_of seat.old)
+            (view_of seat.new) t.element t.attempt
             × (t.element.root ≡ t.root)) }
     {
         let mark = self.low_at(seat, lows, stage, part);
@@ -247,8 +251,8 @@ impl Shared {
     }
 
     /// The unit takes the first element of a part that waits in the stage. One look where no row has a head
-    /// from the mark on that the pass remembers. Where the part begins, and how long it is, is handed down, since
-    /// an Idle claim does little more than this.
+    /// from the mark on that the pass remembers. Where the part begins, and how long it is, is handed down,
+    /// since an Idle claim does little more than this.
     #[inline(always)]
     fn scan_part(
         &self,
@@ -262,24 +266,25 @@ impl Shared {
         unit: u16,
     ) -> Option<Taken>
         requires own { IsSeatOf self.now.words seat.old }
-        requires steady { Steady (limits_of self.now.words) (view_of seat.old) }
+        requires steady { Steady (table_limits self.now.words) (view_of seat.old) }
         requires remembers { Remembers stage (view_of seat.old) lows.old }
-        requires part { part < (limits_of self.now.words).parts }
-        requires first { let l = limits_of self.now.words in (first ≡ part * l.rows) × (rows ≡ l.rows) }
+        requires part { part < (table_limits self.now.words).parts }
+        requires first { let l = table_limits self.now.words in (first ≡ part * l.rows) × (rows ≡ l.rows) }
         requires done { RemembersDone (view_of seat.old) done }
         requires stage { IsServerStage stage }
         requires spare { IsSpare unit (view_of seat.old) × (unit < 65535) }
         ensures same { IsSameSeat seat.old seat.new }
         ensures remembers { Remembers stage (view_of seat.new) lows.new }
         ensures lows { RisesAt part lows.old lows.new }
-        ensures rests { let l = limits_of self.now.words in
+        ensures rests { let l = table_limits self.now.words in
             RestsAt l stage part (slice_index lows.new part) (view_of seat.old) (view_of seat.new) }
-        ensures inside { let l = limits_of self.now.words in
+        ensures inside { let l = table_limits self.now.words in
             IfSome result (λ t. t.element.id < part * l.rows + l.rows) }
-        ensures told { let l = limits_of self.now.words in
+        ensures told { let l = table_limits self.now.words in
             let n = 3 + (l.rows - slice_index lows.old part) * try_steps in MatchOption result
             (Sought l n (OfPart l (PassedBy l stage) part) (view_of seat.old) (view_of seat.new))
-            (λ t. Took l n (part * l.rows) stage unit (view_of seat.old) (view_of seat.new) t.element t.attempt
+            (λ t. Took l n (part * l.rows) stage unit (view_of seat.old)
+            (view_of seat.new) t.element t.attempt
             × (t.element.root ≡ t.root)) }
     {
         let row = first + lows[part as usize] as u32;
@@ -292,8 +297,8 @@ impl Shared {
     /// The first part that has a row which the pass doesn't know finished, or else the last part. No step.
     #[inline(always)]
     fn first_open(&self, lows: &[u16; 33]) -> u16
-        ensures part { result < (limits_of self.now.words).parts }
-        ensures finished { AreFinished (limits_of self.now.words) lows.now result }
+        ensures part { result < (table_limits self.now.words).parts }
+        ensures finished { AreFinished (table_limits self.now.words) lows.now result }
     {
         let limits = self.places.limits;
         let last = limits.parts - 1;
@@ -316,18 +321,18 @@ impl Shared {
         unit: u16,
     ) -> Option<Taken>
         requires own { IsSeatOf self.now.words seat.old }
-        requires steady { Steady (limits_of self.now.words) (view_of seat.old) }
+        requires steady { Steady (table_limits self.now.words) (view_of seat.old) }
         requires remembers { Remembers stage (view_of seat.old) lows.old }
         requires done { RemembersDone (view_of seat.old) done }
         requires stage { IsServerStage stage }
         requires spare { IsSpare unit (view_of seat.old) × (unit < 65535) }
         ensures same { IsSameSeat seat.old seat.new }
         ensures remembers { Remembers stage (view_of seat.new) lows.new }
-        ensures lows { Rises lows.old lows.new }
-        ensures rests { let l = limits_of self.now.words in
+        ensures lows { NoneFalls lows.old lows.new }
+        ensures rests { let l = table_limits self.now.words in
             RestInParts l stage lows.new (view_of seat.old) (view_of seat.new) result }
-        ensures inside { IfSome result (λ t. t.element.id < part_rows (limits_of self.now.words)) }
-        ensures told { let l = limits_of self.now.words in
+        ensures inside { IfSome result (λ t. t.element.id < part_rows (table_limits self.now.words)) }
+        ensures told { let l = table_limits self.now.words in
             let n = scan_steps l try_steps 3 lows.old l.parts in MatchOption result
             (Sought l n (EachRow (PassedBy l stage) 0 (part_rows l)) (view_of seat.old) (view_of seat.new))
             (λ t. Took l n 0 stage unit (view_of seat.old) (view_of seat.new) t.element t.attempt
@@ -355,7 +360,7 @@ impl Shared {
         unit: u16,
     ) -> Option<Taken>
         requires own { IsSeatOf self.now.words seat.old }
-        requires steady { Steady (limits_of self.now.words) (view_of seat.old) }
+        requires steady { Steady (table_limits self.now.words) (view_of seat.old) }
         requires remembers { Remembers stage (view_of seat.old) lows.old }
         requires drawn { RemembersDrawn (view_of seat.old) drawn.old }
         requires stage { IsServerStage stage }
@@ -364,10 +369,10 @@ impl Shared {
         ensures drawn { RemembersDrawn (view_of seat.new) drawn.new }
         ensures risen { drawn.old ≤ drawn.new }
         ensures remembers { Remembers stage (view_of seat.new) lows.new }
-        ensures lows { RisesAt (limits_of self.now.words).parts lows.old lows.new }
-        ensures rests { let l = limits_of self.now.words in let end = block_first l drawn.new in
+        ensures lows { RisesAt (table_limits self.now.words).parts lows.old lows.new }
+        ensures rests { let l = table_limits self.now.words in let end = block_first l drawn.new in
             SpareRests l stage end (slice_index lows.new l.parts) (view_of seat.old) (view_of seat.new) }
-        ensures told { let l = limits_of self.now.words in
+        ensures told { let l = table_limits self.now.words in
             let n = spare_left l try_steps (slice_index lows.old l.parts) in MatchOption result
             (Begun l (PassedBy l stage) n (part_rows l) (rows_of l) (view_of seat.old) (view_of seat.new))
             (λ t. Took l n (part_rows l) stage unit (view_of seat.old) (view_of seat.new) t.element t.attempt
@@ -390,7 +395,7 @@ impl Shared {
         unit: u16,
     ) -> Option<Taken>
         requires own { IsSeatOf self.now.words seat.old }
-        requires steady { Steady (limits_of self.now.words) (view_of seat.old) }
+        requires steady { Steady (table_limits self.now.words) (view_of seat.old) }
         requires remembers { Remembers stage (view_of seat.old) lows.old }
         requires drawn { RemembersDrawn (view_of seat.old) drawn.old }
         requires done { RemembersDone (view_of seat.old) done }
@@ -400,12 +405,13 @@ impl Shared {
         ensures remembers { Remembers stage (view_of seat.new) lows.new }
         ensures drawn { RemembersDrawn (view_of seat.new) drawn.new }
         ensures risen { drawn.old ≤ drawn.new }
-        ensures lows { Rises lows.old lows.new }
-        ensures rests { let l = limits_of self.now.words in
+        ensures lows { NoneFalls lows.old lows.new }
+        ensures rests { let l = table_limits self.now.words in
             RestInParts l stage lows.new (view_of seat.old) (view_of seat.new) result }
-        ensures spare { let l = limits_of self.now.words in CameTo (part_rows l) result → SpareRests l stage
+        ensures spare { let l = table_limits self.now.words in CameTo (part_rows l) result
+            → SpareRests l stage
             (block_first l drawn.new) (slice_index lows.new l.parts) (view_of seat.old) (view_of seat.new) }
-        ensures told { let l = limits_of self.now.words in let t = try_steps in
+        ensures told { let l = table_limits self.now.words in let t = try_steps in
             let n = marked_steps l t lows.old in MatchOption result
             (Sought l n (EachRow (PassedBy l stage) 0 (rows_of l)) (view_of seat.old) (view_of seat.new))
             (λ t. Took l n 0 stage unit (view_of seat.old) (view_of seat.new) t.element t.attempt

@@ -3,7 +3,7 @@ ghost use Rattle.std.specs.Prelude.{◌≡◌, ◌+◌, ◌-◌, ◌*◌, ◌<�
 ghost use Rattle.tp_model.specs.declared.types.TheConstants.{BLOCK_ROWS};
 ghost use Rattle.tp_model.specs.Steps.{part_rows, rows_of, IsServerStage};
 ghost use Rattle.tp_rule.specs.Views.{seen_by, view_of, IsSameSeat};
-ghost use Rattle.tp_rule.specs.Tables.{limits_of, IsSeatOf};
+ghost use Rattle.tp_rule.specs.Tables.{table_limits, IsSeatOf};
 ghost use Rattle.tp_manager.specs.Bounds.{look_steps, try_steps};
 ghost use Rattle.tp_manager.specs.Finds.{Hits, PassedOver};
 ghost use Rattle.tp_manager.specs.Spares.{Passed, SpareRests};
@@ -15,7 +15,8 @@ use crate::scanning::Taken;
 use tp_rule::Seat;
 
 impl Shared {
-    /// The unit takes the first element of the spare blocks that waits in the stage, where nothing was born from row
+    /// The unit takes the first element of the spare blocks that waits in the stage, where nothing was born
+    /// from row
     /// `end` on. The scan starts at the mark of the spare rows, and raises it.
     pub(crate) fn scan_spare(
         &self,
@@ -26,18 +27,18 @@ impl Shared {
         unit: u16,
     ) -> Option<Taken>
         requires own { IsSeatOf self.now.words seat.old }
-        requires steady { Steady (limits_of self.now.words) (view_of seat.old) }
+        requires steady { Steady (table_limits self.now.words) (view_of seat.old) }
         requires remembers { Remembers stage (view_of seat.old) lows.old }
-        requires end { let l = limits_of self.now.words in
+        requires end { let l = table_limits self.now.words in
             (part_rows l ≤ end) × (end ≤ rows_of l) × NoneBehind l end (view_of seat.old) }
         requires stage { IsServerStage stage }
         requires spare { IsSpare unit (view_of seat.old) × (unit < 65535) }
         ensures same { IsSameSeat seat.old seat.new }
         ensures remembers { Remembers stage (view_of seat.new) lows.new }
-        ensures lows { RisesAt (limits_of self.now.words).parts lows.old lows.new }
-        ensures rests { let l = limits_of self.now.words in
+        ensures lows { RisesAt (table_limits self.now.words).parts lows.old lows.new }
+        ensures rests { let l = table_limits self.now.words in
             SpareRests l stage end (slice_index lows.new l.parts) (view_of seat.old) (view_of seat.new) }
-        ensures told { let l = limits_of self.now.words in
+        ensures told { let l = table_limits self.now.words in
             let n = 2 + (BLOCK_ROWS * l.spare - slice_index lows.old l.parts) * try_steps in MatchOption result
             (Passed l n (PassedBy l stage) (part_rows l) (rows_of l) (view_of seat.old) (view_of seat.new))
             (λ t. Took l n (part_rows l) stage unit (view_of seat.old) (view_of seat.new) t.element t.attempt
@@ -69,15 +70,15 @@ impl Shared {
         from: u32,
     ) -> Option<u32>
         requires own { IsSeatOf self.now.words seat.old }
-        requires steady { Steady (limits_of self.now.words) (view_of seat.old) }
+        requires steady { Steady (table_limits self.now.words) (view_of seat.old) }
         requires remembers { Remembers 0 (view_of seat.old) lows.old }
-        requires end { let l = limits_of self.now.words in
+        requires end { let l = table_limits self.now.words in
             (part_rows l ≤ end) × (end ≤ rows_of l) × NoneBehind l end (view_of seat.old) }
-        requires from { let l = limits_of self.now.words in (part_rows l ≤ from) × (from ≤ rows_of l) }
+        requires from { let l = table_limits self.now.words in (part_rows l ≤ from) × (from ≤ rows_of l) }
         ensures same { IsSameSeat seat.old seat.new }
         ensures remembers { Remembers 0 (view_of seat.new) lows.new }
-        ensures lows { RisesAt (limits_of self.now.words).parts lows.old lows.new }
-        ensures told { let l = limits_of self.now.words in let P = PassedOver l in
+        ensures lows { RisesAt (table_limits self.now.words).parts lows.old lows.new }
+        ensures told { let l = table_limits self.now.words in let P = PassedOver l in
             let n = 2 + (BLOCK_ROWS * l.spare - slice_index lows.old l.parts) * look_steps l in MatchOption result
             (Passed l n P from (rows_of l) (view_of seat.old) (view_of seat.new))
             (λ id. (from ≤ id) × (id < rows_of l) × Hits l id (seen_by seat.new)

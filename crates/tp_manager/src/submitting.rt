@@ -6,7 +6,7 @@ ghost use Rattle.tp_manager.specs.Bounds.{next_steps, submit_steps};
 ghost use Rattle.tp_manager.specs.Calls.{Follows, Submits, SubmitRefused};
 
 use crate::manager::{Manager, Pass};
-use tp_model::types::{Body, Refusal};
+use tp_model::types::{Body, MAX_STAGE, Refusal};
 
 impl Manager {
     /// Puts a client's element into the pass's next row. The answer is its id.
@@ -42,7 +42,7 @@ impl Manager {
             (λ id. Submits id stage body pass.old pass.new)
             (λ refusal. SubmitRefused stage pass.old pass.new refusal) }
     {
-        if stage == 0 || stage > 14 {
+        if stage == 0 || stage > MAX_STAGE {
             pass.stays();
             return Err(Refusal::BadStage);
         }

@@ -1,4 +1,5 @@
 //! The collection of the next reply to a request.
+ghost use Rattle.tp_model.specs.declared.types.TheConstants.{REPLY_STAGE};
 ghost use Rattle.std.specs.Prelude.{◌≡◌, ◌<◌, [], length, MatchOption, None, Some};
 ghost use Rattle.tp_model.specs.declared.types.Element.{Element as element};
 ghost use Rattle.tp_model.specs.declared.types.Status.TheVariants.{Killed};
@@ -6,9 +7,10 @@ ghost use Rattle.tp_model.specs.Families.{IsRequest, family};
 ghost use Rattle.tp_model.specs.History.{element_of, status_of};
 ghost use Rattle.tp_model.specs.Steps.{rows_of};
 ghost use Rattle.tp_rule.specs.Views.{hand_of, seen_by, view_of, IsSameSeat};
-ghost use Rattle.tp_rule.specs.Tables.{limits_of, IsSeatOf};
+ghost use Rattle.tp_rule.specs.Tables.{table_limits, IsSeatOf};
 ghost use Rattle.tp_manager.specs.Shown.{IsOf};
-ghost use Rattle.tp_manager.specs.Bounds.{collect_next_steps, collect_steps, family_collect_steps, takes_steps};
+ghost use Rattle.tp_manager.specs.Bounds.{collect_next_steps, collect_steps, family_collect_steps};
+ghost use Rattle.tp_manager.specs.Bounds.{takes_steps};
 ghost use Rattle.tp_manager.specs.Calls.{Follows, HasLooked};
 ghost use Rattle.tp_manager.specs.Lists.{CollectsNext, NoneCollected};
 ghost use Rattle.tp_manager.specs.Families.{Taken};
@@ -26,12 +28,13 @@ impl Shared {
     /// Kills the reply that is born in the row, and hands it out; `None` where another was quicker.
     fn take_row(&self, seat: &mut Seat, row: u32) -> Option<Element>
         requires own { IsSeatOf self.now.words seat.old }
-        requires steady { Steady (limits_of self.now.words) (view_of seat.old) }
-        requires row { row < rows_of (limits_of self.now.words) }
-        requires reply { (x : element) × (element_of (seen_by seat.old) row ≡ Some x) × (x.stage ≡ 15) }
+        requires steady { Steady (table_limits self.now.words) (view_of seat.old) }
+        requires row { row < rows_of (table_limits self.now.words) }
+        requires reply { (x : element) × (element_of (seen_by seat.old) row ≡ Some x)
+            × (x.stage ≡ REPLY_STAGE) }
         requires free { (hand_of seat.old).open_unit ≡ None }
         ensures same { IsSameSeat seat.old seat.new }
-        ensures told { let l = limits_of self.now.words in MatchOption result
+        ensures told { let l = table_limits self.now.words in MatchOption result
             (Looked l collect_steps (view_of seat.old) (view_of seat.new)
             × IsBetween (seen_by seat.old) (seen_by seat.new) (λ h. status_of l.attempts h row ≡ Killed))
             (λ x. Slain l collect_steps row [] (view_of seat.old) (view_of seat.new)
@@ -47,8 +50,8 @@ impl Shared {
         }
     }
 
-    /// Collects the least reply of the family that it finds waiting, and where another is quicker the next one. The
-    /// set is empty before and after.
+    /// Collects the least reply of the family that it finds waiting, and where another is quicker the next
+    /// one. The set is empty before and after.
     pub(crate) fn take_of_family(
         &self,
         seat: &mut Seat,
@@ -56,13 +59,14 @@ impl Shared {
         root: u32,
     ) -> Option<Element>
         requires own { IsSeatOf self.now.words seat.old }
-        requires steady { Steady (limits_of self.now.words) (view_of seat.old) }
-        requires request { (root < rows_of (limits_of self.now.words)) × IsRequest (seen_by seat.old) root }
+        requires steady { Steady (table_limits self.now.words) (view_of seat.old) }
+        requires request { (root < rows_of (table_limits self.now.words))
+            × IsRequest (seen_by seat.old) root }
         requires free { (hand_of seat.old).open_unit ≡ None }
         requires none { IsEmpty rows.old }
         ensures same { IsSameSeat seat.old seat.new }
         ensures none { IsEmpty rows.new }
-        ensures told { let l = limits_of self.now.words in
+        ensures told { let l = table_limits self.now.words in
             Taken l (takes_steps (length (family (seen_by seat.new) root))) root (view_of seat.old) (view_of seat.new) result }
     {
         let mut from = 0;

@@ -2,13 +2,14 @@
 ghost use Rattle.std.specs.Prelude.{◌≡◌, ◌⊎◌, ◌+◌, ◌-◌, ◌*◌, ◌<◌, ◌≤◌, MatchOption, None, ℕ, slice_index};
 ghost use Rattle.tp_model.specs.Steps.{part_rows, rows_of, AreLimits, IsServerStage};
 ghost use Rattle.tp_rule.specs.Views.{view_of, IsSameSeat};
-ghost use Rattle.tp_rule.specs.Tables.{limits_of, IsSeatOf};
+ghost use Rattle.tp_rule.specs.Tables.{table_limits, IsSeatOf};
 ghost use Rattle.tp_manager.specs.Bounds.{drawn_steps, claim_next_steps, claim_next_steps_left};
 ghost use Rattle.tp_manager.specs.Bounds.{scan_steps, try_steps, turn_steps};
 ghost use Rattle.tp_model.specs.declared.types.TheConstants.{BLOCK_ROWS};
 ghost use Rattle.tp_manager.specs.Calls.{ClaimsNext, Follows};
-ghost use Rattle.tp_manager.specs.Shown.{marks_of, IsOf, Rises};
-ghost use Rattle.tp_manager.specs.Walks.{Begun, EachRow, IsSpare, Makes, PassedBy, Remembers, RemembersDone};
+ghost use Rattle.tp_manager.specs.Shown.{marks_of, IsOf, NoneFalls};
+ghost use Rattle.tp_manager.specs.Walks.{Begun, EachRow, IsSpare, StepsTo, PassedBy, Remembers};
+ghost use Rattle.tp_manager.specs.Walks.{RemembersDone};
 ghost use Rattle.tp_manager.specs.Walks.{RemembersDrawn, RisesAt, Sought, Steady, Took, TookNext};
 ghost use Rattle.tp_model.specs.declared.types.Limits.{Limits};
 ghost use Rattle.tp_manager.specs.Turns.{EachHasItsTurn};
@@ -49,14 +50,15 @@ fn go_on_behind(turns: &mut [u32; 16], stage: u8, row: u32)
     requires stage { IsServerStage stage }
     requires few { row < 65536 }
     ensures turn { slice_index turns.new stage ≡ row + 1 }
-    ensures others { (other : ℕ) → ¬ (other ≡ stage) → slice_index turns.new other ≡ slice_index turns.old other }
+    ensures others { (other : ℕ) → ¬ (other ≡ stage)
+        → slice_index turns.new other ≡ slice_index turns.old other }
 {
     turns[stage as usize] = row + 1;
 }
 
 impl Shared {
-    /// The unit takes the first element of these rows of a part that waits in the stage. No row below the part's
-    /// mark is looked at, and the mark is raised where each row from it on was.
+    /// The unit takes the first element of these rows of a part that waits in the stage. No row below the
+    /// part's mark is looked at, and the mark is raised where each row from it on was.
     fn scan_span_from_mark(
         &self,
         seat: &mut Seat,
@@ -69,10 +71,10 @@ impl Shared {
         unit: u16,
     ) -> Option<Taken>
         requires own { IsSeatOf self.now.words seat.old }
-        requires steady { Steady (limits_of self.now.words) (view_of seat.old) }
+        requires steady { Steady (table_limits self.now.words) (view_of seat.old) }
         requires remembers { Remembers stage (view_of seat.old) lows.old }
-        requires part { part < (limits_of self.now.words).parts }
-        requires span { let l = limits_of self.now.words in (part * l.rows ≤ from) × (from ≤ to)
+        requires part { part < (table_limits self.now.words).parts }
+        requires span { let l = table_limits self.now.words in (part * l.rows ≤ from) × (from ≤ to)
             × (to ≤ part * l.rows + l.rows) }
         requires done { RemembersDone (view_of seat.old) done }
         requires stage { IsServerStage stage }
@@ -80,9 +82,9 @@ impl Shared {
         ensures same { IsSameSeat seat.old seat.new }
         ensures remembers { Remembers stage (view_of seat.new) lows.new }
         ensures lows { RisesAt part lows.old lows.new }
-        ensures few { let l = limits_of self.now.words in
-            Makes (2 + (l.rows - slice_index lows.old part) * try_steps) (view_of seat.old) (view_of seat.new) }
-        ensures told { let l = limits_of self.now.words in let n = 2 + (to - from) * try_steps in
+        ensures few { let l = table_limits self.now.words in
+            StepsTo (2 + (l.rows - slice_index lows.old part) * try_steps) (view_of seat.old) (view_of seat.new) }
+        ensures told { let l = table_limits self.now.words in let n = 2 + (to - from) * try_steps in
             MatchOption result
             (Sought l n (EachRow (PassedBy l stage) from to) (view_of seat.old) (view_of seat.new))
             (λ t. Took l n from stage unit (view_of seat.old) (view_of seat.new) t.element t.attempt
@@ -105,8 +107,8 @@ impl Shared {
         None
     }
 
-    /// The unit takes the first element of these rows of a part that waits in the stage. One look where no row has
-    /// a head from the first of them on, or from the mark on that the pass remembers.
+    /// The unit takes the first element of these rows of a part that waits in the stage. One look where no
+    /// row has a head from the first of them on, or from the mark on that the pass remembers.
     #[inline(always)]
     fn scan_span(
         &self,
@@ -120,10 +122,10 @@ impl Shared {
         unit: u16,
     ) -> Option<Taken>
         requires own { IsSeatOf self.now.words seat.old }
-        requires steady { Steady (limits_of self.now.words) (view_of seat.old) }
+        requires steady { Steady (table_limits self.now.words) (view_of seat.old) }
         requires remembers { Remembers stage (view_of seat.old) lows.old }
-        requires part { part < (limits_of self.now.words).parts }
-        requires span { let l = limits_of self.now.words in (part * l.rows ≤ from) × (from ≤ to)
+        requires part { part < (table_limits self.now.words).parts }
+        requires span { let l = table_limits self.now.words in (part * l.rows ≤ from) × (from ≤ to)
             × (to ≤ part * l.rows + l.rows) }
         requires done { RemembersDone (view_of seat.old) done }
         requires stage { IsServerStage stage }
@@ -131,9 +133,9 @@ impl Shared {
         ensures same { IsSameSeat seat.old seat.new }
         ensures remembers { Remembers stage (view_of seat.new) lows.new }
         ensures lows { RisesAt part lows.old lows.new }
-        ensures few { let l = limits_of self.now.words in
-            Makes (3 + (l.rows - slice_index lows.old part) * try_steps) (view_of seat.old) (view_of seat.new) }
-        ensures told { let l = limits_of self.now.words in let n = 3 + (to - from) * try_steps in
+        ensures few { let l = table_limits self.now.words in
+            StepsTo (3 + (l.rows - slice_index lows.old part) * try_steps) (view_of seat.old) (view_of seat.new) }
+        ensures told { let l = table_limits self.now.words in let n = 3 + (to - from) * try_steps in
             MatchOption result
             (Sought l n (EachRow (PassedBy l stage) from to) (view_of seat.old) (view_of seat.new))
             (λ t. Took l n from stage unit (view_of seat.old) (view_of seat.new) t.element t.attempt
@@ -159,18 +161,18 @@ impl Shared {
         unit: u16,
     ) -> Option<Taken>
         requires own { IsSeatOf self.now.words seat.old }
-        requires steady { Steady (limits_of self.now.words) (view_of seat.old) }
+        requires steady { Steady (table_limits self.now.words) (view_of seat.old) }
         requires remembers { Remembers stage (view_of seat.old) lows.old }
-        requires span { (from ≤ to) × (to ≤ part_rows (limits_of self.now.words)) }
+        requires span { (from ≤ to) × (to ≤ part_rows (table_limits self.now.words)) }
         requires done { RemembersDone (view_of seat.old) done }
         requires stage { IsServerStage stage }
         requires spare { IsSpare unit (view_of seat.old) × (unit < 65535) }
         ensures same { IsSameSeat seat.old seat.new }
         ensures remembers { Remembers stage (view_of seat.new) lows.new }
-        ensures lows { Rises lows.old lows.new }
-        ensures few { let l = limits_of self.now.words in
-            Makes (scan_steps l try_steps 3 lows.old l.parts) (view_of seat.old) (view_of seat.new) }
-        ensures told { let l = limits_of self.now.words in let n = 3 * l.parts + (to - from) * try_steps in
+        ensures lows { NoneFalls lows.old lows.new }
+        ensures few { let l = table_limits self.now.words in
+            StepsTo (scan_steps l try_steps 3 lows.old l.parts) (view_of seat.old) (view_of seat.new) }
+        ensures told { let l = table_limits self.now.words in let n = 3 * l.parts + (to - from) * try_steps in
             MatchOption result
             (Begun l (PassedBy l stage) n from to (view_of seat.old) (view_of seat.new))
             (λ t. Took l n from stage unit (view_of seat.old) (view_of seat.new) t.element t.attempt
@@ -201,15 +203,16 @@ impl Shared {
         unit: u16,
     ) -> Option<Taken>
         requires own { IsSeatOf self.now.words seat.old }
-        requires steady { Steady (limits_of self.now.words) (view_of seat.old) }
+        requires steady { Steady (table_limits self.now.words) (view_of seat.old) }
         requires drawn { RemembersDrawn (view_of seat.old) drawn.old }
-        requires span { let l = limits_of self.now.words in (part_rows l ≤ from) × (from ≤ to) × (to ≤ rows_of l) }
+        requires span { let l = table_limits self.now.words in (part_rows l ≤ from) × (from ≤ to)
+            × (to ≤ rows_of l) }
         requires stage { IsServerStage stage }
         requires spare { IsSpare unit (view_of seat.old) × (unit < 65535) }
         ensures same { IsSameSeat seat.old seat.new }
         ensures drawn { RemembersDrawn (view_of seat.new) drawn.new }
         ensures risen { drawn.old ≤ drawn.new }
-        ensures told { let l = limits_of self.now.words in
+        ensures told { let l = table_limits self.now.words in
             let n = drawn_steps l.spare + (to - from) * try_steps in MatchOption result
             (Begun l (PassedBy l stage) n from to (view_of seat.old) (view_of seat.new))
             (λ t. Took l n from stage unit (view_of seat.old) (view_of seat.new) t.element t.attempt
@@ -243,10 +246,10 @@ impl Shared {
         unit: u16,
     ) -> Option<Taken>
         requires own { IsSeatOf self.now.words seat.old }
-        requires steady { Steady (limits_of self.now.words) (view_of seat.old) }
+        requires steady { Steady (table_limits self.now.words) (view_of seat.old) }
         requires remembers { Remembers stage (view_of seat.old) lows.old }
         requires drawn { RemembersDrawn (view_of seat.old) drawn.old }
-        requires span { (from ≤ to) × (to ≤ rows_of (limits_of self.now.words)) }
+        requires span { (from ≤ to) × (to ≤ rows_of (table_limits self.now.words)) }
         requires done { RemembersDone (view_of seat.old) done }
         requires stage { IsServerStage stage }
         requires spare { IsSpare unit (view_of seat.old) × (unit < 65535) }
@@ -254,11 +257,11 @@ impl Shared {
         ensures remembers { Remembers stage (view_of seat.new) lows.new }
         ensures drawn { RemembersDrawn (view_of seat.new) drawn.new }
         ensures risen { drawn.old ≤ drawn.new }
-        ensures lows { Rises lows.old lows.new }
-        ensures few { let l = limits_of self.now.words in let p = part_rows l in
+        ensures lows { NoneFalls lows.old lows.new }
+        ensures few { let l = table_limits self.now.words in let p = part_rows l in
             let n = drawn_steps l.spare + (to - p - (from - p)) * try_steps in
-            Makes (scan_steps l try_steps 3 lows.old l.parts + n) (view_of seat.old) (view_of seat.new) }
-        ensures told { let l = limits_of self.now.words in let n = turn_steps l (to - from) in
+            StepsTo (scan_steps l try_steps 3 lows.old l.parts + n) (view_of seat.old) (view_of seat.new) }
+        ensures told { let l = table_limits self.now.words in let n = turn_steps l (to - from) in
             MatchOption result
             (Begun l (PassedBy l stage) n from to (view_of seat.old) (view_of seat.new))
             (λ t. Took l n from stage unit (view_of seat.old) (view_of seat.new) t.element t.attempt
@@ -277,7 +280,8 @@ impl Shared {
         self.scan_block_span(seat, drawn, parts, to, stage, unit)
     }
 
-    /// The unit takes the first element from row `turn` on that waits in the stage, where the rows are a circle.
+    /// The unit takes the first element from row `turn` on that waits in the stage, where the rows are a
+    /// circle.
     pub(crate) fn scan_turn(
         &self,
         seat: &mut Seat,
@@ -289,7 +293,7 @@ impl Shared {
         unit: u16,
     ) -> Option<Taken>
         requires own { IsSeatOf self.now.words seat.old }
-        requires steady { Steady (limits_of self.now.words) (view_of seat.old) }
+        requires steady { Steady (table_limits self.now.words) (view_of seat.old) }
         requires remembers { Remembers stage (view_of seat.old) lows.old }
         requires drawn { RemembersDrawn (view_of seat.old) drawn.old }
         requires done { RemembersDone (view_of seat.old) done }
@@ -299,11 +303,11 @@ impl Shared {
         ensures remembers { Remembers stage (view_of seat.new) lows.new }
         ensures drawn { RemembersDrawn (view_of seat.new) drawn.new }
         ensures risen { drawn.old ≤ drawn.new }
-        ensures lows { Rises lows.old lows.new }
-        ensures few { let l = limits_of self.now.words in
+        ensures lows { NoneFalls lows.old lows.new }
+        ensures few { let l = table_limits self.now.words in
             let n = 2 * drawn_steps l.spare + BLOCK_ROWS * l.spare * try_steps in
-            Makes (2 * scan_steps l try_steps 3 lows.old l.parts + n) (view_of seat.old) (view_of seat.new) }
-        ensures told { let l = limits_of self.now.words in
+            StepsTo (2 * scan_steps l try_steps 3 lows.old l.parts + n) (view_of seat.old) (view_of seat.new) }
+        ensures told { let l = table_limits self.now.words in
             let n = 6 * l.parts + 2 * drawn_steps l.spare + rows_of l * try_steps in MatchOption result
             (Sought l n (EachRow (PassedBy l stage) 0 (rows_of l)) (view_of seat.old) (view_of seat.new))
             (λ t. TookNext l n turn stage unit (view_of seat.old) (view_of seat.new) t.element t.attempt
@@ -319,8 +323,8 @@ impl Shared {
 }
 
 impl Manager {
-    /// Takes the element that waits in the stage, 1 to 14, and comes first behind the one of the stage that the
-    /// pass took last by such a call: behind the last id comes the first. Otherwise as `claim`.
+    /// Takes the element that waits in the stage, 1 to 14, and comes first behind the one of the stage that
+    /// the pass took last by such a call: behind the last id comes the first. Otherwise as `claim`.
     pub fn claim_next(&self, pass: &mut Pass, stage: u8) -> Claimed
         requires own { IsOf self.now pass.old }
         requires stage { IsServerStage stage }
@@ -367,8 +371,8 @@ impl Manager {
     }
 }
 
-/// Between two takings of one element by a pass's claims in turn each other element of its stage has its turn,
-/// whatever stages are claimed between. The function does nothing: its contract is the law.
+/// Between two takings of one element by a pass's claims in turn each other element of its stage has its
+/// turn, whatever stages are claimed between. The function does nothing: its contract is the law.
 pub fn turns_come()
     ensures come { (l : Limits) → EachHasItsTurn l }
 {}

@@ -2,6 +2,7 @@
 //!
 //! It holds the rows that it has come to and not gone on from, takes the least of them, and looks at its
 //! element. See docs/CANCEL.md.
+ghost use Rattle.tp_model.specs.declared.types.TheConstants.{REPLY_STAGE};
 ghost use Rattle.std.specs.Prelude.{◌≡◌, ◌⊎◌, ◌<◌, ◌≤◌, ℕ, None, Some, true, false};
 ghost use Rattle.tp_model.specs.declared.types.Element.{Element as element};
 ghost use Rattle.tp_model.specs.Families.{IsRequest};
@@ -10,7 +11,7 @@ ghost use Rattle.tp_model.specs.declared.types.Status.TheVariants.{Waiting};
 ghost use Rattle.tp_model.specs.Steps.{rows_of};
 ghost use Rattle.tp_rule.specs.Steps.{HasElement};
 ghost use Rattle.tp_rule.specs.Views.{seen_by, view_of, IsSameSeat};
-ghost use Rattle.tp_rule.specs.Tables.{limits_of, IsSeatOf};
+ghost use Rattle.tp_rule.specs.Tables.{table_limits, IsSeatOf};
 ghost use Rattle.tp_manager.specs.Bounds.{root_steps, stride_steps};
 ghost use Rattle.tp_words.specs.Words.{head_of};
 ghost use Rattle.tp_manager.specs.Families.{IsAsked, IsFound, Followed, Listed};
@@ -21,11 +22,12 @@ use crate::ahead::Ahead;
 use crate::manager::Shared;
 use crate::row_set::RowSet;
 use std::marker::Model;
+use tp_model::types::REPLY_STAGE;
 use tp_rule::Seat;
 use tp_words::{Claim, Head, UnitWord};
 
 /// How many rows a manager has at most: no walk comes to more.
-pub(crate) const MOST_ROWS: u32 = 10_240;
+pub(crate) const MAX_ROWS: u32 = 10_240;
 
 /// What a walk finds at an element that it has come to.
 #[derive(Clone, Copy, Debug, PartialEq, Eq)]
@@ -41,17 +43,17 @@ pub(crate) enum Found {
 /// Whether an element with this head is a reply.
 #[inline(always)]
 pub(crate) fn is_reply(head: Head) -> bool
-    ensures yes { result ≡ true → (e : element) → head ≡ head_of e → e.stage ≡ 15 }
-    ensures no { result ≡ false → (e : element) → head ≡ head_of e → ¬ (e.stage ≡ 15) }
+    ensures yes { result ≡ true → (e : element) → head ≡ head_of e → e.stage ≡ REPLY_STAGE }
+    ensures no { result ≡ false → (e : element) → head ≡ head_of e → ¬ (e.stage ≡ REPLY_STAGE) }
 {
     match head {
         Head::Empty => false,
         Head::Void => false,
-        Head::There {
+        Head::Filled {
             stage,
             root: _,
             by: _,
-        } => stage == 15,
+        } => stage == REPLY_STAGE,
     }
 }
 
@@ -109,17 +111,17 @@ impl Shared {
     #[inline(always)]
     pub(crate) fn is_request(&self, seat: &mut Seat, row: u32) -> bool
         requires own { IsSeatOf self.now.words seat.old }
-        requires steady { Steady (limits_of self.now.words) (view_of seat.old) }
-        requires row { row < rows_of (limits_of self.now.words) }
+        requires steady { Steady (table_limits self.now.words) (view_of seat.old) }
+        requires row { row < rows_of (table_limits self.now.words) }
         ensures same { IsSameSeat seat.old seat.new }
-        ensures acted { Acted (limits_of self.now.words) root_steps (view_of seat.old) (view_of seat.new) }
+        ensures acted { Acted (table_limits self.now.words) root_steps (view_of seat.old) (view_of seat.new) }
         ensures yes { result ≡ true → IsRequest (seen_by seat.new) row }
         ensures no { result ≡ false → ¬ IsRequest (seen_by seat.new) row }
     {
         match self.head_at(seat, row) {
             Head::Empty => false,
             Head::Void => false,
-            Head::There {
+            Head::Filled {
                 stage: _,
                 root: _,
                 by,
@@ -134,15 +136,16 @@ impl Shared {
     #[inline(always)]
     fn look_untaken(&self, seat: &mut Seat, row: u32) -> Found
         requires own { IsSeatOf self.now.words seat.old }
-        requires steady { Steady (limits_of self.now.words) (view_of seat.old) }
-        requires row { (row < rows_of (limits_of self.now.words)) × HasElement (seen_by seat.old) row }
-        requires waits { status_of (limits_of self.now.words).attempts (seen_by seat.old) row ≡ Waiting 0 }
+        requires steady { Steady (table_limits self.now.words) (view_of seat.old) }
+        requires row { (row < rows_of (table_limits self.now.words)) × HasElement (seen_by seat.old) row }
+        requires waits { status_of (table_limits self.now.words).attempts (seen_by seat.old) row ≡ Waiting 0 }
         ensures same { IsSameSeat seat.old seat.new }
-        ensures looked { Looked (limits_of self.now.words) 1 (view_of seat.old) (view_of seat.new) }
-        ensures told { IsFound (limits_of self.now.words) row (seen_by seat.old) (seen_by seat.new) result }
+        ensures looked { Looked (table_limits self.now.words) 1 (view_of seat.old) (view_of seat.new) }
+        ensures told { IsFound (table_limits self.now.words) row (seen_by seat.old)
+            (seen_by seat.new) result }
     {
         let stage = self.words.load_stage(seat, row);
-        if stage == 15 {
+        if stage == REPLY_STAGE {
             Found::Reply
         } else {
             Found::Nothing
@@ -153,11 +156,13 @@ impl Shared {
     #[inline(always)]
     fn look_on(&self, seat: &mut Seat, row: u32) -> Found
         requires own { IsSeatOf self.now.words seat.old }
-        requires steady { Steady (limits_of self.now.words) (view_of seat.old) }
-        requires row { (row < rows_of (limits_of self.now.words)) × HasElement (seen_by seat.old) row }
+        requires steady { Steady (table_limits self.now.words) (view_of seat.old) }
+        requires row { (row < rows_of (table_limits self.now.words)) × HasElement (seen_by seat.old) row }
         ensures same { IsSameSeat seat.old seat.new }
-        ensures looked { Looked (limits_of self.now.words) stride_steps (view_of seat.old) (view_of seat.new) }
-        ensures told { IsFound (limits_of self.now.words) row (seen_by seat.old) (seen_by seat.new) result }
+        ensures looked { Looked (table_limits self.now.words) stride_steps (view_of seat.old)
+            (view_of seat.new) }
+        ensures told { IsFound (table_limits self.now.words) row (seen_by seat.old)
+            (seen_by seat.new) result }
     {
         let claim = self.words.load_claim(seat, row);
         match claim.tells {
@@ -190,16 +195,18 @@ impl Shared {
         from: u32,
     ) -> Option<u32>
         requires own { IsSeatOf self.now.words seat.old }
-        requires steady { Steady (limits_of self.now.words) (view_of seat.old) }
-        requires request { (root < rows_of (limits_of self.now.words)) × IsRequest (seen_by seat.old) root }
+        requires steady { Steady (table_limits self.now.words) (view_of seat.old) }
+        requires request { (root < rows_of (table_limits self.now.words))
+            × IsRequest (seen_by seat.old) root }
         requires none { IsEmpty rows.old }
         ensures same { IsSameSeat seat.old seat.new }
         ensures none { IsEmpty rows.new }
-        ensures told { Listed (limits_of self.now.words) root from result (view_of seat.old) (view_of seat.new) }
+        ensures told { Listed (table_limits self.now.words) root from result (view_of seat.old)
+            (view_of seat.new) }
     {
         let mut least = Least::none();
         let mut ahead = Ahead::of(root);
-        for _past in 0..MOST_ROWS + 1 {
+        for _past in 0..MAX_ROWS + 1 {
             let Some(row) = ahead.take_least(rows) else {
                 return least.id();
             };
@@ -221,16 +228,18 @@ impl Shared {
         from: u32,
     ) -> Option<u32>
         requires own { IsSeatOf self.now.words seat.old }
-        requires steady { Steady (limits_of self.now.words) (view_of seat.old) }
-        requires request { (root < rows_of (limits_of self.now.words)) × IsRequest (seen_by seat.old) root }
+        requires steady { Steady (table_limits self.now.words) (view_of seat.old) }
+        requires request { (root < rows_of (table_limits self.now.words))
+            × IsRequest (seen_by seat.old) root }
         requires none { IsEmpty rows.old }
         ensures same { IsSameSeat seat.old seat.new }
         ensures none { IsEmpty rows.new }
-        ensures told { Followed (limits_of self.now.words) root from result (view_of seat.old) (view_of seat.new) }
+        ensures told { Followed (table_limits self.now.words) root from result (view_of seat.old)
+            (view_of seat.new) }
     {
         let mut least = Least::none();
         let mut ahead = Ahead::of(root);
-        for _past in 0..MOST_ROWS + 1 {
+        for _past in 0..MAX_ROWS + 1 {
             let Some(row) = ahead.take_least(rows) else {
                 return least.id();
             };

@@ -4,7 +4,7 @@ use Rattle.std.proofs.lemmas.Bool.Decides.{eqb_tells}
 use Rattle.std.proofs.lemmas.List.Sums.{fold-append}
 use Rattle.std.specs.Option.{option_or}
 use Rattle.tp_model.specs.declared.types.Limits.{Limits}
-use Rattle.tp_model.specs.declared.types.TheConstants.{MOST_ROUNDS}
+use Rattle.tp_model.specs.declared.types.TheConstants.{MAX_ROUNDS}
 use Rattle.tp_model.specs.declared.types.Status.TheVariants.{Waiting, Held, Parked, Killed}
 use Rattle.tp_model.specs.declared.event.Event.{Event}
 use Rattle.tp_model.specs.declared.event.Event.TheVariants.{Enqueue, Claim, Commit, Abort, Kill, Requeue}
@@ -122,10 +122,10 @@ killed_round (AgainWord r) = refl
 
 -- the claim word tells them, and there are not too many
 abbrev TellsRounds : List Event → ℕ → Type 0
-TellsRounds h i = (round_in (claim_word h i) ≡ rounds h i) × (rounds h i ≤ MOST_ROUNDS)
+TellsRounds h i = (round_in (claim_word h i) ≡ rounds h i) × (rounds h i ≤ MAX_ROUNDS)
 
 rounds_step : (l : Limits) (h : List Event) (e : Event) → Step l h e → (i : ℕ) → TellsRounds h i
-    → (round_in (claim_word_after i (claim_word h i) e) ≡ rounds_after i (rounds h i) e) × (rounds_after i (rounds h i) e ≤ MOST_ROUNDS)
+    → (round_in (claim_word_after i (claim_word h i) e) ≡ rounds_after i (rounds h i) e) × (rounds_after i (rounds h i) e ≤ MAX_ROUNDS)
 rounds_step l h (Enqueue c x) step i old = old
 rounds_step l h (Claim c u j n) step i old =
     elim (eqb_tells j i) [ inl p ↦ rw (p.0) old | inr p ↦ rw (p.0) old ]

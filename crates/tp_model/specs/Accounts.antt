@@ -1,6 +1,8 @@
 -- The closing account of a history, and what it comes to.
-use Rattle.std.specs.Prelude.{◌≡◌, ◌≢◌, ◌<◌, ℕ, ◌+◌, ◌-◌, ◌==◌, ◌&&◌, ◌||◌, nat_le, Bool, true, List, map, take, length, sum_by, count_by, slice_index_or}
+use Rattle.std.specs.Prelude.{◌≡◌, ◌≢◌, ◌<◌, ℕ, ◌+◌, ◌-◌, ◌==◌, ◌&&◌, ◌||◌, nat_le, Bool, true, List, map}
+use Rattle.std.specs.Prelude.{take, length, sum_by, count_by, slice_index_or}
 use Rattle.std.specs.List.{filter_map, range_with_len}
+use Rattle.tp_model.specs.declared.types.TheConstants.{MAX_STAGE}
 use Rattle.tp_model.specs.declared.types.Account.{Account}
 use Rattle.tp_model.specs.declared.types.Counts.{Counts}
 use Rattle.tp_model.specs.declared.types.Element.{Element}
@@ -8,7 +10,8 @@ use Rattle.tp_model.specs.declared.types.Limits.{Limits}
 use Rattle.tp_model.specs.declared.types.Status.{Status}
 use Rattle.tp_model.specs.declared.types.Status.TheVariants.{Waiting, Held, Consumed, Parked, Killed}
 use Rattle.tp_model.specs.declared.event.Event.{Event}
-use Rattle.tp_model.specs.Counts.{taken, is_waiting, is_held, is_consumed, in_stage, counts_among, counts, counts_in}
+use Rattle.tp_model.specs.Counts.{taken, is_waiting, is_held, is_consumed, in_stage, counts_among, counts}
+use Rattle.tp_model.specs.Counts.{counts_in}
 use Rattle.tp_model.specs.History.{In, born, element_of, status_of, IsBorn, events_by}
 use Rattle.tp_model.specs.Steps.{IsLegal, IsStage, rows_of}
 
@@ -34,11 +37,41 @@ elements_below h n = filter_map (element_of h) (range_with_len 0 n)
 
 -- these counts, and one more element, which stands so
 abbrev pub one_more : Status → Counts → Counts
-one_more (Waiting n) c = record { waiting = c.waiting + 1; held = c.held; consumed = c.consumed; parked = c.parked; killed = c.killed }
-one_more (Held u n) c = record { waiting = c.waiting; held = c.held + 1; consumed = c.consumed; parked = c.parked; killed = c.killed }
-one_more (Consumed u) c = record { waiting = c.waiting; held = c.held; consumed = c.consumed + 1; parked = c.parked; killed = c.killed }
-one_more (Parked n) c = record { waiting = c.waiting; held = c.held; consumed = c.consumed; parked = c.parked + 1; killed = c.killed }
-one_more Killed c = record { waiting = c.waiting; held = c.held; consumed = c.consumed; parked = c.parked; killed = c.killed + 1 }
+one_more (Waiting n) c = record {
+  waiting = c.waiting + 1;
+  held = c.held;
+  consumed = c.consumed;
+  parked = c.parked;
+  killed = c.killed;
+}
+one_more (Held u n) c = record {
+  waiting = c.waiting;
+  held = c.held + 1;
+  consumed = c.consumed;
+  parked = c.parked;
+  killed = c.killed;
+}
+one_more (Consumed u) c = record {
+  waiting = c.waiting;
+  held = c.held;
+  consumed = c.consumed + 1;
+  parked = c.parked;
+  killed = c.killed;
+}
+one_more (Parked n) c = record {
+  waiting = c.waiting;
+  held = c.held;
+  consumed = c.consumed;
+  parked = c.parked + 1;
+  killed = c.killed;
+}
+one_more Killed c = record {
+  waiting = c.waiting;
+  held = c.held;
+  consumed = c.consumed;
+  parked = c.parked;
+  killed = c.killed + 1;
+}
 
 -- how many elements are counted, of whichever kind
 abbrev pub all_in : Counts → ℕ
@@ -59,7 +92,8 @@ added cs =
 abbrev pub CountsAddUp : Type 0
 CountsAddUp =
     (limit : ℕ) (h : List Event)
-    → (all_in (counts limit h) ≡ length (born h)) × ((s : ℕ) → all_in (counts_in limit h s) ≡ length (in_stage s (born h)))
+    → (all_in (counts limit h) ≡ length (born h))
+    × ((s : ℕ) → all_in (counts_in limit h s) ≡ length (in_stage s (born h)))
 
 -- how many elements of the servers' stages, the first 14, wait or are held
 abbrev pub open_in : Account → ℕ
@@ -67,15 +101,18 @@ open_in a = sum_by (λ c. c.waiting + c.held) (take 14 a.stages)
 
 -- an element of a server's stage that waits or is held
 abbrev pub is_open : ℕ → List Event → Element → Bool
-is_open limit h x = nat_le x.stage 14 && (is_waiting (status_of limit h x.id) || is_held (status_of limit h x.id))
+is_open limit h x = nat_le x.stage MAX_STAGE
+    && (is_waiting (status_of limit h x.id) || is_held (status_of limit h x.id))
 
 -- those that an account has open are the born elements that are
 abbrev pub OpenAddsUp : Type 0
-OpenAddsUp = (l : Limits) (h : List Event) → IsLegal l h → open_in (account_of l.attempts h) ≡ count_by (is_open l.attempts h) (born h)
+OpenAddsUp = (l : Limits) (h : List Event) → IsLegal l h
+    → open_in (account_of l.attempts h) ≡ count_by (is_open l.attempts h) (born h)
 
 -- the counts of the stages add up to those in all
 abbrev pub StagesAddUp : Type 0
-StagesAddUp = (l : Limits) (h : List Event) → IsLegal l h → added (account_of l.attempts h).stages ≡ counts l.attempts h
+StagesAddUp = (l : Limits) (h : List Event) → IsLegal l h
+    → added (account_of l.attempts h).stages ≡ counts l.attempts h
 
 -- those of stage s are at index s - 1
 abbrev pub StagesInPlace : Type 0
@@ -112,8 +149,10 @@ pub record IsTakenOnce (l : Limits) (h : List Event) (x : Element) : Type 0 wher
 
 -- each consumed element is one that one pass alone consumed, and once
 abbrev pub ConsumedIsTaken : Type 0
-ConsumedIsTaken = (l : Limits) (h : List Event) (x : Element) → IsLegal l h → IsConsumed l.attempts h x → IsTakenOnce l h x
+ConsumedIsTaken = (l : Limits) (h : List Event) (x : Element) → IsLegal l h → IsConsumed l.attempts h x
+    → IsTakenOnce l h x
 
 -- and what a pass consumed is a consumed element
 abbrev pub TakenIsConsumed : Type 0
-TakenIsConsumed = (l : Limits) (h : List Event) (c : ℕ) (x : Element) → IsLegal l h → In x (taken_of h c) → IsConsumed l.attempts h x
+TakenIsConsumed = (l : Limits) (h : List Event) (c : ℕ) (x : Element) → IsLegal l h → In x (taken_of h c)
+    → IsConsumed l.attempts h x

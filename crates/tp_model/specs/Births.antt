@@ -15,4 +15,5 @@ IsWhole d = IsStage d.stage × IsBody d.body
 -- the outputs of unit u that these drafts become, with ids from `id` on
 abbrev pub outputs : ℕ → ℕ → ℕ → List DraftView → List Element
 outputs u root id [] = []
-outputs u root id (d ∷ ds) = record { id = id; stage = d.stage; root = root; body = d.body; by = Some u } ∷ outputs u root (id + 1) ds
+outputs u root id (d ∷ ds) = record { id = id; stage = d.stage; root = root; body = d.body; by = Some u }
+    ∷ outputs u root (id + 1) ds

@@ -12,7 +12,8 @@ use Rattle.tp_model.specs.History.{born, element_of, UnitClaim, claim_of, status
 
 -- the born element that the unit of a Commit among `events` claimed there
 abbrev pub taken_by : List Event → List Event → Event → Option Element
-taken_by events h (Commit c u outs) = option_and_then (λ (t : UnitClaim). element_of h t.item) (claim_of events u)
+taken_by events h (Commit c u outs) = option_and_then (λ (t : UnitClaim). element_of h t.item)
+    (claim_of events u)
 taken_by events h other = None
 
 -- the elements that these events consumed, in the order of their Commits

@@ -1,12 +1,15 @@
 -- The elements that a client's request has led to, and when the work on them is over for good.
-use Rattle.std.specs.Prelude.{◌≡◌, ◌≢◌, ◌⊎◌, ℕ, ◌+◌, ◌<◌, ◌≤◌, ◌==◌, Bool, true, Some, None, List, ◌∷◌, ◌++◌, filter, All}
+use Rattle.std.specs.Prelude.{◌≡◌, ◌≢◌, ◌⊎◌, ℕ, ◌+◌, ◌<◌, ◌≤◌, ◌==◌, Bool, true, Some, None, List, ◌∷◌, ◌++◌}
+use Rattle.std.specs.Prelude.{filter, All}
 use mathlib.Core.List.{IsPrefix}
+use Rattle.tp_model.specs.declared.types.TheConstants.{REPLY_STAGE}
 use Rattle.tp_model.specs.declared.types.Element.{Element}
 use Rattle.tp_model.specs.declared.types.Limits.{Limits}
 use Rattle.tp_model.specs.declared.event.Event.{Event}
 use Rattle.tp_model.specs.declared.event.Event.TheVariants.{Claim, Commit}
 use Rattle.tp_model.specs.declared.types.Status.TheVariants.{Consumed}
-use Rattle.tp_model.specs.History.{born, element_of, status_of, IsBorn, IsSettled, UnitClaim, claim_of, Committed, end_of}
+use Rattle.tp_model.specs.History.{born, element_of, status_of, IsBorn, IsSettled, UnitClaim, claim_of}
+use Rattle.tp_model.specs.History.{Committed, end_of}
 use Rattle.tp_model.specs.Steps.{IsLegal}
 use Rattle.tp_model.specs.Laws.{item_of}
 
@@ -16,7 +19,8 @@ family h root = filter (λ e. e.root == root) (born h)
 
 -- each element of this family that is no reply is consumed or killed
 abbrev pub IsSettledFamily : ℕ → List Event → ℕ → Type 0
-IsSettledFamily limit h root = All (λ e. e.stage ≢ 15 → IsSettled (status_of limit h e.id)) (family h root)
+IsSettledFamily limit h root = All (λ e. e.stage ≢ REPLY_STAGE → IsSettled (status_of limit h e.id))
+    (family h root)
 
 -- the element with this id is born, and is a client's
 abbrev pub IsRequest : List Event → ℕ → Type 0
@@ -40,12 +44,14 @@ pub record ComesFrom (limit : ℕ) (h : List Event) (x : Element) : Type 0 where
   pub low : first ≤ x.id
   pub high : x.id < first + count
 
--- a family is a tree: each element of it is its root, which is a client's, or comes from another one of the family
+-- a family is a tree: each element of it is its root, which is a client's, or comes from another one of the
+-- family
 abbrev pub FamilyIsTree : Type 0
 FamilyIsTree = (l : Limits) (h : List Event) (x : Element) → IsLegal l h → IsBorn h x
     → ((x.id ≡ x.root) × (x.by ≡ None)) ⊎ ComesFrom l.attempts h x
 
--- who has these ids has the root, and where a unit consumed the element of one of them, each output of that unit
+-- who has these ids has the root, and where a unit consumed the element of one of them, each output of that
+-- unit
 pub record IsClosedFrom (limit : ℕ) (h : List Event) (root : ℕ) (Has : ℕ → Type 0) : Type 0 where
   pub root_too : Has root
   pub outputs_too : (i u first count j : ℕ) → Has i → status_of limit h i ≡ Consumed u
@@ -60,8 +66,10 @@ ClosedHasFamily = (l : Limits) (h : List Event) (root : ℕ) (has : ℕ → Bool
 -- and goes to no other: the outputs of a unit are of the family of the element that it took
 abbrev pub OutputsAreOfFamily : Type 0
 OutputsAreOfFamily = (l : Limits) (h : List Event) (t : UnitClaim) (y : Element) (u first count j : ℕ)
-    → IsLegal l h → claim_of h u ≡ Some t → element_of h t.item ≡ Some y → end_of h u ≡ Some (Committed first count)
-    → first ≤ j → j < first + count → (x : Element) × (element_of h j ≡ Some x) × (x.root ≡ y.root) × (x.by ≡ Some u)
+    → IsLegal l h → claim_of h u ≡ Some t → element_of h t.item ≡ Some y
+    → end_of h u ≡ Some (Committed first count)
+    → first ≤ j → j < first + count → (x : Element) × (element_of h j ≡ Some x) × (x.root ≡ y.root)
+    × (x.by ≡ Some u)
 
 -- the event is a Claim of an element of the family, or a Commit of a unit that claimed one
 abbrev pub WorksOn : List Event → ℕ → Event → Type 0
@@ -69,7 +77,8 @@ WorksOn h root (Claim c u i n) = IsOfFamily h root i
 WorksOn h root (Commit c u outs) = (i : ℕ) × (item_of h u ≡ Some i) × IsOfFamily h root i
 WorksOn h root other = ⊥
 
--- once the family of a client's element is settled, no later event claims an element of it, or commits a unit that claimed one
+-- once the family of a client's element is settled, no later event claims an element of it, or commits a unit
+-- that claimed one
 abbrev pub NeverWorkedOn : Type 0
 NeverWorkedOn =
     (l : Limits) (h between after : List Event) (e : Event) (root : ℕ)

@@ -1,5 +1,7 @@
--- What a history says of its elements and its units. A history is a list of events, from the oldest to the newest.
-use Rattle.std.specs.Prelude.{◌≡◌, ℕ, ◌+◌, ◌==◌, nat_lt, if◌then◌else◌, Option, Some, None, List, [], ◌∷◌, ◌++◌, length, filter}
+-- What a history says of its elements and its units. A history is a list of events, from the oldest to the
+-- newest.
+use Rattle.std.specs.Prelude.{◌≡◌, ℕ, ◌+◌, ◌==◌, nat_lt, if◌then◌else◌, Option, Some, None, List, [], ◌∷◌}
+use Rattle.std.specs.Prelude.{◌++◌, length, filter}
 use Rattle.std.specs.List.{fold, find}
 use Rattle.std.specs.Option.{option_or}
 use Rattle.tp_model.specs.declared.types.Element.{Element}

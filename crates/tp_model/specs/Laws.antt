@@ -4,12 +4,13 @@ use Rattle.std.specs.Option.{option_map}
 use mathlib.Core.List.{IsPrefix}
 use Rattle.tp_model.specs.declared.types.Element.{Element}
 use Rattle.tp_model.specs.declared.types.Limits.{Limits}
-use Rattle.tp_model.specs.declared.types.TheConstants.{MOST_ROUNDS}
+use Rattle.tp_model.specs.declared.types.TheConstants.{MAX_ROUNDS}
 use Rattle.tp_model.specs.declared.types.Status.{Status}
 use Rattle.tp_model.specs.declared.types.Status.TheVariants.{Waiting, Held, Consumed, Parked, Killed}
 use Rattle.tp_model.specs.declared.event.Event.{Event}
 use Rattle.tp_model.specs.declared.event.Event.TheVariants.{Claim, Commit, Kill}
-use Rattle.tp_model.specs.History.{born, element_of, status_of, rounds, UnitClaim, claim_of, UnitEnd, end_of, IsSettled}
+use Rattle.tp_model.specs.History.{born, element_of, status_of, rounds, UnitClaim, claim_of, UnitEnd, end_of}
+use Rattle.tp_model.specs.History.{IsSettled}
 use Rattle.tp_model.specs.Words.{claim_word, round_in, word_status, Rises}
 use Rattle.tp_model.specs.Steps.{IsLegal}
 
@@ -67,25 +68,31 @@ BornStays =
 
 -- a status is what is read off the claim word and its unit's end
 abbrev pub StatusByWords : Type 0
-StatusByWords = (l : Limits) (h : List Event) (i : ℕ) → IsLegal l h → status_of l.attempts h i ≡ word_status l.attempts h (claim_word h i)
+StatusByWords = (l : Limits) (h : List Event) (i : ℕ) → IsLegal l h
+    → status_of l.attempts h i ≡ word_status l.attempts h (claim_word h i)
 
 -- a claim word tells how many rounds the element was given, which is at most three
 abbrev pub RoundsByWords : Type 0
-RoundsByWords = (l : Limits) (h : List Event) (i : ℕ) → IsLegal l h → (round_in (claim_word h i) ≡ rounds h i) × (rounds h i ≤ MOST_ROUNDS)
+RoundsByWords = (l : Limits) (h : List Event) (i : ℕ) → IsLegal l h
+    → (round_in (claim_word h i) ≡ rounds h i) × (rounds h i ≤ MAX_ROUNDS)
 
 -- in a longer legal history the claim word of an element is the same, or a later one
 abbrev pub WordsRise : Type 0
-WordsRise = (l : Limits) (h g : List Event) (i : ℕ) → IsLegal l g → IsPrefix h g → Rises (claim_word h i) (claim_word g i)
+WordsRise = (l : Limits) (h g : List Event) (i : ℕ) → IsLegal l g → IsPrefix h g → Rises (claim_word h i)
+    (claim_word g i)
 
 -- a consumed or killed element stays so
 abbrev pub SettledStays : Type 0
-SettledStays = (l : Limits) (h g : List Event) (i : ℕ) → IsLegal l g → IsPrefix h g → IsSettled (status_of l.attempts h i) → status_of l.attempts g i ≡ status_of l.attempts h i
+SettledStays = (l : Limits) (h g : List Event) (i : ℕ) → IsLegal l g → IsPrefix h g
+    → IsSettled (status_of l.attempts h i) → status_of l.attempts g i ≡ status_of l.attempts h i
 
 -- who claimed a unit, and how it ended, stays
 abbrev pub UnitsStay : Type 0
 UnitsStay = (h g : List Event) (u : ℕ) → IsPrefix h g
-    → ((t : UnitClaim) → claim_of h u ≡ Some t → claim_of g u ≡ Some t) × ((x : UnitEnd) → end_of h u ≡ Some x → end_of g u ≡ Some x)
+    → ((t : UnitClaim) → claim_of h u ≡ Some t → claim_of g u ≡ Some t)
+    × ((x : UnitEnd) → end_of h u ≡ Some x → end_of g u ≡ Some x)
 
 -- no two born elements have one id
 abbrev pub BornOnce : Type 0
-BornOnce = (l : Limits) (h : List Event) (e : Element) → IsLegal l h → Contains (born h) e → element_of h e.id ≡ Some e
+BornOnce = (l : Limits) (h : List Event) (e : Element) → IsLegal l h → Contains (born h) e
+    → element_of h e.id ≡ Some e

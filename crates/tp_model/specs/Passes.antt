@@ -1,11 +1,13 @@
 -- What a pass shows to contracts, and the points of its calls.
-use Rattle.std.specs.Prelude.{◌≡◌, ◌⊎◌, ℕ, ◌+◌, ◌<◌, ◌≤◌, Bool, true, false, if◌then◌else◌, Option, Some, List, [], ◌∷◌}
+use Rattle.std.specs.Prelude.{◌≡◌, ◌⊎◌, ℕ, ◌+◌, ◌<◌, ◌≤◌, Bool, true, false, if◌then◌else◌, Option, Some}
+use Rattle.std.specs.Prelude.{List, [], ◌∷◌}
 use mathlib.Core.List.{IsPrefix}
 use Rattle.tp_model.specs.declared.types.Limits.{Limits}
 use Rattle.tp_model.specs.declared.event.Event.{Event}
 use Rattle.tp_model.specs.declared.event.Event.TheVariants.{Abort}
 use Rattle.tp_model.specs.declared.trace.StepKind.{StepKind}
-use Rattle.tp_model.specs.declared.trace.StepKind.TheVariants.{DraftStore, SeatLoad, UnitChoice, Raise, Draw, Void}
+use Rattle.tp_model.specs.declared.trace.StepKind.TheVariants.{DraftStore, SeatLoad, UnitChoice, Raise, Draw}
+use Rattle.tp_model.specs.declared.trace.StepKind.TheVariants.{Void}
 use Rattle.tp_model.specs.declared.trace.TraceEntry.{TraceEntry}
 use Rattle.tp_model.specs.History.{Committed, In, IsClaim, IsUnborn, end_of, events_by}
 use Rattle.tp_model.specs.Steps.{IsBlock, IsLegal, IsPart, MayUse}
@@ -36,7 +38,8 @@ abbrev pub Ascend : ℕ → ℕ → List ℕ → Type 0
 Ascend low high [] = Unit {0}
 Ascend low high (n ∷ ns) = (low ≤ n) × (n < high) × Ascend (n + 1) high ns
 
--- the rows from `first` up to `end` are an area of pass c, which has drawn these blocks: its part, or one of them
+-- the rows from `first` up to `end` are an area of pass c, which has drawn these blocks: its part, or one of
+-- them
 abbrev pub IsOwnArea : Limits → ℕ → List ℕ → ℕ → ℕ → Type 0
 IsOwnArea l c blocks first end = IsPart l c first end ⊎ ((b : ℕ) × In b blocks × IsBlock l b first end)
 
@@ -56,8 +59,8 @@ pub record IsRun (l : Limits) (h : List Event) (c : ℕ) (blocks : List ℕ) (ne
   -- and the pass may use each
   pub usable : (i : ℕ) → next ≤ i → i < next + left → MayUse l h c i
 
--- it has seen a legal history; its own events are those of that history with its number; the rows that are left to it
--- are a run there; and its open unit is there its own, not committed, and not aborted by itself
+-- it has seen a legal history; its own events are those of that history with its number; the rows that are
+-- left to it are a run there; and its open unit is there its own, not committed, and not aborted by itself
 pub record IsPassView (l : Limits) (v : PassView) : Type 0 where
   pub given : v.number < l.parts
   pub legal : IsLegal l v.seen
@@ -67,8 +70,8 @@ pub record IsPassView (l : Limits) (v : PassView) : Type 0 where
 
 -- whether a step looks at the table: what it finds or changes there is tied to what is seen after it. A draft
 -- store sees nothing, the load that cuts or joins seats tells nothing, the choice of a unit is told nothing
--- of its word, and the exchanges of a mark, of the counter of drawn blocks, and of the head of a row that is left
--- behind are told nothing of the history.
+-- of its word, and the exchanges of a mark, of the counter of drawn blocks, and of the head of a row that is
+-- left behind are told nothing of the history.
 abbrev pub looks : StepKind → Bool
 looks DraftStore = false
 looks SeatLoad = false

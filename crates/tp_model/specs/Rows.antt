@@ -3,7 +3,7 @@ use Rattle.std.specs.Prelude.{◌≡◌, ℕ, ◌+◌, Some, List, [], ◌∷◌
 use Rattle.tp_model.specs.declared.types.Counts.{Counts}
 use Rattle.tp_model.specs.declared.types.Element.{Element}
 use Rattle.tp_model.specs.declared.types.Limits.{Limits}
-use Rattle.tp_model.specs.declared.types.TheConstants.{MOST_ROUNDS}
+use Rattle.tp_model.specs.declared.types.TheConstants.{MAX_ROUNDS}
 use Rattle.tp_model.specs.declared.types.Status.TheVariants.{Waiting, Held, Consumed, Parked, Killed}
 use Rattle.tp_model.specs.declared.event.Event.{Event}
 use Rattle.tp_model.specs.declared.event.Event.TheVariants.{Enqueue, Claim, Commit, Abort, Kill, Requeue}
@@ -25,15 +25,23 @@ body amount = 0 ∷ amount ∷ (amount + 1) ∷ (amount + 2) ∷ []
 
 -- an output of a unit
 abbrev output : ℕ → ℕ → ℕ → ℕ → ℕ → Element
-output id stage root amount unit = record { id = id; stage = stage; root = root; body = body amount; by = Some unit }
+output id stage root amount unit = record {
+  id = id;
+  stage = stage;
+  root = root;
+  body = body amount;
+  by = Some unit;
+}
 
 -- a request, and its reply
 abbrev pub with_reply : List Event
-with_reply = Enqueue 0 (request 0 1 (body 10)) ∷ Claim 1 256 0 1 ∷ Commit 1 256 (output 8 15 0 10 256 ∷ []) ∷ []
+with_reply = Enqueue 0 (request 0 1 (body 10)) ∷ Claim 1 256 0 1 ∷ Commit 1 256 (output 8 15 0 10 256 ∷ [])
+    ∷ []
 
 -- a request that is taken and given up three times
 abbrev pub given_up : List Event
-given_up = Enqueue 0 (request 0 1 (body 11)) ∷ Claim 1 256 0 1 ∷ Abort 1 256 ∷ Claim 1 257 0 2 ∷ Abort 1 257 ∷ Claim 1 258 0 3 ∷ Abort 1 258 ∷ []
+given_up = Enqueue 0 (request 0 1 (body 11)) ∷ Claim 1 256 0 1 ∷ Abort 1 256 ∷ Claim 1 257 0 2 ∷ Abort 1 257
+    ∷ Claim 1 258 0 3 ∷ Abort 1 258 ∷ []
 
 -- a request that is killed while a unit holds it
 abbrev pub killed_in_hand : List Event
@@ -62,16 +70,21 @@ so_many waiting consumed = record { waiting = waiting; held = 0; consumed = cons
 -- what these histories come to
 pub record WorkedRows : Type 0 where
   -- a parked element is given three more rounds at most
-  pub most_rounds : MOST_ROUNDS ≡ 3
+  pub most_rounds : MAX_ROUNDS ≡ 3
   pub reply_is : map (λ (e : Element). e.id) (born with_reply) ≡ 0 ∷ 8 ∷ []
   pub reply_end : end_of with_reply 256 ≡ Some (Committed 8 1)
   pub reply_status : status_of 3 with_reply 0 ≡ Consumed 256
   pub reply_waits : status_of 3 with_reply 8 ≡ Waiting 0
-  pub reply_taken : map (λ (e : Element). e.body) (taken (events_by 1 with_reply) with_reply) ≡ (0 ∷ 10 ∷ 11 ∷ 12 ∷ []) ∷ []
+  pub reply_taken : map (λ (e : Element). e.body) (taken (events_by 1 with_reply) with_reply) ≡ (0 ∷ 10 ∷ 11
+      ∷ 12 ∷ []) ∷ []
   pub client_took_none : taken_of with_reply 0 ≡ []
   pub reply_counts : counts 3 with_reply ≡ so_many 1 1
   pub reply_stage_counts : counts_in 3 with_reply 15 ≡ so_many 1 0
-  pub reply_account : account_of 3 with_reply ≡ record { total = so_many 1 1; stages = so_many 0 1 ∷ replicate 13 (so_many 0 0) ++ so_many 1 0 ∷ [] }
+  pub reply_account : account_of 3 with_reply ≡ record {
+    total = so_many 1 1;
+    stages = so_many 0 1
+        ∷ replicate 13 (so_many 0 0) ++ so_many 1 0 ∷ [];
+  }
   pub reply_rows : map (λ (e : Element). e.id) (elements_below with_reply (rows_of row_limits)) ≡ 0 ∷ 8 ∷ []
   pub parked : status_of 3 given_up 0 ≡ Parked 3
   pub parked_word : claim_word given_up 0 ≡ TakenWord 3 258 0

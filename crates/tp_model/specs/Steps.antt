@@ -6,24 +6,27 @@ use Rattle.tp_model.specs.declared.types.Status.{Status}
 use Rattle.tp_model.specs.declared.types.Status.TheVariants.{Waiting, Held, Consumed, Parked, Killed}
 use Rattle.tp_model.specs.declared.event.Event.{Event}
 use Rattle.tp_model.specs.declared.event.Event.TheVariants.{Enqueue, Claim, Commit, Abort, Kill, Requeue}
-use Rattle.tp_model.specs.declared.types.TheConstants.{BLOCK_ROWS, BODY_WORDS, MOST_ROUNDS}
-use Rattle.tp_model.specs.History.{In, births, element_of, status_of, rounds, UnitClaim, claim_of, end_of, first_id, pass_of}
+use Rattle.tp_model.specs.declared.types.TheConstants.{BLOCK_ROWS, BODY_WORDS, MAX_ATTEMPTS, MAX_BLOCKS}
+use Rattle.tp_model.specs.declared.types.TheConstants.{MAX_PART_ROWS, MAX_PASSES, MAX_ROUNDS, MAX_STAGE}
+use Rattle.tp_model.specs.declared.types.TheConstants.{MAX_UNITS, REPLY_STAGE}
+use Rattle.tp_model.specs.History.{In, births, element_of, status_of, rounds, UnitClaim, claim_of, end_of}
+use Rattle.tp_model.specs.History.{first_id, pass_of}
 
 -- the limits are in their ranges
 pub record AreLimits (l : Limits) : Type 0 where
-  pub parts : (1 ≤ l.parts) × (l.parts ≤ 32)
-  pub rows : (1 ≤ l.rows) × (l.rows ≤ 256)
-  pub units : (1 ≤ l.units) × (l.units ≤ 1024)
-  pub attempts : (1 ≤ l.attempts) × (l.attempts ≤ 7)
-  pub spare : l.spare ≤ 256
+  pub parts : (1 ≤ l.parts) × (l.parts ≤ MAX_PASSES)
+  pub rows : (1 ≤ l.rows) × (l.rows ≤ MAX_PART_ROWS)
+  pub units : (1 ≤ l.units) × (l.units ≤ MAX_UNITS)
+  pub attempts : (1 ≤ l.attempts) × (l.attempts ≤ MAX_ATTEMPTS)
+  pub spare : l.spare ≤ MAX_BLOCKS
 
 -- how many attempts an element has in all its rounds, the first among them, where so many are allowed in each
 abbrev pub tries : ℕ → ℕ
-tries attempts = (MOST_ROUNDS + 1) * attempts
+tries attempts = (MAX_ROUNDS + 1) * attempts
 
 -- how often its claim word can change before a kill: at each attempt, and at each further round
 abbrev pub changes : ℕ → ℕ
-changes attempts = tries attempts + MOST_ROUNDS
+changes attempts = tries attempts + MAX_ROUNDS
 
 -- how many rows the parts have
 abbrev pub part_rows : Limits → ℕ
@@ -34,8 +37,8 @@ abbrev pub rows_of : Limits → ℕ
 rows_of l = part_rows l + BLOCK_ROWS * l.spare
 
 -- how many rows there can be
-abbrev pub most_rows : ℕ
-most_rows = 32 * 256 + BLOCK_ROWS * 256
+abbrev pub max_rows : ℕ
+max_rows = MAX_PASSES * MAX_PART_ROWS + BLOCK_ROWS * MAX_BLOCKS
 
 -- how many units there are
 abbrev pub units_of : Limits → ℕ
@@ -67,7 +70,8 @@ IsArea l first end = ((c : ℕ) × IsPart l c first end) ⊎ ((b : ℕ) × IsBlo
 
 -- pass c made all that is born in spare block b
 abbrev pub IsBlockFor : Limits → List Event → ℕ → ℕ → Type 0
-IsBlockFor l h c b = (e : Event) (x : Element) → In e h → In x (births e) → IsRowOfBlock l b x.id → pass_of e ≡ c
+IsBlockFor l h c b = (e : Event) (x : Element) → In e h → In x (births e) → IsRowOfBlock l b x.id
+    → pass_of e ≡ c
 
 -- pass c may use row i: it is one of its part, or a spare one in whose block no other pass made anything
 abbrev pub MayUse : Limits → List Event → ℕ → ℕ → Type 0
@@ -79,11 +83,11 @@ IsUnitOf l c u = (c < l.parts) × (c * l.units ≤ u) × (u < c * l.units + l.un
 
 -- a stage that servers take from
 abbrev pub IsServerStage : ℕ → Type 0
-IsServerStage s = (1 ≤ s) × (s ≤ 14)
+IsServerStage s = (1 ≤ s) × (s ≤ MAX_STAGE)
 
 -- a stage that an output may go to: those, and the replies
 abbrev pub IsStage : ℕ → Type 0
-IsStage s = (1 ≤ s) × (s ≤ 15)
+IsStage s = (1 ≤ s) × (s ≤ REPLY_STAGE)
 
 -- a whole body: as many words as each body has
 abbrev pub IsBody : List ℕ → Type 0
@@ -171,7 +175,7 @@ pub record MayRequeue (l : Limits) (h : List Event) (c i r : ℕ) : Type 0 where
   pub born : element_of h i ≡ Some item
   pub parked : IsParked (status_of l.attempts h i)
   pub next : r ≡ rounds h i + 1
-  pub few : r ≤ MOST_ROUNDS
+  pub few : r ≤ MAX_ROUNDS
 
 -- the event may come next
 abbrev pub Step : Limits → List Event → Event → Type 0
@@ -184,4 +188,5 @@ Step l h (Requeue c i r) = MayRequeue l h c i r
 
 -- each event may come after those before it
 pub record IsLegal (l : Limits) (h : List Event) : Type 0 where
-  pub each : (before : List Event) (e : Event) (after : List Event) → before ++ e ∷ after ≡ h → Step l before e
+  pub each : (before : List Event) (e : Event) (after : List Event) → before ++ e ∷ after ≡ h
+      → Step l before e

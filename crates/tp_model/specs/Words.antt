@@ -64,7 +64,8 @@ attempt_in (AgainWord r) = 0
 abbrev pub IsPast : ClaimWord → ClaimWord → Type 0
 IsPast v w = (round_in v < round_in w) ⊎ ((round_in v ≡ round_in w) × (attempt_in v < attempt_in w))
 
--- from one claim word to a later one of the same element: the attempt rises, or it is killed, and else it is the same
+-- from one claim word to a later one of the same element: the attempt rises, or it is killed, and else it is
+-- the same
 abbrev pub Rises : ClaimWord → ClaimWord → Type 0
 Rises (KilledWord n u r) w = w ≡ KilledWord n u r
 Rises v w = (w ≡ v) ⊎ (IsPast v w ⊎ (w ≡ kill_word v))

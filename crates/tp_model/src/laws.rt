@@ -1,9 +1,13 @@
 //! The laws of legal histories. These functions do nothing: their contracts are the laws.
 
 ghost use Rattle.tp_model.specs.Rows.{WorkedRows};
-ghost use Rattle.tp_model.specs.Accounts.{CountsAddUp, StagesAddUp, StagesInPlace, OpenAddsUp, CountsByRows, ConsumedIsTaken, TakenIsConsumed};
-ghost use Rattle.tp_model.specs.Families.{ClosedHasFamily, FamilyIsTree, NeverWorkedOn, OutputsAreOfFamily, SettledFamilyStays};
-ghost use Rattle.tp_model.specs.Laws.{ConsumedOnce, NeverClaimedAfterKill, NeverCommittedAfterKill, NeverKilledAfterKill, StatusSteps, BornStays, BornOnce, StatusByWords, RoundsByWords, WordsRise, SettledStays, UnitsStay};
+ghost use Rattle.tp_model.specs.Accounts.{CountsAddUp, StagesAddUp, StagesInPlace, OpenAddsUp, CountsByRows};
+ghost use Rattle.tp_model.specs.Accounts.{ConsumedIsTaken, TakenIsConsumed};
+ghost use Rattle.tp_model.specs.Families.{ClosedHasFamily, FamilyIsTree, NeverWorkedOn, OutputsAreOfFamily};
+ghost use Rattle.tp_model.specs.Families.{SettledFamilyStays};
+ghost use Rattle.tp_model.specs.Laws.{ConsumedOnce, NeverClaimedAfterKill, NeverCommittedAfterKill};
+ghost use Rattle.tp_model.specs.Laws.{NeverKilledAfterKill, StatusSteps, BornStays, BornOnce, StatusByWords};
+ghost use Rattle.tp_model.specs.Laws.{RoundsByWords, WordsRise, SettledStays, UnitsStay};
 
 /// No element is consumed by two committed units.
 pub fn consumed_once()
@@ -33,15 +37,15 @@ pub fn finished_stays()
     ensures { SettledStays }
 {}
 
-/// What a longer history keeps: who claimed a unit and how it ended, and each claim word but for later attempts and rounds and
-/// a kill.
+/// What a longer history keeps: who claimed a unit and how it ended, and each claim word but for later
+/// attempts and rounds and a kill.
 pub fn later_histories()
     ensures units { UnitsStay }
     ensures words { WordsRise }
 {}
 
-/// Once the family of a client's element is settled, it stays so and nothing is born in it; no element of it is
-/// claimed any more, and no unit that claimed one commits.
+/// Once the family of a client's element is settled, it stays so and nothing is born in it; no element of it
+/// is claimed any more, and no unit that claimed one commits.
 pub fn settled_for_good()
     ensures never { NeverWorkedOn }
     ensures stays { SettledFamilyStays }
@@ -63,8 +67,8 @@ pub fn status_by_words()
     ensures rounds { RoundsByWords }
 {}
 
-/// In all and in each stage the five counts add up to the born elements. An account tells the counts of each stage, and
-/// these add up to the total; what it has open is what waits or is held in the servers' stages.
+/// In all and in each stage the five counts add up to the born elements. An account tells the counts of each
+/// stage, and these add up to the total; what it has open is what waits or is held in the servers' stages.
 pub fn counts_add_up()
     ensures kinds { CountsAddUp }
     ensures stages { StagesAddUp }

@@ -1,4 +1,5 @@
-//! What a value was at one moment, for proofs alone. It takes no memory, and making it does nothing when the program runs.
+//! What a value was at one moment, for proofs alone. It takes no memory, and making it does nothing when the
+//! program runs.
 ghost use Rattle.std.specs.Prelude.{◌≡◌};
 ghost use Rattle.std.specs.Borrow.{ftrue};
 

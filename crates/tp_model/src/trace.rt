@@ -14,7 +14,8 @@ pub enum StepKind {
     /// The load by which what a thread steps with is cut in two, or joined with another's. It tells nothing
     /// of the table.
     SeatLoad,
-    /// The look at the word of an own unit that was never claimed, which is thereby chosen for the next claim.
+    /// The look at the word of an own unit that was never claimed, which is thereby chosen for the next
+    /// claim.
     UnitChoice,
     /// The compare-exchange of an element's claim word by which a unit takes it.
     ClaimExchange,
@@ -28,11 +29,11 @@ pub enum StepKind {
     RequeueExchange,
     /// The compare-exchange of a part's mark, by which it is raised. It tells nothing but of the mark.
     Raise,
-    /// The compare-exchange of the counter of drawn blocks, by which a spare block is drawn. It tells nothing but
-    /// of the counter.
+    /// The compare-exchange of the counter of drawn blocks, by which a spare block is drawn. It tells nothing
+    /// but of the counter.
     Draw,
-    /// The compare-exchange of the head of a row that the pass has left behind, by which it is marked as one that
-    /// is never used. It tells nothing but of that head.
+    /// The compare-exchange of the head of a row that the pass has left behind, by which it is marked as one
+    /// that is never used. It tells nothing but of that head.
     Void,
 }
 

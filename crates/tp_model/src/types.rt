@@ -28,7 +28,8 @@ pub struct Element {
 /// How an element stands.
 #[derive(Clone, Copy, Debug, PartialEq, Eq)]
 pub enum Status {
-    /// It may be claimed. So many units of work took it in its round and were aborted: fewer than the attempt limit.
+    /// It may be claimed. So many units of work took it in its round and were aborted: fewer than the attempt
+    /// limit.
     Waiting { attempts: u8 },
     /// An undecided unit of work holds it, and is the `attempt`-th to do so in its round.
     Held { unit: u16, attempt: u8 },
@@ -71,16 +72,43 @@ pub struct Limits {
     pub units: u16,
     /// How many attempts an element has in a round before it is parked, 1 to 7.
     pub attempts: u8,
-    /// How many spare blocks of rows there are, 0 to 256. Each pass that needs more rows than its own may draw
-    /// them.
+    /// How many spare blocks of rows there are, 0 to 256. Each pass that needs more rows than its own may
+    /// draw them.
     pub spare: u16,
 }
+
+/// The stage of replies, which no server takes from.
+pub const REPLY_STAGE: u8 = 15;
+
+/// The last stage that a server may have; the first is 1.
+pub const MAX_STAGE: u8 = 14;
+
+/// How many stages there are: those of servers and that of replies.
+pub const STAGES: usize = 15;
+
+/// How many drafts a commit has at most.
+pub const MAX_OUTPUTS: usize = 4;
+
+/// How many passes a manager has at most.
+pub const MAX_PASSES: u16 = 32;
+
+/// How many rows a pass has of its own at most.
+pub const MAX_PART_ROWS: u16 = 256;
+
+/// How many units of work a pass may begin at most.
+pub const MAX_UNITS: u16 = 1024;
+
+/// How many attempts a round has at most.
+pub const MAX_ATTEMPTS: u8 = 7;
+
+/// How many spare blocks there are at most.
+pub const MAX_BLOCKS: u16 = 256;
 
 /// How many rows a spare block has.
 pub const BLOCK_ROWS: u16 = 8;
 
 /// How often a parked element can be given another round of attempts.
-pub const MOST_ROUNDS: u8 = 3;
+pub const MAX_ROUNDS: u8 = 3;
 
 impl Limits {
     ghost use Rattle.std.specs.Prelude.{◌≡◌, ◌↔◌, ◌≤◌, IsTrue};
@@ -91,14 +119,14 @@ impl Limits {
         ensures { IsTrue result ↔ AreLimits self.now }
     {
         self.parts >= 1
-            && self.parts <= 32
+            && self.parts <= MAX_PASSES
             && self.rows >= 1
-            && self.rows <= 256
+            && self.rows <= MAX_PART_ROWS
             && self.units >= 1
-            && self.units <= 1024
+            && self.units <= MAX_UNITS
             && self.attempts >= 1
-            && self.attempts <= 7
-            && self.spare <= 256
+            && self.attempts <= MAX_ATTEMPTS
+            && self.spare <= MAX_BLOCKS
     }
 
     /// How many attempts an element has in all its rounds.
@@ -106,7 +134,7 @@ impl Limits {
         requires { self.now.attempts ≤ 7 }
         ensures { result ≡ tries self.now.attempts }
     {
-        (MOST_ROUNDS + 1) * self.attempts
+        (MAX_ROUNDS + 1) * self.attempts
     }
 }
 
@@ -140,13 +168,14 @@ pub enum Ended {
     /// The unit of work is aborted, by this call.
     Aborted,
     /// Another caller had aborted the unit of work.
-    Already,
+    AlreadyAborted,
 }
 
 /// The answer of a kill.
 #[derive(Clone, Copy, Debug, PartialEq, Eq)]
 pub struct Killed {
-    /// How many units of work that held the element this call aborted, at most the attempt limit in each of its rounds.
+    /// How many units of work that held the element this call aborted, at most the attempt limit in each of
+    /// its rounds.
     pub units_aborted: u8,
 }
 
@@ -181,7 +210,7 @@ pub struct Counts {
 pub struct Account {
     pub total: Counts,
     /// Those of stage s are at index s - 1.
-    pub stages: [Counts; 15],
+    pub stages: [Counts; STAGES],
 }
 
 impl Account {
@@ -193,7 +222,7 @@ impl Account {
         ensures { result ≡ open_in self.now }
     {
         let mut open = 0;
-        for stage in 0..14 {
+        for stage in 0..usize::from(MAX_STAGE) {
             let counts = &self.stages[stage];
             open += counts.waiting as u64 + counts.held as u64;
         }
@@ -201,14 +230,16 @@ impl Account {
     }
 }
 
-/// Why a call was refused. A refused call changes nothing, but that a refused kill may have aborted units of work.
+/// Why a call was refused. A refused call changes nothing, but that a refused kill may have aborted units of
+/// work.
 #[derive(Clone, Copy, Debug, PartialEq, Eq)]
 pub enum Refusal {
     /// Memory could not be had.
     NoMemory,
     /// A limit is outside its range.
     BadLimits,
-    /// The stage is not one that a client may submit to, or the element is not of the stage that is asked for.
+    /// The stage is not one that a client may submit to, or the element is not of the stage that is asked
+    /// for.
     BadStage,
     /// No element with this id was born.
     NotThere,
@@ -259,7 +290,7 @@ impl Draft {
         ensures some { IsSome result ↔ ((1 ≤ stage) × (stage ≤ 15)) }
         ensures value { IfSome result (λ d. d ≡ record { stage = stage; body = body }) }
     {
-        if stage >= 1 && stage <= 15 {
+        if stage >= 1 && stage <= REPLY_STAGE {
             Some(Draft { stage, body })
         } else {
             None
@@ -292,7 +323,7 @@ impl Default for Draft {
 
     fn default() -> Draft {
         Draft {
-            stage: 15,
+            stage: REPLY_STAGE,
             body: [0; BODY_WORDS],
         }
     }

@@ -6,8 +6,8 @@ use Rattle.std.proofs.lemmas.List.{length-take-le}
 use Rattle.std.proofs.lemmas.List.Elements.{All-cons, All-nil}
 use Rattle.tp_server.specs.Behaviour.{Behaviour, behaviour_of}
 use Rattle.tp_server.specs.Pending.{Pending}
-use Rattle.tp_manager.specs.Accounts.{AreFrom}
-use Rattle.tp_manager.specs.Shown.{ManagerShown, PassShown}
+use Rattle.tp_manager.specs.Accounts.{AreNumberedFrom}
+use Rattle.tp_manager.specs.Shown.{KeeperShown, ManagerShown, PassShown}
 use Rattle.tp_script.specs.declared.script.ScriptServer.{ScriptServer}
 use Rattle.tp_script.specs.Script.{ScriptView, ServerView, passes, server_view}
 use Rattle.tp_workers.specs.Free.{IsFreePass}
@@ -57,7 +57,7 @@ module _ {X : Type 0} {F : X → Type 0} (behaviour : DynBox X Global F → Beha
   workers_length n (p ∷ ps) few = length-take-le n ps (omega (arith, few))
 
   pub begins_of : (s : ScriptView) (m : ManagerShown) (olds : List PassShown) (ss : List Box) (first : Scene) → IsFirstScene behaviour registers pending olds ss first → length ss ≡ length s.servers
-      → m.limits ≡ limits_of s → length olds ≡ passes s → AreFrom 0 olds → All (IsFreePass m) olds → All IsNewPass olds
+      → m.limits ≡ limits_of s → length olds ≡ passes s → AreNumberedFrom 0 olds → All (IsFreePass m) olds → All IsNewPass olds
       → map behaviour ss ≡ map (λ (x : ServerView). behaviour_of x.recipe) s.servers → map registers ss ≡ map (λ (x : ServerView). x.registers) s.servers → Begins s m first
   begins_of s m olds ss first is all limits many numbered own new recipes begun =
       let long = workers_length (length ss) olds (omega (arith, many, all)) in
@@ -86,9 +86,11 @@ registers_shown [] = refl
 registers_shown (x ∷ xs) = ap (λ l. x.registers ∷ l) (registers_shown xs)
 
 -- what stands when the commands are done
-abbrev pub performed_of : (s : ScriptView) (m : ManagerShown) (first last : Scene) (before commands_done : Option (List ℕ)) (left : List PassShown) (registers : List (List ℕ)) (n : ℕ)
-    → Begins s m first → n ≡ length s.servers → ToldAll m s first last before commands_done → ArePasses n last left → AllEnded last.places (workers n left) registers → Performed s m before
-performed_of s m first last before commands_done left registers n begins many told all ended = record {
+abbrev pub performed_of : (s : ScriptView) (m : ManagerShown) (keeper kept : KeeperShown) (first last : Scene) (before commands_done : Option (List ℕ)) (left : List PassShown) (registers : List (List ℕ)) (n : ℕ)
+    → Begins s m first → n ≡ length s.servers → ToldAll m s keeper first kept last before commands_done → ArePasses n last left → AllEnded last.places (workers n left) registers → Performed s m before
+performed_of s m keeper kept first last before commands_done left registers n begins many told all ended = record {
+  keeper = keeper;
+  kept = kept;
   first = first;
   last = last;
   begins = begins;

@@ -7,51 +7,49 @@ use Rattle.std.proofs.lemmas.List.Elements.{All-cons, All-nil}
 use Rattle.tp_server.specs.Behaviour.{Behaviour}
 use Rattle.tp_server.specs.Pending.{Pending}
 use Rattle.tp_desk.specs.declared.aside.Aside.{Aside}
-use Rattle.tp_manager.specs.Shown.{ManagerShown, PassShown}
+use Rattle.tp_manager.specs.Shown.{KeeperShown, ManagerShown, PassShown}
 use Rattle.tp_script.specs.Passes.{racers as racers_of, racing}
 use Rattle.tp_script.specs.Script.{ScriptView}
 use Rattle.tp_script.specs.declared.script.Command.{Command}
 use Rattle.tp_commands.specs.declared.place.Place.{Place}
 use Rattle.tp_commands.specs.Acting.{IsSteadyPlace, PlaceShown, new_places, place_shown, places_shown}
 use Rattle.tp_commands.specs.Places.{AllLie, Lies, workers}
-use Rattle.tp_perform.specs.Told.{IsFirstScene, Performs, Scene, TellsCommand, Told, scene}
-use Rattle.tp_commands.specs.Acting.{AllEnded}
-use Rattle.tp_commands.proofs.Lefts.{workers_are}
+use Rattle.tp_perform.specs.Told.{Gathered, IsFirstScene, IsScene, Performs, Scene, TellsCommand, Told}
 use Rattle.tp_commands.proofs.Shows.{sum_next}
 
 -- what races the first n commands and one more need
 pub racing_more : (commands : List Command) (n : ℕ) (c : Command) → n < length commands → racing (take (n + 1) commands) ≡ racing (take n commands) + racers_of (get_or commands n c)
 racing_more commands n c within = sum_next racers_of commands n c within
 
-module _ (m : ManagerShown) (s : ScriptView) (old : Scene) where
-  -- one command more
-  pub told_more : (n : ℕ) (text last : List ℕ) (between new : Scene) (c : Command) → Told m s old n text between → slice_get s.commands n ≡ Some c
-      → Performs m s c (racing (take n s.commands)) between last new → Told m s old (n + 1) (text ++ last) new
-  told_more n text last between new c before there one =
-      let more : Told m s old (suc n) (text ++ last) new = (text, between, c, last, before, there, one, refl) in
-      let same : suc n ≡ n + 1 = omega arith in
-      subst (λ (k : ℕ). Told m s old k (text ++ last) new) same more
-
+module _ (m : ManagerShown) (s : ScriptView) where
   -- a command with the passes of its race among all
-  module _ (n raced : ℕ) (d : Command) (within : n < length s.commands) (raced_is : raced ≡ racing (take n s.commands))
-      (client client' : PassShown) (places places' : List PlaceShown) (racers front rest here back after : List PassShown) (text last : List ℕ)
-      (parts : racers ≡ front ++ rest) (others : rest ≡ here ++ back) (behind : length front ≡ raced) (needed : length here ≡ racers_of (get_or s.commands n d))
-      (tells : TellsCommand m s (get_or s.commands n d) (record { client = client; places = places; racers = here }) last (record { client = client'; places = places'; racers = after }))
-      (steady : All IsSteadyPlace places')
-      (told : Told m s old n text (record { client = client; places = places; racers = racers })) where
-    pub told_next : Told m s old (n + 1) (text ++ last) (record { client = client'; places = places'; racers = front ++ (after ++ back) })
-    told_next = told_more n text last _ _ (get_or s.commands n d) told (slice_get-get_or s.commands n d within) (record {
+  module _ (raced : ℕ) (c : Command) (client client' : PassShown) (places places' : List PlaceShown) (front rear here back after : List PassShown) (text : List ℕ)
+      (race : rear ≡ here ++ back) (behind : length front ≡ raced) (needed : length here ≡ racers_of c)
+      (tells : TellsCommand m s c (record { client = client; places = places; racers = here }) text (record { client = client'; places = places'; racers = after }))
+      (steady : All IsSteadyPlace places') where
+    pub performs : Performs m s c raced (record { client = client; places = places; racers = front ++ (here ++ back) }) text (record { client = client'; places = places'; racers = front ++ (after ++ back) })
+    performs = record {
       front = front;
       here = here;
       after = after;
       back = back;
-      parts = parts ∙ ap (λ zs. front ++ zs) others;
+      parts = refl;
       kept = refl;
-      behind = behind ∙ raced_is;
+      behind = behind;
       needed = needed;
       tells = tells;
       steady = steady;
-    })
+    }
+
+  -- one command more
+  pub told_more : (keeper kept keeper' : KeeperShown) (old : Scene) (n raced : ℕ) (d : Command) (text last : List ℕ) (between one done new : Scene) → n < length s.commands → raced ≡ racing (take n s.commands)
+      → Told m s keeper old n text kept between → one ≡ between → Performs m s (get_or s.commands n d) raced one last done → Gathered m kept keeper' done new
+      → Told m s keeper old (n + 1) (text ++ last) keeper' new
+  told_more keeper kept keeper' old n raced d text last between one done new within behind before same performs gathered =
+      let here : Performs m s (get_or s.commands n d) (racing (take n s.commands)) between last done = subst (λ (k : ℕ). Performs m s (get_or s.commands n d) k between last done) behind (subst (λ z. Performs m s (get_or s.commands n d) raced z last done) same performs) in
+      let more : Told m s keeper old (suc n) (text ++ last) keeper' new = (text, last, get_or s.commands n d, kept, between, done, before, slice_get-get_or s.commands n d within, here, gathered, refl) in
+      let next : suc n ≡ n + 1 = omega arith in
+      subst (λ (k : ℕ). Told m s keeper old k (text ++ last) keeper' new) next more
 
 -- places that lie aside are steady
 module _ {X : Type 0} {F : X → Type 0} (behaviour : DynBox X Global F → Behaviour) (registers : DynBox X Global F → List ℕ) (pending : DynBox X Global F → Option Pending) where
@@ -71,17 +69,6 @@ module _ {X : Type 0} {F : X → Type 0} (behaviour : DynBox X Global F → Beha
   all_steady (p ∷ ps) (s ∷ ss) (o ∷ os) all = All-cons IsSteadyPlace (place_shown behaviour registers pending p s o) (places_shown behaviour registers pending ps ss os) (steady_at p s o o.aside refl all.0) (all_steady ps ss os all.1)
 
   -- the scene before the first command
-  pub is_first : (olds : List PassShown) (client : PassShown) (others ws rs : List PassShown) (ss : List Box) (os : List (Place X F)) → olds ≡ client ∷ others → others ≡ ws ++ rs → length ws ≡ length ss
-      → places_shown behaviour registers pending ws ss os ≡ new_places behaviour registers pending ws ss → IsFirstScene behaviour registers pending olds ss (scene behaviour registers pending client ws ss os rs)
-  is_first olds client others ws rs ss os all parts long shown =
-      let these : workers (length ss) olds ≡ ws = ap (workers (length ss)) (all ∙ ap (λ zs. client ∷ zs) parts) ∙ workers_are behaviour registers pending (length ss) client ws rs long in
-      (all ∙ (ap (λ zs. client ∷ zs) parts ∙ ap (λ zs. client ∷ (zs ++ rs)) (sym these)), shown ∙ ap (λ zs. new_places behaviour registers pending zs ss) (sym these))
-
-  -- which passes are whose at the end
-  pub passes_in : (n : ℕ) (client : PassShown) (qs rs : List PassShown) → length qs ≡ n → client ∷ (qs ++ rs) ≡ client ∷ (workers n (client ∷ (qs ++ rs)) ++ rs)
-  passes_in n client qs rs long = ap (λ zs. client ∷ (zs ++ rs)) (sym (workers_are behaviour registers pending n client qs rs long))
-
-  -- what its servers' passes are among all at the end
-  pub ended_in : (n : ℕ) (places : List PlaceShown) (client : PassShown) (qs rs : List PassShown) (registers_left : List (List ℕ)) → length qs ≡ n → AllEnded places qs registers_left
-      → AllEnded places (workers n (client ∷ (qs ++ rs))) registers_left
-  ended_in n places client qs rs left long all = subst (λ zs. AllEnded places zs left) (sym (workers_are behaviour registers pending n client qs rs long)) all
+  pub is_first : (ps : List PassShown) (ss : List Box) (os : List (Place X F)) (s : Scene) → IsScene behaviour registers pending ps ss os s
+      → places_shown behaviour registers pending (workers (length ss) ps) ss os ≡ new_places behaviour registers pending (workers (length ss) ps) ss → IsFirstScene behaviour registers pending ps ss s
+  is_first ps ss os s is shown = (is.0, is.1 ∙ shown)

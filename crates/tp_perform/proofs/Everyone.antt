@@ -1,7 +1,7 @@
 -- All passes that a keeper gave out, and the account that ends a report.
 use Rattle.std.proofs.Common.{◌≡◌, ℕ, ◌+◌, List, [], ◌∷◌, ◌++◌, true, refl, sym, ◌∙◌, ap, arith, length}
 use Rattle.std.proofs.lemmas.List.{length-map, length-append}
-use Rattle.tp_manager.specs.Accounts.{AreAll, AreFrom}
+use Rattle.tp_manager.specs.Accounts.{AreAll, AreNumberedFrom}
 use Rattle.tp_manager.specs.Shown.{KeeperShown, PassShown}
 use Rattle.tp_script.specs.declared.script.Script.{Script}
 use Rattle.tp_script.specs.Script.{script_view}
@@ -9,7 +9,7 @@ use Rattle.tp_workers.specs.Free.{numbers}
 use Rattle.tp_perform.specs.Performing.{account_count}
 
 -- one pass more, with the next number
-from_more : (c : ℕ) (ps : List PassShown) (p : PassShown) → p.number ≡ c + length ps → AreFrom c ps → AreFrom c (ps ++ p ∷ [])
+from_more : (c : ℕ) (ps : List PassShown) (p : PassShown) → p.number ≡ c + length ps → AreNumberedFrom c ps → AreNumberedFrom c (ps ++ p ∷ [])
 from_more c [] p next all = (omega (arith, next), tt)
 from_more c (q ∷ ps) p next all = (all.0, from_more (c + 1) ps p (omega (arith, next)) all.1)
 
@@ -19,7 +19,7 @@ all_more old new ps p next given all =
     (omega (arith, long, all.0, given), from_more 0 ps p (omega (arith, next, all.0)) all.1)
 
 -- others with the same numbers
-from_same : (c : ℕ) (ps qs : List PassShown) → numbers qs ≡ numbers ps → AreFrom c ps → AreFrom c qs
+from_same : (c : ℕ) (ps qs : List PassShown) → numbers qs ≡ numbers ps → AreNumberedFrom c ps → AreNumberedFrom c qs
 from_same c [] [] same all = tt
 from_same c [] (q ∷ qs) same all = absurd cc
 from_same c (p ∷ ps) [] same all = absurd cc

@@ -2,6 +2,8 @@ pub mod RegisterLemmas
 pub mod Endings
 pub mod Everyone
 pub mod Tellings
+pub mod Slices
+pub mod Gatherings
 pub mod Chains
 pub mod Parts
 pub mod Races

@@ -1,11 +1,12 @@
 -- What is reported of a script that was performed to its end.
-use Rattle.std.specs.Prelude.{◌≡◌, ◌⊎◌, ℕ, ◌*◌, Bool, false, List, [], ◌∷◌, ◌++◌, All, Option, Some, None, length, map}
+use Rattle.std.specs.Prelude.{◌≡◌, ◌⊎◌, ℕ, ◌*◌, Bool, false, List, [], ◌∷◌, ◌++◌, All, Option, Some, None}
+use Rattle.std.specs.Prelude.{length, map}
 use Rattle.std.specs.Io.KnownBytes.{Appends}
 use Rattle.tp_model.specs.declared.types.Account.{Account}
 use Rattle.tp_model.specs.declared.types.Limits.{Limits}
 use Rattle.tp_server.specs.Behaviour.{behaviour_of}
-use Rattle.tp_manager.specs.Accounts.{Accounts, AreFrom}
-use Rattle.tp_manager.specs.Shown.{KeeperShown, ManagerShown, PassShown}
+use Rattle.tp_manager.specs.Accounts.{Accounts, AreNumberedFrom}
+use Rattle.tp_manager.specs.Shown.{KeeperShown, ManagerShown, PassShown, turn_of}
 use Rattle.tp_script.specs.Script.{ScriptView, passes}
 use Rattle.tp_workers.specs.Free.{IsFreePass}
 use Rattle.tp_commands.specs.Acting.{PlaceShown}
@@ -24,7 +25,8 @@ limits_of s = record {
   spare = s.settings.spare;
 }
 
--- the pass has seen nothing, and has done nothing: all rows of its part are left to it, and it has drawn no spare block
+-- the pass has seen nothing, and has done nothing: all rows of its part are left to it, and it has drawn no
+-- spare block
 pub record IsNewPass (p : PassShown) : Type 0 where
   pub seen : p.seen ≡ []
   pub mine : p.mine ≡ []
@@ -32,6 +34,7 @@ pub record IsNewPass (p : PassShown) : Type 0 where
   pub next : p.next ≡ p.number * p.limits.rows
   pub left : p.left ≡ p.limits.rows
   pub blocks : p.blocks ≡ []
+  pub turn : (stage : ℕ) → turn_of p stage ≡ 0
 
 -- the desk begins there
 pub record IsNewPlace (p : PlaceShown) : Type 0 where
@@ -39,13 +42,14 @@ pub record IsNewPlace (p : PlaceShown) : Type 0 where
   pub work : p.desk.work ≡ None
   pub kept : p.is_dropped ≡ false
 
--- the scene of a new manager: its passes are the client's, one for the desk of each server, and those of races
+-- the scene of a new manager: its passes are the client's, one for the desk of each server, and those of
+-- races
 pub record Begins (s : ScriptView) (m : ManagerShown) (first : Scene) : Type 0 where
   pub limits : m.limits ≡ limits_of s
   pub passes : List PassShown
   pub parts : passes ≡ first.client ∷ (map (λ p. p.desk.pass) first.places ++ first.racers)
   pub many : length passes ≡ m.limits.parts
-  pub numbered : AreFrom 0 passes
+  pub numbered : AreNumberedFrom 0 passes
   pub own : All (IsFreePass m) passes
   pub new : All IsNewPass passes
   pub desks : All IsNewPlace first.places
@@ -57,37 +61,40 @@ pub record Begins (s : ScriptView) (m : ManagerShown) (first : Scene) : Type 0 w
 -- All commands were performed and their lines written, and the desks ended: what they left. The client and
 -- the racers did nothing behind the last command, and the servers' passes only what ends a desk.
 pub record Performed (s : ScriptView) (m : ManagerShown) (before : Option (List ℕ)) : Type 0 where
+  pub keeper : KeeperShown
+  pub kept : KeeperShown
   pub first : Scene
   pub last : Scene
   pub begins : Begins s m first
   pub commands_done : Option (List ℕ)
-  pub told : ToldAll m s first last before commands_done
+  pub told : ToldAll m s keeper first kept last before commands_done
   pub left : List PassShown
   pub all : ArePasses (length s.servers) last left
   pub registers : List (List ℕ)
   pub ended : AllEnded last.places (workers (length s.servers) left) registers
 
--- behind them the final lines, of the registers that are left, and then what is written of the account of what all
--- passes have seen
-pub record Closes (Tells : Bool → (Account → Type 0) → Option (List ℕ) → Option (List ℕ) → Type 0)
+-- behind them the final lines, of the registers that are left, and then what is written of the account of
+-- what all passes have seen
+pub record ClosesReport (Tells : Bool → (Account → Type 0) → Option (List ℕ) → Option (List ℕ) → Type 0)
     (s : ScriptView) (m : ManagerShown) (before after : Option (List ℕ)) : Type 0 where
   pub performed : Performed s m before
   pub finals_done : Option (List ℕ)
   pub finals : Appends performed.commands_done finals_done (finals_of s performed.registers)
-  pub keeper : KeeperShown
   pub keeper' : KeeperShown
   pub closed : List PassShown
-  pub account : Tells s.account (Accounts m.limits keeper keeper' performed.left closed) finals_done after
+  pub account :
+      Tells s.account (Accounts m.limits performed.kept keeper' performed.left closed) finals_done after
 
 -- a whole report: the account's line last, where it is asked for
 abbrev pub Reported : ScriptView → ManagerShown → Option (List ℕ) → Option (List ℕ) → Type 0
-Reported s m before after = Closes TellsAccount s m before after
+Reported s m before after = ClosesReport TellsAccount s m before after
 
 -- The same up to a fault: a front of the lines of commands is written,
 pub record CommandsFront (s : ScriptView) (m : ManagerShown) (before after : Option (List ℕ)) : Type 0 where
+  pub keeper : KeeperShown
   pub first : Scene
   pub begins : Begins s m first
-  pub told : ToldFront m s first before after
+  pub told : ToldFront m s keeper first before after
 
 -- all of these and a front of the final lines,
 pub record LastFront (s : ScriptView) (m : ManagerShown) (before after : Option (List ℕ)) : Type 0 where
@@ -96,7 +103,7 @@ pub record LastFront (s : ScriptView) (m : ManagerShown) (before after : Option 
 
 -- or these too and a front of the account's line
 abbrev pub ClosingFront : ScriptView → ManagerShown → Option (List ℕ) → Option (List ℕ) → Type 0
-ClosingFront s m before after = Closes AccountFront s m before after
+ClosingFront s m before after = ClosesReport AccountFront s m before after
 
 -- where nothing could be made, nothing is written
 abbrev pub ReportedFront : ScriptView → Option (List ℕ) → Option (List ℕ) → Type 0

@@ -1,5 +1,6 @@
 -- Commands that have all free servers work: a race and a drain.
-use Rattle.std.specs.Prelude.{◌≡◌, ◌≤◌, ◌<◌, get_or, ℕ, ◌+◌, ◌*◌, Bool, true, false, ◌&&◌, not, is_some, List, [], ◌∷◌, None, drop, length, replicate, take}
+use Rattle.std.specs.Prelude.{◌≡◌, ◌≤◌, ◌<◌, get_or, ℕ, ◌+◌, ◌*◌, Bool, true, false, ◌&&◌, not, is_some, List}
+use Rattle.std.specs.Prelude.{[], ◌∷◌, None, drop, length, replicate, take}
 use Rattle.std.specs.List.{AllZip}
 use Rattle.tp_model.specs.declared.types.Limits.{Limits}
 use Rattle.tp_manager.specs.Shown.{ManagerShown, PassShown}
@@ -51,7 +52,11 @@ TookTurns l turns old new = (counts : Shift) × TakesTurns (least_first turns) l
 
 -- what each client of a race is to do: to submit the same body so often, of which words 2 and 3 are 0
 abbrev pub client_job : Race → JobShown
-client_job plan = record { stage = plan.stage; bodies = replicate plan.submits (plan.key ∷ plan.amount ∷ 0 ∷ 0 ∷ []) }
+client_job plan = record {
+  stage = plan.stage;
+  bodies = replicate plan.submits (plan.key ∷ plan.amount ∷ 0
+      ∷ 0 ∷ []);
+}
 
 -- the number of the first of these passes
 abbrev pub first_number : List PassShown → ℕ
@@ -76,7 +81,8 @@ pub record RacersRan (m : ManagerShown) (submits : List JobShown) (kills : List 
 
 -- a race by the first passes as clients and the others as killers
 pub record Races (m : ManagerShown) (rows : ℕ) (plan : Race)
-    (racers : List PassShown) (submitted : ℕ) (racers' : List PassShown) (olds news : List PlaceShown) : Type 0 where
+    (racers : List PassShown) (submitted : ℕ) (racers' : List PassShown)
+    (olds news : List PlaceShown) : Type 0 where
   pub desks : AllTakePart (TookTurns m.limits plan.turns) olds news
   pub ran :
       let clients = take plan.clients racers in

@@ -1,15 +1,20 @@
 -- What the commands of a script are told, one after another: the line of each is that of its call's answer.
-use Rattle.std.specs.Prelude.{◌≡◌, ◌≤◌, ℕ, zero, suc, List, [], ◌∷◌, ◌++◌, All, Option, Some, length, slice_get, take}
+use Rattle.std.specs.Prelude.{◌≡◌, ◌≤◌, ℕ, zero, suc, List, [], ◌∷◌, ◌++◌, All, Option, Some, length, map}
+use Rattle.std.specs.Prelude.{slice_get, drop, take}
+use Rattle.std.specs.List.{AllZip}
 use Rattle.std.specs.Io.KnownBytes.{Appends}
 use Rattle.std.specs.declared.alloc.Global.{Global}
 use Rattle.std.specs.declared.dyn_box.DynBox.{DynBox}
 use Rattle.tp_model.specs.declared.types.Limits.{Limits}
 use Rattle.tp_server.specs.Behaviour.{Behaviour}
 use Rattle.tp_server.specs.Pending.{Pending}
-use Rattle.tp_manager.specs.Shown.{ManagerShown, PassShown}
+use Rattle.tp_manager.specs.Accounts.{AreAll, Gathers}
+use Rattle.tp_manager.specs.Bounds.{gather_steps}
+use Rattle.tp_manager.specs.Shown.{IsOf, KeeperShown, ManagerShown, PassShown}
 use Rattle.tp_desk.specs.declared.order.Order.{Order}
 use Rattle.tp_desk.specs.declared.order.Order.TheVariants as orders
 use Rattle.tp_workers.specs.Drained.{EndsIdle}
+use Rattle.tp_workers.specs.Free.{IsFreePass}
 use Rattle.tp_report.specs.Answer.{answer_text, line, named_text}
 use Rattle.tp_report.specs.Written.{AppendsFront}
 use Rattle.tp_report.specs.declared.answer.Answer.TheVariants as answer
@@ -25,7 +30,7 @@ use Rattle.tp_commands.specs.Acting.{DoesIn, IsSteadyPlace, PlaceShown, new_plac
 use Rattle.tp_commands.specs.Asked.{TellsClient}
 use Rattle.tp_script.specs.declared.script.Race.{Race}
 use Rattle.tp_commands.specs.Registers.{TellsBalance, register_sum}
-use Rattle.tp_commands.specs.Places.{workers}
+use Rattle.tp_commands.specs.Places.{AllLie, workers}
 use Rattle.tp_perform.specs.Together.{AllTakePart, Races}
 
 -- what is there while a script is performed: the client's pass, the places of desks, and the passes of races
@@ -33,6 +38,10 @@ pub record Scene : Type 0 where
   pub client : PassShown
   pub places : List PlaceShown
   pub racers : List PassShown
+
+-- all passes of a scene
+abbrev pub passes_in : Scene → List PassShown
+passes_in s = s.client ∷ (map (λ p. p.desk.pass) s.places ++ s.racers)
 
 module _ {X : Type 0} {F : X → Type 0} (behaviour : DynBox X Global F → Behaviour)
     (registers : DynBox X Global F → List ℕ) (pending : DynBox X Global F → Option Pending) where
@@ -55,7 +64,8 @@ pub record OnlyPlaces (old new : Scene) : Type 0 where
   pub racers : new.racers ≡ old.racers
 
 -- the line tells what the client did
-pub record ClientLine (l : Limits) (act : ClientAct) (old : Scene) (text : List ℕ) (new : Scene) : Type 0 where
+pub record ClientLine (l : Limits) (act : ClientAct) (old : Scene) (text : List ℕ)
+    (new : Scene) : Type 0 where
   pub tells : TellsClient l act old.client text new.client
   pub others : OnlyClient old new
 
@@ -87,9 +97,10 @@ pub record RaceLine (m : ManagerShown) (rows : ℕ) (plan : Race)
   pub text_is : text ≡ line (answer_text (answer.Raced submitted))
   pub client : new.client ≡ old.client
 
--- the line tells that all free desks took turns, whose claims were in this order, until their last ones found nothing
--- to claim
-pub record DrainLine (order : Order) (m : ManagerShown) (old : Scene) (text : List ℕ) (new : Scene) : Type 0 where
+-- the line tells that all free desks took turns, whose claims were in this order, until their last ones found
+-- nothing to claim
+pub record DrainLine (order : Order) (m : ManagerShown) (old : Scene) (text : List ℕ)
+    (new : Scene) : Type 0 where
   pub desks : AllTakePart (EndsIdle order m.limits) old.places new.places
   pub text_is : text ≡ line (answer_text answer.Drained)
   pub others : OnlyPlaces old new
@@ -105,8 +116,8 @@ TellsCommand m s (command.Race plan) = RaceLine m s.settings.rows plan
 TellsCommand m s command.Drain = DrainLine orders.LeastFirst m
 TellsCommand m s command.DrainNext = DrainLine orders.InTurn m
 
--- A command leads from one scene to another, and this is its line. A race takes the passes behind those of the
--- races before it; the other ones are as they were.
+-- A command leads from one scene to another, and this is its line. A race takes the passes behind those of
+-- the races before it; the other ones are as they were.
 pub record Performs (m : ManagerShown) (s : ScriptView) (c : Command) (raced : ℕ)
     (old : Scene) (text : List ℕ) (new : Scene) : Type 0 where
   pub front : List PassShown
@@ -121,30 +132,67 @@ pub record Performs (m : ManagerShown) (s : ScriptView) (c : Command) (raced : �
   -- at each place the registers are the fold of what the desk has committed since it began
   pub steady : All IsSteadyPlace new.places
 
--- the first n commands of a script lead from one scene to another, and their lines are this text
-abbrev pub Told : ManagerShown → ScriptView → Scene → ℕ → List ℕ → Scene → Type 0
-Told m s old zero text new = (text ≡ []) × (new ≡ old)
-Told m s old (suc n) text new = (front : List ℕ) × (between : Scene) × (c : Command) × (last : List ℕ)
-    × Told m s old n front between × (slice_get s.commands n ≡ Some c)
-    × Performs m s c (racing (take n s.commands)) between last new × (text ≡ front ++ last)
+-- nothing has changed at a place but what its pass shows
+abbrev pub OnlyPass : PlaceShown → PlaceShown → Type 0
+OnlyPass old new = new ≡ record old { desk = record old.desk { pass = new.desk.pass } }
+
+-- all passes, of which there are no others, have gathered, and nothing else has changed
+pub record Gathered (m : ManagerShown) (keeper keeper' : KeeperShown) (old new : Scene) : Type 0 where
+  pub gathers :
+      let l = m.limits in
+      Gathers l (gather_steps l (length (passes_in old))) keeper keeper' (passes_in old) (passes_in new)
+  pub all : AreAll keeper' (passes_in new)
+  pub given : keeper'.given ≡ keeper.given
+  pub own : All (IsOf m) (passes_in new)
+  pub places : AllZip OnlyPass old.places new.places
+
+-- All passes have gathered, and then the first n commands of a script have led from one scene to another.
+-- Behind each of them all have gathered again. The lines of these commands are this text.
+abbrev pub Told : ManagerShown → ScriptView → KeeperShown → Scene → ℕ → List ℕ → KeeperShown → Scene → Type 0
+Told m s keeper old zero text keeper' new = (text ≡ []) × Gathered m keeper keeper' old new
+Told m s keeper old (suc n) text keeper' new =
+    (front : List ℕ) × (last : List ℕ) × (c : Command) × (kept : KeeperShown) × (between : Scene)
+    × (done : Scene)
+    × Told m s keeper old n front kept between × (slice_get s.commands n ≡ Some c)
+    × Performs m s c (racing (take n s.commands)) between last done × Gathered m kept keeper' done new
+    × (text ≡ front ++ last)
 
 -- all of them were performed, and their lines written
-abbrev pub ToldAll : ManagerShown → ScriptView → Scene → Scene → Option (List ℕ) → Option (List ℕ) → Type 0
-ToldAll m s old new before after = (text : List ℕ)
-    × Told m s old (length s.commands) text new × Appends before after text
+abbrev pub ToldAll : ManagerShown → ScriptView → KeeperShown → Scene → KeeperShown → Scene
+    → Option (List ℕ) → Option (List ℕ) → Type 0
+ToldAll m s keeper old keeper' new before after = (text : List ℕ)
+    × Told m s keeper old (length s.commands) text keeper' new × Appends before after text
 
 -- some of them were performed, and a front of their lines written
-abbrev pub ToldFront : ManagerShown → ScriptView → Scene → Option (List ℕ) → Option (List ℕ) → Type 0
-ToldFront m s old before after = (n : ℕ) × (text : List ℕ) × (new : Scene) × (n ≤ length s.commands)
-    × Told m s old n text new × AppendsFront before after text
+abbrev pub ToldFront : ManagerShown → ScriptView → KeeperShown → Scene → Option (List ℕ) → Option (List ℕ)
+    → Type 0
+ToldFront m s keeper old before after =
+    (n : ℕ) × (text : List ℕ) × (keeper' : KeeperShown) × (new : Scene) × (n ≤ length s.commands)
+    × Told m s keeper old n text keeper' new × AppendsFront before after text
 
--- of all passes the first is the client's, then comes one for each of so many servers, and the rest are those of races
+-- of all passes the first is the client's, then comes one for each of so many servers, and the rest are those
+-- of races
 abbrev pub ArePasses : ℕ → Scene → List PassShown → Type 0
 ArePasses servers s passes = passes ≡ s.client ∷ (workers servers passes ++ s.racers)
 
 module _ {X : Type 0} {F : X → Type 0} (behaviour : DynBox X Global F → Behaviour)
     (registers : DynBox X Global F → List ℕ) (pending : DynBox X Global F → Option Pending) where
-  -- the scene before the first command: of the client's pass, new desks of the servers', and the passes of races
+  -- the scene before the first command: of the client's pass, new desks of the servers', and the passes of
+  -- races
   abbrev pub IsFirstScene : List PassShown → List (DynBox X Global F) → Scene → Type 0
   IsFirstScene passes servers s = ArePasses (length servers) s passes
       × (s.places ≡ new_places behaviour registers pending (workers (length servers) passes) servers)
+
+  -- the scene of these passes, of these servers, and of desks that lie aside
+  abbrev pub IsScene : List PassShown → List (DynBox X Global F) → List (Place X F) → Scene → Type 0
+  IsScene passes servers places s = ArePasses (length servers) s passes
+      × (s.places ≡ places_shown behaviour registers pending (workers (length servers) passes) servers places)
+
+  -- What holds of all passes between commands: the client's and those of races are free, and with the
+  -- servers' passes their desks lie aside.
+  pub record AreReady (m : ManagerShown) (passes : List PassShown) (servers : List (DynBox X Global F))
+      (places : List (Place X F)) : Type 0 where
+    pub own : All (IsOf m) passes
+    pub client : All (IsFreePass m) (take 1 passes)
+    pub racers : All (IsFreePass m) (drop (length servers) (drop 1 passes))
+    pub lie : AllLie behaviour registers pending (workers (length servers) passes) servers places

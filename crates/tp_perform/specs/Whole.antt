@@ -15,10 +15,11 @@ use Rattle.tp_manager.specs.Shown.{ManagerShown}
 use Rattle.tp_perform.specs.Performing.{line_count}
 use Rattle.tp_perform.specs.Reported.{Reported, ReportedFront}
 
--- What the whole program leaves: of a script that was read, the report of its run over a new manager, a line for
--- each command, the final lines and the account; of a refused one the one line of its refusal; after a fault a front
--- of that, and nothing where the script wasn't read.
-abbrev pub Answered : Result Exit Fault → Result ScriptView Refused → Option (List ℕ) → Option (List ℕ) → Type 0
+-- What the whole program leaves: of a script that was read, the report of its run over a new manager, a line
+-- for each command, the final lines and the account; of a refused one the one line of its refusal; after a
+-- fault a front of that, and nothing where the script wasn't read.
+abbrev pub Answered : Result Exit Fault → Result ScriptView Refused → Option (List ℕ) → Option (List ℕ)
+    → Type 0
 Answered (Ok exits.Done) (Ok script) old new =
     Writes (line_count script) old new × ((m : ManagerShown) × Reported script m old new)
 Answered (Ok exits.Done) (Err refused) old new = ⊥

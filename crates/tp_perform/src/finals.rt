@@ -1,6 +1,7 @@
 //! The final lines of a report: what each server's registers hold at the end.
 ghost use Rattle.std.specs.Io.KnownBytes.{Appends};
-ghost use Rattle.std.specs.Prelude.{◌≡◌, ◌<◌, IfOk, IsErrOf, IsTrue, OnErr, OnOk, length, map, slice_get, string_bytes};
+ghost use Rattle.std.specs.Prelude.{◌≡◌, ◌<◌, IfOk, IsErrOf, IsTrue, OnErr, OnOk, length, map, slice_get};
+ghost use Rattle.std.specs.Prelude.{string_bytes};
 ghost use Rattle.tp_report.specs.Answer.{final_text, line};
 ghost use Rattle.tp_report.specs.Lines.{IsLine, Writes, WritesFront};
 ghost use Rattle.tp_perform.specs.Ending.{FinalsFront, final_line as line_at, finals_of};
@@ -33,7 +34,8 @@ fn final_line(
     name: &str,
     server: &Box<dyn Server + Send>,
 ) -> Result<String, AllocError>
-    ensures text { IfOk result (λ text. string_bytes text ≡ line (final_text name.now (registers server.now))) }
+    ensures text { IfOk result (λ text.
+        string_bytes text ≡ line (final_text name.now (registers server.now))) }
     ensures line { IfOk result (λ text. IsLine (string_bytes text)) }
 {
     let mut values = Vec::new(alloc);
@@ -63,8 +65,8 @@ fn line_of(
     final_line(alloc, script.servers[i].name.as_str(), &servers[i])
 }
 
-/// Writes a final line for each server of a script, unless there is a race in it, since what a race leaves isn't told.
-/// The servers are the script's, in their order.
+/// Writes a final line for each server of a script, unless there is a race in it, since what a race leaves
+/// isn't told. The servers are the script's, in their order.
 pub fn finals<W: Sink>(
     alloc: Global,
     script: &Script,
@@ -76,8 +78,10 @@ pub fn finals<W: Sink>(
         (finals_of (script_view script.now) (map (λ server. registers server) servers.now))) }
     ensures told_front { OnErr result (FinalsFront (script_view script.now)
         (map (λ server. registers server) servers.now) (W.contents writer.old) (W.contents writer.new)) }
-    ensures done { OnOk result (Writes (final_count (script_view script.now)) (W.contents writer.old) (W.contents writer.new)) }
-    ensures front { OnErr result (WritesFront (final_count (script_view script.now)) (W.contents writer.old) (W.contents writer.new)) }
+    ensures done { OnOk result (Writes (final_count (script_view script.now)) (W.contents writer.old)
+        (W.contents writer.new)) }
+    ensures front { OnErr result (WritesFront (final_count (script_view script.now)) (W.contents writer.old)
+        (W.contents writer.new)) }
     ensures write { IsErrOf result RunFault.Write → IsTrue (W.has_failed writer.new) }
 {
     if script.has_race() {

@@ -5,7 +5,7 @@ ghost use Rattle.tp_script.specs.Fault.{refused_text};
 ghost use Rattle.tp_report.specs.Answer.{line};
 ghost use Rattle.tp_report.specs.Written.{AppendsFront};
 ghost use Rattle.tp_script.specs.Grammar.{script};
-ghost use Rattle.tp_script.specs.Numbers.{requests_limit};
+ghost use Rattle.tp_script.specs.declared.source.TheConstants.{MAX_READS};
 ghost use Rattle.tp_report.specs.declared.fault.Exit.{Exit};
 ghost use Rattle.tp_report.specs.declared.fault.Fault.{Fault};
 ghost use Rattle.tp_report.specs.Faults.{TellsFault, exit_status, fault_of};
@@ -25,9 +25,10 @@ pub fn run<T: Threads + Sync, R: Source, W: Sink>(
     reader: &mut R,
     writer: &mut W,
 ) -> Result<Exit, Fault>
-    requires { R.asked reader.old + requests_limit < 2 ^ 64 }
-    ensures asked { R.asked reader.new ≤ R.asked reader.old + requests_limit }
-    ensures report { IfSome (R.rest reader.old) (λ bytes. Answered result (script bytes) (W.contents writer.old) (W.contents writer.new)) }
+    requires { R.asked reader.old + MAX_READS < 2 ^ 64 }
+    ensures asked { R.asked reader.new ≤ R.asked reader.old + MAX_READS }
+    ensures report { IfSome (R.rest reader.old) (λ bytes. Answered result (script bytes)
+        (W.contents writer.old) (W.contents writer.new)) }
     ensures read { IsErrOf result Fault.Read → IsTrue (R.has_failed reader.new) }
     ensures write { IsErrOf result Fault.Write → IsTrue (W.has_failed writer.new) }
 {
@@ -53,8 +54,8 @@ pub fn run_to_end<T: Threads + Sync, R: Source, W: Sink, E: Sink>(
     writer: &mut W,
     faults: &mut E,
 ) -> u8
-    requires { R.asked reader.old + requests_limit < 2 ^ 64 }
-    ensures asked { R.asked reader.new ≤ R.asked reader.old + requests_limit }
+    requires { R.asked reader.old + MAX_READS < 2 ^ 64 }
+    ensures asked { R.asked reader.new ≤ R.asked reader.old + MAX_READS }
     ensures ended { (outcome : Result Exit Fault)
         × IfSome (R.rest reader.old)
         (λ bytes. Answered outcome (script bytes)

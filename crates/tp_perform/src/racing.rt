@@ -1,6 +1,8 @@
-//! Commands that have all free servers work: `race`, on threads of their own with clients and killers, and `drain`.
+//! Commands that have all free servers work: `race`, on threads of their own with clients and killers, and
+//! `drain`.
 ghost use Rattle.std.specs.List.{swap};
-ghost use Rattle.std.specs.Prelude.{◌≡◌, ◌+◌, ◌-◌, ◌*◌, ◌≤◌, ◌<◌, ◌^◌, None, All, IfOk, length, replicate, sum_by, take, true};
+ghost use Rattle.std.specs.Prelude.{◌≡◌, ◌+◌, ◌-◌, ◌*◌, ◌≤◌, ◌<◌, ◌^◌, None, All, IfOk, length, replicate};
+ghost use Rattle.std.specs.Prelude.{sum_by, take, true};
 ghost use Rattle.tp_model.specs.Steps.{IsServerStage};
 ghost use Rattle.tp_manager.specs.Shown.{IsOf};
 ghost use Rattle.tp_workers.specs.Clients.{IsClientJob};
@@ -10,16 +12,17 @@ ghost use Rattle.tp_workers.specs.Sums.{calls_of, size_of_range};
 ghost use Rattle.tp_workers.specs.Drained.{EndsIdle};
 ghost use Rattle.tp_commands.specs.Acting.{places_shown};
 ghost use Rattle.tp_commands.specs.Places.{AllLie, firsts};
-ghost use Rattle.tp_perform.specs.Together.{AllTakePart, ArePassed, Races, RacersRan, TookTurns, client_job, kill_job};
+ghost use Rattle.tp_perform.specs.Together.{AllTakePart, ArePassed, Races, RacersRan, TookTurns, client_job};
+ghost use Rattle.tp_perform.specs.Together.{kill_job};
 ghost use Rattle.tp_commands.specs.Places.{is_free_at};
-ghost use Rattle.tp_script.specs.declared.script.TheConstants.{MOST_SERVERS};
+ghost use Rattle.tp_script.specs.declared.script.TheConstants.{MAX_SERVERS};
 
 use std::alloc::{AllocError, Global};
 use std::thread::Threads;
 use tp_commands::Place;
 use tp_desk::Order;
 use tp_manager::{Manager, Pass};
-use tp_script::{MOST_SERVERS, Race};
+use tp_script::{MAX_SERVERS, Race};
 use tp_server::Server;
 use tp_workers::{ClientJob, KillJob, NoGate, Plan, drain, shift};
 
@@ -83,9 +86,9 @@ fn kill_jobs(alloc: Global, many: usize, job: KillJob) -> Result<Vec<KillJob>, A
     Ok(jobs)
 }
 
-/// Has each free server take at most so many turns, while clients submit and killers kill, each on a thread of its own;
-/// answers how many submits were accepted. The passes are the clients' and then the killers'. Each killer kills each
-/// id of the clients' rows once.
+/// Has each free server take at most so many turns, while clients submit and killers kill, each on a thread
+/// of its own; answers how many submits were accepted. The passes are the clients' and then the killers'.
+/// Each killer kills each id of the clients' rows once.
 pub(crate) fn run_race<R: Threads + Sync>(
     rt: &R,
     alloc: Global,
@@ -99,7 +102,7 @@ pub(crate) fn run_race<R: Threads + Sync>(
 ) -> Result<u32, AllocError>
     requires own { All (IsOf manager.now) passes.old }
     requires lie { AllLie behaviour registers pending passes.old servers.old places.old }
-    requires few { length places.old ≤ MOST_SERVERS }
+    requires few { length places.old ≤ MAX_SERVERS }
     requires racers { All (IsFreePass manager.now) racers.old }
     requires enough { plan.clients ≤ length racers.old }
     requires most { length racers.old ≤ 510 }
@@ -153,7 +156,7 @@ fn race_free<R: Threads + Sync>(
 ) -> u32
     requires own { All (IsOf manager.now) passes.old }
     requires lie { AllLie behaviour registers pending passes.old servers.old places.old }
-    requires few { length places.old ≤ MOST_SERVERS }
+    requires few { length places.old ≤ MAX_SERVERS }
     requires free { All (λ place. is_free_at place ≡ true) (take front places.old) }
     requires within { (front ≤ at) × (at ≤ length places.old) }
     requires passed { ArePassed front at places.old }
@@ -237,7 +240,7 @@ fn race_front<R: Threads + Sync>(
 ) -> u32
     requires own { All (IsOf manager.now) passes.old }
     requires lie { AllLie behaviour registers pending passes.old servers.old places.now }
-    requires few { length places.now ≤ MOST_SERVERS }
+    requires few { length places.now ≤ MAX_SERVERS }
     requires free { All (λ place. is_free_at place ≡ true) (take front places.now) }
     requires within { front ≤ length places.now }
     requires passed { ArePassed front (length places.now) places.now }
@@ -308,7 +311,8 @@ fn swap_places(
     places.swap(a, b);
 }
 
-/// Has the free servers take turns, whose claims are in this order, until a whole round of them claims nothing.
+/// Has the free servers take turns, whose claims are in this order, until a whole round of them claims
+/// nothing.
 pub(crate) fn drain_all(
     manager: &Manager,
     passes: &mut [Pass],
@@ -318,7 +322,7 @@ pub(crate) fn drain_all(
 )
     requires own { All (IsOf manager.now) passes.old }
     requires lie { AllLie behaviour registers pending passes.old servers.old places.old }
-    requires few { length places.old ≤ MOST_SERVERS }
+    requires few { length places.old ≤ MAX_SERVERS }
     ensures own { All (IsOf manager.now) passes.new }
     ensures lie { AllLie behaviour registers pending passes.new servers.new places.new }
     ensures desks { AllTakePart (EndsIdle order manager.now.limits)
@@ -342,7 +346,7 @@ fn drain_free(
 )
     requires own { All (IsOf manager.now) passes.old }
     requires lie { AllLie behaviour registers pending passes.old servers.old places.old }
-    requires few { length places.old ≤ MOST_SERVERS }
+    requires few { length places.old ≤ MAX_SERVERS }
     requires free { All (λ place. is_free_at place ≡ true) (take front places.old) }
     requires within { (front ≤ at) × (at ≤ length places.old) }
     requires passed { ArePassed front at places.old }
@@ -378,7 +382,7 @@ fn drain_front(
 )
     requires own { All (IsOf manager.now) passes.old }
     requires lie { AllLie behaviour registers pending passes.old servers.old places.now }
-    requires few { length places.now ≤ MOST_SERVERS }
+    requires few { length places.now ≤ MAX_SERVERS }
     requires free { All (λ place. is_free_at place ≡ true) (take front places.now) }
     requires within { front ≤ length places.now }
     requires passed { ArePassed front (length places.now) places.now }

@@ -1,5 +1,6 @@
 //! A script from its first command to its final lines: what it needs is made, performed and let go.
-ghost use Rattle.std.specs.Prelude.{◌≡◌, ◌+◌, ◌++◌, ◌∷◌, [], None, IfOk, OnErr, OnOk, IsErrOf, IsTrue, All, length, map};
+ghost use Rattle.std.specs.Prelude.{◌≡◌, ◌+◌, ◌++◌, ◌∷◌, [], None, IfOk, OnErr, OnOk, IsErrOf, IsTrue, All};
+ghost use Rattle.std.specs.Prelude.{length, map};
 ghost use Rattle.tp_script.specs.declared.script.ScriptServer.{ScriptServer};
 ghost use Rattle.tp_manager.specs.Accounts.{AreAll};
 ghost use Rattle.tp_manager.specs.Shown.{IsKeptBy, ManagerShown};
@@ -21,8 +22,8 @@ use tp_report::{RunFault, Sink};
 use tp_script::{Kind, Script, ScriptServer};
 use tp_server::{EagerServer, LazyServer, Server};
 
-/// Makes a manager, its passes and boxed servers as a script asks for, performs its commands, and writes its report: a
-/// line for each command, then the final lines, and then the closing account, if it asks for it.
+/// Makes a manager, its passes and boxed servers as a script asks for, performs its commands, and writes its
+/// report: a line for each command, then the final lines, and then the closing account, if it asks for it.
 #[tactic(auto, using(tp_report::proofs::LineProofs::nothing_written, tp_report::proofs::LineProofs::front_fewer))]
 pub fn serve<R: Threads + Sync, W: Sink>(
     rt: &R,
@@ -34,8 +35,10 @@ pub fn serve<R: Threads + Sync, W: Sink>(
         (W.contents writer.old) (W.contents writer.new)) }
     ensures told_front { OnErr result (ReportedFront (script_view script.now)
         (W.contents writer.old) (W.contents writer.new)) }
-    ensures done { OnOk result (Writes (line_count (script_view script.now)) (W.contents writer.old) (W.contents writer.new)) }
-    ensures front { OnErr result (WritesFront (line_count (script_view script.now)) (W.contents writer.old) (W.contents writer.new)) }
+    ensures done { OnOk result (Writes (line_count (script_view script.now)) (W.contents writer.old)
+        (W.contents writer.new)) }
+    ensures front { OnErr result (WritesFront (line_count (script_view script.now)) (W.contents writer.old)
+        (W.contents writer.new)) }
     ensures write { IsErrOf result RunFault.Write → IsTrue (W.has_failed writer.new) }
 {
     match Keeper::new(alloc, limits_of(script)) {
@@ -112,8 +115,10 @@ fn serve_by<R: Threads + Sync, W: Sink>(
         (W.contents writer.old) (W.contents writer.new)) }
     ensures told_front { OnErr result (ReportedFront (script_view script.now)
         (W.contents writer.old) (W.contents writer.new)) }
-    ensures done { OnOk result (Writes (line_count (script_view script.now)) (W.contents writer.old) (W.contents writer.new)) }
-    ensures front { OnErr result (WritesFront (line_count (script_view script.now)) (W.contents writer.old) (W.contents writer.new)) }
+    ensures done { OnOk result (Writes (line_count (script_view script.now)) (W.contents writer.old)
+        (W.contents writer.new)) }
+    ensures front { OnErr result (WritesFront (line_count (script_view script.now)) (W.contents writer.old)
+        (W.contents writer.new)) }
     ensures write { IsErrOf result RunFault.Write → IsTrue (W.has_failed writer.new) }
 {
     let mut servers: Vec<Box<dyn Server + Send>> = Vec::new(alloc);
@@ -162,11 +167,13 @@ fn serve_with<R: Threads + Sync, W: Sink>(
         (W.contents writer.old) (W.contents writer.new)) }
     ensures told_front { OnErr result (ReportedFront (script_view script.now)
         (W.contents writer.old) (W.contents writer.new)) }
-    ensures done { OnOk result (Writes (line_count (script_view script.now)) (W.contents writer.old) (W.contents writer.new)) }
-    ensures front { OnErr result (WritesFront (line_count (script_view script.now)) (W.contents writer.old) (W.contents writer.new)) }
+    ensures done { OnOk result (Writes (line_count (script_view script.now)) (W.contents writer.old)
+        (W.contents writer.new)) }
+    ensures front { OnErr result (WritesFront (line_count (script_view script.now)) (W.contents writer.old)
+        (W.contents writer.new)) }
     ensures write { IsErrOf result RunFault.Write → IsTrue (W.has_failed writer.new) }
 {
-    perform(rt, alloc, script, manager, passes, boxes, writer)?;
+    perform(rt, alloc, script, manager, keeper, passes, boxes, writer)?;
     finals(alloc, script, boxes, writer)?;
     close(alloc, script, manager, keeper, passes, writer)
 }
@@ -180,7 +187,8 @@ fn put(
         ≡ map (λ server. behaviour server) boxes.old.items ++ behaviour made ∷ []) }
     ensures registers { IfOk result (λ _. map (λ server. registers server) boxes.new.items
         ≡ map (λ server. registers server) boxes.old.items ++ registers made ∷ []) }
-    ensures clear { IfOk result (λ _. All (λ server. pending server ≡ None) boxes.old.items → pending made ≡ None
+    ensures clear { IfOk result (λ _. All (λ server. pending server ≡ None) boxes.old.items
+        → pending made ≡ None
         → All (λ server. pending server ≡ None) boxes.new.items) }
 {
     boxes.push(made)?;
@@ -189,8 +197,10 @@ fn put(
 
 /// A server of a script that changes its registers as it prepares.
 fn eager(server: &ScriptServer) -> Result<EagerServer, AllocError>
-    ensures behaviour { IfOk result (λ made. ⟦<EagerServer as Server>⟧.behaviour made ≡ behaviour_of server.now.recipe) }
-    ensures registers { IfOk result (λ made. ⟦<EagerServer as Server>⟧.registers made ≡ server.now.registers) }
+    ensures behaviour { IfOk result (λ made.
+        ⟦<EagerServer as Server>⟧.behaviour made ≡ behaviour_of server.now.recipe) }
+    ensures registers { IfOk result (λ made.
+        ⟦<EagerServer as Server>⟧.registers made ≡ server.now.registers) }
     ensures unprepared { IfOk result (λ made. ⟦<EagerServer as Server>⟧.pending made ≡ None) }
 {
     match EagerServer::new(server.registers.clone()?, server.recipe.clone()?) {
@@ -201,7 +211,8 @@ fn eager(server: &ScriptServer) -> Result<EagerServer, AllocError>
 
 /// A server of a script that keeps what it will write.
 fn lazy(server: &ScriptServer) -> Result<LazyServer, AllocError>
-    ensures behaviour { IfOk result (λ made. ⟦<LazyServer as Server>⟧.behaviour made ≡ behaviour_of server.now.recipe) }
+    ensures behaviour { IfOk result (λ made.
+        ⟦<LazyServer as Server>⟧.behaviour made ≡ behaviour_of server.now.recipe) }
     ensures registers { IfOk result (λ made. ⟦<LazyServer as Server>⟧.registers made ≡ server.now.registers) }
     ensures unprepared { IfOk result (λ made. ⟦<LazyServer as Server>⟧.pending made ≡ None) }
 {

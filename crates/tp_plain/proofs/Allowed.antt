@@ -19,9 +19,9 @@ use Rattle.tp_model.specs.Drafts.{DraftView}
 use Rattle.tp_model.specs.History.{element_of, UnitClaim, UnitEnd, Committed, Aborted, end_of, rounds, status_of}
 use Rattle.tp_model.specs.Steps.{IsServerStage, IsBody, IsOpen, Step}
 use Rattle.tp_model.specs.Births.{IsWhole}
-use Rattle.tp_plain.specs.OneThread.{Answers, CallSubmit, CallClaim, CallClaimNext, CallCommit, CallAbort, CallKill, CallRelease, CallCollect, CallRequeue, CallRead, Leaves, State, extended, pass_at, turn_of, next_row, ready, HasRoom}
+use Rattle.tp_plain.specs.OneThread.{Answers, CallSubmit, CallClaim, CallClaimNext, CallCommit, CallAbort, CallKill, CallRelease, CallCollect, CallRequeue, CallRead, EndsByAbort, State, extended, pass_at, turn_of, next_row, ready, HasRoom}
 use Rattle.tp_plain.specs.Looks.{is_held_by, looks_after_all}
-use Rattle.tp_plain.specs.Reached.{IsReached}
+use Rattle.tp_plain.specs.Reached.{IsReachable}
 use Rattle.tp_plain.specs.Computed.{is_server_stage, has_room, submit_of, with_request, next_waiting, claim_found, claim_of_stage, claim_next_found, claim_next_of_stage, abort_at, abort_of, commit_at, commit_of, unit_in_hand, kill_at, kill_found, release_at, release_found, collect_at, collect_found, requeue_at, requeue_found, read_found, ComputedAreAllowed}
 use Rattle.tp_model.proofs.Bridges.{element_of-id}
 use Rattle.tp_model.proofs.Replies.{StandsAsReply, reply_stands}
@@ -44,7 +44,7 @@ stage_is stage is = let p = and_parts (nat_le 1 stage) (nat_le stage 14) is in (
 is_stage : (stage : ℕ) → IsServerStage stage → is_server_stage stage ≡ true
 is_stage stage good = and_from (nat_le 1 stage) (nat_le stage 14) (le-leb 1 stage good.0) (le-leb stage 14 good.1)
 
-module _ (s : State) (c : ℕ) (reached : IsReached s) (is_pass : c < s.limits.parts) where
+module _ (s : State) (c : ℕ) (reached : IsReachable s) (is_pass : c < s.limits.parts) where
   submit_allowed : (stage : ℕ) (body : List ℕ) → IsBody body → Answers s (CallSubmit c stage body (submit_of s c stage body).0) (submit_of s c stage body).1
   submit_allowed stage body whole = go (is_server_stage stage) (has_room s c 1) refl refl
     where
@@ -95,7 +95,7 @@ module _ (s : State) (c : ℕ) (reached : IsReached s) (is_pass : c < s.limits.p
         let o = open_unit (λ gone. let clash : None ≡ Some Aborted = sym undecided ∙ gone in cc) in
         record { pass = is_pass; taking = o.0; open_unit = o.1 }
 
-    abort_leaves_it : (x : Option UnitEnd) → end_of s.history u ≡ x → Leaves s c u (abort_at s c u x).1
+    abort_leaves_it : (x : Option UnitEnd) → end_of s.history u ≡ x → EndsByAbort s c u (abort_at s c u x).1
     abort_leaves_it None is = inl (may_abort_own is, refl)
     abort_leaves_it (Some (Committed first count)) is = absurd (not_committed first count is)
     abort_leaves_it (Some Aborted) is = inr (is, refl)

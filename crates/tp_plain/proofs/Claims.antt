@@ -20,7 +20,7 @@ use Rattle.tp_model.specs.Counts.{is_waiting}
 use Rattle.tp_model.specs.Steps.{IsServerStage, IsOpen, Step, IsLegal, rows_of}
 use Rattle.tp_plain.specs.Computed.{next_waiting, with_claim, work_on}
 use Rattle.tp_plain.specs.OneThread.{IsBefore, State, pass_at, next_unit, turn_of, Waits, Takes, TakesNext}
-use Rattle.tp_plain.specs.Reached.{PassFits, IsReached}
+use Rattle.tp_plain.specs.Reached.{PassFits, IsReachable}
 use Rattle.tp_plain.specs.Looks.{comes_before, look_at, look_after, looks_after_all, fresh_look, waits_in, sooner, attempts_in}
 use Rattle.tp_model.proofs.Lists.{first-snoc, if_same, if_other, some_if}
 use Rattle.tp_model.proofs.Bridges.{in_none, is_born}
@@ -224,7 +224,7 @@ pub record IsFound (s : State) (stage : ℕ) (o : Option Look) : Type 0 where
   pub few : IfSome o (λ look. look.element.id < 65536)
   pub none : o ≡ None → (e : Element) (n : ℕ) → ¬ Waits s stage e n
 
-pub is_found : (s : State) (from stage : ℕ) → IsReached s → (o : Option Look) → next_waiting s from stage ≡ o → IsFound s stage o
+pub is_found : (s : State) (from stage : ℕ) → IsReachable s → (o : Option Look) → next_waiting s from stage ≡ o → IsFound s stage o
 is_found s from stage reached None is = record { waits = tt; stage_is = tt; few = tt; none = λ _. idle s from stage reached.legal is }
 is_found s from stage reached (Some look) is =
     let waits = next_waits s from stage reached.legal look is in
@@ -238,7 +238,7 @@ is_found s from stage reached (Some look) is =
 -- What it leaves.
 
 -- so many attempts are below the limit
-pub waits_below : (s : State) (stage : ℕ) (e : Element) (n : ℕ) → IsReached s → Waits s stage e n → n < s.limits.attempts
+pub waits_below : (s : State) (stage : ℕ) (e : Element) (n : ℕ) → IsReachable s → Waits s stage e n → n < s.limits.attempts
 waits_below s stage e n reached w = waiting_below s.limits s.history e.id n reached.legal reached.limits.attempts.0 w.waits
 
 fits_claim : (l : Limits) (h : List Event) (drawn c i n : ℕ) (used : PassState) (turns : List ℕ) → IsLegal l h → PassFits l h drawn c used → used.claimed < l.units → used.holding ≡ None
@@ -274,7 +274,7 @@ looks_changed l h e ls none legal step agree =
     ∙ (append-nil (map (look_after l.attempts e) (map (look_at l.attempts h) (born h))) ∙ ap (map (look_after l.attempts e)) (sym agree))))
 
 -- a claim of an element that waits, and what it leaves
-module _ (s : State) (c stage : ℕ) (look : Look) (reached : IsReached s) (is_pass : c < s.limits.parts) (good : IsServerStage stage)
+module _ (s : State) (c stage : ℕ) (look : Look) (reached : IsReachable s) (is_pass : c < s.limits.parts) (good : IsServerStage stage)
     (waits : Waits s stage look.element (attempts_in look.status)) (room : (pass_at s c).claimed < s.limits.units) (free : (pass_at s c).holding ≡ None) where
   abbrev the_claim : Event
   the_claim = Claim c (next_unit s c) look.element.id (attempts_in look.status + 1)
@@ -295,7 +295,7 @@ module _ (s : State) (c stage : ℕ) (look : Look) (reached : IsReached s) (is_p
         waits = rw one_less (waits.waits);
       }
 
-  pub reached_claim : (turns : List ℕ) → IsReached (with_claim s c look turns)
+  pub reached_claim : (turns : List ℕ) → IsReachable (with_claim s c look turns)
   reached_claim turns =
       reached_moved s the_claim c _ reached may_claim refl is_pass (fits_claim s.limits s.history s.drawn c look.element.id (attempts_in look.status + 1) (pass_at s c) turns reached.legal (reached.fits c is_pass) room free) refl (λ y p. absurd (in_none p))
 
@@ -304,7 +304,7 @@ module _ (s : State) (c stage : ℕ) (look : Look) (reached : IsReached s) (is_p
   looks_claimed ls agree = looks_changed s.limits s.history the_claim ls refl reached.legal may_claim agree
 
 -- what a claim takes, and a claim in turn
-module _ (s : State) (c stage : ℕ) (look : Look) (reached : IsReached s) (is_pass : c < s.limits.parts) (good : IsServerStage stage)
+module _ (s : State) (c stage : ℕ) (look : Look) (reached : IsReachable s) (is_pass : c < s.limits.parts) (good : IsServerStage stage)
     (room : (pass_at s c).claimed < s.limits.units) (free : (pass_at s c).holding ≡ None) where
   one_less : (attempts_in look.status + 1) - 1 ≡ attempts_in look.status
   one_less = omega arith

@@ -22,7 +22,7 @@ use Rattle.tp_model.specs.declared.types.Outcome.TheVariants as outcome
 use Rattle.tp_plain.proofs.Computations.{commit_goes}
 use Rattle.tp_model.specs.Births.{IsWhole, outputs}
 use Rattle.tp_plain.specs.OneThread.{root_of, State, pass_at, spent, Commits, HasRoom, ready, with_draw}
-use Rattle.tp_plain.specs.Reached.{PassFits, IsReached}
+use Rattle.tp_plain.specs.Reached.{PassFits, IsReachable}
 use Rattle.tp_plain.specs.Looks.{look_at, look_after, fresh_look, is_held_by}
 use Rattle.tp_model.proofs.Lists.{first-snoc, if_other, none_if}
 use Rattle.tp_model.proofs.Outputs.{length-outputs}
@@ -104,7 +104,7 @@ looks_committed l h c u outs looks legal step agree =
     ∙ ((λ i. map (look_after l.attempts (Commit c u outs)) (agree i) ++ fresh_kept l.attempts c u outs outs i)
     ∙ sym (looks_after l h (Commit c u outs) legal step))
 
-module _ (s : State) (looks : List Look) (c : ℕ) (reached : IsReached s) (agree : looks ≡ map (look_at s.limits.attempts s.history) (born s.history)) (is_pass : c < s.limits.parts)
+module _ (s : State) (looks : List Look) (c : ℕ) (reached : IsReachable s) (agree : looks ≡ map (look_at s.limits.attempts s.history) (born s.history)) (is_pass : c < s.limits.parts)
     (u : ℕ) (look : Look) (is : find (λ (l : Look). is_held_by u l.status) looks ≡ Some look) (ds : List DraftView) (whole : All IsWhole ds) (few : length ds ≤ 4) where
   abbrev l : Limits
   l = s.limits
@@ -120,7 +120,7 @@ module _ (s : State) (looks : List Look) (c : ℕ) (reached : IsReached s) (agre
 
   abbrev pub CommitLeft : PassState → ℕ → Type 0
   CommitLeft x drawn =
-      IsReached (committed_state x drawn)
+      IsReachable (committed_state x drawn)
       × (map (look_after l.attempts (Commit c u (the_outputs x))) (looks ++ map fresh_look (the_outputs x)) ≡ map (look_at l.attempts (h ++ Commit c u (the_outputs x) ∷ [])) (born (h ++ Commit c u (the_outputs x) ∷ [])))
       × ((pass_at s c).holding ≡ Some u)
       × Commits s c u ds (if length ds == 0 then 0 else x.next) (length ds) (committed_state x drawn)

@@ -43,7 +43,7 @@ module _ (s : State) (c : ℕ) where
     abort_goes hand undecided = rw (hand, undecided) refl
 
     pub abort_already : (pass_at s c).holding ≡ Some u → end_of s.history u ≡ Some Aborted
-        → abort_of s c ≡ (ended.Already, with_pass s c (freed (pass_at s c)))
+        → abort_of s c ≡ (ended.AlreadyAborted, with_pass s c (freed (pass_at s c)))
     abort_already hand gone = rw (hand, gone) refl
 
     pub commit_goes : (ds : List DraftView) → (pass_at s c).holding ≡ Some u → end_of s.history u ≡ None → HasRoom s c (length ds)

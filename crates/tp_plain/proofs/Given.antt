@@ -15,7 +15,7 @@ use Rattle.tp_model.proofs.Bridges.{element_of-id, find_in}
 use Rattle.tp_model.proofs.Stages.{born_staged}
 use Rattle.tp_plain.specs.Computed.{claim_id_at, claim_id_found, claim_id_of, with_claim, work_on}
 use Rattle.tp_plain.specs.OneThread.{Answers, CallClaimId, State, TakesId, Waits, pass_at}
-use Rattle.tp_plain.specs.Reached.{IsReached}
+use Rattle.tp_plain.specs.Reached.{IsReachable}
 use Rattle.tp_plain.proofs.Claims.{may_claim}
 
 module _ (s : State) (i : ℕ) (legal : IsLegal s.limits s.history) (e : Element) (is : element_of s.history i ≡ Some e) where
@@ -36,7 +36,7 @@ module _ (s : State) (i : ℕ) (legal : IsLegal s.limits s.history) (e : Element
   }
 
 -- what is taken
-module _ (s : State) (c i : ℕ) (reached : IsReached s) (is_pass : c < s.limits.parts) (e : Element) (is : element_of s.history i ≡ Some e) (other : e.stage ≢ 15)
+module _ (s : State) (c i : ℕ) (reached : IsReachable s) (is_pass : c < s.limits.parts) (e : Element) (is : element_of s.history i ≡ Some e) (other : e.stage ≢ 15)
     (n : ℕ) (waits : status_of s.limits.attempts s.history i ≡ Waiting n) (room : (pass_at s c).claimed < s.limits.units) (free : (pass_at s c).holding ≡ None) where
   abbrev look : Look
   look = record { element = e; status = Waiting n }
@@ -61,7 +61,7 @@ pub computes : (s : State) (c i : ℕ) (e : Element) → (pass_at s c).claimed <
 computes s c i e room is other = rw (le-leb (suc (pass_at s c).claimed) s.limits.units room, is)
     (⊎_elim (λ t. absurd (other t.1)) (λ t. ap (λ b. cond {A = Result Work Refusal × State} b (Err refusal.BadStage, s) (claim_id_at s c e (status_of s.limits.attempts s.history i))) t.0) (eqb_tells e.stage 15))
 
-pub claim_id_allowed : (s : State) (c : ℕ) → IsReached s → c < s.limits.parts → (i : ℕ) → (pass_at s c).holding ≡ None → Answers s (CallClaimId c i (claim_id_of s c i).0) (claim_id_of s c i).1
+pub claim_id_allowed : (s : State) (c : ℕ) → IsReachable s → c < s.limits.parts → (i : ℕ) → (pass_at s c).holding ≡ None → Answers s (CallClaimId c i (claim_id_of s c i).0) (claim_id_of s c i).1
 claim_id_allowed s c reached is_pass i free = go (nat_lt (pass_at s c).claimed s.limits.units) refl
   where
     at : (e : Element) → (pass_at s c).claimed < s.limits.units → element_of s.history i ≡ Some e → e.stage ≢ 15 → (st : Status) → status_of s.limits.attempts s.history i ≡ st

@@ -11,7 +11,7 @@ use Rattle.tp_model.specs.declared.event.Event.TheVariants.{Enqueue, Claim, Comm
 use Rattle.tp_model.specs.History.{In, births, born, element_of, claim_by, aborted, status_of, pass_of}
 use Rattle.tp_model.specs.Steps.{IsKillable, Step, IsLegal}
 use Rattle.tp_plain.specs.OneThread.{State, pass_at, extended}
-use Rattle.tp_plain.specs.Reached.{IsQuiet, PassFits, IsReached}
+use Rattle.tp_plain.specs.Reached.{IsWithoutUnit, PassFits, IsReachable}
 use Rattle.tp_plain.specs.Looks.{look_at, look_after}
 use Rattle.tp_model.proofs.Lists.{first-snoc, if_same}
 use Rattle.tp_model.proofs.Bridges.{in_none, unborn_still}
@@ -33,7 +33,7 @@ fits_quiet l h drawn e c used none unclaimed fits free =
       held = λ u hand whole. absurd (cc);
     }
 
-reached_quiet : (s : State) (e : Event) (c : ℕ) → IsReached s → Step s.limits s.history e → births e ≡ [] → ((u : ℕ) → claim_by u e ≡ None) → pass_of e ≡ c → (pass_at s c).holding ≡ None → IsReached (extended s e)
+reached_quiet : (s : State) (e : Event) (c : ℕ) → IsReachable s → Step s.limits s.history e → births e ≡ [] → ((u : ℕ) → claim_by u e ≡ None) → pass_of e ≡ c → (pass_at s c).holding ≡ None → IsReachable (extended s e)
 reached_quiet s e c reached step none unclaimed by free =
     record {
       limits = reached.limits;
@@ -56,8 +56,8 @@ reached_quiet s e c reached step none unclaimed by free =
         ]
 
 -- what a quiet event leaves
-pub mark_leaves : (s : State) (looks : List Look) (e : Event) → IsReached s → looks ≡ map (look_at s.limits.attempts s.history) (born s.history) → Step s.limits s.history e → IsQuiet s e
-    → IsReached (extended s e) × (map (look_after s.limits.attempts e) looks ≡ map (look_at s.limits.attempts (s.history ++ e ∷ [])) (born (s.history ++ e ∷ [])))
+pub mark_leaves : (s : State) (looks : List Look) (e : Event) → IsReachable s → looks ≡ map (look_at s.limits.attempts s.history) (born s.history) → Step s.limits s.history e → IsWithoutUnit s e
+    → IsReachable (extended s e) × (map (look_after s.limits.attempts e) looks ≡ map (look_at s.limits.attempts (s.history ++ e ∷ [])) (born (s.history ++ e ∷ [])))
 mark_leaves s looks (Enqueue c e) reached agree step quiet = absurd quiet
 mark_leaves s looks (Claim c u i n) reached agree step quiet = absurd quiet
 mark_leaves s looks (Commit c u outs) reached agree step quiet = absurd quiet

@@ -15,7 +15,7 @@ use Rattle.tp_model.specs.History.{In, births, UnitClaim, claim_by, claim_of, Ab
 use Rattle.tp_model.specs.Steps.{AreLimits, IsServerStage, IsBody, IsOpen, Step, block_first}
 use Rattle.tp_model.specs.Births.{request}
 use Rattle.tp_plain.specs.OneThread.{State, start, fresh_pass, no_pass, pass_at, moved, with_pass, draws, ready, next_row, with_draw, used_up, HasRoom}
-use Rattle.tp_plain.specs.Reached.{PassFits, IsReached, RunFits}
+use Rattle.tp_plain.specs.Reached.{PassFits, IsReachable, RunFits}
 use Rattle.tp_model.proofs.Areas.{one_area}
 use Rattle.tp_model.proofs.Lists.{first-snoc, first-kept, option_or-None, if_same, if_other}
 use Rattle.tp_model.proofs.Blocks.{blocks_apart, claimer, no_claim}
@@ -74,9 +74,9 @@ ends_still s c used there ends d =
     ]
 
 -- after one event of pass c, which made something in its run alone
-pub reached_moved : (s : State) (e : Event) (c : ℕ) (used : PassState) → IsReached s → Step s.limits s.history e → pass_of e ≡ c → c < s.limits.parts
+pub reached_moved : (s : State) (e : Event) (c : ℕ) (used : PassState) → IsReachable s → Step s.limits s.history e → pass_of e ≡ c → c < s.limits.parts
     → PassFits s.limits (s.history ++ e ∷ []) s.drawn c used → end_at used ≡ end_at (pass_at s c)
-    → ((x : Element) → In x (births e) → ((pass_at s c).next ≤ x.id) × (x.id < end_at (pass_at s c))) → IsReached (moved s e c used)
+    → ((x : Element) → In x (births e) → ((pass_at s c).next ≤ x.id) × (x.id < end_at (pass_at s c))) → IsReachable (moved s e c used)
 reached_moved s e c used reached step by is_pass own ends inside =
     record {
       limits = reached.limits;
@@ -119,11 +119,11 @@ reached_moved s e c used reached step by is_pass own ends inside =
 abbrev pub after_draw : State → ℕ → ℕ → State
 after_draw s c k = with_pass (with_draw s c k) c (ready s c k)
 
-module _ (s : State) (c k : ℕ) (reached : IsReached s) (is_pass : c < s.limits.parts) where
+module _ (s : State) (c k : ℕ) (reached : IsReachable s) (is_pass : c < s.limits.parts) where
   there : c < length s.passes
   there = rw reached.passes is_pass
 
-  pub reached_ready : IsReached (after_draw s c k)
+  pub reached_ready : IsReachable (after_draw s c k)
   reached_ready = go (draws s c k) refl
     where
       old : PassState
@@ -135,7 +135,7 @@ module _ (s : State) (c k : ℕ) (reached : IsReached s) (is_pass : c < s.limits
       drawn_state : State
       drawn_state = record { limits = s.limits; history = s.history; passes = slice_set s.passes c next_block; drawn = s.drawn + 1 }
 
-      by_draw : s.drawn < s.limits.spare → IsReached drawn_state
+      by_draw : s.drawn < s.limits.spare → IsReachable drawn_state
       by_draw less =
           record {
             limits = reached.limits;
@@ -201,7 +201,7 @@ module _ (s : State) (c k : ℕ) (reached : IsReached s) (is_pass : c < s.limits
               ]
 
       go : (b : Bool) → draws s c k ≡ b
-          → IsReached (record { limits = s.limits; history = s.history; passes = slice_set s.passes c (record { next = cond b (block_first s.limits s.drawn) old.next; left = cond b BLOCK_ROWS old.left; claimed = old.claimed; holding = old.holding; turns = old.turns }); drawn = cond b (s.drawn + 1) s.drawn })
+          → IsReachable (record { limits = s.limits; history = s.history; passes = slice_set s.passes c (record { next = cond b (block_first s.limits s.drawn) old.next; left = cond b BLOCK_ROWS old.left; claimed = old.claimed; holding = old.holding; turns = old.turns }); drawn = cond b (s.drawn + 1) s.drawn })
       go true is = by_draw (leb-true (suc s.drawn) s.limits.spare (and_parts (nat_lt old.left k) (nat_lt s.drawn s.limits.spare) is).1)
       go false is = rw (set-get_or s.passes c no_pass) reached
 
@@ -213,13 +213,13 @@ module _ (s : State) (c k : ℕ) (reached : IsReached s) (is_pass : c < s.limits
 
   -- after one event of the pass, for which it drew the block
   pub reached_used : (e : Event) (used : PassState) → Step s.limits s.history e → pass_of e ≡ c → PassFits s.limits (s.history ++ e ∷ []) (with_draw s c k).drawn c used
-      → end_at used ≡ end_at (ready s c k) → ((x : Element) → In x (births e) → ((ready s c k).next ≤ x.id) × (x.id < end_at (ready s c k))) → IsReached (moved (with_draw s c k) e c used)
+      → end_at used ≡ end_at (ready s c k) → ((x : Element) → In x (births e) → ((ready s c k).next ≤ x.id) × (x.id < end_at (ready s c k))) → IsReachable (moved (with_draw s c k) e c used)
   reached_used e used step by own ends inside =
-      subst (λ ps. IsReached (record { limits = s.limits; history = s.history ++ e ∷ []; passes = ps; drawn = (with_draw s c k).drawn })) (set-set s.passes c (ready s c k) used)
+      subst (λ ps. IsReachable (record { limits = s.limits; history = s.history ++ e ∷ []; passes = ps; drawn = (with_draw s c k).drawn })) (set-set s.passes c (ready s c k) used)
       (reached_moved (after_draw s c k) e c used reached_ready step by is_pass own (ends ∙ ap end_at (sym ready_at)) (λ x p. subst (λ (y : PassState). (y.next ≤ x.id) × (x.id < end_at y)) (sym ready_at) (inside x p)))
 
 -- a pass may submit where it has a row
-pub may_submit : (s : State) (c stage : ℕ) (body : List ℕ) → IsReached s → c < s.limits.parts → IsServerStage stage → IsBody body → HasRoom s c 1
+pub may_submit : (s : State) (c stage : ℕ) (body : List ℕ) → IsReachable s → c < s.limits.parts → IsServerStage stage → IsBody body → HasRoom s c 1
     → Step s.limits s.history (Enqueue c (request (next_row s c 1) stage body))
 may_submit s c stage body reached is_pass good whole room =
     let run = (fits_ready s c 1 reached is_pass).run in
@@ -259,7 +259,7 @@ fits_fresh l c is_pass =
       held = λ u hand whole. absurd (cc (hand));
     }
 
-pub start_reached : (l : Limits) → AreLimits l → IsReached (start l)
+pub start_reached : (l : Limits) → AreLimits l → IsReachable (start l)
 start_reached l limits =
     record {
       limits = limits;

@@ -19,7 +19,7 @@ use Rattle.tp_plain.specs.Computed.{submit_of}
 use Rattle.tp_plain.proofs.Computations.{submit_goes}
 use Rattle.tp_model.specs.Births.{request}
 use Rattle.tp_plain.specs.OneThread.{State, Submits, HasRoom, ready, used_up, with_draw}
-use Rattle.tp_plain.specs.Reached.{IsReached}
+use Rattle.tp_plain.specs.Reached.{IsReachable}
 use Rattle.tp_model.proofs.Histories.{status_of-snoc, born-snoc, new_found, unborn_waits, unborn_after}
 use Rattle.tp_model.proofs.Bridges.{element_of-id, in_one}
 use Rattle.tp_plain.proofs.PassStates.{may_submit, fits_ready, fits_submit, reached_used}
@@ -94,7 +94,7 @@ looks_submit l h c e looks legal step agree =
     sym (looks_after l h (Enqueue c e) legal step ∙ (λ i. (looks_kept l.attempts c e (map (look_at l.attempts h) (born h)) ∙ sym agree) i ++ fresh_look e ∷ []))
 
 -- what a submit leaves, and that it is one
-module _ (s : State) (looks : List Look) (c stage : ℕ) (body : List ℕ) (reached : IsReached s) (agree : looks ≡ map (look_at s.limits.attempts s.history) (born s.history))
+module _ (s : State) (looks : List Look) (c stage : ℕ) (body : List ℕ) (reached : IsReachable s) (agree : looks ≡ map (look_at s.limits.attempts s.history) (born s.history))
     (is_pass : c < s.limits.parts) (good : IsServerStage stage) (whole : IsBody body) where
   abbrev pub new_request : PassState → Element
   new_request x = request x.next stage body
@@ -105,7 +105,7 @@ module _ (s : State) (looks : List Look) (c stage : ℕ) (body : List ℕ) (reac
   abbrev pub Left : PassState → ℕ → Type 0
   Left x drawn =
       let t = left_state x drawn in
-      IsReached t × (looks ++ fresh_look (new_request x) ∷ [] ≡ map (look_at s.limits.attempts t.history) (born t.history))
+      IsReachable t × (looks ++ fresh_look (new_request x) ∷ [] ≡ map (look_at s.limits.attempts t.history) (born t.history))
       × Submits s c stage body x.next t
       × (submit_of s c stage body ≡ (Ok x.next, t))
 

@@ -22,7 +22,7 @@ use Rattle.tp_model.proofs.WordProofs.{rounds-snoc}
 use Rattle.tp_plain.specs.declared.pass_state.PassState.{PassState}
 use Rattle.tp_plain.specs.Looks.{KeepsRounds, look_after, look_at}
 use Rattle.tp_plain.specs.OneThread.{State, extended, pass_at}
-use Rattle.tp_plain.specs.Reached.{IsQuiet, IsReached, PassFits}
+use Rattle.tp_plain.specs.Reached.{IsWithoutUnit, IsReachable, PassFits}
 use Rattle.tp_model.proofs.Lists.{first-snoc}
 use Rattle.tp_model.specs.History.{claim_by}
 use Rattle.tp_plain.proofs.Claims.{looks_changed}
@@ -48,7 +48,7 @@ rounds_commit l h c u outs kept k = rounds_kept l h (Commit c u outs) kept (λ i
 pub rounds_abort : (l : Limits) (h : List Event) (c u : ℕ) (kept : List ℕ) → KeepsRounds l h kept → KeepsRounds l (h ++ Abort c u ∷ []) kept
 rounds_abort l h c u kept k = rounds_kept l h (Abort c u) kept (λ i. refl) k
 
-pub rounds_quiet : (s : State) (e : Event) (kept : List ℕ) → IsQuiet s e → KeepsRounds s.limits s.history kept → KeepsRounds s.limits (s.history ++ e ∷ []) kept
+pub rounds_quiet : (s : State) (e : Event) (kept : List ℕ) → IsWithoutUnit s e → KeepsRounds s.limits s.history kept → KeepsRounds s.limits (s.history ++ e ∷ []) kept
 rounds_quiet s (Enqueue c x) kept quiet k = absurd quiet
 rounds_quiet s (Claim c u i n) kept quiet k = absurd quiet
 rounds_quiet s (Commit c u outs) kept quiet k = absurd quiet
@@ -80,8 +80,8 @@ fits_requeue l h drawn c i r d used fits =
       held = λ u hand whole. (let old = fits.held u hand (whole_before h e u whole) in (old.0, open_after h e u old.0 old.1 refl, old.2));
     }
 
-pub requeue_leaves : (s : State) (looks : List Look) (c i r : ℕ) → IsReached s → looks ≡ map (look_at s.limits.attempts s.history) (born s.history) → Step s.limits s.history (Requeue c i r)
-    → IsReached (extended s (Requeue c i r)) × (map (look_after s.limits.attempts (Requeue c i r)) looks ≡ map (look_at s.limits.attempts (s.history ++ Requeue c i r ∷ [])) (born (s.history ++ Requeue c i r ∷ [])))
+pub requeue_leaves : (s : State) (looks : List Look) (c i r : ℕ) → IsReachable s → looks ≡ map (look_at s.limits.attempts s.history) (born s.history) → Step s.limits s.history (Requeue c i r)
+    → IsReachable (extended s (Requeue c i r)) × (map (look_after s.limits.attempts (Requeue c i r)) looks ≡ map (look_at s.limits.attempts (s.history ++ Requeue c i r ∷ [])) (born (s.history ++ Requeue c i r ∷ [])))
 requeue_leaves s looks c i r reached agree step = (
   record {
     limits = reached.limits;
@@ -114,5 +114,5 @@ module _ (s : State) (c i r n : ℕ) (e : Element) (born_is : element_of s.histo
 pub round_read : (l : Limits) (h : List Event) (kept : List ℕ) (i r : ℕ) → KeepsRounds l h kept → i < rows_of l → r ≡ slice_index_or kept i r → r ≡ rounds h i
 round_read l h kept i r k there read = get_or_read kept i r (rw k.as_many there) read 0 ∙ k.each i there
 
-pub row_inside : (s : State) (i : ℕ) (e : Element) → IsReached s → element_of s.history i ≡ Some e → i < rows_of s.limits
+pub row_inside : (s : State) (i : ℕ) (e : Element) → IsReachable s → element_of s.history i ≡ Some e → i < rows_of s.limits
 row_inside s i e reached born_is = let id = element_of-id s.history i e born_is in subst (λ z. z < rows_of s.limits) id (births_inside s.limits s.history reached.legal e (is_born s.history i e born_is))

@@ -15,7 +15,7 @@ use Rattle.tp_model.specs.declared.event.Event.{Event}
 use Rattle.tp_model.specs.declared.event.Event.TheVariants.{Claim, Abort, Kill, Requeue}
 use Rattle.tp_model.specs.Families.{IsRequest, IsSettledFamily, WorksOn}
 use Rattle.tp_model.specs.Steps.{Step, IsLegal}
-use Rattle.tp_plain.specs.OneThread.{State, start, Call, CallSubmit, CallClaim, CallClaimId, CallClaimNext, CallCommit, CallAbort, CallKill, CallCancel, CallRelease, CallCollect, CallRequeue, CallRead, extended, Kills, KillsEach, Answers, Ends, GivesUp, Claims, ClaimsNext, Run, RunsAreLegal, RunsGrow}
+use Rattle.tp_plain.specs.OneThread.{State, start, Call, CallSubmit, CallClaim, CallClaimId, CallClaimNext, CallCommit, CallAbort, CallKill, CallCancel, CallRelease, CallCollect, CallRequeue, CallRead, extended, Kills, KillsEach, Answers, AnswersCommit, GivesUp, Claims, ClaimsNext, Run, RunsAreLegal, RunsGrow}
 use Rattle.tp_plain.specs.Cancelled.{CancelledForGood}
 use Rattle.tp_model.proofs.Bridges.{found_later}
 use Rattle.tp_model.proofs.Families.{settled_family_stays, never_worked_on}
@@ -61,14 +61,14 @@ goes_claim_next s c stage (claimed.Work w) t is = moves s t _ (Claim c w.unit w.
 goes_claim_next s c stage claimed.Idle t is = stays s t is.0
 goes_claim_next s c stage claimed.NoUnit t is = stays s t is.0
 
-goes_commit : (s : State) (c u : ℕ) (drafts : List DraftView) (a : Outcome) (t : State) → Ends s c u drafts a t → Goes s t
+goes_commit : (s : State) (c u : ℕ) (drafts : List DraftView) (a : Outcome) (t : State) → AnswersCommit s c u drafts a t → Goes s t
 goes_commit s c u drafts (outcome.Committed id count) t is = moves s t _ _ c _ is.step is.after
 goes_commit s c u drafts outcome.Lost t is = passes_alone s t _ c _ is.2
 goes_commit s c u drafts outcome.Full t is = elim is.1 [ inl p ↦ moves s t _ (Abort c u) c _ p.0 p.1 | inr p ↦ passes_alone s t _ c _ p.1 ]
 
 goes_abort : (s : State) (c u : ℕ) (a : Ended) (t : State) → GivesUp s c u a t → Goes s t
 goes_abort s c u ended.Aborted t is = moves s t _ (Abort c u) c _ is.0 is.1
-goes_abort s c u ended.Already t is = passes_alone s t _ c _ is.1
+goes_abort s c u ended.AlreadyAborted t is = passes_alone s t _ c _ is.1
 
 extends : (s t : State) (e : Event) → Step s.limits s.history e → t ≡ extended s e → Goes s t
 extends s t e step same =

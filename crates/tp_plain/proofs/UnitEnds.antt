@@ -15,14 +15,14 @@ use Rattle.tp_model.specs.declared.event.Event.{Event}
 use Rattle.tp_model.specs.declared.event.Event.TheVariants.{Enqueue, Claim, Commit, Abort, Kill, Requeue}
 use Rattle.tp_model.specs.History.{born, element_of, UnitClaim, UnitEnd, Committed, Aborted, claim_by, claim_of, end_of, status_of}
 use Rattle.tp_model.specs.Words.{ClaimWord, FreeWord, TakenWord, KilledWord, AgainWord, claim_word, taken_status, word_status}
-use Rattle.tp_model.specs.Steps.{IsOpen, Step, IsLegal, most_rows}
+use Rattle.tp_model.specs.Steps.{IsOpen, Step, IsLegal, max_rows}
 use Rattle.tp_model.specs.declared.types.TheConstants.{BLOCK_ROWS}
 use Rattle.tp_model.proofs.Areas.{area_inside}
 use Rattle.tp_plain.specs.Computed.{abort_of}
 use Rattle.tp_model.specs.declared.types.Ended.TheVariants as ended
 use Rattle.tp_plain.proofs.Computations.{abort_goes}
 use Rattle.tp_plain.specs.OneThread.{State, no_pass, pass_at, moved, with_pass, ready, with_draw, HasRoom, IsFull, freed, spent}
-use Rattle.tp_plain.specs.Reached.{PassFits, IsReached, RunFits}
+use Rattle.tp_plain.specs.Reached.{PassFits, IsReachable, RunFits}
 use Rattle.tp_plain.specs.Looks.{look_at, look_after, is_held_by}
 use Rattle.tp_model.proofs.Lists.{first-snoc, option_or-some, some_if, none_if}
 use Rattle.tp_model.proofs.Histories.{by_steps, element_of-kept, open_before, open_holds}
@@ -91,7 +91,7 @@ none_passes {A} p (y ∷ xs) none x there passes = go (none_passes p xs) (p y) r
           | inr later ↦ rest e x later passes
         ]
 
-module _ (s : State) (looks : List Look) (reached : IsReached s) (agree : looks ≡ map (look_at s.limits.attempts s.history) (born s.history)) (c u : ℕ)
+module _ (s : State) (looks : List Look) (reached : IsReachable s) (agree : looks ≡ map (look_at s.limits.attempts s.history) (born s.history)) (c u : ℕ)
     (is_pass : c < s.limits.parts) (hand : (pass_at s c).holding ≡ Some u) where
   abbrev test : Look → Bool
   test l = is_held_by u l.status
@@ -165,7 +165,7 @@ fits_spent : (l : Limits) (h : List Event) (drawn c u k : ℕ) (used : PassState
 fits_spent l h drawn c u k used few fits hand gone = fits_already l h drawn c u (used.next + k) (used.left - k) used fits hand gone (run_passed l h drawn c used.next used.left fits.run k few)
 
 -- after no event, where the run of pass c goes on
-pub reached_with_pass : (s : State) (c : ℕ) (used : PassState) → IsReached s → c < s.limits.parts → PassFits s.limits s.history s.drawn c used → end_at used ≡ end_at (pass_at s c) → IsReached (with_pass s c used)
+pub reached_with_pass : (s : State) (c : ℕ) (used : PassState) → IsReachable s → c < s.limits.parts → PassFits s.limits s.history s.drawn c used → end_at used ≡ end_at (pass_at s c) → IsReachable (with_pass s c used)
 reached_with_pass s c used reached is_pass own ends =
     record {
       limits = reached.limits;
@@ -188,7 +188,7 @@ reached_with_pass s c used reached is_pass own ends =
         ]
 
 -- a pass that has too few rows when it goes on has no block to draw
-pub is_full : (s : State) (c k : ℕ) → IsReached s → k ≤ 4 → (used : PassState) → used ≡ ready s c k → used.left < k → IsFull s c k
+pub is_full : (s : State) (c k : ℕ) → IsReachable s → k ≤ 4 → (used : PassState) → used ≡ ready s c k → used.left < k → IsFull s c k
 is_full s c k reached small used at over = go (nat_lt (pass_at s c).left k) (nat_lt s.drawn s.limits.spare) refl refl (subst (λ (x : PassState). x.left < k) at over)
   where
     go : (short some : Bool) → nat_lt (pass_at s c).left k ≡ short → nat_lt s.drawn s.limits.spare ≡ some → cond (short && some) BLOCK_ROWS (pass_at s c).left < k → IsFull s c k
@@ -197,9 +197,9 @@ is_full s c k reached small used at over = go (nat_lt (pass_at s c).left k) (nat
     go false some short more less = absurd (let room : k ≤ (pass_at s c).left = ltb-false (pass_at s c).left k short in omega arith)
 
 -- the rows from which a commit takes k, and what it leaves where another pass has aborted the unit
-module _ (s : State) (looks : List Look) (c k : ℕ) (reached : IsReached s) (agree : looks ≡ map (look_at s.limits.attempts s.history) (born s.history)) (is_pass : c < s.limits.parts) where
+module _ (s : State) (looks : List Look) (c k : ℕ) (reached : IsReachable s) (agree : looks ≡ map (look_at s.limits.attempts s.history) (born s.history)) (is_pass : c < s.limits.parts) where
   -- they are few
-  pub next_few : (used : PassState) → used ≡ ready s c k → used.next + used.left ≤ most_rows
+  pub next_few : (used : PassState) → used ≡ ready s c k → used.next + used.left ≤ max_rows
   next_few used at =
       let fits = fits_ready s c k reached is_pass in
       let inside = area_inside s.limits fits.run.first (end_at (ready s c k)) (run_area s.limits s.history (with_draw s c k).drawn c (ready s c k).next (ready s c k).left fits.run) in
@@ -207,12 +207,12 @@ module _ (s : State) (looks : List Look) (c k : ℕ) (reached : IsReached s) (ag
       let rows : s.limits.rows ≤ 256 = reached.limits.rows.1 in
       let spare : s.limits.spare ≤ 256 = reached.limits.spare in
       let all : s.limits.parts * s.limits.rows ≤ 32 * s.limits.rows = mul-le-mul_right s.limits.rows few in
-      subst (λ (x : PassState). x.next + x.left ≤ most_rows) (sym at) (omega arith)
+      subst (λ (x : PassState). x.next + x.left ≤ max_rows) (sym at) (omega arith)
 
   -- what is lost
   pub lost_leaves : (u : ℕ) (used : PassState) (drawn : ℕ) → used ≡ ready s c k → drawn ≡ (with_draw s c k).drawn → used.holding ≡ Some u → k ≤ used.left → find (λ (l : Look). is_held_by u l.status) looks ≡ None
       → let t : State = record { limits = s.limits; history = s.history; passes = slice_set s.passes c (spent used k); drawn = drawn } in
-      IsReached t × ((pass_at s c).holding ≡ Some u) × HasRoom s c k × (end_of s.history u ≡ Some Aborted) × (t ≡ with_pass (with_draw s c k) c (spent (ready s c k) k))
+      IsReachable t × ((pass_at s c).holding ≡ Some u) × HasRoom s c k × (end_of s.history u ≡ Some Aborted) × (t ≡ with_pass (with_draw s c k) c (spent (ready s c k) k))
   lost_leaves u used drawn at count hand room none =
       let same : record { limits = s.limits; history = s.history; passes = slice_set s.passes c (spent used k); drawn = drawn } ≡ with_pass (with_draw s c k) c (spent (ready s c k) k) =
       λ i. record { limits = s.limits; history = s.history; passes = slice_set s.passes c (spent (at i) k); drawn = count i } in
@@ -221,7 +221,7 @@ module _ (s : State) (looks : List Look) (c k : ℕ) (reached : IsReached s) (ag
       let gone = aborted_of s looks reached agree c u is_pass hand' none in
       let own = fits_spent s.limits s.history (with_draw s c k).drawn c u k (ready s c k) room' (fits_ready s c k reached is_pass) hand' gone in
       let left = reached_with_pass (after_draw s c k) c (spent (ready s c k) k) (reached_ready s c k reached is_pass) is_pass own (let ends = ap end_at (ready_at s c k reached is_pass) in omega arith) in (
-        subst IsReached (sym same) (subst (λ ps. IsReached (record { limits = s.limits; history = s.history; passes = ps; drawn = (with_draw s c k).drawn })) (set-set s.passes c (ready s c k) (spent (ready s c k) k)) left),
+        subst IsReachable (sym same) (subst (λ ps. IsReachable (record { limits = s.limits; history = s.history; passes = ps; drawn = (with_draw s c k).drawn })) (set-set s.passes c (ready s c k) (spent (ready s c k) k)) left),
         hand',
         room',
         gone,
@@ -237,13 +237,13 @@ module _ (s : State) (looks : List Look) (c k : ℕ) (reached : IsReached s) (ag
       (hand', subst (λ (x : PassState). k ≤ x.left) at room, λ gone. let clash : None ≡ Some Aborted = sym o.1.unfinished ∙ gone in cc)
 
 module _ (l : Limits) (h : List Event) (passes : List PassState) (drawn : ℕ) (looks : List Look) (c : ℕ)
-    (reached : IsReached (record { limits = l; history = h; passes = passes; drawn = drawn })) (agree : looks ≡ map (look_at l.attempts h) (born h)) (is_pass : c < l.parts) where
+    (reached : IsReachable (record { limits = l; history = h; passes = passes; drawn = drawn })) (agree : looks ≡ map (look_at l.attempts h) (born h)) (is_pass : c < l.parts) where
   abbrev pub before : State
   before = record { limits = l; history = h; passes = passes; drawn = drawn }
 
   -- the unit in the hand is aborted
   pub abort_leaves : (used : PassState) → used ≡ slice_index_or passes c used → (u : ℕ) → used.holding ≡ Some u → (look : Look) → find (λ (l : Look). is_held_by u l.status) looks ≡ Some look
-      → IsReached (moved before (Abort c u) c (freed used))
+      → IsReachable (moved before (Abort c u) c (freed used))
       × (map (look_after l.attempts (Abort c u)) looks ≡ map (look_at l.attempts (h ++ Abort c u ∷ [])) (born (h ++ Abort c u ∷ [])))
       × Step l h (Abort c u) × ((pass_at before c).holding ≡ Some u)
       × (moved before (Abort c u) c (freed used) ≡ moved before (Abort c u) c (freed (pass_at before c)))
@@ -265,7 +265,7 @@ module _ (l : Limits) (h : List Event) (passes : List PassState) (drawn : ℕ) (
 
   -- it was aborted before
   pub already_leaves : (used : PassState) → used ≡ slice_index_or passes c used → (u : ℕ) → used.holding ≡ Some u → find (λ (l : Look). is_held_by u l.status) looks ≡ None
-      → IsReached (with_pass before c (freed used))
+      → IsReachable (with_pass before c (freed used))
       × (end_of h u ≡ Some Aborted) × ((pass_at before c).holding ≡ Some u)
       × (with_pass before c (freed used) ≡ with_pass before c (freed (pass_at before c)))
   already_leaves used read u hand none =

@@ -1,12 +1,14 @@
 -- The answers of a manager of one thread, computed: what each call answers, and the state that it leaves.
-use Rattle.std.specs.Prelude.{◌≡◌, ℕ, ◌+◌, ◌<◌, ◌≤◌, nat_le, nat_lt, ◌&&◌, ◌==◌, Bool, false, if◌then◌else◌, Option, Some, None, Result, Ok, Err, List, length, filter, is_some, slice_set, unwrap_or}
+use Rattle.std.specs.Prelude.{◌≡◌, ℕ, ◌+◌, ◌<◌, ◌≤◌, nat_le, nat_lt, ◌&&◌, ◌==◌, Bool, false, if◌then◌else◌}
+use Rattle.std.specs.Prelude.{Option, Some, None, Result, Ok, Err, List, length, filter, is_some, slice_set}
+use Rattle.std.specs.Prelude.{unwrap_or}
 use Rattle.std.specs.List.{fold, All}
 use Rattle.std.specs.Option.{option_and_then}
 use Rattle.std.specs.Result.{result_ok}
 use Rattle.tp_model.specs.Steps.{IsServerStage, IsBody}
 use Rattle.tp_plain.specs.Listings.{next_member_of, next_reply_of}
 use Rattle.tp_plain.specs.Walks.{walk_of}
-use Rattle.tp_plain.specs.Reached.{IsReached}
+use Rattle.tp_plain.specs.Reached.{IsReachable}
 use Rattle.tp_model.specs.declared.types.Element.{Element}
 use Rattle.tp_model.specs.declared.types.Look.{Look}
 use Rattle.tp_model.specs.declared.types.Work.{Work}
@@ -27,18 +29,22 @@ use Rattle.tp_model.specs.declared.event.Event.TheVariants.{Enqueue, Claim, Comm
 use Rattle.tp_model.specs.Counts.{is_killed}
 use Rattle.tp_model.specs.Drafts.{DraftView}
 use Rattle.tp_model.specs.History.{element_of, UnitEnd, Committed, Aborted, end_of, rounds, status_of}
-use Rattle.tp_model.specs.declared.types.TheConstants.{MOST_ROUNDS}
+use Rattle.tp_model.specs.declared.types.TheConstants.{MAX_ROUNDS, MAX_STAGE, REPLY_STAGE}
 use Rattle.tp_plain.specs.Looks.{look_at, sooner, attempts_in, is_unsettled_of, looks_after_all}
 use Rattle.tp_model.specs.Births.{IsWhole, request}
-use Rattle.tp_plain.specs.OneThread.{Answers, CallSubmit, CallClaim, CallClaimId, CallClaimNext, CallCommit, CallAbort, CallKill, CallCancel, CallRelease, CallCollect, CallRequeue, CallRead, State, pass_at, next_row, next_unit, taken, turn_of, moved, with_pass, with_draw, ready, used_up, extended, freed, spent, made_of}
+use Rattle.tp_plain.specs.OneThread.{Answers, CallSubmit, CallClaim, CallClaimId, CallClaimNext, CallCommit}
+use Rattle.tp_plain.specs.OneThread.{CallAbort, CallKill, CallCancel, CallRelease, CallCollect, CallRequeue}
+use Rattle.tp_plain.specs.OneThread.{CallRead, State, pass_at, next_row, next_unit, taken, turn_of, moved}
+use Rattle.tp_plain.specs.OneThread.{with_pass, with_draw, ready, used_up, extended, freed, spent, made_of}
 
 -- whether clients may submit to this stage
 abbrev pub is_server_stage : ℕ → Bool
-is_server_stage stage = nat_le 1 stage && nat_le stage 14
+is_server_stage stage = nat_le 1 stage && nat_le stage MAX_STAGE
 
 -- the state after a submit that goes through
 abbrev pub with_request : State → ℕ → ℕ → List ℕ → State
-with_request s c stage body = moved (with_draw s c 1) (Enqueue c (request (next_row s c 1) stage body)) c (used_up (ready s c 1) 1)
+with_request s c stage body = moved (with_draw s c 1)
+    (Enqueue c (request (next_row s c 1) stage body)) c (used_up (ready s c 1) 1)
 
 -- whether pass c has k rows to use
 abbrev pub has_room : State → ℕ → ℕ → Bool
@@ -48,16 +54,22 @@ has_room s c k = nat_le k (ready s c k).left
 abbrev pub submit_of : State → ℕ → ℕ → List ℕ → Result ℕ Refusal × State
 submit_of s c stage body =
     if is_server_stage stage
-    then (if has_room s c 1 then (Ok (next_row s c 1), with_request s c stage body) else (Err refusal.Full, s))
+    then (if has_room s c 1 then (Ok (next_row s c 1), with_request s c stage body)
+    else (Err refusal.Full, s))
     else (Err refusal.BadStage, s)
 
--- of the waiting elements of a stage, the look at the first from an id on: from 0 on at the one with the least id
+-- of the waiting elements of a stage, the look at the first from an id on: from 0 on at the one with the
+-- least id
 abbrev pub next_waiting : State → ℕ → ℕ → Option Look
 next_waiting s from stage = fold (sooner from stage) None (looks_after_all s.limits.attempts s.history)
 
 -- the work that a claim of a waiting element hands out
 abbrev pub work_on : State → ℕ → Look → Work
-work_on s c look = record { unit = next_unit s c; element = look.element; attempt = attempts_in look.status + 1 }
+work_on s c look = record {
+  unit = next_unit s c;
+  element = look.element;
+  attempt = attempts_in look.status + 1;
+}
 
 -- the state after a claim of a waiting element, with these places for the pass's claims in turn
 abbrev pub with_claim : State → ℕ → Look → List ℕ → State
@@ -71,7 +83,8 @@ claim_found s c (Some look) = (claimed.Work (work_on s c look), with_claim s c l
 
 -- a claim
 abbrev pub claim_of_stage : State → ℕ → ℕ → Claimed × State
-claim_of_stage s c stage = if nat_lt (pass_at s c).claimed s.limits.units then claim_found s c (next_waiting s 0 stage) else (claimed.NoUnit, s)
+claim_of_stage s c stage = if nat_lt (pass_at s c).claimed s.limits.units
+    then claim_found s c (next_waiting s 0 stage) else (claimed.NoUnit, s)
 
 -- a claim in turn of what was found to wait: the next one of the stage goes on behind it
 abbrev pub claim_next_found : State → ℕ → ℕ → Option Look → Claimed × State
@@ -96,7 +109,7 @@ claim_id_at s c e other = (Err refusal.NotWaiting, s)
 abbrev pub claim_id_found : State → ℕ → ℕ → Option Element → Result Work Refusal × State
 claim_id_found s c i None = (Err refusal.NotThere, s)
 claim_id_found s c i (Some e) =
-    if e.stage == 15
+    if e.stage == REPLY_STAGE
     then (Err refusal.BadStage, s)
     else claim_id_at s c e (status_of s.limits.attempts s.history i)
 
@@ -115,7 +128,7 @@ unit_in_hand s c = unwrap_or (pass_at s c).holding 0
 abbrev pub abort_at : State → ℕ → ℕ → Option UnitEnd → Ended × State
 abort_at s c u None = (ended.Aborted, moved s (Abort c u) c (freed (pass_at s c)))
 abort_at s c u (Some (Committed first count)) = (ended.Aborted, moved s (Abort c u) c (freed (pass_at s c)))
-abort_at s c u (Some Aborted) = (ended.Already, with_pass s c (freed (pass_at s c)))
+abort_at s c u (Some Aborted) = (ended.AlreadyAborted, with_pass s c (freed (pass_at s c)))
 
 -- an abort
 abbrev pub abort_of : State → ℕ → Ended × State
@@ -124,14 +137,21 @@ abort_of s c = abort_at s c (unit_in_hand s c) (end_of s.history (unit_in_hand s
 -- a commit that goes through
 abbrev pub committed_by : State → ℕ → ℕ → List DraftView → Outcome × State
 committed_by s c u drafts =
-    let k = length drafts in
-    (outcome.Committed (if k == 0 then 0 else next_row s c k) k, moved (with_draw s c k) (Commit c u (made_of s c u drafts)) c (spent (ready s c k) k))
+    let k = length drafts in (
+      outcome.Committed (if k == 0 then 0 else next_row s c k) k,
+      moved (with_draw s c k)
+          (Commit c u (made_of s c u drafts)) c (spent (ready s c k) k),
+    )
 
 -- a commit, where the rows suffice, of a unit that ended so, or is undecided
 abbrev pub commit_at : State → ℕ → ℕ → List DraftView → Option UnitEnd → Outcome × State
 commit_at s c u drafts None = committed_by s c u drafts
 commit_at s c u drafts (Some (Committed first count)) = committed_by s c u drafts
-commit_at s c u drafts (Some Aborted) = (outcome.Lost, with_pass (with_draw s c (length drafts)) c (spent (ready s c (length drafts)) (length drafts)))
+commit_at s c u drafts (Some Aborted) = (
+  outcome.Lost,
+  with_pass (with_draw s c (length drafts)) c (spent (ready s c (length drafts))
+      (length drafts)),
+)
 
 -- a commit
 abbrev pub commit_of : State → ℕ → List DraftView → Outcome × State
@@ -197,7 +217,7 @@ collect_at s c i e killed = if killed then (Err refusal.AlreadyKilled, s) else (
 abbrev pub collect_found : State → ℕ → ℕ → Option Element → Result Element Refusal × State
 collect_found s c i None = (Err refusal.NotThere, s)
 collect_found s c i (Some e) =
-    if e.stage == 15
+    if e.stage == REPLY_STAGE
     then collect_at s c i e (is_killed (status_of s.limits.attempts s.history i))
     else (Err refusal.BadStage, s)
 
@@ -223,7 +243,8 @@ abbrev pub requeue_at : State → ℕ → ℕ → ℕ → Status → Result ℕ 
 requeue_at s c i k (Waiting n) = (Err refusal.NotParked, s)
 requeue_at s c i k (Held u n) = (Err refusal.NotParked, s)
 requeue_at s c i k (Consumed u) = (Err refusal.NotParked, s)
-requeue_at s c i k (Parked n) = if nat_lt k MOST_ROUNDS then (Ok (k + 1), extended s (Requeue c i (k + 1))) else (Err refusal.NoRound, s)
+requeue_at s c i k (Parked n) = if nat_lt k MAX_ROUNDS then (Ok (k + 1), extended s (Requeue c i (k + 1)))
+    else (Err refusal.NoRound, s)
 requeue_at s c i k Killed = (Err refusal.NotParked, s)
 
 -- a requeue of what was found
@@ -242,7 +263,8 @@ unsettled_found root st (Some e) = is_unsettled_of root st e
 
 -- whether an element with this id is
 abbrev pub is_unsettled : State → ℕ → ℕ → Bool
-is_unsettled s root i = unsettled_found root (status_of s.limits.attempts s.history i) (element_of s.history i)
+is_unsettled s root i = unsettled_found root (status_of s.limits.attempts s.history i)
+    (element_of s.history i)
 
 -- the ids of all those, in the order of a walk through the family
 abbrev pub unsettled_ids : State → ℕ → List ℕ
@@ -268,15 +290,20 @@ cancel_of s c root = cancel_found s c root (element_of s.history root)
 abbrev pub IsComputed : {A : Type 0} → State → State → Result A Refusal → Result A Refusal × State → Type 0
 IsComputed old new (Ok x) computed = (computed.0 ≡ Ok x) × (new ≡ computed.1)
 IsComputed old new (Err refusal.NoMemory) computed = new ≡ old
-IsComputed old new (Err refusal.BadLimits) computed = (computed.0 ≡ Err refusal.BadLimits) × (new ≡ computed.1)
+IsComputed old new (Err refusal.BadLimits) computed = (computed.0 ≡ Err refusal.BadLimits)
+    × (new ≡ computed.1)
 IsComputed old new (Err refusal.BadStage) computed = (computed.0 ≡ Err refusal.BadStage) × (new ≡ computed.1)
 IsComputed old new (Err refusal.NotThere) computed = (computed.0 ≡ Err refusal.NotThere) × (new ≡ computed.1)
-IsComputed old new (Err (refusal.Consumed u)) computed = (computed.0 ≡ Err (refusal.Consumed u)) × (new ≡ computed.1)
-IsComputed old new (Err refusal.AlreadyKilled) computed = (computed.0 ≡ Err refusal.AlreadyKilled) × (new ≡ computed.1)
+IsComputed old new (Err (refusal.Consumed u)) computed = (computed.0 ≡ Err (refusal.Consumed u))
+    × (new ≡ computed.1)
+IsComputed old new (Err refusal.AlreadyKilled) computed = (computed.0 ≡ Err refusal.AlreadyKilled)
+    × (new ≡ computed.1)
 IsComputed old new (Err refusal.Full) computed = (computed.0 ≡ Err refusal.Full) × (new ≡ computed.1)
-IsComputed old new (Err refusal.NotParked) computed = (computed.0 ≡ Err refusal.NotParked) × (new ≡ computed.1)
+IsComputed old new (Err refusal.NotParked) computed = (computed.0 ≡ Err refusal.NotParked)
+    × (new ≡ computed.1)
 IsComputed old new (Err refusal.NotHeld) computed = (computed.0 ≡ Err refusal.NotHeld) × (new ≡ computed.1)
-IsComputed old new (Err refusal.NotWaiting) computed = (computed.0 ≡ Err refusal.NotWaiting) × (new ≡ computed.1)
+IsComputed old new (Err refusal.NotWaiting) computed = (computed.0 ≡ Err refusal.NotWaiting)
+    × (new ≡ computed.1)
 IsComputed old new (Err refusal.NoUnit) computed = (computed.0 ≡ Err refusal.NoUnit) × (new ≡ computed.1)
 IsComputed old new (Err refusal.NoRound) computed = (computed.0 ≡ Err refusal.NoRound) × (new ≡ computed.1)
 
@@ -287,15 +314,20 @@ IsComputedOk old new (Err why) computed = (why ≡ refusal.NoMemory) × (new ≡
 
 -- the computed answers to the calls of pass c are those that a manager of one thread may give
 pub record AreAllowed (s : State) (c : ℕ) : Type 0 where
-  pub submit : (stage : ℕ) (body : List ℕ) → IsBody body → Answers s (CallSubmit c stage body (submit_of s c stage body).0) (submit_of s c stage body).1
-  pub claim : (stage : ℕ) → IsServerStage stage → (pass_at s c).holding ≡ None → Answers s (CallClaim c stage (Ok (claim_of_stage s c stage).0)) (claim_of_stage s c stage).1
+  pub submit : (stage : ℕ) (body : List ℕ) → IsBody body
+      → Answers s (CallSubmit c stage body (submit_of s c stage body).0) (submit_of s c stage body).1
+  pub claim : (stage : ℕ) → IsServerStage stage → (pass_at s c).holding ≡ None
+      → Answers s (CallClaim c stage (Ok (claim_of_stage s c stage).0)) (claim_of_stage s c stage).1
   pub claim_next : (stage : ℕ) → IsServerStage stage → (pass_at s c).holding ≡ None
-      → Answers s (CallClaimNext c stage (Ok (claim_next_of_stage s c stage).0)) (claim_next_of_stage s c stage).1
+      → Answers s (CallClaimNext c stage (Ok (claim_next_of_stage s c stage).0))
+      (claim_next_of_stage s c stage).1
   pub claim_id : (i : ℕ) → (pass_at s c).holding ≡ None
       → Answers s (CallClaimId c i (claim_id_of s c i).0) (claim_id_of s c i).1
-  pub commit : (u : ℕ) (drafts : List DraftView) → (pass_at s c).holding ≡ Some u → length drafts ≤ 4 → All IsWhole drafts
+  pub commit : (u : ℕ) (drafts : List DraftView) → (pass_at s c).holding ≡ Some u → length drafts ≤ 4
+      → All IsWhole drafts
       → Answers s (CallCommit c drafts (Ok (commit_of s c drafts).0)) (commit_of s c drafts).1
-  pub abort : (u : ℕ) → (pass_at s c).holding ≡ Some u → Answers s (CallAbort c (abort_of s c).0) (abort_of s c).1
+  pub abort : (u : ℕ) → (pass_at s c).holding ≡ Some u → Answers s (CallAbort c (abort_of s c).0)
+      (abort_of s c).1
   pub kill : (i : ℕ) → Answers s (CallKill c i (kill_of s c i).0) (kill_of s c i).1
   pub cancel : (root : ℕ) → Answers s (CallCancel c root (cancel_of s c root).0) (cancel_of s c root).1
   pub release : (i : ℕ) → Answers s (CallRelease c i (release_of s c i).0) (release_of s c i).1
@@ -305,4 +337,4 @@ pub record AreAllowed (s : State) (c : ℕ) : Type 0 where
 
 -- so it is in every state that a manager of one thread reaches
 abbrev pub ComputedAreAllowed : Type 0
-ComputedAreAllowed = (s : State) (c : ℕ) → IsReached s → c < s.limits.parts → AreAllowed s c
+ComputedAreAllowed = (s : State) (c : ℕ) → IsReachable s → c < s.limits.parts → AreAllowed s c

@@ -1,6 +1,7 @@
 -- What the listings find: the first id from one on that passes a test.
 use Rattle.std.specs.Prelude.{ℕ, ◌-◌, ◌==◌, ◌&&◌, Bool, false, Option, Some, None}
 use Rattle.std.specs.List.{find, range_with_len}
+use Rattle.tp_model.specs.declared.types.TheConstants.{REPLY_STAGE}
 use Rattle.tp_model.specs.declared.types.Element.{Element}
 use Rattle.tp_model.specs.declared.types.Status.{Status}
 use Rattle.tp_model.specs.Counts.{is_parked, is_waiting}
@@ -11,7 +12,7 @@ use Rattle.tp_plain.specs.OneThread.{State}
 -- whether what was found under an id is a reply to this request that waits
 abbrev pub reply_found : ℕ → Status → Option Element → Bool
 reply_found root st None = false
-reply_found root st (Some e) = (e.stage == 15) && ((e.root == root) && is_waiting st)
+reply_found root st (Some e) = (e.stage == REPLY_STAGE) && ((e.root == root) && is_waiting st)
 
 -- whether what was found under an id is parked
 abbrev pub error_found : Status → Option Element → Bool

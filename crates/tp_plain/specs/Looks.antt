@@ -1,5 +1,7 @@
 -- The looks of a manager of one thread: how each born element stands.
-use Rattle.std.specs.Prelude.{◌≡◌, ◌<◌, length, slice_index_or, ℕ, ◌==◌, nat_lt, Bool, true, false, not, ◌&&◌, ◌||◌, if◌then◌else◌, Option, Some, None, List, map}
+use Rattle.std.specs.Prelude.{◌≡◌, ◌<◌, length, slice_index_or, ℕ, ◌==◌, nat_lt, Bool, true, false, not, ◌&&◌}
+use Rattle.std.specs.Prelude.{◌||◌, if◌then◌else◌, Option, Some, None, List, map}
+use Rattle.tp_model.specs.declared.types.TheConstants.{REPLY_STAGE}
 use Rattle.tp_model.specs.declared.types.Element.{Element}
 use Rattle.tp_model.specs.declared.types.Look.{Look}
 use Rattle.tp_model.specs.declared.types.Status.{Status}
@@ -30,11 +32,12 @@ waits_in stage l = (l.element.stage == stage) && is_waiting l.status
 abbrev pub comes_before : ℕ → ℕ → ℕ → Bool
 comes_before from i j = if nat_lt i from then nat_lt j from && nat_lt i j else nat_lt j from || nat_lt i j
 
--- of a look found before and another one, the one to be claimed first from there on; from 0 on it is the one with
--- the lesser id
+-- of a look found before and another one, the one to be claimed first from there on; from 0 on it is the one
+-- with the lesser id
 abbrev pub sooner : ℕ → ℕ → Option Look → Look → Option Look
 sooner from stage None l = if waits_in stage l then Some l else None
-sooner from stage (Some b) l = if waits_in stage l && comes_before from l.element.id b.element.id then Some l else Some b
+sooner from stage (Some b) l = if waits_in stage l && comes_before from l.element.id b.element.id then Some l
+    else Some b
 
 -- how many attempts an element that waits has had
 abbrev pub attempts_in : Status → ℕ
@@ -70,7 +73,7 @@ is_settled Killed = true
 
 -- whether an element with this status is of the family, no reply, and not settled
 abbrev pub is_unsettled_of : ℕ → Status → Element → Bool
-is_unsettled_of root st e = (e.root == root) && (not (e.stage == 15) && not (is_settled st))
+is_unsettled_of root st e = (e.root == root) && (not (e.stage == REPLY_STAGE) && not (is_settled st))
 
 -- the looks at all born elements
 abbrev pub looks_after_all : ℕ → List Event → List Look

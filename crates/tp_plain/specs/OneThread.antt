@@ -1,5 +1,7 @@
 -- Runs of a manager of one thread: which answers its calls may give, and what state they leave.
-use Rattle.std.specs.Prelude.{◌≡◌, ◌≢◌, ◌⊎◌, ◌↔◌, ℕ, zero, suc, ◌+◌, ◌-◌, ◌*◌, ◌<◌, ◌≤◌, ◌==◌, nat_lt, ◌&&◌, Bool, if◌then◌else◌, Option, Some, None, Result, List, [], ◌∷◌, ◌++◌, length, map, replicate, slice_index, slice_index_or, slice_set, MatchResult}
+use Rattle.std.specs.Prelude.{◌≡◌, ◌≢◌, ◌⊎◌, ◌↔◌, ℕ, zero, suc, ◌+◌, ◌-◌, ◌*◌, ◌<◌, ◌≤◌, ◌==◌, nat_lt, ◌&&◌}
+use Rattle.std.specs.Prelude.{Bool, if◌then◌else◌, Option, Some, None, Result, List, [], ◌∷◌, ◌++◌, length}
+use Rattle.std.specs.Prelude.{map, replicate, slice_index, slice_index_or, slice_set, MatchResult}
 use Rattle.std.specs.List.{range_with_len}
 use Rattle.std.specs.Option.{option_and_then, option_map_or}
 use mathlib.Core.List.{IsPrefix}
@@ -23,12 +25,13 @@ use Rattle.tp_model.specs.declared.types.Refusal.TheVariants as refusal
 use Rattle.tp_plain.specs.declared.pass_state.PassState.{PassState}
 use Rattle.tp_model.specs.declared.event.Event.{Event}
 use Rattle.tp_model.specs.declared.event.Event.TheVariants.{Enqueue, Claim, Commit, Abort, Kill, Requeue}
-use Rattle.tp_model.specs.History.{In, element_of, status_of, rounds, IsSettled, UnitClaim, claim_of, Aborted, end_of}
+use Rattle.tp_model.specs.History.{In, element_of, status_of, rounds, IsSettled, UnitClaim, claim_of, Aborted}
+use Rattle.tp_model.specs.History.{end_of}
 use Rattle.tp_model.specs.Families.{IsRequest, IsSettledFamily}
 use Rattle.tp_model.specs.Orders.{AreSomeOf, IsWalk}
 use Rattle.tp_model.specs.Births.{request, outputs}
 use Rattle.tp_model.specs.Steps.{IsParked, IsServerStage, Step, IsLegal, block_first}
-use Rattle.tp_model.specs.declared.types.TheConstants.{BLOCK_ROWS, MOST_ROUNDS}
+use Rattle.tp_model.specs.declared.types.TheConstants.{BLOCK_ROWS, MAX_ROUNDS, REPLY_STAGE}
 
 -- what a manager of one thread is between two calls: its limits, its history, what each of its passes has
 -- used, and how many spare blocks are drawn
@@ -44,11 +47,22 @@ no_pass = record { next = 0; left = 0; claimed = 0; holding = None; turns = repl
 
 -- pass c, which has done nothing: so many rows are left to it, all those of its part
 abbrev pub fresh_pass : ℕ → ℕ → PassState
-fresh_pass rows c = record { next = c * rows; left = rows; claimed = 0; holding = None; turns = replicate 16 0 }
+fresh_pass rows c = record {
+  next = c * rows;
+  left = rows;
+  claimed = 0;
+  holding = None;
+  turns = replicate 16 0;
+}
 
 -- a manager to which nothing happened
 abbrev pub start : Limits → State
-start l = record { limits = l; history = []; passes = map (fresh_pass l.rows) (range_with_len 0 l.parts); drawn = 0 }
+start l = record {
+  limits = l;
+  history = [];
+  passes = map (fresh_pass l.rows) (range_with_len 0 l.parts);
+  drawn = 0;
+}
 
 -- what pass c has used
 abbrev pub pass_at : State → ℕ → PassState
@@ -85,11 +99,21 @@ pub data Call : Type 0 where
 
 -- the state after an event of pass c, which has then used this
 abbrev pub moved : State → Event → ℕ → PassState → State
-moved s e c used = record { limits = s.limits; history = s.history ++ e ∷ []; passes = slice_set s.passes c used; drawn = s.drawn }
+moved s e c used = record {
+  limits = s.limits;
+  history = s.history ++ e ∷ [];
+  passes = slice_set s.passes c used;
+  drawn = s.drawn;
+}
 
 -- the state after a call of pass c without an event, which has then used this
 abbrev pub with_pass : State → ℕ → PassState → State
-with_pass s c used = record { limits = s.limits; history = s.history; passes = slice_set s.passes c used; drawn = s.drawn }
+with_pass s c used = record {
+  limits = s.limits;
+  history = s.history;
+  passes = slice_set s.passes c used;
+  drawn = s.drawn;
+}
 
 -- whether pass c draws the next spare block for k rows: its run has fewer, and a block is left
 abbrev pub draws : State → ℕ → ℕ → Bool
@@ -113,7 +137,13 @@ next_row s c k = (ready s c k).next
 
 -- the state with that block drawn
 abbrev pub with_draw : State → ℕ → ℕ → State
-with_draw s c k = record { limits = s.limits; history = s.history; passes = s.passes; drawn = if draws s c k then s.drawn + 1 else s.drawn }
+with_draw s c k = record {
+  limits = s.limits;
+  history = s.history;
+  passes = s.passes;
+  drawn = if draws s c k
+      then s.drawn + 1 else s.drawn;
+}
 
 -- pass c has k rows to use
 abbrev pub HasRoom : State → ℕ → ℕ → Type 0
@@ -149,7 +179,11 @@ pub record Waits (s : State) (stage : ℕ) (e : Element) (attempts : ℕ) : Type
 
 -- pass c after it took the work, with these places for its claims in turn
 abbrev pub taken : State → ℕ → Work → List ℕ → PassState
-taken s c w turns = record (pass_at s c) { claimed = (pass_at s c).claimed + 1; holding = Some w.unit; turns = turns }
+taken s c w turns = record (pass_at s c) {
+  claimed = (pass_at s c).claimed + 1;
+  holding = Some w.unit;
+  turns = turns;
+}
 
 -- a claim took work: of the waiting elements of the stage the one with the least id, by the pass's next unit
 pub record Takes (s : State) (c stage : ℕ) (w : Work) (t : State) : Type 0 where
@@ -164,8 +198,8 @@ pub record Takes (s : State) (c stage : ℕ) (w : Work) (t : State) : Type 0 whe
 abbrev pub IsBefore : ℕ → ℕ → ℕ → Type 0
 IsBefore from id i = ((from ≤ i) × (i < id)) ⊎ ((id < from) × ((from ≤ i) ⊎ (i < id)))
 
--- a claim in turn took work: of the waiting elements of the stage the first behind the one that the pass took last
--- by such a claim, where behind the last id comes the first; and the next one begins behind it
+-- a claim in turn took work: of the waiting elements of the stage the first behind the one that the pass took
+-- last by such a claim, where behind the last id comes the first; and the next one begins behind it
 pub record TakesNext (s : State) (c stage : ℕ) (w : Work) (t : State) : Type 0 where
   pub room : (pass_at s c).claimed < s.limits.units
   pub next : w.unit ≡ next_unit s c
@@ -177,7 +211,8 @@ pub record TakesNext (s : State) (c stage : ℕ) (w : Work) (t : State) : Type 0
 -- a claim takes work, or is idle where nothing waits, or finds the pass's units used up
 abbrev pub Claims : State → ℕ → ℕ → Claimed → State → Type 0
 Claims s c stage (claimed.Work w) t = Takes s c stage w t
-Claims s c stage claimed.Idle t = (t ≡ s) × ((pass_at s c).claimed < s.limits.units) × ((e : Element) (n : ℕ) → ¬ Waits s stage e n)
+Claims s c stage claimed.Idle t = (t ≡ s) × ((pass_at s c).claimed < s.limits.units) × ((e : Element) (n : ℕ)
+    → ¬ Waits s stage e n)
 Claims s c stage claimed.NoUnit t = (t ≡ s) × (s.limits.units ≤ (pass_at s c).claimed)
 
 -- a claim in turn does so too
@@ -196,15 +231,16 @@ pub record TakesId (s : State) (c i : ℕ) (w : Work) (t : State) : Type 0 where
   pub step : Step s.limits s.history (Claim c w.unit w.element.id w.attempt)
   pub after : t ≡ moved s (Claim c w.unit w.element.id w.attempt) c (taken s c w (pass_at s c).turns)
 
--- it is refused where the pass's units are used up, then where no such element is born, where it is a reply, and
--- where it doesn't wait
+-- it is refused where the pass's units are used up, then where no such element is born, where it is a reply,
+-- and where it doesn't wait
 abbrev pub RefusesClaimId : State → ℕ → ℕ → Refusal → Type 0
 RefusesClaimId s c i refusal.NoUnit = s.limits.units ≤ (pass_at s c).claimed
-RefusesClaimId s c i refusal.NotThere = ((pass_at s c).claimed < s.limits.units) × (element_of s.history i ≡ None)
+RefusesClaimId s c i refusal.NotThere = ((pass_at s c).claimed < s.limits.units)
+    × (element_of s.history i ≡ None)
 RefusesClaimId s c i refusal.BadStage = ((pass_at s c).claimed < s.limits.units)
-    × (e : Element) × (element_of s.history i ≡ Some e) × (e.stage ≡ 15)
+    × (e : Element) × (element_of s.history i ≡ Some e) × (e.stage ≡ REPLY_STAGE)
 RefusesClaimId s c i refusal.NotWaiting = ((pass_at s c).claimed < s.limits.units)
-    × (e : Element) × (element_of s.history i ≡ Some e) × (e.stage ≢ 15)
+    × (e : Element) × (element_of s.history i ≡ Some e) × (e.stage ≢ REPLY_STAGE)
     × ((n : ℕ) → status_of s.limits.attempts s.history i ≢ Waiting n)
 RefusesClaimId s c i other = ⊥
 
@@ -218,7 +254,8 @@ spent used k = freed (used_up used k)
 
 -- the root of the element that unit u claimed
 abbrev pub root_of : List Event → ℕ → ℕ
-root_of h u = option_map_or (λ (e : Element). e.root) (option_and_then (λ (t : UnitClaim). element_of h t.item) (claim_of h u)) 0
+root_of h u = option_map_or (λ (e : Element). e.root)
+    (option_and_then (λ (t : UnitClaim). element_of h t.item) (claim_of h u)) 0
 
 -- the outputs that a commit of unit u by pass c makes of these drafts
 abbrev pub made_of : State → ℕ → ℕ → List DraftView → List Element
@@ -226,36 +263,43 @@ made_of s c u drafts = outputs u (root_of s.history u) (next_row s c (length dra
 
 -- a commit went through: the drafts are born in the pass's next rows, with the root of the element that the
 -- unit claimed
-pub record Commits (s : State) (c u : ℕ) (drafts : List DraftView) (first count : ℕ) (t : State) : Type 0 where
+pub record Commits (s : State) (c u : ℕ) (drafts : List DraftView) (first count : ℕ)
+    (t : State) : Type 0 where
   pub room : HasRoom s c (length drafts)
   pub count_is : count ≡ length drafts
   pub first_is : first ≡ (if length drafts == 0 then 0 else next_row s c (length drafts))
   pub step : Step s.limits s.history (Commit c u (made_of s c u drafts))
-  pub after : t ≡ moved (with_draw s c (length drafts)) (Commit c u (made_of s c u drafts)) c (spent (ready s c (length drafts)) (length drafts))
+  pub after : t ≡ moved (with_draw s c (length drafts))
+      (Commit c u (made_of s c u drafts)) c (spent (ready s c (length drafts)) (length drafts))
 
 -- the unit in hand ends by an Abort, unless another pass has aborted it
-abbrev pub Leaves : State → ℕ → ℕ → State → Type 0
-Leaves s c u t =
+abbrev pub EndsByAbort : State → ℕ → ℕ → State → Type 0
+EndsByAbort s c u t =
     (Step s.limits s.history (Abort c u) × (t ≡ moved s (Abort c u) c (freed (pass_at s c))))
     ⊎ ((end_of s.history u ≡ Some Aborted) × (t ≡ with_pass s c (freed (pass_at s c))))
 
 -- a commit is full where too few rows are left and no block, then lost where another pass has aborted the
 -- unit, and else goes through
-abbrev pub Ends : State → ℕ → ℕ → List DraftView → Outcome → State → Type 0
-Ends s c u drafts (outcome.Committed first count) t = Commits s c u drafts first count t
-Ends s c u drafts outcome.Lost t =
-    HasRoom s c (length drafts) × (end_of s.history u ≡ Some Aborted) × (t ≡ with_pass (with_draw s c (length drafts)) c (spent (ready s c (length drafts)) (length drafts)))
-Ends s c u drafts outcome.Full t = IsFull s c (length drafts) × Leaves s c u t
+abbrev pub AnswersCommit : State → ℕ → ℕ → List DraftView → Outcome → State → Type 0
+AnswersCommit s c u drafts (outcome.Committed first count) t = Commits s c u drafts first count t
+AnswersCommit s c u drafts outcome.Lost t =
+    HasRoom s c (length drafts) × (end_of s.history u ≡ Some Aborted)
+    × (t ≡ with_pass (with_draw s c (length drafts)) c (spent (ready s c (length drafts))
+    (length drafts)))
+AnswersCommit s c u drafts outcome.Full t = IsFull s c (length drafts) × EndsByAbort s c u t
 
 -- a commit that is neither full nor lost is refused for want of memory alone
 abbrev pub RefusesCommit : State → ℕ → ℕ → List DraftView → Refusal → Type 0
-RefusesCommit s c u drafts refusal.NoMemory = HasRoom s c (length drafts) × (end_of s.history u ≢ Some Aborted)
+RefusesCommit s c u drafts refusal.NoMemory = HasRoom s c (length drafts)
+    × (end_of s.history u ≢ Some Aborted)
 RefusesCommit s c u drafts other = ⊥
 
 -- an abort goes through, unless another pass has aborted the unit
 abbrev pub GivesUp : State → ℕ → ℕ → Ended → State → Type 0
-GivesUp s c u ended.Aborted t = Step s.limits s.history (Abort c u) × (t ≡ moved s (Abort c u) c (freed (pass_at s c)))
-GivesUp s c u ended.Already t = (end_of s.history u ≡ Some Aborted) × (t ≡ with_pass s c (freed (pass_at s c)))
+GivesUp s c u ended.Aborted t = Step s.limits s.history (Abort c u)
+    × (t ≡ moved s (Abort c u) c (freed (pass_at s c)))
+GivesUp s c u ended.AlreadyAborted t = (end_of s.history u ≡ Some Aborted)
+    × (t ≡ with_pass s c (freed (pass_at s c)))
 
 -- a look shows the born element with this id, and its status
 pub record Shows (s : State) (id : ℕ) (look : Look) : Type 0 where
@@ -276,15 +320,19 @@ extended s e = record { limits = s.limits; history = s.history ++ e ∷ []; pass
 abbrev pub Kills : State → ℕ → ℕ → ℕ → State → Type 0
 Kills s c i zero t = Step s.limits s.history (Kill c i) × (t ≡ extended s (Kill c i))
 Kills s c i (suc zero) t =
-    (u : ℕ) × (n : ℕ) × (status_of s.limits.attempts s.history i ≡ Held u n) × Step s.limits s.history (Abort c u)
-    × Step s.limits (s.history ++ Abort c u ∷ []) (Kill c i) × (t ≡ extended (extended s (Abort c u)) (Kill c i))
+    (u : ℕ) × (n : ℕ) × (status_of s.limits.attempts s.history i ≡ Held u n)
+    × Step s.limits s.history (Abort c u)
+    × Step s.limits (s.history ++ Abort c u ∷ []) (Kill c i) × (t ≡ extended (extended s (Abort c u))
+    (Kill c i))
 Kills s c i (suc (suc k)) t = ⊥
 
 -- a kill is refused where no such element is born, or it is consumed or killed
 abbrev pub RefusesKill : State → ℕ → Refusal → Type 0
 RefusesKill s i refusal.NotThere = element_of s.history i ≡ None
-RefusesKill s i (refusal.Consumed u) = (e : Element) × (element_of s.history i ≡ Some e) × (status_of s.limits.attempts s.history i ≡ Consumed u)
-RefusesKill s i refusal.AlreadyKilled = (e : Element) × (element_of s.history i ≡ Some e) × (status_of s.limits.attempts s.history i ≡ Killed)
+RefusesKill s i (refusal.Consumed u) = (e : Element) × (element_of s.history i ≡ Some e)
+    × (status_of s.limits.attempts s.history i ≡ Consumed u)
+RefusesKill s i refusal.AlreadyKilled = (e : Element) × (element_of s.history i ≡ Some e)
+    × (status_of s.limits.attempts s.history i ≡ Killed)
 RefusesKill s i other = ⊥
 
 -- element i is born, of this family, no reply, and neither consumed nor killed
@@ -292,7 +340,7 @@ pub record IsUnsettled (s : State) (root i : ℕ) : Type 0 where
   pub item : Element
   pub born : element_of s.history i ≡ Some item
   pub family : item.root ≡ root
-  pub no_reply : item.stage ≢ 15
+  pub no_reply : item.stage ≢ REPLY_STAGE
   pub unsettled : ¬ IsSettled (status_of s.limits.attempts s.history i)
 
 -- kills by pass c of these elements went through, one after another
@@ -320,23 +368,28 @@ RefusesCancel s root other = ⊥
 
 -- a release by pass c went through: the unit that held the element in this attempt is aborted
 abbrev pub Releases : State → ℕ → ℕ → ℕ → ℕ → State → Type 0
-Releases s c i u n t = (status_of s.limits.attempts s.history i ≡ Held u n) × Step s.limits s.history (Abort c u) × (t ≡ extended s (Abort c u))
+Releases s c i u n t = (status_of s.limits.attempts s.history i ≡ Held u n)
+    × Step s.limits s.history (Abort c u) × (t ≡ extended s (Abort c u))
 
 -- a release is refused where no such element is born, or no unit holds it
 abbrev pub RefusesRelease : State → ℕ → Refusal → Type 0
 RefusesRelease s i refusal.NotThere = element_of s.history i ≡ None
-RefusesRelease s i refusal.NotHeld = (e : Element) × (element_of s.history i ≡ Some e) × ((u n : ℕ) → status_of s.limits.attempts s.history i ≢ Held u n)
+RefusesRelease s i refusal.NotHeld = (e : Element) × (element_of s.history i ≡ Some e)
+    × ((u n : ℕ) → status_of s.limits.attempts s.history i ≢ Held u n)
 RefusesRelease s i other = ⊥
 
 -- a collect by pass c went through: the reply is killed
 abbrev pub Collects : State → ℕ → ℕ → Element → State → Type 0
-Collects s c i e t = (element_of s.history i ≡ Some e) × (e.stage ≡ 15) × Step s.limits s.history (Kill c i) × (t ≡ extended s (Kill c i))
+Collects s c i e t = (element_of s.history i ≡ Some e) × (e.stage ≡ REPLY_STAGE)
+    × Step s.limits s.history (Kill c i) × (t ≡ extended s (Kill c i))
 
 -- a collect is refused where no such element is born, or it is no reply, or is and was killed
 abbrev pub RefusesCollect : State → ℕ → Refusal → Type 0
 RefusesCollect s i refusal.NotThere = element_of s.history i ≡ None
-RefusesCollect s i refusal.BadStage = (e : Element) × (element_of s.history i ≡ Some e) × (e.stage ≢ 15)
-RefusesCollect s i refusal.AlreadyKilled = (e : Element) × (element_of s.history i ≡ Some e) × (e.stage ≡ 15) × (status_of s.limits.attempts s.history i ≡ Killed)
+RefusesCollect s i refusal.BadStage = (e : Element) × (element_of s.history i ≡ Some e)
+    × (e.stage ≢ REPLY_STAGE)
+RefusesCollect s i refusal.AlreadyKilled = (e : Element) × (element_of s.history i ≡ Some e)
+    × (e.stage ≡ REPLY_STAGE) × (status_of s.limits.attempts s.history i ≡ Killed)
 RefusesCollect s i other = ⊥
 
 -- a requeue by pass c went through: the element is given its next round
@@ -346,23 +399,33 @@ Requeues s c i r t = Step s.limits s.history (Requeue c i r) × (t ≡ extended 
 -- a requeue is refused where no such element is born, or it isn't parked, or is and has had all its rounds
 abbrev pub RefusesRequeue : State → ℕ → Refusal → Type 0
 RefusesRequeue s i refusal.NotThere = element_of s.history i ≡ None
-RefusesRequeue s i refusal.NotParked = (e : Element) × (element_of s.history i ≡ Some e) × ¬ IsParked (status_of s.limits.attempts s.history i)
-RefusesRequeue s i refusal.NoRound = (e : Element) × (element_of s.history i ≡ Some e) × IsParked (status_of s.limits.attempts s.history i) × (rounds s.history i ≡ MOST_ROUNDS)
+RefusesRequeue s i refusal.NotParked = (e : Element) × (element_of s.history i ≡ Some e)
+    × ¬ IsParked (status_of s.limits.attempts s.history i)
+RefusesRequeue s i refusal.NoRound = (e : Element) × (element_of s.history i ≡ Some e)
+    × IsParked (status_of s.limits.attempts s.history i) × (rounds s.history i ≡ MAX_ROUNDS)
 RefusesRequeue s i other = ⊥
 
 -- the call, asked of a manager in state s, may have this answer and leave it in state t
 abbrev pub Answers : State → Call → State → Type 0
-Answers s (CallSubmit c stage body r) t = MatchResult r (λ id. Submits s c stage body id t) (λ why. RefusesSubmit s c stage why × (t ≡ s))
+Answers s (CallSubmit c stage body r) t = MatchResult r (λ id. Submits s c stage body id t)
+    (λ why. RefusesSubmit s c stage why × (t ≡ s))
 Answers s (CallClaim c stage r) t = MatchResult r (λ a. Claims s c stage a t) (λ why. ⊥)
-Answers s (CallClaimId c i r) t = MatchResult r (λ w. TakesId s c i w t) (λ why. RefusesClaimId s c i why × (t ≡ s))
+Answers s (CallClaimId c i r) t = MatchResult r (λ w. TakesId s c i w t) (λ why. RefusesClaimId s c i why
+    × (t ≡ s))
 Answers s (CallClaimNext c stage r) t = MatchResult r (λ a. ClaimsNext s c stage a t) (λ why. ⊥)
-Answers s (CallCommit c drafts r) t = (u : ℕ) × ((pass_at s c).holding ≡ Some u) × MatchResult r (λ a. Ends s c u drafts a t) (λ why. RefusesCommit s c u drafts why × (t ≡ s))
+Answers s (CallCommit c drafts r) t = (u : ℕ) × ((pass_at s c).holding ≡ Some u)
+    × MatchResult r (λ a. AnswersCommit s c u drafts a t) (λ why. RefusesCommit s c u drafts why × (t ≡ s))
 Answers s (CallAbort c a) t = (u : ℕ) × ((pass_at s c).holding ≡ Some u) × GivesUp s c u a t
-Answers s (CallKill c i r) t = MatchResult r (λ k. Kills s c i k.units_aborted t) (λ why. RefusesKill s i why × (t ≡ s))
-Answers s (CallCancel c root r) t = MatchResult r (λ k. Cancels s c root k.killed t) (λ why. RefusesCancel s root why × (t ≡ s))
-Answers s (CallRelease c i r) t = MatchResult r (λ a. Releases s c i a.unit a.attempt t) (λ why. RefusesRelease s i why × (t ≡ s))
-Answers s (CallCollect c i r) t = MatchResult r (λ e. Collects s c i e t) (λ why. RefusesCollect s i why × (t ≡ s))
-Answers s (CallRequeue c i r) t = MatchResult r (λ round. Requeues s c i round t) (λ why. RefusesRequeue s i why × (t ≡ s))
+Answers s (CallKill c i r) t = MatchResult r (λ k. Kills s c i k.units_aborted t) (λ why. RefusesKill s i why
+    × (t ≡ s))
+Answers s (CallCancel c root r) t = MatchResult r (λ k. Cancels s c root k.killed t)
+    (λ why. RefusesCancel s root why × (t ≡ s))
+Answers s (CallRelease c i r) t = MatchResult r (λ a. Releases s c i a.unit a.attempt t)
+    (λ why. RefusesRelease s i why × (t ≡ s))
+Answers s (CallCollect c i r) t = MatchResult r (λ e. Collects s c i e t) (λ why. RefusesCollect s i why
+    × (t ≡ s))
+Answers s (CallRequeue c i r) t = MatchResult r (λ round. Requeues s c i round t)
+    (λ why. RefusesRequeue s i why × (t ≡ s))
 Answers s (CallRead id r) t = MatchResult r (Shows s id) (RefusesRead s id) × (t ≡ s)
 
 -- these calls were asked one after another, from state s to state t
@@ -372,7 +435,8 @@ Run s (call ∷ calls) t = (mid : State) × Answers s call mid × Run mid calls 
 
 -- a run of calls from the start leaves a legal history
 abbrev pub RunsAreLegal : Type 0
-RunsAreLegal = (l : Limits) (calls : List Call) (t : State) → Run (start l) calls t → (t.limits ≡ l) × IsLegal l t.history
+RunsAreLegal = (l : Limits) (calls : List Call) (t : State) → Run (start l) calls t → (t.limits ≡ l)
+    × IsLegal l t.history
 
 -- a run only adds events
 abbrev pub RunsGrow : Type 0

@@ -18,7 +18,8 @@ pub record RunFits (l : Limits) (h : List Event) (drawn c next left : ℕ) : Typ
   -- no row of it is born
   pub unborn : (i : ℕ) → next ≤ i → i < next + left → IsUnborn h i
   -- and the pass made all that is born in the area
-  pub alone : (e : Event) (x : Element) → In e h → In x (births e) → first ≤ x.id → x.id < next + left → pass_of e ≡ c
+  pub alone : (e : Event) (x : Element) → In e h → In x (births e) → first ≤ x.id → x.id < next + left
+      → pass_of e ≡ c
 
 -- what pass c has used, as the history says
 pub record PassFits (l : Limits) (h : List Event) (drawn c : ℕ) (used : PassState) : Type 0 where
@@ -28,25 +29,27 @@ pub record PassFits (l : Limits) (h : List Event) (drawn c : ℕ) (used : PassSt
   -- a unit of the pass that is open is in its hand
   pub holding : (u : ℕ) (t : UnitClaim) → IsOpen h u t → t.pass ≡ c → used.holding ≡ Some u
   -- the unit in its hand is open, unless it was aborted
-  pub held : (u : ℕ) → used.holding ≡ Some u → end_of h u ≢ Some Aborted → (t : UnitClaim) × IsOpen h u t × (t.pass ≡ c)
+  pub held : (u : ℕ) → used.holding ≡ Some u → end_of h u ≢ Some Aborted → (t : UnitClaim) × IsOpen h u t
+      × (t.pass ≡ c)
 
 -- what holds of each state that a run from the start reaches
-pub record IsReached (s : State) : Type 0 where
+pub record IsReachable (s : State) : Type 0 where
   pub limits : AreLimits s.limits
   pub legal : IsLegal s.limits s.history
   pub passes : length s.passes ≡ s.limits.parts
   pub fits : (c : ℕ) → c < s.limits.parts → PassFits s.limits s.history s.drawn c (pass_at s c)
   -- no two passes use one area
-  pub apart : (c d : ℕ) → c < s.limits.parts → d < s.limits.parts → (pass_at s c).next + (pass_at s c).left ≡ (pass_at s d).next + (pass_at s d).left → c ≡ d
+  pub apart : (c d : ℕ) → c < s.limits.parts → d < s.limits.parts
+      → (pass_at s c).next + (pass_at s c).left ≡ (pass_at s d).next + (pass_at s d).left → c ≡ d
   -- and nothing is born in the blocks that are left
   pub drawn : s.drawn ≤ s.limits.spare
   pub undrawn : (i : ℕ) → block_first s.limits s.drawn ≤ i → IsUnborn s.history i
 
 -- an Abort or a Kill by a pass with nothing in its hand
-abbrev pub IsQuiet : State → Event → Type 0
-IsQuiet s (Enqueue c e) = ⊥
-IsQuiet s (Claim c u i n) = ⊥
-IsQuiet s (Commit c u outs) = ⊥
-IsQuiet s (Abort c u) = (c < s.limits.parts) × ((pass_at s c).holding ≡ None)
-IsQuiet s (Kill c i) = (c < s.limits.parts) × ((pass_at s c).holding ≡ None)
-IsQuiet s (Requeue c i r) = ⊥
+abbrev pub IsWithoutUnit : State → Event → Type 0
+IsWithoutUnit s (Enqueue c e) = ⊥
+IsWithoutUnit s (Claim c u i n) = ⊥
+IsWithoutUnit s (Commit c u outs) = ⊥
+IsWithoutUnit s (Abort c u) = (c < s.limits.parts) × ((pass_at s c).holding ≡ None)
+IsWithoutUnit s (Kill c i) = (c < s.limits.parts) × ((pass_at s c).holding ≡ None)
+IsWithoutUnit s (Requeue c i r) = ⊥

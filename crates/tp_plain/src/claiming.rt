@@ -2,7 +2,8 @@
 ghost use Rattle.std.specs.Prelude.{◌≡◌, ℕ, ◌<◌, ◌+◌, None, IfOk, IfSome, slice_index, slice_set};
 ghost use Rattle.tp_model.specs.declared.types.Element.{Element};
 ghost use Rattle.tp_model.specs.Steps.{IsServerStage};
-ghost use Rattle.tp_plain.specs.Computed.{IsComputedOk, claim_next_of_stage, claim_of_stage, next_waiting, with_claim, work_on};
+ghost use Rattle.tp_plain.specs.Computed.{IsComputedOk, claim_next_of_stage, claim_of_stage, next_waiting};
+ghost use Rattle.tp_plain.specs.Computed.{with_claim, work_on};
 ghost use Rattle.tp_plain.specs.Looks.{attempts_in};
 ghost use Rattle.tp_plain.specs.OneThread.{Answers, CallClaim, CallClaimNext, Waits, held_after, pass_at};
 
@@ -53,8 +54,8 @@ impl Plain {
         Ok(Claimed::Work(self.take(caller, look, used.turns)))
     }
 
-    /// A pass takes the waiting element of a stage, by its next unit, that comes first behind the one of the stage
-    /// that it took last by such a call. Behind the last id comes the first.
+    /// A pass takes the waiting element of a stage, by its next unit, that comes first behind the one of the
+    /// stage that it took last by such a call. Behind the last id comes the first.
     pub fn claim_next(&mut self, caller: u16, stage: u8) -> Result<Claimed, Refusal>
         requires pass { caller < self.old.limits.parts }
         requires server { IsServerStage stage }

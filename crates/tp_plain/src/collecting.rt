@@ -8,7 +8,7 @@ ghost use Rattle.tp_plain.specs.OneThread.{Answers, CallCollect, pass_at};
 use crate::history::Note;
 use crate::looks::is_reply_in;
 use crate::plain::Plain;
-use tp_model::types::{Element, Refusal, Status};
+use tp_model::types::{Element, REPLY_STAGE, Refusal, Status};
 
 impl Plain {
     /// A pass takes a reply, once: it is killed.
@@ -20,7 +20,8 @@ impl Plain {
         requires pass { caller < self.old.limits.parts }
         requires free { (pass_at self.old caller).holding ≡ None }
         ensures answer { Answers self.old (CallCollect caller id result) self.new }
-        ensures computed { (result ≡ (collect_of self.old caller id).0) × (self.new ≡ (collect_of self.old caller id).1) }
+        ensures computed { (result ≡ (collect_of self.old caller id).0)
+            × (self.new ≡ (collect_of self.old caller id).1) }
         ensures limits { self.new.limits ≡ self.old.limits }
         ensures passes { self.new.passes ≡ self.old.passes }
     {
@@ -28,7 +29,7 @@ impl Plain {
         let Ok(look) = self.read(id) else {
             return Err(Refusal::NotThere);
         };
-        if look.element.stage != 15 {
+        if look.element.stage != REPLY_STAGE {
             return Err(Refusal::BadStage);
         }
         match look.status {
@@ -40,8 +41,8 @@ impl Plain {
         }
     }
 
-    /// A pass takes the least reply to the request with this root that waits, once: it is killed. `None` where none
-    /// waits.
+    /// A pass takes the least reply to the request with this root that waits, once: it is killed. `None`
+    /// where none waits.
     pub fn collect_next(&mut self, caller: u16, root: u32) -> Option<Element>
         requires pass { caller < self.old.limits.parts }
         requires free { (pass_at self.old caller).holding ≡ None }

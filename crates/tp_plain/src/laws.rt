@@ -15,8 +15,8 @@ pub fn computed_answers()
     ensures { ComputedAreAllowed }
 {}
 
-/// Once a cancel went through, its family stays settled whatever calls come next: no element of it is claimed or
-/// committed any more, and none is born.
+/// Once a cancel went through, its family stays settled whatever calls come next: no element of it is claimed
+/// or committed any more, and none is born.
 pub fn cancelled_for_good()
     ensures { CancelledForGood }
 {}

@@ -3,12 +3,13 @@ ghost use Rattle.std.specs.Prelude.{◌≡◌, ◌==◌, if◌then◌else◌, �
 ghost use Rattle.std.specs.List.{find, fold, All};
 ghost use Rattle.tp_plain.specs.Listings.{reply_found};
 ghost use Rattle.tp_plain.specs.Noted.{event_of};
-ghost use Rattle.tp_plain.specs.Looks.{comes_before, look_after, sooner, attempts_in, is_held_by, is_unsettled_of, fresh_look};
+ghost use Rattle.tp_plain.specs.Looks.{comes_before, look_after, sooner, attempts_in, is_held_by};
+ghost use Rattle.tp_plain.specs.Looks.{is_unsettled_of, fresh_look};
 ghost use Rattle.tp_model.specs.Births.{IsWhole, outputs};
 
 use crate::history::Note;
 use std::alloc::{AllocError, Global};
-use tp_model::types::{Draft, Element, Look, Status};
+use tp_model::types::{Draft, Element, Look, REPLY_STAGE, Status};
 
 /// The look at the element with this id.
 pub(crate) fn look_of(looks: &[Look], id: u32) -> Option<Look>
@@ -189,7 +190,7 @@ pub(crate) fn is_unsettled_in(root: u32, look: Look) -> bool
     ensures { result ≡ is_unsettled_of root look.status look.element }
 {
     let settled = matches!(look.status, Status::Consumed { unit: _ } | Status::Killed);
-    look.element.root == root && look.element.stage != 15 && !settled
+    look.element.root == root && look.element.stage != REPLY_STAGE && !settled
 }
 
 /// Whether an element is a reply to the request, and waits.
@@ -197,5 +198,5 @@ pub(crate) fn is_reply_in(root: u32, look: Look) -> bool
     ensures { result ≡ reply_found root look.status (Some look.element) }
 {
     let waits = matches!(look.status, Status::Waiting { attempts: _ });
-    look.element.stage == 15 && look.element.root == root && waits
+    look.element.stage == REPLY_STAGE && look.element.root == root && waits
 }

@@ -1,10 +1,13 @@
 //! The manager of one thread.
-ghost use Rattle.std.specs.Prelude.{◌≡◌, ℕ, nat_lt, ◌<◌, ◌≤◌, ◌↔◌, ◌⊎◌, length, map, IfOk, IfErr, IsSome, is_some, replicate};
+ghost use Rattle.std.specs.Prelude.{◌≡◌, ℕ, nat_lt, ◌<◌, ◌≤◌, ◌↔◌, ◌⊎◌, length, map, IfOk, IfErr, IsSome};
+ghost use Rattle.std.specs.Prelude.{is_some, replicate};
 ghost use Rattle.std.specs.List.{range_with_len};
 ghost use Rattle.tp_plain.specs.Noted.{event_of};
-ghost use Rattle.tp_plain.specs.Computed.{IsComputed, IsComputedOk, submit_of, commit_of, abort_of, kill_of, read_of};
-ghost use Rattle.tp_plain.specs.OneThread.{Answers, CallSubmit, CallAbort, CallCommit, CallKill, CallRead, extended, start, fresh_pass, pass_at};
-ghost use Rattle.tp_plain.specs.Reached.{IsQuiet, IsReached};
+ghost use Rattle.tp_plain.specs.Computed.{IsComputed, IsComputedOk, submit_of, commit_of, abort_of, kill_of};
+ghost use Rattle.tp_plain.specs.Computed.{read_of};
+ghost use Rattle.tp_plain.specs.OneThread.{Answers, CallSubmit, CallAbort, CallCommit, CallKill, CallRead};
+ghost use Rattle.tp_plain.specs.OneThread.{extended, start, fresh_pass, pass_at};
+ghost use Rattle.tp_plain.specs.Reached.{IsWithoutUnit, IsReachable};
 ghost use Rattle.tp_model.specs.Steps.{AreLimits, Step, rows_of};
 
 use crate::history::{History, Note};
@@ -14,11 +17,11 @@ use crate::room::block_first;
 use std::alloc::{AllocError, Global};
 use std::marker::Model;
 use tp_model::types::{
-    Body, Claimed, Draft, Element, Ended, Killed, Limits, Look, Outcome, Refusal, Status,
+    Body, Claimed, Draft, Element, Ended, Killed, Limits, Look, MAX_STAGE, Outcome, Refusal, Status,
 };
 
-/// The manager of one thread. Contracts see it as its limits, its history, what its passes have used and how many
-/// spare blocks are drawn.
+/// The manager of one thread. Contracts see it as its limits, its history, what its passes have used and how
+/// many spare blocks are drawn.
 #[derive(Drop)]
 pub struct Plain {
     alloc: Global,
@@ -35,15 +38,26 @@ pub struct Plain {
 impl Model for Plain {
     ghost use Rattle.std.specs.Prelude.{◌≡◌, map};
     ghost use Rattle.tp_plain.specs.OneThread.{State};
-    ghost use Rattle.tp_plain.specs.Reached.{IsReached};
+    ghost use Rattle.tp_plain.specs.Reached.{IsReachable};
     ghost use Rattle.tp_plain.specs.Looks.{KeepsRounds, look_at};
     ghost use Rattle.tp_model.specs.History.{born};
 
     ghost Value = { State };
 
-    ghost view = { λ p. record { limits = p.limits; history = p.history.events; passes = p.passes.items; drawn = p.drawn } };
+    ghost view = { λ p. record {
+      limits = p.limits;
+      history = p.history.events;
+      passes = p.passes.items;
+      drawn = p.drawn;
+    } };
 
-    ghost invariant = { λ p. IsReached (record { limits = p.limits; history = p.history.events; passes = p.passes.items; drawn = p.drawn }) × (p.looks.items ≡ map (look_at p.limits.attempts p.history.events) (born p.history.events))
+    ghost invariant = { λ p. IsReachable (record {
+      limits = p.limits;
+      history = p.history.events;
+      passes = p.passes.items;
+      drawn = p.drawn;
+    })
+        × (p.looks.items ≡ map (look_at p.limits.attempts p.history.events) (born p.history.events))
         × KeepsRounds p.limits p.history.events p.rounds.items };
 }
 
@@ -108,7 +122,7 @@ impl Plain {
         ensures hands { (c : ℕ) → (pass_at self.new c).holding ≡ (pass_at self.old c).holding }
         ensures limits { self.new.limits ≡ self.old.limits }
     {
-        if stage < 1 || stage > 14 {
+        if stage < 1 || stage > MAX_STAGE {
             return Err(Refusal::BadStage);
         }
         let used = self.ready(caller, 1);
@@ -204,13 +218,14 @@ impl Plain {
         requires pass { caller < self.old.limits.parts }
         requires holding { IsSome (pass_at self.old caller).holding }
         ensures answer { Answers self.old (CallAbort caller result) self.new }
-        ensures computed { (result ≡ (abort_of self.old caller).0) × (self.new ≡ (abort_of self.old caller).1) }
+        ensures computed { (result ≡ (abort_of self.old caller).0)
+            × (self.new ≡ (abort_of self.old caller).1) }
         ensures free { (pass_at self.new caller).holding ≡ None }
         ensures limits { self.new.limits ≡ self.old.limits }
     {
         let used = self.passes[caller as usize];
         let Some(unit) = used.holding else {
-            return Ended::Already;
+            return Ended::AlreadyAborted;
         };
         let held = held_by(&self.looks, unit);
         self.passes[caller as usize] = PassState {
@@ -218,7 +233,7 @@ impl Plain {
             ..used
         };
         match held {
-            None => Ended::Already,
+            None => Ended::AlreadyAborted,
             Some(_) => {
                 let note = Note::Abort(caller, unit);
                 apply(self.limits.attempts, &mut self.looks, &note);
@@ -233,7 +248,8 @@ impl Plain {
         requires pass { caller < self.old.limits.parts }
         requires free { (pass_at self.old caller).holding ≡ None }
         ensures answer { Answers self.old (CallKill caller id result) self.new }
-        ensures computed { (result ≡ (kill_of self.old caller id).0) × (self.new ≡ (kill_of self.old caller id).1) }
+        ensures computed { (result ≡ (kill_of self.old caller id).0)
+            × (self.new ≡ (kill_of self.old caller id).1) }
         ensures limits { self.new.limits ≡ self.old.limits }
     {
         self.show_reached();
@@ -257,7 +273,7 @@ impl Plain {
 
     // What holds of each manager.
     pub(crate) fn show_reached(&self)
-        ensures { IsReached self.now }
+        ensures { IsReachable self.now }
     {
         let _limits = &self.limits;
     }
@@ -265,7 +281,7 @@ impl Plain {
     // An Abort or a Kill by a pass with nothing in its hand.
     pub(crate) fn mark(&mut self, note: &Note<'_>)
         requires step { Step self.old.limits self.old.history (event_of note.now) }
-        requires quiet { IsQuiet self.old (event_of note.now) }
+        requires quiet { IsWithoutUnit self.old (event_of note.now) }
         ensures { self.new ≡ extended self.old (event_of note.now) }
     {
         apply(self.limits.attempts, &mut self.looks, note);

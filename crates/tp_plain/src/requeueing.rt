@@ -6,17 +6,19 @@ ghost use Rattle.tp_plain.specs.OneThread.{Answers, CallRequeue};
 use crate::history::Note;
 use crate::looks::apply;
 use crate::plain::Plain;
-use tp_model::types::{MOST_ROUNDS, Refusal, Status};
+use tp_model::types::{MAX_ROUNDS, Refusal, Status};
 
 impl Plain {
-    /// Gives a parked element another round of attempts: it waits again, with none so far. Which round, 1 to 3.
+    /// Gives a parked element another round of attempts: it waits again, with none so far. Which round, 1 to
+    /// 3.
     ///
-    /// `NotThere` where no element with this id is born, `NotParked`, and `NoRound` where it is parked and has had all
-    /// its rounds.
+    /// `NotThere` where no element with this id is born, `NotParked`, and `NoRound` where it is parked and
+    /// has had all its rounds.
     pub fn requeue(&mut self, caller: u16, id: u32) -> Result<u8, Refusal>
         requires { caller < self.old.limits.parts }
         ensures answer { Answers self.old (CallRequeue caller id result) self.new }
-        ensures computed { (result ≡ (requeue_of self.old caller id).0) × (self.new ≡ (requeue_of self.old caller id).1) }
+        ensures computed { (result ≡ (requeue_of self.old caller id).0)
+            × (self.new ≡ (requeue_of self.old caller id).1) }
         ensures limits { self.new.limits ≡ self.old.limits }
         ensures passes { self.new.passes ≡ self.old.passes }
     {
@@ -28,7 +30,7 @@ impl Plain {
             return Err(Refusal::NotParked);
         };
         let round = self.rounds[id as usize];
-        if round >= MOST_ROUNDS {
+        if round >= MAX_ROUNDS {
             return Err(Refusal::NoRound);
         }
         let note = Note::Requeue(caller, id, round + 1);

@@ -4,13 +4,13 @@ ghost use Rattle.tp_plain.specs.Computed.{claim_id_of};
 ghost use Rattle.tp_plain.specs.OneThread.{Answers, CallClaimId, pass_at};
 
 use crate::plain::Plain;
-use tp_model::types::{Refusal, Status, Work};
+use tp_model::types::{REPLY_STAGE, Refusal, Status, Work};
 
 impl Plain {
     /// A pass takes the element with this id, by its next unit.
     ///
-    /// `NoUnit` where the pass has used its units, `NotThere` where no such element is born, `BadStage` where it
-    /// is a reply, and `NotWaiting`.
+    /// `NoUnit` where the pass has used its units, `NotThere` where no such element is born, `BadStage` where
+    /// it is a reply, and `NotWaiting`.
     pub fn claim_id(&mut self, caller: u16, id: u32) -> Result<Work, Refusal>
         requires pass { caller < self.old.limits.parts }
         requires free { (pass_at self.old caller).holding ≡ None }
@@ -28,7 +28,7 @@ impl Plain {
         let Ok(look) = self.read(id) else {
             return Err(Refusal::NotThere);
         };
-        if look.element.stage == 15 {
+        if look.element.stage == REPLY_STAGE {
             return Err(Refusal::BadStage);
         }
         match look.status {

@@ -10,7 +10,7 @@ use arrayvec::ArrayVec;
 use tp_model::types::Status;
 
 /// As many ids as there can be.
-pub(crate) const MOST_ROWS: usize = 10_240;
+pub(crate) const MAX_ROWS: usize = 10_240;
 
 // Whether the id is one of these.
 fn has_gone(gone: &[u32], id: u32) -> bool
@@ -20,9 +20,9 @@ fn has_gone(gone: &[u32], id: u32) -> bool
 }
 
 impl Plain {
-    /// The ids from which a walk through the family of a request goes on, one after another: always the least that it
-    /// has come to and not gone on from.
-    pub(crate) fn walk(&self, root: u32) -> ArrayVec<u32, MOST_ROWS>
+    /// The ids from which a walk through the family of a request goes on, one after another: always the least
+    /// that it has come to and not gone on from.
+    pub(crate) fn walk(&self, root: u32) -> ArrayVec<u32, MAX_ROWS>
         ensures { result.items ≡ walk_of self.now root }
     {
         self.show_reached();

@@ -1,8 +1,8 @@
-//! Runs a script of requests over the manager of one thread: the script on standard input, its report on standard
-//! output. What the tests hold the program against.
+//! Runs a script of requests over the manager of one thread: the script on standard input, its report on
+//! standard output. What the tests hold the program against.
 //!
-//! Exit status 0: done. 1: a fault, with its line on standard error. 2: the script was refused, and the report is the
-//! line that says so. 3: there is a race in the script, so that it wasn't run.
+//! Exit status 0: done. 1: a fault, with its line on standard error. 2: the script was refused, and the
+//! report is the line that says so. 3: there is a race in the script, so that it wasn't run.
 #![tactic(auto)]
 
 use std::io;

@@ -1,7 +1,7 @@
 //! Runs a script of requests: the script on standard input, its report on standard output.
 //!
-//! Exit status 0: done. 1: a fault, with its line on standard error. 2: the script was refused, and the report is the line
-//! that says so.
+//! Exit status 0: done. 1: a fault, with its line on standard error. 2: the script was refused, and the
+//! report is the line that says so.
 #![tactic(auto)]
 
 use std::io;

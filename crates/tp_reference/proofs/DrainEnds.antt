@@ -26,8 +26,8 @@ use Rattle.tp_desk.specs.declared.order.Order.{Order}
 use Rattle.tp_desk.specs.declared.order.Order.TheVariants.{LeastFirst, InTurn}
 use Rattle.tp_script.specs.Script.{ServerView}
 use Rattle.tp_reference.specs.declared.plain_desk.PlainDesk.{PlainDesk}
-use Rattle.tp_reference.specs.PlainDesks.{Acted, claim_by, committed_as, is_free, settle, settle_with, turn_as, turn_by}
-use Rattle.tp_reference.specs.PlainReport.{State, has_claimed, most_rounds, round_below, round_of, round_turn, rounds, worker}
+use Rattle.tp_reference.specs.PlainDesks.{DeskAnswered, claim_by, committed_as, is_free, settle, settle_with, turn_as, turn_by}
+use Rattle.tp_reference.specs.PlainReport.{ReportState, has_claimed, most_rounds, round_below, round_of, round_turn, rounds, worker}
 use Rattle.tp_reference.specs.DrainEnds.{DrainsEnd}
 
 -- how many units of work were begun
@@ -178,22 +178,22 @@ module _ (m : thread.State) (c : ℕ) (there : c < length m.passes) (recipe : Re
 
 -- a round
 module _ (order : Order) (servers : List ServerView) where
-  free_spends : (server : ServerView) (desk : PlainDesk) (i : ℕ) (s : State) → worker i < length s.manager.passes → let r = round_turn order (Some server) (Some desk) i s in Spends (counts r.0) s.manager r.1.manager
+  free_spends : (server : ServerView) (desk : PlainDesk) (i : ℕ) (s : ReportState) → worker i < length s.manager.passes → let r = round_turn order (Some server) (Some desk) i s in Spends (counts r.0) s.manager r.1.manager
   free_spends server desk i s there = go (is_free s.manager (worker i) desk)
     where
-      done : Acted
+      done : DeskAnswered
       done = turn_by order server.recipe (worker i) s.manager desk
 
-      go : (b : Bool) → let r : Bool × State = (if b then (has_claimed done.answer, record { manager = done.manager; desks = slice_set s.desks i done.desk }) else (false, s)) in Spends (counts r.0) s.manager r.1.manager
+      go : (b : Bool) → let r : Bool × ReportState = (if b then (has_claimed done.answer, record { manager = done.manager; desks = slice_set s.desks i done.desk }) else (false, s)) in Spends (counts r.0) s.manager r.1.manager
       go true = turn_spends s.manager (worker i) there server.recipe desk order
       go false = spends_none s.manager
 
-  one_spends : (a : Option ServerView) (b : Option PlainDesk) (i : ℕ) (s : State) → worker i < length s.manager.passes → let r = round_turn order a b i s in Spends (counts r.0) s.manager r.1.manager
+  one_spends : (a : Option ServerView) (b : Option PlainDesk) (i : ℕ) (s : ReportState) → worker i < length s.manager.passes → let r = round_turn order a b i s in Spends (counts r.0) s.manager r.1.manager
   one_spends (Some server) (Some desk) i s there = free_spends server desk i s there
   one_spends (Some server) None i s there = spends_none s.manager
   one_spends None b i s there = spends_none s.manager
 
-  below_spends : (n : ℕ) (s : State) → n < length s.manager.passes → let r = round_below order servers n s in Spends (counts r.0) s.manager r.1.manager
+  below_spends : (n : ℕ) (s : ReportState) → n < length s.manager.passes → let r = round_below order servers n s in Spends (counts r.0) s.manager r.1.manager
   unfolding round_below
   below_spends zero s there = spends_none s.manager
   below_spends (suc i) s there =
@@ -205,15 +205,15 @@ module _ (order : Order) (servers : List ServerView) where
       (spends_on (counts before.0) (counts turn.0) s.manager before.1.manager turn.1.manager first (one_spends (slice_get servers i) (slice_get before.1.desks i) i before.1 at))
 
   -- rounds, one after another
-  no_more : (n : ℕ) (s t : State) → round_of order servers s ≡ (false, t) → rounds order servers (suc n) s ≡ t
+  no_more : (n : ℕ) (s t : ReportState) → round_of order servers s ≡ (false, t) → rounds order servers (suc n) s ≡ t
   unfolding rounds
   no_more n s t is = rw is refl
 
-  one_more : (n : ℕ) (s t : State) → round_of order servers s ≡ (true, t) → rounds order servers (suc n) s ≡ rounds order servers n t
+  one_more : (n : ℕ) (s t : ReportState) → round_of order servers s ≡ (true, t) → rounds order servers (suc n) s ≡ rounds order servers n t
   unfolding rounds
   one_more n s t is = rw is refl
 
-  none_yet : (s : State) → rounds order servers 0 s ≡ s
+  none_yet : (s : ReportState) → rounds order servers 0 s ≡ s
   unfolding rounds
   none_yet s = refl
 
@@ -228,29 +228,29 @@ module _ (order : Order) (servers : List ServerView) where
       omega (arith, first, rest, more, sum)
 
   -- there is a pass for each server, and none has begun too many units
-  abbrev IsFit : State → Type 0
+  abbrev IsFit : ReportState → Type 0
   IsFit s = (length servers < length s.manager.passes) × Within s.manager.limits.units s.manager.passes
 
   -- more rounds that claim than there are units aren't left
-  abbrev IsEnough : ℕ → State → Type 0
+  abbrev IsEnough : ℕ → ReportState → Type 0
   IsEnough n s = length s.manager.passes * s.manager.limits.units < units_used s.manager.passes + n
 
-  abbrev Ends : ℕ → State → Type 0
+  abbrev Ends : ℕ → ReportState → Type 0
   Ends n s = (k : ℕ) × (k < n) × (round_of order servers (rounds order servers k s) ≡ (false, rounds order servers n s))
 
-  ends_by : (n : ℕ) (s : State) → IsFit s → IsEnough (suc n) s → ((t : State) → IsFit t → IsEnough n t → Ends n t) → (r : Bool × State) → round_of order servers s ≡ r → Ends (suc n) s
-  ends_by n s fit many later (false, t) is = (0, omega arith, ap (round_of order servers) (none_yet s) ∙ (is ∙ ap (λ (z : State). (false, z)) (sym (no_more n s t is))))
+  ends_by : (n : ℕ) (s : ReportState) → IsFit s → IsEnough (suc n) s → ((t : ReportState) → IsFit t → IsEnough n t → Ends n t) → (r : Bool × ReportState) → round_of order servers s ≡ r → Ends (suc n) s
+  ends_by n s fit many later (false, t) is = (0, omega arith, ap (round_of order servers) (none_yet s) ∙ (is ∙ ap (λ (z : ReportState). (false, z)) (sym (no_more n s t is))))
   ends_by n s fit many later (true, t) is =
-      let one : Spends 1 s.manager t.manager = subst (λ (r : Bool × State). Spends (counts r.0) s.manager r.1.manager) is (below_spends (length servers) s fit.0) in
+      let one : Spends 1 s.manager t.manager = subst (λ (r : Bool × ReportState). Spends (counts r.0) s.manager r.1.manager) is (below_spends (length servers) s fit.0) in
       let long = one.passes in
       let used = one.used in
       let enough = fit.0 in
       let same : t.manager.limits.units ≡ s.manager.limits.units = ap (λ (l : Limits). l.units) one.limits in
       let all : length t.manager.passes * t.manager.limits.units ≡ length s.manager.passes * s.manager.limits.units = ap (λ k. k * t.manager.limits.units) long ∙ ap (λ k. length s.manager.passes * k) same in
       let rest = later t (omega (arith, long, enough), subst (λ u. Within u t.manager.passes) (sym same) (one.within fit.1)) (omega (arith, all, used, many)) in
-      (suc rest.0, let less = rest.1 in omega (arith, less), ap (round_of order servers) (one_more rest.0 s t is) ∙ (rest.2 ∙ ap (λ (z : State). (false, z)) (sym (one_more n s t is))))
+      (suc rest.0, let less = rest.1 in omega (arith, less), ap (round_of order servers) (one_more rest.0 s t is) ∙ (rest.2 ∙ ap (λ (z : ReportState). (false, z)) (sym (one_more n s t is))))
 
-  ends : (n : ℕ) (s : State) → IsFit s → IsEnough n s → Ends n s
+  ends : (n : ℕ) (s : ReportState) → IsFit s → IsEnough n s → Ends n s
   ends zero s fit many = let most = all_used s.manager.limits.units s.manager.passes fit.1 in absurd (omega (arith, most, many))
   ends (suc n) s fit many = ends_by n s fit many (ends n) (round_of order servers s) refl
 

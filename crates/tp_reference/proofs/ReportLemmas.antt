@@ -10,15 +10,15 @@ use Rattle.tp_desk.specs.declared.order.Order.{Order}
 use Rattle.tp_plain.specs.OneThread as thread
 use Rattle.tp_reference.specs.declared.plain_desk.PlainDesk.{PlainDesk}
 use Rattle.tp_reference.specs.PlainDesks.{given_up}
-use Rattle.tp_reference.specs.PlainReport.{State, command_step, closing, ended_below, final_line, finals_below, reports, round_below, round_of, round_turn, rounds}
+use Rattle.tp_reference.specs.PlainReport.{ReportState, command_step, closing, ended_below, final_line, finals_below, reports, round_below, round_of, round_turn, rounds}
 
-pub reports_more : (servers : List ServerView) (account : Bool) (cs : List Command) (i : ℕ) (c : Command) (s next : State) (line : List ℕ) → i < length cs → command_step servers (get_or cs i c) s ≡ (line, next)
+pub reports_more : (servers : List ServerView) (account : Bool) (cs : List Command) (i : ℕ) (c : Command) (s next : ReportState) (line : List ℕ) → i < length cs → command_step servers (get_or cs i c) s ≡ (line, next)
     → reports servers account (drop i cs) s ≡ line ++ reports servers account (drop (i + 1) cs) next
 unfolding reports
 reports_more servers account cs i c s next line lt step =
-    ap (λ (w : List Command). reports servers account w s) (drop_more cs i c lt) ∙ ap (λ (p : List ℕ × State). p.0 ++ reports servers account (drop (i + 1) cs) p.1) step
+    ap (λ (w : List Command). reports servers account w s) (drop_more cs i c lt) ∙ ap (λ (p : List ℕ × ReportState). p.0 ++ reports servers account (drop (i + 1) cs) p.1) step
 
-pub reports_done : (servers : List ServerView) (account : Bool) (cs : List Command) (i : ℕ) (s : State) → length cs ≤ i → reports servers account (drop i cs) s ≡ closing servers account s
+pub reports_done : (servers : List ServerView) (account : Bool) (cs : List Command) (i : ℕ) (s : ReportState) → length cs ≤ i → reports servers account (drop i cs) s ≡ closing servers account s
 unfolding reports
 reports_done servers account cs i s le = ap (λ (w : List Command). reports servers account w s) (drop_all i cs le)
 
@@ -28,29 +28,29 @@ server_there servers i server less is =
     slice_get-map server_view servers i ∙ ap (λ (o : Option ScriptServer). option_map server_view o) (slice_get_read servers (length servers) i server refl less is)
 
 -- a round, one desk after the other
-pub round_none : (order : Order) (servers : List ServerView) (s : State) → round_below order servers 0 s ≡ (false, s)
+pub round_none : (order : Order) (servers : List ServerView) (s : ReportState) → round_below order servers 0 s ≡ (false, s)
 unfolding round_below
 round_none order servers s = refl
 
-pub round_more : (order : Order) (servers : List ServerView) (i : ℕ) (s mid new : State) (before claimed : Bool) → round_below order servers i s ≡ (before, mid)
+pub round_more : (order : Order) (servers : List ServerView) (i : ℕ) (s mid new : ReportState) (before claimed : Bool) → round_below order servers i s ≡ (before, mid)
     → round_turn order (slice_get servers i) (slice_get mid.desks i) i mid ≡ (claimed, new)
     → round_below order servers (i + 1) s ≡ (before || claimed, new)
 unfolding round_below
 round_more order servers i s mid new before claimed below turn = rw (add-one i, below, turn) refl
 
 -- rounds that are left
-pub rounds_none : (order : Order) (servers : List ServerView) (s : State) → rounds order servers 0 s ≡ s
+pub rounds_none : (order : Order) (servers : List ServerView) (s : ReportState) → rounds order servers 0 s ≡ s
 unfolding rounds
 rounds_none order servers s = refl
 
 -- a round that claims nothing is the last one
-pub rounds_last : (order : Order) (servers : List ServerView) (n : ℕ) (s new : State) → 0 < n → round_of order servers s ≡ (false, new) → rounds order servers n s ≡ new
+pub rounds_last : (order : Order) (servers : List ServerView) (n : ℕ) (s new : ReportState) → 0 < n → round_of order servers s ≡ (false, new) → rounds order servers n s ≡ new
 unfolding rounds
 rounds_last order servers (suc n) s new some round = rw round refl
 rounds_last order servers zero s new some round = absurd (omega (arith, some))
 
 -- and behind another one are those that are left
-pub rounds_next : (order : Order) (servers : List ServerView) (n : ℕ) (s new : State) → 0 < n → round_of order servers s ≡ (true, new) → rounds order servers n s ≡ rounds order servers (n - 1) new
+pub rounds_next : (order : Order) (servers : List ServerView) (n : ℕ) (s new : ReportState) → 0 < n → round_of order servers s ≡ (true, new) → rounds order servers n s ≡ rounds order servers (n - 1) new
 unfolding rounds
 rounds_next order servers (suc n) s new some round =
     let less : n ≡ suc n - 1 = omega arith in

@@ -1,12 +1,12 @@
 -- That a drain ends by itself, and not by the bound of its rounds.
 use Rattle.std.specs.Prelude.{◌≡◌, ◌+◌, ◌<◌, ℕ, false, List, length}
-use Rattle.tp_plain.specs.Reached.{IsReached}
+use Rattle.tp_plain.specs.Reached.{IsReachable}
 use Rattle.tp_desk.specs.declared.order.Order.{Order}
 use Rattle.tp_script.specs.Script.{ServerView}
-use Rattle.tp_reference.specs.PlainReport.{State, drain_of, most_rounds, round_of, rounds}
+use Rattle.tp_reference.specs.PlainReport.{ReportState, drain_of, most_rounds, round_of, rounds}
 
 -- after fewer rounds than the bound comes one that claims nothing, and with it the drain ends
-pub record EndsDry (order : Order) (servers : List ServerView) (s : State) : Type 0 where
+pub record EndsDry (order : Order) (servers : List ServerView) (s : ReportState) : Type 0 where
   pub before : ℕ
   pub few : before < most_rounds s.manager.limits
   pub dry : round_of order servers (rounds order servers before s) ≡ (false, drain_of order servers s)
@@ -14,5 +14,5 @@ pub record EndsDry (order : Order) (servers : List ServerView) (s : State) : Typ
 -- so it is of every drain, where there is a pass for the client and one for each server
 abbrev pub DrainsEnd : Type 0
 DrainsEnd =
-    (order : Order) (servers : List ServerView) (s : State)
-    → IsReached s.manager → s.manager.limits.parts ≡ 1 + length servers → EndsDry order servers s
+    (order : Order) (servers : List ServerView) (s : ReportState)
+    → IsReachable s.manager → s.manager.limits.parts ≡ 1 + length servers → EndsDry order servers s

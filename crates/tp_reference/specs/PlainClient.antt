@@ -1,7 +1,9 @@
--- What the script's own client is told where nobody else acts: each command with its line, computed. The client acts
--- through pass 0.
-use Rattle.std.specs.Prelude.{ℕ, zero, suc, ◌==◌, ◌&&◌, if◌then◌else◌, List, [], ◌∷◌, ◌++◌, Bool, Option, Some, None, Result, Ok, Err}
+-- What the script's own client is told where nobody else acts: each command with its line, computed. The
+-- client acts through pass 0.
+use Rattle.std.specs.Prelude.{ℕ, zero, suc, ◌==◌, ◌&&◌, if◌then◌else◌, List, [], ◌∷◌, ◌++◌, Bool, Option}
+use Rattle.std.specs.Prelude.{Some, None, Result, Ok, Err}
 use Rattle.std.specs.List.{fold}
+use Rattle.tp_model.specs.declared.types.TheConstants.{REPLY_STAGE}
 use Rattle.tp_model.specs.declared.types.Cancelled.{Cancelled}
 use Rattle.tp_model.specs.declared.types.Counts.{Counts}
 use Rattle.tp_model.specs.declared.types.Element.{Element}
@@ -12,11 +14,13 @@ use Rattle.tp_model.specs.declared.types.Released.{Released}
 use Rattle.tp_model.specs.Accounts.{one_more}
 use Rattle.tp_model.specs.Counts.{is_parked, is_waiting}
 use Rattle.tp_model.specs.Steps.{rows_of}
-use Rattle.tp_plain.specs.Computed.{submit_of, kill_of, cancel_of, requeue_of, release_of, collect_of, read_of}
+use Rattle.tp_plain.specs.Computed.{submit_of, kill_of, cancel_of, requeue_of, release_of, collect_of}
+use Rattle.tp_plain.specs.Computed.{read_of}
 use Rattle.tp_plain.specs.OneThread as thread
 use Rattle.tp_report.specs.declared.answer.Answer.{Answer}
 use Rattle.tp_report.specs.declared.answer.Answer.TheVariants as answer
-use Rattle.tp_report.specs.Answer.{answer_text, collected_text, counts_text, errors_text, family_text, line, replies_text}
+use Rattle.tp_report.specs.Answer.{answer_text, collected_text, counts_text, errors_text, family_text, line}
+use Rattle.tp_report.specs.Answer.{replies_text}
 use Rattle.tp_script.specs.declared.script.ClientAct.{ClientAct}
 use Rattle.tp_script.specs.declared.script.ClientAct.TheVariants as acts
 
@@ -73,7 +77,8 @@ picked_of pick m = picked_below pick m (rows_of m.limits)
 
 -- whether a look shows a reply to this request that waits
 abbrev pub is_reply : ℕ → Look → Bool
-is_reply root look = (look.element.stage == 15) && (look.element.root == root) && is_waiting look.status
+is_reply root look = (look.element.stage == REPLY_STAGE) && (look.element.root == root)
+    && is_waiting look.status
 
 -- the reply that it shows then
 abbrev pub reply_in : ℕ → Look → Option Element
@@ -123,7 +128,8 @@ client_step (acts.Requeue id) m = told_as (requeued_as id) (requeue_of m client 
 client_step (acts.Release id) m = told_as (released_as id) (release_of m client id)
 client_step (acts.Read id) m = (line (answer_text (read_as (read_of m id))), m)
 client_step (acts.Reply root) m = (line (replies_text root (replies_of root m)), m)
-client_step (acts.Collect root) m = (line (collected_text root (replies_of root m)), with_collected m (replies_of root m))
+client_step (acts.Collect root) m =
+    (line (collected_text root (replies_of root m)), with_collected m (replies_of root m))
 client_step (acts.Family root) m = (line (family_text root (picked_of (member_in root) m)), m)
 client_step acts.Errors m = (line (errors_text (picked_of parked_in m)), m)
 client_step acts.Count m = (line (counts_text (counts_of m)), m)

@@ -1,10 +1,13 @@
 -- What is reported of a script: the run of one thread over its commands. It covers all commands but races.
-use Rattle.std.specs.Prelude.{ℕ, zero, suc, ◌+◌, ◌*◌, ◌||◌, Bool, true, false, if◌then◌else◌, List, [], ◌∷◌, ◌++◌, length, map, Option, Some, None, Result, Ok, Err, slice_get, slice_set, sum_by}
+use Rattle.std.specs.Prelude.{ℕ, zero, suc, ◌+◌, ◌*◌, ◌||◌, Bool, true, false, if◌then◌else◌, List, [], ◌∷◌}
+use Rattle.std.specs.Prelude.{◌++◌, length, map, Option, Some, None, Result, Ok, Err, slice_get, slice_set}
+use Rattle.std.specs.Prelude.{sum_by}
 use Rattle.tp_model.specs.declared.types.Limits.{Limits}
 use Rattle.tp_plain.specs.OneThread as thread
 use Rattle.tp_plain.specs.OneThread.{start}
 use Rattle.tp_script.specs.declared.script.Command.{Command}
-use Rattle.tp_script.specs.declared.script.Command.TheVariants.{Client, Desk, Balance, Sum, Race, Drain, DrainNext}
+use Rattle.tp_script.specs.declared.script.Command.TheVariants.{Client, Desk, Balance, Sum, Race, Drain}
+use Rattle.tp_script.specs.declared.script.Command.TheVariants.{DrainNext}
 use Rattle.tp_script.specs.declared.script.DeskAct.{DeskAct}
 use Rattle.tp_script.specs.declared.fault.Refused.{Refused}
 use Rattle.tp_script.specs.Fault.{refused_text}
@@ -18,10 +21,10 @@ use Rattle.tp_report.specs.declared.answer.ServerAnswer.TheVariants as told
 use Rattle.tp_report.specs.Answer.{account_text, answer_text, balance_text, final_text, line, named_text}
 use Rattle.tp_reference.specs.declared.plain_desk.PlainDesk.{PlainDesk}
 use Rattle.tp_reference.specs.PlainClient.{client_step, counts_of}
-use Rattle.tp_reference.specs.PlainDesks.{Acted, does_unless_dropped, given_up, is_free, turn_by}
+use Rattle.tp_reference.specs.PlainDesks.{DeskAnswered, does_unless_dropped, given_up, is_free, turn_by}
 
 -- the manager of one thread, and a desk for each server
-pub record State : Type 0 where
+pub record ReportState : Type 0 where
   pub manager : thread.State
   pub desks : List PlainDesk
 
@@ -32,17 +35,17 @@ worker i = i + 1
 -- ---- commands on servers
 
 -- what a desk's step left, with the desk at its place
-abbrev pub with_acted : State → ℕ → Acted → State
+abbrev pub with_acted : ReportState → ℕ → DeskAnswered → ReportState
 with_acted s i done = record { manager = done.manager; desks = slice_set s.desks i done.desk }
 
 -- a command on the server at a place; there is always one
-abbrev pub desk_at : Option ServerView → Option PlainDesk → ℕ → DeskAct → State → List ℕ × State
+abbrev pub desk_at : Option ServerView → Option PlainDesk → ℕ → DeskAct → ReportState → List ℕ × ReportState
 desk_at (Some server) (Some desk) i act s =
     let done = does_unless_dropped server.recipe act (worker i) s.manager desk in
     (line (named_text server.name done.answer), with_acted s i done)
 desk_at server desk i act s = ([], s)
 
-abbrev pub desk_step : List ServerView → ℕ → DeskAct → State → List ℕ × State
+abbrev pub desk_step : List ServerView → ℕ → DeskAct → ReportState → List ℕ × ReportState
 desk_step servers i act s = desk_at (slice_get servers i) (slice_get s.desks i) i act s
 
 -- ---- registers
@@ -64,7 +67,7 @@ abbrev pub counted_value : ℕ → PlainDesk → ℕ
 counted_value k desk = if desk.is_dropped then 0 else value_of (slice_get desk.registers k)
 
 -- the sum of a register over all desks
-abbrev pub register_sum : ℕ → State → ℕ
+abbrev pub register_sum : ℕ → ReportState → ℕ
 register_sum k s = sum_by (counted_value k) s.desks
 
 -- ---- drains
@@ -76,7 +79,7 @@ has_claimed (told.Turned turned.NoUnit) = false
 has_claimed other = true
 
 -- the turn of a desk in a round, if it is free, and whether it claimed an element
-abbrev pub round_turn : Order → Option ServerView → Option PlainDesk → ℕ → State → Bool × State
+abbrev pub round_turn : Order → Option ServerView → Option PlainDesk → ℕ → ReportState → Bool × ReportState
 round_turn order (Some server) (Some desk) i s =
     if is_free s.manager (worker i) desk
     then (let done = turn_by order server.recipe (worker i) s.manager desk in (has_claimed done.answer, with_acted s i done))
@@ -84,7 +87,7 @@ round_turn order (Some server) (Some desk) i s =
 round_turn order server desk i s = (false, s)
 
 -- a round of the servers in front of a place: each free desk takes one turn, in the order of the servers
-unfoldable pub round_below : Order → List ServerView → ℕ → State → Bool × State
+unfoldable pub round_below : Order → List ServerView → ℕ → ReportState → Bool × ReportState
 round_below order servers zero s = (false, s)
 round_below order servers (suc i) s =
     let before = round_below order servers i s in
@@ -92,11 +95,11 @@ round_below order servers (suc i) s =
     (before.0 || turn.0, turn.1)
 
 -- a round of all servers, and whether any of them claimed an element
-abbrev pub round_of : Order → List ServerView → State → Bool × State
+abbrev pub round_of : Order → List ServerView → ReportState → Bool × ReportState
 round_of order servers s = round_below order servers (length servers) s
 
 -- rounds, one after another, until one claims nothing, and so many at most
-unfoldable pub rounds : Order → List ServerView → ℕ → State → State
+unfoldable pub rounds : Order → List ServerView → ℕ → ReportState → ReportState
 rounds order servers zero s = s
 rounds order servers (suc n) s =
     let round = round_of order servers s in
@@ -106,20 +109,24 @@ rounds order servers (suc n) s =
 abbrev pub most_rounds : Limits → ℕ
 most_rounds l = l.parts * l.units + 1
 
-abbrev pub drain_of : Order → List ServerView → State → State
+abbrev pub drain_of : Order → List ServerView → ReportState → ReportState
 drain_of order servers s = rounds order servers (most_rounds s.manager.limits) s
 
 -- ---- each command: its line, and the state after it
 
 -- what the client's command left, with the desks as they were
-abbrev pub with_manager : State → List ℕ × thread.State → List ℕ × State
+abbrev pub with_manager : ReportState → List ℕ × thread.State → List ℕ × ReportState
 with_manager s (text, manager) = (text, record { manager = manager; desks = s.desks })
 
 -- one command; a race writes nothing, since its script isn't run
-abbrev pub command_step : List ServerView → Command → State → List ℕ × State
+abbrev pub command_step : List ServerView → Command → ReportState → List ℕ × ReportState
 command_step servers (Client act) s = with_manager s (client_step act s.manager)
 command_step servers (Desk server act) s = desk_step servers server act s
-command_step servers (Balance server k) s = (balance_at (slice_get servers server) (slice_get s.desks server) k, s)
+command_step servers (Balance server k) s = (
+  balance_at (slice_get servers server)
+      (slice_get s.desks server) k,
+  s,
+)
 command_step servers (Sum k) s = (line (answer_text (answer.Sum k (register_sum k s))), s)
 command_step servers (Race race) s = ([], s)
 command_step servers Drain s = (line (answer_text answer.Drained), drain_of LeastFirst servers s)
@@ -135,7 +142,8 @@ final_line server desk = []
 -- the final lines of the servers in front of a place, in their order
 unfoldable pub finals_below : List ServerView → List PlainDesk → ℕ → List ℕ
 finals_below servers desks zero = []
-finals_below servers desks (suc i) = finals_below servers desks i ++ final_line (slice_get servers i) (slice_get desks i)
+finals_below servers desks (suc i) = finals_below servers desks i ++ final_line (slice_get servers i)
+    (slice_get desks i)
 
 -- the manager when the desks in front of a place are ended: what each of them has in hand is given up
 unfoldable pub ended_below : thread.State → ℕ → thread.State
@@ -143,29 +151,42 @@ ended_below m zero = m
 ended_below m (suc i) = given_up (ended_below m i) (worker i)
 
 -- the account of all elements when all desks are ended, if it is asked for
-abbrev pub account_line : Bool → ℕ → State → List ℕ
+abbrev pub account_line : Bool → ℕ → ReportState → List ℕ
 account_line true servers s = line (account_text (counts_of (ended_below s.manager servers)))
 account_line false servers s = []
 
 -- what is told behind the commands
-abbrev pub closing : List ServerView → Bool → State → List ℕ
-closing servers account s = finals_below servers s.desks (length servers) ++ account_line account (length servers) s
+abbrev pub closing : List ServerView → Bool → ReportState → List ℕ
+closing servers account s = finals_below servers s.desks (length servers)
+    ++ account_line account (length servers) s
 
 -- what the commands from here on write, and then the closing
-unfoldable pub reports : List ServerView → Bool → List Command → State → List ℕ
+unfoldable pub reports : List ServerView → Bool → List Command → ReportState → List ℕ
 reports servers account [] s = closing servers account s
-reports servers account (c ∷ cs) s = let step = command_step servers c s in step.0 ++ reports servers account cs step.1
+reports servers account (c ∷ cs) s = let step = command_step servers c s in step.0
+    ++ reports servers account cs step.1
 
 -- a pass for the client, and one for each server
 abbrev pub limits_of : ScriptView → Limits
-limits_of s = record { parts = 1 + length s.servers; rows = s.settings.rows; units = s.settings.units; attempts = s.settings.attempts; spare = s.settings.spare }
+limits_of s = record {
+  parts = 1 + length s.servers;
+  rows = s.settings.rows;
+  units = s.settings.units;
+  attempts = s.settings.attempts;
+  spare = s.settings.spare;
+}
 
 -- a desk with nothing in hand
 abbrev pub new_desk : ServerView → PlainDesk
-new_desk server = record { registers = server.registers; taken = None; is_prepared = false; is_dropped = false }
+new_desk server = record {
+  registers = server.registers;
+  taken = None;
+  is_prepared = false;
+  is_dropped = false;
+}
 
 -- a script before its first command
-abbrev pub begin : ScriptView → State
+abbrev pub begin : ScriptView → ReportState
 begin s = record { manager = start (limits_of s); desks = map new_desk s.servers }
 
 -- the report of a script without races

@@ -19,8 +19,10 @@ races (Err r) = false
 -- Without fault the report is written and nothing else, after a lack of memory or a failed write a front of
 -- it, and after a failed read nothing. The exit says whether the script was refused, or wasn't run for a race
 -- in it; then nothing is written.
-abbrev pub Reports : Result PlainExit Fault → Result ScriptView Refused → Option (List ℕ) → Option (List ℕ) → Type 0
-Reports (Ok exits.Done) script old new = IsOk script × (races script ≡ false) × Appends old new (report_of_read script)
+abbrev pub Reports : Result PlainExit Fault → Result ScriptView Refused → Option (List ℕ) → Option (List ℕ)
+    → Type 0
+Reports (Ok exits.Done) script old new = IsOk script × (races script ≡ false)
+    × Appends old new (report_of_read script)
 Reports (Ok exits.Refused) script old new = IsErr script × Appends old new (report_of_read script)
 Reports (Ok exits.Races) script old new = IsOk script × (races script ≡ true) × Keeps old new
 Reports (Err faults.NoMemory) script old new = AppendsFront old new (report_of_read script)

@@ -5,11 +5,14 @@ ghost use Rattle.tp_model.specs.Steps.{rows_of};
 ghost use Rattle.tp_plain.specs.Computed.{cancel_of, kill_of, read_of, release_of, requeue_of, submit_of};
 ghost use Rattle.tp_plain.specs.OneThread.{pass_at};
 ghost use Rattle.tp_report.specs.Answer.{answer_text, line};
-ghost use Rattle.tp_reference.specs.PlainClient.{cancelled_as, client_step, counted, counts_of, is_reply, killed_as, member_in, parked_in, picked, picked_of, read_as, released_as, replies_of, reply_in, requeued_as, submitted_as, with_collected, with_last};
+ghost use Rattle.tp_reference.specs.PlainClient.{cancelled_as, client_step, counted, counts_of, is_reply};
+ghost use Rattle.tp_reference.specs.PlainClient.{killed_as, member_in, parked_in, picked, picked_of, read_as};
+ghost use Rattle.tp_reference.specs.PlainClient.{released_as, replies_of, reply_in, requeued_as};
+ghost use Rattle.tp_reference.specs.PlainClient.{submitted_as, with_collected, with_last};
 
 use std::alloc::{AllocError, Global};
 use std::string::String;
-use tp_model::types::{Body, Counts, Element, Look, Refusal, Status};
+use tp_model::types::{Body, Counts, Element, Look, REPLY_STAGE, Refusal, Status};
 use tp_plain::plain::Plain;
 use tp_report::{Answer, line};
 use tp_script::ClientAct;
@@ -132,7 +135,7 @@ fn reply_at(plain: &Plain, root: u32, id: u32) -> Option<Element>
 fn is_reply(root: u32, look: &Look) -> bool
     ensures { result ≡ is_reply root look.now }
 {
-    look.element.stage == 15
+    look.element.stage == REPLY_STAGE
         && look.element.root == root
         && matches!(look.status, Status::Waiting { attempts: _ })
 }

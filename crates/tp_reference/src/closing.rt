@@ -1,8 +1,9 @@
 //! What is told behind the commands of a script over the manager of one thread.
 ghost use Rattle.std.specs.Prelude.{◌≡◌, ◌<◌, map, length, string_bytes, IfOk, slice_get};
 ghost use Rattle.tp_script.specs.Script.{server_view};
-ghost use Rattle.tp_reference.specs.PlainReport.{account_line, closing, ended_below, final_line, finals_below};
-ghost use Rattle.tp_reference.specs.PlainRunning.{state, IsReady};
+ghost use Rattle.tp_reference.specs.PlainReport.{account_line, closing, ended_below, final_line};
+ghost use Rattle.tp_reference.specs.PlainReport.{finals_below};
+ghost use Rattle.tp_reference.specs.PlainRunning.{state, IsSetUp};
 
 use crate::client_acts::counts;
 use crate::desk_acts::give_up;
@@ -20,7 +21,7 @@ impl PlainRun {
         servers: &[ScriptServer],
         at: usize,
     ) -> Result<String, AllocError>
-        requires ready { IsReady (map server_view servers.now) self.now }
+        requires ready { IsSetUp (map server_view servers.now) self.now }
         requires within { at < length servers.now }
         ensures { IfOk result (λ text. string_bytes text
             ≡ final_line (slice_get (map server_view servers.now) at) (slice_get self.now.desks.items at)) }
@@ -32,7 +33,7 @@ impl PlainRun {
 
     // The final lines, in the order of the servers.
     fn finals(&self, alloc: Global, servers: &[ScriptServer]) -> Result<String, AllocError>
-        requires ready { IsReady (map server_view servers.now) self.now }
+        requires ready { IsSetUp (map server_view servers.now) self.now }
         ensures { IfOk result (λ text. string_bytes text
             ≡ finals_below (map server_view servers.now) self.now.desks.items (length servers.now)) }
     {
@@ -46,7 +47,7 @@ impl PlainRun {
 
     // Ends all desks: what each of them has in hand is given up.
     fn end_all(&mut self, servers: &[ScriptServer])
-        requires ready { IsReady (map server_view servers.now) self.old }
+        requires ready { IsSetUp (map server_view servers.now) self.old }
         ensures { self.new.plain ≡ ended_below self.old.plain (length servers.now) }
     {
         for at in 0..servers.len() {
@@ -61,7 +62,7 @@ impl PlainRun {
         servers: &[ScriptServer],
         account: bool,
     ) -> Result<String, AllocError>
-        requires ready { IsReady (map server_view servers.now) self.old }
+        requires ready { IsSetUp (map server_view servers.now) self.old }
         ensures { IfOk result (λ text. string_bytes text
             ≡ account_line account (length servers.now) (state self.old)) }
     {
@@ -79,7 +80,7 @@ impl PlainRun {
         servers: &[ScriptServer],
         account: bool,
     ) -> Result<String, AllocError>
-        requires ready { IsReady (map server_view servers.now) self.old }
+        requires ready { IsSetUp (map server_view servers.now) self.old }
         ensures { IfOk result (λ text. string_bytes text
             ≡ closing (map server_view servers.now) account (state self.old)) }
     {

@@ -3,7 +3,10 @@ ghost use Rattle.std.specs.Prelude.{◌≡◌, ◌<◌, ◌≤◌, Ok, None, IfO
 ghost use Rattle.tp_plain.specs.OneThread.{pass_at};
 ghost use Rattle.tp_server.specs.Check.{check_of};
 ghost use Rattle.tp_server.specs.Effect.{effect_of};
-ghost use Rattle.tp_reference.specs.PlainDesks.{abort_step, claim_step, cleared, commit_step, does, does_unless_dropped, drop_step, given_up, has_open, in_hand, prepare_step, settle, take_step, turn_by, turn_step, with_work};
+ghost use Rattle.tp_reference.specs.PlainDesks.{abort_step, claim_step, cleared, commit_step, does};
+ghost use Rattle.tp_reference.specs.PlainDesks.{does_unless_dropped, drop_step, given_up, has_open, in_hand};
+ghost use Rattle.tp_reference.specs.PlainDesks.{prepare_step, settle, take_step, turn_by, turn_step};
+ghost use Rattle.tp_reference.specs.PlainDesks.{with_work};
 ghost use Rattle.tp_report.specs.declared.answer.ServerAnswer.TheVariants as told;
 
 use crate::calls;
@@ -240,7 +243,7 @@ fn abort(plain: &mut Plain, pass: u16, desk: &mut PlainDesk) -> ServerAnswer
     let element = work.element.id;
     match calls::abort(plain, pass) {
         Ended::Aborted => ServerAnswer::Aborted { element },
-        Ended::Already => ServerAnswer::Already { element },
+        Ended::AlreadyAborted => ServerAnswer::AlreadyAborted { element },
     }
 }
 

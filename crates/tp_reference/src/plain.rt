@@ -1,6 +1,6 @@
 //! A script run over the manager of one thread: what the tests hold the program against.
 ghost use Rattle.std.specs.Prelude.{◌≡◌, ◌+◌, ◌^◌, ◌<◌, ◌≤◌, IfSome, IsErrOf, IsTrue};
-ghost use Rattle.tp_script.specs.Numbers.{requests_limit};
+ghost use Rattle.tp_script.specs.declared.source.TheConstants.{MAX_READS};
 ghost use Rattle.tp_script.specs.Grammar.{script};
 ghost use Rattle.tp_reference.specs.Whole.{Reports};
 
@@ -20,15 +20,15 @@ pub enum PlainExit {
     Races,
 }
 
-/// Reads a script, runs it over the manager of one thread, and writes its report and nothing else. A script with a
-/// race isn't run. The reader is asked at most 100,000 times.
+/// Reads a script, runs it over the manager of one thread, and writes its report and nothing else. A script
+/// with a race isn't run. The reader is asked at most 100,000 times.
 pub fn run_plain<R: Source, W: Sink>(
     alloc: Global,
     reader: &mut R,
     writer: &mut W,
 ) -> Result<PlainExit, Fault>
-    requires { R.asked reader.old + requests_limit < 2 ^ 64 }
-    ensures asked { R.asked reader.new ≤ R.asked reader.old + requests_limit }
+    requires { R.asked reader.old + MAX_READS < 2 ^ 64 }
+    ensures asked { R.asked reader.new ≤ R.asked reader.old + MAX_READS }
     ensures report { IfSome (R.rest reader.old) (λ bytes. Reports result (script bytes)
         (W.contents writer.old) (W.contents writer.new)) }
     ensures read { IsErrOf result Fault.Read → IsTrue (R.has_failed reader.new) }

@@ -1,10 +1,11 @@
 //! A script over the manager of one thread.
 ghost use Rattle.std.specs.Prelude.{◌≡◌, ◌+◌, ◌<◌, ◌≤◌, map, length, string_bytes, IfOk, slice_get};
 ghost use Rattle.tp_script.specs.Ranges.{IsInRange};
-ghost use Rattle.tp_script.specs.Numbers.{servers_limit};
+ghost use Rattle.tp_script.specs.declared.script.TheConstants.{MAX_SERVERS};
 ghost use Rattle.tp_script.specs.Script.{script_view, server_view};
-ghost use Rattle.tp_reference.specs.PlainReport.{balance_at, begin, command_step, counted_value, desk_step, new_desk, register_sum, worker};
-ghost use Rattle.tp_reference.specs.PlainRunning.{state, IsReady};
+ghost use Rattle.tp_reference.specs.PlainReport.{balance_at, begin, command_step, counted_value, desk_step};
+ghost use Rattle.tp_reference.specs.PlainReport.{new_desk, register_sum, worker};
+ghost use Rattle.tp_reference.specs.PlainRunning.{state, IsSetUp};
 
 use crate::client_acts::client_line;
 use crate::desk_acts;
@@ -28,7 +29,7 @@ pub struct PlainRun {
 
 // The pass of the server at a place.
 pub(crate) fn worker(at: usize) -> u16
-    requires { at ≤ servers_limit }
+    requires { at ≤ MAX_SERVERS }
     ensures { result ≡ worker at }
 {
     at as u16 + 1
@@ -55,7 +56,7 @@ impl PlainRun {
     /// The script before its first command.
     pub fn new(alloc: Global, script: &Script) -> Result<PlainRun, AllocError>
         ensures begins { IfOk result (λ run. state run ≡ begin (script_view script.now)) }
-        ensures ready { IfOk result (λ run. IsReady (map server_view script.now.servers.items) run) }
+        ensures ready { IfOk result (λ run. IsSetUp (map server_view script.now.servers.items) run) }
     {
         let settings = script.settings;
         let limits = Limits {
@@ -84,11 +85,11 @@ impl PlainRun {
         at: usize,
         act: DeskAct,
     ) -> Result<String, AllocError>
-        requires ready { IsReady (map server_view servers.now) self.old }
+        requires ready { IsSetUp (map server_view servers.now) self.old }
         requires within { at < length servers.now }
         ensures step { IfOk result (λ text. desk_step (map server_view servers.now) at act (state self.old)
             ≡ (string_bytes text, state self.new)) }
-        ensures ready { IfOk result (λ _. IsReady (map server_view servers.now) self.new) }
+        ensures ready { IfOk result (λ _. IsSetUp (map server_view servers.now) self.new) }
     {
         let server = &servers[at];
         let desk = &mut self.desks[at];
@@ -105,7 +106,7 @@ impl PlainRun {
         at: usize,
         k: u64,
     ) -> Result<String, AllocError>
-        requires ready { IsReady (map server_view servers.now) self.now }
+        requires ready { IsSetUp (map server_view servers.now) self.now }
         requires within { at < length servers.now }
         ensures { IfOk result (λ text. string_bytes text ≡ balance_at (slice_get (map server_view servers.now) at)
             (slice_get self.now.desks.items at) k) }
@@ -138,11 +139,12 @@ impl PlainRun {
         servers: &[ScriptServer],
         command: Command,
     ) -> Result<String, AllocError>
-        requires ready { IsReady (map server_view servers.now) self.old }
+        requires ready { IsSetUp (map server_view servers.now) self.old }
         requires in_range { IsInRange (length servers.now) command }
-        ensures step { IfOk result (λ text. command_step (map server_view servers.now) command (state self.old)
+        ensures step { IfOk result (λ text.
+            command_step (map server_view servers.now) command (state self.old)
             ≡ (string_bytes text, state self.new)) }
-        ensures ready { IfOk result (λ _. IsReady (map server_view servers.now) self.new) }
+        ensures ready { IfOk result (λ _. IsSetUp (map server_view servers.now) self.new) }
     {
         match command {
             Command::Client(act) => client_line(&mut self.plain, alloc, act),

@@ -1,5 +1,6 @@
 -- The texts of answers, and the lines of a report.
-use Rattle.std.specs.Prelude.{ℕ, List, [], Bool, ◌&&◌, ◌==◌, if◌then◌else◌, Option, Some, None, codes, decimal, slice_index}
+use Rattle.std.specs.Prelude.{ℕ, List, [], Bool, ◌&&◌, ◌==◌, if◌then◌else◌, Option, Some, None, codes}
+use Rattle.std.specs.Prelude.{decimal, slice_index}
 use Rattle.std.specs.List.{flat_map}
 use Rattle.tp_model.specs.declared.types.Counts.{Counts}
 use Rattle.tp_model.specs.declared.types.Element.{Element}
@@ -78,7 +79,7 @@ server_text server.Busy = codes "busy"
 server_text server.NoneOpen = codes "none"
 server_text server.Ready = codes "ready"
 server_text (server.Aborted element) = codes "aborted " <> decimal element
-server_text (server.Already element) = codes "already " <> decimal element
+server_text (server.AlreadyAborted element) = codes "already " <> decimal element
 server_text server.Dropped = codes "dropped"
 server_text server.Ended = codes "ended"
 

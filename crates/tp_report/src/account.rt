@@ -11,7 +11,8 @@ use crate::sink::{Sink, write_all};
 use std::alloc::Global;
 use tp_model::types::Account;
 
-/// Writes the line of the closing account: how many elements are born, and how many of them stand in each way.
+/// Writes the line of the closing account: how many elements are born, and how many of them stand in each
+/// way.
 pub fn account_line<W: Sink>(
     alloc: Global,
     account: &Account,

@@ -37,7 +37,7 @@ pub enum ServerAnswer {
         element: u32,
     },
     /// Another caller had aborted the unit that held the element.
-    Already {
+    AlreadyAborted {
         element: u32,
     },
     /// The desk is dropped.

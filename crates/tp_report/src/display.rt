@@ -1,7 +1,11 @@
 //! How answers are told: the one place where the texts of a report's lines stand.
 ghost use Rattle.std.specs.Prelude.{◌≡◌, Some};
 ghost use Rattle.std.specs.Fmt.{WritesOnOk};
-ghost use Rattle.tp_report.specs.Answer.{turned_text, server_text, refusal_name, refusal_number, refusal_text, maker_text, status_text, is_short, more_words_text, element_text, look_text, reply_text, replies_text, collected_text, state_text, member_text, family_text, errors_text, counts_text, account_text, balance_text, final_text, answer_text};
+ghost use Rattle.tp_report.specs.Answer.{turned_text, server_text, refusal_name, refusal_number};
+ghost use Rattle.tp_report.specs.Answer.{refusal_text, maker_text, status_text, is_short, more_words_text};
+ghost use Rattle.tp_report.specs.Answer.{element_text, look_text, reply_text, replies_text, collected_text};
+ghost use Rattle.tp_report.specs.Answer.{state_text, member_text, family_text, errors_text, counts_text};
+ghost use Rattle.tp_report.specs.Answer.{account_text, balance_text, final_text, answer_text};
 
 use crate::answer::{Answer, ServerAnswer};
 use std::fmt;
@@ -46,7 +50,7 @@ impl fmt::Display for ServerAnswer {
             ServerAnswer::NoneOpen => write!(f, "none"),
             ServerAnswer::Ready => write!(f, "ready"),
             ServerAnswer::Aborted { element } => write!(f, "aborted {element}"),
-            ServerAnswer::Already { element } => write!(f, "already {element}"),
+            ServerAnswer::AlreadyAborted { element } => write!(f, "already {element}"),
             ServerAnswer::Dropped => write!(f, "dropped"),
             ServerAnswer::Ended => write!(f, "ended"),
         }

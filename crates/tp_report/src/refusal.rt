@@ -17,8 +17,10 @@ pub fn write_refusal<W: Sink>(
     refused: Refused,
     writer: &mut W,
 ) -> Result<(), RunFault>
-    ensures done { OnOk result (Appends (W.contents writer.old) (W.contents writer.new) (line (refused_text refused))) }
-    ensures front { OnErr result (AppendsFront (W.contents writer.old) (W.contents writer.new) (line (refused_text refused))) }
+    ensures done { OnOk result (Appends (W.contents writer.old) (W.contents writer.new)
+        (line (refused_text refused))) }
+    ensures front { OnErr result (AppendsFront (W.contents writer.old) (W.contents writer.new)
+        (line (refused_text refused))) }
     ensures write { IsErrOf result RunFault.Write → IsTrue (W.has_failed writer.new) }
 {
     let text = refused_line(alloc, refused)?;

@@ -1,20 +1,21 @@
 //! Where a report goes to.
-ghost use Rattle.std.specs.Prelude.{◌≡◌, false, ◌<◌, ◌≤◌, ℕ, List, Bool, Option, Ok, length, take, IfOk, OnErr, OnOk, IsTrue, IsErrOf};
+ghost use Rattle.std.specs.Prelude.{◌≡◌, false, ◌<◌, ◌≤◌, ℕ, List, Bool, Option, Ok, length, take, IfOk};
+ghost use Rattle.std.specs.Prelude.{OnErr, OnOk, IsTrue, IsErrOf};
 ghost use Rattle.std.specs.Io.KnownBytes.{WriteAppends, Appends};
 ghost use Rattle.tp_report.specs.Written.{AppendsFront};
 
 use std::io::{ErrorKind, Write};
 use tp_script::Failed;
 
-/// A writer of bytes. Contracts see the bytes that it holds, where these are known, and whether it has failed. To take
-/// none of some bytes is a failure.
+/// A writer of bytes. Contracts see the bytes that it holds, where these are known, and whether it has
+/// failed. To take none of some bytes is a failure.
 pub trait Sink {
     ghost contents: { Self → Option (List ℕ) };
 
     ghost has_failed: { Self → Bool };
 
-    /// Takes a front of the bytes, and answers how many. To take none of some is a failure; `Failed` where the writer
-    /// failed and took none.
+    /// Takes a front of the bytes, and answers how many. To take none of some is a failure; `Failed` where
+    /// the writer failed and took none.
     fn write(&mut self, bytes: &[u8]) -> Result<usize, Failed>
         ensures count { IfOk result (λ n. n ≤ length bytes.now) }
         ensures bytes { WriteAppends (contents self.old) (contents self.new) result bytes.now }

@@ -13,17 +13,17 @@ use Rattle.tp_model.specs.Steps.{IsLegal}
 use Rattle.tp_model.proofs.Bridges.{begins_trans, born_or_not, in_either, in_left, in_right}
 use Rattle.tp_model.proofs.Histories.{unborn_waits}
 use Rattle.tp_model.proofs.Later.{births_inside}
-use Rattle.tp_manager.specs.Accounts.{AreAll, AreFrom, Gathers}
+use Rattle.tp_manager.specs.Accounts.{AreAll, AreNumberedFrom, Gathers}
 use Rattle.tp_manager.specs.Shown.{IsOf, KeeperShown, ManagerShown, PassShown}
 use Rattle.tp_alone.specs.Thread.{AreTogether, Stays}
 use Rattle.tp_alone.proofs.Apart.{zip_left}
 use Rattle.tp_alone.proofs.Gatherings.{gathered_together}
 use Rattle.tp_alone.proofs.Idle.{alone_idle}
-use Rattle.tp_rollover.specs.Answers.{IsHistoryOf, IsReady, Rolls}
+use Rattle.tp_rollover.specs.Answers.{IsHistoryOf, IsReadyToKill, Rolls}
 use Rattle.tp_rollover.specs.Closing.{AreEnds, IsStuck, Made, NoKill, StopsAmong}
 use Rattle.tp_rollover.specs.Finding.{AreAlive}
 use Rattle.tp_rollover.specs.Passes.{numbers}
-use Rattle.tp_rollover.specs.Phases.{FoundWhole, IsWhole, KillsAll, StopsKilling}
+use Rattle.tp_rollover.specs.Phases.{FoundWhole, IsCarriedWhole, KillsAll, StopsKilling}
 use Rattle.tp_rollover.specs.Rolls.{AscendFrom, IsCarried, RollsOver, kills}
 use Rattle.tp_rollover.specs.Told.{ToldFirst, seen_first}
 use Rattle.tp_rollover.specs.declared.alive.Alive.{Alive}
@@ -98,7 +98,7 @@ kill_id c d i j e = cc
 
 -- the first pass can't have found one that it couldn't kill
 module _ (l k : Limits) (keeper keeper' : KeeperShown) (ps qs rs : List PassShown) (h h' g : List Event) (alive : List Alive) (moved : List Moved)
-    (before : AreTogether l keeper ps h) (rest : AllZip Stays qs rs) (after : AreTogether l keeper' rs h') (whole : IsWhole l k alive moved h g) where
+    (before : AreTogether l keeper ps h) (rest : AllZip Stays qs rs) (after : AreTogether l keeper' rs h') (whole : IsCarriedWhole l k alive moved h g) where
   never_first : (p q r : PassShown) (os ts : List PassShown) → AreTogether l keeper (p ∷ os) h → AllZip Stays (q ∷ os) (r ∷ ts) → AreTogether l keeper' (r ∷ ts) h' → StopsAmong l.attempts moved p q → ⊥
   never_first p q r os ts together stay end s =
       let t = s.stops in
@@ -141,7 +141,7 @@ module _ (l k : Limits) (keeper keeper' : KeeperShown) (ps qs rs : List PassShow
 
 -- what was alive, what was found whole, and the kills, make a rollover
 pub rolled : (l k : Limits) (h h' g : List Event) (alive : List Alive) (moved : List Moved)
-    → k.attempts ≡ l.attempts → IsLegal l h → IsLegal l h' → IsLegal k g → AreAlive l alive h → IsWhole l k alive moved h g → h' ≡ h ++ kills 0 moved
+    → k.attempts ≡ l.attempts → IsLegal l h → IsLegal l h' → IsLegal k g → AreAlive l alive h → IsCarriedWhole l k alive moved h g → h' ≡ h ++ kills 0 moved
     → RollsOver l k 0 h h' g moved
 rolled l k h h' g alive moved limit legal legal' new_legal found whole killed = record {
   legal = (legal', new_legal);
@@ -177,7 +177,7 @@ head_same a b xs ys e = cc
 tail_same : (a b : ℕ) (xs ys : List ℕ) → a ∷ xs ≡ b ∷ ys → xs ≡ ys
 tail_same a b xs ys e = cc
 
-from_numbers : (c : ℕ) (ps qs : List PassShown) → numbers qs ≡ numbers ps → AreFrom c ps → AreFrom c qs
+from_numbers : (c : ℕ) (ps qs : List PassShown) → numbers qs ≡ numbers ps → AreNumberedFrom c ps → AreNumberedFrom c qs
 from_numbers c [] [] same all = tt
 from_numbers c [] (q ∷ qs) same all = absurd cc
 from_numbers c (p ∷ ps) [] same all = absurd cc
@@ -214,7 +214,7 @@ module _ (m m' : ManagerShown) (a b d c : ℕ) (ok0 ok1 ok2 nk0 nk1 nk2 : Keeper
       → AllZip Stays olds3 olds4 → AllZip Stays news2 news3 → FoundWhole m.limits m'.limits alive moved olds3 olds4 news2 news3 → 1 ≤ length news2
       → Gathers m'.limits d nk1 nk2 news3 news4 → AreAll nk2 news4 → nk2.given ≡ nk1.given → All (IsOf m') news4
       → Gathers m.limits c ok1 ok2 olds4 olds5 → AreAll ok2 olds5 → ok2.given ≡ ok1.given → All (IsOf m) olds5
-      → IsReady m.limits m'.limits ok2 nk2 olds0 olds5 news4 moved
+      → IsReadyToKill m.limits m'.limits ok2 nk2 olds0 olds5 news4 moved
   ready g1 all1 given1 own1 s12 told some1 s23 g2 all2 given2 own2 s34 n23 found some2 g3 all3 given3 own3 g4 all4 given4 own4 =
       let t1 = gathered m a ok0 ok1 olds0 olds1 g1 all1 given1 own1 in
       let t2 = gathered m' b nk0 nk1 news1 news2 g2 all2 given2 own2 in
@@ -228,20 +228,20 @@ module _ (m m' : ManagerShown) (a b d c : ℕ) (ok0 ok1 ok2 nk0 nk1 nk2 : Keeper
       let h : seen_first olds1 ≡ ok2.seen = old.1 ∙ sym old.0 in
       let g : seen_first news2 ≡ nk2.seen = new.1 ∙ sym new.0 in
       let all_found : AreAlive m.limits alive ok2.seen = subst (AreAlive m.limits alive) h (told at2) in
-      let is_whole : IsWhole m.limits m'.limits alive moved (seen_first olds3) (seen_first news2) = found (old.2 ∙ sym at3) new.2 in
+      let is_whole : IsCarriedWhole m.limits m'.limits alive moved (seen_first olds3) (seen_first news2) = found (old.2 ∙ sym at3) new.2 in
       record {
         history = history_of m.limits ok1 olds0 olds1 ok2.seen ok2 (subst (AreTogether m.limits ok1 olds1) (sym old.0) t1.0) t1.1 given4;
         old_together = t4.0;
         new_together = t3.0;
         alive = alive;
         found = all_found;
-        whole = subst (IsWhole m.limits m'.limits alive moved ok2.seen) g (subst (λ z. IsWhole m.limits m'.limits alive moved z (seen_first news2)) (at3 ∙ h) is_whole);
+        whole = subst (IsCarriedWhole m.limits m'.limits alive moved ok2.seen) g (subst (λ z. IsCarriedWhole m.limits m'.limits alive moved z (seen_first news2)) (at3 ∙ h) is_whole);
         some = zip_some olds1 olds5 (stay_trans olds1 olds4 olds5 s14 t4.1) some1;
       }
 
 -- and with them
 pub rolls : (m m' : ManagerShown) (c : ℕ) (ok2 ok3 nk2 : KeeperShown) (olds0 olds5 olds6 olds7 news4 : List PassShown) (moved : List Moved)
-    → m'.limits.attempts ≡ m.limits.attempts → IsReady m.limits m'.limits ok2 nk2 olds0 olds5 news4 moved → KillsAll moved olds5 olds6
+    → m'.limits.attempts ≡ m.limits.attempts → IsReadyToKill m.limits m'.limits ok2 nk2 olds0 olds5 news4 moved → KillsAll moved olds5 olds6
     → Gathers m.limits c ok2 ok3 olds6 olds7 → AreAll ok3 olds7 → ok3.given ≡ ok2.given → All (IsOf m) olds7
     → Rolls m.limits m'.limits ok3 nk2 olds0 olds7 news4 moved
 rolls m m' c ok2 ok3 nk2 olds0 olds5 olds6 olds7 news4 moved limit r kill g all given own =
@@ -256,7 +256,7 @@ rolls m m' c ok2 ok3 nk2 olds0 olds5 olds6 olds7 news4 moved limit r kill g all 
     }
 
 pub never : (m m' : ManagerShown) (c : ℕ) (ok2 ok3 nk2 : KeeperShown) (olds0 olds5 olds6 olds7 news4 : List PassShown) (moved : List Moved)
-    → IsReady m.limits m'.limits ok2 nk2 olds0 olds5 news4 moved → StopsKilling m.limits.attempts moved olds5 olds6
+    → IsReadyToKill m.limits m'.limits ok2 nk2 olds0 olds5 news4 moved → StopsKilling m.limits.attempts moved olds5 olds6
     → Gathers m.limits c ok2 ok3 olds6 olds7 → AreAll ok3 olds7 → ok3.given ≡ ok2.given → All (IsOf m) olds7 → ⊥
 never m m' c ok2 ok3 nk2 olds0 olds5 olds6 olds7 news4 moved r stops g all given own =
     let t = gathered m c ok2 ok3 olds6 olds7 g all given own in

@@ -13,11 +13,11 @@ use Rattle.tp_manager.specs.Calls.{IsLook}
 use Rattle.tp_manager.specs.Requeues.{HasHadRounds}
 use Rattle.tp_manager.specs.Shown.{PassShown}
 use Rattle.tp_alone.specs.Thread.{Stays}
-use Rattle.tp_rollover.specs.Checks.{AreCarried, AreFamilies, AreInTables, AreOnly, AreOnlyBelow, AreTheSame, Ascend, HasPut, IsAlike, IsNamedOrConsumed}
+use Rattle.tp_rollover.specs.Checks.{AreCarried, AreFamilies, AreInTables, AreOnly, AreOnlyBelow, AreTheSame, MovedAscend, HasPut, IsAlike, IsNamedOrConsumed}
 use Rattle.tp_rollover.specs.Finding.{AreAliveBelow, IsAliveAt, listed}
-use Rattle.tp_rollover.specs.Phases.{IsWhole}
+use Rattle.tp_rollover.specs.Phases.{IsCarriedWhole}
 use Rattle.tp_rollover.specs.Rolls.{AscendFrom, IsCarried, IsNamed}
-use Rattle.tp_rollover.specs.Told.{Told, ToldBoth}
+use Rattle.tp_rollover.specs.Told.{HoldsAsSeen, ToldBoth}
 use Rattle.tp_rollover.specs.declared.alive.Alive.{Alive}
 use Rattle.tp_rollover.specs.declared.moved.Moved.{Moved}
 use Rattle.tp_rollover.proofs.Lists.{drop_here, in_all_taken, in_take_more}
@@ -40,7 +40,7 @@ alive_next limit row h found o below at x born less =
           (t.0, λ alive. let s = t.1 alive in (s.0, in_left (listed o) s.1, s.2))
     ]
 
-pub alive_then : (limit row : ℕ) (found : List Alive) (o : Option Alive) (p q r : PassShown) → Stays p q → Stays q r → Told p q (AreAliveBelow limit row found) → Told q r (IsAliveAt limit row o) → Told p r (AreAliveBelow limit (row + 1) (found ++ listed o))
+pub alive_then : (limit row : ℕ) (found : List Alive) (o : Option Alive) (p q r : PassShown) → Stays p q → Stays q r → HoldsAsSeen p q (AreAliveBelow limit row found) → HoldsAsSeen q r (IsAliveAt limit row o) → HoldsAsSeen p r (AreAliveBelow limit (row + 1) (found ++ listed o))
 alive_then limit row found o p q r a b below at same =
     alive_next limit row p.seen found o (told_first (AreAliveBelow limit row found) p.seen q.seen r.seen a.sees b.sees below same) (told_second (IsAliveAt limit row o) p.seen q.seen r.seen a.sees b.sees at same)
 
@@ -54,7 +54,7 @@ only_next limit row moved g below at y born less =
       | inr p ↦ let not : y.id ≢ row = p.1 in below y born (omega arith)
     ]
 
-pub only_then : (limit row : ℕ) (moved : List Moved) (p q r : PassShown) → Stays p q → Stays q r → Told p q (AreOnlyBelow limit row moved) → Told q r (IsNamedOrConsumed limit row moved) → Told p r (AreOnlyBelow limit (row + 1) moved)
+pub only_then : (limit row : ℕ) (moved : List Moved) (p q r : PassShown) → Stays p q → Stays q r → HoldsAsSeen p q (AreOnlyBelow limit row moved) → HoldsAsSeen q r (IsNamedOrConsumed limit row moved) → HoldsAsSeen p r (AreOnlyBelow limit (row + 1) moved)
 only_then limit row moved p q r a b below at same =
     only_next limit row moved p.seen (told_first (AreOnlyBelow limit row moved) p.seen q.seen r.seen a.sees b.sees below same) (told_second (IsNamedOrConsumed limit row moved) p.seen q.seen r.seen a.sees b.sees at same)
 
@@ -65,8 +65,8 @@ only_none limit moved g y born less = absurd (omega (arith, less))
 
 pub carried_one : (l k : Limits) (m : Moved) (p0 p1 p2 q0 q1 q2 q3 : PassShown) (was is root : Look) (a b : ℕ)
     → k.attempts ≡ l.attempts → Stays p0 p1 → Stays p1 p2 → Stays q0 q1 → Stays q1 q2 → Stays q2 q3
-    → Told p0 p1 (IsLook l m.old was) → Told q0 q1 (IsLook k m.new is) → Told p1 p2 (HasHadRounds m.old a) → Told q1 q2 (HasHadRounds m.new b)
-    → Told q2 q3 (IsLook k m.new_root root) → IsAlike was is m → b ≡ a → root.element.by ≡ None
+    → HoldsAsSeen p0 p1 (IsLook l m.old was) → HoldsAsSeen q0 q1 (IsLook k m.new is) → HoldsAsSeen p1 p2 (HasHadRounds m.old a) → HoldsAsSeen q1 q2 (HasHadRounds m.new b)
+    → HoldsAsSeen q2 q3 (IsLook k m.new_root root) → IsAlike was is m → b ≡ a → root.element.by ≡ None
     → ToldBoth p0 p2 q0 q3 (λ h g. IsCarried l.attempts h g m)
 carried_one l k m p0 p1 p2 q0 q1 q2 q3 was is root a b limit s1 s2 t1 t2 t3 look1 look2 had1 had2 look3 alike same none e f =
     let old = look1 (between p0.seen p1.seen p2.seen s1.sees s2.sees e) in
@@ -147,9 +147,9 @@ ascend_on id low next moved i d less low_is next_is rest =
 -- all checks together
 
 pub whole : (l k : Limits) (alive : List Alive) (moved : List Moved) (p0 p1 q0 q1 q2 : PassShown) → Stays q0 q1 → Stays q1 q2
-    → AreTheSame alive moved → Ascend moved → AreFamilies moved
-    → ToldBoth p0 p1 q0 q1 (λ h g. AreCarried l.attempts h g moved) → Told q1 q2 (AreOnly k moved)
-    → ToldBoth p0 p1 q0 q2 (IsWhole l k alive moved)
+    → AreTheSame alive moved → MovedAscend moved → AreFamilies moved
+    → ToldBoth p0 p1 q0 q1 (λ h g. AreCarried l.attempts h g moved) → HoldsAsSeen q1 q2 (AreOnly k moved)
+    → ToldBoth p0 p1 q0 q2 (IsCarriedWhole l k alive moved)
 whole l k alive moved p0 p1 q0 q1 q2 a b same ascend families carried only e f = record {
   same = same;
   ascend = ascend;

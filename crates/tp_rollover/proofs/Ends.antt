@@ -11,7 +11,7 @@ use Rattle.tp_model.specs.Steps.{IsKillable}
 use Rattle.tp_model.proofs.Bridges.{append_nil}
 use Rattle.tp_model.proofs.Histories.{element_of-kept, status_of-snoc}
 use Rattle.tp_model.proofs.Lists.{if_same, if_other}
-use Rattle.tp_rollover.specs.Closing.{AreEnds, Ends, IsStuck, NoKill}
+use Rattle.tp_rollover.specs.Closing.{AreEnds, IsEndOrKill, IsStuck, NoKill}
 
 -- no unit holds or has consumed it
 abbrev pub IsLeft : Status → Type 0
@@ -35,7 +35,7 @@ abort_same limit u (Consumed v) k = absurd k
 abort_same limit u (Parked n) k = refl
 abort_same limit u Killed k = refl
 
-left_after : (limit i : ℕ) (s : Status) (e : Event) → Ends e → IsLeft s → IsLeft (status_after limit i s e)
+left_after : (limit i : ℕ) (s : Status) (e : Event) → IsEndOrKill e → IsLeft s → IsLeft (status_after limit i s e)
 left_after limit i s e ends k = ⊎_elim
     (λ a. subst (λ x. IsLeft (status_after limit i s x)) (sym a.2) (subst IsLeft (sym (abort_same limit a.1 s k)) k))
     (λ a. subst (λ x. IsLeft (status_after limit i s x)) (sym a.2) (elim (eqb_tells a.1 i) [
@@ -51,7 +51,7 @@ left_in limit i h (e ∷ es) ends k =
     subst (λ z. IsLeft (status_of limit z i)) (append_assoc h (e ∷ []) es) (left_in limit i (h ++ e ∷ []) es (λ x p. ends x (there p)) now)
 
 -- where none of them kills it, it stands as it did
-same_after : (limit i : ℕ) (s : Status) (e : Event) → Ends e → IsLeft s → ((c : ℕ) → e ≢ Kill c i) → status_after limit i s e ≡ s
+same_after : (limit i : ℕ) (s : Status) (e : Event) → IsEndOrKill e → IsLeft s → ((c : ℕ) → e ≢ Kill c i) → status_after limit i s e ≡ s
 same_after limit i s e ends k not = ⊎_elim
     (λ (a : (c u : ℕ) × (e ≡ Abort c u)). ap (status_after limit i s) a.2 ∙ abort_same limit a.1 s k)
     (λ (a : (c j : ℕ) × (e ≡ Kill c j)). elim (eqb_tells a.1 i) [

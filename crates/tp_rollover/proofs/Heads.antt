@@ -1,8 +1,9 @@
 -- The first of the passes, and the others.
-use Rattle.std.proofs.Common.{◌≡◌, ◌≢◌, ℕ, zero, suc, ◌+◌, ◌<◌, All, None, List, [], ◌∷◌, length, get_or, refl, sym, ◌∙◌, ap, subst, inl, inr, arith}
+use Rattle.std.proofs.Common.{◌≡◌, ◌≢◌, ℕ, true, zero, Option, Some, suc, ◌+◌, ◌<◌, All, None, List, [], ◌∷◌, length, get_or, refl, sym, ◌∙◌, ap, subst, inl, inr, arith}
 use Rattle.std.proofs.lemmas.Bool.Decides.{eqb_tells}
 use Rattle.std.proofs.lemmas.List.Elements.{All-cons}
 use Rattle.std.specs.List.{AllZip}
+use Rattle.std.specs.Option.{is_some}
 use Rattle.tp_manager.specs.Shown.{PassShown}
 use Rattle.tp_alone.specs.Thread.{Stays}
 use Rattle.tp_rollover.proofs.Seen.{stays_refl}
@@ -35,3 +36,12 @@ free_more ps i p less before is free k d low =
       | inl q ↦ ap (λ (z : PassShown). z.open_unit) (ap (λ n. get_or ps n d) q.1 ∙ (default_same ps i d p less ∙ sym is)) ∙ free
       | inr q ↦ let not : k ≢ i = q.1 in before k d (omega arith)
     ]
+
+-- one that has a unit open shows that not all are free
+open_some : (o : Option ℕ) → is_some o ≡ true → o ≡ None → ⊥
+open_some None some free = absurd cc
+open_some (Some u) some free = absurd cc
+
+pub not_free : (ps : List PassShown) (i : ℕ) (p : PassShown) → i < length ps → p ≡ get_or ps i p → is_some p.open_unit ≡ true
+    → All (λ (z : PassShown). z.open_unit ≡ None) ps → ⊥
+not_free ps i p less is some free = open_some p.open_unit some (ap (λ (z : PassShown). z.open_unit) is ∙ free i p less)

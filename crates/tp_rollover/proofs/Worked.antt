@@ -13,7 +13,7 @@ use Rattle.tp_model.proofs.Histories.{legal_empty, legal_more, open_before}
 use Rattle.tp_model.proofs.Lists.{none_if, some_if}
 use Rattle.tp_rollover.specs.Checks.{AreCarried, AreFamilies, AreOnly}
 use Rattle.tp_rollover.specs.Finding.{AreAlive}
-use Rattle.tp_rollover.specs.Phases.{IsWhole}
+use Rattle.tp_rollover.specs.Phases.{IsCarriedWhole}
 use Rattle.tp_rollover.specs.Rolls.{IsCarried, IsNamed}
 use Rattle.tp_rollover.specs.Worked.{WorkedPair, anew, before, first_moved, output, second_moved, small, word}
 use Rattle.tp_rollover.specs.declared.alive.Alive.{Alive}
@@ -179,7 +179,7 @@ Told y = IsNamed (λ m. m.new) y.id both ⊎ (is_consumed (status_of 1 anew y.id
 all_told : AreOnly small both anew
 all_told y is less = from_each Told (born anew) y (inr refl, (inl (first_moved, here, refl), (inl (second_moved, there here, refl), tt))) (find_in y.id (born anew) y is).0
 
-whole : IsWhole small small found both before anew
+whole : IsCarriedWhole small small found both before anew
 whole = record { same = refl; ascend = ((lit≤ tt, (lit≤ tt, tt)), (lit≤ tt, (lit≤ tt, tt))); families = one_family; carried = all_carried; only = all_told }
 
 pub pair : WorkedPair

@@ -6,7 +6,7 @@ use Rattle.tp_model.specs.History.{In, events_by}
 use Rattle.tp_manager.specs.Shown.{KeeperShown, PassShown}
 use Rattle.tp_alone.specs.Thread.{AreTogether}
 use Rattle.tp_rollover.specs.Finding.{AreAlive}
-use Rattle.tp_rollover.specs.Phases.{IsWhole}
+use Rattle.tp_rollover.specs.Phases.{IsCarriedWhole}
 use Rattle.tp_rollover.specs.Rolls.{RollsOver}
 use Rattle.tp_rollover.specs.declared.alive.Alive.{Alive}
 use Rattle.tp_rollover.specs.declared.moved.Moved.{Moved}
@@ -17,19 +17,22 @@ pub record IsHistoryOf (keeper : KeeperShown) (passes : List PassShown) (h : Lis
   pub others : (c : ℕ) → keeper.given ≤ c → events_by c h ≡ []
 
 -- from what the old passes had done the rollover goes to what all passes of either manager have seen then
-pub record Rolls (l k : Limits) (old' new' : KeeperShown) (olds olds' news' : List PassShown) (moved : List Moved) : Type 0 where
+pub record Rolls (l k : Limits) (old' new' : KeeperShown) (olds olds' news' : List PassShown)
+    (moved : List Moved) : Type 0 where
   pub before : List Event
   pub history : IsHistoryOf old' olds before
   pub over : RollsOver l k 0 before old'.seen new'.seen moved
   pub old_together : AreTogether l old' olds' old'.seen
   pub new_together : AreTogether k new' news' new'.seen
 
--- all is ready for the kills: nothing has happened in the old manager, and what was alive in it stands in the new one
-pub record IsReady (l k : Limits) (old' new' : KeeperShown) (olds olds' news' : List PassShown) (moved : List Moved) : Type 0 where
+-- all is ready for the kills: nothing has happened in the old manager, and what was alive in it stands in the
+-- new one
+pub record IsReadyToKill (l k : Limits) (old' new' : KeeperShown) (olds olds' news' : List PassShown)
+    (moved : List Moved) : Type 0 where
   pub history : IsHistoryOf old' olds old'.seen
   pub old_together : AreTogether l old' olds' old'.seen
   pub new_together : AreTogether k new' news' new'.seen
   pub alive : List Alive
   pub found : AreAlive l alive old'.seen
-  pub whole : IsWhole l k alive moved old'.seen new'.seen
+  pub whole : IsCarriedWhole l k alive moved old'.seen new'.seen
   pub some : 1 ≤ length olds'

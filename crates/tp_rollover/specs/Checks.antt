@@ -44,12 +44,13 @@ abbrev pub AreTheSame : List Alive → List Moved → Type 0
 AreTheSame alive moved = map (λ (a : Alive). a.id) alive ≡ map (λ (m : Moved). m.old) moved
 
 -- the ids ascend in both managers
-abbrev pub Ascend : List Moved → Type 0
-Ascend moved = AscendFrom (λ m. m.old) 0 moved × AscendFrom (λ m. m.new) 0 moved
+abbrev pub MovedAscend : List Moved → Type 0
+MovedAscend moved = AscendFrom (λ m. m.old) 0 moved × AscendFrom (λ m. m.new) 0 moved
 
 -- two of these have one root in the new manager exactly where they had in the old one
 abbrev pub AreFamilies : List Moved → Type 0
-AreFamilies moved = (m n : Moved) → In m moved → In n moved → (m.old_root ≡ n.old_root) ↔ (m.new_root ≡ n.new_root)
+AreFamilies moved = (m n : Moved) → In m moved → In n moved
+    → (m.old_root ≡ n.old_root) ↔ (m.new_root ≡ n.new_root)
 
 -- the place has this value, and those that had one have it still
 pub record HasPut (at value : ℕ) (old new : List (Option ℕ)) : Type 0 where

@@ -25,19 +25,19 @@ abbrev pub ended : ℕ → ℕ → List Event
 ended c id = Kill c id ∷ []
 
 -- an abort, or the kill of an element
-abbrev pub Ends : Event → Type 0
-Ends e = ((c u : ℕ) × (e ≡ Abort c u)) ⊎ ((c i : ℕ) × (e ≡ Kill c i))
+abbrev pub IsEndOrKill : Event → Type 0
+IsEndOrKill e = ((c u : ℕ) × (e ≡ Abort c u)) ⊎ ((c i : ℕ) × (e ≡ Kill c i))
 
 -- these events are such
 abbrev pub AreEnds : List Event → Type 0
-AreEnds es = (e : Event) → In e es → Ends e
+AreEnds es = (e : Event) → In e es → IsEndOrKill e
 
 -- none of these events kills the element
 abbrev pub NoKill : ℕ → List Event → Type 0
 NoKill id es = (c : ℕ) → ¬ In (Kill c id) es
 
--- the element can't be killed after this history: it isn't born, is held, or is consumed; or it is killed, and none of
--- these events did that
+-- the element can't be killed after this history: it isn't born, is held, or is consumed; or it is killed,
+-- and none of these events did that
 abbrev pub IsStuck : ℕ → ℕ → List Event → List Event → Type 0
 IsStuck limit id es h = IsUnborn h id
     ⊎ (((u n : ℕ) × (status_of limit h id ≡ Held u n))

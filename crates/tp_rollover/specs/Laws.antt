@@ -12,17 +12,20 @@ use Rattle.tp_model.specs.Steps.{IsLegal}
 use Rattle.tp_rollover.specs.Rolls.{RollsOver}
 use Rattle.tp_rollover.specs.declared.moved.Moved.{Moved}
 
--- a family that is settled, as after a cancel, is settled in the new manager: at most replies of it were carried over
+-- a family that is settled, as after a cancel, is settled in the new manager: at most replies of it were
+-- carried over
 abbrev pub CancelledStays : Type 0
 CancelledStays =
     (l k : Limits) (c : ℕ) (h h' g : List Event) (moved : List Moved) → RollsOver l k c h h' g moved
-    → (m : Moved) → In m moved → IsSettledFamily l.attempts h m.old_root → IsSettledFamily k.attempts g m.new_root
+    → (m : Moved) → In m moved → IsSettledFamily l.attempts h m.old_root
+    → IsSettledFamily k.attempts g m.new_root
 
 -- what was carried over is killed in the old manager for good, so no unit of that consumes it
 abbrev pub ConsumedInOne : Type 0
 ConsumedInOne =
     (l k : Limits) (c : ℕ) (h h' g : List Event) (moved : List Moved) → RollsOver l k c h h' g moved
-    → (z : List Event) → IsLegal l z → IsPrefix h' z → (m : Moved) → In m moved → status_of l.attempts z m.old ≡ Killed
+    → (z : List Event) → IsLegal l z → IsPrefix h' z → (m : Moved) → In m moved
+    → status_of l.attempts z m.old ≡ Killed
 
 -- and what was consumed or killed before wasn't carried over
 abbrev pub SettledNotCarried : Type 0
@@ -47,4 +50,5 @@ pub record AccountsAddUp (l k : Limits) (h h' g : List Event) (moved : List Move
 
 abbrev pub RolloverAddsUp : Type 0
 RolloverAddsUp =
-    (l k : Limits) (c : ℕ) (h h' g : List Event) (moved : List Moved) → RollsOver l k c h h' g moved → AccountsAddUp l k h h' g moved
+    (l k : Limits) (c : ℕ) (h h' g : List Event) (moved : List Moved) → RollsOver l k c h h' g moved
+    → AccountsAddUp l k h h' g moved

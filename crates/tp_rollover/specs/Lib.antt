@@ -8,3 +8,4 @@ pub mod Checks
 pub mod Closing
 pub mod Phases
 pub mod Answers
+pub mod Faults

@@ -3,7 +3,7 @@ use Rattle.std.specs.Prelude.{◌≡◌, ℕ, List, ◌∷◌}
 use Rattle.tp_model.specs.declared.types.Limits.{Limits}
 use Rattle.tp_model.specs.declared.event.Event.{Event}
 use Rattle.tp_manager.specs.Shown.{PassShown}
-use Rattle.tp_rollover.specs.Checks.{AreCarried, AreFamilies, AreOnly, AreTheSame, Ascend}
+use Rattle.tp_rollover.specs.Checks.{AreCarried, AreFamilies, AreOnly, AreTheSame, MovedAscend}
 use Rattle.tp_rollover.specs.Closing.{Made, StopsAmong}
 use Rattle.tp_rollover.specs.Rolls.{kills}
 use Rattle.tp_rollover.specs.Told.{seen_first}
@@ -11,18 +11,20 @@ use Rattle.tp_rollover.specs.declared.alive.Alive.{Alive}
 use Rattle.tp_rollover.specs.declared.moved.Moved.{Moved}
 
 -- what was alive stands in the new manager as in the old one, and nothing else there is more than consumed
-pub record IsWhole (l k : Limits) (alive : List Alive) (moved : List Moved) (h g : List Event) : Type 0 where
+pub record IsCarriedWhole (l k : Limits) (alive : List Alive) (moved : List Moved)
+    (h g : List Event) : Type 0 where
   pub same : AreTheSame alive moved
-  pub ascend : Ascend moved
+  pub ascend : MovedAscend moved
   pub families : AreFamilies moved
   pub carried : AreCarried l.attempts h g moved
   pub only : AreOnly k moved g
 
 -- that was found of two managers, whose first passes have seen this
-abbrev pub FoundWhole : Limits → Limits → List Alive → List Moved → List PassShown → List PassShown → List PassShown → List PassShown → Type 0
+abbrev pub FoundWhole : Limits → Limits → List Alive → List Moved → List PassShown → List PassShown
+    → List PassShown → List PassShown → Type 0
 FoundWhole l k alive moved olds olds' news news' =
     seen_first olds' ≡ seen_first olds → seen_first news' ≡ seen_first news
-    → IsWhole l k alive moved (seen_first olds) (seen_first news)
+    → IsCarriedWhole l k alive moved (seen_first olds) (seen_first news)
 
 -- the first pass has killed these, and the others did nothing
 pub record KillsAll (moved : List Moved) (olds news : List PassShown) : Type 0 where

@@ -4,8 +4,8 @@ use Rattle.tp_model.specs.declared.event.Event.{Event}
 use Rattle.tp_manager.specs.Shown.{PassShown}
 
 -- if the pass has seen nothing new, this holds of what it has seen
-abbrev pub Told : PassShown → PassShown → (List Event → Type 0) → Type 0
-Told old new Holds = new.seen ≡ old.seen → Holds old.seen
+abbrev pub HoldsAsSeen : PassShown → PassShown → (List Event → Type 0) → Type 0
+HoldsAsSeen old new Holds = new.seen ≡ old.seen → Holds old.seen
 
 -- what the first of these passes has seen
 abbrev pub seen_first : List PassShown → List Event
@@ -17,5 +17,6 @@ abbrev pub ToldFirst : List PassShown → List PassShown → (List Event → Typ
 ToldFirst olds news Holds = seen_first news ≡ seen_first olds → Holds (seen_first olds)
 
 -- the same of a pass of each of two managers
-abbrev pub ToldBoth : PassShown → PassShown → PassShown → PassShown → (List Event → List Event → Type 0) → Type 0
+abbrev pub ToldBoth : PassShown → PassShown → PassShown → PassShown → (List Event → List Event → Type 0)
+    → Type 0
 ToldBoth old new old' new' Holds = new.seen ≡ old.seen → new'.seen ≡ old'.seen → Holds old.seen old'.seen

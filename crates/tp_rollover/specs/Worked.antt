@@ -22,7 +22,8 @@ output id stage w = record { id = id; stage = stage; root = 0; body = word w; by
 
 -- a request of which three elements are born: one is consumed, one waits, and one is parked
 abbrev pub before : List Event
-before = Enqueue 0 (request 0 1 (word 5)) ∷ Claim 0 0 0 1 ∷ Commit 0 0 (output 1 2 10 ∷ output 2 2 20 ∷ output 3 3 30 ∷ []) ∷ Claim 0 1 1 1 ∷ Commit 0 1 [] ∷ Claim 0 2 3 1 ∷ Abort 0 2 ∷ []
+before = Enqueue 0 (request 0 1 (word 5)) ∷ Claim 0 0 0 1 ∷ Commit 0 0 (output 1 2 10 ∷ output 2 2 20
+    ∷ output 3 3 30 ∷ []) ∷ Claim 0 1 1 1 ∷ Commit 0 1 [] ∷ Claim 0 2 3 1 ∷ Abort 0 2 ∷ []
 
 -- the two that are alive, and what they are in the new manager
 abbrev pub first_moved : Moved
@@ -33,11 +34,13 @@ second_moved = record { old = 3; new = 2; old_root = 0; new_root = 0 }
 
 -- there a carrier is their root, and the second one has its attempt
 abbrev pub anew : List Event
-anew = Enqueue 0 (request 0 1 (word 5)) ∷ Claim 0 0 0 1 ∷ Commit 0 0 (output 1 2 20 ∷ output 2 3 30 ∷ []) ∷ Claim 0 1 2 1 ∷ Abort 0 1 ∷ []
+anew = Enqueue 0 (request 0 1 (word 5)) ∷ Claim 0 0 0 1 ∷ Commit 0 0 (output 1 2 20 ∷ output 2 3 30 ∷ [])
+    ∷ Claim 0 1 2 1 ∷ Abort 0 1 ∷ []
 
 -- this is a rollover, and it is none where an element that was alive is left out
 pub record WorkedPair : Type 0 where
-  pub over : RollsOver small small 0 before (before ++ Kill 0 2 ∷ Kill 0 3 ∷ []) anew (first_moved ∷ second_moved ∷ [])
+  pub over : RollsOver small small 0 before (before ++ Kill 0 2 ∷ Kill 0 3 ∷ []) anew (first_moved
+      ∷ second_moved ∷ [])
   pub waits : status_of 1 anew 1 ≡ Waiting 0
   pub parked : status_of 1 anew 2 ≡ Parked 1
   pub left_out : ¬ RollsOver small small 0 before (before ++ Kill 0 2 ∷ []) anew (first_moved ∷ [])

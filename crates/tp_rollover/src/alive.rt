@@ -3,10 +3,10 @@ ghost use Rattle.std.specs.Prelude.{◌≡◌, ◌++◌, IfOk, OnOk};
 ghost use Rattle.tp_manager.specs.Shown.{IsOf};
 ghost use Rattle.tp_alone.specs.Thread.{Stays};
 ghost use Rattle.tp_rollover.specs.Finding.{AreAlive, IsAliveAt, listed};
-ghost use Rattle.tp_rollover.specs.Told.{Told};
+ghost use Rattle.tp_rollover.specs.Told.{HoldsAsSeen};
 
-use crate::looking::look;
-use crate::moved::RollFault;
+use crate::looks::look;
+use crate::stops::Stop;
 use std::alloc::Global;
 use tp_manager::{Manager, Pass};
 use tp_model::types::Status;
@@ -18,12 +18,14 @@ pub(crate) struct Alive {
     pub root: u32,
 }
 
-/// The element of the row where it is alive, `None` where it isn't or none is born. `Busy` where it is held.
-fn alive_at(manager: &Manager, pass: &mut Pass, row: u32) -> Result<Option<Alive>, RollFault>
+/// The element of the row where it is alive, `None` where it isn't or none is born. It
+/// isn't held, since no pass has a unit open.
+fn alive_at(manager: &Manager, pass: &mut Pass, row: u32) -> Result<Option<Alive>, Stop>
     requires own { IsOf manager.now pass.old }
     ensures own { IsOf manager.now pass.new }
     ensures stays { Stays pass.old pass.new }
-    ensures told { IfOk result (λ found. Told pass.old pass.new (IsAliveAt manager.now.limits.attempts row found)) }
+    ensures told { IfOk result (λ found.
+        HoldsAsSeen pass.old pass.new (IsAliveAt manager.now.limits.attempts row found)) }
 {
     let Some(found) = look(manager, pass, row) else {
         return Ok(None);
@@ -35,21 +37,21 @@ fn alive_at(manager: &Manager, pass: &mut Pass, row: u32) -> Result<Option<Alive
         Status::Held {
             unit: _,
             attempt: _,
-        } => Err(RollFault::Busy),
+        } => Err(Stop::Unequal),
         Status::Consumed { unit: _ } => Ok(None),
         Status::Killed => Ok(None),
     }
 }
 
 /// Puts what was found behind the others.
-fn keep(found: &mut Vec<Alive>, one: Option<Alive>) -> Result<(), RollFault>
+fn keep(found: &mut Vec<Alive>, one: Option<Alive>) -> Result<(), Stop>
     ensures kept { OnOk result (found.new.items ≡ found.old.items ++ listed one) }
 {
     match one {
         None => Ok(()),
         Some(one) => match found.push(one) {
             Ok(()) => Ok(()),
-            Err(_) => Err(RollFault::NoMemory),
+            Err(_) => Err(Stop::NoMemory),
         },
     }
 }
@@ -59,11 +61,12 @@ pub(crate) fn find_alive(
     alloc: Global,
     manager: &Manager,
     pass: &mut Pass,
-) -> Result<Vec<Alive>, RollFault>
+) -> Result<Vec<Alive>, Stop>
     requires own { IsOf manager.now pass.old }
     ensures own { IsOf manager.now pass.new }
     ensures stays { Stays pass.old pass.new }
-    ensures told { IfOk result (λ found. Told pass.old pass.new (AreAlive manager.now.limits found.items)) }
+    ensures told { IfOk result (λ found.
+        HoldsAsSeen pass.old pass.new (AreAlive manager.now.limits found.items)) }
 {
     let mut found = Vec::new(alloc);
     for row in 0..manager.capacity() {

@@ -1,5 +1,5 @@
-//! What is alive in the old manager is born in the new one. Nothing is promised here but that the old pass only
-//! looks, and that the new passes stay those of their manager: what was born is checked afterwards.
+//! What is alive in the old manager is born in the new one. Nothing is promised here but that the old pass
+//! only looks, and that the new passes stay those of their manager: what was born is checked afterwards.
 ghost use Rattle.std.specs.Prelude.{◌≡◌, ◌≤◌, All, length};
 ghost use Rattle.tp_manager.specs.Shown.{IsOf};
 ghost use Rattle.tp_alone.specs.Thread.{Stays};
@@ -7,9 +7,10 @@ ghost use Rattle.tp_rollover.specs.Passes.{numbers};
 
 use crate::alive::Alive;
 use crate::calls::{bear_by, submit_by};
-use crate::looking::look;
-use crate::moved::{Moved, RollFault};
+use crate::looks::look;
+use crate::moved::Moved;
 use crate::places::Cursor;
+use crate::stops::Stop;
 use std::alloc::Global;
 use tp_manager::{Manager, Pass};
 use tp_model::types::{Draft, Limits};
@@ -38,7 +39,7 @@ fn home_of(limits: Limits, id: u32) -> usize {
 }
 
 /// A place for the family of each root, with how many of its elements are alive.
-fn count_families(alloc: Global, capacity: u32, alive: &[Alive]) -> Result<Vec<Family>, RollFault> {
+fn count_families(alloc: Global, capacity: u32, alive: &[Alive]) -> Result<Vec<Family>, Stop> {
     let mut families = Vec::new(alloc);
     for _ in 0..capacity {
         let family = Family {
@@ -46,7 +47,7 @@ fn count_families(alloc: Global, capacity: u32, alive: &[Alive]) -> Result<Vec<F
             left: 0,
         };
         if families.push(family).is_err() {
-            return Err(RollFault::NoMemory);
+            return Err(Stop::NoMemory);
         }
     }
     for one in alive {
@@ -101,17 +102,17 @@ fn submit_copy(
     passes: &mut [Pass],
     cursor: &mut Cursor,
     home: usize,
-) -> Result<u32, RollFault>
+) -> Result<u32, Stop>
     requires own { IsOf old.now pass.old × All (IsOf new.now) passes.old }
     ensures own { IsOf old.now pass.new × All (IsOf new.now) passes.new }
     ensures stays { Stays pass.old pass.new }
     ensures numbers { numbers passes.new ≡ numbers passes.old }
 {
     let Some(found) = look(old, pass, root) else {
-        return Err(RollFault::Unequal);
+        return Err(Stop::Unequal);
     };
     let Some(at) = cursor.next(new, passes, home, 1, 0) else {
-        return Err(RollFault::Full);
+        return Err(Stop::Full);
     };
     submit_by(new, passes, at, found.element.stage, found.element.body)
 }
@@ -122,7 +123,7 @@ fn drafts_of(
     pass: &mut Pass,
     group: &[Alive],
     drafts: &mut [Draft; 4],
-) -> Result<(), RollFault>
+) -> Result<(), Stop>
     requires own { IsOf old.now pass.old }
     requires few { length group.now ≤ 4 }
     ensures own { IsOf old.now pass.new }
@@ -130,17 +131,18 @@ fn drafts_of(
 {
     for place in 0..group.len() {
         let Some(found) = look(old, pass, group[place].id) else {
-            return Err(RollFault::Unequal);
+            return Err(Stop::Unequal);
         };
         let Some(draft) = Draft::new(found.element.stage, found.element.body) else {
-            return Err(RollFault::Unequal);
+            return Err(Stop::Unequal);
         };
         drafts[place] = draft;
     }
     Ok(())
 }
 
-/// These elements, and a further carrier where there is to be one, are born of the carrier. The id of the first.
+/// These elements, and a further carrier where there is to be one, are born of the carrier. The id of the
+/// first.
 fn bear_group(
     old: &Manager,
     pass: &mut Pass,
@@ -150,7 +152,7 @@ fn bear_group(
     new: &Manager,
     passes: &mut [Pass],
     cursor: &mut Cursor,
-) -> Result<u32, RollFault>
+) -> Result<u32, Stop>
     requires own { IsOf old.now pass.old × All (IsOf new.now) passes.old }
     requires some { 1 ≤ length group.now }
     requires few { length group.now ≤ 4 }
@@ -159,7 +161,7 @@ fn bear_group(
     ensures numbers { numbers passes.new ≡ numbers passes.old }
 {
     let Some(filler) = Draft::new(1, [0; 4]) else {
-        return Err(RollFault::Unequal);
+        return Err(Stop::Unequal);
     };
     let mut drafts = [filler; 4];
     drafts_of(old, pass, group, &mut drafts)?;
@@ -170,7 +172,7 @@ fn bear_group(
     };
     let home = home_of(old.limits(), group[0].id);
     let Some(at) = cursor.next(new, passes, home, count as u16, 1) else {
-        return Err(RollFault::Full);
+        return Err(Stop::Full);
     };
     bear_by(new, passes, at, carrier, &drafts[..count])
 }
@@ -184,7 +186,7 @@ fn bear_next(
     passes: &mut [Pass],
     families: &mut [Family],
     cursor: &mut Cursor,
-) -> Result<Group, RollFault>
+) -> Result<Group, Stop>
     requires own { IsOf old.now pass.old × All (IsOf new.now) passes.old }
     requires some { 1 ≤ length rest.now }
     ensures own { IsOf old.now pass.new × All (IsOf new.now) passes.new }
@@ -195,7 +197,7 @@ fn bear_next(
     let limits = old.limits();
     let place = next.root as usize;
     if place >= families.len() {
-        return Err(RollFault::Unequal);
+        return Err(Stop::Unequal);
     }
     let family = families[place];
     let (root, carrier) = match family.carrier {
@@ -224,7 +226,7 @@ fn bear_next(
 }
 
 /// Names the elements of a group that was born.
-fn name(moved: &mut Vec<Moved>, rest: &[Alive], group: Group) -> Result<(), RollFault> {
+fn name(moved: &mut Vec<Moved>, rest: &[Alive], group: Group) -> Result<(), Stop> {
     let mut new = group.first;
     for place in 0..group.count.min(rest.len()) {
         let one = Moved {
@@ -234,7 +236,7 @@ fn name(moved: &mut Vec<Moved>, rest: &[Alive], group: Group) -> Result<(), Roll
             new_root: group.root,
         };
         if moved.push(one).is_err() {
-            return Err(RollFault::NoMemory);
+            return Err(Stop::NoMemory);
         }
         new = new.saturating_add(1);
     }
@@ -249,7 +251,7 @@ pub(crate) fn bear_all(
     alive: &[Alive],
     new: &Manager,
     passes: &mut [Pass],
-) -> Result<Vec<Moved>, RollFault>
+) -> Result<Vec<Moved>, Stop>
     requires own { IsOf old.now pass.old × All (IsOf new.now) passes.old }
     ensures own { IsOf old.now pass.new × All (IsOf new.now) passes.new }
     ensures stays { Stays pass.old pass.new }

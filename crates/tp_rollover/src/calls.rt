@@ -1,19 +1,19 @@
-//! The calls on the new manager, each by the pass with an index. They promise nothing but that the passes stay
-//! those of the manager: what they have made is checked when all is born.
+//! The calls on the new manager, each by the pass with an index. They promise nothing but that the passes
+//! stay those of the manager: what they have made is checked when all is born.
 ghost use Rattle.std.specs.Prelude.{◌≡◌, ◌≤◌, All, None, length};
 ghost use Rattle.tp_manager.specs.Shown.{IsOf};
 ghost use Rattle.tp_rollover.specs.Passes.{numbers};
 
-use crate::moved::RollFault;
+use crate::stops::Stop;
 use tp_manager::{Manager, Pass};
 use tp_model::types::{Body, Draft, Outcome, Refusal};
 
 /// What a claim or another call was refused for.
-fn fault_of(refusal: Refusal) -> RollFault {
+fn fault_of(refusal: Refusal) -> Stop {
     match refusal {
-        Refusal::NoUnit => RollFault::Full,
-        Refusal::Full => RollFault::Full,
-        _ => RollFault::Unequal,
+        Refusal::NoUnit => Stop::Full,
+        Refusal::Full => Stop::Full,
+        _ => Stop::Unequal,
     }
 }
 
@@ -24,18 +24,18 @@ pub(crate) fn submit_by(
     at: usize,
     stage: u8,
     body: Body,
-) -> Result<u32, RollFault>
+) -> Result<u32, Stop>
     requires own { All (IsOf manager.now) passes.old }
     ensures own { All (IsOf manager.now) passes.new }
     ensures numbers { numbers passes.new ≡ numbers passes.old }
 {
     if at >= passes.len() {
-        return Err(RollFault::Full);
+        return Err(Stop::Full);
     }
     submit_one(manager, &mut passes[at], stage, body)
 }
 
-fn submit_one(manager: &Manager, pass: &mut Pass, stage: u8, body: Body) -> Result<u32, RollFault>
+fn submit_one(manager: &Manager, pass: &mut Pass, stage: u8, body: Body) -> Result<u32, Stop>
     requires own { IsOf manager.now pass.old }
     ensures own { IsOf manager.now pass.new }
     ensures number { pass.new.number ≡ pass.old.number }
@@ -53,37 +53,32 @@ pub(crate) fn bear_by(
     at: usize,
     carrier: u32,
     drafts: &[Draft],
-) -> Result<u32, RollFault>
+) -> Result<u32, Stop>
     requires own { All (IsOf manager.now) passes.old }
     requires few { length drafts.now ≤ 4 }
     ensures own { All (IsOf manager.now) passes.new }
     ensures numbers { numbers passes.new ≡ numbers passes.old }
 {
     if at >= passes.len() {
-        return Err(RollFault::Full);
+        return Err(Stop::Full);
     }
     bear_one(manager, &mut passes[at], carrier, drafts)
 }
 
-fn bear_one(
-    manager: &Manager,
-    pass: &mut Pass,
-    carrier: u32,
-    drafts: &[Draft],
-) -> Result<u32, RollFault>
+fn bear_one(manager: &Manager, pass: &mut Pass, carrier: u32, drafts: &[Draft]) -> Result<u32, Stop>
     requires own { IsOf manager.now pass.old }
     requires few { length drafts.now ≤ 4 }
     ensures own { IsOf manager.now pass.new }
     ensures number { pass.new.number ≡ pass.old.number }
 {
     if pass.has_open() {
-        return Err(RollFault::Unequal);
+        return Err(Stop::Unequal);
     }
     match manager.claim_id(pass, carrier) {
         Ok(_) => match manager.commit(pass, drafts) {
             Outcome::Committed { first, count: _ } => Ok(first),
-            Outcome::Lost => Err(RollFault::Unequal),
-            Outcome::Full => Err(RollFault::Full),
+            Outcome::Lost => Err(Stop::Unequal),
+            Outcome::Full => Err(Stop::Full),
         },
         Err(refusal) => Err(fault_of(refusal)),
     }
@@ -95,24 +90,24 @@ pub(crate) fn attempt_by(
     passes: &mut [Pass],
     at: usize,
     id: u32,
-) -> Result<(), RollFault>
+) -> Result<(), Stop>
     requires own { All (IsOf manager.now) passes.old }
     ensures own { All (IsOf manager.now) passes.new }
     ensures numbers { numbers passes.new ≡ numbers passes.old }
 {
     if at >= passes.len() {
-        return Err(RollFault::Full);
+        return Err(Stop::Full);
     }
     attempt_one(manager, &mut passes[at], id)
 }
 
-fn attempt_one(manager: &Manager, pass: &mut Pass, id: u32) -> Result<(), RollFault>
+fn attempt_one(manager: &Manager, pass: &mut Pass, id: u32) -> Result<(), Stop>
     requires own { IsOf manager.now pass.old }
     ensures own { IsOf manager.now pass.new }
     ensures number { pass.new.number ≡ pass.old.number }
 {
     if pass.has_open() {
-        return Err(RollFault::Unequal);
+        return Err(Stop::Unequal);
     }
     match manager.claim_id(pass, id) {
         Ok(_) => {
@@ -129,18 +124,18 @@ pub(crate) fn requeue_by(
     passes: &mut [Pass],
     at: usize,
     id: u32,
-) -> Result<(), RollFault>
+) -> Result<(), Stop>
     requires own { All (IsOf manager.now) passes.old }
     ensures own { All (IsOf manager.now) passes.new }
     ensures numbers { numbers passes.new ≡ numbers passes.old }
 {
     if at >= passes.len() {
-        return Err(RollFault::Full);
+        return Err(Stop::Full);
     }
     requeue_one(manager, &mut passes[at], id)
 }
 
-fn requeue_one(manager: &Manager, pass: &mut Pass, id: u32) -> Result<(), RollFault>
+fn requeue_one(manager: &Manager, pass: &mut Pass, id: u32) -> Result<(), Stop>
     requires own { IsOf manager.now pass.old }
     ensures own { IsOf manager.now pass.new }
     ensures number { pass.new.number ≡ pass.old.number }

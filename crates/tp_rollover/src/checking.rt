@@ -3,12 +3,13 @@ ghost use Rattle.std.specs.Prelude.{◌≡◌, true, length, IsSome};
 ghost use Rattle.tp_model.specs.Steps.{IsKillable};
 ghost use Rattle.tp_manager.specs.Shown.{IsOf};
 ghost use Rattle.tp_alone.specs.Thread.{Stays};
-ghost use Rattle.tp_rollover.specs.Checks.{AreCarried, AreOnly, AreTheSame, Ascend, IsAlike, IsNamedOrConsumed};
+ghost use Rattle.tp_rollover.specs.Checks.{AreCarried, AreOnly, AreTheSame, MovedAscend, IsAlike};
+ghost use Rattle.tp_rollover.specs.Checks.{IsNamedOrConsumed};
 ghost use Rattle.tp_rollover.specs.Rolls.{IsCarried};
-ghost use Rattle.tp_rollover.specs.Told.{Told, ToldBoth};
+ghost use Rattle.tp_rollover.specs.Told.{HoldsAsSeen, ToldBoth};
 
 use crate::alive::Alive;
-use crate::looking::{look, rounds_had};
+use crate::looks::{look, rounds_had};
 use crate::moved::Moved;
 use tp_manager::{Manager, Pass};
 use tp_model::types::{Look, Status};
@@ -116,7 +117,7 @@ fn row_is_told(
     requires own { IsOf manager.now pass.old }
     ensures own { IsOf manager.now pass.new }
     ensures stays { Stays pass.old pass.new }
-    ensures told { IsSome result → Told pass.old pass.new
+    ensures told { IsSome result → HoldsAsSeen pass.old pass.new
         (IsNamedOrConsumed manager.now.limits.attempts row moved.now) }
 {
     let Some(found) = look(manager, pass, row) else {
@@ -139,7 +140,7 @@ pub(crate) fn are_only(manager: &Manager, pass: &mut Pass, moved: &[Moved]) -> b
     requires own { IsOf manager.now pass.old }
     ensures own { IsOf manager.now pass.new }
     ensures stays { Stays pass.old pass.new }
-    ensures told { result ≡ true → Told pass.old pass.new (AreOnly manager.now.limits moved.now) }
+    ensures told { result ≡ true → HoldsAsSeen pass.old pass.new (AreOnly manager.now.limits moved.now) }
 {
     let mut place = 0;
     for row in 0..manager.capacity() {
@@ -168,7 +169,7 @@ pub(crate) fn are_the_same(alive: &[Alive], moved: &[Moved]) -> bool
 
 /// Whether the ids ascend in both managers.
 pub(crate) fn ascend(moved: &[Moved]) -> bool
-    ensures { result ≡ true → Ascend moved.now }
+    ensures { result ≡ true → MovedAscend moved.now }
 {
     let mut old = 0;
     let mut new = 0;

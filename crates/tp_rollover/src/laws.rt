@@ -19,8 +19,8 @@ pub fn old_is_over()
     ensures { OldIsOver }
 {}
 
-/// A worked rollover, of a family of which one element waits and one is parked. The laws are of such pairs. Where one
-/// that was alive is left out, it is none.
+/// A worked rollover, of a family of which one element waits and one is parked. The laws are of such pairs.
+/// Where one that was alive is left out, it is none.
 pub fn worked_pair()
     ensures { WorkedPair }
 {}

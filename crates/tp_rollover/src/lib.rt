@@ -8,11 +8,12 @@ mod checking;
 mod closing;
 mod families;
 pub mod laws;
-mod looking;
+mod looks;
 pub mod moved;
 mod places;
 mod replays;
 mod rolling;
+mod stops;
 
 pub use moved::{Moved, RollFault};
 pub use rolling::roll_over;

@@ -10,6 +10,8 @@ pub struct Moved {
 }
 
 /// Why nothing was carried over. The old manager stands as it did; the new one is to be given up.
+/// `BadLimits`,
+/// `NoPass` and `Busy` are told before any call, the first of them in this order that applies.
 #[derive(Clone, Copy, Debug, PartialEq, Eq)]
 pub enum RollFault {
     /// Memory could not be had.
@@ -18,9 +20,10 @@ pub enum RollFault {
     BadLimits,
     /// No pass of one of the managers was given out.
     NoPass,
-    /// A pass of the old manager has a unit of work open, or an element of it is held.
+    /// A pass of the old manager has a unit of work open.
     Busy,
-    /// The new manager has not the rows or the units for what is alive.
+    /// The new manager has not the rows or the units for what is alive. One of its passes has no unit left
+    /// then, or fewer than four rows and no spare block.
     Full,
     /// What stands in the new manager isn't what is alive in the old one, since something had happened there
     /// before. Where nothing had, this would be an error of this crate; it came in no test.

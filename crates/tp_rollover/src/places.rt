@@ -19,8 +19,9 @@ impl Cursor {
         Cursor { at: 0, block: None }
     }
 
-    /// The pass that makes so many elements next, with a unit of work or without. It is `home` where the parts
-    /// below that are all that is used, and the part of `home` has the rows; else a later part, or spare blocks.
+    /// The pass that makes so many elements next, with a unit of work or without. It is `home` where the
+    /// parts below that are all that is used, and the part of `home` has the rows; else a later part, or
+    /// spare blocks.
     pub(crate) fn next(
         &mut self,
         manager: &Manager,
@@ -45,7 +46,8 @@ impl Cursor {
         self.in_blocks(manager, passes, rows, units)
     }
 
-    /// The pass that goes on in spare blocks: the one that did, or else one that has too few rows and so draws.
+    /// The pass that goes on in spare blocks: the one that did, or else one that has too few rows and so
+    /// draws.
     fn in_blocks(
         &mut self,
         manager: &Manager,

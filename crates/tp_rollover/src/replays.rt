@@ -5,8 +5,9 @@ ghost use Rattle.tp_alone.specs.Thread.{Stays};
 ghost use Rattle.tp_rollover.specs.Passes.{numbers};
 
 use crate::calls::{attempt_by, requeue_by};
-use crate::looking::{look, rounds_had};
-use crate::moved::{Moved, RollFault};
+use crate::looks::{look, rounds_had};
+use crate::moved::Moved;
+use crate::stops::Stop;
 use tp_manager::{Manager, Pass};
 use tp_model::types::Status;
 
@@ -29,7 +30,7 @@ fn attempts(
     from: &mut usize,
     id: u32,
     times: u8,
-) -> Result<(), RollFault>
+) -> Result<(), Stop>
     requires own { All (IsOf new.now) passes.old }
     ensures own { All (IsOf new.now) passes.new }
     ensures numbers { numbers passes.new ≡ numbers passes.old }
@@ -48,7 +49,7 @@ fn rounds(
     from: &mut usize,
     id: u32,
     times: u8,
-) -> Result<(), RollFault>
+) -> Result<(), Stop>
     requires own { All (IsOf new.now) passes.old }
     ensures own { All (IsOf new.now) passes.new }
     ensures numbers { numbers passes.new ≡ numbers passes.old }
@@ -68,14 +69,14 @@ fn replay(
     passes: &mut [Pass],
     from: &mut usize,
     one: Moved,
-) -> Result<(), RollFault>
+) -> Result<(), Stop>
     requires own { IsOf old.now pass.old × All (IsOf new.now) passes.old }
     ensures own { IsOf old.now pass.new × All (IsOf new.now) passes.new }
     ensures stays { Stays pass.old pass.new }
     ensures numbers { numbers passes.new ≡ numbers passes.old }
 {
     let Some(found) = look(old, pass, one.old) else {
-        return Err(RollFault::Unequal);
+        return Err(Stop::Unequal);
     };
     let times = match found.status {
         Status::Waiting { attempts } => attempts,
@@ -83,12 +84,12 @@ fn replay(
         Status::Held {
             unit: _,
             attempt: _,
-        } => return Err(RollFault::Busy),
-        Status::Consumed { unit: _ } => return Err(RollFault::Unequal),
-        Status::Killed => return Err(RollFault::Unequal),
+        } => return Err(Stop::Unequal),
+        Status::Consumed { unit: _ } => return Err(Stop::Unequal),
+        Status::Killed => return Err(Stop::Unequal),
     };
     let Some(further) = rounds_had(old, pass, one.old) else {
-        return Err(RollFault::Unequal);
+        return Err(Stop::Unequal);
     };
     rounds(new, passes, from, one.new, further)?;
     attempts(new, passes, from, one.new, times)
@@ -101,7 +102,7 @@ pub(crate) fn replay_all(
     new: &Manager,
     passes: &mut [Pass],
     moved: &[Moved],
-) -> Result<(), RollFault>
+) -> Result<(), Stop>
     requires own { IsOf old.now pass.old × All (IsOf new.now) passes.old }
     ensures own { IsOf old.now pass.new × All (IsOf new.now) passes.new }
     ensures stays { Stays pass.old pass.new }

@@ -1,13 +1,15 @@
 //! The rollover.
-ghost use Rattle.std.specs.Prelude.{◌≡◌, ◌≤◌, All, None, IfErr, IfOk, OnOk, length, true, false};
+ghost use Rattle.std.specs.Prelude.{◌≡◌, ◌≢◌, ◌≤◌, All, Err, None, IfErr, IfOk, OnOk, length, true, false};
 ghost use Rattle.std.specs.List.{AllZip};
 ghost use Rattle.tp_manager.specs.Accounts.{AreAll};
 ghost use Rattle.tp_manager.specs.Shown.{IsKeptBy, IsOf};
 ghost use Rattle.tp_alone.specs.Thread.{Stays};
-ghost use Rattle.tp_rollover.specs.Answers.{IsReady, Rolls};
+ghost use Rattle.tp_rollover.specs.Answers.{IsReadyToKill, Rolls};
+ghost use Rattle.tp_rollover.specs.declared.moved.RollFault.TheVariants as faults;
+ghost use Rattle.tp_rollover.specs.Faults.{AreFree, IsDue, LacksPass};
 ghost use Rattle.tp_rollover.specs.Finding.{AreAlive};
 ghost use Rattle.tp_rollover.specs.Passes.{numbers};
-ghost use Rattle.tp_rollover.specs.Phases.{FoundWhole, IsWhole, KillsAll, StopsKilling};
+ghost use Rattle.tp_rollover.specs.Phases.{FoundWhole, IsCarriedWhole, KillsAll, StopsKilling};
 ghost use Rattle.tp_rollover.specs.Told.{ToldBoth, ToldFirst};
 
 use crate::alive::{Alive, find_alive};
@@ -17,12 +19,14 @@ use crate::closing::kill_all;
 use crate::families::are_families;
 use crate::moved::{Moved, RollFault};
 use crate::replays::replay_all;
+use crate::stops::{Stop, fault_after};
 use std::alloc::Global;
 use tp_manager::{Keeper, Manager, Pass};
 
 /// Whether one of these passes has a unit of work open.
 fn has_open(passes: &[Pass]) -> bool
-    ensures { result ≡ false → All (λ p. p.open_unit ≡ None) passes.now }
+    ensures free { result ≡ false → AreFree passes.now }
+    ensures busy { result ≡ true → ¬ AreFree passes.now }
 {
     for place in 0..passes.len() {
         if passes[place].has_open() {
@@ -32,16 +36,36 @@ fn has_open(passes: &[Pass]) -> bool
     false
 }
 
+/// Whether both managers have the same attempt limit.
+fn are_alike(old: &Manager, new: &Manager) -> bool
+    ensures alike { result ≡ true → new.now.limits.attempts ≡ old.now.limits.attempts }
+    ensures other { result ≡ false → new.now.limits.attempts ≢ old.now.limits.attempts }
+{
+    new.limits().attempts == old.limits().attempts
+}
+
+/// Whether no pass of one of the managers was given out.
+fn lacks_pass(olds: &[Pass], news: &[Pass]) -> bool
+    ensures lacks { result ≡ true → LacksPass olds.now news.now }
+    ensures has { result ≡ false → ¬ LacksPass olds.now news.now }
+{
+    if olds.len() == 0 {
+        return true;
+    }
+    news.len() == 0
+}
+
 /// All that is alive, as the first of the passes finds it.
-fn find(alloc: Global, manager: &Manager, passes: &mut [Pass]) -> Result<Vec<Alive>, RollFault>
+fn find(alloc: Global, manager: &Manager, passes: &mut [Pass]) -> Result<Vec<Alive>, Stop>
     requires own { All (IsOf manager.now) passes.old }
     ensures own { All (IsOf manager.now) passes.new }
     ensures stays { AllZip Stays passes.old passes.new }
-    ensures told { IfOk result (λ found. ToldFirst passes.old passes.new (AreAlive manager.now.limits found.items)) }
+    ensures told { IfOk result (λ found.
+        ToldFirst passes.old passes.new (AreAlive manager.now.limits found.items)) }
     ensures some { OnOk result (1 ≤ length passes.old) }
 {
     let Some((first, _rest)) = passes.split_first_mut() else {
-        return Err(RollFault::NoPass);
+        return Err(Stop::Unequal);
     };
     find_alive(alloc, manager, first)
 }
@@ -54,7 +78,7 @@ fn carry_by(
     new: &Manager,
     new_passes: &mut [Pass],
     alive: &[Alive],
-) -> Result<Vec<Moved>, RollFault>
+) -> Result<Vec<Moved>, Stop>
     requires own { IsOf old.now pass.old × All (IsOf new.now) new_passes.old }
     ensures own { IsOf old.now pass.new × All (IsOf new.now) new_passes.new }
     ensures stays { Stays pass.old pass.new }
@@ -73,7 +97,7 @@ fn carry(
     new: &Manager,
     new_passes: &mut [Pass],
     alive: &[Alive],
-) -> Result<Vec<Moved>, RollFault>
+) -> Result<Vec<Moved>, Stop>
     requires own { All (IsOf old.now) old_passes.old × All (IsOf new.now) new_passes.old }
     ensures own { All (IsOf old.now) old_passes.new }
     ensures new_own { All (IsOf new.now) new_passes.new }
@@ -81,7 +105,7 @@ fn carry(
     ensures numbers { numbers new_passes.new ≡ numbers new_passes.old }
 {
     let Some((first, _rest)) = old_passes.split_first_mut() else {
-        return Err(RollFault::NoPass);
+        return Err(Stop::Unequal);
     };
     carry_by(alloc, old, first, new, new_passes, alive)
 }
@@ -96,31 +120,31 @@ fn hold_by(
     new_pass: &mut Pass,
     alive: &[Alive],
     moved: &[Moved],
-) -> Result<(), RollFault>
+) -> Result<(), Stop>
     requires own { IsOf old.now pass.old × IsOf new.now new_pass.old }
     requires limit { new.now.limits.attempts ≡ old.now.limits.attempts }
     ensures own { IsOf old.now pass.new × IsOf new.now new_pass.new }
     ensures stays { Stays pass.old pass.new × Stays new_pass.old new_pass.new }
     ensures told { OnOk result (ToldBoth pass.old pass.new new_pass.old new_pass.new
-        (IsWhole old.now.limits new.now.limits alive.now moved.now)) }
+        (IsCarriedWhole old.now.limits new.now.limits alive.now moved.now)) }
 {
     if !are_the_same(alive, moved) {
-        return Err(RollFault::Unequal);
+        return Err(Stop::Unequal);
     }
     if !ascend(moved) {
-        return Err(RollFault::Unequal);
+        return Err(Stop::Unequal);
     }
     let Ok(families) = are_families(alloc, moved, old.capacity(), new.capacity()) else {
-        return Err(RollFault::NoMemory);
+        return Err(Stop::NoMemory);
     };
     if !families {
-        return Err(RollFault::Unequal);
+        return Err(Stop::Unequal);
     }
     if !all_carried(old, pass, new, new_pass, moved) {
-        return Err(RollFault::Unequal);
+        return Err(Stop::Unequal);
     }
     if !are_only(new, new_pass, moved) {
-        return Err(RollFault::Unequal);
+        return Err(Stop::Unequal);
     }
     Ok(())
 }
@@ -134,7 +158,7 @@ fn hold(
     new_passes: &mut [Pass],
     alive: &[Alive],
     moved: &[Moved],
-) -> Result<(), RollFault>
+) -> Result<(), Stop>
     requires own { All (IsOf old.now) old_passes.old × All (IsOf new.now) new_passes.old }
     requires limit { new.now.limits.attempts ≡ old.now.limits.attempts }
     ensures own { All (IsOf old.now) old_passes.new }
@@ -146,10 +170,10 @@ fn hold(
     ensures some { OnOk result (1 ≤ length new_passes.old) }
 {
     let Some((first, _rest)) = old_passes.split_first_mut() else {
-        return Err(RollFault::NoPass);
+        return Err(Stop::Unequal);
     };
     let Some((new_first, _others)) = new_passes.split_first_mut() else {
-        return Err(RollFault::NoPass);
+        return Err(Stop::Unequal);
     };
     hold_by(alloc, old, first, new, new_first, alive, moved)
 }
@@ -170,8 +194,8 @@ fn bury(manager: &Manager, passes: &mut [Pass], moved: &[Moved]) -> bool
     kill_all(manager, first, moved)
 }
 
-/// All up to the kills: what is alive has been born in the new manager, and was found to stand there as it does
-/// in the old one, in which nothing has happened.
+/// All up to the kills: what is alive has been born in the new manager, and was found to stand there as it
+/// does in the old one, in which nothing has happened.
 fn prepare(
     alloc: Global,
     old: &Manager,
@@ -180,7 +204,7 @@ fn prepare(
     new: &Manager,
     new_keeper: &mut Keeper,
     new_passes: &mut [Pass],
-) -> Result<Vec<Moved>, RollFault>
+) -> Result<Vec<Moved>, Stop>
     requires old_keeper { IsKeptBy old.now old_keeper.old }
     requires new_keeper { IsKeptBy new.now new_keeper.old }
     requires own { All (IsOf old.now) old_passes.old × All (IsOf new.now) new_passes.old }
@@ -193,7 +217,8 @@ fn prepare(
     ensures all { AreAll old_keeper.new old_passes.new }
     ensures new_all { AreAll new_keeper.new new_passes.new }
     ensures stays { AllZip Stays old_passes.old old_passes.new }
-    ensures ready { IfOk result (λ moved. IsReady old.now.limits new.now.limits old_keeper.new new_keeper.new
+    ensures ready { IfOk result (λ moved.
+        IsReadyToKill old.now.limits new.now.limits old_keeper.new new_keeper.new
         old_passes.old old_passes.new new_passes.new moved.items) }
 {
     old_keeper.gather(old, old_passes);
@@ -216,10 +241,10 @@ fn prepare(
 }
 
 /// All that is alive in the old manager, each element once, goes on in the new one, and nothing else does. What
-/// each is there, in the order of their ids, which is the same in both managers. In the old one all is consumed
-/// or killed then. The slices hold every pass of their manager that was given out, in order of number
-/// (`Keeper::has_all` tests this), and in the new one nothing has happened. Where it fails, nothing has changed
-/// in the old manager, and the new one is to be given up.
+/// each is there, in the order of their ids, which is the same in both managers. In the old one all is
+/// consumed or killed then. The slices hold every pass of their manager that was given out, in order of
+/// number (`Keeper::has_all` tests this), and in the new one nothing has happened. Where it fails, nothing
+/// has changed in the old manager, and the new one is to be given up.
 pub fn roll_over(
     alloc: Global,
     old: &Manager,
@@ -240,9 +265,21 @@ pub fn roll_over(
     ensures moved { IfOk result (λ moved. Rolls old.now.limits new.now.limits old_keeper.new new_keeper.new
         old_passes.old old_passes.new new_passes.new moved.items) }
     ensures refused { IfErr result (λ fault. AllZip Stays old_passes.old old_passes.new) }
+    ensures due { IfErr result (λ fault. IsDue old.now.limits new.now.limits old_passes.old new_passes.old
+        new_passes.new fault) }
+    ensures bad_limits { new.now.limits.attempts ≢ old.now.limits.attempts → result ≡ Err faults.BadLimits }
+    ensures no_pass { new.now.limits.attempts ≡ old.now.limits.attempts
+        → LacksPass old_passes.old new_passes.old
+        → result ≡ Err faults.NoPass }
+    ensures busy { new.now.limits.attempts ≡ old.now.limits.attempts
+        → ¬ LacksPass old_passes.old new_passes.old
+        → ¬ AreFree old_passes.old → result ≡ Err faults.Busy }
 {
-    if old.limits().attempts != new.limits().attempts {
+    if !are_alike(old, new) {
         return Err(RollFault::BadLimits);
+    }
+    if lacks_pass(old_passes, new_passes) {
+        return Err(RollFault::NoPass);
     }
     if has_open(old_passes) {
         return Err(RollFault::Busy);
@@ -251,7 +288,7 @@ pub fn roll_over(
         alloc, old, old_keeper, old_passes, new, new_keeper, new_passes,
     ) {
         Ok(moved) => moved,
-        Err(fault) => return Err(fault),
+        Err(stop) => return Err(fault_after(stop, new, new_passes)),
     };
     let done = bury(old, old_passes, &moved);
     old_keeper.gather(old, old_passes);

@@ -20,9 +20,9 @@ use Rattle.tp_words.specs.Places.{Word, HeadWord, BodyWord, ClaimWord, UnitWord,
 use Rattle.tp_words.specs.Words.{IsFitHead, IsFitUnit, head_of, pack_by, pack_head, pack_unit}
 use Rattle.tp_rule.specs.Doors.{Permits}
 use Rattle.tp_rule.specs.Plays.{exchanges_commit, exchanges_abort}
-use Rattle.tp_rule.specs.Rule.{AreFrom, HandHolds, Holds, RowsHold, Rule, Told, UnitsHold, drawn_in}
+use Rattle.tp_rule.specs.Rule.{HaveIdsFrom, HandHolds, Holds, RowsHold, Rule, WordIs, UnitsHold, drawn_in}
 use Rattle.tp_model.specs.Passes.{Ascend}
-use Rattle.tp_rule.specs.Steps.{IsOut, after, unchanged, with_end, with_lost, IsOwnWork, IsClaimed, committed, Grew, Loses}
+use Rattle.tp_rule.specs.Steps.{IsOut, after, unchanged, with_end, with_lost, IsOwnWork, IsClaimed, committed, Grew, LosesUnit}
 use Rattle.tp_rule.specs.Views.{IsOnePass, hand}
 use Rattle.tp_rule.specs.declared.view.Hand.{Hand}
 use Rattle.tp_rule.specs.declared.view.View.{View}
@@ -58,12 +58,12 @@ abort_else c v u w ne = ap (option_or w) (if_other v u _ None (λ e. ne (sym e))
 abort_here : (c v : ℕ) → decide v None (Abort c v) ≡ (Some Aborted)
 abort_here c v = if_same v v _ None refl
 
-run_first : (i : ℕ) (xs : List Element) → AreFrom i xs → AreFrom (first_id xs) xs
+run_first : (i : ℕ) (xs : List Element) → HaveIdsFrom i xs → HaveIdsFrom (first_id xs) xs
 run_first i [] r = tt
-run_first i (x ∷ xs) r = (refl, subst (λ z. AreFrom (z + 1) xs) (sym r.0) r.1)
+run_first i (x ∷ xs) r = (refl, subst (λ z. HaveIdsFrom (z + 1) xs) (sym r.0) r.1)
 
 -- drafts in unborn rows that the pass may use are outputs of the unit
-are_outputs : (k : Limits) (h : List Event) (c u root i : ℕ) (outs : List Element) → AreFrom i outs → ((y : Element) → In y outs → MayUse k h c y.id × IsUnborn h y.id) → ((y : Element) → In y outs → IsOut u root y) → AreOutputs k h c u root i outs
+are_outputs : (k : Limits) (h : List Event) (c u root i : ℕ) (outs : List Element) → HaveIdsFrom i outs → ((y : Element) → In y outs → MayUse k h c y.id × IsUnborn h y.id) → ((y : Element) → In y outs → IsOut u root y) → AreOutputs k h c u root i outs
 are_outputs k h c u root i [] from places outs_so = tt
 are_outputs k h c u root i (y ∷ ys) from places outs_so = let p = places y here in let o = outs_so y here in (
   record {
@@ -109,7 +109,7 @@ module _ (k : Limits) where
 
   -- what the words tell after an event that decides unit u, where those of each row that is born hold its element
   decided_told : (h : List Event) (ws : List ℕ) (e : Event) (u : ℕ) → ((i : ℕ) → claim_word_after i (claim_word h i) e ≡ claim_word h i) → ((z : ℕ) → z ≢ u → decide z (end_of h z) e ≡ end_of h z)
-      → ((y : Element) → In y (births e) → Holds ws y × IsFitHead (head_of y)) → (w : Word) → IsThere k w → w ≢ UnitWord u → Told h w (get_or ws (place_of k w) 0) → Told (h ++ e ∷ []) w (get_or ws (place_of k w) 0)
+      → ((y : Element) → In y (births e) → Holds ws y × IsFitHead (head_of y)) → (w : Word) → IsThere k w → w ≢ UnitWord u → WordIs h w (get_or ws (place_of k w) 0) → WordIs (h ++ e ∷ []) w (get_or ws (place_of k w) 0)
   decided_told h ws e u quiet else_is full (HeadWord i) at other old = head_later h e i (get_or ws (head_place i) 0) (λ y q id. let f = full y q in (subst (λ z. get_or ws (head_place z) 0 ≡ pack_head (head_of y)) id f.0.0, f.1)) old
   decided_told h ws e u quiet else_is full (BodyWord i j) at other old = body_later h e i (get_or ws (body_place i j) 0) (λ y. slice_index y.body j)
       (λ y q id. let holds = (full y q).0 in let below = at.1 in let whole = holds.2 in subst (λ z. get_or ws (body_place z j) 0 ≡ slice_index y.body j) id (holds.1 j (omega arith))) old
@@ -167,7 +167,7 @@ module _ (k : Limits) where
   first_of_none [] e = refl
   first_of_none (y ∷ ys) e = absurd (omega arith)
 
-  first_fits : (end first next left : ℕ) (ds : List Element) → AreLimits k → first + length ds ≡ next → next + left ≡ end → end ≤ rows_of k → AreFrom first ds → first_id ds < 65536
+  first_fits : (end first next left : ℕ) (ds : List Element) → AreLimits k → first + length ds ≡ next → next + left ≡ end → end ≤ rows_of k → HaveIdsFrom first ds → first_id ds < 65536
   first_fits end first next left [] fair count top inside r = omega arith
   first_fits end first next left (y ∷ ys) fair count top inside r = let id : y.id ≡ first = r.0 in let few = fair_rows k fair in omega arith
 
@@ -190,7 +190,7 @@ module _ (k : Limits) where
 
   -- the seat found its unit decided
   loses : (t : Turn k) (kind : StepKind) (p u : ℕ) → p ≡ unit_place k u → u < units_of k → (hand t.view).open_unit ≡ Some u → get_or t.state.words p 0 ≢ 0
-      → Rule k record { words = set t.state.words p (get_or t.state.words p 0); homes = t.state.homes; views = set t.state.views t.id (looking_after k t p kind with_lost) } × Loses kind t.view u (looking_after k t p kind with_lost)
+      → Rule k record { words = set t.state.words p (get_or t.state.words p 0); homes = t.state.homes; views = set t.state.views t.id (looking_after k t p kind with_lost) } × LosesUnit kind t.view u (looking_after k t p kind with_lost)
   loses t kind p u place room held miss = let mine = hand_holds k t in let own = mine.units.open_own u held in
       let gone = only_aborted (end_of t.rule.history u) (λ z. miss (ap (λ y. get_or t.state.words y 0) place ∙ ((t.rule.world.tells (UnitWord u) room).0 ∙ z))) own.uncommitted in
       let w = watched k t p kind with_lost (λ a. (refl, refl)) (lost_hand t.rule.history t.state.words u (hand t.view) held gone mine) in (w.0, (w.1, gone, own.kept))

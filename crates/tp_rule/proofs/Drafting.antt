@@ -12,11 +12,11 @@ use Rattle.tp_model.specs.Steps.{IsBody, block_first, rows_of}
 use Rattle.tp_model.proofs.Bridges.{begins_refl, in_either, in_one}
 use Rattle.tp_words.specs.Places.{Word, HeadWord, BodyWord, IsThere, head_place, body_place, place_of, size_of}
 use Rattle.tp_words.specs.Words.{head_of, pack_head}
-use Rattle.tp_words.specs.declared.words.Head.TheVariants.{There}
+use Rattle.tp_words.specs.declared.words.Head.TheVariants.{Filled}
 use Rattle.tp_rule.specs.Doors.{Permits}
 use Rattle.tp_rule.specs.Plays.{stores_word, stores_head}
-use Rattle.tp_rule.specs.Rule.{HandHolds, Holds, IsUnwritten, RowsHold, Rule, Told, drawn_in}
-use Rattle.tp_rule.specs.Steps.{drafted, with_word, with_draft, next_element, IsReady}
+use Rattle.tp_rule.specs.Rule.{HandHolds, Holds, IsUnwritten, RowsHold, Rule, WordIs, drawn_in}
+use Rattle.tp_rule.specs.Steps.{drafted, with_word, with_draft, next_element, HasBodyStored}
 use Rattle.tp_rule.specs.Views.{IsOnePass, blank_body, hand}
 use Rattle.tp_rule.specs.declared.view.Hand.{Hand}
 use Rattle.tp_rule.specs.declared.view.View.{View}
@@ -156,7 +156,7 @@ module _ (k : Limits) where
     next_tells w is i at = subst (IsMine k t) (row_is_next w i is at) next_own
 
     -- a store to a word of the row that the pass draws next, of which the history tells nothing
-    stores : (w : Word) (x : ℕ) → IsThere k w → body_row w ≡ Some next → Told t.rule.history w x → (f : Hand → Hand) → Stays k t f
+    stores : (w : Word) (x : ℕ) → IsThere k w → body_row w ≡ Some next → WordIs t.rule.history w x → (f : Hand → Hand) → Stays k t f
         → HandHolds k t.rule.history (set t.state.words (place_of k w) x) (f (me k t))
         → Rule k record { words = set t.state.words (place_of k w) x; homes = t.state.homes; views = set t.state.views t.id (drafted f t.view) }
     stores w x at is told f stays mine = let h = t.rule.history in let ws = t.state.words in let may = next_may w x is in moved k t record {
@@ -205,15 +205,15 @@ module _ (k : Limits) where
     (next t room, m, less, place, refl),
   )
 
-  pub heads : (v : View) (p x stage root u : ℕ) → IsReady v → 0 < (hand v).left → p ≡ head_place (hand v).next
-      → x ≡ pack_head (There stage root (Some u)) → 1 ≤ stage → stage ≤ 15 → root < 65536 → u < 65535
+  pub heads : (v : View) (p x stage root u : ℕ) → HasBodyStored v → 0 < (hand v).left → p ≡ head_place (hand v).next
+      → x ≡ pack_head (Filled stage root (Some u)) → 1 ≤ stage → stage ≤ 15 → root < 65536 → u < 65535
       → Permits k v p (λ _. x) (λ _ w. stores_head p x 0 v x w)
   heads v p x stage root u ready room place is pos top low small s r id at = let t : Turn k = record { state = s; rule = r; id = id; view = v; at = at; one = ready.0 } in let a : Hand = hand v in let b = hand_holds k t in let e : Element = next_element v stage root (Some u) in
       let here : e.id ≡ next t room = refl in let w : Word = HeadWord (next t room) in (
         drafted (with_draft e) v,
         subst (λ q. Rule k record { words = set s.words q x; homes = s.homes; views = set s.views id (drafted (with_draft e) v) }) (sym place)
             (stores t room w x (next_there t room) refl record {
-              head = There stage root (Some u);
+              head = Filled stage root (Some u);
               packed = is;
               fit = (pos, top, omega arith, omega arith);
               born = λ y p. let q : None ≡ Some y = sym (next_unborn t room) ∙ p in absurd cc;

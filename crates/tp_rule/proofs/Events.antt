@@ -13,7 +13,7 @@ use Rattle.tp_model.proofs.Bridges.{append_nil, begins_more, begins_refl, claim_
 use Rattle.tp_model.proofs.Histories.{legal_more}
 use Rattle.tp_model.proofs.WordProofs.{end_of-snoc}
 use Rattle.tp_words.specs.Places.{Word, MarkWord, DrawnWord, IsThere, place_of}
-use Rattle.tp_rule.specs.Rule.{HandHolds, Rule, Told, UnitsHold, World, drawn_in}
+use Rattle.tp_rule.specs.Rule.{HandHolds, Rule, WordIs, UnitsHold, World, drawn_in}
 use Rattle.tp_rule.specs.Steps.{IsSo, after, noted, unchanged, Found, Grew, Misses}
 use Rattle.tp_rule.specs.declared.view.Hand.{Hand}
 use Rattle.tp_rule.specs.declared.view.View.{View}
@@ -70,8 +70,8 @@ module _ (k : Limits) (t : Turn k) where
     pub step : Step k t.rule.history event
     -- the word tells it, and every other word tells what it has to
     pub there : IsThere k word
-    pub told : Told (t.rule.history ++ event ∷ []) word number
-    pub rest : (w : Word) → IsThere k w → w ≢ word → Told (t.rule.history ++ event ∷ []) w (get_or t.state.words (place_of k w) 0)
+    pub told : WordIs (t.rule.history ++ event ∷ []) word number
+    pub rest : (w : Word) → IsThere k w → w ≢ word → WordIs (t.rule.history ++ event ∷ []) w (get_or t.state.words (place_of k w) 0)
     -- it may be stored, and it is no mark and not the counter of drawn blocks
     pub may : MayStore k t.state.words word number
     pub unmarked : (s p : ℕ) → word ≡ MarkWord s p → ⊥

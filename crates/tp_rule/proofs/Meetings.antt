@@ -7,7 +7,7 @@ use Rattle.tp_model.specs.History.{In, here, there, events_by}
 use Rattle.tp_model.specs.Passes.{IsOwnOpen, IsRun}
 use Rattle.tp_model.proofs.Bridges.{in_left, in_right}
 use Rattle.tp_model.specs.Steps.{IsLegal}
-use Rattle.tp_rule.specs.Steps.{Grew, IsSo, Knows, Meets, front_of, joined, kept, looked, noted, parted, rest_of, unchanged}
+use Rattle.tp_rule.specs.Steps.{Grew, IsSo, Knows, SeatsMeet, front_of, joined, kept, looked, noted, parted, rest_of, unchanged}
 use Rattle.tp_rule.specs.Views.{IsOnePass, first_hand, hand}
 use Rattle.tp_rule.specs.declared.view.Hand.{Hand}
 use Rattle.tp_rule.specs.declared.view.Known.{Known}
@@ -66,7 +66,7 @@ module _ (v w j m x y : View) (one : IsOnePass v) (other : IsOnePass w) (join : 
       (λ e. subst (λ (b : Hand). IsRun v.limits z.seen b.number b.blocks b.next b.left) (sym e) old)
       (λ e. subst (λ (b : Hand). IsRun v.limits z.seen b.number b.blocks b.next b.left) (sym e) old) is
 
-  pub meets : Meets v w x y
+  pub meets : SeatsMeet v w x y
   meets = record {
     same = first_seen ∙ sym second_seen;
     legal = subst (λ (z : Limits). IsLegal z x.seen) (ap (λ (z : View). z.limits) join) (subst (IsLegal j.limits) (sym first_seen) g.legal);

@@ -10,7 +10,7 @@ use Rattle.tp_model.proofs.Histories.{legal_empty}
 use Rattle.tp_model.proofs.Bridges.{begins_refl, in_cons, in_here, in_none}
 use Rattle.tp_model.specs.History.{In, there}
 use Rattle.tp_model.specs.declared.types.Limits.{Limits}
-use Rattle.tp_rule.specs.Rule.{HandHolds, IsApart, MarkHolds, Owners, Rule, SeatHolds, Told}
+use Rattle.tp_rule.specs.Rule.{HandHolds, IsApart, MarkHolds, Owners, Rule, SeatHolds, WordIs}
 use Rattle.tp_rule.specs.Views.{first_view, fresh, fresh_from}
 use Rattle.tp_rule.proofs.Blanks.{blank_there, zeros}
 use Rattle.tp_rule.specs.declared.view.Hand.{Hand}
@@ -87,7 +87,7 @@ module _ (k : Limits) where
     drawers = λ b below. let none = zeros (size_of k) (drawn_place k) in absurd (omega arith);
   }
     where
-      zero_told : (w : Word) → IsThere k w → Told [] w (get_or (replicate (size_of k) 0) (place_of k w) 0)
+      zero_told : (w : Word) → IsThere k w → WordIs [] w (get_or (replicate (size_of k) 0) (place_of k w) 0)
       zero_told (HeadWord i) l = record { head = Empty; packed = zeros (size_of k) (head_place i); fit = tt; born = λ x p. absurd cc; draft = λ un. tt }
       zero_told (BodyWord i j) l = λ x p. absurd cc
       zero_told (ClaimWord i) l = (zeros (size_of k) (claim_place i), tt)

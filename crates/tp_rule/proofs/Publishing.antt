@@ -12,11 +12,11 @@ use Rattle.tp_model.proofs.Bridges.{born_at, by_own, in_none, in_one, new_birth,
 use Rattle.tp_model.proofs.Lists.{option_or-None}
 use Rattle.tp_words.specs.Places.{Word, HeadWord, BodyWord, ClaimWord, UnitWord, MarkWord, DrawnWord, IsThere, head_place, body_place, place_of, size_of}
 use Rattle.tp_words.specs.Words.{head_of, pack_head}
-use Rattle.tp_words.specs.declared.words.Head.TheVariants.{There}
+use Rattle.tp_words.specs.declared.words.Head.TheVariants.{Filled}
 use Rattle.tp_rule.specs.Doors.{Permits}
 use Rattle.tp_rule.specs.Plays.{publishes}
-use Rattle.tp_rule.specs.Rule.{RowsHold, Rule, Told, drawn_in}
-use Rattle.tp_rule.specs.Steps.{with_birth, next_element, birth, IsReady}
+use Rattle.tp_rule.specs.Rule.{RowsHold, Rule, WordIs, drawn_in}
+use Rattle.tp_rule.specs.Steps.{with_birth, next_element, birth, HasBodyStored}
 use Rattle.tp_rule.specs.Views.{blank_body, hand, next_row}
 use Rattle.tp_rule.specs.declared.view.Hand.{Hand}
 use Rattle.tp_rule.specs.declared.view.View.{View}
@@ -35,7 +35,7 @@ enqueue_quiet : (c : ℕ) (y : Element) (u : ℕ) (w : Option UnitEnd) → decid
 enqueue_quiet c y u w = option_or-None w
 
 -- what the words tell after the birth of a client's element whose body stands in its row
-birth_told : (h : List Event) (c : ℕ) (y : Element) (w : Word) (n : ℕ) → w ≢ HeadWord y.id → ((j : ℕ) → w ≡ BodyWord y.id j → n ≡ slice_index y.body j) → Told h w n → Told (h ++ Enqueue c y ∷ []) w n
+birth_told : (h : List Event) (c : ℕ) (y : Element) (w : Word) (n : ℕ) → w ≢ HeadWord y.id → ((j : ℕ) → w ≡ BodyWord y.id j → n ≡ slice_index y.body j) → WordIs h w n → WordIs (h ++ Enqueue c y ∷ []) w n
 birth_told h c y (HeadWord i) n other body old = head_later h (Enqueue c y) i n (λ x q id. absurd (other (ap HeadWord (sym id ∙ ap (λ (e : Element). e.id) (in_one q))))) old
 birth_told h c y (BodyWord i j) n other body old = body_later h (Enqueue c y) i n (λ e. slice_index e.body j)
     (λ x q id. let same = in_one q in body j (ap (λ z. BodyWord z j) (sym id ∙ ap (λ (e : Element). e.id) same)) ∙ ap (λ (e : Element). slice_index e.body j) (sym same)) old
@@ -61,8 +61,8 @@ module _ (k : Limits) (fair : AreLimits k) where
     written = λ z q. absurd (in_none q);
   }
 
-  pub births_go : (v : View) (p x stage : ℕ) → IsReady v → (hand v).drafts ≡ [] → 0 < (hand v).left → p ≡ head_place (hand v).next
-      → x ≡ pack_head (There stage (next_row v) None) → 1 ≤ stage → stage ≤ 14
+  pub births_go : (v : View) (p x stage : ℕ) → HasBodyStored v → (hand v).drafts ≡ [] → 0 < (hand v).left → p ≡ head_place (hand v).next
+      → x ≡ pack_head (Filled stage (next_row v) None) → 1 ≤ stage → stage ≤ 14
       → Permits k v p (λ _. x) (λ _ w. publishes p x 0 v x w)
   births_go v p x stage ready none_yet room place is pos top s r id at = let t : Turn k = record { state = s; rule = r; id = id; view = v; at = at; one = ready.0 } in let a : Hand = hand v in let y : Element = next_element v stage (next_row v) None in let e : Event = birth v stage in let h = r.history in
       let mine = hand_holds k t in let row : ℕ = next k t room in let w : Word = HeadWord row in

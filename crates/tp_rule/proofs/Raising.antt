@@ -11,11 +11,11 @@ use Rattle.tp_model.proofs.Bridges.{begins_refl, end_stays, found_later, in_cons
 use Rattle.tp_model.proofs.LawProofs.{settled_stay}
 use Rattle.tp_model.specs.History.{here, there, In}
 use Rattle.tp_words.specs.Places.{IsThere, MarkWord, mark_place}
-use Rattle.tp_words.specs.declared.words.Head.TheVariants.{There}
+use Rattle.tp_words.specs.declared.words.Head.TheVariants.{Filled}
 use Rattle.tp_rule.specs.Doors.{Permits}
 use Rattle.tp_rule.specs.Plays.{loads_mark, raises}
 use Rattle.tp_rule.specs.Rule.{HandHolds, IsFinished, IsInside, IsUseless, MarkHolds, Rule, StillSo, World}
-use Rattle.tp_rule.specs.Steps.{IsDone, IsLow, KnowsUseless, after, unchanged}
+use Rattle.tp_rule.specs.Steps.{KnowsFinished, IsLow, KnowsUseless, after, unchanged}
 use Rattle.tp_rule.specs.Views.{IsOnePass, hand}
 use Rattle.tp_rule.specs.declared.view.Hand.{Hand}
 use Rattle.tp_rule.specs.declared.view.Known.{Known}
@@ -50,10 +50,10 @@ module _ (k : Limits) where
       )
 
   -- what the seat knows finished is so
-  done_is : (t : Turn k) (i : ℕ) → IsDone t.view i → IsFinished k t.rule.history t.state.words i
+  done_is : (t : Turn k) (i : ℕ) → KnowsFinished t.view i → IsFinished k t.rule.history t.state.words i
   done_is t i d = let seat = seat_holds k t in let h = t.rule.history in ⊎_elim
       (λ s. inl (s.0, found_later t.view.seen h seat.seen i s.0 s.1, settled s.2))
-      (λ n. let so = seat.known (RowHead i (There n.0 n.1 (Some n.2))) n.3 in inr (n.0, n.1, n.2, so.1, so.2 (λ e. absurd cc), end_stays t.view.seen h n.2 Aborted seat.seen n.4)) d
+      (λ n. let so = seat.known (RowHead i (Filled n.0 n.1 (Some n.2))) n.3 in inr (n.0, n.1, n.2, so.1, so.2 (λ e. absurd cc), end_stays t.view.seen h n.2 Aborted seat.seen n.4)) d
     where
       settled : IsSettled (status_of t.view.limits.attempts t.view.seen i) → IsSettled (status_of k.attempts t.rule.history i)
       settled s = let now : IsSettled (status_of k.attempts t.view.seen i) = subst (λ (l : Limits). IsSettled (status_of l.attempts t.view.seen i)) (limits_are k t) s in

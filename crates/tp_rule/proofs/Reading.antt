@@ -1,6 +1,6 @@
 -- What a load tells of the place that it read.
 use Rattle.std.proofs.Common.{◌≡◌, ℕ, List, [], ◌∷◌, ◌++◌, map, sym, ◌∙◌, subst, ap, refl, append_assoc, ⊎_elim, Option, Some, None}
-use Rattle.tp_rule.specs.Rule.{IsDraft, Told}
+use Rattle.tp_rule.specs.Rule.{IsDraft, WordIs}
 use Rattle.tp_rule.specs.Views.{IsOnePass, first_hand, hand}
 use Rattle.tp_rule.specs.Steps.{Found, Loads, Misses, Grew, after, noted}
 use Rattle.tp_model.proofs.Bridges.{born_at, born_or_not}
@@ -16,18 +16,18 @@ use Rattle.tp_rule.specs.declared.view.View.{View}
 use Rattle.tp_words.specs.Places.{Word, IsThere, place_of}
 use Rattle.tp_words.specs.Words.{head_of}
 use Rattle.tp_words.specs.declared.words.Head.{Head}
-use Rattle.tp_words.specs.declared.words.Head.TheVariants.{There}
+use Rattle.tp_words.specs.declared.words.Head.TheVariants.{Filled}
 use mathlib.Core.List.{IsPrefix}
 
 -- what a load tells of a word that is there
-pub told : (v w : View) (l : Limits) (x : Word) (word r : ℕ) → v.limits ≡ l → IsThere l x → word ≡ place_of l x → Loads v word r w → Told w.seen x r
+pub told : (v w : View) (l : Limits) (x : Word) (word r : ℕ) → v.limits ≡ l → IsThere l x → word ≡ place_of l x → Loads v word r w → WordIs w.seen x r
 told v w l x word r lim there at t = t.1 x (subst (λ (z : Limits). IsThere z x) (sym lim) there) (at ∙ ap (λ (z : Limits). place_of z x) (sym lim))
 
 -- and what an exchange that failed does
-pub missed_told : (kind : StepKind) (v w : View) (l : Limits) (x : Word) (word r : ℕ) → v.limits ≡ l → IsThere l x → word ≡ place_of l x → Misses kind v word r w → Told w.seen x r
+pub missed_told : (kind : StepKind) (v w : View) (l : Limits) (x : Word) (word r : ℕ) → v.limits ≡ l → IsThere l x → word ≡ place_of l x → Misses kind v word r w → WordIs w.seen x r
 missed_told kind v w l x word r lim there at t = t.1 x (subst (λ (z : Limits). IsThere z x) (sym lim) there) (at ∙ ap (λ (z : Limits). place_of z x) (sym lim))
 
-pub found_told : (h : List Event) (k l : Limits) (x : Word) (word r : ℕ) → k ≡ l → IsThere l x → word ≡ place_of l x → Found k h word r → Told h x r
+pub found_told : (h : List Event) (k l : Limits) (x : Word) (word r : ℕ) → k ≡ l → IsThere l x → word ≡ place_of l x → Found k h word r → WordIs h x r
 found_told h k l x word r lim there at t = t x (subst (λ (z : Limits). IsThere z x) (sym lim) there) (at ∙ ap (λ (z : Limits). place_of z x) (sym lim))
 
 -- what was unpacked is what was packed
@@ -53,7 +53,7 @@ pub grew_begins : (kind : StepKind) (f : Hand → Hand) (es : List Event) (v w :
 grew_begins kind f es v w g = (g.between ++ es, sym (append_assoc v.seen g.between es) ∙ sym g.seen)
 
 -- a client's head is that of a born element
-pub client_born : (h : List Event) (row stage root : ℕ) (head : Head) → head ≡ There stage root None → (IsUnborn h row → IsDraft head) → ((e : Element) → element_of h row ≡ Some e → head ≡ head_of e)
+pub client_born : (h : List Event) (row stage root : ℕ) (head : Head) → head ≡ Filled stage root None → (IsUnborn h row → IsDraft head) → ((e : Element) → element_of h row ≡ Some e → head ≡ head_of e)
     → (x : Element) × (element_of h row ≡ Some x) × (x.stage ≡ stage) × (x.root ≡ root)
-client_born h row stage root head is draft full = ⊎_elim (λ t. let p = born_at h row t.0 t.1 t.2 in let e : There t.0.stage t.0.root t.0.by ≡ There stage root None = sym (full t.0 p) ∙ is in (t.0, p, cc, cc))
+client_born h row stage root head is draft full = ⊎_elim (λ t. let p = born_at h row t.0 t.1 t.2 in let e : Filled t.0.stage t.0.root t.0.by ≡ Filled stage root None = sym (full t.0 p) ∙ is in (t.0, p, cc, cc))
     (λ un. absurd (subst IsDraft is (draft un) refl)) (born_or_not h row)

@@ -9,7 +9,7 @@ use Rattle.tp_model.specs.Steps.{IsArea, block_first, rows_of}
 use Rattle.tp_words.specs.Places.{Word, HeadWord, BodyWord, ClaimWord, UnitWord, MarkWord, DrawnWord, IsThere, head_place, body_place, mark_place, place_of, size_of}
 use Rattle.tp_words.specs.Words.{pack_head}
 use Rattle.tp_words.specs.declared.words.Head.{Head}
-use Rattle.tp_words.specs.declared.words.Head.TheVariants.{Empty, Void, There}
+use Rattle.tp_words.specs.declared.words.Head.TheVariants.{Empty, Void, Filled}
 use Rattle.tp_words.proofs.PlaceLemmas.{places_differ, places_inside}
 use Rattle.tp_rule.specs.Rule.{Holds, IsUnwritten, StillSo, drawn_in}
 use Rattle.tp_rule.specs.declared.view.Known.{Known}
@@ -35,7 +35,7 @@ holds_same ws ws' x s h = let whole = h.2 in (s.0 ∙ h.0, λ j less. s.1 j (ome
 pub full_head : (head : Head) → head ≢ Empty → pack_head head ≡ 0 → ⊥
 full_head Empty some e = some refl
 full_head Void some e = omega arith
-full_head (There stage root by) some e = omega arith
+full_head (Filled stage root by) some e = omega arith
 
 -- the head x of row i may be stored: none is there, those before it in its area aren't empty or it is void, and its row is
 -- in no block that isn't drawn

@@ -17,9 +17,9 @@ use Rattle.tp_model.proofs.WordProofs.{claim_word-snoc, end_of-snoc}
 use Rattle.tp_words.specs.Places.{Word, HeadWord, BodyWord, ClaimWord as ClaimOf, UnitWord, MarkWord, DrawnWord, IsThere, head_place, mark_place, place_of}
 use Rattle.tp_words.specs.Words.{IsFitClaim, IsFitHead, IsFitUnit, head_of, pack_claim, pack_head, pack_unit}
 use Rattle.tp_words.specs.declared.words.Head.{Head}
-use Rattle.tp_words.specs.declared.words.Head.TheVariants.{Empty, Void, There}
-use Rattle.tp_rule.specs.Rule.{Concerns, HeadTold, IsAside, IsFinished, IsInside, IsOther, IsUseless, MarkHolds, StillSo, Told, World}
-use Rattle.tp_rule.specs.Steps.{AreOver, Found, IsLow, IsOver, IsSo}
+use Rattle.tp_words.specs.declared.words.Head.TheVariants.{Empty, Void, Filled}
+use Rattle.tp_rule.specs.Rule.{Concerns, HeadTold, IsAside, IsFinished, IsInside, IsOther, IsUseless, MarkHolds, StillSo, WordIs, World}
+use Rattle.tp_rule.specs.Steps.{AreFinishedFor, Found, IsLow, IsFinishedFor, IsSo}
 use Rattle.tp_rule.specs.declared.view.Known.{Known}
 use Rattle.tp_rule.specs.declared.view.Known.TheVariants.{RowHead, PartMark, MarkAbove, BlocksDrawn}
 use Rattle.tp_rule.proofs.Births.{MadeBy, by_unit}
@@ -30,18 +30,18 @@ use Rattle.tp_rule.proofs.Units.{decide}
 pub head_told : (a b : Head) → IsFitHead a → IsFitHead b → pack_head a ≡ pack_head b → a ≡ b
 head_told Empty Empty f g e = refl
 head_told Empty Void f g e = absurd (omega arith)
-head_told Empty (There s r b) f g e = absurd (omega arith)
+head_told Empty (Filled s r b) f g e = absurd (omega arith)
 head_told Void Empty f g e = absurd (omega arith)
 head_told Void Void f g e = refl
-head_told Void (There s r b) f g e = absurd (omega arith)
-head_told (There s r b) Empty f g e = absurd (omega arith)
-head_told (There s r b) Void f g e = absurd (omega arith)
-head_told (There s r None) (There t q None) f g e = let a : s ≤ 15 = f.1 in let b : t ≤ 15 = g.1 in let c : r ≤ 65535 = f.2 in let d : q ≤ 65535 = g.2 in
-    let x : s ≡ t = omega arith in let y : r ≡ q = omega arith in (λ i. There (x i) (y i) None)
-head_told (There s r None) (There t q (Some v)) f g e = let a : s ≤ 15 = f.1 in let b : t ≤ 15 = g.1 in let c : r ≤ 65535 = f.2 in let d : q ≤ 65535 = g.2 in absurd (omega arith)
-head_told (There s r (Some u)) (There t q None) f g e = let a : s ≤ 15 = f.1 in let b : t ≤ 15 = g.1 in let c : r ≤ 65535 = f.2 in let d : q ≤ 65535 = g.2 in absurd (omega arith)
-head_told (There s r (Some u)) (There t q (Some v)) f g e = let a : s ≤ 15 = f.1 in let b : t ≤ 15 = g.1 in let c : r ≤ 65535 = f.2 in let d : q ≤ 65535 = g.2 in
-    let x : s ≡ t = omega arith in let y : r ≡ q = omega arith in let z : u ≡ v = omega arith in (λ i. There (x i) (y i) (Some (z i)))
+head_told Void (Filled s r b) f g e = absurd (omega arith)
+head_told (Filled s r b) Empty f g e = absurd (omega arith)
+head_told (Filled s r b) Void f g e = absurd (omega arith)
+head_told (Filled s r None) (Filled t q None) f g e = let a : s ≤ 15 = f.1 in let b : t ≤ 15 = g.1 in let c : r ≤ 65535 = f.2 in let d : q ≤ 65535 = g.2 in
+    let x : s ≡ t = omega arith in let y : r ≡ q = omega arith in (λ i. Filled (x i) (y i) None)
+head_told (Filled s r None) (Filled t q (Some v)) f g e = let a : s ≤ 15 = f.1 in let b : t ≤ 15 = g.1 in let c : r ≤ 65535 = f.2 in let d : q ≤ 65535 = g.2 in absurd (omega arith)
+head_told (Filled s r (Some u)) (Filled t q None) f g e = let a : s ≤ 15 = f.1 in let b : t ≤ 15 = g.1 in let c : r ≤ 65535 = f.2 in let d : q ≤ 65535 = g.2 in absurd (omega arith)
+head_told (Filled s r (Some u)) (Filled t q (Some v)) f g e = let a : s ≤ 15 = f.1 in let b : t ≤ 15 = g.1 in let c : r ≤ 65535 = f.2 in let d : q ≤ 65535 = g.2 in
+    let x : s ≡ t = omega arith in let y : r ≡ q = omega arith in let z : u ≡ v = omega arith in (λ i. Filled (x i) (y i) (Some (z i)))
 
 -- what is below a number of rows is one, too
 pub inside_below : (k : Limits) (p n m : ℕ) → n ≤ m → IsInside k p m → IsInside k p n
@@ -55,7 +55,7 @@ inside_rows k p n there inside = dite (ℕ_discrete p k.parts)
 
 module _ (k : Limits) (h : List Event) (ws : List ℕ) (world : World k h ws) where
   pub found : (word : ℕ) → Found k h word (get_or ws word 0)
-  found word = λ w there is. subst (λ z. Told h w (get_or ws z 0)) (sym is) (world.tells w there)
+  found word = λ w there is. subst (λ z. WordIs h w (get_or ws z 0)) (sym is) (world.tells w there)
 
   -- a head that was found before, and wasn't empty, is that of the element that is born in the row
   pub recall : (i : ℕ) (head : Head) (x : Element) → StillSo k ws (RowHead i head) → head ≢ Empty → element_of h i ≡ Some x → head ≡ head_of x
@@ -69,15 +69,15 @@ module _ (k : Limits) (h : List Event) (ws : List ℕ) (world : World k h ws) wh
   over_finished : (i : ℕ) → i < rows_of k → IsFinished k h ws i → (x : Element) → element_of h i ≡ Some x → IsSettled (status_of k.attempts h i)
   over_finished i there f x p = ⊎_elim (λ s. s.2) (λ d. absurd (not_born d.0 d.1 d.2 d.3 d.4 d.5)) f
     where
-      named : (stage root u : ℕ) (y : Element) → There stage root (Some u) ≡ head_of y → y.by ≡ Some u
+      named : (stage root u : ℕ) (y : Element) → Filled stage root (Some u) ≡ head_of y → y.by ≡ Some u
       named stage root u y e = cc
 
       apart : (u : ℕ) (m : MadeBy k h i u) → end_of h u ≡ Some Aborted → ⊥
       apart u m gone = let q : Some (Committed m.from m.count) ≡ Some Aborted = sym m.committed ∙ gone in absurd cc
 
-      not_born : (stage root u : ℕ) → IsFitHead (There stage root (Some u)) → get_or ws (head_place i) 0 ≡ pack_head (There stage root (Some u)) → end_of h u ≡ Some Aborted → ⊥
+      not_born : (stage root u : ℕ) → IsFitHead (Filled stage root (Some u)) → get_or ws (head_place i) 0 ≡ pack_head (Filled stage root (Some u)) → end_of h u ≡ Some Aborted → ⊥
       not_born stage root u fit is gone = let t = world.tells (HeadWord i) there in
-          let same : There stage root (Some u) ≡ head_of x = head_told (There stage root (Some u)) t.head fit t.fit (sym is ∙ t.packed) ∙ t.born x p in
+          let same : Filled stage root (Some u) ≡ head_of x = head_told (Filled stage root (Some u)) t.head fit t.fit (sym is ∙ t.packed) ∙ t.born x p in
           apart u (by_unit k h world.legal i x u p (named stage root u x same)) gone
 
   -- an element whose row has a head of no use to kind s is of a stage that it isn't about
@@ -86,11 +86,11 @@ module _ (k : Limits) (h : List Event) (ws : List ℕ) (world : World k h ws) wh
       subst (IsOther s) (head_told a.0 t.head a.1 t.fit (sym a.2 ∙ t.packed) ∙ t.born x p) a.3
 
   -- so in a row of no use to kind s no element that it is about is anything else
-  pub over : (s i : ℕ) → i < rows_of k → IsUseless k s h ws i → IsOver k s h i
+  pub over : (s i : ℕ) → i < rows_of k → IsUseless k s h ws i → IsFinishedFor k s h i
   over s i there u x p c = ⊎_elim (λ f. over_finished i there f x p) (λ a. absurd (aside_not s i there a x p c)) u
 
   -- and so in all rows below a mark that was found
-  pub over_below : (s p n : ℕ) → StillSo k ws (PartMark s p n) → AreOver k s h p n
+  pub over_below : (s p n : ℕ) → StillSo k ws (PartMark s p n) → AreFinishedFor k s h p n
   over_below s p n t i low high = let room = t.0 in let m = world.marks s p room in let le : n ≤ get_or ws (mark_place k s p) 0 = t.1 in let top = m.inside in
       let all = inside_rows k p (get_or ws (mark_place k s p) 0) room.2 top in over s i (omega arith) (m.below i low (omega arith))
 
@@ -126,13 +126,13 @@ module _ (k : Limits) (h : List Event) (ws : List ℕ) (world : World k h ws) wh
 pub other_full : (s : ℕ) (head : Head) → IsOther s head → head ≢ Empty
 other_full s Empty o e = o
 other_full s Void o e = absurd cc
-other_full s (There stage root by) o e = absurd cc
+other_full s (Filled stage root by) o e = absurd cc
 
 -- a finished row stays finished
 pub finished_later : (k : Limits) (h h' : List Event) (ws ws' : List ℕ) (i : ℕ) → IsPrefix h h' → IsLegal k h' → (get_or ws (head_place i) 0 ≢ 0 → get_or ws' (head_place i) 0 ≡ get_or ws (head_place i) 0) → IsFinished k h ws i → IsFinished k h' ws' i
 finished_later k h h' ws ws' i begins legal kept f = ⊎_elim
     (λ s. inl (s.0, found_later h h' begins i s.0 s.1, subst IsSettled (sym (settled_stay k h h' i legal begins s.2)) s.2))
-    (λ d. inr (d.0, d.1, d.2, d.3, kept (λ zero. let e : pack_head (There d.0 d.1 (Some d.2)) ≡ 0 = sym d.4 ∙ zero in absurd (omega arith)) ∙ d.4, end_stays h h' d.2 Aborted begins d.5)) f
+    (λ d. inr (d.0, d.1, d.2, d.3, kept (λ zero. let e : pack_head (Filled d.0 d.1 (Some d.2)) ≡ 0 = sym d.4 ∙ zero in absurd (omega arith)) ∙ d.4, end_stays h h' d.2 Aborted begins d.5)) f
 
 -- and a row of no use to kind s stays so
 pub useless_later : (k : Limits) (s : ℕ) (h h' : List Event) (ws ws' : List ℕ) (i : ℕ) → IsPrefix h h' → IsLegal k h' → (get_or ws (head_place i) 0 ≢ 0 → get_or ws' (head_place i) 0 ≡ get_or ws (head_place i) 0) → IsUseless k s h ws i → IsUseless k s h' ws' i
@@ -157,20 +157,20 @@ module _ (h : List Event) (e : Event) where
   pub body_later : (i n : ℕ) (part : Element → ℕ) → ((x : Element) → In x (births e) → x.id ≡ i → n ≡ part x) → ((x : Element) → element_of h i ≡ Some x → n ≡ part x) → (x : Element) → element_of (h ++ e ∷ []) i ≡ Some x → n ≡ part x
   body_later i n part new old x p = row_either i x p (old x) (new x)
 
-  pub claim_later : (i n : ℕ) → claim_word_after i (claim_word h i) e ≡ claim_word h i → Told h (ClaimOf i) n → Told (h ++ e ∷ []) (ClaimOf i) n
+  pub claim_later : (i n : ℕ) → claim_word_after i (claim_word h i) e ≡ claim_word h i → WordIs h (ClaimOf i) n → WordIs (h ++ e ∷ []) (ClaimOf i) n
   claim_later i n same old = let now = sym (claim_word-snoc h e i ∙ same) in (old.0 ∙ ap pack_claim now, subst IsFitClaim now old.1)
 
-  pub claim_now : (i n : ℕ) (w : ClaimWord) → claim_word_after i (claim_word h i) e ≡ w → n ≡ pack_claim w → IsFitClaim w → Told (h ++ e ∷ []) (ClaimOf i) n
+  pub claim_now : (i n : ℕ) (w : ClaimWord) → claim_word_after i (claim_word h i) e ≡ w → n ≡ pack_claim w → IsFitClaim w → WordIs (h ++ e ∷ []) (ClaimOf i) n
   claim_now i n w is at fit = let now = sym (claim_word-snoc h e i ∙ is) in (at ∙ ap pack_claim now, subst IsFitClaim now fit)
 
-  pub unit_later : (u n : ℕ) → decide u (end_of h u) e ≡ end_of h u → Told h (UnitWord u) n → Told (h ++ e ∷ []) (UnitWord u) n
+  pub unit_later : (u n : ℕ) → decide u (end_of h u) e ≡ end_of h u → WordIs h (UnitWord u) n → WordIs (h ++ e ∷ []) (UnitWord u) n
   unit_later u n same old = let now = sym (end_of-snoc h e u ∙ same) in (old.0 ∙ ap pack_unit now, subst IsFitUnit now old.1)
 
-  pub unit_now : (u n : ℕ) (w : Option UnitEnd) → decide u (end_of h u) e ≡ w → n ≡ pack_unit w → IsFitUnit w → Told (h ++ e ∷ []) (UnitWord u) n
+  pub unit_now : (u n : ℕ) (w : Option UnitEnd) → decide u (end_of h u) e ≡ w → n ≡ pack_unit w → IsFitUnit w → WordIs (h ++ e ∷ []) (UnitWord u) n
   unit_now u n w is at fit = let now = sym (end_of-snoc h e u ∙ is) in (at ∙ ap pack_unit now, subst IsFitUnit now fit)
 
   -- a word that tells nothing of what an event without births changes
-  pub told_later : births e ≡ [] → (w : Word) (n : ℕ) → ((i : ℕ) → w ≡ ClaimOf i → claim_word_after i (claim_word h i) e ≡ claim_word h i) → ((u : ℕ) → w ≡ UnitWord u → decide u (end_of h u) e ≡ end_of h u) → Told h w n → Told (h ++ e ∷ []) w n
+  pub told_later : births e ≡ [] → (w : Word) (n : ℕ) → ((i : ℕ) → w ≡ ClaimOf i → claim_word_after i (claim_word h i) e ≡ claim_word h i) → ((u : ℕ) → w ≡ UnitWord u → decide u (end_of h u) e ≡ end_of h u) → WordIs h w n → WordIs (h ++ e ∷ []) w n
   told_later none (HeadWord i) n claims units old = head_later i n (λ x q. absurd (in_none (subst (In x) none q))) old
   told_later none (BodyWord i j) n claims units old = body_later i n (λ x. slice_index x.body j) (λ x q. absurd (in_none (subst (In x) none q))) old
   told_later none (ClaimOf i) n claims units old = claim_later i n (claims i refl) old
@@ -179,14 +179,14 @@ module _ (h : List Event) (e : Event) where
   told_later none DrawnWord n claims units old = tt
 
 -- the words after a store to w, which may be made: it tells what is now so, and so do the others
-pub world_stored : (k : Limits) (h h' : List Event) (ws : List ℕ) (w : Word) (x : ℕ) → World k h ws → IsLegal k h' → IsPrefix h h' → IsThere k w → Told h' w x → ((v : Word) → IsThere k v → v ≢ w → Told h' v (get_or ws (place_of k v) 0))
+pub world_stored : (k : Limits) (h h' : List Event) (ws : List ℕ) (w : Word) (x : ℕ) → World k h ws → IsLegal k h' → IsPrefix h h' → IsThere k w → WordIs h' w x → ((v : Word) → IsThere k v → v ≢ w → WordIs h' v (get_or ws (place_of k v) 0))
     → MayStore k ws w x → ((s p : ℕ) → w ≡ MarkWord s p → MarkHolds k s h' (set ws (place_of k w) x) p x) → World k h' (set ws (place_of k w) x)
 world_stored k h h' ws w x world legal begins at now rest may mark = record {
   legal = legal;
   wide = length-set ws (place_of k w) x ∙ world.wide;
   tells = λ v there. same_or_other k v w there at
-      (λ same. subst (λ z. Told h' z (get_or (set ws (place_of k w) x) (place_of k z) 0)) (sym same) (subst (Told h' w) (sym (stored k ws w x at world.wide)) now))
-      (λ other. subst (Told h' v) (sym (left k ws w x at v there other)) (rest v there other));
+      (λ same. subst (λ z. WordIs h' z (get_or (set ws (place_of k w) x) (place_of k z) 0)) (sym same) (subst (WordIs h' w) (sym (stored k ws w x at world.wide)) now))
+      (λ other. subst (WordIs h' v) (sym (left k ws w x at v there other)) (rest v there other));
   marks = λ s p there. same_or_other k (MarkWord s p) w there at
       (λ same. subst (MarkHolds k s h' (set ws (place_of k w) x) p) (sym (ap (λ z. get_or (set ws (place_of k w) x) (place_of k z) 0) same ∙ stored k ws w x at world.wide)) (mark s p (sym same)))
       (λ other. let old = world.marks s p there in let top = old.inside in subst (MarkHolds k s h' (set ws (place_of k w) x) p) (sym (left k ws w x at (MarkWord s p) there other)) record {

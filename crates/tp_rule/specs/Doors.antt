@@ -33,12 +33,17 @@ abbrev pub IsSole : List View → Type 0
 IsSole [] = Unit {0}
 IsSole (v ∷ more) = more ≡ []
 
--- Whatever the table is when the word changes, there is a new view of the seat with which the rule holds again, and which
--- tells so much of the number that was found.
+-- Whatever the table is when the word changes, there is a new view of the seat with which the rule holds
+-- again, and which tells so much of the number that was found.
 abbrev pub Permits : Limits → View → ℕ → (ℕ → ℕ) → (ℕ → View → Type 0) → Type 0
-Permits l v word change Told = (s : State (Unit {0}) View) → Rule l s → (id : ℕ) → get_elem? s.views id ≡ some v
+Permits l v word change Told = (s : State (Unit {0}) View) → Rule l s → (id : ℕ)
+    → get_elem? s.views id ≡ some v
     → (w : View)
-    × Rule l (record { words = slice_set s.words word (change (slice_index s.words word)); homes = s.homes; views = slice_set s.views id w })
+    × Rule l (record {
+      words = slice_set s.words word (change (slice_index s.words word));
+      homes = s.homes;
+      views = slice_set s.views id w;
+    })
     × Told (slice_index s.words word) w
 
 -- whichever seat it is, the rule allows that its view is cut in these two

@@ -6,11 +6,15 @@ use Rattle.tp_model.specs.Words.{TakenWord, AgainWord}
 use Rattle.tp_model.specs.declared.types.TheConstants.{BODY_WORDS}
 use Rattle.tp_model.specs.declared.trace.StepKind.TheVariants as kinds
 use Rattle.tp_words.specs.declared.words.Head.{Head}
-use Rattle.tp_words.specs.declared.words.Head.TheVariants.{There}
+use Rattle.tp_words.specs.declared.words.Head.TheVariants.{Filled}
 use Rattle.tp_words.specs.Words.{IsFitHead, pack_claim, pack_head}
-use Rattle.tp_words.specs.Places.{IsThere, MarkWord, head_place, body_place, claim_place, mark_place, drawn_place, unit_place}
+use Rattle.tp_words.specs.Places.{IsThere, MarkWord, head_place, body_place, claim_place, mark_place}
+use Rattle.tp_words.specs.Places.{drawn_place, unit_place}
 use Rattle.tp_rule.specs.Views.{hand, next_row}
-use Rattle.tp_rule.specs.Steps.{Found, Grew, Knows, Loads, NoneFrom, unchanged, drafted, with_word, Drafts, Publishes, Chooses, MakesClaim, MakesCommit, Loses, MakesAbort, MakesKill, MakesRequeue, Misses, IsLow, Raises, NoneDrawn, Shares, Draws, DrawsNone, Voids}
+use Rattle.tp_rule.specs.Steps.{Found, Grew, Knows, Loads, NoneFrom, unchanged, drafted, with_word, Drafts}
+use Rattle.tp_rule.specs.Steps.{Publishes, Chooses, MakesClaim, MakesCommit, LosesUnit, MakesAbort, MakesKill}
+use Rattle.tp_rule.specs.Steps.{MakesRequeue, Misses, IsLow, RaisesMark, NoneDrawn, Shares, Draws, DrawsNone}
+use Rattle.tp_rule.specs.Steps.{Voids}
 use Rattle.tp_rule.specs.declared.view.Known.TheVariants.{RowHead, PartMark, MarkAbove, BlocksDrawn}
 use Rattle.tp_rule.specs.declared.view.View.{View}
 
@@ -23,57 +27,68 @@ loads word first second v r w = Loads v word r w
 -- a load of a head, which the seat remembers; where it is empty, nothing is born from its row on
 abbrev pub loads_head : Telling
 loads_head word first second v r w = Loads v word r w
-    × ((i : ℕ) (head : Head) → word ≡ head_place i → r ≡ pack_head head → IsFitHead head → Knows w (RowHead i head))
+    × ((i : ℕ) (head : Head) → word ≡ head_place i → r ≡ pack_head head → IsFitHead head
+    → Knows w (RowHead i head))
     × ((i : ℕ) → word ≡ head_place i → r ≡ 0 → NoneFrom v.limits w.seen i)
 
 abbrev pub stores_word : Telling
-stores_word word number second v r w = (i : ℕ) × (k : ℕ) × (k < BODY_WORDS) × (word ≡ body_place i k) × (w ≡ drafted (with_word k number) v)
+stores_word word number second v r w = (i : ℕ) × (k : ℕ) × (k < BODY_WORDS) × (word ≡ body_place i k)
+    × (w ≡ drafted (with_word k number) v)
 
 abbrev pub stores_head : Telling
 stores_head word packed second v r w = (stage : ℕ) × (root : ℕ) × (u : ℕ) × (stage ≤ 15) × (root < 65536)
-    × (packed ≡ pack_head (There stage root (Some u))) × Drafts v stage root u w
+    × (packed ≡ pack_head (Filled stage root (Some u))) × Drafts v stage root u w
 
 abbrev pub publishes : Telling
-publishes word packed second v r w = (stage : ℕ) × (stage ≤ 15) × (packed ≡ pack_head (There stage (next_row v) None)) × Publishes v stage w
+publishes word packed second v r w = (stage : ℕ) × (stage ≤ 15)
+    × (packed ≡ pack_head (Filled stage (next_row v) None)) × Publishes v stage w
 
 abbrev pub chooses : Telling
 chooses word first second v r w = (u : ℕ) × (word ≡ unit_place v.limits u) × Chooses v u w
 
 abbrev pub exchanges_claim : Telling
-exchanges_claim word old new v r w = (r ≡ old → (u : ℕ) × (i : ℕ) × (n : ℕ) × (k : ℕ) × (word ≡ claim_place i) × (new ≡ pack_claim (TakenWord n u k)) × (n ≤ 7) × (u < 65536) × MakesClaim v u i n w)
+exchanges_claim word old new v r w = (r ≡ old → (u : ℕ) × (i : ℕ) × (n : ℕ) × (k : ℕ)
+    × (word ≡ claim_place i) × (new ≡ pack_claim (TakenWord n u k)) × (n ≤ 7) × (u < 65536)
+    × MakesClaim v u i n w)
     × (r ≢ old → Misses kinds.ClaimExchange v word r w)
 
 abbrev pub exchanges_commit : Telling
-exchanges_commit word old new v r w = (u : ℕ) × (word ≡ unit_place v.limits u) × (r ≡ 0 → MakesCommit v u w) × (r ≢ 0 → Loses kinds.CommitExchange v u w)
+exchanges_commit word old new v r w = (u : ℕ) × (word ≡ unit_place v.limits u) × (r ≡ 0 → MakesCommit v u w)
+    × (r ≢ 0 → LosesUnit kinds.CommitExchange v u w)
 
 abbrev pub exchanges_abort : Telling
 exchanges_abort word old new v r w = (u : ℕ) × (word ≡ unit_place v.limits u) × (r ≡ 0 → MakesAbort v u w)
-    × (r ≢ 0 → (hand v).open_unit ≡ Some u → Loses kinds.AbortExchange v u w)
+    × (r ≢ 0 → (hand v).open_unit ≡ Some u → LosesUnit kinds.AbortExchange v u w)
     × (r ≢ 0 → (hand v).open_unit ≡ None → Grew kinds.AbortExchange unchanged [] v w)
     × (r ≢ 0 → Found v.limits w.seen word r)
 
 abbrev pub exchanges_kill : Telling
-exchanges_kill word old new v r w = (r ≡ old → (i : ℕ) × (word ≡ claim_place i) × MakesKill v i w) × (r ≢ old → Misses kinds.KillExchange v word r w)
+exchanges_kill word old new v r w = (r ≡ old → (i : ℕ) × (word ≡ claim_place i) × MakesKill v i w)
+    × (r ≢ old → Misses kinds.KillExchange v word r w)
 
 abbrev pub exchanges_requeue : Telling
-exchanges_requeue word old new v r w = (r ≡ old → (i : ℕ) × (k : ℕ) × (word ≡ claim_place i) × (new ≡ pack_claim (AgainWord k)) × MakesRequeue v i k w)
+exchanges_requeue word old new v r w = (r ≡ old → (i : ℕ) × (k : ℕ) × (word ≡ claim_place i)
+    × (new ≡ pack_claim (AgainWord k)) × MakesRequeue v i k w)
     × (r ≢ old → Misses kinds.RequeueExchange v word r w)
 
 -- a load of a mark, which the seat remembers, and which has not fallen
 abbrev pub loads_mark : Telling
 loads_mark word first second v r w = Loads v word r w
-    × ((s p : ℕ) → word ≡ mark_place v.limits s p → IsThere v.limits (MarkWord s p) → Knows w (PartMark s p r) × IsLow v.limits s w.seen p r
+    × ((s p : ℕ) → word ≡ mark_place v.limits s p → IsThere v.limits (MarkWord s p)
+    → Knows w (PartMark s p r) × IsLow v.limits s w.seen p r
     × ((n : ℕ) → Knows v (PartMark s p n) → n ≤ r))
 
 abbrev pub raises : Telling
-raises word old new v r w = (s p : ℕ) → word ≡ mark_place v.limits s p → IsThere v.limits (MarkWord s p) → Raises v s p old new w × (r ≡ old → Knows w (PartMark s p new))
+raises word old new v r w = (s p : ℕ) → word ≡ mark_place v.limits s p → IsThere v.limits (MarkWord s p)
+    → RaisesMark v s p old new w × (r ≡ old → Knows w (PartMark s p new))
     × (r ≢ old → Knows v (PartMark s p old) → Knows w (MarkAbove s p old))
 
 -- a load of the counter of drawn blocks, which the seat remembers, and which has not fallen; nothing is born
 -- in the blocks from it on, and those below it are its passes' and others'
 abbrev pub loads_drawn : Telling
 loads_drawn word first second v r w = Loads v word r w
-    × (word ≡ drawn_place v.limits → Knows w (BlocksDrawn r) × (r ≤ v.limits.spare) × NoneDrawn v.limits w.seen r × ((n : ℕ) → Knows v (BlocksDrawn n) → n ≤ r) × Shares r w)
+    × (word ≡ drawn_place v.limits → Knows w (BlocksDrawn r) × (r ≤ v.limits.spare)
+    × NoneDrawn v.limits w.seen r × ((n : ℕ) → Knows v (BlocksDrawn n) → n ≤ r) × Shares r w)
 
 abbrev pub draws : Telling
 draws word old new v r w = (r ≡ old → Draws v old w) × (r ≢ old → DrawsNone v old r w)

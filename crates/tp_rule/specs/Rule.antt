@@ -1,26 +1,29 @@
 -- The rule: at every moment there is one legal history behind the words. It is read from the bottom of this
 -- page up. In each record l are the table's limits, h is the history, and ws are the words.
-use Rattle.std.specs.Prelude.{◌≡◌, ◌≢◌, ◌⊎◌, ℕ, zero, suc, ◌+◌, ◌*◌, ◌<◌, ◌≤◌, List, [], ◌∷◌, length, slice_index, Option, Some, None}
+use Rattle.std.specs.Prelude.{◌≡◌, ◌≢◌, ◌⊎◌, ℕ, zero, suc, ◌+◌, ◌*◌, ◌<◌, ◌≤◌, List, [], ◌∷◌, length}
+use Rattle.std.specs.Prelude.{slice_index, Option, Some, None}
 use mathlib.Core.Option.{some}
 use mathlib.Core.List.{IsPrefix}
 use lib.ListN.{get_elem?}
 use Rattle.atomic_table.specs.Table.{State}
-use Rattle.tp_model.specs.History.{Aborted, In, IsClaim, IsSettled, IsUnborn, IsUnused, births, element_of, end_of, events_by, status_of}
+use Rattle.tp_model.specs.History.{Aborted, In, IsClaim, IsSettled, IsUnborn, IsUnused, births, element_of}
+use Rattle.tp_model.specs.History.{end_of, events_by, status_of}
 use Rattle.tp_model.specs.Passes.{Ascend, IsOwnArea, IsOwnOpen}
 use Rattle.tp_model.specs.Steps.{IsArea, IsBody, IsLegal, IsRowOfBlock, block_first, rows_of}
 use Rattle.tp_model.specs.Words.{claim_word}
 use Rattle.tp_model.specs.declared.event.Event.{Event}
 use Rattle.tp_model.specs.declared.types.Element.{Element}
 use Rattle.tp_model.specs.declared.types.Limits.{Limits}
-use Rattle.tp_model.specs.declared.types.TheConstants.{BLOCK_ROWS, BODY_WORDS}
+use Rattle.tp_model.specs.declared.types.TheConstants.{BLOCK_ROWS, BODY_WORDS, REPLY_STAGE}
 use Rattle.tp_rule.specs.declared.view.Hand.{Hand}
 use Rattle.tp_rule.specs.declared.view.Known.{Known}
 use Rattle.tp_rule.specs.declared.view.Known.TheVariants.{RowHead, PartMark, MarkAbove, BlocksDrawn}
 use Rattle.tp_rule.specs.declared.view.View.{View}
-use Rattle.tp_words.specs.Places.{Word, HeadWord, BodyWord, ClaimWord, UnitWord, MarkWord, DrawnWord, IsThere, head_place, body_place, mark_place, drawn_place, place_of, size_of}
+use Rattle.tp_words.specs.Places.{Word, HeadWord, BodyWord, ClaimWord, UnitWord, MarkWord, DrawnWord, IsThere}
+use Rattle.tp_words.specs.Places.{head_place, body_place, mark_place, drawn_place, place_of, size_of}
 use Rattle.tp_words.specs.Words.{IsFitHead, IsFitClaim, IsFitUnit, head_of, pack_claim, pack_head, pack_unit}
 use Rattle.tp_words.specs.declared.words.Head.{Head}
-use Rattle.tp_words.specs.declared.words.Head.TheVariants.{Empty, Void, There}
+use Rattle.tp_words.specs.declared.words.Head.TheVariants.{Empty, Void, Filled}
 
 -- the words of the body of row i are these
 abbrev pub HoldsBody : List ℕ → ℕ → List ℕ → Type 0
@@ -32,25 +35,27 @@ IsUnwritten ws i = (k : ℕ) → k < BODY_WORDS → slice_index ws (body_place i
 
 -- the head of row x.id and the words of its body hold the element x, whose body is whole
 abbrev pub Holds : List ℕ → Element → Type 0
-Holds ws x = (slice_index ws (head_place x.id) ≡ pack_head (head_of x)) × HoldsBody ws x.id x.body × IsBody x.body
+Holds ws x = (slice_index ws (head_place x.id) ≡ pack_head (head_of x)) × HoldsBody ws x.id x.body
+    × IsBody x.body
 
 -- these elements have the ids i, i + 1, ..
-abbrev pub AreFrom : ℕ → List Element → Type 0
-AreFrom i [] = Unit {0}
-AreFrom i (x ∷ xs) = (x.id ≡ i) × AreFrom (i + 1) xs
+abbrev pub HaveIdsFrom : ℕ → List Element → Type 0
+HaveIdsFrom i [] = Unit {0}
+HaveIdsFrom i (x ∷ xs) = (x.id ≡ i) × HaveIdsFrom (i + 1) xs
 
 -- the head of a row that is not born is empty or void, or names a unit
 abbrev pub IsDraft : Head → Type 0
 IsDraft Empty = Unit {0}
 IsDraft Void = Unit {0}
-IsDraft (There stage root by) = ¬ (by ≡ None)
+IsDraft (Filled stage root by) = ¬ (by ≡ None)
 
 -- how many spare blocks are drawn
 abbrev pub drawn_in : Limits → List ℕ → ℕ
 drawn_in l ws = slice_index ws (drawn_place l)
 
 -- what is so of the rows of a pass, whose run lies in the area of the rows from `first` up to `end`
-pub record RowsHold (h : List Event) (ws : List ℕ) (first end first_draft next left : ℕ) (body : List ℕ) (drafts : List Element) : Type 0 where
+pub record RowsHold (h : List Event) (ws : List ℕ) (first end first_draft next left : ℕ) (body : List ℕ)
+    (drafts : List Element) : Type 0 where
   -- there is one row for each draft
   pub counted : first_draft + length drafts ≡ next
   -- the run lies in the area
@@ -70,12 +75,13 @@ pub record RowsHold (h : List Event) (ws : List ℕ) (first end first_draft next
   -- which stand in the next row
   pub body_there : 0 < left → HoldsBody ws next body
   -- the drafts stand in the rows from the first draft on, one after another
-  pub run : AreFrom first_draft drafts
+  pub run : HaveIdsFrom first_draft drafts
   -- the words of each draft's row hold it
   pub written : (x : Element) → In x drafts → Holds ws x
 
 -- what is so of the units of pass c
-pub record UnitsHold (l : Limits) (h : List Event) (c claimed : ℕ) (spare_unit open_unit : Option ℕ) : Type 0 where
+pub record UnitsHold (l : Limits) (h : List Event) (c claimed : ℕ)
+    (spare_unit open_unit : Option ℕ) : Type 0 where
   -- no more units are claimed than the pass has
   pub used_below : claimed ≤ l.units
   -- no unit behind those is in a claim
@@ -96,7 +102,8 @@ pub record HandHolds (l : Limits) (h : List Event) (ws : List ℕ) (a : Hand) : 
   -- the spare blocks that it has drawn ascend, and are below the counter
   pub blocks : Ascend 0 (drawn_in l ws) a.blocks
   -- each element that it made in a spare block is in one of those
-  pub spares : (e : Event) (x : Element) (b : ℕ) → In e a.mine → In x (births e) → IsRowOfBlock l b x.id → In b a.blocks
+  pub spares : (e : Event) (x : Element) (b : ℕ) → In e a.mine → In x (births e) → IsRowOfBlock l b x.id
+      → In b a.blocks
   -- its run lies in one of its areas
   pub first : ℕ
   pub end : ℕ
@@ -114,7 +121,8 @@ IsApart (a ∷ hands) = ((b : Hand) → In b hands → ¬ (b.number ≡ a.number
 -- what was found in a word that stays is still so
 -- or has only risen
 abbrev pub StillSo : Limits → List ℕ → Known → Type 0
-StillSo l ws (RowHead i head) = (i < rows_of l) × IsFitHead head × (head ≢ Empty → slice_index ws (head_place i) ≡ pack_head head)
+StillSo l ws (RowHead i head) = (i < rows_of l) × IsFitHead head
+    × (head ≢ Empty → slice_index ws (head_place i) ≡ pack_head head)
 StillSo l ws (PartMark s p n) = IsThere l (MarkWord s p) × (n ≤ slice_index ws (mark_place l s p))
 StillSo l ws (MarkAbove s p n) = IsThere l (MarkWord s p) × (n < slice_index ws (mark_place l s p))
 StillSo l ws (BlocksDrawn n) = n ≤ drawn_in l ws
@@ -125,7 +133,8 @@ pub record Owners : Type 0 where
   pub drawer : ℕ → ℕ
 
 -- what is so of seat j with the view v
-pub record SeatHolds (l : Limits) (h : List Event) (ws : List ℕ) (owner : Owners) (j : ℕ) (v : View) : Type 0 where
+pub record SeatHolds (l : Limits) (h : List Event) (ws : List ℕ) (owner : Owners) (j : ℕ)
+    (v : View) : Type 0 where
   -- a seat that stands for a pass knows the limits
   pub limits : (a : Hand) → In a v.hands → v.limits ≡ l
   -- what it has seen begins the history
@@ -155,19 +164,19 @@ pub record HeadTold (h : List Event) (i n : ℕ) : Type 0 where
   pub draft : IsUnborn h i → IsDraft head
 
 -- what each word tells of the history h, where the number n stands there
-abbrev pub Told : List Event → Word → ℕ → Type 0
+abbrev pub WordIs : List Event → Word → ℕ → Type 0
 -- a head: what it says, which is that of the element where one is born
-Told h (HeadWord i) n = HeadTold h i n
+WordIs h (HeadWord i) n = HeadTold h i n
 -- a word of a body: that of the element, where one is born
-Told h (BodyWord i k) n = (x : Element) → element_of h i ≡ Some x → n ≡ slice_index x.body k
+WordIs h (BodyWord i k) n = (x : Element) → element_of h i ≡ Some x → n ≡ slice_index x.body k
 -- a claim: the packing of what the history says of the element's claims and kill
-Told h (ClaimWord i) n = (n ≡ pack_claim (claim_word h i)) × IsFitClaim (claim_word h i)
+WordIs h (ClaimWord i) n = (n ≡ pack_claim (claim_word h i)) × IsFitClaim (claim_word h i)
 -- a unit's word: the packing of how the unit ended
-Told h (UnitWord u) n = (n ≡ pack_unit (end_of h u)) × IsFitUnit (end_of h u)
+WordIs h (UnitWord u) n = (n ≡ pack_unit (end_of h u)) × IsFitUnit (end_of h u)
 -- a mark: that hangs on other words too, and is said of all words together
-Told h (MarkWord s p) n = Unit {0}
+WordIs h (MarkWord s p) n = Unit {0}
 -- the counter of drawn blocks: the same
-Told h DrawnWord n = Unit {0}
+WordIs h DrawnWord n = Unit {0}
 
 -- row i has an element that is consumed or killed
 abbrev pub IsSettledRow : Limits → List Event → ℕ → Type 0
@@ -175,8 +184,8 @@ IsSettledRow l h i = (x : Element) × (element_of h i ≡ Some x) × IsSettled (
 
 -- row i has a draft of a unit that was aborted, which is never born
 abbrev pub IsDead : List Event → List ℕ → ℕ → Type 0
-IsDead h ws i = (stage : ℕ) × (root : ℕ) × (u : ℕ) × IsFitHead (There stage root (Some u))
-    × (slice_index ws (head_place i) ≡ pack_head (There stage root (Some u))) × (end_of h u ≡ Some Aborted)
+IsDead h ws i = (stage : ℕ) × (root : ℕ) × (u : ℕ) × IsFitHead (Filled stage root (Some u))
+    × (slice_index ws (head_place i) ≡ pack_head (Filled stage root (Some u))) × (end_of h u ≡ Some Aborted)
 
 -- row i is finished
 abbrev pub IsFinished : Limits → List Event → List ℕ → ℕ → Type 0
@@ -186,18 +195,19 @@ IsFinished l h ws i = IsSettledRow l h i ⊎ IsDead h ws i
 -- other kind about the stage with
 -- that number
 abbrev pub Concerns : ℕ → ℕ → Type 0
-Concerns zero stage = ¬ (stage ≡ 15)
+Concerns zero stage = ¬ (stage ≡ REPLY_STAGE)
 Concerns (suc s) stage = stage ≡ suc s
 
 -- a head is of no use to marks of kind s: it is void, or of a stage that they aren't about
 abbrev pub IsOther : ℕ → Head → Type 0
 IsOther s Empty = ⊥
 IsOther s Void = Unit {0}
-IsOther s (There stage root by) = ¬ Concerns s stage
+IsOther s (Filled stage root by) = ¬ Concerns s stage
 
 -- row i has such a head: it stays, whether its element is born or not
 abbrev pub IsAside : List ℕ → ℕ → ℕ → Type 0
-IsAside ws s i = (head : Head) × IsFitHead head × (slice_index ws (head_place i) ≡ pack_head head) × IsOther s head
+IsAside ws s i = (head : Head) × IsFitHead head × (slice_index ws (head_place i) ≡ pack_head head)
+    × IsOther s head
 
 -- row i is of no use to a look that begins at marks of kind s
 abbrev pub IsUseless : Limits → ℕ → List Event → List ℕ → ℕ → Type 0
@@ -220,7 +230,7 @@ pub record World (l : Limits) (h : List Event) (ws : List ℕ) : Type 0 where
   -- there are as many words as the limits say
   pub wide : length ws ≡ size_of l
   -- each word tells what the history says
-  pub tells : (w : Word) → IsThere l w → Told h w (slice_index ws (place_of l w))
+  pub tells : (w : Word) → IsThere l w → WordIs h w (slice_index ws (place_of l w))
   -- the rows below each mark are of no use to its kind
   pub marks : (s p : ℕ) → IsThere l (MarkWord s p) → MarkHolds l s h ws p (slice_index ws (mark_place l s p))
   -- no more blocks are drawn than there are
@@ -230,7 +240,8 @@ pub record World (l : Limits) (h : List Event) (ws : List ℕ) : Type 0 where
   -- and no word of their bodies was stored
   pub unwritten : (i : ℕ) → block_first l (drawn_in l ws) ≤ i → i < rows_of l → IsUnwritten ws i
   -- behind an empty head there are only empty and void ones in its area
-  pub behind : (first end i j : ℕ) → IsArea l first end → first ≤ i → i ≤ j → j < end → slice_index ws (head_place i) ≡ 0
+  pub behind : (first end i j : ℕ) → IsArea l first end → first ≤ i → i ≤ j → j < end
+      → slice_index ws (head_place i) ≡ 0
       → (slice_index ws (head_place j) ≡ 0) ⊎ (slice_index ws (head_place j) ≡ pack_head Void)
 
 -- some seat has a pass of which P is so

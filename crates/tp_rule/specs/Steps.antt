@@ -1,25 +1,28 @@
 -- What each kind of step makes of a seat's view, and what it tells. In each definition v is the view before
 -- the step, and w the view after it. A view changes in two ways alone: `after` a step, and by a split or a
 -- join of seats.
-use Rattle.std.specs.Prelude.{◌≡◌, ◌≢◌, ◌⊎◌, ℕ, zero, suc, ◌+◌, ◌-◌, ◌*◌, ◌<◌, ◌≤◌, ◌==◌, if◌then◌else◌, List, [], ◌∷◌, ◌++◌, map, slice_set, Option, Some, None}
+use Rattle.std.specs.Prelude.{◌≡◌, ◌≢◌, ◌⊎◌, ℕ, zero, suc, ◌+◌, ◌-◌, ◌*◌, ◌<◌, ◌≤◌, ◌==◌, if◌then◌else◌, List}
+use Rattle.std.specs.Prelude.{[], ◌∷◌, ◌++◌, map, slice_set, Option, Some, None}
 use mathlib.Core.List.{IsPrefix}
 use Rattle.tp_model.specs.declared.types.Element.{Element}
 use Rattle.tp_model.specs.declared.types.Limits.{Limits}
-use Rattle.tp_model.specs.declared.types.TheConstants.{BLOCK_ROWS, BODY_WORDS, MOST_ROUNDS}
+use Rattle.tp_model.specs.declared.types.TheConstants.{BLOCK_ROWS, BODY_WORDS, MAX_ROUNDS}
 use Rattle.tp_model.specs.declared.types.Status.TheVariants.{Waiting}
 use Rattle.tp_model.specs.declared.event.Event.{Event}
 use Rattle.tp_model.specs.declared.event.Event.TheVariants.{Enqueue, Claim, Commit, Abort, Kill, Requeue}
 use Rattle.tp_model.specs.declared.trace.StepKind.{StepKind}
 use Rattle.tp_model.specs.declared.trace.StepKind.TheVariants as kinds
-use Rattle.tp_model.specs.History.{Aborted, In, IsSettled, IsUnborn, status_of, UnitClaim, UnitEnd, claim_of, element_of, end_of, events_by}
+use Rattle.tp_model.specs.History.{Aborted, In, IsSettled, IsUnborn, status_of, UnitClaim, UnitEnd, claim_of}
+use Rattle.tp_model.specs.History.{element_of, end_of, events_by}
 use Rattle.tp_model.specs.Passes.{Ascend, IsOwnArea, IsOwnOpen, IsRun}
 use Rattle.tp_model.specs.Words.{ClaimWord, claim_word, round_in, word_status}
-use Rattle.tp_model.specs.Steps.{IsBody, IsStage, IsServerStage, IsKillable, IsParked, IsLegal, IsArea, block_first, rows_of}
+use Rattle.tp_model.specs.Steps.{IsBody, IsStage, IsServerStage, IsKillable, IsParked, IsLegal, IsArea}
+use Rattle.tp_model.specs.Steps.{block_first, rows_of}
 use Rattle.tp_words.specs.declared.words.Head.{Head}
-use Rattle.tp_words.specs.declared.words.Head.TheVariants.{Empty, There}
+use Rattle.tp_words.specs.declared.words.Head.TheVariants.{Empty, Filled}
 use Rattle.tp_words.specs.Words.{IsFitClaim, head_of}
 use Rattle.tp_words.specs.Places.{IsThere, Word, place_of}
-use Rattle.tp_rule.specs.Rule.{Concerns, IsInside, IsOther, IsSettledRow, Told}
+use Rattle.tp_rule.specs.Rule.{Concerns, IsInside, IsOther, IsSettledRow, WordIs}
 use Rattle.tp_rule.specs.Views.{IsOnePass, blank_body, hand, next_row}
 use Rattle.tp_rule.specs.declared.view.Hand.{Hand}
 use Rattle.tp_rule.specs.declared.view.Known.{Known}
@@ -33,7 +36,13 @@ noted kind seen a = record a { trace = a.trace ++ record { kind = kind; seen = s
 -- the view after a step that makes f of each pass of the seat, and after which the seat has seen `seen` and
 -- knows `known`
 abbrev pub after : StepKind → (Hand → Hand) → List Event → List Known → View → View
-after kind f seen known v = record { limits = v.limits; seen = seen; also_seen = []; known = known; hands = map (λ a. noted kind seen (f a)) v.hands }
+after kind f seen known v = record {
+  limits = v.limits;
+  seen = seen;
+  also_seen = [];
+  known = known;
+  hands = map (λ a. noted kind seen (f a)) v.hands;
+}
 
 -- what a seat knows of words that stay
 abbrev pub Knows : View → Known → Type 0
@@ -41,27 +50,29 @@ Knows v x = In x v.known
 
 -- no element of row i that is of a stage which kind s is about waits, is held or is parked: where one is
 -- born, it is consumed or killed
-abbrev pub IsOver : Limits → ℕ → List Event → ℕ → Type 0
-IsOver l s h i = (x : Element) → element_of h i ≡ Some x → Concerns s x.stage → IsSettled (status_of l.attempts h i)
+abbrev pub IsFinishedFor : Limits → ℕ → List Event → ℕ → Type 0
+IsFinishedFor l s h i = (x : Element) → element_of h i ≡ Some x → Concerns s x.stage
+    → IsSettled (status_of l.attempts h i)
 
 -- so it is in the first n rows of part p, or of the spare rows where p is the number of parts
-abbrev pub AreOver : Limits → ℕ → List Event → ℕ → ℕ → Type 0
-AreOver l s h p n = (i : ℕ) → p * l.rows ≤ i → i < p * l.rows + n → IsOver l s h i
+abbrev pub AreFinishedFor : Limits → ℕ → List Event → ℕ → ℕ → Type 0
+AreFinishedFor l s h p n = (i : ℕ) → p * l.rows ≤ i → i < p * l.rows + n → IsFinishedFor l s h i
 
 -- what a seat that knows the mark n of kind s of part p, or of the spare rows, knows of the history h
 abbrev pub IsLow : Limits → ℕ → List Event → ℕ → ℕ → Type 0
-IsLow l s h p n = IsInside l p n × AreOver l s h p n
+IsLow l s h p n = IsInside l p n × AreFinishedFor l s h p n
 
 -- what a seat that knows x knows of the history h: a head that isn't empty is that of the element that is
--- born in the row, no row below a mark has an element of its stages that isn't consumed or killed, a mark that is
--- above a number is in its part, and no more blocks are drawn than there are
+-- born in the row, no row below a mark has an element of its stages that isn't consumed or killed, a mark
+-- that is above a number is in its part, and no more blocks are drawn than there are
 abbrev pub IsSo : Limits → List Event → Known → Type 0
 IsSo l h (RowHead i head) = head ≢ Empty → (x : Element) → element_of h i ≡ Some x → head ≡ head_of x
 IsSo l h (PartMark s p n) = IsLow l s h p n
 IsSo l h (MarkAbove s p n) = IsInside l p (n + 1)
 IsSo l h (BlocksDrawn n) = n ≤ l.spare
 
--- a step that looks at the table: the seat has then seen the history so far, which ends with the step's own events
+-- a step that looks at the table: the seat has then seen the history so far, which ends with the step's own
+-- events
 pub record Grew (kind : StepKind) (f : Hand → Hand) (events : List Event) (v w : View) : Type 0 where
   -- what happened since the seat looked last, before its own events
   pub between : List Event
@@ -71,7 +82,8 @@ pub record Grew (kind : StepKind) (f : Hand → Hand) (events : List Event) (v w
   pub also_seen : IsPrefix v.also_seen w.seen
   -- it is legal
   pub legal : IsLegal v.limits w.seen
-  -- the step has one entry in the trace of each pass of the seat, and changes nothing else but by f, and what is known
+  -- the step has one entry in the trace of each pass of the seat, and changes nothing else but by f, and what
+  -- is known
   pub view : w ≡ after kind f w.seen w.known v
   -- a pass's own events are all with its number
   pub mine : (a : Hand) → In a w.hands → a.mine ≡ events_by a.number w.seen
@@ -90,7 +102,7 @@ unchanged a = a
 
 -- what the number r tells, which was found at the place `word` after h
 abbrev pub Found : Limits → List Event → ℕ → ℕ → Type 0
-Found l h word r = (w : Word) → IsThere l w → word ≡ place_of l w → Told h w r
+Found l h word r = (w : Word) → IsThere l w → word ≡ place_of l w → WordIs h w r
 
 -- no element is born in row i, nor in a later one of its part or its spare block
 abbrev pub NoneFrom : Limits → List Event → ℕ → Type 0
@@ -104,11 +116,12 @@ NoneDrawn l h n = (i : ℕ) → block_first l n ≤ i → i < rows_of l → IsUn
 abbrev pub HasEveryPass : View → Type 0
 HasEveryPass v = (c : ℕ) → c < v.limits.parts → (a : Hand) × In a v.hands × (a.number ≡ c)
 
--- where n spare blocks are drawn: each that a pass of the seat has drawn is one of them, and no other pass's, and
--- where the seat stands for every pass, each of them is one that a pass has drawn
+-- where n spare blocks are drawn: each that a pass of the seat has drawn is one of them, and no other pass's,
+-- and where the seat stands for every pass, each of them is one that a pass has drawn
 pub record Shares (n : ℕ) (v : View) : Type 0 where
   pub below : (a : Hand) → In a v.hands → Ascend 0 n a.blocks
-  pub alone : (a a' : Hand) (b : ℕ) → In a v.hands → In a' v.hands → In b a.blocks → In b a'.blocks → a.number ≡ a'.number
+  pub alone : (a a' : Hand) (b : ℕ) → In a v.hands → In a' v.hands → In b a.blocks → In b a'.blocks
+      → a.number ≡ a'.number
   pub all : HasEveryPass v → (b : ℕ) → b < n → (a : Hand) × In a v.hands × In b a.blocks
 
 -- a load, which found r at the place `word`
@@ -164,15 +177,27 @@ pub record Bodied (body : List ℕ) (v w : View) : Type 0 where
 
 -- the element that the next row holds once its head is stored
 abbrev pub next_element : View → ℕ → ℕ → Option ℕ → Element
-next_element v stage root by = record { id = next_row v; stage = stage; root = root; body = (hand v).next_body; by = by }
+next_element v stage root by = record {
+  id = next_row v;
+  stage = stage;
+  root = root;
+  body = (hand v).next_body;
+  by = by;
+}
 
 -- the next row has become a draft of the open unit
 abbrev pub with_draft : Element → Hand → Hand
-with_draft x a = record a { next = a.next + 1; left = a.left - 1; next_body = blank_body; drafts = a.drafts ++ x ∷ [] }
+with_draft x a = record a {
+  next = a.next + 1;
+  left = a.left - 1;
+  next_body = blank_body;
+  drafts = a.drafts
+      ++ x ∷ [];
+}
 
 -- a whole body stands in the next row
-abbrev pub IsReady : View → Type 0
-IsReady v = IsOnePass v × IsBody (hand v).next_body
+abbrev pub HasBodyStored : View → Type 0
+HasBodyStored v = IsOnePass v × IsBody (hand v).next_body
 
 -- the store of the head of a draft of unit u
 abbrev pub Drafts : View → ℕ → ℕ → ℕ → View → Type 0
@@ -186,7 +211,14 @@ birth v stage = Enqueue (hand v).number (next_element v stage (next_row v) None)
 
 -- the next row is born
 abbrev pub with_birth : Event → Hand → Hand
-with_birth e a = record a { mine = a.mine ++ e ∷ []; first_draft = a.next + 1; next = a.next + 1; left = a.left - 1; next_body = blank_body; drafts = [] }
+with_birth e a = record a {
+  mine = a.mine ++ e ∷ [];
+  first_draft = a.next + 1;
+  next = a.next + 1;
+  left = a.left - 1;
+  next_body = blank_body;
+  drafts = [];
+}
 
 abbrev pub Publishes : View → ℕ → View → Type 0
 Publishes v stage w = Grew kinds.Publish (with_birth (birth v stage)) (birth v stage ∷ []) v w
@@ -211,7 +243,7 @@ AllowsKill l h w = IsKillable (word_status l.attempts h w)
 
 -- where the claim word w was found, the element may be given another round: it is parked, and has rounds left
 abbrev pub AllowsRequeue : Limits → List Event → ClaimWord → Type 0
-AllowsRequeue l h w = IsParked (word_status l.attempts h w) × (round_in w < MOST_ROUNDS)
+AllowsRequeue l h w = IsParked (word_status l.attempts h w) × (round_in w < MAX_ROUNDS)
 
 -- row i has an element
 abbrev pub HasElement : List Event → ℕ → Type 0
@@ -256,14 +288,20 @@ claimed v u i n = Claim (hand v).number u i n
 
 -- the spare unit is claimed, and open
 abbrev pub with_claim : ℕ → Event → Hand → Hand
-with_claim u e a = record a { mine = a.mine ++ e ∷ []; claimed = a.claimed + 1; spare_unit = None; open_unit = Some u }
+with_claim u e a = record a {
+  mine = a.mine ++ e ∷ [];
+  claimed = a.claimed + 1;
+  spare_unit = None;
+  open_unit = Some u;
+}
 
 abbrev pub MakesClaim : View → ℕ → ℕ → ℕ → View → Type 0
 MakesClaim v u i n w = Grew kinds.ClaimExchange (with_claim u (claimed v u i n)) (claimed v u i n ∷ []) v w
 
 -- an exchange of a claim word that failed: the claim word is not the one that was found before, but this one
 abbrev pub FindsOther : StepKind → View → ℕ → ClaimWord → ClaimWord → View → Type 0
-FindsOther kind v i found now w = Grew kind unchanged [] v w × (now ≢ found) × (now ≡ claim_word w.seen i) × IsFitClaim now
+FindsOther kind v i found now w = Grew kind unchanged [] v w × (now ≢ found) × (now ≡ claim_word w.seen i)
+    × IsFitClaim now
 
 -- the event of a commit exchange: the drafts are born
 abbrev pub committed : View → ℕ → Event
@@ -281,64 +319,80 @@ abbrev pub MakesCommit : View → ℕ → View → Type 0
 MakesCommit v u w = Grew kinds.CommitExchange (with_end (committed v u)) (committed v u ∷ []) v w
 
 -- an exchange on the open unit that failed: another pass had aborted it
-abbrev pub Loses : StepKind → View → ℕ → View → Type 0
-Loses kind v u w = Grew kind with_lost [] v w × (end_of w.seen u ≡ Some Aborted) × ¬ In (Abort (hand v).number u) w.seen
+abbrev pub LosesUnit : StepKind → View → ℕ → View → Type 0
+LosesUnit kind v u w = Grew kind with_lost [] v w × (end_of w.seen u ≡ Some Aborted)
+    × ¬ In (Abort (hand v).number u) w.seen
 
 abbrev pub MakesAbort : View → ℕ → View → Type 0
-MakesAbort v u w = Grew kinds.AbortExchange (with_end (Abort (hand v).number u)) (Abort (hand v).number u ∷ []) v w
+MakesAbort v u w = Grew kinds.AbortExchange (with_end (Abort (hand v).number u)) (Abort (hand v).number u
+    ∷ []) v w
 
--- an abort exchange that failed: the unit had ended, in this way; where it is the pass's own, another had aborted it
+-- an abort exchange that failed: the unit had ended, in this way; where it is the pass's own, another had
+-- aborted it
 pub record FindsEnded (v : View) (u : ℕ) (found : Option UnitEnd) (w : View) : Type 0 where
   pub ended : found ≢ None
   pub found_is : found ≡ end_of w.seen u
-  pub own : (hand v).open_unit ≡ Some u → Loses kinds.AbortExchange v u w
+  pub own : (hand v).open_unit ≡ Some u → LosesUnit kinds.AbortExchange v u w
   pub other : (hand v).open_unit ≡ None → Grew kinds.AbortExchange unchanged [] v w
 
 abbrev pub MakesKill : View → ℕ → View → Type 0
-MakesKill v i w = Grew kinds.KillExchange (with_event (Kill (hand v).number i)) (Kill (hand v).number i ∷ []) v w
+MakesKill v i w = Grew kinds.KillExchange (with_event (Kill (hand v).number i)) (Kill (hand v).number i
+    ∷ []) v w
 
 abbrev pub MakesRequeue : View → ℕ → ℕ → View → Type 0
-MakesRequeue v i r w = Grew kinds.RequeueExchange (with_event (Requeue (hand v).number i r)) (Requeue (hand v).number i r ∷ []) v w
+MakesRequeue v i r w = Grew kinds.RequeueExchange (with_event (Requeue (hand v).number i r))
+    (Requeue (hand v).number i r ∷ []) v w
 
 -- raise
 
 -- the seat has found in row i the head of a draft whose unit it saw aborted
 abbrev pub HasDead : View → ℕ → Type 0
-HasDead v i = (stage : ℕ) × (root : ℕ) × (u : ℕ) × Knows v (RowHead i (There stage root (Some u))) × (end_of v.seen u ≡ Some Aborted)
+HasDead v i = (stage : ℕ) × (root : ℕ) × (u : ℕ) × Knows v (RowHead i (Filled stage root (Some u)))
+    × (end_of v.seen u ≡ Some Aborted)
 
 -- the seat knows that row i is finished: it saw its element consumed or killed, or a draft that is never born
-abbrev pub IsDone : View → ℕ → Type 0
-IsDone v i = IsSettledRow v.limits v.seen i ⊎ HasDead v i
+abbrev pub KnowsFinished : View → ℕ → Type 0
+KnowsFinished v i = IsSettledRow v.limits v.seen i ⊎ HasDead v i
 
--- the seat has found in row i a head of no use to marks of kind s: a void one, or one of a stage that they aren't about
+-- the seat has found in row i a head of no use to marks of kind s: a void one, or one of a stage that they
+-- aren't about
 abbrev pub HasAside : View → ℕ → ℕ → Type 0
 HasAside v s i = (head : Head) × Knows v (RowHead i head) × IsOther s head
 
 -- the seat knows that row i is of no use to kind s
 abbrev pub KnowsUseless : View → ℕ → ℕ → Type 0
-KnowsUseless v s i = IsDone v i ⊎ HasAside v s i
+KnowsUseless v s i = KnowsFinished v i ⊎ HasAside v s i
 
 -- the exchange of the mark of kind s of part p, or of the spare rows, from m to n, after which nothing
 -- more is seen. What was known is
 -- known, and nothing besides but the mark n, or that it is above m
-abbrev pub Raises : View → ℕ → ℕ → ℕ → ℕ → View → Type 0
-Raises v s p m n w = (w ≡ after kinds.Raise unchanged v.seen w.known v) × ((x : Known) → Knows v x → Knows w x)
+abbrev pub RaisesMark : View → ℕ → ℕ → ℕ → ℕ → View → Type 0
+RaisesMark v s p m n w = (w ≡ after kinds.Raise unchanged v.seen w.known v) × ((x : Known) → Knows v x
+    → Knows w x)
     × ((x : Known) → Knows w x → Knows v x ⊎ ((x ≡ PartMark s p n) ⊎ (x ≡ MarkAbove s p m)))
 
 -- draw
 
 -- spare block b, which begins with row `first`, is drawn, and its rows are the run
 abbrev pub with_block : ℕ → ℕ → Hand → Hand
-with_block b first a = record a { first_draft = first; next = first; left = BLOCK_ROWS; next_body = blank_body; blocks = a.blocks ++ b ∷ [] }
+with_block b first a = record a {
+  first_draft = first;
+  next = first;
+  left = BLOCK_ROWS;
+  next_body = blank_body;
+  blocks = a.blocks ++ b ∷ [];
+}
 
 -- the view after an exchange of the counter of drawn blocks, which is n by then: that is known, and nothing
 -- more is seen
 abbrev pub drew : (Hand → Hand) → ℕ → View → View
 drew f n v = after kinds.Draw f v.seen (BlocksDrawn n ∷ v.known) v
 
--- the exchange by which spare block b is drawn. No row of it is born in what is seen, and the pass may use each
+-- the exchange by which spare block b is drawn. No row of it is born in what is seen, and the pass may use
+-- each
 abbrev pub Draws : View → ℕ → View → Type 0
-Draws v b w = (w ≡ drew (with_block b (block_first v.limits b)) (b + 1) v) × IsRun v.limits v.seen (hand w).number (hand w).blocks (hand w).next (hand w).left
+Draws v b w = (w ≡ drew (with_block b (block_first v.limits b)) (b + 1) v)
+    × IsRun v.limits v.seen (hand w).number (hand w).blocks (hand w).next (hand w).left
 
 -- the exchange that failed, since not b but n blocks are drawn, which is no fewer than were known to be
 pub record DrawsNone (v : View) (b n : ℕ) (w : View) : Type 0 where
@@ -351,12 +405,14 @@ pub record DrawsNone (v : View) (b n : ℕ) (w : View) : Type 0 where
 
 -- row i is in an area of the pass that its run has left
 abbrev pub IsLeft : Limits → Hand → ℕ → Type 0
-IsLeft l a i = (first : ℕ) × (end : ℕ) × IsOwnArea l a.number a.blocks first end × (first ≤ i) × (i < end) × (end ≢ a.next + a.left)
+IsLeft l a i = (first : ℕ) × (end : ℕ) × IsOwnArea l a.number a.blocks first end × (first ≤ i) × (i < end)
+    × (end ≢ a.next + a.left)
 
--- the exchange of the head of row i, from empty to void, after which nothing more is seen: the head isn't empty by
--- then, and the seat knows it
+-- the exchange of the head of row i, from empty to void, after which nothing more is seen: the head isn't
+-- empty by then, and the seat knows it
 abbrev pub Voids : View → ℕ → View → Type 0
-Voids v i w = (head : Head) × (head ≢ Empty) × (w ≡ after kinds.Void unchanged v.seen (RowHead i head ∷ v.known) v) × IsSo v.limits v.seen (RowHead i head)
+Voids v i w = (head : Head) × (head ≢ Empty) × (w ≡ after kinds.Void unchanged v.seen (RowHead i head
+    ∷ v.known) v) × IsSo v.limits v.seen (RowHead i head)
 
 -- splits and joins of seats, each a load
 
@@ -370,7 +426,13 @@ front_of (a ∷ hands) = a ∷ []
 
 -- the view of a seat that stands for these passes
 abbrev pub with_hands : List Hand → View → View
-with_hands hands v = record { limits = v.limits; seen = v.seen; also_seen = v.also_seen; known = v.known; hands = hands }
+with_hands hands v = record {
+  limits = v.limits;
+  seen = v.seen;
+  also_seen = v.also_seen;
+  known = v.known;
+  hands = hands;
+}
 
 -- these passes with one more load in their traces
 abbrev pub looked : View → List Hand → List Hand
@@ -394,11 +456,17 @@ parted v = with_hands (rest_of v.hands) v
 
 -- the seat v after the seat w was joined to it; v's passes made the load, and what either knew is known
 abbrev pub joined : View → View → View
-joined v w = record { limits = v.limits; seen = v.seen; also_seen = w.seen; known = v.known ++ w.known; hands = looked v v.hands ++ w.hands }
+joined v w = record {
+  limits = v.limits;
+  seen = v.seen;
+  also_seen = w.seen;
+  known = v.known ++ w.known;
+  hands = looked v v.hands ++ w.hands;
+}
 
 -- two seats that met, where each was v and w before: both have seen the same legal history, which begins with
 -- what either had seen
-pub record Meets (v w v' w' : View) : Type 0 where
+pub record SeatsMeet (v w v' w' : View) : Type 0 where
   pub same : v'.seen ≡ w'.seen
   pub legal : IsLegal v.limits v'.seen
   pub first_saw : IsPrefix v.seen v'.seen
@@ -410,10 +478,14 @@ pub record Meets (v w v' w' : View) : Type 0 where
   pub second_is : hand w' ≡ noted kinds.Load v'.seen (hand w)
   pub limits : (v'.limits ≡ v.limits) × (w'.limits ≡ v.limits)
   -- the events of each are all with its number, and its open unit is its own
-  pub mine : ((hand v').mine ≡ events_by (hand v').number v'.seen) × ((hand w').mine ≡ events_by (hand w').number w'.seen)
-  pub open_own : ((u : ℕ) → (hand v').open_unit ≡ Some u → IsOwnOpen v'.seen (hand v').number u) × ((u : ℕ) → (hand w').open_unit ≡ Some u → IsOwnOpen w'.seen (hand w').number u)
+  pub mine : ((hand v').mine ≡ events_by (hand v').number v'.seen)
+      × ((hand w').mine ≡ events_by (hand w').number w'.seen)
+  pub open_own : ((u : ℕ) → (hand v').open_unit ≡ Some u → IsOwnOpen v'.seen (hand v').number u)
+      × ((u : ℕ) → (hand w').open_unit ≡ Some u → IsOwnOpen w'.seen (hand w').number u)
   -- the rows that are left to each are a run
-  pub run : IsRun v.limits v'.seen (hand v').number (hand v').blocks (hand v').next (hand v').left × IsRun v.limits w'.seen (hand w').number (hand w').blocks (hand w').next (hand w').left
+  pub run : IsRun v.limits v'.seen (hand v').number (hand v').blocks (hand v').next (hand v').left
+      × IsRun v.limits w'.seen (hand w').number (hand w').blocks (hand w').next (hand w').left
   -- what either knew both know
   pub knows : ((x : Known) → Knows v x → Knows v' x) × ((x : Known) → Knows w x → Knows w' x)
-  pub is_so : ((x : Known) → Knows v' x → IsSo v.limits v'.seen x) × ((x : Known) → Knows w' x → IsSo v.limits w'.seen x)
+  pub is_so : ((x : Known) → Knows v' x → IsSo v.limits v'.seen x) × ((x : Known) → Knows w' x
+      → IsSo v.limits w'.seen x)

@@ -7,8 +7,8 @@ use Rattle.tp_rule.specs.Doors.{id_of}
 use Rattle.tp_rule.specs.declared.words.Words.{Words}
 
 -- what the words have room for
-abbrev pub limits_of : Words → Limits
-limits_of words = words.places.limits
+abbrev pub table_limits : Words → Limits
+table_limits words = words.places.limits
 
 -- which table the words stand in
 abbrev pub table_of : Words → TableId
@@ -20,4 +20,4 @@ IsSeatOf words seat = seat.table ≡ table_of words
 
 -- the seat stands for one pass, and knows the limits of the words
 abbrev pub IsPassOf : Words → SeatShown → Type 0
-IsPassOf words seat = IsOnePass (view_of seat) × ((view_of seat).limits ≡ limits_of words)
+IsPassOf words seat = IsOnePass (view_of seat) × ((view_of seat).limits ≡ table_limits words)

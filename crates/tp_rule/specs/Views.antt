@@ -28,7 +28,20 @@ blank_body = replicate BODY_WORDS 0
 
 -- the pass c of a table with these limits, which has done nothing: all rows of its part are left
 abbrev pub fresh : Limits → ℕ → Hand
-fresh l c = record { number = c; mine = []; trace = []; first_draft = c * l.rows; next = c * l.rows; left = l.rows; blocks = []; next_body = blank_body; drafts = []; claimed = 0; spare_unit = None; open_unit = None }
+fresh l c = record {
+  number = c;
+  mine = [];
+  trace = [];
+  first_draft = c * l.rows;
+  next = c * l.rows;
+  left = l.rows;
+  blocks = [];
+  next_body = blank_body;
+  drafts = [];
+  claimed = 0;
+  spare_unit = None;
+  open_unit = None;
+}
 
 -- so many passes from c on, which have done nothing
 abbrev pub fresh_from : Limits → ℕ → ℕ → List Hand
@@ -89,4 +102,5 @@ IsNextRow l v i = (i ≡ next_row v) × (0 < (hand v).left) × (i < rows_of l)
 
 -- unit u is the one that the pass claims with next, and there is one
 abbrev pub IsNextUnit : Limits → View → ℕ → Type 0
-IsNextUnit l v u = (u ≡ (hand v).number * l.units + (hand v).claimed) × ((hand v).claimed < l.units) × (u < units_of l)
+IsNextUnit l v u = (u ≡ (hand v).number * l.units + (hand v).claimed) × ((hand v).claimed < l.units)
+    × (u < units_of l)

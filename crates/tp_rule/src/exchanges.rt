@@ -1,7 +1,8 @@
 //! The choice of a unit, and the exchanges. An exchange compares a whole word with what was found there
 //! before, and changes it only if it is still the same; so it acts on the state that its caller read. One
 //! that fails changes no word, and tells the word that it found.
-ghost use Rattle.std.specs.Prelude.{◌≡◌, ◌+◌, ◌*◌, ◌<◌, ◌≤◌, ◌⊎◌, ℕ, [], IfErr, IfOk, length, true, false, Some, None};
+ghost use Rattle.std.specs.Prelude.{◌≡◌, ◌+◌, ◌*◌, ◌<◌, ◌≤◌, ◌⊎◌, ℕ, [], IfErr, IfOk, length, true, false};
+ghost use Rattle.std.specs.Prelude.{Some, None};
 ghost use Rattle.tp_model.specs.declared.trace.StepKind.TheVariants as kinds;
 ghost use Rattle.tp_model.specs.History.{first_id};
 ghost use Rattle.tp_model.specs.Steps.{rows_of, units_of};
@@ -11,7 +12,10 @@ ghost use Rattle.tp_rule.specs.Rule.{IsInside};
 ghost use Rattle.tp_rule.specs.Views.{hand_of, seen_by, view_of, IsNextUnit, IsSameSeat};
 ghost use Rattle.tp_rule.specs.declared.view.Known.TheVariants.{MarkAbove, PartMark};
 ghost use Rattle.tp_words.specs.declared.places.TheConstants.{MARK_KINDS};
-ghost use Rattle.tp_rule.specs.Steps.{Raises, Draws, DrawsNone, IsLeft, Voids, Knows, KnowsUseless, Chooses, MakesClaim, MakesCommit, MakesAbort, MakesKill, MakesRequeue, Loses, FindsOther, FindsEnded, AllowsClaim, AllowsKill, AllowsRequeue, HasElement, HasWork, IsOwnWork, IsClaimed};
+ghost use Rattle.tp_rule.specs.Steps.{RaisesMark, Draws, DrawsNone, IsLeft, Voids, Knows, KnowsUseless};
+ghost use Rattle.tp_rule.specs.Steps.{Chooses, MakesClaim, MakesCommit, MakesAbort, MakesKill, MakesRequeue};
+ghost use Rattle.tp_rule.specs.Steps.{LosesUnit, FindsOther, FindsEnded, AllowsClaim, AllowsKill};
+ghost use Rattle.tp_rule.specs.Steps.{AllowsRequeue, HasElement, HasWork, IsOwnWork, IsClaimed};
 
 use crate::plays::{
     AbortExchange, ClaimExchange, CommitExchange, Draw, KillExchange, Raise, RequeueExchange,
@@ -23,7 +27,7 @@ use tp_words::bits::{HEAD_EMPTY, HEAD_VOID, UNIT_ABORTED, UNIT_UNDECIDED};
 use tp_words::{Claim, FoundClaim, UnitWord};
 
 impl Words {
-    ghost use Rattle.tp_rule.specs.Tables.{limits_of, IsSeatOf, IsPassOf};
+    ghost use Rattle.tp_rule.specs.Tables.{table_limits, IsSeatOf, IsPassOf};
 
     /// Looks at the word of the pass's next unit, which is thereby the spare one: the next claim is made with it. The
     /// history does not change.
@@ -31,7 +35,7 @@ impl Words {
     pub fn choose_unit(&self, seat: &mut Seat, unit: u16)
         requires own { IsSeatOf self.now seat.old }
         requires one { IsPassOf self.now seat.old }
-        requires next { IsNextUnit (limits_of self.now) (view_of seat.old) unit }
+        requires next { IsNextUnit (table_limits self.now) (view_of seat.old) unit }
         ensures same { IsSameSeat seat.old seat.new }
         ensures chooses { Chooses (view_of seat.old) unit (view_of seat.new) }
     {
@@ -54,14 +58,15 @@ impl Words {
     ) -> Result<(), FoundClaim>
         requires own { IsSeatOf self.now seat.old }
         requires one { IsPassOf self.now seat.old }
-        requires row { (row < rows_of (limits_of self.now)) × HasWork (seen_by seat.old) row }
+        requires row { (row < rows_of (table_limits self.now)) × HasWork (seen_by seat.old) row }
         requires spare { ((hand_of seat.old).spare_unit ≡ Some unit) × (unit < 65535) }
         requires none_open { (hand_of seat.old).open_unit ≡ None }
         requires fits { IsFitClaim (claim_value found.tells) }
-        requires found { AllowsClaim (limits_of self.now) (seen_by seat.old)
+        requires found { AllowsClaim (table_limits self.now) (seen_by seat.old)
             (claim_value found.tells) attempt }
         ensures same { IsSameSeat seat.old seat.new }
-        ensures hit { IfOk result (λ done. MakesClaim (view_of seat.old) unit row attempt (view_of seat.new)) }
+        ensures hit { IfOk result (λ done.
+            MakesClaim (view_of seat.old) unit row attempt (view_of seat.new)) }
         ensures miss { IfErr result (λ now. FindsOther kinds.ClaimExchange (view_of seat.old) row
             (claim_value found.tells) (claim_value now.tells) (view_of seat.new)) }
     {
@@ -84,13 +89,14 @@ impl Words {
     pub fn commit_exchange(&self, seat: &mut Seat, unit: u16, first: u16, count: u8) -> bool
         requires own { IsSeatOf self.now seat.old }
         requires one { IsPassOf self.now seat.old }
-        requires unit { ((hand_of seat.old).open_unit ≡ Some unit) × (unit < units_of (limits_of self.now)) }
+        requires unit { ((hand_of seat.old).open_unit ≡ Some unit)
+            × (unit < units_of (table_limits self.now)) }
         requires work { IsOwnWork (view_of seat.old) unit }
         requires count { (count ≡ length (hand_of seat.old).drafts) × (count ≤ 4) }
         requires first { first ≡ first_id (hand_of seat.old).drafts }
         ensures same { IsSameSeat seat.old seat.new }
         ensures hit { result ≡ true → MakesCommit (view_of seat.old) unit (view_of seat.new) }
-        ensures miss { result ≡ false → Loses kinds.CommitExchange (view_of seat.old) unit (view_of seat.new) }
+        ensures miss { result ≡ false → LosesUnit kinds.CommitExchange (view_of seat.old) unit (view_of seat.new) }
     {
         let word = self.places.unit(unit);
         let committed = UnitWord::Committed { first, count }.pack();
@@ -108,8 +114,9 @@ impl Words {
     pub fn abort_exchange(&self, seat: &mut Seat, unit: u16) -> Result<(), UnitWord>
         requires own { IsSeatOf self.now seat.old }
         requires one { IsPassOf self.now seat.old }
-        requires unit { IsClaimed (seen_by seat.old) unit × (unit < units_of (limits_of self.now)) }
-        requires open_unit { ((hand_of seat.old).open_unit ≡ None) ⊎ ((hand_of seat.old).open_unit ≡ Some unit) }
+        requires unit { IsClaimed (seen_by seat.old) unit × (unit < units_of (table_limits self.now)) }
+        requires open_unit { ((hand_of seat.old).open_unit ≡ None)
+            ⊎ ((hand_of seat.old).open_unit ≡ Some unit) }
         ensures same { IsSameSeat seat.old seat.new }
         ensures hit { IfOk result (λ done. MakesAbort (view_of seat.old) unit (view_of seat.new)) }
         ensures miss { IfErr result (λ found. FindsEnded (view_of seat.old) unit (unit_value found)
@@ -137,9 +144,9 @@ impl Words {
     ) -> Result<(), FoundClaim>
         requires own { IsSeatOf self.now seat.old }
         requires one { IsPassOf self.now seat.old }
-        requires row { (row < rows_of (limits_of self.now)) × HasElement (seen_by seat.old) row }
+        requires row { (row < rows_of (table_limits self.now)) × HasElement (seen_by seat.old) row }
         requires fits { IsFitClaim (claim_value found.tells) }
-        requires found { AllowsKill (limits_of self.now) (seen_by seat.old) (claim_value found.tells) }
+        requires found { AllowsKill (table_limits self.now) (seen_by seat.old) (claim_value found.tells) }
         ensures same { IsSameSeat seat.old seat.new }
         ensures hit { IfOk result (λ done. MakesKill (view_of seat.old) row (view_of seat.new)) }
         ensures miss { IfErr result (λ now. FindsOther kinds.KillExchange (view_of seat.old) row
@@ -157,9 +164,9 @@ impl Words {
         Err(FoundClaim::read(was))
     }
 
-    /// The parked element of a row is given its next round, if its claim is still the one that was found: its unit was
-    /// aborted, the attempts are used up, and there is a round left. `Ok` adds the requeue to the history, and the
-    /// element waits again. `Err` has the claim as it is by now.
+    /// The parked element of a row is given its next round, if its claim is still the one that was found: its
+    /// unit was aborted, the attempts are used up, and there is a round left. `Ok` adds the requeue to the
+    /// history, and the element waits again. `Err` has the claim as it is by now.
     pub fn requeue_exchange(
         &self,
         seat: &mut Seat,
@@ -168,9 +175,9 @@ impl Words {
     ) -> Result<(), FoundClaim>
         requires own { IsSeatOf self.now seat.old }
         requires one { IsPassOf self.now seat.old }
-        requires row { (row < rows_of (limits_of self.now)) × HasElement (seen_by seat.old) row }
+        requires row { (row < rows_of (table_limits self.now)) × HasElement (seen_by seat.old) row }
         requires fits { IsFitClaim (claim_value found.tells) }
-        requires found { AllowsRequeue (limits_of self.now) (seen_by seat.old) (claim_value found.tells) }
+        requires found { AllowsRequeue (table_limits self.now) (seen_by seat.old) (claim_value found.tells) }
         ensures same { IsSameSeat seat.old seat.new }
         ensures hit { IfOk result (λ done. MakesRequeue (view_of seat.old) row
             (round_in (claim_value found.tells) + 1) (view_of seat.new)) }
@@ -190,20 +197,21 @@ impl Words {
         Err(FoundClaim::read(was))
     }
 
-    /// The mark of a kind of a part, or of the spare rows where `part` is the number of parts, is raised over rows that
-    /// the seat knows of no use to it, if it is still the one that was found. `true`: it is so high now,
-    /// and the seat remembers it. `false`: it is above what was found. Nothing
-    /// more is seen by it, nor has the history changed.
+    /// The mark of a kind of a part, or of the spare rows where `part` is the number of parts, is raised over
+    /// rows that the seat knows of no use to it, if it is still the one that was found. `true`: it is so high
+    /// now, and the seat remembers it. `false`: it is above what was found. Nothing more is seen by it, nor
+    /// has the history changed.
     pub fn raise(&self, seat: &mut Seat, kind: u8, part: u16, from: u16, to: u16) -> bool
         requires own { IsSeatOf self.now seat.old }
         requires one { IsPassOf self.now seat.old }
         requires kind { kind < MARK_KINDS }
-        requires part { part ≤ (limits_of self.now).parts }
-        requires up { (from ≤ to) × IsInside (limits_of self.now) part to }
-        requires done { let l = limits_of self.now in (i : ℕ) → part * l.rows + from ≤ i → i < part * l.rows + to
+        requires part { part ≤ (table_limits self.now).parts }
+        requires up { (from ≤ to) × IsInside (table_limits self.now) part to }
+        requires done { let l = table_limits self.now in (i : ℕ) → part * l.rows + from ≤ i
+            → i < part * l.rows + to
             → KnowsUseless (view_of seat.old) kind i }
         ensures same { IsSameSeat seat.old seat.new }
-        ensures raises { Raises (view_of seat.old) kind part from to (view_of seat.new) }
+        ensures raises { RaisesMark (view_of seat.old) kind part from to (view_of seat.new) }
         ensures hit { result ≡ true → Knows (view_of seat.new) (PartMark kind part to) }
         ensures miss { result ≡ false → Knows (view_of seat.old) (PartMark kind part from)
             → Knows (view_of seat.new) (MarkAbove kind part from) }
@@ -215,15 +223,15 @@ impl Words {
         was == from as u64
     }
 
-    /// Draws the next spare block, if so many are drawn as the caller believes. `Ok`: the block with that number
-    /// is the pass's, and its 8 rows are the run; what was left of the old run stays unused. `Err` has how many
-    /// are drawn by now. Nothing more is seen by it, nor has the history changed.
+    /// Draws the next spare block, if so many are drawn as the caller believes. `Ok`: the block with that
+    /// number is the pass's, and its 8 rows are the run; what was left of the old run stays unused. `Err` has
+    /// how many are drawn by now. Nothing more is seen by it, nor has the history changed.
     #[tactic(auto, using(crate::proofs::Drawing::draws_go))]
     pub fn draw(&self, seat: &mut Seat, drawn: u16) -> Result<(), u16>
         requires own { IsSeatOf self.now seat.old }
         requires one { IsPassOf self.now seat.old }
         requires no_drafts { (hand_of seat.old).drafts ≡ [] }
-        requires room { drawn < (limits_of self.now).spare }
+        requires room { drawn < (table_limits self.now).spare }
         ensures same { IsSameSeat seat.old seat.new }
         ensures hit { IfOk result (λ done. Draws (view_of seat.old) drawn (view_of seat.new)) }
         ensures miss { IfErr result (λ now. DrawsNone (view_of seat.old) drawn now (view_of seat.new)) }
@@ -239,14 +247,14 @@ impl Words {
         }
     }
 
-    /// Marks a row as one that is never used, if its head is empty: it is in the pass's part or in a block that the
-    /// pass has drawn, and the pass has left that for another block. The head isn't empty by then, and the seat
-    /// remembers it. Nothing more is seen by it, nor has the history changed.
+    /// Marks a row as one that is never used, if its head is empty: it is in the pass's part or in a block
+    /// that the pass has drawn, and the pass has left that for another block. The head isn't empty by then,
+    /// and the seat remembers it. Nothing more is seen by it, nor has the history changed.
     pub fn void(&self, seat: &mut Seat, row: u32)
         requires own { IsSeatOf self.now seat.old }
         requires one { IsPassOf self.now seat.old }
-        requires row { row < rows_of (limits_of self.now) }
-        requires left { IsLeft (limits_of self.now) (hand_of seat.old) row }
+        requires row { row < rows_of (table_limits self.now) }
+        requires left { IsLeft (table_limits self.now) (hand_of seat.old) row }
         ensures same { IsSameSeat seat.old seat.new }
         ensures voids { Voids (view_of seat.old) row (view_of seat.new) }
     {

@@ -21,13 +21,13 @@ use crate::words::Words;
 use tp_words::{FoundClaim, Head, UnitWord};
 
 impl Words {
-    ghost use Rattle.tp_rule.specs.Tables.{limits_of, IsSeatOf, IsPassOf};
+    ghost use Rattle.tp_rule.specs.Tables.{table_limits, IsSeatOf, IsPassOf};
 
     /// Reads the word at a place. The seat may stand for several passes: each has one more entry in its trace.
     #[inline(always)]
     pub fn load(&self, seat: &mut Seat, word: usize) -> u64
         requires own { IsSeatOf self.now seat.old }
-        requires inside { word < size_of (limits_of self.now) }
+        requires inside { word < size_of (table_limits self.now) }
         requires pass { HasPass (view_of seat.old) }
         ensures same { IsSameSeat seat.old seat.new }
         ensures looks { Loads (view_of seat.old) word result (view_of seat.new) }
@@ -35,21 +35,21 @@ impl Words {
         self.table.load::<Load>(seat, word)
     }
 
-    /// Reads the head of a row. Where an element is born in what is then seen, it is that element's head. Where
-    /// none is, it is empty or names a unit: a draft is no element before its unit commits. The seat remembers
-    /// what it found: a head that isn't empty stays. Where it is empty, no element is born in the later rows of
-    /// its part, or of its spare block, either.
+    /// Reads the head of a row. Where an element is born in what is then seen, it is that element's head.
+    /// Where none is, it is empty or names a unit: a draft is no element before its unit commits. The seat
+    /// remembers what it found: a head that isn't empty stays. Where it is empty, no element is born in the
+    /// later rows of its part, or of its spare block, either.
     #[inline(always)]
     pub fn load_head(&self, seat: &mut Seat, row: u32) -> Head
         requires own { IsSeatOf self.now seat.old }
         requires one { IsPassOf self.now seat.old }
-        requires row { row < rows_of (limits_of self.now) }
+        requires row { row < rows_of (table_limits self.now) }
         ensures same { IsSameSeat seat.old seat.new }
         ensures grew { Grew kinds.Load unchanged [] (view_of seat.old) (view_of seat.new) }
         ensures born { (e : Element) → element_of (seen_by seat.new) row ≡ Some e → result ≡ head_of e }
         ensures draft { IsUnborn (seen_by seat.new) row → IsDraft result }
         ensures knows { Knows (view_of seat.new) (RowHead row result) }
-        ensures none { result ≡ Empty → NoneFrom (limits_of self.now) (seen_by seat.new) row }
+        ensures none { result ≡ Empty → NoneFrom (table_limits self.now) (seen_by seat.new) row }
     {
         let word = self.places.head(row);
         let found = self.table.load::<LoadHead>(seat, word);
@@ -61,7 +61,7 @@ impl Words {
     pub fn load_stage(&self, seat: &mut Seat, row: u32) -> u8
         requires own { IsSeatOf self.now seat.old }
         requires one { IsPassOf self.now seat.old }
-        requires row { row < rows_of (limits_of self.now) }
+        requires row { row < rows_of (table_limits self.now) }
         ensures same { IsSameSeat seat.old seat.new }
         ensures grew { Grew kinds.Load unchanged [] (view_of seat.old) (view_of seat.new) }
         ensures born { (e : Element) → element_of (seen_by seat.new) row ≡ Some e → result ≡ e.stage }
@@ -76,7 +76,7 @@ impl Words {
     pub fn load_word(&self, seat: &mut Seat, row: u32, word: usize) -> u64
         requires own { IsSeatOf self.now seat.old }
         requires one { IsPassOf self.now seat.old }
-        requires row { row < rows_of (limits_of self.now) }
+        requires row { row < rows_of (table_limits self.now) }
         requires word { word < BODY_WORDS }
         ensures same { IsSameSeat seat.old seat.new }
         ensures grew { Grew kinds.Load unchanged [] (view_of seat.old) (view_of seat.new) }
@@ -92,7 +92,7 @@ impl Words {
     pub fn load_claim(&self, seat: &mut Seat, row: u32) -> FoundClaim
         requires own { IsSeatOf self.now seat.old }
         requires one { IsPassOf self.now seat.old }
-        requires row { row < rows_of (limits_of self.now) }
+        requires row { row < rows_of (table_limits self.now) }
         ensures same { IsSameSeat seat.old seat.new }
         ensures grew { Grew kinds.Load unchanged [] (view_of seat.old) (view_of seat.new) }
         ensures claim { claim_value result.tells ≡ claim_word (seen_by seat.new) row }
@@ -108,7 +108,7 @@ impl Words {
     pub fn load_unit(&self, seat: &mut Seat, unit: u16) -> UnitWord
         requires own { IsSeatOf self.now seat.old }
         requires one { IsPassOf self.now seat.old }
-        requires unit { unit < units_of (limits_of self.now) }
+        requires unit { unit < units_of (table_limits self.now) }
         ensures same { IsSameSeat seat.old seat.new }
         ensures grew { Grew kinds.Load unchanged [] (view_of seat.old) (view_of seat.new) }
         ensures end { unit_value result ≡ end_of (seen_by seat.new) unit }
@@ -118,19 +118,19 @@ impl Words {
         UnitWord::read(found)
     }
 
-    /// Reads the mark of a kind of a part, or of the spare rows where `part` is the number of parts, and the seat
-    /// remembers it: no row of the part below it has an element of a
-    /// stage that this kind is about and that isn't consumed or killed, neither now nor at any later time.
+    /// Reads the mark of a kind of a part, or of the spare rows where `part` is the number of parts, and the
+    /// seat remembers it: no row of the part below it has an element of a stage that this kind is about and
+    /// that isn't consumed or killed, neither now nor at any later time.
     #[inline(always)]
     pub fn load_mark(&self, seat: &mut Seat, kind: u8, part: u16) -> u16
         requires own { IsSeatOf self.now seat.old }
         requires one { IsPassOf self.now seat.old }
         requires kind { kind < MARK_KINDS }
-        requires part { part ≤ (limits_of self.now).parts }
+        requires part { part ≤ (table_limits self.now).parts }
         ensures same { IsSameSeat seat.old seat.new }
         ensures grew { Grew kinds.Load unchanged [] (view_of seat.old) (view_of seat.new) }
         ensures knows { Knows (view_of seat.new) (PartMark kind part result) }
-        ensures low { IsLow (limits_of self.now) kind (seen_by seat.new) part result }
+        ensures low { IsLow (table_limits self.now) kind (seen_by seat.new) part result }
         ensures rises { (n : ℕ) → Knows (view_of seat.old) (PartMark kind part n) → n ≤ result }
     {
         let word = self.places.mark(kind, part);
@@ -138,8 +138,8 @@ impl Words {
         found as u16
     }
 
-    /// Reads how many spare blocks are drawn, and the seat remembers it: they never get fewer. In the blocks from
-    /// that one on no element is born.
+    /// Reads how many spare blocks are drawn, and the seat remembers it: they never get fewer. In the blocks
+    /// from that one on no element is born.
     #[inline(always)]
     pub fn load_drawn(&self, seat: &mut Seat) -> u16
         requires own { IsSeatOf self.now seat.old }
@@ -147,26 +147,26 @@ impl Words {
         ensures same { IsSameSeat seat.old seat.new }
         ensures grew { Grew kinds.Load unchanged [] (view_of seat.old) (view_of seat.new) }
         ensures knows { Knows (view_of seat.new) (BlocksDrawn result) }
-        ensures inside { result ≤ (limits_of self.now).spare }
-        ensures none { NoneDrawn (limits_of self.now) (seen_by seat.new) result }
+        ensures inside { result ≤ (table_limits self.now).spare }
+        ensures none { NoneDrawn (table_limits self.now) (seen_by seat.new) result }
         ensures rises { (n : ℕ) → Knows (view_of seat.old) (BlocksDrawn n) → n ≤ result }
     {
         self.load_drawn_together(seat)
     }
 
     /// Reads that number by a seat that may stand for several passes, each of which has one more entry in its trace.
-    /// Each block that one of them has drawn is below it, and no other pass's; where the seat stands for every
-    /// pass, each block below it is one that a pass has drawn.
+    /// Each block that one of them has drawn is below it, and no other pass's; where the seat stands for
+    /// every pass, each block below it is one that a pass has drawn.
     #[inline(always)]
     pub fn load_drawn_together(&self, seat: &mut Seat) -> u16
         requires own { IsSeatOf self.now seat.old }
         requires pass { HasPass (view_of seat.old) }
-        requires limits { (view_of seat.old).limits ≡ limits_of self.now }
+        requires limits { (view_of seat.old).limits ≡ table_limits self.now }
         ensures same { IsSameSeat seat.old seat.new }
         ensures grew { Grew kinds.Load unchanged [] (view_of seat.old) (view_of seat.new) }
         ensures knows { Knows (view_of seat.new) (BlocksDrawn result) }
-        ensures inside { result ≤ (limits_of self.now).spare }
-        ensures none { NoneDrawn (limits_of self.now) (seen_by seat.new) result }
+        ensures inside { result ≤ (table_limits self.now).spare }
+        ensures none { NoneDrawn (table_limits self.now) (seen_by seat.new) result }
         ensures rises { (n : ℕ) → Knows (view_of seat.old) (BlocksDrawn n) → n ≤ result }
         ensures shares { Shares result (view_of seat.new) }
     {

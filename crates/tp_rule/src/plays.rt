@@ -1,6 +1,9 @@
 //! What each kind of step tells the functions of this crate, in the numbers of the table, and how seats are
 //! cut and joined.
-ghost use Rattle.tp_rule.specs.Plays.{Telling, loads, loads_head, stores_word, stores_head, publishes, chooses, exchanges_claim, exchanges_commit, exchanges_abort, exchanges_kill, exchanges_requeue, loads_mark, raises, loads_drawn, draws, voids};
+ghost use Rattle.tp_rule.specs.Plays.{Telling, loads, loads_head, stores_word, stores_head, publishes};
+ghost use Rattle.tp_rule.specs.Plays.{chooses, exchanges_claim, exchanges_commit, exchanges_abort};
+ghost use Rattle.tp_rule.specs.Plays.{exchanges_kill, exchanges_requeue, loads_mark, raises, loads_drawn};
+ghost use Rattle.tp_rule.specs.Plays.{draws, voids};
 ghost use Rattle.tp_rule.specs.Views.{spent};
 ghost use Rattle.tp_rule.specs.Steps.{handed_on, handed_out, kept, parted, joined};
 
@@ -9,8 +12,8 @@ use atomic_table::{Join, Split};
 
 /// What a step makes of the seat's view, and what it tells.
 pub(crate) trait Effect {
-    // Of the place, the one or two numbers that the step takes, the view before, the number found (at a store, the number
-    // stored) and the view after.
+    // Of the place, the one or two numbers that the step takes, the view before, the number found (at a
+    // store, the number stored) and the view after.
     ghost told: { Telling };
 }
 

@@ -1,7 +1,7 @@
 //! What a thread steps with, and the one door to the shared table.
 //!
-//! The fields of both types are this module's alone, so that no other code of the crate reaches the table: each step goes
-//! through a method here, which asks for a seat and notes the step in the seat's view.
+//! The fields of both types are this module's alone, so that no other code of the crate reaches the table:
+//! each step goes through a method here, which asks for a seat and notes the step in the seat's view.
 ghost use Rattle.std.specs.Prelude.{◌≡◌, ◌<◌, [], ◌==◌, IfOk};
 ghost use mathlib.Core.Option.{none};
 ghost use prog.Atomic.{either};
@@ -19,8 +19,8 @@ use std::marker::{Model, PhantomData};
 use std::mem;
 use tp_model::types::Limits;
 
-/// What a thread steps with: it stands for one or more passes, or for none, and knows what its view says. When
-/// the program runs it has no bytes. One that was joined to another is empty.
+/// What a thread steps with: it stands for one or more passes, or for none, and knows what its view says.
+/// When the program runs it has no bytes. One that was joined to another is empty.
 #[derive(Drop)]
 pub struct Seat {
     badge: Badge<View>,
@@ -67,7 +67,8 @@ pub(crate) struct Alone<E> {
 }
 
 impl<E: Effect> Play<(), View> for Alone<E> {
-    ghost then = { λ step me found after. (after.1 ≡ me.1) × E.told step.word step.first step.second me.0 found after.0 };
+    ghost then = { λ step me found after. (after.1 ≡ me.1)
+        × E.told step.word step.first step.second me.0 found after.0 };
 }
 
 /// The table that all passes share, behind this door.
@@ -89,7 +90,10 @@ impl SharedTable {
         requires opens { Rule limits.now (opening words.now [] (first_view limits.now)) }
         ensures key { IfOk result (λ made. key_of made.0 ≡ limits.now) }
         ensures wide { IfOk result (λ made. (id_of made.0).words ≡ length words.now) }
-        ensures seat { IfOk result (λ made. made.1 ≡ record { table = id_of made.0; view = first_view limits.now }) }
+        ensures seat { IfOk result (λ made. made.1 ≡ record {
+          table = id_of made.0;
+          view = first_view limits.now;
+        }) }
     {
         let (table, place) = Table::of_words(alloc, words, limits)?;
         Ok((SharedTable { table }, Seat::of(place)))
@@ -100,7 +104,8 @@ impl SharedTable {
     pub(crate) fn load<E: Effect>(&self, seat: &mut Seat, word: usize) -> u64
         requires own { seat.old.table ≡ id_of self.now }
         requires inside { word < (id_of self.now).words }
-        requires permits { Permits (key_of self.now) seat.old.view word (λ n. n) (E.told word 0 0 seat.old.view) }
+        requires permits { Permits (key_of self.now) seat.old.view word (λ n. n)
+            (E.told word 0 0 seat.old.view) }
         ensures same { seat.new.table ≡ seat.old.table }
         ensures told { E.told word 0 0 seat.old.view result seat.new.view }
     {
@@ -154,7 +159,8 @@ impl SharedTable {
     pub(crate) fn split<C: Split<View>>(&self, seat: &mut Seat) -> Seat
         requires own { seat.old.table ≡ id_of self.now }
         requires room { 0 < (id_of self.now).words }
-        requires permits { MayCut (key_of self.now) seat.old.view (C.left seat.old.view) (C.right seat.old.view) }
+        requires permits { MayCut (key_of self.now) seat.old.view (C.left seat.old.view)
+            (C.right seat.old.view) }
         ensures keeps { seat.new ≡ record { table = seat.old.table; view = C.left seat.old.view } }
         ensures parts { result ≡ record { table = seat.old.table; view = C.right seat.old.view } }
     {
@@ -170,7 +176,10 @@ impl SharedTable {
         requires room { 0 < (id_of self.now).words }
         requires permits { MayJoin (key_of self.now) seat.old.view other.old.view (J.both seat.old.view other.old.view) }
         requires spent { J.spent ≡ no_seat.view }
-        ensures joins { seat.new ≡ record { table = seat.old.table; view = J.both seat.old.view other.old.view } }
+        ensures joins { seat.new ≡ record {
+          table = seat.old.table;
+          view = J.both seat.old.view other.old.view;
+        } }
         ensures leaves { other.new ≡ no_seat }
     {
         let mut place = seat.take();

@@ -3,7 +3,7 @@ ghost use Rattle.std.specs.Prelude.{◌≡◌, ◌<◌, [], Some};
 ghost use Rattle.tp_model.specs.declared.types.TheConstants.{BODY_WORDS};
 ghost use Rattle.tp_model.specs.Steps.{IsBody, IsServerStage, IsStage};
 ghost use Rattle.tp_rule.specs.Views.{blank_body, hand_of, view_of, IsNextRow, IsOnePass, IsSameSeat};
-ghost use Rattle.tp_rule.specs.Steps.{drafted, with_word, Bodied, Drafts, Fills, Publishes, IsReady};
+ghost use Rattle.tp_rule.specs.Steps.{drafted, with_word, Bodied, Drafts, Fills, Publishes, HasBodyStored};
 
 use crate::plays::{DraftHead, DraftWord, Publish};
 use crate::seat::Seat;
@@ -12,14 +12,14 @@ use tp_model::types::Body;
 use tp_words::Head;
 
 impl Words {
-    ghost use Rattle.tp_rule.specs.Tables.{limits_of, IsPassOf, IsSeatOf};
+    ghost use Rattle.tp_rule.specs.Tables.{table_limits, IsPassOf, IsSeatOf};
 
     /// Stores a word of the body of the row that the pass draws next. The row is not born, so the history does not
     /// change, and the seat sees nothing new.
     fn store_draft_word(&self, seat: &mut Seat, row: u32, word: usize, number: u64)
         requires own { IsSeatOf self.now seat.old }
         requires one { IsOnePass (view_of seat.old) }
-        requires next { IsNextRow (limits_of self.now) (view_of seat.old) row }
+        requires next { IsNextRow (table_limits self.now) (view_of seat.old) row }
         requires word { word < BODY_WORDS }
         ensures same { IsSameSeat seat.old seat.new }
         ensures view { view_of seat.new ≡ drafted (with_word word number) (view_of seat.old) }
@@ -33,11 +33,11 @@ impl Words {
     fn fill_draft_word(&self, seat: &mut Seat, row: u32, word: usize, number: u64)
         requires own { IsSeatOf self.now seat.old }
         requires one { IsOnePass (view_of seat.old) }
-        requires next { IsNextRow (limits_of self.now) (view_of seat.old) row }
+        requires next { IsNextRow (table_limits self.now) (view_of seat.old) row }
         requires word { word < BODY_WORDS }
         ensures same { IsSameSeat seat.old seat.new }
         ensures one { IsOnePass (view_of seat.new) }
-        ensures next { IsNextRow (limits_of self.now) (view_of seat.new) row }
+        ensures next { IsNextRow (table_limits self.now) (view_of seat.new) row }
         ensures view { Fills (view_of seat.old) word number (view_of seat.new) }
     {
         if number != 0 {
@@ -50,7 +50,7 @@ impl Words {
     pub fn store_draft_body(&self, seat: &mut Seat, row: u32, body: Body)
         requires own { IsSeatOf self.now seat.old }
         requires one { IsOnePass (view_of seat.old) }
-        requires next { IsNextRow (limits_of self.now) (view_of seat.old) row }
+        requires next { IsNextRow (table_limits self.now) (view_of seat.old) row }
         requires blank { (hand_of seat.old).next_body ≡ blank_body }
         ensures same { IsSameSeat seat.old seat.new }
         ensures view { Bodied body (view_of seat.old) (view_of seat.new) }
@@ -63,19 +63,19 @@ impl Words {
     }
 
     /// Stores the head of the row that the pass draws next, whose body is stored. It names the pass's open
-    /// unit, so the row is a draft from now on: an output that is born when the unit commits, and never if it does
-    /// not.
+    /// unit, so the row is a draft from now on: an output that is born when the unit commits, and never if it
+    /// does not.
     pub fn store_draft_head(&self, seat: &mut Seat, row: u32, stage: u8, root: u16, unit: u16)
         requires own { IsSeatOf self.now seat.old }
-        requires ready { IsReady (view_of seat.old) }
-        requires next { IsNextRow (limits_of self.now) (view_of seat.old) row }
+        requires ready { HasBodyStored (view_of seat.old) }
+        requires next { IsNextRow (table_limits self.now) (view_of seat.old) row }
         requires fits { IsStage stage × (unit < 65535) }
         requires open_unit { (hand_of seat.old).open_unit ≡ Some unit }
         ensures same { IsSameSeat seat.old seat.new }
         ensures view { Drafts (view_of seat.old) stage root unit (view_of seat.new) }
     {
         let word = self.places.head(row);
-        let head = Head::There {
+        let head = Head::Filled {
             stage,
             root,
             by: Some(unit),
@@ -89,15 +89,15 @@ impl Words {
     pub fn publish(&self, seat: &mut Seat, row: u32, stage: u8)
         requires own { IsSeatOf self.now seat.old }
         requires one { IsPassOf self.now seat.old }
-        requires ready { IsReady (view_of seat.old) }
+        requires ready { HasBodyStored (view_of seat.old) }
         requires no_drafts { (hand_of seat.old).drafts ≡ [] }
-        requires next { IsNextRow (limits_of self.now) (view_of seat.old) row }
+        requires next { IsNextRow (table_limits self.now) (view_of seat.old) row }
         requires fits { IsServerStage stage }
         ensures same { IsSameSeat seat.old seat.new }
         ensures grew { Publishes (view_of seat.old) stage (view_of seat.new) }
     {
         let word = self.places.head(row);
-        let head = Head::There {
+        let head = Head::Filled {
             stage,
             root: row as u16,
             by: None,

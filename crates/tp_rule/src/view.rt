@@ -8,19 +8,21 @@ use tp_words::Head;
 
 /// What a seat knows as one of the passes that it stands for.
 ///
-/// Its rows are used one after another: the next is `next`, and `left` of the run that begins there are unused. A
-/// run lies in the pass's part, or in the spare block that it drew last. The units of a pass are numbered from 0
-/// here: unit `u` of pass `number` is the unit `number * limits.units + u` of the table.
+/// Its rows are used one after another: the next is `next`, and `left` of the run that begins there are
+/// unused. A run lies in the pass's part, or in the spare block that it drew last. The units of a pass are
+/// numbered from 0 here: unit `u` of pass `number` is the unit `number * limits.units + u` of the table.
 pub struct Hand {
     /// The number of the pass, below `limits.parts`.
     pub number: u16,
     /// The events that the pass made, oldest first.
     pub mine: LinkedList<Event>,
-    /// The atomic steps that the pass made, oldest first. Every step adds one entry, and nothing else adds any.
+    /// The atomic steps that the pass made, oldest first. Every step adds one entry, and nothing else adds
+    /// any.
     pub trace: LinkedList<TraceEntry>,
     /// The rows of the run below this are born, or given up with a unit that was aborted.
     pub first_draft: u32,
-    /// The row of the run that is used next: those from `first_draft` up to it hold the drafts, and the heads of the
+    /// The row of the run that is used next: those from `first_draft` up to it hold the drafts, and the heads
+    /// of the
     /// `left` rows from it on are empty.
     pub next: u32,
     /// How many rows of the run are unused.
@@ -35,12 +37,13 @@ pub struct Hand {
     pub claimed: u16,
     /// The unit that was chosen for the next claim.
     pub spare_unit: Option<u16>,
-    /// The unit that the pass has claimed, and neither committed nor aborted itself. Another may have aborted it.
+    /// The unit that the pass has claimed, and neither committed nor aborted itself. Another may have aborted
+    /// it.
     pub open_unit: Option<u16>,
 }
 
-/// What a seat has found in a word that stays, or changes in one direction alone. So it tells something of the word at
-/// any later time too.
+/// What a seat has found in a word that stays, or changes in one direction alone. So it tells something of
+/// the word at any later time too.
 pub enum Known {
     /// The head of a row: once it isn't empty, it stays as it is.
     RowHead(u32, Head),

@@ -3,15 +3,15 @@ ghost use Rattle.std.specs.Prelude.{◌≡◌, IfOk};
 ghost use Rattle.tp_words.specs.Places.{size_of};
 ghost use Rattle.tp_rule.specs.Views.{first_view, no_seat, view_of, HasPass, IsSameSeat};
 ghost use Rattle.tp_rule.specs.Doors.{id_of, key_of};
-ghost use Rattle.tp_rule.specs.Steps.{handed_on, handed_out, kept, parted, joined, Meets};
+ghost use Rattle.tp_rule.specs.Steps.{handed_on, handed_out, kept, parted, joined, SeatsMeet};
 
 use crate::plays::{HandOut, Part, Together};
 use crate::seat::{Seat, SharedTable};
 use std::alloc::{AllocError, Global};
 use tp_words::Places;
 
-/// The words that all passes share. Every step is a method that takes `&self` and the seat that makes it, so the words
-/// can lie behind a shared reference while many threads step.
+/// The words that all passes share. Every step is a method that takes `&self` and the seat that makes it, so
+/// the words can lie behind a shared reference while many threads step.
 ///
 /// Each method that makes a step changes the view of that one seat, and adds one entry to its trace. A view can be
 /// changed in no other way, since the table lies behind its one door.
@@ -24,12 +24,12 @@ pub struct Words {
 }
 
 impl Words {
-    ghost use Rattle.tp_rule.specs.Tables.{limits_of, table_of, IsSeatOf, IsPassOf};
+    ghost use Rattle.tp_rule.specs.Tables.{table_limits, table_of, IsSeatOf, IsPassOf};
 
     /// The words of a table in which nothing has happened, all 0, and the keeper's seat, which stands for all passes.
     /// The one error is want of memory.
     pub fn new(alloc: Global, places: Places) -> Result<(Words, Seat), AllocError>
-        ensures limits { IfOk result (λ made. limits_of made.0 ≡ places.limits) }
+        ensures limits { IfOk result (λ made. table_limits made.0 ≡ places.limits) }
         ensures seat { IfOk result (λ made. IsSeatOf made.0 made.1) }
         ensures view { IfOk result (λ made. view_of made.1 ≡ first_view places.limits) }
     {
@@ -82,7 +82,8 @@ impl Words {
         requires one { IsPassOf self.now seat.old × IsPassOf self.now other.old }
         ensures same { IsSameSeat seat.old seat.new }
         ensures other_same { IsSameSeat other.old other.new }
-        ensures meets { Meets (view_of seat.old) (view_of other.old) (view_of seat.new) (view_of other.new) }
+        ensures meets { SeatsMeet (view_of seat.old) (view_of other.old) (view_of seat.new)
+            (view_of other.new) }
     {
         self.join(seat, other);
         self.load(seat, 0);

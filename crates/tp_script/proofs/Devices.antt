@@ -3,7 +3,7 @@ use Rattle.std.proofs.Common.{◌≡◌, ℕ, ◌+◌, ◌≤◌, List, [], ◌+
 use Rattle.std.specs.Prelude.{IfSome}
 use Rattle.std.proofs.lemmas.List.{append-nil, take_all, take_at, nil_from_length}
 use Rattle.std.specs.Io.KnownBytes.{Consumes, IsAtEnd}
-use Rattle.tp_script.specs.declared.source.TheConstants.{MOST_BYTES}
+use Rattle.tp_script.specs.declared.source.TheConstants.{MAX_SCRIPT_BYTES}
 
 Consumes-then : (a b c : Option (List ℕ)) (xs ys : List ℕ) → Consumes a b xs → Consumes b c ys → Consumes a c (xs ++ ys)
 Consumes-then None b c xs ys p q = tt
@@ -18,7 +18,7 @@ Consumes-none (Some x) = refl
 -- what stands while bytes are read
 pub record ReadSoFar (old now : Option (List ℕ)) (read : List ℕ) (len asked_before asked turns : ℕ) : Type 0 where
   pub bytes : Consumes old now read
-  pub short : len ≤ MOST_BYTES
+  pub short : len ≤ MAX_SCRIPT_BYTES
   pub some : turns ≤ len
   pub once : asked ≡ asked_before + turns
 

@@ -18,7 +18,7 @@ use Rattle.std.specs.Prelude.{slice_get, option_map}
 use Rattle.std.proofs.lemmas.List.{map-set}
 use Rattle.std.proofs.lemmas.Option.{slice_get-map, slice_get_read}
 use Rattle.tp_script.specs.Script.{SettingsView, ScriptView, server_view}
-use Rattle.tp_script.specs.Terms.{◌>>=◌, output_at, outputs_at, is_name}
+use Rattle.tp_script.specs.LineWords.{◌>>=◌, output_at, outputs_at, is_name}
 use Rattle.tp_script.specs.Reading.{Fails, Gives}
 use Rattle.tp_script.specs.ServerLines.{begun, begin_at}
 

@@ -3,7 +3,7 @@ use Rattle.std.proofs.Common.{◌≡◌, ℕ, ◌+◌, ◌≤◌, ◌<◌, List,
 use Rattle.std.specs.Prelude.{IfSome}
 use Rattle.std.proofs.lemmas.Bool.{cases_lt, le-ltb, lt-ltb}
 use Rattle.std.proofs.lemmas.List.{take_all, length-take}
-use Rattle.tp_script.specs.declared.source.TheConstants.{MOST_BYTES}
+use Rattle.tp_script.specs.declared.source.TheConstants.{MAX_SCRIPT_BYTES}
 use Rattle.tp_script.specs.declared.fault.LineFault.TheVariants.{TooLong}
 use Rattle.tp_script.specs.declared.fault.LineError.{LineError}
 use Rattle.tp_script.specs.declared.fault.LineError.TheVariants as errors
@@ -16,13 +16,13 @@ use Rattle.tp_script.specs.Text.{lines}
 use Rattle.tp_script.specs.Reading.{Fails}
 use Rattle.tp_script.specs.Grammar.{line_at, at_line, lines_from, no_lines, script}
 use Rattle.tp_script.specs.Devices.{HasNoScript}
-use Rattle.tp_script.specs.Reading.{Answers, fault_at}
+use Rattle.tp_script.specs.Reading.{ReadsAs, fault_at}
 
 pub lines_go_on : (n : ℕ) (line : List ℕ) (others : List (List ℕ)) (s t : ScriptView) (all : Result ScriptView Refused) → line_at line s ≡ Ok t → lines_from n (line ∷ others) s ≡ all → lines_from (n + 1) others t ≡ all
 unfolding lines_from
 lines_go_on n line others s t all h so_far = sym (ap (λ r. at_line n r (λ t. lines_from (n + 1) others t)) h) ∙ so_far
 
-pub lines_end : (n : ℕ) (line : List ℕ) (others : List (List ℕ)) (s : ScriptView) (e : LineError) (all read : Result ScriptView Refused) → read ≡ all → Fails e (line_at line s) → lines_from n (line ∷ others) s ≡ all → Answers (Err (fault_at n e)) read
+pub lines_end : (n : ℕ) (line : List ℕ) (others : List (List ℕ)) (s : ScriptView) (e : LineError) (all read : Result ScriptView Refused) → read ≡ all → Fails e (line_at line s) → lines_from n (line ∷ others) s ≡ all → ReadsAs (Err (fault_at n e)) read
 unfolding lines_from
 lines_end n line others s errors.NoMemory all read same h so_far = tt
 lines_end n line others s (errors.Fault f) all read same h so_far = same ∙ sym so_far ∙ ap (λ r. at_line n r (λ t. lines_from (n + 1) others t)) h
@@ -32,27 +32,27 @@ unfolding lines_from
 lines_done n s all so_far = sym so_far
 
 -- a script that isn't too long is its lines
-pub script_is : (bytes : List ℕ) → length bytes ≤ MOST_BYTES → script bytes ≡ lines_from 1 (lines bytes) no_lines
+pub script_is : (bytes : List ℕ) → length bytes ≤ MAX_SCRIPT_BYTES → script bytes ≡ lines_from 1 (lines bytes) no_lines
 unfolding script
-script_is bytes short = rw (le-ltb MOST_BYTES (length bytes) short) refl
+script_is bytes short = rw (le-ltb MAX_SCRIPT_BYTES (length bytes) short) refl
 
-pub script_past : (bytes : List ℕ) → MOST_BYTES < length bytes → script bytes ≡ Err (record { line = 0; fault = TooLong })
+pub script_past : (bytes : List ℕ) → MAX_SCRIPT_BYTES < length bytes → script bytes ≡ Err (record { line = 0; fault = TooLong })
 unfolding script
-script_past bytes long = rw (lt-ltb MOST_BYTES (length bytes) long) refl
+script_past bytes long = rw (lt-ltb MAX_SCRIPT_BYTES (length bytes) long) refl
 
 -- a front that is too long says as much as all
-pub script_front : (bytes : List ℕ) → script (take (MOST_BYTES + 1) bytes) ≡ script bytes
-script_front bytes = elim (cases_lt MOST_BYTES (length bytes)) [
-  | inl long ↦ script_past (take (MOST_BYTES + 1) bytes) (omega (arith, length-take (MOST_BYTES + 1) bytes, long)) ∙ sym (script_past bytes long)
-  | inr short ↦ ap script (take_all (MOST_BYTES + 1) bytes (omega (arith, short)))
+pub script_front : (bytes : List ℕ) → script (take (MAX_SCRIPT_BYTES + 1) bytes) ≡ script bytes
+script_front bytes = elim (cases_lt MAX_SCRIPT_BYTES (length bytes)) [
+  | inl long ↦ script_past (take (MAX_SCRIPT_BYTES + 1) bytes) (omega (arith, length-take (MAX_SCRIPT_BYTES + 1) bytes, long)) ∙ sym (script_past bytes long)
+  | inr short ↦ ap script (take_all (MAX_SCRIPT_BYTES + 1) bytes (omega (arith, short)))
 ]
 
 -- what was read of the source answers for all of it
-pub answers_all : (rest : Option (List ℕ)) (read : List ℕ) (r : Result Script ReadFault) → IfSome rest (λ all. read ≡ take (MOST_BYTES + 1) all) → Answers r (script read) → IfSome rest (λ all. Answers r (script all))
+pub answers_all : (rest : Option (List ℕ)) (read : List ℕ) (r : Result Script ReadFault) → IfSome rest (λ all. read ≡ take (MAX_SCRIPT_BYTES + 1) all) → ReadsAs r (script read) → IfSome rest (λ all. ReadsAs r (script all))
 answers_all None read r h a = tt
 answers_all (Some all) read r h a = rw (← script_front all, ← h) a
 
-pub answers_none : (A : Type 0) (rest : Option (List ℕ)) (e : ReadFault) → HasNoScript {A = A} (Err e) → IfSome rest (λ all. Answers (Err e) (script all))
+pub answers_none : (A : Type 0) (rest : Option (List ℕ)) (e : ReadFault) → HasNoScript {A = A} (Err e) → IfSome rest (λ all. ReadsAs (Err e) (script all))
 answers_none A None e h = tt
 answers_none A (Some all) faults.NoMemory h = tt
 answers_none A (Some all) faults.Read h = tt

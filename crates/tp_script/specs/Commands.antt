@@ -1,19 +1,21 @@
 -- The command lines of a script.
-use Rattle.std.specs.Prelude.{ℕ, ◌+◌, ◌-◌, ◌^◌, List, [], ◌∷◌, ◌++◌, Result, Ok, Err, nat_le, codes, if◌then◌else◌}
+use Rattle.std.specs.Prelude.{ℕ, ◌+◌, ◌-◌, ◌^◌, List, [], ◌∷◌, ◌++◌, Result, Ok, Err, nat_le, codes}
+use Rattle.std.specs.Prelude.{if◌then◌else◌}
 use Rattle.std.specs.Str.{bytes_eq}
 use Rattle.tp_script.specs.declared.fault.LineFault.{LineFault}
 use Rattle.tp_script.specs.declared.fault.LineFault.TheVariants.{Syntax, BadNumber, BadLimits, BadName}
 use Rattle.tp_script.specs.declared.keyword.Verb.{Verb}
 use Rattle.tp_script.specs.declared.keyword.Verb.TheVariants as verb
 use Rattle.tp_script.specs.declared.script.Command.{Command}
-use Rattle.tp_script.specs.declared.script.Command.TheVariants.{Client, Desk, Balance, Sum, Race, Drain, DrainNext}
+use Rattle.tp_script.specs.declared.script.Command.TheVariants.{Client, Desk, Balance, Sum, Race, Drain}
+use Rattle.tp_script.specs.declared.script.Command.TheVariants.{DrainNext}
 use Rattle.tp_script.specs.declared.script.ClientAct.TheVariants as client
 use Rattle.tp_script.specs.declared.script.DeskAct.TheVariants as desk
-use Rattle.tp_script.specs.Numbers.{passes_limit}
+use Rattle.tp_model.specs.declared.types.TheConstants.{MAX_PART_ROWS, MAX_PASSES, MAX_STAGE}
 use Rattle.tp_script.specs.Passes.{racers}
 use Rattle.tp_script.specs.Script.{ScriptView, passes}
 use Rattle.tp_script.specs.ServerLines.{server_at}
-use Rattle.tp_script.specs.Terms.{◌>>=◌, require, none, one, two, number_at, is_name}
+use Rattle.tp_script.specs.LineWords.{◌>>=◌, require, none, one, two, number_at, is_name}
 
 -- the server of this name
 unfoldable pub named : List ℕ → ScriptView → Result ℕ LineFault
@@ -84,27 +86,43 @@ pub record RaceWords : Type 0 where
 -- CLIENTS SUBMITS STAGE KEY AMOUNT KILLERS TURNS
 abbrev pub race_words : List (List ℕ) → Result RaceWords LineFault
 race_words (clients ∷ submits ∷ stage ∷ key ∷ amount ∷ killers ∷ turns ∷ []) =
-    Ok (record { clients = clients; submits = submits; stage = stage; key = key; amount = amount; killers = killers; turns = turns })
+    Ok (record {
+      clients = clients;
+      submits = submits;
+      stage = stage;
+      key = key;
+      amount = amount;
+      killers = killers;
+      turns = turns;
+    })
 race_words ws = Err Syntax
 
 -- a stage that clients may submit to
 unfoldable pub stage_at : List ℕ → Result ℕ LineFault
 stage_at w = do
-  stage ← number_at 14 w
+  stage ← number_at MAX_STAGE w
   _ ← require (nat_le 1 stage) BadNumber
   Ok stage
 
 -- `race CLIENTS SUBMITS STAGE KEY AMOUNT KILLERS TURNS`
 unfoldable pub race_at : RaceWords → Result Command LineFault
 race_at w = do
-  clients ← number_at 31 w.clients
-  submits ← number_at 256 w.submits
+  clients ← number_at (MAX_PASSES - 1) w.clients
+  submits ← number_at MAX_PART_ROWS w.submits
   stage ← stage_at w.stage
   key ← number_at (2 ^ 64 - 1) w.key
   amount ← number_at (2 ^ 64 - 1) w.amount
-  killers ← number_at 31 w.killers
+  killers ← number_at (MAX_PASSES - 1) w.killers
   turns ← number_at 10000 w.turns
-  Ok (Race (record { clients = clients; submits = submits; stage = stage; key = key; amount = amount; killers = killers; turns = turns }))
+  Ok (Race (record {
+    clients = clients;
+    submits = submits;
+    stage = stage;
+    key = key;
+    amount = amount;
+    killers = killers;
+    turns = turns;
+  }))
 
 -- `drain` or `drain next`
 abbrev pub drain_at : List (List ℕ) → Result Command LineFault
@@ -135,5 +153,5 @@ command_at verb.Drain ws s = drain_at ws
 -- the script with one command more, unless it needs more passes then than there can be
 unfoldable pub with_command : Command → ScriptView → Result ScriptView LineFault
 with_command c s = do
-  _ ← require (nat_le (passes s + racers c) passes_limit) BadLimits
+  _ ← require (nat_le (passes s + racers c) MAX_PASSES) BadLimits
   Ok (record s { commands = s.commands ++ c ∷ [] })

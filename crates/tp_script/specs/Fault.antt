@@ -1,7 +1,8 @@
 -- The faults of a script, by their numbers and names, and how a refusal is told.
 use Rattle.std.specs.Prelude.{ℕ, List, ◌++◌, codes, decimal}
 use Rattle.tp_script.specs.declared.fault.LineFault.{LineFault}
-use Rattle.tp_script.specs.declared.fault.LineFault.TheVariants.{Syntax, BadNumber, BadLimits, BadRecipe, BadName, TooLong, Order}
+use Rattle.tp_script.specs.declared.fault.LineFault.TheVariants.{Syntax, BadNumber, BadLimits, BadRecipe}
+use Rattle.tp_script.specs.declared.fault.LineFault.TheVariants.{BadName, TooLong, Order}
 use Rattle.tp_script.specs.declared.fault.Refused.{Refused}
 
 -- the number of a fault

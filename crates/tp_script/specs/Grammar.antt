@@ -1,7 +1,9 @@
 -- What a script says, line by line, or its first fault.
-use Rattle.std.specs.Prelude.{ℕ, ◌+◌, ◌-◌, ◌^◌, List, [], ◌∷◌, length, Bool, true, false, not, ◌&&◌, Result, Ok, Err, nat_lt, nat_le, ◌==◌, if◌then◌else◌}
+use Rattle.std.specs.Prelude.{ℕ, ◌+◌, ◌-◌, ◌^◌, List, [], ◌∷◌, length, Bool, true, false, not, ◌&&◌, Result}
+use Rattle.std.specs.Prelude.{Ok, Err, nat_lt, nat_le, ◌==◌, if◌then◌else◌}
 use Rattle.std.specs.List.{list_all}
-use Rattle.tp_script.specs.Numbers.{bytes_limit}
+use Rattle.tp_model.specs.declared.types.TheConstants.{MAX_ATTEMPTS, MAX_BLOCKS, MAX_PART_ROWS, MAX_UNITS}
+use Rattle.tp_script.specs.declared.source.TheConstants.{MAX_SCRIPT_BYTES}
 use Rattle.tp_script.specs.declared.fault.LineFault.{LineFault}
 use Rattle.tp_script.specs.declared.fault.LineFault.TheVariants.{Syntax, BadLimits, TooLong, Order}
 use Rattle.tp_script.specs.declared.fault.Refused.{Refused}
@@ -12,7 +14,7 @@ use Rattle.tp_script.specs.Commands.{command_at, with_command}
 use Rattle.tp_script.specs.Keyword.{keyword}
 use Rattle.tp_script.specs.Script.{ScriptView}
 use Rattle.tp_script.specs.ServerLines.{has_commands, server_line, start_line}
-use Rattle.tp_script.specs.Terms.{◌>>=◌, require, known, none, one, three, number_at}
+use Rattle.tp_script.specs.LineWords.{◌>>=◌, require, known, none, one, three, number_at}
 
 -- ---- settings
 
@@ -27,25 +29,25 @@ setting_at least most w s = do
 -- `rows N`
 unfoldable pub rows_line : List ℕ → ScriptView → Result ScriptView LineFault
 rows_line w s = do
-  n ← setting_at 1 256 w s
+  n ← setting_at 1 MAX_PART_ROWS w s
   Ok (record s { settings = record s.settings { rows = n } })
 
 -- `units N`
 unfoldable pub units_line : List ℕ → ScriptView → Result ScriptView LineFault
 units_line w s = do
-  n ← setting_at 1 1024 w s
+  n ← setting_at 1 MAX_UNITS w s
   Ok (record s { settings = record s.settings { units = n } })
 
 -- `limit N`
 unfoldable pub limit_line : List ℕ → ScriptView → Result ScriptView LineFault
 limit_line w s = do
-  n ← setting_at 1 7 w s
+  n ← setting_at 1 MAX_ATTEMPTS w s
   Ok (record s { settings = record s.settings { attempts = n } })
 
 -- `spare S`
 unfoldable pub spare_line : List ℕ → ScriptView → Result ScriptView LineFault
 spare_line w s = do
-  n ← setting_at 0 256 w s
+  n ← setting_at 0 MAX_BLOCKS w s
   Ok (record s { settings = record s.settings { spare = n } })
 
 -- ---- the closing account
@@ -75,7 +77,8 @@ keyword_line first.Account ws s = account_line ws s
 -- a line of these words says nothing where there are none
 unfoldable pub words_line : List (List ℕ) → ScriptView → Result ScriptView LineFault
 words_line [] s = Ok s
-words_line (w ∷ ws) s = known (keyword w) Syntax >>= λ k. if s.account then behind_account (keyword_line k ws s) else keyword_line k ws s
+words_line (w ∷ ws) s = known (keyword w) Syntax >>= λ k. if s.account
+    then behind_account (keyword_line k ws s) else keyword_line k ws s
 
 -- a line that begins with `#`
 abbrev pub is_comment : List ℕ → Bool
@@ -90,7 +93,8 @@ line_at line s = do
   if is_comment line then Ok s else words_line (words line) s
 
 -- what the others say, unless line n has a fault
-abbrev pub at_line : ℕ → Result ScriptView LineFault → (ScriptView → Result ScriptView Refused) → Result ScriptView Refused
+abbrev pub at_line : ℕ → Result ScriptView LineFault → (ScriptView → Result ScriptView Refused)
+    → Result ScriptView Refused
 at_line n (Ok s) others = others s
 at_line n (Err fault) others = Err (record { line = n; fault = fault })
 
@@ -101,8 +105,14 @@ lines_from n (line ∷ others) s = at_line n (line_at line s) (λ t. lines_from 
 
 -- a script without lines
 abbrev pub no_lines : ScriptView
-no_lines = record { settings = record { rows = 64; units = 256; attempts = 3; spare = 0 }; servers = []; commands = []; account = false }
+no_lines = record {
+  settings = record { rows = 64; units = 256; attempts = 3; spare = 0 };
+  servers = [];
+  commands = [];
+  account = false;
+}
 
 -- what the bytes of a script say, or the line and number of its first fault
 unfoldable pub script : List ℕ → Result ScriptView Refused
-script bytes = if nat_lt bytes_limit (length bytes) then Err (record { line = 0; fault = TooLong }) else lines_from 1 (lines bytes) no_lines
+script bytes = if nat_lt MAX_SCRIPT_BYTES (length bytes) then Err (record { line = 0; fault = TooLong })
+    else lines_from 1 (lines bytes) no_lines

@@ -1,12 +1,11 @@
 pub mod Fault
 pub mod Text
-pub mod Numbers
 pub mod Devices
 pub mod Keyword
 pub mod Passes
 pub mod Ranges
 pub mod Script
-pub mod Terms
+pub mod LineWords
 pub mod ServerLines
 pub mod Commands
 pub mod Grammar

@@ -30,22 +30,44 @@ GivesScript s r read = Gives (λ _. script_view s) r read
 
 -- the words of a server line, without where they lie in memory
 abbrev pub shape_view : Shape → lines.Shape
-shape_view s = record { name = s.name.now; kind = s.kind; stage = s.stage.now; registers = s.registers.now; act = s.act; word = s.word; outputs = map (λ x. x.now) s.outputs.now }
+shape_view s = record {
+  name = s.name.now;
+  kind = s.kind;
+  stage = s.stage.now;
+  registers = s.registers.now;
+  act = s.act;
+  word = s.word;
+  outputs = map (λ x. x.now) s.outputs.now;
+}
 
 -- the words of a submit line, without where they lie in memory
 abbrev pub submit_view : SubmitWords → commands.SubmitWords
-submit_view w = record { stage = w.stage.now; key = w.key.now; amount = w.amount.now; word_two = w.word_two.now; word_three = w.word_three.now }
+submit_view w = record {
+  stage = w.stage.now;
+  key = w.key.now;
+  amount = w.amount.now;
+  word_two = w.word_two.now;
+  word_three = w.word_three.now;
+}
 
 -- the words of a race line, without where they lie in memory
 abbrev pub race_view : RaceWords → commands.RaceWords
-race_view w = record { clients = w.clients.now; submits = w.submits.now; stage = w.stage.now; key = w.key.now; amount = w.amount.now; killers = w.killers.now; turns = w.turns.now }
+race_view w = record {
+  clients = w.clients.now;
+  submits = w.submits.now;
+  stage = w.stage.now;
+  key = w.key.now;
+  amount = w.amount.now;
+  killers = w.killers.now;
+  turns = w.turns.now;
+}
 
 -- the answer is this script or this refusal, unless memory ran out or the reader stopped
-abbrev pub Answers : Result Script ReadFault → Result ScriptView Refused → Type 0
-Answers (Ok s) read = read ≡ Ok (script_view s)
-Answers (Err faults.NoMemory) read = Unit {0}
-Answers (Err faults.Read) read = Unit {0}
-Answers (Err (faults.Script refused)) read = read ≡ Err refused
+abbrev pub ReadsAs : Result Script ReadFault → Result ScriptView Refused → Type 0
+ReadsAs (Ok s) read = read ≡ Ok (script_view s)
+ReadsAs (Err faults.NoMemory) read = Unit {0}
+ReadsAs (Err faults.Read) read = Unit {0}
+ReadsAs (Err (faults.Script refused)) read = read ≡ Err refused
 
 -- the fault of a line
 abbrev pub fault_at : ℕ → LineError → ReadFault

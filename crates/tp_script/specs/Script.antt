@@ -39,8 +39,18 @@ settings_view s = record { rows = s.rows; units = s.units; attempts = s.attempts
 
 -- what a server line shows
 abbrev pub server_view : ScriptServer → ServerView
-server_view s = record { name = string_bytes s.name; kind = s.kind; recipe = s.recipe; registers = s.registers }
+server_view s = record {
+  name = string_bytes s.name;
+  kind = s.kind;
+  recipe = s.recipe;
+  registers = s.registers;
+}
 
 -- what a script shows
 abbrev pub script_view : Script → ScriptView
-script_view s = record { settings = settings_view s.settings; servers = map server_view s.servers.items; commands = s.commands.items; account = s.account }
+script_view s = record {
+  settings = settings_view s.settings;
+  servers = map server_view s.servers.items;
+  commands = s.commands.items;
+  account = s.account;
+}

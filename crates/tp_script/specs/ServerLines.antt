@@ -1,5 +1,6 @@
 -- The lines that make servers.
-use Rattle.std.specs.Prelude.{ℕ, ◌-◌, ◌^◌, List, [], ◌∷◌, ◌++◌, length, Bool, not, ◌&&◌, Result, Ok, Err, nat_lt, nat_le, ◌==◌, replicate, slice_set, position, slice_get, is_none, is_ok}
+use Rattle.std.specs.Prelude.{ℕ, ◌-◌, ◌^◌, List, [], ◌∷◌, ◌++◌, length, Bool, not, ◌&&◌, Result, Ok, Err}
+use Rattle.std.specs.Prelude.{nat_lt, nat_le, ◌==◌, replicate, slice_set, position, slice_get, is_none, is_ok}
 use Rattle.std.specs.List.{list_all}
 use Rattle.std.specs.Str.{bytes_eq}
 use Rattle.tp_server.specs.declared.recipe.Act.{Act}
@@ -8,8 +9,9 @@ use Rattle.tp_server.specs.Check.{check_of}
 use Rattle.tp_script.specs.declared.fault.LineFault.{LineFault}
 use Rattle.tp_script.specs.declared.fault.LineFault.TheVariants.{Syntax, BadLimits, BadRecipe, BadName, Order}
 use Rattle.tp_script.specs.declared.script.Kind.{Kind}
-use Rattle.tp_script.specs.Numbers.{servers_limit}
-use Rattle.tp_script.specs.Terms.{◌>>=◌, require, known, number_at, is_name, kind_at, act_at, is_output, outputs_at}
+use Rattle.tp_script.specs.declared.script.TheConstants.{MAX_SERVERS}
+use Rattle.tp_script.specs.LineWords.{◌>>=◌, require, known, number_at, is_name, kind_at, act_at, is_output}
+use Rattle.tp_script.specs.LineWords.{outputs_at}
 use Rattle.tp_script.specs.Script.{ScriptView, ServerView}
 
 -- whether there is a command
@@ -36,7 +38,15 @@ shape_at (name ∷ kind ∷ stage ∷ registers ∷ act ∷ outputs) = do
   kind ← kind_at kind
   deed ← act_at act
   _ ← require (nat_le (length outputs) 4 && list_all is_output outputs) Syntax
-  Ok (record { name = name; kind = kind; stage = stage; registers = registers; act = deed.0; word = deed.1; outputs = outputs })
+  Ok (record {
+    name = name;
+    kind = kind;
+    stage = stage;
+    registers = registers;
+    act = deed.0;
+    word = deed.1;
+    outputs = outputs;
+  })
 shape_at ws = Err Syntax
 
 -- a name that no server has yet
@@ -51,7 +61,13 @@ recipe_at shape = do
   stage ← number_at 255 shape.stage
   registers ← number_at 255 shape.registers
   outputs ← outputs_at shape.outputs
-  Ok (record { stage = stage; registers = registers; act = shape.act; word = shape.word; outputs = record { items = outputs } })
+  Ok (record {
+    stage = stage;
+    registers = registers;
+    act = shape.act;
+    word = shape.word;
+    outputs = record { items = outputs };
+  })
 
 -- the registers of a good recipe, all zero
 unfoldable pub registers_for : Recipe → Result (List ℕ) LineFault
@@ -70,7 +86,7 @@ server_line ws s = do
   _ ← require (not (has_commands s)) Order
   name ← new_name shape.name s
   recipe ← recipe_at shape
-  _ ← require (nat_lt (length s.servers) servers_limit) BadLimits
+  _ ← require (nat_lt (length s.servers) MAX_SERVERS) BadLimits
   registers ← registers_for recipe
   Ok (with_server (record { name = name; kind = shape.kind; recipe = recipe; registers = registers }) s)
 

@@ -1,5 +1,6 @@
 -- The lines of a script, the words of a line, and what a word says.
-use Rattle.std.specs.Prelude.{ℕ, List, Bool, ◌&&◌, Option, Some, None, length, filter, not, nat_le, ◌==◌, if◌then◌else◌}
+use Rattle.std.specs.Prelude.{ℕ, List, Bool, ◌&&◌, Option, Some, None, length, filter, not, nat_le, ◌==◌}
+use Rattle.std.specs.Prelude.{if◌then◌else◌}
 use Rattle.std.specs.List.{slice_split, list_all}
 use Rattle.std.specs.Char.{is_ascii_digit}
 use Rattle.std.specs.Str.Parse.{digits_value}
@@ -18,4 +19,5 @@ is_numeral word = not (length word == 0) && nat_le (length word) 20 && list_all 
 
 -- the number that a word of 1 to 20 digits says, where it is at most this
 abbrev pub number : ℕ → List ℕ → Option ℕ
-number most word = if is_numeral word && nat_le (digits_value 10 word) most then Some (digits_value 10 word) else None
+number most word = if is_numeral word && nat_le (digits_value 10 word) most then Some (digits_value 10 word)
+    else None

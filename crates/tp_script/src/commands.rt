@@ -1,14 +1,17 @@
 //! The command lines of a script.
 ghost use Rattle.std.specs.Prelude.{◌<◌, ◌≤◌, ℕ, map, vec_len, IfOk};
-ghost use Rattle.tp_script.specs.Commands.{named, one_server, one_id, submit_words, submit_at, take_at, balance_at, race_words, stage_at, race_at, drain_at, command_at};
+ghost use Rattle.tp_model.specs.declared.types.TheConstants.{MAX_STAGE};
+ghost use Rattle.tp_script.specs.Commands.{named, one_server, one_id, submit_words, submit_at, take_at};
+ghost use Rattle.tp_script.specs.Commands.{balance_at, race_words, stage_at, race_at, drain_at, command_at};
 ghost use Rattle.tp_script.specs.Ranges.{IsInRange};
 ghost use Rattle.tp_script.specs.Reading.{Gives, submit_view, race_view};
 ghost use Rattle.tp_script.specs.Script.{script_view};
 
 use crate::fault::{LineError, LineFault};
 use crate::keyword::Verb;
+use crate::line_words::{is, is_name, none, number_at, one, two};
 use crate::script::{ClientAct, Command, DeskAct, Race, Script};
-use crate::terms::{is, is_name, none, number_at, one, two};
+use tp_model::types::{MAX_PART_ROWS, MAX_PASSES, MAX_STAGE};
 
 // The one word, an id.
 #[tactic(auto, unfolding(crate::specs::Commands::one_id))]
@@ -37,7 +40,7 @@ fn submit_words<'a>(words: &[&'a [u8]]) -> Result<SubmitWords<'a>, LineError>
         [stage, key, amount] => (stage, key, amount, b"0".as_slice(), b"0".as_slice()),
         [stage, key, amount, two] => (stage, key, amount, *two, b"0".as_slice()),
         [stage, key, amount, two, three] => (stage, key, amount, *two, *three),
-        _ => return Err(LineError::Fault(LineFault::Syntax)),
+        _ => return Err(LineFault::Syntax.into()),
     };
     Ok(SubmitWords {
         stage,
@@ -81,7 +84,7 @@ fn race_words<'a>(words: &[&'a [u8]]) -> Result<RaceWords<'a>, LineError>
     ensures { Gives race_view result (race_words (map (λ x. x.now) words.now)) }
 {
     let [clients, submits, stage, key, amount, killers, turns] = words else {
-        return Err(LineError::Fault(LineFault::Syntax));
+        return Err(LineFault::Syntax.into());
     };
     Ok(RaceWords {
         clients,
@@ -98,11 +101,11 @@ fn race_words<'a>(words: &[&'a [u8]]) -> Result<RaceWords<'a>, LineError>
 #[tactic(auto, unfolding(crate::specs::Commands::stage_at))]
 fn stage_at(word: &[u8]) -> Result<u8, LineError>
     ensures gives { Gives (λ n. n) result (stage_at word.now) }
-    ensures bounds { IfOk result (λ n. (1 ≤ n) × (n ≤ 14)) }
+    ensures bounds { IfOk result (λ n. (1 ≤ n) × (n ≤ MAX_STAGE)) }
 {
-    let stage = number_at(word, 14)?;
+    let stage = number_at(word, u64::from(MAX_STAGE))?;
     if stage < 1 {
-        return Err(LineError::Fault(LineFault::BadNumber));
+        return Err(LineFault::BadNumber.into());
     }
     Ok(stage as u8)
 }
@@ -113,12 +116,12 @@ fn race_at(words: RaceWords<'_>) -> Result<Command, LineError>
     ensures gives { Gives (λ c. c) result (race_at (race_view words.entry)) }
     ensures in_range { IfOk result (λ c. (servers : ℕ) → IsInRange servers c) }
 {
-    let clients = number_at(words.clients, 31)? as u8;
-    let submits = number_at(words.submits, 256)? as u16;
+    let clients = number_at(words.clients, u64::from(MAX_PASSES) - 1)? as u8;
+    let submits = number_at(words.submits, u64::from(MAX_PART_ROWS))? as u16;
     let stage = stage_at(words.stage)?;
     let key = number_at(words.key, u64::MAX)?;
     let amount = number_at(words.amount, u64::MAX)?;
-    let killers = number_at(words.killers, 31)? as u8;
+    let killers = number_at(words.killers, u64::from(MAX_PASSES) - 1)? as u8;
     let turns = number_at(words.turns, 10_000)? as u16;
     Ok(Command::Race(Race {
         clients,
@@ -142,10 +145,10 @@ fn drain_at(words: &[&[u8]]) -> Result<Command, LineError>
             if is(word, "next") {
                 Ok(Command::DrainNext)
             } else {
-                Err(LineError::Fault(LineFault::Syntax))
+                Err(LineFault::Syntax.into())
             }
         }
-        _ => Err(LineError::Fault(LineFault::Syntax)),
+        _ => Err(LineFault::Syntax.into()),
     }
 }
 
@@ -157,7 +160,7 @@ impl Script {
         ensures within { IfOk result (λ n. n < vec_len self.now.servers) }
     {
         if !is_name(name) {
-            return Err(LineError::Fault(LineFault::BadName));
+            return Err(LineFault::BadName.into());
         }
         self.server_at(name)
     }
@@ -165,7 +168,8 @@ impl Script {
     // The one word, a server.
     #[tactic(auto, unfolding(crate::specs::Commands::one_server))]
     fn one_server(&self, words: &[&[u8]]) -> Result<usize, LineError>
-        ensures gives { Gives (λ n. n) result (one_server (map (λ x. x.now) words.now) (script_view self.now)) }
+        ensures gives { Gives (λ n. n) result (one_server (map (λ x. x.now) words.now)
+            (script_view self.now)) }
         ensures within { IfOk result (λ n. n < vec_len self.now.servers) }
     {
         self.named(one(words)?)
@@ -174,7 +178,8 @@ impl Script {
     // `take NAME ID`
     #[tactic(auto, unfolding(crate::specs::Commands::take_at))]
     fn take_at(&self, words: (&[u8], &[u8])) -> Result<Command, LineError>
-        ensures gives { Gives (λ c. c) result (take_at (words.entry.0.now, words.entry.1.now) (script_view self.now)) }
+        ensures gives { Gives (λ c. c) result (take_at (words.entry.0.now, words.entry.1.now)
+            (script_view self.now)) }
         ensures in_range { IfOk result (λ c. IsInRange (vec_len self.now.servers) c) }
     {
         let server = self.named(words.0)?;
@@ -186,7 +191,8 @@ impl Script {
     // `balance NAME K`
     #[tactic(auto, unfolding(crate::specs::Commands::balance_at))]
     fn balance_at(&self, words: (&[u8], &[u8])) -> Result<Command, LineError>
-        ensures gives { Gives (λ c. c) result (balance_at (words.entry.0.now, words.entry.1.now) (script_view self.now)) }
+        ensures gives { Gives (λ c. c) result (balance_at (words.entry.0.now, words.entry.1.now)
+            (script_view self.now)) }
         ensures in_range { IfOk result (λ c. IsInRange (vec_len self.now.servers) c) }
     {
         let server = self.named(words.0)?;
@@ -197,7 +203,8 @@ impl Script {
     /// The command of this first word, with the words behind it.
     #[tactic(auto, unfolding(crate::specs::Commands::command_at))]
     pub(crate) fn command_at(&self, verb: Verb, words: &[&[u8]]) -> Result<Command, LineError>
-        ensures gives { Gives (λ c. c) result (command_at verb (map (λ x. x.now) words.now) (script_view self.now)) }
+        ensures gives { Gives (λ c. c) result (command_at verb (map (λ x. x.now) words.now)
+            (script_view self.now)) }
         ensures in_range { IfOk result (λ c. IsInRange (vec_len self.now.servers) c) }
     {
         match verb {

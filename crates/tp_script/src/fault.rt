@@ -24,8 +24,8 @@ pub enum ReadFault {
 /// What is wrong with a line. Of several faults the first in this order counts: 6, 1, 7, 5, 2, 3, 4.
 #[derive(Clone, Copy, Debug, PartialEq, Eq)]
 pub enum LineFault {
-    /// 1: an unknown first word, kind or act, a wrong number of words, a byte that isn't allowed, or an output without
-    /// exactly two colons.
+    /// 1: an unknown first word, kind or act, a wrong number of words, a byte that isn't allowed, or an
+    /// output without exactly two colons.
     Syntax,
     /// 2: a number word that isn't 1 to 20 digits, or above its bound.
     BadNumber,
@@ -109,6 +109,16 @@ pub enum LineError {
     NoMemory,
     /// The line has this fault.
     Fault(LineFault),
+}
+
+impl From<LineFault> for LineError {
+    ghost use Rattle.tp_script.specs.declared.fault.LineError.TheVariants.{Fault};
+
+    ghost from_gives = { λ fault e. e ≡ Fault fault };
+
+    fn from(fault: LineFault) -> LineError {
+        LineError::Fault(fault)
+    }
 }
 
 impl From<AllocError> for LineError {

@@ -1,19 +1,21 @@
 //! The lines of a script, and its settings.
 ghost use Rattle.std.specs.Prelude.{◌≡◌, ◌≤◌, ◌&&◌, map, IfOk, nat_le};
 ghost use Rattle.std.specs.List.{list_all};
-ghost use Rattle.tp_script.specs.Grammar.{setting_at, rows_line, units_line, limit_line, spare_line, account_line, keyword_line, words_line, is_comment, line_at};
+ghost use Rattle.tp_script.specs.Grammar.{setting_at, rows_line, units_line, limit_line, spare_line};
+ghost use Rattle.tp_script.specs.Grammar.{account_line, keyword_line, words_line, is_comment, line_at};
 ghost use Rattle.tp_script.specs.Keyword.{keyword};
-ghost use Rattle.tp_script.specs.Terms.{known};
+ghost use Rattle.tp_script.specs.LineWords.{known};
 ghost use Rattle.tp_script.specs.declared.fault.LineFault.TheVariants.{Syntax};
 ghost use Rattle.tp_script.specs.Reading.{Gives, GivesScript};
 ghost use Rattle.tp_script.specs.Script.{script_view};
 
 use crate::fault::{LineError, LineFault};
 use crate::keyword::Keyword;
+use crate::line_words::{none, number_at, one, three};
 use crate::script::Script;
-use crate::terms::{none, number_at, one, three};
 use crate::text::words;
 use std::alloc::Global;
+use tp_model::types::{MAX_ATTEMPTS, MAX_BLOCKS, MAX_PART_ROWS, MAX_UNITS};
 
 impl Script {
     // A setting comes before servers and commands, and is `least` to `most`.
@@ -23,11 +25,11 @@ impl Script {
         ensures bounds { IfOk result (λ n. (least ≤ n) × (n ≤ most)) }
     {
         if !self.servers.is_empty() || !self.commands.is_empty() {
-            return Err(LineError::Fault(LineFault::Order));
+            return Err(LineFault::Order.into());
         }
         let n = number_at(word, u64::MAX)?;
         if !(u64::from(least)..=u64::from(most)).contains(&n) {
-            return Err(LineError::Fault(LineFault::BadLimits));
+            return Err(LineFault::BadLimits.into());
         }
         Ok(n as u16)
     }
@@ -37,7 +39,7 @@ impl Script {
     fn rows_line(&mut self, word: &[u8]) -> Result<(), LineError>
         ensures { GivesScript self.new result (rows_line word.now (script_view self.old)) }
     {
-        self.settings.rows = self.setting_at(word, 1, 256)?;
+        self.settings.rows = self.setting_at(word, 1, MAX_PART_ROWS)?;
         Ok(())
     }
 
@@ -46,7 +48,7 @@ impl Script {
     fn units_line(&mut self, word: &[u8]) -> Result<(), LineError>
         ensures { GivesScript self.new result (units_line word.now (script_view self.old)) }
     {
-        self.settings.units = self.setting_at(word, 1, 1024)?;
+        self.settings.units = self.setting_at(word, 1, MAX_UNITS)?;
         Ok(())
     }
 
@@ -55,7 +57,7 @@ impl Script {
     fn limit_line(&mut self, word: &[u8]) -> Result<(), LineError>
         ensures { GivesScript self.new result (limit_line word.now (script_view self.old)) }
     {
-        self.settings.attempts = self.setting_at(word, 1, 7)? as u8;
+        self.settings.attempts = self.setting_at(word, 1, u16::from(MAX_ATTEMPTS))? as u8;
         Ok(())
     }
 
@@ -64,14 +66,15 @@ impl Script {
     fn spare_line(&mut self, word: &[u8]) -> Result<(), LineError>
         ensures { GivesScript self.new result (spare_line word.now (script_view self.old)) }
     {
-        self.settings.spare = self.setting_at(word, 0, 256)?;
+        self.settings.spare = self.setting_at(word, 0, MAX_BLOCKS)?;
         Ok(())
     }
 
     // `account`
     #[tactic(auto, unfolding(crate::specs::Grammar::account_line))]
     fn account_line(&mut self, words: &[&[u8]]) -> Result<(), LineError>
-        ensures { GivesScript self.new result (account_line (map (λ x. x.now) words.now) (script_view self.old)) }
+        ensures { GivesScript self.new result (account_line (map (λ x. x.now) words.now)
+            (script_view self.old)) }
     {
         none(words)?;
         self.account = true;
@@ -86,7 +89,8 @@ impl Script {
         keyword: Keyword,
         words: &[&[u8]],
     ) -> Result<(), LineError>
-        ensures { GivesScript self.new result (keyword_line keyword (map (λ x. x.now) words.now) (script_view self.old)) }
+        ensures { GivesScript self.new result (keyword_line keyword (map (λ x. x.now) words.now)
+            (script_view self.old)) }
     {
         match keyword {
             Keyword::Rows => self.rows_line(one(words)?),
@@ -106,7 +110,8 @@ impl Script {
     // What the words of a line say.
     #[tactic(auto, unfolding(crate::specs::Grammar::words_line))]
     fn words_line(&mut self, alloc: Global, words: &[&[u8]]) -> Result<(), LineError>
-        ensures { GivesScript self.new result (words_line (map (λ x. x.now) words.now) (script_view self.old)) }
+        ensures { GivesScript self.new result (words_line (map (λ x. x.now) words.now)
+            (script_view self.old)) }
     {
         let Some((first, others)) = words.split_first() else {
             return Ok(());
@@ -119,8 +124,8 @@ impl Script {
         }
         match read {
             Err(LineError::NoMemory) => Err(LineError::NoMemory),
-            Err(LineError::Fault(LineFault::Syntax)) => Err(LineError::Fault(LineFault::Syntax)),
-            _ => Err(LineError::Fault(LineFault::Order)),
+            Err(LineError::Fault(LineFault::Syntax)) => Err(LineFault::Syntax.into()),
+            _ => Err(LineFault::Order.into()),
         }
     }
 
@@ -130,10 +135,10 @@ impl Script {
         ensures { GivesScript self.new result (line_at line.now (script_view self.old)) }
     {
         if line.len() > 200 {
-            return Err(LineError::Fault(LineFault::TooLong));
+            return Err(LineFault::TooLong.into());
         }
         if !all_allowed(line) {
-            return Err(LineError::Fault(LineFault::Syntax));
+            return Err(LineFault::Syntax.into());
         }
         if is_comment(line) {
             return Ok(());
@@ -149,7 +154,7 @@ fn first_word(word: &[u8]) -> Result<Keyword, LineError>
 {
     match Keyword::of(word) {
         Some(keyword) => Ok(keyword),
-        None => Err(LineError::Fault(LineFault::Syntax)),
+        None => Err(LineFault::Syntax.into()),
     }
 }
 

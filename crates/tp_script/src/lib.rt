@@ -5,17 +5,16 @@ mod commands;
 mod fault;
 mod grammar;
 mod keyword;
+mod line_words;
 mod parse;
 mod script;
 mod servers;
 mod source;
-mod terms;
 mod text;
 
 pub use fault::{LineFault, ReadFault, Refused};
 pub use parse::read_script;
 pub use script::{
-    ClientAct, Command, DeskAct, Kind, MOST_PASSES, MOST_SERVERS, Race, Script, ScriptServer,
-    Settings,
+    ClientAct, Command, DeskAct, Kind, MAX_SERVERS, Race, Script, ScriptServer, Settings,
 };
-pub use source::{Failed, MOST_BYTES, MOST_REQUESTS, Source, StdSource};
+pub use source::{Failed, MAX_READS, MAX_SCRIPT_BYTES, Source, StdSource};

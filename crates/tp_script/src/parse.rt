@@ -1,12 +1,12 @@
 //! A script from its bytes.
 ghost use Rattle.std.specs.Prelude.{◌≡◌, ◌+◌, ◌^◌, ◌<◌, ◌≤◌, IfSome, IsErrOf, IsTrue};
-ghost use Rattle.tp_script.specs.Numbers.{requests_limit};
+ghost use Rattle.tp_script.specs.declared.source.TheConstants.{MAX_READS};
 ghost use Rattle.tp_script.specs.Grammar.{script};
-ghost use Rattle.tp_script.specs.Reading.{Answers, fault_at};
+ghost use Rattle.tp_script.specs.Reading.{ReadsAs, fault_at};
 
 use crate::fault::{LineError, LineFault, ReadFault, Refused};
 use crate::script::Script;
-use crate::source::{MOST_BYTES, Source, read_all};
+use crate::source::{MAX_SCRIPT_BYTES, Source, read_all};
 use crate::text::lines;
 use std::alloc::Global;
 
@@ -22,10 +22,10 @@ fn at_line(line: u32, error: LineError) -> ReadFault
 
 /// The script that bytes say.
 pub fn parse(alloc: Global, bytes: &[u8]) -> Result<Script, ReadFault>
-    ensures script { Answers result (script bytes.now) }
+    ensures script { ReadsAs result (script bytes.now) }
     ensures no_read { ¬ (IsErrOf result ReadFault.Read) }
 {
-    if bytes.len() > MOST_BYTES {
+    if bytes.len() > MAX_SCRIPT_BYTES {
         return Err(at_line(0, LineError::Fault(LineFault::TooLong)));
     }
     let lines = lines(alloc, bytes)?;
@@ -42,9 +42,9 @@ pub fn parse(alloc: Global, bytes: &[u8]) -> Result<Script, ReadFault>
 
 /// The script that a source gives.
 pub fn read_script<S: Source>(alloc: Global, source: &mut S) -> Result<Script, ReadFault>
-    requires { S.asked source.old + requests_limit < 2 ^ 64 }
-    ensures script { IfSome (S.rest source.old) (λ bytes. Answers result (script bytes)) }
-    ensures asked { S.asked source.new ≤ S.asked source.old + requests_limit }
+    requires { S.asked source.old + MAX_READS < 2 ^ 64 }
+    ensures script { IfSome (S.rest source.old) (λ bytes. ReadsAs result (script bytes)) }
+    ensures asked { S.asked source.new ≤ S.asked source.old + MAX_READS }
     ensures fault { IsErrOf result ReadFault.Read → IsTrue (S.has_failed source.new) }
 {
     let bytes = read_all(alloc, source)?;

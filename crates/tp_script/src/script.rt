@@ -4,19 +4,18 @@ ghost use Rattle.tp_server.specs.Check.{check_of};
 ghost use Rattle.std.specs.List.{All};
 ghost use Rattle.tp_script.specs.Passes.{racing};
 ghost use Rattle.tp_script.specs.Ranges.{IsInRange, IsInRange-prop};
-ghost use Rattle.tp_script.specs.Numbers.{passes_limit, servers_limit};
+ghost use Rattle.tp_model.specs.declared.types.TheConstants.{MAX_ATTEMPTS, MAX_BLOCKS, MAX_PART_ROWS};
+ghost use Rattle.tp_model.specs.declared.types.TheConstants.{MAX_PASSES, MAX_UNITS};
+ghost use Rattle.tp_script.specs.declared.script.TheConstants.{MAX_SERVERS};
 
 use crate::fault::{LineError, LineFault};
 use std::alloc::Global;
 use std::string::String;
-use tp_model::types::Body;
+use tp_model::types::{Body, MAX_PASSES};
 use tp_server::{Recipe, Registers};
 
 /// How many servers a script may have.
-pub const MOST_SERVERS: usize = 8;
-
-/// How many passes a script may need.
-pub const MOST_PASSES: u16 = 32;
+pub const MAX_SERVERS: usize = 8;
 
 /// The limits that a script sets.
 #[derive(Clone, Copy, Debug, PartialEq, Eq)]
@@ -29,10 +28,10 @@ pub struct Settings {
     pub attempts: u8,
     /// Spare blocks of rows, 0 to 256.
     pub spare: u16,
-    ghost rows_in_range: { (1 ≤ rows) × (rows ≤ 256) },
-    ghost units_in_range: { (1 ≤ units) × (units ≤ 1024) },
-    ghost attempts_in_range: { (1 ≤ attempts) × (attempts ≤ 7) },
-    ghost spare_in_range: { spare ≤ 256 },
+    ghost rows_in_range: { (1 ≤ rows) × (rows ≤ MAX_PART_ROWS) },
+    ghost units_in_range: { (1 ≤ units) × (units ≤ MAX_UNITS) },
+    ghost attempts_in_range: { (1 ≤ attempts) × (attempts ≤ MAX_ATTEMPTS) },
+    ghost spare_in_range: { spare ≤ MAX_BLOCKS },
 }
 
 /// How a server keeps prepared work: by changing its registers at once, or by keeping what it will write.
@@ -177,9 +176,9 @@ pub struct Script {
     pub account: bool,
     // How many passes it needs.
     pass_count: u16,
-    ghost few_servers: { vec_len servers ≤ servers_limit },
+    ghost few_servers: { vec_len servers ≤ MAX_SERVERS },
     ghost passes_counted: { pass_count ≡ 1 + vec_len servers + racing commands.items },
-    ghost few_passes: { pass_count ≤ passes_limit },
+    ghost few_passes: { pass_count ≤ MAX_PASSES },
     ghost commands_in_range: { All (IsInRange (vec_len servers)) commands.items } by { Prim.hlevel IsInRange-prop },
 }
 
@@ -212,7 +211,7 @@ impl Script {
     /// How many passes it needs: the client's, one for each server, and those of its races.
     pub fn passes(&self) -> u16
         ensures value { result ≡ passes (script_view self.now) }
-        ensures bound { result ≤ passes_limit }
+        ensures bound { result ≤ MAX_PASSES }
     {
         self.pass_count
     }
@@ -227,7 +226,7 @@ impl Script {
     /// Adds a server.
     #[tactic(auto, using(crate::proofs::ScriptLemmas::racing_none, crate::proofs::ScriptLemmas::all_in_range_none))]
     pub(crate) fn add_server(&mut self, server: ScriptServer) -> Result<(), LineError>
-        requires few { vec_len self.old.servers < servers_limit }
+        requires few { vec_len self.old.servers < MAX_SERVERS }
         requires first { vec_len self.old.commands ≡ 0 }
         ensures { GivesScript self.new result (Ok (with_server (server_view server) (script_view self.old))) }
     {
@@ -243,8 +242,8 @@ impl Script {
         ensures { GivesScript self.new result (with_command command (script_view self.old)) }
     {
         let racers = command.racers();
-        if racers > MOST_PASSES - self.pass_count {
-            return Err(LineError::Fault(LineFault::BadLimits));
+        if racers > MAX_PASSES - self.pass_count {
+            return Err(LineFault::BadLimits.into());
         }
         self.commands.push(command)?;
         self.pass_count += racers;

@@ -1,14 +1,16 @@
 //! The lines that make servers.
-ghost use Rattle.std.specs.Prelude.{◌≡◌, ◌≤◌, ◌<◌, map, length, IfOk, IfSome, OnOk, position, vec_len, string_bytes, replicate, Ok, is_ok};
+ghost use Rattle.std.specs.Prelude.{◌≡◌, ◌≤◌, ◌<◌, map, length, IfOk, IfSome, OnOk, position, vec_len};
+ghost use Rattle.std.specs.Prelude.{string_bytes, replicate, Ok, is_ok};
 ghost use Rattle.std.specs.Str.{bytes_eq};
 ghost use Rattle.tp_server.specs.Check.{check_of};
 ghost use Rattle.tp_script.specs.Reading.{Gives, GivesScript, shape_view};
 ghost use Rattle.tp_script.specs.Script.{script_view, server_view};
-ghost use Rattle.tp_script.specs.ServerLines.{server_at, shape_at, new_name, recipe_at, registers_for, server_line, begun, begin_at, start_line};
+ghost use Rattle.tp_script.specs.ServerLines.{server_at, shape_at, new_name, recipe_at, registers_for};
+ghost use Rattle.tp_script.specs.ServerLines.{server_line, begun, begin_at, start_line};
 
 use crate::fault::{LineError, LineFault};
-use crate::script::{Kind, MOST_SERVERS, Script, ScriptServer};
-use crate::terms::{act_at, all_outputs, is_name, kind_at, name_text, number_at, outputs_at};
+use crate::line_words::{act_at, all_outputs, is_name, kind_at, name_text, number_at, outputs_at};
+use crate::script::{Kind, MAX_SERVERS, Script, ScriptServer};
 use std::alloc::Global;
 use std::string::String;
 use tp_server::{Act, Recipe, Registers};
@@ -32,12 +34,12 @@ fn shape_at<'a>(alloc: Global, words: &'a [&'a [u8]]) -> Result<Shape<'a>, LineE
     ensures few { IfOk result (λ shape. length shape.outputs.now ≤ 4) }
 {
     let [name, kind, stage, registers, act, outputs @ ..] = words else {
-        return Err(LineError::Fault(LineFault::Syntax));
+        return Err(LineFault::Syntax.into());
     };
     let kind = kind_at(kind)?;
     let (act, word) = act_at(alloc, act)?;
     if outputs.len() > 4 || !all_outputs(outputs) {
-        return Err(LineError::Fault(LineFault::Syntax));
+        return Err(LineFault::Syntax.into());
     }
     Ok(Shape {
         name,
@@ -82,14 +84,15 @@ fn registers_for(recipe: &Recipe) -> Result<Registers, LineError>
             Some(registers) => Ok(registers),
             None => unreachable!(),
         },
-        Err(_) => Err(LineError::Fault(LineFault::BadRecipe)),
+        Err(_) => Err(LineFault::BadRecipe.into()),
     }
 }
 
 impl Script {
     // The place of the server of this name in memory.
     fn find(&self, name: &[u8]) -> Option<usize>
-        ensures found { result ≡ position (λ server. bytes_eq (string_bytes server.name) name.now) self.now.servers.items }
+        ensures found { result ≡ position (λ server.
+            bytes_eq (string_bytes server.name) name.now) self.now.servers.items }
         ensures within { IfSome result (λ i. i < vec_len self.now.servers) }
     {
         self.servers
@@ -99,7 +102,8 @@ impl Script {
 
     // The place of the server of this name, if there is one.
     fn place(&self, name: &[u8]) -> Option<usize>
-        ensures found { result ≡ position (λ server. bytes_eq server.name name.now) (script_view self.now).servers }
+        ensures found { result ≡ position (λ server. bytes_eq server.name name.now)
+            (script_view self.now).servers }
         ensures within { IfSome result (λ i. i < vec_len self.now.servers) }
     {
         self.find(name)
@@ -112,7 +116,7 @@ impl Script {
     {
         match self.place(name) {
             Some(i) => Ok(i),
-            None => Err(LineError::Fault(LineFault::BadName)),
+            None => Err(LineFault::BadName.into()),
         }
     }
 
@@ -122,7 +126,7 @@ impl Script {
         ensures { Gives (λ x. string_bytes x) result (new_name name.now (script_view self.now)) }
     {
         if !is_name(name) || self.place(name).is_some() {
-            return Err(LineError::Fault(LineFault::BadName));
+            return Err(LineFault::BadName.into());
         }
         Ok(String::from_str(alloc, name_text(name))?)
     }
@@ -130,16 +134,17 @@ impl Script {
     /// `server NAME KIND STAGE REGISTERS ACT OUT..`
     #[tactic(auto, unfolding(crate::specs::ServerLines::server_line))]
     pub(crate) fn server_line(&mut self, alloc: Global, words: &[&[u8]]) -> Result<(), LineError>
-        ensures { GivesScript self.new result (server_line (map (λ x. x.now) words.now) (script_view self.old)) }
+        ensures { GivesScript self.new result (server_line (map (λ x. x.now) words.now)
+            (script_view self.old)) }
     {
         let shape = shape_at(alloc, words)?;
         if !self.commands.is_empty() {
-            return Err(LineError::Fault(LineFault::Order));
+            return Err(LineFault::Order.into());
         }
         let name = self.new_name(alloc, shape.name)?;
         let recipe = recipe_at(alloc, &shape)?;
-        if self.servers.len() >= MOST_SERVERS {
-            return Err(LineError::Fault(LineFault::BadLimits));
+        if self.servers.len() >= MAX_SERVERS {
+            return Err(LineFault::BadLimits.into());
         }
         let registers = registers_for(&recipe)?;
         let kind = shape.kind;
@@ -157,10 +162,10 @@ impl Script {
         ensures { GivesScript self.new result (start_line (words.entry.0.now, words.entry.1.now, words.entry.2.now) (script_view self.old)) }
     {
         if !self.commands.is_empty() {
-            return Err(LineError::Fault(LineFault::Order));
+            return Err(LineFault::Order.into());
         }
         if !is_name(words.0) {
-            return Err(LineError::Fault(LineFault::BadName));
+            return Err(LineFault::BadName.into());
         }
         let server = self.server_at(words.0)?;
         let k = number_at(words.1, u64::MAX)?;
@@ -184,7 +189,7 @@ impl ScriptServer {
         ensures { Gives (λ _. server_view self.new) result (begun k v (server_view self.old)) }
     {
         if k >= u64::from(self.registers.len()) {
-            return Err(LineError::Fault(LineFault::BadRecipe));
+            return Err(LineFault::BadRecipe.into());
         }
         self.registers.set(k, v);
         Ok(())

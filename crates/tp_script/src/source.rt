@@ -1,7 +1,8 @@
 //! Where a script comes from.
-ghost use Rattle.std.specs.Prelude.{◌≡◌, false, ◌+◌, ◌^◌, ◌<◌, ◌≤◌, ℕ, List, Bool, Option, length, take, min, vec_len, IfOk, IfSome, OnErr, IsTrue, IsErrOf};
+ghost use Rattle.std.specs.Prelude.{◌≡◌, false, ◌+◌, ◌^◌, ◌<◌, ◌≤◌, ℕ, List, Bool, Option, length, take, min};
+ghost use Rattle.std.specs.Prelude.{vec_len, IfOk, IfSome, OnErr, IsTrue, IsErrOf};
 ghost use Rattle.std.specs.Io.KnownBytes.{ReadConsumes};
-ghost use Rattle.tp_script.specs.Numbers.{bytes_limit, requests_limit};
+ghost use Rattle.tp_script.specs.declared.source.TheConstants.{MAX_SCRIPT_BYTES, MAX_READS};
 ghost use Rattle.tp_script.specs.Devices.{HasNoScript};
 
 use crate::fault::ReadFault;
@@ -12,8 +13,8 @@ use std::io::{ErrorKind, Read};
 #[derive(Clone, Copy, Debug, PartialEq, Eq)]
 pub struct Failed;
 
-/// A reader of bytes. Contracts see the bytes that it has left, where these are known, how often it was asked, and
-/// whether it has failed.
+/// A reader of bytes. Contracts see the bytes that it has left, where these are known, how often it was
+/// asked, and whether it has failed.
 pub trait Source {
     ghost rest: { Self → Option (List ℕ) };
 
@@ -21,8 +22,8 @@ pub trait Source {
 
     ghost has_failed: { Self → Bool };
 
-    /// Puts the next bytes into the front of the buffer, and answers how many: 0 at the end of the bytes, or where the
-    /// buffer is empty. `Failed` where the reader failed.
+    /// Puts the next bytes into the front of the buffer, and answers how many: 0 at the end of the bytes, or
+    /// where the buffer is empty. `Failed` where the reader failed.
     fn read(&mut self, buffer: &mut [u8]) -> Result<usize, Failed>
         requires { asked self.old + 1 < 2 ^ 64 }
         ensures count { IfOk result (λ n. n ≤ length buffer.new) }
@@ -95,29 +96,30 @@ fn read_again<R: Read>(reader: &mut R, buffer: &mut [u8]) -> Result<usize, Faile
 }
 
 /// The longest script.
-pub const MOST_BYTES: usize = 65_536;
+pub const MAX_SCRIPT_BYTES: usize = 65_536;
 
 /// How often a reader is asked at most.
-pub const MOST_REQUESTS: u32 = 100_000;
+pub const MAX_READS: u32 = 100_000;
 
 /// What the source gives up to its end, or the bytes past which a script is too long.
 pub fn read_all<S: Source>(alloc: Global, source: &mut S) -> Result<Vec<u8>, ReadFault>
-    requires { S.asked source.old + requests_limit < 2 ^ 64 }
-    ensures bytes { IfOk result (λ read. IfSome (S.rest source.old) (λ all. read.items ≡ take (bytes_limit + 1) all)) }
+    requires { S.asked source.old + MAX_READS < 2 ^ 64 }
+    ensures bytes { IfOk result (λ read. IfSome (S.rest source.old)
+        (λ all. read.items ≡ take (MAX_SCRIPT_BYTES + 1) all)) }
     ensures no_script { HasNoScript result }
-    ensures asked { S.asked source.new ≤ S.asked source.old + requests_limit }
+    ensures asked { S.asked source.new ≤ S.asked source.old + MAX_READS }
     ensures fault { IsErrOf result ReadFault.Read → IsTrue (S.has_failed source.new) }
 {
     let mut read = Vec::new(alloc);
-    for _ in 0..MOST_REQUESTS {
+    for _ in 0..MAX_READS {
         let mut buffer = [0; 4096];
-        let room = buffer.len().min(MOST_BYTES + 1 - read.len());
+        let room = buffer.len().min(MAX_SCRIPT_BYTES + 1 - read.len());
         let n = source.read(&mut buffer[..room])?;
         if n == 0 {
             return Ok(read);
         }
         read.extend_from_slice(&buffer[..n])?;
-        if read.len() > MOST_BYTES {
+        if read.len() > MAX_SCRIPT_BYTES {
             return Ok(read);
         }
     }

@@ -1,3 +1,4 @@
 pub mod Books
 pub mod Made
+pub mod Onward
 pub mod Recipes

@@ -7,9 +7,10 @@ use Rattle.tp_server.specs.declared.recipe.Recipe.{Recipe}
 use Rattle.tp_server.specs.Effect.{Effect, effect_of}
 use Rattle.tp_server.specs.Pending.{Pending}
 
--- The stage whose elements a server takes, and its effect. The effect is a function of the registers of committed work, of the
--- element, and of the numbers that the server hears from outside meanwhile. It gives what the server does, or why it declines
--- the element. A server that hears nothing leaves the third argument alone.
+-- The stage whose elements a server takes, and its effect. The effect is a function of the registers of
+-- committed work, of the element, and of the numbers that the server hears from outside meanwhile. It gives
+-- what the server does, or why it declines the element. A server that hears nothing leaves the third argument
+-- alone.
 pub record Behaviour : Type 0 where
   pub stage : ℕ
   pub effect : List ℕ → Element → List ℕ → Result Effect Declined
@@ -44,4 +45,8 @@ Folds behaviour start (d ∷ ds) end =
 
 -- what a server does that follows a recipe: it hears nothing
 abbrev pub behaviour_of : Recipe → Behaviour
-behaviour_of recipe = record { stage = recipe.stage; effect = λ registers element heard. effect_of recipe registers element }
+behaviour_of recipe = record {
+  stage = recipe.stage;
+  effect = λ registers element heard.
+      effect_of recipe registers element;
+}

@@ -1,5 +1,6 @@
 -- What a recipe does with an element, and with a list of them.
-use Rattle.std.specs.Prelude.{ℕ, ◌+◌, ◌-◌, ◌^◌, nat_lt, nat_le, List, [], ◌∷◌, map, Option, Some, None, Result, Ok, Err, slice_get, slice_set, slice_index, if◌then◌else◌}
+use Rattle.std.specs.Prelude.{ℕ, ◌+◌, ◌-◌, ◌^◌, nat_lt, nat_le, List, [], ◌∷◌, map, Option, Some, None}
+use Rattle.std.specs.Prelude.{Result, Ok, Err, slice_get, slice_set, slice_index, if◌then◌else◌}
 use Rattle.tp_model.specs.Drafts.{DraftView}
 use Rattle.tp_model.specs.declared.types.Element.{Element}
 use Rattle.tp_server.specs.declared.recipe.Recipe.{Recipe}
@@ -9,7 +10,8 @@ use Rattle.tp_server.specs.declared.recipe.Act.TheVariants.{Add, Take, Pass}
 use Rattle.tp_server.specs.declared.recipe.KeyFrom.{KeyFrom}
 use Rattle.tp_server.specs.declared.recipe.KeyFrom.TheVariants.{Same, Fixed}
 use Rattle.tp_server.specs.declared.recipe.AmountFrom.{AmountFrom}
-use Rattle.tp_server.specs.declared.recipe.AmountFrom.TheVariants.{Same as SameAmount, After, Fixed as FixedAmount}
+use Rattle.tp_server.specs.declared.recipe.AmountFrom.TheVariants.{Same as SameAmount, After}
+use Rattle.tp_server.specs.declared.recipe.AmountFrom.TheVariants.{Fixed as FixedAmount}
 use Rattle.tp_server.specs.declared.recipe.Declined.{Declined}
 use Rattle.tp_server.specs.declared.recipe.Declined.TheVariants.{NoRegister, TooLarge, Short}
 
@@ -33,9 +35,11 @@ abbrev pub act_at : Act → Option ℕ → ℕ → Result ℕ Declined
 act_at act None amount = Err NoRegister
 act_at act (Some value) amount = act_on act value amount
 
--- the register that the element's key names, after the recipe's act with the amount, or why that can't be done
+-- the register that the element's key names, after the recipe's act with the amount, or why that can't be
+-- done
 abbrev pub register_after : Recipe → List ℕ → Element → Result ℕ Declined
-register_after recipe registers element = act_at recipe.act (slice_get registers (key_in element.body)) (slice_index element.body recipe.word)
+register_after recipe registers element = act_at recipe.act (slice_get registers (key_in element.body))
+    (slice_index element.body recipe.word)
 
 -- an output's key: the element's own, or a fixed one
 abbrev pub key_of : KeyFrom → ℕ → ℕ
@@ -57,7 +61,10 @@ body_of word body after output =
 -- the draft of one output of a recipe whose amount is the word at this place, where the act leaves the
 -- register at after
 abbrev pub draft_of : ℕ → Element → ℕ → Output → DraftView
-draft_of word element after output = record { stage = output.stage; body = body_of word element.body after output }
+draft_of word element after output = record {
+  stage = output.stage;
+  body = body_of word element.body after output;
+}
 
 -- the whole effect, once it is known what becomes of the one register
 abbrev pub effect_with : Recipe → List ℕ → Element → Result ℕ Declined → Result Effect Declined
@@ -69,7 +76,8 @@ effect_with recipe registers element (Ok after) = Ok (record {
 
 -- what the recipe does with an element, or why it declines
 abbrev pub effect_of : Recipe → List ℕ → Element → Result Effect Declined
-effect_of recipe registers element = effect_with recipe registers element (register_after recipe registers element)
+effect_of recipe registers element =
+    effect_with recipe registers element (register_after recipe registers element)
 
 -- the registers that an effect leaves, if it wasn't declined
 abbrev pub registers_after : Result Effect Declined → Option (List ℕ)
@@ -86,7 +94,8 @@ drafts_after (Err why) = Err why
 abbrev pub fold_from : Recipe → Option (List ℕ) → List Element → Option (List ℕ)
 fold_from recipe None es = None
 fold_from recipe (Some registers) [] = Some registers
-fold_from recipe (Some registers) (e ∷ es) = fold_from recipe (registers_after (effect_of recipe registers e)) es
+fold_from recipe (Some registers) (e ∷ es) =
+    fold_from recipe (registers_after (effect_of recipe registers e)) es
 
 -- the registers after the effects of the elements in order, if none of them is declined
 abbrev pub fold_of : Recipe → List ℕ → List Element → Option (List ℕ)

@@ -4,4 +4,5 @@ pub mod Check
 pub mod Effect
 pub mod Entries
 pub mod Names
+pub mod Onward
 pub mod Pending

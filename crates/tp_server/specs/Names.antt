@@ -6,11 +6,11 @@ use Rattle.tp_server.specs.declared.recipe.Declined.{Declined}
 use Rattle.tp_server.specs.declared.recipe.Declined.TheVariants.{NoRegister, TooLarge, Short, Own}
 
 -- the bytes of a recipe's fault
-abbrev pub fault_name : BadRecipe → List ℕ
-fault_name BadStage = codes "BadStage"
-fault_name BadRegisters = codes "BadRegisters"
-fault_name BadOutput = codes "BadOutput"
-fault_name BadWord = codes "BadWord"
+abbrev pub recipe_fault_name : BadRecipe → List ℕ
+recipe_fault_name BadStage = codes "BadStage"
+recipe_fault_name BadRegisters = codes "BadRegisters"
+recipe_fault_name BadOutput = codes "BadOutput"
+recipe_fault_name BadWord = codes "BadWord"
 
 -- the bytes of the reason why a server declined
 abbrev pub declined_name : Declined → List ℕ

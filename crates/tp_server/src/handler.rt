@@ -37,7 +37,11 @@ impl<const N: usize> Effect<N> {
         requires low { 1 ≤ stage }
         requires high { stage ≤ 15 }
         requires room { length self.drafts < 4 }
-        ensures { result ≡ record { registers = self.entry.registers; drafts = self.entry.drafts ++ record { stage = stage; body = body } ∷ [] } }
+        ensures { result ≡ record {
+          registers = self.entry.registers;
+          drafts = self.entry.drafts
+              ++ record { stage = stage; body = body } ∷ [];
+        } }
     {
         match Draft::new(stage, body) {
             Some(draft) => self.drafts.push(draft),

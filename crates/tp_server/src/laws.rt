@@ -1,15 +1,19 @@
-//! The laws of what a server's effects do to its registers, for contracts of one's own. These functions do nothing: their
-//! contracts are the laws. What each effect does is shown once, and then holds of all of them together.
+//! The laws of what a server's effects do to its registers, for contracts of one's own. These functions do
+//! nothing: their contracts are the laws. What each effect does is shown once, and then holds of all of them
+//! together.
 
 ghost use Rattle.tp_server.specs.Books.{AllLower, AllNeverLower, AllPreserve, AllRaise, AllRaiseByOutputs};
+ghost use Rattle.tp_server.specs.Onward.{FoldsGoOn};
 
-/// What each effect adds to a measure of the registers, or takes from it, adds up over the elements that were worked on.
+/// What each effect adds to a measure of the registers, or takes from it, adds up over the elements that were
+/// worked on.
 pub fn elements_add_up()
     ensures raise { AllRaise }
     ensures lower { AllLower }
 {}
 
-/// What each effect adds to a measure of the registers for the outputs that it makes adds up over all outputs that were made.
+/// What each effect adds to a measure of the registers for the outputs that it makes adds up over all outputs
+/// that were made.
 pub fn outputs_add_up()
     ensures { AllRaiseByOutputs }
 {}
@@ -19,7 +23,14 @@ pub fn measures_rise()
     ensures { AllNeverLower }
 {}
 
-/// A test of the registers that each effect preserves is passed after all of them, where it was passed before.
+/// A test of the registers that each effect preserves is passed after all of them, where it was passed
+/// before.
 pub fn tests_stay_passed()
     ensures { AllPreserve }
+{}
+
+/// A server's registers go on across a rollover: the fold of what was committed in the old manager and then
+/// in the new one is that of the latter, from the registers to which the former led.
+pub fn folds_go_on()
+    ensures { FoldsGoOn }
 {}

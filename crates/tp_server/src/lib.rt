@@ -1,5 +1,6 @@
-//! Servers of a request manager. A server says what it does with an element as a function of its registers (`Behaviour`), and does it
-//! in two steps, so that the work can still be called off. Two kinds are built in, which follow a recipe. Nothing here takes memory.
+//! Servers of a request manager. A server says what it does with an element as a function of its registers
+//! (`Behaviour`), and does it in two steps, so that the work can still be called off. Two kinds are built in,
+//! which follow a recipe. Nothing here takes memory.
 #![tactic(auto)]
 
 mod boxes;

@@ -46,7 +46,10 @@ impl<H: Handler<N>, const N: usize> Server for OwnServer<H, N> {
 
     ghost registers = { λ s. s.registers };
 
-    ghost pending = { λ s. option_map (λ after. record { prepared_for = after.element; registers = after.registers }) s.prepared };
+    ghost pending = { λ s. option_map (λ after. record {
+      prepared_for = after.element;
+      registers = after.registers;
+    }) s.prepared };
 
     fn stage(&self) -> u8 {
         self.handler.stage()

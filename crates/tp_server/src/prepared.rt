@@ -23,7 +23,10 @@ impl Recipe {
     pub fn effect(&self, registers: &Registers, element: &Element) -> Result<Prepared, Declined>
         requires { check_of self.now ≡ Ok tt }
         ensures ok { IfOk result (λ p. effect_of self.now registers.now element.now
-            ≡ Ok (record { registers = slice_set registers.now (key_in element.now.body) p.after; drafts = p.drafts.items })) }
+            ≡ Ok (record {
+              registers = slice_set registers.now (key_in element.now.body) p.after;
+              drafts = p.drafts.items;
+            })) }
         ensures err { IfErr result (λ why. effect_of self.now registers.now element.now ≡ Err why) }
         ensures in_range { IfOk result (λ _. key_in element.now.body < length registers.now) }
     {

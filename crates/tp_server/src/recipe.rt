@@ -7,6 +7,7 @@ use crate::registers::Registers;
 use arrayvec::ArrayVec;
 use std::error::Error;
 use std::fmt;
+use tp_model::types::MAX_STAGE;
 
 /// What a server does to the register that an element's key names: the key is word 0 of its body.
 #[derive(Clone, Copy, Debug, PartialEq, Eq)]
@@ -97,9 +98,9 @@ pub enum BadRecipe {
 
 /// Its bare name, as `BadStage`.
 impl fmt::Display for BadRecipe {
-    ghost use Rattle.tp_server.specs.Names.{fault_name};
+    ghost use Rattle.tp_server.specs.Names.{recipe_fault_name};
 
-    ghost output = { λ fault. Some (fault_name fault) };
+    ghost output = { λ fault. Some (recipe_fault_name fault) };
 
     fn fmt<W: fmt::Write>(&self, f: &mut fmt::Formatter<W>) -> fmt::Result {
         match self {
@@ -149,7 +150,7 @@ impl Recipe {
     pub fn check(&self) -> Result<(), BadRecipe>
         ensures { result ≡ check_of self.now }
     {
-        if self.stage < 1 || self.stage > 14 {
+        if self.stage < 1 || self.stage > MAX_STAGE {
             return Err(BadRecipe::BadStage);
         }
         if self.registers < 1 || self.registers > 64 {
@@ -164,7 +165,8 @@ impl Recipe {
         Ok(())
     }
 
-    /// The first fault of the recipe for these registers: its own, then `BadRegisters` where it asks for more or fewer.
+    /// The first fault of the recipe for these registers: its own, then `BadRegisters` where it asks for more
+    /// or fewer.
     pub(crate) fn check_with(&self, registers: &Registers) -> Result<(), BadRecipe>
         ensures { result ≡ check_with registers.now self.now }
     {

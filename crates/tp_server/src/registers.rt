@@ -1,5 +1,6 @@
 //! The registers of a server.
-ghost use Rattle.std.specs.Prelude.{◌≡◌, ◌≤◌, ◌<◌, ◌↔◌, length, replicate, IsSome, IfSome, slice_get, slice_set};
+ghost use Rattle.std.specs.Prelude.{◌≡◌, ◌≤◌, ◌<◌, ◌↔◌, length, replicate, IsSome, IfSome, slice_get};
+ghost use Rattle.std.specs.Prelude.{slice_set};
 
 use arrayvec::ArrayVec;
 use std::alloc::AllocError;

@@ -1,28 +1,31 @@
 //! What a server is to those who use one.
-ghost use Rattle.std.specs.Prelude.{◌≡◌, ◌≤◌, List, ℕ, Option, None, Some, length, IsSome, is_some, IfOk, IfErr, OnOk, OnErr, Err, slice_get};
+ghost use Rattle.std.specs.Prelude.{◌≡◌, ◌≤◌, List, ℕ, Option, None, Some, length, IsSome, is_some, IfOk};
+ghost use Rattle.std.specs.Prelude.{IfErr, OnOk, OnErr, Err, slice_get};
 
 use crate::recipe::Declined;
 use arrayvec::ArrayVec;
 use tp_model::types::{Draft, Element};
 
-/// A server does the work of elements one at a time, each in two steps: it prepares the work, and then commits it or
-/// undoes it.
+/// A server does the work of elements one at a time, each in two steps: it prepares the work, and then
+/// commits it or undoes it.
 ///
-/// You may write servers of your own. By the three ghost members a server says what it is: its behaviour, which is the stage
-/// whose elements it takes and the effect that one has, as a function of your own; the registers of its committed work, a list of
-/// any length; and its prepared work, if there is any: the element that it was prepared for, and the registers that a commit
-/// would leave. They may be read off its fields in any way, so it is free to change its registers early or late. What it owes is
-/// this:
+/// You may write servers of your own. By the three ghost members a server says what it is: its behaviour,
+/// which is the stage whose elements it takes and the effect that one has, as a function of your own; the
+/// registers of its committed work, a list of any length; and its prepared work, if there is any: the element
+/// that it was prepared for, and the registers that a commit would leave. They may be read off its fields in
+/// any way, so it is free to change its registers early or late. What it owes is this:
 ///
 /// - No call changes the behaviour.
-/// - `prepare` is called only while nothing is prepared. It does as its behaviour says, for some numbers that it heard from
-///   outside: it answers the effect's drafts, in order, and from then on the work is prepared; or it declines the element, for
-///   the effect's reason, and changes nothing. In either case the registers of committed work stay as they were.
+/// - `prepare` is called only while nothing is prepared. It does as its behaviour says, for some numbers that
+/// it heard from   outside: it answers the effect's drafts, in order, and from then on the work is prepared;
+/// or it declines the element, for   the effect's reason, and changes nothing. In either case the registers
+/// of committed work stay as they were.
 /// - `balance` shows the registers of committed work alone. Prepared work doesn't count.
-/// - `commit` and `undo` are called only while work is prepared, and afterwards none is. After `commit` the registers of
-///   committed work are those that the effect gave for the element, and after `undo` they are as they were. Neither can
-///   fail.
-/// - No call takes memory. This is the one point that the contracts below can't say: keep no allocator in a server.
+/// - `commit` and `undo` are called only while work is prepared, and afterwards none is. After `commit` the
+/// registers of   committed work are those that the effect gave for the element, and after `undo` they are as
+/// they were. Neither can   fail.
+/// - No call takes memory. This is the one point that the contracts below can't say: keep no allocator in a
+/// server.
 pub trait Server: Drop {
     ghost use Rattle.tp_server.specs.Behaviour.{Allows, Behaviour, IsMade};
     ghost use Rattle.tp_server.specs.Pending.{Pending, registers_of};
@@ -33,7 +36,8 @@ pub trait Server: Drop {
     /// The registers of committed work.
     ghost registers: { Self → List ℕ };
 
-    /// The prepared work, if there is any: the element that it is for, and the registers that a commit would leave.
+    /// The prepared work, if there is any: the element that it is for, and the registers that a commit would
+    /// leave.
     ghost pending: { Self → Option Pending };
 
     /// The stage whose elements it takes, 1 to 14.
@@ -46,8 +50,8 @@ pub trait Server: Drop {
     fn count(&self) -> u64
         ensures { result ≡ length (registers self.now) };
 
-    /// The register of committed work with this number, counted from 0, or `None` past the last one. Prepared work isn't
-    /// counted.
+    /// The register of committed work with this number, counted from 0, or `None` past the last one. Prepared
+    /// work isn't counted.
     fn balance(&self, k: u64) -> Option<u64>
         ensures { result ≡ slice_get (registers self.now) k };
 
@@ -57,14 +61,16 @@ pub trait Server: Drop {
 
     /// Prepares the work of an element and answers the outputs that it makes, or declines it.
     ///
-    /// What the answer is, and why an element is declined, is what its behaviour says. Nothing has changed where it is declined.
+    /// What the answer is, and why an element is declined, is what its behaviour says. Nothing has changed
+    /// where it is declined.
     fn prepare(&mut self, element: &Element) -> Result<ArrayVec<Draft, 4>, Declined>
         requires { pending self.old ≡ None }
         ensures behaviour { behaviour self.new ≡ behaviour self.old }
         ensures registers { registers self.new ≡ registers self.old }
         ensures ok { IfOk result (λ drafts.
             IsMade (behaviour self.old) (registers self.old) element.now (pending self.new) drafts.items) }
-        ensures err { IfErr result (λ why. Allows (behaviour self.old) (registers self.old) element.now (Err why)) }
+        ensures err { IfErr result (λ why. Allows (behaviour self.old)
+            (registers self.old) element.now (Err why)) }
         ensures prepared { OnOk result (IsSome (pending self.new)) }
         ensures unprepared { OnErr result (pending self.new ≡ None) };
 

@@ -3,7 +3,7 @@ ghost use Rattle.std.specs.Prelude.{◌≡◌, ◌≤◌, None, IfOk, IsSome, is
 ghost use Rattle.tp_manager.specs.Shown.{IsOf};
 
 use crate::diary::{Diary, Made};
-use crate::trouble::Trouble;
+use crate::program_fault::ProgramFault;
 use tp_manager::{Manager, Pass};
 use tp_model::types::{Body, Claimed, Draft};
 
@@ -13,7 +13,7 @@ pub fn submit(
     diary: &mut Diary,
     stage: u8,
     body: Body,
-) -> Result<(), Trouble>
+) -> Result<(), ProgramFault>
     requires own { IsOf manager.now pass.old }
     ensures own { IsOf manager.now pass.new }
     ensures open_unit { pass.new.open_unit ≡ pass.old.open_unit }
@@ -36,7 +36,7 @@ pub fn claim(
     pass: &mut Pass,
     diary: &mut Diary,
     stage: u8,
-) -> Result<bool, Trouble>
+) -> Result<bool, ProgramFault>
     requires own { IsOf manager.now pass.old }
     requires free { pass.old.open_unit ≡ None }
     requires stage { (1 ≤ stage) × (stage ≤ 14) }
@@ -58,7 +58,7 @@ pub fn claim_next(
     pass: &mut Pass,
     diary: &mut Diary,
     stage: u8,
-) -> Result<bool, Trouble>
+) -> Result<bool, ProgramFault>
     requires own { IsOf manager.now pass.old }
     requires free { pass.old.open_unit ≡ None }
     requires stage { (1 ≤ stage) × (stage ≤ 14) }
@@ -80,7 +80,7 @@ pub fn claim_id(
     pass: &mut Pass,
     diary: &mut Diary,
     id: u32,
-) -> Result<bool, Trouble>
+) -> Result<bool, ProgramFault>
     requires own { IsOf manager.now pass.old }
     requires free { pass.old.open_unit ≡ None }
     ensures own { IsOf manager.now pass.new }
@@ -103,7 +103,7 @@ pub fn commit(
     drafts: u8,
     stage: u8,
     body: Body,
-) -> Result<(), Trouble>
+) -> Result<(), ProgramFault>
     requires own { IsOf manager.now pass.old }
     requires busy { IsSome pass.old.open_unit }
     ensures own { IsOf manager.now pass.new }
@@ -144,7 +144,7 @@ fn draft(stage: u8, body: Body, more: u64) -> Draft {
     }
 }
 
-pub fn abort(manager: &Manager, pass: &mut Pass, diary: &mut Diary) -> Result<(), Trouble>
+pub fn abort(manager: &Manager, pass: &mut Pass, diary: &mut Diary) -> Result<(), ProgramFault>
     requires own { IsOf manager.now pass.old }
     requires busy { IsSome pass.old.open_unit }
     ensures own { IsOf manager.now pass.new }
@@ -160,7 +160,7 @@ pub fn release(
     pass: &mut Pass,
     diary: &mut Diary,
     id: u32,
-) -> Result<(), Trouble>
+) -> Result<(), ProgramFault>
     requires own { IsOf manager.now pass.old }
     requires free { pass.old.open_unit ≡ None }
     ensures own { IsOf manager.now pass.new }
@@ -171,7 +171,12 @@ pub fn release(
     diary.note(before, Made::Release { id, answer })
 }
 
-pub fn kill(manager: &Manager, pass: &mut Pass, diary: &mut Diary, id: u32) -> Result<(), Trouble>
+pub fn kill(
+    manager: &Manager,
+    pass: &mut Pass,
+    diary: &mut Diary,
+    id: u32,
+) -> Result<(), ProgramFault>
     requires own { IsOf manager.now pass.old }
     requires free { pass.old.open_unit ≡ None }
     ensures own { IsOf manager.now pass.new }
@@ -187,7 +192,7 @@ pub fn cancel(
     pass: &mut Pass,
     diary: &mut Diary,
     root: u32,
-) -> Result<(), Trouble>
+) -> Result<(), ProgramFault>
     requires own { IsOf manager.now pass.old }
     requires free { pass.old.open_unit ≡ None }
     ensures own { IsOf manager.now pass.new }
@@ -203,7 +208,7 @@ pub fn requeue(
     pass: &mut Pass,
     diary: &mut Diary,
     id: u32,
-) -> Result<(), Trouble>
+) -> Result<(), ProgramFault>
     requires own { IsOf manager.now pass.old }
     ensures own { IsOf manager.now pass.new }
     ensures open_unit { pass.new.open_unit ≡ pass.old.open_unit }
@@ -213,7 +218,12 @@ pub fn requeue(
     diary.note(before, Made::Requeue { id, answer })
 }
 
-pub fn read(manager: &Manager, pass: &mut Pass, diary: &mut Diary, id: u32) -> Result<(), Trouble>
+pub fn read(
+    manager: &Manager,
+    pass: &mut Pass,
+    diary: &mut Diary,
+    id: u32,
+) -> Result<(), ProgramFault>
     requires own { IsOf manager.now pass.old }
     ensures own { IsOf manager.now pass.new }
     ensures open_unit { pass.new.open_unit ≡ pass.old.open_unit }
@@ -232,7 +242,7 @@ pub fn reply(
     diary: &mut Diary,
     root: u32,
     from: u32,
-) -> Result<Option<u32>, Trouble>
+) -> Result<Option<u32>, ProgramFault>
     requires own { IsOf manager.now pass.old }
     ensures own { IsOf manager.now pass.new }
     ensures open_unit { pass.new.open_unit ≡ pass.old.open_unit }
@@ -248,7 +258,7 @@ pub fn collect(
     pass: &mut Pass,
     diary: &mut Diary,
     id: u32,
-) -> Result<(), Trouble>
+) -> Result<(), ProgramFault>
     requires own { IsOf manager.now pass.old }
     requires free { pass.old.open_unit ≡ None }
     ensures own { IsOf manager.now pass.new }
@@ -264,7 +274,7 @@ pub fn collect_next(
     pass: &mut Pass,
     diary: &mut Diary,
     root: u32,
-) -> Result<(), Trouble>
+) -> Result<(), ProgramFault>
     requires own { IsOf manager.now pass.old }
     requires free { pass.old.open_unit ≡ None }
     ensures own { IsOf manager.now pass.new }
@@ -282,7 +292,7 @@ pub fn family(
     diary: &mut Diary,
     root: u32,
     from: u32,
-) -> Result<Option<u32>, Trouble>
+) -> Result<Option<u32>, ProgramFault>
     requires own { IsOf manager.now pass.old }
     ensures own { IsOf manager.now pass.new }
     ensures open_unit { pass.new.open_unit ≡ pass.old.open_unit }
@@ -298,7 +308,7 @@ pub fn next_error(
     pass: &mut Pass,
     diary: &mut Diary,
     from: u32,
-) -> Result<Option<u32>, Trouble>
+) -> Result<Option<u32>, ProgramFault>
     requires own { IsOf manager.now pass.old }
     ensures own { IsOf manager.now pass.new }
     ensures open_unit { pass.new.open_unit ≡ pass.old.open_unit }

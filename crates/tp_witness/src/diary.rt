@@ -1,7 +1,7 @@
 //! What a thread writes down.
 
 use crate::dice::Dice;
-use crate::trouble::Trouble;
+use crate::program_fault::ProgramFault;
 use std::alloc::Global;
 use std::sync::atomic::{AtomicU64, Ordering};
 use tp_model::types::{
@@ -29,8 +29,8 @@ pub enum Made {
         id: u32,
         answer: Result<Work, Refusal>,
     },
-    /// So many drafts: they go to one stage, the first with this body, and each further one with a body in which each
-    /// word but the key is one more.
+    /// So many drafts: they go to one stage, the first with this body, and each further one with a body in
+    /// which each word but the key is one more.
     Commit {
         drafts: u8,
         stage: u8,
@@ -142,7 +142,7 @@ impl<'a> Diary<'a> {
     }
 
     /// Writes down a call that has just come back.
-    pub fn note(&mut self, before: u64, made: Made) -> Result<(), Trouble> {
+    pub fn note(&mut self, before: u64, made: Made) -> Result<(), ProgramFault> {
         let after = self.now();
         self.entries.push(Entry {
             before,
@@ -152,7 +152,7 @@ impl<'a> Diary<'a> {
         Ok(())
     }
 
-    pub fn print<R: Print>(&self, rt: &R, thread: u8) -> Result<(), Trouble> {
+    pub fn print<R: Print>(&self, rt: &R, thread: u8) -> Result<(), ProgramFault> {
         for entry in self.entries.iter() {
             let Entry {
                 before,

@@ -1,6 +1,7 @@
-//! Four threads of clients, servers, supervisors, killers and cancellers at one manager. Each writes down its calls and
-//! their answers, and what a shared counter said before and after each; all is printed, with how each element
-//! stands at the end. What the logs say is for another to judge, who trusts nothing here: `tools/witness`.
+//! Four threads of clients, servers, supervisors, killers and cancellers at one manager. Each writes down its
+//! calls and their answers, and what a shared counter said before and after each; all is printed, with how
+//! each element stands at the end. What the logs say is for another to judge, who trusts nothing here:
+//! `tools/witness`.
 //!
 //! `tp_witness SEED ROUNDS TURNS` makes so many managers, one after another, and each thread takes so many
 //! turns at each.
@@ -13,12 +14,13 @@ mod calls;
 mod diary;
 mod dice;
 mod playing;
-mod trouble;
+mod program_fault;
 
 use calls::{abort, read, release};
 use diary::Diary;
 use dice::Dice;
 use playing::four;
+use program_fault::ProgramFault;
 use std::env;
 use std::process::ExitCode;
 use std::rt::Env;
@@ -26,9 +28,9 @@ use std::sync::atomic::AtomicU64;
 use std::thread::Threads;
 use tp_manager::{Keeper, Manager, Pass};
 use tp_model::types::Limits;
-use trouble::Trouble;
 
-/// Few rows and units, so that threads meet at the same elements and draw spare blocks, and run out of all three.
+/// Few rows and units, so that threads meet at the same elements and draw spare blocks, and run out of all
+/// three.
 const LIMITS: Limits = Limits {
     parts: 4,
     rows: 32,
@@ -47,7 +49,7 @@ fn main(rt: HostRuntime) -> ExitCode {
     }
 }
 
-fn rounds<R: AllocGlobal + Env + Print + Threads + Sync>(rt: &R) -> Result<(), Trouble> {
+fn rounds<R: AllocGlobal + Env + Print + Threads + Sync>(rt: &R) -> Result<(), ProgramFault> {
     let mut words = env::args(rt)?;
     let _program = words.next();
     let seed = number(words.next())?;
@@ -60,10 +62,10 @@ fn rounds<R: AllocGlobal + Env + Print + Threads + Sync>(rt: &R) -> Result<(), T
     Ok(())
 }
 
-fn number(word: Option<String>) -> Result<u32, Trouble> {
+fn number(word: Option<String>) -> Result<u32, ProgramFault> {
     match word {
-        Some(word) => word.parse::<u32>().map_err(|_| Trouble::NoNumber),
-        None => Err(Trouble::NoNumber),
+        Some(word) => word.parse::<u32>().map_err(|_| ProgramFault::NoNumber),
+        None => Err(ProgramFault::NoNumber),
     }
 }
 
@@ -72,7 +74,7 @@ fn play<R: AllocGlobal + Print + Threads + Sync>(
     rt: &R,
     seed: u64,
     turns: u32,
-) -> Result<(), Trouble> {
+) -> Result<(), ProgramFault> {
     let (manager, mut keeper) = Keeper::new(rt.alloc(), LIMITS)?;
     let (mut first, mut second, mut third, mut fourth) = passes(&manager, &mut keeper)?;
     let clock = AtomicU64::new(0);
@@ -110,7 +112,7 @@ fn play<R: AllocGlobal + Print + Threads + Sync>(
 }
 
 /// The four passes of a manager.
-fn passes(manager: &Manager, keeper: &mut Keeper) -> Result<(Pass, Pass, Pass, Pass), Trouble>
+fn passes(manager: &Manager, keeper: &mut Keeper) -> Result<(Pass, Pass, Pass, Pass), ProgramFault>
     requires kept { IsKeptBy manager.now keeper.old }
     ensures kept { IsKeptBy manager.now keeper.new }
     ensures own { IfOk result (λ all. IsOf manager.now all.0 × IsOf manager.now all.1
@@ -125,8 +127,9 @@ fn passes(manager: &Manager, keeper: &mut Keeper) -> Result<(Pass, Pass, Pass, P
     Ok((first, second, third, fourth))
 }
 
-/// How each element stands at the end, as the manager shows it. Of those that are held still about half are released.
-fn read_all(manager: &Manager, pass: &mut Pass, diary: &mut Diary) -> Result<(), Trouble>
+/// How each element stands at the end, as the manager shows it. Of those that are held still about half are
+/// released.
+fn read_all(manager: &Manager, pass: &mut Pass, diary: &mut Diary) -> Result<(), ProgramFault>
     requires own { IsOf manager.now pass.old }
     ensures own { IsOf manager.now pass.new }
 {
@@ -149,7 +152,7 @@ fn tell_account<R: Print>(
     manager: &Manager,
     keeper: &mut Keeper,
     passes: &mut [Pass],
-) -> Result<(), Trouble>
+) -> Result<(), ProgramFault>
     requires kept { IsKeptBy manager.now keeper.old }
     requires own { All (IsOf manager.now) passes.old }
 {

@@ -8,7 +8,7 @@ use crate::calls::{
     next_error, read, release, reply, requeue, submit,
 };
 use crate::diary::Diary;
-use crate::trouble::Trouble;
+use crate::program_fault::ProgramFault;
 use std::thread::{self, Threads, join_mut};
 use tp_manager::{Manager, Pass};
 use tp_model::types::Body;
@@ -32,7 +32,7 @@ pub fn four<R: Threads + Sync>(
     third_diary: &mut Diary,
     fourth_diary: &mut Diary,
     turns: u32,
-) -> Result<(), Trouble>
+) -> Result<(), ProgramFault>
     requires own { IsOf manager.now first.old × IsOf manager.now second.old
         × IsOf manager.now third.old × IsOf manager.now fourth.old }
     requires free { (first.old.open_unit ≡ None) × (second.old.open_unit ≡ None)
@@ -40,12 +40,12 @@ pub fn four<R: Threads + Sync>(
     ensures own { IsOf manager.now first.new × IsOf manager.now second.new
         × IsOf manager.now third.new × IsOf manager.now fourth.new }
 {
-    let mut one = || -> Result<(), Trouble>
+    let mut one = || -> Result<(), ProgramFault>
         requires { IsSync R.row × IsOf manager.now first.now × IsOf manager.now second.now
             × (first.now.open_unit ≡ None) × (second.now.open_unit ≡ None) }
         ensures { IsOf manager.entry.now first.exit.now × IsOf manager.entry.now second.exit.now }
     { pair(rt, manager, first, second, first_diary, second_diary, turns) };
-    let mut other = || -> Result<(), Trouble>
+    let mut other = || -> Result<(), ProgramFault>
         requires { IsSync R.row × IsOf manager.now third.now × IsOf manager.now fourth.now
             × (third.now.open_unit ≡ None) × (fourth.now.open_unit ≡ None) }
         ensures { IsOf manager.entry.now third.exit.now × IsOf manager.entry.now fourth.exit.now }
@@ -63,16 +63,16 @@ fn pair<R: Threads + Sync>(
     first_diary: &mut Diary,
     second_diary: &mut Diary,
     turns: u32,
-) -> Result<(), Trouble>
+) -> Result<(), ProgramFault>
     requires own { IsOf manager.now first.old × IsOf manager.now second.old }
     requires free { (first.old.open_unit ≡ None) × (second.old.open_unit ≡ None) }
     ensures own { IsOf manager.now first.new × IsOf manager.now second.new }
 {
-    let mut one = || -> Result<(), Trouble>
+    let mut one = || -> Result<(), ProgramFault>
         requires { IsOf manager.now first.now × (first.now.open_unit ≡ None) }
         ensures { IsOf manager.entry.now first.exit.now }
     { take_turns(manager, first, first_diary, turns) };
-    let mut other = || -> Result<(), Trouble>
+    let mut other = || -> Result<(), ProgramFault>
         requires { IsOf manager.now second.now × (second.now.open_unit ≡ None) }
         ensures { IsOf manager.entry.now second.exit.now }
     { take_turns(manager, second, second_diary, turns) };
@@ -86,7 +86,7 @@ fn take_turns(
     pass: &mut Pass,
     diary: &mut Diary,
     turns: u32,
-) -> Result<(), Trouble>
+) -> Result<(), ProgramFault>
     requires own { IsOf manager.now pass.old }
     requires free { pass.old.open_unit ≡ None }
     ensures own { IsOf manager.now pass.new }
@@ -111,7 +111,7 @@ fn meet(diary: &Diary) {
 }
 
 /// One or a few calls.
-fn take_turn(manager: &Manager, pass: &mut Pass, diary: &mut Diary) -> Result<(), Trouble>
+fn take_turn(manager: &Manager, pass: &mut Pass, diary: &mut Diary) -> Result<(), ProgramFault>
     requires own { IsOf manager.now pass.old }
     requires free { pass.old.open_unit ≡ None }
     ensures own { IsOf manager.now pass.new }
@@ -141,7 +141,7 @@ fn list_replies(
     pass: &mut Pass,
     diary: &mut Diary,
     root: u32,
-) -> Result<(), Trouble>
+) -> Result<(), ProgramFault>
     requires own { IsOf manager.now pass.old }
     requires free { pass.old.open_unit ≡ None }
     ensures own { IsOf manager.now pass.new }
@@ -160,7 +160,7 @@ fn take_reply(
     pass: &mut Pass,
     diary: &mut Diary,
     root: u32,
-) -> Result<(), Trouble>
+) -> Result<(), ProgramFault>
     requires own { IsOf manager.now pass.old }
     requires free { pass.old.open_unit ≡ None }
     ensures own { IsOf manager.now pass.new }
@@ -178,7 +178,7 @@ fn take_reply(
 }
 
 /// Two replies to the request that the thread was last at are collected.
-fn take_replies(manager: &Manager, pass: &mut Pass, diary: &mut Diary) -> Result<(), Trouble>
+fn take_replies(manager: &Manager, pass: &mut Pass, diary: &mut Diary) -> Result<(), ProgramFault>
     requires own { IsOf manager.now pass.old }
     requires free { pass.old.open_unit ≡ None }
     ensures own { IsOf manager.now pass.new }
@@ -190,7 +190,7 @@ fn take_replies(manager: &Manager, pass: &mut Pass, diary: &mut Diary) -> Result
 }
 
 /// Some elements of the request that the thread was last at, one after another.
-fn follow(manager: &Manager, pass: &mut Pass, diary: &mut Diary) -> Result<(), Trouble>
+fn follow(manager: &Manager, pass: &mut Pass, diary: &mut Diary) -> Result<(), ProgramFault>
     requires own { IsOf manager.now pass.old }
     ensures own { IsOf manager.now pass.new }
     ensures open_unit { pass.new.open_unit ≡ pass.old.open_unit }
@@ -208,7 +208,7 @@ fn follow(manager: &Manager, pass: &mut Pass, diary: &mut Diary) -> Result<(), T
 
 /// The first element that is parked, the first from that one on, and the first behind it; and another round
 /// for the first.
-fn list_errors(manager: &Manager, pass: &mut Pass, diary: &mut Diary) -> Result<(), Trouble>
+fn list_errors(manager: &Manager, pass: &mut Pass, diary: &mut Diary) -> Result<(), ProgramFault>
     requires own { IsOf manager.now pass.old }
     requires free { pass.old.open_unit ≡ None }
     ensures own { IsOf manager.now pass.new }
@@ -223,7 +223,7 @@ fn list_errors(manager: &Manager, pass: &mut Pass, diary: &mut Diary) -> Result<
 }
 
 /// A client's call.
-fn send(manager: &Manager, pass: &mut Pass, diary: &mut Diary) -> Result<(), Trouble>
+fn send(manager: &Manager, pass: &mut Pass, diary: &mut Diary) -> Result<(), ProgramFault>
     requires own { IsOf manager.now pass.old }
     requires free { pass.old.open_unit ≡ None }
     ensures own { IsOf manager.now pass.new }
@@ -245,7 +245,7 @@ fn some_body(diary: &mut Diary) -> Body {
 }
 
 /// A server's calls: a claim, a few reads while it holds what it claimed, and an end.
-fn serve(manager: &Manager, pass: &mut Pass, diary: &mut Diary) -> Result<(), Trouble>
+fn serve(manager: &Manager, pass: &mut Pass, diary: &mut Diary) -> Result<(), ProgramFault>
     requires own { IsOf manager.now pass.old }
     requires free { pass.old.open_unit ≡ None }
     ensures own { IsOf manager.now pass.new }
@@ -269,7 +269,7 @@ fn serve(manager: &Manager, pass: &mut Pass, diary: &mut Diary) -> Result<(), Tr
     }
 }
 
-fn work(manager: &Manager, pass: &mut Pass, diary: &mut Diary) -> Result<(), Trouble>
+fn work(manager: &Manager, pass: &mut Pass, diary: &mut Diary) -> Result<(), ProgramFault>
     requires own { IsOf manager.now pass.old }
     requires busy { IsSome pass.old.open_unit }
     ensures own { IsOf manager.now pass.new }
@@ -307,7 +307,7 @@ fn linger(diary: &mut Diary) {
 }
 
 /// A killer's calls: a few reads, and a kill of what they may have told is held.
-fn hunt(manager: &Manager, pass: &mut Pass, diary: &mut Diary) -> Result<(), Trouble>
+fn hunt(manager: &Manager, pass: &mut Pass, diary: &mut Diary) -> Result<(), ProgramFault>
     requires own { IsOf manager.now pass.old }
     requires free { pass.old.open_unit ≡ None }
     ensures own { IsOf manager.now pass.new }
@@ -319,7 +319,7 @@ fn hunt(manager: &Manager, pass: &mut Pass, diary: &mut Diary) -> Result<(), Tro
 }
 
 /// A supervisor's calls: a few reads, and a release of what they may have told is held.
-fn supervise(manager: &Manager, pass: &mut Pass, diary: &mut Diary) -> Result<(), Trouble>
+fn supervise(manager: &Manager, pass: &mut Pass, diary: &mut Diary) -> Result<(), ProgramFault>
     requires own { IsOf manager.now pass.old }
     requires free { pass.old.open_unit ≡ None }
     ensures own { IsOf manager.now pass.new }
@@ -331,7 +331,7 @@ fn supervise(manager: &Manager, pass: &mut Pass, diary: &mut Diary) -> Result<()
 }
 
 /// A few reads.
-fn look_around(manager: &Manager, pass: &mut Pass, diary: &mut Diary) -> Result<(), Trouble>
+fn look_around(manager: &Manager, pass: &mut Pass, diary: &mut Diary) -> Result<(), ProgramFault>
     requires own { IsOf manager.now pass.old }
     ensures own { IsOf manager.now pass.new }
     ensures open_unit { pass.new.open_unit ≡ pass.old.open_unit }

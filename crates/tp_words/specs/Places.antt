@@ -21,8 +21,8 @@ claim_place i = body_place i BODY_WORDS
 abbrev pub unit_place : Limits → ℕ → ℕ
 unit_place l u = head_place (rows_of l) + u
 
--- the place of the mark of kind s of part p, or of the spare rows where p is the number of parts, behind the words of
--- all units: those of one kind lie side by side
+-- the place of the mark of kind s of part p, or of the spare rows where p is the number of parts, behind the
+-- words of all units: those of one kind lie side by side
 abbrev pub mark_place : Limits → ℕ → ℕ → ℕ
 mark_place l s p = head_place (rows_of l) + units_of l + MARK_LINE * s + p
 

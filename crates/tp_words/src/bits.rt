@@ -1,7 +1,8 @@
 //! The bits of the words, each said once. Bits are counted from the least.
 //!
-//! A field's constant is what a value of 1 in that field counts in the word, so a word is the sum of its fields, each
-//! times its constant, and a field is read by `word % NEXT / OWN`, where `NEXT` is the constant of the field above it.
+//! A field's constant is what a value of 1 in that field counts in the word, so a word is the sum of its
+//! fields, each times its constant, and a field is read by `word % NEXT / OWN`, where `NEXT` is the constant
+//! of the field above it.
 
 /// The head of a row that has neither an element nor a draft.
 pub const HEAD_EMPTY: u64 = 0;
@@ -30,7 +31,8 @@ pub const CLAIM_TAKEN: u64 = 1;
 /// Claim, bits 0 and 1: the element was killed. The attempt, the unit and the round stay as they were.
 pub const CLAIM_KILLED: u64 = 2;
 
-/// Claim, bits 0 and 1: the element was given another round, and not taken since. The attempt and the unit are 0.
+/// Claim, bits 0 and 1: the element was given another round, and not taken since. The attempt and the unit
+/// are 0.
 pub const CLAIM_AGAIN: u64 = 3;
 
 /// Claim, bits 2 to 5: how many units have taken the element in its round, at most 7.
@@ -57,17 +59,8 @@ pub const UNIT_COUNT: u64 = 1 << 2;
 /// Unit, bits 5 to 20: the id of its first output, and 0 where there is none.
 pub const UNIT_FIRST: u64 = 1 << 5;
 
-/// The most attempts that a claim word tells of.
-pub const MAX_ATTEMPT: u64 = 7;
-
-/// The last round that a claim word tells of.
-pub const MAX_ROUND: u64 = 3;
-
 /// The greatest number of a unit: a head has room for the number plus 1.
 pub const MAX_UNIT: u64 = 65534;
 
 /// The greatest id of an element.
 pub const MAX_ID: u64 = 65535;
-
-/// The most outputs of a unit.
-pub const MAX_OUTPUTS: u64 = 4;

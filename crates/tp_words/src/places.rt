@@ -1,9 +1,10 @@
-//! Where the words stand in the table: those of each row, then one for each unit, then the marks, one of each kind
-//! for each part and one for all spare rows, then one that counts drawn blocks. The rows of the parts come first, and
-//! behind them those of the spare blocks.
+//! Where the words stand in the table: those of each row, then one for each unit, then the marks, one of each
+//! kind for each part and one for all spare rows, then one that counts drawn blocks. The rows of the parts
+//! come first, and behind them those of the spare blocks.
 ghost use Rattle.std.specs.Prelude.{◌≡◌, ◌+◌, ◌*◌, ◌<◌, ◌≤◌, ◌↔◌, ℕ, IsOk, IfOk, Err};
 ghost use Rattle.tp_model.specs.Steps.{AreLimits};
-ghost use Rattle.tp_words.specs.Places.{mark_place as marks_from, unit_place as units_from, IsThere, MarkWord, PlacesDiffer, PlacesInside};
+ghost use Rattle.tp_words.specs.Places.{mark_place as marks_from, unit_place as units_from, IsThere};
+ghost use Rattle.tp_words.specs.Places.{MarkWord, PlacesDiffer, PlacesInside};
 
 use tp_model::types::{BLOCK_ROWS, BODY_WORDS, Limits, Refusal};
 
@@ -13,8 +14,8 @@ pub const ROW_WORDS: usize = BODY_WORDS + 2;
 /// How many kinds of marks there are: that of all stages but replies, and one for each stage from 1 to 15.
 pub const MARK_KINDS: usize = 16;
 
-/// How many words the marks of one kind have: one for each of the most parts and one for the spare rows, in whole
-/// lines of a cache.
+/// How many words the marks of one kind have: one for each of the most parts and one for the spare rows, in
+/// whole lines of a cache.
 pub const MARK_LINE: usize = 40;
 
 /// The places of the words of a table. It has at most 94,849 words.
@@ -22,7 +23,8 @@ pub const MARK_LINE: usize = 40;
 pub struct Places {
     /// What the table has room for, each limit in its range.
     pub limits: Limits,
-    /// The places of the first unit's word and of the first mark, reckoned once: nearly every step asks for one.
+    /// The places of the first unit's word and of the first mark, reckoned once: nearly every step asks for
+    /// one.
     first_unit: u32,
     first_mark: u32,
     pub ghost valid: { AreLimits limits },
@@ -32,7 +34,8 @@ pub struct Places {
 
 impl Places {
     ghost use Rattle.tp_model.specs.Steps.{block_first, part_rows, rows_of, units_of, IsArea};
-    ghost use Rattle.tp_words.specs.Places.{head_place, body_place, claim_place, unit_place, mark_place, drawn_place, size_of};
+    ghost use Rattle.tp_words.specs.Places.{head_place, body_place, claim_place, unit_place, mark_place};
+    ghost use Rattle.tp_words.specs.Places.{drawn_place, size_of};
     ghost use Rattle.tp_model.specs.declared.types.TheConstants.{BODY_WORDS};
     ghost use Rattle.tp_words.specs.declared.places.TheConstants.{MARK_KINDS};
     ghost use Rattle.tp_model.specs.declared.types.Refusal.TheVariants as Refusal;
@@ -168,8 +171,8 @@ impl Places {
     }
 }
 
-/// Places of different words differ, and each lies below the number of words. The function does nothing: its contract
-/// is the law.
+/// Places of different words differ, and each lies below the number of words. The function does nothing: its
+/// contract is the law.
 pub fn places_differ()
     ensures differ { PlacesDiffer }
     ensures inside { PlacesInside }

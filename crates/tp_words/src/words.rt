@@ -1,8 +1,9 @@
 //! The words as typed values, and as numbers.
 //!
-//! `Head`, `Claim` and `UnitWord` can each hold more than the words tell; `pack` asks for a value that a word can tell,
-//! and `unpack` answers such values alone. `unpack` undoes `pack`, and `pack` undoes `unpack`. `read` is the same for a
-//! number of which it is proved that it is such a word. A `FoundClaim` is a claim beside the word that tells it.
+//! `Head`, `Claim` and `UnitWord` can each hold more than the words tell; `pack` asks for a value that a word
+//! can tell, and `unpack` answers such values alone. `unpack` undoes `pack`, and `pack` undoes `unpack`.
+//! `read` is the same for a number of which it is proved that it is such a word. A `FoundClaim` is a claim
+//! beside the word that tells it.
 ghost use Rattle.std.specs.Prelude.{◌≡◌, ◌↔◌, ℕ, IfSome, IsSome, Option, Some};
 ghost use Rattle.std.specs.Option.{option_map};
 ghost use Rattle.tp_model.specs.History.{UnitEnd};
@@ -11,10 +12,10 @@ ghost use Rattle.tp_words.specs.Words.{pack_claim, claim_value, IsFitClaim};
 
 use crate::bits::{
     CLAIM_AGAIN, CLAIM_ATTEMPT, CLAIM_FREE, CLAIM_KILLED, CLAIM_ROUND, CLAIM_TAKEN, CLAIM_UNIT,
-    HEAD_BY, HEAD_EMPTY, HEAD_PRESENT, HEAD_ROOT, HEAD_STAGE, HEAD_VOID, MAX_ATTEMPT, MAX_ID,
-    MAX_OUTPUTS, MAX_ROUND, MAX_UNIT, UNIT_ABORTED, UNIT_COMMITTED, UNIT_COUNT, UNIT_FIRST,
-    UNIT_UNDECIDED,
+    HEAD_BY, HEAD_EMPTY, HEAD_PRESENT, HEAD_ROOT, HEAD_STAGE, HEAD_VOID, MAX_ID, MAX_UNIT,
+    UNIT_ABORTED, UNIT_COMMITTED, UNIT_COUNT, UNIT_FIRST, UNIT_UNDECIDED,
 };
+use tp_model::types::{MAX_ATTEMPTS, MAX_OUTPUTS, MAX_ROUNDS};
 
 /// What the head word of a row tells.
 #[derive(Clone, Copy, Debug, PartialEq, Eq)]
@@ -24,13 +25,13 @@ pub enum Head {
     /// The row was left behind empty, and never has either.
     Void,
     /// The row has an element, or the draft of one.
-    There {
+    Filled {
         /// The stage whose servers take it, 1 to 15.
         stage: u8,
         /// The id of the client's element that it goes back to.
         root: u16,
-        /// The unit that makes it, at most 65534, or `None` for a client. What names a unit is born when that unit
-        /// commits.
+        /// The unit that makes it, at most 65534, or `None` for a client. What names a unit is born when that
+        /// unit commits.
         by: Option<u16>,
     },
 }
@@ -40,11 +41,12 @@ pub enum Head {
 pub enum Claim {
     /// The element was never taken, or the row has none.
     Free,
-    /// The unit was the `attempt`-th to take the element in its round. `attempt` is 1 to 7, `unit` at most 65534,
+    /// The unit was the `attempt`-th to take the element in its round. `attempt` is 1 to 7, `unit` at most
+    /// 65534,
     /// `round` at most 3.
     Taken { attempt: u8, unit: u16, round: u8 },
-    /// The element was killed after that; attempt and unit are 0 where it was not taken in its round. `attempt` is at
-    /// most 7, `unit` at most 65534, `round` at most 3.
+    /// The element was killed after that; attempt and unit are 0 where it was not taken in its round.
+    /// `attempt` is at most 7, `unit` at most 65534, `round` at most 3.
     Killed { attempt: u8, unit: u16, round: u8 },
     /// The element was given another round, 1 to 3, and was not taken since.
     Again { round: u8 },
@@ -64,8 +66,8 @@ pub struct FoundClaim {
 pub enum UnitWord {
     /// The unit was never used, or it is open.
     Undecided,
-    /// The unit was committed with `count` outputs, at most 4, with the ids from `first` on. `first` is 0 where there
-    /// is none.
+    /// The unit was committed with `count` outputs, at most 4, with the ids from `first` on. `first` is 0
+    /// where there is none.
     Committed { first: u16, count: u8 },
     /// The unit was aborted.
     Aborted,
@@ -74,7 +76,7 @@ pub enum UnitWord {
 impl Head {
     ghost use Rattle.tp_words.specs.Words.{pack_head, IsFitHead, IsHeadWord};
     ghost use Rattle.tp_words.specs.declared.words.Head.{Head};
-    ghost use Rattle.tp_words.specs.declared.words.Head.TheVariants.{There};
+    ghost use Rattle.tp_words.specs.declared.words.Head.TheVariants.{Filled};
 
     /// The word that tells this.
     #[inline(always)]
@@ -85,7 +87,7 @@ impl Head {
         match self {
             Head::Empty => HEAD_EMPTY,
             Head::Void => HEAD_VOID,
-            Head::There { stage, root, by } => {
+            Head::Filled { stage, root, by } => {
                 let by = match by {
                     None => 0,
                     Some(unit) => unit as u64 + 1,
@@ -109,7 +111,7 @@ impl Head {
             return Head::Void;
         }
         let by = word / HEAD_BY;
-        Head::There {
+        Head::Filled {
             stage: (word % HEAD_ROOT / HEAD_STAGE) as u8,
             root: (word % HEAD_BY / HEAD_ROOT) as u16,
             by: if by == 0 { None } else { Some((by - 1) as u16) },
@@ -120,7 +122,8 @@ impl Head {
     #[inline(always)]
     pub fn stage(word: u64) -> u8
         requires { (h : Head) × IsFitHead h × (word ≡ pack_head h) }
-        ensures { (stage root : ℕ) (by : Option ℕ) → IsFitHead (There stage root by) → word ≡ pack_head (There stage root by)
+        ensures { (stage root : ℕ) (by : Option ℕ) → IsFitHead (Filled stage root by)
+            → word ≡ pack_head (Filled stage root by)
             → result ≡ stage }
     {
         (word % HEAD_ROOT / HEAD_STAGE) as u8
@@ -146,7 +149,7 @@ impl Head {
             return None;
         }
         let by = if by == 0 { None } else { Some((by - 1) as u16) };
-        Some(Head::There {
+        Some(Head::Filled {
             stage: stage as u8,
             root: root as u16,
             by,
@@ -243,15 +246,17 @@ impl Claim {
     /// What the word tells, or `None` for a number that is no claim word.
     #[inline(always)]
     pub fn unpack(word: u64) -> Option<Claim>
-        ensures of_pack { (w : ClaimWord) → IsFitClaim w → word ≡ pack_claim w → option_map claim_value result ≡ Some w }
-        ensures to_pack { IfSome result (λ c. IsFitClaim (claim_value c) × (word ≡ pack_claim (claim_value c))) }
+        ensures of_pack { (w : ClaimWord) → IsFitClaim w → word ≡ pack_claim w
+            → option_map claim_value result ≡ Some w }
+        ensures to_pack { IfSome result (λ c. IsFitClaim (claim_value c)
+            × (word ≡ pack_claim (claim_value c))) }
         ensures accepted { IsSome result ↔ IsClaimWord word }
     {
         let kind = word % CLAIM_ATTEMPT;
         let attempt = word % CLAIM_UNIT / CLAIM_ATTEMPT;
         let unit = word % CLAIM_ROUND / CLAIM_UNIT;
         let round = word / CLAIM_ROUND;
-        if attempt > MAX_ATTEMPT || unit > MAX_UNIT || round > MAX_ROUND {
+        if attempt > u64::from(MAX_ATTEMPTS) || unit > MAX_UNIT || round > u64::from(MAX_ROUNDS) {
             return None;
         }
         let attempt = attempt as u8;
@@ -373,14 +378,15 @@ impl UnitWord {
     /// What the word tells, or `None` for a number that is no word of a unit.
     #[inline(always)]
     pub fn unpack(word: u64) -> Option<UnitWord>
-        ensures of_pack { (w : Option UnitEnd) → IsFitUnit w → word ≡ pack_unit w → option_map unit_value result ≡ Some w }
+        ensures of_pack { (w : Option UnitEnd) → IsFitUnit w → word ≡ pack_unit w
+            → option_map unit_value result ≡ Some w }
         ensures to_pack { IfSome result (λ u. IsFitUnit (unit_value u) × (word ≡ pack_unit (unit_value u))) }
         ensures accepted { IsSome result ↔ IsUnitWord word }
     {
         let kind = word % UNIT_COUNT;
         let count = word % UNIT_FIRST / UNIT_COUNT;
         let first = word / UNIT_FIRST;
-        if count > MAX_OUTPUTS || first > MAX_ID {
+        if count > MAX_OUTPUTS as u64 || first > MAX_ID {
             return None;
         }
         let count = count as u8;

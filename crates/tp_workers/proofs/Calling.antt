@@ -1,7 +1,7 @@
 -- Calls of one worker, and one call more.
 use Rattle.std.proofs.Common.{◌≡◌, ℕ, ◌+◌, List, [], ◌∷◌, ◌++◌, refl, sym, ◌∙◌, ap, ap₂, subst, length, length-append, arith, zero-add}
 use Rattle.tp_workers.specs.declared.tally.Shift.{Shift}
-use Rattle.tp_workers.specs.Calling.{Called, Chain, tally}
+use Rattle.tp_workers.specs.Calling.{MadeCalls, Chain, tally}
 use Rattle.tp_workers.specs.Tally.{none, plus, total}
 use Rattle.tp_workers.proofs.Counts.{none_plus, plus_assoc, plus_none, total_plus}
 
@@ -14,13 +14,13 @@ module _ {S A : Type 0} (R : S → A → S → Type 0) (count : A → Shift) whe
   tally_append [] ys = sym (none_plus (tally count ys))
   tally_append (a ∷ xs) ys = ap (λ (s : Shift). plus (count a) s) (tally_append xs ys) ∙ sym (plus_assoc (count a) (tally count xs) (tally count ys))
 
-  pub called_none : (x : S) → Called R count 0 x none x
+  pub called_none : (x : S) → MadeCalls R count 0 x none x
   called_none x = record { answers = []; each = refl; made = refl; counted = refl }
 
-  pub called_one : (a : A) (x y : S) → R x a y → Called R count 1 x (count a) y
+  pub called_one : (a : A) (x y : S) → R x a y → MadeCalls R count 1 x (count a) y
   called_one a x y r = record { answers = a ∷ []; each = (y, r, refl); made = refl; counted = sym (plus_none (count a)) }
 
-  pub called_then : (m n : ℕ) (x y z : S) (s t : Shift) → Called R count m x s y → Called R count n y t z → Called R count (m + n) x (plus s t) z
+  pub called_then : (m n : ℕ) (x y z : S) (s t : Shift) → MadeCalls R count m x s y → MadeCalls R count n y t z → MadeCalls R count (m + n) x (plus s t) z
   called_then m n x y z s t h k = record {
     answers = h.answers ++ k.answers;
     each = chain_append h.answers k.answers x y z h.each k.each;
@@ -29,16 +29,16 @@ module _ {S A : Type 0} (R : S → A → S → Type 0) (count : A → Shift) whe
   }
 
   -- one call more, counted by the code
-  pub called_more : (n : ℕ) (a : A) (x y z : S) (s t u : Shift) → Called R count n x s y → R y a z → t ≡ count a → u ≡ plus s t → Called R count (n + 1) x u z
+  pub called_more : (n : ℕ) (a : A) (x y z : S) (s t u : Shift) → MadeCalls R count n x s y → R y a z → t ≡ count a → u ≡ plus s t → MadeCalls R count (n + 1) x u z
   called_more n a x y z s t u h r one both =
-      subst (λ (w : Shift). Called R count (n + 1) x w z) (sym (both ∙ ap (plus s) one)) (called_then n 1 x y z s (count a) h (called_one a y z r))
+      subst (λ (w : Shift). MadeCalls R count (n + 1) x w z) (sym (both ∙ ap (plus s) one)) (called_then n 1 x y z s (count a) h (called_one a y z r))
 
   total_tally : ((a : A) → total (count a) ≡ 1) → (xs : List A) → total (tally count xs) ≡ length xs
   total_tally one [] = refl
   total_tally one (a ∷ xs) = total_plus (count a) (tally count xs) ∙ omega (arith, one a, total_tally one xs)
 
   -- each call is counted once
-  pub called_total : ((a : A) → total (count a) ≡ 1) → (n : ℕ) (x y : S) (s : Shift) → Called R count n x s y → total s ≡ n
+  pub called_total : ((a : A) → total (count a) ≡ 1) → (n : ℕ) (x y : S) (s : Shift) → MadeCalls R count n x s y → total s ≡ n
   called_total one n x y s h = ap total h.counted ∙ total_tally one h.answers ∙ h.made
 
   chain_gains : (f : Shift → ℕ) (measure : S → ℕ) → f none ≡ 0 → ((a b : Shift) → f (plus a b) ≡ f a + f b) → ((x : S) (a : A) (y : S) → R x a y → f (count a) + measure x ≡ measure y)
@@ -49,7 +49,7 @@ module _ {S A : Type 0} (R : S → A → S → Type 0) (count : A → Shift) whe
 
   -- what each call adds to a measure, all calls add to it
   pub called_gains : (f : Shift → ℕ) (measure : S → ℕ) → f none ≡ 0 → ((a b : Shift) → f (plus a b) ≡ f a + f b) → ((x : S) (a : A) (y : S) → R x a y → f (count a) + measure x ≡ measure y)
-      → (n : ℕ) (x y : S) (s : Shift) → Called R count n x s y → f s + measure x ≡ measure y
+      → (n : ℕ) (x y : S) (s : Shift) → MadeCalls R count n x s y → f s + measure x ≡ measure y
   called_gains f measure zero sums each n x y s h =
       ap (λ (c : Shift). f c + measure x) h.counted ∙ chain_gains f measure zero sums each h.answers x y h.each
 
@@ -58,7 +58,7 @@ module _ {S A : Type 0} (R : S → A → S → Type 0) (count : A → Shift) whe
   chain_keeps P same then each (a ∷ xs) x y h = then x h.0 y (each x a h.0 h.1) (chain_keeps P same then each xs h.0 y h.2)
 
   -- what each call keeps, all calls keep
-  pub called_keeps : (P : S → S → Type 0) → ((x : S) → P x x) → ((x y z : S) → P x y → P y z → P x z) → ((x : S) (a : A) (y : S) → R x a y → P x y) → (n : ℕ) (x y : S) (s : Shift) → Called R count n x s y → P x y
+  pub called_keeps : (P : S → S → Type 0) → ((x : S) → P x x) → ((x y z : S) → P x y → P y z → P x z) → ((x : S) (a : A) (y : S) → R x a y → P x y) → (n : ℕ) (x y : S) (s : Shift) → MadeCalls R count n x s y → P x y
   called_keeps P same then each n x y s h = chain_keeps P same then each h.answers x y h.each
 
   tally_keeps : (P : Shift → Type 0) → P none → ((a b : Shift) → P a → P b → P (plus a b)) → ((a : A) → P (count a)) → (xs : List A) → P (tally count xs)
@@ -66,5 +66,5 @@ module _ {S A : Type 0} (R : S → A → S → Type 0) (count : A → Shift) whe
   tally_keeps P zero sums each (a ∷ xs) = sums (count a) (tally count xs) (each a) (tally_keeps P zero sums each xs)
 
   -- what holds of each call's count, and of sums, holds of all counts
-  pub called_counts : (P : Shift → Type 0) → P none → ((a b : Shift) → P a → P b → P (plus a b)) → ((a : A) → P (count a)) → (n : ℕ) (x y : S) (s : Shift) → Called R count n x s y → P s
+  pub called_counts : (P : Shift → Type 0) → P none → ((a b : Shift) → P a → P b → P (plus a b)) → ((a : A) → P (count a)) → (n : ℕ) (x y : S) (s : Shift) → MadeCalls R count n x s y → P s
   called_counts P zero sums each n x y s h = subst P (sym h.counted) (tally_keeps P zero sums each h.answers)

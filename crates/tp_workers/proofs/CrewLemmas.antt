@@ -13,7 +13,7 @@ use Rattle.std.specs.declared.alloc.Global.{Global}
 use Rattle.std.specs.declared.dyn_box.DynBox.{DynBox}
 use Rattle.tp_server.specs.Behaviour.{Behaviour}
 use Rattle.tp_server.specs.Pending.{Pending}
-use Rattle.tp_manager.specs.Accounts.{AreAll, AreFrom, Attends}
+use Rattle.tp_manager.specs.Accounts.{AreAll, AreNumberedFrom, Attends}
 use Rattle.tp_manager.specs.Shown.{IsOf}
 use Rattle.tp_manager.specs.Shown.{IsKeptBy, KeeperShown, ManagerShown, PassShown, view_in}
 use Rattle.tp_desk.specs.Serving.{AreEnded, Leaves, gained}
@@ -34,7 +34,7 @@ use Rattle.tp_workers.specs.Free.{IsFreePass, numbers}
 use Rattle.tp_workers.specs.Ran.{RanAll, RanEach}
 
 -- one pass more, with the next number
-from_more : (c : ℕ) (ps : List PassShown) (p : PassShown) → p.number ≡ c + length ps → AreFrom c ps → AreFrom c (ps ++ p ∷ [])
+from_more : (c : ℕ) (ps : List PassShown) (p : PassShown) → p.number ≡ c + length ps → AreNumberedFrom c ps → AreNumberedFrom c (ps ++ p ∷ [])
 from_more c [] p next all = (omega (arith, next), tt)
 from_more c (q ∷ ps) p next all = (all.0, from_more (c + 1) ps p (omega (arith, next)) all.1)
 
@@ -44,7 +44,7 @@ all_more old new ps p next given all =
     (omega (arith, long, all.0, given), from_more 0 ps p (omega (arith, next, all.0)) all.1)
 
 -- others with the same numbers
-from_same : (c : ℕ) (ps qs : List PassShown) → numbers qs ≡ numbers ps → AreFrom c ps → AreFrom c qs
+from_same : (c : ℕ) (ps qs : List PassShown) → numbers qs ≡ numbers ps → AreNumberedFrom c ps → AreNumberedFrom c qs
 from_same c [] [] same all = tt
 from_same c [] (q ∷ qs) same all = absurd cc
 from_same c (p ∷ ps) [] same all = absurd cc

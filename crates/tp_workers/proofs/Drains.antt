@@ -10,7 +10,7 @@ use Rattle.tp_desk.specs.Serving.{AreEnded, Leaves, Serves, gained}
 use Rattle.tp_desk.proofs.Serves.{ended_none, leaves_then, serves_none}
 use Rattle.tp_desk.specs.declared.order.Order.{Order}
 use Rattle.tp_workers.specs.declared.tally.Shift.{Shift}
-use Rattle.tp_workers.specs.Calling.{Called}
+use Rattle.tp_workers.specs.Calling.{MadeCalls}
 use Rattle.tp_workers.specs.Desks.{IsDeskOf, Place, TakesTurn, place}
 use Rattle.tp_workers.specs.Drained.{DeskDrained, EndsIdle, LastTurn, TookTurn}
 use Rattle.tp_workers.specs.Free.{IsFreePass, numbers}
@@ -57,7 +57,7 @@ module _ {B : Type 0} (behaviour : B → Behaviour) (registers : B → List ℕ)
   -- turns were taken so far
   pub record Going (old : PassShown × B) (counts : Shift) (new : PassShown × B) : Type 0 where
     pub taken : ℕ
-    pub calls : Called (TakesTurn order m.limits) turn_count taken (at old) counts (at new)
+    pub calls : MadeCalls (TakesTurn order m.limits) turn_count taken (at old) counts (at new)
     pub few : counts.done ≤ 1024
     pub serves : Serves (behaviour old.1) (registers old.1) (registers new.1) old.0 new.0
     pub ended : AreEnded None (gained old.0.mine new.0.mine) new.0.seen
@@ -72,7 +72,7 @@ module _ {B : Type 0} (behaviour : B → Behaviour) (registers : B → List ℕ)
   few_more : (x y z : PassShown × B) (s t : Shift) → Going x s y → Took y t z → s.done + t.done ≤ 1024
   few_more x y z s t h k =
       let same : t.done ≡ (turn_count k.turned).done = ap (λ (u : Shift). u.done) k.counted in
-      omega (arith, same, turns_claim order m.limits h.taken (at x) (at y) s h.calls, turn_room order m.limits (behaviour y.1) (registers y.1) y.0 z.0 k.turned k.turn.answer, k.limits.units.1)
+      omega (arith, same, turns_claim order m.limits h.taken (at x) (at y) s h.calls, turn_room order m.limits (behaviour y.1) (registers y.1) y.0 z.0 k.turned (registers z.1) k.turn.answer, k.limits.units.1)
 
   leaves_on : (x y z : PassShown × B) (s t : Shift) → Going x s y → Took y t z → Leaves (behaviour x.1) (registers x.1) (registers z.1) x.0 z.0
   leaves_on x y z s t h k =
@@ -110,7 +110,7 @@ module _ {B : Type 0} (behaviour : B → Behaviour) (registers : B → List ℕ)
   turn_left : (x : PassShown × B) (s : Shift) (y : PassShown × B) → Took x s y → claimed s + left_of y.0 ≡ left_of x.0
   turn_left x s y k =
       let same : claimed s ≡ claimed (turn_count k.turned) = ap claimed k.counted in
-      omega (arith, same, turn_claims order m.limits (behaviour x.1) (registers x.1) x.0 y.0 k.turned k.turn.answer, turn_room order m.limits (behaviour x.1) (registers x.1) x.0 y.0 k.turned k.turn.answer)
+      omega (arith, same, turn_claims order m.limits (behaviour x.1) (registers x.1) x.0 y.0 k.turned (registers y.1) k.turn.answer, turn_room order m.limits (behaviour x.1) (registers x.1) x.0 y.0 k.turned (registers y.1) k.turn.answer)
 
   round_left : (xs : List (PassShown × B)) (s : Shift) (ys : List (PassShown × B)) → RanAll Took xs s ys → claimed s + sum_by (λ (x : PassShown × B). left_of x.0) ys ≡ sum_by (λ (x : PassShown × B). left_of x.0) xs
   round_left [] s [] h = omega (arith, ap claimed h)

@@ -14,7 +14,7 @@ use Rattle.tp_model.proofs.Bridges.{begins_refl, begins_trans}
 use Rattle.tp_manager.specs.Calls.{AreOfHolders, KillFails, OnlyAborts}
 use Rattle.tp_manager.specs.Shown.{PassShown}
 use Rattle.tp_workers.specs.declared.tally.Shift.{Shift}
-use Rattle.tp_workers.specs.Calling.{Called}
+use Rattle.tp_workers.specs.Calling.{MadeCalls}
 use Rattle.tp_workers.specs.Gains.{GainsOnly, is_kill, kills_in}
 use Rattle.tp_workers.specs.Killers.{IsKillWork, Killing, KillsNext, KillsOnce}
 use Rattle.tp_workers.specs.Tally.{kill_count, none, plus, refusal_count, total}
@@ -162,24 +162,24 @@ module _ (l : Limits) where
       omega (arith, aborted, counted_one is_kill (p.mine ++ h.told.aborts) q.mine (Kill p.number id) 1 h.told.mine refl)
   kill_counted id p (Err why) q h = omega (arith, none_killed why, fails_counted id p q why h.told)
 
-  pub total_kills : (n : ℕ) (x y : Killing) (s : Shift) → Called (KillsNext l) kill_count n x s y → total s ≡ n
+  pub total_kills : (n : ℕ) (x y : Killing) (s : Shift) → MadeCalls (KillsNext l) kill_count n x s y → total s ≡ n
   total_kills n x y s h = called_total (KillsNext l) kill_count one_kill n x y s h
 
-  pub kills_counted : (n : ℕ) (x y : Killing) (s : Shift) → Called (KillsNext l) kill_count n x s y → s.killed + kills_in x.pass ≡ kills_in y.pass
+  pub kills_counted : (n : ℕ) (x y : Killing) (s : Shift) → MadeCalls (KillsNext l) kill_count n x s y → s.killed + kills_in x.pass ≡ kills_in y.pass
   kills_counted n x y s h =
       called_gains (KillsNext l) kill_count (λ (c : Shift). c.killed) (λ (k : Killing). kills_in k.pass) refl (λ a b. refl)
       (λ x r y r'. kill_counted x.id x.pass r y.pass r'.call) n x y s h
 
-  pub kills_gained : (n : ℕ) (x y : Killing) (s : Shift) → Called (KillsNext l) kill_count n x s y → Did x y
+  pub kills_gained : (n : ℕ) (x y : Killing) (s : Shift) → MadeCalls (KillsNext l) kill_count n x s y → Did x y
   kills_gained n x y s h = called_keeps (KillsNext l) kill_count Did did_none did_then did_once n x y s h
 
-  pub kills_none : (first : ℕ) (p : PassShown) → Called (KillsNext l) kill_count (first - first) (record { id = first; pass = p }) none (record { id = first; pass = p })
+  pub kills_none : (first : ℕ) (p : PassShown) → MadeCalls (KillsNext l) kill_count (first - first) (record { id = first; pass = p }) none (record { id = first; pass = p })
   kills_none first p =
-      subst (λ (n : ℕ). Called (KillsNext l) kill_count n (record { id = first; pass = p }) none (record { id = first; pass = p })) (omega arith) (called_none (KillsNext l) kill_count (record { id = first; pass = p }))
+      subst (λ (n : ℕ). MadeCalls (KillsNext l) kill_count n (record { id = first; pass = p }) none (record { id = first; pass = p })) (omega arith) (called_none (KillsNext l) kill_count (record { id = first; pass = p }))
 
   -- one id more
-  pub kills_more : (first id : ℕ) (p q q' : PassShown) (r : Result Killed Refusal) (s t u : Shift) → first ≤ id → Called (KillsNext l) kill_count (id - first) (record { id = first; pass = p }) s (record { id = id; pass = q })
-      → KillsOnce l id q r q' → t ≡ kill_count r → u ≡ plus s t → Called (KillsNext l) kill_count (id + 1 - first) (record { id = first; pass = p }) u (record { id = id + 1; pass = q' })
+  pub kills_more : (first id : ℕ) (p q q' : PassShown) (r : Result Killed Refusal) (s t u : Shift) → first ≤ id → MadeCalls (KillsNext l) kill_count (id - first) (record { id = first; pass = p }) s (record { id = id; pass = q })
+      → KillsOnce l id q r q' → t ≡ kill_count r → u ≡ plus s t → MadeCalls (KillsNext l) kill_count (id + 1 - first) (record { id = first; pass = p }) u (record { id = id + 1; pass = q' })
   kills_more first id p q q' r s t u low h call is both =
-      subst (λ (n : ℕ). Called (KillsNext l) kill_count n (record { id = first; pass = p }) u (record { id = id + 1; pass = q' })) (omega arith)
+      subst (λ (n : ℕ). MadeCalls (KillsNext l) kill_count n (record { id = first; pass = p }) u (record { id = id + 1; pass = q' })) (omega arith)
       (called_more (KillsNext l) kill_count (id - first) r (record { id = first; pass = p }) (record { id = id; pass = q }) (record { id = id + 1; pass = q' }) s t u h (record { next = refl; call = call }) is both)

@@ -12,7 +12,7 @@ use Rattle.tp_model.specs.declared.types.Limits.{Limits}
 use Rattle.tp_model.specs.declared.types.Work.{Work}
 use Rattle.tp_server.specs.Behaviour.{Behaviour}
 use Rattle.tp_server.specs.Pending.{Pending}
-use Rattle.tp_manager.specs.Calls.{Ends, claims_in, one_claim}
+use Rattle.tp_manager.specs.Calls.{AnswersAbort, claims_in, one_claim}
 use Rattle.tp_manager.specs.Shown.{ManagerShown, PassShown}
 use Rattle.tp_desk.specs.InHand.{InHand}
 use Rattle.tp_desk.specs.Serving.{Leaves}
@@ -25,8 +25,8 @@ use Rattle.tp_desk.specs.Steady.{IsSameDesk, shown}
 use Rattle.tp_desk.specs.Turns.{EndsOpen, Turns, Works, WorksOff}
 use Rattle.tp_workers.specs.declared.plan.Plan.{Plan}
 use Rattle.tp_workers.specs.declared.tally.Shift.{Shift}
-use Rattle.tp_workers.specs.Calling.{Called, Chain}
-use Rattle.tp_workers.specs.Desks.{DeskRan, DeskWorked, IsDeskOf, IsResting, Place, TakesTurn, TakesTurns, WorksOn, place, place_of}
+use Rattle.tp_workers.specs.Calling.{MadeCalls, Chain}
+use Rattle.tp_workers.specs.Desks.{DeskRan, DeskWorked, IsDeskOf, IsResting, Place, TakesTurn, TakesTurns, DeskWorksOn, place, place_of}
 use Rattle.tp_workers.specs.Drained.{TookTurn}
 use Rattle.tp_workers.specs.Gains.{commits_in, is_commit}
 use Rattle.tp_workers.specs.Tally.{claimed, none, plus, total, turn_count}
@@ -47,44 +47,44 @@ one p q e n k adds done taken = record { done_is = counted_one is_commit p.mine 
 then : (n k m l : ℕ) (p between q : PassShown) → Adds n k p between → Adds m l between q → Adds (m + n) (l + k) p q
 then n k m l p between q a b = record { done_is = omega (arith, a.done_is, b.done_is); taken_is = omega (arith, a.taken_is, b.taken_is) }
 
-ends_adds : (p q : PassShown) (ended : Ended) → Ends p q ended → Adds 0 0 p q
+ends_adds : (p q : PassShown) (ended : Ended) → AnswersAbort p q ended → Adds 0 0 p q
 ends_adds p q endeds.Aborted (u, closes, keeps, adds) = one p q (Abort p.number u) 0 0 adds.mine refl refl
-ends_adds p q endeds.Already (u, closes, keeps, loses) = quiet p q loses.0
+ends_adds p q endeds.AlreadyAborted (u, closes, keeps, loses) = quiet p q loses.0
 
-work_adds : (behaviour : Behaviour) (registers : List ℕ) (work : Work) (p q : PassShown) (t : Turned) → WorksOff behaviour registers work p q t → Adds (turn_count t).done 0 p q
-work_adds behaviour registers work p q turneds.Idle h = absurd h
-work_adds behaviour registers work p q turneds.NoUnit h = absurd h
-work_adds behaviour registers work p q (turneds.Done unit element first count) (a, b, (drafts, made, commits)) = one p q _ 1 0 commits.adds.mine refl refl
-work_adds behaviour registers work p q (turneds.Refused element why) (a, (declines, (ended, ends))) = ends_adds p q ended ends
-work_adds behaviour registers work p q (turneds.Lost element) (a, (drafts, made, (u, closes, row, uses, loses))) = quiet p q loses.0
-work_adds behaviour registers work p q (turneds.Full element) (a, (drafts, made, (few, all_drawn, (u, closes, keeps, how)))) =
+work_adds : (behaviour : Behaviour) (registers : List ℕ) (work : Work) (p q : PassShown) (t : Turned) (left : List ℕ) → WorksOff behaviour registers work p q t left → Adds (turn_count t).done 0 p q
+work_adds behaviour registers work p q turneds.Idle left h = absurd h
+work_adds behaviour registers work p q turneds.NoUnit left h = absurd h
+work_adds behaviour registers work p q (turneds.Done unit element first count) left (a, b, (effect, made, commits, is)) = one p q _ 1 0 commits.adds.mine refl refl
+work_adds behaviour registers work p q (turneds.Refused element why) left (a, (declines, (ended, ends)), is) = ends_adds p q ended ends
+work_adds behaviour registers work p q (turneds.Lost element) left (a, (effect, made, (u, closes, row, uses, loses), is)) = quiet p q loses.0
+work_adds behaviour registers work p q (turneds.Full element) left (a, (effect, made, (few, all_drawn, (u, closes, keeps, how)), is)) =
     ⊎_elim (λ adds. one p q (Abort p.number u) 0 0 adds.mine refl refl) (λ loses. quiet p q loses.0) how
 
 -- an element was claimed, and this became of it
-works_adds : (order : Order) (l : Limits) (behaviour : Behaviour) (registers : List ℕ) (p q : PassShown) (t : Turned) → Works order l behaviour registers p q t → Adds ((turn_count t).done + 0) 1 p q
-works_adds order l behaviour registers p q t h =
-    then 0 1 (turn_count t).done 0 p h.between q (one p h.between _ 0 1 (opens_by order l behaviour.stage h.work p h.between h.takes).adds.mine refl refl) (work_adds behaviour registers h.work h.between q t h.off)
+works_adds : (order : Order) (l : Limits) (behaviour : Behaviour) (registers : List ℕ) (p q : PassShown) (t : Turned) (left : List ℕ) → Works order l behaviour registers p q t left → Adds ((turn_count t).done + 0) 1 p q
+works_adds order l behaviour registers p q t left h =
+    then 0 1 (turn_count t).done 0 p h.between q (one p h.between _ 0 1 (opens_by order l behaviour.stage h.work p h.between h.takes).adds.mine refl refl) (work_adds behaviour registers h.work h.between q t left h.off)
 
-turn_adds : (order : Order) (l : Limits) (behaviour : Behaviour) (registers : List ℕ) (p q : PassShown) (t : Turned) → Turns order l behaviour registers p q t → Adds (turn_count t).done (claimed (turn_count t)) p q
-turn_adds order l behaviour registers p q turneds.Idle h = quiet p q (idle_by order l behaviour.stage p q h).1.mine
-turn_adds order l behaviour registers p q turneds.NoUnit h = quiet p q (ap (λ (s : PassShown). s.mine) (nounit_by order l behaviour.stage p q h).1)
-turn_adds order l behaviour registers p q (turneds.Done unit element first count) h = works_adds order l behaviour registers p q (turneds.Done unit element first count) h
-turn_adds order l behaviour registers p q (turneds.Refused element why) h = works_adds order l behaviour registers p q (turneds.Refused element why) h
-turn_adds order l behaviour registers p q (turneds.Lost element) h = works_adds order l behaviour registers p q (turneds.Lost element) h
-turn_adds order l behaviour registers p q (turneds.Full element) h = works_adds order l behaviour registers p q (turneds.Full element) h
+turn_adds : (order : Order) (l : Limits) (behaviour : Behaviour) (registers : List ℕ) (p q : PassShown) (t : Turned) (left : List ℕ) → Turns order l behaviour registers p q t left → Adds (turn_count t).done (claimed (turn_count t)) p q
+turn_adds order l behaviour registers p q turneds.Idle left h = quiet p q (idle_by order l behaviour.stage p q h.0).1.mine
+turn_adds order l behaviour registers p q turneds.NoUnit left h = quiet p q (ap (λ (s : PassShown). s.mine) (nounit_by order l behaviour.stage p q h.0).1)
+turn_adds order l behaviour registers p q (turneds.Done unit element first count) left h = works_adds order l behaviour registers p q (turneds.Done unit element first count) left h
+turn_adds order l behaviour registers p q (turneds.Refused element why) left h = works_adds order l behaviour registers p q (turneds.Refused element why) left h
+turn_adds order l behaviour registers p q (turneds.Lost element) left h = works_adds order l behaviour registers p q (turneds.Lost element) left h
+turn_adds order l behaviour registers p q (turneds.Full element) left h = works_adds order l behaviour registers p q (turneds.Full element) left h
 
 -- a turn uses up the units that it claims
-pub turn_claims : (order : Order) (l : Limits) (behaviour : Behaviour) (registers : List ℕ) (p q : PassShown) (t : Turned) → Turns order l behaviour registers p q t → claimed (turn_count t) + claims_in p.mine ≡ claims_in q.mine
-turn_claims order l behaviour registers p q t h = (turn_adds order l behaviour registers p q t h).taken_is
+pub turn_claims : (order : Order) (l : Limits) (behaviour : Behaviour) (registers : List ℕ) (p q : PassShown) (t : Turned) (left : List ℕ) → Turns order l behaviour registers p q t left → claimed (turn_count t) + claims_in p.mine ≡ claims_in q.mine
+turn_claims order l behaviour registers p q t left h = (turn_adds order l behaviour registers p q t left h).taken_is
 
 -- a turn claims an element only where a unit is left
-pub turn_room : (order : Order) (l : Limits) (behaviour : Behaviour) (registers : List ℕ) (p q : PassShown) (t : Turned) → Turns order l behaviour registers p q t → claimed (turn_count t) + claims_in p.mine ≤ l.units
-turn_room order l behaviour registers p q turneds.Idle h = omega (arith, (idle_by order l behaviour.stage p q h).0)
-turn_room order l behaviour registers p q turneds.NoUnit h = omega (arith, (nounit_by order l behaviour.stage p q h).0)
-turn_room order l behaviour registers p q (turneds.Done unit element first count) h = omega (arith, (opens_by order l behaviour.stage h.work p h.between h.takes).room)
-turn_room order l behaviour registers p q (turneds.Refused element why) h = omega (arith, (opens_by order l behaviour.stage h.work p h.between h.takes).room)
-turn_room order l behaviour registers p q (turneds.Lost element) h = omega (arith, (opens_by order l behaviour.stage h.work p h.between h.takes).room)
-turn_room order l behaviour registers p q (turneds.Full element) h = omega (arith, (opens_by order l behaviour.stage h.work p h.between h.takes).room)
+pub turn_room : (order : Order) (l : Limits) (behaviour : Behaviour) (registers : List ℕ) (p q : PassShown) (t : Turned) (left : List ℕ) → Turns order l behaviour registers p q t left → claimed (turn_count t) + claims_in p.mine ≤ l.units
+turn_room order l behaviour registers p q turneds.Idle left h = omega (arith, (idle_by order l behaviour.stage p q h.0).0)
+turn_room order l behaviour registers p q turneds.NoUnit left h = omega (arith, (nounit_by order l behaviour.stage p q h.0).0)
+turn_room order l behaviour registers p q (turneds.Done unit element first count) left h = omega (arith, (opens_by order l behaviour.stage h.work p h.between h.takes).room)
+turn_room order l behaviour registers p q (turneds.Refused element why) left h = omega (arith, (opens_by order l behaviour.stage h.work p h.between h.takes).room)
+turn_room order l behaviour registers p q (turneds.Lost element) left h = omega (arith, (opens_by order l behaviour.stage h.work p h.between h.takes).room)
+turn_room order l behaviour registers p q (turneds.Full element) left h = omega (arith, (opens_by order l behaviour.stage h.work p h.between h.takes).room)
 
 pub one_turn : (t : Turned) → total (turn_count t) ≡ 1
 one_turn turneds.Idle = refl
@@ -95,16 +95,16 @@ one_turn (turneds.Lost element) = refl
 one_turn (turneds.Full element) = refl
 
 -- turns one after another count their commits, and their claims
-module _ (order : Order) (l : Limits) (n : ℕ) (x y : Place) (s : Shift) (h : Called (TakesTurn order l) turn_count n x s y) where
+module _ (order : Order) (l : Limits) (n : ℕ) (x y : Place) (s : Shift) (h : MadeCalls (TakesTurn order l) turn_count n x s y) where
   pub turns_commit : s.done + commits_in x.pass ≡ commits_in y.pass
   turns_commit =
       called_gains (TakesTurn order l) turn_count (λ (c : Shift). c.done) (λ (p : Place). commits_in p.pass) refl (λ a b. refl)
-      (λ p t q r. (turn_adds order l p.behaviour p.registers p.pass q.pass t r.answer).done_is) n x y s h
+      (λ p t q r. (turn_adds order l p.behaviour p.registers p.pass q.pass t q.registers r.answer).done_is) n x y s h
 
   pub turns_claim : claimed s + claims_in x.pass.mine ≡ claims_in y.pass.mine
   turns_claim =
       called_gains (TakesTurn order l) turn_count claimed (λ (p : Place). claims_in p.pass.mine) refl (λ a b. omega arith)
-      (λ p t q r. turn_claims order l p.behaviour p.registers p.pass q.pass t r.answer) n x y s h
+      (λ p t q r. turn_claims order l p.behaviour p.registers p.pass q.pass t q.registers r.answer) n x y s h
 
   pub turns_total : total s ≡ n
   turns_total = called_total (TakesTurn order l) turn_count one_turn n x y s h
@@ -121,7 +121,7 @@ module _ {X : Type 0} {F : X → Type 0} (behaviour : (x : X) × F x → Behavio
 
   -- the desk took n turns so far
   pub record SoFar (order : Order) (n : ℕ) (old : Desk X F) (counts : Shift) (new : Desk X F) : Type 0 where
-    pub calls : Called (TakesTurn order old.manager.now.limits) turn_count n (of_desk old) counts (of_desk new)
+    pub calls : MadeCalls (TakesTurn order old.manager.now.limits) turn_count n (of_desk old) counts (of_desk new)
     pub same : IsSameDesk old new
     pub resting : IsResting behaviour registers pending new
 
@@ -211,7 +211,7 @@ module _ {X : Type 0} {F : X → Type 0} (behaviour : (x : X) × F x → Behavio
           ready = lending.ready;
         }
 
-    pub desk_worked : (plan : Plan) (counts : Shift) → WorksOn plan d.manager.now.limits (of_desk d) counts (of_desk e)
+    pub desk_worked : (plan : Plan) (counts : Shift) → DeskWorksOn plan d.manager.now.limits (of_desk d) counts (of_desk e)
         → DeskWorked (shown behaviour) (shown registers) (shown pending) m plan x counts y
     desk_worked plan counts worked =
         let ran = desk_ran (record plan { turns = worked.taken }) counts (record { taken = worked.taken; calls = worked.calls; at_most = omega arith; all_taken = λ e. refl }) in

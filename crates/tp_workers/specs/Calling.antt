@@ -14,7 +14,8 @@ tally count [] = none
 tally count (a ∷ rest) = plus (count a) (tally count rest)
 
 -- n calls lead from one state to the other, and their answers are counted so
-pub record Called {S A : Type 0} (R : S → A → S → Type 0) (count : A → Shift) (n : ℕ) (old : S) (counts : Shift) (new : S) : Type 0 where
+pub record MadeCalls {S A : Type 0} (R : S → A → S → Type 0) (count : A → Shift) (n : ℕ) (old : S)
+    (counts : Shift) (new : S) : Type 0 where
   pub answers : List A
   pub each : Chain R old answers new
   pub made : length answers ≡ n

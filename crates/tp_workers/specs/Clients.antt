@@ -11,7 +11,7 @@ use Rattle.tp_manager.specs.Bounds.{submit_steps}
 use Rattle.tp_manager.specs.Calls.{Follows, Submits, SubmitRefused}
 use Rattle.tp_manager.specs.Shown.{ManagerShown, PassShown}
 use Rattle.tp_workers.specs.declared.tally.Shift.{Shift}
-use Rattle.tp_workers.specs.Calling.{Called}
+use Rattle.tp_workers.specs.Calling.{MadeCalls}
 use Rattle.tp_workers.specs.Free.{IsFreePass}
 use Rattle.tp_workers.specs.Gains.{GainsOnly, enqueues_in}
 use Rattle.tp_workers.specs.Tally.{submit_count}
@@ -31,7 +31,8 @@ pub record IsClientOf (m : ManagerShown) (x : PassShown × JobShown) : Type 0 wh
   pub job : IsClientJob x.1
 
 -- a call submitted this body or was refused, as the manager's call answers
-pub record SubmitsOnce (l : Limits) (stage : ℕ) (body : List ℕ) (old : PassShown) (answer : Result ℕ Refusal) (new : PassShown)
+pub record SubmitsOnce (l : Limits) (stage : ℕ) (body : List ℕ) (old : PassShown) (answer : Result ℕ Refusal)
+    (new : PassShown)
     : Type 0 where
   pub follows : Follows (submit_steps l) old new
   pub open_unit : new.open_unit ≡ old.open_unit
@@ -48,21 +49,25 @@ abbrev pub submitting : List (List ℕ) → PassShown → Submitting
 submitting left pass = record { left = left; pass = pass }
 
 -- the client submitted the first of the bodies that were left to it, or was refused, and the others are left
-pub record SubmitsNext (l : Limits) (stage : ℕ) (old : Submitting) (answer : Result ℕ Refusal) (new : Submitting) : Type 0 where
+pub record SubmitsNext (l : Limits) (stage : ℕ) (old : Submitting) (answer : Result ℕ Refusal)
+    (new : Submitting) : Type 0 where
   pub body : List ℕ
   pub first : old.left ≡ body ∷ new.left
   pub call : SubmitsOnce l stage body old.pass answer new.pass
 
 -- the event is an Enqueue of one of these bodies
-abbrev pub IsRequest : ℕ → List (List ℕ) → Event → Type 0
-IsRequest stage bodies e = (body : List ℕ) × Contains bodies body × (c : ℕ) × (id : ℕ) × (e ≡ Enqueue c (request id stage body))
+abbrev pub IsSubmitOf : ℕ → List (List ℕ) → Event → Type 0
+IsSubmitOf stage bodies e = (body : List ℕ) × Contains bodies body × (c : ℕ) × (id : ℕ)
+    × (e ≡ Enqueue c (request id stage body))
 
--- a client of this pass and this job submitted each of its bodies once, in their order, and this left the pass so
-pub record ClientRan (m : ManagerShown) (old : PassShown × JobShown) (counts : Shift) (new : PassShown × JobShown)
+-- a client of this pass and this job submitted each of its bodies once, in their order, and this left the
+-- pass so
+pub record ClientRan (m : ManagerShown) (old : PassShown × JobShown) (counts : Shift) (new : PassShown
+    × JobShown)
     : Type 0 where
-  pub calls : Called (SubmitsNext m.limits old.1.stage) submit_count (length old.1.bodies)
+  pub calls : MadeCalls (SubmitsNext m.limits old.1.stage) submit_count (length old.1.bodies)
       (submitting old.1.bodies old.0) counts (submitting [] new.0)
-  pub gains : GainsOnly (IsRequest old.1.stage old.1.bodies) old.0 new.0
+  pub gains : GainsOnly (IsSubmitOf old.1.stage old.1.bodies) old.0 new.0
   pub submitted : counts.submitted + enqueues_in old.0 ≡ enqueues_in new.0
   pub number : new.0.number ≡ old.0.number
   pub same_job : new.1 ≡ old.1

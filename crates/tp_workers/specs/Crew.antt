@@ -1,5 +1,5 @@
--- What holds of a crew between its calls, and what its calls leave. The first three arguments say of a box what its server
--- shows: its behaviour, the registers of its committed work, and its prepared work.
+-- What holds of a crew between its calls, and what its calls leave. The first three arguments say of a box
+-- what its server shows: its behaviour, the registers of its committed work, and its prepared work.
 use Rattle.std.specs.Prelude.{◌≡◌, ℕ, List, ◌∷◌, Option, None, All, length}
 use Rattle.std.specs.declared.alloc.Global.{Global}
 use Rattle.std.specs.declared.dyn_box.DynBox.{DynBox}
@@ -19,8 +19,8 @@ module _ {X : Type 0} {F : X → Type 0} where
   abbrev pub folds : Crew X F → List (PassShown × DynBox X Global F)
   folds c = begun c.starts.items
 
-  -- A crew is steady: it has all passes that its keeper gave out, none of them has a unit open, and no box has anything
-  -- prepared. Each box has served since the fold of its work began.
+  -- A crew is steady: it has all passes that its keeper gave out, none of them has a unit open, and no box
+  -- has anything prepared. Each box has served since the fold of its work began.
   pub record IsSteadyCrew (behaviour : DynBox X Global F → Behaviour) (registers : DynBox X Global F → List ℕ)
       (pending : DynBox X Global F → Option Pending) (c : Crew X F) : Type 0 where
     pub kept : IsKeptBy c.manager c.keeper
@@ -33,14 +33,16 @@ module _ {X : Type 0} {F : X → Type 0} where
     pub same_count : length c.starts.items ≡ length c.boxes.items
     pub served : HaveServed behaviour registers (folds c) c.passes.items c.boxes.items
 
-  -- it is the same crew: it has the same manager, as many boxes and clients, and the folds of its boxes' work began alike
+  -- it is the same crew: it has the same manager, as many boxes and clients, and the folds of its boxes' work
+  -- began alike
   pub record IsSameCrew (old new : Crew X F) : Type 0 where
     pub manager : new.manager ≡ old.manager
     pub boxes : length new.boxes.items ≡ length old.boxes.items
     pub clients : new.clients ≡ old.clients
     pub starts : new.starts ≡ old.starts
 
-  -- A call by the caller's own pass, in at most n steps, which left it with no unit open. All else is as it was.
+  -- A call by the caller's own pass, in at most n steps, which left it with no unit open. All else is as it
+  -- was.
   pub record OwnCall (n : ℕ) (R : PassShown → PassShown → Type 0) (old new : Crew X F) : Type 0 where
     pub before : PassShown
     pub after : PassShown

@@ -10,13 +10,20 @@ use Rattle.tp_workers.specs.declared.crew.CrewLimits.{CrewLimits}
 
 -- a manager's limits, with so many parts
 abbrev pub limits_with : CrewLimits → ℕ → Limits
-limits_with l parts = record { parts = parts; rows = l.rows; units = l.units; attempts = l.attempts; spare = l.spare }
+limits_with l parts = record {
+  parts = parts;
+  rows = l.rows;
+  units = l.units;
+  attempts = l.attempts;
+  spare = l.spare;
+}
 
 -- how many passes a crew of so many boxes and clients has: one is the caller's own
 abbrev pub crew_passes : ℕ → ℕ → ℕ
 crew_passes boxes clients = 1 + boxes + clients
 
--- a crew's passes in order of number: the caller's own, then one for each of so many boxes, then one for each client
+-- a crew's passes in order of number: the caller's own, then one for each of so many boxes, then one for each
+-- client
 abbrev pub own_in : List PassShown → List PassShown
 own_in passes = take 1 passes
 
@@ -33,8 +40,8 @@ pub record IsFirstPass (p : PassShown) : Type 0 where
   pub mine : p.mine ≡ []
 
 module _ {B : Type 0} (behaviour : B → Behaviour) (registers : B → List ℕ) where
-  -- The registers of the box's committed work are those that its effects led to, over the elements that its desk's pass has
-  -- consumed since, and its behaviour is the same.
+  -- The registers of the box's committed work are those that its effects led to, over the elements that its
+  -- desk's pass has consumed since, and its behaviour is the same.
   pub record HasServed (old new : PassShown × B) : Type 0 where
     pub leaves : Leaves (behaviour old.1) (registers old.1) (registers new.1) old.0 new.0
     pub behaviour_is : behaviour new.1 ≡ behaviour old.1

@@ -8,12 +8,13 @@ use Rattle.tp_manager.specs.Shown.{ManagerShown, PassShown}
 use Rattle.tp_desk.specs.declared.desk.Desk.{Desk}
 use Rattle.tp_desk.specs.declared.order.Order.{Order}
 use Rattle.tp_desk.specs.declared.turned.Turned.{Turned}
+use Rattle.tp_desk.specs.Orders.{KeepsTurn}
 use Rattle.tp_desk.specs.Serving.{Leaves}
 use Rattle.tp_desk.specs.Steady.{SteadyDesk, shown}
 use Rattle.tp_desk.specs.Turns.{Turns, turn_steps}
 use Rattle.tp_workers.specs.declared.plan.Plan.{Plan}
 use Rattle.tp_workers.specs.declared.tally.Shift.{Shift}
-use Rattle.tp_workers.specs.Calling.{Called}
+use Rattle.tp_workers.specs.Calling.{MadeCalls}
 use Rattle.tp_workers.specs.Free.{IsFreePass}
 use Rattle.tp_workers.specs.Gains.{commits_in}
 use Rattle.tp_workers.specs.Tally.{turn_count}
@@ -26,28 +27,30 @@ pub record Place : Type 0 where
 
 -- a turn was taken there, whose claim was in this order, with this answer
 pub record TakesTurn (order : Order) (l : Limits) (old : Place) (turned : Turned) (new : Place) : Type 0 where
-  pub answer : Turns order l old.behaviour old.registers old.pass new.pass turned
+  pub answer : Turns order l old.behaviour old.registers old.pass new.pass turned new.registers
   pub follows : Follows (turn_steps order l) old.pass new.pass
+  pub keeps_turn : KeepsTurn order old.pass new.pass
   pub behaviour_is : new.behaviour ≡ old.behaviour
 
 -- at most as many turns as planned were taken there, in the planned order, and fewer only after one that
 -- found no unit left
 pub record TakesTurns (plan : Plan) (l : Limits) (old : Place) (counts : Shift) (new : Place) : Type 0 where
   pub taken : ℕ
-  pub calls : Called (TakesTurn plan.order l) turn_count taken old counts new
+  pub calls : MadeCalls (TakesTurn plan.order l) turn_count taken old counts new
   pub at_most : taken ≤ plan.turns
   pub all_taken : counts.nounit ≡ 0 → taken ≡ plan.turns
 
 -- the same, and fewer also after one that found nothing to wait
-pub record WorksOn (plan : Plan) (l : Limits) (old : Place) (counts : Shift) (new : Place) : Type 0 where
+pub record DeskWorksOn (plan : Plan) (l : Limits) (old : Place) (counts : Shift) (new : Place) : Type 0 where
   pub taken : ℕ
-  pub calls : Called (TakesTurn plan.order l) turn_count taken old counts new
+  pub calls : MadeCalls (TakesTurn plan.order l) turn_count taken old counts new
   pub at_most : taken ≤ plan.turns
   pub all_taken : counts.idle + counts.nounit ≡ 0 → taken ≡ plan.turns
 
--- The first three arguments say of a box what its server shows: its behaviour, the registers of its committed work, and its
--- prepared work.
-module _ {B : Type 0} (behaviour : B → Behaviour) (registers : B → List ℕ) (pending : B → Option Pending) where
+-- The first three arguments say of a box what its server shows: its behaviour, the registers of its committed
+-- work, and its prepared work.
+module _ {B : Type 0} (behaviour : B → Behaviour) (registers : B → List ℕ) (pending : B
+    → Option Pending) where
   abbrev pub place : PassShown × B → Place
   place x = record { pass = x.0; behaviour = behaviour x.1; registers = registers x.1 }
 
@@ -56,9 +59,10 @@ module _ {B : Type 0} (behaviour : B → Behaviour) (registers : B → List ℕ)
     pub pass : IsFreePass m x.0
     pub unprepared : pending x.1 ≡ None
 
-  -- A desk of this pass and this server took its turns, and they left them so. The registers of committed work are what the effects
-  -- of the server over what the pass has consumed since led to.
-  pub record DeskRan (m : ManagerShown) (plan : Plan) (old : PassShown × B) (counts : Shift) (new : PassShown × B) : Type 0 where
+  -- A desk of this pass and this server took its turns, and they left them so. The registers of committed
+  -- work are what the effects of the server over what the pass has consumed since led to.
+  pub record DeskRan (m : ManagerShown) (plan : Plan) (old : PassShown × B) (counts : Shift) (new : PassShown
+      × B) : Type 0 where
     pub turns_taken : TakesTurns plan m.limits (place old) counts (place new)
     pub done : counts.done + commits_in old.0 ≡ commits_in new.0
     pub leaves : Leaves (behaviour old.1) (registers old.1) (registers new.1) old.0 new.0
@@ -66,15 +70,17 @@ module _ {B : Type 0} (behaviour : B → Behaviour) (registers : B → List ℕ)
     pub ready : IsDeskOf m new
 
   -- The same of a desk that stopped where it found nothing to wait.
-  pub record DeskWorked (m : ManagerShown) (plan : Plan) (old : PassShown × B) (counts : Shift) (new : PassShown × B) : Type 0 where
-    pub turns_taken : WorksOn plan m.limits (place old) counts (place new)
+  pub record DeskWorked (m : ManagerShown) (plan : Plan) (old : PassShown × B) (counts : Shift)
+      (new : PassShown × B) : Type 0 where
+    pub turns_taken : DeskWorksOn plan m.limits (place old) counts (place new)
     pub done : counts.done + commits_in old.0 ≡ commits_in new.0
     pub leaves : Leaves (behaviour old.1) (registers old.1) (registers new.1) old.0 new.0
     pub behaviour_is : behaviour new.1 ≡ behaviour old.1
     pub ready : IsDeskOf m new
 
 -- The same of a desk itself. Where no box is in sight, a server's members are told of a pair.
-module _ {X : Type 0} {F : X → Type 0} (behaviour : (x : X) × F x → Behaviour) (registers : (x : X) × F x → List ℕ)
+module _ {X : Type 0} {F : X → Type 0} (behaviour : (x : X) × F x → Behaviour) (registers : (x : X) × F x
+    → List ℕ)
     (pending : (x : X) × F x → Option Pending) where
   -- what the pass and the server of a desk show
   abbrev pub place_of : Desk X F → Place

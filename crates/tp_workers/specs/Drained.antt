@@ -9,7 +9,7 @@ use Rattle.tp_desk.specs.declared.order.Order.{Order}
 use Rattle.tp_desk.specs.declared.turned.Turned.{Turned}
 use Rattle.tp_desk.specs.Serving.{Leaves}
 use Rattle.tp_workers.specs.declared.tally.Shift.{Shift}
-use Rattle.tp_workers.specs.Calling.{Called}
+use Rattle.tp_workers.specs.Calling.{MadeCalls}
 use Rattle.tp_workers.specs.Desks.{IsDeskOf, Place, TakesTurn, place}
 use Rattle.tp_workers.specs.Gains.{commits_in}
 use Rattle.tp_workers.specs.Tally.{claimed, turn_count}
@@ -19,12 +19,13 @@ pub record EndsIdle (order : Order) (l : Limits) (old new : Place) : Type 0 wher
   pub taken : ℕ
   pub counts : Shift
   pub before : Place
-  pub calls : Called (TakesTurn order l) turn_count taken old counts before
+  pub calls : MadeCalls (TakesTurn order l) turn_count taken old counts before
   pub last : Turned
   pub turn : TakesTurn order l before last new
   pub idle : claimed (turn_count last) ≡ 0
 
-module _ {B : Type 0} (behaviour : B → Behaviour) (registers : B → List ℕ) (pending : B → Option Pending) (m : ManagerShown)
+module _ {B : Type 0} (behaviour : B → Behaviour) (registers : B → List ℕ) (pending : B → Option Pending)
+    (m : ManagerShown)
     (order : Order) where
   -- a desk of this pass and this server took one turn, which is counted
   pub record TookTurn (old : PassShown × B) (counts : Shift) (new : PassShown × B) : Type 0 where
@@ -35,20 +36,24 @@ module _ {B : Type 0} (behaviour : B → Behaviour) (registers : B → List ℕ)
     pub leaves : Leaves (behaviour old.1) (registers old.1) (registers new.1) old.0 new.0
     pub ready : IsDeskOf behaviour registers pending m new
 
-  -- Desks of this pass and this server took turns until one found nothing to claim, and the counts are this last turn's alone.
+  -- Desks of this pass and this server took turns until one found nothing to claim, and the counts are this
+  -- last turn's alone.
   pub record LastTurn (old : PassShown × B) (counts : Shift) (new : PassShown × B) : Type 0 where
-    pub ends : EndsIdle order m.limits (place behaviour registers pending old) (place behaviour registers pending new)
+    pub ends : EndsIdle order m.limits (place behaviour registers pending old)
+        (place behaviour registers pending new)
     pub counted : counts ≡ turn_count ends.last
 
-  -- Desks of this pass and this server took turns until one found nothing to claim, and committed at most as many units as a
-  -- pass can have. The registers of committed work are what the server's effects over what the pass has consumed since led to.
+  -- Desks of this pass and this server took turns until one found nothing to claim, and committed at most as
+  -- many units as a pass can have. The registers of committed work are what the server's effects over what
+  -- the pass has consumed since led to.
   pub record DeskDrained (old : PassShown × B) (counts : Shift) (new : PassShown × B) : Type 0 where
     pub taken : ℕ
-    pub calls : Called (TakesTurn order m.limits) turn_count taken (place behaviour registers pending old) counts
+    pub calls : MadeCalls (TakesTurn order m.limits) turn_count taken (place behaviour registers pending old) counts
         (place behaviour registers pending new)
     pub done : counts.done + commits_in old.0 ≡ commits_in new.0
     pub few : counts.done ≤ 1024
-    pub idle : EndsIdle order m.limits (place behaviour registers pending old) (place behaviour registers pending new)
+    pub idle : EndsIdle order m.limits (place behaviour registers pending old)
+        (place behaviour registers pending new)
     pub leaves : Leaves (behaviour old.1) (registers old.1) (registers new.1) old.0 new.0
     pub behaviour_is : behaviour new.1 ≡ behaviour old.1
     pub ready : IsDeskOf behaviour registers pending m new

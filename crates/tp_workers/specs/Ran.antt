@@ -5,8 +5,8 @@ use denote.Param.Members.{Shared}
 use Rattle.tp_workers.specs.declared.tally.Shift.{Shift}
 use Rattle.tp_workers.specs.Tally.{none, plus, sum_of, total}
 
--- Each worker of the first list ran, with counts of its own, and became the one at its place in the second list. The
--- counts add up to these.
+-- Each worker of the first list ran, with counts of its own, and became the one at its place in the second
+-- list. The counts add up to these.
 abbrev pub RanAll : {T : Type 0} → (T → Shift → T → Type 0) → List T → Shift → List T → Type 0
 RanAll R [] s [] = s ≡ none
 RanAll R [] s (y ∷ ys) = ⊥
@@ -31,15 +31,18 @@ RanList R (x ∷ xs) [] ys = ⊥
 RanList R (x ∷ xs) (s ∷ ss) [] = ⊥
 RanList R (x ∷ xs) (s ∷ ss) (y ∷ ys) = R x s y × RanList R xs ss ys
 
--- Where there is a place for each worker's counts, its own counts are left there, and all of them add up to these.
-pub record AreTold {T U : Type 0} (R : T × U → Shift → T × U → Type 0) (on : List T) (by : List U) (places : List Shift)
+-- Where there is a place for each worker's counts, its own counts are left there, and all of them add up to
+-- these.
+pub record AreTold {T U : Type 0} (R : T × U → Shift → T × U → Type 0) (on : List T) (by : List U)
+    (places : List Shift)
     (s : Shift) (on_new : List T) (by_new : List U) (told : List Shift) : Type 0 where
   pub kept : length told ≡ length places
   pub each : length places ≡ length on → RanList R (zip on by) told (zip on_new by_new)
   pub sum : length places ≡ length on → s ≡ sum_of told
 
 module _ {F T U : Type 0}
-    (g : Shared F (MutBor T × (MutBor U × (ℕ × Unit {0}))) (Shift × (MutBor T × (MutBor U × Unit {0})))) (run : F) where
+    (g : Shared F (MutBor T × (MutBor U × (ℕ × Unit {0}))) (Shift × (MutBor T × (MutBor U × Unit {0}))))
+    (run : F) where
   -- the worker may be run, under any number
   abbrev pub Accepts : T × U → Type 0
   Accepts x = (p : MutBor T) (q : MutBor U) (n : ℕ) → p.now ≡ x.0 → q.now ≡ x.1 → g.pre run (p, (q, (n, tt)))
@@ -57,7 +60,8 @@ module _ {F T U : Type 0}
     pub on_left : on_after.now ≡ y.0
     pub by_left : by_after.now ≡ y.1
 
-  -- the lists are as long as each other, all workers may be run, and what they count adds up to a number of 32 bits
+  -- the lists are as long as each other, all workers may be run, and what they count adds up to a number of
+  -- 32 bits
   pub record MayRun (on : List T) (by : List U) : Type 0 where
     pub paired : length on ≡ length by
     pub accepts : All Accepts (zip on by)

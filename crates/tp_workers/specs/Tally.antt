@@ -9,7 +9,20 @@ use Rattle.tp_workers.specs.declared.tally.Shift.{Shift}
 
 -- nothing was done
 abbrev pub none : Shift
-none = record { done = 0; refused = 0; lost = 0; full = 0; idle = 0; nounit = 0; submitted = 0; submit_full = 0; killed = 0; late = 0; already = 0; missing = 0 }
+none = record {
+  done = 0;
+  refused = 0;
+  lost = 0;
+  full = 0;
+  idle = 0;
+  nounit = 0;
+  submitted = 0;
+  submit_full = 0;
+  killed = 0;
+  late = 0;
+  already = 0;
+  missing = 0;
+}
 
 -- what two workers did together
 abbrev pub plus : Shift → Shift → Shift

@@ -1,7 +1,7 @@
 //! A desk at work on the caller's own thread.
 ghost use Rattle.std.specs.Prelude.{◌≤◌};
 ghost use Rattle.tp_desk.specs.Steady.{IsSameDesk};
-ghost use Rattle.tp_workers.specs.Desks.{DeskWorked, IsDeskOf, IsResting, WorksOn, place_of};
+ghost use Rattle.tp_workers.specs.Desks.{DeskWorked, IsDeskOf, IsResting, DeskWorksOn, place_of};
 
 use crate::desks::turn_at;
 use crate::gate::NoGate;
@@ -11,11 +11,9 @@ use tp_desk::Desk;
 use tp_manager::{Manager, Pass};
 use tp_server::Server;
 
-/// Has a desk of this pass and this server take turns on the caller's thread: as many as planned, or fewer where one
-/// finds nothing to
-/// wait, or no unit left. The pass comes from this manager's keeper and has no unit open, and the server
-/// has nothing prepared;
-/// so it is afterwards.
+/// Has a desk of this pass and this server take turns on the caller's thread: as many as planned, or fewer
+/// where one finds nothing to wait, or no unit left. The pass comes from this manager's keeper and has no
+/// unit open, and the server has nothing prepared; so it is afterwards.
 pub fn work_off(
     manager: &Manager,
     pass: &mut Pass,
@@ -34,7 +32,7 @@ pub fn work_off(
 fn turns_until_idle(desk: &mut Desk, plan: Plan) -> Shift
     requires resting { IsResting behaviour registers pending desk.old }
     ensures same { IsSameDesk desk.old desk.new }
-    ensures turns { WorksOn plan desk.old.manager.now.limits
+    ensures turns { DeskWorksOn plan desk.old.manager.now.limits
         (place_of behaviour registers pending desk.old) result (place_of behaviour registers pending desk.new) }
     ensures resting { IsResting behaviour registers pending desk.new }
 {

@@ -1,11 +1,13 @@
 //! A crew: a manager, boxed servers, and all passes that they and their clients need.
-ghost use Rattle.std.specs.Prelude.{◌≡◌, ◌+◌, ◌*◌, ◌<◌, ◌≤◌, ◌^◌, ◌↔◌, None, Some, Err, All, IfOk, [], length, option_copied, sum_by, slice_get, slice_index_or, slice_set, zip};
+ghost use Rattle.std.specs.Prelude.{◌≡◌, ◌+◌, ◌*◌, ◌<◌, ◌≤◌, ◌^◌, ◌↔◌, None, Some, Err, All, IfOk, []};
+ghost use Rattle.std.specs.Prelude.{length, option_copied, sum_by, slice_get, slice_index_or, slice_set, zip};
 ghost use Rattle.tp_model.specs.Steps.{AreLimits};
 ghost use Rattle.tp_manager.specs.declared.manager.MakeFault.TheVariants as faults;
 ghost use Rattle.tp_manager.specs.Accounts.{Accounts, AreAll};
 ghost use Rattle.tp_manager.specs.Shown.{IsKeptBy};
 ghost use Rattle.tp_workers.specs.Clients.{ClientRan, IsClientJob};
-ghost use Rattle.tp_workers.specs.CrewPasses.{IsFirstPass, clients_in, crew_passes, desks_in, limits_with, own_in};
+ghost use Rattle.tp_workers.specs.CrewPasses.{IsFirstPass, clients_in, crew_passes, desks_in, limits_with};
+ghost use Rattle.tp_workers.specs.CrewPasses.{own_in};
 ghost use Rattle.tp_workers.specs.Desks.{DeskRan};
 ghost use Rattle.tp_workers.specs.Drained.{DeskDrained, LastTurn};
 ghost use Rattle.tp_workers.specs.Folds.{BeginsFold};
@@ -58,8 +60,8 @@ impl CrewLimits {
     }
 }
 
-/// A manager and boxed servers, with a pass for each of them, for each of so many clients, and one of the caller's own. The
-/// passes stand in order of number: the caller's own, the boxes', the clients'.
+/// A manager and boxed servers, with a pass for each of them, for each of so many clients, and one of the
+/// caller's own. The passes stand in order of number: the caller's own, the boxes', the clients'.
 #[derive(Drop)]
 pub struct Crew {
     pub(crate) manager: Manager,
@@ -191,8 +193,8 @@ fn shift_all<R: Threads + Sync, G: Gate>(
 impl Crew {
     ghost use Rattle.tp_workers.specs.Crew.{IsSteadyCrew, IsSameCrew, folds};
 
-    /// A crew of these boxes and of so many clients. `BadLimits` where a limit is outside its range, or where that would be more
-    /// passes than a manager can have; `NoMemory` only where the allocator refused.
+    /// A crew of these boxes and of so many clients. `BadLimits` where a limit is outside its range, or where
+    /// that would be more passes than a manager can have; `NoMemory` only where the allocator refused.
     pub fn new(
         alloc: Global,
         limits: CrewLimits,
@@ -202,9 +204,11 @@ impl Crew {
         requires clear { All (λ server. pending server ≡ None) boxes.items }
         ensures steady { IfOk result (λ crew. IsSteadyCrew behaviour registers pending crew) }
         ensures boxes { IfOk result (λ crew. (crew.boxes ≡ boxes) × (crew.clients ≡ clients)) }
-        ensures folds { IfOk result (λ crew. folds crew ≡ zip (desks_in (length boxes.items) crew.passes.items) boxes.items) }
+        ensures folds { IfOk result (λ crew.
+            folds crew ≡ zip (desks_in (length boxes.items) crew.passes.items) boxes.items) }
         ensures new { IfOk result (λ crew. All IsFirstPass crew.passes.items) }
-        ensures limits { IfOk result (λ crew. crew.manager.limits ≡ limits_with limits (crew_passes (length boxes.items) clients)) }
+        ensures limits { IfOk result (λ crew.
+            crew.manager.limits ≡ limits_with limits (crew_passes (length boxes.items) clients)) }
         ensures bad { (result ≡ Err faults.BadLimits) ↔ (¬ AreLimits (limits_with limits (crew_passes (length boxes.items) clients))) }
         ensures part { ¬ (result ≡ Err faults.NoPart) }
     {
@@ -226,11 +230,9 @@ impl Crew {
         })
     }
 
-    /// Has the boxes' desks take as many turns as planned, or fewer where a pass has no unit left, and the clients do
-    /// these jobs, each on a
-    /// thread of its own, until all are through. The answer is what all did together; where `counts` has a
-    /// place for each box,
-    /// what each box's desk did is left there.
+    /// Has the boxes' desks take as many turns as planned, or fewer where a pass has no unit left, and the
+    /// clients do these jobs, each on a thread of its own, until all are through. The answer is what all did
+    /// together; where `counts` has a place for each box, what each box's desk did is left there.
     pub fn shift<R: Threads + Sync, G: Gate>(
         &mut self,
         rt: &R,

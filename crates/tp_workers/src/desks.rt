@@ -2,6 +2,7 @@
 ghost use Rattle.std.specs.Prelude.{◌≡◌, ◌≤◌, None, Some};
 ghost use Rattle.tp_manager.specs.Bounds.{commit_steps};
 ghost use Rattle.tp_manager.specs.Calls.{Follows};
+ghost use Rattle.tp_desk.specs.Orders.{KeepsTurn};
 ghost use Rattle.tp_desk.specs.Steady.{IsSameDesk, SteadyDesk, shown};
 ghost use Rattle.tp_desk.specs.Turns.{Turns, WorksOff, turn_steps};
 ghost use Rattle.tp_workers.specs.Desks.{DeskRan, IsDeskOf, IsResting, TakesTurn, TakesTurns, place_of};
@@ -90,9 +91,11 @@ fn claim_at<G: Gate>(desk: &mut Desk, order: Order, worker: u32, gate: &G) -> Tu
     ensures same { IsSameDesk desk.old desk.new }
     ensures behaviour { shown behaviour desk.new.server.now ≡ shown behaviour desk.old.server.now }
     ensures free { desk.new.work ≡ None }
+    ensures turn { KeepsTurn order desk.old.pass.now desk.new.pass.now }
     ensures follows { Follows (turn_steps order desk.old.manager.now.limits) desk.old.pass.now desk.new.pass.now }
     ensures answer { Turns order desk.old.manager.now.limits (shown behaviour desk.old.server.now)
-        (shown registers desk.old.server.now) desk.old.pass.now desk.new.pass.now result }
+        (shown registers desk.old.server.now) desk.old.pass.now desk.new.pass.now result
+        (shown registers desk.new.server.now) }
     ensures steady { SteadyDesk (shown behaviour) (shown registers) (shown pending) desk.new }
 {
     match desk.claim_by(order) {
@@ -109,9 +112,10 @@ fn work_at<G: Gate>(desk: &mut Desk, work: Work, worker: u32, gate: &G) -> Turne
     ensures same { IsSameDesk desk.old desk.new }
     ensures behaviour { shown behaviour desk.new.server.now ≡ shown behaviour desk.old.server.now }
     ensures free { desk.new.work ≡ None }
+    ensures turn { desk.new.pass.now.from ≡ desk.old.pass.now.from }
     ensures follows { Follows (commit_steps desk.old.manager.now.limits 4) desk.old.pass.now desk.new.pass.now }
     ensures answer { WorksOff (shown behaviour desk.old.server.now) (shown registers desk.old.server.now) work
-        desk.old.pass.now desk.new.pass.now result }
+        desk.old.pass.now desk.new.pass.now result (shown registers desk.new.server.now) }
     ensures steady { SteadyDesk (shown behaviour) (shown registers) (shown pending) desk.new }
 {
     gate.pause(worker, Point::Claimed);

@@ -1,5 +1,5 @@
-//! Workers of one kind or three, each on a thread of its own. A worker is a place in two slices side by side: a pass, and the
-//! server or the job that it works with.
+//! Workers of one kind or three, each on a thread of its own. A worker is a place in two slices side by side:
+//! a pass, and the server or the job that it works with.
 ghost use Rattle.std.specs.Prelude.{◌≡◌, ◌+◌, ◌<◌, ◌^◌};
 ghost use denote.Param.Send.{IsSync, IsSend};
 ghost use Rattle.std.specs.Prelude.{[], ◌∷◌, length};

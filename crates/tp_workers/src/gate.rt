@@ -13,7 +13,8 @@ pub enum Point {
     Settled,
 }
 
-/// What each worker calls at its points. Workers are numbered from 0: desks first, then clients, then killers.
+/// What each worker calls at its points. Workers are numbered from 0: desks first, then clients, then
+/// killers.
 pub trait Gate: Sync {
     fn pause(&self, worker: u32, point: Point);
 }

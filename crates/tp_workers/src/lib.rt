@@ -1,5 +1,5 @@
-//! Desks, clients and killers at work together, each on a thread of its own, and desks at work in rounds until a whole
-//! round claims nothing.
+//! Desks, clients and killers at work together, each on a thread of its own, and desks at work in rounds
+//! until a whole round claims nothing.
 #![tactic(auto)]
 
 mod alone;
@@ -12,9 +12,9 @@ mod fork;
 mod gate;
 mod killer;
 mod plan;
+mod program_fault;
 mod rounds;
 mod tally;
-mod trouble;
 mod work;
 
 pub use alone::work_off;
@@ -23,7 +23,7 @@ pub use crew::{Crew, CrewLimits};
 pub use gate::{Gate, NoGate, Point};
 pub use killer::KillJob;
 pub use plan::Plan;
+pub use program_fault::ProgramFault;
 pub use rounds::{Drained, drain};
 pub use tally::Shift;
-pub use trouble::Trouble;
 pub use work::shift;

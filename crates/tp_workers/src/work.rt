@@ -26,8 +26,8 @@ use tp_server::Server;
 /// where its pass has no unit left. The answer is what all did together; where `counts` has a place for each
 /// desk, what each desk did is left there.
 ///
-/// All passes come from this manager's keeper and have no unit open, and the servers have nothing prepared; so it is
-/// afterwards. The jobs stay as they are.
+/// All passes come from this manager's keeper and have no unit open, and the servers have nothing prepared;
+/// so it is afterwards. The jobs stay as they are.
 pub fn shift<R: Threads + Sync, G: Gate>(
     rt: &R,
     manager: &Manager,
@@ -74,7 +74,8 @@ pub fn shift<R: Threads + Sync, G: Gate>(
     ensures killers_numbered { numbers killer_passes.new ≡ numbers killer_passes.old }
     ensures clients_same { clients.new ≡ clients.old }
     ensures killers_same { killers.new ≡ killers.old }
-    ensures desks_kept { (length desk_passes.new ≡ length desk_passes.old) × (length servers.new ≡ length servers.old) }
+    ensures desks_kept { (length desk_passes.new ≡ length desk_passes.old)
+        × (length servers.new ≡ length servers.old) }
     ensures clients_kept { length client_passes.new ≡ length client_passes.old }
     ensures killers_kept { length killer_passes.new ≡ length killer_passes.old }
 
@@ -90,7 +91,8 @@ pub fn shift<R: Threads + Sync, G: Gate>(
     let desk = |pass: &mut Pass, server: &mut Box<dyn Server + Send>, worker: u32| -> Shift
         requires { IsDeskOf behaviour registers pending manager.now (pass.now, server.now) }
         ensures { DeskRan behaviour registers pending manager.entry.now plan
-            (pass.entry.now, server.entry.now) result (pass.exit.now, server.exit.now) × (total result ≤ plan.turns) }
+            (pass.entry.now, server.entry.now) result (pass.exit.now, server.exit.now)
+            × (total result ≤ plan.turns) }
     { run_desk(manager, pass, server, plan, worker, gate) };
     let client = |pass: &mut Pass, job: &mut ClientJob, worker: u32| -> Shift
         requires { IsClientOf manager.now (pass.now, job.now) × (calls_of job.now < 2 ^ 32) }

@@ -1,5 +1,5 @@
 use Rattle.tp_exact.proofs.laws.exact_command.Goals as goal
-use Rattle.tp_exact.proofs.Commands.{exact_command}
+use Rattle.tp_exact.proofs.Covered.{exact_command}
 
 pub returns : goal.returns
 returns c = exact_command

@@ -10,6 +10,6 @@ loop-pass-preserved c = record {
   free = search rules;
   seen = c.in-Ok.ensures.given.1 ∙ c.loop-pass.invariant.seen;
   new = rw c.in_ok-push.ensures.items (All-append IsNewPass c.loop-pass.passes.items (c.in-Ok.pass ∷ []) c.loop-pass.invariant.new
-      (All-cons IsNewPass c.in-Ok.pass [] (record { seen = c.in-Ok.ensures.fresh.2 ∙ c.loop-pass.invariant.seen; mine = c.in-Ok.ensures.fresh.1; open_unit = c.in-Ok.ensures.fresh.3; next = c.in-Ok.ensures.rows.0; left = c.in-Ok.ensures.rows.1; blocks = c.in-Ok.ensures.rows.2 }) (All-nil IsNewPass)));
+      (All-cons IsNewPass c.in-Ok.pass [] (record { seen = c.in-Ok.ensures.fresh.2 ∙ c.loop-pass.invariant.seen; mine = c.in-Ok.ensures.fresh.1; open_unit = c.in-Ok.ensures.fresh.3; next = c.in-Ok.ensures.rows.0; left = c.in-Ok.ensures.rows.1; blocks = c.in-Ok.ensures.rows.2; turn = c.in-Ok.ensures.turn }) (All-nil IsNewPass)));
   given = rw c.in_ok-push.ensures.items (all_more c.loop-pass.keeper c.pass.new.self c.loop-pass.passes.items c.in-Ok.pass c.in-Ok.ensures.fresh.0 c.in-Ok.ensures.given.0 c.loop-pass.invariant.given);
 }

@@ -5,7 +5,6 @@ use Rattle.tp_script.specs.Script.{script_view, server_view}
 use Rattle.tp_perform.proofs.Beginnings.{begins_of, performed_of, recipes_shown, registers_shown}
 use Rattle.tp_report.proofs.Devices.{always_err}
 use Rattle.tp_report.proofs.LineProofs.{err_then, front_fewer, lines_then, lines_then_front, ok_then}
-use Rattle.tp_perform.proofs.Everyone.{all_same}
 use Rattle.tp_perform.proofs.serve.serve_with.Goals as goal
 
 pub returns-clause-done : goal.returns-clause-done
@@ -21,7 +20,7 @@ returns-in_err-finals-clause-front g c =
     always_err c.from_residual-in_err-finals.result (front_fewer _ _ _ _ (omega arith) (lines_then_front _ _ _ (g.W.Sink.contents c.perform.new.writer) _ c.in_ok-perform.ensures.done c.in_err-finals.ensures.front))
 
 pub close-requires-clause-all : goal.close-requires-clause-all
-close-requires-clause-all g c = all_same c.args.keeper.now c.args.passes.now c.perform.new.passes c.in_ok-perform.ensures.numbered c.requires.given
+close-requires-clause-all g c = c.in_ok-perform.ensures.given
 
 pub returns-clause-told : goal.returns-clause-told
 returns-clause-told g c =
@@ -30,12 +29,11 @@ returns-clause-told g c =
     let many = count ∙ sym (length-map c.args.script.now.servers.items server_view) in
     let begins = begins_of _ _ _ (script_view c.args.script.now) c.args.manager.now c.args.passes.now _ commands.0 commands.2 many c.requires.limits c.requires.enough c.requires.given.1 c.requires.passes c.requires.new
     (c.requires.behaviours ∙ recipes_shown c.args.script.now.servers.items) (c.requires.registers ∙ registers_shown c.args.script.now.servers.items) in
-    let performed = performed_of (script_view c.args.script.now) c.args.manager.now commands.0 commands.1 (g.W.Sink.contents c.args.writer.now) (g.W.Sink.contents c.perform.new.writer) c.perform.new.passes _ _ begins many commands.3 commands.4 commands.5 in
+    let performed = performed_of (script_view c.args.script.now) c.args.manager.now c.args.keeper.now c.perform.new.keeper commands.0 commands.1 (g.W.Sink.contents c.args.writer.now) (g.W.Sink.contents c.perform.new.writer) c.perform.new.passes _ _ begins many commands.3 commands.4 commands.5 in
     on_ok_weaker c.close.result (λ account. record {
       performed = performed;
       finals_done = g.W.Sink.contents c.finals.new.writer;
       finals = c.in_ok-finals.ensures.told;
-      keeper = c.args.keeper.now;
       keeper' = c.close.new.keeper;
       closed = c.close.new.passes;
       account = account;
@@ -48,7 +46,7 @@ returns-in_err-perform-clause-told_front g c =
     let many = count ∙ sym (length-map c.args.script.now.servers.items server_view) in
     let begins = begins_of _ _ _ (script_view c.args.script.now) c.args.manager.now c.args.passes.now _ commands.0 commands.1 many c.requires.limits c.requires.enough c.requires.given.1 c.requires.passes c.requires.new
     (c.requires.behaviours ∙ recipes_shown c.args.script.now.servers.items) (c.requires.registers ∙ registers_shown c.args.script.now.servers.items) in
-    always_err c.from_residual.result (inr (c.args.manager.now, inl (record { first = commands.0; begins = begins; told = commands.2 })))
+    always_err c.from_residual.result (inr (c.args.manager.now, inl (record { keeper = c.args.keeper.now; first = commands.0; begins = begins; told = commands.2 })))
 
 pub returns-in_err-finals-clause-told_front : goal.returns-in_err-finals-clause-told_front
 returns-in_err-finals-clause-told_front g c =
@@ -57,7 +55,7 @@ returns-in_err-finals-clause-told_front g c =
     let many = count ∙ sym (length-map c.args.script.now.servers.items server_view) in
     let begins = begins_of _ _ _ (script_view c.args.script.now) c.args.manager.now c.args.passes.now _ commands.0 commands.2 many c.requires.limits c.requires.enough c.requires.given.1 c.requires.passes c.requires.new
     (c.requires.behaviours ∙ recipes_shown c.args.script.now.servers.items) (c.requires.registers ∙ registers_shown c.args.script.now.servers.items) in
-    let performed = performed_of (script_view c.args.script.now) c.args.manager.now commands.0 commands.1 (g.W.Sink.contents c.args.writer.now) (g.W.Sink.contents c.perform.new.writer) c.perform.new.passes _ _ begins many commands.3 commands.4 commands.5 in
+    let performed = performed_of (script_view c.args.script.now) c.args.manager.now c.args.keeper.now c.perform.new.keeper commands.0 commands.1 (g.W.Sink.contents c.args.writer.now) (g.W.Sink.contents c.perform.new.writer) c.perform.new.passes _ _ begins many commands.3 commands.4 commands.5 in
     always_err c.from_residual-in_err-finals.result (inr (c.args.manager.now, inr (inl (record { performed = performed; finals = c.in_err-finals.ensures.told_front }))))
 
 pub returns-clause-told_front : goal.returns-clause-told_front
@@ -67,14 +65,13 @@ returns-clause-told_front g c =
     let many = count ∙ sym (length-map c.args.script.now.servers.items server_view) in
     let begins = begins_of _ _ _ (script_view c.args.script.now) c.args.manager.now c.args.passes.now _ commands.0 commands.2 many c.requires.limits c.requires.enough c.requires.given.1 c.requires.passes c.requires.new
     (c.requires.behaviours ∙ recipes_shown c.args.script.now.servers.items) (c.requires.registers ∙ registers_shown c.args.script.now.servers.items) in
-    let performed = performed_of (script_view c.args.script.now) c.args.manager.now commands.0 commands.1 (g.W.Sink.contents c.args.writer.now) (g.W.Sink.contents c.perform.new.writer) c.perform.new.passes _ _ begins many commands.3 commands.4 commands.5 in
+    let performed = performed_of (script_view c.args.script.now) c.args.manager.now c.args.keeper.now c.perform.new.keeper commands.0 commands.1 (g.W.Sink.contents c.args.writer.now) (g.W.Sink.contents c.perform.new.writer) c.perform.new.passes _ _ begins many commands.3 commands.4 commands.5 in
     on_err_weaker c.close.result (λ account. inr (
       c.args.manager.now,
       inr (inr (record {
         performed = performed;
         finals_done = g.W.Sink.contents c.finals.new.writer;
         finals = c.in_ok-finals.ensures.told;
-        keeper = c.args.keeper.now;
         keeper' = c.close.new.keeper;
         closed = c.close.new.passes;
         account = account;

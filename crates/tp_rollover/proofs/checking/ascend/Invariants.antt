@@ -1,8 +1,8 @@
 use Rattle.std.proofs.Common.{drop}
-use Rattle.tp_rollover.specs.Checks.{Ascend}
+use Rattle.tp_rollover.specs.Checks.{MovedAscend}
 use Rattle.tp_rollover.specs.Rolls.{AscendFrom}
 use Rattle.tp_rollover.proofs.checking.ascend.Given as goal
 
 -- where what is left goes on ascending, all do
 abbrev pub invariant-loop-place : goal.invariant-loop-place
-invariant-loop-place l = AscendFrom (λ m. m.old) l.old (drop l.place l.moved) → AscendFrom (λ m. m.new) l.new (drop l.place l.moved) → Ascend l.moved
+invariant-loop-place l = AscendFrom (λ m. m.old) l.old (drop l.place l.moved) → AscendFrom (λ m. m.new) l.new (drop l.place l.moved) → MovedAscend l.moved

@@ -6,8 +6,8 @@ use Rattle.tp_script.specs.Script.{script_view}
 use Rattle.tp_script.proofs.LinesLemmas.{lines_go_on, lines_end, lines_done, script_is, script_past}
 use Rattle.tp_script.proofs.parse.parse.Goals as goal
 
-pub returns-then-bytes-gt-MOST_BYTES-clause-script : goal.returns-then-bytes-gt-MOST_BYTES-clause-script
-returns-then-bytes-gt-MOST_BYTES-clause-script c = rw c.at_line.ensures (script_past c.args.bytes.now (omega arith))
+pub returns-then-bytes-gt-MAX_SCRIPT_BYTES-clause-script : goal.returns-then-bytes-gt-MAX_SCRIPT_BYTES-clause-script
+returns-then-bytes-gt-MAX_SCRIPT_BYTES-clause-script c = rw c.at_line.ensures (script_past c.args.bytes.now (omega arith))
 
 pub loop-text-init : goal.loop-text-init
 loop-text-init c = (rw (c.deref-text-items.ensures.value, c.in_ok-lines.ensures.lines, c.new-script.ensures) refl, refl)
@@ -18,7 +18,7 @@ returns-in-Err-clause-script c =
     rw c.at_line-in-Err.ensures (lines_end c.loop-text.line _ _ (script_view c.loop-text.script) c.in-Err.error (lines_from 1 (lines c.args.bytes.now) no_lines) _ (script_is c.args.bytes.now (omega arith)) c.in-Err.ensures (rw next at c.loop-text.invariant.0))
 
 pub overflow_add-line : goal.overflow_add-line
-overflow_add-line c = omega (arith, c.loop-text.invariant.1, c.loop-text-test.true, ap length c.deref-text-items.ensures.value, c.in_ok-lines.ensures.few, c.in_ok-lines.lines.ok.0, c.if-bytes-gt-MOST_BYTES.false)
+overflow_add-line c = omega (arith, c.loop-text.invariant.1, c.loop-text-test.true, ap length c.deref-text-items.ensures.value, c.in_ok-lines.ensures.few, c.in_ok-lines.lines.ok.0, c.if-bytes-gt-MAX_SCRIPT_BYTES.false)
 
 pub loop-text-preserved : goal.loop-text-preserved
 loop-text-preserved c =

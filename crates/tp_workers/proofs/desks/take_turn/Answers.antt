@@ -19,6 +19,6 @@ returns g c = record {
         left = search rules;
         ready = search rules;
       })
-      c.args.order c.turn_by-turned.result _ (record { answer = c.turn_by-turned.ensures.answer; follows = c.turn_by-turned.ensures.follows; behaviour_is = c.turn_by-turned.ensures.behaviour })
+      c.args.order c.turn_by-turned.result _ (record { answer = c.turn_by-turned.ensures.answer; follows = c.turn_by-turned.ensures.follows; keeps_turn = c.turn_by-turned.ensures.turn; behaviour_is = c.turn_by-turned.ensures.behaviour })
       c.turn_by-turned.ensures.limits c.of_turn.ensures;
 }

@@ -1,5 +1,5 @@
 use Rattle.std.proofs.Common.{◌≡◌, ℕ, ◌-◌, ◌≤◌, arith, ap, refl, subst, ◌∙◌}
-use Rattle.tp_workers.specs.Calling.{Called}
+use Rattle.tp_workers.specs.Calling.{MadeCalls}
 use Rattle.tp_workers.specs.Killers.{KillsNext, killing}
 use Rattle.tp_workers.specs.Tally.{kill_count, total}
 use Rattle.tp_workers.proofs.Killers.{kills_counted, kills_gained, kills_more, kills_none, one_kill, total_kills}
@@ -30,7 +30,7 @@ returns-clause-ran g c =
     let job = c.args.job.now in
     let low : job.first ≤ job.end = c.requires.ready.job in
     let all : c.loop-id.id ≡ job.end = omega (arith, low) in
-    let calls = subst (λ (n : ℕ). Called (KillsNext c.args.manager.now.limits) kill_count (n - job.first) (killing job.first c.args.pass.now) c.loop-id.counts (killing n c.loop-id.pass)) all c.loop-id.invariant.calls in
+    let calls = subst (λ (n : ℕ). MadeCalls (KillsNext c.args.manager.now.limits) kill_count (n - job.first) (killing job.first c.args.pass.now) c.loop-id.counts (killing n c.loop-id.pass)) all c.loop-id.invariant.calls in
     record {
       calls = calls;
       gains = (kills_gained _ _ _ _ _ calls).gains;

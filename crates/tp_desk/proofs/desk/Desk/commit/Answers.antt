@@ -10,4 +10,4 @@ returns-clause-steady g c =
 
 pub returns-clause-answer : goal.returns-clause-answer
 returns-clause-answer g c =
-    finishes _ _ _ _ _ _ _ _ _ c.commit-outcome.result c.requires.steady c.requires.prepared (rw c.as_slice.ensures.value at c.commit-outcome.ensures.answer)
+    finishes _ _ _ _ _ _ _ _ _ _ c.commit-outcome.result c.requires.steady c.requires.prepared (rw c.as_slice.ensures.value at c.commit-outcome.ensures.answer) c.settle.ensures.registers

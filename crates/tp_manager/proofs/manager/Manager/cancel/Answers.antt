@@ -2,7 +2,7 @@ use Rattle.std.proofs.Common.{◌≡◌, ◌≤◌, ◌++◌, ℕ, length, sym, 
 use Rattle.tp_model.specs.declared.types.Limits.{Limits}
 use Rattle.tp_model.specs.Families.{IsRequest, family}
 use Rattle.tp_model.specs.Steps.{rows_of}
-use Rattle.tp_rule.specs.Tables.{limits_of}
+use Rattle.tp_rule.specs.Tables.{table_limits}
 use Rattle.tp_rule.specs.Views.{hand, seen_by, view_of}
 use Rattle.tp_manager.specs.Shown.{ManagerShown, PassShown, shown, spot}
 use Rattle.tp_manager.specs.Bounds.{cancel_steps, end_steps, ends_steps, family_cancel_steps, root_steps}
@@ -20,10 +20,10 @@ use Rattle.tp_manager.proofs.Walks.{at_point, climbs_same, follows, has_looked, 
 use Rattle.tp_manager.proofs.manager.Manager.cancel.Goals as goal
 use Rattle.tp_manager.proofs.manager.Manager.cancel.Goals.{After-rows, After-is_request, After-cancel_family-killed}
 
-lim : (c : After-rows) → (view_of c.pass.inside.seat).limits ≡ limits_of c.self.inside.shared.words
+lim : (c : After-rows) → (view_of c.pass.inside.seat).limits ≡ table_limits c.self.inside.shared.words
 lim c = ap (λ (p : PassShown). p.limits) c.pass.view_is ∙ (c.requires.own.1 ∙ (sym (ap (λ (m : ManagerShown). m.limits) c.self.view_is) ∙ sym c.self.inside.shared.same))
 
-limits : (c : After-rows) → limits_of c.self.inside.shared.words ≡ c.args.self.now.limits
+limits : (c : After-rows) → table_limits c.self.inside.shared.words ≡ c.args.self.now.limits
 limits c = c.self.inside.shared.same ∙ ap (λ (m : ManagerShown). m.limits) c.self.view_is
 
 free : (c : After-rows) → (hand (view_of c.pass.inside.seat)).open_unit ≡ None
@@ -39,8 +39,8 @@ rests c = subst (λ t. Rests c.pass.inside.seat c.pass.inside.number c.pass.insi
 abbrev size : (c : After-cancel_family-killed) → ℕ
 size c = length (family (seen_by c.cancel_family-killed.new.seat) c.args.root)
 
-whole : (c : After-cancel_family-killed) → CancelsIn (limits_of c.self.inside.shared.words) (family_cancel_steps (limits_of c.self.inside.shared.words) (size c)) c.args.root c.cancel_family-killed.result (view_of c.pass.inside.seat) (view_of c.cancel_family-killed.new.seat)
-whole c = let l : Limits = limits_of c.self.inside.shared.words in
+whole : (c : After-cancel_family-killed) → CancelsIn (table_limits c.self.inside.shared.words) (family_cancel_steps (table_limits c.self.inside.shared.words) (size c)) c.args.root c.cancel_family-killed.result (view_of c.pass.inside.seat) (view_of c.cancel_family-killed.new.seat)
+whole c = let l : Limits = table_limits c.self.inside.shared.words in
     cancels_after l c.args.root root_steps (ends_steps l (size c)) c.cancel_family-killed.result (view_of c.pass.inside.seat) (view_of c.is_request.new.seat) (view_of c.cancel_family-killed.new.seat)
     (looked l root_steps _ _ c.is_request.ensures.acted) c.cancel_family-killed.ensures.told
 
@@ -69,7 +69,7 @@ pub returns-then-not-is_request-clause-few : goal.returns-then-not-is_request-cl
 returns-then-not-is_request-clause-few c = refused (goal.at.returns-then-not-is_request-clause-few c).After-is_request (family_cancel_steps c.args.self.now.limits (length (family (seen_by c.is_request.new.seat) c.args.root))) (omega arith)
 
 pub returns-then-not-is_request-clause-answer : goal.returns-then-not-is_request-clause-answer
-returns-then-not-is_request-clause-answer c = let l : Limits = limits_of c.self.inside.shared.words in let a = c.is_request.ensures.acted in let v = view_of c.pass.inside.seat in let x = view_of c.is_request.new.seat in
+returns-then-not-is_request-clause-answer c = let l : Limits = table_limits c.self.inside.shared.words in let a = c.is_request.ensures.acted in let v = view_of c.pass.inside.seat in let x = view_of c.is_request.new.seat in
     let t = spot c.pass.inside.seat.table c.pass.inside.lows c.pass.inside.run.drawn c.pass.inside.from in let t' = spot c.is_request.new.seat.table c.pass.inside.lows c.pass.inside.run.drawn c.pass.inside.from in (
       refl,
       quiet_looked t t' v x c.args.pass.now c.pass.view_is l root_steps (looked l root_steps v x a),
@@ -81,24 +81,24 @@ returns-then-not-is_request-clause-answer c = let l : Limits = limits_of c.self.
 pub invariant_of-pass-2 : goal.invariant_of-pass-2
 invariant_of-pass-2 c = let at = goal.at.invariant_of-pass-2 c in let k = whole at.After-cancel_family-killed in (
   subst (λ t. Rests c.cancel_family-killed.new.seat c.pass.inside.number c.pass.inside.run c.pass.inside.used t) (sym (no_task at.After-rows))
-      (rests_swept (limits_of c.self.inside.shared.words) c.pass.inside.seat c.cancel_family-killed.new.seat _ _ _ (lim at.After-rows) (rests at.After-rows) _ c.args.root k.events k.swept),
+      (rests_swept (table_limits c.self.inside.shared.words) c.pass.inside.seat c.cancel_family-killed.new.seat _ _ _ (lim at.After-rows) (rests at.After-rows) _ c.args.root k.events k.swept),
   remembers c.pass.inside.lows _ _ _ _ _ k.swept.gained.walk c.pass.invariant.1,
 )
 
-within : (c : After-cancel_family-killed) (m : ℕ) → family_cancel_steps (limits_of c.self.inside.shared.words) (size c) ≤ m → Follows m c.args.pass.now (shown (spot c.cancel_family-killed.new.seat.table c.pass.inside.lows c.pass.inside.run.drawn c.pass.inside.from) (view_of c.cancel_family-killed.new.seat))
+within : (c : After-cancel_family-killed) (m : ℕ) → family_cancel_steps (table_limits c.self.inside.shared.words) (size c) ≤ m → Follows m c.args.pass.now (shown (spot c.cancel_family-killed.new.seat.table c.pass.inside.lows c.pass.inside.run.drawn c.pass.inside.from) (view_of c.cancel_family-killed.new.seat))
 within c m le = follows (spot c.pass.inside.seat.table c.pass.inside.lows c.pass.inside.run.drawn c.pass.inside.from) (spot c.cancel_family-killed.new.seat.table c.pass.inside.lows c.pass.inside.run.drawn c.pass.inside.from) (climbs_same c.pass.inside.lows c.pass.inside.run.drawn) (view_of c.pass.inside.seat) (view_of c.cancel_family-killed.new.seat) c.args.pass.now c.pass.view_is _ _ _ (whole c).swept.gained.walk m le
 
 pub returns-clause-follows : goal.returns-clause-follows
-returns-clause-follows c = let at = goal.at.returns-clause-follows c in let l : Limits = limits_of c.self.inside.shared.words in let w = at.After-cancel_family-killed in
+returns-clause-follows c = let at = goal.at.returns-clause-follows c in let l : Limits = table_limits c.self.inside.shared.words in let w = at.After-cancel_family-killed in
     let few = mul-le-mul_right (end_steps l) (family_few l c.args.root (seen_by c.cancel_family-killed.new.seat) (whole w).swept.gained.walk.steady.shows.legal) in
     within w (cancel_steps c.args.self.now.limits) (subst (λ (z : Limits). family_cancel_steps l (size w) ≤ cancel_steps z) (limits at.After-rows) (omega arith))
 
 pub returns-clause-few : goal.returns-clause-few
-returns-clause-few c = let at = goal.at.returns-clause-few c in let l : Limits = limits_of c.self.inside.shared.words in let w = at.After-cancel_family-killed in
+returns-clause-few c = let at = goal.at.returns-clause-few c in let l : Limits = table_limits c.self.inside.shared.words in let w = at.After-cancel_family-killed in
     within w (family_cancel_steps c.args.self.now.limits (size w)) (subst (λ (z : Limits). family_cancel_steps l (size w) ≤ family_cancel_steps z (size w)) (limits at.After-rows) (omega arith))
 
 pub returns-clause-looks : goal.returns-clause-looks
-returns-clause-looks c = λ _. let l : Limits = limits_of c.self.inside.shared.words in let a = c.is_request.ensures.acted in let k = c.cancel_family-killed.ensures.told.swept.gained in
+returns-clause-looks c = λ _. let l : Limits = table_limits c.self.inside.shared.words in let a = c.is_request.ensures.acted in let k = c.cancel_family-killed.ensures.told.swept.gained in
     has_looked (spot c.pass.inside.seat.table c.pass.inside.lows c.pass.inside.run.drawn c.pass.inside.from) (spot c.cancel_family-killed.new.seat.table c.pass.inside.lows c.pass.inside.run.drawn c.pass.inside.from) (view_of c.pass.inside.seat) (view_of c.cancel_family-killed.new.seat) c.args.pass.now c.pass.view_is l _ (a.marks ++ k.marks)
     (walked_then l root_steps _ a.marks k.marks _ _ _ a.walk k.walk) (has_more a.marks k.marks a.step)
 
@@ -106,7 +106,7 @@ pub returns-clause-open_unit : goal.returns-clause-open_unit
 returns-clause-open_unit c = let at = goal.at.returns-clause-open_unit c in (whole at.After-cancel_family-killed).swept.gained.open_unit (free at.After-rows)
 
 pub returns-clause-answer : goal.returns-clause-answer
-returns-clause-answer c = let at = goal.at.returns-clause-answer c in let l : Limits = limits_of c.self.inside.shared.words in let k = whole at.After-cancel_family-killed in let told = c.cancel_family-killed.ensures.told in
+returns-clause-answer c = let at = goal.at.returns-clause-answer c in let l : Limits = table_limits c.self.inside.shared.words in let k = whole at.After-cancel_family-killed in let told = c.cancel_family-killed.ensures.told in
     let t = spot c.pass.inside.seat.table c.pass.inside.lows c.pass.inside.run.drawn c.pass.inside.from in let t' = spot c.cancel_family-killed.new.seat.table c.pass.inside.lows c.pass.inside.run.drawn c.pass.inside.from in
     let request = request_later (seen_by c.is_request.new.seat) (seen_by c.cancel_family-killed.new.seat) c.args.root (swept_begins l c.args.root _ told.events _ _ told.swept) (c.is_request.ensures.yes c.if-not-is_request.false) in
     subst (λ (z : Limits). Cancels z c.args.root c.cancel_family-killed.result c.args.pass.now (shown t' (view_of c.cancel_family-killed.new.seat))) (limits at.After-rows)

@@ -1,7 +1,7 @@
 use Rattle.std.proofs.Common.{◌≡◌, ◌+◌, ◌*◌, ◌<◌, ◌≤◌, ℕ, List, length, set, sym, ◌∙◌, ap, refl, arith, subst}
 use Rattle.tp_model.specs.declared.types.Limits.{Limits}
 use Rattle.tp_model.specs.declared.types.Claimed.TheVariants as claimeds
-use Rattle.tp_rule.specs.Tables.{limits_of}
+use Rattle.tp_rule.specs.Tables.{table_limits}
 use Rattle.tp_rule.specs.Views.{view_of}
 use Rattle.tp_manager.specs.Shown.{ManagerShown, PassShown, Spot, marks_of, shown, spot}
 use Rattle.tp_manager.specs.Raises.{RaisesMarks}
@@ -16,16 +16,16 @@ use Rattle.tp_manager.proofs.Claims.{chose_steady, chose_walked, chose_rests, id
 use Rattle.tp_manager.proofs.manager.Manager.claim.Goals as goal
 use Rattle.tp_manager.proofs.manager.Manager.claim.Goals.{After-choose_unit}
 
-lim : (c : After-choose_unit) → (view_of c.pass.inside.seat).limits ≡ limits_of c.self.inside.shared.words
+lim : (c : After-choose_unit) → (view_of c.pass.inside.seat).limits ≡ table_limits c.self.inside.shared.words
 lim c = ap (λ (p : PassShown). p.limits) c.pass.view_is ∙ (c.requires.own.1 ∙ (sym (ap (λ (m : ManagerShown). m.limits) c.self.view_is) ∙ sym c.self.inside.shared.same))
 
-limits : (c : After-choose_unit) → limits_of c.self.inside.shared.words ≡ c.args.self.now.limits
+limits : (c : After-choose_unit) → table_limits c.self.inside.shared.words ≡ c.args.self.now.limits
 limits c = c.self.inside.shared.same ∙ ap (λ (m : ManagerShown). m.limits) c.self.view_is
 
-steady : (c : After-choose_unit) → Steady (limits_of c.self.inside.shared.words) (view_of c.pass.inside.seat)
+steady : (c : After-choose_unit) → Steady (table_limits c.self.inside.shared.words) (view_of c.pass.inside.seat)
 steady c = steady_at _ _ _ (lim c) c.pass.invariant.0.steady
 
-not : (c : After-choose_unit) → ¬ (c.pass.inside.used ≡ (limits_of c.self.inside.shared.words).units)
+not : (c : After-choose_unit) → ¬ (c.pass.inside.used ≡ (table_limits c.self.inside.shared.words).units)
 not c = subst (λ (z : Limits). ¬ (c.pass.inside.used ≡ z.units)) (sym c.self.inside.shared.same) c.if-pass-units.false
 
 -- the stage is a kind that is remembered
@@ -41,8 +41,8 @@ most l k lows same = subst (λ (z : Limits). 1 + marked_steps l try_steps lows �
     (let all = marked_most l try_steps lows in let each : 3 + l.rows * try_steps ≡ part_steps l = omega arith in
     subst (λ n. 1 + marked_steps l try_steps lows ≤ 1 + (l.parts * n + spare_left l try_steps 0)) each (omega arith))
 
-few : (c : After-choose_unit) → 1 + marked_steps (limits_of c.self.inside.shared.words) try_steps (marks_of c.pass.inside.lows c.args.stage) ≤ claim_steps_left c.args.self.now.limits (marks_of c.args.pass.now.lows c.args.stage)
-few c = let l : Limits = limits_of c.self.inside.shared.words in
+few : (c : After-choose_unit) → 1 + marked_steps (table_limits c.self.inside.shared.words) try_steps (marks_of c.pass.inside.lows c.args.stage) ≤ claim_steps_left c.args.self.now.limits (marks_of c.args.pass.now.lows c.args.stage)
+few c = let l : Limits = table_limits c.self.inside.shared.words in
     claim_shown l c.args.self.now.limits (marks_of c.pass.inside.lows c.args.stage) (marks_of c.args.pass.now.lows c.args.stage) _ (limits c) (ap (λ (p : PassShown). marks_of p.lows c.args.stage) c.pass.view_is)
     (claim_few l (marks_of c.pass.inside.lows c.args.stage) c.args.stage (view_of c.pass.inside.seat) (lim c) (steady c).known (c.pass.invariant.1 c.args.stage))
 
@@ -51,23 +51,23 @@ scan-requires-clause-remembers c = known (goal.at.scan-requires-clause-remembers
 
 pub scan-requires-clause-drawn : goal.scan-requires-clause-drawn
 scan-requires-clause-drawn c = let at = (goal.at.scan-requires-clause-drawn c).After-choose_unit in
-    drawn_walked (limits_of c.self.inside.shared.words) _ _ _ _ c.pass.inside.run.drawn (lim at) (chose_walked _ _ _ _ (steady at) c.choose_unit.ensures.chooses) c.pass.invariant.0.drawn
+    drawn_walked (table_limits c.self.inside.shared.words) _ _ _ _ c.pass.inside.run.drawn (lim at) (chose_walked _ _ _ _ (steady at) c.choose_unit.ensures.chooses) c.pass.invariant.0.drawn
 
 pub scan-requires-clause-steady : goal.scan-requires-clause-steady
 scan-requires-clause-steady c = chose_steady _ _ _ _ (steady (goal.at.scan-requires-clause-steady c).After-choose_unit) c.choose_unit.ensures.chooses
 
 pub returns-in_default-clause-follows : goal.returns-in_default-clause-follows
-returns-in_default-clause-follows c = let at = (goal.at.returns-in_default-clause-follows c).After-choose_unit in let l : Limits = limits_of c.self.inside.shared.words in let told = c.in_default.ensures.told in
+returns-in_default-clause-follows c = let at = (goal.at.returns-in_default-clause-follows c).After-choose_unit in let l : Limits = table_limits c.self.inside.shared.words in let told = c.in_default.ensures.told in
     follows (spot c.pass.inside.seat.table c.pass.inside.lows c.pass.inside.run.drawn c.pass.inside.from) (spot c.scan.new.seat.table (set c.pass.inside.lows c.args.stage c.scan.new.lows) c.scan.new.drawn c.pass.inside.from) (rises_in c.pass.inside.lows c.scan.new.lows c.args.stage (kinds at) c.scan.ensures.lows, c.scan.ensures.risen) (view_of c.pass.inside.seat) (view_of c.scan.new.seat) c.args.pass.now c.pass.view_is l _ _
     (idle_walked l _ _ (view_of c.choose_unit.new.seat) (steady at) c.choose_unit.ensures.chooses _ c.args.stage _ told) (claim_steps c.args.self.now.limits) (most l c.args.self.now.limits (marks_of c.pass.inside.lows c.args.stage) (limits at))
 
 pub returns-in_default-clause-few : goal.returns-in_default-clause-few
-returns-in_default-clause-few c = let at = (goal.at.returns-in_default-clause-few c).After-choose_unit in let l : Limits = limits_of c.self.inside.shared.words in let told = c.in_default.ensures.told in
+returns-in_default-clause-few c = let at = (goal.at.returns-in_default-clause-few c).After-choose_unit in let l : Limits = table_limits c.self.inside.shared.words in let told = c.in_default.ensures.told in
     follows (spot c.pass.inside.seat.table c.pass.inside.lows c.pass.inside.run.drawn c.pass.inside.from) (spot c.scan.new.seat.table (set c.pass.inside.lows c.args.stage c.scan.new.lows) c.scan.new.drawn c.pass.inside.from) (rises_in c.pass.inside.lows c.scan.new.lows c.args.stage (kinds at) c.scan.ensures.lows, c.scan.ensures.risen) (view_of c.pass.inside.seat) (view_of c.scan.new.seat) c.args.pass.now c.pass.view_is l _ _
     (idle_walked l _ _ (view_of c.choose_unit.new.seat) (steady at) c.choose_unit.ensures.chooses _ c.args.stage _ told) (claim_steps_left c.args.self.now.limits (marks_of c.args.pass.now.lows c.args.stage)) (few at)
 
 pub returns-in_default-clause-answer : goal.returns-in_default-clause-answer
-returns-in_default-clause-answer c = let at = (goal.at.returns-in_default-clause-answer c).After-choose_unit in let l : Limits = limits_of c.self.inside.shared.words in let told = c.in_default.ensures.told in
+returns-in_default-clause-answer c = let at = (goal.at.returns-in_default-clause-answer c).After-choose_unit in let l : Limits = table_limits c.self.inside.shared.words in let told = c.in_default.ensures.told in
     subst (λ (z : Limits). Claims z c.args.stage c.args.pass.now (shown (spot c.scan.new.seat.table (set c.pass.inside.lows c.args.stage c.scan.new.lows) c.scan.new.drawn c.pass.inside.from) (view_of c.scan.new.seat)) claimeds.Idle) (limits at)
     (idle_answer l _ _ (view_of c.choose_unit.new.seat) (steady at) c.choose_unit.ensures.chooses _ c.args.stage _ told _ _ _ _ c.pass.inside.seat (spot c.pass.inside.seat.table c.pass.inside.lows c.pass.inside.run.drawn c.pass.inside.from) (spot c.scan.new.seat.table (set c.pass.inside.lows c.args.stage c.scan.new.lows) c.scan.new.drawn c.pass.inside.from) c.args.pass.now refl (lim at) c.pass.view_is c.pass.invariant.0 (not at))
 
@@ -76,29 +76,29 @@ scan-requires-clause-done c = let at = (goal.at.scan-requires-clause-done c).Aft
     done_walked _ 1 _ _ _ c.pass.inside.run.done (lim at) (chose_walked _ _ _ (view_of c.choose_unit.new.seat) (steady at) c.choose_unit.ensures.chooses) c.pass.invariant.0.done
 
 pub invariant_of-pass-in_default : goal.invariant_of-pass-in_default
-invariant_of-pass-in_default c = let at = (goal.at.invariant_of-pass-in_default c).After-choose_unit in let l : Limits = limits_of c.self.inside.shared.words in (
+invariant_of-pass-in_default c = let at = (goal.at.invariant_of-pass-in_default c).After-choose_unit in let l : Limits = table_limits c.self.inside.shared.words in (
   rests_drawn c.scan.new.seat _ _ _ _ c.scan.new.drawn (chose_rests l _ _ c.args.stage _ _ _ _ c.pass.inside.seat c.scan.new.seat (view_of c.choose_unit.new.seat) (steady at) c.choose_unit.ensures.chooses c.in_default.ensures.told (lim at) c.pass.invariant.0) c.scan.ensures.drawn,
   remembers_in c.pass.inside.lows c.scan.new.lows c.args.stage (view_of c.scan.new.seat) (kinds at) c.scan.ensures.remembers (remembers c.pass.inside.lows _ _ _ _ _ c.in_default.ensures.told.walk (known at)),
 )
 
 pub invariant_of-pass-2 : goal.invariant_of-pass-2
-invariant_of-pass-2 c = let at = (goal.at.invariant_of-pass-2 c).After-choose_unit in let l : Limits = limits_of c.self.inside.shared.words in let told = c.in-Some.ensures.told in (
+invariant_of-pass-2 c = let at = (goal.at.invariant_of-pass-2 c).After-choose_unit in let l : Limits = table_limits c.self.inside.shared.words in let told = c.in-Some.ensures.told in (
   rests_drawn c.scan.new.seat _ _ _ _ c.scan.new.drawn (took_rests l _ _ 0 c.args.stage c.in-Some.taken.attempt c.in-Some.taken.root _ _ _ _ _ c.pass.inside.seat c.scan.new.seat (view_of c.choose_unit.new.seat) c.in-Some.taken.element (steady at) c.choose_unit.ensures.chooses told.0 (lim at) told.1 refl (not at) c.pass.invariant.0) c.scan.ensures.drawn,
   remembers_in c.pass.inside.lows c.scan.new.lows c.args.stage (view_of c.scan.new.seat) (kinds at) c.scan.ensures.remembers (remembers c.pass.inside.lows _ _ _ _ _ told.0.walk (known at)),
 )
 
 pub returns-clause-follows : goal.returns-clause-follows
-returns-clause-follows c = let at = (goal.at.returns-clause-follows c).After-choose_unit in let l : Limits = limits_of c.self.inside.shared.words in let told = c.in-Some.ensures.told in
+returns-clause-follows c = let at = (goal.at.returns-clause-follows c).After-choose_unit in let l : Limits = table_limits c.self.inside.shared.words in let told = c.in-Some.ensures.told in
     follows (spot c.pass.inside.seat.table c.pass.inside.lows c.pass.inside.run.drawn c.pass.inside.from) (spot c.scan.new.seat.table (set c.pass.inside.lows c.args.stage c.scan.new.lows) c.scan.new.drawn c.pass.inside.from) (rises_in c.pass.inside.lows c.scan.new.lows c.args.stage (kinds at) c.scan.ensures.lows, c.scan.ensures.risen) (view_of c.pass.inside.seat) (view_of c.scan.new.seat) c.args.pass.now c.pass.view_is l _ _
     (took_walked l _ _ (view_of c.choose_unit.new.seat) (steady at) c.choose_unit.ensures.chooses _ 0 _ _ _ _ told.0) (claim_steps c.args.self.now.limits) (most l c.args.self.now.limits (marks_of c.pass.inside.lows c.args.stage) (limits at))
 
 pub returns-clause-few : goal.returns-clause-few
-returns-clause-few c = let at = (goal.at.returns-clause-few c).After-choose_unit in let l : Limits = limits_of c.self.inside.shared.words in let told = c.in-Some.ensures.told in
+returns-clause-few c = let at = (goal.at.returns-clause-few c).After-choose_unit in let l : Limits = table_limits c.self.inside.shared.words in let told = c.in-Some.ensures.told in
     follows (spot c.pass.inside.seat.table c.pass.inside.lows c.pass.inside.run.drawn c.pass.inside.from) (spot c.scan.new.seat.table (set c.pass.inside.lows c.args.stage c.scan.new.lows) c.scan.new.drawn c.pass.inside.from) (rises_in c.pass.inside.lows c.scan.new.lows c.args.stage (kinds at) c.scan.ensures.lows, c.scan.ensures.risen) (view_of c.pass.inside.seat) (view_of c.scan.new.seat) c.args.pass.now c.pass.view_is l _ _
     (took_walked l _ _ (view_of c.choose_unit.new.seat) (steady at) c.choose_unit.ensures.chooses _ 0 _ _ _ _ told.0) (claim_steps_left c.args.self.now.limits (marks_of c.args.pass.now.lows c.args.stage)) (few at)
 
 pub returns-clause-answer : goal.returns-clause-answer
-returns-clause-answer c = let at = (goal.at.returns-clause-answer c).After-choose_unit in let l : Limits = limits_of c.self.inside.shared.words in let told = c.in-Some.ensures.told in
+returns-clause-answer c = let at = (goal.at.returns-clause-answer c).After-choose_unit in let l : Limits = table_limits c.self.inside.shared.words in let told = c.in-Some.ensures.told in
     let u : ℕ = c.pass.inside.number * c.self.inside.shared.places.limits.units + c.pass.inside.used in
     subst (λ (z : Limits). Takes z c.args.stage (record { unit = u; element = c.in-Some.taken.element; attempt = c.in-Some.taken.attempt }) c.args.pass.now (shown (spot c.scan.new.seat.table (set c.pass.inside.lows c.args.stage c.scan.new.lows) c.scan.new.drawn c.pass.inside.from) (view_of c.scan.new.seat))) (limits at)
     record {
@@ -109,7 +109,7 @@ returns-clause-answer c = let at = (goal.at.returns-clause-answer c).After-choos
     }
 
 pub returns-in_default-clause-raises : goal.returns-in_default-clause-raises
-returns-in_default-clause-raises c = let at = (goal.at.returns-in_default-clause-raises c).After-choose_unit in let l : Limits = limits_of c.self.inside.shared.words in let told = c.in_default.ensures.told in
+returns-in_default-clause-raises c = let at = (goal.at.returns-in_default-clause-raises c).After-choose_unit in let l : Limits = table_limits c.self.inside.shared.words in let told = c.in_default.ensures.told in
     let v = view_of c.pass.inside.seat in let w = view_of c.choose_unit.new.seat in let y = view_of c.scan.new.seat in let a = chose_walked l _ v w (steady at) c.choose_unit.ensures.chooses in
     let t : Spot = spot c.pass.inside.seat.table c.pass.inside.lows c.pass.inside.run.drawn c.pass.inside.from in
     subst (λ (z : Limits). RaisesMarks z c.args.stage c.args.pass.now (shown (spot c.scan.new.seat.table (set c.pass.inside.lows c.args.stage c.scan.new.lows) c.scan.new.drawn c.pass.inside.from) y) claimeds.Idle) (limits at)
@@ -121,7 +121,7 @@ returns-in_default-clause-raises c = let at = (goal.at.returns-in_default-clause
     }
 
 pub returns-clause-raises : goal.returns-clause-raises
-returns-clause-raises c = let at = (goal.at.returns-clause-raises c).After-choose_unit in let l : Limits = limits_of c.self.inside.shared.words in let told = c.in-Some.ensures.told.0 in
+returns-clause-raises c = let at = (goal.at.returns-clause-raises c).After-choose_unit in let l : Limits = table_limits c.self.inside.shared.words in let told = c.in-Some.ensures.told.0 in
     let u : ℕ = c.pass.inside.number * c.self.inside.shared.places.limits.units + c.pass.inside.used in
     let v = view_of c.pass.inside.seat in let w = view_of c.choose_unit.new.seat in let y = view_of c.scan.new.seat in let a = chose_walked l _ v w (steady at) c.choose_unit.ensures.chooses in
     let t : Spot = spot c.pass.inside.seat.table c.pass.inside.lows c.pass.inside.run.drawn c.pass.inside.from in

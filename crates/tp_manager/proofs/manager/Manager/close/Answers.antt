@@ -9,7 +9,7 @@ use Rattle.tp_model.proofs.Outputs.{length-outputs}
 use Rattle.tp_rule.specs.Steps.{IsClaimed, MakesCommit, committed}
 use Rattle.tp_rule.specs.declared.view.View.{View}
 use Rattle.tp_model.specs.History.{Aborted, In}
-use Rattle.tp_rule.specs.Tables.{limits_of}
+use Rattle.tp_rule.specs.Tables.{table_limits}
 use Rattle.tp_rule.specs.Views.{hand, view_of}
 use Rattle.tp_manager.specs.Shown.{ManagerShown, PassShown, spot}
 use Rattle.tp_manager.specs.Bounds.{close_steps}
@@ -20,10 +20,10 @@ use Rattle.tp_manager.proofs.Shuts.{units_few, own_work, own_count, own_first, w
 use Rattle.tp_manager.proofs.manager.Manager.close.Goals as goal
 use Rattle.tp_manager.proofs.manager.Manager.close.Goals.{In-Some, After-write_all, then-count-eq0, else-count-eq0}
 
-lim : (c : In-Some) → (view_of c.pass.inside.seat).limits ≡ limits_of c.self.inside.shared.words
+lim : (c : In-Some) → (view_of c.pass.inside.seat).limits ≡ table_limits c.self.inside.shared.words
 lim c = ap (λ (p : PassShown). p.limits) c.pass.view_is ∙ (c.requires.own.1 ∙ (sym (ap (λ (m : ManagerShown). m.limits) c.self.view_is) ∙ sym c.self.inside.shared.same))
 
-steady : (c : In-Some) → Steady (limits_of c.self.inside.shared.words) (view_of c.pass.inside.seat)
+steady : (c : In-Some) → Steady (table_limits c.self.inside.shared.words) (view_of c.pass.inside.seat)
 steady c = steady_at _ _ _ (lim c) c.pass.invariant.0.steady
 
 held : (c : In-Some) → (hand (view_of c.pass.inside.seat)).open_unit ≡ Some c.in-Some.task.unit
@@ -35,39 +35,39 @@ left_is c = sym (ap (λ (p : PassShown). p.left) c.pass.view_is) ∙ c.pass.inva
 rests : (c : In-Some) → Rests c.pass.inside.seat c.pass.inside.number c.pass.inside.run c.pass.inside.used (Some c.in-Some.task)
 rests c = subst (λ t. Rests c.pass.inside.seat c.pass.inside.number c.pass.inside.run c.pass.inside.used t) c.in-Some.is c.pass.invariant.0
 
-claimed_unit : (c : In-Some) → IsClaimed (view_of c.pass.inside.seat).seen c.in-Some.task.unit × (c.in-Some.task.unit < units_of (limits_of c.self.inside.shared.words))
-claimed_unit c = task_claimed (limits_of c.self.inside.shared.words) (view_of c.pass.inside.seat).seen c.pass.inside.number c.in-Some.task (steady c).shows.legal (rests c).work
+claimed_unit : (c : In-Some) → IsClaimed (view_of c.pass.inside.seat).seen c.in-Some.task.unit × (c.in-Some.task.unit < units_of (table_limits c.self.inside.shared.words))
+claimed_unit c = task_claimed (table_limits c.self.inside.shared.words) (view_of c.pass.inside.seat).seen c.pass.inside.number c.in-Some.task (steady c).shows.legal (rests c).work
 
 pub write_all-requires-clause-fits : goal.write_all-requires-clause-fits
-write_all-requires-clause-fits c = let i = (goal.at.write_all-requires-clause-fits c).In-Some in let b = (claimed_unit i).1 in let few = units_few (limits_of c.self.inside.shared.words) c.self.inside.shared.words.places.valid in omega arith
+write_all-requires-clause-fits c = let i = (goal.at.write_all-requires-clause-fits c).In-Some in let b = (claimed_unit i).1 in let few = units_few (table_limits c.self.inside.shared.words) c.self.inside.shared.words.places.valid in omega arith
 
 pub commit_exchange-requires-clause-unit : goal.commit_exchange-requires-clause-unit
 commit_exchange-requires-clause-unit c = let i = (goal.at.commit_exchange-requires-clause-unit c).In-Some in (c.write_all.ensures.wrote.open_unit ∙ held i, (claimed_unit i).1)
 
 pub commit_exchange-requires-clause-work : goal.commit_exchange-requires-clause-work
 commit_exchange-requires-clause-work c = let i = (goal.at.commit_exchange-requires-clause-work c).In-Some in
-    own_work (limits_of c.self.inside.shared.words) (view_of c.pass.inside.seat) _ _ _ _ _ c.in-Some.task c.args.drafts.now c.pass.inside.seat refl (rests i) refl c.write_all.ensures.wrote c.write_all.ensures.whole
+    own_work (table_limits c.self.inside.shared.words) (view_of c.pass.inside.seat) _ _ _ _ _ c.in-Some.task c.args.drafts.now c.pass.inside.seat refl (rests i) refl c.write_all.ensures.wrote c.write_all.ensures.whole
 
 pub commit_exchange-requires-clause-count : goal.commit_exchange-requires-clause-count
 commit_exchange-requires-clause-count c = let i = (goal.at.commit_exchange-requires-clause-count c).In-Some in
-    (own_count (limits_of c.self.inside.shared.words) (view_of c.pass.inside.seat) _ _ _ _ _ c.in-Some.task c.args.drafts.now c.pass.inside.seat refl (rests i) refl c.write_all.ensures.wrote, c.requires.few)
+    (own_count (table_limits c.self.inside.shared.words) (view_of c.pass.inside.seat) _ _ _ _ _ c.in-Some.task c.args.drafts.now c.pass.inside.seat refl (rests i) refl c.write_all.ensures.wrote, c.requires.few)
 
 pub commit_exchange-requires-clause-first : goal.commit_exchange-requires-clause-first
 commit_exchange-requires-clause-first c = let i = (goal.at.commit_exchange-requires-clause-first c).In-Some in
-    own_first (limits_of c.self.inside.shared.words) (view_of c.pass.inside.seat) _ _ _ _ _ c.in-Some.task c.args.drafts.now c.pass.inside.seat refl (rests i) refl c.write_all.ensures.wrote c.if-count-eq0.first
+    own_first (table_limits c.self.inside.shared.words) (view_of c.pass.inside.seat) _ _ _ _ _ c.in-Some.task c.args.drafts.now c.pass.inside.seat refl (rests i) refl c.write_all.ensures.wrote c.if-count-eq0.first
     (λ some. elim c.if-count-eq0.branch [ then-count-eq0 w ↦ let z = w.if-count-eq0.true in absurd (omega arith) | else-count-eq0 w ↦ w.first-is ])
     (λ none. elim c.if-count-eq0.branch [ then-count-eq0 w ↦ w.first-is | else-count-eq0 w ↦ absurd (w.if-count-eq0.false none) ])
 
 hit : (c : After-write_all) (i : In-Some) → (y : View) → MakesCommit (view_of c.write_all.new.seat) c.in-Some.task.unit y
-    → Shut (limits_of c.self.inside.shared.words) 1 0 (committed (view_of c.write_all.new.seat) c.in-Some.task.unit ∷ []) (view_of c.write_all.new.seat) y
-hit c i y made = let l : Limits = limits_of c.self.inside.shared.words in
+    → Shut (table_limits c.self.inside.shared.words) 1 0 (committed (view_of c.write_all.new.seat) c.in-Some.task.unit ∷ []) (view_of c.write_all.new.seat) y
+hit c i y made = let l : Limits = table_limits c.self.inside.shared.words in
     shut_hit l kinds.CommitExchange _ _ _ refl c.write_all.ensures.wrote.walk.steady made
 
-both : (c : After-write_all) → (es : List Event) (y : View) → Shut (limits_of c.self.inside.shared.words) 1 0 es (view_of c.write_all.new.seat) y
-    → Shut (limits_of c.self.inside.shared.words) (close_steps (length c.args.drafts.now)) (length c.args.drafts.now) es (view_of c.pass.inside.seat) y
+both : (c : After-write_all) → (es : List Event) (y : View) → Shut (table_limits c.self.inside.shared.words) 1 0 es (view_of c.write_all.new.seat) y
+    → Shut (table_limits c.self.inside.shared.words) (close_steps (length c.args.drafts.now)) (length c.args.drafts.now) es (view_of c.pass.inside.seat) y
 both c es y sh = let row : ℕ = c.pass.inside.run.next in
-    subst (λ n. Shut (limits_of c.self.inside.shared.words) (close_steps n) n es (view_of c.pass.inside.seat) y) (length-outputs c.in-Some.task.unit c.in-Some.task.root row c.args.drafts.now)
-    (wrote_shut (limits_of c.self.inside.shared.words) (outputs c.in-Some.task.unit c.in-Some.task.root row c.args.drafts.now) es (view_of c.pass.inside.seat) (view_of c.write_all.new.seat) y c.write_all.ensures.wrote sh)
+    subst (λ n. Shut (table_limits c.self.inside.shared.words) (close_steps n) n es (view_of c.pass.inside.seat) y) (length-outputs c.in-Some.task.unit c.in-Some.task.root row c.args.drafts.now)
+    (wrote_shut (table_limits c.self.inside.shared.words) (outputs c.in-Some.task.unit c.in-Some.task.root row c.args.drafts.now) es (view_of c.pass.inside.seat) (view_of c.write_all.new.seat) y c.write_all.ensures.wrote sh)
 
 pub invariant_of-pass : goal.invariant_of-pass
 invariant_of-pass c = let at = goal.at.invariant_of-pass c in (
@@ -94,7 +94,7 @@ returns-else-commit_exchange-clause-follows c = let at = goal.at.returns-else-co
     follows (spot c.pass.inside.seat.table c.pass.inside.lows c.pass.inside.run.drawn c.pass.inside.from) (spot c.commit_exchange.new.seat.table c.pass.inside.lows c.pass.inside.run.drawn c.pass.inside.from) (climbs_same c.pass.inside.lows c.pass.inside.run.drawn) (view_of c.pass.inside.seat) (view_of c.commit_exchange.new.seat) c.args.pass.now c.pass.view_is _ (close_steps k) _ sh.walk (close_steps k) (omega arith)
 
 pub returns-then-commit_exchange-clause-answer : goal.returns-then-commit_exchange-clause-answer
-returns-then-commit_exchange-clause-answer c = let at = goal.at.returns-then-commit_exchange-clause-answer c in let i = at.In-Some in let u = c.in-Some.task.unit in let l : Limits = limits_of c.self.inside.shared.words in
+returns-then-commit_exchange-clause-answer c = let at = goal.at.returns-then-commit_exchange-clause-answer c in let i = at.In-Some in let u = c.in-Some.task.unit in let l : Limits = table_limits c.self.inside.shared.words in
     let v = view_of c.pass.inside.seat in let w = view_of c.write_all.new.seat in let y = view_of c.commit_exchange.new.seat in
     let sh : Shut l _ _ (committed w u ∷ []) v y = both at.After-write_all _ _ (hit at.After-write_all i y (c.commit_exchange.ensures.hit c.if-commit_exchange.true)) in
     committed_answer (spot c.pass.inside.seat.table c.pass.inside.lows c.pass.inside.run.drawn c.pass.inside.from) (spot c.commit_exchange.new.seat.table c.pass.inside.lows c.pass.inside.run.drawn c.pass.inside.from) l v w y c.args.pass.now c.pass.view_is _ _ _ _ c.in-Some.task c.args.drafts.now c.pass.inside.seat refl (rests i) refl c.write_all.ensures.wrote (lim i) (held i) c.if-count-eq0.first _ sh
@@ -102,7 +102,7 @@ returns-then-commit_exchange-clause-answer c = let at = goal.at.returns-then-com
     (λ none. elim c.if-count-eq0.branch [ then-count-eq0 w ↦ w.first-is | else-count-eq0 w ↦ absurd (w.if-count-eq0.false none) ])
 
 pub returns-else-commit_exchange-clause-answer : goal.returns-else-commit_exchange-clause-answer
-returns-else-commit_exchange-clause-answer c = let at = goal.at.returns-else-commit_exchange-clause-answer c in let i = at.In-Some in let u = c.in-Some.task.unit in let l : Limits = limits_of c.self.inside.shared.words in
+returns-else-commit_exchange-clause-answer c = let at = goal.at.returns-else-commit_exchange-clause-answer c in let i = at.In-Some in let u = c.in-Some.task.unit in let l : Limits = table_limits c.self.inside.shared.words in
     let v = view_of c.pass.inside.seat in let w = view_of c.write_all.new.seat in let y = view_of c.commit_exchange.new.seat in
     let miss = c.commit_exchange.ensures.miss c.if-commit_exchange.false in
     let sh : Shut l _ _ [] v y = both at.After-write_all _ _ (shut_miss l kinds.CommitExchange w y refl c.write_all.ensures.wrote.walk.steady miss.0) in (

@@ -2,7 +2,7 @@ use Rattle.std.proofs.Common.{◌≡◌, ◌≤◌, ◌++◌, sym, ◌∙◌, ap
 use Rattle.tp_model.specs.declared.types.Limits.{Limits}
 use Rattle.tp_model.specs.History.{IsUnborn}
 use Rattle.tp_model.specs.Steps.{rows_of}
-use Rattle.tp_rule.specs.Tables.{limits_of}
+use Rattle.tp_rule.specs.Tables.{table_limits}
 use Rattle.tp_rule.specs.Views.{hand, seen_by, view_of}
 use Rattle.tp_rule.specs.declared.view.Hand.{Hand}
 use Rattle.tp_manager.specs.Shown.{ManagerShown, PassShown, shown, spot}
@@ -18,10 +18,10 @@ use Rattle.tp_manager.proofs.Releases.{collect_shown, collects_shown, head_stage
 use Rattle.tp_manager.proofs.manager.Manager.collect.Goals as goal
 use Rattle.tp_manager.proofs.manager.Manager.collect.Goals.{After-rows, After-birth_from, In-Ok, In-Err}
 
-lim : (c : After-rows) → (view_of c.pass.inside.seat).limits ≡ limits_of c.self.inside.shared.words
+lim : (c : After-rows) → (view_of c.pass.inside.seat).limits ≡ table_limits c.self.inside.shared.words
 lim c = ap (λ (p : PassShown). p.limits) c.pass.view_is ∙ (c.requires.own.1 ∙ (sym (ap (λ (m : ManagerShown). m.limits) c.self.view_is) ∙ sym c.self.inside.shared.same))
 
-limits : (c : After-rows) → limits_of c.self.inside.shared.words ≡ c.args.self.now.limits
+limits : (c : After-rows) → table_limits c.self.inside.shared.words ≡ c.args.self.now.limits
 limits c = c.self.inside.shared.same ∙ ap (λ (m : ManagerShown). m.limits) c.self.view_is
 
 free : (c : After-rows) → (hand (view_of c.pass.inside.seat)).open_unit ≡ None
@@ -33,7 +33,7 @@ no_task c = task_none c.pass.inside.task (sym c.pass.invariant.0.open_is ∙ fre
 rests : (c : After-rows) → Rests c.pass.inside.seat c.pass.inside.number c.pass.inside.run c.pass.inside.used None
 rests c = subst (λ t. Rests c.pass.inside.seat c.pass.inside.number c.pass.inside.run c.pass.inside.used t) (no_task c) c.pass.invariant.0
 
-none : (c : After-birth_from) → Acted (limits_of c.self.inside.shared.words) birth_steps (view_of c.pass.inside.seat) (view_of c.birth_from.new.seat)
+none : (c : After-birth_from) → Acted (table_limits c.self.inside.shared.words) birth_steps (view_of c.pass.inside.seat) (view_of c.birth_from.new.seat)
 none c = acted_then _ 1 1 _ _ _ c.head_at-head.ensures.acted c.birth_from.ensures.looked
 
 pub returns-then-id-rows-clause-answer : goal.returns-then-id-rows-clause-answer
@@ -56,46 +56,46 @@ returns-in_default-clause-looks c = λ _. let at = goal.at.returns-in_default-cl
     has_looked (spot c.pass.inside.seat.table c.pass.inside.lows c.pass.inside.run.drawn c.pass.inside.from) (spot c.birth_from.new.seat.table c.pass.inside.lows c.pass.inside.run.drawn c.pass.inside.from) (view_of c.pass.inside.seat) (view_of c.birth_from.new.seat) c.args.pass.now c.pass.view_is _ birth_steps _ a.walk a.step
 
 pub returns-in_default-clause-answer : goal.returns-in_default-clause-answer
-returns-in_default-clause-answer c = let at = goal.at.returns-in_default-clause-answer c in let l : Limits = limits_of c.self.inside.shared.words in let n = none at.After-birth_from in
+returns-in_default-clause-answer c = let at = goal.at.returns-in_default-clause-answer c in let l : Limits = table_limits c.self.inside.shared.words in let n = none at.After-birth_from in
     let v = view_of c.pass.inside.seat in let x = view_of c.birth_from.new.seat in (
       quiet_looked (spot c.pass.inside.seat.table c.pass.inside.lows c.pass.inside.run.drawn c.pass.inside.from) (spot c.birth_from.new.seat.table c.pass.inside.lows c.pass.inside.run.drawn c.pass.inside.from) v x c.args.pass.now c.pass.view_is l birth_steps (looked l birth_steps v x n),
       at_point (spot c.pass.inside.seat.table c.pass.inside.lows c.pass.inside.run.drawn c.pass.inside.from) (spot c.birth_from.new.seat.table c.pass.inside.lows c.pass.inside.run.drawn c.pass.inside.from) v x c.args.pass.now c.pass.view_is l birth_steps n.marks n.walk (λ z. IsUnborn z c.args.id) (seen_by c.birth_from.new.seat) (point_last l birth_steps n.marks v x n.walk) c.in_default.ensures.told,
     )
 
 -- a collect that went through
-whole : (c : In-Ok) → Acted (limits_of c.self.inside.shared.words) birth_steps (view_of c.pass.inside.seat) (view_of c.birth_from.new.seat) → Slain (limits_of c.self.inside.shared.words) collect_steps c.args.id [] (view_of c.pass.inside.seat) (view_of c.collect_row.new.seat)
+whole : (c : In-Ok) → Acted (table_limits c.self.inside.shared.words) birth_steps (view_of c.pass.inside.seat) (view_of c.birth_from.new.seat) → Slain (table_limits c.self.inside.shared.words) collect_steps c.args.id [] (view_of c.pass.inside.seat) (view_of c.collect_row.new.seat)
 whole c n = freed_slain _ birth_steps take_steps c.args.id [] [] _ _ _ (freed_looked _ birth_steps c.args.id _ _ (looked _ birth_steps _ _ n)) c.in-Ok.ensures.told.0
 
 -- one that was refused
-refused : (c : In-Err) → Acted (limits_of c.self.inside.shared.words) birth_steps (view_of c.pass.inside.seat) (view_of c.birth_from.new.seat) → Acted (limits_of c.self.inside.shared.words) collect_steps (view_of c.pass.inside.seat) (view_of c.collect_row.new.seat)
+refused : (c : In-Err) → Acted (table_limits c.self.inside.shared.words) birth_steps (view_of c.pass.inside.seat) (view_of c.birth_from.new.seat) → Acted (table_limits c.self.inside.shared.words) collect_steps (view_of c.pass.inside.seat) (view_of c.collect_row.new.seat)
 refused c n = acted_then _ birth_steps take_steps _ _ _ n c.in-Err.ensures.told.0
 
 pub returns-in_default-clause-open_unit : goal.returns-in_default-clause-open_unit
 returns-in_default-clause-open_unit c = let at = goal.at.returns-in_default-clause-open_unit c in ap (λ (h : Hand). h.open_unit) (none at.After-birth_from).kept ∙ free at.After-rows
 
-pub invariant_of-pass-then-birth-ne15 : goal.invariant_of-pass-then-birth-ne15
-invariant_of-pass-then-birth-ne15 c = let at = goal.at.invariant_of-pass-then-birth-ne15 c in
+pub invariant_of-pass-then-birth-ne-REPLY_STAGE : goal.invariant_of-pass-then-birth-ne-REPLY_STAGE
+invariant_of-pass-then-birth-ne-REPLY_STAGE c = let at = goal.at.invariant_of-pass-then-birth-ne-REPLY_STAGE c in
     (rests_looked _ c.pass.inside.seat c.birth_from.new.seat (lim at.After-rows) _ _ _ _ c.pass.invariant.0 birth_steps (looked _ _ _ _ (none at.After-birth_from)), remembers c.pass.inside.lows _ _ _ _ _ (none at.After-birth_from).walk c.pass.invariant.1)
 
-pub returns-then-birth-ne15-clause-follows : goal.returns-then-birth-ne15-clause-follows
-returns-then-birth-ne15-clause-follows c = let at = goal.at.returns-then-birth-ne15-clause-follows c in
+pub returns-then-birth-ne-REPLY_STAGE-clause-follows : goal.returns-then-birth-ne-REPLY_STAGE-clause-follows
+returns-then-birth-ne-REPLY_STAGE-clause-follows c = let at = goal.at.returns-then-birth-ne-REPLY_STAGE-clause-follows c in
     follows (spot c.pass.inside.seat.table c.pass.inside.lows c.pass.inside.run.drawn c.pass.inside.from) (spot c.birth_from.new.seat.table c.pass.inside.lows c.pass.inside.run.drawn c.pass.inside.from) (climbs_same c.pass.inside.lows c.pass.inside.run.drawn) (view_of c.pass.inside.seat) (view_of c.birth_from.new.seat) c.args.pass.now c.pass.view_is _ birth_steps _ (none at.After-birth_from).walk collect_steps (omega arith)
 
-pub returns-then-birth-ne15-clause-looks : goal.returns-then-birth-ne15-clause-looks
-returns-then-birth-ne15-clause-looks c = λ _. let at = goal.at.returns-then-birth-ne15-clause-looks c in let a = none at.After-birth_from in
+pub returns-then-birth-ne-REPLY_STAGE-clause-looks : goal.returns-then-birth-ne-REPLY_STAGE-clause-looks
+returns-then-birth-ne-REPLY_STAGE-clause-looks c = λ _. let at = goal.at.returns-then-birth-ne-REPLY_STAGE-clause-looks c in let a = none at.After-birth_from in
     has_looked (spot c.pass.inside.seat.table c.pass.inside.lows c.pass.inside.run.drawn c.pass.inside.from) (spot c.birth_from.new.seat.table c.pass.inside.lows c.pass.inside.run.drawn c.pass.inside.from) (view_of c.pass.inside.seat) (view_of c.birth_from.new.seat) c.args.pass.now c.pass.view_is _ birth_steps _ a.walk a.step
 
-pub returns-then-birth-ne15-clause-answer : goal.returns-then-birth-ne15-clause-answer
-returns-then-birth-ne15-clause-answer c = let n = none (goal.at.returns-then-birth-ne15-clause-answer c).After-birth_from in let l : Limits = limits_of c.self.inside.shared.words in let there = c.in-Some.ensures.told.0 in (
+pub returns-then-birth-ne-REPLY_STAGE-clause-answer : goal.returns-then-birth-ne-REPLY_STAGE-clause-answer
+returns-then-birth-ne-REPLY_STAGE-clause-answer c = let n = none (goal.at.returns-then-birth-ne-REPLY_STAGE-clause-answer c).After-birth_from in let l : Limits = table_limits c.self.inside.shared.words in let there = c.in-Some.ensures.told.0 in (
   quiet_looked (spot c.pass.inside.seat.table c.pass.inside.lows c.pass.inside.run.drawn c.pass.inside.from) (spot c.birth_from.new.seat.table c.pass.inside.lows c.pass.inside.run.drawn c.pass.inside.from) (view_of c.pass.inside.seat) (view_of c.birth_from.new.seat) c.args.pass.now c.pass.view_is l birth_steps (looked l birth_steps _ _ n),
   at_point (spot c.pass.inside.seat.table c.pass.inside.lows c.pass.inside.run.drawn c.pass.inside.from) (spot c.birth_from.new.seat.table c.pass.inside.lows c.pass.inside.run.drawn c.pass.inside.from) (view_of c.pass.inside.seat) (view_of c.birth_from.new.seat) c.args.pass.now c.pass.view_is l birth_steps n.marks n.walk (HasNoReply c.args.id) (seen_by c.birth_from.new.seat) (point_last l birth_steps n.marks _ _ n.walk)
-      (there.0, there.1, λ reply. c.if-birth-ne15.true (sym (head_stage there.0 _ _ _ there.2) ∙ reply)),
+      (there.0, there.1, λ reply. c.if-birth-ne-REPLY_STAGE.true (sym (head_stage there.0 _ _ _ there.2) ∙ reply)),
 )
 
 pub invariant_of-pass-in-Ok : goal.invariant_of-pass-in-Ok
 invariant_of-pass-in-Ok c = let at = goal.at.invariant_of-pass-in-Ok c in let a = whole at.In-Ok (none at.After-birth_from) in (
   subst (λ t. Rests c.collect_row.new.seat c.pass.inside.number c.pass.inside.run c.pass.inside.used t) (sym (no_task at.After-rows))
-      (rests_slain (limits_of c.self.inside.shared.words) c.pass.inside.seat c.collect_row.new.seat _ _ _ (lim at.After-rows) (rests at.After-rows) collect_steps c.args.id [] a),
+      (rests_slain (table_limits c.self.inside.shared.words) c.pass.inside.seat c.collect_row.new.seat _ _ _ (lim at.After-rows) (rests at.After-rows) collect_steps c.args.id [] a),
   remembers c.pass.inside.lows _ _ _ _ _ a.gained.walk c.pass.invariant.1,
 )
 
@@ -109,7 +109,7 @@ returns-in-Ok-clause-follows c = let at = goal.at.returns-in-Ok-clause-follows c
     follows (spot c.pass.inside.seat.table c.pass.inside.lows c.pass.inside.run.drawn c.pass.inside.from) (spot c.collect_row.new.seat.table c.pass.inside.lows c.pass.inside.run.drawn c.pass.inside.from) (climbs_same c.pass.inside.lows c.pass.inside.run.drawn) (view_of c.pass.inside.seat) (view_of c.collect_row.new.seat) c.args.pass.now c.pass.view_is _ collect_steps a.gained.marks a.gained.walk collect_steps (omega arith)
 
 pub returns-in-Ok-clause-looks : goal.returns-in-Ok-clause-looks
-returns-in-Ok-clause-looks c = λ _. let at = goal.at.returns-in-Ok-clause-looks c in let l : Limits = limits_of c.self.inside.shared.words in let n = none at.After-birth_from in let k = c.in-Ok.ensures.told.0.gained in
+returns-in-Ok-clause-looks c = λ _. let at = goal.at.returns-in-Ok-clause-looks c in let l : Limits = table_limits c.self.inside.shared.words in let n = none at.After-birth_from in let k = c.in-Ok.ensures.told.0.gained in
     has_looked (spot c.pass.inside.seat.table c.pass.inside.lows c.pass.inside.run.drawn c.pass.inside.from) (spot c.collect_row.new.seat.table c.pass.inside.lows c.pass.inside.run.drawn c.pass.inside.from) (view_of c.pass.inside.seat) (view_of c.collect_row.new.seat) c.args.pass.now c.pass.view_is l collect_steps (n.marks ++ k.marks)
     (walked_then l birth_steps take_steps n.marks k.marks _ _ _ n.walk k.walk) (has_more n.marks k.marks n.step)
 
@@ -117,7 +117,7 @@ pub returns-in-Ok-clause-open_unit : goal.returns-in-Ok-clause-open_unit
 returns-in-Ok-clause-open_unit c = let at = goal.at.returns-in-Ok-clause-open_unit c in (whole at.In-Ok (none at.After-birth_from)).gained.open_unit (free at.After-rows)
 
 pub returns-in-Ok-clause-answer : goal.returns-in-Ok-clause-answer
-returns-in-Ok-clause-answer c = let at = goal.at.returns-in-Ok-clause-answer c in let l : Limits = limits_of c.self.inside.shared.words in let a = whole at.In-Ok (none at.After-birth_from) in
+returns-in-Ok-clause-answer c = let at = goal.at.returns-in-Ok-clause-answer c in let l : Limits = table_limits c.self.inside.shared.words in let a = whole at.In-Ok (none at.After-birth_from) in
     collects_shown (spot c.pass.inside.seat.table c.pass.inside.lows c.pass.inside.run.drawn c.pass.inside.from) (spot c.collect_row.new.seat.table c.pass.inside.lows c.pass.inside.run.drawn c.pass.inside.from) (view_of c.pass.inside.seat) (view_of c.collect_row.new.seat) c.args.pass.now c.pass.view_is l (free at.After-rows) collect_steps c.args.id c.in-Ok.element a c.in-Ok.ensures.told.1 c.in-Ok.ensures.told.2
 
 pub returns-in-Err-clause-follows : goal.returns-in-Err-clause-follows
@@ -132,6 +132,6 @@ pub returns-in-Err-clause-open_unit : goal.returns-in-Err-clause-open_unit
 returns-in-Err-clause-open_unit c = let at = goal.at.returns-in-Err-clause-open_unit c in ap (λ (h : Hand). h.open_unit) (refused at.In-Err (none at.After-birth_from)).kept ∙ free at.After-rows
 
 pub returns-in-Err-clause-answer : goal.returns-in-Err-clause-answer
-returns-in-Err-clause-answer c = let at = goal.at.returns-in-Err-clause-answer c in let l : Limits = limits_of c.self.inside.shared.words in let n = none at.After-birth_from in let told = c.in-Err.ensures.told in let there = c.in-Some.ensures.told.0 in
+returns-in-Err-clause-answer c = let at = goal.at.returns-in-Err-clause-answer c in let l : Limits = table_limits c.self.inside.shared.words in let n = none at.After-birth_from in let told = c.in-Err.ensures.told in let there = c.in-Some.ensures.told.0 in
     subst (λ (z : Limits). CollectFails z c.args.id c.args.pass.now (shown (spot c.collect_row.new.seat.table c.pass.inside.lows c.pass.inside.run.drawn c.pass.inside.from) (view_of c.collect_row.new.seat)) c.in-Err.refusal) (limits at.After-rows)
-    (collect_shown (spot c.pass.inside.seat.table c.pass.inside.lows c.pass.inside.run.drawn c.pass.inside.from) (spot c.collect_row.new.seat.table c.pass.inside.lows c.pass.inside.run.drawn c.pass.inside.from) (view_of c.pass.inside.seat) (view_of c.birth_from.new.seat) (view_of c.collect_row.new.seat) c.args.pass.now c.pass.view_is l birth_steps take_steps n told.0 c.args.id c.in-Err.refusal (there.0, there.1, head_stage there.0 _ _ _ there.2 ∙ c.if-birth-ne15.false) told.1)
+    (collect_shown (spot c.pass.inside.seat.table c.pass.inside.lows c.pass.inside.run.drawn c.pass.inside.from) (spot c.collect_row.new.seat.table c.pass.inside.lows c.pass.inside.run.drawn c.pass.inside.from) (view_of c.pass.inside.seat) (view_of c.birth_from.new.seat) (view_of c.collect_row.new.seat) c.args.pass.now c.pass.view_is l birth_steps take_steps n told.0 c.args.id c.in-Err.refusal (there.0, there.1, head_stage there.0 _ _ _ there.2 ∙ c.if-birth-ne-REPLY_STAGE.false) told.1)

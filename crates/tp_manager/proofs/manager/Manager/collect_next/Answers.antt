@@ -3,7 +3,7 @@ use Rattle.tp_model.specs.declared.types.Limits.{Limits}
 use Rattle.tp_model.specs.declared.event.Event.{Event}
 use Rattle.tp_model.specs.Families.{family}
 use Rattle.tp_model.specs.Steps.{rows_of}
-use Rattle.tp_rule.specs.Tables.{limits_of}
+use Rattle.tp_rule.specs.Tables.{table_limits}
 use Rattle.tp_rule.specs.Views.{hand, seen_by, view_of}
 use Rattle.tp_manager.specs.Shown.{ManagerShown, PassShown, shown, spot}
 use Rattle.tp_manager.specs.Bounds.{collect_next_steps, family_collect_steps, one_take_steps, root_steps, takes_steps}
@@ -20,10 +20,10 @@ use Rattle.tp_manager.proofs.Walks.{climbs_same, follows, has_looked, looked, lo
 use Rattle.tp_manager.proofs.manager.Manager.collect_next.Goals as goal
 use Rattle.tp_manager.proofs.manager.Manager.collect_next.Goals.{After-rows, After-is_request, After-take_of_family}
 
-lim : (c : After-rows) → (view_of c.pass.inside.seat).limits ≡ limits_of c.self.inside.shared.words
+lim : (c : After-rows) → (view_of c.pass.inside.seat).limits ≡ table_limits c.self.inside.shared.words
 lim c = ap (λ (p : PassShown). p.limits) c.pass.view_is ∙ (c.requires.own.1 ∙ (sym (ap (λ (m : ManagerShown). m.limits) c.self.view_is) ∙ sym c.self.inside.shared.same))
 
-limits : (c : After-rows) → limits_of c.self.inside.shared.words ≡ c.args.self.now.limits
+limits : (c : After-rows) → table_limits c.self.inside.shared.words ≡ c.args.self.now.limits
 limits c = c.self.inside.shared.same ∙ ap (λ (m : ManagerShown). m.limits) c.self.view_is
 
 free : (c : After-rows) → (hand (view_of c.pass.inside.seat)).open_unit ≡ None
@@ -39,8 +39,8 @@ rests c = subst (λ t. Rests c.pass.inside.seat c.pass.inside.number c.pass.insi
 abbrev size : (c : After-take_of_family) → ℕ
 size c = length (family (seen_by c.take_of_family.new.seat) c.args.root)
 
-whole : (c : After-take_of_family) → (es : List Event) × Gained (limits_of c.self.inside.shared.words) (family_collect_steps (size c)) es (view_of c.pass.inside.seat) (view_of c.take_of_family.new.seat) × (claims_in es ≡ 0)
-whole c = let l : Limits = limits_of c.self.inside.shared.words in
+whole : (c : After-take_of_family) → (es : List Event) × Gained (table_limits c.self.inside.shared.words) (family_collect_steps (size c)) es (view_of c.pass.inside.seat) (view_of c.take_of_family.new.seat) × (claims_in es ≡ 0)
+whole c = let l : Limits = table_limits c.self.inside.shared.words in
     let g = taken_gained l (takes_steps (size c)) c.args.root (view_of c.is_request.new.seat) (view_of c.take_of_family.new.seat) c.take_of_family.result c.take_of_family.ensures.told in
     (g.0, gained_then l root_steps (takes_steps (size c)) [] g.0 _ _ _ (gained_looked l root_steps _ _ (looked l root_steps _ _ c.is_request.ensures.acted)) g.1, g.2)
 
@@ -68,7 +68,7 @@ pub returns-then-not-is_request-clause-few : goal.returns-then-not-is_request-cl
 returns-then-not-is_request-clause-few c = refused (goal.at.returns-then-not-is_request-clause-few c).After-is_request (family_collect_steps (length (family (seen_by c.is_request.new.seat) c.args.root))) (omega arith)
 
 pub returns-then-not-is_request-clause-answer : goal.returns-then-not-is_request-clause-answer
-returns-then-not-is_request-clause-answer c = let at = (goal.at.returns-then-not-is_request-clause-answer c).After-rows in let l : Limits = limits_of c.self.inside.shared.words in let a = c.is_request.ensures.acted in
+returns-then-not-is_request-clause-answer c = let at = (goal.at.returns-then-not-is_request-clause-answer c).After-rows in let l : Limits = table_limits c.self.inside.shared.words in let a = c.is_request.ensures.acted in
     let t = spot c.pass.inside.seat.table c.pass.inside.lows c.pass.inside.run.drawn c.pass.inside.from in let t' = spot c.is_request.new.seat.table c.pass.inside.lows c.pass.inside.run.drawn c.pass.inside.from in let x = view_of c.is_request.new.seat in
     subst (λ (z : Limits). NoneCollected z c.args.root c.args.pass.now (shown t' x)) (limits at)
     (quiet_looked t t' (view_of c.pass.inside.seat) x c.args.pass.now c.pass.view_is l root_steps (looked l root_steps _ _ a), none_killed t t' (view_of c.pass.inside.seat) x c.args.pass.now c.pass.view_is l root_steps a c.args.root (λ i. Unit {0}) (c.is_request.ensures.no c.if-not-is_request.true))
@@ -78,7 +78,7 @@ returns-then-not-is_request-clause-answer c = let at = (goal.at.returns-then-not
 pub invariant_of-pass-2 : goal.invariant_of-pass-2
 invariant_of-pass-2 c = let at = goal.at.invariant_of-pass-2 c in let k = whole at.After-take_of_family in (
   subst (λ t. Rests c.take_of_family.new.seat c.pass.inside.number c.pass.inside.run c.pass.inside.used t) (sym (no_task at.After-rows))
-      (rests_gained (limits_of c.self.inside.shared.words) c.pass.inside.seat c.take_of_family.new.seat _ _ _ (lim at.After-rows) (rests at.After-rows) _ k.0 k.1 k.2),
+      (rests_gained (table_limits c.self.inside.shared.words) c.pass.inside.seat c.take_of_family.new.seat _ _ _ (lim at.After-rows) (rests at.After-rows) _ k.0 k.1 k.2),
   remembers c.pass.inside.lows _ _ _ _ _ k.1.walk c.pass.invariant.1,
 )
 
@@ -91,7 +91,7 @@ more n m le = let one : (n + 1) * one_take_steps n ≤ (m + 1) * one_take_steps 
     let two : (m + 1) * one_take_steps n ≤ (m + 1) * one_take_steps m = mul-le-mul_left (m + 1) (omega arith) in omega arith
 
 pub returns-clause-follows : goal.returns-clause-follows
-returns-clause-follows c = let at = goal.at.returns-clause-follows c in let l : Limits = limits_of c.self.inside.shared.words in let w = at.After-take_of_family in
+returns-clause-follows c = let at = goal.at.returns-clause-follows c in let l : Limits = table_limits c.self.inside.shared.words in let w = at.After-take_of_family in
     let few = family_few l c.args.root (seen_by c.take_of_family.new.seat) (whole w).1.walk.steady.shows.legal in
     within w (collect_next_steps c.args.self.now.limits) (subst (λ (z : Limits). family_collect_steps (size w) ≤ collect_next_steps z) (limits at.After-rows) (more (size w) (rows_of l) few))
 
@@ -99,13 +99,13 @@ pub returns-clause-few : goal.returns-clause-few
 returns-clause-few c = let w = (goal.at.returns-clause-few c).After-take_of_family in within w (family_collect_steps (size w)) (omega arith)
 
 pub returns-clause-looks : goal.returns-clause-looks
-returns-clause-looks c = λ _. let l : Limits = limits_of c.self.inside.shared.words in let w = (goal.at.returns-clause-looks c).After-take_of_family in let a = c.is_request.ensures.acted in
+returns-clause-looks c = λ _. let l : Limits = table_limits c.self.inside.shared.words in let w = (goal.at.returns-clause-looks c).After-take_of_family in let a = c.is_request.ensures.acted in
     let g = taken_gained l (takes_steps (size w)) c.args.root (view_of c.is_request.new.seat) (view_of c.take_of_family.new.seat) c.take_of_family.result c.take_of_family.ensures.told in
     has_looked (spot c.pass.inside.seat.table c.pass.inside.lows c.pass.inside.run.drawn c.pass.inside.from) (spot c.take_of_family.new.seat.table c.pass.inside.lows c.pass.inside.run.drawn c.pass.inside.from) (view_of c.pass.inside.seat) (view_of c.take_of_family.new.seat) c.args.pass.now c.pass.view_is l _ (a.marks ++ g.1.marks)
     (walked_then l root_steps _ a.marks g.1.marks _ _ _ a.walk g.1.walk) (has_more a.marks g.1.marks a.step)
 
 pub returns-clause-answer : goal.returns-clause-answer
-returns-clause-answer c = let at = goal.at.returns-clause-answer c in let l : Limits = limits_of c.self.inside.shared.words in let w = at.After-take_of_family in
+returns-clause-answer c = let at = goal.at.returns-clause-answer c in let l : Limits = table_limits c.self.inside.shared.words in let w = at.After-take_of_family in
     let t = spot c.pass.inside.seat.table c.pass.inside.lows c.pass.inside.run.drawn c.pass.inside.from in let t' = spot c.take_of_family.new.seat.table c.pass.inside.lows c.pass.inside.run.drawn c.pass.inside.from in let y = view_of c.take_of_family.new.seat in
     subst (λ (z : Limits). MatchOption c.take_of_family.result (NoneCollected z c.args.root c.args.pass.now (shown t' y)) (λ x. CollectsNext z c.args.root x c.args.pass.now (shown t' y))) (limits at.After-rows)
     (taken_answer t t' (view_of c.pass.inside.seat) (view_of c.is_request.new.seat) y c.args.pass.now c.pass.view_is l root_steps (takes_steps (size w)) c.args.root c.is_request.ensures.acted (free at.After-rows) c.take_of_family.result c.take_of_family.ensures.told)

@@ -1,6 +1,6 @@
 use Rattle.std.proofs.Common.{Bool, true, false, ℕ, List, rules, ◌≡◌, ◌+◌, ◌-◌, ◌<◌, ◌≤◌, sym, refl, ap, ◌∙◌, subst, inr, arith}
 use Rattle.tp_model.specs.declared.types.Limits.{Limits}
-use Rattle.tp_rule.specs.Tables.{limits_of}
+use Rattle.tp_rule.specs.Tables.{table_limits}
 use Rattle.tp_rule.specs.Views.{view_of}
 use Rattle.tp_manager.specs.Bounds.{draw_steps, room_steps}
 use Rattle.tp_manager.specs.Shown.{ManagerShown, PassShown, spot}
@@ -12,17 +12,17 @@ use Rattle.tp_manager.proofs.Walks.{follows, remembers, rises_same}
 use Rattle.tp_manager.proofs.manager.Manager.has_room.Goals as goal
 use Rattle.tp_manager.proofs.manager.Manager.has_room.Goals.{After-draw_on}
 
-lim : (c : After-draw_on) → (view_of c.pass.inside.seat).limits ≡ limits_of c.self.inside.shared.words
+lim : (c : After-draw_on) → (view_of c.pass.inside.seat).limits ≡ table_limits c.self.inside.shared.words
 lim c = ap (λ (p : PassShown). p.limits) c.pass.view_is ∙ (c.requires.own.1 ∙ (sym (ap (λ (m : ManagerShown). m.limits) c.self.view_is) ∙ sym c.self.inside.shared.same))
 
-limits : (c : After-draw_on) → limits_of c.self.inside.shared.words ≡ c.args.self.now.limits
+limits : (c : After-draw_on) → table_limits c.self.inside.shared.words ≡ c.args.self.now.limits
 limits c = c.self.inside.shared.same ∙ ap (λ (m : ManagerShown). m.limits) c.self.view_is
 
 few : (c : After-draw_on) → c.args.pass.now.left < c.args.rows
 few c = let less = c.if-rows-pass.false in let is = c.pass.invariant.0.run_is.1 in let seen = ap (λ (p : PassShown). p.left) c.pass.view_is in omega arith
 
 pub returns-clause-yes : goal.returns-clause-yes
-returns-clause-yes c = λ q. let at = (goal.at.returns-clause-yes c).After-draw_on in let l : Limits = limits_of c.self.inside.shared.words in let d = c.draw_on.ensures.yes q in
+returns-clause-yes c = λ q. let at = (goal.at.returns-clause-yes c).After-draw_on in let l : Limits = table_limits c.self.inside.shared.words in let d = c.draw_on.ensures.yes q in
     let t = spot c.pass.inside.seat.table c.pass.inside.lows c.pass.inside.run.drawn c.pass.inside.from in let t' = spot c.draw_on.new.seat.table c.pass.inside.lows c.draw_on.new.run.drawn c.pass.inside.from in let v = view_of c.pass.inside.seat in let w = view_of c.draw_on.new.seat in
     inr (
       few at,
@@ -34,7 +34,7 @@ returns-clause-yes c = λ q. let at = (goal.at.returns-clause-yes c).After-draw_
     )
 
 pub returns-clause-no : goal.returns-clause-no
-returns-clause-no c = λ q. let at = (goal.at.returns-clause-no c).After-draw_on in let l : Limits = limits_of c.self.inside.shared.words in let d = c.draw_on.ensures.no q in
+returns-clause-no c = λ q. let at = (goal.at.returns-clause-no c).After-draw_on in let l : Limits = table_limits c.self.inside.shared.words in let d = c.draw_on.ensures.no q in
     let t = spot c.pass.inside.seat.table c.pass.inside.lows c.pass.inside.run.drawn c.pass.inside.from in let t' = spot c.draw_on.new.seat.table c.pass.inside.lows c.draw_on.new.run.drawn c.pass.inside.from in let v = view_of c.pass.inside.seat in let w = view_of c.draw_on.new.seat in
     let n = l.spare - c.pass.inside.run.drawn in let all : c.draw_on.new.run.drawn ≡ l.spare = ap (λ (r : Run). r.drawn) d.1 in let old : c.args.pass.now.limits ≡ l = sym (ap (λ (p : PassShown). p.limits) c.pass.view_is) ∙ lim at in
     let inside : c.pass.inside.run.drawn ≤ l.spare = subst (λ (z : Limits). c.pass.inside.run.drawn ≤ z.spare) (lim at) c.pass.invariant.0.drawn.0 in (
@@ -47,7 +47,7 @@ returns-clause-no c = λ q. let at = (goal.at.returns-clause-no c).After-draw_on
     )
 
 -- the steps, whether a block was drawn or not
-walked : (c : After-draw_on) (t : Bool) → c.draw_on.result ≡ t → (n : ℕ) × (ms : List TraceEntry) × Walked (limits_of c.self.inside.shared.words) n ms (view_of c.pass.inside.seat) (view_of c.draw_on.new.seat)
+walked : (c : After-draw_on) (t : Bool) → c.draw_on.result ≡ t → (n : ℕ) × (ms : List TraceEntry) × Walked (table_limits c.self.inside.shared.words) n ms (view_of c.pass.inside.seat) (view_of c.draw_on.new.seat)
 walked c true drew = let d = (c.draw_on.ensures.yes drew).1 in (_, d.marks, d.walk)
 walked c false none = let d = (c.draw_on.ensures.no none).0 in (_, d.marks, d.walk)
 

@@ -1,5 +1,5 @@
 use Rattle.std.proofs.Common.{sym, ◌∙◌, ap, arith}
-use Rattle.tp_rule.specs.Tables.{limits_of}
+use Rattle.tp_rule.specs.Tables.{table_limits}
 use Rattle.tp_rule.specs.Views.{view_of}
 use Rattle.tp_manager.specs.Bounds.{meet_steps, met_steps}
 use Rattle.tp_manager.specs.Shown.{ManagerShown, PassShown, spot}
@@ -10,25 +10,25 @@ use Rattle.tp_manager.proofs.Passes.{quiet_looked, rests_looked, steady_at}
 use Rattle.tp_manager.proofs.manager.Manager.meet.Goals as goal
 use Rattle.tp_manager.proofs.manager.Manager.meet.Goals.{After-meet}
 
-first_steady : (c : After-meet) → Steady (limits_of c.self.inside.shared.words) (view_of c.first.inside.seat)
+first_steady : (c : After-meet) → Steady (table_limits c.self.inside.shared.words) (view_of c.first.inside.seat)
 first_steady c = steady_at _ _ _ (ap (λ (p : PassShown). p.limits) c.first.view_is ∙ (c.requires.own.0.1 ∙ (sym (ap (λ (m : ManagerShown). m.limits) c.self.view_is) ∙ sym c.self.inside.shared.same))) c.first.invariant.0.steady
 
-second_steady : (c : After-meet) → Steady (limits_of c.self.inside.shared.words) (view_of c.second.inside.seat)
+second_steady : (c : After-meet) → Steady (table_limits c.self.inside.shared.words) (view_of c.second.inside.seat)
 second_steady c = steady_at _ _ _ (ap (λ (p : PassShown). p.limits) c.second.view_is ∙ (c.requires.own.1.1 ∙ (sym (ap (λ (m : ManagerShown). m.limits) c.self.view_is) ∙ sym c.self.inside.shared.same))) c.second.invariant.0.steady
 
-one : (c : After-meet) → Acted (limits_of c.self.inside.shared.words) meet_steps (view_of c.first.inside.seat) (view_of c.meet.new.seat)
+one : (c : After-meet) → Acted (table_limits c.self.inside.shared.words) meet_steps (view_of c.first.inside.seat) (view_of c.meet.new.seat)
 one c = met_first _ _ _ _ _ (first_steady c) (second_steady c) c.meet.ensures.meets
 
-two : (c : After-meet) → Acted (limits_of c.self.inside.shared.words) met_steps (view_of c.second.inside.seat) (view_of c.meet.new.other)
+two : (c : After-meet) → Acted (table_limits c.self.inside.shared.words) met_steps (view_of c.second.inside.seat) (view_of c.meet.new.other)
 two c = met_second _ _ _ _ _ (first_steady c) (second_steady c) c.meet.ensures.meets
 
 pub invariant_of-first : goal.invariant_of-first
 invariant_of-first c = let at = (goal.at.invariant_of-first c).After-meet in
-    (rests_looked (limits_of c.self.inside.shared.words) c.first.inside.seat c.meet.new.seat ((first_steady at).pass.1) _ _ _ _ c.first.invariant.0 meet_steps (looked _ _ _ _ (one at)), remembers c.first.inside.lows _ _ _ _ _ (one at).walk c.first.invariant.1)
+    (rests_looked (table_limits c.self.inside.shared.words) c.first.inside.seat c.meet.new.seat ((first_steady at).pass.1) _ _ _ _ c.first.invariant.0 meet_steps (looked _ _ _ _ (one at)), remembers c.first.inside.lows _ _ _ _ _ (one at).walk c.first.invariant.1)
 
 pub invariant_of-second : goal.invariant_of-second
 invariant_of-second c = let at = (goal.at.invariant_of-second c).After-meet in
-    (rests_looked (limits_of c.self.inside.shared.words) c.second.inside.seat c.meet.new.other ((second_steady at).pass.1) _ _ _ _ c.second.invariant.0 met_steps (looked _ _ _ _ (two at)), remembers c.second.inside.lows _ _ _ _ _ (two at).walk c.second.invariant.1)
+    (rests_looked (table_limits c.self.inside.shared.words) c.second.inside.seat c.meet.new.other ((second_steady at).pass.1) _ _ _ _ c.second.invariant.0 met_steps (looked _ _ _ _ (two at)), remembers c.second.inside.lows _ _ _ _ _ (two at).walk c.second.invariant.1)
 
 pub returns-clause-first : goal.returns-clause-first
 returns-clause-first c = let at = (goal.at.returns-clause-first c).After-meet in

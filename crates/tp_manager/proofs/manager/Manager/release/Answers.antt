@@ -2,7 +2,7 @@ use Rattle.std.proofs.Common.{◌≡◌, ◌≤◌, ◌++◌, sym, ◌∙◌, ap
 use Rattle.tp_model.specs.declared.types.Limits.{Limits}
 use Rattle.tp_model.specs.History.{IsUnborn}
 use Rattle.tp_model.specs.Steps.{rows_of}
-use Rattle.tp_rule.specs.Tables.{limits_of}
+use Rattle.tp_rule.specs.Tables.{table_limits}
 use Rattle.tp_rule.specs.Views.{hand, seen_by, view_of}
 use Rattle.tp_rule.specs.declared.view.Hand.{Hand}
 use Rattle.tp_manager.specs.Shown.{ManagerShown, PassShown, shown, spot}
@@ -16,10 +16,10 @@ use Rattle.tp_manager.proofs.Releases.{freeing_then, release_shown, releases_sho
 use Rattle.tp_manager.proofs.manager.Manager.release.Goals as goal
 use Rattle.tp_manager.proofs.manager.Manager.release.Goals.{After-rows, After-birth_from, In-Ok, In-Err}
 
-lim : (c : After-rows) → (view_of c.pass.inside.seat).limits ≡ limits_of c.self.inside.shared.words
+lim : (c : After-rows) → (view_of c.pass.inside.seat).limits ≡ table_limits c.self.inside.shared.words
 lim c = ap (λ (p : PassShown). p.limits) c.pass.view_is ∙ (c.requires.own.1 ∙ (sym (ap (λ (m : ManagerShown). m.limits) c.self.view_is) ∙ sym c.self.inside.shared.same))
 
-limits : (c : After-rows) → limits_of c.self.inside.shared.words ≡ c.args.self.now.limits
+limits : (c : After-rows) → table_limits c.self.inside.shared.words ≡ c.args.self.now.limits
 limits c = c.self.inside.shared.same ∙ ap (λ (m : ManagerShown). m.limits) c.self.view_is
 
 free : (c : After-rows) → (hand (view_of c.pass.inside.seat)).open_unit ≡ None
@@ -31,7 +31,7 @@ no_task c = task_none c.pass.inside.task (sym c.pass.invariant.0.open_is ∙ fre
 rests : (c : After-rows) → Rests c.pass.inside.seat c.pass.inside.number c.pass.inside.run c.pass.inside.used None
 rests c = subst (λ t. Rests c.pass.inside.seat c.pass.inside.number c.pass.inside.run c.pass.inside.used t) (no_task c) c.pass.invariant.0
 
-none : (c : After-birth_from) → Acted (limits_of c.self.inside.shared.words) birth_steps (view_of c.pass.inside.seat) (view_of c.birth_from.new.seat)
+none : (c : After-birth_from) → Acted (table_limits c.self.inside.shared.words) birth_steps (view_of c.pass.inside.seat) (view_of c.birth_from.new.seat)
 none c = acted_then _ 1 1 _ _ _ c.head_at-head.ensures.acted c.birth_from.ensures.looked
 
 pub returns-then-id-rows-clause-answer : goal.returns-then-id-rows-clause-answer
@@ -54,18 +54,18 @@ returns-in_default-clause-looks c = λ _. let at = goal.at.returns-in_default-cl
     has_looked (spot c.pass.inside.seat.table c.pass.inside.lows c.pass.inside.run.drawn c.pass.inside.from) (spot c.birth_from.new.seat.table c.pass.inside.lows c.pass.inside.run.drawn c.pass.inside.from) (view_of c.pass.inside.seat) (view_of c.birth_from.new.seat) c.args.pass.now c.pass.view_is _ birth_steps _ a.walk a.step
 
 pub returns-in_default-clause-answer : goal.returns-in_default-clause-answer
-returns-in_default-clause-answer c = let at = goal.at.returns-in_default-clause-answer c in let l : Limits = limits_of c.self.inside.shared.words in let n = none at.After-birth_from in
+returns-in_default-clause-answer c = let at = goal.at.returns-in_default-clause-answer c in let l : Limits = table_limits c.self.inside.shared.words in let n = none at.After-birth_from in
     let v = view_of c.pass.inside.seat in let x = view_of c.birth_from.new.seat in (
       quiet_looked (spot c.pass.inside.seat.table c.pass.inside.lows c.pass.inside.run.drawn c.pass.inside.from) (spot c.birth_from.new.seat.table c.pass.inside.lows c.pass.inside.run.drawn c.pass.inside.from) v x c.args.pass.now c.pass.view_is l birth_steps (looked l birth_steps v x n),
       at_point (spot c.pass.inside.seat.table c.pass.inside.lows c.pass.inside.run.drawn c.pass.inside.from) (spot c.birth_from.new.seat.table c.pass.inside.lows c.pass.inside.run.drawn c.pass.inside.from) v x c.args.pass.now c.pass.view_is l birth_steps n.marks n.walk (λ z. IsUnborn z c.args.id) (seen_by c.birth_from.new.seat) (point_last l birth_steps n.marks v x n.walk) c.in_default.ensures.told,
     )
 
 -- a release that went through
-whole : (c : In-Ok) → Acted (limits_of c.self.inside.shared.words) birth_steps (view_of c.pass.inside.seat) (view_of c.birth_from.new.seat) → Freeing (limits_of c.self.inside.shared.words) release_steps c.args.id c.in-Ok.released.unit c.in-Ok.released.attempt (view_of c.pass.inside.seat) (view_of c.release_row.new.seat)
+whole : (c : In-Ok) → Acted (table_limits c.self.inside.shared.words) birth_steps (view_of c.pass.inside.seat) (view_of c.birth_from.new.seat) → Freeing (table_limits c.self.inside.shared.words) release_steps c.args.id c.in-Ok.released.unit c.in-Ok.released.attempt (view_of c.pass.inside.seat) (view_of c.release_row.new.seat)
 whole c n = freeing_then _ birth_steps free_steps c.args.id c.in-Ok.released.unit c.in-Ok.released.attempt _ _ _ (looked _ birth_steps _ _ n) c.in-Ok.ensures.told
 
 -- one that was refused
-refused : (c : In-Err) → Acted (limits_of c.self.inside.shared.words) birth_steps (view_of c.pass.inside.seat) (view_of c.birth_from.new.seat) → Acted (limits_of c.self.inside.shared.words) release_steps (view_of c.pass.inside.seat) (view_of c.release_row.new.seat)
+refused : (c : In-Err) → Acted (table_limits c.self.inside.shared.words) birth_steps (view_of c.pass.inside.seat) (view_of c.birth_from.new.seat) → Acted (table_limits c.self.inside.shared.words) release_steps (view_of c.pass.inside.seat) (view_of c.release_row.new.seat)
 refused c n = acted_then _ birth_steps free_steps _ _ _ n c.in-Err.ensures.told.0
 
 pub returns-in_default-clause-open_unit : goal.returns-in_default-clause-open_unit
@@ -74,7 +74,7 @@ returns-in_default-clause-open_unit c = let at = goal.at.returns-in_default-clau
 pub invariant_of-pass-in-Ok : goal.invariant_of-pass-in-Ok
 invariant_of-pass-in-Ok c = let at = goal.at.invariant_of-pass-in-Ok c in let a = whole at.In-Ok (none at.After-birth_from) in (
   subst (λ t. Rests c.release_row.new.seat c.pass.inside.number c.pass.inside.run c.pass.inside.used t) (sym (no_task at.After-rows))
-      (rests_freeing (limits_of c.self.inside.shared.words) c.pass.inside.seat c.release_row.new.seat _ _ _ (lim at.After-rows) (rests at.After-rows) release_steps c.args.id _ _ a),
+      (rests_freeing (table_limits c.self.inside.shared.words) c.pass.inside.seat c.release_row.new.seat _ _ _ (lim at.After-rows) (rests at.After-rows) release_steps c.args.id _ _ a),
   remembers c.pass.inside.lows _ _ _ _ _ a.gained.walk c.pass.invariant.1,
 )
 
@@ -88,7 +88,7 @@ returns-in-Ok-clause-follows c = let at = goal.at.returns-in-Ok-clause-follows c
     follows (spot c.pass.inside.seat.table c.pass.inside.lows c.pass.inside.run.drawn c.pass.inside.from) (spot c.release_row.new.seat.table c.pass.inside.lows c.pass.inside.run.drawn c.pass.inside.from) (climbs_same c.pass.inside.lows c.pass.inside.run.drawn) (view_of c.pass.inside.seat) (view_of c.release_row.new.seat) c.args.pass.now c.pass.view_is _ release_steps a.gained.marks a.gained.walk release_steps (omega arith)
 
 pub returns-in-Ok-clause-looks : goal.returns-in-Ok-clause-looks
-returns-in-Ok-clause-looks c = λ _. let at = goal.at.returns-in-Ok-clause-looks c in let l : Limits = limits_of c.self.inside.shared.words in let n = none at.After-birth_from in let k = c.in-Ok.ensures.told.gained in
+returns-in-Ok-clause-looks c = λ _. let at = goal.at.returns-in-Ok-clause-looks c in let l : Limits = table_limits c.self.inside.shared.words in let n = none at.After-birth_from in let k = c.in-Ok.ensures.told.gained in
     has_looked (spot c.pass.inside.seat.table c.pass.inside.lows c.pass.inside.run.drawn c.pass.inside.from) (spot c.release_row.new.seat.table c.pass.inside.lows c.pass.inside.run.drawn c.pass.inside.from) (view_of c.pass.inside.seat) (view_of c.release_row.new.seat) c.args.pass.now c.pass.view_is l release_steps (n.marks ++ k.marks)
     (walked_then l birth_steps free_steps n.marks k.marks _ _ _ n.walk k.walk) (has_more n.marks k.marks n.step)
 
@@ -96,7 +96,7 @@ pub returns-in-Ok-clause-open_unit : goal.returns-in-Ok-clause-open_unit
 returns-in-Ok-clause-open_unit c = let at = goal.at.returns-in-Ok-clause-open_unit c in (whole at.In-Ok (none at.After-birth_from)).gained.open_unit (free at.After-rows)
 
 pub returns-in-Ok-clause-answer : goal.returns-in-Ok-clause-answer
-returns-in-Ok-clause-answer c = let at = goal.at.returns-in-Ok-clause-answer c in let l : Limits = limits_of c.self.inside.shared.words in let a = whole at.In-Ok (none at.After-birth_from) in
+returns-in-Ok-clause-answer c = let at = goal.at.returns-in-Ok-clause-answer c in let l : Limits = table_limits c.self.inside.shared.words in let a = whole at.In-Ok (none at.After-birth_from) in
     subst (λ (z : Limits). Releases z c.args.id c.in-Ok.released.unit c.in-Ok.released.attempt c.args.pass.now (shown (spot c.release_row.new.seat.table c.pass.inside.lows c.pass.inside.run.drawn c.pass.inside.from) (view_of c.release_row.new.seat))) (limits at.After-rows)
     (releases_shown (spot c.pass.inside.seat.table c.pass.inside.lows c.pass.inside.run.drawn c.pass.inside.from) (spot c.release_row.new.seat.table c.pass.inside.lows c.pass.inside.run.drawn c.pass.inside.from) (view_of c.pass.inside.seat) (view_of c.release_row.new.seat) c.args.pass.now c.pass.view_is l (free at.After-rows) release_steps c.args.id c.in-Ok.released.unit c.in-Ok.released.attempt a)
 
@@ -112,6 +112,6 @@ pub returns-in-Err-clause-open_unit : goal.returns-in-Err-clause-open_unit
 returns-in-Err-clause-open_unit c = let at = goal.at.returns-in-Err-clause-open_unit c in ap (λ (h : Hand). h.open_unit) (refused at.In-Err (none at.After-birth_from)).kept ∙ free at.After-rows
 
 pub returns-in-Err-clause-answer : goal.returns-in-Err-clause-answer
-returns-in-Err-clause-answer c = let at = goal.at.returns-in-Err-clause-answer c in let l : Limits = limits_of c.self.inside.shared.words in let n = none at.After-birth_from in let told = c.in-Err.ensures.told in let there = c.in-Some.ensures.told.0 in
+returns-in-Err-clause-answer c = let at = goal.at.returns-in-Err-clause-answer c in let l : Limits = table_limits c.self.inside.shared.words in let n = none at.After-birth_from in let told = c.in-Err.ensures.told in let there = c.in-Some.ensures.told.0 in
     subst (λ (z : Limits). ReleaseFails z c.args.id c.args.pass.now (shown (spot c.release_row.new.seat.table c.pass.inside.lows c.pass.inside.run.drawn c.pass.inside.from) (view_of c.release_row.new.seat)) c.in-Err.refusal) (limits at.After-rows)
     (release_shown (spot c.pass.inside.seat.table c.pass.inside.lows c.pass.inside.run.drawn c.pass.inside.from) (spot c.release_row.new.seat.table c.pass.inside.lows c.pass.inside.run.drawn c.pass.inside.from) (view_of c.pass.inside.seat) (view_of c.birth_from.new.seat) (view_of c.release_row.new.seat) c.args.pass.now c.pass.view_is l birth_steps free_steps n told.0 c.args.id c.in-Err.refusal (there.0, there.1) told.1)

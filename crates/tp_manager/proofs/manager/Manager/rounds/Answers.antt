@@ -6,7 +6,7 @@ use Rattle.tp_model.specs.Steps.{rows_of}
 use Rattle.tp_model.specs.Words.{round_in}
 use Rattle.tp_model.proofs.Bridges.{found_later}
 use Rattle.tp_model.proofs.WordProofs.{rounds_by_words}
-use Rattle.tp_rule.specs.Tables.{limits_of}
+use Rattle.tp_rule.specs.Tables.{table_limits}
 use Rattle.tp_rule.specs.Views.{seen_by, view_of}
 use Rattle.tp_manager.specs.Shown.{ManagerShown, PassShown, spot}
 use Rattle.tp_manager.specs.Bounds.{birth_steps, rounds_steps}
@@ -17,17 +17,17 @@ use Rattle.tp_manager.proofs.Passes.{rests_looked, point_none, unborn_beyond}
 use Rattle.tp_manager.proofs.manager.Manager.rounds.Goals as goal
 use Rattle.tp_manager.proofs.manager.Manager.rounds.Goals.{After-rows, After-birth_from, After-load_claim-claim}
 
-lim : (c : After-rows) → (view_of c.pass.inside.seat).limits ≡ limits_of c.self.inside.shared.words
+lim : (c : After-rows) → (view_of c.pass.inside.seat).limits ≡ table_limits c.self.inside.shared.words
 lim c = ap (λ (p : PassShown). p.limits) c.pass.view_is ∙ (c.requires.own.1 ∙ (sym (ap (λ (m : ManagerShown). m.limits) c.self.view_is) ∙ sym c.self.inside.shared.same))
 
-none : (c : After-birth_from) → Acted (limits_of c.self.inside.shared.words) birth_steps (view_of c.pass.inside.seat) (view_of c.birth_from.new.seat)
+none : (c : After-birth_from) → Acted (table_limits c.self.inside.shared.words) birth_steps (view_of c.pass.inside.seat) (view_of c.birth_from.new.seat)
 none c = acted_then _ 1 1 _ _ _ c.head_at-head.ensures.acted c.birth_from.ensures.looked
 
 -- the load of the claim
-last : (c : After-load_claim-claim) → Acted (limits_of c.self.inside.shared.words) birth_steps (view_of c.pass.inside.seat) (view_of c.birth_from.new.seat) → Acted (limits_of c.self.inside.shared.words) 1 (view_of c.birth_from.new.seat) (view_of c.load_claim-claim.new.seat)
+last : (c : After-load_claim-claim) → Acted (table_limits c.self.inside.shared.words) birth_steps (view_of c.pass.inside.seat) (view_of c.birth_from.new.seat) → Acted (table_limits c.self.inside.shared.words) 1 (view_of c.birth_from.new.seat) (view_of c.load_claim-claim.new.seat)
 last c n = acted_by _ kinds.Load _ _ n.walk.steady refl c.load_claim-claim.ensures.grew
 
-whole : (c : After-load_claim-claim) → Acted (limits_of c.self.inside.shared.words) birth_steps (view_of c.pass.inside.seat) (view_of c.birth_from.new.seat) → Acted (limits_of c.self.inside.shared.words) rounds_steps (view_of c.pass.inside.seat) (view_of c.load_claim-claim.new.seat)
+whole : (c : After-load_claim-claim) → Acted (table_limits c.self.inside.shared.words) birth_steps (view_of c.pass.inside.seat) (view_of c.birth_from.new.seat) → Acted (table_limits c.self.inside.shared.words) rounds_steps (view_of c.pass.inside.seat) (view_of c.load_claim-claim.new.seat)
 whole c n = acted_then _ birth_steps 1 _ _ _ n (looked _ 1 _ _ (last c n))
 
 pub returns-then-id-rows-clause-answer : goal.returns-then-id-rows-clause-answer
@@ -68,7 +68,7 @@ returns-clause-looks c = λ _. let at = goal.at.returns-clause-looks c in let a 
 
 pub returns-clause-answer : goal.returns-clause-answer
 returns-clause-answer c =
-    let at = goal.at.returns-clause-answer c in let l : Limits = limits_of c.self.inside.shared.words in let n = none at.After-birth_from in let a = whole at.After-load_claim-claim n in let h = seen_by c.load_claim-claim.new.seat in
+    let at = goal.at.returns-clause-answer c in let l : Limits = table_limits c.self.inside.shared.words in let n = none at.After-birth_from in let a = whole at.After-load_claim-claim n in let h = seen_by c.load_claim-claim.new.seat in
     let told = rounds_by_words l h c.args.id a.walk.steady.shows.legal in
     let round = c.round.ensures ∙ (ap round_in c.load_claim-claim.ensures.claim ∙ told.0) in
     let there = c.in-Some.ensures.told.0 in (

@@ -1,6 +1,6 @@
 use Rattle.std.proofs.Common.{inl, ◌≡◌, ◌<◌, sym, ◌∙◌, ap, arith, rules, subst, Some}
 use Rattle.tp_model.specs.declared.types.Limits.{Limits}
-use Rattle.tp_rule.specs.Tables.{limits_of}
+use Rattle.tp_rule.specs.Tables.{table_limits}
 use Rattle.tp_model.specs.Births.{request}
 use Rattle.tp_model.specs.History.{element_of}
 use Rattle.tp_rule.specs.Views.{hand, seen_by, view_of}
@@ -15,28 +15,28 @@ use Rattle.tp_manager.proofs.Submits.{made_adds, made_request, made_rests, made_
 use Rattle.tp_manager.proofs.manager.Manager.submit_next.Goals as goal
 use Rattle.tp_manager.proofs.manager.Manager.submit_next.Goals.{After-publish}
 
-lim : (c : After-publish) → (view_of c.pass.inside.seat).limits ≡ limits_of c.self.inside.shared.words
+lim : (c : After-publish) → (view_of c.pass.inside.seat).limits ≡ table_limits c.self.inside.shared.words
 lim c = ap (λ (p : PassShown). p.limits) c.pass.view_is ∙ (c.requires.own.1 ∙ (sym (ap (λ (m : ManagerShown). m.limits) c.self.view_is) ∙ sym c.self.inside.shared.same))
 
 room : (c : After-publish) → 0 < (hand (view_of c.pass.inside.seat)).left
 room c = let some = c.requires.room in let is = ap (λ (p : PassShown). p.left) c.pass.view_is in omega arith
 
-steady : (c : After-publish) → Steady (limits_of c.self.inside.shared.words) (view_of c.pass.inside.seat)
+steady : (c : After-publish) → Steady (table_limits c.self.inside.shared.words) (view_of c.pass.inside.seat)
 steady c = steady_at _ _ _ (lim c) c.pass.invariant.0.steady
 
 pub invariant_of-pass : goal.invariant_of-pass
 invariant_of-pass c = let at = (goal.at.invariant_of-pass c).After-publish in (
-  made_rests (limits_of c.self.inside.shared.words) c.args.body c.args.stage c.pass.inside.seat c.publish.new.seat _ (lim at) (steady at) c.store_draft_body.ensures.view c.publish.ensures.grew (room at) _ _ _ _ c.pass.invariant.0,
-  remembers c.pass.inside.lows _ next_steps _ _ _ (made_walked (limits_of c.self.inside.shared.words) c.args.body c.args.stage _ _ _ (steady at) c.store_draft_body.ensures.view c.publish.ensures.grew (room at)) c.pass.invariant.1,
+  made_rests (table_limits c.self.inside.shared.words) c.args.body c.args.stage c.pass.inside.seat c.publish.new.seat _ (lim at) (steady at) c.store_draft_body.ensures.view c.publish.ensures.grew (room at) _ _ _ _ c.pass.invariant.0,
+  remembers c.pass.inside.lows _ next_steps _ _ _ (made_walked (table_limits c.self.inside.shared.words) c.args.body c.args.stage _ _ _ (steady at) c.store_draft_body.ensures.view c.publish.ensures.grew (room at)) c.pass.invariant.1,
 )
 
 pub returns-clause-follows : goal.returns-clause-follows
 returns-clause-follows c = let at = (goal.at.returns-clause-follows c).After-publish in
-    follows (spot c.pass.inside.seat.table c.pass.inside.lows c.pass.inside.run.drawn c.pass.inside.from) (spot c.publish.new.seat.table c.pass.inside.lows c.pass.inside.run.drawn c.pass.inside.from) (climbs_same c.pass.inside.lows c.pass.inside.run.drawn) (view_of c.pass.inside.seat) (view_of c.publish.new.seat) c.args.pass.now c.pass.view_is (limits_of c.self.inside.shared.words) next_steps _
-    (made_walked (limits_of c.self.inside.shared.words) c.args.body c.args.stage _ _ _ (steady at) c.store_draft_body.ensures.view c.publish.ensures.grew (room at)) next_steps (omega arith)
+    follows (spot c.pass.inside.seat.table c.pass.inside.lows c.pass.inside.run.drawn c.pass.inside.from) (spot c.publish.new.seat.table c.pass.inside.lows c.pass.inside.run.drawn c.pass.inside.from) (climbs_same c.pass.inside.lows c.pass.inside.run.drawn) (view_of c.pass.inside.seat) (view_of c.publish.new.seat) c.args.pass.now c.pass.view_is (table_limits c.self.inside.shared.words) next_steps _
+    (made_walked (table_limits c.self.inside.shared.words) c.args.body c.args.stage _ _ _ (steady at) c.store_draft_body.ensures.view c.publish.ensures.grew (room at)) next_steps (omega arith)
 
 pub returns-clause-answer : goal.returns-clause-answer
-returns-clause-answer c = let at = (goal.at.returns-clause-answer c).After-publish in let l : Limits = limits_of c.self.inside.shared.words in record {
+returns-clause-answer c = let at = (goal.at.returns-clause-answer c).After-publish in let l : Limits = table_limits c.self.inside.shared.words in record {
   stage_is = c.requires.stage;
   adds = subst (λ n. Adds (Enqueue c.args.pass.now.number (request n c.args.stage c.args.body)) c.args.pass.now (shown (spot c.publish.new.seat.table c.pass.inside.lows c.pass.inside.run.drawn c.pass.inside.from) (view_of c.publish.new.seat))) (at.pass.invariant.0.run_is.0)
       (made_adds l c.args.body c.args.stage _ _ (view_of c.publish.new.seat) (steady at) c.store_draft_body.ensures.view c.publish.ensures.grew (room at)

@@ -5,7 +5,7 @@ use Rattle.tp_model.specs.Words.{TakenWord, claim_word}
 use Rattle.tp_model.proofs.Bridges.{status_again, status_free, status_killed}
 use Rattle.tp_model.proofs.Later.{unit_inside}
 use Rattle.tp_words.specs.Words.{claim_value, unit_value}
-use Rattle.tp_rule.specs.Tables.{limits_of}
+use Rattle.tp_rule.specs.Tables.{table_limits}
 use Rattle.tp_rule.specs.Views.{seen_by, view_of}
 use Rattle.tp_rule.proofs.Reading.{grew_begins}
 use Rattle.tp_manager.specs.Bounds.{retry_steps}
@@ -20,20 +20,20 @@ use Rattle.tp_manager.proofs.manager.Shared.+status.Goals.{status_from-In-Taken,
 taken : (t : ℕ) (c : status_from-In-Taken t) → claim_word (seen_by c.args.seat.now) c.args.row ≡ TakenWord c.in-Taken.attempt c.in-Taken.unit c.in-Taken.round
 taken t c = sym c.requires.found.0 ∙ ap claim_value c.in-Taken.is
 
-enough : (t : ℕ) (c : status_from-In-Taken t) → IsEnough (limits_of c.args.self.now.words) c.args.left (TakenWord c.in-Taken.attempt c.in-Taken.unit c.in-Taken.round)
-enough t c = subst (λ w. IsEnough (limits_of c.args.self.now.words) c.args.left (claim_value w)) c.in-Taken.is c.requires.enough
+enough : (t : ℕ) (c : status_from-In-Taken t) → IsEnough (table_limits c.args.self.now.words) c.args.left (TakenWord c.in-Taken.attempt c.in-Taken.unit c.in-Taken.round)
+enough t c = subst (λ w. IsEnough (table_limits c.args.self.now.words) c.args.left (claim_value w)) c.in-Taken.is c.requires.enough
 
 some : (t : ℕ) (c : status_from-In-Taken t) → 1 ≤ c.args.left
-some t c = enough_some (limits_of c.args.self.now.words) c.args.self.now.words.places.valid (seen_by c.args.seat.now) c.args.row c.args.left (TakenWord c.in-Taken.attempt c.in-Taken.unit c.in-Taken.round) c.requires.steady.shows.legal (taken t c) (enough t c)
+some t c = enough_some (table_limits c.args.self.now.words) c.args.self.now.words.places.valid (seen_by c.args.seat.now) c.args.row c.args.left (TakenWord c.in-Taken.attempt c.in-Taken.unit c.in-Taken.round) c.requires.steady.shows.legal (taken t c) (enough t c)
 
-one : (t : ℕ) (c : status_from-After-load_unit t) → Looked (limits_of c.args.self.now.words) 1 (view_of c.args.seat.now) (view_of c.load_unit.new.seat)
+one : (t : ℕ) (c : status_from-After-load_unit t) → Looked (table_limits c.args.self.now.words) 1 (view_of c.args.seat.now) (view_of c.load_unit.new.seat)
 one t c = looked _ 1 _ _ (acted_by _ kinds.Load _ _ c.requires.steady refl c.load_unit.ensures.grew)
 
-two : (t : ℕ) (c : status_from-After-load_claim-again t) → Looked (limits_of c.args.self.now.words) 1 (view_of c.args.seat.now) (view_of c.load_unit.new.seat) → Looked (limits_of c.args.self.now.words) 2 (view_of c.args.seat.now) (view_of c.load_claim-again.new.seat)
+two : (t : ℕ) (c : status_from-After-load_claim-again t) → Looked (table_limits c.args.self.now.words) 1 (view_of c.args.seat.now) (view_of c.load_unit.new.seat) → Looked (table_limits c.args.self.now.words) 2 (view_of c.args.seat.now) (view_of c.load_claim-again.new.seat)
 two t c o = looked_then _ 1 1 _ _ _ o (looked _ 1 _ _ (acted_by _ kinds.Load _ _ o.walk.steady refl c.load_claim-again.ensures.grew))
 
 pub status_from-load_unit-requires-clause-unit : goal.status_from-load_unit-requires-clause-unit
-status_from-load_unit-requires-clause-unit t c = unit_inside (limits_of c.args.self.now.words) (seen_by c.args.seat.now) c.args.row c.in-Taken.attempt c.in-Taken.unit c.requires.steady.shows.legal (taken t (goal.at.status_from-load_unit-requires-clause-unit t c).In-Taken)
+status_from-load_unit-requires-clause-unit t c = unit_inside (table_limits c.args.self.now.words) (seen_by c.args.seat.now) c.args.row c.in-Taken.attempt c.in-Taken.unit c.requires.steady.shows.legal (taken t (goal.at.status_from-load_unit-requires-clause-unit t c).In-Taken)
 
 pub status_from-overflow_sub-left : goal.status_from-overflow_sub-left
 status_from-overflow_sub-left t c = some t (goal.at.status_from-overflow_sub-left t c).In-Taken
@@ -51,8 +51,8 @@ status_from-status_again-requires t c = let at = goal.at.status_from-status_agai
             c.requires.row,
             (
               (again.claim, again.fits),
-              subst (IsEnough (limits_of c.args.self.now.words) (c.args.left - 1)) (sym again.claim)
-                  (enough_next (limits_of c.args.self.now.words) c.args.self.now.words.places.valid (seen_by c.args.seat.now) (seen_by c.load_claim-again.new.seat) c.requires.steady.shows.legal b.walk.steady.shows.legal (looked_begins _ 2 _ _ b) c.args.row c.args.left (TakenWord c.in-Taken.attempt c.in-Taken.unit c.in-Taken.round) (taken t i) (λ n u r z. cc) not (enough t i)),
+              subst (IsEnough (table_limits c.args.self.now.words) (c.args.left - 1)) (sym again.claim)
+                  (enough_next (table_limits c.args.self.now.words) c.args.self.now.words.places.valid (seen_by c.args.seat.now) (seen_by c.load_claim-again.new.seat) c.requires.steady.shows.legal b.walk.steady.shows.legal (looked_begins _ 2 _ _ b) c.args.row c.args.left (TakenWord c.in-Taken.attempt c.in-Taken.unit c.in-Taken.round) (taken t i) (λ n u r z. cc) not (enough t i)),
             ),
           ),
         ),
@@ -64,13 +64,13 @@ status_from-returns-then-ne-clause-looked t c = let at = goal.at.status_from-ret
     looked_few _ (2 + retry_steps (c.args.left - 1)) (retry_steps c.args.left) _ _ (omega arith) (looked_then _ 2 (retry_steps (c.args.left - 1)) _ _ _ (two t at.After-load_claim-again (one t at.After-load_unit)) c.status_again.ensures.looked)
 
 pub status_from-returns-in-Free-clause-status : goal.status_from-returns-in-Free-clause-status
-status_from-returns-in-Free-clause-status t c = sym (status_free (limits_of c.args.self.now.words) _ c.args.row c.requires.steady.shows.legal (sym c.requires.found.0 ∙ ap claim_value c.in-Free.is))
+status_from-returns-in-Free-clause-status t c = sym (status_free (table_limits c.args.self.now.words) _ c.args.row c.requires.steady.shows.legal (sym c.requires.found.0 ∙ ap claim_value c.in-Free.is))
 
 pub status_from-returns-in-Killed-clause-status : goal.status_from-returns-in-Killed-clause-status
-status_from-returns-in-Killed-clause-status t c = sym (status_killed (limits_of c.args.self.now.words) _ c.args.row _ _ c.requires.steady.shows.legal (sym c.requires.found.0 ∙ ap claim_value c.in-Killed.is))
+status_from-returns-in-Killed-clause-status t c = sym (status_killed (table_limits c.args.self.now.words) _ c.args.row _ _ c.requires.steady.shows.legal (sym c.requires.found.0 ∙ ap claim_value c.in-Killed.is))
 
 pub status_from-returns-in-Again-clause-status : goal.status_from-returns-in-Again-clause-status
-status_from-returns-in-Again-clause-status t c = sym (status_again (limits_of c.args.self.now.words) _ c.args.row c.in-Again.round c.requires.steady.shows.legal (sym c.requires.found.0 ∙ ap claim_value c.in-Again.is))
+status_from-returns-in-Again-clause-status t c = sym (status_again (table_limits c.args.self.now.words) _ c.args.row c.in-Again.round c.requires.steady.shows.legal (sym c.requires.found.0 ∙ ap claim_value c.in-Again.is))
 
 pub status_from-returns-in-Again-clause-looked : goal.status_from-returns-in-Again-clause-looked
 status_from-returns-in-Again-clause-looked t c = looked_few _ 0 (retry_steps c.args.left) _ _ (omega arith) (looked_none _ _ c.requires.steady)
@@ -89,25 +89,25 @@ status_from-returns-in-Committed-clause-looked t c = let at = goal.at.status_fro
 
 pub status_from-returns-in-Undecided-clause-claim : goal.status_from-returns-in-Undecided-clause-claim
 status_from-returns-in-Undecided-clause-claim t c = let at = goal.at.status_from-returns-in-Undecided-clause-claim t c in let o = one t at.After-load_unit in
-    (ap claim_value c.in-Taken.is ∙ held_still (limits_of c.args.self.now.words) _ _ o.walk.steady.shows.legal (looked_begins _ 1 _ _ o) c.args.row _ _ (taken t at.In-Taken) (sym (ap unit_value c.in-Undecided.is) ∙ c.load_unit.ensures.end), search rules)
+    (ap claim_value c.in-Taken.is ∙ held_still (table_limits c.args.self.now.words) _ _ o.walk.steady.shows.legal (looked_begins _ 1 _ _ o) c.args.row _ _ (taken t at.In-Taken) (sym (ap unit_value c.in-Undecided.is) ∙ c.load_unit.ensures.end), search rules)
 
 pub status_from-returns-in-Undecided-clause-status : goal.status_from-returns-in-Undecided-clause-status
 status_from-returns-in-Undecided-clause-status t c = let at = goal.at.status_from-returns-in-Undecided-clause-status t c in let o = one t at.After-load_unit in
-    held_yet (limits_of c.args.self.now.words) _ _ o.walk.steady.shows.legal (looked_begins _ 1 _ _ o) c.args.row _ _ (taken t at.In-Taken) (sym (ap unit_value c.in-Undecided.is) ∙ c.load_unit.ensures.end)
+    held_yet (table_limits c.args.self.now.words) _ _ o.walk.steady.shows.legal (looked_begins _ 1 _ _ o) c.args.row _ _ (taken t at.In-Taken) (sym (ap unit_value c.in-Undecided.is) ∙ c.load_unit.ensures.end)
 
 pub status_from-returns-in-Committed-clause-claim : goal.status_from-returns-in-Committed-clause-claim
 status_from-returns-in-Committed-clause-claim t c = let at = goal.at.status_from-returns-in-Committed-clause-claim t c in let o = one t at.After-load_unit in
-    (ap claim_value c.in-Taken.is ∙ consumed_still (limits_of c.args.self.now.words) _ _ o.walk.steady.shows.legal (looked_begins _ 1 _ _ o) c.args.row _ _ _ _ (taken t at.In-Taken) (sym (ap unit_value c.in-Committed.is) ∙ c.load_unit.ensures.end), search rules)
+    (ap claim_value c.in-Taken.is ∙ consumed_still (table_limits c.args.self.now.words) _ _ o.walk.steady.shows.legal (looked_begins _ 1 _ _ o) c.args.row _ _ _ _ (taken t at.In-Taken) (sym (ap unit_value c.in-Committed.is) ∙ c.load_unit.ensures.end), search rules)
 
 pub status_from-returns-in-Committed-clause-status : goal.status_from-returns-in-Committed-clause-status
 status_from-returns-in-Committed-clause-status t c = let at = goal.at.status_from-returns-in-Committed-clause-status t c in let o = one t at.After-load_unit in
-    consumed_now (limits_of c.args.self.now.words) _ _ o.walk.steady.shows.legal (looked_begins _ 1 _ _ o) c.args.row _ _ _ _ (taken t at.In-Taken) (sym (ap unit_value c.in-Committed.is) ∙ c.load_unit.ensures.end)
+    consumed_now (table_limits c.args.self.now.words) _ _ o.walk.steady.shows.legal (looked_begins _ 1 _ _ o) c.args.row _ _ _ _ (taken t at.In-Taken) (sym (ap unit_value c.in-Committed.is) ∙ c.load_unit.ensures.end)
 
 pub status_from-returns-then-attempt-self-clause-looked : goal.status_from-returns-then-attempt-self-clause-looked
 status_from-returns-then-attempt-self-clause-looked t c = let at = goal.at.status_from-returns-then-attempt-self-clause-looked t c in let s = some t at.In-Taken in looked_few _ 2 (retry_steps c.args.left) _ _ (omega arith) (two t at.After-load_claim-again (one t at.After-load_unit))
 
 pub status_from-returns-then-attempt-self-clause-status : goal.status_from-returns-then-attempt-self-clause-status
-status_from-returns-then-attempt-self-clause-status t c = let at = goal.at.status_from-returns-then-attempt-self-clause-status t c in let o = one t at.After-load_unit in let b = two t at.After-load_claim-again o in let l : Limits = limits_of c.args.self.now.words in
+status_from-returns-then-attempt-self-clause-status t c = let at = goal.at.status_from-returns-then-attempt-self-clause-status t c in let o = one t at.After-load_unit in let b = two t at.After-load_claim-again o in let l : Limits = table_limits c.args.self.now.words in
     let same : c.load_claim-again.result.tells ≡ c.args.claim.tells = search rules in
     (returned l (seen_by c.load_unit.new.seat) (seen_by c.load_claim-again.new.seat) b.walk.steady.shows.legal (grew_begins _ _ _ _ _ c.load_claim-again.ensures.grew) c.args.row c.in-Taken.attempt c.in-Taken.unit
     (sym c.load_unit.ensures.end ∙ ap unit_value c.in-Aborted.is) (sym c.load_claim-again.ensures.claim ∙ (ap claim_value same ∙ ap claim_value c.in-Taken.is))).0
@@ -117,7 +117,7 @@ pub status_from-returns-else-attempt-self-clause-looked : goal.status_from-retur
 status_from-returns-else-attempt-self-clause-looked t c = let at = goal.at.status_from-returns-else-attempt-self-clause-looked t c in let s = some t at.In-Taken in looked_few _ 2 (retry_steps c.args.left) _ _ (omega arith) (two t at.After-load_claim-again (one t at.After-load_unit))
 
 pub status_from-returns-else-attempt-self-clause-status : goal.status_from-returns-else-attempt-self-clause-status
-status_from-returns-else-attempt-self-clause-status t c = let at = goal.at.status_from-returns-else-attempt-self-clause-status t c in let o = one t at.After-load_unit in let b = two t at.After-load_claim-again o in let l : Limits = limits_of c.args.self.now.words in
+status_from-returns-else-attempt-self-clause-status t c = let at = goal.at.status_from-returns-else-attempt-self-clause-status t c in let o = one t at.After-load_unit in let b = two t at.After-load_claim-again o in let l : Limits = table_limits c.args.self.now.words in
     let same : c.load_claim-again.result.tells ≡ c.args.claim.tells = search rules in
     (returned l (seen_by c.load_unit.new.seat) (seen_by c.load_claim-again.new.seat) b.walk.steady.shows.legal (grew_begins _ _ _ _ _ c.load_claim-again.ensures.grew) c.args.row c.in-Taken.attempt c.in-Taken.unit
     (sym c.load_unit.ensures.end ∙ ap unit_value c.in-Aborted.is) (sym c.load_claim-again.ensures.claim ∙ (ap claim_value same ∙ ap claim_value c.in-Taken.is))).1

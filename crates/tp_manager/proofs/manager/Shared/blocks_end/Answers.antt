@@ -2,14 +2,14 @@ use Rattle.std.proofs.Common.{◌≡◌, ap, sym, ◌∙◌, refl, arith}
 use Rattle.tp_model.specs.declared.types.Limits.{Limits}
 use Rattle.tp_model.specs.declared.trace.StepKind.TheVariants as kinds
 use Rattle.tp_model.specs.Steps.{block_first}
-use Rattle.tp_rule.specs.Tables.{limits_of}
+use Rattle.tp_rule.specs.Tables.{table_limits}
 use Rattle.tp_rule.specs.Views.{view_of}
 use Rattle.tp_manager.proofs.Passes.{drawn_risen}
 use Rattle.tp_manager.proofs.Walks.{acted_by}
 use Rattle.tp_manager.proofs.manager.Shared.blocks_end.Goals as goal
 
 pub returns-clause-told : goal.returns-clause-told
-returns-clause-told c = let l : Limits = limits_of c.args.self.now.words in
+returns-clause-told c = let l : Limits = table_limits c.args.self.now.words in
     let spare : l.spare ≡ c.args.self.now.places.limits.spare = ap (λ (z : Limits). z.spare) c.args.self.now.same in
     let first : c.block_first.result ≡ block_first l c.load_drawn-found.result = c.block_first.ensures.first ∙ ap (λ (z : Limits). block_first z c.load_drawn-found.result) (sym c.args.self.now.same) in
     let inside = c.load_drawn-found.ensures.inside in let some = c.if-self-eq0.false in (

@@ -1,8 +1,8 @@
 use Rattle.std.proofs.Common.{◌≡◌, ◌+◌, ◌*◌, ◌<◌, ◌≤◌, ℕ, List, refl, sym, ◌∙◌, subst, arith, rules}
 use Rattle.tp_model.specs.declared.types.Limits.{Limits}
 use Rattle.tp_model.specs.Families.{IsOfFamily}
-use Rattle.tp_model.specs.Steps.{most_rows, rows_of}
-use Rattle.tp_rule.specs.Tables.{limits_of}
+use Rattle.tp_model.specs.Steps.{max_rows, rows_of}
+use Rattle.tp_rule.specs.Tables.{table_limits}
 use Rattle.tp_rule.specs.Views.{seen_by, view_of}
 use Rattle.tp_manager.specs.Bounds.{end_steps, ends_steps}
 use Rattle.tp_manager.specs.Endings.{Cancelling}
@@ -15,15 +15,15 @@ use Rattle.tp_manager.proofs.manager.Shared.cancel_family.Goals as goal
 use Rattle.tp_manager.proofs.manager.Shared.cancel_family.Goals.{In-Some, in-Outputs, in-Killed, in-Before}
 
 -- the element that was taken is of the family
-of : (c : In-Some) → (c.in-Some.row < rows_of (limits_of c.args.self.now.words)) × IsOfFamily (seen_by c.loop-past.seat) c.args.root c.in-Some.row
-of c = let l : Limits = limits_of c.args.self.now.words in
+of : (c : In-Some) → (c.in-Some.row < rows_of (table_limits c.args.self.now.words)) × IsOfFamily (seen_by c.loop-past.seat) c.args.root c.in-Some.row
+of c = let l : Limits = table_limits c.args.self.now.words in
     cancelling_there l c.args.root (ends_steps l c.loop-past._past) c.loop-past._past c.loop-past.killed c.in-Some.row (IsAhead c.loop-past.ahead c.loop-past.rows) (view_of c.args.seat.now) (view_of c.loop-past.seat) c.loop-past.invariant.cancelling c.in-Some.ensures.least.0.0
 
 next : (p s : ℕ) → p * s + s ≤ (p + 1) * s
 next p s = omega arith
 
 pub loop-past-init : goal.loop-past-init
-loop-past-init c = let l : Limits = limits_of c.args.self.now.words in let v = view_of c.args.seat.now in record {
+loop-past-init c = let l : Limits = table_limits c.args.self.now.words in let v = view_of c.args.seat.now in record {
   sorted = c.of-ahead.ensures.sorted c.args.rows.now c.requires.none;
   same = search rules;
   cancelling = cancelling_few l c.args.root 0 (ends_steps l 0) 0 0 (IsAhead c.of-ahead.result c.args.rows.now) v v (omega arith)
@@ -32,22 +32,22 @@ loop-past-init c = let l : Limits = limits_of c.args.self.now.words in let v = v
 }
 
 pub returns-in_default-clause-told : goal.returns-in_default-clause-told
-returns-in_default-clause-told c = let l : Limits = limits_of c.args.self.now.words in
+returns-in_default-clause-told c = let l : Limits = table_limits c.args.self.now.words in
     cancelling_ends l c.args.root c.loop-past._past c.loop-past.killed (IsAhead c.loop-past.ahead c.loop-past.rows) (view_of c.args.seat.now) (view_of c.loop-past.seat) c.in_default.ensures.least.0 c.loop-past.invariant.cancelling
 
 pub end_row-requires-clause-row : goal.end_row-requires-clause-row
 end_row-requires-clause-row c = let t = of (goal.at.end_row-requires-clause-row c).In-Some in (t.0, (t.1.0, t.1.1))
 
 pub insert_rows-requires-clause-inside : goal.insert_rows-requires-clause-inside
-insert_rows-requires-clause-inside c = λ i low high. let l : Limits = limits_of c.args.self.now.words in let f = of (goal.at.insert_rows-requires-clause-inside c).In-Some in
+insert_rows-requires-clause-inside c = λ i low high. let l : Limits = table_limits c.args.self.now.words in let f = of (goal.at.insert_rows-requires-clause-inside c).In-Some in
     let e = c.in-Outputs.ensures.told c.args.root f.1 in let t = e.is in
     let inside = outputs_inside l (seen_by c.end_row.new.seat) t.0 c.in-Outputs.first c.in-Outputs.count i e.swept.gained.walk.steady.shows.legal t.5 low high in
-    let few : rows_of l ≤ most_rows = few_rows l c.args.self.now.words.places.valid in
+    let few : rows_of l ≤ max_rows = few_rows l c.args.self.now.words.places.valid in
     omega arith
 
 pub loop-past-preserved : goal.loop-past-preserved
 loop-past-preserved c =
-    let l : Limits = limits_of c.args.self.now.words in let v = view_of c.args.seat.now in let w = view_of c.loop-past.seat in let y = view_of c.end_row.new.seat in
+    let l : Limits = table_limits c.args.self.now.words in let v = view_of c.args.seat.now in let w = view_of c.loop-past.seat in let y = view_of c.end_row.new.seat in
     let p = c.loop-past._past in let root = c.args.root in let row = c.in-Some.row in let k = c.loop-past.killed in
     let n = ends_steps l p in let m = end_steps l in let all = ends_steps l (p + 1) in
     let s = c.loop-past.invariant.cancelling in let f = (of (goal.at.loop-past-preserved c).In-Some).1 in
@@ -88,7 +88,7 @@ loop-past-preserved c =
 
 pub unreachable-requires : goal.unreachable-requires
 unreachable-requires c =
-    let l : Limits = limits_of c.args.self.now.words in
-    let over = c.loop-past-test.false in let rows : rows_of l ≤ most_rows = few_rows l c.args.self.now.words.places.valid in
+    let l : Limits = table_limits c.args.self.now.words in
+    let over = c.loop-past-test.false in let rows : rows_of l ≤ max_rows = few_rows l c.args.self.now.words.places.valid in
     let few = cancelling_most l c.args.root (ends_steps l c.loop-past._past) c.loop-past._past c.loop-past.killed (IsAhead c.loop-past.ahead c.loop-past.rows) (view_of c.args.seat.now) (view_of c.loop-past.seat) c.loop-past.invariant.cancelling in
     omega arith

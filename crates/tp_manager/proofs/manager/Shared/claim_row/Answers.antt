@@ -4,7 +4,7 @@ use Rattle.tp_model.specs.declared.trace.StepKind.TheVariants as kinds
 use Rattle.tp_model.specs.History.{status_of}
 use Rattle.tp_model.specs.Steps.{IsServerStage}
 use Rattle.tp_model.proofs.Bridges.{begins_refl, begins_trans}
-use Rattle.tp_rule.specs.Tables.{limits_of}
+use Rattle.tp_rule.specs.Tables.{table_limits}
 use Rattle.tp_rule.specs.Views.{seen_by, view_of}
 use Rattle.tp_manager.specs.Bounds.{body_steps, given_steps}
 use Rattle.tp_manager.specs.Calls.{IsWaiting}
@@ -18,24 +18,24 @@ use Rattle.tp_manager.proofs.manager.Shared.claim_row.Goals as goal
 use Rattle.tp_manager.proofs.manager.Shared.claim_row.Goals.{After-load_claim-claim, After-stand_of}
 
 -- the step to the claim
-claimed : (c : After-load_claim-claim) → Looked (limits_of c.args.self.now.words) 1 (view_of c.args.seat.now) (view_of c.load_claim-claim.new.seat)
+claimed : (c : After-load_claim-claim) → Looked (table_limits c.args.self.now.words) 1 (view_of c.args.seat.now) (view_of c.load_claim-claim.new.seat)
 claimed c = looked _ 1 _ _ (acted_by _ kinds.Load _ _ c.requires.steady refl c.load_claim-claim.ensures.grew)
 
 -- the steps to the word of the claim's unit
-found : (c : After-stand_of) → Looked (limits_of c.args.self.now.words) 1 (view_of c.args.seat.now) (view_of c.load_claim-claim.new.seat) → Looked (limits_of c.args.self.now.words) 2 (view_of c.args.seat.now) (view_of c.stand_of.new.seat)
+found : (c : After-stand_of) → Looked (table_limits c.args.self.now.words) 1 (view_of c.args.seat.now) (view_of c.load_claim-claim.new.seat) → Looked (table_limits c.args.self.now.words) 2 (view_of c.args.seat.now) (view_of c.stand_of.new.seat)
 found c a = looked_then _ 1 1 _ _ _ a c.stand_of.ensures.looked
 
 pub stand_of-requires-clause-steady : goal.stand_of-requires-clause-steady
 stand_of-requires-clause-steady c = (claimed (goal.at.stand_of-requires-clause-steady c).After-load_claim-claim).walk.steady
 
 pub returns-in-Over-clause-told : goal.returns-in-Over-clause-told
-returns-in-Over-clause-told c = let l : Limits = limits_of c.args.self.now.words in let at = goal.at.returns-in-Over-clause-told c in let b = found at.After-stand_of (claimed at.After-load_claim-claim) in let h = seen_by c.stand_of.new.seat in (
+returns-in-Over-clause-told c = let l : Limits = table_limits c.args.self.now.words in let at = goal.at.returns-in-Over-clause-told c in let b = found at.After-stand_of (claimed at.After-load_claim-claim) in let h = seen_by c.stand_of.new.seat in (
   looked_few l 2 given_steps _ _ (omega arith) b,
   (h, looked_begins l _ _ _ b, begins_refl h, not_waiting l (status_of l.attempts h c.args.row) c.in-Over.ensures.stands),
 )
 
 pub returns-in-Busy-clause-told : goal.returns-in-Busy-clause-told
-returns-in-Busy-clause-told c = let l : Limits = limits_of c.args.self.now.words in let at = goal.at.returns-in-Busy-clause-told c in let a = claimed at.After-load_claim-claim in let b = found at.After-stand_of a in let t = c.in-Busy.ensures.stands in (
+returns-in-Busy-clause-told c = let l : Limits = table_limits c.args.self.now.words in let at = goal.at.returns-in-Busy-clause-told c in let a = claimed at.After-load_claim-claim in let b = found at.After-stand_of a in let t = c.in-Busy.ensures.stands in (
   looked_few l 2 given_steps _ _ (omega arith) b,
   (t.0, begins_trans _ _ t.0 (looked_begins l _ _ _ a) t.1, t.2, t.3),
 )
@@ -52,10 +52,10 @@ claim_exchange-requires-clause-row c = let e = c.element_at-element.ensures in
     (c.requires.row, (c.element_at-element.result, e.born, subst IsServerStage (sym e.head.0) c.requires.stage))
 
 pub claim_exchange-requires-clause-found : goal.claim_exchange-requires-clause-found
-claim_exchange-requires-clause-found c = allows_later (limits_of c.args.self.now.words) (seen_by c.stand_of.new.seat) (seen_by c.element_at-element.new.seat) _ (c.in-Ready.attempts + 1) (looked_begins _ _ _ _ c.element_at-element.ensures.looked) c.in-Ready.ensures.stands.0
+claim_exchange-requires-clause-found c = allows_later (table_limits c.args.self.now.words) (seen_by c.stand_of.new.seat) (seen_by c.element_at-element.new.seat) _ (c.in-Ready.attempts + 1) (looked_begins _ _ _ _ c.element_at-element.ensures.looked) c.in-Ready.ensures.stands.0
 
 pub returns-in-Err-clause-told : goal.returns-in-Err-clause-told
-returns-in-Err-clause-told c = let l : Limits = limits_of c.args.self.now.words in let at = goal.at.returns-in-Err-clause-told c in let first = claimed at.After-load_claim-claim in let e = c.element_at-element.ensures.looked in let miss = c.in-Err.ensures.miss in
+returns-in-Err-clause-told c = let l : Limits = table_limits c.args.self.now.words in let at = goal.at.returns-in-Err-clause-told c in let first = claimed at.After-load_claim-claim in let e = c.element_at-element.ensures.looked in let miss = c.in-Err.ensures.miss in
     let since = looked_then l 1 body_steps _ _ _ c.stand_of.ensures.looked e in
     let b = acted_by l kinds.ClaimExchange _ _ e.walk.steady refl miss.0 in
     let h = seen_by c.load_claim-claim.new.seat in let g = seen_by c.claim_exchange.new.seat in (
@@ -65,7 +65,7 @@ returns-in-Err-clause-told c = let l : Limits = limits_of c.args.self.now.words 
     )
 
 pub returns-in-Ok-clause-told : goal.returns-in-Ok-clause-told
-returns-in-Ok-clause-told c = let l : Limits = limits_of c.args.self.now.words in let m = found (goal.at.returns-in-Ok-clause-told c).After-stand_of (claimed (goal.at.returns-in-Ok-clause-told c).After-load_claim-claim) in let e = c.element_at-element.ensures in
+returns-in-Ok-clause-told c = let l : Limits = table_limits c.args.self.now.words in let m = found (goal.at.returns-in-Ok-clause-told c).After-stand_of (claimed (goal.at.returns-in-Ok-clause-told c).After-load_claim-claim) in let e = c.element_at-element.ensures in
     let a = looked_then l _ body_steps _ _ _ m e.looked in let x = c.element_at-element.result in (
       took_few l x.stage c.args.unit (c.in-Ready.attempts + 1) x _ given_steps c.args.row _ _ (omega arith)
           (took_by l x.stage c.args.unit (c.in-Ready.attempts + 1) x _ c.args.row _ _ _ e.head.2 a e.born refl c.in-Ok.ensures.hit),

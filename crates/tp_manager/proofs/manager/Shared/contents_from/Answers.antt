@@ -3,22 +3,22 @@ use Rattle.tp_model.specs.declared.types.Element.{Element}
 use Rattle.tp_model.specs.declared.trace.StepKind.TheVariants as kinds
 use Rattle.tp_model.specs.History.{Committed, element_of, end_of}
 use Rattle.tp_words.specs.Words.{head_of, unit_value}
-use Rattle.tp_rule.specs.Tables.{limits_of}
+use Rattle.tp_rule.specs.Tables.{table_limits}
 use Rattle.tp_rule.specs.Views.{seen_by, view_of}
 use Rattle.tp_rule.specs.Steps.{Knows}
 use Rattle.tp_rule.specs.declared.view.Known.TheVariants.{RowHead}
-use Rattle.tp_words.specs.declared.words.Head.TheVariants.{There}
+use Rattle.tp_words.specs.declared.words.Head.TheVariants.{Filled}
 use Rattle.tp_manager.specs.Walks.{Acted}
 use Rattle.tp_manager.proofs.Walks.{acted_by, looked, looked_none, looked_few}
 use Rattle.tp_manager.proofs.Looks.{head_now, none_outside, none_unit, there_unit}
 use Rattle.tp_manager.proofs.manager.Shared.contents_from.Goals as goal
 use Rattle.tp_manager.proofs.manager.Shared.contents_from.Goals.{After-load_unit, In-Committed, then-row-first-via-then-row-first, then-row-first-via-else-row-first+then-row-first-2}
 
-one : (c : After-load_unit) → Acted (limits_of c.args.self.now.words) 1 (view_of c.args.seat.now) (view_of c.load_unit.new.seat)
+one : (c : After-load_unit) → Acted (table_limits c.args.self.now.words) 1 (view_of c.args.seat.now) (view_of c.load_unit.new.seat)
 one c = acted_by _ kinds.Load _ _ c.requires.steady refl c.load_unit.ensures.grew
 
 now : (c : After-load_unit) → (x : Element) → element_of (seen_by c.load_unit.new.seat) c.args.row ≡ Some x → c.args.head ≡ head_of x
-now c = head_now kinds.Load _ _ _ _ c.args.row c.in-There.stage c.in-There.root c.in-There.by c.args.head c.requires.told c.load_unit.ensures.grew c.in-There.is
+now c = head_now kinds.Load _ _ _ _ c.args.row c.in-Filled.stage c.in-Filled.root c.in-Filled.by c.args.head c.requires.told c.load_unit.ensures.grew c.in-Filled.is
 
 ended : (c : In-Committed) → end_of (seen_by c.load_unit.new.seat) c.in-Some.unit ≡ Some (Committed c.in-Committed.first c.in-Committed.count)
 ended c = sym c.load_unit.ensures.end ∙ ap unit_value c.in-Committed.is
@@ -30,29 +30,29 @@ pub returns-then-not-is_unit-clause-looked : goal.returns-then-not-is_unit-claus
 returns-then-not-is_unit-clause-looked c = looked_few _ 0 1 _ _ (omega arith) (looked_none _ _ c.requires.steady)
 
 pub returns-then-not-is_unit-clause-told : goal.returns-then-not-is_unit-clause-told
-returns-then-not-is_unit-clause-told c = let a = c.in-There in
-    none_outside (limits_of c.args.self.now.words) (view_of c.args.seat.now) c.args.row a.stage a.root c.in-Some.unit a.by c.args.head a.is c.in-Some.is c.requires.told c.requires.steady.shows.legal (c.is_unit.ensures.no c.if-not-is_unit.true)
+returns-then-not-is_unit-clause-told c = let a = c.in-Filled in
+    none_outside (table_limits c.args.self.now.words) (view_of c.args.seat.now) c.args.row a.stage a.root c.in-Some.unit a.by c.args.head a.is c.in-Some.is c.requires.told c.requires.steady.shows.legal (c.is_unit.ensures.no c.if-not-is_unit.true)
 
 pub returns-in-Undecided-clause-looked : goal.returns-in-Undecided-clause-looked
 returns-in-Undecided-clause-looked c = looked _ 1 _ _ (one (goal.at.returns-in-Undecided-clause-looked c).After-load_unit)
 
 pub returns-in-Undecided-clause-told : goal.returns-in-Undecided-clause-told
-returns-in-Undecided-clause-told c = let a = c.in-There in let o = (goal.at.returns-in-Undecided-clause-told c).After-load_unit in
-    none_unit (limits_of c.args.self.now.words) (seen_by c.load_unit.new.seat) c.args.row a.stage a.root c.in-Some.unit a.by c.args.head a.is c.in-Some.is (now o) (one o).walk.steady.shows.legal
+returns-in-Undecided-clause-told c = let a = c.in-Filled in let o = (goal.at.returns-in-Undecided-clause-told c).After-load_unit in
+    none_unit (table_limits c.args.self.now.words) (seen_by c.load_unit.new.seat) c.args.row a.stage a.root c.in-Some.unit a.by c.args.head a.is c.in-Some.is (now o) (one o).walk.steady.shows.legal
     (λ f m e low high. let none : end_of (seen_by c.load_unit.new.seat) c.in-Some.unit ≡ None = sym c.load_unit.ensures.end ∙ ap unit_value c.in-Undecided.is in absurd cc)
 
 pub returns-in-Aborted-clause-looked : goal.returns-in-Aborted-clause-looked
 returns-in-Aborted-clause-looked c = looked _ 1 _ _ (one (goal.at.returns-in-Aborted-clause-looked c).After-load_unit)
 
 pub returns-in-Aborted-clause-told : goal.returns-in-Aborted-clause-told
-returns-in-Aborted-clause-told c = let a = c.in-There in let o = (goal.at.returns-in-Aborted-clause-told c).After-load_unit in (
-  none_unit (limits_of c.args.self.now.words) (seen_by c.load_unit.new.seat) c.args.row a.stage a.root c.in-Some.unit a.by c.args.head a.is c.in-Some.is (now o) (one o).walk.steady.shows.legal
+returns-in-Aborted-clause-told c = let a = c.in-Filled in let o = (goal.at.returns-in-Aborted-clause-told c).After-load_unit in (
+  none_unit (table_limits c.args.self.now.words) (seen_by c.load_unit.new.seat) c.args.row a.stage a.root c.in-Some.unit a.by c.args.head a.is c.in-Some.is (now o) (one o).walk.steady.shows.legal
       (λ f m e low high. let lost = sym c.load_unit.ensures.end ∙ ap unit_value c.in-Aborted.is in absurd cc),
   (
     a.stage,
     a.root,
     c.in-Some.unit,
-    subst (λ z. Knows (view_of c.load_unit.new.seat) (RowHead c.args.row z)) (a.is ∙ ap (λ b. There a.stage a.root b) c.in-Some.is) (c.load_unit.ensures.grew.knows (RowHead c.args.row c.args.head) c.requires.told.knows),
+    subst (λ z. Knows (view_of c.load_unit.new.seat) (RowHead c.args.row z)) (a.is ∙ ap (λ b. Filled a.stage a.root b) c.in-Some.is) (c.load_unit.ensures.grew.knows (RowHead c.args.row c.args.head) c.requires.told.knows),
     sym c.load_unit.ensures.end ∙ ap unit_value c.in-Aborted.is,
   ),
 )
@@ -61,8 +61,8 @@ pub returns-then-row-first-clause-looked : goal.returns-then-row-first-clause-lo
 returns-then-row-first-clause-looked c = looked _ 1 _ _ (one (goal.at.returns-then-row-first-clause-looked c).After-load_unit)
 
 pub returns-then-row-first-clause-told : goal.returns-then-row-first-clause-told
-returns-then-row-first-clause-told c = let at = goal.at.returns-then-row-first-clause-told c in let a = c.in-There in let o = at.After-load_unit in let end_is = ended at.In-Committed in
-    none_unit (limits_of c.args.self.now.words) (seen_by c.load_unit.new.seat) c.args.row a.stage a.root c.in-Some.unit a.by c.args.head a.is c.in-Some.is (now o) (one o).walk.steady.shows.legal
+returns-then-row-first-clause-told c = let at = goal.at.returns-then-row-first-clause-told c in let a = c.in-Filled in let o = at.After-load_unit in let end_is = ended at.In-Committed in
+    none_unit (table_limits c.args.self.now.words) (seen_by c.load_unit.new.seat) c.args.row a.stage a.root c.in-Some.unit a.by c.args.head a.is c.in-Some.is (now o) (one o).walk.steady.shows.legal
     (λ f m e low high. let same : f ≡ c.in-Committed.first = cc in let count : m ≡ c.in-Committed.count = cc in
     elim c.then-row-first.branch [ then-row-first-via-then-row-first w ↦ (let less = w.if-row-first.true in absurd (omega arith)) | then-row-first-via-else-row-first+then-row-first-2 w ↦ (let less = w.if-row-first.false in let more = w.if-row-first-2.true in absurd (omega arith)) ])
 
@@ -70,7 +70,7 @@ pub returns-else-row-first-2-clause-looked : goal.returns-else-row-first-2-claus
 returns-else-row-first-2-clause-looked c = looked _ 1 _ _ (one (goal.at.returns-else-row-first-2-clause-looked c).After-load_unit)
 
 pub returns-else-row-first-2-clause-told : goal.returns-else-row-first-2-clause-told
-returns-else-row-first-2-clause-told c = let at = goal.at.returns-else-row-first-2-clause-told c in let a = c.in-There in let low = c.if-row-first.false in let high = c.if-row-first-2.false in (
-  there_unit (limits_of c.args.self.now.words) (seen_by c.load_unit.new.seat) c.args.row c.in-Some.unit c.in-Committed.first c.in-Committed.count a.stage a.root a.by c.args.head (one at.After-load_unit).walk.steady.shows.legal (ended at.In-Committed) (omega arith) (omega arith) a.is (now at.After-load_unit),
+returns-else-row-first-2-clause-told c = let at = goal.at.returns-else-row-first-2-clause-told c in let a = c.in-Filled in let low = c.if-row-first.false in let high = c.if-row-first-2.false in (
+  there_unit (table_limits c.args.self.now.words) (seen_by c.load_unit.new.seat) c.args.row c.in-Some.unit c.in-Committed.first c.in-Committed.count a.stage a.root a.by c.args.head (one at.After-load_unit).walk.steady.shows.legal (ended at.In-Committed) (omega arith) (omega arith) a.is (now at.After-load_unit),
   a.is,
 )

@@ -1,7 +1,7 @@
 use Rattle.std.proofs.Common.{◌≡◌, ◌+◌, ◌*◌, List, sym, refl, ◌∙◌, ap, arith, rules, subst}
 use Rattle.tp_model.specs.declared.types.Limits.{Limits}
 use Rattle.tp_model.specs.declared.event.Event.{Event}
-use Rattle.tp_rule.specs.Tables.{limits_of}
+use Rattle.tp_rule.specs.Tables.{table_limits}
 use Rattle.tp_rule.specs.Views.{seen_by, view_of}
 use Rattle.tp_manager.specs.Bounds.{look_steps}
 use Rattle.tp_manager.specs.Together.{account_below}
@@ -11,7 +11,7 @@ use Rattle.tp_manager.proofs.Seeks.{rows_more}
 use Rattle.tp_manager.proofs.manager.Shared.count_rows.Goals as goal
 
 pub loop-row-init : goal.loop-row-init
-loop-row-init c = let l : Limits = limits_of c.args.self.now.words in record {
+loop-row-init c = let l : Limits = table_limits c.args.self.now.words in record {
   same = refl;
   inside = omega arith;
   looked = looked_few l 0 _ _ _ (omega arith) (looked_none l (view_of c.args.seat.now) c.requires.steady);
@@ -20,7 +20,7 @@ loop-row-init c = let l : Limits = limits_of c.args.self.now.words in record {
 }
 
 pub loop-row-preserved : goal.loop-row-preserved
-loop-row-preserved c = let l : Limits = limits_of c.args.self.now.words in let i = c.loop-row.invariant in let row = c.loop-row.row in let s = look_steps l in let next = c.count_row.new.row in record {
+loop-row-preserved c = let l : Limits = table_limits c.args.self.now.words in let i = c.loop-row.invariant in let row = c.loop-row.row in let s = look_steps l in let next = c.count_row.new.row in record {
   same = search rules;
   inside = c.count_row.ensures.on.inside;
   looked = looked_few l (row * s + s) (next * s) _ _ (rows_more row next s c.count_row.ensures.on.on) (looked_then l (row * s) s _ _ _ i.looked c.count_row.ensures.looked);

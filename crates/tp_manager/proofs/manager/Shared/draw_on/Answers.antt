@@ -1,6 +1,6 @@
 use Rattle.std.proofs.Common.{ℕ, subst}
 use Rattle.tp_model.specs.declared.types.Limits.{Limits}
-use Rattle.tp_rule.specs.Tables.{limits_of}
+use Rattle.tp_rule.specs.Tables.{table_limits}
 use Rattle.tp_rule.specs.Views.{view_of}
 use Rattle.tp_manager.specs.Bounds.{draw_steps}
 use Rattle.tp_manager.specs.Spares.{AreLeft}
@@ -8,9 +8,9 @@ use Rattle.tp_manager.proofs.Spares.{drew_tried, left_behind}
 use Rattle.tp_manager.proofs.manager.Shared.draw_on.Goals as goal
 
 pub void_rows-requires-clause-left : goal.void_rows-requires-clause-left
-void_rows-requires-clause-left c = let l : Limits = limits_of c.args.self.now.words in let d = c.draw.ensures.yes c.if-not-draw.false in
+void_rows-requires-clause-left c = let l : Limits = table_limits c.args.self.now.words in let d = c.draw.ensures.yes c.if-not-draw.false in
     subst (λ (z : ℕ × ℕ). AreLeft l (view_of c.draw.new.seat) z.0 z.1) (λ i. (c.requires.run.0 i, c.requires.run.1 i)) (left_behind l (draw_steps l) d.0 (view_of c.args.seat.now) (view_of c.draw.new.seat) c.requires.steady d.1)
 
 pub returns-clause-yes : goal.returns-clause-yes
-returns-clause-yes c = λ _. let l : Limits = limits_of c.args.self.now.words in let d = c.draw.ensures.yes c.if-not-draw.false in
+returns-clause-yes c = λ _. let l : Limits = table_limits c.args.self.now.words in let d = c.draw.ensures.yes c.if-not-draw.false in
     (d.0, drew_tried l (draw_steps l) c.args.run.now.left d.0 (view_of c.args.seat.now) (view_of c.draw.new.seat) (view_of c.void_rows.new.seat) d.1 c.void_rows.ensures.tried, d.2, d.3, d.4)

@@ -3,7 +3,7 @@ use Rattle.tp_model.specs.declared.types.Limits.{Limits}
 use Rattle.tp_model.specs.Families.{IsOfFamily}
 use Rattle.tp_model.specs.Steps.{tries}
 use Rattle.tp_model.proofs.Bridges.{found_later}
-use Rattle.tp_rule.specs.Tables.{limits_of}
+use Rattle.tp_rule.specs.Tables.{table_limits}
 use Rattle.tp_rule.specs.Views.{seen_by, view_of}
 use Rattle.tp_manager.specs.Bounds.{end_steps, slay_steps}
 use Rattle.tp_manager.specs.Cancels.{IsTarget}
@@ -13,15 +13,15 @@ use Rattle.tp_manager.proofs.Walks.{looked, looked_begins}
 use Rattle.tp_manager.proofs.manager.Shared.end_row.Goals as goal
 use Rattle.tp_manager.proofs.manager.Shared.end_row.Goals.{After-head_at-head, Else-is_reply}
 
-one : (c : After-head_at-head) → Looked (limits_of c.args.self.now.words) 1 (view_of c.args.seat.now) (view_of c.head_at-head.new.seat)
+one : (c : After-head_at-head) → Looked (table_limits c.args.self.now.words) 1 (view_of c.args.seat.now) (view_of c.head_at-head.new.seat)
 one c = looked _ 1 _ _ c.head_at-head.ensures.acted
 
 -- the element is one that may be killed
-may : (c : Else-is_reply) (root : ℕ) → Looked (limits_of c.args.self.now.words) 1 (view_of c.args.seat.now) (view_of c.head_at-head.new.seat) → IsOfFamily (seen_by c.args.seat.now) root c.args.row → IsTarget root c.args.row (seen_by c.head_at-head.new.seat)
-may c root o of = target (limits_of c.args.self.now.words) c.args.row root _ _ (looked_begins _ 1 _ _ o) of (λ x born. c.is_reply.ensures.no c.if-is_reply.false x (c.head_at-head.ensures.told.born x born))
+may : (c : Else-is_reply) (root : ℕ) → Looked (table_limits c.args.self.now.words) 1 (view_of c.args.seat.now) (view_of c.head_at-head.new.seat) → IsOfFamily (seen_by c.args.seat.now) root c.args.row → IsTarget root c.args.row (seen_by c.head_at-head.new.seat)
+may c root o of = target (table_limits c.args.self.now.words) c.args.row root _ _ (looked_begins _ 1 _ _ o) of (λ x born. c.is_reply.ensures.no c.if-is_reply.false x (c.head_at-head.ensures.told.born x born))
 
 pub returns-then-is_reply-clause-told : goal.returns-then-is_reply-clause-told
-returns-then-is_reply-clause-told c = λ root of. let l : Limits = limits_of c.args.self.now.words in let o = one (goal.at.returns-then-is_reply-clause-told c).After-head_at-head in
+returns-then-is_reply-clause-told c = λ root of. let l : Limits = table_limits c.args.self.now.words in let o = one (goal.at.returns-then-is_reply-clause-told c).After-head_at-head in
     let born = found_later _ _ (looked_begins l 1 _ _ o) c.args.row of.0 of.1 in
     ends_reply l c.args.row root 1 (end_steps l) _ _ of.0 (omega arith) o born (c.is_reply.ensures.yes c.if-is_reply.true of.0 (c.head_at-head.ensures.told.born of.0 born))
 
@@ -30,9 +30,9 @@ kill_row-requires-clause-row c = let o = one (goal.at.kill_row-requires-clause-r
     (c.requires.row.0, (t.0, found_later _ _ (looked_begins _ 1 _ _ o) c.args.row t.0 t.1))
 
 pub returns-in-Ok-clause-told : goal.returns-in-Ok-clause-told
-returns-in-Ok-clause-told c = λ root of. let l : Limits = limits_of c.args.self.now.words in let at = goal.at.returns-in-Ok-clause-told c in let o = one at.After-head_at-head in
+returns-in-Ok-clause-told c = λ root of. let l : Limits = table_limits c.args.self.now.words in let at = goal.at.returns-in-Ok-clause-told c in let o = one at.After-head_at-head in
     ends_killed l c.args.row root 1 (slay_steps l) (tries l.attempts) _ _ _ o (may at.Else-is_reply root o of) (end_steps l) c.in-Ok.field-0 (omega arith) c.in-Ok.ensures.told
 
 pub returns-in-Err-clause-told : goal.returns-in-Err-clause-told
-returns-in-Err-clause-told c = λ root of. let l : Limits = limits_of c.args.self.now.words in let at = goal.at.returns-in-Err-clause-told c in let o = one at.After-head_at-head in
+returns-in-Err-clause-told c = λ root of. let l : Limits = table_limits c.args.self.now.words in let at = goal.at.returns-in-Err-clause-told c in let o = one at.After-head_at-head in
     ends_left l c.args.row root 1 (slay_steps l) (tries l.attempts) _ _ _ o (may at.Else-is_reply root o of) (end_steps l) c.in-Err.refusal c.left_by.result _ (omega arith) c.in-Err.ensures.told c.left_by.ensures.looked c.left_by.ensures.told c.left_by.ensures.none

@@ -1,7 +1,7 @@
 use Rattle.std.proofs.Common.{◌≡◌, ◌+◌, ◌<◌, ◌≤◌, ◌∙◌, MatchOption, ap, slice_index, sym, subst, arith}
 use Rattle.tp_model.specs.declared.types.Limits.{Limits}
 use Rattle.tp_model.specs.Steps.{part_rows, rows_of}
-use Rattle.tp_rule.specs.Tables.{limits_of}
+use Rattle.tp_rule.specs.Tables.{table_limits}
 use Rattle.tp_rule.specs.Views.{seen_by, view_of}
 use Rattle.tp_manager.specs.Bounds.{look_steps, scan_steps, spare_left}
 use Rattle.tp_manager.specs.Finds.{Hits, PassedOver}
@@ -12,7 +12,7 @@ use Rattle.tp_manager.proofs.Walks.{looked_none}
 use Rattle.tp_manager.proofs.manager.Shared.find.Goals as goal
 
 pub returns-clause-told : goal.returns-clause-told
-returns-clause-told c = let l : Limits = limits_of c.args.self.now.words in let e : c.part_rows-parts.result ≡ part_rows l = c.part_rows-parts.ensures ∙ ap part_rows (sym c.args.self.now.same) in let less = c.if-from-parts.false in
+returns-clause-told c = let l : Limits = table_limits c.args.self.now.words in let e : c.part_rows-parts.result ≡ part_rows l = c.part_rows-parts.ensures ∙ ap part_rows (sym c.args.self.now.same) in let less = c.if-from-parts.false in
     let t = look_steps l in let k = scan_steps l t 3 c.args.lows.now l.parts in let n = slice_index c.args.lows.now l.parts in let m = slice_index c.find_in_parts.new.lows l.parts in
     let fewer = spare_rises l t n m (c.find_in_parts.ensures.lows l.parts) in let v = view_of c.args.seat.now in let w = view_of c.find_in_parts.new.seat in let y = view_of c.find_in_blocks-2.new.seat in
     finds_behind l 0 (k + spare_left l t m) (k + spare_left l t n) c.args.from (rows_of l) v v y c.find_in_blocks-2.result (omega arith) (looked_none l v c.requires.steady)

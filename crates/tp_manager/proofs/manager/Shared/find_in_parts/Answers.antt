@@ -1,12 +1,12 @@
 use Rattle.std.proofs.Common.{◌≡◌, ◌+◌, ◌-◌, ◌*◌, ◌<◌, ◌≤◌, ℕ, List, slice_index, inl, refl, sym, ◌∙◌, ap, arith, subst, suc-mul}
 use Rattle.tp_model.specs.declared.types.Limits.{Limits}
 use Rattle.tp_model.specs.Steps.{part_rows}
-use Rattle.tp_rule.specs.Tables.{limits_of}
+use Rattle.tp_rule.specs.Tables.{table_limits}
 use Rattle.tp_rule.specs.Views.{SeatShown, view_of}
 use Rattle.tp_manager.specs.Bounds.{look_steps, scan_steps}
 use Rattle.tp_manager.specs.Finds.{PassedOver}
 use Rattle.tp_manager.specs.Walks.{Begun, EachRow, Remembers, Sought}
-use Rattle.tp_manager.specs.Shown.{Rises}
+use Rattle.tp_manager.specs.Shown.{NoneFalls}
 use Rattle.tp_manager.proofs.Lows.{rises_then, scan_next, scan_rises}
 use Rattle.tp_manager.proofs.Walks.{rises_none, sought_few}
 use Rattle.tp_manager.proofs.Finds.{over_widens}
@@ -19,7 +19,7 @@ inside : (l k : Limits) → l ≡ k → (n : ℕ) → n < k.parts → n * k.rows
 inside l k same n less = subst (λ (z : Limits). n * k.rows + k.rows ≤ part_rows z) (sym same) (rows_more n k.parts k.rows less)
 
 pub find_in_part-requires-clause-from : goal.find_in_part-requires-clause-from
-find_in_part-requires-clause-from c = let l : Limits = limits_of c.args.self.now.words in let n = c.loop-part.part in
+find_in_part-requires-clause-from c = let l : Limits = table_limits c.args.self.now.words in let n = c.loop-part.part in
     let a : n * l.rows ≡ n * c.args.self.now.places.limits.rows = ap (λ (z : Limits). n * z.rows) c.args.self.now.same in
     let b : l.rows ≡ c.args.self.now.places.limits.rows = ap (λ (z : Limits). z.rows) c.args.self.now.same in
     let p : l.parts ≡ c.args.self.now.places.limits.parts = ap (λ (z : Limits). z.parts) c.args.self.now.same in
@@ -45,7 +45,7 @@ pub returns-in-Some-clause-lows : goal.returns-in-Some-clause-lows
 returns-in-Some-clause-lows c = rises_then c.args.lows.now c.loop-part.lows c.find_in_part.new.lows c.loop-part.invariant.rises c.find_in_part.ensures.lows.0
 
 pub returns-in-Some-clause-told : goal.returns-in-Some-clause-told
-returns-in-Some-clause-told c = let l : Limits = limits_of c.args.self.now.words in let told = c.in-Some.ensures.told in let i = c.loop-part.invariant in
+returns-in-Some-clause-told c = let l : Limits = table_limits c.args.self.now.words in let told = c.in-Some.ensures.told in let i = c.loop-part.invariant in
     let n = c.loop-part.part in let s = look_steps l in let P = PassedOver l in let from_on = i.from in let low = told.0 in let high = told.1 in let lows = c.args.lows.now in
     let end = inside l c.args.self.now.places.limits c.args.self.now.same n c.loop-part-test.true in
     let a : n * l.rows ≡ n * c.args.self.now.places.limits.rows = ap (λ (z : Limits). n * z.rows) c.args.self.now.same in
@@ -61,7 +61,7 @@ returns-in-Some-clause-told c = let l : Limits = limits_of c.args.self.now.words
     )
 
 pub loop-part-preserved : goal.loop-part-preserved
-loop-part-preserved c = let l : Limits = limits_of c.args.self.now.words in let i = c.loop-part.invariant in let n = c.loop-part.part in let s = look_steps l in let P = PassedOver l in let W = over_widens l in let lows = c.args.lows.now in
+loop-part-preserved c = let l : Limits = table_limits c.args.self.now.words in let i = c.loop-part.invariant in let n = c.loop-part.part in let s = look_steps l in let P = PassedOver l in let W = over_widens l in let lows = c.args.lows.now in
     let from_on = i.from in let reach = i.reach in let next = suc-mul n c.args.self.now.places.limits.rows in let more = scan_next l lows s 3 n in
     let rest : (n + 1) * c.args.self.now.places.limits.rows ≡ n * c.args.self.now.places.limits.rows + c.args.self.now.places.limits.rows = omega arith in
     elim c.if-row-end.branch [
@@ -75,7 +75,7 @@ loop-part-preserved c = let l : Limits = limits_of c.args.self.now.words in let 
             inside = omega arith;
             same = ap (λ (z : SeatShown). z.table) w.seat-is ∙ (found.same ∙ i.same);
             remembers = subst (λ (z : SeatShown × List ℕ). Remembers 0 (view_of z.0) z.1) (λ j. (sym w.seat-is j, sym w.lows-is j)) found.remembers;
-            rises = subst (Rises lows) (sym w.lows-is) (rises_then lows c.loop-part.lows _ i.rises found.lows.0);
+            rises = subst (NoneFalls lows) (sym w.lows-is) (rises_then lows c.loop-part.lows _ i.rises found.lows.0);
             rest = λ q low. ap (λ z. slice_index z q) w.lows-is ∙ (found.lows.1 q (λ is. absurd (omega arith)) ∙ i.rest q (omega arith));
             begun = begun_few l P W (scan_steps l s 3 lows n + part_cost l lows n) c.args.from _ _ _ _ more
                 (begun_on l P W (scan_steps l s 3 lows n) c.args.from (part_cost l lows n) c.loop-part.row _ _ _ i.begun c.if-row-end.row from_on
@@ -89,7 +89,7 @@ loop-part-preserved c = let l : Limits = limits_of c.args.self.now.words in let 
             inside = omega arith;
             same = ap (λ (z : SeatShown). z.table) w.seat-is ∙ i.same;
             remembers = subst (λ (z : SeatShown × List ℕ). Remembers 0 (view_of z.0) z.1) (λ j. (sym w.seat-is j, sym w.lows-is j)) i.remembers;
-            rises = subst (Rises lows) (sym w.lows-is) i.rises;
+            rises = subst (NoneFalls lows) (sym w.lows-is) i.rises;
             rest = λ q low. ap (λ z. slice_index z q) w.lows-is ∙ i.rest q (omega arith);
             begun = subst (λ (z : ℕ × SeatShown). Begun l P (scan_steps l s 3 lows (n + 1)) c.args.from z.0 (view_of c.args.seat.now) (view_of z.1)) (λ j. (sym w.row-is j, sym w.seat-is j))
                 (begun_few l P W (scan_steps l s 3 lows n) c.args.from _ c.loop-part.row _ _ (scan_rises l lows s 3 n (n + 1) (omega arith)) i.begun);
@@ -97,7 +97,7 @@ loop-part-preserved c = let l : Limits = limits_of c.args.self.now.words in let 
     ]
 
 pub returns-clause-told : goal.returns-clause-told
-returns-clause-told c = let l : Limits = limits_of c.args.self.now.words in let i = c.loop-part.invariant in let n = c.loop-part.part in let s = look_steps l in let P = PassedOver l in let lows = c.args.lows.now in
+returns-clause-told c = let l : Limits = table_limits c.args.self.now.words in let i = c.loop-part.invariant in let n = c.loop-part.part in let s = look_steps l in let P = PassedOver l in let lows = c.args.lows.now in
     let first = c.requires.from in let high = i.inside in let reach = i.reach in let low = c.loop-part-test.false in let end = c.loop-part.auto.part-end in
     let p : l.parts ≡ c.args.self.now.places.limits.parts = ap (λ (z : Limits). z.parts) c.args.self.now.same in
     let same : n ≡ c.args.self.now.places.limits.parts = omega arith in

@@ -1,9 +1,9 @@
 use Rattle.std.proofs.Common.{◌≡◌, ◌*◌, ◌≤◌, ℕ, slice_index}
 use Rattle.tp_model.specs.Steps.{part_rows}
-use Rattle.tp_rule.specs.Tables.{limits_of}
+use Rattle.tp_rule.specs.Tables.{table_limits}
 use Rattle.tp_rule.specs.Views.{IsSameSeat, view_of}
 use Rattle.tp_manager.specs.Bounds.{look_steps, scan_steps}
-use Rattle.tp_manager.specs.Shown.{Rises}
+use Rattle.tp_manager.specs.Shown.{NoneFalls}
 use Rattle.tp_manager.specs.Finds.{PassedOver}
 use Rattle.tp_manager.specs.Walks.{Begun, Remembers}
 use Rattle.tp_manager.proofs.manager.Shared.find_in_parts.Given as goal
@@ -12,10 +12,10 @@ abbrev pub invariant-loop-part : goal.invariant-loop-part
 invariant-loop-part l = record {
   from : l.from ≤ l.row;
   reach : l.part * l.rows ≤ l.row;
-  inside : l.row ≤ part_rows (limits_of l.self.words);
+  inside : l.row ≤ part_rows (table_limits l.self.words);
   same : IsSameSeat l.initial.seat l.seat;
   remembers : Remembers 0 (view_of l.seat) l.lows;
-  rises : Rises l.initial.lows l.lows;
+  rises : NoneFalls l.initial.lows l.lows;
   rest : (q : ℕ) → l.part ≤ q → slice_index l.lows q ≡ slice_index l.initial.lows q;
-  begun : Begun (limits_of l.self.words) (PassedOver (limits_of l.self.words)) (scan_steps (limits_of l.self.words) (look_steps (limits_of l.self.words)) 3 l.initial.lows l.part) l.from l.row (view_of l.initial.seat) (view_of l.seat);
+  begun : Begun (table_limits l.self.words) (PassedOver (table_limits l.self.words)) (scan_steps (table_limits l.self.words) (look_steps (table_limits l.self.words)) 3 l.initial.lows l.part) l.from l.row (view_of l.initial.seat) (view_of l.seat);
 }

@@ -2,7 +2,7 @@ use Rattle.std.proofs.Common.{◌≡◌, ◌+◌, ◌-◌, ◌*◌, ◌<◌, ◌
 use Rattle.tp_model.specs.declared.types.Limits.{Limits}
 use Rattle.tp_model.specs.declared.types.TheConstants.{BLOCK_ROWS}
 use Rattle.tp_model.specs.Steps.{part_rows, rows_of}
-use Rattle.tp_rule.specs.Tables.{limits_of}
+use Rattle.tp_rule.specs.Tables.{table_limits}
 use Rattle.tp_rule.specs.Views.{seen_by, view_of}
 use Rattle.tp_rule.specs.declared.view.Known.TheVariants.{PartMark}
 use Rattle.tp_rule.specs.declared.view.View.{View}
@@ -18,25 +18,25 @@ use Rattle.tp_manager.proofs.Walks.{remembers_kind, sought_few}
 use Rattle.tp_manager.proofs.manager.Shared.find_spare.Goals as goal
 use Rattle.tp_manager.proofs.manager.Shared.find_spare.Goals.{After-later-start, After-is_parked_at, After-loop-row, After-mark_at-mark, After-part_rows}
 
-abbrev parts : (c : After-mark_at-mark) → c.args.self.now.places.limits.parts ≡ (limits_of c.args.self.now.words).parts
+abbrev parts : (c : After-mark_at-mark) → c.args.self.now.places.limits.parts ≡ (table_limits c.args.self.now.words).parts
 parts c = ap (λ (z : Limits). z.parts) (sym c.args.self.now.same)
 
 -- where the spare rows begin
-first : (c : After-part_rows) → c.args.self.now.places.limits.parts * (limits_of c.args.self.now.words).rows ≡ c.part_rows.result
+first : (c : After-part_rows) → c.args.self.now.places.limits.parts * (table_limits c.args.self.now.words).rows ≡ c.part_rows.result
 first c = ap (λ (z : Limits). c.args.self.now.places.limits.parts * z.rows) c.args.self.now.same ∙ sym c.part_rows.ensures
 
-front : (c : After-part_rows) → part_rows (limits_of c.args.self.now.words) ≡ c.part_rows.result
+front : (c : After-part_rows) → part_rows (table_limits c.args.self.now.words) ≡ c.part_rows.result
 front c = ap part_rows c.args.self.now.same ∙ sym c.part_rows.ensures
 
 -- the pass remembered no more than was found
-above : (c : After-mark_at-mark) → slice_index c.args.lows.now (limits_of c.args.self.now.words).parts ≤ c.mark_at-mark.result
+above : (c : After-mark_at-mark) → slice_index c.args.lows.now (table_limits c.args.self.now.words).parts ≤ c.mark_at-mark.result
 above c = subst (λ p. slice_index c.args.lows.now p ≤ c.mark_at-mark.result) (parts c)
     (let up = c.mark_at-mark.ensures.lows.1.0 c.args.self.now.places.limits.parts in let is = c.mark_at-mark.ensures.lows.0 in omega arith)
 
 -- the rows before the start are below the mark
 skipped : (c : After-later-start) (i : ℕ) → c.args.from ≤ i → i < c.later-start.result
-    → PassedOver (limits_of c.args.self.now.words) i (seen_by c.mark_at-mark.new.seat) (seen_by c.mark_at-mark.new.seat)
-skipped c i low high = let l : Limits = limits_of c.args.self.now.words in let from_on = c.requires.from.0 in
+    → PassedOver (table_limits c.args.self.now.words) i (seen_by c.mark_at-mark.new.seat) (seen_by c.mark_at-mark.new.seat)
+skipped c i low high = let l : Limits = table_limits c.args.self.now.words in let from_on = c.requires.from.0 in
     let e : c.args.self.now.places.limits.parts * l.rows ≡ c.part_rows.result = ap (λ (z : Limits). c.args.self.now.places.limits.parts * z.rows) c.args.self.now.same ∙ sym c.part_rows.ensures in
     let f : part_rows l ≡ c.part_rows.result = ap part_rows c.args.self.now.same ∙ sym c.part_rows.ensures in ⊎_elim
     (λ (q : c.later-start.result ≡ c.args.from). absurd (omega arith))
@@ -44,19 +44,19 @@ skipped c i low high = let l : Limits = limits_of c.args.self.now.words in let f
     c.later-start.ensures.one
 
 -- the mark, and then the rows from the start on
-from_mark : (c : After-later-start) (m n : ℕ) (y : View) → Begun (limits_of c.args.self.now.words) (PassedOver (limits_of c.args.self.now.words)) m c.later-start.result n (view_of c.mark_at-mark.new.seat) y
-    → Sought (limits_of c.args.self.now.words) (1 + m) (EachRow (PassedOver (limits_of c.args.self.now.words)) c.args.from n) (view_of c.args.seat.now) y
-from_mark c m n y b = let l : Limits = limits_of c.args.self.now.words in
+from_mark : (c : After-later-start) (m n : ℕ) (y : View) → Begun (table_limits c.args.self.now.words) (PassedOver (table_limits c.args.self.now.words)) m c.later-start.result n (view_of c.mark_at-mark.new.seat) y
+    → Sought (table_limits c.args.self.now.words) (1 + m) (EachRow (PassedOver (table_limits c.args.self.now.words)) c.args.from n) (view_of c.args.seat.now) y
+from_mark c m n y b = let l : Limits = table_limits c.args.self.now.words in
     sought_from l (PassedOver l) (over_widens l) m c.args.from c.later-start.result n (view_of c.args.seat.now) (view_of c.mark_at-mark.new.seat) y c.mark_at-mark.ensures.acted b (skipped c)
 
 -- the steps from the mark up to the row
-since : (c : After-is_parked_at) → Looked (limits_of c.args.self.now.words) ((c.loop-row.row - c.later-start.result) * look_steps (limits_of c.args.self.now.words)) (view_of c.mark_at-mark.new.seat) (view_of c.loop-row.seat)
-since c = let l : Limits = limits_of c.args.self.now.words in
+since : (c : After-is_parked_at) → Looked (table_limits c.args.self.now.words) ((c.loop-row.row - c.later-start.result) * look_steps (table_limits c.args.self.now.words)) (view_of c.mark_at-mark.new.seat) (view_of c.loop-row.seat)
+since c = let l : Limits = table_limits c.args.self.now.words in
     begun_looked l (PassedOver l) (over_widens l) _ _ c.loop-row.row _ _ c.loop-row.invariant.begun c.mark_at-mark.ensures.acted.walk.steady
 
 -- what is known of no use after one more row
 rose : (c : After-is_parked_at) → Rose 0 (view_of c.is_parked_at.new.seat) (c.part_rows.result + c.mark_at-mark.result) c.is_parked_at.new.low
-rose c = let l : Limits = limits_of c.args.self.now.words in
+rose c = let l : Limits = table_limits c.args.self.now.words in
     rose_then l 0 (view_of c.loop-row.seat) (view_of c.is_parked_at.new.seat) _ c.loop-row.low c.is_parked_at.new.low (goes_walked l _ _ (view_of c.loop-row.seat) _ (since c).walk.steady.pass.1 c.is_parked_at.ensures.acted.walk) c.loop-row.invariant.rose c.is_parked_at.ensures.low.1
 
 pub mark_at-mark-requires-clause-listed : goal.mark_at-mark-requires-clause-listed
@@ -66,7 +66,7 @@ pub mark_at-mark-requires-clause-remembers : goal.mark_at-mark-requires-clause-r
 mark_at-mark-requires-clause-remembers c = c.requires.remembers
 
 pub raise_to-requires-clause-low : goal.raise_to-requires-clause-low
-raise_to-requires-clause-low c = let l : Limits = limits_of c.args.self.now.words in let at = goal.at.raise_to-requires-clause-low c in let e = first at.After-part_rows in let f = front at.After-part_rows in
+raise_to-requires-clause-low c = let l : Limits = table_limits c.args.self.now.words in let at = goal.at.raise_to-requires-clause-low c in let e = first at.After-part_rows in let f = front at.After-part_rows in
     let low = c.is_parked_at.ensures.low.0 in let top = c.is_parked_at.ensures.on.inside in (
       (λ not. absurd (not (parts at.After-mark_at-mark)), λ _. omega arith),
       subst (λ (z : ℕ). Rose 0 (view_of c.is_parked_at.new.seat) (z + c.mark_at-mark.result) c.is_parked_at.new.low) (sym e) (rose at.After-is_parked_at),
@@ -88,7 +88,7 @@ returns-then-is_parked_at-clause-lows c = subst (λ p. RisesAt p c.args.lows.now
     (rises_at_then _ c.args.lows.now c.mark_at-mark.new.lows c.raise_to.new.lows c.mark_at-mark.ensures.lows.1 (subst (λ lows. RisesAt c.args.self.now.places.limits.parts lows c.raise_to.new.lows) c.loop-row.invariant.lows c.raise_to.ensures.lows))
 
 pub returns-then-is_parked_at-clause-told : goal.returns-then-is_parked_at-clause-told
-returns-then-is_parked_at-clause-told c = let l : Limits = limits_of c.args.self.now.words in let at = goal.at.returns-then-is_parked_at-clause-told c in let s = look_steps l in let i = c.loop-row.invariant in
+returns-then-is_parked_at-clause-told c = let l : Limits = table_limits c.args.self.now.words in let at = goal.at.returns-then-is_parked_at-clause-told c in let s = look_steps l in let i = c.loop-row.invariant in
     let P = PassedOver l in let d : ℕ = c.loop-row.row - c.later-start.result in let most = c.later-start.ensures.most in let behind = most.1 in let on = most.0 in let start = i.start in
     let low = above at.After-mark_at-mark in let f = front at.After-part_rows in let less = c.loop-row-test.true in let top = c.requires.end.1 in
     let room : d * s + s ≤ (BLOCK_ROWS * l.spare - slice_index c.args.lows.now l.parts) * s = rows_more d (BLOCK_ROWS * l.spare - slice_index c.args.lows.now l.parts) s (omega arith) in (
@@ -104,7 +104,7 @@ returns-then-is_parked_at-clause-told c = let l : Limits = limits_of c.args.self
     )
 
 pub loop-row-init : goal.loop-row-init
-loop-row-init c = let l : Limits = limits_of c.args.self.now.words in let at = goal.at.loop-row-init c in record {
+loop-row-init c = let l : Limits = table_limits c.args.self.now.words in let at = goal.at.loop-row-init c in record {
   start = omega arith;
   inside = let f = front at.After-part_rows in let high = c.requires.from.1 in let mark = c.mark_at-mark.ensures.low.0.1 (parts at.After-mark_at-mark) in
       ⊎_elim (λ (q : c.later-start.result ≡ c.args.from). let r : c.later-start.result ≤ rows_of l = omega arith in r)
@@ -117,7 +117,7 @@ loop-row-init c = let l : Limits = limits_of c.args.self.now.words in let at = g
 }
 
 pub loop-row-preserved : goal.loop-row-preserved
-loop-row-preserved c = let l : Limits = limits_of c.args.self.now.words in let at = goal.at.loop-row-preserved c in let s = look_steps l in let i = c.loop-row.invariant in let start = i.start in let on = c.is_parked_at.ensures.on.on in
+loop-row-preserved c = let l : Limits = table_limits c.args.self.now.words in let at = goal.at.loop-row-preserved c in let s = look_steps l in let i = c.loop-row.invariant in let start = i.start in let on = c.is_parked_at.ensures.on.on in
     let P = PassedOver l in let W = over_widens l in let F = c.later-start.result in let d : ℕ = c.loop-row.row - F in record {
       start = omega arith;
       inside = c.is_parked_at.ensures.on.inside;
@@ -130,12 +130,12 @@ loop-row-preserved c = let l : Limits = limits_of c.args.self.now.words in let a
     }
 
 -- the steps from the mark to the end
-all_since : (c : After-loop-row) → Looked (limits_of c.args.self.now.words) ((c.loop-row.row - c.later-start.result) * look_steps (limits_of c.args.self.now.words)) (view_of c.mark_at-mark.new.seat) (view_of c.loop-row.seat)
-all_since c = let l : Limits = limits_of c.args.self.now.words in
+all_since : (c : After-loop-row) → Looked (table_limits c.args.self.now.words) ((c.loop-row.row - c.later-start.result) * look_steps (table_limits c.args.self.now.words)) (view_of c.mark_at-mark.new.seat) (view_of c.loop-row.seat)
+all_since c = let l : Limits = table_limits c.args.self.now.words in
     begun_looked l (PassedOver l) (over_widens l) _ _ c.loop-row.row _ _ c.loop-row.invariant.begun c.mark_at-mark.ensures.acted.walk.steady
 
 pub raise_to-requires-2-clause-low : goal.raise_to-requires-2-clause-low
-raise_to-requires-2-clause-low c = let l : Limits = limits_of c.args.self.now.words in let at = goal.at.raise_to-requires-2-clause-low c in let e = first at.After-part_rows in let f = front at.After-part_rows in
+raise_to-requires-2-clause-low c = let l : Limits = table_limits c.args.self.now.words in let at = goal.at.raise_to-requires-2-clause-low c in let e = first at.After-part_rows in let f = front at.After-part_rows in
     let i = c.loop-row.invariant in let high = i.inside in let low = i.low in (
       (λ not. absurd (not (parts at.After-mark_at-mark)), λ _. omega arith),
       subst (λ (z : ℕ). Rose 0 (view_of c.loop-row.seat) (z + c.mark_at-mark.result) c.loop-row.low) (sym e) i.rose,
@@ -157,7 +157,7 @@ returns-clause-lows c = subst (λ p. RisesAt p c.args.lows.now c.raise_to-2.new.
     (rises_at_then _ c.args.lows.now c.mark_at-mark.new.lows c.raise_to-2.new.lows c.mark_at-mark.ensures.lows.1 (subst (λ lows. RisesAt c.args.self.now.places.limits.parts lows c.raise_to-2.new.lows) c.loop-row.invariant.lows c.raise_to-2.ensures.lows))
 
 pub returns-clause-told : goal.returns-clause-told
-returns-clause-told c = let l : Limits = limits_of c.args.self.now.words in let at = goal.at.returns-clause-told c in let i = c.loop-row.invariant in
+returns-clause-told c = let l : Limits = table_limits c.args.self.now.words in let at = goal.at.returns-clause-told c in let i = c.loop-row.invariant in
     let s = look_steps l in let P = PassedOver l in let d : ℕ = c.loop-row.row - c.later-start.result in
     let past = c.loop-row-test.false in let top = i.inside in let start = c.later-start.ensures.most.1 in let low = above at.After-mark_at-mark in let f = front at.After-part_rows in
     let few : d * s ≤ (BLOCK_ROWS * l.spare - slice_index c.args.lows.now l.parts) * s = mul-le-mul_right s (omega arith) in

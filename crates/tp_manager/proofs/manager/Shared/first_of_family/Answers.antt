@@ -1,7 +1,7 @@
 use Rattle.std.proofs.Common.{◌+◌, ◌≤◌, ℕ, Option, List, refl, sym, subst, arith, rules}
 use Rattle.tp_model.specs.declared.types.Limits.{Limits}
-use Rattle.tp_model.specs.Steps.{most_rows, rows_of}
-use Rattle.tp_rule.specs.Tables.{limits_of}
+use Rattle.tp_model.specs.Steps.{max_rows, rows_of}
+use Rattle.tp_rule.specs.Tables.{table_limits}
 use Rattle.tp_rule.specs.Views.{seen_by, view_of}
 use Rattle.tp_manager.specs.Bounds.{stride_steps, walk_steps}
 use Rattle.tp_manager.specs.Families.{Following, Followed}
@@ -15,7 +15,7 @@ use Rattle.tp_manager.proofs.manager.Shared.first_of_family.Goals as goal
 use Rattle.tp_manager.proofs.manager.Shared.first_of_family.Goals.{In-Some, in-Outputs, in-Reply, in-Nothing}
 
 pub loop-past-init : goal.loop-past-init
-loop-past-init c = let l : Limits = limits_of c.args.self.now.words in let v = view_of c.args.seat.now in record {
+loop-past-init c = let l : Limits = table_limits c.args.self.now.words in let v = view_of c.args.seat.now in record {
   sorted = c.of-ahead.ensures.sorted c.args.rows.now c.requires.none;
   same = search rules;
   looked = looked_none l v c.requires.steady;
@@ -25,29 +25,29 @@ loop-past-init c = let l : Limits = limits_of c.args.self.now.words in let v = v
 }
 
 pub returns-in_default-clause-told : goal.returns-in_default-clause-told
-returns-in_default-clause-told c = let l : Limits = limits_of c.args.self.now.words in
+returns-in_default-clause-told c = let l : Limits = table_limits c.args.self.now.words in
     subst (λ (o : Option ℕ). Followed l c.args.root c.args.from o (view_of c.args.seat.now) (view_of c.loop-past.seat)) (sym c.id.ensures)
     (following_ends l c.args.root c.args.from c.loop-past._past (IsAhead c.loop-past.ahead c.loop-past.rows) c.loop-past.least (view_of c.args.seat.now) (view_of c.loop-past.seat) c.requires.steady.shows.legal c.in_default.ensures.least.0 c.loop-past.invariant.looked c.loop-past.invariant.following)
 
 pub look_on-requires-clause-row : goal.look_on-requires-clause-row
-look_on-requires-clause-row c = let l : Limits = limits_of c.args.self.now.words in
+look_on-requires-clause-row c = let l : Limits = table_limits c.args.self.now.words in
     following_there l c.args.root c.args.from c.loop-past._past c.in-Some.row (IsAhead c.loop-past.ahead c.loop-past.rows) c.loop-past.least (seen_by c.args.seat.now) (view_of c.loop-past.seat) c.loop-past.invariant.looked.walk.steady.shows.legal c.loop-past.invariant.following c.in-Some.ensures.least.0.0
 
 pub add-requires : goal.add-requires
-add-requires c = let l : Limits = limits_of c.args.self.now.words in
+add-requires c = let l : Limits = table_limits c.args.self.now.words in
     let t = following_there l c.args.root c.args.from c.loop-past._past c.in-Some.row (IsAhead c.loop-past.ahead c.loop-past.rows) c.loop-past.least (seen_by c.args.seat.now) (view_of c.loop-past.seat) c.loop-past.invariant.looked.walk.steady.shows.legal c.loop-past.invariant.following c.in-Some.ensures.least.0.0 in
-    let inside = t.0 in let few : rows_of l ≤ most_rows = few_rows l c.args.self.now.words.places.valid in
+    let inside = t.0 in let few : rows_of l ≤ max_rows = few_rows l c.args.self.now.words.places.valid in
     omega arith
 
 pub insert_rows-requires-clause-inside : goal.insert_rows-requires-clause-inside
-insert_rows-requires-clause-inside c = λ i low high. let l : Limits = limits_of c.args.self.now.words in let t = c.in-Outputs.ensures.told in
+insert_rows-requires-clause-inside c = λ i low high. let l : Limits = table_limits c.args.self.now.words in let t = c.in-Outputs.ensures.told in
     let inside = outputs_inside l (seen_by c.look_on.new.seat) t.0 c.in-Outputs.first c.in-Outputs.count i c.look_on.ensures.looked.walk.steady.shows.legal t.5 low high in
-    let few : rows_of l ≤ most_rows = few_rows l c.args.self.now.words.places.valid in
+    let few : rows_of l ≤ max_rows = few_rows l c.args.self.now.words.places.valid in
     omega arith
 
 pub loop-past-preserved : goal.loop-past-preserved
 loop-past-preserved c =
-    let l : Limits = limits_of c.args.self.now.words in let v = view_of c.args.seat.now in let w = view_of c.loop-past.seat in let y = view_of c.look_on.new.seat in
+    let l : Limits = table_limits c.args.self.now.words in let v = view_of c.args.seat.now in let w = view_of c.loop-past.seat in let y = view_of c.look_on.new.seat in
     let p = c.loop-past._past in let root = c.args.root in let from = c.args.from in let row = c.in-Some.row in
     let s = c.loop-past.invariant.following in let looked = c.loop-past.invariant.looked in
     let Left = IsAhead c.loop-past.ahead c.loop-past.rows in let Less = IsAhead c.take_least.new.self c.take_least.new.rows in let taken = c.in-Some.ensures.least in
@@ -86,7 +86,7 @@ loop-past-preserved c =
 
 pub unreachable-requires : goal.unreachable-requires
 unreachable-requires c =
-    let l : Limits = limits_of c.args.self.now.words in
-    let all = c.loop-past-test.false in let rows : rows_of l ≤ most_rows = few_rows l c.args.self.now.words.places.valid in
+    let l : Limits = table_limits c.args.self.now.words in
+    let all = c.loop-past-test.false in let rows : rows_of l ≤ max_rows = few_rows l c.args.self.now.words.places.valid in
     let few = following_most l c.args.root c.args.from c.loop-past._past (IsAhead c.loop-past.ahead c.loop-past.rows) c.loop-past.least (seen_by c.args.seat.now) (view_of c.loop-past.seat) c.loop-past.invariant.following in
     omega arith

@@ -2,7 +2,7 @@ use Rattle.std.proofs.Common.{◌≤◌, slice_index, refl, subst, inl, arith}
 use mathlib.Core.Logic.{dite}
 use native.Mathlib.Decide.{dec_le}
 use Rattle.tp_model.specs.declared.types.Limits.{Limits}
-use Rattle.tp_rule.specs.Tables.{limits_of}
+use Rattle.tp_rule.specs.Tables.{table_limits}
 use Rattle.tp_rule.specs.Views.{view_of}
 use Rattle.tp_manager.specs.Walks.{Acted, MayRemember, Remembers}
 use Rattle.tp_manager.proofs.Marks.{goes_walked, low_any}
@@ -11,7 +11,7 @@ use Rattle.tp_manager.proofs.Walks.{acted_by, remembers_kind}
 use Rattle.tp_manager.proofs.manager.Shared.low_at.Goals as goal
 use Rattle.tp_manager.proofs.manager.Shared.low_at.Goals.{After-load_mark-mark}
 
-acted : (c : After-load_mark-mark) → Acted (limits_of c.args.self.now.words) 1 (view_of c.args.seat.now) (view_of c.load_mark-mark.new.seat)
+acted : (c : After-load_mark-mark) → Acted (table_limits c.args.self.now.words) 1 (view_of c.args.seat.now) (view_of c.load_mark-mark.new.seat)
 acted c = acted_by _ _ _ _ c.requires.steady refl c.load_mark-mark.ensures.grew
 
 -- what was remembered is so behind the load
@@ -34,10 +34,10 @@ returns-else-lows-part-clause-remembers c = kept (goal.at.returns-else-lows-part
 
 pub returns-else-lows-part-clause-low : goal.returns-else-lows-part-clause-low
 returns-else-lows-part-clause-low c = let at = (goal.at.returns-else-lows-part-clause-low c).After-load_mark-mark in
-    low_any (limits_of c.args.self.now.words) c.args.stage (view_of c.load_mark-mark.new.seat) c.args.part c.args.lows.now (acted at).walk.steady (kept at)
+    low_any (table_limits c.args.self.now.words) c.args.stage (view_of c.load_mark-mark.new.seat) c.args.part c.args.lows.now (acted at).walk.steady (kept at)
 
 pub returns-else-lows-part-clause-rose : goal.returns-else-lows-part-clause-rose
-returns-else-lows-part-clause-rose c = let l : Limits = limits_of c.args.self.now.words in let at = (goal.at.returns-else-lows-part-clause-rose c).After-load_mark-mark in let v = view_of c.args.seat.now in
+returns-else-lows-part-clause-rose c = let l : Limits = table_limits c.args.self.now.words in let at = (goal.at.returns-else-lows-part-clause-rose c).After-load_mark-mark in let v = view_of c.args.seat.now in
     let n = slice_index c.args.lows.now c.args.part in let M = c.load_mark-mark.result in let le : M ≤ n = (let not = c.if-lows-part.false in omega arith) in
     dite (dec_le 1 n)
     (λ some. rose_found l c.args.stage c.args.part n M v (view_of c.load_mark-mark.new.seat) (goes_walked l _ _ v _ c.requires.steady.pass.1 (acted at).walk) le c.load_mark-mark.ensures.rises

@@ -1,7 +1,7 @@
 use Rattle.std.proofs.Common.{rules, inl, ◌≡◌, ◌+◌, ◌-◌, ◌*◌, ◌≤◌, ap, arith, subst}
 use Rattle.tp_model.specs.declared.types.Limits.{Limits}
 use Rattle.tp_rule.specs.Rule.{IsInside}
-use Rattle.tp_rule.specs.Tables.{limits_of}
+use Rattle.tp_rule.specs.Tables.{table_limits}
 use Rattle.tp_rule.specs.Views.{view_of}
 use Rattle.tp_manager.specs.Walks.{Looked, Rose}
 use Rattle.tp_manager.proofs.Rests.{remembers_set}
@@ -11,14 +11,14 @@ use Rattle.tp_manager.proofs.manager.Shared.raise_to.Goals as goal
 use Rattle.tp_manager.proofs.manager.Shared.raise_to.Goals.{After-raise}
 
 pub raise-requires-clause-done : goal.raise-requires-clause-done
-raise-requires-clause-done c = λ i low high. let l : Limits = limits_of c.args.self.now.words in
+raise-requires-clause-done c = λ i low high. let l : Limits = table_limits c.args.self.now.words in
     let same : c.args.part * l.rows ≡ c.args.part * c.args.self.now.places.limits.rows = ap (λ (z : Limits). c.args.part * z.rows) c.args.self.now.same in
     let up : c.args.part * l.rows + c.args.mark ≤ c.args.low = c.requires.low.1.0 in
     c.requires.low.1.1 i low (omega arith)
 
 -- the exchange, whether it went through or not
-one : (c : After-raise) → Looked (limits_of c.args.self.now.words) 1 (view_of c.args.seat.now) (view_of c.raise.new.seat)
-one c = let l : Limits = limits_of c.args.self.now.words in let up = c.requires.low.1.0 in let top = c.requires.low.0 in
+one : (c : After-raise) → Looked (table_limits c.args.self.now.words) 1 (view_of c.args.seat.now) (view_of c.raise.new.seat)
+one c = let l : Limits = table_limits c.args.self.now.words in let up = c.requires.low.1.0 in let top = c.requires.low.0 in
     let same : c.args.part * l.rows ≡ c.args.part * c.args.self.now.places.limits.rows = ap (λ (z : Limits). c.args.part * z.rows) c.args.self.now.same in
     raised_looked l c.args.kind c.args.part c.args.mark _ (view_of c.args.seat.now) (view_of c.raise.new.seat) c.requires.steady c.raise.ensures.raises
     (rose_low l c.args.kind (view_of c.args.seat.now) c.args.part c.args.mark _ c.requires.steady c.requires.mark.0 (subst (IsInside l c.args.part) (ap (λ z. c.args.low - z) same) top) (subst (λ n. Rose c.args.kind (view_of c.args.seat.now) (c.args.part * l.rows + c.args.mark) n) (omega arith) c.requires.low.1)) (let more = c.if-to-mark.false in omega arith)
@@ -39,4 +39,4 @@ returns-clause-remembers c = let at = (goal.at.returns-clause-remembers c).After
     (remembers_kind c.args.kind c.args.lows.now _ _ _ _ _ a c.requires.remembers)
 
 pub returns-then-to-mark-clause-looked : goal.returns-then-to-mark-clause-looked
-returns-then-to-mark-clause-looked c = let l : Limits = limits_of c.args.self.now.words in let v = view_of c.args.seat.now in looked_few l 0 1 v v (omega arith) (looked_none l v c.requires.steady)
+returns-then-to-mark-clause-looked c = let l : Limits = table_limits c.args.self.now.words in let v = view_of c.args.seat.now in looked_few l 0 1 v v (omega arith) (looked_none l v c.requires.steady)

@@ -1,7 +1,7 @@
 use Rattle.std.proofs.Common.{◌+◌, List, slice_index, arith, subst, sym}
 use Rattle.tp_model.specs.declared.types.Limits.{Limits}
 use Rattle.tp_model.specs.Steps.{part_rows, rows_of}
-use Rattle.tp_rule.specs.Tables.{limits_of}
+use Rattle.tp_rule.specs.Tables.{table_limits}
 use Rattle.tp_rule.specs.Views.{view_of}
 use Rattle.tp_manager.specs.Bounds.{scan_steps, spare_left, try_steps}
 use Rattle.tp_manager.proofs.Lows.{spare_rises}
@@ -14,22 +14,22 @@ use Rattle.tp_manager.proofs.manager.Shared.scan.Goals as goal
 use Rattle.tp_manager.proofs.manager.Shared.scan.Goals.{After-scan_blocks}
 
 pub returns-clause-told : goal.returns-clause-told
-returns-clause-told c = let l : Limits = limits_of c.args.self.now.words in let v = view_of c.args.seat.now in let y = view_of c.scan_blocks.new.seat in
+returns-clause-told c = let l : Limits = table_limits c.args.self.now.words in let v = view_of c.args.seat.now in let y = view_of c.scan_blocks.new.seat in
     let k = scan_steps l try_steps 3 c.args.lows.now l.parts in let n = slice_index c.args.lows.now l.parts in let m = slice_index c.scan_parts.new.lows l.parts in
     let less = spare_rises l try_steps n m (c.scan_parts.ensures.lows l.parts) in
     scan_behind l c.args.stage c.args.unit 0 (k + spare_left l try_steps m) (k + spare_left l try_steps n) 0 (rows_of l) v v y c.scan_blocks.result (omega arith) (looked_none l v c.requires.steady)
     (scan_both l c.args.stage c.args.unit k (spare_left l try_steps m) v (view_of c.scan_parts.new.seat) y c.scan_blocks.result c.in_default.ensures.told c.scan_blocks.ensures.told)
 
 -- the steps in the parts, and then in the spare blocks
-blocks : (c : After-scan_blocks) → (ms : List TraceEntry) × Walked (limits_of c.args.self.now.words) (spare_left (limits_of c.args.self.now.words) try_steps (slice_index c.scan_parts.new.lows (limits_of c.args.self.now.words).parts)) ms (view_of c.scan_parts.new.seat) (view_of c.scan_blocks.new.seat)
-blocks c = let l : Limits = limits_of c.args.self.now.words in
+blocks : (c : After-scan_blocks) → (ms : List TraceEntry) × Walked (table_limits c.args.self.now.words) (spare_left (table_limits c.args.self.now.words) try_steps (slice_index c.scan_parts.new.lows (table_limits c.args.self.now.words).parts)) ms (view_of c.scan_parts.new.seat) (view_of c.scan_blocks.new.seat)
+blocks c = let l : Limits = table_limits c.args.self.now.words in
     begun_walked l c.args.stage c.args.unit (spare_left l try_steps (slice_index c.scan_parts.new.lows l.parts)) (part_rows l) (rows_of l) (view_of c.scan_parts.new.seat) (view_of c.scan_blocks.new.seat) c.scan_blocks.result c.in_default.ensures.told.walk.steady c.scan_blocks.ensures.told
 
 pub returns-clause-rests : goal.returns-clause-rests
-returns-clause-rests c = λ p inside came. let l : Limits = limits_of c.args.self.now.words in let w = blocks (goal.at.returns-clause-rests c).After-scan_blocks in let a = c.in_default.ensures.told in
+returns-clause-rests c = λ p inside came. let l : Limits = table_limits c.args.self.now.words in let w = blocks (goal.at.returns-clause-rests c).After-scan_blocks in let a = c.in_default.ensures.told in
     subst (λ n. RestsAt l c.args.stage p n (view_of c.args.seat.now) (view_of c.scan_blocks.new.seat)) (sym (c.scan_blocks.ensures.lows.1 p (λ is. absurd (omega arith))))
     (rests_behind l _ _ a.marks w.0 (view_of c.args.seat.now) (view_of c.scan_parts.new.seat) (view_of c.scan_blocks.new.seat) a.walk w.1 c.args.stage p _ a.step (c.in_default.ensures.rests p inside tt))
 
 pub returns-clause-spare : goal.returns-clause-spare
-returns-clause-spare c = λ came. let l : Limits = limits_of c.args.self.now.words in let w = blocks (goal.at.returns-clause-spare c).After-scan_blocks in let a = c.in_default.ensures.told in
+returns-clause-spare c = λ came. let l : Limits = table_limits c.args.self.now.words in let w = blocks (goal.at.returns-clause-spare c).After-scan_blocks in let a = c.in_default.ensures.told in
     spare_before l _ _ a.marks w.0 (view_of c.args.seat.now) (view_of c.scan_parts.new.seat) (view_of c.scan_blocks.new.seat) a.walk w.1 c.args.stage _ _ c.scan_blocks.ensures.rests

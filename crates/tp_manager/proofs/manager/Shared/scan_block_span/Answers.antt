@@ -1,6 +1,6 @@
 use Rattle.std.proofs.Common.{◌≡◌, ◌⊎◌, ◌+◌, ◌-◌, ◌*◌, ◌<◌, ◌≤◌, ℕ, refl, inl, inr, ⊎_elim, arith, rules, mul-le-mul_right}
 use Rattle.tp_model.specs.declared.types.Limits.{Limits}
-use Rattle.tp_rule.specs.Tables.{limits_of}
+use Rattle.tp_rule.specs.Tables.{table_limits}
 use Rattle.tp_rule.specs.Views.{seen_by, view_of}
 use Rattle.tp_manager.specs.Bounds.{drawn_steps, try_steps}
 use Rattle.tp_manager.specs.Walks.{EachRow, Looked, PassedBy}
@@ -13,8 +13,8 @@ use Rattle.tp_manager.proofs.manager.Shared.scan_block_span.Goals as goal
 use Rattle.tp_manager.proofs.manager.Shared.scan_block_span.Goals.{After-loop-row}
 
 -- the steps at the rows, behind the load of the counter
-since : (c : After-loop-row) → Looked (limits_of c.args.self.now.words) (c.loop-row.invariant.begun.0 * try_steps) (view_of c.blocks_end.new.seat) (view_of c.loop-row.seat)
-since c = let l : Limits = limits_of c.args.self.now.words in
+since : (c : After-loop-row) → Looked (table_limits c.args.self.now.words) (c.loop-row.invariant.begun.0 * try_steps) (view_of c.blocks_end.new.seat) (view_of c.loop-row.seat)
+since c = let l : Limits = table_limits c.args.self.now.words in
     begun_looked l (PassedBy l c.args.stage) (passed_widens l c.args.stage) _ _ c.loop-row.row _ _ c.loop-row.invariant.begun.3 c.in-Some.ensures.told.1.walk.steady
 
 -- the rows end where the blocks do, or before
@@ -34,11 +34,11 @@ loop-row-init c = let span = c.requires.span in let a = span.1 in let b = span.2
 }
 
 pub returns-in-Some-try_row-clause-drawn : goal.returns-in-Some-try_row-clause-drawn
-returns-in-Some-try_row-clause-drawn c = let l : Limits = limits_of c.args.self.now.words in let a = begun_looked l (PassedBy l c.args.stage) (passed_widens l c.args.stage) (c.loop-row.invariant.begun.0 * try_steps) c.args.from c.loop-row.row (view_of c.blocks_end.new.seat) (view_of c.loop-row.seat) c.loop-row.invariant.begun.3 c.in-Some.ensures.told.1.walk.steady in
+returns-in-Some-try_row-clause-drawn c = let l : Limits = table_limits c.args.self.now.words in let a = begun_looked l (PassedBy l c.args.stage) (passed_widens l c.args.stage) (c.loop-row.invariant.begun.0 * try_steps) c.args.from c.loop-row.row (view_of c.blocks_end.new.seat) (view_of c.loop-row.seat) c.loop-row.invariant.begun.3 c.in-Some.ensures.told.1.walk.steady in
     drawn_walked l _ _ _ _ c.blocks_end.new.drawn a.walk.steady.pass.1 c.in-Some-try_row.ensures.told.0.walk (drawn_walked l _ _ _ _ c.blocks_end.new.drawn c.in-Some.ensures.told.1.walk.steady.pass.1 a.walk c.blocks_end.ensures.drawn)
 
 pub returns-in-Some-try_row-clause-told : goal.returns-in-Some-try_row-clause-told
-returns-in-Some-try_row-clause-told c = let l : Limits = limits_of c.args.self.now.words in let s = try_steps in let t = c.in-Some-try_row.taken in let b = c.loop-row.invariant.begun in let k : ℕ = b.0 in let x = b.1 in
+returns-in-Some-try_row-clause-told c = let l : Limits = table_limits c.args.self.now.words in let s = try_steps in let t = c.in-Some-try_row.taken in let b = c.loop-row.invariant.begun in let k : ℕ = b.0 in let x = b.1 in
     let load = c.in-Some.ensures.told in let from = c.loop-row.invariant.from in let less = c.loop-row-test.true in let end = (earlier_near c.earlier-end.result c.in-Some.drawn_end c.args.to c.earlier-end.ensures).1 in
     let one = drawn_one l.spare load.0 in let room : k * s + s ≤ (c.args.to - c.args.from) * s = rows_more k (c.args.to - c.args.from) s (omega arith) in (
       took_few l c.args.stage c.args.unit t.attempt t.element (1 + (k * s + s)) (drawn_steps l.spare + (c.args.to - c.args.from) * s) c.args.from _ _ (omega arith)
@@ -48,7 +48,7 @@ returns-in-Some-try_row-clause-told c = let l : Limits = limits_of c.args.self.n
     )
 
 pub loop-row-preserved : goal.loop-row-preserved
-loop-row-preserved c = let l : Limits = limits_of c.args.self.now.words in let P = PassedBy l c.args.stage in let s = try_steps in let i = c.loop-row.invariant in let b = i.begun in let k : ℕ = b.0 in let x = b.1 in let on = c.try_row.ensures.on.on in let from_on = i.from in
+loop-row-preserved c = let l : Limits = table_limits c.args.self.now.words in let P = PassedBy l c.args.stage in let s = try_steps in let i = c.loop-row.invariant in let b = i.begun in let k : ℕ = b.0 in let x = b.1 in let on = c.try_row.ensures.on.on in let from_on = i.from in
     let less = c.loop-row-test.true in let end = (earlier_near c.earlier-end.result c.in-Some.drawn_end c.args.to c.earlier-end.ensures).1 in record {
       same = search rules;
       from = omega arith;
@@ -64,11 +64,11 @@ loop-row-preserved c = let l : Limits = limits_of c.args.self.now.words in let P
     }
 
 pub returns-clause-drawn : goal.returns-clause-drawn
-returns-clause-drawn c = let l : Limits = limits_of c.args.self.now.words in
+returns-clause-drawn c = let l : Limits = table_limits c.args.self.now.words in
     drawn_walked l _ _ _ _ c.blocks_end.new.drawn c.in-Some.ensures.told.1.walk.steady.pass.1 (since (goal.at.returns-clause-drawn c).After-loop-row).walk c.blocks_end.ensures.drawn
 
 pub returns-clause-told : goal.returns-clause-told
-returns-clause-told c = let l : Limits = limits_of c.args.self.now.words in let P = PassedBy l c.args.stage in let s = try_steps in let i = c.loop-row.invariant in let b = i.begun in let k : ℕ = b.0 in let most = b.2 in
+returns-clause-told c = let l : Limits = table_limits c.args.self.now.words in let P = PassedBy l c.args.stage in let s = try_steps in let i = c.loop-row.invariant in let b = i.begun in let k : ℕ = b.0 in let most = b.2 in
     let load = c.in-Some.ensures.told in let one = drawn_one l.spare load.0 in let past = c.loop-row-test.false in let end = (earlier_near c.earlier-end.result c.in-Some.drawn_end c.args.to c.earlier-end.ensures).2 in let top = c.requires.span.2 in
     let few : k * s ≤ (c.args.to - c.args.from) * s = mul-le-mul_right s most in
     inr (sought_few l (1 + k * s) (drawn_steps l.spare + (c.args.to - c.args.from) * s) (EachRow P c.args.from c.args.to) _ _ (omega arith)

@@ -2,7 +2,7 @@ use Rattle.std.proofs.Common.{◌+◌, ◌-◌, ◌*◌, ◌≤◌, slice_index,
 use Rattle.tp_model.specs.declared.types.Limits.{Limits}
 use Rattle.tp_model.specs.declared.types.TheConstants.{BLOCK_ROWS}
 use Rattle.tp_model.specs.Steps.{part_rows, rows_of}
-use Rattle.tp_rule.specs.Tables.{limits_of}
+use Rattle.tp_rule.specs.Tables.{table_limits}
 use Rattle.tp_rule.specs.Views.{view_of}
 use Rattle.tp_manager.specs.Bounds.{spare_left, try_steps}
 use Rattle.tp_manager.proofs.Lows.{drawn_one}
@@ -14,18 +14,18 @@ use Rattle.tp_manager.proofs.Walks.{remembers_kind}
 use Rattle.tp_manager.proofs.manager.Shared.scan_blocks.Goals as goal
 
 pub returns-clause-told : goal.returns-clause-told
-returns-clause-told c = let l : Limits = limits_of c.args.self.now.words in let load = c.in-Some.ensures.told in let one = drawn_one l.spare load.0 in let n = slice_index c.args.lows.now l.parts in
+returns-clause-told c = let l : Limits = table_limits c.args.self.now.words in let load = c.in-Some.ensures.told in let one = drawn_one l.spare load.0 in let n = slice_index c.args.lows.now l.parts in
     scan_drawn l c.args.stage c.args.unit (2 + (BLOCK_ROWS * l.spare - n) * try_steps) (spare_left l try_steps n) (part_rows l) (rows_of l) (view_of c.args.seat.now) (view_of c.blocks_end.new.seat) (view_of c.scan_spare.new.seat) c.scan_spare.result
     (omega arith) load.1 c.scan_spare.ensures.told
 
 pub returns-clause-rests : goal.returns-clause-rests
-returns-clause-rests c = let l : Limits = limits_of c.args.self.now.words in let load = c.in-Some.ensures.told.1 in let n = slice_index c.args.lows.now l.parts in let end = c.in-Some.ensures.end in
+returns-clause-rests c = let l : Limits = table_limits c.args.self.now.words in let load = c.in-Some.ensures.told.1 in let n = slice_index c.args.lows.now l.parts in let end = c.in-Some.ensures.end in
     let w = drawn_walked l c.args.stage c.args.unit (2 + (BLOCK_ROWS * l.spare - n) * try_steps) (part_rows l) (rows_of l) (view_of c.blocks_end.new.seat) (view_of c.scan_spare.new.seat) c.scan_spare.result c.scan_spare.ensures.told in
     subst (λ e. SpareRests l c.args.stage e (slice_index c.scan_spare.new.lows l.parts) (view_of c.args.seat.now) (view_of c.scan_spare.new.seat)) end
     (spare_before l 1 _ _ w.0 (view_of c.args.seat.now) (view_of c.blocks_end.new.seat) (view_of c.scan_spare.new.seat) load.walk w.1 c.args.stage _ _ c.scan_spare.ensures.rests)
 
 pub returns-in_default-clause-rests : goal.returns-in_default-clause-rests
-returns-in_default-clause-rests c = let l : Limits = limits_of c.args.self.now.words in let none = c.in_default.ensures.told.0 in let few = c.blocks_end.ensures.drawn.0 in
+returns-in_default-clause-rests c = let l : Limits = table_limits c.args.self.now.words in let none = c.in_default.ensures.told.0 in let few = c.blocks_end.ensures.drawn.0 in
     let most : c.blocks_end.new.drawn ≤ l.spare = subst (λ (z : Limits). c.blocks_end.new.drawn ≤ z.spare) c.requires.steady.pass.1 (subst (λ (z : SeatShown). c.blocks_end.new.drawn ≤ (view_of z).limits.spare) c.in_default.ensures.told.1 few) in inl (omega arith)
 
 pub scan_spare-requires-clause-remembers : goal.scan_spare-requires-clause-remembers

@@ -3,7 +3,7 @@ use Rattle.tp_model.specs.declared.types.Limits.{Limits}
 use Rattle.tp_model.specs.declared.trace.TraceEntry.{TraceEntry}
 use Rattle.tp_model.specs.Steps.{IsRowOf}
 use Rattle.tp_model.proofs.Bridges.{begins_refl}
-use Rattle.tp_rule.specs.Tables.{limits_of}
+use Rattle.tp_rule.specs.Tables.{table_limits}
 use Rattle.tp_rule.specs.Views.{seen_by, view_of}
 use Rattle.tp_manager.specs.Bounds.{try_steps}
 use Rattle.tp_manager.specs.Walks.{EachRow, Looked, OfPart, PassedBy, Remembers, RemembersDone, RisesAt, Rose, Sought, Walked, WasOfUse}
@@ -21,10 +21,10 @@ use Rattle.tp_manager.proofs.manager.Shared.scan_from_mark.Goals as goal
 use Rattle.tp_manager.proofs.manager.Shared.scan_from_mark.Goals.{After-loop-row, After-low_at-mark, After-past_done-begin, After-try_row}
 
 -- where the part begins, and where the scan does
-first : (c : After-low_at-mark) → c.args.part * (limits_of c.args.self.now.words).rows ≡ c.args.part * c.args.self.now.places.limits.rows
+first : (c : After-low_at-mark) → c.args.part * (table_limits c.args.self.now.words).rows ≡ c.args.part * c.args.self.now.places.limits.rows
 first c = ap (λ (z : Limits). c.args.part * z.rows) c.args.self.now.same
 
-wide : (c : After-low_at-mark) → (limits_of c.args.self.now.words).rows ≡ c.args.self.now.places.limits.rows
+wide : (c : After-low_at-mark) → (table_limits c.args.self.now.words).rows ≡ c.args.self.now.places.limits.rows
 wide c = ap (λ (z : Limits). z.rows) c.args.self.now.same
 
 abbrev from : (c : After-past_done-begin) → ℕ
@@ -37,53 +37,53 @@ still_done c = done_walked _ 1 _ _ _ c.args.done c.requires.steady.pass.1 c.low_
 -- the scan begins at the mark, or one row behind it
 begins : (c : After-past_done-begin) → (from c ≤ c.past_done-begin.result) × (c.past_done-begin.result ≤ from c + 1) × (c.past_done-begin.result ≤ c.args.part * c.args.self.now.places.limits.rows + c.args.self.now.places.limits.rows)
 begins c = let inside = c.low_at-mark.ensures.low.0 in let w = ap (λ (z : Limits). z.rows) c.args.self.now.same in
-    past_near (limits_of c.args.self.now.words) c.past_done-begin.result (from c) _ c.args.done (omega arith) c.past_done-begin.ensures
+    past_near (table_limits c.args.self.now.words) c.past_done-begin.result (from c) _ c.args.done (omega arith) c.past_done-begin.ensures
 
 -- the row is of the part, and so is what comes next, but for the part's end
-near : (c : After-try_row) → IsRowOf (limits_of c.args.self.now.words) c.args.part c.loop-row.row × (c.try_row.new.row ≤ c.args.part * (limits_of c.args.self.now.words).rows + (limits_of c.args.self.now.words).rows)
-near c = let l : Limits = limits_of c.args.self.now.words in let i = c.loop-row.invariant in let low = i.from in let less = c.loop-row-test.true in
+near : (c : After-try_row) → IsRowOf (table_limits c.args.self.now.words) c.args.part c.loop-row.row × (c.try_row.new.row ≤ c.args.part * (table_limits c.args.self.now.words).rows + (table_limits c.args.self.now.words).rows)
+near c = let l : Limits = table_limits c.args.self.now.words in let i = c.loop-row.invariant in let low = i.from in let less = c.loop-row-test.true in
     let a : c.args.part * l.rows ≡ c.args.part * c.args.self.now.places.limits.rows = ap (λ (z : Limits). c.args.part * z.rows) c.args.self.now.same in
     let b : l.rows ≡ c.args.self.now.places.limits.rows = ap (λ (z : Limits). z.rows) c.args.self.now.same in
     let own : IsRowOf l c.args.part c.loop-row.row = (c.requires.part, omega arith, omega arith) in (own, part_on l c.loop-row.row c.try_row.new.row c.args.part c.try_row.ensures.on own)
 
 -- the steps from the mark up to the row
-since : (c : After-try_row) → Looked (limits_of c.args.self.now.words) ((c.loop-row.row - c.past_done-begin.result) * try_steps) (view_of c.low_at-mark.new.seat) (view_of c.loop-row.seat)
-since c = let l : Limits = limits_of c.args.self.now.words in
+since : (c : After-try_row) → Looked (table_limits c.args.self.now.words) ((c.loop-row.row - c.past_done-begin.result) * try_steps) (view_of c.low_at-mark.new.seat) (view_of c.loop-row.seat)
+since c = let l : Limits = table_limits c.args.self.now.words in
     begun_looked l (PassedBy l c.args.stage) (passed_widens l c.args.stage) _ _ c.loop-row.row _ _ c.loop-row.invariant.begun c.low_at-mark.ensures.acted.walk.steady
 
 -- the rows before the first that is looked at are over
-under : (c : After-past_done-begin) (j : ℕ) → c.args.part * (limits_of c.args.self.now.words).rows ≤ j → j < c.past_done-begin.result → PassedBy (limits_of c.args.self.now.words) c.args.stage j (seen_by c.low_at-mark.new.seat) (seen_by c.low_at-mark.new.seat)
-under c j from_on below = let l : Limits = limits_of c.args.self.now.words in let e = ap (λ (z : Limits). c.args.part * z.rows) c.args.self.now.same in let old = done_walked l 1 _ _ _ c.args.done c.requires.steady.pass.1 c.low_at-mark.ensures.acted.walk c.requires.done in
+under : (c : After-past_done-begin) (j : ℕ) → c.args.part * (table_limits c.args.self.now.words).rows ≤ j → j < c.past_done-begin.result → PassedBy (table_limits c.args.self.now.words) c.args.stage j (seen_by c.low_at-mark.new.seat) (seen_by c.low_at-mark.new.seat)
+under c j from_on below = let l : Limits = table_limits c.args.self.now.words in let e = ap (λ (z : Limits). c.args.part * z.rows) c.args.self.now.same in let old = done_walked l 1 _ _ _ c.args.done c.requires.steady.pass.1 c.low_at-mark.ensures.acted.walk c.requires.done in
     dite (dec_le (from c) j)
     (λ past. done_passed l c.args.stage (view_of c.low_at-mark.new.seat) c.past_done-begin.result (from c) _ c.args.done c.low_at-mark.ensures.acted.walk.steady.pass.1 old c.past_done-begin.ensures j past below)
     (λ not. over_passed l c.args.stage (seen_by c.low_at-mark.new.seat) c.args.part (slice_index c.low_at-mark.new.lows c.args.part) j c.requires.stage.0 c.low_at-mark.ensures.low.1 from_on (omega arith))
 
 -- what is known finished after one more row
-rose : (c : After-try_row) (n : ℕ) (ms : List TraceEntry) → Walked (limits_of c.args.self.now.words) n ms (view_of c.loop-row.seat) (view_of c.try_row.new.seat)
+rose : (c : After-try_row) (n : ℕ) (ms : List TraceEntry) → Walked (table_limits c.args.self.now.words) n ms (view_of c.loop-row.seat) (view_of c.try_row.new.seat)
     → Rose c.args.stage (view_of c.try_row.new.seat) (c.args.part * c.args.self.now.places.limits.rows + c.low_at-mark.result) c.try_row.new.low
-rose c n ms a = let l : Limits = limits_of c.args.self.now.words in let v = view_of c.loop-row.seat in
+rose c n ms a = let l : Limits = table_limits c.args.self.now.words in let v = view_of c.loop-row.seat in
     rose_then l c.args.stage v (view_of c.try_row.new.seat) _ c.loop-row.low c.try_row.new.low (goes_walked l n ms v _ (since c).walk.steady.pass.1 a) c.loop-row.invariant.rose c.try_row.ensures.low.1
 
 -- the first row that isn't known of no use, after one more row
-stuck : (c : After-try_row) (n : ℕ) (ms : List TraceEntry) → Walked (limits_of c.args.self.now.words) n ms (view_of c.loop-row.seat) (view_of c.try_row.new.seat) → c.try_row.new.low < c.try_row.new.row
-    → WasOfUse (limits_of c.args.self.now.words) c.args.stage c.try_row.new.low (seen_by c.low_at-mark.new.seat) (seen_by c.try_row.new.seat)
-stuck c n ms a less = let l : Limits = limits_of c.args.self.now.words in let h = seen_by c.low_at-mark.new.seat in let i = c.loop-row.invariant in
+stuck : (c : After-try_row) (n : ℕ) (ms : List TraceEntry) → Walked (table_limits c.args.self.now.words) n ms (view_of c.loop-row.seat) (view_of c.try_row.new.seat) → c.try_row.new.low < c.try_row.new.row
+    → WasOfUse (table_limits c.args.self.now.words) c.args.stage c.try_row.new.low (seen_by c.low_at-mark.new.seat) (seen_by c.try_row.new.seat)
+stuck c n ms a less = let l : Limits = table_limits c.args.self.now.words in let h = seen_by c.low_at-mark.new.seat in let i = c.loop-row.invariant in
     ⊎_elim (λ t. subst (λ z. WasOfUse l c.args.stage z h (seen_by c.try_row.new.seat)) (sym t.1) (use_later l c.args.stage c.loop-row.low h h _ _ (begins_refl h) (walked_begins l n ms _ _ a) (i.stuck t.0)))
     (λ was. use_later l c.args.stage c.try_row.new.low h (seen_by c.loop-row.seat) _ _ (looked_begins l _ _ _ (since c)) (begins_refl _) was) (c.try_row.ensures.stays less)
 
 -- the steps from the mark to the end of the part
-all_since : (c : After-loop-row) → Looked (limits_of c.args.self.now.words) ((c.loop-row.row - c.past_done-begin.result) * try_steps) (view_of c.low_at-mark.new.seat) (view_of c.loop-row.seat)
-all_since c = let l : Limits = limits_of c.args.self.now.words in
+all_since : (c : After-loop-row) → Looked (table_limits c.args.self.now.words) ((c.loop-row.row - c.past_done-begin.result) * try_steps) (view_of c.low_at-mark.new.seat) (view_of c.loop-row.seat)
+all_since c = let l : Limits = table_limits c.args.self.now.words in
     begun_looked l (PassedBy l c.args.stage) (passed_widens l c.args.stage) _ _ c.loop-row.row _ _ c.loop-row.invariant.begun c.low_at-mark.ensures.acted.walk.steady
 
 pub returns-in-Some-clause-rests : goal.returns-in-Some-clause-rests
-returns-in-Some-clause-rests c = let l : Limits = limits_of c.args.self.now.words in let at = goal.at.returns-in-Some-clause-rests c in let t = c.in-Some.ensures.told.0 in
+returns-in-Some-clause-rests c = let l : Limits = table_limits c.args.self.now.words in let at = goal.at.returns-in-Some-clause-rests c in let t = c.in-Some.ensures.told.0 in
     rests_by l 1 _ _ (view_of c.args.seat.now) (view_of c.low_at-mark.new.seat) (view_of c.try_row.new.seat) (view_of c.raise_low.new.seat) c.low_at-mark.ensures.acted
     (walked_then l _ 1 _ _ _ _ _ (walked_then l _ _ _ _ _ _ _ (since at.After-try_row).walk t.walk) c.raise_low.ensures.looked.walk) c.raise_low.ensures.seen
     c.args.stage c.args.part _ c.try_row.new.low c.try_row.new.row c.raise_low.ensures.rests (stuck at.After-try_row _ _ t.walk) (inl c.in-Some.ensures.behind.0)
 
 pub returns-clause-rests : goal.returns-clause-rests
-returns-clause-rests c = let l : Limits = limits_of c.args.self.now.words in let at = goal.at.returns-clause-rests c in let i = c.loop-row.invariant in
+returns-clause-rests c = let l : Limits = table_limits c.args.self.now.words in let at = goal.at.returns-clause-rests c in let i = c.loop-row.invariant in
     let high = i.inside in let low = i.low in let past = c.loop-row-test.false in let e = first at.After-low_at-mark in let wd = wide at.After-low_at-mark in
     rests_by l 1 _ _ (view_of c.args.seat.now) (view_of c.low_at-mark.new.seat) (view_of c.loop-row.seat) (view_of c.raise_low-2.new.seat) c.low_at-mark.ensures.acted
     (walked_then l _ 1 _ _ _ _ _ (all_since at.After-loop-row).walk c.raise_low-2.ensures.looked.walk) c.raise_low-2.ensures.seen
@@ -102,15 +102,15 @@ found : (c : After-low_at-mark) → c.low_at-mark.result ≤ slice_index c.low_a
 found c = let up = c.low_at-mark.ensures.rose.0 in omega arith
 
 -- the scan began no row before it
-under_low : (c : After-past_done-begin) (lows : List ℕ) (low : ℕ) → lows ≡ c.low_at-mark.new.lows → c.past_done-begin.result ≤ low → c.args.part * (limits_of c.args.self.now.words).rows + slice_index lows c.args.part ≤ low
+under_low : (c : After-past_done-begin) (lows : List ℕ) (low : ℕ) → lows ≡ c.low_at-mark.new.lows → c.past_done-begin.result ≤ low → c.args.part * (table_limits c.args.self.now.words).rows + slice_index lows c.args.part ≤ low
 under_low c lows low same up = let behind = (begins c).0 in let e = ap (λ (z : Limits). c.args.part * z.rows) c.args.self.now.same in
-    subst (λ z. c.args.part * (limits_of c.args.self.now.words).rows + slice_index z c.args.part ≤ low) (sym same) (omega arith)
+    subst (λ z. c.args.part * (table_limits c.args.self.now.words).rows + slice_index z c.args.part ≤ low) (sym same) (omega arith)
 
 more : (c : After-try_row) → c.past_done-begin.result ≤ c.try_row.new.low
 more c = let up = c.loop-row.invariant.above in let on = c.try_row.ensures.low.1.0 in omega arith
 
 pub raise_low-requires-clause-low : goal.raise_low-requires-clause-low
-raise_low-requires-clause-low c = let l : Limits = limits_of c.args.self.now.words in let at = (goal.at.raise_low-requires-clause-low c).After-try_row in let t = c.in-Some.ensures.told.0 in
+raise_low-requires-clause-low c = let l : Limits = table_limits c.args.self.now.words in let at = (goal.at.raise_low-requires-clause-low c).After-try_row in let t = c.in-Some.ensures.told.0 in
     let on = (near at).1 in let low = c.try_row.ensures.low.0 in (
       omega arith,
       under_low (goal.at.raise_low-requires-clause-low c).After-past_done-begin c.loop-row.lows c.try_row.new.low c.loop-row.invariant.lows (more at),
@@ -130,7 +130,7 @@ pub returns-in-Some-clause-lows : goal.returns-in-Some-clause-lows
 returns-in-Some-clause-lows c = rises_at_then c.args.part c.args.lows.now c.low_at-mark.new.lows c.raise_low.new.lows c.low_at-mark.ensures.lows (subst (λ lows. RisesAt c.args.part lows c.raise_low.new.lows) c.loop-row.invariant.lows c.raise_low.ensures.lows)
 
 pub returns-in-Some-clause-told : goal.returns-in-Some-clause-told
-returns-in-Some-clause-told c = let l : Limits = limits_of c.args.self.now.words in let s = try_steps in let at = goal.at.returns-in-Some-clause-told c in let n = near at.After-try_row in let start = c.loop-row.invariant.from in let behind = (begins at.After-past_done-begin).0 in
+returns-in-Some-clause-told c = let l : Limits = table_limits c.args.self.now.words in let s = try_steps in let at = goal.at.returns-in-Some-clause-told c in let n = near at.After-try_row in let start = c.loop-row.invariant.from in let behind = (begins at.After-past_done-begin).0 in
     let e = first at.After-low_at-mark in let high = n.0.2 in let d : ℕ = c.loop-row.row - c.past_done-begin.result in
     let low = above at.After-low_at-mark in
     let room : d * s + s ≤ (l.rows - slice_index c.args.lows.now c.args.part) * s = rows_more d (l.rows - slice_index c.args.lows.now c.args.part) s (omega arith) in (
@@ -149,15 +149,15 @@ loop-row-init c = let at = goal.at.loop-row-init c in let b = begins at.After-pa
   inside = inside;
   above = omega arith;
   low = omega arith;
-  rose = rose_both (limits_of c.args.self.now.words) c.args.stage (view_of c.low_at-mark.new.seat) _ (from at.After-past_done-begin) _
+  rose = rose_both (table_limits c.args.self.now.words) c.args.stage (view_of c.low_at-mark.new.seat) _ (from at.After-past_done-begin) _
       (subst (λ z. Rose c.args.stage (view_of c.low_at-mark.new.seat) (z + c.low_at-mark.result) (z + slice_index c.low_at-mark.new.lows c.args.part)) (first at.After-low_at-mark) c.low_at-mark.ensures.rose)
-      (rose_past (limits_of c.args.self.now.words) (view_of c.low_at-mark.new.seat) c.past_done-begin.result (from at.After-past_done-begin) _ c.args.done (still_done at.After-low_at-mark) c.past_done-begin.ensures b.0 c.args.stage);
+      (rose_past (table_limits c.args.self.now.words) (view_of c.low_at-mark.new.seat) c.past_done-begin.result (from at.After-past_done-begin) _ c.args.done (still_done at.After-low_at-mark) c.past_done-begin.ensures b.0 c.args.stage);
   stuck = λ less. absurd (omega arith);
   begun = inl (refl, refl);
 }
 
 pub loop-row-preserved : goal.loop-row-preserved
-loop-row-preserved c = let l : Limits = limits_of c.args.self.now.words in let at = goal.at.loop-row-preserved c in let t = c.in_default.ensures.told in let i = c.loop-row.invariant in let on = c.try_row.ensures.on.on in let n = near at.After-try_row in
+loop-row-preserved c = let l : Limits = table_limits c.args.self.now.words in let at = goal.at.loop-row-preserved c in let t = c.in_default.ensures.told in let i = c.loop-row.invariant in let on = c.try_row.ensures.on.on in let n = near at.After-try_row in
     let s = try_steps in let P = PassedBy l c.args.stage in let F : ℕ = c.past_done-begin.result in let d : ℕ = c.loop-row.row - F in
     let start = i.from in let e = first at.After-low_at-mark in let w = wide at.After-low_at-mark in let top = n.1 in record {
       same = search rules;
@@ -189,7 +189,7 @@ pub returns-clause-lows : goal.returns-clause-lows
 returns-clause-lows c = rises_at_then c.args.part c.args.lows.now c.low_at-mark.new.lows c.raise_low-2.new.lows c.low_at-mark.ensures.lows (subst (λ lows. RisesAt c.args.part lows c.raise_low-2.new.lows) c.loop-row.invariant.lows c.raise_low-2.ensures.lows)
 
 pub returns-clause-told : goal.returns-clause-told
-returns-clause-told c = let l : Limits = limits_of c.args.self.now.words in let s = try_steps in let at = (goal.at.returns-clause-told c).After-low_at-mark in let i = c.loop-row.invariant in
+returns-clause-told c = let l : Limits = table_limits c.args.self.now.words in let s = try_steps in let at = (goal.at.returns-clause-told c).After-low_at-mark in let i = c.loop-row.invariant in
     let high = i.inside in let low = c.loop-row-test.false in let e = first at in let w = wide at in let up = above at in
     let P = PassedBy l c.args.stage in let F : ℕ = c.past_done-begin.result in let near_mark = begins (goal.at.returns-clause-told c).After-past_done-begin in let behind = near_mark.0 in let d : ℕ = c.loop-row.row - F in
     let all : c.loop-row.row ≡ c.args.part * l.rows + l.rows = omega arith in

@@ -1,5 +1,5 @@
 use Rattle.std.proofs.Common.{◌<◌, ◌≡◌, ◌-◌, ◌+◌, ◌*◌, ◌≤◌}
-use Rattle.tp_rule.specs.Tables.{limits_of}
+use Rattle.tp_rule.specs.Tables.{table_limits}
 use Rattle.tp_rule.specs.Views.{IsSameSeat, seen_by, view_of}
 use Rattle.tp_manager.specs.Bounds.{try_steps}
 use Rattle.tp_manager.specs.Walks.{Begun, PassedBy, Rose, WasOfUse}
@@ -14,8 +14,8 @@ invariant-loop-row l = record {
   above : l.begin ≤ l.low;
   low : l.low ≤ l.row;
   rose : Rose l.stage (view_of l.seat) (l.first + l.mark) l.low;
-  stuck : l.low < l.row → WasOfUse (limits_of l.self.words) l.stage l.low (seen_by l.initial.seat) (seen_by l.seat);
-  begun : Begun (limits_of l.self.words) (PassedBy (limits_of l.self.words) l.stage) ((l.row - l.begin) * try_steps) l.begin l.row (view_of l.initial.seat) (view_of l.seat);
+  stuck : l.low < l.row → WasOfUse (table_limits l.self.words) l.stage l.low (seen_by l.initial.seat) (seen_by l.seat);
+  begun : Begun (table_limits l.self.words) (PassedBy (table_limits l.self.words) l.stage) ((l.row - l.begin) * try_steps) l.begin l.row (view_of l.initial.seat) (view_of l.seat);
 }
 
 abbrev pub decreases-loop-row : goal.decreases-loop-row

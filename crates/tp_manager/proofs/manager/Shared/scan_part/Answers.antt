@@ -1,6 +1,6 @@
 use Rattle.std.proofs.Common.{inr, inl, ◌+◌, ◌-◌, ◌*◌, ℕ, slice_index, arith, subst, sym}
 use Rattle.tp_model.specs.declared.types.Limits.{Limits}
-use Rattle.tp_rule.specs.Tables.{limits_of}
+use Rattle.tp_rule.specs.Tables.{table_limits}
 use Rattle.tp_rule.specs.Views.{view_of}
 use Rattle.tp_manager.specs.Bounds.{try_steps}
 use Rattle.tp_manager.specs.Walks.{PassedBy}
@@ -18,11 +18,11 @@ use native.Mathlib.Decide.{dec_le}
 use Rattle.tp_manager.proofs.manager.Shared.scan_part.Goals as goal
 
 pub is_bare_to-requires-clause-row : goal.is_bare_to-requires-clause-row
-is_bare_to-requires-clause-row c = let l : Limits = limits_of c.args.self.now.words in let inside = lows_inside l c.args.lows.now c.args.stage (view_of c.args.seat.now) c.requires.steady.pass.1 c.requires.steady.known c.requires.remembers c.args.part in
+is_bare_to-requires-clause-row c = let l : Limits = table_limits c.args.self.now.words in let inside = lows_inside l c.args.lows.now c.args.stage (view_of c.args.seat.now) c.requires.steady.pass.1 c.requires.steady.known c.requires.remembers c.args.part in
     let e = c.requires.first.0 in let wide = c.requires.first.1 in (omega arith, omega arith, omega arith)
 
 pub returns-then-is_bare_to-clause-told : goal.returns-then-is_bare_to-clause-told
-returns-then-is_bare_to-clause-told c = let l : Limits = limits_of c.args.self.now.words in let P = PassedBy l c.args.stage in let bare = c.is_bare_to.ensures.bare c.if-is_bare_to.true in
+returns-then-is_bare_to-clause-told c = let l : Limits = table_limits c.args.self.now.words in let P = PassedBy l c.args.stage in let bare = c.is_bare_to.ensures.bare c.if-is_bare_to.true in
     let low = slice_index c.args.lows.now c.args.part in let first = c.args.part * l.rows in
     let e = c.requires.first.0 in
     sought_few l 1 (3 + (l.rows - low) * try_steps) _ _ _ (omega arith)
@@ -39,12 +39,12 @@ pub scan_from_mark-requires-clause-done : goal.scan_from_mark-requires-clause-do
 scan_from_mark-requires-clause-done c = done_walked _ _ _ _ _ c.args.done c.requires.steady.pass.1 (c.is_bare_to.ensures.more c.if-is_bare_to.false).walk c.requires.done
 
 pub returns-clause-told : goal.returns-clause-told
-returns-clause-told c = let l : Limits = limits_of c.args.self.now.words in let m : ℕ = (l.rows - slice_index c.args.lows.now c.args.part) * try_steps in
+returns-clause-told c = let l : Limits = table_limits c.args.self.now.words in let m : ℕ = (l.rows - slice_index c.args.lows.now c.args.part) * try_steps in
     scan_behind l c.args.stage c.args.unit 1 (2 + m) (3 + m) (c.args.part * l.rows) (c.args.part * l.rows + l.rows) (view_of c.args.seat.now) (view_of c.is_bare_to.new.seat) (view_of c.scan_from_mark.new.seat) c.scan_from_mark.result (omega arith)
     (c.is_bare_to.ensures.more c.if-is_bare_to.false) c.scan_from_mark.ensures.told
 
 pub returns-then-is_bare_to-clause-rests : goal.returns-then-is_bare_to-clause-rests
-returns-then-is_bare_to-clause-rests c = let l : Limits = limits_of c.args.self.now.words in let bare = c.is_bare_to.ensures.bare c.if-is_bare_to.true in let low = slice_index c.args.lows.now c.args.part in let w = view_of c.is_bare_to.new.seat in
+returns-then-is_bare_to-clause-rests c = let l : Limits = table_limits c.args.self.now.words in let bare = c.is_bare_to.ensures.bare c.if-is_bare_to.true in let low = slice_index c.args.lows.now c.args.part in let w = view_of c.is_bare_to.new.seat in
     let e = c.requires.first.0 in
     let inside = lows_inside l c.args.lows.now c.args.stage (view_of c.args.seat.now) c.requires.steady.pass.1 c.requires.steady.known c.requires.remembers c.args.part in
     dite (dec_le (low + 1) l.rows)
@@ -52,5 +52,5 @@ returns-then-is_bare_to-clause-rests c = let l : Limits = limits_of c.args.self.
     (λ all. inl (omega arith))
 
 pub returns-clause-rests : goal.returns-clause-rests
-returns-clause-rests c = let l : Limits = limits_of c.args.self.now.words in let w = found_walked l c.args.stage c.args.unit _ (c.args.part * l.rows) _ (view_of c.is_bare_to.new.seat) (view_of c.scan_from_mark.new.seat) c.scan_from_mark.result c.scan_from_mark.ensures.told in
+returns-clause-rests c = let l : Limits = table_limits c.args.self.now.words in let w = found_walked l c.args.stage c.args.unit _ (c.args.part * l.rows) _ (view_of c.is_bare_to.new.seat) (view_of c.scan_from_mark.new.seat) c.scan_from_mark.result c.scan_from_mark.ensures.told in
     rests_before l 1 _ _ w.0 (view_of c.args.seat.now) (view_of c.is_bare_to.new.seat) (view_of c.scan_from_mark.new.seat) (c.is_bare_to.ensures.more c.if-is_bare_to.false).walk w.1 c.args.stage c.args.part _ c.scan_from_mark.ensures.rests

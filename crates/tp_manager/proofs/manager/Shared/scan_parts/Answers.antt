@@ -1,6 +1,6 @@
 use Rattle.std.proofs.Common.{suc, ◌≡◌, ◌+◌, ◌-◌, ◌*◌, ◌<◌, slice_index, sym, ◌∙◌, refl, ap, inl, arith, rules, subst, mul-le-mul_right, suc-mul}
 use Rattle.tp_model.specs.declared.types.Limits.{Limits}
-use Rattle.tp_rule.specs.Tables.{limits_of}
+use Rattle.tp_rule.specs.Tables.{table_limits}
 use Rattle.tp_rule.specs.Views.{view_of}
 use Rattle.tp_manager.specs.Bounds.{scan_steps, try_steps}
 use Rattle.tp_manager.specs.Walks.{EachRow, OfPart, PassedBy, Sought, Took}
@@ -21,7 +21,7 @@ pub scan_part-requires-clause-first : goal.scan_part-requires-clause-first
 scan_part-requires-clause-first c = (c.loop-part.invariant.begins ∙ ap (λ (z : Limits). c.loop-part.part * z.rows) (sym c.args.self.now.same), ap (λ (z : Limits). z.rows) (sym c.args.self.now.same))
 
 pub scan_part-requires-clause-done : goal.scan_part-requires-clause-done
-scan_part-requires-clause-done c = let l : Limits = limits_of c.args.self.now.words in let s = try_steps in let n = c.loop-part.part in
+scan_part-requires-clause-done c = let l : Limits = table_limits c.args.self.now.words in let s = try_steps in let n = c.loop-part.part in
     let gone = begun_looked l (OfPart l (PassedBy l c.args.stage)) (part_widens l (PassedBy l c.args.stage) (passed_widens l c.args.stage)) (scan_steps l s 3 c.args.lows.now n) c.first_open-begin.result n _ _ c.loop-part.invariant.begun c.requires.steady in
     done_walked l _ gone.marks _ _ c.args.done c.requires.steady.pass.1 gone.walk c.requires.done
 
@@ -42,7 +42,7 @@ pub returns-in-Some-clause-lows : goal.returns-in-Some-clause-lows
 returns-in-Some-clause-lows c = rises_then c.args.lows.now c.loop-part.lows c.scan_part.new.lows c.loop-part.invariant.rises c.scan_part.ensures.lows.0
 
 pub returns-in-Some-clause-told : goal.returns-in-Some-clause-told
-returns-in-Some-clause-told c = let l : Limits = limits_of c.args.self.now.words in let s = try_steps in let P = PassedBy l c.args.stage in let n = c.loop-part.part in let i = c.loop-part.invariant in let lows = c.args.lows.now in
+returns-in-Some-clause-told c = let l : Limits = table_limits c.args.self.now.words in let s = try_steps in let P = PassedBy l c.args.stage in let n = c.loop-part.part in let i = c.loop-part.invariant in let lows = c.args.lows.now in
     let less : n < l.parts = subst (λ (z : Limits). n < z.parts) (sym c.args.self.now.same) c.loop-part-test.true in let t = c.in-Some.taken in let first = c.first_open-begin.result in
     let next = scan_next l lows s 3 n in let all = scan_rises l lows s 3 (n + 1) l.parts (omega arith) in (
       took_few l c.args.stage c.args.unit t.attempt t.element (scan_steps l s 3 lows n + (3 + (l.rows - slice_index lows n) * s)) (scan_steps l s 3 lows l.parts) 0 _ _ (omega arith)
@@ -54,23 +54,23 @@ returns-in-Some-clause-told c = let l : Limits = limits_of c.args.self.now.words
     )
 
 pub returns-in-Some-clause-rests : goal.returns-in-Some-clause-rests
-returns-in-Some-clause-rests c = λ p inside came. let l : Limits = limits_of c.args.self.now.words in let n = c.loop-part.part in let i = c.loop-part.invariant in let first = c.first_open-begin.result in let from = i.from in
+returns-in-Some-clause-rests c = λ p inside came. let l : Limits = table_limits c.args.self.now.words in let n = c.loop-part.part in let i = c.loop-part.invariant in let first = c.first_open-begin.result in let from = i.from in
     let near = part_before l.rows p n c.in-Some.taken.element.id c.in-Some.ensures.inside came in
     dite (dec_le first p)
     (λ past. parts_on l c.args.stage first n _ _ (OfPart l (PassedBy l c.args.stage)) _ c.loop-part.lows c.scan_part.new.lows _ _ _ i.begun c.in-Some.ensures.told.0.walk i.rests c.scan_part.ensures.rests c.scan_part.ensures.lows.1 p past near)
     (λ not. inl (c.scan_part.ensures.lows.1 p (λ is. absurd (omega arith)) ∙ i.done p (omega arith)))
 
 pub returns-clause-rests : goal.returns-clause-rests
-returns-clause-rests c = λ p inside came. let l : Limits = limits_of c.args.self.now.words in let i = c.loop-part.invariant in let first = c.first_open-begin.result in
+returns-clause-rests c = λ p inside came. let l : Limits = table_limits c.args.self.now.words in let i = c.loop-part.invariant in let first = c.first_open-begin.result in
     let count : l.parts ≡ c.args.self.now.places.limits.parts = ap (λ (z : Limits). z.parts) c.args.self.now.same in let past = c.loop-part-test.false in
     dite (dec_le first p) (λ low. i.rests p low (omega arith)) (λ not. inl (i.done p (omega arith)))
 
 pub returns-in-Some-clause-inside : goal.returns-in-Some-clause-inside
-returns-in-Some-clause-inside c = let l : Limits = limits_of c.args.self.now.words in let n = c.loop-part.part in
+returns-in-Some-clause-inside c = let l : Limits = table_limits c.args.self.now.words in let n = c.loop-part.part in
     let less : n < l.parts = subst (λ (z : Limits). n < z.parts) (sym c.args.self.now.same) c.loop-part-test.true in let all = rows_more n l.parts l.rows less in let id = c.in-Some.ensures.inside in omega arith
 
 pub loop-part-preserved : goal.loop-part-preserved
-loop-part-preserved c = let l : Limits = limits_of c.args.self.now.words in let P = PassedBy l c.args.stage in let n = c.loop-part.part in let s = try_steps in let W = part_widens l P (passed_widens l c.args.stage) in let i = c.loop-part.invariant in let lows = c.args.lows.now in record {
+loop-part-preserved c = let l : Limits = table_limits c.args.self.now.words in let P = PassedBy l c.args.stage in let n = c.loop-part.part in let s = try_steps in let W = part_widens l P (passed_widens l c.args.stage) in let i = c.loop-part.invariant in let lows = c.args.lows.now in record {
   same = search rules;
   remembers = c.scan_part.ensures.remembers;
   rises = rises_then lows c.loop-part.lows c.scan_part.new.lows i.rises c.scan_part.ensures.lows.0;
@@ -86,7 +86,7 @@ loop-part-preserved c = let l : Limits = limits_of c.args.self.now.words in let 
 }
 
 pub returns-clause-told : goal.returns-clause-told
-returns-clause-told c = let l : Limits = limits_of c.args.self.now.words in let s = try_steps in let P = PassedBy l c.args.stage in let n = c.loop-part.part in let i = c.loop-part.invariant in let lows = c.args.lows.now in
+returns-clause-told c = let l : Limits = table_limits c.args.self.now.words in let s = try_steps in let P = PassedBy l c.args.stage in let n = c.loop-part.part in let i = c.loop-part.invariant in let lows = c.args.lows.now in
     let count : l.parts ≡ c.args.self.now.places.limits.parts = ap (λ (z : Limits). z.parts) c.args.self.now.same in let high = c.loop-part.auto.part-end in let low = c.loop-part-test.false in
     let first = c.first_open-begin.result in let within = c.first_open-begin.ensures.part in let from = i.from in
     let all : n ≡ l.parts = omega arith in let some = c.args.self.now.words.places.valid.rows.0 in

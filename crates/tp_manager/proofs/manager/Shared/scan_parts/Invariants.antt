@@ -1,8 +1,8 @@
 use Rattle.std.proofs.Common.{◌≡◌, ◌*◌, ◌<◌, ◌≤◌, ℕ, slice_index}
-use Rattle.tp_rule.specs.Tables.{limits_of}
+use Rattle.tp_rule.specs.Tables.{table_limits}
 use Rattle.tp_rule.specs.Views.{IsSameSeat, view_of}
 use Rattle.tp_manager.specs.Bounds.{scan_steps, try_steps}
-use Rattle.tp_manager.specs.Shown.{Rises}
+use Rattle.tp_manager.specs.Shown.{NoneFalls}
 use Rattle.tp_manager.specs.Walks.{Begun, OfPart, PassedBy, Remembers, RestsAt}
 use Rattle.tp_manager.proofs.manager.Shared.scan_parts.Given as goal
 
@@ -10,11 +10,11 @@ abbrev pub invariant-loop-part : goal.invariant-loop-part
 invariant-loop-part l = record {
   same : IsSameSeat l.initial.seat l.seat;
   remembers : Remembers l.stage (view_of l.seat) l.lows;
-  rises : Rises l.initial.lows l.lows;
+  rises : NoneFalls l.initial.lows l.lows;
   from : l.begin ≤ l.part;
   begins : l.first ≡ l.part * l.rows;
   rest : (q : ℕ) → l.part ≤ q → slice_index l.lows q ≡ slice_index l.initial.lows q;
-  done : (q : ℕ) → q < l.begin → slice_index l.lows q ≡ (limits_of l.self.words).rows;
-  rests : (q : ℕ) → l.begin ≤ q → q < l.part → RestsAt (limits_of l.self.words) l.stage q (slice_index l.lows q) (view_of l.initial.seat) (view_of l.seat);
-  begun : Begun (limits_of l.self.words) (OfPart (limits_of l.self.words) (PassedBy (limits_of l.self.words) l.stage)) (scan_steps (limits_of l.self.words) try_steps 3 l.initial.lows l.part) l.begin l.part (view_of l.initial.seat) (view_of l.seat);
+  done : (q : ℕ) → q < l.begin → slice_index l.lows q ≡ (table_limits l.self.words).rows;
+  rests : (q : ℕ) → l.begin ≤ q → q < l.part → RestsAt (table_limits l.self.words) l.stage q (slice_index l.lows q) (view_of l.initial.seat) (view_of l.seat);
+  begun : Begun (table_limits l.self.words) (OfPart (table_limits l.self.words) (PassedBy (table_limits l.self.words) l.stage)) (scan_steps (table_limits l.self.words) try_steps 3 l.initial.lows l.part) l.begin l.part (view_of l.initial.seat) (view_of l.seat);
 }

@@ -3,7 +3,7 @@ use Rattle.tp_model.specs.declared.types.Limits.{Limits}
 use Rattle.tp_model.specs.declared.trace.TraceEntry.{TraceEntry}
 use Rattle.tp_model.specs.Steps.{IsRowOf}
 use Rattle.tp_model.proofs.Bridges.{begins_refl}
-use Rattle.tp_rule.specs.Tables.{limits_of}
+use Rattle.tp_rule.specs.Tables.{table_limits}
 use Rattle.tp_rule.specs.Views.{seen_by, view_of}
 use Rattle.tp_rule.specs.declared.view.Known.TheVariants.{PartMark}
 use Rattle.tp_manager.specs.Bounds.{try_steps}
@@ -21,10 +21,10 @@ use Rattle.tp_manager.proofs.manager.Shared.scan_span_from_mark.Goals as goal
 use Rattle.tp_manager.proofs.manager.Shared.scan_span_from_mark.Goals.{After-later-begin, After-loop-row, After-low_at-mark, After-try_row}
 
 -- where the part begins
-first : (c : After-low_at-mark) → c.args.part * (limits_of c.args.self.now.words).rows ≡ c.args.part * c.args.self.now.places.limits.rows
+first : (c : After-low_at-mark) → c.args.part * (table_limits c.args.self.now.words).rows ≡ c.args.part * c.args.self.now.places.limits.rows
 first c = ap (λ (z : Limits). c.args.part * z.rows) c.args.self.now.same
 
-wide : (c : After-low_at-mark) → (limits_of c.args.self.now.words).rows ≡ c.args.self.now.places.limits.rows
+wide : (c : After-low_at-mark) → (table_limits c.args.self.now.words).rows ≡ c.args.self.now.places.limits.rows
 wide c = ap (λ (z : Limits). z.rows) c.args.self.now.same
 
 abbrev marked : (c : After-later-begin) → ℕ
@@ -37,7 +37,7 @@ still_done c = done_walked _ 1 _ _ _ c.args.done c.requires.steady.pass.1 c.low_
 -- what is known finished ends at the mark, or one row behind it
 knows : (c : After-later-begin) → (marked c ≤ c.past_done-known.result) × (c.past_done-known.result ≤ marked c + 1) × (c.past_done-known.result ≤ c.args.part * c.args.self.now.places.limits.rows + c.args.self.now.places.limits.rows)
 knows c = let inside = c.low_at-mark.ensures.low.0 in let w = ap (λ (z : Limits). z.rows) c.args.self.now.same in
-    past_near (limits_of c.args.self.now.words) c.past_done-known.result (marked c) _ c.args.done (omega arith) c.past_done-known.ensures
+    past_near (table_limits c.args.self.now.words) c.past_done-known.result (marked c) _ c.args.done (omega arith) c.past_done-known.ensures
 
 -- the scan begins there, or at its first row
 abbrev IsLater : ℕ → ℕ → ℕ → Type 0
@@ -52,28 +52,28 @@ begins c = let n = later_near c.later-begin.result c.past_done-known.result c.ar
     (n.0, n.1, n.2 _ k (omega arith))
 
 -- the rows of the span before the first that is looked at are over
-under : (c : After-later-begin) (j : ℕ) → c.args.from ≤ j → j < c.later-begin.result → PassedBy (limits_of c.args.self.now.words) c.args.stage j (seen_by c.low_at-mark.new.seat) (seen_by c.low_at-mark.new.seat)
-under c j from_on below = let l : Limits = limits_of c.args.self.now.words in let e = ap (λ (z : Limits). c.args.part * z.rows) c.args.self.now.same in let low = c.requires.span.0 in
+under : (c : After-later-begin) (j : ℕ) → c.args.from ≤ j → j < c.later-begin.result → PassedBy (table_limits c.args.self.now.words) c.args.stage j (seen_by c.low_at-mark.new.seat) (seen_by c.low_at-mark.new.seat)
+under c j from_on below = let l : Limits = table_limits c.args.self.now.words in let e = ap (λ (z : Limits). c.args.part * z.rows) c.args.self.now.same in let low = c.requires.span.0 in
     let less : j < c.past_done-known.result = ⊎_elim (λ t. (let r = t.0 in omega arith)) (λ t. absurd (let r = t.0 in omega arith)) c.later-begin.ensures in
     dite (dec_le (marked c) j)
     (λ past. done_passed l c.args.stage (view_of c.low_at-mark.new.seat) c.past_done-known.result (marked c) _ c.args.done c.low_at-mark.ensures.acted.walk.steady.pass.1 (still_done c) c.past_done-known.ensures j past less)
     (λ not. over_passed l c.args.stage (seen_by c.low_at-mark.new.seat) c.args.part (slice_index c.low_at-mark.new.lows c.args.part) j c.requires.stage.0 c.low_at-mark.ensures.low.1 (omega arith) (omega arith))
 
 -- the row is of the part, and so is what comes next, but for the part's end
-near : (c : After-try_row) → IsRowOf (limits_of c.args.self.now.words) c.args.part c.loop-row.row × (c.try_row.new.row ≤ c.args.part * (limits_of c.args.self.now.words).rows + (limits_of c.args.self.now.words).rows)
-near c = let l : Limits = limits_of c.args.self.now.words in let i = c.loop-row.invariant in let low = i.from in let less = c.loop-row-test.true in
+near : (c : After-try_row) → IsRowOf (table_limits c.args.self.now.words) c.args.part c.loop-row.row × (c.try_row.new.row ≤ c.args.part * (table_limits c.args.self.now.words).rows + (table_limits c.args.self.now.words).rows)
+near c = let l : Limits = table_limits c.args.self.now.words in let i = c.loop-row.invariant in let low = i.from in let less = c.loop-row-test.true in
     let from_on = (later_near c.later-begin.result c.past_done-known.result c.args.from c.later-begin.ensures).1 in let span = c.requires.span in let a = span.0 in let b = span.2 in
     let own : IsRowOf l c.args.part c.loop-row.row = (c.requires.part, omega arith, omega arith) in (own, part_on l c.loop-row.row c.try_row.new.row c.args.part c.try_row.ensures.on own)
 
 -- the steps from the mark up to the row
-since : (c : After-try_row) → Looked (limits_of c.args.self.now.words) (c.loop-row.invariant.begun.0 * try_steps) (view_of c.low_at-mark.new.seat) (view_of c.loop-row.seat)
-since c = let l : Limits = limits_of c.args.self.now.words in
+since : (c : After-try_row) → Looked (table_limits c.args.self.now.words) (c.loop-row.invariant.begun.0 * try_steps) (view_of c.low_at-mark.new.seat) (view_of c.loop-row.seat)
+since c = let l : Limits = table_limits c.args.self.now.words in
     begun_looked l (PassedBy l c.args.stage) (passed_widens l c.args.stage) _ _ c.loop-row.row _ _ c.loop-row.invariant.begun.3 c.low_at-mark.ensures.acted.walk.steady
 
 -- what is known finished after one more row
-rose : (c : After-try_row) (n : ℕ) (ms : List TraceEntry) → Walked (limits_of c.args.self.now.words) n ms (view_of c.loop-row.seat) (view_of c.try_row.new.seat)
+rose : (c : After-try_row) (n : ℕ) (ms : List TraceEntry) → Walked (table_limits c.args.self.now.words) n ms (view_of c.loop-row.seat) (view_of c.try_row.new.seat)
     → Rose c.args.stage (view_of c.try_row.new.seat) (c.args.part * c.args.self.now.places.limits.rows + c.low_at-mark.result) c.try_row.new.low
-rose c n ms a = let l : Limits = limits_of c.args.self.now.words in let v = view_of c.loop-row.seat in
+rose c n ms a = let l : Limits = table_limits c.args.self.now.words in let v = view_of c.loop-row.seat in
     rose_then l c.args.stage v (view_of c.try_row.new.seat) _ c.loop-row.low c.try_row.new.low (goes_walked l n ms v _ (since c).walk.steady.pass.1 a) c.loop-row.invariant.rose c.try_row.ensures.low.1
 
 -- the mark that was found is no more than what is remembered
@@ -81,9 +81,9 @@ found : (c : After-low_at-mark) → c.low_at-mark.result ≤ slice_index c.low_a
 found c = let up = c.low_at-mark.ensures.rose.0 in omega arith
 
 -- which is no row behind what is known of no use
-under_low : (c : After-later-begin) (lows : List ℕ) (low : ℕ) → lows ≡ c.low_at-mark.new.lows → c.past_done-known.result ≤ low → c.args.part * (limits_of c.args.self.now.words).rows + slice_index lows c.args.part ≤ low
+under_low : (c : After-later-begin) (lows : List ℕ) (low : ℕ) → lows ≡ c.low_at-mark.new.lows → c.past_done-known.result ≤ low → c.args.part * (table_limits c.args.self.now.words).rows + slice_index lows c.args.part ≤ low
 under_low c lows low same up = let behind = (knows c).0 in let e = ap (λ (z : Limits). c.args.part * z.rows) c.args.self.now.same in
-    subst (λ z. c.args.part * (limits_of c.args.self.now.words).rows + slice_index z c.args.part ≤ low) (sym same) (omega arith)
+    subst (λ z. c.args.part * (table_limits c.args.self.now.words).rows + slice_index z c.args.part ≤ low) (sym same) (omega arith)
 
 more : (c : After-try_row) → c.past_done-known.result ≤ c.try_row.new.low
 more c = let up = c.loop-row.invariant.above in let on = c.try_row.ensures.low.1.0 in omega arith
@@ -93,7 +93,7 @@ raise_low-requires-clause-mark c = let at = goal.at.raise_low-requires-clause-ma
     (c.in-Some.ensures.told.0.walk.knows known ((since at.After-try_row).walk.knows known c.low_at-mark.ensures.knows), subst (λ lows. c.low_at-mark.result ≤ slice_index lows c.args.part) (sym c.loop-row.invariant.lows) (found at.After-low_at-mark))
 
 pub raise_low-requires-clause-low : goal.raise_low-requires-clause-low
-raise_low-requires-clause-low c = let l : Limits = limits_of c.args.self.now.words in let at = (goal.at.raise_low-requires-clause-low c).After-try_row in let t = c.in-Some.ensures.told.0 in
+raise_low-requires-clause-low c = let l : Limits = table_limits c.args.self.now.words in let at = (goal.at.raise_low-requires-clause-low c).After-try_row in let t = c.in-Some.ensures.told.0 in
     let on = (near at).1 in let low = c.try_row.ensures.low.0 in (
       omega arith,
       under_low (goal.at.raise_low-requires-clause-low c).After-later-begin c.loop-row.lows c.try_row.new.low c.loop-row.invariant.lows (more at),
@@ -106,7 +106,7 @@ raise_low-requires-clause-remembers c = let at = (goal.at.raise_low-requires-cla
     subst (Remembers c.args.stage (view_of c.try_row.new.seat)) (sym c.loop-row.invariant.lows) (remembers_kind c.args.stage c.low_at-mark.new.lows _ _ _ _ _ c.in-Some.ensures.told.0.walk (remembers_kind c.args.stage c.low_at-mark.new.lows _ _ _ _ _ (since at).walk c.low_at-mark.ensures.remembers))
 
 pub returns-in-Some-clause-told : goal.returns-in-Some-clause-told
-returns-in-Some-clause-told c = let l : Limits = limits_of c.args.self.now.words in let s = try_steps in let at = goal.at.returns-in-Some-clause-told c in let b = c.loop-row.invariant.begun in let k : ℕ = b.0 in let x = b.1 in let start = c.loop-row.invariant.from in
+returns-in-Some-clause-told c = let l : Limits = table_limits c.args.self.now.words in let s = try_steps in let at = goal.at.returns-in-Some-clause-told c in let b = c.loop-row.invariant.begun in let k : ℕ = b.0 in let x = b.1 in let start = c.loop-row.invariant.from in
     let near_from = begins at.After-later-begin in let from_on = near_from.1 in let less = c.loop-row-test.true in
     let room : k * s + s ≤ (c.args.to - c.args.from) * s = rows_more k (c.args.to - c.args.from) s (omega arith) in let t = c.in-Some.taken in (
       took_few l c.args.stage c.args.unit t.attempt t.element ((1 + (k * s + s)) + 1) (2 + (c.args.to - c.args.from) * s) c.args.from _ _ (omega arith)
@@ -124,14 +124,14 @@ loop-row-init c = let at = (goal.at.loop-row-init c).After-later-begin in let b 
   inside = b.2;
   above = omega arith;
   low = b.0;
-  rose = rose_both (limits_of c.args.self.now.words) c.args.stage (view_of c.low_at-mark.new.seat) _ (marked at) _
+  rose = rose_both (table_limits c.args.self.now.words) c.args.stage (view_of c.low_at-mark.new.seat) _ (marked at) _
       (subst (λ z. Rose c.args.stage (view_of c.low_at-mark.new.seat) (z + c.low_at-mark.result) (z + slice_index c.low_at-mark.new.lows c.args.part)) (ap (λ (z : Limits). c.args.part * z.rows) c.args.self.now.same) c.low_at-mark.ensures.rose)
-      (rose_past (limits_of c.args.self.now.words) (view_of c.low_at-mark.new.seat) c.past_done-known.result (marked at) _ c.args.done (still_done at) c.past_done-known.ensures k.0 c.args.stage);
+      (rose_past (table_limits c.args.self.now.words) (view_of c.low_at-mark.new.seat) c.past_done-known.result (marked at) _ c.args.done (still_done at) c.past_done-known.ensures k.0 c.args.stage);
   begun = (0, omega arith, omega arith, inl (refl, refl));
 }
 
 pub loop-row-preserved : goal.loop-row-preserved
-loop-row-preserved c = let l : Limits = limits_of c.args.self.now.words in let at = goal.at.loop-row-preserved c in let t = c.in_default.ensures.told in let i = c.loop-row.invariant in let on = c.try_row.ensures.on.on in let n = near at.After-try_row in
+loop-row-preserved c = let l : Limits = table_limits c.args.self.now.words in let at = goal.at.loop-row-preserved c in let t = c.in_default.ensures.told in let i = c.loop-row.invariant in let on = c.try_row.ensures.on.on in let n = near at.After-try_row in
     let s = try_steps in let P = PassedBy l c.args.stage in let F : ℕ = c.later-begin.result in let b = i.begun in let k : ℕ = b.0 in let x = b.1 in
     let start = i.from in let e = first at.After-low_at-mark in let w = wide at.After-low_at-mark in let top = n.1 in let less = c.loop-row-test.true in record {
       same = search rules;
@@ -150,8 +150,8 @@ loop-row-preserved c = let l : Limits = limits_of c.args.self.now.words in let a
     }
 
 -- the steps from the mark to the end of the rows
-all_since : (c : After-loop-row) → Looked (limits_of c.args.self.now.words) (c.loop-row.invariant.begun.0 * try_steps) (view_of c.low_at-mark.new.seat) (view_of c.loop-row.seat)
-all_since c = let l : Limits = limits_of c.args.self.now.words in
+all_since : (c : After-loop-row) → Looked (table_limits c.args.self.now.words) (c.loop-row.invariant.begun.0 * try_steps) (view_of c.low_at-mark.new.seat) (view_of c.loop-row.seat)
+all_since c = let l : Limits = table_limits c.args.self.now.words in
     begun_looked l (PassedBy l c.args.stage) (passed_widens l c.args.stage) _ _ c.loop-row.row _ _ c.loop-row.invariant.begun.3 c.low_at-mark.ensures.acted.walk.steady
 
 pub raise_low-requires-2-clause-mark : goal.raise_low-requires-2-clause-mark
@@ -169,7 +169,7 @@ raise_low-requires-2-clause-low c = let at = (goal.at.raise_low-requires-2-claus
 )
 
 pub returns-clause-told : goal.returns-clause-told
-returns-clause-told c = let l : Limits = limits_of c.args.self.now.words in let s = try_steps in let at = goal.at.returns-clause-told c in let i = c.loop-row.invariant in let b = i.begun in let k : ℕ = b.0 in let most = b.2 in
+returns-clause-told c = let l : Limits = table_limits c.args.self.now.words in let s = try_steps in let at = goal.at.returns-clause-told c in let i = c.loop-row.invariant in let b = i.begun in let k : ℕ = b.0 in let most = b.2 in
     let past = c.loop-row-test.false in let from_on = (begins at.After-later-begin).1 in
     let P = PassedBy l c.args.stage in let F : ℕ = c.later-begin.result in
     let few : k * s ≤ (c.args.to - c.args.from) * s = mul-le-mul_right s (omega arith) in
@@ -178,11 +178,11 @@ returns-clause-told c = let l : Limits = limits_of c.args.self.now.words in let 
     (sought_then l (1 + k * s) 1 (EachRow P c.args.from c.args.to) _ _ _ (λ a b g later each j p q. passed_widens l c.args.stage j a a b g (begins_refl a) later (each j p q)) sought c.raise_low-2.ensures.looked)
 
 -- what was remembered of the mark, and the rows from there on
-above : (c : After-later-begin) → c.args.part * (limits_of c.args.self.now.words).rows + slice_index c.args.lows.now c.args.part ≤ c.later-begin.result
+above : (c : After-later-begin) → c.args.part * (table_limits c.args.self.now.words).rows + slice_index c.args.lows.now c.args.part ≤ c.later-begin.result
 above c = let up = c.low_at-mark.ensures.lows.0 c.args.part in let k = (knows c).0 in let b = (begins c).0 in let e = ap (λ (z : Limits). c.args.part * z.rows) c.args.self.now.same in omega arith
 
 pub returns-in-Some-clause-few : goal.returns-in-Some-clause-few
-returns-in-Some-clause-few c = let l : Limits = limits_of c.args.self.now.words in let s = try_steps in let at = goal.at.returns-in-Some-clause-few c in let b = c.loop-row.invariant.begun in let k : ℕ = b.0 in let x = b.1 in
+returns-in-Some-clause-few c = let l : Limits = table_limits c.args.self.now.words in let s = try_steps in let at = goal.at.returns-in-Some-clause-few c in let b = c.loop-row.invariant.begun in let k : ℕ = b.0 in let x = b.1 in
     let up = above at.After-later-begin in let less = c.loop-row-test.true in let top = c.requires.span.2 in let start = c.loop-row.invariant.from in
     let room : k * s + s ≤ (l.rows - slice_index c.args.lows.now c.args.part) * s = rows_more k (l.rows - slice_index c.args.lows.now c.args.part) s (omega arith) in
     let v = view_of c.args.seat.now in let w = view_of c.low_at-mark.new.seat in let y = view_of c.loop-row.seat in let z = view_of c.try_row.new.seat in
@@ -191,7 +191,7 @@ returns-in-Some-clause-few c = let l : Limits = limits_of c.args.self.now.words 
     (made_then s 1 y z (view_of c.raise_low.new.seat) (made l s _ y z c.in-Some.ensures.told.0.walk) (made l 1 _ z (view_of c.raise_low.new.seat) c.raise_low.ensures.looked.walk)))
 
 pub returns-clause-few : goal.returns-clause-few
-returns-clause-few c = let l : Limits = limits_of c.args.self.now.words in let s = try_steps in let at = goal.at.returns-clause-few c in let b = c.loop-row.invariant.begun in let k : ℕ = b.0 in let most = b.2 in
+returns-clause-few c = let l : Limits = table_limits c.args.self.now.words in let s = try_steps in let at = goal.at.returns-clause-few c in let b = c.loop-row.invariant.begun in let k : ℕ = b.0 in let most = b.2 in
     let up = above at.After-later-begin in let top = c.requires.span.2 in
     let few : k * s ≤ (l.rows - slice_index c.args.lows.now c.args.part) * s = mul-le-mul_right s (omega arith) in
     let v = view_of c.args.seat.now in let w = view_of c.low_at-mark.new.seat in let y = view_of c.loop-row.seat in

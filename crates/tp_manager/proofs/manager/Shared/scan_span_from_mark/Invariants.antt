@@ -1,5 +1,5 @@
 use Rattle.std.proofs.Common.{◌≡◌, ℕ, ◌-◌, ◌+◌, ◌*◌, ◌≤◌}
-use Rattle.tp_rule.specs.Tables.{limits_of}
+use Rattle.tp_rule.specs.Tables.{table_limits}
 use Rattle.tp_rule.specs.Views.{IsSameSeat, view_of}
 use Rattle.tp_manager.specs.Bounds.{try_steps}
 use Rattle.tp_manager.specs.Walks.{Begun, PassedBy, Rose}
@@ -14,7 +14,7 @@ invariant-loop-row l = record {
   above : l.known ≤ l.low;
   low : l.low ≤ l.row;
   rose : Rose l.stage (view_of l.seat) (l.first + l.mark) l.low;
-  begun : (k : ℕ) × (k ≤ l.row - l.begin) × (k ≤ l.to - l.begin) × Begun (limits_of l.self.words) (PassedBy (limits_of l.self.words) l.stage) (k * try_steps) l.begin l.row (view_of l.initial.seat) (view_of l.seat);
+  begun : (k : ℕ) × (k ≤ l.row - l.begin) × (k ≤ l.to - l.begin) × Begun (table_limits l.self.words) (PassedBy (table_limits l.self.words) l.stage) (k * try_steps) l.begin l.row (view_of l.initial.seat) (view_of l.seat);
 }
 
 abbrev pub decreases-loop-row : goal.decreases-loop-row

@@ -1,10 +1,10 @@
 use Rattle.std.proofs.Common.{◌≡◌, ◌⊎◌, ◌+◌, ◌-◌, ◌*◌, ◌<◌, ◌≤◌, ℕ, List, slice_index, sym, ◌∙◌, ap, ⊎_elim, arith, subst, suc-mul, mul-le-mul_right}
 use Rattle.tp_model.specs.declared.types.Limits.{Limits}
-use Rattle.tp_rule.specs.Tables.{limits_of}
+use Rattle.tp_rule.specs.Tables.{table_limits}
 use Rattle.tp_rule.specs.Views.{SeatShown, view_of}
 use Rattle.tp_manager.specs.Bounds.{scan_steps, try_steps}
-use Rattle.tp_manager.specs.Shown.{Rises}
-use Rattle.tp_manager.specs.Walks.{Begun, Makes, PassedBy, Remembers}
+use Rattle.tp_manager.specs.Shown.{NoneFalls}
+use Rattle.tp_manager.specs.Walks.{Begun, StepsTo, PassedBy, Remembers}
 use Rattle.tp_manager.proofs.Circles.{split_rows}
 use Rattle.tp_manager.proofs.Lows.{rises_then, scan_next, scan_rises}
 use Rattle.tp_manager.proofs.Makes.{made_few, made_then}
@@ -26,12 +26,12 @@ more : (p n from row end to s : ℕ) → p < n → from ≤ row → row ≤ end 
 more p n from row end to s less a b d = let e = split_rows from row end s a b in let f : (end - from) * s ≤ (to - from) * s = mul-le-mul_right s (omega arith) in omega arith
 
 pub scan_span-requires-clause-done : goal.scan_span-requires-clause-done
-scan_span-requires-clause-done c = let l : Limits = limits_of c.args.self.now.words in
+scan_span-requires-clause-done c = let l : Limits = table_limits c.args.self.now.words in
     let gone = begun_looked l (PassedBy l c.args.stage) (passed_widens l c.args.stage) _ _ _ _ _ c.loop-part.invariant.begun c.requires.steady in
     done_walked l _ gone.marks _ _ c.args.done c.requires.steady.pass.1 gone.walk c.requires.done
 
 pub returns-in-Some-clause-told : goal.returns-in-Some-clause-told
-returns-in-Some-clause-told c = let l : Limits = limits_of c.args.self.now.words in let i = c.loop-part.invariant in let s = try_steps in let n = c.loop-part.part in let t = c.in-Some.taken in let end = c.earlier-end.result in
+returns-in-Some-clause-told c = let l : Limits = table_limits c.args.self.now.words in let i = c.loop-part.invariant in let s = try_steps in let n = c.loop-part.part in let t = c.in-Some.taken in let end = c.earlier-end.result in
     let less : n < l.parts = subst (λ (z : Limits). n < z.parts) (sym c.args.self.now.same) c.loop-part-test.true in let row = c.loop-part.row in let before = c.if-row-end.true in
     let top = ends end _ c.args.to c.earlier-end.ensures in (
       took_few l c.args.stage c.args.unit t.attempt t.element (3 * n + (row - c.args.from) * s + (3 + (end - row) * s)) (3 * l.parts + (c.args.to - c.args.from) * s) c.args.from _ _ (more n l.parts c.args.from row end c.args.to s less i.from (omega arith) top.1)
@@ -40,7 +40,7 @@ returns-in-Some-clause-told c = let l : Limits = limits_of c.args.self.now.words
     )
 
 pub loop-part-preserved : goal.loop-part-preserved
-loop-part-preserved c = let l : Limits = limits_of c.args.self.now.words in let i = c.loop-part.invariant in let n = c.loop-part.part in let s = try_steps in let P = PassedBy l c.args.stage in let W = passed_widens l c.args.stage in let lows = c.args.lows.now in
+loop-part-preserved c = let l : Limits = table_limits c.args.self.now.words in let i = c.loop-part.invariant in let n = c.loop-part.part in let s = try_steps in let P = PassedBy l c.args.stage in let W = passed_widens l c.args.stage in let lows = c.args.lows.now in
     let from_on = i.from in let reach = i.reach in let inside = i.inside in let end = c.earlier-end.result in let row = c.loop-part.row in
     let next = suc-mul n c.args.self.now.places.limits.rows in let top = ends end _ c.args.to c.earlier-end.ensures in let a = top.0 in let b = top.1 in let d = top.2 in
     let rest : (n + 1) * c.args.self.now.places.limits.rows ≡ n * c.args.self.now.places.limits.rows + c.args.self.now.places.limits.rows = omega arith in
@@ -52,12 +52,12 @@ loop-part-preserved c = let l : Limits = limits_of c.args.self.now.words in let 
             inside = omega arith;
             same = ap (λ (z : SeatShown). z.table) w.seat-is ∙ (found.same ∙ i.same);
             remembers = subst (λ (z : SeatShown × List ℕ). Remembers c.args.stage (view_of z.0) z.1) (λ j. (sym w.seat-is j, sym w.lows-is j)) found.remembers;
-            rises = subst (Rises lows) (sym w.lows-is) (rises_then lows c.loop-part.lows _ i.rises found.lows.0);
+            rises = subst (NoneFalls lows) (sym w.lows-is) (rises_then lows c.loop-part.lows _ i.rises found.lows.0);
             rest = λ q low. subst (λ z. slice_index z q ≡ slice_index lows q) (sym w.lows-is) (found.lows.1 q (λ is. absurd (omega arith)) ∙ i.rest q (omega arith));
-            few = subst (λ (z : SeatShown). Makes (scan_steps l s 3 lows (n + 1)) (view_of c.args.seat.now) (view_of z)) (sym w.seat-is)
+            few = subst (λ (z : SeatShown). StepsTo (scan_steps l s 3 lows (n + 1)) (view_of c.args.seat.now) (view_of z)) (sym w.seat-is)
                 (made_few (scan_steps l s 3 lows n + (3 + (l.rows - slice_index lows n) * s)) (scan_steps l s 3 lows (n + 1)) (view_of c.args.seat.now) (view_of w.scan_span.new.seat) (scan_next l lows s 3 n)
                 (made_then (scan_steps l s 3 lows n) (3 + (l.rows - slice_index lows n) * s) (view_of c.args.seat.now) (view_of c.loop-part.seat) (view_of w.scan_span.new.seat) i.few
-                (subst (λ m. Makes (3 + (l.rows - m) * s) (view_of c.loop-part.seat) (view_of w.scan_span.new.seat)) (i.rest n (omega arith)) found.few)));
+                (subst (λ m. StepsTo (3 + (l.rows - m) * s) (view_of c.loop-part.seat) (view_of w.scan_span.new.seat)) (i.rest n (omega arith)) found.few)));
             begun = subst (λ (z : ℕ × SeatShown). Begun l P (3 * (n + 1) + (z.0 - c.args.from) * s) c.args.from z.0 (view_of c.args.seat.now) (view_of z.1)) (λ j. (sym e j, sym w.seat-is j))
                 (begun_few l P W (3 * n + (row - c.args.from) * s + (3 + (end - row) * s)) c.args.from (3 * (n + 1) + (end - c.args.from) * s) end _ _ (more n (n + 1) c.args.from row end end s (omega arith) from_on (omega arith) (omega arith))
                 (begun_on l P W (3 * n + (row - c.args.from) * s) c.args.from (3 + (end - row) * s) row _ _ _ i.begun end from_on w.in_default.ensures.told));
@@ -69,9 +69,9 @@ loop-part-preserved c = let l : Limits = limits_of c.args.self.now.words in let 
             inside = omega arith;
             same = ap (λ (z : SeatShown). z.table) w.seat-is ∙ i.same;
             remembers = subst (λ (z : SeatShown × List ℕ). Remembers c.args.stage (view_of z.0) z.1) (λ j. (sym w.seat-is j, sym w.lows-is j)) i.remembers;
-            rises = subst (Rises lows) (sym w.lows-is) i.rises;
+            rises = subst (NoneFalls lows) (sym w.lows-is) i.rises;
             rest = λ q low. subst (λ z. slice_index z q ≡ slice_index lows q) (sym w.lows-is) (i.rest q (omega arith));
-            few = subst (λ (z : SeatShown). Makes (scan_steps l s 3 lows (n + 1)) (view_of c.args.seat.now) (view_of z)) (sym w.seat-is)
+            few = subst (λ (z : SeatShown). StepsTo (scan_steps l s 3 lows (n + 1)) (view_of c.args.seat.now) (view_of z)) (sym w.seat-is)
                 (made_few (scan_steps l s 3 lows n) (scan_steps l s 3 lows (n + 1)) (view_of c.args.seat.now) (view_of c.loop-part.seat) (scan_rises l lows s 3 n (n + 1) (omega arith)) i.few);
             begun = subst (λ (z : ℕ × SeatShown). Begun l P (3 * (n + 1) + (z.0 - c.args.from) * s) c.args.from z.0 (view_of c.args.seat.now) (view_of z.1)) (λ j. (sym e j, sym w.seat-is j))
                 (begun_few l P W (3 * n + (row - c.args.from) * s) c.args.from (3 * (n + 1) + (row - c.args.from) * s) row _ _ (omega arith) i.begun);
@@ -79,13 +79,13 @@ loop-part-preserved c = let l : Limits = limits_of c.args.self.now.words in let 
     ]
 
 pub returns-in-Some-clause-few : goal.returns-in-Some-clause-few
-returns-in-Some-clause-few c = let l : Limits = limits_of c.args.self.now.words in let i = c.loop-part.invariant in let s = try_steps in let n = c.loop-part.part in let lows = c.args.lows.now in
+returns-in-Some-clause-few c = let l : Limits = table_limits c.args.self.now.words in let i = c.loop-part.invariant in let s = try_steps in let n = c.loop-part.part in let lows = c.args.lows.now in
     let less : n < l.parts = subst (λ (z : Limits). n < z.parts) (sym c.args.self.now.same) c.loop-part-test.true in let next = scan_next l lows s 3 n in let all = scan_rises l lows s 3 (n + 1) l.parts (omega arith) in
     made_few (scan_steps l s 3 lows n + (3 + (l.rows - slice_index lows n) * s)) (scan_steps l s 3 lows l.parts) (view_of c.args.seat.now) (view_of c.scan_span.new.seat) (omega arith)
     (made_then (scan_steps l s 3 lows n) (3 + (l.rows - slice_index lows n) * s) (view_of c.args.seat.now) (view_of c.loop-part.seat) (view_of c.scan_span.new.seat) i.few
-    (subst (λ m. Makes (3 + (l.rows - m) * s) (view_of c.loop-part.seat) (view_of c.scan_span.new.seat)) (i.rest n (omega arith)) c.scan_span.ensures.few))
+    (subst (λ m. StepsTo (3 + (l.rows - m) * s) (view_of c.loop-part.seat) (view_of c.scan_span.new.seat)) (i.rest n (omega arith)) c.scan_span.ensures.few))
 
 pub returns-clause-few : goal.returns-clause-few
-returns-clause-few c = let l : Limits = limits_of c.args.self.now.words in let s = try_steps in let n = c.loop-part.part in let lows = c.args.lows.now in
+returns-clause-few c = let l : Limits = table_limits c.args.self.now.words in let s = try_steps in let n = c.loop-part.part in let lows = c.args.lows.now in
     let count : l.parts ≡ c.args.self.now.places.limits.parts = ap (λ (z : Limits). z.parts) c.args.self.now.same in let high = c.loop-part.auto.part-end in
     made_few (scan_steps l s 3 lows n) (scan_steps l s 3 lows l.parts) (view_of c.args.seat.now) (view_of c.loop-part.seat) (scan_rises l lows s 3 n l.parts (omega arith)) c.loop-part.invariant.few

@@ -1,9 +1,9 @@
 use Rattle.std.proofs.Common.{◌≡◌, ℕ, slice_index, ◌-◌, ◌+◌, ◌*◌, ◌≤◌}
-use Rattle.tp_rule.specs.Tables.{limits_of}
+use Rattle.tp_rule.specs.Tables.{table_limits}
 use Rattle.tp_rule.specs.Views.{IsSameSeat, view_of}
 use Rattle.tp_manager.specs.Bounds.{scan_steps, try_steps}
-use Rattle.tp_manager.specs.Shown.{Rises}
-use Rattle.tp_manager.specs.Walks.{Begun, Makes, PassedBy, Remembers}
+use Rattle.tp_manager.specs.Shown.{NoneFalls}
+use Rattle.tp_manager.specs.Walks.{Begun, StepsTo, PassedBy, Remembers}
 use Rattle.tp_manager.proofs.manager.Shared.scan_spans.Given as goal
 
 abbrev pub invariant-loop-part : goal.invariant-loop-part
@@ -14,8 +14,8 @@ invariant-loop-part l = record {
   inside : l.row ≤ l.to;
   same : IsSameSeat l.initial.seat l.seat;
   remembers : Remembers l.stage (view_of l.seat) l.lows;
-  rises : Rises l.initial.lows l.lows;
+  rises : NoneFalls l.initial.lows l.lows;
   rest : (q : ℕ) → l.part ≤ q → slice_index l.lows q ≡ slice_index l.initial.lows q;
-  few : Makes (scan_steps (limits_of l.self.words) try_steps 3 l.initial.lows l.part) (view_of l.initial.seat) (view_of l.seat);
-  begun : Begun (limits_of l.self.words) (PassedBy (limits_of l.self.words) l.stage) (3 * l.part + (l.row - l.from) * try_steps) l.from l.row (view_of l.initial.seat) (view_of l.seat);
+  few : StepsTo (scan_steps (table_limits l.self.words) try_steps 3 l.initial.lows l.part) (view_of l.initial.seat) (view_of l.seat);
+  begun : Begun (table_limits l.self.words) (PassedBy (table_limits l.self.words) l.stage) (3 * l.part + (l.row - l.from) * try_steps) l.from l.row (view_of l.initial.seat) (view_of l.seat);
 }

@@ -6,7 +6,7 @@ use Rattle.tp_model.specs.Steps.{part_rows, rows_of}
 use mathlib.Core.Logic.{dite}
 use native.Mathlib.Decide.{dec_le}
 use Rattle.tp_model.proofs.Bridges.{begins_refl}
-use Rattle.tp_rule.specs.Tables.{limits_of}
+use Rattle.tp_rule.specs.Tables.{table_limits}
 use Rattle.tp_rule.specs.Views.{seen_by, view_of}
 use Rattle.tp_manager.specs.Bounds.{try_steps}
 use Rattle.tp_manager.specs.Walks.{EachRow, Looked, PassedBy, Remembers, Rose, Walked, WasOfUse}
@@ -21,22 +21,22 @@ use Rattle.tp_rule.specs.declared.view.Known.TheVariants.{PartMark}
 use Rattle.tp_manager.proofs.manager.Shared.scan_spare.Goals as goal
 use Rattle.tp_manager.proofs.manager.Shared.scan_spare.Goals.{After-loop-row, After-low_at-mark, After-part_rows, After-try_row}
 
-abbrev parts : (c : After-low_at-mark) → c.args.self.now.places.limits.parts ≡ (limits_of c.args.self.now.words).parts
+abbrev parts : (c : After-low_at-mark) → c.args.self.now.places.limits.parts ≡ (table_limits c.args.self.now.words).parts
 parts c = ap (λ (z : Limits). z.parts) (sym c.args.self.now.same)
 
 -- where the spare rows begin
-start : (c : After-part_rows) → c.args.self.now.places.limits.parts * (limits_of c.args.self.now.words).rows ≡ c.part_rows.result
+start : (c : After-part_rows) → c.args.self.now.places.limits.parts * (table_limits c.args.self.now.words).rows ≡ c.part_rows.result
 start c = ap (λ (z : Limits). c.args.self.now.places.limits.parts * z.rows) c.args.self.now.same ∙ sym c.part_rows.ensures
 
-front : (c : After-part_rows) → part_rows (limits_of c.args.self.now.words) ≡ c.part_rows.result
+front : (c : After-part_rows) → part_rows (table_limits c.args.self.now.words) ≡ c.part_rows.result
 front c = ap part_rows c.args.self.now.same ∙ sym c.part_rows.ensures
 
 -- what is remembered of the mark is among them
-inside : (c : After-low_at-mark) → slice_index c.low_at-mark.new.lows c.args.self.now.places.limits.parts ≤ BLOCK_ROWS * (limits_of c.args.self.now.words).spare
+inside : (c : After-low_at-mark) → slice_index c.low_at-mark.new.lows c.args.self.now.places.limits.parts ≤ BLOCK_ROWS * (table_limits c.args.self.now.words).spare
 inside c = c.low_at-mark.ensures.low.0.1 (parts c)
 
 -- the pass remembered no more than it does now
-above : (c : After-low_at-mark) → slice_index c.args.lows.now (limits_of c.args.self.now.words).parts ≤ slice_index c.low_at-mark.new.lows c.args.self.now.places.limits.parts
+above : (c : After-low_at-mark) → slice_index c.args.lows.now (table_limits c.args.self.now.words).parts ≤ slice_index c.low_at-mark.new.lows c.args.self.now.places.limits.parts
 above c = subst (λ p. slice_index c.args.lows.now p ≤ slice_index c.low_at-mark.new.lows c.args.self.now.places.limits.parts) (parts c) (c.low_at-mark.ensures.lows.0 c.args.self.now.places.limits.parts)
 
 -- nor less than the mark that was found
@@ -45,44 +45,44 @@ found c = let up = c.low_at-mark.ensures.rose.0 in omega arith
 
 -- the scan began no row before it
 under_low : (c : After-part_rows) (lows : List ℕ) (low : ℕ) → lows ≡ c.low_at-mark.new.lows → c.part_rows.result + slice_index c.low_at-mark.new.lows c.args.self.now.places.limits.parts ≤ low
-    → c.args.self.now.places.limits.parts * (limits_of c.args.self.now.words).rows + slice_index lows c.args.self.now.places.limits.parts ≤ low
-under_low c lows low same up = let e = start c in subst (λ z. c.args.self.now.places.limits.parts * (limits_of c.args.self.now.words).rows + slice_index z c.args.self.now.places.limits.parts ≤ low) (sym same) (omega arith)
+    → c.args.self.now.places.limits.parts * (table_limits c.args.self.now.words).rows + slice_index lows c.args.self.now.places.limits.parts ≤ low
+under_low c lows low same up = let e = start c in subst (λ z. c.args.self.now.places.limits.parts * (table_limits c.args.self.now.words).rows + slice_index z c.args.self.now.places.limits.parts ≤ low) (sym same) (omega arith)
 
 more : (c : After-try_row) → c.part_rows.result + slice_index c.low_at-mark.new.lows c.args.self.now.places.limits.parts ≤ c.try_row.new.low
 more c = let up = c.loop-row.invariant.above in let on = c.try_row.ensures.low.1.0 in omega arith
 
 -- the steps from the mark up to the row
-since : (c : After-try_row) → Looked (limits_of c.args.self.now.words) ((c.loop-row.row - (c.part_rows.result + slice_index c.low_at-mark.new.lows c.args.self.now.places.limits.parts)) * try_steps) (view_of c.low_at-mark.new.seat) (view_of c.loop-row.seat)
-since c = let l : Limits = limits_of c.args.self.now.words in
+since : (c : After-try_row) → Looked (table_limits c.args.self.now.words) ((c.loop-row.row - (c.part_rows.result + slice_index c.low_at-mark.new.lows c.args.self.now.places.limits.parts)) * try_steps) (view_of c.low_at-mark.new.seat) (view_of c.loop-row.seat)
+since c = let l : Limits = table_limits c.args.self.now.words in
     begun_looked l (PassedBy l c.args.stage) (passed_widens l c.args.stage) _ _ c.loop-row.row _ _ c.loop-row.invariant.begun c.low_at-mark.ensures.acted.walk.steady
 
 -- what is known of no use after one more row
-rose : (c : After-try_row) (n : ℕ) (ms : List TraceEntry) → Walked (limits_of c.args.self.now.words) n ms (view_of c.loop-row.seat) (view_of c.try_row.new.seat)
-    → Rose c.args.stage (view_of c.try_row.new.seat) (part_rows (limits_of c.args.self.now.words) + c.low_at-mark.result) c.try_row.new.low
-rose c n ms a = let l : Limits = limits_of c.args.self.now.words in let v = view_of c.loop-row.seat in
+rose : (c : After-try_row) (n : ℕ) (ms : List TraceEntry) → Walked (table_limits c.args.self.now.words) n ms (view_of c.loop-row.seat) (view_of c.try_row.new.seat)
+    → Rose c.args.stage (view_of c.try_row.new.seat) (part_rows (table_limits c.args.self.now.words) + c.low_at-mark.result) c.try_row.new.low
+rose c n ms a = let l : Limits = table_limits c.args.self.now.words in let v = view_of c.loop-row.seat in
     rose_then l c.args.stage v (view_of c.try_row.new.seat) _ c.loop-row.low c.try_row.new.low (goes_walked l n ms v _ (since c).walk.steady.pass.1 a) c.loop-row.invariant.rose c.try_row.ensures.low.1
 
 -- the first row that isn't known of no use, after one more row
-stuck : (c : After-try_row) (n : ℕ) (ms : List TraceEntry) → Walked (limits_of c.args.self.now.words) n ms (view_of c.loop-row.seat) (view_of c.try_row.new.seat) → c.try_row.new.low < c.try_row.new.row
-    → WasOfUse (limits_of c.args.self.now.words) c.args.stage c.try_row.new.low (seen_by c.low_at-mark.new.seat) (seen_by c.try_row.new.seat)
-stuck c n ms a less = let l : Limits = limits_of c.args.self.now.words in let h = seen_by c.low_at-mark.new.seat in let i = c.loop-row.invariant in
+stuck : (c : After-try_row) (n : ℕ) (ms : List TraceEntry) → Walked (table_limits c.args.self.now.words) n ms (view_of c.loop-row.seat) (view_of c.try_row.new.seat) → c.try_row.new.low < c.try_row.new.row
+    → WasOfUse (table_limits c.args.self.now.words) c.args.stage c.try_row.new.low (seen_by c.low_at-mark.new.seat) (seen_by c.try_row.new.seat)
+stuck c n ms a less = let l : Limits = table_limits c.args.self.now.words in let h = seen_by c.low_at-mark.new.seat in let i = c.loop-row.invariant in
     ⊎_elim (λ t. subst (λ z. WasOfUse l c.args.stage z h (seen_by c.try_row.new.seat)) (sym t.1) (use_later l c.args.stage c.loop-row.low h h _ _ (begins_refl h) (walked_begins l n ms _ _ a) (i.stuck t.0)))
     (λ was. use_later l c.args.stage c.try_row.new.low h (seen_by c.loop-row.seat) _ _ (looked_begins l _ _ _ (since c)) (begins_refl _) was) (c.try_row.ensures.stays less)
 
 -- the steps from the mark to the end of the rows
-all_since : (c : After-loop-row) → Looked (limits_of c.args.self.now.words) ((c.loop-row.row - (c.part_rows.result + slice_index c.low_at-mark.new.lows c.args.self.now.places.limits.parts)) * try_steps) (view_of c.low_at-mark.new.seat) (view_of c.loop-row.seat)
-all_since c = let l : Limits = limits_of c.args.self.now.words in
+all_since : (c : After-loop-row) → Looked (table_limits c.args.self.now.words) ((c.loop-row.row - (c.part_rows.result + slice_index c.low_at-mark.new.lows c.args.self.now.places.limits.parts)) * try_steps) (view_of c.low_at-mark.new.seat) (view_of c.loop-row.seat)
+all_since c = let l : Limits = table_limits c.args.self.now.words in
     begun_looked l (PassedBy l c.args.stage) (passed_widens l c.args.stage) _ _ c.loop-row.row _ _ c.loop-row.invariant.begun c.low_at-mark.ensures.acted.walk.steady
 
 pub returns-in-Some-clause-rests : goal.returns-in-Some-clause-rests
-returns-in-Some-clause-rests c = let l : Limits = limits_of c.args.self.now.words in let at = goal.at.returns-in-Some-clause-rests c in let t = c.in-Some.ensures.told.0 in let w = view_of c.raise_low.new.seat in
+returns-in-Some-clause-rests c = let l : Limits = table_limits c.args.self.now.words in let at = goal.at.returns-in-Some-clause-rests c in let t = c.in-Some.ensures.told.0 in let w = view_of c.raise_low.new.seat in
     subst (λ p. SpareRests l c.args.stage c.args.end (slice_index c.raise_low.new.lows p) (view_of c.args.seat.now) w) (parts at.After-low_at-mark)
     (spare_rests l 1 _ _ (view_of c.args.seat.now) (view_of c.low_at-mark.new.seat) (view_of c.try_row.new.seat) w c.low_at-mark.ensures.acted
     (walked_then l _ 1 _ _ _ _ _ (walked_then l _ _ _ _ _ _ _ (since at.After-try_row).walk t.walk) c.raise_low.ensures.looked.walk) c.raise_low.ensures.seen
     c.args.stage c.args.self.now.places.limits.parts _ c.try_row.new.low c.try_row.new.row c.args.end (start at.After-part_rows ∙ sym (front at.After-part_rows)) c.raise_low.ensures.rests (stuck at.After-try_row _ _ t.walk) (inl c.in-Some.ensures.behind.0))
 
 pub returns-clause-rests : goal.returns-clause-rests
-returns-clause-rests c = let l : Limits = limits_of c.args.self.now.words in let at = goal.at.returns-clause-rests c in let w = view_of c.raise_low-2.new.seat in let i = c.loop-row.invariant in
+returns-clause-rests c = let l : Limits = table_limits c.args.self.now.words in let at = goal.at.returns-clause-rests c in let w = view_of c.raise_low-2.new.seat in let i = c.loop-row.invariant in
     let low = i.low in let past = c.loop-row-test.false in
     subst (λ p. SpareRests l c.args.stage c.args.end (slice_index c.raise_low-2.new.lows p) (view_of c.args.seat.now) w) (parts at.After-low_at-mark)
     (spare_rests l 1 _ _ (view_of c.args.seat.now) (view_of c.low_at-mark.new.seat) (view_of c.loop-row.seat) w c.low_at-mark.ensures.acted
@@ -102,7 +102,7 @@ pub raise_low-requires-2-clause-remembers : goal.raise_low-requires-2-clause-rem
 raise_low-requires-2-clause-remembers c = subst (Remembers c.args.stage (view_of c.loop-row.seat)) (sym c.loop-row.invariant.lows) (remembers_kind c.args.stage c.low_at-mark.new.lows _ _ _ _ _ (all_since (goal.at.raise_low-requires-2-clause-remembers c).After-loop-row).walk c.low_at-mark.ensures.remembers)
 
 pub loop-row-init : goal.loop-row-init
-loop-row-init c = let l : Limits = limits_of c.args.self.now.words in let at = goal.at.loop-row-init c in let top = inside at.After-low_at-mark in let f = front at.After-part_rows in record {
+loop-row-init c = let l : Limits = table_limits c.args.self.now.words in let at = goal.at.loop-row-init c in let top = inside at.After-low_at-mark in let f = front at.After-part_rows in record {
   same = refl;
   lows = refl;
   from = omega arith;
@@ -119,7 +119,7 @@ raise_low-requires-clause-remembers c = let at = (goal.at.raise_low-requires-cla
     subst (Remembers c.args.stage (view_of c.try_row.new.seat)) (sym c.loop-row.invariant.lows) (remembers_kind c.args.stage c.low_at-mark.new.lows _ _ _ _ _ c.in-Some.ensures.told.0.walk (remembers_kind c.args.stage c.low_at-mark.new.lows _ _ _ _ _ (since at).walk c.low_at-mark.ensures.remembers))
 
 pub raise_low-requires-clause-low : goal.raise_low-requires-clause-low
-raise_low-requires-clause-low c = let l : Limits = limits_of c.args.self.now.words in let at = goal.at.raise_low-requires-clause-low c in let first = start at.After-part_rows in let behind = front at.After-part_rows in
+raise_low-requires-clause-low c = let l : Limits = table_limits c.args.self.now.words in let at = goal.at.raise_low-requires-clause-low c in let first = start at.After-part_rows in let behind = front at.After-part_rows in
     let low = c.try_row.ensures.low.0 in let top = c.try_row.ensures.on.inside in (
       (λ not. absurd (not (parts at.After-low_at-mark)), λ _. omega arith),
       under_low at.After-part_rows c.loop-row.lows c.try_row.new.low c.loop-row.invariant.lows (more at.After-try_row),
@@ -127,7 +127,7 @@ raise_low-requires-clause-low c = let l : Limits = limits_of c.args.self.now.wor
     )
 
 pub returns-in-Some-clause-told : goal.returns-in-Some-clause-told
-returns-in-Some-clause-told c = let l : Limits = limits_of c.args.self.now.words in let s = try_steps in let at = goal.at.returns-in-Some-clause-told c in let t = c.in-Some.taken in
+returns-in-Some-clause-told c = let l : Limits = table_limits c.args.self.now.words in let s = try_steps in let at = goal.at.returns-in-Some-clause-told c in let t = c.in-Some.taken in
     let F : ℕ = c.part_rows.result + slice_index c.low_at-mark.new.lows c.args.self.now.places.limits.parts in let d : ℕ = c.loop-row.row - F in let from = c.loop-row.invariant.from in let less = c.loop-row-test.true in let top = c.requires.end.1 in
     let low = above at.After-low_at-mark in let behind = front at.After-part_rows in let first = start at.After-part_rows in
     let room : d * s + s ≤ (BLOCK_ROWS * l.spare - slice_index c.args.lows.now l.parts) * s = rows_more d (BLOCK_ROWS * l.spare - slice_index c.args.lows.now l.parts) s (omega arith) in (
@@ -140,7 +140,7 @@ returns-in-Some-clause-told c = let l : Limits = limits_of c.args.self.now.words
     )
 
 pub loop-row-preserved : goal.loop-row-preserved
-loop-row-preserved c = let l : Limits = limits_of c.args.self.now.words in let at = goal.at.loop-row-preserved c in let t = c.in_default.ensures.told in let i = c.loop-row.invariant in let on = c.try_row.ensures.on.on in
+loop-row-preserved c = let l : Limits = table_limits c.args.self.now.words in let at = goal.at.loop-row-preserved c in let t = c.in_default.ensures.told in let i = c.loop-row.invariant in let on = c.try_row.ensures.on.on in
     let s = try_steps in let P = PassedBy l c.args.stage in let F : ℕ = c.part_rows.result + slice_index c.low_at-mark.new.lows c.args.self.now.places.limits.parts in let d : ℕ = c.loop-row.row - F in let from = i.from in record {
       same = search rules;
       lows = i.lows;
@@ -154,7 +154,7 @@ loop-row-preserved c = let l : Limits = limits_of c.args.self.now.words in let a
     }
 
 pub raise_low-requires-2-clause-low : goal.raise_low-requires-2-clause-low
-raise_low-requires-2-clause-low c = let l : Limits = limits_of c.args.self.now.words in let at = goal.at.raise_low-requires-2-clause-low c in let first = start at.After-part_rows in let behind = front at.After-part_rows in
+raise_low-requires-2-clause-low c = let l : Limits = table_limits c.args.self.now.words in let at = goal.at.raise_low-requires-2-clause-low c in let first = start at.After-part_rows in let behind = front at.After-part_rows in
     let i = c.loop-row.invariant in let low = i.low in let top = i.inside in (
       (λ not. absurd (not (parts at.After-low_at-mark)), λ _. omega arith),
       under_low at.After-part_rows c.loop-row.lows c.loop-row.low i.lows i.above,
@@ -162,7 +162,7 @@ raise_low-requires-2-clause-low c = let l : Limits = limits_of c.args.self.now.w
     )
 
 pub returns-clause-told : goal.returns-clause-told
-returns-clause-told c = let l : Limits = limits_of c.args.self.now.words in let s = try_steps in let at = goal.at.returns-clause-told c in let i = c.loop-row.invariant in
+returns-clause-told c = let l : Limits = table_limits c.args.self.now.words in let s = try_steps in let at = goal.at.returns-clause-told c in let i = c.loop-row.invariant in
     let P = PassedBy l c.args.stage in let F : ℕ = c.part_rows.result + slice_index c.low_at-mark.new.lows c.args.self.now.places.limits.parts in let d : ℕ = c.loop-row.row - F in
     let first = start at.After-part_rows in let behind = front at.After-part_rows in let top = i.inside in let past = c.loop-row-test.false in let low = above at.After-low_at-mark in
     let few : d * s ≤ (BLOCK_ROWS * l.spare - slice_index c.args.lows.now l.parts) * s = mul-le-mul_right s (omega arith) in

@@ -4,7 +4,7 @@ use Rattle.tp_model.specs.declared.types.Limits.{Limits}
 use Rattle.std.proofs.lemmas.List.Elements.{All-more}
 use Rattle.tp_model.specs.Births.{IsWhole, outputs}
 use Rattle.tp_model.proofs.Outputs.{length-outputs}
-use Rattle.tp_rule.specs.Tables.{limits_of}
+use Rattle.tp_rule.specs.Tables.{table_limits}
 use Rattle.tp_rule.specs.Views.{view_of}
 use Rattle.tp_manager.specs.Walks.{Wrote}
 use Rattle.tp_manager.proofs.Shuts.{outs_next, wrote_none, wrote_then}
@@ -21,11 +21,11 @@ pub loop-i-init : goal.loop-i-init
 loop-i-init c = record {
   same = refl;
   whole = λ k d less. absurd (omega arith);
-  wrote = wrote_none (limits_of c.args.self.now.words) (view_of c.args.seat.now) c.requires.steady;
+  wrote = wrote_none (table_limits c.args.self.now.words) (view_of c.args.seat.now) c.requires.steady;
 }
 
 pub loop-i-preserved : goal.loop-i-preserved
-loop-i-preserved c = let l : Limits = limits_of c.args.self.now.words in record {
+loop-i-preserved c = let l : Limits = table_limits c.args.self.now.words in record {
   same = search rules;
   whole = All-more IsWhole c.args.drafts.now c.loop-i.i c.index-drafts-i.result c.loop-i-test.true c.loop-i.invariant.whole (rw (← c.index-drafts-i.is) c.write_one.ensures.whole);
   wrote = subst (λ (xs : List Element). Wrote l xs (view_of c.args.seat.now) (view_of c.write_one.new.seat)) (sym (outs_next c.args.unit c.args.root c.args.first c.args.drafts.now c.loop-i.i c.index-drafts-i.result c.loop-i-test.true c.index-drafts-i.is))

@@ -40,7 +40,7 @@ returns-in-None-clause-computed c =
     let left = already_leaves p.limits p.history.events p.passes.items p.drawn p.looks.items c.args.caller c.self.invariant.0 c.self.invariant.1 is_pass
     c.index-used.result.now c.index-used.ensures c.in-Some.unit c.in-Some.is none in
     let s : State = record { limits = p.limits; history = p.history.events; passes = p.passes.items; drawn = p.drawn } in
-    let is : abort_of s c.args.caller ≡ (ended.Already, with_pass s c.args.caller (freed (pass_at s c.args.caller))) = abort_already s c.args.caller c.in-Some.unit left.2 left.1 in
+    let is : abort_of s c.args.caller ≡ (ended.AlreadyAborted, with_pass s c.args.caller (freed (pass_at s c.args.caller))) = abort_already s c.args.caller c.in-Some.unit left.2 left.1 in
     rw (← c.self.view_is) (ap (λ x. x.0) (sym is), left.3 ∙ ap (λ x. x.1) (sym is))
 
 pub invariant_of-self-in-Some-held : goal.invariant_of-self-in-Some-held

@@ -14,7 +14,7 @@ stands : (c : In-Waiting) → status_of c.args.self.now.limits.attempts c.args.s
 stands c = sym c.in-Ok.ensures.answer.0.status ∙ c.in-Waiting.is
 
 pub take-requires-clause-stage : goal.take-requires-clause-stage
-take-requires-clause-stage c = served c.args.self.now c.args.id c.show_reached.ensures.legal c.in-Ok.look.element c.in-Ok.ensures.answer.0.element c.if-look-eq15.false
+take-requires-clause-stage c = served c.args.self.now c.args.id c.show_reached.ensures.legal c.in-Ok.look.element c.in-Ok.ensures.answer.0.element c.if-look-eq-REPLY_STAGE.false
 
 pub take-requires-clause-waits : goal.take-requires-clause-waits
 take-requires-clause-waits c = let s = c.args.self.now in let e = c.in-Ok.look.element in
@@ -26,5 +26,5 @@ returns-in-Waiting-clause-answer c = let s = c.args.self.now in let e = c.in-Ok.
     let room : (pass_at s c.args.caller).claimed < s.limits.units = rw (← c.used_by-used.ensures, ← c.self.view_is) c.if-used-self.false in
     rw (c.take.ensures.work, c.take.ensures.state, c.used_by-used.ensures)
     (subst (λ (st : Status). let look : Look = record { element = e; status = st } in TakesId s c.args.caller c.args.id (work_on s c.args.caller look) (with_claim s c.args.caller look (pass_at s c.args.caller).turns)) (sym c.in-Waiting.is)
-    (takes_id s c.args.caller c.args.id c.show_reached.ensures c.requires.pass e c.in-Ok.ensures.answer.0.element c.if-look-eq15.false c.in-Waiting.attempts
+    (takes_id s c.args.caller c.args.id c.show_reached.ensures c.requires.pass e c.in-Ok.ensures.answer.0.element c.if-look-eq-REPLY_STAGE.false c.in-Waiting.attempts
     (stands (goal.at.returns-in-Waiting-clause-answer c).In-Waiting) room c.requires.free))

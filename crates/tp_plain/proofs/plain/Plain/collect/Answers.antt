@@ -11,7 +11,7 @@ alive c is = c.in_default-status.not-Killed (c.in-Ok.ensures.answer.0.status ∙
 
 pub mark-requires : goal.mark-requires
 mark-requires c = record {
-  step = may_collect c.args.self.now c.args.caller c.args.id c.in-Ok.look.element c.show_reached.ensures.legal c.in-Ok.ensures.answer.0.element c.if-look-ne15.false (alive (goal.at.mark-requires c).In_default-status) c.requires.pass;
+  step = may_collect c.args.self.now c.args.caller c.args.id c.in-Ok.look.element c.show_reached.ensures.legal c.in-Ok.ensures.answer.0.element c.if-look-ne-REPLY_STAGE.false (alive (goal.at.mark-requires c).In_default-status) c.requires.pass;
   quiet = (c.requires.pass, c.requires.free);
 }
 
@@ -19,9 +19,9 @@ pub returns-in_default-status : goal.returns-in_default-status
 returns-in_default-status c =
     let not = alive (goal.at.returns-in_default-status c).In_default-status in
     let born = c.in-Ok.ensures.answer.0.element in
-    let is = collect_goes c.args.self.now c.args.caller c.args.id c.in-Ok.look.element c.show_reached.ensures.legal born c.if-look-ne15.false not in
+    let is = collect_goes c.args.self.now c.args.caller c.args.id c.in-Ok.look.element c.show_reached.ensures.legal born c.if-look-ne-REPLY_STAGE.false not in
     record {
-      answer = (born, c.if-look-ne15.false, may_collect c.args.self.now c.args.caller c.args.id c.in-Ok.look.element c.show_reached.ensures.legal born c.if-look-ne15.false not c.requires.pass, c.mark.ensures);
+      answer = (born, c.if-look-ne-REPLY_STAGE.false, may_collect c.args.self.now c.args.caller c.args.id c.in-Ok.look.element c.show_reached.ensures.legal born c.if-look-ne-REPLY_STAGE.false not c.requires.pass, c.mark.ensures);
       computed = (ap (λ x. x.0) (sym is), c.mark.ensures ∙ ap (λ x. x.1) (sym is));
       limits = ap (λ (s : State). s.limits) c.mark.ensures;
       passes = ap (λ (s : State). s.passes) c.mark.ensures;

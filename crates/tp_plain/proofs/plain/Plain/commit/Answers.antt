@@ -2,7 +2,7 @@ use Rattle.std.proofs.Common.{◌≡◌, ◌<◌, ◌≤◌, ◌+◌, Some, None
 use Rattle.std.specs.List.{find}
 use Rattle.tp_model.specs.declared.types.Look.{Look}
 use Rattle.tp_plain.specs.Looks.{is_held_by}
-use Rattle.tp_model.specs.Steps.{most_rows}
+use Rattle.tp_model.specs.Steps.{max_rows}
 use Rattle.tp_model.proofs.Lists.{whole_write}
 use Rattle.tp_plain.specs.OneThread.{State, ready, with_draw}
 use Rattle.tp_plain.proofs.Computations.{commit_lost}
@@ -18,7 +18,7 @@ overflow_add-next c =
     let k = length c.args.drafts.now in
     let is_pass : c.args.caller < p.limits.parts = rw (← c.self.view_is) at c.requires.pass in
     let at : c.ready-used.result ≡ ready s c.args.caller k = rw (← c.self.view_is) at c.ready-used.ensures in
-    let few : c.ready-used.result.next + c.ready-used.result.left ≤ most_rows = next_few s p.looks.items c.args.caller k c.self.invariant.0 c.self.invariant.1 is_pass c.ready-used.result at in
+    let few : c.ready-used.result.next + c.ready-used.result.left ≤ max_rows = next_few s p.looks.items c.args.caller k c.self.invariant.0 c.self.invariant.1 is_pass c.ready-used.result at in
     omega arith
 
 pub invariant_of-self : goal.invariant_of-self

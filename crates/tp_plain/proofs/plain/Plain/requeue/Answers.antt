@@ -40,20 +40,20 @@ index_mut-requires c =
     let low = within (goal.at.index_mut-requires c).In-Parked in
     let len : length c.self.inside.rounds.items ≡ c.self.inside.rounds.len = search rules in subst (λ n. c.args.id < n) len low
 
-pub returns-then-round-ge-MOST_ROUNDS-clause-answer : goal.returns-then-round-ge-MOST_ROUNDS-clause-answer
-returns-then-round-ge-MOST_ROUNDS-clause-answer c =
-    let at = goal.at.returns-then-round-ge-MOST_ROUNDS-clause-answer c in
+pub returns-then-round-ge-MAX_ROUNDS-clause-answer : goal.returns-then-round-ge-MAX_ROUNDS-clause-answer
+returns-then-round-ge-MAX_ROUNDS-clause-answer c =
+    let at = goal.at.returns-then-round-ge-MAX_ROUNDS-clause-answer c in
     let r = round_is at.After-index-round (inside at.In-Parked) in
     let most : rounds c.args.self.now.history c.args.id ≤ 3 = (rounds_by_words c.args.self.now.limits c.args.self.now.history c.args.id c.show_reached.ensures.legal).1 in
-    let many : 3 ≤ c.index-round.result.now = c.if-round-ge-MOST_ROUNDS.true in
+    let many : 3 ≤ c.index-round.result.now = c.if-round-ge-MAX_ROUNDS.true in
     let last : rounds c.args.self.now.history c.args.id ≡ 3 = omega arith in
     ((c.in-Ok.look.element, c.in-Ok.ensures.answer.0.element, (c.in-Parked.attempts, parked at.In-Parked), last), refl)
 
-pub returns-then-round-ge-MOST_ROUNDS-clause-computed : goal.returns-then-round-ge-MOST_ROUNDS-clause-computed
-returns-then-round-ge-MOST_ROUNDS-clause-computed c =
-    let at = goal.at.returns-then-round-ge-MOST_ROUNDS-clause-computed c in
+pub returns-then-round-ge-MAX_ROUNDS-clause-computed : goal.returns-then-round-ge-MAX_ROUNDS-clause-computed
+returns-then-round-ge-MAX_ROUNDS-clause-computed c =
+    let at = goal.at.returns-then-round-ge-MAX_ROUNDS-clause-computed c in
     let r = round_is at.After-index-round (inside at.In-Parked) in
-    let is = requeue_over c.args.self.now c.args.caller c.args.id c.index-round.result.now c.in-Parked.attempts c.in-Ok.look.element c.in-Ok.ensures.answer.0.element (parked at.In-Parked) r c.if-round-ge-MOST_ROUNDS.true in
+    let is = requeue_over c.args.self.now c.args.caller c.args.id c.index-round.result.now c.in-Parked.attempts c.in-Ok.look.element c.in-Ok.ensures.answer.0.element (parked at.In-Parked) r c.if-round-ge-MAX_ROUNDS.true in
     (ap (λ x. x.0) (sym is), ap (λ x. x.1) (sym is))
 
 pub invariant_of-self : goal.invariant_of-self
@@ -62,7 +62,7 @@ invariant_of-self c =
     let p = c.self.inside in
     let s : State = record { limits = p.limits; history = p.history.events; passes = p.passes.items; drawn = p.drawn } in
     let r = round_is at.After-index-round (inside at.In-Parked) in
-    let few : c.index-round.result.now < 3 = c.if-round-ge-MOST_ROUNDS.false in
+    let few : c.index-round.result.now < 3 = c.if-round-ge-MAX_ROUNDS.false in
     let there : c.args.id < rows_of p.limits = rw (← c.self.view_is) at (inside at.In-Parked) in
     let step = rw (← c.self.view_is) at (may_requeue c.args.self.now c.args.caller c.args.id c.index-round.result.now c.in-Parked.attempts c.in-Ok.look.element c.requires c.in-Ok.ensures.answer.0.element (parked at.In-Parked) r few) in
     let told : c.index-round.result.now + 1 ≡ rounds p.history.events c.args.id + 1 = ap (λ n. n + 1) (rw (← c.self.view_is) at r) in
@@ -75,7 +75,7 @@ pub returns-clause-answer : goal.returns-clause-answer
 returns-clause-answer c =
     let at = goal.at.returns-clause-answer c in
     let r = round_is at.After-index-round (inside at.In-Parked) in (
-      may_requeue c.args.self.now c.args.caller c.args.id c.index-round.result.now c.in-Parked.attempts c.in-Ok.look.element c.requires c.in-Ok.ensures.answer.0.element (parked at.In-Parked) r c.if-round-ge-MOST_ROUNDS.false,
+      may_requeue c.args.self.now c.args.caller c.args.id c.index-round.result.now c.in-Parked.attempts c.in-Ok.look.element c.requires c.in-Ok.ensures.answer.0.element (parked at.In-Parked) r c.if-round-ge-MAX_ROUNDS.false,
       rw (← c.self.view_is, c.then-self-inside.ensures) refl,
     )
 
@@ -83,5 +83,5 @@ pub returns-clause-computed : goal.returns-clause-computed
 returns-clause-computed c =
     let at = goal.at.returns-clause-computed c in
     let r = round_is at.After-index-round (inside at.In-Parked) in
-    let is = requeue_goes c.args.self.now c.args.caller c.args.id c.index-round.result.now c.in-Parked.attempts c.in-Ok.look.element c.in-Ok.ensures.answer.0.element (parked at.In-Parked) r c.if-round-ge-MOST_ROUNDS.false in
+    let is = requeue_goes c.args.self.now c.args.caller c.args.id c.index-round.result.now c.in-Parked.attempts c.in-Ok.look.element c.in-Ok.ensures.answer.0.element (parked at.In-Parked) r c.if-round-ge-MAX_ROUNDS.false in
     (ap (λ x. x.0) (sym is), rw (← c.self.view_is, c.then-self-inside.ensures) refl ∙ ap (λ x. x.1) (sym is))

@@ -1,5 +1,5 @@
 use Rattle.std.proofs.Common.{◌≡◌, ◌<◌, ◌≤◌, ◌+◌, arith, rules}
-use Rattle.tp_model.specs.Steps.{IsBody, most_rows}
+use Rattle.tp_model.specs.Steps.{IsBody, max_rows}
 use Rattle.tp_plain.specs.OneThread.{State, ready, with_draw}
 use Rattle.tp_plain.proofs.PlainLemmas.{submit_leaves}
 use Rattle.tp_plain.proofs.Requeues.{rounds_enqueue}
@@ -12,7 +12,7 @@ overflow_add-used c =
     let s : State = record { limits = p.limits; history = p.history.events; passes = p.passes.items; drawn = p.drawn } in
     let is_pass : c.args.caller < p.limits.parts = rw (← c.self.view_is) at c.requires in
     let at : c.ready-used.result ≡ ready s c.args.caller 1 = rw (← c.self.view_is) at c.ready-used.ensures in
-    let few : c.ready-used.result.next + c.ready-used.result.left ≤ most_rows = next_few s p.looks.items c.args.caller 1 c.self.invariant.0 c.self.invariant.1 is_pass c.ready-used.result at in
+    let few : c.ready-used.result.next + c.ready-used.result.left ≤ max_rows = next_few s p.looks.items c.args.caller 1 c.self.invariant.0 c.self.invariant.1 is_pass c.ready-used.result at in
     omega arith
 
 pub invariant_of-self-2 : goal.invariant_of-self-2

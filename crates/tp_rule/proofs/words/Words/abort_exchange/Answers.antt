@@ -1,9 +1,9 @@
 use Rattle.std.proofs.Common.{◌≡◌, ◌≢◌, rules, sym, ◌∙◌, ap, subst, Some}
 use Rattle.tp_model.specs.declared.trace.StepKind.TheVariants as kinds
-use Rattle.tp_rule.specs.Steps.{Loses}
+use Rattle.tp_rule.specs.Steps.{LosesUnit}
 use Rattle.tp_words.specs.Places.{UnitWord}
 use Rattle.tp_words.specs.Words.{pack_unit}
-use Rattle.tp_rule.specs.Rule.{Told}
+use Rattle.tp_rule.specs.Rule.{WordIs}
 use Rattle.tp_rule.specs.Views.{seen_by, view_of}
 use Rattle.tp_rule.proofs.Deciding.{aborts_go}
 use Rattle.tp_rule.proofs.Reading.{found_told}
@@ -17,7 +17,7 @@ compare_exchange-was-requires-clause-permits c =
 decided : (c : Else-was-eq-UNIT_UNDECIDED) → c.compare_exchange-was.result ≢ 0
 decided c = search rules
 
-says : (c : Else-was-eq-UNIT_UNDECIDED) → Told (seen_by c.compare_exchange-was.new.seat) (UnitWord c.args.unit) c.compare_exchange-was.result
+says : (c : Else-was-eq-UNIT_UNDECIDED) → WordIs (seen_by c.compare_exchange-was.new.seat) (UnitWord c.args.unit) c.compare_exchange-was.result
 says c = found_told _ _ _ (UnitWord c.args.unit) _ _ c.requires.one.1 c.requires.unit.1 c.unit-word.ensures.place (c.compare_exchange-was.ensures.told.5 (decided c))
 
 pub read-requires : goal.read-requires
@@ -28,6 +28,6 @@ returns-clause-miss c = let at = (goal.at.returns-clause-miss c).Else-was-eq-UNI
     let same : c.compare_exchange-was.ensures.told.0 ≡ c.args.unit = search rules in record {
       ended = λ none. decided at (t.0 ∙ ap pack_unit (sym now ∙ none));
       found_is = now;
-      own = λ held. subst (λ u. Loses kinds.AbortExchange (view_of c.args.seat.now) u (view_of c.compare_exchange-was.new.seat)) same (told.3 (decided at) (held ∙ ap Some (sym same)));
+      own = λ held. subst (λ u. LosesUnit kinds.AbortExchange (view_of c.args.seat.now) u (view_of c.compare_exchange-was.new.seat)) same (told.3 (decided at) (held ∙ ap Some (sym same)));
       other = λ none. told.4 (decided at) none;
     }

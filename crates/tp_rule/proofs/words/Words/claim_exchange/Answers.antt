@@ -4,7 +4,7 @@ use Rattle.tp_model.specs.declared.trace.StepKind.TheVariants as kinds
 use Rattle.tp_words.specs.Places.{ClaimWord}
 use Rattle.tp_words.specs.Words.{IsFitClaim, claim_value, pack_claim}
 use Rattle.tp_rule.specs.Doors.{key_of}
-use Rattle.tp_rule.specs.Rule.{Told}
+use Rattle.tp_rule.specs.Rule.{WordIs}
 use Rattle.tp_rule.specs.Views.{seen_by, view_of}
 use Rattle.tp_rule.specs.Steps.{Misses, AllowsClaim}
 use Rattle.tp_rule.proofs.Claiming.{claims_go}
@@ -20,7 +20,7 @@ compare_exchange-was-requires-clause-permits c = let keyed : c.args.self.now.pla
 misses : (c : Else-was-free) → Misses kinds.ClaimExchange (view_of c.args.seat.now) c.claim-word.result c.compare_exchange-was.result (view_of c.compare_exchange-was.new.seat)
 misses c = c.compare_exchange-was.ensures.told.1 c.if-was-free.false
 
-says : (c : Else-was-free) → Told (seen_by c.compare_exchange-was.new.seat) (ClaimWord c.args.row) c.compare_exchange-was.result
+says : (c : Else-was-free) → WordIs (seen_by c.compare_exchange-was.new.seat) (ClaimWord c.args.row) c.compare_exchange-was.result
 says c = missed_told kinds.ClaimExchange _ _ _ (ClaimWord c.args.row) _ _ c.requires.one.1 c.requires.row.0 c.claim-word.ensures.place (misses c)
 
 pub read-requires : goal.read-requires

@@ -1,7 +1,7 @@
 use Rattle.std.proofs.Common.{sym, subst}
 use Rattle.tp_words.specs.Places.{ClaimWord}
 use Rattle.tp_words.specs.Words.{IsFitClaim}
-use Rattle.tp_rule.specs.Rule.{Told}
+use Rattle.tp_rule.specs.Rule.{WordIs}
 use Rattle.tp_rule.specs.Views.{seen_by}
 use Rattle.tp_rule.proofs.Seats.{one_has}
 use Rattle.tp_rule.proofs.Reading.{told}
@@ -11,7 +11,7 @@ use Rattle.tp_rule.proofs.words.Words.load_claim.Goals.{After-load-found}
 pub load-found-requires-clause-pass : goal.load-found-requires-clause-pass
 load-found-requires-clause-pass c = one_has c.args.seat.now.view c.requires.one.0
 
-says : (c : After-load-found) → Told (seen_by c.load-found.new.seat) (ClaimWord c.args.row) c.load-found.result
+says : (c : After-load-found) → WordIs (seen_by c.load-found.new.seat) (ClaimWord c.args.row) c.load-found.result
 says c = told _ _ _ (ClaimWord c.args.row) _ _ c.requires.one.1 c.requires.row c.claim-word.ensures.place c.load-found.ensures.looks
 
 pub read-requires : goal.read-requires

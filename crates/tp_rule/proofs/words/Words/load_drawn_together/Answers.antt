@@ -4,7 +4,7 @@ use Rattle.tp_words.specs.Places.{drawn_place}
 use Rattle.tp_rule.specs.Doors.{Permits, key_of}
 use Rattle.tp_rule.specs.Plays.{loads_drawn}
 use Rattle.tp_rule.specs.Steps.{Knows, NoneDrawn, Shares}
-use Rattle.tp_rule.specs.Tables.{limits_of}
+use Rattle.tp_rule.specs.Tables.{table_limits}
 use Rattle.tp_rule.specs.Views.{seen_by, view_of}
 use Rattle.tp_rule.specs.declared.view.Known.TheVariants.{BlocksDrawn}
 use Rattle.tp_rule.proofs.Drawing.{looks_drawn}
@@ -12,7 +12,7 @@ use Rattle.tp_rule.proofs.words.Words.load_drawn_together.Goals as goal
 use Rattle.tp_rule.proofs.words.Words.load_drawn_together.Goals.{After-load-drawn}
 
 pub load-drawn-requires-clause-permits : goal.load-drawn-requires-clause-permits
-load-drawn-requires-clause-permits c = let keyed : limits_of c.args.self.now ≡ key_of c.args.self.now.table = search rules in
+load-drawn-requires-clause-permits c = let keyed : table_limits c.args.self.now ≡ key_of c.args.self.now.table = search rules in
     subst (λ word. Permits (key_of c.args.self.now.table) c.args.seat.now.view word (λ n. n) (loads_drawn word 0 0 c.args.seat.now.view)) (sym (c.drawn-word.ensures.place ∙ ap drawn_place keyed))
     (looks_drawn _ c.args.seat.now.view c.requires.pass (c.requires.limits ∙ keyed))
 
@@ -21,7 +21,7 @@ told : (c : After-load-drawn) → Knows (view_of c.load-drawn.new.seat) (BlocksD
     × Shares c.load-drawn.result (view_of c.load-drawn.new.seat)
 told c = c.load-drawn.ensures.told.1 (c.drawn-word.ensures.place ∙ ap drawn_place (sym c.requires.limits))
 
-inside : (c : After-load-drawn) → c.load-drawn.result ≤ (limits_of c.args.self.now).spare
+inside : (c : After-load-drawn) → c.load-drawn.result ≤ (table_limits c.args.self.now).spare
 inside c = subst (λ (l : Limits). c.load-drawn.result ≤ l.spare) c.requires.limits (told c).1
 
 pub overflow_cast-result : goal.overflow_cast-result

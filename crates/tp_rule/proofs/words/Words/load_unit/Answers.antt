@@ -1,5 +1,5 @@
 use Rattle.tp_words.specs.Places.{UnitWord}
-use Rattle.tp_rule.specs.Rule.{Told}
+use Rattle.tp_rule.specs.Rule.{WordIs}
 use Rattle.tp_rule.specs.Views.{seen_by}
 use Rattle.tp_rule.proofs.Seats.{one_has}
 use Rattle.tp_rule.proofs.Reading.{told}
@@ -9,7 +9,7 @@ use Rattle.tp_rule.proofs.words.Words.load_unit.Goals.{After-load-found}
 pub load-found-requires-clause-pass : goal.load-found-requires-clause-pass
 load-found-requires-clause-pass c = one_has c.args.seat.now.view c.requires.one.0
 
-says : (c : After-load-found) → Told (seen_by c.load-found.new.seat) (UnitWord c.args.unit) c.load-found.result
+says : (c : After-load-found) → WordIs (seen_by c.load-found.new.seat) (UnitWord c.args.unit) c.load-found.result
 says c = told _ _ _ (UnitWord c.args.unit) _ _ c.requires.one.1 c.requires.unit c.unit-word.ensures.place c.load-found.ensures.looks
 
 pub read-requires : goal.read-requires

@@ -1,6 +1,0 @@
-use Rattle.std.proofs.Common.{All}
-use Rattle.tp_manager.specs.Shown.{IsOf}
-use Rattle.tp_call_tests.proofs.tests.manager.plays.play.Given as goal
-
-abbrev pub invariant-loop-i : goal.invariant-loop-i
-invariant-loop-i g l = All (IsOf l.manager) l.passes

@@ -1,4 +1,0 @@
-use Rattle.tp_call_tests.proofs.tests.rule.output_born_at_exchange.Goals as goal
-
-pub draft_reply-requires-clause-work : goal.draft_reply-requires-clause-work
-draft_reply-requires-clause-work o c = c.claim.ensures.work c.if-not-claim.false

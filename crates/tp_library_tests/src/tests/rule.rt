@@ -1,0 +1,431 @@
+//! Seats that step in turn, and on threads of their own.
+ghost use Rattle.std.specs.Prelude.{◌≡◌, ◌+◌, ◌-◌, ◌*◌, ◌<◌, ◌≤◌, [], length, true, false, IfSome, Some};
+ghost use Rattle.std.specs.Prelude.{None};
+ghost use Rattle.tp_model.specs.declared.trace.StepKind.TheVariants as kinds;
+ghost use Rattle.tp_model.specs.declared.types.Element.{Element};
+ghost use Rattle.tp_model.specs.History.{Aborted, element_of, end_of, first_id};
+ghost use Rattle.tp_model.specs.Steps.{rows_of, units_of, IsServerStage};
+ghost use Rattle.tp_rule.specs.Views.{blank_body, hand_of, seen_by, view_of, first_view, fresh_from};
+ghost use Rattle.tp_rule.specs.Views.{IsNextRow, IsNextUnit, IsSameSeat};
+ghost use Rattle.tp_rule.specs.Steps.{HasWork, IsOwnWork, noted};
+ghost use Rattle.tp_rule.specs.Tables.{table_limits, IsSeatOf, IsPassOf};
+
+mod blocks;
+
+use std::alloc::Global;
+use std::thread::join_mut;
+use tp_model::types::{Body, Limits};
+use tp_rule::{Seat, Words};
+use tp_words::{Claim, FoundClaim, Head, Places, UnitWord};
+
+/// Words for three passes of four rows and two units each, with two attempts, and the keeper's seat.
+fn small(alloc: Global) -> Option<(Words, Seat)>
+    ensures limits { IfSome result (λ made. table_limits made.0 ≡ record { parts = 3; rows = 4; units = 2; attempts = 2; spare = 0 }) }
+    ensures seat { IfSome result (λ made. IsSeatOf made.0 made.1) }
+    ensures view { IfSome result (λ made. view_of made.1 ≡ first_view (table_limits made.0)) }
+    ensures hands { IfSome result (λ made. (view_of made.1).hands ≡ fresh_from (table_limits made.0) 0 (3 - 0)) }
+{
+    let limits = Limits {
+        parts: 3,
+        rows: 4,
+        units: 2,
+        attempts: 2,
+        spare: 0,
+    };
+    let places = Places::new(limits).ok()?;
+    Words::new(alloc, places).ok()
+}
+
+/// The next pass of the three.
+fn pass(words: &Words, keeper: &mut Seat, number: u16) -> Seat
+    requires own { IsSeatOf words.now keeper.old }
+    requires limits { (view_of keeper.old).limits ≡ table_limits words.now }
+    requires left { (number < 3) × ((view_of keeper.old).hands ≡ fresh_from (table_limits words.now) number (3 - number)) }
+    ensures same { IsSameSeat keeper.old keeper.new }
+    ensures limits { (view_of keeper.new).limits ≡ table_limits words.now }
+    ensures left { (view_of keeper.new).hands ≡ fresh_from (table_limits words.now) (number + 1) (3 - (number + 1)) }
+    ensures own { IsSeatOf words.now result }
+    ensures one { IsPassOf words.now result }
+    ensures number { (hand_of result).number ≡ number }
+    ensures rows { let l = table_limits words.now in ((hand_of result).next ≡ number * l.rows)
+        × ((hand_of result).left ≡ l.rows) × ((hand_of result).drafts ≡ []) }
+    ensures blank { (hand_of result).next_body ≡ blank_body }
+    ensures units { ((hand_of result).claimed ≡ 0) × ((hand_of result).open_unit ≡ None) }
+{
+    words.hand_out(keeper)
+}
+
+/// A client's element of stage 1 with this body, in the next row of the pass.
+fn submit(words: &Words, seat: &mut Seat, row: u32, body: Body)
+    requires own { IsSeatOf words.now seat.old }
+    requires one { IsPassOf words.now seat.old }
+    requires next { IsNextRow (table_limits words.now) (view_of seat.old) row }
+    requires no_drafts { (hand_of seat.old).drafts ≡ [] }
+    requires blank { (hand_of seat.old).next_body ≡ blank_body }
+    ensures same { IsSameSeat seat.old seat.new }
+    ensures one { IsPassOf words.now seat.new }
+    ensures number { (hand_of seat.new).number ≡ (hand_of seat.old).number }
+    ensures used { ((hand_of seat.new).next ≡ (hand_of seat.old).next + 1)
+        × ((hand_of seat.new).left ≡ (hand_of seat.old).left - 1) }
+    ensures drafts { (hand_of seat.new).drafts ≡ [] }
+    ensures blank { (hand_of seat.new).next_body ≡ blank_body }
+    ensures claimed { (hand_of seat.new).claimed ≡ (hand_of seat.old).claimed }
+    ensures open_unit { (hand_of seat.new).open_unit ≡ (hand_of seat.old).open_unit }
+{
+    words.store_draft_body(seat, row, body);
+    words.publish(seat, row, 1);
+}
+
+/// Whether the row has a client's element of stage 1 with root 0.
+fn shows_request(words: &Words, seat: &mut Seat, row: u32) -> bool
+    requires own { IsSeatOf words.now seat.old }
+    requires one { IsPassOf words.now seat.old }
+    requires row { row < rows_of (table_limits words.now) }
+    ensures same { IsSameSeat seat.old seat.new }
+    ensures one { IsPassOf words.now seat.new }
+    ensures looked { hand_of seat.new ≡ noted kinds.Load (seen_by seat.new) (hand_of seat.old) }
+    ensures there { result ≡ true
+        → (x : Element) × (element_of (seen_by seat.new) row ≡ Some x) × IsServerStage x.stage × (x.root ≡ 0) }
+{
+    let head = words.load_head(seat, row);
+    head == Head::Filled {
+        stage: 1,
+        root: 0,
+        by: None,
+    }
+}
+
+/// Claims the element of the row with the pass's next unit, where it was never taken.
+fn claim(words: &Words, seat: &mut Seat, row: u32, unit: u16) -> bool
+    requires own { IsSeatOf words.now seat.old }
+    requires one { IsPassOf words.now seat.old }
+    requires row { row < rows_of (table_limits words.now) }
+    requires next { IsNextUnit (table_limits words.now) (view_of seat.old) unit × (unit < 65535) }
+    requires none_open { ((hand_of seat.old).open_unit ≡ None) × ((hand_of seat.old).drafts ≡ []) }
+    ensures same { IsSameSeat seat.old seat.new }
+    ensures one { IsPassOf words.now seat.new }
+    ensures number { (hand_of seat.new).number ≡ (hand_of seat.old).number }
+    ensures rows { ((hand_of seat.new).next ≡ (hand_of seat.old).next)
+        × ((hand_of seat.new).left ≡ (hand_of seat.old).left) × ((hand_of seat.new).drafts ≡ []) }
+    ensures body { (hand_of seat.new).next_body ≡ (hand_of seat.old).next_body }
+    ensures won { result ≡ true → (hand_of seat.new).open_unit ≡ Some unit }
+    ensures work { result ≡ true → (work : IsOwnWork (view_of seat.new) unit) × (work.item.root ≡ 0) }
+{
+    words.choose_unit(seat, unit);
+    if !shows_request(words, seat, row) {
+        return false;
+    }
+    match words.claim_exchange(seat, row, FoundClaim::of(Claim::Free), 1, unit) {
+        Ok(()) => true,
+        Err(_) => false,
+    }
+}
+
+/// Drafts a reply with the body 0, 10, 20, 30 for the open unit, in the next row of the pass.
+fn draft_reply(words: &Words, seat: &mut Seat, row: u32, unit: u16)
+    requires own { IsSeatOf words.now seat.old }
+    requires one { IsPassOf words.now seat.old }
+    requires next { IsNextRow (table_limits words.now) (view_of seat.old) row × (unit < 65535) }
+    requires no_drafts { (hand_of seat.old).drafts ≡ [] }
+    requires blank { (hand_of seat.old).next_body ≡ blank_body }
+    requires open_unit { (hand_of seat.old).open_unit ≡ Some unit }
+    requires work { (work : IsOwnWork (view_of seat.old) unit) × (work.item.root ≡ 0) }
+    ensures same { IsSameSeat seat.old seat.new }
+    ensures one { IsPassOf words.now seat.new }
+    ensures open_unit { (hand_of seat.new).open_unit ≡ Some unit }
+    ensures drafts { (length (hand_of seat.new).drafts ≡ 1) × (first_id (hand_of seat.new).drafts ≡ row) }
+    ensures work { IsOwnWork (view_of seat.new) unit }
+{
+    words.store_draft_body(seat, row, [0, 10, 20, 30]);
+    words.store_draft_head(seat, row, 15, 0, unit);
+}
+
+/// Whether the body of the row is this one, word by word.
+fn shows_body(words: &Words, seat: &mut Seat, row: u32, body: Body) -> bool
+    requires own { IsSeatOf words.now seat.old }
+    requires one { IsPassOf words.now seat.old }
+    requires row { row < rows_of (table_limits words.now) }
+    ensures same { IsSameSeat seat.old seat.new }
+    ensures one { IsPassOf words.now seat.new }
+{
+    words.load_word(seat, row, 0) == body[0]
+        && words.load_word(seat, row, 1) == body[1]
+        && words.load_word(seat, row, 2) == body[2]
+        && words.load_word(seat, row, 3) == body[3]
+}
+
+/// Whether a row with this head is born, where `made_by` is the word of the unit that its head names.
+fn is_born(row: u32, head: Head, made_by: UnitWord) -> bool {
+    match head {
+        Head::Empty => false,
+        Head::Void => false,
+        Head::Filled {
+            stage: _,
+            root: _,
+            by: None,
+        } => true,
+        Head::Filled {
+            stage: _,
+            root: _,
+            by: Some(_),
+        } => match made_by {
+            UnitWord::Undecided => false,
+            UnitWord::Aborted => false,
+            UnitWord::Committed { first, count } => {
+                first as u32 <= row && row < first as u32 + count as u32
+            }
+        },
+    }
+}
+
+/// An output is written before its unit commits, and another pass can read its head; it is born in the exchange on the
+/// unit's word.
+#[test]
+fn output_born_at_exchange(rt: HostRuntime) {
+    let Some((words, mut keeper)) = small(rt.alloc()) else {
+        assert!(rt; false);
+        return;
+    };
+    let mut server = pass(&words, &mut keeper, 0);
+    let mut reader = pass(&words, &mut keeper, 1);
+    submit(&words, &mut server, 0, [0, 9, 8, 7]);
+    if !claim(&words, &mut server, 0, 0) {
+        assert!(rt; false);
+        return;
+    }
+    draft_reply(&words, &mut server, 1, 0);
+
+    let draft = words.load_head(&mut reader, 1);
+    let made_by = words.load_unit(&mut reader, 0);
+    assert!(rt;
+        draft
+            == Head::Filled {
+                stage: 15,
+                root: 0,
+                by: Some(0)
+            }
+    );
+    assert!(rt; made_by == UnitWord::Undecided);
+    assert!(rt; !is_born(1, draft, made_by));
+
+    assert!(rt; words.commit_exchange(&mut server, 0, 1, 1));
+    let reply = words.load_head(&mut reader, 1);
+    let made_by = words.load_unit(&mut reader, 0);
+    assert!(rt; reply == draft);
+    assert!(rt; made_by == UnitWord::Committed { first: 1, count: 1 });
+    assert!(rt; is_born(1, reply, made_by));
+    assert!(rt; shows_body(&words, &mut reader, 0, [0, 9, 8, 7]));
+    assert!(rt; shows_body(&words, &mut reader, 1, [0, 10, 20, 30]));
+}
+
+/// Whether the row has a client's element of stage 1, and the unit was aborted.
+fn shows_aborted(words: &Words, seat: &mut Seat, row: u32, unit: u16) -> bool
+    requires own { IsSeatOf words.now seat.old }
+    requires one { IsPassOf words.now seat.old }
+    requires there { (row < rows_of (table_limits words.now)) × (unit < units_of (table_limits words.now)) }
+    ensures same { IsSameSeat seat.old seat.new }
+    ensures one { IsPassOf words.now seat.new }
+    ensures spare { (hand_of seat.new).spare_unit ≡ (hand_of seat.old).spare_unit }
+    ensures open_unit { (hand_of seat.new).open_unit ≡ (hand_of seat.old).open_unit }
+    ensures work { result ≡ true → HasWork (seen_by seat.new) row }
+    ensures aborted { result ≡ true → end_of (seen_by seat.new) unit ≡ Some Aborted }
+{
+    if !shows_request(words, seat, row) {
+        return false;
+    }
+    words.load_unit(seat, unit) == UnitWord::Aborted
+}
+
+/// Claims the element of the row once more, where its first unit was aborted.
+fn claim_again(words: &Words, seat: &mut Seat, row: u32, aborted: u16, unit: u16) -> bool
+    requires own { IsSeatOf words.now seat.old }
+    requires one { IsPassOf words.now seat.old }
+    requires limits { (table_limits words.now).attempts ≡ 2 }
+    requires row { row < rows_of (table_limits words.now) }
+    requires aborted { (aborted < units_of (table_limits words.now)) × (aborted < 65535) }
+    requires next { IsNextUnit (table_limits words.now) (view_of seat.old) unit × (unit < 65535) }
+    requires none_open { (hand_of seat.old).open_unit ≡ None }
+    ensures same { IsSameSeat seat.old seat.new }
+    ensures one { IsPassOf words.now seat.new }
+{
+    words.choose_unit(seat, unit);
+    if !shows_aborted(words, seat, row, aborted) {
+        return false;
+    }
+    let found = Claim::Taken {
+        attempt: 1,
+        unit: aborted,
+        round: 0,
+    };
+    match words.claim_exchange(seat, row, FoundClaim::of(found), 2, unit) {
+        Ok(()) => true,
+        Err(_) => false,
+    }
+}
+
+/// Aborts the unit that holds the element of the row, for the first time that one does.
+fn abort_holder(words: &Words, seat: &mut Seat, row: u32, unit: u16) -> bool
+    requires own { IsSeatOf words.now seat.old }
+    requires one { IsPassOf words.now seat.old }
+    requires there { (row < rows_of (table_limits words.now)) × (unit < units_of (table_limits words.now)) }
+    requires none_open { (hand_of seat.old).open_unit ≡ None }
+    ensures same { IsSameSeat seat.old seat.new }
+    ensures one { IsPassOf words.now seat.new }
+    ensures work { result ≡ true → HasWork (seen_by seat.new) row }
+    ensures aborted { result ≡ true → end_of (seen_by seat.new) unit ≡ Some Aborted }
+{
+    let held = Claim::Taken {
+        attempt: 1,
+        unit,
+        round: 0,
+    };
+    if words.load_claim(seat, row).tells != held {
+        return false;
+    }
+    match words.abort_exchange(seat, unit) {
+        Ok(()) => shows_aborted(words, seat, row, unit),
+        Err(_) => false,
+    }
+}
+
+/// Tries to kill the element of the row, as if the claim were still that of its first unit. `Some` has the
+/// claim that it found instead.
+fn kill_as_first_found(words: &Words, seat: &mut Seat, row: u32, unit: u16) -> Option<Claim>
+    requires own { IsSeatOf words.now seat.old }
+    requires one { IsPassOf words.now seat.old }
+    requires limits { (table_limits words.now).attempts ≡ 2 }
+    requires there { (row < rows_of (table_limits words.now)) × (unit < 65535) }
+    requires work { HasWork (seen_by seat.old) row }
+    requires aborted { end_of (seen_by seat.old) unit ≡ Some Aborted }
+    ensures same { IsSameSeat seat.old seat.new }
+    ensures one { IsPassOf words.now seat.new }
+    ensures no_event { IfSome result (λ now. (hand_of seat.new).mine ≡ (hand_of seat.old).mine) }
+{
+    let found = Claim::Taken {
+        attempt: 1,
+        unit,
+        round: 0,
+    };
+    match words.kill_exchange(seat, row, FoundClaim::of(found)) {
+        Ok(()) => None,
+        Err(now) => Some(now.tells),
+    }
+}
+
+/// A pass aborts the unit that holds an element, another claims the element again, and then the first pass's kill
+/// exchange with the old claim fails and adds no event: the element is not killed.
+#[test]
+fn stale_kill_exchange(rt: HostRuntime) {
+    let Some((words, mut keeper)) = small(rt.alloc()) else {
+        assert!(rt; false);
+        return;
+    };
+    let mut killer = pass(&words, &mut keeper, 0);
+    let mut first = pass(&words, &mut keeper, 1);
+    let mut second = pass(&words, &mut keeper, 2);
+    submit(&words, &mut killer, 0, [0, 9, 8, 7]);
+    assert!(rt; claim(&words, &mut first, 0, 2));
+    assert!(rt; abort_holder(&words, &mut killer, 0, 2));
+    assert!(rt; claim_again(&words, &mut second, 0, 2, 4));
+    let second_claim = Claim::Taken {
+        attempt: 2,
+        unit: 4,
+        round: 0,
+    };
+    assert!(rt; kill_as_first_found(&words, &mut killer, 0, 2) == Some(second_claim));
+    assert!(rt; words.load_claim(&mut killer, 0).tells == second_claim);
+}
+
+/// After two passes met, each can act on what the other has seen.
+#[test]
+fn two_passes_meet(rt: HostRuntime) {
+    let Some((words, mut keeper)) = small(rt.alloc()) else {
+        assert!(rt; false);
+        return;
+    };
+    let mut client = pass(&words, &mut keeper, 0);
+    let mut server = pass(&words, &mut keeper, 1);
+    submit(&words, &mut client, 0, [5, 9, 8, 7]);
+    words.meet(&mut client, &mut server);
+    assert!(rt; claim(&words, &mut server, 0, 2));
+    assert!(rt;
+        words.load_claim(&mut client, 0).tells
+            == Claim::Taken {
+                attempt: 1,
+                unit: 2,
+                round: 0
+            }
+    );
+    assert!(rt; words.load_word(&mut client, 0, 0) == 5);
+    assert!(rt; words.load_word(&mut server, 0, 1) == 9);
+    assert!(rt; words.load_word(&mut client, 0, 2) == 8);
+    assert!(rt; words.load_word(&mut server, 0, 3) == 7);
+}
+
+/// All four rows of a pass, each with this body.
+fn fill(words: &Words, seat: &mut Seat, first: u32, body: Body)
+    requires own { IsSeatOf words.now seat.old }
+    requires one { IsPassOf words.now seat.old }
+    requires limits { table_limits words.now ≡ record { parts = 3; rows = 4; units = 2; attempts = 2; spare = 0 } }
+    requires first { (first ≡ (hand_of seat.old).next) × (first < 9) }
+    requires new { ((hand_of seat.old).left ≡ 4) × ((hand_of seat.old).drafts ≡ [])
+        × ((hand_of seat.old).next_body ≡ blank_body) }
+    ensures same { IsSameSeat seat.old seat.new }
+{
+    for i in 0..4u32 {
+        submit(words, seat, first + i, body);
+    }
+}
+
+/// Whether the row has a client's element of stage 1, which is its own root, with this body.
+fn reads_back(words: &Words, seat: &mut Seat, row: u32, body: Body) -> bool
+    requires own { IsSeatOf words.now seat.old }
+    requires one { IsPassOf words.now seat.old }
+    requires row { row < rows_of (table_limits words.now) }
+    ensures same { IsSameSeat seat.old seat.new }
+    ensures one { IsPassOf words.now seat.new }
+{
+    let head = words.load_head(seat, row);
+    let expected = Head::Filled {
+        stage: 1,
+        root: row as u16,
+        by: None,
+    };
+    head == expected && shows_body(words, seat, row, body)
+}
+
+/// Whether four rows read back so, from this row on.
+fn all_read_back(words: &Words, seat: &mut Seat, first: u32, body: Body) -> bool
+    requires own { IsSeatOf words.now seat.old }
+    requires one { IsPassOf words.now seat.old }
+    requires rows { first + 4 ≤ rows_of (table_limits words.now) }
+    ensures same { IsSameSeat seat.old seat.new }
+    ensures one { IsPassOf words.now seat.new }
+{
+    let mut all = true;
+    for i in 0..4u32 {
+        if !reads_back(words, seat, first + i, body) {
+            all = false;
+        }
+    }
+    all
+}
+
+/// Two threads publish at once, each through a seat of its own, and a third seat reads back all that they published.
+#[test]
+fn two_threads_publish(rt: HostRuntime) {
+    let Some((words, mut keeper)) = small(rt.alloc()) else {
+        assert!(rt; false);
+        return;
+    };
+    let mut left = pass(&words, &mut keeper, 0);
+    let mut right = pass(&words, &mut keeper, 1);
+    let mut reader = pass(&words, &mut keeper, 2);
+    join_mut(
+        &rt,
+        &mut || fill(&words, &mut left, 0, [1, 2, 3, 4]),
+        &mut || fill(&words, &mut right, 4, [8, 7, 6, 5]),
+    );
+    assert!(rt; all_read_back(&words, &mut reader, 0, [1, 2, 3, 4]));
+    assert!(rt; all_read_back(&words, &mut reader, 4, [8, 7, 6, 5]));
+}

@@ -1,0 +1,40 @@
+//! Looks at one element, by one pass. What a look finds holds of the history that the pass had seen, if it
+//! has seen nothing new by the end.
+ghost use Rattle.std.specs.Prelude.{◌≡◌, MatchOption};
+ghost use Rattle.tp_model.specs.History.{IsUnborn};
+ghost use Rattle.tp_manager.specs.Calls.{IsLook};
+ghost use Rattle.tp_manager.specs.Requeues.{HasHadRounds};
+ghost use Rattle.tp_manager.specs.Shown.{IsOf};
+ghost use Rattle.tp_alone.specs.Thread.{Stays};
+ghost use Rattle.tp_rollover.specs.Told.{HoldsAsSeen};
+
+use tp_manager::{Manager, Pass};
+use tp_model::types::Look;
+
+/// The element with this id and its status, or `None` where none is born.
+pub(crate) fn look(manager: &Manager, pass: &mut Pass, id: u32) -> Option<Look>
+    requires own { IsOf manager.now pass.old }
+    ensures own { IsOf manager.now pass.new }
+    ensures stays { Stays pass.old pass.new }
+    ensures told { HoldsAsSeen pass.old pass.new (λ h. MatchOption result
+        (IsUnborn h id) (λ look. IsLook manager.now.limits id look h)) }
+{
+    match manager.read(pass, id) {
+        Ok(look) => Some(look),
+        Err(_) => None,
+    }
+}
+
+/// How many further rounds the element was given, or `None` where none is born.
+pub(crate) fn rounds_had(manager: &Manager, pass: &mut Pass, id: u32) -> Option<u8>
+    requires own { IsOf manager.now pass.old }
+    ensures own { IsOf manager.now pass.new }
+    ensures stays { Stays pass.old pass.new }
+    ensures told { HoldsAsSeen pass.old pass.new (λ h. MatchOption result (IsUnborn h id)
+        (λ n. HasHadRounds id n h)) }
+{
+    match manager.rounds(pass, id) {
+        Ok(rounds) => Some(rounds),
+        Err(_) => None,
+    }
+}
