@@ -1,7 +1,7 @@
 -- Servers by name, and outputs one after the other.
 use Rattle.std.proofs.Common.{◌≡◌, ℕ, suc, ◌≤◌, ◌<◌, Bool, true, false, List, [], ◌∷◌, ◌++◌, length, map, get_or, Option, Some, Result, Ok, Err, refl, sym, ap, ◌∙◌, append_assoc, arith, position, Bor}
 use Rattle.std.proofs.Common.{zero, ◌&&◌, not, rules, tests, ◌==◌}
-use Rattle.std.specs.Prelude.{nat_le, IsOk}
+use Rattle.std.specs.Prelude.{nat_le, IsOk, OnErr}
 use Rattle.std.specs.List.{list_all}
 use Rattle.std.specs.Str.{IsAscii, IsUtf8}
 use Rattle.std.proofs.lemmas.Str.{IsUtf8-from_ascii}
@@ -15,9 +15,9 @@ use Rattle.tp_script.specs.declared.script.ScriptServer.{ScriptServer}
 use Rattle.tp_script.specs.declared.script.Command.{Command}
 use Rattle.std.proofs.Common.{set}
 use Rattle.std.specs.Prelude.{slice_get, option_map}
-use Rattle.std.proofs.lemmas.List.{map-set}
+use Rattle.std.proofs.lemmas.List.{map-set, set-get_or}
 use Rattle.std.proofs.lemmas.Option.{slice_get-map, slice_get_read}
-use Rattle.tp_script.specs.Script.{SettingsView, ScriptView, server_view}
+use Rattle.tp_script.specs.Script.{SettingsView, ServerView, ScriptView, server_view}
 use Rattle.tp_script.specs.LineWords.{◌>>=◌, output_at, outputs_at, is_name}
 use Rattle.tp_script.specs.Reading.{Fails, Gives}
 use Rattle.tp_script.specs.ServerLines.{begun, begin_at}
@@ -89,3 +89,13 @@ begins_at settings items commands account place k v old new (Err errors.NoMemory
 begins_at settings items commands account place k v old new (Err (errors.Fault f)) lt at given =
     let look : slice_get (map server_view items) place ≡ Some (server_view old) = slice_get-map server_view items place ∙ ap (λ (o : Option ScriptServer). option_map server_view o) (slice_get_read items (length items) place old refl lt at) in
     rw (look, given) refl
+
+-- where that is refused, the servers stay as they were
+pub servers_kept : (items : List ScriptServer) (place : ℕ) (old new : ScriptServer) → old ≡ get_or items place old → server_view new ≡ server_view old → map server_view (set items place new) ≡ map server_view items
+servers_kept items place old new at same = map-set server_view items place new ∙ ap (λ v. set (map server_view items) place v) same ∙ sym (map-set server_view items place old) ∙ ap (λ (o : ScriptServer). map server_view (set items place o)) at ∙ ap (map server_view) (set-get_or items place old)
+
+pub begins_kept : (settings : SettingsView) (items : List ScriptServer) (commands : List Command) (account : Bool) (place : ℕ) (old new : ScriptServer) (r : Result (Unit {0}) LineError) → old ≡ get_or items place old
+    → OnErr r (server_view new ≡ server_view old)
+    → OnErr r (◌≡◌ {A = ScriptView} (record { settings = settings; servers = map server_view (set items place new); commands = commands; account = account }) (record { settings = settings; servers = map server_view items; commands = commands; account = account }))
+begins_kept settings items commands account place old new (Ok u) at kept = tt
+begins_kept settings items commands account place old new (Err e) at kept = ap (λ (servers : List ServerView). record { settings = settings; servers = servers; commands = commands; account = account }) (servers_kept items place old new at kept)

@@ -4,3 +4,4 @@ pub mod TextLemmas
 pub mod GrammarLemmas
 pub mod LinesLemmas
 pub mod FirstWords
+pub mod DraftLemmas

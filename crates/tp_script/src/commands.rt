@@ -22,18 +22,18 @@ fn one_id(words: &[&[u8]]) -> Result<u32, LineError>
     Ok(id as u32)
 }
 
-// The words of a submit line, each in its place.
+/// The words of a submit line, each in its place.
 #[derive(Clone, Copy)]
-struct SubmitWords<'a> {
-    stage: &'a [u8],
-    key: &'a [u8],
-    amount: &'a [u8],
-    word_two: &'a [u8],
-    word_three: &'a [u8],
+pub(crate) struct SubmitWords<'a> {
+    pub stage: &'a [u8],
+    pub key: &'a [u8],
+    pub amount: &'a [u8],
+    pub word_two: &'a [u8],
+    pub word_three: &'a [u8],
 }
 
-// STAGE KEY AMOUNT, with words 2 and 3 of the body behind; missing ones are 0.
-fn submit_words<'a>(words: &[&'a [u8]]) -> Result<SubmitWords<'a>, LineError>
+/// STAGE KEY AMOUNT, with words 2 and 3 of the body behind; missing ones are 0.
+pub(crate) fn submit_words<'a>(words: &[&'a [u8]]) -> Result<SubmitWords<'a>, LineError>
     ensures { Gives submit_view result (submit_words (map (λ x. x.now) words.now)) }
 {
     let (stage, key, amount, word_two, word_three) = match words {
@@ -97,9 +97,9 @@ fn race_words<'a>(words: &[&'a [u8]]) -> Result<RaceWords<'a>, LineError>
     })
 }
 
-// A stage that clients may submit to.
+/// A stage that clients may submit to.
 #[tactic(auto, unfolding(crate::specs::Commands::stage_at))]
-fn stage_at(word: &[u8]) -> Result<u8, LineError>
+pub(crate) fn stage_at(word: &[u8]) -> Result<u8, LineError>
     ensures gives { Gives (λ n. n) result (stage_at word.now) }
     ensures bounds { IfOk result (λ n. (1 ≤ n) × (n ≤ MAX_STAGE)) }
 {

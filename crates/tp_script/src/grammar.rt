@@ -1,5 +1,5 @@
 //! The lines of a script, and its settings.
-ghost use Rattle.std.specs.Prelude.{◌≡◌, ◌≤◌, ◌&&◌, map, IfOk, nat_le};
+ghost use Rattle.std.specs.Prelude.{◌≡◌, ◌≤◌, ◌&&◌, map, IfOk, OnErr, nat_le};
 ghost use Rattle.std.specs.List.{list_all};
 ghost use Rattle.tp_script.specs.Grammar.{setting_at, rows_line, units_line, limit_line, spare_line};
 ghost use Rattle.tp_script.specs.Grammar.{account_line, keyword_line, words_line, is_comment, line_at};
@@ -37,7 +37,8 @@ impl Script {
     // `rows N`
     #[tactic(auto, unfolding(crate::specs::Grammar::rows_line))]
     fn rows_line(&mut self, word: &[u8]) -> Result<(), LineError>
-        ensures { GivesScript self.new result (rows_line word.now (script_view self.old)) }
+        ensures gives { GivesScript self.new result (rows_line word.now (script_view self.old)) }
+        ensures kept { OnErr result (script_view self.new ≡ script_view self.old) }
     {
         self.settings.rows = self.setting_at(word, 1, MAX_PART_ROWS)?;
         Ok(())
@@ -46,7 +47,8 @@ impl Script {
     // `units N`
     #[tactic(auto, unfolding(crate::specs::Grammar::units_line))]
     fn units_line(&mut self, word: &[u8]) -> Result<(), LineError>
-        ensures { GivesScript self.new result (units_line word.now (script_view self.old)) }
+        ensures gives { GivesScript self.new result (units_line word.now (script_view self.old)) }
+        ensures kept { OnErr result (script_view self.new ≡ script_view self.old) }
     {
         self.settings.units = self.setting_at(word, 1, MAX_UNITS)?;
         Ok(())
@@ -55,7 +57,8 @@ impl Script {
     // `limit N`
     #[tactic(auto, unfolding(crate::specs::Grammar::limit_line))]
     fn limit_line(&mut self, word: &[u8]) -> Result<(), LineError>
-        ensures { GivesScript self.new result (limit_line word.now (script_view self.old)) }
+        ensures gives { GivesScript self.new result (limit_line word.now (script_view self.old)) }
+        ensures kept { OnErr result (script_view self.new ≡ script_view self.old) }
     {
         self.settings.attempts = self.setting_at(word, 1, u16::from(MAX_ATTEMPTS))? as u8;
         Ok(())
@@ -64,7 +67,8 @@ impl Script {
     // `spare S`
     #[tactic(auto, unfolding(crate::specs::Grammar::spare_line))]
     fn spare_line(&mut self, word: &[u8]) -> Result<(), LineError>
-        ensures { GivesScript self.new result (spare_line word.now (script_view self.old)) }
+        ensures gives { GivesScript self.new result (spare_line word.now (script_view self.old)) }
+        ensures kept { OnErr result (script_view self.new ≡ script_view self.old) }
     {
         self.settings.spare = self.setting_at(word, 0, MAX_BLOCKS)?;
         Ok(())
@@ -73,24 +77,26 @@ impl Script {
     // `account`
     #[tactic(auto, unfolding(crate::specs::Grammar::account_line))]
     fn account_line(&mut self, words: &[&[u8]]) -> Result<(), LineError>
-        ensures { GivesScript self.new result (account_line (map (λ x. x.now) words.now)
+        ensures gives { GivesScript self.new result (account_line (map (λ x. x.now) words.now)
             (script_view self.old)) }
+        ensures kept { OnErr result (script_view self.new ≡ script_view self.old) }
     {
         none(words)?;
         self.account = true;
         Ok(())
     }
 
-    // What a line says behind its first word.
+    /// What a line says behind its first word.
     #[tactic(auto, unfolding(crate::specs::Grammar::keyword_line))]
-    fn keyword_line(
+    pub(crate) fn keyword_line(
         &mut self,
         alloc: Global,
         keyword: Keyword,
         words: &[&[u8]],
     ) -> Result<(), LineError>
-        ensures { GivesScript self.new result (keyword_line keyword (map (λ x. x.now) words.now)
+        ensures gives { GivesScript self.new result (keyword_line keyword (map (λ x. x.now) words.now)
             (script_view self.old)) }
+        ensures kept { OnErr result (script_view self.new ≡ script_view self.old) }
     {
         match keyword {
             Keyword::Rows => self.rows_line(one(words)?),
@@ -148,8 +154,8 @@ impl Script {
     }
 }
 
-// The keyword that a word is.
-fn first_word(word: &[u8]) -> Result<Keyword, LineError>
+/// The keyword that a word is.
+pub(crate) fn first_word(word: &[u8]) -> Result<Keyword, LineError>
     ensures { Gives (λ k. k) result (known (keyword word.now) Syntax) }
 {
     match Keyword::of(word) {
@@ -158,15 +164,15 @@ fn first_word(word: &[u8]) -> Result<Keyword, LineError>
     }
 }
 
-// Whether a line begins with `#`.
-fn is_comment(line: &[u8]) -> bool
+/// Whether a line begins with `#`.
+pub(crate) fn is_comment(line: &[u8]) -> bool
     ensures { result ≡ is_comment line.now }
 {
     line.first() == Some(&b'#')
 }
 
-// Whether each byte of a line is a space or visible.
-fn all_allowed(line: &[u8]) -> bool
+/// Whether each byte of a line is a space or visible.
+pub(crate) fn all_allowed(line: &[u8]) -> bool
     ensures { result ≡ list_all (λ b. nat_le 32 b && nat_le b 126) line.now }
 {
     line.iter().all(|byte| (32..=126).contains(byte))

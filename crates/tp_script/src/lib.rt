@@ -2,17 +2,21 @@
 #![tactic(auto)]
 
 mod commands;
+mod drafts;
 mod fault;
 mod grammar;
+mod head;
 mod keyword;
 mod line_words;
 mod parse;
 mod script;
 mod servers;
+mod session;
 mod source;
 mod text;
 
-pub use fault::{LineFault, ReadFault, Refused};
+pub use fault::{LineError, LineFault, ReadFault, Refused};
+pub use head::{Act, Head, MAX_WORKERS, WorkerAct, WorkerLine};
 pub use parse::read_script;
 pub use script::{
     ClientAct, Command, DeskAct, Kind, MAX_SERVERS, Race, Script, ScriptServer, Settings,

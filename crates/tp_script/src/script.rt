@@ -1,5 +1,5 @@
 //! A script that was read: settings, servers and commands.
-ghost use Rattle.std.specs.Prelude.{◌≡◌, ◌≤◌, ◌<◌, ◌+◌, Ok, length, vec_len};
+ghost use Rattle.std.specs.Prelude.{◌≡◌, ◌≤◌, ◌<◌, ◌+◌, Ok, OnErr, length, vec_len};
 ghost use Rattle.tp_server.specs.Check.{check_of};
 ghost use Rattle.std.specs.List.{All};
 ghost use Rattle.tp_script.specs.Passes.{racing};
@@ -228,7 +228,8 @@ impl Script {
     pub(crate) fn add_server(&mut self, server: ScriptServer) -> Result<(), LineError>
         requires few { vec_len self.old.servers < MAX_SERVERS }
         requires first { vec_len self.old.commands ≡ 0 }
-        ensures { GivesScript self.new result (Ok (with_server (server_view server) (script_view self.old))) }
+        ensures gives { GivesScript self.new result (Ok (with_server (server_view server) (script_view self.old))) }
+        ensures kept { OnErr result (script_view self.new ≡ script_view self.old) }
     {
         self.servers.push(server)?;
         self.pass_count += 1;
@@ -239,7 +240,8 @@ impl Script {
     #[tactic(auto, unfolding(crate::specs::Commands::with_command), using(std::proofs::lemmas::List::Sums::sum_by_push, crate::proofs::ScriptLemmas::all_in_range_push))]
     pub(crate) fn add(&mut self, command: Command) -> Result<(), LineError>
         requires { IsInRange (vec_len self.old.servers) command }
-        ensures { GivesScript self.new result (with_command command (script_view self.old)) }
+        ensures gives { GivesScript self.new result (with_command command (script_view self.old)) }
+        ensures kept { OnErr result (script_view self.new ≡ script_view self.old) }
     {
         let racers = command.racers();
         if racers > MAX_PASSES - self.pass_count {

@@ -1,5 +1,5 @@
 //! The lines that make servers.
-ghost use Rattle.std.specs.Prelude.{◌≡◌, ◌≤◌, ◌<◌, map, length, IfOk, IfSome, OnOk, position, vec_len};
+ghost use Rattle.std.specs.Prelude.{◌≡◌, ◌≤◌, ◌<◌, map, length, IfOk, IfSome, OnErr, OnOk, position, vec_len};
 ghost use Rattle.std.specs.Prelude.{string_bytes, replicate, Ok, is_ok};
 ghost use Rattle.std.specs.Str.{bytes_eq};
 ghost use Rattle.tp_server.specs.Check.{check_of};
@@ -15,10 +15,10 @@ use std::alloc::Global;
 use std::string::String;
 use tp_server::{Act, Recipe, Registers};
 
-// The words of a server line, each in its place.
+/// The words of a server line, each in its place.
 #[derive(Clone, Copy)]
-struct Shape<'a> {
-    name: &'a [u8],
+pub(crate) struct Shape<'a> {
+    pub name: &'a [u8],
     kind: Kind,
     stage: &'a [u8],
     registers: &'a [u8],
@@ -27,9 +27,9 @@ struct Shape<'a> {
     outputs: &'a [&'a [u8]],
 }
 
-// NAME KIND STAGE REGISTERS ACT OUT..
+/// NAME KIND STAGE REGISTERS ACT OUT..
 #[tactic(auto, unfolding(crate::specs::ServerLines::shape_at))]
-fn shape_at<'a>(alloc: Global, words: &'a [&'a [u8]]) -> Result<Shape<'a>, LineError>
+pub(crate) fn shape_at<'a>(alloc: Global, words: &'a [&'a [u8]]) -> Result<Shape<'a>, LineError>
     ensures gives { Gives shape_view result (shape_at (map (λ x. x.now) words.now)) }
     ensures few { IfOk result (λ shape. length shape.outputs.now ≤ 4) }
 {
@@ -120,9 +120,9 @@ impl Script {
         }
     }
 
-    // A name that no server has yet.
+    /// A name that no server has yet.
     #[tactic(auto, unfolding(crate::specs::ServerLines::new_name))]
-    fn new_name(&self, alloc: Global, name: &[u8]) -> Result<String, LineError>
+    pub(crate) fn new_name(&self, alloc: Global, name: &[u8]) -> Result<String, LineError>
         ensures { Gives (λ x. string_bytes x) result (new_name name.now (script_view self.now)) }
     {
         if !is_name(name) || self.place(name).is_some() {
@@ -134,8 +134,9 @@ impl Script {
     /// `server NAME KIND STAGE REGISTERS ACT OUT..`
     #[tactic(auto, unfolding(crate::specs::ServerLines::server_line))]
     pub(crate) fn server_line(&mut self, alloc: Global, words: &[&[u8]]) -> Result<(), LineError>
-        ensures { GivesScript self.new result (server_line (map (λ x. x.now) words.now)
+        ensures gives { GivesScript self.new result (server_line (map (λ x. x.now) words.now)
             (script_view self.old)) }
+        ensures kept { OnErr result (script_view self.new ≡ script_view self.old) }
     {
         let shape = shape_at(alloc, words)?;
         if !self.commands.is_empty() {
@@ -159,7 +160,8 @@ impl Script {
     /// `start NAME K V`
     #[tactic(auto, unfolding(crate::specs::ServerLines::start_line))]
     pub(crate) fn start_line(&mut self, words: (&[u8], &[u8], &[u8])) -> Result<(), LineError>
-        ensures { GivesScript self.new result (start_line (words.entry.0.now, words.entry.1.now, words.entry.2.now) (script_view self.old)) }
+        ensures gives { GivesScript self.new result (start_line (words.entry.0.now, words.entry.1.now, words.entry.2.now) (script_view self.old)) }
+        ensures kept { OnErr result (script_view self.new ≡ script_view self.old) }
     {
         if !self.commands.is_empty() {
             return Err(LineFault::Order.into());
@@ -176,7 +178,8 @@ impl Script {
     // Register k of the server at a place begins with v.
     fn begin_at(&mut self, place: usize, k: u64, v: u64) -> Result<(), LineError>
         requires { place < vec_len self.old.servers }
-        ensures { GivesScript self.new result (begin_at place k v (script_view self.old)) }
+        ensures gives { GivesScript self.new result (begin_at place k v (script_view self.old)) }
+        ensures kept { OnErr result (script_view self.new ≡ script_view self.old) }
     {
         self.servers[place].begin(k, v)
     }
@@ -186,7 +189,8 @@ impl ScriptServer {
     // Register k begins with v.
     #[tactic(auto, unfolding(crate::specs::ServerLines::begun))]
     fn begin(&mut self, k: u64, v: u64) -> Result<(), LineError>
-        ensures { Gives (λ _. server_view self.new) result (begun k v (server_view self.old)) }
+        ensures gives { Gives (λ _. server_view self.new) result (begun k v (server_view self.old)) }
+        ensures kept { OnErr result (server_view self.new ≡ server_view self.old) }
     {
         if k >= u64::from(self.registers.len()) {
             return Err(LineFault::BadRecipe.into());

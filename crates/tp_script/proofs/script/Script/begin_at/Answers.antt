@@ -1,7 +1,10 @@
 use Rattle.std.proofs.Common.{rules, arith}
 use Rattle.tp_script.specs.Script.{settings_view}
-use Rattle.tp_script.proofs.GrammarLemmas.{begins_at}
+use Rattle.tp_script.proofs.GrammarLemmas.{begins_at, begins_kept}
 use Rattle.tp_script.proofs.script.Script.begin_at.Goals as goal
 
-pub returns : goal.returns
-returns c = begins_at (settings_view c.args.self.now.settings) c.args.self.now.servers.items c.args.self.now.commands.items c.args.self.now.account c.args.place c.args.k c.args.v c.index_mut.result.now c.begin.new.self c.begin.result (omega arith) (search rules) c.begin.ensures
+pub returns-clause-gives : goal.returns-clause-gives
+returns-clause-gives c = begins_at (settings_view c.args.self.now.settings) c.args.self.now.servers.items c.args.self.now.commands.items c.args.self.now.account c.args.place c.args.k c.args.v c.index_mut.result.now c.begin.new.self c.begin.result (omega arith) (search rules) c.begin.ensures.gives
+
+pub returns-clause-kept : goal.returns-clause-kept
+returns-clause-kept c = begins_kept (settings_view c.args.self.now.settings) c.args.self.now.servers.items c.args.self.now.commands.items c.args.self.now.account c.args.place c.index_mut.result.now c.begin.new.self c.begin.result (search rules) c.begin.ensures.kept

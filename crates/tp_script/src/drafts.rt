@@ -1,0 +1,102 @@
+//! The outputs of a worker's commit, as its line says them.
+ghost use Rattle.std.specs.Prelude.{◌≡◌, ◌≤◌, ◌&&◌, map, length, IfOk, nat_le};
+ghost use Rattle.std.specs.List.{list_all};
+ghost use Rattle.tp_script.specs.Reading.{Gives, submit_view};
+ghost use Rattle.tp_script.specs.Session.{colons, draft_at, draft_of, draft_words, drafts_at, is_draft};
+ghost use Rattle.tp_script.specs.Session.{output_stage};
+
+use crate::commands::{SubmitWords, submit_words};
+use crate::fault::{LineError, LineFault};
+use crate::line_words::number_at;
+use crate::text::parts;
+use arrayvec::ArrayVec;
+use std::alloc::Global;
+use tp_model::types::{Draft, REPLY_STAGE};
+
+// How many colons a word has.
+fn colons(word: &[u8]) -> usize
+    ensures { result ≡ colons word.now }
+{
+    word.iter().filter(|byte| **byte == b':').count()
+}
+
+// Whether a word has two to four colons.
+fn is_draft(word: &[u8]) -> bool
+    ensures { result ≡ is_draft word.now }
+{
+    let colons = colons(word);
+    colons >= 2 && colons <= 4
+}
+
+// Whether each word has two to four colons.
+fn all_drafts(words: &[&[u8]]) -> bool
+    ensures { result ≡ list_all is_draft (map (λ x. x.now) words.now) }
+{
+    words.iter().all(|word| is_draft(word))
+}
+
+/// The words of drafts behind a name.
+pub(crate) fn draft_words<'a>(words: &'a [&'a [u8]]) -> Result<&'a [&'a [u8]], LineError>
+    ensures gives { Gives (λ v. map (λ x. x.now) v.now) result (draft_words (map (λ x. x.now) words.now)) }
+    ensures few { IfOk result (λ v. length v.now ≤ 4) }
+{
+    let [_name, drafts @ ..] = words else {
+        return Err(LineFault::Syntax.into());
+    };
+    if drafts.len() > 4 || !all_drafts(drafts) {
+        return Err(LineFault::Syntax.into());
+    }
+    Ok(drafts)
+}
+
+// A stage that an output may go to.
+#[tactic(auto, unfolding(crate::specs::Session::output_stage))]
+fn output_stage(word: &[u8]) -> Result<u8, LineError>
+    ensures gives { Gives (λ n. n) result (output_stage word.now) }
+    ensures bounds { IfOk result (λ n. (1 ≤ n) × (n ≤ 15)) }
+{
+    let stage = number_at(word, u64::from(REPLY_STAGE))?;
+    if stage < 1 {
+        return Err(LineFault::BadNumber.into());
+    }
+    Ok(stage as u8)
+}
+
+// The numbers of a draft.
+#[tactic(auto, unfolding(crate::specs::Session::draft_of))]
+fn draft_of(words: SubmitWords<'_>) -> Result<Draft, LineError>
+    ensures { Gives (λ d. d) result (draft_of (submit_view words.entry)) }
+{
+    let stage = output_stage(words.stage)?;
+    let body = [
+        number_at(words.key, u64::MAX)?,
+        number_at(words.amount, u64::MAX)?,
+        number_at(words.word_two, u64::MAX)?,
+        number_at(words.word_three, u64::MAX)?,
+    ];
+    match Draft::new(stage, body) {
+        Some(draft) => Ok(draft),
+        None => unreachable!(),
+    }
+}
+
+// `STAGE:W0:W1`, with words 2 and 3 behind.
+#[tactic(auto, unfolding(crate::specs::Session::draft_at))]
+fn draft_at(alloc: Global, word: &[u8]) -> Result<Draft, LineError>
+    ensures { Gives (λ d. d) result (draft_at word.now) }
+{
+    let parts = parts(alloc, word, b':')?;
+    draft_of(submit_words(parts.as_slice())?)
+}
+
+/// The drafts that words say.
+pub(crate) fn drafts_at(alloc: Global, words: &[&[u8]]) -> Result<ArrayVec<Draft, 4>, LineError>
+    requires { length words.now ≤ 4 }
+    ensures { Gives (λ v. v.items) result (drafts_at (map (λ x. x.now) words.now)) }
+{
+    let mut drafts = ArrayVec::new();
+    for word in words {
+        drafts.push(draft_at(alloc, word)?);
+    }
+    Ok(drafts)
+}
