@@ -276,7 +276,7 @@ fn errors(alloc: Global, manager: &Manager, client: &mut Pass) -> Result<String,
 }
 
 /// `count`: how many elements stand in each way, over all ids below the capacity.
-fn count(manager: &Manager, client: &mut Pass) -> Counts
+pub fn count(manager: &Manager, client: &mut Pass) -> Counts
     requires { IsFreePass manager.now client.old }
     ensures free { IsFreePass manager.now client.new }
     ensures number { client.new.number ≡ client.old.number }

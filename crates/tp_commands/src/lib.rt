@@ -7,7 +7,7 @@ mod desks;
 mod lines;
 mod place;
 
-pub use client::client_line;
+pub use client::{client_line, count};
 pub use desks::desk_line;
 pub use lines::{balance_line, sum};
 pub use place::{Place, end_all, places_for};
