@@ -1,0 +1,139 @@
+//! The lines of a reader, one by one, and the answers that are not written yet.
+ghost use Rattle.std.specs.Prelude.{◌≡◌, ◌≤◌, ◌<◌, ◌+◌, ◌-◌, ◌^◌, ◌++◌, IfOk, IsErrOf, IsTrue, OnOk, vec_len};
+ghost use Rattle.tp_session.specs.declared.reading.TheConstants.{MAX_ASKED, MAX_KEPT};
+
+use std::alloc::{AllocError, Global};
+use tp_report::{Fault, Sink, write_all};
+use tp_script::{Failed, Source};
+
+/// The bytes of a line that are kept: one more than a line may have, so that a longer one is known by it.
+pub const MAX_KEPT: usize = 201;
+
+/// How often a reader is asked in a session.
+pub const MAX_ASKED: u64 = 18_446_744_073_709_551_614;
+
+/// What was read last and not used yet, the line so far, and the answers that are not written yet.
+#[derive(Drop)]
+pub struct Lines {
+    chunk: Vec<u8>,
+    at: usize,
+    line: Vec<u8>,
+    answers: Vec<u8>,
+    /// How often the reader may still be asked.
+    pub left: u64,
+    ghost short: { vec_len line ≤ MAX_KEPT },
+    ghost inside: { at ≤ vec_len chunk },
+}
+
+impl Lines {
+    /// Nothing was read yet.
+    pub fn new(alloc: Global) -> Lines
+        ensures { result.left ≡ MAX_ASKED }
+    {
+        Lines {
+            chunk: Vec::new(alloc),
+            at: 0,
+            line: Vec::new(alloc),
+            answers: Vec::new(alloc),
+            left: MAX_ASKED,
+        }
+    }
+
+    /// The line that `next` has come to, or the first bytes of one that is too long.
+    pub fn line(&self) -> &[u8]
+        ensures { result.now ≡ self.now.line.items }
+    {
+        self.line.as_slice()
+    }
+
+    /// Adds an answer, which is written before the reader is asked again.
+    pub fn tell(&mut self, text: &[u8]) -> Result<(), AllocError>
+        ensures told { OnOk result (self.new.answers.items ≡ self.old.answers.items ++ text.now) }
+        ensures left { self.new.left ≡ self.old.left }
+    {
+        self.answers.extend_from_slice(text)
+    }
+
+    /// Writes the answers.
+    pub fn flush<W: Sink>(&mut self, writer: &mut W) -> Result<(), Fault>
+        ensures left { self.new.left ≡ self.old.left }
+        ensures none { OnOk result (vec_len self.new.answers ≡ 0) }
+        ensures write { IsErrOf result Fault.Write → IsTrue (W.has_failed writer.new) }
+    {
+        match write_all(writer, self.answers.as_slice()) {
+            Ok(()) => {
+                self.answers.clear();
+                Ok(())
+            }
+            Err(Failed) => Err(Fault::Write),
+        }
+    }
+
+    /// Takes the rest of the line from what was read: whether its end was there.
+    fn take_line(&mut self) -> Result<bool, AllocError>
+        ensures left { self.new.left ≡ self.old.left }
+        ensures same { self.new.answers ≡ self.old.answers }
+    {
+        let rest = &self.chunk[self.at..];
+        let end = rest.iter().position(|byte| *byte == b'\n');
+        let many = match end {
+            Some(place) => place,
+            None => rest.len(),
+        };
+        let room = MAX_KEPT - self.line.len();
+        self.line.extend_from_slice(&rest[..many.min(room)])?;
+        match end {
+            Some(place) => {
+                self.at += place + 1;
+                Ok(true)
+            }
+            None => {
+                self.at = self.chunk.len();
+                Ok(false)
+            }
+        }
+    }
+
+    /// Reads more, once the answers are written: whether there was more.
+    fn read_more<R: Source, W: Sink>(&mut self, reader: &mut R, writer: &mut W) -> Result<bool, Fault>
+        requires asked { R.asked reader.old + self.old.left < 2 ^ 64 }
+        ensures asked { R.asked reader.new + self.new.left < 2 ^ 64 }
+    {
+        self.flush(writer)?;
+        if self.left == 0 {
+            return Err(Fault::Read);
+        }
+        self.left -= 1;
+        let mut buffer = [0; 4096];
+        let n = match reader.read(&mut buffer) {
+            Ok(n) => n,
+            Err(Failed) => return Err(Fault::Read),
+        };
+        self.at = 0;
+        self.chunk.clear();
+        match self.chunk.extend_from_slice(&buffer[..n]) {
+            Ok(()) => Ok(n > 0),
+            Err(_) => Err(Fault::NoMemory),
+        }
+    }
+
+    /// Goes on to the next line: whether there is one. All answers are written before the reader is asked.
+    /// Bytes without a line's end at the end of the input are a line too.
+    pub fn next<R: Source, W: Sink>(&mut self, reader: &mut R, writer: &mut W) -> Result<bool, Fault>
+        requires asked { R.asked reader.old + self.old.left < 2 ^ 64 }
+        ensures asked { R.asked reader.new + self.new.left < 2 ^ 64 }
+    {
+        self.line.clear();
+        for _read in 0..MAX_ASKED {
+            match self.take_line() {
+                Ok(true) => return Ok(true),
+                Ok(false) => {}
+                Err(_) => return Err(Fault::NoMemory),
+            }
+            if !self.read_more(reader, writer)? {
+                return Ok(!self.line.is_empty());
+            }
+        }
+        Err(Fault::Read)
+    }
+}
