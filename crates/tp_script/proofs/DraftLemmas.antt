@@ -33,4 +33,3 @@ drafts_end (errors.Fault f) front w ws all h so_far =
 pub drafts_done : (front : List DraftView) (all : Result (List DraftView) LineFault) → with_front front (drafts_at []) ≡ all → all ≡ Ok front
 unfolding drafts_at
 drafts_done front all so_far = sym so_far ∙ ap (λ (x : List DraftView). Ok x) (append-nil front)
-

@@ -91,10 +91,10 @@ pub fn act_line(
     requires client { IsFreePass manager.now client.old }
     requires own { All (IsOf manager.now) passes.old }
     requires lie { AllLie behaviour registers pending passes.old servers.old places.old }
-    requires as_many { length places.old ≡ length head.now.script.servers.items }
+    requires as_many { length places.old ≡ vec_len head.now.script.servers }
     requires hands { All (IsHand manager.now) hands.old }
-    requires each { length hands.old ≡ length head.now.workers.items }
-    requires in_range { IsActInRange (length head.now.script.servers.items) (length head.now.workers.items) act.now }
+    requires each { length hands.old ≡ vec_len head.now.workers }
+    requires in_range { IsActInRange (vec_len head.now.script.servers) (vec_len head.now.workers) act.now }
     ensures client { IsFreePass manager.now client.new }
     ensures own { All (IsOf manager.now) passes.new }
     ensures lie { AllLie behaviour registers pending passes.new servers.new places.new }

@@ -95,7 +95,11 @@ impl Lines {
     }
 
     /// Reads more, once the answers are written: whether there was more.
-    fn read_more<R: Source, W: Sink>(&mut self, reader: &mut R, writer: &mut W) -> Result<bool, Fault>
+    fn read_more<R: Source, W: Sink>(
+        &mut self,
+        reader: &mut R,
+        writer: &mut W,
+    ) -> Result<bool, Fault>
         requires asked { R.asked reader.old + self.old.left < 2 ^ 64 }
         ensures asked { R.asked reader.new + self.new.left < 2 ^ 64 }
     {
@@ -119,7 +123,11 @@ impl Lines {
 
     /// Goes on to the next line: whether there is one. All answers are written before the reader is asked.
     /// Bytes without a line's end at the end of the input are a line too.
-    pub fn next<R: Source, W: Sink>(&mut self, reader: &mut R, writer: &mut W) -> Result<bool, Fault>
+    pub fn next<R: Source, W: Sink>(
+        &mut self,
+        reader: &mut R,
+        writer: &mut W,
+    ) -> Result<bool, Fault>
         requires asked { R.asked reader.old + self.old.left < 2 ^ 64 }
         ensures asked { R.asked reader.new + self.new.left < 2 ^ 64 }
     {
