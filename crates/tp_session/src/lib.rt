@@ -3,12 +3,14 @@
 
 mod acts;
 mod answers;
+mod body;
 mod finals;
 mod hand;
 mod reading;
 
 pub use acts::act_line;
 pub use answers::{busy_line, refused_line, worker_line};
+pub use body::attend;
 pub use finals::final_line;
 pub use hand::{Hand, WorkerAnswer, give_up, worker_act};
 pub use reading::{Lines, MAX_ASKED, MAX_KEPT};
