@@ -18,6 +18,7 @@ mod plain_takings;
 mod plain_turns;
 mod read;
 mod rows;
+mod sessions;
 
 use std::process::Abort;
 use std::thread::Threads;
