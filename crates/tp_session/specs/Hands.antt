@@ -1,6 +1,6 @@
 -- What a worker outside of the program is answered, and what its pass did for it. `old` is what is in its hand
 -- before the command, and `new` what is in it after.
-use Rattle.std.specs.Prelude.{◌≡◌, ℕ, List, Option, Some, None, IsSome, Err}
+use Rattle.std.specs.Prelude.{◌≡◌, ℕ, List, Some, None, IsSome}
 use Rattle.std.specs.Option.{option_map}
 use Rattle.tp_model.specs.Drafts.{DraftView}
 use Rattle.tp_model.specs.declared.types.Claimed.TheVariants as claimeds

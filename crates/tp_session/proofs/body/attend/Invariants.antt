@@ -1,4 +1,4 @@
-use Rattle.std.proofs.Common.{◌≡◌, ◌+◌, ◌<◌, ◌^◌, All, length, vec_len}
+use Rattle.std.proofs.Common.{◌≡◌, ◌+◌, ◌<◌, ◌^◌, All, length}
 use Rattle.tp_commands.specs.Places.{AllLie}
 use Rattle.tp_desk.specs.Steady.{shown}
 use Rattle.tp_manager.specs.Shown.{IsOf}
