@@ -19,14 +19,15 @@ use Rattle.tp_script.specs.declared.script.Command.TheVariants as command
 use Rattle.tp_commands.specs.Acting.{PlaceShown}
 use Rattle.tp_commands.specs.Asked.{TellsClient}
 use Rattle.tp_commands.specs.Registers.{TellsBalance, counted_value, register_sum}
-use Rattle.tp_perform.specs.Told.{Performs, Scene}
+use Rattle.tp_perform.specs.Scenes.{Scene, passes_in}
+use Rattle.tp_perform.specs.Told.{Performs}
 use Rattle.tp_reference.specs.declared.plain_desk.PlainDesk.{PlainDesk}
 use Rattle.tp_reference.specs.PlainClient.{client, client_step}
 use Rattle.tp_reference.specs.PlainReport as plain
 use Rattle.tp_reference.specs.PlainReport.{ReportState, balance_at, command_step, with_manager}
 use Rattle.tp_alone.specs.Thread.{AreTogether, Stays, thread_of}
 use Rattle.tp_exact.specs.Acts.{Acts}
-use Rattle.tp_exact.specs.Stands.{IsFor, IsServedBy, OnlyLooks, OnlyLooksAt, Stands, passes_in}
+use Rattle.tp_exact.specs.Stands.{IsFor, IsServedBy, OnlyLooks, OnlyLooksAt, Stands}
 use Rattle.tp_exact.proofs.Clients.{exact_client}
 use Rattle.tp_exact.proofs.Parts.{idle}
 

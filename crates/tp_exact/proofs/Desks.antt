@@ -41,7 +41,7 @@ use Rattle.tp_exact.proofs.Parts.{idle}
 use Rattle.tp_exact.proofs.Takes.{gives}
 
 -- the state of a pass stands at its place
-pass_here : (front back : List PassShown) (p : PassShown) (rest : List PassState) (c : ℕ) → length front ≡ c → slice_index_or (map state_of (front ++ p ∷ back) ++ rest) c no_pass ≡ state_of p
+pub pass_here : (front back : List PassShown) (p : PassShown) (rest : List PassState) (c : ℕ) → length front ≡ c → slice_index_or (map state_of (front ++ p ∷ back) ++ rest) c no_pass ≡ state_of p
 pass_here [] back p rest zero at = refl
 pass_here [] back p rest (suc c) at = absurd (omega (arith, at))
 pass_here (q ∷ qs) back p rest zero at = absurd (omega (arith, at))

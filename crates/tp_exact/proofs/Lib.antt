@@ -16,8 +16,9 @@ pub mod Halves
 pub mod Turns
 pub mod DeskActs
 pub mod Places
-pub mod Covered
 pub mod Scenes
+pub mod Drains
+pub mod Covered
 pub mod Begins
 pub mod Chain
 pub mod Scripts

@@ -25,7 +25,8 @@ use Rattle.tp_workers.specs.Free.{IsFreePass, numbers}
 use Rattle.tp_commands.specs.declared.place.Place.{Place}
 use Rattle.tp_commands.specs.Acting.{places_shown}
 use Rattle.tp_commands.specs.Places.{AllLie, Lies, workers}
-use Rattle.tp_perform.specs.Told.{AreReady, Gathered, IsScene, OnlyPass, Scene, passes_in}
+use Rattle.tp_perform.specs.Scenes.{Gathered, OnlyPass, Scene, passes_in}
+use Rattle.tp_perform.specs.Told.{AreReady, IsScene}
 
 -- ---- lists side by side
 
