@@ -41,18 +41,18 @@ none_raced true b is = absurd cc
 none_raced false b is = (refl, is)
 
 no_racer : (c : Command) → is_race c ≡ false → racers c ≡ 0
-no_racer (command.Race plan) no = absurd cc
-no_racer (command.Client act) no = refl
-no_racer (command.Desk at act) no = refl
-no_racer (command.Balance at k) no = refl
-no_racer (command.Sum k) no = refl
-no_racer command.Drain no = refl
-no_racer command.DrainNext no = refl
+no_racer (command.Race plan) raceless = absurd cc
+no_racer (command.Client act) raceless = refl
+no_racer (command.Desk at act) raceless = refl
+no_racer (command.Balance at k) raceless = refl
+no_racer (command.Sum k) raceless = refl
+no_racer command.Drain raceless = refl
+no_racer command.DrainNext raceless = refl
 
 no_racers : (cs : List Command) → has_race cs ≡ false → racing cs ≡ 0
-no_racers [] no = refl
-no_racers (c ∷ cs) no =
-    let parts = none_raced (is_race c) (has_race cs) no in
+no_racers [] raceless = refl
+no_racers (c ∷ cs) raceless =
+    let parts = none_raced (is_race c) (has_race cs) raceless in
     let both : racing (c ∷ cs) ≡ racers c + racing cs = sum_by-cons racers c cs in
     let one = no_racer c parts.0 in
     let others = no_racers cs parts.1 in

@@ -17,9 +17,9 @@ use Rattle.tp_exact.proofs.Begins.{begins_so, none_raced}
 use Rattle.tp_exact.proofs.Covered.{exact_command}
 
 no_race_at : (cs : List Command) (n : ℕ) (c : Command) → has_race cs ≡ false → slice_get cs n ≡ Some c → is_race c ≡ false
-no_race_at [] n c no is = absurd cc
-no_race_at (d ∷ cs) zero c no is = let same : d ≡ c = cc in ap is_race (sym same) ∙ (none_raced (is_race d) (has_race cs) no).0
-no_race_at (d ∷ cs) (suc n) c no is = no_race_at cs n c (none_raced (is_race d) (has_race cs) no).1 is
+no_race_at [] n c raceless is = absurd cc
+no_race_at (d ∷ cs) zero c raceless is = let same : d ≡ c = cc in ap is_race (sym same) ∙ (none_raced (is_race d) (has_race cs) raceless).0
+no_race_at (d ∷ cs) (suc n) c raceless is = no_race_at cs n c (none_raced (is_race d) (has_race cs) raceless).1 is
 
 -- one command more, if there is one
 abbrev pub next : List ServerView → Option Command → List ℕ × ReportState → List ℕ × ReportState

@@ -25,11 +25,11 @@ module _ (m : ManagerShown) (script : ScriptView) (raced : ℕ) (keeper keeper' 
 
   -- a command that is no drain and no race
   single : (c : Command) → is_race c ≡ false → Performs m script c raced old text done → Leads c
-  single (command.Client act) no p =
+  single (command.Client act) raceless p =
       by_client script.servers m.limits keeper keeper' keeper.seen keeper'.seen old done next s stands p.tells.others.places (racers_kept m script (command.Client act) raced old text done p p.tells.others.racers) (looks m keeper keeper' done next g) (together m keeper keeper' done next g) act text p.tells.tells
-  single (command.Desk at act) no p =
+  single (command.Desk at act) raceless p =
       at_desk m script act at raced keeper keeper' keeper.seen keeper'.seen old done next text s stands p (looks m keeper keeper' done next g) (together m keeper keeper' done next g)
-  single (command.Balance at k) no p =
+  single (command.Balance at k) raceless p =
       let t = p.tells in
       let places : done.places ≡ old.places = ap (λ (z : Scene). z.places) t.same in
       let racers = racers_kept m script (command.Balance at k) raced old text done p (ap (λ (z : Scene). z.racers) t.same) in
@@ -37,22 +37,22 @@ module _ (m : ManagerShown) (script : ScriptView) (raced : ℕ) (keeper keeper' 
         told_so t.server k t.place d.0 text d.2 t.tells ∙ (ap (λ o. balance_at (Some t.server) o k) (sym d.1) ∙ ap (λ o. balance_at o (slice_get s.desks at) k) (sym t.named)),
         idles script.servers m.limits keeper keeper' keeper.seen keeper'.seen old done next s stands places racers (looks m keeper keeper' done next g) (together m keeper keeper' done next g) (ap (λ (z : Scene). z.client) t.same),
       )
-  single (command.Sum k) no p =
+  single (command.Sum k) raceless p =
       let t = p.tells in
       let places : done.places ≡ old.places = ap (λ (z : Scene). z.places) t.1 in
       let racers = racers_kept m script (command.Sum k) raced old text done p (ap (λ (z : Scene). z.racers) t.1) in (
         t.0 ∙ ap (λ n. line (answer_text (answer.Sum k n))) (summed_so k old.places s.desks stands.desks),
         idles script.servers m.limits keeper keeper' keeper.seen keeper'.seen old done next s stands places racers (looks m keeper keeper' done next g) (together m keeper keeper' done next g) (ap (λ (z : Scene). z.client) t.1),
       )
-  single (command.Race plan) no p = absurd cc
-  single command.Drain no p = absurd p.tells
-  single command.DrainNext no p = absurd p.tells
+  single (command.Race plan) raceless p = absurd cc
+  single command.Drain raceless p = absurd p.tells
+  single command.DrainNext raceless p = absurd p.tells
 
 pub exact_command : ExactCommand
-exact_command (command.Client act) no m script raced keeper keeper' old new text s stands p = single m script raced keeper keeper' old p.0 new text s stands p.2 (command.Client act) no p.1
-exact_command (command.Desk at act) no m script raced keeper keeper' old new text s stands p = single m script raced keeper keeper' old p.0 new text s stands p.2 (command.Desk at act) no p.1
-exact_command (command.Balance at k) no m script raced keeper keeper' old new text s stands p = single m script raced keeper keeper' old p.0 new text s stands p.2 (command.Balance at k) no p.1
-exact_command (command.Sum k) no m script raced keeper keeper' old new text s stands p = single m script raced keeper keeper' old p.0 new text s stands p.2 (command.Sum k) no p.1
-exact_command (command.Race plan) no m script raced keeper keeper' old new text s stands p = absurd cc
-exact_command command.Drain no m script raced keeper keeper' old new text s stands p = drained script.servers orders.LeastFirst m keeper keeper' old new text s stands p
-exact_command command.DrainNext no m script raced keeper keeper' old new text s stands p = drained script.servers orders.InTurn m keeper keeper' old new text s stands p
+exact_command (command.Client act) raceless m script raced keeper keeper' old new text s stands p = single m script raced keeper keeper' old p.0 new text s stands p.2 (command.Client act) raceless p.1
+exact_command (command.Desk at act) raceless m script raced keeper keeper' old new text s stands p = single m script raced keeper keeper' old p.0 new text s stands p.2 (command.Desk at act) raceless p.1
+exact_command (command.Balance at k) raceless m script raced keeper keeper' old new text s stands p = single m script raced keeper keeper' old p.0 new text s stands p.2 (command.Balance at k) raceless p.1
+exact_command (command.Sum k) raceless m script raced keeper keeper' old new text s stands p = single m script raced keeper keeper' old p.0 new text s stands p.2 (command.Sum k) raceless p.1
+exact_command (command.Race plan) raceless m script raced keeper keeper' old new text s stands p = absurd cc
+exact_command command.Drain raceless m script raced keeper keeper' old new text s stands p = drained script.servers orders.LeastFirst m keeper keeper' old new text s stands p
+exact_command command.DrainNext raceless m script raced keeper keeper' old new text s stands p = drained script.servers orders.InTurn m keeper keeper' old new text s stands p

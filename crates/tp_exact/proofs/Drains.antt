@@ -1,6 +1,7 @@
 -- A drain, turn by turn, where nobody else acts.
 use Rattle.std.proofs.Common.{◌≡◌, ℕ, zero, suc, ◌+◌, ◌-◌, ◌<◌, ◌≤◌, ◌||◌, ◌&&◌, not, Bool, true, false, List, [], ◌∷◌, ◌++◌, length, map, slice_index_or, Option, Some, None, inl, inr, refl, sym, ◌∙◌, ap, subst, arith}
 use Rattle.std.specs.Prelude.{is_some, slice_get, if◌then◌else◌}
+use Rattle.std.specs.List.{AllZip}
 use Rattle.std.proofs.lemmas.Bool.{cases_lt}
 use Rattle.std.proofs.lemmas.Bool.Decides.{eqb_tells}
 use Rattle.std.proofs.lemmas.List.{length-append, length-map}
@@ -31,8 +32,7 @@ use Rattle.tp_reference.specs.PlainReport as plain
 use Rattle.tp_reference.specs.PlainReport.{ReportState, drain_of, most_rounds, round_below, round_of, round_turn, rounds, with_acted, worker}
 use Rattle.tp_reference.proofs.DrainEnds.{drains_end, no_more, none_yet, one_more}
 use Rattle.tp_alone.specs.Thread.{AreTogether, HasSeen, not_given, state_of, thread_of}
-use Rattle.tp_alone.proofs.Apart.{zip_long}
-use Rattle.tp_exact.specs.Stands.{IsFor, IsServedBy, Stands}
+use Rattle.tp_exact.specs.Stands.{IsFor, IsForDesk, IsServedBy, Stands}
 use Rattle.tp_exact.proofs.Commands.{zip_at}
 use Rattle.tp_exact.proofs.Desks.{pass_here}
 use Rattle.tp_exact.proofs.Places.{acts_at, at_worker, kept_turned, leads_at, parted, pass_at_place, passes}
@@ -55,6 +55,13 @@ none_of (Some x) e = absurd cc
 both_true : (a b : Bool) → a && b ≡ true → (a ≡ true) × (b ≡ true)
 both_true true b e = (refl, e)
 both_true false b e = absurd cc
+
+-- two lists side by side are as long as each other
+beside_long : {A B : Type 0} (R : A → B → Type 0) (xs : List A) (ys : List B) → AllZip R xs ys → length ys ≡ length xs
+beside_long R [] [] zip = refl
+beside_long R [] (y ∷ ys) zip = absurd zip
+beside_long R (x ∷ xs) [] zip = absurd zip
+beside_long R (x ∷ xs) (y ∷ ys) zip = ap suc (beside_long R xs ys zip.1)
 
 -- passes with the numbers from a on, all below k
 numbered_below : (k a : ℕ) (ps : List PassShown) → a ≤ k → AreNumberedFrom a ps → ((p : PassShown) → In p ps → p.number < k) → a + length ps ≤ k
@@ -79,8 +86,8 @@ module _ (servers : List ServerView) (order : Order) (m : ManagerShown) where
 
   -- whether a desk is free
   free_same : (keeper : KeeperShown) (old : Scene) (s : ReportState) (at : ℕ) (p : PlaceShown) (d : PlainDesk) → Is keeper old s → slice_get old.places at ≡ Some p → IsFor p d → desks.is_free s.manager (worker at) d ≡ is_free p
-  free_same keeper old s at p d stands there is =
-      let parts = parted old.places at p there in
+  free_same keeper old s at p d stands found is =
+      let parts = parted old.places at p found in
       let state : slice_index_or (map state_of (passes_in old) ++ not_given l (length (passes_in old))) (worker at) no_pass ≡ state_of p.desk.pass
       = ap (λ ps. slice_index_or (map state_of ps ++ not_given l (length (passes_in old))) (worker at) no_pass) (pass_at_place old at p parts)
       ∙ pass_here (old.client ∷ passes parts.front) (passes parts.back ++ old.racers) p.desk.pass (not_given l (length (passes_in old))) (worker at) (at_worker old at p parts) in
@@ -97,9 +104,9 @@ module _ (servers : List ServerView) (order : Order) (m : ManagerShown) where
 
   computed : (at : ℕ) (s : ReportState) (server : ServerView) (d : PlainDesk) (b : Bool) → slice_get servers at ≡ Some server → slice_get s.desks at ≡ Some d → desks.is_free s.manager (worker at) d ≡ b
       → round_turn order (slice_get servers at) (slice_get s.desks at) at s ≡ by_free b (turn_by order server.recipe (worker at) s.manager d) at s
-  computed at s server d b named here free =
+  computed at s server d b named desk_is free =
       ap (λ o. round_turn order o (slice_get s.desks at) at s) named
-      ∙ (ap (λ o. round_turn order (Some server) o at s) here
+      ∙ (ap (λ o. round_turn order (Some server) o at s) desk_is
       ∙ ap (λ c. by_free c (turn_by order server.recipe (worker at) s.manager d) at s) free)
 
   taken : (at : ℕ) (keeper keeper' : KeeperShown) (old new : Scene) (b : Bool) (s : ReportState) → Is keeper old s → TurnTaken order m at keeper old b keeper' new → Turns at keeper' new b s
@@ -119,7 +126,7 @@ module _ (servers : List ServerView) (order : Order) (m : ManagerShown) where
       let answered : told.Turned t.turned ≡ done.answer = law.0 ∙ ap (λ (x : DeskAnswered). x.answer) same in
       let manager : thread_of l (passes_in new) keeper'.seen ≡ done.manager = law.1 ∙ ap (λ (x : DeskAnswered). x.manager) same in
       let is : IsFor q done.desk = record {
-        desk = subst (λ (x : DeskAnswered). _) same law.2;
+        desk = subst (λ (x : DeskAnswered). IsForDesk q.desk x.desk) same law.2;
         dropped = kept_turned d.0 by.0.recipe (worker at) (claim_by order s.manager (worker at) by.0.recipe.stage) ∙ (d.2.dropped ∙ sym did.kept);
       } in
       let stands' = leads_at servers l keeper keeper' keeper.seen keeper'.seen old t.done new s at p q stands t.turns.there t.turns.others t.others.client t.others.racers only after by.0 d.0 done by.1 d.1 did.turn.behaviour_is by.2 manager is in
@@ -152,7 +159,7 @@ module _ (servers : List ServerView) (order : Order) (m : ManagerShown) where
   round_so : (keeper keeper' : KeeperShown) (old new : Scene) (b : Bool) (s : ReportState) → Is keeper old s → Round order m keeper old b keeper' new
       → (b ≡ (round_of order servers s).0) × Is keeper' new (round_of order servers s).1
   round_so keeper keeper' old new b s stands t =
-      let long : length servers ≡ length old.places = zip_long IsServedBy old.places servers stands.served in
+      let long : length servers ≡ length old.places = beside_long IsServedBy old.places servers stands.served in
       below (length servers) keeper keeper' old new b s stands (subst (λ k. TurnsBelow order m k keeper old b keeper' new) (sym long) t)
 
   -- ---- rounds
@@ -164,30 +171,36 @@ module _ (servers : List ServerView) (order : Order) (m : ManagerShown) where
   pair_is r b is = ap (λ c. (c, r.1)) (sym is)
 
   claimed : (n : ℕ) (keeper keeper' : KeeperShown) (old new : Scene) (s : ReportState) → Is keeper old s → RoundsClaim order m n keeper old keeper' new → (t : ReportState) × Is keeper' new t × After n s t
-  claimed zero keeper keeper' old new s stands t = (s, subst (λ k. Is k new s) (sym t.0) (subst (λ z. Is keeper z s) (sym t.1) stands), ((λ k. refl), λ j less. absurd (omega (arith, less))))
+  claimed zero keeper keeper' old new s stands t = (s, subst (λ k. Is k new s) (sym t.0) (subst (λ z. Is keeper z s) (sym t.1) stands), ((λ k. ap (λ j. rounds order servers j s) (omega arith)), λ j less. absurd (omega (arith, less))))
   claimed (suc n) keeper keeper' old new s stands t =
       let before = claimed n keeper t.0 old t.1 s stands t.2 in
       let u : ReportState = before.0 in
       let one = round_so t.0 keeper' t.1 new true u before.1 t.3 in
       let next : ReportState = (round_of order servers u).1 in
       let on : (k : ℕ) → rounds order servers (suc n + k) s ≡ rounds order servers k next = λ k. (
-          let more : suc n + k ≡ n + suc k = omega arith in
-          ap (λ j. rounds order servers j s) more ∙ (before.2.0 (suc k) ∙ one_more order servers k u next (pair_is (round_of order servers u) true one.0))) in
-      (next, one.1, (on, λ j less. elim (eqb_tells j n) [
-        | inl same ↦ (
-            let is : rounds order servers j s ≡ u =
-            ap (λ i. rounds order servers i s) (let e = same.1 in omega (arith, e)) ∙ (before.2.0 0 ∙ none_yet order servers u) in
-            ap (λ (z : ReportState). (round_of order servers z).0) is ∙ sym one.0)
-        | inr other ↦ before.2.1 j (let e = other.1 in omega (arith, less, e))
-      ]))
+      let more : suc n + k ≡ n + suc k = omega arith in
+      ap (λ j. rounds order servers j s) more ∙ (before.2.0 (suc k) ∙ one_more order servers k u next (pair_is (round_of order servers u) true one.0))) in (
+        next,
+        one.1,
+        (
+          on,
+          λ j less. elim (eqb_tells j n) [
+            | inl same ↦ (
+                let is : rounds order servers j s ≡ u =
+                ap (λ i. rounds order servers i s) (let e = same.1 in omega (arith, e)) ∙ (before.2.0 0 ∙ none_yet order servers u) in
+                ap (λ (z : ReportState). (round_of order servers z).0) is ∙ sym one.0)
+            | inr other ↦ before.2.1 j (let e = other.1 in omega (arith, less, e))
+          ],
+        ),
+      )
 
   -- ---- a drain
 
   enough : (keeper : KeeperShown) (old : Scene) (s : ReportState) → Is keeper old s → (length servers < length s.manager.passes) × (length s.manager.passes ≤ s.manager.limits.parts)
   enough keeper old s stands =
       let ps : List PassShown = passes_in old in
-      let few : 0 + length ps ≤ l.parts = numbered_below l.parts 0 ps (omega arith) stands.together.all.1 (λ p at. subst (λ (k : Limits). p.number < k.parts) (stands.together.each p at).limits (stands.together.each p at).shows.given) in
-      let long : length servers ≡ length old.places = zip_long IsServedBy old.places servers stands.served in
+      let few : 0 + length ps ≤ l.parts = numbered_below l.parts 0 ps (omega arith) stands.together.all.1 (λ p at. (stands.together.each p at).shows.given) in
+      let long : length servers ≡ length old.places = beside_long IsServedBy old.places servers stands.served in
       let places = length-map old.places (λ (p : PlaceShown). p.desk.pass) in
       let behind = length-append (map (λ (p : PlaceShown). p.desk.pass) old.places) old.racers in
       let states = length-map ps state_of in

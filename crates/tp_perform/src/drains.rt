@@ -128,7 +128,8 @@ fn claims(turned: Turned) -> bool
 {
     match turned {
         Turned::Idle | Turned::NoUnit => false,
-        Turned::Done { .. } | Turned::Refused { .. } | Turned::Lost { .. } | Turned::Full { .. } => true,
+        Turned::Done { .. } | Turned::Refused { .. } | Turned::Lost { .. } | Turned::Full { .. } =>
+            true,
     }
 }
 

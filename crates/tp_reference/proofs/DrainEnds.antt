@@ -255,7 +255,7 @@ mul_le (suc a) (suc b) n few =
 
 pub drains_end : DrainsEnd
 drains_end order servers s enough few =
-    let most = all_left s.manager.limits.units s.manager.passes in
+    let most = all_left order servers s.manager.limits.units s.manager.passes in
     let fewer = mul_le (length s.manager.passes) s.manager.limits.parts s.manager.limits.units few in
     let t = ends order servers (most_rounds s.manager.limits) s enough (omega (arith, most, fewer)) in
     record { before = t.0; few = t.1; dry = t.2 }

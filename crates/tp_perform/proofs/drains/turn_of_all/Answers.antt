@@ -29,13 +29,13 @@ returns-clause-turn g c = (
   _,
   _,
   scene_before (λ b. (goal.Server-dyn g (b.vtable, b.value)).behaviour b.value) (λ b. (goal.Server-dyn g (b.vtable, b.value)).registers b.value) (λ b. (goal.Server-dyn g (b.vtable, b.value)).pending b.value) c.args.manager.now c.args.passes.now c.in-Some._client.now c.in-Some.others.now c.split_at_mut-workers.result.0.now c.split_at_mut-workers.result.1.now [] c.split_at_mut-workers.result.1.now [] c.split_at_mut-workers.result.1.now
-    c.args.servers.now c.args.places.now c.in-Some.ensures.cases.0 c.split_at_mut-workers.ensures.value c.split_at_mut-workers.ensures.front_len refl refl c.requires.ready
-    c.in-Some._client.now c.turn_in.new.passes [] c.turn_in.new.servers c.turn_in.new.places (client_free (λ b. (goal.Server-dyn g (b.vtable, b.value)).behaviour b.value) (λ b. (goal.Server-dyn g (b.vtable, b.value)).registers b.value) (λ b. (goal.Server-dyn g (b.vtable, b.value)).pending b.value) c.args.manager.now c.args.passes.now c.in-Some._client.now c.in-Some.others.now c.split_at_mut-workers.result.0.now c.split_at_mut-workers.result.1.now [] c.split_at_mut-workers.result.1.now [] c.split_at_mut-workers.result.1.now
-    c.args.servers.now c.args.places.now c.in-Some.ensures.cases.0 c.split_at_mut-workers.ensures.value c.split_at_mut-workers.ensures.front_len refl refl c.requires.ready) c.turn_in.ensures.own c.turn_in.ensures.lie (All-nil (IsFreePass c.args.manager.now)),
+      c.args.servers.now c.args.places.now c.in-Some.ensures.cases.0 c.split_at_mut-workers.ensures.value c.split_at_mut-workers.ensures.front_len refl refl c.requires.ready
+      c.in-Some._client.now c.turn_in.new.passes [] c.turn_in.new.servers c.turn_in.new.places (client_free (λ b. (goal.Server-dyn g (b.vtable, b.value)).behaviour b.value) (λ b. (goal.Server-dyn g (b.vtable, b.value)).registers b.value) (λ b. (goal.Server-dyn g (b.vtable, b.value)).pending b.value) c.args.manager.now c.args.passes.now c.in-Some._client.now c.in-Some.others.now c.split_at_mut-workers.result.0.now c.split_at_mut-workers.result.1.now [] c.split_at_mut-workers.result.1.now [] c.split_at_mut-workers.result.1.now
+      c.args.servers.now c.args.places.now c.in-Some.ensures.cases.0 c.split_at_mut-workers.ensures.value c.split_at_mut-workers.ensures.front_len refl refl c.requires.ready) c.turn_in.ensures.own c.turn_in.ensures.lie (All-nil (IsFreePass c.args.manager.now)),
   record { client = refl; racers = refl },
   c.turn_in.ensures.turns,
   scene_after (λ b. (goal.Server-dyn g (b.vtable, b.value)).behaviour b.value) (λ b. (goal.Server-dyn g (b.vtable, b.value)).registers b.value) (λ b. (goal.Server-dyn g (b.vtable, b.value)).pending b.value) c.args.manager.now c.args.passes.now c.in-Some._client.now c.in-Some.others.now c.split_at_mut-workers.result.0.now c.split_at_mut-workers.result.1.now [] c.split_at_mut-workers.result.1.now [] c.split_at_mut-workers.result.1.now
-    c.args.servers.now c.args.places.now c.in-Some.ensures.cases.0 c.split_at_mut-workers.ensures.value c.split_at_mut-workers.ensures.front_len refl refl c.requires.ready
-    c.in-Some._client.now c.turn_in.new.passes [] c.turn_in.new.servers c.turn_in.new.places (client_free (λ b. (goal.Server-dyn g (b.vtable, b.value)).behaviour b.value) (λ b. (goal.Server-dyn g (b.vtable, b.value)).registers b.value) (λ b. (goal.Server-dyn g (b.vtable, b.value)).pending b.value) c.args.manager.now c.args.passes.now c.in-Some._client.now c.in-Some.others.now c.split_at_mut-workers.result.0.now c.split_at_mut-workers.result.1.now [] c.split_at_mut-workers.result.1.now [] c.split_at_mut-workers.result.1.now
-    c.args.servers.now c.args.places.now c.in-Some.ensures.cases.0 c.split_at_mut-workers.ensures.value c.split_at_mut-workers.ensures.front_len refl refl c.requires.ready) c.turn_in.ensures.own c.turn_in.ensures.lie (All-nil (IsFreePass c.args.manager.now)),
+      c.args.servers.now c.args.places.now c.in-Some.ensures.cases.0 c.split_at_mut-workers.ensures.value c.split_at_mut-workers.ensures.front_len refl refl c.requires.ready
+      c.in-Some._client.now c.turn_in.new.passes [] c.turn_in.new.servers c.turn_in.new.places (client_free (λ b. (goal.Server-dyn g (b.vtable, b.value)).behaviour b.value) (λ b. (goal.Server-dyn g (b.vtable, b.value)).registers b.value) (λ b. (goal.Server-dyn g (b.vtable, b.value)).pending b.value) c.args.manager.now c.args.passes.now c.in-Some._client.now c.in-Some.others.now c.split_at_mut-workers.result.0.now c.split_at_mut-workers.result.1.now [] c.split_at_mut-workers.result.1.now [] c.split_at_mut-workers.result.1.now
+      c.args.servers.now c.args.places.now c.in-Some.ensures.cases.0 c.split_at_mut-workers.ensures.value c.split_at_mut-workers.ensures.front_len refl refl c.requires.ready) c.turn_in.ensures.own c.turn_in.ensures.lie (All-nil (IsFreePass c.args.manager.now)),
 )
