@@ -9,13 +9,11 @@ use Rattle.tp_model.specs.declared.event.Event.{Event}
 use Rattle.tp_plain.specs.OneThread as thread
 use Rattle.tp_server.specs.Pending.{Pending}
 use Rattle.tp_manager.specs.Shown.{KeeperShown, ManagerShown, PassShown}
-use Rattle.tp_report.specs.declared.answer.Answer.TheVariants as answer
 use Rattle.tp_report.specs.declared.answer.ServerAnswer.TheVariants as told
-use Rattle.tp_report.specs.Answer.{answer_text, balance_text, line, named_text}
+use Rattle.tp_report.specs.Answer.{balance_text, line, named_text}
 use Rattle.tp_script.specs.Script.{ScriptView, ServerView}
 use Rattle.tp_script.specs.declared.script.ClientAct.{ClientAct}
 use Rattle.tp_script.specs.declared.script.Command.{Command}
-use Rattle.tp_script.specs.declared.script.Command.TheVariants as command
 use Rattle.tp_commands.specs.Acting.{PlaceShown}
 use Rattle.tp_commands.specs.Asked.{TellsClient}
 use Rattle.tp_commands.specs.Registers.{TellsBalance, counted_value, register_sum}

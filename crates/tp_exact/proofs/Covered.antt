@@ -1,5 +1,5 @@
 -- Each command, between two looks together.
-use Rattle.std.proofs.Common.{◌≡◌, ℕ, false, List, Some, refl, sym, ◌∙◌, ap}
+use Rattle.std.proofs.Common.{◌≡◌, ℕ, false, List, Some, sym, ◌∙◌, ap}
 use Rattle.std.specs.Prelude.{slice_get}
 use Rattle.tp_manager.specs.Shown.{KeeperShown, ManagerShown}
 use Rattle.tp_desk.specs.declared.order.Order.TheVariants as orders

@@ -7,7 +7,6 @@ use Rattle.std.proofs.lemmas.Bool.Decides.{eqb_tells}
 use Rattle.std.proofs.lemmas.List.{length-append, length-map}
 use Rattle.std.proofs.lemmas.List.FromFn.{length-map-range_with_len}
 use Rattle.tp_model.specs.declared.types.Limits.{Limits}
-use Rattle.tp_model.specs.declared.event.Event.{Event}
 use Rattle.tp_model.specs.History.{In, here, there}
 use Rattle.tp_plain.specs.declared.pass_state.PassState.{PassState}
 use Rattle.tp_plain.specs.OneThread as thread
@@ -19,7 +18,6 @@ use Rattle.tp_desk.specs.declared.turned.Turned.{Turned}
 use Rattle.tp_desk.specs.declared.turned.Turned.TheVariants as turneds
 use Rattle.tp_report.specs.Answer.{answer_text, line}
 use Rattle.tp_report.specs.declared.answer.Answer.TheVariants as answer
-use Rattle.tp_report.specs.declared.answer.ServerAnswer.{ServerAnswer}
 use Rattle.tp_report.specs.declared.answer.ServerAnswer.TheVariants as told
 use Rattle.tp_script.specs.Script.{ServerView}
 use Rattle.tp_commands.specs.Acting.{PlaceShown, is_free}
@@ -31,7 +29,7 @@ use Rattle.tp_reference.specs.PlainDesks.{DeskAnswered, claim_by, has_open, turn
 use Rattle.tp_reference.specs.PlainReport as plain
 use Rattle.tp_reference.specs.PlainReport.{ReportState, drain_of, most_rounds, round_below, round_of, round_turn, rounds, with_acted, worker}
 use Rattle.tp_reference.proofs.DrainEnds.{drains_end, no_more, none_yet, one_more}
-use Rattle.tp_alone.specs.Thread.{AreTogether, HasSeen, not_given, state_of, thread_of}
+use Rattle.tp_alone.specs.Thread.{not_given, state_of, thread_of}
 use Rattle.tp_exact.specs.Stands.{IsFor, IsForDesk, IsServedBy, Stands}
 use Rattle.tp_exact.proofs.Commands.{zip_at}
 use Rattle.tp_exact.proofs.Desks.{pass_here}

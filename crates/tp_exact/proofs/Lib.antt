@@ -23,3 +23,4 @@ pub mod Begins
 pub mod Chain
 pub mod Scripts
 pub mod Fronts
+pub mod Runs

@@ -1,6 +1,6 @@
 -- A command on the desk at one of the places, between two looks together.
-use Rattle.std.proofs.Common.{◌≡◌, ℕ, zero, suc, ◌+◌, Bool, true, false, List, [], ◌∷◌, ◌++◌, length, map, Option, Some, None, Result, Ok, Err, refl, sym, ◌∙◌, ap, subst, arith}
-use Rattle.std.specs.Prelude.{is_some, slice_get, slice_set, if◌then◌else◌}
+use Rattle.std.proofs.Common.{◌≡◌, ℕ, zero, suc, Bool, true, false, List, [], ◌∷◌, ◌++◌, length, map, Option, Some, None, Result, Ok, Err, refl, sym, ◌∙◌, ap, subst, arith}
+use Rattle.std.specs.Prelude.{slice_get, slice_set, if◌then◌else◌}
 use Rattle.std.specs.List.{AllZip}
 use Rattle.tp_model.specs.declared.types.Claimed.{Claimed}
 use Rattle.tp_model.specs.declared.types.Claimed.TheVariants as claimeds
@@ -39,7 +39,7 @@ use Rattle.tp_reference.specs.PlainReport.{ReportState, command_step, desk_at, w
 use Rattle.tp_alone.specs.Thread.{AreTogether, Stays, thread_of}
 use Rattle.tp_exact.specs.Acts.{Acts}
 use Rattle.tp_exact.specs.Desks.{IsServer}
-use Rattle.tp_exact.specs.Stands.{IsFor, IsForDesk, IsServedBy, OnlyLooks, OnlyLooksAt, Stands}
+use Rattle.tp_exact.specs.Stands.{IsFor, IsServedBy, OnlyLooks, Stands}
 use Rattle.tp_exact.proofs.Commands.{racers_kept, scene_passes, served_all, still_all, zip_at}
 use Rattle.tp_exact.proofs.DeskActs.{exact_desk}
 use Rattle.tp_exact.proofs.Parts.{idle}

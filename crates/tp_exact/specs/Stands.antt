@@ -5,7 +5,7 @@ use Rattle.tp_model.specs.declared.types.Limits.{Limits}
 use Rattle.tp_model.specs.declared.event.Event.{Event}
 use Rattle.tp_model.specs.Steps.{IsServerStage}
 use Rattle.tp_server.specs.Behaviour.{behaviour_of}
-use Rattle.tp_manager.specs.Shown.{KeeperShown, PassShown}
+use Rattle.tp_manager.specs.Shown.{KeeperShown}
 use Rattle.tp_script.specs.Script.{ServerView}
 use Rattle.tp_commands.specs.Acting.{DeskShown, PlaceShown}
 use Rattle.tp_perform.specs.Scenes.{Scene, passes_in}

@@ -1,5 +1,5 @@
 -- A turn that claims an element uses up a unit of its pass; nothing else in a drain does.
-use Rattle.std.proofs.Common.{◌≡◌, ℕ, zero, suc, ◌+◌, ◌-◌, ◌≤◌, ◌||◌, Bool, true, false, List, [], ◌∷◌, ◌++◌, length, map, Option, Some, inl, inr, refl, sym, ◌∙◌, ap, subst, sum_by, arith}
+use Rattle.std.proofs.Common.{◌≡◌, ℕ, zero, suc, ◌+◌, ◌≤◌, ◌||◌, Bool, true, false, List, [], ◌∷◌, ◌++◌, map, Some, inl, inr, refl, ap, arith}
 use Rattle.std.specs.Prelude.{slice_get, slice_set}
 use Rattle.std.specs.List.{AllZip}
 use Rattle.std.proofs.lemmas.List.Sums.{sum_by-append, sum_by-cons}
@@ -13,7 +13,7 @@ use Rattle.tp_desk.specs.declared.turned.Turned.TheVariants as turneds
 use Rattle.tp_workers.specs.Tally.{claimed, turn_count}
 use Rattle.tp_workers.proofs.Turns.{turn_claims, turn_room}
 use Rattle.tp_commands.specs.Acting.{PlaceShown, TurnsAt}
-use Rattle.tp_perform.specs.Drains.{NoTurn, Turn, TurnTaken, has_claimed}
+use Rattle.tp_perform.specs.Drains.{Turn, TurnTaken, has_claimed}
 use Rattle.tp_perform.specs.Scenes.{Scene, passes_in}
 use Rattle.tp_perform.specs.Units.{units_left, units_of}
 

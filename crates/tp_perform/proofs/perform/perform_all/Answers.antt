@@ -1,4 +1,4 @@
-use Rattle.std.proofs.Common.{◌≡◌, ◌+◌, [], arith, ap, subst, ◌∙◌, rules, length, ◌++◌, refl, sym}
+use Rattle.std.proofs.Common.{◌≡◌, ◌+◌, [], arith, ap, subst, ◌∙◌, rules, length, ◌++◌, refl}
 use Rattle.std.specs.Prelude.{string_bytes}
 use Rattle.std.proofs.lemmas.List.{length-map}
 use Rattle.tp_model.proofs.Bridges.{append_nil}

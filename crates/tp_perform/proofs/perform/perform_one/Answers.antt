@@ -1,6 +1,5 @@
-use Rattle.std.proofs.Common.{◌∙◌, arith, subst, sym}
+use Rattle.std.proofs.Common.{◌∙◌, subst, sym}
 use Rattle.std.specs.Prelude.{string_bytes}
-use Rattle.std.proofs.lemmas.Result.{IfOk-weaker}
 use Rattle.tp_script.specs.Script.{script_view}
 use Rattle.tp_perform.specs.Told.{PerformsBy}
 use Rattle.tp_perform.proofs.Everyone.{all_same}
