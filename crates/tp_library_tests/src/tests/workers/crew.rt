@@ -7,7 +7,8 @@ use std::process::Abort;
 use tp_desk::Order;
 use tp_manager::MakeFault;
 use tp_server::{Act, Server};
-use tp_workers::{Crew, CrewLimits, NoGate, Plan, Shift};
+use tp_crew::{Crew, CrewLimits};
+use tp_workers::{NoGate, Plan, Shift};
 
 /// Two boxes with nothing prepared.
 fn boxes<R: Abort + AllocGlobal>(rt: &R) -> Vec<Box<dyn Server + Send>>
