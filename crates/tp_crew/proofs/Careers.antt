@@ -93,12 +93,14 @@ module _ {X : Type 0} {F : X → Type 0} (behaviour : DynBox X Global F → Beha
       → (more : List Stint) × HasBecome behaviour registers k u more c
   has_become c k u stints h come =
       let us = c.boxes.items in
-      let now = each_place (HasServed behaviour registers) (folds c) (zip (desks_in (length us) c.passes.items) us) k (come.pass, come.box) h.served come.began in
-      (stints ++ (come.pass, now.0.0) ∷ [], record {
-        box = now.0.1;
-        stands = zip_second (desks_in (length us) c.passes.items) us k now.0 now.1;
-        career = career_more behaviour registers stints u come.box now.0.1 come.pass now.0.0 come.career now.2;
-      })
+      let now = each_place (HasServed behaviour registers) (folds c) (zip (desks_in (length us) c.passes.items) us) k (come.pass, come.box) h.served come.began in (
+        stints ++ (come.pass, now.0.0) ∷ [],
+        record {
+          box = now.0.1;
+          stands = zip_second (desks_in (length us) c.passes.items) us k now.0 now.1;
+          career = career_more behaviour registers stints u come.box now.0.1 come.pass now.0.0 come.career now.2;
+        },
+      )
 
   -- and in the next manager it goes on from there
   pub has_rolled : (old new : Crew X F) (k : ℕ) (u : Boxed) (stints : List Stint) → IsSteadyCrew behaviour registers pending old → IsSteadyCrew behaviour registers pending new

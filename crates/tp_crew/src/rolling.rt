@@ -57,7 +57,13 @@ fn succeed(
         return Err(RollFault::NoMemory);
     };
     match roll_over(
-        alloc, old, old_keeper, old_passes, &manager, &mut keeper, &mut passes,
+        alloc,
+        old,
+        old_keeper,
+        old_passes,
+        &manager,
+        &mut keeper,
+        &mut passes,
     ) {
         Ok(moved) => Ok(Successor {
             manager,
@@ -108,10 +114,10 @@ impl Crew {
     ghost use Rattle.tp_crew.specs.Crew.{IsSteadyCrew};
     ghost use Rattle.tp_crew.specs.Rolling.{CrewRolls, CrewStays};
 
-    /// What is alive, each element once, goes on in a new manager with the same limits, and the crew with it: its boxes go
-    /// on with their registers, and the folds of their work begin anew. What was carried over, in the order of
-    /// their ids (`tp_rollover::roll_over`). Refused with `NoMemory`, `Full` or `Unequal` alone; then the crew is
-    /// as it was, and its passes have looked.
+    /// What is alive, each element once, goes on in a new manager with the same limits, and the crew with
+    /// it. Its boxes go on with their registers, and the folds of their work begin anew. The answer is what was
+    /// carried over, in the order of the ids (`tp_rollover::roll_over`). Refused with `NoMemory`, `Full` or
+    /// `Unequal` alone: then the crew is as it was, but that its passes have looked.
     pub fn roll_over(&mut self, alloc: Global) -> Result<Vec<Moved>, RollFault>
         requires steady { IsSteadyCrew behaviour registers pending self.old }
         ensures steady { IsSteadyCrew behaviour registers pending self.new }
@@ -122,8 +128,7 @@ impl Crew {
         ensures refused { IfErr result (λ fault. CrewStays self.old self.new) }
         ensures fault { IfErr result IsCrewFault }
     {
-        let answer =
-            succeed_or_gather(alloc, &self.manager, &mut self.keeper, &mut self.passes);
+        let answer = succeed_or_gather(alloc, &self.manager, &mut self.keeper, &mut self.passes);
         match answer {
             Ok(next) => {
                 let Successor {

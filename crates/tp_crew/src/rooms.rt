@@ -25,8 +25,8 @@ fn least_room(manager: &Manager, passes: &[Pass]) -> Room
 impl Crew {
     ghost use Rattle.tp_crew.specs.Crew.{IsSteadyCrew};
 
-    /// The fewest rows, and the fewest units, that are left to one of the crew's passes. Spare blocks, which any pass
-    /// may draw, aren't counted.
+    /// The fewest rows, and the fewest units, that are left to one of the crew's passes. Spare blocks, which
+    /// any pass may draw, aren't counted.
     pub fn room(&self) -> Room
         requires steady { IsSteadyCrew behaviour registers pending self.now }
         ensures rows { IsLeast rows_left self.now.passes.items result.rows }

@@ -7,9 +7,9 @@ ghost use Rattle.tp_workers.specs.Sums.{calls_of};
 
 use crate::servers::{Notifier, Resizer, Validator};
 use std::thread::Threads;
+use tp_crew::{Crew, CrewLimits};
 use tp_desk::Order;
 use tp_server::{OwnServer, Server, three};
-use tp_crew::{Crew, CrewLimits};
 use tp_workers::{ClientJob, NoGate, Plan, ProgramFault};
 
 pub type Boxed = Box<dyn Server + Send>;

@@ -242,9 +242,9 @@ fn prepare(
 
 /// All that is alive in the old manager, each element once, goes on in the new one, and nothing else does. What
 /// each is there, in the order of their ids, which is the same in both managers. In the old one all is
-/// consumed or killed then, and no pass of the new one has a unit open. The slices hold every pass of their manager that was given out, in order of
-/// number (`Keeper::has_all` tests this), and in the new one nothing has happened. Where it fails, nothing
-/// has changed in the old manager, and the new one is to be given up.
+/// consumed or killed then, and no pass of the new one has a unit open. The slices hold every pass of their
+/// manager that was given out, in order of number (`Keeper::has_all` tests this), and in the new one nothing
+/// has happened. Where it fails, nothing has changed in the old manager, and the new one is to be given up.
 pub fn roll_over(
     alloc: Global,
     old: &Manager,
