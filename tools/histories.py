@@ -1,8 +1,8 @@
 """What several threads wrote down, and what a history is that agrees with it.
 
 A log has a line for each call: the thread, what a counter said before and after the call, the call and its answer. Each change,
-and each look that an answer tells of, happened at a point between these two. A history is an order of all points, in which
-each change may come where it stands, each look is right where it stands, and a call that ended before another began comes first.
+and each look that an answer reports, happened at a point between these two. A history is an order of all points, in which
+each change may come where it is, each look is right where it is, and a call that ended before another began comes first.
 Nothing is known here of the program but what its calls mean.
 """
 import re
@@ -81,7 +81,7 @@ def contents(element):
 
 
 def status(told):
-    """A status as a read tells it: a name, and its number and unit where it has them."""
+    """A status as a read reports it: a name, and its number and unit where it has them."""
     if isinstance(told, str):
         return (told.lower(),)
     return (told["is"].lower(), *(told[it] for it in ("attempts", "unit", "attempt") if it in told))
@@ -180,7 +180,7 @@ class Manager:
             raise Wrong(f"{id} has a round left, or isn't parked")
 
     def look(self, id, wanted, of):
-        """`wanted` is a status or the front of one, or None where nothing with this id may be born; `of` is the element, or
+        """`wanted` is a status or a prefix of one, or None where nothing with this id may be born; `of` is the element, or
         the root of a reply."""
         if wanted is None and id in self.born or wanted and self.status.get(id, ())[: len(wanted)] != wanted:
             raise Wrong(f"{id} is {self.status.get(id)}, and not {wanted}")

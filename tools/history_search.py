@@ -2,8 +2,8 @@
 
 Nearly all of the order is in the answers: an element's claims are numbered, and what a unit made is born at its commit. So the
 points of each element lie in a chain, and each point between two times of the counter. What is left to choose is which call
-aborted a unit or killed an element that others tell of, and, where a call passed an element over, whether that began to wait
-after the call began or was taken before it ended. Each choice narrows the times of a point, and what must come before and behind.
+aborted a unit or killed an element that others report, and, where a call passed an element over, whether that began to wait
+after the call began or was taken before it ended. Each choice narrows the times of a point, and what must come before and after.
 """
 from histories import MAX_ROUNDS, Point, Wrong, agrees, contents, status
 
@@ -25,12 +25,12 @@ class Log:
         self.limits, self.points, self.with_order = limits, [], with_order
         self.births, self.roots, self.stages, self.claims, self.ends = {}, {}, {}, {}, {}
         self.kills, self.cancels, self.looks, self.nones, self.requeues = {}, [], [], [], {}
-        # The point at which a call aborted a unit, with the element and the attempt that it told; and where a refusal says of an
+        # The point at which a call aborted a unit, with the element and the attempt that it reported; and where a refusal says of an
         # element whether it is a reply.
         self.releases, self.kinds = {}, []
         # Of which call an abort or a kill may have been, and how many each call says that it made.
         self.choices, self.needs = [], {}
-        # The spare blocks that calls told of, how many were drawn in all, and a call that found none left.
+        # The spare blocks that calls named, how many were drawn in all, and a call that found none left.
         self.blocks, self.draws, self.full = set(), 0, None
         for thread in sorted({it.thread for it in calls}):
             self.next, self.left, self.used = thread * limits["rows"], limits["rows"], 0
@@ -64,13 +64,13 @@ class Log:
             raise Wrong(f"thread {call.thread}, {call.before} to {call.after}, {call.kind}: {why}")
 
     def first_row(self, call, count, told):
-        """Returns the first of so many rows that the pass uses: this one is told, or None where none is."""
+        """Returns the first of `count` rows that the pass uses: `told`, or None where the answer names none."""
         own = self.limits["parts"] * self.limits["rows"]
         if self.left < count:
             self.next, self.left, self.draws = None, 8, self.draws + 1
             self.must(self.draws <= self.limits["spare"], call, "no spare block was left")
         if self.next is None and told is not None:
-            # The run is in a block that no call has told of yet: a lost commit tells no id.
+            # The run is in a block that no call has named yet: a lost commit names no id.
             block, at = divmod(told - own, 8)
             self.must(0 <= block < self.limits["spare"] and block not in self.blocks and at == 8 - self.left, call, "not a row of a new block")
             self.blocks.add(block)

@@ -216,7 +216,7 @@ class Planter:
                 yield cancel, re.sub(r"killed: (\d+)", lambda it: f"killed: {int(it[1]) + 1}", cancel.line)
 
     def released_though_not_held(self):
-        """The unit that consumed the element is told to have been released."""
+        """The unit that consumed the element is said to have been released."""
         by = {element["id"]: it.answer[1] for it, element in self.consumers()}
         for call in self.refused("Release", "NotHeld"):
             if call.told["id"] in by:
@@ -261,7 +261,7 @@ class Planter:
                 yield from self.wrong_in_order({call.line: self.taken_instead(call, ids[1]), other.line: self.taken_instead(other, ids[0])})
 
     def none_collected(self):
-        """A request has a reply that waits ever after, and none is told to wait."""
+        """A request has a reply that waits ever after, and none is said to wait."""
         waiting = [it.answer[1]["element"] for it in self.final.values() if self.how(it.told["id"])[0] == "waiting"]
         for call in self.of_kind("CollectNext"):
             if call.answer == "None":
@@ -280,14 +280,14 @@ class Planter:
                 yield call, self.answered(call, "None")
 
     def claimed_though_consumed(self):
-        """A claim by an id is told to have taken what was taken before, and was consumed by that unit."""
+        """A claim by an id is said to have taken what was taken before, and was consumed by that unit."""
         for claim in self.works("ClaimId"):
             for other, element in self.consumers():
                 if other.after < claim.before:
                     yield claim, self.asked(claim, "id", element["id"]).replace(self.element(claim.told["id"]), self.element(element["id"]))
 
     def refused_though_waiting(self):
-        """What is never taken, and waits ever after, is told not to wait."""
+        """What is never taken, and waits ever after, is said not to wait."""
         touched = {it.told["id"] for it in self.of_kind("Requeue")} | {it.answer[1]["element"]["id"] for it in self.works()}
         idle = [it for it in self.final if self.how(it) == ("waiting", 0) and it not in touched]
         for call in self.refused("ClaimId", "NotWaiting"):

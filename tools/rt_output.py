@@ -1,5 +1,5 @@
 #!/usr/bin/env python3
-"""Of what rt prints, the lines that tell of something amiss: without those that say how far it is, or that all is well. And what to say
+"""Of what rt prints, the lines that report a failure: without those that say how far it is, or that all is well. And what to say
 where rt is another one than the README names."""
 import os
 import re

@@ -31,7 +31,7 @@ class Element:
 
 @dataclass
 class Rows:
-    """The rows that are left to a pass: so many, from the next one on."""
+    """The rows that are left to a pass: a number of them, from the next one on."""
     next: int
     left: int
 
@@ -56,7 +56,7 @@ class Server:
     item: int = 0
     pending: object = None
     dropped: bool = False
-    # where its next claim in turn begins: behind what it took last by one
+    # where its next claim in turn begins: after what it took last by one
     place: int = 0
 
     def effect(self, body):
@@ -94,7 +94,7 @@ class Run:
             server.rows = Rows((at + 1) * self.rows, self.rows)
 
     def has_room(self, rows, count):
-        """Whether there are so many rows for the pass, if need be in the next spare block."""
+        """Whether there are `count` rows for the pass, if need be in the next spare block."""
         if rows.left < count and self.drawn < self.spare:
             rows.next, rows.left = (1 + len(self.servers)) * self.rows + 8 * self.drawn, 8
             self.drawn += 1

@@ -1,4 +1,4 @@
-"""What a script's run did, as its report tells it: which elements were born, who held them, and where they ended."""
+"""What a script's run did, by its report: which elements were born, who held them, and where they ended."""
 from dataclasses import dataclass, field
 
 SETTINGS = ("rows", "units", "limit")
@@ -177,7 +177,7 @@ class Story:
             self.wait_again(row, element)
 
     def crowd(self, row):
-        """In a race or a drain the servers that are free take what waits for them. The report doesn't tell which of it."""
+        """In a race or a drain the servers that are free take what waits for them. The report doesn't say which of it."""
         self.rows[row].is_crowd = True
         free = {it.stage for at, it in enumerate(self.servers) if at + 1 not in self.open}
         for it in self.elements.values():
@@ -185,7 +185,7 @@ class Story:
                 it.end, it.how = row, "taken in " + self.rows[row].command.split()[0]
 
     def end(self, finals):
-        """All desks are dropped, which aborts the units that are open, and the servers' registers are told."""
+        """All desks are dropped, which aborts the units that are open, and the servers' registers are reported."""
         row = len(self.rows)
         for lane, element in self.open.items():
             hold = element.holds[-1]

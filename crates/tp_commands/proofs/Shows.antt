@@ -1,5 +1,5 @@
 -- What places show, one by one and together.
-use Rattle.std.proofs.Common.{◌≡◌, ℕ, zero, suc, ◌+◌, ◌<◌, List, [], ◌∷◌, ◌++◌, Option, Some, refl, sym, ◌∙◌, ap, arith, length, get_or, slice_get, slice_set, sum_by, take, zip}
+use Rattle.std.proofs.Common.{◌≡◌, ℕ, zero, suc, ◌+◌, ◌<◌, ◌&&◌, not, is_some, List, [], ◌∷◌, ◌++◌, Option, Some, None, refl, sym, ◌∙◌, ap, arith, length, get_or, slice_get, slice_set, sum_by, take, zip}
 use Rattle.std.specs.declared.alloc.Global.{Global}
 use Rattle.std.specs.declared.dyn_box.DynBox.{DynBox}
 use Rattle.std.proofs.lemmas.List.{take_more}
@@ -10,8 +10,9 @@ use Rattle.tp_server.specs.Behaviour.{Behaviour}
 use Rattle.tp_server.specs.Pending.{Pending}
 use Rattle.tp_manager.specs.Shown.{PassShown}
 use Rattle.tp_commands.specs.declared.place.Place.{Place}
-use Rattle.tp_commands.specs.Acting.{new_place, new_places, place_shown, places_shown}
-use Rattle.tp_commands.specs.Places.{AllLie}
+use Rattle.tp_desk.specs.declared.aside.Aside.{Aside}
+use Rattle.tp_commands.specs.Acting.{PlaceShown, is_free, new_place, new_places, place_shown, places_shown, work_in}
+use Rattle.tp_commands.specs.Places.{AllLie, Lies, has_none, is_free_at}
 use Rattle.tp_commands.specs.Registers.{register_sum}
 use Rattle.tp_commands.specs.Registers.{counted_value, value_at}
 
@@ -26,6 +27,35 @@ sum_next f xs i d within =
 module _ {X : Type 0} {F : X → Type 0} (behaviour : DynBox X Global F → Behaviour) (registers : DynBox X Global F → List ℕ) (pending : DynBox X Global F → Option Pending) where
   abbrev Box : Type 0
   Box = DynBox X Global F
+
+  -- what a place shows of being free
+  pub shown_free : (p : PassShown) (s : Box) (o : Place X F) → Lies behaviour registers pending p s o.aside → is_free (place_shown behaviour registers pending p s o) ≡ is_free_at o
+  shown_free p s o lies = ap (λ b. not o.is_dropped && b) (go o.aside lies)
+    where
+      go : (a : Option (Aside X F)) → Lies behaviour registers pending p s a → not (is_some (work_in a)) ≡ has_none a
+      go None lies = absurd lies
+      go (Some a) lies = refl
+
+  -- one of them, and whether it is free
+  pub free_shown : (ps : List PassShown) (ss : List Box) (os : List (Place X F)) (i : ℕ) (o : Place X F) → i < length os → AllLie behaviour registers pending ps ss os
+      → (z : PlaceShown) × (slice_get (places_shown behaviour registers pending ps ss os) i ≡ Some z) × (is_free z ≡ is_free_at (get_or os i o))
+  free_shown [] [] [] i o within all = absurd (omega (arith, within))
+  free_shown [] [] (z ∷ os) i o within all = absurd all
+  free_shown [] (y ∷ ss) os i o within all = absurd all
+  free_shown (x ∷ ps) [] os i o within all = absurd all
+  free_shown (x ∷ ps) (y ∷ ss) [] i o within all = absurd all
+  free_shown (x ∷ ps) (y ∷ ss) (z ∷ os) zero o within all = (place_shown behaviour registers pending x y z, refl, shown_free x y z all.0)
+  free_shown (x ∷ ps) (y ∷ ss) (z ∷ os) (suc i) o within all = free_shown ps ss os i o (omega (arith, within)) all.1
+
+  pub shown_free_at : (ps : List PassShown) (ss : List Box) (os : List (Place X F)) (i : ℕ) (p : PassShown) (s : Box) (o d : Place X F) → i < length os → AllLie behaviour registers pending ps ss os
+      → is_free (place_shown behaviour registers pending (get_or ps i p) (get_or ss i s) (get_or os i o)) ≡ is_free_at (get_or os i d)
+  shown_free_at [] [] [] i p s o d within all = absurd (omega (arith, within))
+  shown_free_at [] [] (z ∷ os) i p s o d within all = absurd all
+  shown_free_at [] (y ∷ ss) os i p s o d within all = absurd all
+  shown_free_at (x ∷ ps) [] os i p s o d within all = absurd all
+  shown_free_at (x ∷ ps) (y ∷ ss) [] i p s o d within all = absurd all
+  shown_free_at (x ∷ ps) (y ∷ ss) (z ∷ os) zero p s o d within all = shown_free x y z all.0
+  shown_free_at (x ∷ ps) (y ∷ ss) (z ∷ os) (suc i) p s o d within all = shown_free_at ps ss os i p s o d (omega (arith, within)) all.1
 
   -- one of them
   pub shown_at : (ps : List PassShown) (ss : List Box) (os : List (Place X F)) (i : ℕ) (p : PassShown) (s : Box) (o : Place X F)

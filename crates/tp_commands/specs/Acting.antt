@@ -1,7 +1,7 @@
 -- What a command on a server is answered, and what its desk did for it. `old` is what the desk shows before
 -- the command, and `new` what it shows after it.
 use Rattle.std.specs.Prelude.{◌≡◌, ℕ, Bool, true, false, List, [], ◌∷◌, Option, Some, None, Result, Ok, Err}
-use Rattle.std.specs.Prelude.{MatchResult, IfSome, IsSome, slice_get, slice_set}
+use Rattle.std.specs.Prelude.{MatchResult, IfSome, IsSome, ◌&&◌, not, is_some, slice_get, slice_set}
 use Rattle.std.specs.Option.{option_map}
 use Rattle.std.specs.declared.alloc.Global.{Global}
 use Rattle.std.specs.declared.dyn_box.DynBox.{DynBox}
@@ -271,6 +271,37 @@ pub record DoesIn (l : Limits) (act : DeskAct) (at : ℕ)
   pub new : PlaceShown
   pub does : DoesAt l act old a new
   pub others : news ≡ slice_set olds at new
+
+-- ---- a turn in a drain
+
+-- whether a desk takes part: it wasn't dropped, and has nothing in hand
+abbrev pub is_free : PlaceShown → Bool
+is_free p = not p.is_dropped && not (is_some p.desk.work)
+
+-- the desk took a turn, whose claim was in this order, and has nothing in hand
+pub record TurnsAt (order : Order) (l : Limits) (turned : Turned) (old new : PlaceShown) : Type 0 where
+  pub turn : TakesTurn order l (place_of old.desk) turned (place_of new.desk)
+  pub limits : new.desk.pass.limits ≡ l
+  pub none_left : new.desk.work ≡ None
+  pub began : new.began ≡ old.began
+  pub kept : new.is_dropped ≡ old.is_dropped
+
+-- so did the desk at one of the places, which was free, and the others are as they were
+pub record TurnsIn (order : Order) (l : Limits) (at : ℕ)
+    (olds : List PlaceShown) (turned : Turned) (news : List PlaceShown) : Type 0 where
+  pub old : PlaceShown
+  pub there : slice_get olds at ≡ Some old
+  pub free : is_free old ≡ true
+  pub new : PlaceShown
+  pub turns : TurnsAt order l turned old new
+  pub others : news ≡ slice_set olds at new
+
+-- the desk at one of the places wasn't free, and all are as they were
+pub record StaysIn (at : ℕ) (olds news : List PlaceShown) : Type 0 where
+  pub old : PlaceShown
+  pub there : slice_get olds at ≡ Some old
+  pub busy : is_free old ≡ false
+  pub same : news ≡ olds
 
 -- ---- the end
 

@@ -1,11 +1,13 @@
 //! Commands on one server, at its desk, which is there until it is dropped.
-ghost use Rattle.std.specs.Prelude.{◌≡◌, ◌<◌, All, IfOk, IfSome, length, slice_get, string_bytes};
+ghost use Rattle.std.specs.Prelude.{◌≡◌, ◌<◌, All, IfOk, IfSome, MatchOption, None, length, slice_get, string_bytes};
+ghost use Rattle.std.specs.Prelude.{true};
 ghost use Rattle.tp_manager.specs.Shown.{IsOf};
 ghost use Rattle.tp_desk.specs.Steady.{IsSameDesk, SteadyDesk, shown};
 ghost use Rattle.tp_commands.specs.Acting.{Does, DoesAt, DoesIn, TellsAbort, TellsClaim, TellsCommit};
 ghost use Rattle.tp_commands.specs.Acting.{TellsDrop, TellsPrepare, TellsTake, TellsTurn, desk_shown};
-ghost use Rattle.tp_commands.specs.Acting.{place_shown, places_shown};
-ghost use Rattle.tp_commands.specs.Places.{AllLie, Lies, first_of, firsts};
+ghost use Rattle.tp_commands.specs.Acting.{StaysIn, TurnsAt, TurnsIn, place_of, place_shown, places_shown};
+ghost use Rattle.tp_commands.specs.Places.{AllLie, Lies, first_of, firsts, is_free_at};
+ghost use Rattle.tp_workers.specs.Desks.{TakesTurn};
 ghost use Rattle.tp_report.specs.Answer.{line, named_text};
 ghost use Rattle.tp_report.specs.Lines.{IsLine};
 ghost use Rattle.tp_report.specs.declared.answer.ServerAnswer.{ServerAnswer};
@@ -51,6 +53,84 @@ pub fn desk_line(
 {
     let answer = act_in(manager, passes, servers, places, server, act);
     server_line(alloc, named, server, answer)
+}
+
+/// Has the desk at one of the places take a turn whose claim is in this order, or answers `None` where it isn't
+/// free.
+pub fn turn_in(
+    manager: &Manager,
+    passes: &mut [Pass],
+    servers: &mut [Box<dyn Server + Send>],
+    places: &mut [Place],
+    at: usize,
+    order: Order,
+) -> Option<Turned>
+    requires own { All (IsOf manager.now) passes.old }
+    requires lie { AllLie behaviour registers pending passes.old servers.old places.old }
+    requires within { at < length places.old }
+    ensures own { All (IsOf manager.now) passes.new }
+    ensures lie { AllLie behaviour registers pending passes.new servers.new places.new }
+    ensures as_many { length places.new ≡ length places.old }
+    ensures began { firsts places.new ≡ firsts places.old }
+    ensures turns { MatchOption result
+        (StaysIn at (places_shown behaviour registers pending passes.old servers.old places.old)
+        (places_shown behaviour registers pending passes.new servers.new places.new))
+        (λ turned. TurnsIn order manager.now.limits at
+        (places_shown behaviour registers pending passes.old servers.old places.old) turned
+        (places_shown behaviour registers pending passes.new servers.new places.new)) }
+{
+    if !places[at].is_free() {
+        return None;
+    }
+    let turned = turn_at(
+        manager,
+        &mut passes[at],
+        &mut servers[at],
+        &mut places[at],
+        order,
+    );
+    Some(turned)
+}
+
+/// Has the desk at a free place take a turn: it goes on with what it laid aside, which is nothing in hand.
+fn turn_at(
+    manager: &Manager,
+    pass: &mut Pass,
+    server: &mut Box<dyn Server + Send>,
+    place: &mut Place,
+    order: Order,
+) -> Turned
+    requires own { IsOf manager.now pass.old }
+    requires lies { Lies behaviour registers pending pass.old server.old place.old.aside }
+    requires free { is_free_at place.old ≡ true }
+    ensures own { IsOf manager.now pass.new }
+    ensures lies { Lies behaviour registers pending pass.new server.new place.new.aside }
+    ensures began { first_of place.new ≡ first_of place.old }
+    ensures turns { TurnsAt order manager.now.limits result
+        (place_shown behaviour registers pending pass.old server.old place.old)
+        (place_shown behaviour registers pending pass.new server.new place.new) }
+{
+    let Some(aside) = place.aside.take() else {
+        unreachable!();
+    };
+    let mut desk = Desk::resume(manager, pass, server, aside);
+    let turned = turn_by(&mut desk, order);
+    place.aside = Some(desk.lay_aside());
+    turned
+}
+
+/// A turn whose claim is in this order.
+fn turn_by(desk: &mut Desk, order: Order) -> Turned
+    requires steady { SteadyDesk (shown behaviour) (shown registers) (shown pending) desk.old }
+    requires free { desk.old.work ≡ None }
+    ensures same { IsSameDesk desk.old desk.new }
+    ensures steady { SteadyDesk (shown behaviour) (shown registers) (shown pending) desk.new }
+    ensures turn { TakesTurn order desk.old.manager.now.limits
+        (place_of (desk_shown behaviour registers pending desk.old)) result
+        (place_of (desk_shown behaviour registers pending desk.new)) }
+    ensures free { desk.new.work ≡ None }
+{
+    desk.turn_by(order)
 }
 
 /// Has the desk at one of the places do what is asked.

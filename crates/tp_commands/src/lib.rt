@@ -8,6 +8,6 @@ mod lines;
 mod place;
 
 pub use client::{client_line, count};
-pub use desks::desk_line;
+pub use desks::{desk_line, turn_in};
 pub use lines::{balance_line, sum};
 pub use place::{Place, end_all, places_for};

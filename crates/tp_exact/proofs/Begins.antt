@@ -23,39 +23,39 @@ use Rattle.tp_script.specs.declared.script.Command.TheVariants as command
 use Rattle.tp_commands.specs.Acting.{PlaceShown}
 use Rattle.tp_workers.specs.Free.{IsFreePass}
 use Rattle.tp_perform.specs.Reported.{Begins, IsNewPass, IsNewPlace}
-use Rattle.tp_perform.specs.Told.{Gathered, Scene}
+use Rattle.tp_perform.specs.Scenes.{Gathered, Scene, passes_in}
 use Rattle.tp_reference.specs.PlainReport as plain
 use Rattle.tp_reference.specs.PlainReport.{begin, new_desk}
 use Rattle.tp_alone.specs.Thread.{IsFresh, Stays}
 use Rattle.tp_alone.proofs.Apart.{zip_right}
 use Rattle.tp_alone.proofs.Starts.{alone_start}
-use Rattle.tp_exact.specs.Commands.{IsCovered}
 use Rattle.tp_exact.specs.Script.{IsChecked, IsCoveredScript}
-use Rattle.tp_exact.specs.Stands.{IsFor, IsServedBy, Stands, passes_in}
+use Rattle.tp_exact.specs.Stands.{IsFor, IsServedBy, Stands}
 use Rattle.tp_exact.proofs.Commands.{served_all, still_all}
 use Rattle.tp_exact.proofs.Scenes.{all_at, each_stays, looks, together}
 
--- ---- a script whose commands are covered has no race
+-- ---- a script without a race needs no passes for one
 
-covered_none : (c : Command) → IsCovered c → (is_race c ≡ false) × (racers c ≡ 0)
-covered_none (command.Client act) covered = (refl, refl)
-covered_none (command.Desk at act) covered = (refl, refl)
-covered_none (command.Balance at k) covered = (refl, refl)
-covered_none (command.Sum k) covered = (refl, refl)
-covered_none other covered = absurd covered
+pub none_raced : (a b : Bool) → a || b ≡ false → (a ≡ false) × (b ≡ false)
+none_raced true b is = absurd cc
+none_raced false b is = (refl, is)
 
-pub no_race : (cs : List Command) → All IsCovered cs → has_race cs ≡ false
-no_race [] covered = refl
-no_race (c ∷ cs) covered =
-    ap (λ b. b || has_race cs) (covered_none c (All-head IsCovered c cs covered)).0
-    ∙ no_race cs (All-tail IsCovered c cs covered)
+no_racer : (c : Command) → is_race c ≡ false → racers c ≡ 0
+no_racer (command.Race plan) raceless = absurd cc
+no_racer (command.Client act) raceless = refl
+no_racer (command.Desk at act) raceless = refl
+no_racer (command.Balance at k) raceless = refl
+no_racer (command.Sum k) raceless = refl
+no_racer command.Drain raceless = refl
+no_racer command.DrainNext raceless = refl
 
-no_racers : (cs : List Command) → All IsCovered cs → racing cs ≡ 0
-no_racers [] covered = refl
-no_racers (c ∷ cs) covered =
+no_racers : (cs : List Command) → has_race cs ≡ false → racing cs ≡ 0
+no_racers [] raceless = refl
+no_racers (c ∷ cs) raceless =
+    let parts = none_raced (is_race c) (has_race cs) raceless in
     let both : racing (c ∷ cs) ≡ racers c + racing cs = sum_by-cons racers c cs in
-    let one = (covered_none c (All-head IsCovered c cs covered)).1 in
-    let others = no_racers cs (All-tail IsCovered c cs covered) in
+    let one = no_racer c parts.0 in
+    let others = no_racers cs parts.1 in
     omega (arith, both, one, others)
 
 -- ---- a recipe without a fault is of a server's stage

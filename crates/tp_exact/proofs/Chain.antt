@@ -1,27 +1,25 @@
 -- The commands of a script, one behind the other: the lines of the first n are the computed ones.
-use Rattle.std.proofs.Common.{◌≡◌, ◌<◌, ◌≤◌, ℕ, zero, suc, ◌+◌, List, [], ◌∷◌, ◌++◌, All, length, drop, take, get_or, slice_get, Option, Some, None, refl, sym, ◌∙◌, ap, subst, append_assoc, arith}
-use Rattle.std.proofs.lemmas.List.Elements.{All-head, All-tail}
+use Rattle.std.proofs.Common.{◌≡◌, ◌<◌, ◌≤◌, ℕ, zero, suc, ◌+◌, false, List, [], ◌∷◌, ◌++◌, length, drop, take, get_or, slice_get, Option, Some, None, refl, sym, ◌∙◌, ap, subst, append_assoc, arith}
 use Rattle.std.proofs.lemmas.Option.{slice_get-get_or}
 use Rattle.tp_manager.specs.Shown.{KeeperShown, ManagerShown}
-use Rattle.tp_script.specs.Passes.{racing}
+use Rattle.tp_script.specs.Passes.{has_race, is_race, racing}
 use Rattle.tp_script.specs.Script.{ScriptView, ServerView}
 use Rattle.tp_script.specs.declared.script.Command.{Command}
 use Rattle.tp_script.specs.declared.script.Command.TheVariants as command
 use Rattle.tp_perform.specs.Reported.{Begins}
-use Rattle.tp_perform.specs.Told.{Scene, Told}
+use Rattle.tp_perform.specs.Scenes.{Scene}
+use Rattle.tp_perform.specs.Told.{Told}
 use Rattle.tp_reference.specs.PlainReport.{ReportState, begin, closing, command_step, report_of, reports}
 use Rattle.tp_reference.proofs.ReportLemmas.{reports_done, reports_more}
-use Rattle.tp_exact.specs.Commands.{IsCovered}
 use Rattle.tp_exact.specs.Script.{IsCoveredScript}
 use Rattle.tp_exact.specs.Stands.{Stands}
-use Rattle.tp_exact.proofs.Begins.{begins_so}
+use Rattle.tp_exact.proofs.Begins.{begins_so, none_raced}
 use Rattle.tp_exact.proofs.Covered.{exact_command}
-use Rattle.tp_exact.proofs.Scenes.{looks, together}
 
-all_get : {A : Type 0} (P : A → Type 0) (xs : List A) (n : ℕ) (x : A) → All P xs → slice_get xs n ≡ Some x → P x
-all_get P [] n x all is = absurd cc
-all_get P (y ∷ xs) zero x all is = let same : y ≡ x = cc in subst P same (All-head P y xs all)
-all_get P (y ∷ xs) (suc n) x all is = all_get P xs n x (All-tail P y xs all) is
+no_race_at : (cs : List Command) (n : ℕ) (c : Command) → has_race cs ≡ false → slice_get cs n ≡ Some c → is_race c ≡ false
+no_race_at [] n c raceless is = absurd cc
+no_race_at (d ∷ cs) zero c raceless is = let same : d ≡ c = cc in ap is_race (sym same) ∙ (none_raced (is_race d) (has_race cs) raceless).0
+no_race_at (d ∷ cs) (suc n) c raceless is = no_race_at cs n c (none_raced (is_race d) (has_race cs) raceless).1 is
 
 -- one command more, if there is one
 abbrev pub next : List ServerView → Option Command → List ℕ × ReportState → List ℕ × ReportState
@@ -70,12 +68,10 @@ module _ (s : ScriptView) where
     told_so (suc n) text keeper' new t =
         let kept : KeeperShown = t.3 in
         let between : Scene = t.4 in
-        let done : Scene = t.5 in
-        let before = told_so n t.0 kept between t.6 in
+        let before = told_so n t.0 kept between t.5 in
         let step : List ℕ × ReportState = command_step s.servers t.2 (ran n).1 in
-        let one = exact_command t.2 (all_get IsCovered s.commands n t.2 covered.commands t.7) m s (racing (take n s.commands)) kept keeper' kept.seen keeper'.seen between done new t.1 (ran n).1 before.1 t.8
-        (looks m kept keeper' done new t.9) (together m kept keeper' done new t.9) in
-        let is = ran_more n t.2 t.7 in (
-          t.10 ∙ (ap (λ x. x ++ t.1) before.0 ∙ (ap (λ x. (ran n).0 ++ x) one.0 ∙ sym (ap (λ (r : List ℕ × ReportState). r.0) is))),
+        let one = exact_command t.2 (no_race_at s.commands n t.2 covered.commands t.6) m s (racing (take n s.commands)) kept keeper' between new t.1 (ran n).1 before.1 t.7 in
+        let is = ran_more n t.2 t.6 in (
+          t.8 ∙ (ap (λ x. x ++ t.1) before.0 ∙ (ap (λ x. (ran n).0 ++ x) one.0 ∙ sym (ap (λ (r : List ℕ × ReportState). r.0) is))),
           subst (λ (r : ReportState). Stands s.servers m.limits keeper' keeper'.seen new r) (sym (ap (λ (r : List ℕ × ReportState). r.1) is)) one.1,
         )

@@ -9,24 +9,23 @@ use Rattle.tp_model.specs.declared.event.Event.{Event}
 use Rattle.tp_plain.specs.OneThread as thread
 use Rattle.tp_server.specs.Pending.{Pending}
 use Rattle.tp_manager.specs.Shown.{KeeperShown, ManagerShown, PassShown}
-use Rattle.tp_report.specs.declared.answer.Answer.TheVariants as answer
 use Rattle.tp_report.specs.declared.answer.ServerAnswer.TheVariants as told
-use Rattle.tp_report.specs.Answer.{answer_text, balance_text, line, named_text}
+use Rattle.tp_report.specs.Answer.{balance_text, line, named_text}
 use Rattle.tp_script.specs.Script.{ScriptView, ServerView}
 use Rattle.tp_script.specs.declared.script.ClientAct.{ClientAct}
 use Rattle.tp_script.specs.declared.script.Command.{Command}
-use Rattle.tp_script.specs.declared.script.Command.TheVariants as command
 use Rattle.tp_commands.specs.Acting.{PlaceShown}
 use Rattle.tp_commands.specs.Asked.{TellsClient}
 use Rattle.tp_commands.specs.Registers.{TellsBalance, counted_value, register_sum}
-use Rattle.tp_perform.specs.Told.{Performs, Scene}
+use Rattle.tp_perform.specs.Scenes.{Scene, passes_in}
+use Rattle.tp_perform.specs.Told.{Performs}
 use Rattle.tp_reference.specs.declared.plain_desk.PlainDesk.{PlainDesk}
 use Rattle.tp_reference.specs.PlainClient.{client, client_step}
 use Rattle.tp_reference.specs.PlainReport as plain
 use Rattle.tp_reference.specs.PlainReport.{ReportState, balance_at, command_step, with_manager}
 use Rattle.tp_alone.specs.Thread.{AreTogether, Stays, thread_of}
 use Rattle.tp_exact.specs.Acts.{Acts}
-use Rattle.tp_exact.specs.Stands.{IsFor, IsServedBy, OnlyLooks, OnlyLooksAt, Stands, passes_in}
+use Rattle.tp_exact.specs.Stands.{IsFor, IsServedBy, OnlyLooks, OnlyLooksAt, Stands}
 use Rattle.tp_exact.proofs.Clients.{exact_client}
 use Rattle.tp_exact.proofs.Parts.{idle}
 

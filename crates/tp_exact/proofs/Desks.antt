@@ -28,7 +28,6 @@ use Rattle.tp_desk.specs.Given.{ClaimsGiven, GivenFails, given_steps}
 use Rattle.tp_desk.specs.Turns.{EndsOpen}
 use Rattle.tp_report.specs.declared.answer.ServerAnswer.{ServerAnswer}
 use Rattle.tp_report.specs.declared.answer.ServerAnswer.TheVariants as told
-use Rattle.tp_script.specs.declared.script.DeskAct.TheVariants as acts
 use Rattle.tp_commands.specs.Acting.{AbortsAt, ClaimsAt, DeskShown, TellsAbort, TellsClaim, TellsDrop, TakesAt, TellsTake}
 use Rattle.tp_reference.specs.declared.plain_desk.PlainDesk.{PlainDesk}
 use Rattle.tp_reference.specs.PlainDesks.{DeskAnswered, abort_step, abort_work, aborted_as, claim_by, claim_step, claimed_as, drop_step, given_up, has_open, in_hand, nothing_done, with_drop, claim_given, given_as, take_step}
@@ -41,7 +40,7 @@ use Rattle.tp_exact.proofs.Parts.{idle}
 use Rattle.tp_exact.proofs.Takes.{gives}
 
 -- the state of a pass stands at its place
-pass_here : (front back : List PassShown) (p : PassShown) (rest : List PassState) (c : ℕ) → length front ≡ c → slice_index_or (map state_of (front ++ p ∷ back) ++ rest) c no_pass ≡ state_of p
+pub pass_here : (front back : List PassShown) (p : PassShown) (rest : List PassState) (c : ℕ) → length front ≡ c → slice_index_or (map state_of (front ++ p ∷ back) ++ rest) c no_pass ≡ state_of p
 pass_here [] back p rest zero at = refl
 pass_here [] back p rest (suc c) at = absurd (omega (arith, at))
 pass_here (q ∷ qs) back p rest zero at = absurd (omega (arith, at))

@@ -16,9 +16,11 @@ pub mod Halves
 pub mod Turns
 pub mod DeskActs
 pub mod Places
-pub mod Covered
 pub mod Scenes
+pub mod Drains
+pub mod Covered
 pub mod Begins
 pub mod Chain
 pub mod Scripts
 pub mod Fronts
+pub mod Runs

@@ -1,6 +1,6 @@
 -- A command on the desk at one of the places, between two looks together.
-use Rattle.std.proofs.Common.{◌≡◌, ℕ, zero, suc, ◌+◌, Bool, true, false, List, [], ◌∷◌, ◌++◌, length, map, Option, Some, None, Result, Ok, Err, refl, sym, ◌∙◌, ap, subst, arith}
-use Rattle.std.specs.Prelude.{is_some, slice_get, slice_set, if◌then◌else◌}
+use Rattle.std.proofs.Common.{◌≡◌, ℕ, zero, suc, Bool, true, false, List, [], ◌∷◌, ◌++◌, length, map, Option, Some, None, Result, Ok, Err, refl, sym, ◌∙◌, ap, subst, arith}
+use Rattle.std.specs.Prelude.{slice_get, slice_set, if◌then◌else◌}
 use Rattle.std.specs.List.{AllZip}
 use Rattle.tp_model.specs.declared.types.Claimed.{Claimed}
 use Rattle.tp_model.specs.declared.types.Claimed.TheVariants as claimeds
@@ -31,14 +31,15 @@ use Rattle.tp_script.specs.declared.script.Command.TheVariants as command
 use Rattle.tp_script.specs.declared.script.DeskAct.{DeskAct}
 use Rattle.tp_script.specs.declared.script.DeskAct.TheVariants as acts
 use Rattle.tp_commands.specs.Acting.{DeskShown, Does, DoesUnless, PlaceShown, TellsClaim, is_drop}
-use Rattle.tp_perform.specs.Told.{Performs, Scene}
+use Rattle.tp_perform.specs.Scenes.{Scene, passes_in}
+use Rattle.tp_perform.specs.Told.{Performs}
 use Rattle.tp_reference.specs.declared.plain_desk.PlainDesk.{PlainDesk}
 use Rattle.tp_reference.specs.PlainDesks.{DeskAnswered, abort_work, aborted_as, claim_by, claim_given, claimed_as, commit_work, committed_as, does, does_unless_dropped, given_as, has_open, in_hand, nothing_done, prepare_with, prepare_work, settle_with, turn_as}
 use Rattle.tp_reference.specs.PlainReport.{ReportState, command_step, desk_at, with_acted, worker}
 use Rattle.tp_alone.specs.Thread.{AreTogether, Stays, thread_of}
 use Rattle.tp_exact.specs.Acts.{Acts}
 use Rattle.tp_exact.specs.Desks.{IsServer}
-use Rattle.tp_exact.specs.Stands.{IsFor, IsForDesk, IsServedBy, OnlyLooks, OnlyLooksAt, Stands, passes_in}
+use Rattle.tp_exact.specs.Stands.{IsFor, IsServedBy, OnlyLooks, Stands}
 use Rattle.tp_exact.proofs.Commands.{racers_kept, scene_passes, served_all, still_all, zip_at}
 use Rattle.tp_exact.proofs.DeskActs.{exact_desk}
 use Rattle.tp_exact.proofs.Parts.{idle}
@@ -107,7 +108,7 @@ module _ (d : PlainDesk) where
   kept_settled work (Ok effect) c m = kept_committed work effect (commit_of m c effect.drafts)
   kept_settled work (Err why) c m = refl
 
-  kept_turned : (recipe : Recipe) (c : ℕ) (r : Claimed × thread.State) → Kept (turn_as recipe c r d)
+  pub kept_turned : (recipe : Recipe) (c : ℕ) (r : Claimed × thread.State) → Kept (turn_as recipe c r d)
   kept_turned recipe c (claimeds.Work work, m) = kept_settled work (effect_of recipe d.registers work.element) c m
   kept_turned recipe c (claimeds.Idle, m) = refl
   kept_turned recipe c (claimeds.NoUnit, m) = refl
@@ -180,7 +181,7 @@ zip_beside R (w ∷ xs) (z ∷ ys) (suc i) x y a is r = (a.0, zip_beside R xs ys
 
 -- ---- the desk at a place
 
-abbrev passes : List PlaceShown → List PassShown
+abbrev pub passes : List PlaceShown → List PassShown
 passes ps = map (λ p. p.desk.pass) ps
 
 passes_parted : (front : List PlaceShown) (p : PlaceShown) (back : List PlaceShown) (rs : List PassShown) → passes (front ++ p ∷ back) ++ rs ≡ passes front ++ p.desk.pass ∷ (passes back ++ rs)
@@ -202,6 +203,13 @@ as_server (acts.Take id) p server is = ap (λ (b : Behaviour). b.stage) is.behav
 as_server acts.Abort p server is = ap (λ (b : Behaviour). b.stage) is.behaviour
 as_server acts.Drop p server is = ap (λ (b : Behaviour). b.stage) is.behaviour
 
+-- the pass of the desk at a place, among all
+pub pass_at_place : (old : Scene) (at : ℕ) (p : PlaceShown) (parts : Parted old.places at p) → passes_in old ≡ (old.client ∷ passes parts.front) ++ p.desk.pass ∷ (passes parts.back ++ old.racers)
+pass_at_place old at p parts = ap (λ xs. old.client ∷ xs) (ap (λ ps. passes ps ++ old.racers) parts.whole ∙ passes_parted parts.front p parts.back old.racers)
+
+pub at_worker : (old : Scene) (at : ℕ) (p : PlaceShown) (parts : Parted old.places at p) → length (old.client ∷ passes parts.front) ≡ worker at
+at_worker old at p parts = let e : length (passes parts.front) ≡ at = passes_long parts.front ∙ parts.long in omega arith
+
 -- one place went on from p to q, and the passes of all others have done nothing but look
 module _ (servers : List ServerView) (l : Limits) (keeper keeper' : KeeperShown) (h h' : List Event) (old new next : Scene) (s : ReportState) (at : ℕ) (p q : PlaceShown) (stands : Stands servers l keeper h old s) (there : slice_get old.places at ≡ Some p)
     (places : new.places ≡ slice_set old.places at q) (client : new.client ≡ old.client) (racers : new.racers ≡ old.racers) (looks : OnlyLooks new next) (after : AreTogether l keeper' (passes_in next) h') where
@@ -212,7 +220,7 @@ module _ (servers : List ServerView) (l : Limits) (keeper keeper' : KeeperShown)
   behind = passes parts.back ++ old.racers
 
   before_is : passes_in old ≡ (old.client ∷ passes parts.front) ++ p.desk.pass ∷ behind
-  before_is = ap (λ xs. old.client ∷ xs) (ap (λ ps. passes ps ++ old.racers) parts.whole ∙ passes_parted parts.front p parts.back old.racers)
+  before_is = pass_at_place old at p parts
 
   after_is : passes_in new ≡ (old.client ∷ passes parts.front) ++ q.desk.pass ∷ behind
   after_is =
@@ -227,7 +235,7 @@ module _ (servers : List ServerView) (l : Limits) (keeper keeper' : KeeperShown)
     front = old.client ∷ passes parts.front;
     back = behind;
     olds_are = before_is;
-    place = let e : length (passes parts.front) ≡ at = passes_long parts.front ∙ parts.long in omega arith;
+    place = at_worker old at p parts;
     others = subst (λ ps. AllZip Stays ps (passes_in next)) after_is (scene_passes new next looks);
     after = after;
   }

@@ -7,10 +7,10 @@ use Rattle.tp_model.proofs.Bridges.{in_none}
 use Rattle.tp_manager.specs.Bounds.{gather_steps}
 use Rattle.tp_manager.specs.Shown.{IsOf, KeeperShown, ManagerShown, PassShown}
 use Rattle.tp_commands.specs.Acting.{PlaceShown}
-use Rattle.tp_perform.specs.Told.{Gathered, OnlyPass, Scene}
+use Rattle.tp_perform.specs.Scenes.{Gathered, OnlyPass, Scene, passes_in}
 use Rattle.tp_alone.specs.Thread.{AreTogether, Stays}
 use Rattle.tp_alone.proofs.Gatherings.{gathered_together}
-use Rattle.tp_exact.specs.Stands.{OnlyLooks, OnlyLooksAt, passes_in}
+use Rattle.tp_exact.specs.Stands.{OnlyLooks, OnlyLooksAt}
 
 pub all_at : {A : Type 0} (P : A → Type 0) (xs : List A) (x : A) → All P xs → In x xs → P x
 all_at P [] x all q = absurd (in_none q)

@@ -15,7 +15,6 @@ use Rattle.tp_reference.specs.declared.plain_desk.PlainDesk.{PlainDesk}
 use Rattle.tp_reference.specs.PlainReport.{account_line, finals_below, report_of}
 use Rattle.tp_exact.specs.Script.{ExactScript, IsCoveredScript}
 use Rattle.tp_exact.specs.Stands.{IsFor, Stands}
-use Rattle.tp_exact.proofs.Begins.{no_race}
 use Rattle.tp_exact.proofs.Chain.{ran, report_is, told_so}
 use Rattle.tp_exact.proofs.Finals.{exact_finals}
 
@@ -46,7 +45,7 @@ module _ (s : ScriptView) (is : IsCoveredScript s) where
 
     finals_same : finals_of s p.registers ≡ finals
     finals_same =
-        exact_finals s p.registers (ran s (length s.commands)).1.desks (no_race s.commands is.commands)
+        exact_finals s p.registers (ran s (length s.commands)).1.desks is.commands
         (registers_left p.last.places (workers (length s.servers) p.left) p.registers (ran s (length s.commands)).1.desks p.ended so.1.desks)
 
     -- the commands' lines, and the final ones

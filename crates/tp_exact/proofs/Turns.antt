@@ -14,7 +14,7 @@ use Rattle.tp_model.specs.declared.event.Event.{Event}
 use Rattle.tp_model.specs.Drafts.{DraftView}
 use Rattle.tp_model.specs.Passes.{IsPassView}
 use Rattle.tp_model.specs.Steps.{IsServerStage}
-use Rattle.tp_plain.specs.Computed.{abort_of, commit_of}
+use Rattle.tp_plain.specs.Computed.{abort_of}
 use Rattle.tp_plain.specs.OneThread as thread
 use Rattle.tp_server.specs.declared.recipe.Declined.{Declined}
 use Rattle.tp_server.specs.declared.recipe.Recipe.{Recipe}
@@ -29,20 +29,20 @@ use Rattle.tp_desk.specs.declared.order.Order.TheVariants as orders
 use Rattle.tp_desk.specs.declared.turned.Turned.{Turned}
 use Rattle.tp_desk.specs.declared.turned.Turned.TheVariants as turneds
 use Rattle.tp_desk.specs.Orders.{ClaimsBy, KeepsTurn, steps_by}
-use Rattle.tp_desk.specs.Turns.{Works, WorksOff, kept_by, turn_steps}
+use Rattle.tp_desk.specs.Turns.{Works, WorksOff, turn_steps}
 use Rattle.tp_report.specs.declared.answer.ServerAnswer.{ServerAnswer}
 use Rattle.tp_report.specs.declared.answer.ServerAnswer.TheVariants as told
 use Rattle.tp_workers.specs.Desks.{TakesTurn}
 use Rattle.tp_commands.specs.Acting.{DeskShown, PreparesAt, TellsCommit, TellsPrepare, TellsTurn, WorksOffAt, place_of}
 use Rattle.tp_reference.specs.declared.plain_desk.PlainDesk.{PlainDesk}
-use Rattle.tp_reference.specs.PlainDesks.{DeskAnswered, claim_by, commit_step, commit_work, committed_as, in_hand, nothing_done, prepare_step, prepare_with, prepare_work, settle, settle_with, settled_as, turn_as, turn_by, turn_step, with_prepared}
+use Rattle.tp_reference.specs.PlainDesks.{DeskAnswered, claim_by, commit_step, commit_work, committed_as, in_hand, nothing_done, prepare_step, prepare_with, prepare_work, settle, settle_with, settled_as, turn_as, turn_by, turn_step}
 use Rattle.tp_alone.specs.Thread.{Alone, HasSeen, thread_of}
 use Rattle.tp_alone.proofs.Aborts.{alone_abort}
 use Rattle.tp_alone.proofs.Claims.{alone_claim, alone_claim_next}
 use Rattle.tp_alone.proofs.Commits.{alone_commit}
 use Rattle.tp_exact.specs.Acts.{Acts}
 use Rattle.tp_exact.specs.Stands.{IsForDesk}
-use Rattle.tp_exact.proofs.Desks.{Exact, claims_none, closed, hand_so, open_so, same, was_shut}
+use Rattle.tp_exact.proofs.Desks.{Exact, claims_none, hand_so, open_so, same, was_shut}
 use Rattle.tp_exact.proofs.Halves.{draws_off, first_half, goes_later, half, last_half}
 use Rattle.tp_exact.proofs.Parts.{Went, idle, went_by}
 

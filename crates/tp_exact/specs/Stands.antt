@@ -1,21 +1,17 @@
 -- How what is there while a script is performed stands to the computed state.
-use Rattle.std.specs.Prelude.{◌≡◌, ◌∷◌, ◌++◌, List, None, IsSome, is_some, map, if◌then◌else◌}
+use Rattle.std.specs.Prelude.{◌≡◌, List, None, IsSome, is_some, if◌then◌else◌}
 use Rattle.std.specs.List.{AllZip}
 use Rattle.tp_model.specs.declared.types.Limits.{Limits}
 use Rattle.tp_model.specs.declared.event.Event.{Event}
 use Rattle.tp_model.specs.Steps.{IsServerStage}
 use Rattle.tp_server.specs.Behaviour.{behaviour_of}
-use Rattle.tp_manager.specs.Shown.{KeeperShown, PassShown}
+use Rattle.tp_manager.specs.Shown.{KeeperShown}
 use Rattle.tp_script.specs.Script.{ServerView}
 use Rattle.tp_commands.specs.Acting.{DeskShown, PlaceShown}
-use Rattle.tp_perform.specs.Told.{Scene}
+use Rattle.tp_perform.specs.Scenes.{Scene, passes_in}
 use Rattle.tp_reference.specs.declared.plain_desk.PlainDesk.{PlainDesk}
 use Rattle.tp_reference.specs.PlainReport.{ReportState}
 use Rattle.tp_alone.specs.Thread.{AreTogether, Stays, thread_of}
-
--- all passes of a scene: the client's, those of the desks, and those of races
-abbrev pub passes_in : Scene → List PassShown
-passes_in scene = scene.client ∷ (map (λ p. p.desk.pass) scene.places ++ scene.racers)
 
 -- a computed desk is this one: it has the same registers and the same work in hand, prepared or not
 pub record IsForDesk (x : DeskShown) (d : PlainDesk) : Type 0 where

@@ -4,15 +4,15 @@ ghost use Rattle.tp_exact.specs.Client.{ExactClient};
 ghost use Rattle.tp_exact.specs.Commands.{ExactCommand};
 ghost use Rattle.tp_exact.specs.Desks.{ExactDesk};
 ghost use Rattle.tp_exact.specs.Finals.{ExactAccount, ExactFinals};
-ghost use Rattle.tp_exact.specs.Script.{ExactFront, ExactScript};
+ghost use Rattle.tp_exact.specs.Script.{ExactFront, ExactRun, ExactScript};
 
 /// The line of a client's command where nobody else acts, and what the command leaves.
 pub fn exact_client()
     ensures { ExactClient }
 {}
 
-/// A command of the client or of a desk, or one that tells registers, performed between two gatherings: its
-/// line, and what it leaves.
+/// A command that is no race, performed between two gatherings: its line, and what it leaves. In a drain all
+/// passes gather after each turn.
 pub fn exact_command()
     ensures { ExactCommand }
 {}
@@ -29,9 +29,15 @@ pub fn exact_desk()
     ensures { ExactDesk }
 {}
 
-/// The report of a whole script of such commands, which asks for no account: it is the computed one, and after
-/// a fault a prefix of it.
+/// The report of a whole script without a race, which asks for no account: it is the computed one, and after a
+/// fault a prefix of it.
 pub fn exact_script()
     ensures whole { ExactScript }
     ensures front { ExactFront }
+{}
+
+/// What `tp_perform::run` leaves of such a script, by its clause `report`: the computed report, and after a
+/// fault a prefix of it.
+pub fn exact_run()
+    ensures { ExactRun }
 {}

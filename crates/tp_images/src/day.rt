@@ -2,14 +2,15 @@
 ghost use Rattle.std.specs.Prelude.{◌≡◌, ◌<◌, ◌^◌, None, OnOk, length};
 ghost use Rattle.tp_desk.specs.Steady.{shown};
 ghost use Rattle.tp_workers.specs.Clients.{IsClientJob};
-ghost use Rattle.tp_workers.specs.Crew.{IsSteadyCrew};
+ghost use Rattle.tp_crew.specs.Crew.{IsSteadyCrew};
 ghost use Rattle.tp_workers.specs.Sums.{calls_of};
 
 use crate::servers::{Notifier, Resizer, Validator};
 use std::thread::Threads;
+use tp_crew::{Crew, CrewLimits};
 use tp_desk::Order;
 use tp_server::{OwnServer, Server, three};
-use tp_workers::{ClientJob, Crew, CrewLimits, NoGate, Plan, ProgramFault};
+use tp_workers::{ClientJob, NoGate, Plan, ProgramFault};
 
 pub type Boxed = Box<dyn Server + Send>;
 

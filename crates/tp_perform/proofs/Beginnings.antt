@@ -14,7 +14,8 @@ use Rattle.tp_workers.specs.Free.{IsFreePass}
 use Rattle.tp_commands.specs.Acting.{new_place, new_places}
 use Rattle.tp_commands.specs.Places.{workers}
 use Rattle.tp_perform.specs.Reported.{Begins, IsNewPass, IsNewPlace, Performed, limits_of}
-use Rattle.tp_perform.specs.Told.{ArePasses, IsFirstScene, Scene, ToldAll}
+use Rattle.tp_perform.specs.Scenes.{Scene}
+use Rattle.tp_perform.specs.Told.{ArePasses, IsFirstScene, ToldAll}
 use Rattle.tp_commands.specs.Acting.{AllEnded}
 
 module _ {X : Type 0} {F : X → Type 0} (behaviour : DynBox X Global F → Behaviour) (registers : DynBox X Global F → List ℕ) (pending : DynBox X Global F → Option Pending) where

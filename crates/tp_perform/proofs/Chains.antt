@@ -1,5 +1,5 @@
 -- Commands performed one after another.
-use Rattle.std.proofs.Common.{◌≡◌, ℕ, suc, ◌+◌, ◌<◌, List, [], ◌∷◌, ◌++◌, All, Option, Some, None, refl, sym, ◌∙◌, ap, subst, arith, length, slice_get, take, get_or}
+use Rattle.std.proofs.Common.{◌≡◌, ℕ, suc, ◌+◌, ◌<◌, List, [], ◌∷◌, ◌++◌, All, Option, Some, None, refl, ◌∙◌, subst, arith, length, take, get_or}
 use Rattle.std.proofs.lemmas.Option.{slice_get-get_or}
 use Rattle.std.specs.declared.alloc.Global.{Global}
 use Rattle.std.specs.declared.dyn_box.DynBox.{DynBox}
@@ -14,7 +14,8 @@ use Rattle.tp_script.specs.declared.script.Command.{Command}
 use Rattle.tp_commands.specs.declared.place.Place.{Place}
 use Rattle.tp_commands.specs.Acting.{IsSteadyPlace, PlaceShown, new_places, place_shown, places_shown}
 use Rattle.tp_commands.specs.Places.{AllLie, Lies, workers}
-use Rattle.tp_perform.specs.Told.{Gathered, IsFirstScene, IsScene, Performs, Scene, TellsCommand, Told}
+use Rattle.tp_perform.specs.Scenes.{Scene}
+use Rattle.tp_perform.specs.Told.{IsFirstScene, IsScene, Performs, PerformsAll, TellsCommand, Told}
 use Rattle.tp_commands.proofs.Shows.{sum_next}
 
 -- what races the first n commands and one more need
@@ -42,12 +43,13 @@ module _ (m : ManagerShown) (s : ScriptView) where
     }
 
   -- one command more
-  pub told_more : (keeper kept keeper' : KeeperShown) (old : Scene) (n raced : ℕ) (d : Command) (text last : List ℕ) (between one done new : Scene) → n < length s.commands → raced ≡ racing (take n s.commands)
-      → Told m s keeper old n text kept between → one ≡ between → Performs m s (get_or s.commands n d) raced one last done → Gathered m kept keeper' done new
+  pub told_more : (keeper kept keeper' : KeeperShown) (old : Scene) (n raced : ℕ) (d : Command) (text last : List ℕ) (between one new : Scene) → n < length s.commands → raced ≡ racing (take n s.commands)
+      → Told m s keeper old n text kept between → one ≡ between → PerformsAll m s (get_or s.commands n d) raced kept one last keeper' new
       → Told m s keeper old (n + 1) (text ++ last) keeper' new
-  told_more keeper kept keeper' old n raced d text last between one done new within behind before same performs gathered =
-      let here : Performs m s (get_or s.commands n d) (racing (take n s.commands)) between last done = subst (λ (k : ℕ). Performs m s (get_or s.commands n d) k between last done) behind (subst (λ z. Performs m s (get_or s.commands n d) raced z last done) same performs) in
-      let more : Told m s keeper old (suc n) (text ++ last) keeper' new = (text, last, get_or s.commands n d, kept, between, done, before, slice_get-get_or s.commands n d within, here, gathered, refl) in
+  told_more keeper kept keeper' old n raced d text last between one new within behind before same performs =
+      let here : PerformsAll m s (get_or s.commands n d) (racing (take n s.commands)) kept between last keeper' new
+      = subst (λ (k : ℕ). PerformsAll m s (get_or s.commands n d) k kept between last keeper' new) behind (subst (λ z. PerformsAll m s (get_or s.commands n d) raced kept z last keeper' new) same performs) in
+      let more : Told m s keeper old (suc n) (text ++ last) keeper' new = (text, last, get_or s.commands n d, kept, between, before, slice_get-get_or s.commands n d within, here, refl) in
       let next : suc n ≡ n + 1 = omega arith in
       subst (λ (k : ℕ). Told m s keeper old k (text ++ last) keeper' new) next more
 

@@ -35,6 +35,10 @@ pub all_same : (keeper : KeeperShown) (ps qs : List PassShown) → numbers qs �
 all_same keeper ps qs same all =
     (sym (length-map qs (λ (p : PassShown). p.number)) ∙ (ap length same ∙ (length-map ps (λ (p : PassShown). p.number) ∙ all.0)), from_same 0 ps qs same all.1)
 
+-- and as many of them given out
+pub all_kept : (keeper keeper' : KeeperShown) (ps qs : List PassShown) → numbers qs ≡ numbers ps → keeper'.given ≡ keeper.given → AreAll keeper ps → AreAll keeper' qs
+all_kept keeper keeper' ps qs same given all = let these = all_same keeper ps qs same all in (these.0 ∙ sym given, these.1)
+
 -- an account that is asked for is one line
 pub account_asked : (script : Script) → script.account ≡ true → account_count (script_view script) ≡ 1
 account_asked script asked = rw asked refl

@@ -1,5 +1,5 @@
 -- A gathering of all passes between two commands.
-use Rattle.std.proofs.Common.{◌≡◌, ◌≤◌, ℕ, zero, suc, ◌+◌, List, [], ◌∷◌, ◌++◌, All, Option, Some, None, refl, sym, ◌∙◌, ap, subst, arith, length, map, drop, take}
+use Rattle.std.proofs.Common.{◌≡◌, ℕ, zero, suc, List, [], ◌∷◌, ◌++◌, All, Option, Some, None, refl, sym, ◌∙◌, ap, subst, length, map, drop, take}
 use Rattle.std.specs.List.{AllZip}
 use Rattle.std.specs.declared.alloc.Global.{Global}
 use Rattle.std.specs.declared.dyn_box.DynBox.{DynBox}
@@ -9,7 +9,7 @@ use mathlib.Core.List.{IsPrefix}
 use Rattle.tp_model.specs.declared.event.Event.{Event}
 use Rattle.tp_model.specs.declared.types.Work.{Work}
 use Rattle.tp_model.specs.Drafts.{DraftView}
-use Rattle.tp_model.specs.History.{IsBorn, IsClaim, UnitClaim, claim_of, element_of}
+use Rattle.tp_model.specs.History.{IsClaim, UnitClaim, element_of}
 use Rattle.tp_model.proofs.Bridges.{append_nil, begins_trans, in_none}
 use Rattle.tp_model.proofs.Histories.{element_of-kept}
 use Rattle.tp_server.specs.Behaviour.{Behaviour}
@@ -25,7 +25,8 @@ use Rattle.tp_workers.specs.Free.{IsFreePass, numbers}
 use Rattle.tp_commands.specs.declared.place.Place.{Place}
 use Rattle.tp_commands.specs.Acting.{places_shown}
 use Rattle.tp_commands.specs.Places.{AllLie, Lies, workers}
-use Rattle.tp_perform.specs.Told.{AreReady, Gathered, IsScene, OnlyPass, Scene, passes_in}
+use Rattle.tp_perform.specs.Scenes.{Gathered, OnlyPass, Scene, passes_in}
+use Rattle.tp_perform.specs.Told.{AreReady, IsScene}
 
 -- ---- lists side by side
 

@@ -4,6 +4,8 @@ pub mod Everyone
 pub mod Tellings
 pub mod Slices
 pub mod Gatherings
+pub mod UnitsUsed
+pub mod Rounds
 pub mod Chains
 pub mod Parts
 pub mod Races

@@ -15,9 +15,10 @@ use Rattle.tp_workers.specs.declared.tally.Shift.{Shift}
 use Rattle.tp_workers.specs.Desks as workers
 use Rattle.tp_workers.specs.Ran.{RanAll}
 use Rattle.tp_commands.specs.declared.place.Place.{Place}
-use Rattle.tp_commands.specs.Acting.{PlaceShown, place_shown, places_shown, work_in}
+use Rattle.tp_commands.specs.Acting.{PlaceShown, is_free, place_shown, places_shown, work_in}
+use Rattle.tp_commands.proofs.Shows.{shown_free}
 use Rattle.tp_commands.specs.Places.{AllLie, IsFreeAt, Lies}
-use Rattle.tp_perform.specs.Together.{AllTakePart, ArePassed, TakesPart, is_free}
+use Rattle.tp_perform.specs.Together.{AllTakePart, ArePassed, TakesPart}
 use Rattle.tp_commands.specs.Places.{has_none, is_free_at}
 use Rattle.tp_commands.proofs.Lefts.{swap_back}
 use Rattle.tp_commands.proofs.Lies.{lie_at, lie_set}
@@ -105,14 +106,6 @@ module _ {X : Type 0} {F : X → Type 0} (behaviour : DynBox X Global F → Beha
   abbrev Show : List PassShown → List Box → List (Place X F) → List PlaceShown
   Show ps ss os = places_shown behaviour registers pending ps ss os
 
-  -- what a place shows of being free
-  shown_free : (p : PassShown) (s : Box) (o : Place X F) → Lies behaviour registers pending p s o.aside → is_free (place_shown behaviour registers pending p s o) ≡ is_free_at o
-  shown_free p s o lies = ap (λ b. not o.is_dropped && b) (go o.aside lies)
-    where
-      go : (a : Option (Aside X F)) → Lies behaviour registers pending p s a → not (is_some (work_in a)) ≡ has_none a
-      go None lies = absurd lies
-      go (Some a) lies = refl
-
   -- two of them in each other's place
   shown_get : (ps : List PassShown) (ss : List Box) (os : List (Place X F)) (i : ℕ) (p : PassShown) (s : Box) (o : Place X F) → i < length os → Lie ps ss os
       → get_or (Show ps ss os) i (place_shown behaviour registers pending p s o) ≡ place_shown behaviour registers pending (get_or ps i p) (get_or ss i s) (get_or os i o)
@@ -154,13 +147,13 @@ module _ {X : Type 0} {F : X → Type 0} (behaviour : DynBox X Global F → Beha
   stay_put Did (p ∷ ps) (s ∷ ss) [] all busy = absurd all
   stay_put Did (p ∷ ps) (s ∷ ss) (o ∷ os) all busy =
       let this = place_shown behaviour registers pending p s o in
-      (subst (λ b. TakesPart b Did this this) (sym (shown_free p s o all.0 ∙ All-head (λ o. is_free_at o ≡ false) o os busy)) refl, stay_put Did ps ss os all.1 (All-tail (λ o. is_free_at o ≡ false) o os busy))
+      (subst (λ b. TakesPart b Did this this) (sym (shown_free behaviour registers pending p s o all.0 ∙ All-head (λ o. is_free_at o ≡ false) o os busy)) refl, stay_put Did ps ss os all.1 (All-tail (λ o. is_free_at o ≡ false) o os busy))
 
   -- those that do
   took : (Did : workers.Place → workers.Place → Type 0) (p q : PassShown) (s t : Box) (o : Place X F) → Lies behaviour registers pending p s o.aside → is_free_at o ≡ true
       → Did (workers.place behaviour registers pending (p, s)) (workers.place behaviour registers pending (q, t))
       → TakesPart (is_free (place_shown behaviour registers pending p s o)) Did (place_shown behaviour registers pending p s o) (place_shown behaviour registers pending q t o)
-  took Did p q s t o lies free did = subst (λ b. TakesPart b Did (place_shown behaviour registers pending p s o) (place_shown behaviour registers pending q t o)) (sym (shown_free p s o lies ∙ free))
+  took Did p q s t o lies free did = subst (λ b. TakesPart b Did (place_shown behaviour registers pending p s o) (place_shown behaviour registers pending q t o)) (sym (shown_free behaviour registers pending p s o lies ∙ free))
       (record { did = did; none_left = go o.aside lies (free_now o free); began = refl; kept = refl })
     where
       go : (a : Option (Aside X F)) → Lies behaviour registers pending p s a → IfSome a (λ x. x.work ≡ None) → work_in a ≡ None

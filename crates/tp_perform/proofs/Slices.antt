@@ -1,5 +1,5 @@
 -- All passes in one list: the client's, those of the servers, and those of races.
-use Rattle.std.proofs.Common.{◌≡◌, ◌<◌, ◌≤◌, ℕ, zero, suc, ◌+◌, List, [], ◌∷◌, ◌++◌, All, Option, Some, None, refl, sym, ◌∙◌, ap, subst, arith, length, map, drop, take}
+use Rattle.std.proofs.Common.{◌≡◌, ◌≤◌, ℕ, List, [], ◌∷◌, ◌++◌, All, Option, Some, None, refl, sym, ◌∙◌, ap, subst, arith, length, drop, take}
 use Rattle.std.specs.Option.{option_map}
 use Rattle.std.specs.declared.alloc.Global.{Global}
 use Rattle.std.specs.declared.dyn_box.DynBox.{DynBox}
@@ -16,7 +16,8 @@ use Rattle.tp_commands.specs.Acting.{AllEnded, places_shown}
 use Rattle.tp_commands.specs.Places.{AllLeft, AllLie, IsLeft, Lies, first_of, firsts, workers}
 use Rattle.tp_commands.proofs.Lefts.{same_parts, same_within, workers_are}
 use Rattle.tp_commands.proofs.Lies.{lie_passes, lie_servers}
-use Rattle.tp_perform.specs.Told.{ArePasses, AreReady, IsScene, Scene, scene}
+use Rattle.tp_perform.specs.Scenes.{Scene, scene}
+use Rattle.tp_perform.specs.Told.{ArePasses, AreReady, IsScene}
 
 first_same : {A : Type 0} (x y : A) (xs ys : List A) → x ∷ xs ≡ y ∷ ys → (x ≡ y) × (xs ≡ ys)
 first_same x y xs ys e = (cc, cc)
@@ -29,7 +30,7 @@ behind_same [] ys zs e = e
 behind_same (x ∷ xs) ys zs e = behind_same xs ys zs (first_same x x (xs ++ ys) (xs ++ zs) e).1
 
 -- there is one scene of these
-scene_same : (a b : Scene) → a.client ≡ b.client → a.places ≡ b.places → a.racers ≡ b.racers → a ≡ b
+pub scene_same : (a b : Scene) → a.client ≡ b.client → a.places ≡ b.places → a.racers ≡ b.racers → a ≡ b
 scene_same a b client places racers = λ i. record { client = client i; places = places i; racers = racers i }
 
 module _ {X : Type 0} {F : X → Type 0} (behaviour : DynBox X Global F → Behaviour) (registers : DynBox X Global F → List ℕ) (pending : DynBox X Global F → Option Pending) where

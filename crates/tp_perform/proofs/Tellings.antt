@@ -20,7 +20,8 @@ use Rattle.tp_commands.specs.Acting.{DoesIn, place_shown, places_shown}
 use Rattle.tp_commands.specs.Registers.{TellsBalance}
 use Rattle.tp_commands.specs.Places.{AllLie}
 use Rattle.tp_commands.proofs.Shows.{shown_at}
-use Rattle.tp_perform.specs.Told.{BalanceLine, ClientLine, OnlyClient, OnlyPlaces, Scene, ServerLine}
+use Rattle.tp_perform.specs.Scenes.{OnlyClient, OnlyPlaces, Scene}
+use Rattle.tp_perform.specs.Told.{BalanceLine, ClientLine, ServerLine}
 
 -- a server that is named
 pub named : (servers : List ScriptServer) (at : ℕ) (P : ScriptServer → Type 0) → IfSome (slice_get servers at) P → at < length servers → (s : ScriptServer) × (slice_get (map server_view servers) at ≡ Some (server_view s)) × P s

@@ -12,7 +12,8 @@ use Rattle.tp_workers.specs.Free.{IsFreePass}
 use Rattle.tp_commands.specs.Acting.{PlaceShown}
 use Rattle.tp_perform.specs.Ending.{AccountFront, FinalsFront, TellsAccount, finals_of}
 use Rattle.tp_commands.specs.Places.{workers}
-use Rattle.tp_perform.specs.Told.{ArePasses, Scene, ToldAll, ToldFront}
+use Rattle.tp_perform.specs.Scenes.{Scene}
+use Rattle.tp_perform.specs.Told.{ArePasses, ToldAll, ToldFront}
 use Rattle.tp_commands.specs.Acting.{AllEnded}
 
 -- the limits that a script asks for

@@ -1,5 +1,5 @@
--- Commands that have all free servers work: a race and a drain.
-use Rattle.std.specs.Prelude.{◌≡◌, ◌≤◌, ◌<◌, get_or, ℕ, ◌+◌, ◌*◌, Bool, true, false, ◌&&◌, not, is_some, List}
+-- A race: all free servers work, each on a thread of its own, beside clients and killers.
+use Rattle.std.specs.Prelude.{◌≡◌, ◌≤◌, ◌<◌, get_or, ℕ, ◌+◌, ◌*◌, Bool, true, false, List}
 use Rattle.std.specs.Prelude.{[], ◌∷◌, None, drop, length, replicate, take}
 use Rattle.std.specs.List.{AllZip}
 use Rattle.tp_model.specs.declared.types.Limits.{Limits}
@@ -14,14 +14,10 @@ use Rattle.tp_workers.specs.Plans.{least_first}
 use Rattle.tp_workers.specs.Ran.{RanEach}
 use Rattle.tp_commands.specs.declared.place.Place.{Place}
 use Rattle.tp_script.specs.declared.script.Race.{Race}
-use Rattle.tp_commands.specs.Acting.{PlaceShown, place_of}
+use Rattle.tp_commands.specs.Acting.{PlaceShown, is_free, place_of}
 use Rattle.tp_commands.specs.Places.{is_free_at}
 
 -- ---- desks
-
--- whether a desk takes part: it wasn't dropped, and has nothing in hand
-abbrev pub is_free : PlaceShown → Bool
-is_free p = not p.is_dropped && not (is_some p.desk.work)
 
 -- none of the places from the one up to the other is free
 abbrev pub ArePassed : {X : Type 0} {F : X → Type 0} → ℕ → ℕ → List (Place X F) → Type 0

@@ -1,19 +1,15 @@
 -- What the commands of a script are told, one after another: the line of each is that of its call's answer.
-use Rattle.std.specs.Prelude.{◌≡◌, ◌≤◌, ℕ, zero, suc, List, [], ◌∷◌, ◌++◌, All, Option, Some, length, map}
+use Rattle.std.specs.Prelude.{◌≡◌, ◌≤◌, ℕ, zero, suc, List, [], ◌∷◌, ◌++◌, All, Option, Some, None, length}
 use Rattle.std.specs.Prelude.{slice_get, drop, take}
-use Rattle.std.specs.List.{AllZip}
 use Rattle.std.specs.Io.KnownBytes.{Appends}
 use Rattle.std.specs.declared.alloc.Global.{Global}
 use Rattle.std.specs.declared.dyn_box.DynBox.{DynBox}
 use Rattle.tp_model.specs.declared.types.Limits.{Limits}
 use Rattle.tp_server.specs.Behaviour.{Behaviour}
 use Rattle.tp_server.specs.Pending.{Pending}
-use Rattle.tp_manager.specs.Accounts.{AreAll, Gathers}
-use Rattle.tp_manager.specs.Bounds.{gather_steps}
 use Rattle.tp_manager.specs.Shown.{IsOf, KeeperShown, ManagerShown, PassShown}
 use Rattle.tp_desk.specs.declared.order.Order.{Order}
 use Rattle.tp_desk.specs.declared.order.Order.TheVariants as orders
-use Rattle.tp_workers.specs.Drained.{EndsIdle}
 use Rattle.tp_workers.specs.Free.{IsFreePass}
 use Rattle.tp_report.specs.Answer.{answer_text, line, named_text}
 use Rattle.tp_report.specs.Written.{AppendsFront}
@@ -31,37 +27,9 @@ use Rattle.tp_commands.specs.Asked.{TellsClient}
 use Rattle.tp_script.specs.declared.script.Race.{Race}
 use Rattle.tp_commands.specs.Registers.{TellsBalance, register_sum}
 use Rattle.tp_commands.specs.Places.{AllLie, workers}
-use Rattle.tp_perform.specs.Together.{AllTakePart, Races}
-
--- what is there while a script is performed: the client's pass, the places of desks, and the passes of races
-pub record Scene : Type 0 where
-  pub client : PassShown
-  pub places : List PlaceShown
-  pub racers : List PassShown
-
--- all passes of a scene
-abbrev pub passes_in : Scene → List PassShown
-passes_in s = s.client ∷ (map (λ p. p.desk.pass) s.places ++ s.racers)
-
-module _ {X : Type 0} {F : X → Type 0} (behaviour : DynBox X Global F → Behaviour)
-    (registers : DynBox X Global F → List ℕ) (pending : DynBox X Global F → Option Pending) where
-  abbrev pub scene : PassShown → List PassShown → List (DynBox X Global F) → List (Place X F) → List PassShown
-      → Scene
-  scene client passes servers places racers = record {
-    client = client;
-    places = places_shown behaviour registers pending passes servers places;
-    racers = racers;
-  }
-
--- nothing but the client's pass has changed
-pub record OnlyClient (old new : Scene) : Type 0 where
-  pub places : new.places ≡ old.places
-  pub racers : new.racers ≡ old.racers
-
--- nothing but the places have changed
-pub record OnlyPlaces (old new : Scene) : Type 0 where
-  pub client : new.client ≡ old.client
-  pub racers : new.racers ≡ old.racers
+use Rattle.tp_perform.specs.Drains.{Drains}
+use Rattle.tp_perform.specs.Scenes.{Gathered, OnlyClient, OnlyPlaces, Scene}
+use Rattle.tp_perform.specs.Together.{Races}
 
 -- the line tells what the client did
 pub record ClientLine (l : Limits) (act : ClientAct) (old : Scene) (text : List ℕ)
@@ -97,15 +65,7 @@ pub record RaceLine (m : ManagerShown) (rows : ℕ) (plan : Race)
   pub text_is : text ≡ line (answer_text (answer.Raced submitted))
   pub client : new.client ≡ old.client
 
--- the line tells that all free desks took turns, whose claims were in this order, until their last ones found
--- nothing to claim
-pub record DrainLine (order : Order) (m : ManagerShown) (old : Scene) (text : List ℕ)
-    (new : Scene) : Type 0 where
-  pub desks : AllTakePart (EndsIdle order m.limits) old.places new.places
-  pub text_is : text ≡ line (answer_text answer.Drained)
-  pub others : OnlyPlaces old new
-
--- the line of a script's command
+-- the line of a script's command; a drain is told by its rounds
 abbrev pub TellsCommand : ManagerShown → ScriptView → Command → Scene → List ℕ → Scene → Type 0
 TellsCommand m s (command.Client act) = ClientLine m.limits act
 TellsCommand m s (command.Desk at act) = ServerLine m s.servers act at
@@ -113,8 +73,7 @@ TellsCommand m s (command.Balance at k) = BalanceLine s.servers at k
 TellsCommand m s (command.Sum k) = λ old text new.
     (text ≡ line (answer_text (answer.Sum k (register_sum k old.places)))) × (new ≡ old)
 TellsCommand m s (command.Race plan) = RaceLine m s.settings.rows plan
-TellsCommand m s command.Drain = DrainLine orders.LeastFirst m
-TellsCommand m s command.DrainNext = DrainLine orders.InTurn m
+TellsCommand m s other = λ old text new. ⊥
 
 -- A command leads from one scene to another, and this is its line. A race takes the passes behind those of
 -- the races before it; the other ones are as they were.
@@ -132,30 +91,33 @@ pub record Performs (m : ManagerShown) (s : ScriptView) (c : Command) (raced : �
   -- at each place the registers are the fold of what the desk has committed since it began
   pub steady : All IsSteadyPlace new.places
 
--- nothing has changed at a place but what its pass shows
-abbrev pub OnlyPass : PlaceShown → PlaceShown → Type 0
-OnlyPass old new = new ≡ record old { desk = record old.desk { pass = new.desk.pass } }
+-- in which order the desks of a drain claim; `None`: the command is no drain
+abbrev pub drain_order : Command → Option Order
+drain_order command.Drain = Some orders.LeastFirst
+drain_order command.DrainNext = Some orders.InTurn
+drain_order other = None
 
--- all passes, of which there are no others, have gathered, and nothing else has changed
-pub record Gathered (m : ManagerShown) (keeper keeper' : KeeperShown) (old new : Scene) : Type 0 where
-  pub gathers :
-      let l = m.limits in
-      Gathers l (gather_steps l (length (passes_in old))) keeper keeper' (passes_in old) (passes_in new)
-  pub all : AreAll keeper' (passes_in new)
-  pub given : keeper'.given ≡ keeper.given
-  pub own : All (IsOf m) (passes_in new)
-  pub places : AllZip OnlyPass old.places new.places
+-- A command leads from one scene to another, this is its line, and all have gathered after it. In a drain they
+-- gather after each turn.
+abbrev pub PerformsBy : Option Order → ManagerShown → ScriptView → Command → ℕ → KeeperShown → Scene → List ℕ
+    → KeeperShown → Scene → Type 0
+PerformsBy None m s c raced keeper old text keeper' new =
+    (done : Scene) × Performs m s c raced old text done × Gathered m keeper keeper' done new
+PerformsBy (Some order) m s c raced keeper old text keeper' new = Drains order m keeper old text keeper' new
 
--- All passes have gathered, and then the first n commands of a script have led from one scene to another.
--- Behind each of them all have gathered again. The lines of these commands are this text.
+abbrev pub PerformsAll : ManagerShown → ScriptView → Command → ℕ → KeeperShown → Scene → List ℕ → KeeperShown
+    → Scene → Type 0
+PerformsAll m s c = PerformsBy (drain_order c) m s c
+
+-- All passes have gathered, and then the first n commands of a script have led from one scene to another. The
+-- lines of these commands are this text.
 abbrev pub Told : ManagerShown → ScriptView → KeeperShown → Scene → ℕ → List ℕ → KeeperShown → Scene → Type 0
 Told m s keeper old zero text keeper' new = (text ≡ []) × Gathered m keeper keeper' old new
 Told m s keeper old (suc n) text keeper' new =
-    (front : List ℕ) × (last : List ℕ) × (c : Command) × (kept : KeeperShown) × (between : Scene)
-    × (done : Scene)
-    × Told m s keeper old n front kept between × (slice_get s.commands n ≡ Some c)
-    × Performs m s c (racing (take n s.commands)) between last done × Gathered m kept keeper' done new
-    × (text ≡ front ++ last)
+    (before : List ℕ) × (last : List ℕ) × (c : Command) × (kept : KeeperShown) × (between : Scene)
+    × Told m s keeper old n before kept between × (slice_get s.commands n ≡ Some c)
+    × PerformsAll m s c (racing (take n s.commands)) kept between last keeper' new
+    × (text ≡ before ++ last)
 
 -- all of them were performed, and their lines written
 abbrev pub ToldAll : ManagerShown → ScriptView → KeeperShown → Scene → KeeperShown → Scene

@@ -2,6 +2,7 @@
 #![tactic(auto)]
 
 pub mod account;
+mod drains;
 pub mod finals;
 pub mod perform;
 mod program;

@@ -6,8 +6,9 @@ ghost use Rattle.tp_manager.specs.Accounts.{AreAll};
 ghost use Rattle.tp_manager.specs.Shown.{IsKeptBy, IsOf};
 ghost use Rattle.tp_workers.specs.Free.{IsFreePass, numbers};
 ghost use Rattle.tp_report.specs.Lines.{IsLine, Writes, WritesFront};
-ghost use Rattle.tp_perform.specs.Told.{ArePasses, AreReady, IsFirstScene, IsScene, Performs, Scene};
-ghost use Rattle.tp_perform.specs.Told.{TellsCommand, ToldAll, ToldFront, scene};
+ghost use Rattle.tp_perform.specs.Scenes.{Scene, scene};
+ghost use Rattle.tp_perform.specs.Told.{ArePasses, AreReady, IsFirstScene, IsScene, Performs, PerformsAll};
+ghost use Rattle.tp_perform.specs.Told.{TellsCommand, ToldAll, ToldFront, drain_order};
 ghost use Rattle.tp_commands.specs.Acting.{AllEnded, new_places, places_shown};
 ghost use Rattle.tp_commands.specs.Places.{AllLeft, AllLie, all_firsts, firsts, workers};
 ghost use Rattle.tp_script.specs.Passes.{racers as racers_of};
@@ -15,7 +16,8 @@ ghost use Rattle.tp_script.specs.declared.script.TheConstants.{MAX_SERVERS};
 ghost use Rattle.tp_script.specs.Ranges.{IsInRange};
 ghost use Rattle.tp_script.specs.Script.{passes as passes_of, script_view};
 
-use crate::racing::{drain_all, run_race};
+use crate::drains::drain_line;
+use crate::racing::run_race;
 use arrayvec::ArrayVec;
 use std::alloc::{AllocError, Global};
 use std::string::String;
@@ -27,7 +29,7 @@ use tp_report::{Answer, RunFault, Sink, line, write_all};
 use tp_script::{Command, MAX_SERVERS, Script};
 use tp_server::Server;
 
-/// Performs a command, and answers its line. The racers are the passes of its race, if it is one.
+/// Performs a command that is no drain, and answers its line. The racers are the passes of its race, if it is one.
 fn command_line<R: Threads + Sync>(
     rt: &R,
     alloc: Global,
@@ -47,6 +49,7 @@ fn command_line<R: Threads + Sync>(
     requires racers { All (IsFreePass manager.now) racers.old }
     requires enough { length racers.old ≡ racers_of command }
     requires in_range { IsInRange (length script.now.servers.items) command }
+    requires no_drain { drain_order command ≡ None }
     ensures client { IsFreePass manager.now client.new }
     ensures client_number { client.new.number ≡ client.old.number }
     ensures own { All (IsOf manager.now) passes.new }
@@ -86,19 +89,13 @@ fn command_line<R: Threads + Sync>(
             )?;
             line(alloc, Answer::Raced { submitted })
         }
-        Command::Drain => {
-            drain_all(manager, passes, servers, places, Order::LeastFirst);
-            line(alloc, Answer::Drained)
-        }
-        Command::DrainNext => {
-            drain_all(manager, passes, servers, places, Order::InTurn);
-            line(alloc, Answer::Drained)
-        }
+        Command::Drain => unreachable!(),
+        Command::DrainNext => unreachable!(),
     }
 }
 
-/// Performs a command by the passes that it needs of all: the client's, those of the servers, and those of
-/// its race, which lie behind those of the races before it.
+/// Performs a command that is no drain by the passes that it needs of all: the client's, those of the servers,
+/// and those of its race, which lie behind those of the races before it.
 fn command_in<R: Threads + Sync>(
     rt: &R,
     alloc: Global,
@@ -114,6 +111,7 @@ fn command_in<R: Threads + Sync>(
     requires as_many { length places.old ≡ length script.now.servers.items }
     requires enough { 1 + length servers.old + raced + racers_of command ≤ length passes.old }
     requires in_range { IsInRange (length script.now.servers.items) command }
+    requires no_drain { drain_order command ≡ None }
     ensures ready { AreReady behaviour registers pending manager.now passes.new servers.new places.new }
     ensures as_many { length places.new ≡ length places.old }
     ensures began { firsts places.new ≡ firsts places.old }
@@ -133,6 +131,66 @@ fn command_in<R: Threads + Sync>(
     command_line(
         rt, alloc, script, manager, client, workers, servers, places, here, command,
     )
+}
+
+/// In which order the desks of a drain claim, or `None` for a command that is no drain.
+fn order_of(command: Command) -> Option<Order>
+    ensures { result ≡ drain_order command }
+{
+    match command {
+        Command::Drain => Some(Order::LeastFirst),
+        Command::DrainNext => Some(Order::InTurn),
+        Command::Client(_) => None,
+        Command::Desk { .. } => None,
+        Command::Balance { .. } => None,
+        Command::Sum { .. } => None,
+        Command::Race(_) => None,
+    }
+}
+
+/// Performs a command, after which all passes gather, and answers its line. In a drain they gather behind each
+/// turn.
+fn perform_one<R: Threads + Sync>(
+    rt: &R,
+    alloc: Global,
+    script: &Script,
+    manager: &Manager,
+    keeper: &mut Keeper,
+    passes: &mut [Pass],
+    servers: &mut [Box<dyn Server + Send>],
+    places: &mut [Place],
+    raced: usize,
+    command: Command,
+) -> Result<String, AllocError>
+    requires keeper { IsKeptBy manager.now keeper.old }
+    requires given { AreAll keeper.old passes.old }
+    requires ready { AreReady behaviour registers pending manager.now passes.old servers.old places.old }
+    requires as_many { length places.old ≡ length script.now.servers.items }
+    requires enough { 1 + length servers.old + raced + racers_of command ≤ length passes.old }
+    requires in_range { IsInRange (length script.now.servers.items) command }
+    ensures keeper { IsKeptBy manager.now keeper.new }
+    ensures given { keeper.new.given ≡ keeper.old.given }
+    ensures ready { AreReady behaviour registers pending manager.now passes.new servers.new places.new }
+    ensures as_many { length places.new ≡ length places.old }
+    ensures began { firsts places.new ≡ firsts places.old }
+    ensures numbered { numbers passes.new ≡ numbers passes.old }
+    ensures tells { IfOk result (λ text. (old : Scene) × (new : Scene)
+        × IsScene behaviour registers pending passes.old servers.old places.old old
+        × PerformsAll manager.now (script_view script.now) command raced
+        keeper.old old (string_bytes text) keeper.new new
+        × IsScene behaviour registers pending passes.new servers.new places.new new) }
+    ensures line { IfOk result (λ text. IsLine (string_bytes text)) }
+{
+    match order_of(command) {
+        Some(order) => drain_line(alloc, manager, keeper, passes, servers, places, order),
+        None => {
+            let line = command_in(
+                rt, alloc, script, manager, passes, servers, places, raced, command,
+            )?;
+            keeper.gather(manager, passes);
+            Ok(line)
+        }
+    }
 }
 
 /// Performs commands one after another, and writes the line of each as it comes. The passes are all that the
@@ -176,11 +234,10 @@ fn perform_all<R: Threads + Sync, W: Sink>(
     keeper.gather(manager, passes);
     let mut raced = 0usize;
     for command in &script.commands {
-        let line = command_in(
-            rt, alloc, script, manager, passes, servers, places, raced, *command,
+        let line = perform_one(
+            rt, alloc, script, manager, keeper, passes, servers, places, raced, *command,
         )?;
         raced += usize::from(command.racers());
-        keeper.gather(manager, passes);
         write_all(writer, line.as_bytes())?;
     }
     Ok(())

@@ -1,5 +1,4 @@
-//! Commands that have all free servers work: `race`, on threads of their own with clients and killers, and
-//! `drain`.
+//! The command `race`: all free servers work, each on a thread of its own, beside clients and killers.
 ghost use Rattle.std.specs.List.{swap};
 ghost use Rattle.std.specs.Prelude.{◌≡◌, ◌+◌, ◌-◌, ◌*◌, ◌≤◌, ◌<◌, ◌^◌, None, All, IfOk, length, replicate};
 ghost use Rattle.std.specs.Prelude.{sum_by, take, true};
@@ -9,7 +8,6 @@ ghost use Rattle.tp_workers.specs.Clients.{IsClientJob};
 ghost use Rattle.tp_workers.specs.Free.{IsFreePass, numbers};
 ghost use Rattle.tp_workers.specs.Killers.{IsKillJob};
 ghost use Rattle.tp_workers.specs.Sums.{calls_of, size_of_range};
-ghost use Rattle.tp_workers.specs.Drained.{EndsIdle};
 ghost use Rattle.tp_commands.specs.Acting.{places_shown};
 ghost use Rattle.tp_commands.specs.Places.{AllLie, firsts};
 ghost use Rattle.tp_perform.specs.Together.{AllTakePart, ArePassed, Races, RacersRan, TookTurns, client_job};
@@ -24,7 +22,7 @@ use tp_desk::Order;
 use tp_manager::{Manager, Pass};
 use tp_script::{MAX_SERVERS, Race};
 use tp_server::Server;
-use tp_workers::{ClientJob, KillJob, NoGate, Plan, drain, shift};
+use tp_workers::{ClientJob, KillJob, NoGate, Plan, shift};
 
 /// What each client of a race is to do.
 fn client_job(alloc: Global, plan: Race) -> Result<ClientJob, AllocError>
@@ -309,90 +307,4 @@ fn swap_places(
     passes.swap(a, b);
     servers.swap(a, b);
     places.swap(a, b);
-}
-
-/// Has the free servers take turns, whose claims are in this order, until a whole round of them claims
-/// nothing.
-pub(crate) fn drain_all(
-    manager: &Manager,
-    passes: &mut [Pass],
-    servers: &mut [Box<dyn Server + Send>],
-    places: &mut [Place],
-    order: Order,
-)
-    requires own { All (IsOf manager.now) passes.old }
-    requires lie { AllLie behaviour registers pending passes.old servers.old places.old }
-    requires few { length places.old ≤ MAX_SERVERS }
-    ensures own { All (IsOf manager.now) passes.new }
-    ensures lie { AllLie behaviour registers pending passes.new servers.new places.new }
-    ensures desks { AllTakePart (EndsIdle order manager.now.limits)
-        (places_shown behaviour registers pending passes.old servers.old places.old)
-        (places_shown behaviour registers pending passes.new servers.new places.new) }
-    ensures began { firsts places.new ≡ firsts places.old }
-    ensures as_many { length places.new ≡ length places.old }
-{
-    drain_free(manager, passes, servers, places, order, 0, 0);
-}
-
-/// Drains as `race_free` races.
-fn drain_free(
-    manager: &Manager,
-    passes: &mut [Pass],
-    servers: &mut [Box<dyn Server + Send>],
-    places: &mut [Place],
-    order: Order,
-    front: usize,
-    at: usize,
-)
-    requires own { All (IsOf manager.now) passes.old }
-    requires lie { AllLie behaviour registers pending passes.old servers.old places.old }
-    requires few { length places.old ≤ MAX_SERVERS }
-    requires free { All (λ place. is_free_at place ≡ true) (take front places.old) }
-    requires within { (front ≤ at) × (at ≤ length places.old) }
-    requires passed { ArePassed front at places.old }
-    ensures own { All (IsOf manager.now) passes.new }
-    ensures lie { AllLie behaviour registers pending passes.new servers.new places.new }
-    ensures desks { AllTakePart (EndsIdle order manager.now.limits)
-        (places_shown behaviour registers pending passes.old servers.old places.old)
-        (places_shown behaviour registers pending passes.new servers.new places.new) }
-    ensures began { firsts places.new ≡ firsts places.old }
-    ensures as_many { length places.new ≡ length places.old }
-{
-    if at == places.len() {
-        drain_front(manager, passes, servers, places, order, front);
-        return;
-    }
-    if !places[at].is_free() {
-        drain_free(manager, passes, servers, places, order, front, at + 1);
-        return;
-    }
-    swap_places(manager, passes, servers, places, front, at);
-    drain_free(manager, passes, servers, places, order, front + 1, at + 1);
-    swap_places(manager, passes, servers, places, front, at);
-}
-
-/// Drains the servers in front, which are free.
-fn drain_front(
-    manager: &Manager,
-    passes: &mut [Pass],
-    servers: &mut [Box<dyn Server + Send>],
-    places: &[Place],
-    order: Order,
-    front: usize,
-)
-    requires own { All (IsOf manager.now) passes.old }
-    requires lie { AllLie behaviour registers pending passes.old servers.old places.now }
-    requires few { length places.now ≤ MAX_SERVERS }
-    requires free { All (λ place. is_free_at place ≡ true) (take front places.now) }
-    requires within { front ≤ length places.now }
-    requires passed { ArePassed front (length places.now) places.now }
-    ensures own { All (IsOf manager.now) passes.new }
-    ensures lie { AllLie behaviour registers pending passes.new servers.new places.now }
-    ensures desks { AllTakePart (EndsIdle order manager.now.limits)
-        (places_shown behaviour registers pending passes.old servers.old places.now)
-        (places_shown behaviour registers pending passes.new servers.new places.now) }
-{
-    let (desks, _others) = passes.split_at_mut(front);
-    let (boxes, _rest) = servers.split_at_mut(front);
-    let _ = drain(manager, desks, boxes, order);
 }

@@ -1,9 +1,8 @@
 -- Each round of a drain that claims something uses a unit of work, and there are so many units and no more.
-use Rattle.std.proofs.Common.{◌≡◌, ℕ, zero, suc, ◌+◌, ◌*◌, ◌<◌, ◌≤◌, ◌||◌, nat_lt, Bool, true, false, List, [], ◌∷◌, length, Option, Some, None, Result, Ok, Err, slice_index_or, slice_set, refl, sym, ◌∙◌, ap, subst, inl, inr, arith}
+use Rattle.std.proofs.Common.{◌≡◌, ℕ, zero, suc, ◌+◌, ◌-◌, ◌*◌, ◌<◌, ◌≤◌, ◌||◌, nat_lt, Bool, true, false, List, [], ◌∷◌, length, Option, Some, None, Result, Ok, Err, slice_set, refl, sym, ◌∙◌, ap, subst, arith}
 use Rattle.std.specs.Prelude.{slice_get, sum_by, if◌then◌else◌}
-use Rattle.std.proofs.lemmas.Bool.{cases_lt, ltb-true}
-use Rattle.std.proofs.lemmas.Bool.Decides.{eqb_tells}
-use Rattle.std.proofs.lemmas.List.{get_or-set_same, get_or-set_other, get_or_past, length-set}
+use Rattle.std.proofs.lemmas.Bool.{ltb-true}
+use Rattle.std.proofs.lemmas.List.{length-set}
 use Rattle.std.proofs.lemmas.List.Sums.{sum_by-cons, sum_by-set}
 use Rattle.std.proofs.Math.Nat.{suc-mul}
 use Rattle.tp_model.specs.Drafts.{DraftView}
@@ -34,54 +33,47 @@ use Rattle.tp_reference.specs.DrainEnds.{DrainsEnd}
 abbrev begun : PassState → ℕ
 begun p = p.claimed
 
-abbrev units_used : List PassState → ℕ
-units_used passes = sum_by begun passes
+-- how many are left to a pass that may begin so many, and to all passes
+abbrev left_of : ℕ → PassState → ℕ
+left_of units p = units - begun p
 
--- no pass has begun more than so many
-abbrev Within : ℕ → List PassState → Type 0
-Within units passes = (c : ℕ) → begun (slice_index_or passes c no_pass) ≤ units
+abbrev units_left : ℕ → List PassState → ℕ
+units_left units passes = sum_by (left_of units) passes
 
--- k units at least were begun, and no pass has begun more than it has
+-- k units fewer at least are left
 record Spends (k : ℕ) (m m' : thread.State) : Type 0 where
   pub limits : m'.limits ≡ m.limits
   pub passes : length m'.passes ≡ length m.passes
-  pub used : k + units_used m.passes ≤ units_used m'.passes
-  pub within : Within m.limits.units m.passes → Within m.limits.units m'.passes
+  pub left : k + units_left m.limits.units m'.passes ≤ units_left m.limits.units m.passes
 
 spends_none : (m : thread.State) → Spends 0 m m
-spends_none m = record { limits = refl; passes = refl; used = omega arith; within = λ w. w }
+spends_none m = record { limits = refl; passes = refl; left = omega arith }
 
 spends_fewer : (j k : ℕ) (m m' : thread.State) → j ≤ k → Spends k m m' → Spends j m m'
-spends_fewer j k m m' fewer s = let used = s.used in record { limits = s.limits; passes = s.passes; used = omega arith; within = s.within }
+spends_fewer j k m m' fewer s = let left = s.left in record { limits = s.limits; passes = s.passes; left = omega arith }
 
 spends_on : (j k : ℕ) (m m' m'' : thread.State) → Spends j m m' → Spends k m' m'' → Spends (j + k) m m''
-spends_on j k m m' m'' a b = let x = a.used in let y = b.used in record {
-  limits = b.limits ∙ a.limits;
-  passes = b.passes ∙ a.passes;
-  used = omega arith;
-  within = λ w. subst (λ (l : Limits). Within l.units m''.passes) a.limits (b.within (subst (λ (l : Limits). Within l.units m'.passes) (sym a.limits) (a.within w)));
-}
+spends_on j k m m' m'' a b =
+    let x = a.left in
+    let y : k + units_left m.limits.units m''.passes ≤ units_left m.limits.units m'.passes = subst (λ (l : Limits). k + units_left l.units m''.passes ≤ units_left l.units m'.passes) a.limits b.left in
+    record { limits = b.limits ∙ a.limits; passes = b.passes ∙ a.passes; left = omega arith }
 
--- one pass goes on, and begins k units
-spends_set : (k : ℕ) (m m' : thread.State) (c : ℕ) (p : PassState) → m'.limits ≡ m.limits → m'.passes ≡ slice_set m.passes c p → c < length m.passes → begun p ≡ begun (pass_at m c) + k
-    → (Within m.limits.units m.passes → begun p ≤ m.limits.units) → Spends k m m'
-spends_set k m m' c p same set there more fits = record {
+-- one pass goes on, and begins k units that are left to it
+spends_set : (k : ℕ) (m m' : thread.State) (c : ℕ) (p : PassState) → m'.limits ≡ m.limits → m'.passes ≡ slice_set m.passes c p → c < length m.passes
+    → k + left_of m.limits.units p ≡ left_of m.limits.units (pass_at m c) → Spends k m m'
+spends_set k m m' c p same set there fewer = record {
   limits = same;
   passes = ap length set ∙ length-set m.passes c p;
-  used =
-      let sums = sum_by-set begun m.passes c p no_pass there in
-      let now : units_used m'.passes ≡ units_used (slice_set m.passes c p) = ap units_used set in
-      omega (arith, sums, now, more);
-  within = λ w d. subst (λ ps. begun (slice_index_or ps d no_pass) ≤ m.limits.units) (sym set) (elim (eqb_tells d c) [
-    | inl t ↦ subst (λ q. begun q ≤ m.limits.units) (sym (ap (λ e. slice_index_or (slice_set m.passes c p) e no_pass) t.1 ∙ get_or-set_same m.passes c p no_pass there)) (fits w)
-    | inr t ↦ subst (λ q. begun q ≤ m.limits.units) (sym (get_or-set_other m.passes c d p no_pass t.1)) (w d)
-  ]);
+  left =
+      let sums = sum_by-set (left_of m.limits.units) m.passes c p no_pass there in
+      let now : units_left m.limits.units m'.passes ≡ units_left m.limits.units (slice_set m.passes c p) = ap (units_left m.limits.units) set in
+      omega (arith, sums, now, fewer);
 }
 
 module _ (m : thread.State) (c : ℕ) (there : c < length m.passes) where
   -- a pass that begins none
   stays_at : (m' : thread.State) (p : PassState) → m'.limits ≡ m.limits → m'.passes ≡ slice_set m.passes c p → begun p ≡ begun (pass_at m c) → Spends 0 m m'
-  stays_at m' p same set is = spends_set 0 m m' c p same set there (omega (arith, is)) (λ w. let fits = w c in omega (arith, is, fits))
+  stays_at m' p same set is = spends_set 0 m m' c p same set there (omega (arith, is))
 
   -- an abort
   abort_spends : (u : ℕ) (how : Option UnitEnd) → Spends 0 m (abort_at m c u how).1
@@ -112,7 +104,7 @@ module _ (m : thread.State) (c : ℕ) (there : c < length m.passes) where
   taken claimed.NoUnit = 0
 
   begins : (m' : thread.State) (p : PassState) → begun (pass_at m c) < m.limits.units → m'.limits ≡ m.limits → m'.passes ≡ slice_set m.passes c p → begun p ≡ begun (pass_at m c) + 1 → Spends 1 m m'
-  begins m' p room same set is = spends_set 1 m m' c p same set there is (λ w. omega (arith, is, room))
+  begins m' p room same set is = spends_set 1 m m' c p same set there (omega (arith, is, room))
 
   least_spends : (o : Option Look) → begun (pass_at m c) < m.limits.units → let r = claim_found m c o in Spends (taken r.0) m r.1
   least_spends None room = spends_none m
@@ -205,35 +197,34 @@ module _ (order : Order) (servers : List ServerView) where
       (spends_on (counts before.0) (counts turn.0) s.manager before.1.manager turn.1.manager first (one_spends (slice_get servers i) (slice_get before.1.desks i) i before.1 at))
 
   -- rounds, one after another
-  no_more : (n : ℕ) (s t : ReportState) → round_of order servers s ≡ (false, t) → rounds order servers (suc n) s ≡ t
+  pub no_more : (n : ℕ) (s t : ReportState) → round_of order servers s ≡ (false, t) → rounds order servers (suc n) s ≡ t
   unfolding rounds
   no_more n s t is = rw is refl
 
-  one_more : (n : ℕ) (s t : ReportState) → round_of order servers s ≡ (true, t) → rounds order servers (suc n) s ≡ rounds order servers n t
+  pub one_more : (n : ℕ) (s t : ReportState) → round_of order servers s ≡ (true, t) → rounds order servers (suc n) s ≡ rounds order servers n t
   unfolding rounds
   one_more n s t is = rw is refl
 
-  none_yet : (s : ReportState) → rounds order servers 0 s ≡ s
+  pub none_yet : (s : ReportState) → rounds order servers 0 s ≡ s
   unfolding rounds
   none_yet s = refl
 
-  -- the units of all passes
-  all_used : (units : ℕ) (passes : List PassState) → Within units passes → units_used passes ≤ length passes * units
-  all_used units [] w = omega arith
-  all_used units (p ∷ ps) w =
-      let first : begun p ≤ units = w 0 in
-      let rest = all_used units ps (λ c. w (suc c)) in
+  -- no more are left than all have
+  all_left : (units : ℕ) (passes : List PassState) → units_left units passes ≤ length passes * units
+  all_left units [] = omega arith
+  all_left units (p ∷ ps) =
+      let rest = all_left units ps in
       let more : length (p ∷ ps) * units ≡ length ps * units + units = suc-mul (length ps) units in
-      let sum : units_used (p ∷ ps) ≡ begun p + units_used ps = sum_by-cons begun p ps in
-      omega (arith, first, rest, more, sum)
+      let sum : units_left units (p ∷ ps) ≡ left_of units p + units_left units ps = sum_by-cons (left_of units) p ps in
+      omega (arith, rest, more, sum)
 
-  -- there is a pass for each server, and none has begun too many units
+  -- there is a pass for each server
   abbrev IsFit : ReportState → Type 0
-  IsFit s = (length servers < length s.manager.passes) × Within s.manager.limits.units s.manager.passes
+  IsFit s = length servers < length s.manager.passes
 
-  -- more rounds that claim than there are units aren't left
+  -- fewer units are left than n
   abbrev IsEnough : ℕ → ReportState → Type 0
-  IsEnough n s = length s.manager.passes * s.manager.limits.units < units_used s.manager.passes + n
+  IsEnough n s = units_left s.manager.limits.units s.manager.passes < n
 
   abbrev Ends : ℕ → ReportState → Type 0
   Ends n s = (k : ℕ) × (k < n) × (round_of order servers (rounds order servers k s) ≡ (false, rounds order servers n s))
@@ -241,27 +232,29 @@ module _ (order : Order) (servers : List ServerView) where
   ends_by : (n : ℕ) (s : ReportState) → IsFit s → IsEnough (suc n) s → ((t : ReportState) → IsFit t → IsEnough n t → Ends n t) → (r : Bool × ReportState) → round_of order servers s ≡ r → Ends (suc n) s
   ends_by n s fit many later (false, t) is = (0, omega arith, ap (round_of order servers) (none_yet s) ∙ (is ∙ ap (λ (z : ReportState). (false, z)) (sym (no_more n s t is))))
   ends_by n s fit many later (true, t) is =
-      let one : Spends 1 s.manager t.manager = subst (λ (r : Bool × ReportState). Spends (counts r.0) s.manager r.1.manager) is (below_spends (length servers) s fit.0) in
+      let one : Spends 1 s.manager t.manager = subst (λ (r : Bool × ReportState). Spends (counts r.0) s.manager r.1.manager) is (below_spends (length servers) s fit) in
       let long = one.passes in
-      let used = one.used in
-      let enough = fit.0 in
-      let same : t.manager.limits.units ≡ s.manager.limits.units = ap (λ (l : Limits). l.units) one.limits in
-      let all : length t.manager.passes * t.manager.limits.units ≡ length s.manager.passes * s.manager.limits.units = ap (λ k. k * t.manager.limits.units) long ∙ ap (λ k. length s.manager.passes * k) same in
-      let rest = later t (omega (arith, long, enough), subst (λ u. Within u t.manager.passes) (sym same) (one.within fit.1)) (omega (arith, all, used, many)) in
+      let fewer = one.left in
+      let same : units_left t.manager.limits.units t.manager.passes ≡ units_left s.manager.limits.units t.manager.passes = ap (λ (l : Limits). units_left l.units t.manager.passes) one.limits in
+      let rest = later t (omega (arith, long, fit)) (omega (arith, same, fewer, many)) in
       (suc rest.0, let less = rest.1 in omega (arith, less), ap (round_of order servers) (one_more rest.0 s t is) ∙ (rest.2 ∙ ap (λ (z : ReportState). (false, z)) (sym (one_more n s t is))))
 
   ends : (n : ℕ) (s : ReportState) → IsFit s → IsEnough n s → Ends n s
-  ends zero s fit many = let most = all_used s.manager.limits.units s.manager.passes fit.1 in absurd (omega (arith, most, many))
+  ends zero s fit many = absurd (omega (arith, many))
   ends (suc n) s fit many = ends_by n s fit many (ends n) (round_of order servers s) refl
 
+mul_le : (a b n : ℕ) → a ≤ b → a * n ≤ b * n
+mul_le zero b n few = omega arith
+mul_le (suc a) zero n few = absurd (omega (arith, few))
+mul_le (suc a) (suc b) n few =
+    let rest = mul_le a b n (omega (arith, few)) in
+    let x = suc-mul a n in
+    let y = suc-mul b n in
+    omega (arith, rest, x, y)
+
 pub drains_end : DrainsEnd
-drains_end order servers s reached parts =
-    let long : length s.manager.passes ≡ s.manager.limits.parts = reached.passes in
-    let within : Within s.manager.limits.units s.manager.passes =
-    λ c. elim (cases_lt c s.manager.limits.parts) [
-      | inl inside ↦ (reached.fits c inside).claimed
-      | inr past ↦ subst (λ (p : PassState). begun p ≤ s.manager.limits.units) (sym (get_or_past s.manager.passes c no_pass (omega (arith, long, past)))) (omega arith)
-    ] in
-    let all : length s.manager.passes * s.manager.limits.units ≡ s.manager.limits.parts * s.manager.limits.units = ap (λ k. k * s.manager.limits.units) long in
-    let t = ends order servers (most_rounds s.manager.limits) s (omega (arith, long, parts), within) (omega (arith, all)) in
+drains_end order servers s enough few =
+    let most = all_left order servers s.manager.limits.units s.manager.passes in
+    let fewer = mul_le (length s.manager.passes) s.manager.limits.parts s.manager.limits.units few in
+    let t = ends order servers (most_rounds s.manager.limits) s enough (omega (arith, most, fewer)) in
     record { before = t.0; few = t.1; dry = t.2 }

@@ -1,6 +1,5 @@
 -- That a drain ends by itself, and not by the bound of its rounds.
-use Rattle.std.specs.Prelude.{◌≡◌, ◌+◌, ◌<◌, ℕ, false, List, length}
-use Rattle.tp_plain.specs.Reached.{IsReachable}
+use Rattle.std.specs.Prelude.{◌≡◌, ◌≤◌, ◌<◌, ℕ, false, List, length}
 use Rattle.tp_desk.specs.declared.order.Order.{Order}
 use Rattle.tp_script.specs.Script.{ServerView}
 use Rattle.tp_reference.specs.PlainReport.{ReportState, drain_of, most_rounds, round_of, rounds}
@@ -15,4 +14,5 @@ pub record EndsDry (order : Order) (servers : List ServerView) (s : ReportState)
 abbrev pub DrainsEnd : Type 0
 DrainsEnd =
     (order : Order) (servers : List ServerView) (s : ReportState)
-    → IsReachable s.manager → s.manager.limits.parts ≡ 1 + length servers → EndsDry order servers s
+    → length servers < length s.manager.passes → length s.manager.passes ≤ s.manager.limits.parts
+    → EndsDry order servers s

@@ -1,4 +1,5 @@
 //! Scenes of rollovers: what is carried over, how it stands in the new manager, and each fault.
+mod crews;
 mod plays;
 mod scenes;
 

@@ -242,9 +242,9 @@ fn prepare(
 
 /// All that is alive in the old manager, each element once, goes on in the new one, and nothing else does. What
 /// each is there, in the order of their ids, which is the same in both managers. In the old one all is
-/// consumed or killed then. The slices hold every pass of their manager that was given out, in order of
-/// number (`Keeper::has_all` tests this), and in the new one nothing has happened. Where it fails, nothing
-/// has changed in the old manager, and the new one is to be given up.
+/// consumed or killed then, and no pass of the new one has a unit open. The slices hold every pass of their
+/// manager that was given out, in order of number (`Keeper::has_all` tests this), and in the new one nothing
+/// has happened. Where it fails, nothing has changed in the old manager, and the new one is to be given up.
 pub fn roll_over(
     alloc: Global,
     old: &Manager,
@@ -264,6 +264,7 @@ pub fn roll_over(
     ensures all { AreAll old_keeper.new old_passes.new × AreAll new_keeper.new new_passes.new }
     ensures moved { IfOk result (λ moved. Rolls old.now.limits new.now.limits old_keeper.new new_keeper.new
         old_passes.old old_passes.new new_passes.new moved.items) }
+    ensures free { IfOk result (λ moved. AreFree new_passes.new) }
     ensures refused { IfErr result (λ fault. AllZip Stays old_passes.old old_passes.new) }
     ensures due { IfErr result (λ fault. IsDue old.now.limits new.now.limits old_passes.old new_passes.old
         new_passes.new fault) }
@@ -290,6 +291,9 @@ pub fn roll_over(
         Ok(moved) => moved,
         Err(stop) => return Err(fault_after(stop, new, new_passes)),
     };
+    if has_open(new_passes) {
+        return Err(RollFault::Unequal);
+    }
     let done = bury(old, old_passes, &moved);
     old_keeper.gather(old, old_passes);
     if !done {

@@ -11,5 +11,3 @@ pub mod Killers
 pub mod Sums
 pub mod Shifts
 pub mod Drains
-pub mod FoldStarts
-pub mod CrewLemmas

@@ -8,8 +8,4 @@ pub mod Drained
 pub mod Clients
 pub mod Killers
 pub mod Sums
-pub mod CrewPasses
-pub mod Folds
-pub mod FoldStarts
-pub mod Crew
 pub mod Plans

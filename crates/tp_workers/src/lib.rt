@@ -4,10 +4,7 @@
 
 mod alone;
 mod client;
-mod crew;
-mod crew_calls;
 mod desks;
-mod fold_start;
 mod fork;
 mod gate;
 mod killer;
@@ -19,7 +16,6 @@ mod work;
 
 pub use alone::work_off;
 pub use client::ClientJob;
-pub use crew::{Crew, CrewLimits};
 pub use gate::{Gate, NoGate, Point};
 pub use killer::KillJob;
 pub use plan::Plan;

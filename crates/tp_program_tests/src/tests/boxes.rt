@@ -66,6 +66,23 @@ fn consumed(manager: &Manager, reader: &mut Pass) -> u64
     count
 }
 
+/// What the first of these passes reads as consumed.
+fn consumed_by_first(manager: &Manager, passes: &mut [Pass]) -> Option<u64>
+    requires { All (IsFreePass manager.now) passes.old }
+{
+    let (reader, _others) = passes.split_first_mut()?;
+    Some(consumed(manager, reader))
+}
+
+/// The sum of the servers' first registers.
+fn sum_of(servers: &[Box<dyn Server + Send>]) -> u64 {
+    let mut sum = 0u64;
+    for server in servers {
+        sum = sum.wrapping_add(server.balance(0).unwrap_or(0));
+    }
+    sum
+}
+
 /// What a performance comes to, what it has consumed, and the sum of the registers that it leaves.
 fn left_by<R: Threads + Sync>(
     rt: &R,
@@ -88,12 +105,8 @@ fn left_by<R: Threads + Sync>(
         return None;
     }
     let answer = perform(rt, alloc, script, manager, keeper, passes, servers, writer);
-    let mut sum = 0u64;
-    for i in 0..servers.len() {
-        sum = sum.wrapping_add(servers[i].balance(0).unwrap_or(0));
-    }
-    let (reader, _others) = passes.split_first_mut()?;
-    Some((answer, consumed(manager, reader), sum))
+    let consumed = consumed_by_first(manager, passes)?;
+    Some((answer, consumed, sum_of(servers)))
 }
 
 /// A performance whose writer fails at this call.

@@ -1,6 +1,6 @@
 use Rattle.std.proofs.Common.{◌≡◌, length}
 use Rattle.tp_desk.specs.Steady.{shown}
-use Rattle.tp_workers.specs.Crew.{IsSteadyCrew}
+use Rattle.tp_crew.specs.Crew.{IsSteadyCrew}
 use Rattle.tp_images.proofs.day.parked.Given as goal
 
 abbrev pub invariant-loop-past : goal.invariant-loop-past

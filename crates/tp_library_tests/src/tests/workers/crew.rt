@@ -4,10 +4,11 @@ ghost use Rattle.std.specs.Prelude.{◌≡◌, None, All, length};
 use crate::tests::fixture::{eager, lazy, recipe};
 use crate::tests::workers::client;
 use std::process::Abort;
+use tp_crew::{Crew, CrewLimits};
 use tp_desk::Order;
 use tp_manager::MakeFault;
 use tp_server::{Act, Server};
-use tp_workers::{Crew, CrewLimits, NoGate, Plan, Shift};
+use tp_workers::{NoGate, Plan, Shift};
 
 /// Two boxes with nothing prepared.
 fn boxes<R: Abort + AllocGlobal>(rt: &R) -> Vec<Box<dyn Server + Send>>

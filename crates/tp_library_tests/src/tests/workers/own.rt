@@ -5,10 +5,11 @@ ghost use Rattle.std.specs.Prelude.{◌≡◌, ◌+◌, ◌%◌, ◌^◌, [], �
 
 use crate::tests::workers::client;
 use std::process::Abort;
+use tp_crew::{Crew, CrewLimits};
 use tp_desk::Order;
 use tp_model::types::Element;
 use tp_server::{Declined, Effect, Handler, OwnServer, Server, three};
-use tp_workers::{Crew, CrewLimits, NoGate, Plan};
+use tp_workers::{NoGate, Plan};
 
 /// The two registers after one element more: how many there were, and what their amounts add up to.
 fn booked(registers: &[u64; 2], element: &Element) -> [u64; 2]

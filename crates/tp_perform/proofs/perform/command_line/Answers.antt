@@ -39,11 +39,3 @@ returns-in-Sum-clause-tells g c =
 pub returns-in_ok-submitted-in-Race-clause-tells : goal.returns-in_ok-submitted-in-Race-clause-tells
 returns-in_ok-submitted-in-Race-clause-tells g c =
     rw c.in-Race.is (IfOk-weaker c.line-in-Race.result _ _ (λ s told. record { submitted = c.in_ok-submitted-in-Race.submitted; races = c.in_ok-submitted-in-Race.ensures.raced; text_is = told; client = refl }) c.line-in-Race.ensures.text)
-
-pub returns-in-Drain-clause-tells : goal.returns-in-Drain-clause-tells
-returns-in-Drain-clause-tells g c =
-    rw c.in-Drain.is (IfOk-weaker c.line-in-Drain.result _ _ (λ s told. record { desks = c.drain_all.ensures.desks; text_is = told; others = record { client = refl; racers = refl } }) c.line-in-Drain.ensures.text)
-
-pub returns-in-DrainNext-clause-tells : goal.returns-in-DrainNext-clause-tells
-returns-in-DrainNext-clause-tells g c =
-    rw c.in-DrainNext.is (IfOk-weaker c.line-in-DrainNext.result _ _ (λ s told. record { desks = c.drain_all-in-DrainNext.ensures.desks; text_is = told; others = record { client = refl; racers = refl } }) c.line-in-DrainNext.ensures.text)

@@ -1,4 +1,4 @@
-use Rattle.std.proofs.Common.{List, [], refl}
+use Rattle.std.proofs.Common.{[], refl}
 use Rattle.tp_perform.proofs.Slices.{all_numbers_left, desks_left, ended_left, free_left, lie_workers, own_workers}
 use Rattle.tp_perform.proofs.perform.end_desks.Goals as goal
 

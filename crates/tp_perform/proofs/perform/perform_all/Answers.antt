@@ -1,4 +1,4 @@
-use Rattle.std.proofs.Common.{◌≡◌, ◌+◌, [], arith, ap, subst, ◌∙◌, rules, length, ◌++◌, refl, sym}
+use Rattle.std.proofs.Common.{◌≡◌, ◌+◌, [], arith, ap, subst, ◌∙◌, rules, length, ◌++◌, refl}
 use Rattle.std.specs.Prelude.{string_bytes}
 use Rattle.std.proofs.lemmas.List.{length-map}
 use Rattle.tp_model.proofs.Bridges.{append_nil}
@@ -11,7 +11,7 @@ use Rattle.tp_script.specs.declared.script.ClientAct.TheVariants.{Submit}
 use Rattle.tp_commands.proofs.Alls.{racing_next}
 use Rattle.tp_commands.proofs.Lies.{lie_servers}
 use Rattle.tp_perform.proofs.Chains.{racing_more, told_more}
-use Rattle.tp_perform.proofs.Everyone.{all_same}
+use Rattle.tp_perform.proofs.Everyone.{all_kept}
 use Rattle.tp_perform.proofs.Gatherings.{gathered, numbers_gathered, ready_gathered}
 use Rattle.tp_perform.proofs.Slices.{one_scene, scene_there}
 use Rattle.tp_perform.proofs.perform.perform_all.Goals as goal
@@ -36,15 +36,6 @@ loop-command-init g c =
       written = search rules;
     }
 
-pub gather-requires-in-loop-command-clause-all : goal.gather-requires-in-loop-command-clause-all
-gather-requires-in-loop-command-clause-all g c = all_same c.loop-command.keeper c.loop-command.passes c.command_in.new.passes c.in_ok-line.ensures.numbered c.loop-command.invariant.all
-
-pub returns-in_err-write_all-clause-ready : goal.returns-in_err-write_all-clause-ready
-returns-in_err-write_all-clause-ready g c = ready_gathered (λ b. (goal.Server-dyn g (b.vtable, b.value)).behaviour b.value) (λ b. (goal.Server-dyn g (b.vtable, b.value)).registers b.value) (λ b. (goal.Server-dyn g (b.vtable, b.value)).pending b.value) c.args.manager.now c.loop-command.keeper c.gather-in-loop-command.new.self c.command_in.new.passes c.gather-in-loop-command.new.passes c.command_in.new.servers c.command_in.new.places c.in_ok-line.ensures.ready c.gather-in-loop-command.ensures.gathers c.gather-in-loop-command.ensures.all c.gather-in-loop-command.ensures.keeper.1 c.gather-in-loop-command.ensures.own
-
-pub returns-in_err-write_all-clause-numbered : goal.returns-in_err-write_all-clause-numbered
-returns-in_err-write_all-clause-numbered g c = numbers_gathered (λ b. (goal.Server-dyn g (b.vtable, b.value)).behaviour b.value) (λ b. (goal.Server-dyn g (b.vtable, b.value)).registers b.value) (λ b. (goal.Server-dyn g (b.vtable, b.value)).pending b.value) c.args.manager.now c.loop-command.keeper c.gather-in-loop-command.new.self c.command_in.new.passes c.gather-in-loop-command.new.passes c.command_in.new.servers c.command_in.new.places c.in_ok-line.ensures.ready c.gather-in-loop-command.ensures.gathers c.gather-in-loop-command.ensures.all c.gather-in-loop-command.ensures.keeper.1 c.gather-in-loop-command.ensures.own ∙ (c.in_ok-line.ensures.numbered ∙ c.loop-command.invariant.numbered)
-
 pub returns-in_err-write_all-clause-front : goal.returns-in_err-write_all-clause-front
 returns-in_err-write_all-clause-front g c =
     always_err c.from_residual-in_err-write_all.result (line_front c.loop-command.command-index _ _ (g.W.Sink.contents c.loop-command.writer) _ (string_bytes c.in_ok-line.line)
@@ -54,18 +45,17 @@ pub returns-in_err-write_all-clause-told_front : goal.returns-in_err-write_all-c
 returns-in_err-write_all-clause-told_front g c =
     let t = c.loop-command.invariant.told in
     let p = c.in_ok-line.ensures.tells in
-    let behind = gathered (λ b. (goal.Server-dyn g (b.vtable, b.value)).behaviour b.value) (λ b. (goal.Server-dyn g (b.vtable, b.value)).registers b.value) (λ b. (goal.Server-dyn g (b.vtable, b.value)).pending b.value) c.args.manager.now c.loop-command.keeper c.gather-in-loop-command.new.self c.command_in.new.passes c.gather-in-loop-command.new.passes c.command_in.new.servers c.command_in.new.places c.in_ok-line.ensures.ready c.gather-in-loop-command.ensures.gathers c.gather-in-loop-command.ensures.all c.gather-in-loop-command.ensures.keeper.1 c.gather-in-loop-command.ensures.own p.1 p.4 in
     let same = one_scene (λ b. (goal.Server-dyn g (b.vtable, b.value)).behaviour b.value) (λ b. (goal.Server-dyn g (b.vtable, b.value)).registers b.value) (λ b. (goal.Server-dyn g (b.vtable, b.value)).pending b.value) c.loop-command.passes c.loop-command.servers c.loop-command.places p.0 t.2 p.2 t.5 in
-    let more = told_more c.args.manager.now (script_view c.args.script.now) c.args.keeper.now c.loop-command.keeper c.gather-in-loop-command.new.self t.0 c.loop-command.command-index c.loop-command.raced (Client (Submit 0 [])) t.1 (string_bytes c.in_ok-line.line) t.2 p.0 p.1 behind.0
-    (omega (arith, ap length c.deref-command-items.ensures.value)) c.loop-command.invariant.raced t.4 same (rw c.deref-command-items.ensures.value at p.3) behind.1 in
+    let more = told_more c.args.manager.now (script_view c.args.script.now) c.args.keeper.now c.loop-command.keeper c.perform_one.new.keeper t.0 c.loop-command.command-index c.loop-command.raced (Client (Submit 0 [])) t.1 (string_bytes c.in_ok-line.line) t.2 p.0 p.1
+    (omega (arith, ap length c.deref-command-items.ensures.value)) c.loop-command.invariant.raced t.4 same (rw c.deref-command-items.ensures.value at p.3) in
     always_err c.from_residual-in_err-write_all.result (
       t.0,
       t.3,
       (
         c.loop-command.command-index + 1,
         t.1 ++ string_bytes c.in_ok-line.line,
-        c.gather-in-loop-command.new.self,
-        behind.0,
+        c.perform_one.new.keeper,
+        p.1,
         (omega (arith, ap length c.deref-command-items.ensures.value)),
         more,
         front_then (g.W.Sink.contents c.args.writer.now) (g.W.Sink.contents c.loop-command.writer) (g.W.Sink.contents c.write_all.new.sink) t.1 (string_bytes c.in_ok-line.line) t.6 (rw c.as_bytes.ensures.value at c.in_err-write_all.ensures.err),
@@ -91,37 +81,39 @@ returns-in_err-line-clause-told_front g c =
 
 pub loop-command-preserved : goal.loop-command-preserved
 loop-command-preserved g c =
-    let t = c.loop-command.invariant.told in
-    let p = c.in_ok-line.ensures.tells in
-    let behind = gathered (λ b. (goal.Server-dyn g (b.vtable, b.value)).behaviour b.value) (λ b. (goal.Server-dyn g (b.vtable, b.value)).registers b.value) (λ b. (goal.Server-dyn g (b.vtable, b.value)).pending b.value) c.args.manager.now c.loop-command.keeper c.gather-in-loop-command.new.self c.command_in.new.passes c.gather-in-loop-command.new.passes c.command_in.new.servers c.command_in.new.places c.in_ok-line.ensures.ready c.gather-in-loop-command.ensures.gathers c.gather-in-loop-command.ensures.all c.gather-in-loop-command.ensures.keeper.1 c.gather-in-loop-command.ensures.own p.1 p.4 in
+    let i = c.loop-command.invariant in
+    let e = c.in_ok-line.ensures in
+    let t = i.told in
+    let p = e.tells in
+    let within = ap length c.deref-command-items.ensures.value in
     let same = one_scene (λ b. (goal.Server-dyn g (b.vtable, b.value)).behaviour b.value) (λ b. (goal.Server-dyn g (b.vtable, b.value)).registers b.value) (λ b. (goal.Server-dyn g (b.vtable, b.value)).pending b.value) c.loop-command.passes c.loop-command.servers c.loop-command.places p.0 t.2 p.2 t.5 in
-    let more = told_more c.args.manager.now (script_view c.args.script.now) c.args.keeper.now c.loop-command.keeper c.gather-in-loop-command.new.self t.0 c.loop-command.command-index c.loop-command.raced (Client (Submit 0 [])) t.1 (string_bytes c.in_ok-line.line) t.2 p.0 p.1 behind.0
-    (omega (arith, ap length c.deref-command-items.ensures.value)) c.loop-command.invariant.raced t.4 same (rw c.deref-command-items.ensures.value at p.3) behind.1 in
+    let more = told_more c.args.manager.now (script_view c.args.script.now) c.args.keeper.now c.loop-command.keeper c.perform_one.new.keeper t.0 c.loop-command.command-index c.loop-command.raced (Client (Submit 0 [])) t.1 (string_bytes c.in_ok-line.line) t.2 p.0 p.1
+    (omega (arith, within)) i.raced t.4 same (rw c.deref-command-items.ensures.value at p.3) in
     let needed = rw c.deref-command-items.ensures.value at c.racers.ensures in
     record {
-      keeper = c.gather-in-loop-command.ensures.keeper.0;
-      all = c.gather-in-loop-command.ensures.all;
-      given = c.gather-in-loop-command.ensures.keeper.1 ∙ c.loop-command.invariant.given;
-      ready = ready_gathered (λ b. (goal.Server-dyn g (b.vtable, b.value)).behaviour b.value) (λ b. (goal.Server-dyn g (b.vtable, b.value)).registers b.value) (λ b. (goal.Server-dyn g (b.vtable, b.value)).pending b.value) c.args.manager.now c.loop-command.keeper c.gather-in-loop-command.new.self c.command_in.new.passes c.gather-in-loop-command.new.passes c.command_in.new.servers c.command_in.new.places c.in_ok-line.ensures.ready c.gather-in-loop-command.ensures.gathers c.gather-in-loop-command.ensures.all c.gather-in-loop-command.ensures.keeper.1 c.gather-in-loop-command.ensures.own;
-      as_many = c.in_ok-line.ensures.as_many ∙ c.loop-command.invariant.as_many;
-      began = c.in_ok-line.ensures.began ∙ c.loop-command.invariant.began;
-      numbered = numbers_gathered (λ b. (goal.Server-dyn g (b.vtable, b.value)).behaviour b.value) (λ b. (goal.Server-dyn g (b.vtable, b.value)).registers b.value) (λ b. (goal.Server-dyn g (b.vtable, b.value)).pending b.value) c.args.manager.now c.loop-command.keeper c.gather-in-loop-command.new.self c.command_in.new.passes c.gather-in-loop-command.new.passes c.command_in.new.servers c.command_in.new.places c.in_ok-line.ensures.ready c.gather-in-loop-command.ensures.gathers c.gather-in-loop-command.ensures.all c.gather-in-loop-command.ensures.keeper.1 c.gather-in-loop-command.ensures.own ∙ (c.in_ok-line.ensures.numbered ∙ c.loop-command.invariant.numbered);
+      keeper = e.keeper;
+      all = all_kept c.loop-command.keeper c.perform_one.new.keeper c.loop-command.passes c.perform_one.new.passes e.numbered e.given i.all;
+      given = e.given ∙ i.given;
+      ready = e.ready;
+      as_many = e.as_many ∙ i.as_many;
+      began = e.began ∙ i.began;
+      numbered = e.numbered ∙ i.numbered;
       enough =
-          let next = racing_next c.args.script.now.commands.items c.loop-command.command-index (Client (Submit 0 [])) (omega (arith, ap length c.deref-command-items.ensures.value)) in
-          omega (arith, c.loop-command.invariant.enough, next, needed, c.from-raced.ensures, c.command_in.auto.passes, c.command_in.auto.servers, c.gather-in-loop-command.auto.passes);
+          let next = racing_next c.args.script.now.commands.items c.loop-command.command-index (Client (Submit 0 [])) (omega (arith, within)) in
+          omega (arith, i.enough, next, needed, c.from-raced.ensures, c.perform_one.auto.passes, c.perform_one.auto.servers);
       raced =
-          let more = racing_more c.args.script.now.commands.items c.loop-command.command-index (Client (Submit 0 [])) (omega (arith, ap length c.deref-command-items.ensures.value)) in
-          omega (arith, more, needed, c.from-raced.ensures, c.loop-command.invariant.raced);
+          let more = racing_more c.args.script.now.commands.items c.loop-command.command-index (Client (Submit 0 [])) (omega (arith, within)) in
+          omega (arith, more, needed, c.from-raced.ensures, i.raced);
       told = (
         t.0,
         t.1 ++ string_bytes c.in_ok-line.line,
-        behind.0,
+        p.1,
         t.3,
         more,
-        behind.2,
+        p.4,
         Appends-then (g.W.Sink.contents c.args.writer.now) (g.W.Sink.contents c.loop-command.writer) (g.W.Sink.contents c.write_all.new.sink) t.1 (string_bytes c.in_ok-line.line) t.6 (rw c.as_bytes.ensures.value at c.in_ok-write_all.ensures.ok),
       );
-      written = line_more c.loop-command.command-index _ (g.W.Sink.contents c.loop-command.writer) _ (string_bytes c.in_ok-line.line) c.loop-command.invariant.written c.in_ok-line.ensures.line (rw c.as_bytes.ensures.value at c.in_ok-write_all.ensures.ok);
+      written = line_more c.loop-command.command-index _ (g.W.Sink.contents c.loop-command.writer) _ (string_bytes c.in_ok-line.line) i.written e.line (rw c.as_bytes.ensures.value at c.in_ok-write_all.ensures.ok);
     }
 
 pub returns-clause-told : goal.returns-clause-told

@@ -8,7 +8,8 @@ use Rattle.tp_script.specs.Script.{script_view}
 use Rattle.tp_report.specs.Lines.{Writes}
 use Rattle.tp_workers.specs.Free.{numbers}
 use Rattle.tp_commands.specs.Places.{firsts}
-use Rattle.tp_perform.specs.Told.{AreReady, IsScene, Scene, Told}
+use Rattle.tp_perform.specs.Scenes.{Scene}
+use Rattle.tp_perform.specs.Told.{AreReady, IsScene, Told}
 use Rattle.tp_perform.proofs.perform.perform_all.Given as goal
 
 abbrev pub invariant-loop-command : goal.invariant-loop-command

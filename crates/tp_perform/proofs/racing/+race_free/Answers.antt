@@ -1,6 +1,7 @@
 use Rattle.std.proofs.Common.{◌≡◌, ◌<◌, length, sym, true, arith}
 use Rattle.tp_commands.specs.Places.{first_of}
-use Rattle.tp_perform.specs.Together.{TakesPart, TookTurns, is_free}
+use Rattle.tp_commands.specs.Acting.{is_free}
+use Rattle.tp_perform.specs.Together.{TakesPart, TookTurns}
 use Rattle.tp_commands.specs.Places.{is_free_at}
 use Rattle.tp_perform.proofs.Parts.{parts_back, passed_swapped, shown_length}
 use Rattle.tp_commands.proofs.Lefts.{kept_between}

@@ -13,6 +13,9 @@ returns-then-lacks_pass-clause-refused c = stay_same c.args.old_passes.now
 pub returns-then-has_open-clause-refused : goal.returns-then-has_open-clause-refused
 returns-then-has_open-clause-refused c = stay_same c.args.old_passes.now
 
+pub returns-then-has_open-2-clause-refused : goal.returns-then-has_open-2-clause-refused
+returns-then-has_open-2-clause-refused c = c.prepare.ensures.stays
+
 pub bury-done-requires-clause-free : goal.bury-done-requires-clause-free
 bury-done-requires-clause-free c = free_stays c.args.old_passes.now c.prepare.new.old_passes c.prepare.ensures.stays (c.if-has_open.ensures.free refl)
 

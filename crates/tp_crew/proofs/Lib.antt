@@ -1,0 +1,5 @@
+pub mod FoldStarts
+pub mod CrewLemmas
+pub mod Rollings
+pub mod Least
+pub mod Careers

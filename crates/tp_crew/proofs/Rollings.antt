@@ -1,0 +1,85 @@
+-- A crew in a new manager.
+use Rattle.std.proofs.Common.{◌≡◌, ◌≤◌, ◌∙◌, ℕ, List, [], ◌∷◌, Option, All, refl, sym, ap, subst, arith, length, zip, ⊎_elim}
+use Rattle.std.specs.List.{AllZip}
+use Rattle.std.proofs.lemmas.List.Elements.{All-cons, All-nil}
+use Rattle.std.specs.declared.alloc.Global.{Global}
+use Rattle.std.specs.declared.dyn_box.DynBox.{DynBox}
+use Rattle.tp_model.specs.declared.event.Event.{Event}
+use Rattle.tp_model.specs.declared.types.Limits.{Limits}
+use Rattle.tp_model.specs.History.{In, here, there}
+use Rattle.tp_model.specs.Passes.{IsPassView}
+use Rattle.tp_server.specs.Behaviour.{Behaviour}
+use Rattle.tp_server.specs.Pending.{Pending}
+use Rattle.tp_manager.specs.Accounts.{AreAll}
+use Rattle.tp_manager.specs.Shown.{IsKeptBy, IsOf, KeeperShown, ManagerShown, PassShown, view_in}
+use Rattle.tp_alone.specs.Thread.{AreTogether, HasSeen, Stays}
+use Rattle.tp_rollover.specs.Faults.{AreFree, IsDue}
+use Rattle.tp_rollover.specs.declared.moved.RollFault.{RollFault}
+use Rattle.tp_rollover.specs.declared.moved.RollFault.TheVariants.{BadLimits, Busy, Full, NoMemory, NoPass, Unequal}
+use Rattle.tp_workers.specs.Free.{IsFreePass}
+use Rattle.tp_crew.specs.declared.crew.Crew.{Crew}
+use Rattle.tp_crew.specs.Crew.{IsSteadyCrew, folds}
+use Rattle.tp_crew.specs.CrewPasses.{Shows, desks_in}
+use Rattle.tp_crew.specs.Rolling.{IsCrewFault}
+use Rattle.tp_rollover.proofs.Assembly.{free_stays}
+use Rattle.tp_crew.proofs.CrewLemmas.{served_new, served_same}
+
+pub own_all : (m : ManagerShown) (ps : List PassShown) → All (IsFreePass m) ps → All (IsOf m) ps
+own_all m ps all = λ k d less. (all k d less).own
+
+pub free_all : (m : ManagerShown) (ps : List PassShown) → All (IsFreePass m) ps → AreFree ps
+free_all m ps all = λ k d less. (all k d less).free
+
+pub both_all : (m : ManagerShown) (ps : List PassShown) → All (IsOf m) ps → AreFree ps → All (IsFreePass m) ps
+both_all m ps own free = λ k d less. record { own = own k d less; free = free k d less }
+
+-- passes that are together show what every pass shows
+pub show_each : (l : Limits) (keeper : KeeperShown) (ps : List PassShown) (h : List Event) → AreTogether l keeper ps h → All Shows ps
+show_each l keeper ps h t = go ps t.each
+  where
+    go : (qs : List PassShown) → ((p : PassShown) → In p qs → HasSeen l h p) → All Shows qs
+    go [] each = All-nil Shows
+    go (q ∷ qs) each =
+        let at = each q here in
+        All-cons Shows q qs (subst (λ (k : Limits). IsPassView k (view_in q)) (sym at.limits) at.shows) (go qs (λ p later. each p (there later)))
+
+-- passes that were free and did nothing but look are free
+pub stays_free : (m : ManagerShown) (ps qs : List PassShown) → AllZip Stays ps qs → All (IsFreePass m) ps → All (IsOf m) qs → All (IsFreePass m) qs
+stays_free m ps qs stays free own = both_all m qs own (free_stays ps qs stays (free_all m ps free))
+
+-- a steady crew meets no other fault
+not_empty : (ps : List PassShown) → 1 ≤ length ps → ps ≡ [] → ⊥
+not_empty ps some none = let e = ap length none in omega (arith, some, e)
+
+pub crew_fault : (l k : Limits) (olds news news' : List PassShown) (fault : RollFault) → k.attempts ≡ l.attempts → 1 ≤ length olds → 1 ≤ length news → AreFree olds
+    → IsDue l k olds news news' fault → IsCrewFault fault
+crew_fault l k olds news news' NoMemory same some some' free due = tt
+crew_fault l k olds news news' BadLimits same some some' free due = due same
+crew_fault l k olds news news' NoPass same some some' free due = ⊎_elim (λ none. not_empty olds some none) (λ none. not_empty news some' none) due.1
+crew_fault l k olds news news' Busy same some some' free due = due.2 free
+crew_fault l k olds news news' Full same some some' free due = tt
+crew_fault l k olds news news' Unequal same some some' free due = tt
+
+module _ {X : Type 0} {F : X → Type 0} (behaviour : DynBox X Global F → Behaviour) (registers : DynBox X Global F → List ℕ)
+    (pending : DynBox X Global F → Option Pending) where
+  pub rolled_steady : (old new : Crew X F) (l : Limits) (h : List Event) → IsSteadyCrew behaviour registers pending old
+      → new.boxes ≡ old.boxes → new.clients ≡ old.clients → new.manager.limits ≡ old.manager.limits
+      → IsKeptBy new.manager new.keeper → AreAll new.keeper new.passes.items → length new.passes.items ≡ new.manager.limits.parts
+      → All (IsFreePass new.manager) new.passes.items
+      → AreTogether l new.keeper new.passes.items h
+      → length new.starts.items ≡ length old.starts.items → folds new ≡ zip (desks_in (length old.boxes.items) new.passes.items) old.boxes.items
+      → IsSteadyCrew behaviour registers pending new
+  rolled_steady old new l seen h boxes clients limits kept all parts free together starts begins =
+      let us : new.boxes.items ≡ old.boxes.items = ap (λ v. v.items) boxes in
+      record {
+        kept = kept;
+        limits = rw (limits) h.limits;
+        parts = parts;
+        all = all;
+        free = free;
+        count = rw (us, clients) (parts ∙ (ap (λ (l : Limits). l.parts) limits ∙ (sym h.parts ∙ h.count)));
+        clear = rw (us) h.clear;
+        same_count = rw (us) (starts ∙ h.same_count);
+        served = served_same behaviour registers {ps = new.passes.items} begins refl us
+            (served_new behaviour registers new.passes.items old.boxes.items (show_each l new.keeper new.passes.items seen together));
+      }

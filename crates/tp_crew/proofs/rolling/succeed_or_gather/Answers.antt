@@ -1,0 +1,13 @@
+use Rattle.tp_rollover.proofs.Assembly.{gathered, stay_trans}
+use Rattle.tp_crew.proofs.Rollings.{show_each}
+use Rattle.tp_crew.proofs.rolling.succeed_or_gather.Goals as goal
+
+pub returns-in-Err-clause-stays : goal.returns-in-Err-clause-stays
+returns-in-Err-clause-stays c =
+    let t = gathered c.args.old.now _ c.succeed.new.old_keeper c.gather.new.self c.succeed.new.old_passes c.gather.new.passes c.gather.ensures.gathers c.gather.ensures.all c.gather.ensures.keeper.1 c.gather.ensures.own in
+    stay_trans c.args.old_passes.now c.succeed.new.old_passes c.gather.new.passes c.in-Err.ensures.stays t.1
+
+pub returns-in-Err-clause-shows : goal.returns-in-Err-clause-shows
+returns-in-Err-clause-shows c =
+    let t = gathered c.args.old.now _ c.succeed.new.old_keeper c.gather.new.self c.succeed.new.old_passes c.gather.new.passes c.gather.ensures.gathers c.gather.ensures.all c.gather.ensures.keeper.1 c.gather.ensures.own in
+    show_each c.args.old.now.limits c.gather.new.self c.gather.new.passes c.gather.new.self.seen t.0

@@ -1,0 +1,7 @@
+pub mod CrewPasses
+pub mod Folds
+pub mod FoldStarts
+pub mod Crew
+pub mod Rolling
+pub mod Rooms
+pub mod Careers

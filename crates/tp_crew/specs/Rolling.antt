@@ -1,0 +1,39 @@
+-- What a rollover of a crew leaves, and why one is refused.
+use Rattle.std.specs.Prelude.{◌≡◌, List, length, zip}
+use Rattle.std.specs.List.{AllZip}
+use Rattle.tp_manager.specs.Shown.{KeeperShown, PassShown}
+use Rattle.tp_alone.specs.Thread.{Stays}
+use Rattle.tp_rollover.specs.Answers.{Rolls}
+use Rattle.tp_rollover.specs.declared.moved.Moved.{Moved}
+use Rattle.tp_rollover.specs.declared.moved.RollFault.{RollFault}
+use Rattle.tp_rollover.specs.declared.moved.RollFault.TheVariants.{Full, NoMemory, Unequal}
+use Rattle.tp_crew.specs.declared.crew.Crew.{Crew}
+use Rattle.tp_crew.specs.Crew.{IsSameCrew, folds}
+use Rattle.tp_crew.specs.CrewPasses.{desks_in}
+
+module _ {X : Type 0} {F : X → Type 0} where
+  -- The crew has another manager, of the same limits, and all its passes. From what its passes had done before
+  -- the rollover went to what the new ones have seen. The folds of all boxes' work begin there. The old
+  -- manager's keeper and passes showed these at the last.
+  pub record CrewRolls (old new : Crew X F) (moved : List Moved) : Type 0 where
+    pub last_keeper : KeeperShown
+    pub last_passes : List PassShown
+    pub given : last_keeper.given ≡ old.keeper.given
+    pub rolls : Rolls old.manager.limits new.manager.limits last_keeper new.keeper old.passes.items last_passes
+        new.passes.items moved
+    pub begun : folds new ≡ zip (desks_in (length new.boxes.items) new.passes.items) new.boxes.items
+
+  -- it is the same crew, with the same boxes, and its passes have done nothing but look
+  pub record CrewStays (old new : Crew X F) : Type 0 where
+    pub same : IsSameCrew old new
+    pub boxes : new.boxes ≡ old.boxes
+    pub given : new.keeper.given ≡ old.keeper.given
+    pub passes : AllZip Stays old.passes.items new.passes.items
+
+-- the faults that a steady crew can meet: its new manager has the same attempt limit, it has passes, and none
+-- of them has a unit open
+abbrev pub IsCrewFault : RollFault → Type 0
+IsCrewFault NoMemory = Unit {0}
+IsCrewFault Full = Unit {0}
+IsCrewFault Unequal = Unit {0}
+IsCrewFault other = ⊥

@@ -1,0 +1,12 @@
+//! A crew: a manager, boxed servers, and all passes that they and their clients need, in one value. It goes on
+//! in a new manager where the old one is used up.
+#![tactic(auto)]
+
+mod crew;
+mod crew_calls;
+mod fold_start;
+pub mod laws;
+mod rolling;
+mod rooms;
+
+pub use crew::{Crew, CrewLimits};

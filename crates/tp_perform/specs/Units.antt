@@ -1,0 +1,13 @@
+-- How many units of work are left to passes.
+use Rattle.std.specs.Prelude.{ℕ, ◌-◌, List, sum_by}
+use Rattle.tp_model.specs.declared.types.Limits.{Limits}
+use Rattle.tp_manager.specs.Calls.{claims_in}
+use Rattle.tp_manager.specs.Shown.{PassShown}
+
+-- the units of a pass that no claim of it has taken
+abbrev pub units_of : Limits → PassShown → ℕ
+units_of l p = l.units - claims_in p.mine
+
+-- those of all these passes
+abbrev pub units_left : Limits → List PassShown → ℕ
+units_left l passes = sum_by (units_of l) passes
