@@ -1,0 +1,186 @@
+-- Each server of a script that was read has a recipe without a fault.
+use Rattle.std.proofs.Common.{◌≡◌, ℕ, zero, suc, ◌+◌, ◌-◌, ◌^◌, ◌&&◌, not, Bool, true, false, List, [], ◌∷◌, ◌++◌, All, length, Option, Some, None, Result, Ok, Err, nat_le, nat_lt, refl, sym, ap, subst}
+use Rattle.std.specs.Prelude.{◌==◌, if◌then◌else◌, is_none, is_ok, position, slice_get, slice_set}
+use Rattle.std.specs.List.{list_all}
+use Rattle.std.specs.Str.{bytes_eq}
+use Rattle.std.proofs.lemmas.List.Elements.{All-append, All-cons, All-head, All-nil, All-set, All-tail}
+use Rattle.tp_server.specs.declared.recipe.BadRecipe.{BadRecipe}
+use Rattle.tp_server.specs.declared.recipe.Recipe.{Recipe}
+use Rattle.tp_server.specs.Check.{check_of}
+use Rattle.tp_script.specs.declared.fault.LineFault.{LineFault}
+use Rattle.tp_script.specs.declared.fault.LineFault.TheVariants as fault
+use Rattle.tp_script.specs.declared.fault.Refused.{Refused}
+use Rattle.tp_script.specs.declared.keyword.Keyword.{Keyword}
+use Rattle.tp_script.specs.declared.keyword.Keyword.TheVariants as first
+use Rattle.tp_script.specs.declared.script.Command.{Command}
+use Rattle.tp_script.specs.declared.source.TheConstants.{MAX_SCRIPT_BYTES}
+use Rattle.tp_script.specs.Commands.{command_at, with_command}
+use Rattle.tp_script.specs.Grammar.{account_line, at_line, behind_account, is_comment, keyword_line, limit_line, line_at, lines_from, no_lines, rows_line, script, spare_line, units_line, words_line}
+use Rattle.tp_script.specs.Keyword.{keyword}
+use Rattle.tp_script.specs.LineWords.{◌>>=◌, known, number_at, require}
+use Rattle.tp_script.specs.Script.{ScriptView, ServerView}
+use Rattle.tp_script.specs.ServerLines.{Shape, begin_at, begun, registers_for, server_line, start_line, with_server}
+use Rattle.tp_script.specs.Text.{lines, words}
+use Rattle.tp_exact.specs.Script.{IsChecked}
+
+abbrev pub Good : ScriptView → Type 0
+Good s = All IsChecked s.servers
+
+-- ---- chains that went through
+
+went : {A B : Type 0} (r : Result A LineFault) (f : A → Result B LineFault) (y : B) → (r >>= f) ≡ Ok y → (a : A) × (r ≡ Ok a) × (f a ≡ Ok y)
+went (Ok a) f y is = (a, refl, is)
+went (Err e) f y is = absurd cc
+
+required : (b : Bool) (e : LineFault) (t : Unit {0}) → require b e ≡ Ok t → b ≡ true
+required true e t is = refl
+required false e t is = absurd cc
+
+found : {A : Type 0} (o : Option A) (e : LineFault) (a : A) → known o e ≡ Ok a → o ≡ Some a
+found (Some x) e a is = let same : x ≡ a = cc in ap (λ z. Some z) same
+found None e a is = absurd cc
+
+went_to : {A : Type 0} {E : Type 0} (x y : A) → (Ok x : Result A E) ≡ Ok y → x ≡ y
+went_to x y is = cc
+
+ok_is : (r : Result (Unit {0}) BadRecipe) → is_ok r ≡ true → r ≡ Ok tt
+ok_is (Ok u) is = refl
+ok_is (Err e) is = absurd cc
+
+-- ---- lines that leave the servers
+
+same_good : (s t : ScriptView) → t.servers ≡ s.servers → Good s → Good t
+same_good s t same good = subst (All IsChecked) (sym same) good
+
+rows_same : (w : List ℕ) (s t : ScriptView) → rows_line w s ≡ Ok t → t.servers ≡ s.servers
+unfolding rows_line
+rows_same w s t is = let a = went _ _ t is in sym (ap (λ (z : ScriptView). z.servers) (went_to _ t a.2))
+
+units_same : (w : List ℕ) (s t : ScriptView) → units_line w s ≡ Ok t → t.servers ≡ s.servers
+unfolding units_line
+units_same w s t is = let a = went _ _ t is in sym (ap (λ (z : ScriptView). z.servers) (went_to _ t a.2))
+
+limit_same : (w : List ℕ) (s t : ScriptView) → limit_line w s ≡ Ok t → t.servers ≡ s.servers
+unfolding limit_line
+limit_same w s t is = let a = went _ _ t is in sym (ap (λ (z : ScriptView). z.servers) (went_to _ t a.2))
+
+spare_same : (w : List ℕ) (s t : ScriptView) → spare_line w s ≡ Ok t → t.servers ≡ s.servers
+unfolding spare_line
+spare_same w s t is = let a = went _ _ t is in sym (ap (λ (z : ScriptView). z.servers) (went_to _ t a.2))
+
+account_same : (ws : List (List ℕ)) (s t : ScriptView) → account_line ws s ≡ Ok t → t.servers ≡ s.servers
+unfolding account_line
+account_same ws s t is = let a = went _ _ t is in sym (ap (λ (z : ScriptView). z.servers) (went_to _ t a.2))
+
+command_same : (c : Command) (s t : ScriptView) → with_command c s ≡ Ok t → t.servers ≡ s.servers
+unfolding with_command
+command_same c s t is = let a = went _ _ t is in sym (ap (λ (z : ScriptView). z.servers) (went_to _ t a.2))
+
+-- ---- a server more
+
+checked_for : (recipe : Recipe) (registers : List ℕ) → registers_for recipe ≡ Ok registers → check_of recipe ≡ Ok tt
+unfolding registers_for
+checked_for recipe registers is =
+    let a = went (require (is_ok (check_of recipe)) fault.BadRecipe) _ registers is in
+    ok_is (check_of recipe) (required (is_ok (check_of recipe)) fault.BadRecipe a.0 a.1)
+
+server_good : (ws : List (List ℕ)) (s t : ScriptView) → server_line ws s ≡ Ok t → Good s → Good t
+unfolding server_line
+server_good ws s t is good =
+    let shape = went _ _ t is in
+    let order = went _ _ t shape.2 in
+    let name = went _ _ t order.2 in
+    let recipe = went _ _ t name.2 in
+    let room = went _ _ t recipe.2 in
+    let registers = went _ _ t room.2 in
+    let x : ServerView = record { name = name.0; kind = shape.0.kind; recipe = recipe.0; registers = registers.0 } in
+    let one : IsChecked x = checked_for recipe.0 registers.0 registers.1 in
+    subst Good (went_to _ t registers.2) (All-append IsChecked s.servers (x ∷ []) good (All-cons IsChecked x [] one (All-nil IsChecked)))
+
+-- ---- registers that begin otherwise
+
+good_at : (xs : List ServerView) (i : ℕ) (x : ServerView) → All IsChecked xs → slice_get xs i ≡ Some x → IsChecked x
+good_at [] i x good is = absurd cc
+good_at (y ∷ xs) zero x good is = let same : y ≡ x = cc in subst IsChecked same (All-head IsChecked y xs good)
+good_at (y ∷ xs) (suc i) x good is = good_at xs i x (All-tail IsChecked y xs good) is
+
+begun_good : (k v : ℕ) (x y : ServerView) → begun k v x ≡ Ok y → IsChecked x → IsChecked y
+unfolding begun
+begun_good k v x y is good = let a = went _ _ y is in subst IsChecked (went_to _ y a.2) good
+
+begin_good : (place k v : ℕ) (s t : ScriptView) → begin_at place k v s ≡ Ok t → Good s → Good t
+unfolding begin_at
+begin_good place k v s t is good =
+    let old = went (known (slice_get s.servers place) fault.BadName) _ t is in
+    let new = went (begun k v old.0) _ t old.2 in
+    let there = found (slice_get s.servers place) fault.BadName old.0 old.1 in
+    let one = begun_good k v old.0 new.0 new.1 (good_at s.servers place old.0 good there) in
+    subst Good (went_to _ t new.2) (All-set IsChecked s.servers place new.0 one good)
+
+start_good : (w : List ℕ × List ℕ × List ℕ) (s t : ScriptView) → start_line w s ≡ Ok t → Good s → Good t
+unfolding start_line
+start_good (name, k, v) s t is good =
+    let order = went _ _ t is in
+    let called = went _ _ t order.2 in
+    let place = went _ _ t called.2 in
+    let at = went _ _ t place.2 in
+    let value = went _ _ t at.2 in
+    begin_good place.0 at.0 value.0 s t value.2 good
+
+-- ---- a whole line, and all lines
+
+keyword_good : (k : Keyword) (ws : List (List ℕ)) (s t : ScriptView) → keyword_line k ws s ≡ Ok t → Good s → Good t
+unfolding keyword_line
+keyword_good first.Rows ws s t is good = let a = went _ _ t is in same_good s t (rows_same a.0 s t a.2) good
+keyword_good first.Units ws s t is good = let a = went _ _ t is in same_good s t (units_same a.0 s t a.2) good
+keyword_good first.Limit ws s t is good = let a = went _ _ t is in same_good s t (limit_same a.0 s t a.2) good
+keyword_good first.Spare ws s t is good = let a = went _ _ t is in same_good s t (spare_same a.0 s t a.2) good
+keyword_good first.Server ws s t is good = server_good ws s t is good
+keyword_good first.Start ws s t is good = let a = went _ _ t is in start_good a.0 s t a.2 good
+keyword_good (first.Do verb) ws s t is good = let a = went _ _ t is in same_good s t (command_same a.0 s t a.2) good
+keyword_good first.Account ws s t is good = same_good s t (account_same ws s t is) good
+
+never_behind : (r : Result ScriptView LineFault) (t : ScriptView) → behind_account r ≡ Ok t → ⊥
+never_behind (Ok s) t is = absurd cc
+never_behind (Err fault.Syntax) t is = absurd cc
+never_behind (Err other) t is = absurd cc
+
+either_good : (b : Bool) (k : Keyword) (ws : List (List ℕ)) (s t : ScriptView) → (if b then behind_account (keyword_line k ws s) else keyword_line k ws s) ≡ Ok t → Good s → Good t
+either_good true k ws s t is good = absurd (never_behind (keyword_line k ws s) t is)
+either_good false k ws s t is good = keyword_good k ws s t is good
+
+words_good : (ws : List (List ℕ)) (s t : ScriptView) → words_line ws s ≡ Ok t → Good s → Good t
+unfolding words_line
+words_good [] s t is good = subst Good (went_to s t is) good
+words_good (w ∷ ws) s t is good = let k = went (known (keyword w) fault.Syntax) _ t is in either_good s.account k.0 ws s t k.2 good
+
+comment_good : (b : Bool) (line : List ℕ) (s t : ScriptView) → (if b then Ok s else words_line (words line) s) ≡ Ok t → Good s → Good t
+comment_good true line s t is good = subst Good (went_to s t is) good
+comment_good false line s t is good = words_good (words line) s t is good
+
+line_good : (line : List ℕ) (s t : ScriptView) → line_at line s ≡ Ok t → Good s → Good t
+unfolding line_at
+line_good line s t is good =
+    let short = went _ _ t is in
+    let clean = went _ _ t short.2 in
+    comment_good (is_comment line) line s t clean.2 good
+
+lines_good : (n : ℕ) (all : List (List ℕ)) (s t : ScriptView) → lines_from n all s ≡ Ok t → Good s → Good t
+unfolding lines_from
+lines_good n [] s t is good = subst Good (same s t is) good
+  where
+    same : (x y : ScriptView) → (Ok x : Result ScriptView Refused) ≡ Ok y → x ≡ y
+    same x y e = cc
+lines_good n (line ∷ others) s t is good = go (line_at line s) refl is
+  where
+    go : (r : Result ScriptView LineFault) → line_at line s ≡ r → at_line n r (λ u. lines_from (n + 1) others u) ≡ Ok t → Good t
+    go (Ok u) here rest = lines_good (n + 1) others u t rest (line_good line s u here good)
+    go (Err e) here rest = absurd cc
+
+short_good : (b : Bool) (bytes : List ℕ) (t : ScriptView) → (if b then Err (record { line = 0; fault = fault.TooLong }) else lines_from 1 (lines bytes) no_lines) ≡ Ok t → Good t
+short_good true bytes t is = absurd cc
+short_good false bytes t is = lines_good 1 (lines bytes) no_lines t is (All-nil IsChecked)
+
+pub script_good : (bytes : List ℕ) (t : ScriptView) → script bytes ≡ Ok t → All IsChecked t.servers
+unfolding script
+script_good bytes t is = short_good (nat_lt MAX_SCRIPT_BYTES (length bytes)) bytes t is
