@@ -3,8 +3,8 @@ ghost use Rattle.std.specs.Prelude.{◌≡◌, None, IfSome};
 ghost use Rattle.tp_manager.specs.Shown.{IsOf, IsKeptBy};
 
 use crate::calls::{
-    aborts, bare_turns, bare_turns_next, errors, gathers, kept, kills, now, pass, reads, replies, submits,
-    submits_with, turns,
+    aborts, bare_turns, bare_turns_next, errors, gathers, kept, kills, now, pass, reads, replies,
+    submits, submits_with, turns,
 };
 use std::alloc::Global;
 use std::io;

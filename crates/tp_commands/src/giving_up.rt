@@ -52,6 +52,6 @@ fn give_up_at(
         unreachable!();
     };
     let mut desk = Desk::resume(manager, pass, server, aside);
-    let _ = give_up(&mut desk);
+    give_up(&mut desk);
     place.aside = Some(desk.lay_aside());
 }

@@ -1,13 +1,12 @@
 -- Desks that give up what they have in hand, one after another, and then end.
-use Rattle.std.proofs.Common.{◌≡◌, ℕ, zero, suc, ◌<◌, ◌≤◌, ◌==◌, List, [], ◌∷◌, ◌++◌, length, map, Option, Some, None, inl, inr, refl, sym, ◌∙◌, ap, subst, arith}
-use Rattle.std.specs.Prelude.{slice_get, slice_set}
+use Rattle.std.proofs.Common.{◌≡◌, ℕ, zero, suc, ◌<◌, ◌==◌, List, [], ◌∷◌, ◌++◌, length, map, Option, Some, None, inl, inr, refl, sym, ◌∙◌, ap, subst, arith}
+use Rattle.std.specs.Prelude.{slice_set}
 use Rattle.std.specs.List.{AllZip}
 use Rattle.std.proofs.lemmas.Bool.Decides.{leb_tells}
 use Rattle.std.proofs.lemmas.List.{append_cancel_left}
 use Rattle.std.proofs.lemmas.List.Elements.{filter-append}
 use Rattle.tp_model.specs.declared.types.Account.{Account}
 use Rattle.tp_model.specs.declared.types.Limits.{Limits}
-use Rattle.tp_model.specs.declared.event.Event.{Event}
 use Rattle.tp_model.specs.Accounts.{account_of}
 use Rattle.tp_model.specs.History.{events_by, pass_of}
 use Rattle.tp_model.proofs.Bridges.{append_nil}
@@ -16,7 +15,7 @@ use Rattle.tp_manager.specs.Accounts.{Accounts, Attends, Gathers}
 use Rattle.tp_manager.specs.Shown.{KeeperShown, ManagerShown, PassShown}
 use Rattle.tp_desk.specs.Turns.{EndsOpen}
 use Rattle.tp_script.specs.Script.{ServerView}
-use Rattle.tp_commands.specs.Acting.{AllEnded, EndsDesk, PlaceShown}
+use Rattle.tp_commands.specs.Acting.{AllEnded, PlaceShown}
 use Rattle.tp_commands.specs.Places.{workers}
 use Rattle.tp_perform.specs.GivingUp.{DesksEnd, GiveUpBelow, GivesUp}
 use Rattle.tp_perform.specs.Scenes.{Scene, passes_in}
@@ -26,7 +25,7 @@ use Rattle.tp_reference.specs.PlainReport.{ReportState, ended_below, worker}
 use Rattle.tp_alone.specs.Thread.{AreTogether, thread_of}
 use Rattle.tp_alone.proofs.Apart.{numbered, zip_left}
 use Rattle.tp_alone.proofs.Starts.{no_events}
-use Rattle.tp_exact.specs.Stands.{IsFor, IsServedBy, OnlyLooks, OnlyLooksAt, Stands}
+use Rattle.tp_exact.specs.Stands.{IsFor, IsServedBy, OnlyLooksAt, Stands}
 use Rattle.tp_exact.proofs.Accounts.{exact_account}
 use Rattle.tp_exact.proofs.Commands.{served_all, still_all, zip_at}
 use Rattle.tp_exact.proofs.Desks.{gives_up}
@@ -49,11 +48,11 @@ shut_more zero (p ∷ ps) q shut none = (none, tt)
 shut_more (suc n) (p ∷ ps) q shut none = (shut.0, shut_more n ps q shut.1 none)
 
 shut_still : (n : ℕ) (ps qs : List PlaceShown) → AllZip OnlyLooksAt ps qs → Shut n ps → Shut n qs
-shut_still zero ps qs looks shut = tt
-shut_still (suc n) [] [] looks shut = tt
-shut_still (suc n) [] (q ∷ qs) looks shut = absurd looks
-shut_still (suc n) (p ∷ ps) [] looks shut = absurd looks
-shut_still (suc n) (p ∷ ps) (q ∷ qs) looks shut = (looks.0.pass.quiet.open_unit ∙ shut.0, shut_still n ps qs looks.1 shut.1)
+shut_still zero ps qs looked shut = tt
+shut_still (suc n) [] [] looked shut = tt
+shut_still (suc n) [] (q ∷ qs) looked shut = absurd looked
+shut_still (suc n) (p ∷ ps) [] looked shut = absurd looked
+shut_still (suc n) (p ∷ ps) (q ∷ qs) looked shut = (looked.0.pass.quiet.open_unit ∙ shut.0, shut_still n ps qs looked.1 shut.1)
 
 -- their desks end with nothing in hand, and so their passes are as they were
 ends_same : (o : Option ℕ) (old new : PassShown) → o ≡ None → EndsOpen o old new → new ≡ old

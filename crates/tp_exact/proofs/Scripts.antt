@@ -62,17 +62,17 @@ module _ (s : ScriptView) (is : IsCoveredScript s) where
     lines_same = ap (λ t. t ++ (finals_of s p.registers ++ account)) so.0 ∙ (ap (λ t. (ran s (length s.commands)).0 ++ (t ++ account)) finals_same ∙ sym report)
 
     -- what is written of the account
-    pub closes : (keeper' : KeeperShown) (closed : List PassShown) (b : Bool) (done after : Option (List ℕ)) → TellsAccount b (Accounts m.limits p.ended_keeper keeper' p.left closed) done after
-        → Appends done after (account_line b (length s.servers) (ran s (length s.commands)).1)
-    closes keeper' closed false done after t = t
-    closes keeper' closed true done after t = subst (λ (c : Counts). Appends done after (line (account_text c)))
-    (account_so s.servers m p.kept p.ended_keeper keeper' p.last p.left closed p.registers (ran s (length s.commands)).1 t.0 so.1 p.ended t.1) t.2
+    pub closes : (keeper' : KeeperShown) (closed : List PassShown) (b : Bool) (told after : Option (List ℕ)) → TellsAccount b (Accounts m.limits p.ended_keeper keeper' p.left closed) told after
+        → Appends told after (account_line b (length s.servers) (ran s (length s.commands)).1)
+    closes keeper' closed false told after t = t
+    closes keeper' closed true told after t = subst (λ (c : Counts). Appends told after (line (account_text c)))
+        (account_so s.servers m p.kept p.ended_keeper keeper' p.last p.left closed p.registers (ran s (length s.commands)).1 t.0 so.1 p.ended t.1) t.2
 
-    pub closes_front : (keeper' : KeeperShown) (closed : List PassShown) (b : Bool) (done after : Option (List ℕ)) → AccountFront b (Accounts m.limits p.ended_keeper keeper' p.left closed) done after
-        → AppendsFront done after (account_line b (length s.servers) (ran s (length s.commands)).1)
-    closes_front keeper' closed false done after t = absurd t
-    closes_front keeper' closed true done after t = subst (λ (c : Counts). AppendsFront done after (line (account_text c)))
-    (account_so s.servers m p.kept p.ended_keeper keeper' p.last p.left closed p.registers (ran s (length s.commands)).1 t.0 so.1 p.ended t.1) t.2
+    pub closes_front : (keeper' : KeeperShown) (closed : List PassShown) (b : Bool) (told after : Option (List ℕ)) → AccountFront b (Accounts m.limits p.ended_keeper keeper' p.left closed) told after
+        → AppendsFront told after (account_line b (length s.servers) (ran s (length s.commands)).1)
+    closes_front keeper' closed false told after t = absurd t
+    closes_front keeper' closed true told after t = subst (λ (c : Counts). AppendsFront told after (line (account_text c)))
+        (account_so s.servers m p.kept p.ended_keeper keeper' p.last p.left closed p.registers (ran s (length s.commands)).1 t.0 so.1 p.ended t.1) t.2
 
 pub exact_script : ExactScript
 exact_script s m before after is r =
