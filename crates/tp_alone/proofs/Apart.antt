@@ -134,7 +134,7 @@ module _ (l : Limits) (keeper keeper' : KeeperShown) (olds news : List PassShown
   pub end_number : called.0.number ≡ c
   end_number = called.2.number ∙ (a.follows.number ∙ number_is)
 
-  -- what is behind h
+  -- what is after h
   pub since : IsPrefix h new.seen
   since = subst (λ z. IsPrefix z new.seen) old_seen.seen (begins_trans old.seen _ new.seen a.follows.opened a.follows.closed)
 
@@ -198,7 +198,7 @@ module _ (l : Limits) (keeper keeper' : KeeperShown) (olds news : List PassShown
         sym (filter-append (λ e. pass_of e == c) h added) ∙ (ap (events_by c) grown
         ∙ (end ∙ (called.2.quiet.mine ∙ (made ∙ ap (λ z. z ++ es) mine_was)))))
 
-    -- the call's own events are all that it has seen behind h
+    -- the call's own events are all that it has seen after h
     pub seen_is : new.seen ≡ h ++ es
     seen_is = sym since.1 ∙ ap (λ z. h ++ z) (sym (only_own c since.0 none_since) ∙ mine_since)
 

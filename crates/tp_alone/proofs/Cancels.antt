@@ -25,9 +25,9 @@ use Rattle.tp_plain.specs.Walks.{walk_of}
 use Rattle.tp_plain.proofs.Cancels.{KillLeft, alike, at_history, is_so, kill_left, unsettled_is}
 use Rattle.tp_plain.proofs.Walks.{walk_is, walk_whole}
 use Rattle.tp_manager.specs.Calls.{AreOfHolders}
-use Rattle.tp_manager.specs.Cancels.{AreInTurn, Cancels, IsDoneAt, IsTarget, kills_in}
+use Rattle.tp_manager.specs.Cancels.{AreInTurn, Cancels, IsDoneAt, IsTarget, kills_among}
 use Rattle.tp_manager.specs.Shown.{KeeperShown, PassShown}
-use Rattle.tp_manager.proofs.Cancels.{own_no_claims}
+use Rattle.tp_manager.proofs.Families.Cancels.{own_no_claims}
 use Rattle.tp_alone.specs.Thread.{Alone, thread_of}
 use Rattle.tp_alone.specs.Laws.{AloneCancel}
 use Rattle.tp_alone.proofs.Apart.{end_is, number_is, old_seen, seen_is}
@@ -129,29 +129,29 @@ module _ (s : State) (c root : ℕ) (from g : List Event) (legal : IsLegal s.lim
 
     -- it was killed as the manager of one thread kills it
     killed_by : is_unsettled (S k) root i ≡ true → (aborts : List Event) → AreOfHolders l c i from g aborts → own ≡ aborts ++ Kill c i ∷ []
-        → ((kill_of (S k) c i).1 ≡ S (k ++ own)) × (kills_in own ≡ 1) × (c < l.parts)
+        → ((kill_of (S k) c i).1 ≡ S (k ++ own)) × (kills_among own ≡ 1) × (c < l.parts)
     killed_by unsettled aborts are all =
         ⊎_elim none one (one_abort i k aborts (Kill c i ∷ rest) (ap (λ z. k ++ z) (sym (append_assoc aborts (Kill c i ∷ []) rest) ∙ ap (λ z. z ++ rest) (sym all)) ∙ is) are)
       where
         step : Step l (k ++ aborts) (Kill c i)
         step = killing aborts all
 
-        none : aborts ≡ [] → ((kill_of (S k) c i).1 ≡ S (k ++ own)) × (kills_in own ≡ 1) × (c < l.parts)
+        none : aborts ≡ [] → ((kill_of (S k) c i).1 ≡ S (k ++ own)) × (kills_among own ≡ 1) × (c < l.parts)
         none none_is =
             let at : own ≡ Kill c i ∷ [] = all ∙ ap (λ z. z ++ Kill c i ∷ []) none_is in
             let here_is : k ++ aborts ≡ k = ap (λ z. k ++ z) none_is ∙ append_nil k in
             let born : element_of k i ≡ Some step.item = ap (λ z. element_of z i) (sym here_is) ∙ step.born in (
               ap (λ r. r.1) (free (S k) c i step.item born (subst (λ z. IsKillable (status_of l.attempts z i)) here_is step.free)) ∙ ap (λ z. S (k ++ z)) (sym at),
-              ap kills_in at,
+              ap kills_among at,
               step.pass,
             )
 
-        one : ((u : ℕ) × (n : ℕ) × (aborts ≡ Abort c u ∷ []) × (status_of l.attempts k i ≡ Held u n)) → ((kill_of (S k) c i).1 ≡ S (k ++ own)) × (kills_in own ≡ 1) × (c < l.parts)
+        one : ((u : ℕ) × (n : ℕ) × (aborts ≡ Abort c u ∷ []) × (status_of l.attempts k i ≡ Held u n)) → ((kill_of (S k) c i).1 ≡ S (k ++ own)) × (kills_among own ≡ 1) × (c < l.parts)
         one t =
             let at : own ≡ Abort c t.0 ∷ Kill c i ∷ [] = all ∙ ap (λ z. z ++ Kill c i ∷ []) t.2 in
             let is = unsettled_is (S k) root i unsettled in (
               ap (λ r. r.1) (held (S k) c i t.0 t.1 is.item is.born t.3) ∙ (ap S (append_assoc k (Abort c t.0 ∷ []) (Kill c i ∷ [])) ∙ ap (λ z. S (k ++ z)) (sym at)),
-              ap kills_in at,
+              ap kills_among at,
               step.pass,
             )
 
@@ -189,18 +189,18 @@ module _ (s : State) (c root : ℕ) (from g : List Event) (legal : IsLegal s.lim
         end (subst (λ z. IsSettled (status_of l.attempts g z)) id (each_settled l g root settled t.item (is_born g i t.item born) t.family t.no_reply))
 
     abbrev Sweeps : List ℕ → List Event → List Event → Type 0
-    Sweeps ids k es = (with_kills (S k) c (filter (is_unsettled (S k) root) ids) ≡ S g) × (kills_in es ≡ length (filter (is_unsettled (S k) root) ids))
+    Sweeps ids k es = (with_kills (S k) c (filter (is_unsettled (S k) root) ids) ≡ S g) × (kills_among es ≡ length (filter (is_unsettled (S k) root) ids))
 
     sweep : (ids : List ℕ) (k es : List Event) → k ++ es ≡ g → Distinct ids → AreInTurn l c root from g ids es → Sweeps ids k es
-    sweep [] k es is apart none = (ap S (sym (append_nil k) ∙ (ap (λ z. k ++ z) (sym none) ∙ is)), ap kills_in none)
+    sweep [] k es is apart none = (ap S (sym (append_nil k) ∙ (ap (λ z. k ++ z) (sym none) ∙ is)), ap kills_among none)
     sweep (i ∷ ids) k es is apart a =
         go (is_unsettled (S k) root i) refl (sweep ids (k ++ a.0) a.1 (append_assoc k a.0 a.1 ∙ whole) apart.1 a.4)
       where
         whole : k ++ (a.0 ++ a.1) ≡ g
         whole = ap (λ z. k ++ z) (sym a.2) ∙ is
 
-        counted : kills_in es ≡ kills_in a.0 + kills_in a.1
-        counted = ap kills_in a.2 ∙ kills_append a.0 a.1
+        counted : kills_among es ≡ kills_among a.0 + kills_among a.1
+        counted = ap kills_among a.2 ∙ kills_append a.0 a.1
 
         endings : AreEndings c (a.0 ++ a.1)
         endings e p = turn_endings (i ∷ ids) es a e (subst (In e) (sym a.2) p)
@@ -217,7 +217,7 @@ module _ (s : State) (c root : ℕ) (from g : List Event) (legal : IsLegal s.lim
             let differ : j ≢ i = λ same. apart.0 (subst (λ z. In z ids) same p) in
             ap (λ z. is_unsettled (S z) root j) (sym later) ∙ alike s c root k left.later j (left.slain.same j) (left.slain.others j differ)
 
-        killed : is_unsettled (S k) root i ≡ true → IsDoneAt l c root from g i a.0 → ((kill_of (S k) c i).1 ≡ S (k ++ a.0)) × (kills_in a.0 ≡ 1) × (c < l.parts)
+        killed : is_unsettled (S k) root i ≡ true → IsDoneAt l c root from g i a.0 → ((kill_of (S k) c i).1 ≡ S (k ++ a.0)) × (kills_among a.0 ≡ 1) × (c < l.parts)
         killed unsettled (inl none) = absurd (must i ids k a.0 a.1 whole apart.0 a.4 unsettled (λ e p. absurd (in_none (subst (In e) none p))))
         killed unsettled (inr d) = ⊎_elim
             (λ all. absurd (must i ids k a.0 a.1 whole apart.0 a.4 unsettled (λ e p. let t = d.2 e (subst (In e) all p) in (t.unit, t.is_abort))))
@@ -225,12 +225,12 @@ module _ (s : State) (c root : ℕ) (from g : List Event) (legal : IsLegal s.lim
             d.3
 
         go : (b : Bool) → is_unsettled (S k) root i ≡ b → Sweeps ids (k ++ a.0) a.1
-            → (with_kills (S k) c (cond b (i ∷ filter (is_unsettled (S k) root) ids) (filter (is_unsettled (S k) root) ids)) ≡ S g) × (kills_in es ≡ length (cond b (i ∷ filter (is_unsettled (S k) root) ids) (filter (is_unsettled (S k) root) ids)))
+            → (with_kills (S k) c (cond b (i ∷ filter (is_unsettled (S k) root) ids) (filter (is_unsettled (S k) root) ids)) ≡ S g) × (kills_among es ≡ length (cond b (i ∷ filter (is_unsettled (S k) root) ids) (filter (is_unsettled (S k) root) ids)))
         go true unsettled later =
             let t = killed unsettled a.3 in
             let same : filter (is_unsettled (S (k ++ a.0)) root) ids ≡ filter (is_unsettled (S k) root) ids = filter_alike (is_unsettled (S (k ++ a.0)) root) (is_unsettled (S k) root) ids (others unsettled t.0 t.2) in
             let one = t.1 in
-            let rest : kills_in a.1 ≡ length (filter (is_unsettled (S k) root) ids) = later.1 ∙ ap length same in (
+            let rest : kills_among a.1 ≡ length (filter (is_unsettled (S k) root) ids) = later.1 ∙ ap length same in (
               ap (λ z. with_kills z c (filter (is_unsettled (S k) root) ids)) t.0 ∙ (ap (with_kills (S (k ++ a.0)) c) (sym same) ∙ later.0),
               (let all = counted in omega arith),
             )
@@ -238,7 +238,7 @@ module _ (s : State) (c root : ℕ) (from g : List Event) (legal : IsLegal s.lim
             let none = left_alone i k a.0 a.1 whole endings a.3 settled_yet in
             let here_is : k ++ a.0 ≡ k = ap (λ z. k ++ z) none ∙ append_nil k in
             let at : Sweeps ids k a.1 = subst (λ z. Sweeps ids z a.1) here_is later in
-            let zero = ap kills_in none in
+            let zero = ap kills_among none in
             (at.0, (let all = counted in let rest = at.1 in omega arith))
 
 -- the call
@@ -303,8 +303,8 @@ module _ (l : Limits) (keeper keeper' : KeeperShown) (olds news : List PassShown
         back : (i j : ℕ) → LeadsTo l.attempts (h ++ es) i j → LeadsTo l.attempts h i j
         back i j t = leads_back l.attempts c h es i j endings t
 
-    swept : (with_kills before c (unsettled_ids before root) ≡ at_history before (h ++ es)) × (kills_in es ≡ length (unsettled_ids before root))
-    swept = subst (λ ids. (with_kills before c (filter (is_unsettled before root) ids) ≡ at_history before (h ++ es)) × (kills_in es ≡ length (filter (is_unsettled before root) ids))) same_walk
+    swept : (with_kills before c (unsettled_ids before root) ≡ at_history before (h ++ es)) × (kills_among es ≡ length (unsettled_ids before root))
+    swept = subst (λ ids. (with_kills before c (filter (is_unsettled before root) ids) ≡ at_history before (h ++ es)) × (kills_among es ≡ length (filter (is_unsettled before root) ids))) same_walk
         (sweep before c root h (h ++ es) legal (subst (λ z. IsSettledFamily l.attempts z root) seen says.settled) says.walk h es refl (distinct l.attempts root (h ++ es) [] says.walk in_order) turns)
 
     cancels : (Ok answer, thread_of l news h') ≡ cancel_of before c root

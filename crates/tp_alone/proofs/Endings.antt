@@ -12,7 +12,7 @@ use Rattle.tp_model.proofs.Bridges.{append_nil, in_right}
 use Rattle.tp_model.proofs.Histories.{status_of-snoc}
 use Rattle.tp_model.proofs.Lists.{if_other}
 use Rattle.tp_plain.proofs.Cancels.{same_elements}
-use Rattle.tp_manager.specs.Cancels.{kills_in}
+use Rattle.tp_manager.specs.Cancels.{kills_among}
 use Rattle.tp_alone.proofs.Kills.{after_abort}
 use Rattle.tp_alone.proofs.Walks.{AreEndings, walk_apart}
 
@@ -37,7 +37,7 @@ filter_alike p q (x ∷ xs) same =
     let rest = filter_alike p q xs (λ j r. same j (there r)) in
     ap (λ b. cond b (x ∷ filter p xs) (filter p xs)) (same x here) ∙ ap (λ zs. cond (q x) (x ∷ zs) zs) rest
 
-pub kills_append : (es fs : List Event) → kills_in (es ++ fs) ≡ kills_in es + kills_in fs
+pub kills_append : (es fs : List Event) → kills_among (es ++ fs) ≡ kills_among es + kills_among fs
 kills_append [] fs = omega arith
 kills_append (e ∷ es) fs = let rest = kills_append es fs in omega arith
 

@@ -67,7 +67,7 @@ not_twice l h c u step =
 pub after_abort : (limit c u n i : ℕ) (h : List Event) → status_of limit h i ≡ Held u n → status_of limit (h ++ Abort c u ∷ []) i ≡ (if nat_lt n limit then Waiting n else Parked n)
 after_abort limit c u n i h is = status_of-snoc limit h (Abort c u) i ∙ (ap (aborted limit u) is ∙ if_same u u (if nat_lt n limit then Waiting n else Parked n) (Held u n) refl)
 
--- Of the Aborts by pass c of holders of element i, behind h and in front of `tail`, there is one if it is held in h, and else none.
+-- Of the Aborts by pass c of holders of element i, after h and before `tail`, there is one if it is held in h, and else none.
 module _ (l : Limits) (c i : ℕ) (h tail : List Event) (aborts : List Event) (legal : IsLegal l (h ++ (aborts ++ tail)))
     (cut : (g rest : List Event) (e : Event) → g ++ e ∷ rest ≡ aborts ++ tail → (x : Event) → In x g → In x aborts)
     (are : AreOfHolders l c i h (h ++ (aborts ++ tail)) aborts) where
@@ -97,7 +97,7 @@ module _ (l : Limits) (c i : ℕ) (h tail : List Event) (aborts : List Event) (l
           let again : Step l (h ++ Abort c s.0 ∷ []) (Abort c s.0) = subst (λ z. Step l (h ++ Abort c s.0 ∷ []) z) (t.2 ∙ ap (Abort c) unit) (subst (λ z. Step l (h ++ z ∷ []) y) s.2 step) in
           absurd (not_twice l h c s.0 again)
 
--- the computed answer, by how the element stands
+-- the computed answer, by its status
 
 none_there : (s : State) (c i : ℕ) → element_of s.history i ≡ None → kill_of s c i ≡ (Err refusal.NotThere, s)
 none_there s c i none = rw none refl

@@ -58,7 +58,7 @@ parked_is (Consumed u) is = absurd cc
 parked_is (Parked n) is = (n, refl)
 parked_is Killed is = absurd cc
 
--- what the tests tell
+-- what the tests say
 
 pub reply_is : (root : ℕ) (st : Status) (o : Option Element) → reply_found root st o ≡ true → (x : Element) × (o ≡ Some x) × (x.stage ≡ 15) × (x.root ≡ root) × IsWaiting st
 reply_is root st None is = absurd cc

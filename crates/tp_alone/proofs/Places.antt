@@ -15,7 +15,7 @@ use Rattle.tp_model.proofs.Later.{abort_ends}
 use Rattle.tp_model.proofs.Lists.{if_same, option_or-None}
 use Rattle.tp_manager.specs.Calls.{claims_in}
 
--- where one list is cut at two places, they are one, or one is behind the other
+-- where one list is cut at two places, they are one, or one is after the other
 two_cuts : {A : Type 0} (b : List A) (x : A) (r b' : List A) (x' : A) (r' : List A) → b ++ x ∷ r ≡ b' ++ x' ∷ r'
     → (b ≡ b') ⊎ (((m : List A) × (b' ≡ b ++ x ∷ m)) ⊎ ((m : List A) × (b ≡ b' ++ x' ∷ m)))
 two_cuts [] x r [] x' r' e = inl refl

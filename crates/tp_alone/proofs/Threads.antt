@@ -145,7 +145,7 @@ module _ (l : Limits) (keeper keeper' : KeeperShown) (olds news : List PassShown
       let up = ascend_in 0 l.spare t.0.blocks l.spare (a.before.each t.0 t.1).shows.run.drawn t.2 in let x = up.1 in omega arith) in
       elim (leb_tells (drawn_of olds) l.spare) [ inl p ↦ (let x = p.1 in omega arith) | inr p ↦ absurd (over (omega arith)) ]
 
-  -- a number that stands at the end of an ascending list isn't in front of it
+  -- a number that stands at the end of an ascending list isn't before it
   last_above : (low high : ℕ) (xs : List ℕ) (b : ℕ) → Ascend low high (xs ++ b ∷ []) → In b xs → ⊥
   last_above low high [] b up p = in_none p
   last_above low high (x ∷ xs) b up p = ⊎_elim

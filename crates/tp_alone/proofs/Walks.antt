@@ -71,7 +71,7 @@ committed_one_back c u f m h e (inr k) is =
     go None q = absurd (let e : None ≡ Some (Committed f m) = q in cc)
     go (Some x) q = q
 
--- what leads on behind them did before them
+-- what leads on after them did before them
 pub leads_back : (limit c : ℕ) (h es : List Event) (i j : ℕ) → AreEndings c es → LeadsTo limit (h ++ es) i j → LeadsTo limit h i j
 leads_back limit c h [] i j all t = subst (λ z. LeadsTo limit z i j) (append_nil h) t
 leads_back limit c h (e ∷ es) i j all t =

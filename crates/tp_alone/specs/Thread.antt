@@ -46,7 +46,7 @@ thread_of l passes h = record {
   drawn = drawn_of passes;
 }
 
--- so many spare blocks are drawn: each of these passes knows of all of them, and each is one pass's
+-- this many spare blocks are drawn: each of these passes knows of all of them, and each is one pass's
 pub record AreDrawn (drawn : ℕ) (passes : List PassShown) : Type 0 where
   pub seen : (p : PassShown) → In p passes → p.seen_blocks ≡ drawn
   pub inside : (p : PassShown) (b : ℕ) → In p passes → In b p.blocks → b < drawn

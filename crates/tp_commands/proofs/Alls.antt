@@ -7,7 +7,7 @@ use Rattle.std.proofs.lemmas.List.Sums.{sum_by-cons}
 use Rattle.tp_script.specs.declared.script.Command.{Command}
 use Rattle.tp_script.specs.Passes.{racers, racing}
 
--- the first of a list, and those behind it in two parts
+-- the first of a list, and those after it in two parts
 pub all_parts : {A : Type 0} (P : A → Type 0) (xs : List A) (x : A) (rest front back : List A) → xs ≡ x ∷ rest → rest ≡ front ++ back → All P xs → P x × All P front × All P back
 all_parts P xs x rest front back is parts all =
     let these : All P (x ∷ rest) = subst (All P) is all in

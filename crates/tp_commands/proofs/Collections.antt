@@ -20,7 +20,7 @@ use Rattle.tp_manager.specs.Calls.{Follows}
 use Rattle.tp_manager.specs.Families.{count_below}
 use Rattle.tp_manager.specs.Lists.{CollectsNext}
 use Rattle.tp_manager.specs.Shown.{PassShown}
-use Rattle.tp_manager.proofs.Counts.{count_le}
+use Rattle.tp_manager.proofs.Accounts.Counts.{count_le}
 
 -- how many pass a test, and one fewer
 count_less : (f g : ℕ → Bool) (n k : ℕ) → k < n → ((i : ℕ) → f i ≡ true → g i ≡ true) → f k ≡ false → g k ≡ true → count_below f n + 1 ≤ count_below g n

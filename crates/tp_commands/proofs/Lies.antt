@@ -83,7 +83,7 @@ module _ {X : Type 0} {F : X → Type 0} (behaviour : DynBox X Global F → Beha
       lie_set _ _ _ b _ _ _ (lie_at (p ∷ ps) (s ∷ ss) (o ∷ os) a p s o within all)
       (lie_set (p ∷ ps) (s ∷ ss) (o ∷ os) a _ _ _ (lie_at (p ∷ ps) (s ∷ ss) (o ∷ os) b p s o also all) all)
 
-  -- those in front, and the others
+  -- the first ones, and the others
   pub lie_front : (n : ℕ) (ps : List PassShown) (ss : List Box) (os : List (Place X F)) → Lie ps ss os → Lie (take n ps) (take n ss) (take n os)
   lie_front zero ps ss os all = tt
   lie_front (suc n) [] [] [] all = tt
@@ -166,7 +166,7 @@ module _ {X : Type 0} {F : X → Type 0} (behaviour : DynBox X Global F → Beha
     lie_worked m R worked ps ss os h.1 qs ts all.1 (All-tail IsFreeAt o os free) (omega (arith, e)) (omega (arith, k)) h.3,
   )
 
--- one more comes behind those in front
+-- one more comes after the first ones
 pub free_more : {A : Type 0} (Is : A → Type 0) (os : List A) (f a : ℕ) (d : A) → f ≤ a → a < length os → All Is (take f os) → Is (get_or os a d) → All Is (take (f + 1) (swap os f a))
 free_more Is os f a d low within front one =
     let inside : f < length os = omega (arith, low, within) in

@@ -19,7 +19,7 @@ module _ {A : Type 0} where
   append_none [] = refl
   append_none (x ∷ xs) = ap (λ zs. x ∷ zs) (append_none xs)
 
-  -- one more was found, behind which stands what is found from there on
+  -- one more was found, after which comes what is found from there on
   pub one_more_found : (Now Next Whole : List A → PassShown → Type 0) (found : List A) (x : A)
       → ((more : List A) (last : PassShown) → Now more last → Whole (found ++ more) last)
       → ((more : List A) (last : PassShown) → Next more last → Now (x ∷ more) last)
@@ -27,7 +27,7 @@ module _ {A : Type 0} where
   one_more_found Now Next Whole found x so_far one more last rest =
       subst (λ xs. Whole xs last) (sym (append_one found x more)) (so_far (x ∷ more) last (one more last rest))
 
-  -- none behind the last
+  -- none after the last
   pub no_more_found : (Now Whole : List A → PassShown → Type 0) (found : List A) (last : PassShown)
       → ((more : List A) (last : PassShown) → Now more last → Whole (found ++ more) last) → Now [] last → Whole found last
   no_more_found Now Whole found last so_far none = subst (λ xs. Whole xs last) (append_none found) (so_far [] last none)

@@ -99,7 +99,7 @@ module _ {X : Type 0} {F : X → Type 0} (behaviour : DynBox X Global F → Beha
       ∙ (ap (λ n. value_at registers k (y, z) + n) (shown_sum k ps ss os all.1)
       ∙ sym (sum_by-cons (λ p. counted_value p.is_dropped (slice_get p.desk.registers k)) (place_shown behaviour registers pending x y z) (places_shown behaviour registers pending ps ss os)))
 
-  -- those in front, and the others
+  -- the first ones, and the others
   pub shown_append : (ps : List PassShown) (ss : List Box) (os : List (Place X F)) (qs : List PassShown) (ts : List Box) (ns : List (Place X F)) → AllLie behaviour registers pending ps ss os
       → places_shown behaviour registers pending (ps ++ qs) (ss ++ ts) (os ++ ns) ≡ places_shown behaviour registers pending ps ss os ++ places_shown behaviour registers pending qs ts ns
   shown_append [] [] [] qs ts ns all = refl

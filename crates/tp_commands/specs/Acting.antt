@@ -37,6 +37,7 @@ use Rattle.tp_workers.specs.Desks as workers
 use Rattle.tp_script.specs.declared.script.DeskAct.{DeskAct}
 use Rattle.tp_script.specs.declared.script.DeskAct.TheVariants as acts
 use Rattle.tp_commands.specs.declared.place.Place.{Place}
+use Rattle.tp_model.specs.declared.types.TheConstants.{MAX_OUTPUTS}
 
 -- ---- what is shown
 
@@ -104,7 +105,7 @@ module _ {X : Type 0} {F : X → Type 0} (behaviour : DynBox X Global F → Beha
   places_shown (p ∷ ps) (s ∷ ss) (o ∷ os) = place_shown p s o ∷ places_shown ps ss os
   places_shown ps ss os = []
 
--- the desk at work. Where no box is in sight, a server's members are told of a pair.
+-- the desk at work. Where no box is in sight, a server's members are named of a pair.
 module _ {X : Type 0} {F : X → Type 0} (behaviour : (x : X) × F x → Behaviour) (registers : (x : X) × F x
     → List ℕ)
     (pending : (x : X) × F x → Option Pending) where
@@ -176,7 +177,7 @@ TellsTake l id old other new = ⊥
 pub record WorksOffAt (l : Limits) (turned : Turned) (old new : DeskShown) : Type 0 where
   pub work : Work
   pub in_hand : old.work ≡ Some work
-  pub follows : Follows (commit_steps l 4) old.pass new.pass
+  pub follows : Follows (commit_steps l MAX_OUTPUTS) old.pass new.pass
   pub turn : new.pass.from ≡ old.pass.from
   pub answer : WorksOff old.behaviour old.registers work old.pass new.pass turned new.registers
   pub none_left : new.work ≡ None

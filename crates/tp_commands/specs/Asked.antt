@@ -113,13 +113,13 @@ abbrev pub FindsNoReply : Limits → ℕ → ℕ → PassShown → PassShown →
 FindsNoReply l root from old new = Called l (reply_steps l) old new × IsQuiet old new × LooksAt l from old new
     × AllKilled l root (λ i. from ≤ i) old new
 
--- the replies to the request from this id on, one found behind the other, until none was or no id is left
+-- the replies to the request from this id on, one found after the other, until none was or no id is left
 abbrev pub TellsReplies : Limits → ℕ → ℕ → PassShown → List Element → PassShown → Type 0
 TellsReplies l root from old [] new = FindsNoReply l root from old new ⊎ ((rows_of l ≤ from) × (new ≡ old))
 TellsReplies l root from old (e ∷ rest) new = (between : PassShown) × FindsReply l root from e old between
     × TellsReplies l root (e.id + 1) between rest new
 
--- the replies to the request, one taken behind the other, until none waits
+-- the replies to the request, one taken after the other, until none waits
 abbrev pub TellsCollected : Limits → ℕ → PassShown → List Element → PassShown → Type 0
 TellsCollected l root old [] new = Called l (collect_next_steps l) old new × LooksAt l root old new
     × NoneCollected l root old new
@@ -138,7 +138,7 @@ FindsNoMember l root from old new = Called l (family_steps l) old new × IsQuiet
     × LooksAt l from old new
     × NoneOfFamily root from old new
 
--- the elements of the request from this id on, one found behind the other, until none was or no id is left
+-- the elements of the request from this id on, one found after the other, until none was or no id is left
 abbrev pub TellsFamily : Limits → ℕ → ℕ → PassShown → List Look → PassShown → Type 0
 TellsFamily l root from old [] new = FindsNoMember l root from old new ⊎ ((rows_of l ≤ from) × (new ≡ old))
 TellsFamily l root from old (look ∷ rest) new = (between : PassShown)
@@ -159,7 +159,7 @@ FindsNoError l from old new =
     × NoneParked l (λ i. from ≤ i) old new)
     ⊎ ((rows_of l ≤ from) × (new ≡ old))
 
--- the parked elements from this id on, one found behind the other
+-- the parked elements from this id on, one found after the other
 abbrev pub TellsErrors : Limits → ℕ → PassShown → List ℕ → PassShown → Type 0
 TellsErrors l from old [] new = FindsNoError l from old new
 TellsErrors l from old (id ∷ rest) new = (between : PassShown) × FindsError l from id old between
@@ -179,14 +179,14 @@ TellsCount l (suc id) old c new = (before : Counts) × (between : PassShown) × 
 
 -- ---- the client's line
 
--- the line tells the answer of such a call
+-- the line is the answer of such a call
 pub record AnswerLine (Tells : PassShown → PassShown → Answer → Type 0)
     (old : PassShown) (text : List ℕ) (new : PassShown) : Type 0 where
   pub answer : Answer
   pub tells : Tells old new answer
   pub text_is : text ≡ line (answer_text answer)
 
--- the line tells what such calls found
+-- the line has what such calls found
 pub record FoundLine {A : Type 0} (Tells : PassShown → A → PassShown → Type 0) (told : A → List ℕ)
     (old : PassShown) (text : List ℕ) (new : PassShown) : Type 0 where
   pub found : A

@@ -38,7 +38,7 @@ abbrev pub all_firsts : {X : Type 0} {F : X → Type 0} → List PassShown → L
     → List (Option (PassShown × DynBox X Global F))
 all_firsts passes servers = map Some (zip passes servers)
 
--- the passes of so many servers, behind the client's
+-- the passes of this many servers, after the client's
 abbrev pub workers : ℕ → List PassShown → List PassShown
 workers many passes = take many (drop 1 passes)
 

@@ -1,4 +1,4 @@
--- What is told of registers.
+-- What is printed of registers.
 use Rattle.std.specs.Prelude.{◌≡◌, ℕ, Bool, true, false, List, Option, Some, None, slice_get, sum_by}
 use Rattle.std.specs.declared.alloc.Global.{Global}
 use Rattle.std.specs.declared.dyn_box.DynBox.{DynBox}
@@ -7,7 +7,7 @@ use Rattle.tp_report.specs.Answer.{balance_text, line, named_text}
 use Rattle.tp_commands.specs.Acting.{PlaceShown}
 use Rattle.tp_commands.specs.declared.place.Place.{Place}
 
--- the text tells a register of the server of this name, or that its desk was dropped
+-- the text says what is in a register of the server of this name, or that its desk was dropped
 abbrev pub TellsBalance : List ℕ → ℕ → List ℕ → Bool → List ℕ → Type 0
 TellsBalance name k registers false text = text ≡ line (balance_text name k (slice_get registers k))
 TellsBalance name k registers true text = text ≡ line (named_text name told.Ended)

@@ -209,7 +209,7 @@ fn collected(
     line(alloc, Answer::Collected { root, replies })
 }
 
-/// The element of the request that has the least id from this one on, and how it stands.
+/// The element of the request that has the least id from this one on, and its status.
 fn next_member(manager: &Manager, client: &mut Pass, root: u32, from: u32) -> Option<Look>
     requires { IsFreePass manager.now client.old }
     ensures free { IsFreePass manager.now client.new }
@@ -275,7 +275,7 @@ fn errors(alloc: Global, manager: &Manager, client: &mut Pass) -> Result<String,
     line(alloc, Answer::Errors(parked.as_slice()))
 }
 
-/// `count`: how many elements stand in each way, over all ids below the capacity.
+/// `count`: how many elements have each status, over all ids below the capacity.
 pub fn count(manager: &Manager, client: &mut Pass) -> Counts
     requires { IsFreePass manager.now client.old }
     ensures free { IsFreePass manager.now client.new }
@@ -297,7 +297,7 @@ pub fn count(manager: &Manager, client: &mut Pass) -> Counts
     counts
 }
 
-/// These counts, and one element more, which stands so.
+/// These counts, and one more element of this status.
 fn one_more(counts: Counts, status: Status) -> Counts
     requires { all_in counts < 2 ^ 32 - 1 }
     ensures { result ≡ one_more status counts }

@@ -1,4 +1,4 @@
-//! Lines that tell of servers: what one answered, and what registers hold.
+//! Lines about servers: what one answered, and what registers hold.
 ghost use Rattle.std.specs.List.{zip};
 ghost use Rattle.std.specs.Prelude.{◌≡◌, ◌<◌, IfOk, IfSome, length, slice_get, string_bytes, sum_by};
 ghost use Rattle.tp_report.specs.Answer.{line, named_text};

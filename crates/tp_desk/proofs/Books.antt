@@ -13,7 +13,7 @@ use Rattle.tp_server.specs.Behaviour.{Behaviour, Done, Folds}
 use Rattle.tp_server.specs.Books.{Lowers, NeverLowers, Preserves, Raises, RaisesByOutputs, outputs_of}
 use Rattle.tp_server.proofs.Books.{all_lower, all_never_lower, all_preserve, all_raise, all_raise_by_outputs}
 use Rattle.tp_manager.specs.Shown.{PassShown}
-use Rattle.tp_desk.specs.Books.{committed, outputs_in}
+use Rattle.tp_desk.specs.Books.{committed_outputs, outputs_in}
 use Rattle.tp_desk.specs.Serving.{AreTaken, Serves, done, done_by, done_with, draft_in, gained}
 use Rattle.tp_desk.proofs.Recipes.{elements_done}
 
@@ -22,12 +22,12 @@ abbrev AllTaken : List Event → List Event → List Event → Type 0
 AllTaken g h es = (c u : ℕ) (outs : List Element) → In (Commit c u outs) es → (x : Element) × (taken_by g h (Commit c u outs) ≡ Some x)
 
 more_outputs : (outs : List Element) (o : Option Element) (x : Element) (ds : List Done) (es : List Event) → o ≡ Some x
-    → outputs_of ds ≡ committed es → outputs_of (cons_option (option_map (done_with outs) o) ds) ≡ map draft_in (outs ++ flat_map outputs_in es)
+    → outputs_of ds ≡ committed_outputs es → outputs_of (cons_option (option_map (done_with outs) o) ds) ≡ map draft_in (outs ++ flat_map outputs_in es)
 more_outputs outs o x ds es is same =
     rw is (ap (λ (l : List DraftView). map draft_in outs ++ l) same ∙ sym (map-append draft_in outs (flat_map outputs_in es)))
 
 -- the outputs of the work that events did are those that they committed
-all_outputs : (g h es : List Event) → AllTaken g h es → outputs_of (filter_map (done_by g h) es) ≡ committed es
+all_outputs : (g h es : List Event) → AllTaken g h es → outputs_of (filter_map (done_by g h) es) ≡ committed_outputs es
 all_outputs g h [] all = refl
 all_outputs g h (Enqueue c x ∷ es) all = all_outputs g h es (λ c u outs at. all c u outs (there at))
 all_outputs g h (Claim c u i n ∷ es) all = all_outputs g h es (λ c u outs at. all c u outs (there at))
@@ -39,7 +39,7 @@ all_outputs g h (Abort c u ∷ es) all = all_outputs g h es (λ c u outs at. all
 all_outputs g h (Kill c i ∷ es) all = all_outputs g h es (λ c u outs at. all c u outs (there at))
 all_outputs g h (Requeue c i k ∷ es) all = all_outputs g h es (λ c u outs at. all c u outs (there at))
 
-pub outputs_done : (events h : List Event) → AreTaken events h → outputs_of (done events h) ≡ committed events
+pub outputs_done : (events h : List Event) → AreTaken events h → outputs_of (done events h) ≡ committed_outputs events
 outputs_done events h all = all_outputs events h events all
 
 module _ {behaviour : Behaviour} {measure : List ℕ → ℕ} {start registers : List ℕ} {p q : PassShown} where
@@ -56,7 +56,7 @@ module _ {behaviour : Behaviour} {measure : List ℕ → ℕ} {start registers :
       (all_lower start registers (done (gained p.mine q.mine) q.seen) lowers s.folded)
 
   pub serves_raised_by_outputs : {worth : DraftView → ℕ} → RaisesByOutputs behaviour measure worth → Serves behaviour start registers p q
-      → measure registers ≡ measure start + sum_by worth (committed (gained p.mine q.mine))
+      → measure registers ≡ measure start + sum_by worth (committed_outputs (gained p.mine q.mine))
   serves_raised_by_outputs {worth} raises s =
       subst (λ (l : List DraftView). measure registers ≡ measure start + sum_by worth l) (outputs_done (gained p.mine q.mine) q.seen s.claimed)
       (all_raise_by_outputs start registers (done (gained p.mine q.mine) q.seen) raises s.folded)

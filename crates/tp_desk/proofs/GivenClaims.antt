@@ -16,8 +16,8 @@ use Rattle.tp_model.proofs.Bridges.{begins_trans, found_later}
 use Rattle.tp_manager.specs.Calls.{Adds, AtPoint, Follows, IsQuiet, KeepsRun, Opens, Reads, claims_in, opening, steps_of}
 use Rattle.tp_manager.specs.Given.{ClaimIdFails, HasReplyStage, TakesId, TookNone}
 use Rattle.tp_manager.specs.Shown.{PassShown}
-use Rattle.tp_manager.proofs.Follows.{steps_both}
-use Rattle.tp_manager.proofs.Points.{opening_later}
+use Rattle.tp_manager.proofs.Calls.Follows.{steps_both}
+use Rattle.tp_manager.proofs.Calls.Points.{opening_later}
 use Rattle.tp_desk.specs.Given.{ClaimsGiven, GivenFails, HasOtherStage, HasUnwaitingOf}
 
 -- a pass without units takes nothing

@@ -18,8 +18,8 @@ outputs_in (Commit c u outs) = outs
 outputs_in other = []
 
 -- the outputs that these events committed, each as the draft that it was
-abbrev pub committed : List Event → List DraftView
-committed events = map draft_in (flat_map outputs_in events)
+abbrev pub committed_outputs : List Event → List DraftView
+committed_outputs events = map draft_in (flat_map outputs_in events)
 
 -- where each effect raises a measure by the worth of its element, it has risen by the worth of all elements
 -- that were consumed
@@ -42,7 +42,7 @@ abbrev pub ServesRaisedByOutputs : Type 0
 ServesRaisedByOutputs = (behaviour : Behaviour) (measure : List ℕ → ℕ) (worth : DraftView → ℕ)
     (start registers : List ℕ) (old new : PassShown)
     → RaisesByOutputs behaviour measure worth → Serves behaviour start registers old new
-    → measure registers ≡ measure start + sum_by worth (committed (gained old.mine new.mine))
+    → measure registers ≡ measure start + sum_by worth (committed_outputs (gained old.mine new.mine))
 
 -- where no effect lowers it, it is as large as it was at least
 abbrev pub ServesNeverLower : Type 0

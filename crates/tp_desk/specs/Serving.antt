@@ -14,7 +14,7 @@ use Rattle.tp_server.specs.Behaviour.{Behaviour, Done, Folds}
 use Rattle.tp_manager.specs.Shown.{PassShown, view_in}
 use Rattle.tp_manager.specs.Calls.{HasEnded}
 
--- what the second list has behind the first
+-- what the second list has after the first
 abbrev pub gained : List Event → List Event → List Event
 gained first mine = drop (length first) mine
 

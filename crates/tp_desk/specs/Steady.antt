@@ -17,7 +17,7 @@ module _ {X : Type 0} {F : X → Type 0} where
       (registers d.first_server.value)
       d.first_pass.value d.pass.now d.work d.drafts.items
 
-  -- What a boxed server shows. In crates above, where a desk's fields can't be seen, its members are told of
+  -- What a boxed server shows. In crates above, where a desk's fields can't be seen, its members are named of
   -- a pair.
   abbrev pub shown : {A : Type 0} → ((x : X) × F x → A) → DynBox X Global F → A
   shown part box = part (box.vtable, box.value)

@@ -18,6 +18,7 @@ use Rattle.tp_desk.specs.Orders.{ClaimsBy, KeepsTurn, steps_by}
 use Rattle.tp_desk.specs.declared.order.Order.{Order}
 use Rattle.tp_desk.specs.declared.turned.Turned.{Turned}
 use Rattle.tp_desk.specs.declared.turned.Turned.TheVariants as turneds
+use Rattle.tp_model.specs.declared.types.TheConstants.{MAX_OUTPUTS}
 
 -- the registers after a commit with this answer: those of the effect where the work was committed, and else
 -- the old ones
@@ -63,7 +64,7 @@ WorksOff behaviour registers work old new (turneds.Full element) left =
     (element ≡ work.element.id) × Finishes behaviour registers work old new outcomes.Full left
 
 -- an element was claimed, this became of it, and these registers are left. What each of the two calls did is
--- told by what the pass showed between them.
+-- said by what the pass showed between them.
 pub record Works (order : Order) (l : Limits) (behaviour : Behaviour) (registers : List ℕ)
     (old new : PassShown)
     (turned : Turned) (left : List ℕ) : Type 0 where
@@ -74,7 +75,7 @@ pub record Works (order : Order) (l : Limits) (behaviour : Behaviour) (registers
   pub claims : Follows (steps_by order l) old between
   pub keeps_turn : KeepsTurn order old between
   pub off : WorksOff behaviour registers work between new turned left
-  pub ends : Follows (commit_steps l 4) between new
+  pub ends : Follows (commit_steps l MAX_OUTPUTS) between new
   pub same_turn : new.from ≡ between.from
 
 -- a turn answers and adds as one claim in this order, and where that took work, as one commit, or one abort
@@ -95,7 +96,7 @@ Turns order l behaviour registers old new (turneds.Full element) left =
 
 -- how many atomic steps a turn makes at most: those of a claim, and of a commit of four drafts
 abbrev pub turn_steps : Order → Limits → ℕ
-turn_steps order l = steps_by order l + commit_steps l 4
+turn_steps order l = steps_by order l + commit_steps l MAX_OUTPUTS
 
 -- the registers of committed work after a commit with this answer
 abbrev pub registers_left : Outcome → List ℕ → Option Pending → Option (List ℕ)

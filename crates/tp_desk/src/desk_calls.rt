@@ -1,4 +1,5 @@
 //! The making of a desk, the parts of its work (claim, prepare, commit or abort), and its end.
+ghost use Rattle.tp_model.specs.declared.types.TheConstants.{MAX_OUTPUTS};
 ghost use Rattle.std.specs.Prelude.{◌≡◌, None, Some, IsSome, IfErr, IfSome, OnOk, OnErr};
 ghost use Rattle.tp_model.specs.Steps.{AreLimits, IsServerStage};
 ghost use Rattle.tp_manager.specs.Shown.{IsOf};
@@ -92,9 +93,9 @@ impl<'m, 'p, 's> Desk<'m, 'p, 's> {
         self.claim_by(Order::LeastFirst)
     }
 
-    /// Takes in hand what waits in the server's stage and comes next in its turn: the first behind the
-    /// element that the pass took last by such a claim, where behind the last id comes the first. Nothing is
-    /// in hand yet.
+    /// Takes in hand what waits in the server's stage and comes next in its turn. It is the first after the
+    /// element that the pass took last by such a claim. After the last id comes the first. Nothing is in hand
+    /// yet.
     pub fn claim_next(&mut self) -> Claimed
         requires steady { SteadyDesk behaviour registers pending self.old }
         requires free { self.old.work ≡ None }
@@ -179,7 +180,8 @@ impl<'m, 'p, 's> Desk<'m, 'p, 's> {
         ensures clear { pending self.new.server.now ≡ None }
         ensures free { self.new.work ≡ None }
         ensures turn { self.new.pass.now.from ≡ self.old.pass.now.from }
-        ensures follows { Follows (commit_steps self.old.manager.now.limits 4) self.old.pass.now self.new.pass.now }
+        ensures follows { Follows (commit_steps self.old.manager.now.limits MAX_OUTPUTS)
+            self.old.pass.now self.new.pass.now }
         ensures answer { IfSome self.old.work (λ work.
             Finishes (behaviour self.old.server.now) (registers self.old.server.now) work
             self.old.pass.now self.new.pass.now result (registers self.new.server.now)) }
@@ -210,9 +212,8 @@ impl<'m, 'p, 's> Desk<'m, 'p, 's> {
         self.manager.abort(self.pass)
     }
 
-    /// AnswersAbort the desk: prepared work is called off and an open unit of work aborted, so that the
-    /// lenders find a pass with no unit open and a server with the registers of committed work. A drop does
-    /// the same.
+    /// Ends the desk: prepared work is called off and an open unit of work aborted. So the lenders find a pass
+    /// with no unit open, and a server with the registers of committed work. A drop does the same.
     pub fn end(self)
         ensures free { self.exit.1.0.now.open_unit ≡ None }
         ensures clear { pending self.exit.1.1.0.now ≡ None }

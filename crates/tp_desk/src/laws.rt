@@ -1,12 +1,12 @@
 //! The laws of what a desk has served. These functions do nothing: their contracts are the laws, to be cited
-//! in contracts of one's own behind a call of a desk.
+//! in contracts of one's own after a call of a desk.
 
 ghost use Rattle.tp_desk.specs.Books.{ServesLowered, ServesNeverLower, ServesPreserved, ServesRaised};
 ghost use Rattle.tp_desk.specs.Books.{ServesRaisedByOutputs};
 ghost use Rattle.tp_desk.specs.Laws.{RecipeDeclines, RecipeFinishes, ServesRecipe};
 
 /// What each effect of the server adds to a measure of its registers, or takes from it, adds up over the
-/// elements that the desk's pass has consumed: so what is left and what was sold make what there was.
+/// elements that the desk's pass has consumed. So what is left and what was sold make what there was.
 pub fn elements_add_up()
     ensures raised { ServesRaised }
     ensures lowered { ServesLowered }

@@ -5,7 +5,7 @@
 pub enum Order {
     /// The one with the least id. An element that was declined is claimed again before any other.
     LeastFirst,
-    /// The first behind the element that the pass took last in its turn, where behind the last id comes the
+    /// The first after the element that the pass took last in its turn, where after the last id comes the
     /// first. An element that was declined is claimed again when each other one has had its turn.
     InTurn,
 }

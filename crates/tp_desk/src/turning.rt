@@ -1,4 +1,5 @@
 //! A turn of a desk.
+ghost use Rattle.tp_model.specs.declared.types.TheConstants.{MAX_OUTPUTS};
 ghost use Rattle.std.specs.Prelude.{◌≡◌, None, Some};
 ghost use Rattle.tp_model.specs.Steps.{AreLimits};
 ghost use Rattle.tp_manager.specs.Bounds.{commit_steps};
@@ -81,7 +82,8 @@ impl Desk<'_, '_, '_> {
         ensures behaviour { behaviour self.new.server.now ≡ behaviour self.old.server.now }
         ensures free { self.new.work ≡ None }
         ensures turn { self.new.pass.now.from ≡ self.old.pass.now.from }
-        ensures follows { Follows (commit_steps self.old.manager.now.limits 4) self.old.pass.now self.new.pass.now }
+        ensures follows { Follows (commit_steps self.old.manager.now.limits MAX_OUTPUTS)
+            self.old.pass.now self.new.pass.now }
         ensures answer { WorksOff (behaviour self.old.server.now) (registers self.old.server.now) work
             self.old.pass.now self.new.pass.now result (registers self.new.server.now) }
         ensures steady { SteadyDesk behaviour registers pending self.new }

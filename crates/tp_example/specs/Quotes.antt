@@ -6,13 +6,14 @@ use Rattle.tp_server.specs.Behaviour.{Behaviour}
 use Rattle.tp_server.specs.Effect.{Effect}
 use Rattle.tp_server.specs.declared.recipe.Declined.{Declined}
 use Rattle.tp_server.specs.declared.recipe.Declined.TheVariants.{NoRegister, Own, TooLarge}
+use Rattle.tp_model.specs.declared.types.TheConstants.{REPLY_STAGE}
 
--- one quote more is counted, and the reply tells the price that was heard
+-- one quote more is counted, and the reply has the price that was heard
 abbrev pub quote : ℕ → Element → ℕ → Effect
 quote n question price = record {
   registers = (n + 1) ∷ [];
   drafts = record {
-    stage = 15;
+    stage = REPLY_STAGE;
     body = slice_index question.body 0 ∷ price ∷ slice_index question.body 2 ∷ 0 ∷ [];
   } ∷ [];
 }

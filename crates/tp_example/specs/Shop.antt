@@ -6,6 +6,7 @@ use Rattle.tp_server.specs.Behaviour.{Behaviour}
 use Rattle.tp_server.specs.Effect.{Effect}
 use Rattle.tp_server.specs.declared.recipe.Declined.{Declined}
 use Rattle.tp_server.specs.declared.recipe.Declined.TheVariants.{NoRegister, Own, Short, TooLarge}
+use Rattle.tp_model.specs.declared.types.TheConstants.{REPLY_STAGE}
 
 -- how many an order asks for
 abbrev pub how_many : Element → ℕ
@@ -17,9 +18,9 @@ cost order = slice_index order.body 1 * slice_index order.body 3
 
 -- an order for six or more goes to the packers, a smaller one is replied to at once
 abbrev pub route : ℕ → ℕ
-route n = if nat_le 6 n then 2 else 15
+route n = if nat_le 6 n then 2 else REPLY_STAGE
 
--- what is left and what was taken change at once, and the output tells both
+-- what is left and what was taken change at once, and the output has both
 abbrev pub sale : ℕ → ℕ → Element → Effect
 sale left takings order = record {
   registers = (left - how_many order) ∷ (takings + cost order) ∷ [];

@@ -1,5 +1,5 @@
 //! A small shop on the manager of requests: orders are submitted, a server of the shop's own takes them from
-//! its stock, and replies tell what was left.
+//! its stock, and replies say what was left.
 #![tactic(auto)]
 
 ghost use Rattle.std.specs.Prelude.{◌≡◌, None};
@@ -72,7 +72,7 @@ fn orders(
     Ok(())
 }
 
-/// Sells from a stock of so many goods.
+/// Sells from a stock of this many goods.
 fn open_shop(
     rt: &HostRuntime,
     manager: &Manager,

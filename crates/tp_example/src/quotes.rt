@@ -2,7 +2,7 @@
 ghost use Rattle.std.specs.Prelude.{◌≡◌};
 ghost use Rattle.tp_example.specs.Quotes.{as_heard, quoted, quotes};
 
-use tp_model::types::Element;
+use tp_model::types::{Element, REPLY_STAGE};
 use tp_server::{Declined, Effect, Handler};
 
 /// Where prices come from. Nothing is known of what it answers.
@@ -31,7 +31,7 @@ impl<P: Prices> Handler<1> for Quotes<P> {
     }
 }
 
-/// What a question comes to, where so many quotes were given and this price was heard.
+/// What a question comes to, where this many quotes were given and this price was heard.
 fn quoted(question: &Element, given: &[u64; 1], price: Option<u64>) -> Result<Effect<1>, Declined>
     ensures { result ≡ quoted given.now question.now (as_heard price) }
 {
@@ -42,5 +42,5 @@ fn quoted(question: &Element, given: &[u64; 1], price: Option<u64>) -> Result<Ef
     let Some(price) = price else {
         return Err(Declined::Own(2));
     };
-    Ok(Effect::new([given]).output(15, [goods, price, customer, 0]))
+    Ok(Effect::new([given]).output(REPLY_STAGE, [goods, price, customer, 0]))
 }

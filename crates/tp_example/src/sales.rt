@@ -22,7 +22,7 @@ pub struct Sales {
     pub short: u32,
 }
 
-/// Sells in at most so many turns, or until no order waits. What is left in stock and what the orders took
+/// Sells in at most this many turns, or until no order waits. What is left in stock and what the orders took
 /// that were committed meanwhile make what there was before, whatever other threads did.
 pub fn sell(
     manager: &Manager,

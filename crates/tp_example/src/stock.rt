@@ -2,7 +2,7 @@
 ghost use Rattle.std.specs.Prelude.{◌≡◌};
 ghost use Rattle.tp_example.specs.Shop.{sell, shop};
 
-use tp_model::types::Element;
+use tp_model::types::{Element, REPLY_STAGE};
 use tp_server::{Declined, Effect, Handler};
 
 /// Sells each order of stage 1 from the stock. An order for nothing is declined for a reason of the shop's
@@ -46,7 +46,7 @@ fn sale(order: &Element, books: &[u64; 2]) -> Result<Effect<2>, Declined>
     let Some(takings) = takings.checked_add(cost) else {
         return Err(Declined::TooLarge);
     };
-    let stage = if how_many >= 6 { 2 } else { 15 };
+    let stage = if how_many >= 6 { 2 } else { REPLY_STAGE };
     let left = left - how_many;
     Ok(Effect::new([left, takings]).output(stage, [goods, left, customer, cost]))
 }

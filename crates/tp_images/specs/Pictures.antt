@@ -7,6 +7,7 @@ use Rattle.tp_server.specs.Behaviour.{Behaviour}
 use Rattle.tp_server.specs.Effect.{Effect}
 use Rattle.tp_server.specs.declared.recipe.Declined.{Declined}
 use Rattle.tp_server.specs.declared.recipe.Declined.TheVariants.{NoRegister, Own, TooLarge}
+use Rattle.tp_model.specs.declared.types.TheConstants.{REPLY_STAGE}
 
 abbrev pub format_of : Element → ℕ
 format_of picture = slice_index picture.body 0
@@ -18,7 +19,7 @@ bytes_of picture = slice_index picture.body 1
 abbrev pub route : ℕ → ℕ
 route bytes = if nat_le bytes 1000 then 3 else 2
 
--- the validator knows so many formats and keeps nothing; it declines any other format for its own reason
+-- the validator knows this many formats and keeps nothing; it declines any other format for its own reason
 abbrev pub validated : ℕ → Element → Result Effect Declined
 validated formats picture =
     if nat_lt (format_of picture) formats
@@ -60,7 +61,7 @@ resizer = record { stage = 2; effect = λ registers picture heard. resize regist
 abbrev pub notice : ℕ → ℕ → Element → Effect
 notice count bytes picture = record {
   registers = (count + 1) ∷ (bytes + bytes_of picture) ∷ [];
-  drafts = record { stage = 15; body = picture.body } ∷ [];
+  drafts = record { stage = REPLY_STAGE; body = picture.body } ∷ [];
 }
 
 -- the notifier has two registers: how many customers were notified, and the bytes of their pictures

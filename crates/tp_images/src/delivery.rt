@@ -12,7 +12,7 @@ use tp_manager::{Manager, Pass};
 use tp_server::Server;
 use tp_workers::{Plan, work_off};
 
-/// Delivers in at most so many turns, or until no picture waits, and returns how many were. The notices and
+/// Delivers in at most this many turns, or until no picture waits, and returns how many were. The notices and
 /// the bytes that the notifier has counted are those from before and those of the pictures that were
 /// committed since, each once, whatever other threads did.
 pub fn deliver(

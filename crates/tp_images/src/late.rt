@@ -11,7 +11,7 @@ use tp_model::types::{Claimed, Outcome};
 use tp_server::OwnServer;
 use tp_workers::ProgramFault;
 
-/// A worker without a server resizes a picture, a notifier tells of it, and a request is cancelled while
+/// A worker without a server resizes a picture, a notifier reports it, and a request is cancelled while
 /// the resizer works on it.
 pub fn work<R: AllocGlobal + Print>(rt: &R) -> Result<(), ProgramFault> {
     let (manager, mut keeper) = Keeper::new(rt.alloc(), LIMITS.with_parts(2))?;

@@ -7,7 +7,7 @@ ghost use Rattle.tp_workers.specs.Gains.{commits_in};
 use tp_manager::{Manager, Pass};
 use tp_model::types::{Claimed, Draft, Outcome};
 
-/// Resizes at most so many pictures of stage 2, and reports how many were. A picture of no bytes fails: its unit is aborted, so
+/// Resizes at most this many pictures of stage 2, and reports how many were. A picture of no bytes fails: its unit is aborted, so
 /// that it waits again until its attempts are used up.
 pub fn resize(manager: &Manager, pass: &mut Pass, turns: u32) -> u32
     requires free { IsFreePass manager.now pass.old }

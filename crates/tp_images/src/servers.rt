@@ -3,7 +3,7 @@
 ghost use Rattle.std.specs.Prelude.{◌≡◌};
 ghost use Rattle.tp_images.specs.Pictures.{notifier, resize, resizer, validated, validator};
 
-use tp_model::types::Element;
+use tp_model::types::{Element, REPLY_STAGE};
 use tp_server::{Declined, Effect, Handler};
 
 /// Lets pictures of the formats 0 to `formats - 1` through: to the resizer of stage 2, or to the notifier
@@ -25,7 +25,7 @@ impl Handler<0> for Validator {
     }
 }
 
-/// What a picture comes to, where the validator knows so many formats.
+/// What a picture comes to, where the validator knows this many formats.
 fn validated(formats: u64, picture: &Element) -> Result<Effect<0>, Declined>
     ensures { result ≡ validated formats picture.now }
 {
@@ -84,6 +84,6 @@ impl Handler<2> for Notifier {
         let Some(bytes) = told[1].checked_add(picture.body[1]) else {
             return Err(Declined::TooLarge);
         };
-        Ok(Effect::new([count, bytes]).output(15, picture.body))
+        Ok(Effect::new([count, bytes]).output(REPLY_STAGE, picture.body))
     }
 }

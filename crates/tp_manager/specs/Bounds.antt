@@ -43,7 +43,7 @@ abort_steps = 1
 abbrev pub birth_steps : ℕ
 birth_steps = 2
 
--- while an element was found taken by units that were aborted since, their words and its claim: for so many
+-- while an element was found taken by units that were aborted since, their words and its claim: for this many
 -- attempts
 abbrev pub retry_steps : ℕ → ℕ
 retry_steps attempts = 2 * attempts
@@ -63,7 +63,7 @@ untaken_left (TakenWord n u r) = MAX_ROUNDS - r
 untaken_left (KilledWord n u r) = 0
 untaken_left (AgainWord r) = MAX_ROUNDS + 1 - r
 
--- the kill of an element whose claim was found, with so many attempts left: for each the unit's word and the
+-- the kill of an element whose claim was found, with this many attempts left: for each the unit's word and the
 -- claim, and the claim where it is found untaken
 abbrev pub slay_from : ℕ → ClaimWord → ℕ
 slay_from left word = retry_steps left + untaken_left word
@@ -100,7 +100,7 @@ take_steps = 1 + body_steps + 1
 abbrev pub collect_steps : ℕ
 collect_steps = birth_steps + take_steps
 
--- the load of the counter of drawn blocks, where there are so many spare blocks
+-- the load of the counter of drawn blocks, where there are this many spare blocks
 abbrev pub drawn_steps : ℕ → ℕ
 drawn_steps zero = 0
 drawn_steps (suc spare) = 1
@@ -109,7 +109,7 @@ drawn_steps (suc spare) = 1
 abbrev pub end_steps : Limits → ℕ
 end_steps l = 1 + slay_steps l + 1
 
--- and at so many
+-- and at this many
 abbrev pub ends_steps : Limits → ℕ → ℕ
 ends_steps l n = n * end_steps l
 
@@ -117,7 +117,7 @@ ends_steps l n = n * end_steps l
 abbrev pub root_steps : ℕ
 root_steps = 1
 
--- in a family of so many elements: that, and those
+-- in a family of this many elements: that, and those
 abbrev pub family_cancel_steps : Limits → ℕ → ℕ
 family_cancel_steps l n = root_steps + ends_steps l n
 
@@ -142,7 +142,7 @@ spare_left l t n = 3 * drawn_steps l.spare + (BLOCK_ROWS * l.spare - n) * t
 abbrev pub listing_steps : Limits → ℕ
 listing_steps l = l.parts * find_steps l + spare_left l (look_steps l) 0
 
--- a walk that looks for replies at so many elements: the claim of each, and the word of the unit that took it
+-- a walk that looks for replies at this many elements: the claim of each, and the word of the unit that took it
 -- or its head
 abbrev pub stride_steps : ℕ
 stride_steps = 2
@@ -150,21 +150,21 @@ stride_steps = 2
 abbrev pub walk_steps : ℕ → ℕ
 walk_steps n = n * stride_steps
 
--- in a family of so many elements: that, and those
+-- in a family of this many elements: that, and those
 abbrev pub family_reply_steps : ℕ → ℕ
 family_reply_steps n = root_steps + walk_steps n
 
 abbrev pub reply_steps : Limits → ℕ
 reply_steps l = family_reply_steps (rows_of l)
 
--- the next element of a family of so many: that, and the look at it
+-- the next element of a family of this many: that, and the look at it
 abbrev pub family_look_steps : Limits → ℕ → ℕ
 family_look_steps l n = family_reply_steps n + read_steps l
 
 abbrev pub family_steps : Limits → ℕ
 family_steps l = family_look_steps l (rows_of l)
 
--- the collection of the next reply in a family of so many: a walk and a collection for each one that another
+-- the collection of the next reply in a family of this many: a walk and a collection for each one that another
 -- was quicker to take, and once more
 abbrev pub one_take_steps : ℕ → ℕ
 one_take_steps n = walk_steps n + collect_steps
@@ -196,14 +196,14 @@ claim_steps l = 1 + (l.parts * part_steps l + spare_left l try_steps 0)
 
 -- a claim of a given element that is born: its claim, the word of the unit that took it, its body, and the
 -- exchange
-abbrev pub given_steps : ℕ
-given_steps = 2 + body_steps + 1
+abbrev pub claim_row_steps : ℕ
+claim_row_steps = 2 + body_steps + 1
 
 -- the choice of a unit, whether the element is born, and those
 abbrev pub claim_id_steps : ℕ
-claim_id_steps = 1 + birth_steps + given_steps
+claim_id_steps = 1 + birth_steps + claim_row_steps
 
--- a pass that remembers marks looks at no row below them. In the first n parts so many rows are
+-- a pass that remembers marks looks at no row below them. In the first n parts this many rows are
 abbrev pub low_sum : List ℕ → ℕ → ℕ
 low_sum lows zero = 0
 low_sum lows (suc n) = low_sum lows n + slice_index lows n
@@ -217,7 +217,7 @@ scan_steps l t k lows (suc n) = scan_steps l t k lows n + (k + (l.rows - slice_i
 abbrev pub marked_steps : Limits → ℕ → List ℕ → ℕ
 marked_steps l t lows = scan_steps l t 3 lows l.parts + spare_left l t (slice_index lows l.parts)
 
--- so many are not below the marks of all parts and of the spare rows
+-- this many are not below the marks of all parts and of the spare rows
 abbrev pub rows_left : Limits → List ℕ → ℕ
 rows_left l lows = rows_of l - low_sum lows (suc l.parts)
 
@@ -229,8 +229,8 @@ abbrev pub listing_steps_left : Limits → List ℕ → ℕ
 listing_steps_left l lows = rows_left l lows * look_steps l + 3 * l.parts + 3 * drawn_steps l.spare
 
 -- a claim in turn goes through the parts, and to the spare blocks, twice, and comes to each row once
-abbrev pub turn_steps : Limits → ℕ → ℕ
-turn_steps l rows = 3 * l.parts + drawn_steps l.spare + rows * try_steps
+abbrev pub circle_steps : Limits → ℕ → ℕ
+circle_steps l rows = 3 * l.parts + drawn_steps l.spare + rows * try_steps
 
 abbrev pub claim_next_steps : Limits → ℕ
 claim_next_steps l = 1 + (6 * l.parts + 2 * drawn_steps l.spare + rows_of l * try_steps)
@@ -263,7 +263,7 @@ together_steps l n = lead_steps n + led_steps * (n - 1) + met_steps * (l.parts -
 abbrev pub gather_steps : Limits → ℕ → ℕ
 gather_steps l n = meet_steps + met_steps * (l.parts - n) + together_steps l n
 
--- of these the first of n passes makes so many, and each one that isn't given out so many
+-- of these the first of n passes makes this many, and each one that isn't given out this many
 abbrev pub gather_first : ℕ → ℕ
 gather_first n = meet_steps + lead_steps n
 
@@ -274,7 +274,7 @@ gather_kept = met_steps + met_steps
 abbrev pub account_steps : Limits → ℕ → ℕ
 account_steps l n = gather_steps l n + rows_of l * look_steps l + together_steps l n
 
--- of these the first makes so many, and each one that isn't given out so many
+-- of these the first makes this many, and each one that isn't given out this many
 abbrev pub first_steps : Limits → ℕ → ℕ
 first_steps l n = gather_first n + rows_of l * look_steps l + lead_steps n
 

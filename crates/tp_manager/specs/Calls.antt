@@ -179,7 +179,7 @@ pub record Takes (l : Limits) (stage : ℕ) (work : Work) (old new : PassShown) 
   pub opens : Opens l stage work old new
   pub first : FoundNoneBelow l stage work.element.id old new
 
--- or the first behind the one of the stage that the pass took last in its turn, and is now that one
+-- or the first after the one of the stage that the pass took last in its turn, and is now that one
 pub record TakesNext (l : Limits) (stage : ℕ) (work : Work) (old new : PassShown) : Type 0 where
   pub opens : Opens l stage work old new
   pub first : FoundNoneBefore l stage (turn_of old stage) work.element.id old new
@@ -269,7 +269,7 @@ pub record IsOfHolder (l : Limits) (c i : ℕ) (from to : List Event) (e : Event
 abbrev pub AreOfHolders : Limits → ℕ → ℕ → List Event → List Event → List Event → Type 0
 AreOfHolders l c i from to aborts = (e : Event) → In e aborts → IsOfHolder l c i from to e
 
--- the pass has aborted so many units that held the element, at most one for each of its attempts in all
+-- the pass has aborted this many units that held the element, at most one for each of its attempts in all
 -- rounds, and then killed it
 pub record Kills (l : Limits) (id count : ℕ) (old new : PassShown) : Type 0 where
   pub aborts : List Event

@@ -40,9 +40,9 @@ abbrev pub one_kill : Event → ℕ
 one_kill (Kill c i) = 1
 one_kill other = 0
 
-abbrev pub kills_in : List Event → ℕ
-kills_in [] = 0
-kills_in (e ∷ h) = one_kill e + kills_in h
+abbrev pub kills_among : List Event → ℕ
+kills_among [] = 0
+kills_among (e ∷ h) = one_kill e + kills_among h
 
 -- element i was left alone; or it is one that a cancel ends, and pass c aborted units that held it, and then
 -- killed it or did not
@@ -56,13 +56,13 @@ AreInTurn l c root from to [] es = es ≡ []
 AreInTurn l c root from to (i ∷ ids) es = (own : List Event) × (rest : List Event) × (es ≡ own ++ rest)
     × IsDoneAt l c root from to i own × AreInTurn l c root from to ids rest
 
--- the pass has made these events, among them so many Kills; the root is a client's element, and its family is
+-- the pass has made these events, among them this many Kills; the root is a client's element, and its family is
 -- settled: of it nothing is claimed or committed any more, and nothing is born. It was at one element after
 -- the other, in the order of a walk through the whole family: always the least id that the walk had come to
 -- and not gone on from
 pub record Cancels (l : Limits) (root killed : ℕ) (old new : PassShown) : Type 0 where
   pub events : List Event
-  pub counted : kills_in events ≡ killed
+  pub counted : kills_among events ≡ killed
   pub own : AreOfCancel l old.number root old.seen new.seen events
   pub mine : new.mine ≡ old.mine ++ events
   pub open_unit : new.open_unit ≡ old.open_unit

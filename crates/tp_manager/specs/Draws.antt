@@ -8,7 +8,7 @@ use Rattle.tp_manager.specs.declared.manager.Run.{Run}
 use Rattle.tp_manager.specs.Bounds.{draw_steps, room_steps}
 use Rattle.tp_manager.specs.Calls.{FindsNoBlock, Follows}
 use Rattle.tp_manager.specs.Shown.{PassShown}
-use Rattle.tp_manager.specs.Walks.{Drew}
+use Rattle.tp_manager.specs.Drafts.{Drew}
 
 -- in at most n steps a spare block is drawn, and it is the run
 abbrev pub Drawn : Limits → ℕ → View → View → Run → Type 0
@@ -25,7 +25,7 @@ on_block b old new = record old {
   seen_blocks = new.seen_blocks;
 }
 
--- the pass has rows for so many: they were left to it, or it has drawn a block
+-- the pass has rows for this many: they were left to it, or it has drawn a block
 abbrev pub HasRoom : Limits → ℕ → PassShown → PassShown → Type 0
 HasRoom l rows old new = ((rows ≤ old.left) × (new ≡ old))
     ⊎ ((old.left < rows) × (b : ℕ) × (new ≡ on_block b old new)

@@ -16,7 +16,7 @@ use Rattle.tp_manager.specs.declared.cancelling.Ended.{Ended}
 use Rattle.tp_manager.specs.declared.cancelling.Ended.TheVariants.{Killed, Outputs, Before}
 use Rattle.tp_manager.specs.Cancels.{AreInTurn, AreOfCancel, IsDoneAt}
 use Rattle.tp_manager.specs.Families.{Reached, Tree}
-use Rattle.tp_manager.specs.Walks.{Gained}
+use Rattle.tp_manager.specs.CallSteps.{Gained}
 
 -- the elements that they kill, one after another
 abbrev pub one_killed : Event → List ℕ

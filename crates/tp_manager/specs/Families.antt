@@ -18,7 +18,7 @@ use Rattle.tp_manager.specs.Calls.{IsWaiting}
 use Rattle.tp_manager.specs.Kills.{Slain}
 use Rattle.tp_manager.specs.Lists.{HasReply, IsReply}
 use Rattle.tp_manager.specs.Requeues.{IsBetween}
-use Rattle.tp_manager.specs.Walks.{Looked}
+use Rattle.tp_manager.specs.CallSteps.{Looked}
 
 -- how many numbers below n pass a test
 abbrev pub count_below : (ℕ → Bool) → ℕ → ℕ

@@ -8,7 +8,7 @@ use Rattle.tp_model.specs.declared.event.Event.{Event}
 use Rattle.tp_model.specs.History.{element_of, status_of}
 use Rattle.tp_rule.specs.declared.view.View.{View}
 use Rattle.tp_model.specs.Steps.{IsParked}
-use Rattle.tp_manager.specs.Walks.{EachRow, Sought}
+use Rattle.tp_manager.specs.Scans.{EachRow, Sought}
 
 -- the element of row i is parked
 abbrev pub Hits : Limits → ℕ → List Event → Type 0

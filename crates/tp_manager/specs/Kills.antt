@@ -14,7 +14,7 @@ use Rattle.tp_rule.specs.Steps.{AllowsKill}
 use Rattle.tp_rule.specs.Views.{hand}
 use Rattle.tp_rule.specs.declared.view.View.{View}
 use Rattle.tp_manager.specs.Calls.{AreOfHolders}
-use Rattle.tp_manager.specs.Walks.{Gained}
+use Rattle.tp_manager.specs.CallSteps.{Gained}
 
 -- in at most n steps the pass has made the events es, all of them Aborts of units that held the element
 pub record Freed (l : Limits) (n i : ℕ) (es : List Event) (v w : View) : Type 0 where
@@ -42,13 +42,13 @@ takers (TakenWord n u r) = 1
 takers other = 0
 
 -- the element may be killed, whose claim word is this one: the unit that had taken it is aborted, in one step
--- and by so many own Aborts, none or one
+-- and by this many own Aborts, none or one
 abbrev pub Loosened : Limits → ℕ → ClaimWord → ℕ → View → View → Type 0
 Loosened l i word count v w = (es : List Event) × (length es ≡ count) × (count ≤ takers word)
     × Freed l (takers word) i es v w
     × AllowsKill l w.seen word
 
--- the element was killed, in at most n steps, after so many own Aborts, at most `left`
+-- the element was killed, in at most n steps, after this many own Aborts, at most `left`
 abbrev pub KillsIn : Limits → ℕ → ℕ → ℕ → ℕ → View → View → Type 0
 KillsIn l n i left count v w = (es : List Event) × (length es ≡ count) × (count ≤ left) × Slain l n i es v w
 

@@ -3,7 +3,11 @@ pub mod Bounds
 pub mod Calls
 pub mod Upward
 pub mod Raises
-pub mod Walks
+pub mod CallSteps
+pub mod BetweenCalls
+pub mod Marks
+pub mod Scans
+pub mod Drafts
 pub mod Looks
 pub mod Kills
 pub mod Requeues

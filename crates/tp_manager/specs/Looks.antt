@@ -1,4 +1,4 @@
--- What the words of a row tell.
+-- What the words of a row say.
 use Rattle.std.specs.Prelude.{◌≡◌, ℕ, ◌+◌, ◌*◌, ◌<◌, ◌≤◌, List, Some}
 use Rattle.tp_model.specs.declared.types.Element.{Element}
 use Rattle.tp_model.specs.declared.types.Limits.{Limits}
@@ -21,14 +21,14 @@ use Rattle.tp_manager.specs.declared.row_reads.Birth.{Birth}
 use Rattle.tp_manager.specs.declared.row_reads.Contents.{Contents}
 use Rattle.tp_manager.specs.declared.row_reads.Contents.TheVariants.{Holds, DeadDraft, Nothing}
 
--- what the head tells that the pass found in row i: it is that of the born element, or empty or naming a unit
+-- what the head says that the pass found in row i: it is that of the born element, or empty or naming a unit
 -- where none is born; and the pass remembers it
 pub record HeadFound (v : View) (i : ℕ) (head : Head) : Type 0 where
   pub born : (e : Element) → element_of v.seen i ≡ Some e → head ≡ head_of e
   pub draft : IsUnborn v.seen i → IsDraft head
   pub knows : Knows v (RowHead i head)
 
--- a scan goes on from row i to the row `next`, which is behind it, and at most the first one behind its part
+-- a scan goes on from row i to the row `next`, which is after it, and at most the first one after its part
 -- or spare block
 pub record GoesOn (l : Limits) (i next : ℕ) : Type 0 where
   pub on : i < next
@@ -45,8 +45,8 @@ Contains v i head (Holds birth) = IsBornAs v.seen i birth × (head ≡ Filled bi
 Contains v i head DeadDraft = IsUnborn v.seen i × HasDead v i
 Contains v i head Nothing = IsUnborn v.seen i
 
--- the element of row i, whose claim word was found in history a to be w, stands so in history b: where that
--- claim still stands the next attempt may begin; or it is consumed or killed; or there is a history from a to
+-- the element of row i, whose claim word was found in history a to be w, has this status in history b: where that
+-- claim is still there the next attempt may begin; or it is consumed or killed; or there is a history from a to
 -- b in which it doesn't wait
 abbrev pub HasStand : Limits → ℕ → List Event → List Event → ClaimWord → Stand → Type 0
 HasStand l i a b w (Ready n) = AllowsClaim l b w (n + 1) × (n < l.attempts)
@@ -54,7 +54,7 @@ HasStand l i a b w Over = IsSettled (status_of l.attempts b i)
 HasStand l i a b w Busy = (p : List Event) × IsPrefix a p × IsPrefix p b
     × ¬ IsWaiting (status_of l.attempts p i)
 
--- there are at most so many attempts from this claim on, in all rounds; those of the rounds before it are
+-- there are at most this many attempts from this claim on, in all rounds; those of the rounds before it are
 -- over
 abbrev pub IsEnough : Limits → ℕ → ClaimWord → Type 0
 IsEnough l left FreeWord = tries l.attempts ≤ left

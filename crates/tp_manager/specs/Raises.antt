@@ -25,12 +25,12 @@ abbrev pub RestsInPart : Limits → ℕ → ℕ → PassShown → PassShown → 
 RestsInPart l stage p old new = (low_of new stage p ≡ l.rows)
     ⊎ AtPoint old new (IsOfUse l stage (p * l.rows + low_of new stage p))
 
--- that of the spare rows is behind the blocks that the pass saw drawn, or its row may have been of use
+-- that of the spare rows is after the blocks that the pass saw drawn, or its row may have been of use
 abbrev pub RestsInBlocks : Limits → ℕ → PassShown → PassShown → Type 0
 RestsInBlocks l stage old new = (BLOCK_ROWS * new.seen_blocks ≤ low_of new stage l.parts)
     ⊎ AtPoint old new (IsOfUse l stage (part_rows l + low_of new stage l.parts))
 
--- the claim came to row i: it found nothing, or took an element of that row or of one behind it
+-- the claim came to row i: it found nothing, or took an element of that row or of one after it
 abbrev pub ComesTo : ℕ → Claimed → Type 0
 ComesTo i claimeds.NoUnit = ⊥
 ComesTo i claimeds.Idle = Unit {0}
@@ -45,8 +45,8 @@ pub record RaisesMarks (l : Limits) (stage : ℕ) (old new : PassShown) (claimed
 abbrev pub WereUseless : Limits → ℕ → ℕ → ℕ → PassShown → PassShown → Type 0
 WereUseless l stage first end old new = (i : ℕ) → first ≤ i → i < end → ¬ AtPoint old new (IsOfUse l stage i)
 
--- the first rows of each part, so many as `ns` has at its place, were of no use during a claim that came to
--- the part; and so many of the spare rows, for which it has the next number
+-- the first rows of each part, this many as `ns` has at its place, were of no use during a claim that came to
+-- the part; and this many of the spare rows, for which it has the next number
 pub record CountsUseless (l : Limits) (stage : ℕ) (ns : List ℕ) (claimed : Claimed)
     (old new : PassShown) : Type 0 where
   pub parts : (p : ℕ) → p < l.parts → 0 < slice_index ns p

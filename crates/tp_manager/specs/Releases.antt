@@ -18,7 +18,7 @@ use Rattle.tp_rule.specs.declared.view.View.{View}
 use Rattle.tp_manager.specs.Shown.{PassShown}
 use Rattle.tp_manager.specs.Calls.{Adds, AtPoint, HasStatus, IsQuiet, KeepsRun}
 use Rattle.tp_manager.specs.Requeues.{IsBetween}
-use Rattle.tp_manager.specs.Walks.{Gained}
+use Rattle.tp_manager.specs.CallSteps.{Gained}
 
 -- the pass has aborted this unit, which held the element in this attempt, and has done nothing else
 pub record Releases (l : Limits) (id unit attempt : ℕ) (old new : PassShown) : Type 0 where

@@ -18,7 +18,7 @@ use Rattle.tp_rule.specs.Views.{hand}
 use Rattle.tp_rule.specs.declared.view.View.{View}
 use Rattle.tp_manager.specs.Calls.{Adds, AtPoint, IsQuiet, KeepsRun}
 use Rattle.tp_manager.specs.Shown.{PassShown}
-use Rattle.tp_manager.specs.Walks.{Walked, with_trace}
+use Rattle.tp_manager.specs.CallSteps.{Stepped, with_trace}
 
 -- the pass has given the element this round, and has done nothing else
 pub record Requeues (id round : ℕ) (old new : PassShown) : Type 0 where
@@ -44,7 +44,7 @@ RequeueFails l id old new refusals.NotParked = IsQuiet old new × AtPoint old ne
 RequeueFails l id old new refusals.NoRound = IsQuiet old new × AtPoint old new (HasNoRound l id)
 RequeueFails l id old new other = ⊥
 
--- an element with this id is born, and was given so many further rounds
+-- an element with this id is born, and was given this many further rounds
 abbrev pub HasHadRounds : ℕ → ℕ → List Event → Type 0
 HasHadRounds id n h = ((x : Element) × (element_of h id ≡ Some x)) × (rounds h id ≡ n)
 
@@ -54,7 +54,7 @@ pub record Renewed (l : Limits) (n i round : ℕ) (v w : View) : Type 0 where
   pub low : 1 ≤ round
   pub high : round ≤ MAX_ROUNDS
   pub marks : List TraceEntry
-  pub walk : Walked l n marks v w
+  pub walk : Stepped l n marks v w
   pub kept : hand w ≡ with_trace (hand w).trace (with_event (Requeue (hand v).number i round) (hand v))
   pub before : List Event
   pub begins : IsPrefix v.seen before

@@ -26,7 +26,7 @@ pub record KeeperShown : Type 0 where
 
 -- a pass shows these, what the definitions say that a pass shows, the marks of each kind and part as it last
 -- loaded or set them, or would have set them had not another pass raised them, how many spare blocks are
--- drawn by what it loaded, and for each stage the row behind the element that it took last in its turn
+-- drawn by what it loaded, and for each stage the row after the element that it took last in its turn
 -- (`claim_next`), 0 before
 pub record PassShown : Type 0 where
   pub table : TableId

@@ -22,7 +22,9 @@ use Rattle.tp_rule.specs.declared.view.View.{View}
 use Rattle.tp_manager.specs.Accounts.{AreNumberedFrom, Attends}
 use Rattle.tp_manager.specs.Bounds.{first_steps, kept_steps, led_steps, lead_steps}
 use Rattle.tp_manager.specs.Shown.{PassShown, steps_in}
-use Rattle.tp_manager.specs.Walks.{Acted, IsKnown, RemembersDrawn, untraced}
+use Rattle.tp_manager.specs.CallSteps.{Acted, IsKnown}
+use Rattle.tp_manager.specs.BetweenCalls.{RemembersDrawn, untraced}
+use Rattle.tp_model.specs.declared.types.TheConstants.{STAGES}
 
 -- the pass is of this table
 pub record IsAt (table : TableId) (l : Limits) (p : PassShown) : Type 0 where
@@ -61,7 +63,7 @@ pub record AreAllPasses (l : Limits) (v v' : View) (passes : List PassShown) : T
   pub passes_are : AreNumberedFrom 1 passes
   pub others : untraced v'.hands ≡ fresh_from l (length passes + 1) (l.parts - (length passes + 1))
 
--- the passes of a seat, however many, have looked so many times, and have done nothing else
+-- the passes of a seat, however many, have looked this many times, and have done nothing else
 pub record HasLookedOn (l : Limits) (n : ℕ) (h : List Event) (v w : View) : Type 0 where
   pub seen : w.seen ≡ h
   pub limits : w.limits ≡ l
@@ -130,13 +132,13 @@ HaveFound n (p ∷ ps) = (p.seen_blocks ≡ n) × HaveFound n ps
 pub record IsWithin (n : ℕ) (account : Account) : Type 0 where
   pub total : all_in account.total ≤ n
   pub stages : All (λ c. all_in c ≤ n) account.stages
-  pub wide : length account.stages ≡ 15
+  pub wide : length account.stages ≡ STAGES
 
 -- no element of a kind is counted
 abbrev pub no_counts : Counts
 no_counts = record { waiting = 0; held = 0; consumed = 0; parked = 0; killed = 0 }
 
--- the account with one more element of this stage, which stands so
+-- the account with one more element of this stage and status
 abbrev pub with_one : ℕ → Status → Account → Account
 with_one stage status a = record {
   total = one_more status a.total;

@@ -29,7 +29,7 @@ abbrev pub HasTurn : Limits → Element → Taking → Type 0
 HasTurn l y t = (y.id ≡ t.work.element.id)
     ⊎ AtPoint t.old t.new (λ h. ¬ IsWaiting (status_of l.attempts h y.id))
 
--- where a pass takes an element in turn, and takes it in turn again behind the claims ts, each other element
+-- where a pass takes an element in turn, and takes it in turn again after the claims ts, each other element
 -- of the stage that was born by then has its turn in a claim of the stage between the two, or in the second
 abbrev pub EachHasItsTurn : Limits → Type 0
 EachHasItsTurn l =

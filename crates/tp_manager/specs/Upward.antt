@@ -8,7 +8,7 @@ use Rattle.tp_model.specs.Passes.{IsPassView}
 use Rattle.tp_manager.specs.Calls.{AtPoint, IsWaiting, Takes, UsesRows, opening}
 use Rattle.tp_manager.specs.Shown.{PassShown, view_in}
 
--- the k rows from `first` on lie above all that the pass had used, and it uses those behind them next
+-- the k rows from `first` on lie above all that the pass had used, and it uses those after them next
 pub record GoesUp (k first : ℕ) (old new : PassShown) : Type 0 where
   pub above : old.next ≤ first
   pub next : new.next ≡ first + k

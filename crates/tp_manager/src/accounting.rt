@@ -14,12 +14,13 @@ ghost use Rattle.tp_manager.specs.Together.{IsAt, LooksOn, LooksWith, AreAllPass
 ghost use Rattle.tp_manager.specs.Together.{AreLots, FoundDrawn, HaveFound, lots};
 ghost use Rattle.tp_manager.specs.Together.{IsWithin, HasCounted, account_below, with_one};
 ghost use Rattle.tp_manager.specs.Looks.{GoesOn};
-ghost use Rattle.tp_manager.specs.Walks.{Acted, Looked, RemembersDrawn, Steady};
+ghost use Rattle.tp_manager.specs.CallSteps.{Acted, Looked, Steady};
+ghost use Rattle.tp_manager.specs.BetweenCalls.{RemembersDrawn};
 ghost use Rattle.tp_rule.specs.Steps.{Knows};
 ghost use Rattle.tp_rule.specs.declared.view.Known.TheVariants.{BlocksDrawn};
 
 use crate::manager::{Keeper, Manager, Pass, Shared};
-use tp_model::types::{Account, Counts, Status};
+use tp_model::types::{Account, Counts, STAGES, Status};
 use tp_rule::Seat;
 
 /// The account of no element.
@@ -36,11 +37,11 @@ fn no_account() -> Account
     };
     Account {
         total: none,
-        stages: [none; 15],
+        stages: [none; STAGES],
     }
 }
 
-/// These counts with one more element, which stands so.
+/// These counts with one more element of this status.
 fn counts_with(counts: Counts, status: Status) -> Counts
     requires few { all_in counts ≤ max_rows }
     ensures { result ≡ one_more status counts }
@@ -59,7 +60,7 @@ fn counts_with(counts: Counts, status: Status) -> Counts
     counts
 }
 
-/// Counts one more element of this stage, which stands so.
+/// Counts one more element of this stage and status.
 fn count_one(account: &mut Account, stage: u8, status: Status)
     requires stage { IsStage stage }
     requires few { IsWithin max_rows account.old }

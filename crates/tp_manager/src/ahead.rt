@@ -7,9 +7,9 @@ use crate::row_set::RowSet;
 
 /// The rows that a walk has come to and not gone on from, beside a set of rows that belongs to the pass.
 ///
-/// The outputs of a unit are a run of rows, so in a small family two runs are enough: the rows from `next` on
-/// and before `end`, and after these the ones from `far` on and before `far_end`. Where they aren't, all rows
-/// go into the set.
+/// The outputs of a unit are a run of rows, so in a small family two runs are enough. They are the rows from
+/// `next` on and before `end`, and after these the ones from `far` on and before `far_end`. Where they
+/// aren't, all rows go into the set.
 #[derive(Clone, Copy, Debug, PartialEq, Eq)]
 pub(crate) struct Ahead {
     next: u32,

@@ -1,7 +1,7 @@
 //! The cancel of a whole request.
 //!
-//! A walk through the family, from the root on: at each element that it comes to, it kills what is no reply,
-//! and goes on to the outputs of the unit that consumed it, if one did. Nothing is born behind it: see
+//! A walk through the family, from the root on. Of each element that it comes to it kills what is no reply.
+//! It goes on to the outputs of the unit that consumed it, if one did. Nothing is born after it: see
 //! docs/CANCEL.md.
 ghost use Rattle.std.specs.Prelude.{◌≡◌, ◌<◌, ℕ, [], length, MatchResult, None};
 ghost use Rattle.tp_model.specs.declared.types.Status.TheVariants.{Consumed};
@@ -18,7 +18,7 @@ ghost use Rattle.tp_manager.specs.Cancels.{Cancels, CancelFails};
 ghost use Rattle.tp_manager.specs.Endings.{killed_there, CancelsIn, EndsAt, IsEnded};
 ghost use Rattle.tp_manager.specs.Kills.{IsPastKill};
 ghost use Rattle.tp_manager.specs.RowSets.{IsEmpty};
-ghost use Rattle.tp_manager.specs.Walks.{Looked, Steady};
+ghost use Rattle.tp_manager.specs.CallSteps.{Looked, Steady};
 
 use crate::ahead::Ahead;
 use crate::manager::{Manager, Pass, Shared};
@@ -33,7 +33,7 @@ use tp_words::UnitWord;
 pub(crate) enum Ended {
     /// The cancel has killed it.
     Killed,
-    /// A unit had consumed it, and has made so many elements, with the ids from `first` on.
+    /// A unit had consumed it, and has made this many elements, with the ids from `first` on.
     Outputs { first: u16, count: u8 },
     /// It is a reply, or was killed before.
     Before,
@@ -57,7 +57,7 @@ impl Shared {
         }
     }
 
-    /// What stands where a kill of the row's element was refused. At most one step.
+    /// What is the case where a kill of the row's element was refused. At most one step.
     fn left_by(&self, seat: &mut Seat, row: u32, refusal: Refusal) -> Ended
         requires own { IsSeatOf self.now.words seat.old }
         requires steady { Steady (table_limits self.now.words) (view_of seat.old) }
@@ -127,9 +127,9 @@ impl Shared {
 }
 
 impl Manager {
-    /// Cancels the request of a client whose element has this id: kills each element of its family that is no
-    /// reply and not consumed, and aborts the units of work that hold them on the way. When it returns, each
-    /// of them is consumed or killed, and none is born, claimed or committed any more. Replies are left
+    /// Cancels the request of a client whose element has this id. It kills each element of its family that is
+    /// no reply and not consumed, and aborts the units of work that hold them on the way. When it returns,
+    /// each of them is consumed or killed, and none is born, claimed or committed any more. Replies are left
     /// alone. The pass has no unit open.
     ///
     /// It goes from the root to the outputs of the unit that consumed it, and on, always from the least id

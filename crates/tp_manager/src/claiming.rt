@@ -58,10 +58,10 @@ impl Manager {
     }
 }
 
-/// Of two claims of a stage by one pass, the second looks at none of the first rows of a part, or of the
-/// spare blocks, that the first came to and that were of no use to the stage meanwhile. So it costs what the
-/// rows that are left cost, and at most three steps a part. The function does nothing: its contract is the
-/// law.
+/// Of two claims of a stage by one pass, the second doesn't look again at first rows of a part, or of the
+/// spare blocks, which the first came to. This is so of rows that were of no use to the stage meanwhile. So
+/// it costs what the rows that are left cost, and at most three steps a part. The function does nothing: its
+/// contract is the law.
 pub fn few_again()
     ensures few { (l : Limits) (stage : ℕ) → FewAgain l stage }
 {}

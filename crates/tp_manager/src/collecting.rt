@@ -12,7 +12,7 @@ ghost use Rattle.tp_manager.specs.Bounds.{collect_steps, take_steps};
 ghost use Rattle.tp_manager.specs.Calls.{Follows, HasLooked};
 ghost use Rattle.tp_manager.specs.Kills.{Slain};
 ghost use Rattle.tp_manager.specs.Looks.{IsBornAs};
-ghost use Rattle.tp_manager.specs.Walks.{Steady, Looked};
+ghost use Rattle.tp_manager.specs.CallSteps.{Steady, Looked};
 ghost use Rattle.tp_manager.specs.Releases.{Collects, CollectFails, IsPastCollect};
 
 use crate::manager::{Manager, Pass, Shared};

@@ -5,7 +5,8 @@ ghost use Rattle.tp_model.specs.Births.{IsWhole, outputs};
 ghost use Rattle.tp_model.specs.Steps.{rows_of};
 ghost use Rattle.tp_rule.specs.Views.{hand_of, next_row, view_of, IsNextRow, IsSameSeat};
 ghost use Rattle.tp_rule.specs.Tables.{table_limits, IsSeatOf};
-ghost use Rattle.tp_manager.specs.Walks.{output, IsBlank, Steady, Wrote};
+ghost use Rattle.tp_manager.specs.CallSteps.{IsBlank, Steady};
+ghost use Rattle.tp_manager.specs.Drafts.{output, Wrote};
 
 use crate::manager::Shared;
 use tp_model::types::Draft;

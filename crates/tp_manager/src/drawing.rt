@@ -1,4 +1,5 @@
 //! Rows from the spare blocks.
+ghost use Rattle.tp_model.specs.declared.types.TheConstants.{BLOCK_ROWS};
 ghost use Rattle.std.specs.Prelude.{◌≡◌, ◌+◌, ◌-◌, ◌<◌, ◌≤◌, [], true, false};
 ghost use Rattle.tp_rule.specs.Views.{hand_of, view_of, IsSameSeat};
 ghost use Rattle.tp_rule.specs.Tables.{table_limits, IsSeatOf};
@@ -6,7 +7,8 @@ ghost use Rattle.tp_manager.specs.Shown.{IsOf};
 ghost use Rattle.tp_manager.specs.Draws.{Drawn, HasRoom, NoRoom};
 ghost use Rattle.tp_manager.specs.Bounds.{draw_steps};
 ghost use Rattle.tp_manager.specs.Spares.{AreHeaded, AreLeft};
-ghost use Rattle.tp_manager.specs.Walks.{RemembersDrawn, Steady, Tried};
+ghost use Rattle.tp_manager.specs.CallSteps.{Steady, Tried};
+ghost use Rattle.tp_manager.specs.BetweenCalls.{RemembersDrawn};
 ghost use Rattle.tp_model.specs.declared.types.Limits.{Limits};
 ghost use Rattle.tp_manager.specs.Upward.{IdsGoUp};
 
@@ -50,7 +52,7 @@ impl Shared {
         false
     }
 
-    /// Marks so many rows from this one on, that the pass has left behind, as rows that are never used. A step for
+    /// Marks this many rows from this one on, that the pass has left behind, as rows that are never used. A step for
     /// each.
     fn void_rows(&self, seat: &mut Seat, first: u32, count: u16)
         requires own { IsSeatOf self.now.words seat.old }
@@ -95,11 +97,11 @@ impl Shared {
 }
 
 impl Manager {
-    /// Whether the pass has so many rows left, at most 8: if need be it draws a spare block, and leaves no empty row
-    /// behind.
+    /// Whether the pass has this many rows left, at most 8: if need be it draws a spare block, and leaves no empty row
+    /// after.
     pub(crate) fn has_room(&self, pass: &mut Pass, rows: u16) -> bool
         requires own { IsOf self.now pass.old }
-        requires few { rows ≤ 8 }
+        requires few { rows ≤ BLOCK_ROWS }
         ensures own { IsOf self.now pass.new }
         ensures turn { pass.new.from ≡ pass.old.from }
         ensures yes { result ≡ true → HasRoom self.now.limits rows pass.old pass.new }

@@ -1,4 +1,5 @@
 //! The end of a server's unit of work.
+ghost use Rattle.tp_model.specs.declared.types.TheConstants.{MAX_OUTPUTS};
 ghost use Rattle.std.specs.Prelude.{◌≡◌, ◌≤◌, None, IfSome, IsSome, length};
 ghost use Rattle.tp_manager.specs.Shown.{IsOf};
 ghost use Rattle.tp_manager.specs.Bounds.{abort_steps, close_steps, commit_steps};
@@ -42,7 +43,7 @@ impl Manager {
     fn close(&self, pass: &mut Pass, drafts: &[Draft]) -> Outcome
         requires own { IsOf self.now pass.old }
         requires busy { IsSome pass.old.open_unit }
-        requires few { length drafts.now ≤ 4 }
+        requires few { length drafts.now ≤ MAX_OUTPUTS }
         requires room { length drafts.now ≤ pass.old.left }
         ensures own { IsOf self.now pass.new }
         ensures turn { pass.new.from ≡ pass.old.from }
@@ -77,15 +78,15 @@ impl Manager {
         }
     }
 
-    /// Commits the open unit of work with at most four drafts: in one step its element is consumed and the
-    /// drafts are born, with ids one after another: in the next rows of the pass, or of a spare block that it
-    /// draws where too few are left to it. `Full` where all blocks are drawn: the unit is aborted, and no row
-    /// is used. `Lost` where another caller had aborted the unit: the rows of the drafts are used up.
-    /// Whatever the answer, the pass has no unit open any more.
+    /// Commits the open unit of work with at most four drafts. In one step its element is consumed and the
+    /// drafts are born, with ids one after another. They are in the next rows of the pass, or of a spare
+    /// block that it draws where too few are left to it. `Full` where all blocks are drawn: the unit is
+    /// aborted, and no row is used. `Lost` where another caller had aborted the unit: the rows of the drafts
+    /// are used up. Whatever the answer, the pass has no unit open any more.
     pub fn commit(&self, pass: &mut Pass, drafts: &[Draft]) -> Outcome
         requires own { IsOf self.now pass.old }
         requires busy { IsSome pass.old.open_unit }
-        requires few { length drafts.now ≤ 4 }
+        requires few { length drafts.now ≤ MAX_OUTPUTS }
         ensures own { IsOf self.now pass.new }
         ensures turn { pass.new.from ≡ pass.old.from }
         ensures follows { Follows (commit_steps self.now.limits (length drafts.now)) pass.old pass.new }

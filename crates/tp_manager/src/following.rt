@@ -1,4 +1,4 @@
-//! The next element of a request, wherever it stands.
+//! The next element of a request, in whatever stage it is.
 ghost use Rattle.std.specs.Prelude.{◌≡◌, ◌<◌, ◌≤◌, length, MatchOption};
 ghost use Rattle.tp_model.specs.Families.{family};
 ghost use Rattle.tp_model.specs.Steps.{rows_of};
@@ -9,14 +9,14 @@ ghost use Rattle.tp_manager.specs.Shown.{IsOf};
 ghost use Rattle.tp_manager.specs.Bounds.{family_look_steps, family_steps, read_steps};
 ghost use Rattle.tp_manager.specs.Calls.{Follows, HasLooked, IsLook, IsQuiet};
 ghost use Rattle.tp_manager.specs.Lists.{NextOfFamily, NoneOfFamily};
-ghost use Rattle.tp_manager.specs.Walks.{Looked, Steady};
+ghost use Rattle.tp_manager.specs.CallSteps.{Looked, Steady};
 
 use crate::manager::{Manager, Pass, Shared};
 use tp_model::types::Look;
 use tp_rule::Seat;
 
 impl Shared {
-    /// The element that is born in the row, and how it stands.
+    /// The element that is born in the row, and its status.
     fn look_at(&self, seat: &mut Seat, row: u32) -> Look
         requires own { IsSeatOf self.now.words seat.old }
         requires steady { Steady (table_limits self.now.words) (view_of seat.old) }
@@ -37,7 +37,7 @@ impl Shared {
 }
 
 impl Manager {
-    /// The element of the request with this root that has the least id from this one on, and how it stands:
+    /// The element of the request with this root that has the least id from this one on, and its status:
     /// so where an order is. `None` where there is none.
     pub fn family(&self, pass: &mut Pass, root: u32, from: u32) -> Option<Look>
         requires own { IsOf self.now pass.old }

@@ -5,12 +5,13 @@ ghost use Rattle.tp_model.specs.Steps.{AreLimits, IsServerStage, rows_of};
 ghost use Rattle.tp_rule.specs.Views.{seen_by, view_of, IsSameSeat};
 ghost use Rattle.tp_rule.specs.Tables.{table_limits, IsSeatOf};
 ghost use Rattle.tp_manager.specs.Shown.{IsOf};
-ghost use Rattle.tp_manager.specs.Bounds.{claim_id_steps, given_steps};
+ghost use Rattle.tp_manager.specs.Bounds.{claim_id_steps, claim_row_steps};
 ghost use Rattle.tp_manager.specs.Calls.{claims_in, Follows, HasLooked, IsWaiting};
 ghost use Rattle.tp_manager.specs.Given.{ClaimIdFails, TakesId};
 ghost use Rattle.tp_manager.specs.Looks.{IsBornAs};
 ghost use Rattle.tp_manager.specs.Requeues.{IsBetween};
-ghost use Rattle.tp_manager.specs.Walks.{IsSpare, Looked, Steady, Took};
+ghost use Rattle.tp_manager.specs.CallSteps.{Looked, Steady};
+ghost use Rattle.tp_manager.specs.Scans.{IsSpare, Took};
 
 use crate::manager::{Manager, Pass, Shared, Task};
 use crate::row_reads::Birth;
@@ -29,7 +30,7 @@ impl Shared {
         requires stage { IsServerStage birth.stage }
         requires spare { IsSpare unit (view_of seat.old) × (unit < 65535) }
         ensures same { IsSameSeat seat.old seat.new }
-        ensures told { let l = table_limits self.now.words in let n = given_steps in MatchOption result
+        ensures told { let l = table_limits self.now.words in let n = claim_row_steps in MatchOption result
             (Looked l n (view_of seat.old) (view_of seat.new)
             × IsBetween (seen_by seat.old) (seen_by seat.new) (λ h. ¬ IsWaiting (status_of l.attempts h row)))
             (λ t. Took l n row t.element.stage unit (view_of seat.old) (view_of seat.new) t.element t.attempt

@@ -8,7 +8,7 @@ ghost use Rattle.tp_rule.specs.Views.{hand_of, seen_by, view_of, IsSameSeat};
 ghost use Rattle.tp_rule.specs.Tables.{table_limits, IsSeatOf};
 ghost use Rattle.tp_manager.specs.Shown.{IsOf};
 ghost use Rattle.tp_manager.specs.Calls.{Follows, HasLooked, Kills, KillFails};
-ghost use Rattle.tp_manager.specs.Walks.{Steady, Looked};
+ghost use Rattle.tp_manager.specs.CallSteps.{Steady, Looked};
 ghost use Rattle.tp_manager.specs.Bounds.{kill_steps, slay_from, slay_steps};
 ghost use Rattle.tp_manager.specs.Looks.{IsEnough};
 ghost use Rattle.tp_manager.specs.Kills.{takers, IsPastKill, Loosened, KillsIn, FailsIn};
@@ -80,7 +80,7 @@ impl Shared {
         }
     }
 
-    /// Kills the element of the row, whose claim was just found; there are at most so many attempts from it
+    /// Kills the element of the row, whose claim was just found; there are at most this many attempts from it
     /// on. How many units it aborted. At most two steps for each attempt, and one for each round in which the
     /// element is found untaken.
     #[cycle(kill)]

@@ -16,12 +16,16 @@ ghost use Rattle.tp_manager.specs.Bounds.{scan_steps, spare_left};
 ghost use Rattle.tp_manager.specs.Calls.{Follows, HasLooked, IsQuiet};
 ghost use Rattle.tp_manager.specs.Lists.{NoneParked, NextError};
 ghost use Rattle.tp_manager.specs.Looks.{GoesOn};
-ghost use Rattle.tp_manager.specs.Walks.{Acted, Begun, EachRow, Remembers, RemembersDrawn, RisesAt, Rose};
-ghost use Rattle.tp_manager.specs.Walks.{Sought, Steady};
+ghost use Rattle.tp_manager.specs.CallSteps.{Acted};
+ghost use Rattle.tp_manager.specs.BetweenCalls.{RemembersDrawn};
+ghost use Rattle.tp_manager.specs.Marks.{Remembers, RisesAt, Rose};
+ghost use Rattle.tp_manager.specs.Scans.{Begun, EachRow};
+ghost use Rattle.tp_manager.specs.CallSteps.{Steady};
+ghost use Rattle.tp_manager.specs.Scans.{Sought};
 ghost use Rattle.tp_manager.specs.Finds.{Finds, Hits, PassedOver};
 
 use crate::manager::{Manager, Pass, Shared};
-use crate::marking::{low_after, past, past_other};
+use crate::marking::{Lows, low_after, past, past_other};
 use crate::row_reads::Contents;
 use tp_model::types::{REPLY_STAGE, Status};
 use tp_rule::Seat;
@@ -103,14 +107,8 @@ impl Shared {
     }
 
     /// The first row of a part, from one of its rows on, whose element is looked for. The scan starts at the
-    /// part's mark, if that is behind, and raises the mark.
-    fn find_from_mark(
-        &self,
-        seat: &mut Seat,
-        lows: &mut [u16; 33],
-        part: u16,
-        from: u32,
-    ) -> Option<u32>
+    /// part's mark, if that is further on, and raises the mark.
+    fn find_from_mark(&self, seat: &mut Seat, lows: &mut Lows, part: u16, from: u32) -> Option<u32>
         requires own { IsSeatOf self.now.words seat.old }
         requires steady { Steady (table_limits self.now.words) (view_of seat.old) }
         requires from { IsRowOf (table_limits self.now.words) part from }
@@ -144,13 +142,7 @@ impl Shared {
     /// The first row of a part, from one of its rows on, whose element is looked for. One look where no row
     /// has a head from there on, or from the mark on that the pass remembers.
     #[inline(always)]
-    fn find_in_part(
-        &self,
-        seat: &mut Seat,
-        lows: &mut [u16; 33],
-        part: u16,
-        from: u32,
-    ) -> Option<u32>
+    fn find_in_part(&self, seat: &mut Seat, lows: &mut Lows, part: u16, from: u32) -> Option<u32>
         requires own { IsSeatOf self.now.words seat.old }
         requires steady { Steady (table_limits self.now.words) (view_of seat.old) }
         requires from { IsRowOf (table_limits self.now.words) part from }
@@ -171,7 +163,7 @@ impl Shared {
     }
 
     /// The first row of the parts, from this one on, whose element is looked for.
-    fn find_in_parts(&self, seat: &mut Seat, lows: &mut [u16; 33], from: u32) -> Option<u32>
+    fn find_in_parts(&self, seat: &mut Seat, lows: &mut Lows, from: u32) -> Option<u32>
         requires own { IsSeatOf self.now.words seat.old }
         requires steady { Steady (table_limits self.now.words) (view_of seat.old) }
         requires from { from < part_rows (table_limits self.now.words) }
@@ -201,7 +193,7 @@ impl Shared {
     fn find_in_blocks(
         &self,
         seat: &mut Seat,
-        lows: &mut [u16; 33],
+        lows: &mut Lows,
         drawn: &mut u16,
         from: u32,
     ) -> Option<u32>
@@ -228,7 +220,7 @@ impl Shared {
     }
 
     /// The first row from this one on whose element is looked for.
-    fn find(&self, seat: &mut Seat, lows: &mut [u16; 33], drawn: &mut u16, from: u32) -> Option<u32>
+    fn find(&self, seat: &mut Seat, lows: &mut Lows, drawn: &mut u16, from: u32) -> Option<u32>
         requires own { IsSeatOf self.now.words seat.old }
         requires steady { Steady (table_limits self.now.words) (view_of seat.old) }
         requires from { from < rows_of (table_limits self.now.words) }

@@ -10,12 +10,13 @@ ghost use Rattle.tp_manager.specs.Calls.{Follows, claims_in};
 ghost use Rattle.tp_manager.specs.Shown.{low_of, turn_of, view_in, IsOf, IsKeptBy};
 ghost use Rattle.tp_manager.specs.declared.manager.MakeFault.TheVariants as faults;
 
+use crate::marking::{Lows, MARKED_PARTS};
 use crate::row_set::{NoRows, RowSet};
 use std::alloc::Global;
 use std::marker::Model;
 use tp_model::types::Limits;
 use tp_rule::{Seat, Words};
-use tp_words::Places;
+use tp_words::{MARK_KINDS, Places};
 
 /// Why a manager could not be made, or a pass not be given out.
 #[derive(Clone, Copy, Debug, PartialEq, Eq)]
@@ -28,7 +29,7 @@ pub enum MakeFault {
     NoPart,
 }
 
-/// The words that all passes share, and where they stand.
+/// The words that all passes share, and where they are.
 #[derive(Drop)]
 pub(crate) struct Shared {
     pub words: Words,
@@ -72,7 +73,7 @@ impl Model for Keeper {
       steps = steps_in k.seat.view.hands;
     } };
 
-    ghost use Rattle.tp_manager.specs.Walks.{Keeps};
+    ghost use Rattle.tp_manager.specs.BetweenCalls.{Keeps};
 
     ghost invariant = { λ k. Keeps k.seat k.limits k.given };
 }
@@ -85,7 +86,7 @@ pub(crate) struct Task {
     pub row: u32,
 }
 
-/// The rows that are left to a pass: so many, from the row `next` on. And how many spare blocks were drawn,
+/// The rows that are left to a pass: this many, from the row `next` on. And how many spare blocks were drawn,
 /// as the pass last loaded or set it, and the row of the element that it has consumed last.
 #[derive(Clone, Copy, Debug, PartialEq, Eq)]
 pub(crate) struct Run {
@@ -115,8 +116,8 @@ pub struct Pass {
     pub(crate) task: Option<Task>,
     /// The marks of each kind and part, as the pass last loaded or set them, or as far as a raise of a
     /// stage's mark that failed would have set it.
-    pub(crate) lows: [[u16; 33]; 16],
-    /// For each stage the row behind the element that it took last in its turn.
+    pub(crate) lows: [Lows; MARK_KINDS],
+    /// For each stage the row after the element that it took last in its turn.
     pub(crate) from: [u32; 16],
     /// The rows that a walk has come to and not gone on from: none, between two calls.
     pub(crate) walk: NoRows,
@@ -127,7 +128,8 @@ impl Model for Pass {
 
     ghost Value = { PassShown };
 
-    ghost use Rattle.tp_manager.specs.Walks.{RemembersAll, Rests};
+    ghost use Rattle.tp_manager.specs.BetweenCalls.{Rests};
+    ghost use Rattle.tp_manager.specs.Marks.{RemembersAll};
 
     ghost view = { λ p. shown (spot p.seat.table p.lows p.run.drawn p.from) p.seat.view };
 
@@ -200,7 +202,7 @@ impl Keeper {
             },
             used: 0,
             task: None,
-            lows: [[0; 33]; 16],
+            lows: [[0; MARKED_PARTS]; MARK_KINDS],
             from: [0; 16],
             walk: NoRows {
                 rows: RowSet::new(),
@@ -217,10 +219,11 @@ impl Pass {
         self.number
     }
 
-    /// The mark of a part that is about a stage, 1 to 15, as this pass last loaded or set it, and 0 before, or
-    /// where there is no such stage or part: no element of the stage in so many first rows of the part waits, is
-    /// held or is parked. With 0 for the stage it is the mark that is about all stages but 15. The mark in the
-    /// table is below it only where a claim could not raise it so far, since another pass had raised it meanwhile.
+    /// The mark of a part that is about a stage, 1 to 15, as this pass last loaded or set it. It is 0 before,
+    /// and where there is no such stage or part. No element of the stage in this many first rows of the part
+    /// waits, is held or is parked. With 0 for the stage it is the mark that is about all stages but 15. The
+    /// mark in the table is below it only where a claim could not raise it so far, since another pass had
+    /// raised it meanwhile.
     pub fn low(&self, stage: u8, part: u16) -> u16
         ensures answer { result ≡ low_of self.now stage part }
         ensures low { IsLow self.now.limits stage self.now.seen part result }

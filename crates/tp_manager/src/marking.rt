@@ -9,12 +9,19 @@ ghost use Rattle.tp_rule.specs.Rule.{IsInside};
 ghost use Rattle.tp_rule.specs.Steps.{IsLow, Knows};
 ghost use Rattle.tp_rule.specs.declared.view.Known.TheVariants.{MarkAbove, PartMark};
 ghost use Rattle.tp_rule.specs.Tables.{table_limits, IsSeatOf};
-ghost use Rattle.tp_manager.specs.Walks.{Acted, Looked, Remembers, RisesAt, Rose, Steady};
+ghost use Rattle.tp_manager.specs.CallSteps.{Acted, Looked, Steady};
+ghost use Rattle.tp_manager.specs.Marks.{Remembers, RisesAt, Rose};
 
 use crate::manager::Shared;
 use tp_model::types::Status;
 use tp_rule::Seat;
 use tp_words::Head;
+
+/// The parts that have a mark of each kind: those of at most 32 passes, and the spare rows as one more.
+pub(crate) const MARKED_PARTS: usize = 33;
+
+/// The marks of one kind that a pass remembers, by part.
+pub(crate) type Lows = [u16; MARKED_PARTS];
 
 /// The first row that isn't known of no use, where this one's head is of a stage that the marks aren't about,
 /// void, or empty.
@@ -45,7 +52,7 @@ pub(crate) fn past(low: u32, row: u32) -> u32
     if low == row { low + 1 } else { low }
 }
 
-/// The first row that isn't known of no use: this one's element stands so.
+/// The first row that isn't known of no use: this one's element has this status.
 #[inline(always)]
 pub(crate) fn low_after(low: u32, row: u32, status: Status) -> u32
     requires few { row < 65536 }
@@ -68,11 +75,11 @@ pub(crate) fn low_after(low: u32, row: u32, status: Status) -> u32
 }
 
 impl Shared {
-    /// The mark of a kind of a part, or of the spare rows where `part` is the number of parts, which the pass
-    /// remembers: no row of the part below it has an element of a
-    /// stage that the kind is about and that isn't consumed or killed. One step.
+    /// The mark of a kind of a part, or of the spare rows where `part` is the number of parts. The pass
+    /// remembers it. No row of the part below it has an element of a stage that the kind is about and that
+    /// isn't consumed or killed. One step.
     #[inline(always)]
-    pub(crate) fn mark_at(&self, seat: &mut Seat, lows: &mut [u16; 33], kind: u8, part: u16) -> u16
+    pub(crate) fn mark_at(&self, seat: &mut Seat, lows: &mut Lows, kind: u8, part: u16) -> u16
         requires own { IsSeatOf self.now.words seat.old }
         requires steady { Steady (table_limits self.now.words) (view_of seat.old) }
         requires kind { kind < MARK_KINDS }
@@ -92,12 +99,11 @@ impl Shared {
     }
 
     /// Raises the mark of a part, or of the spare rows, where the first row that isn't known of no use is
-    /// behind it, and the pass
-    /// remembers it, but where another pass has raised it meanwhile. At most one step.
+    /// after it. The pass remembers it, but where another pass has raised it meanwhile. At most one step.
     pub(crate) fn raise_to(
         &self,
         seat: &mut Seat,
-        lows: &mut [u16; 33],
+        lows: &mut Lows,
         kind: u8,
         part: u16,
         mark: u16,
@@ -131,11 +137,11 @@ impl Shared {
         lows[part as usize] = to;
     }
 
-    /// The mark of a stage of a part, or of the spare rows where `part` is the number of parts, as it stands
+    /// The mark of a stage of a part, or of the spare rows where `part` is the number of parts, as it is
     /// in the table. What the pass remembers is that, or what it remembered where that is more: no row of the
     /// part below it has an element of the stage that isn't consumed or killed. One step.
     #[inline(always)]
-    pub(crate) fn low_at(&self, seat: &mut Seat, lows: &mut [u16; 33], stage: u8, part: u16) -> u16
+    pub(crate) fn low_at(&self, seat: &mut Seat, lows: &mut Lows, stage: u8, part: u16) -> u16
         requires own { IsSeatOf self.now.words seat.old }
         requires steady { Steady (table_limits self.now.words) (view_of seat.old) }
         requires stage { IsServerStage stage }
@@ -158,12 +164,12 @@ impl Shared {
     }
 
     /// Raises the mark of a stage of a part, or of the spare rows, where the first row that isn't known of no
-    /// use is behind it. The pass remembers that row, also where another pass has raised the mark meanwhile.
+    /// use is after it. The pass remembers that row, also where another pass has raised the mark meanwhile.
     /// At most one step.
     pub(crate) fn raise_low(
         &self,
         seat: &mut Seat,
-        lows: &mut [u16; 33],
+        lows: &mut Lows,
         stage: u8,
         part: u16,
         mark: u16,

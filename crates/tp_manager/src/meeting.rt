@@ -8,7 +8,7 @@ ghost use Rattle.tp_manager.specs.Meetings.{Meets};
 use crate::manager::{Manager, Pass};
 
 impl Manager {
-    /// Two passes of the manager tell each other what they have seen: both have then seen the same history,
+    /// Two passes of the manager show each other what they have seen: both have then seen the same history,
     /// with all that either had seen. Three steps of the first, and the one between of the second too.
     pub fn meet(&self, first: &mut Pass, second: &mut Pass)
         requires own { IsOf self.now first.old × IsOf self.now second.old }

@@ -11,7 +11,7 @@ use crate::manager::{Manager, Pass};
 use tp_model::types::{Look, Refusal};
 
 impl Manager {
-    /// The element with this id, and how it stands. `NotThere` where none is born, so also for an id from the
+    /// The element with this id, and its status. `NotThere` where none is born, so also for an id from the
     /// capacity on.
     pub fn read(&self, pass: &mut Pass, id: u32) -> Result<Look, Refusal>
         requires own { IsOf self.now pass.old }

@@ -7,7 +7,7 @@ ghost use Rattle.tp_rule.specs.Tables.{table_limits, IsSeatOf};
 ghost use Rattle.tp_manager.specs.Shown.{IsOf};
 ghost use Rattle.tp_manager.specs.Bounds.{free_steps, release_steps};
 ghost use Rattle.tp_manager.specs.Calls.{Follows, HasLooked};
-ghost use Rattle.tp_manager.specs.Walks.{Steady, Looked};
+ghost use Rattle.tp_manager.specs.CallSteps.{Steady, Looked};
 ghost use Rattle.tp_manager.specs.Releases.{Freeing, IsPastRelease, Releases, ReleaseFails};
 
 use crate::manager::{Manager, Pass, Shared};

@@ -11,8 +11,11 @@ ghost use Rattle.tp_rule.specs.declared.view.Known.TheVariants.{PartMark};
 ghost use Rattle.tp_rule.specs.Tables.{table_limits, IsSeatOf};
 ghost use Rattle.tp_rule.specs.Steps.{IsLow, Knows, NoneFrom};
 ghost use Rattle.tp_words.specs.declared.places.TheConstants.{MARK_KINDS};
-ghost use Rattle.tp_manager.specs.Walks.{Acted, Looked, NoneBehind, Remembers, RemembersDrawn, RisesAt};
-ghost use Rattle.tp_manager.specs.Walks.{Steady};
+ghost use Rattle.tp_manager.specs.CallSteps.{Acted, Looked};
+ghost use Rattle.tp_manager.specs.BetweenCalls.{RemembersDrawn};
+ghost use Rattle.tp_manager.specs.Marks.{Remembers, RisesAt};
+ghost use Rattle.tp_manager.specs.Scans.{NoneBehind};
+ghost use Rattle.tp_manager.specs.CallSteps.{Steady};
 ghost use Rattle.tp_manager.specs.Bounds.{body_steps, retry_steps, status_steps};
 ghost use Rattle.tp_manager.specs.Looks.{Contains, GoesOn, HeadFound, IsBornAs, IsEnough};
 
@@ -78,7 +81,7 @@ impl Shared {
         head
     }
 
-    /// The row behind the spare blocks that are drawn: nothing is born from there on. One step; none, and
+    /// The row after the spare blocks that are drawn: nothing is born from there on. One step; none, and
     /// `None`, where there are no spare blocks.
     pub(crate) fn blocks_end(&self, seat: &mut Seat, drawn: &mut u16) -> Option<u32>
         requires own { IsSeatOf self.now.words seat.old }

@@ -16,14 +16,18 @@ ghost use Rattle.tp_manager.specs.Shown.{NoneFalls};
 ghost use Rattle.tp_manager.specs.declared.scanning.Stand.TheVariants as stands;
 ghost use Rattle.tp_manager.specs.Looks.{GoesOn, HasStand};
 ghost use Rattle.tp_manager.specs.Spares.{SpareRests};
-ghost use Rattle.tp_manager.specs.Walks.{AreFinished, Begun, CameTo, RestInParts, RestsAt, WasOfUse};
-ghost use Rattle.tp_manager.specs.Walks.{WasUnsettled};
-ghost use Rattle.tp_manager.specs.Walks.{RemembersDone, RemembersDrawn, Steady, Looked, Sought, EachRow};
-ghost use Rattle.tp_manager.specs.Walks.{OfPart};
-ghost use Rattle.tp_manager.specs.Walks.{PassedBy, Remembers, RisesAt, Rose, IsSpare, Took};
+ghost use Rattle.tp_manager.specs.Marks.{AreFinished, CameTo, RestInParts, RestsAt, WasOfUse};
+ghost use Rattle.tp_manager.specs.Scans.{Begun};
+ghost use Rattle.tp_manager.specs.Marks.{WasUnsettled};
+ghost use Rattle.tp_manager.specs.CallSteps.{Steady, Looked};
+ghost use Rattle.tp_manager.specs.BetweenCalls.{RemembersDone, RemembersDrawn};
+ghost use Rattle.tp_manager.specs.Scans.{Sought, EachRow};
+ghost use Rattle.tp_manager.specs.Scans.{OfPart};
+ghost use Rattle.tp_manager.specs.Marks.{Remembers, RisesAt, Rose};
+ghost use Rattle.tp_manager.specs.Scans.{PassedBy, IsSpare, Took};
 
 use crate::manager::Shared;
-use crate::marking::{past, past_other};
+use crate::marking::{Lows, past, past_other};
 use crate::row_reads::Contents;
 use tp_model::types::Element;
 use tp_rule::Seat;
@@ -67,7 +71,7 @@ fn is_of_stage(head: Head, stage: u8) -> bool
     }
 }
 
-/// The row behind this one, where this is the row that is done and not the end.
+/// The row after this one, where this is the row that is done and not the end.
 #[inline(always)]
 pub(crate) fn past_done(row: u32, end: u32, done: Option<u32>) -> u32
     requires { row ≤ end }
@@ -202,11 +206,11 @@ impl Shared {
     }
 
     /// The unit takes the first element of a part that waits in the stage. The scan starts at the part's
-    /// mark, behind the row that the pass has consumed last where that comes first, and raises the mark.
+    /// mark, after the row that the pass has consumed last where that comes first, and raises the mark.
     fn scan_from_mark(
         &self,
         seat: &mut Seat,
-        lows: &mut [u16; 33],
+        lows: &mut Lows,
         part: u16,
         done: Option<u32>,
         stage: u8,
@@ -257,7 +261,7 @@ impl Shared {
     fn scan_part(
         &self,
         seat: &mut Seat,
-        lows: &mut [u16; 33],
+        lows: &mut Lows,
         part: u16,
         first: u32,
         rows: u32,
@@ -296,7 +300,7 @@ impl Shared {
 
     /// The first part that has a row which the pass doesn't know finished, or else the last part. No step.
     #[inline(always)]
-    fn first_open(&self, lows: &[u16; 33]) -> u16
+    fn first_open(&self, lows: &Lows) -> u16
         ensures part { result < (table_limits self.now.words).parts }
         ensures finished { AreFinished (table_limits self.now.words) lows.now result }
     {
@@ -315,7 +319,7 @@ impl Shared {
     fn scan_parts(
         &self,
         seat: &mut Seat,
-        lows: &mut [u16; 33],
+        lows: &mut Lows,
         done: Option<u32>,
         stage: u8,
         unit: u16,
@@ -354,7 +358,7 @@ impl Shared {
     fn scan_blocks(
         &self,
         seat: &mut Seat,
-        lows: &mut [u16; 33],
+        lows: &mut Lows,
         drawn: &mut u16,
         stage: u8,
         unit: u16,
@@ -388,7 +392,7 @@ impl Shared {
     pub(crate) fn scan(
         &self,
         seat: &mut Seat,
-        lows: &mut [u16; 33],
+        lows: &mut Lows,
         drawn: &mut u16,
         done: Option<u32>,
         stage: u8,

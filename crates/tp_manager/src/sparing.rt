@@ -7,10 +7,13 @@ ghost use Rattle.tp_rule.specs.Tables.{table_limits, IsSeatOf};
 ghost use Rattle.tp_manager.specs.Bounds.{look_steps, try_steps};
 ghost use Rattle.tp_manager.specs.Finds.{Hits, PassedOver};
 ghost use Rattle.tp_manager.specs.Spares.{Passed, SpareRests};
-ghost use Rattle.tp_manager.specs.Walks.{IsSpare, NoneBehind, PassedBy, Remembers, RisesAt, Steady, Took};
+ghost use Rattle.tp_manager.specs.CallSteps.{Steady};
+ghost use Rattle.tp_manager.specs.Marks.{Remembers, RisesAt};
+ghost use Rattle.tp_manager.specs.Scans.{IsSpare, NoneBehind, PassedBy, Took};
 
 use crate::listing::later;
 use crate::manager::Shared;
+use crate::marking::Lows;
 use crate::scanning::Taken;
 use tp_rule::Seat;
 
@@ -21,7 +24,7 @@ impl Shared {
     pub(crate) fn scan_spare(
         &self,
         seat: &mut Seat,
-        lows: &mut [u16; 33],
+        lows: &mut Lows,
         end: u32,
         stage: u8,
         unit: u16,
@@ -61,11 +64,11 @@ impl Shared {
 
     /// The first row of the spare blocks, from one of their rows on, whose element is looked for, where
     /// nothing was born
-    /// from row `end` on. The scan starts at the mark of the spare rows, if that is behind, and raises it.
+    /// from row `end` on. The scan starts at the mark of the spare rows, if that is further on, and raises it.
     pub(crate) fn find_spare(
         &self,
         seat: &mut Seat,
-        lows: &mut [u16; 33],
+        lows: &mut Lows,
         end: u32,
         from: u32,
     ) -> Option<u32>

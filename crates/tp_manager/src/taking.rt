@@ -17,7 +17,7 @@ ghost use Rattle.tp_manager.specs.Families.{Taken};
 ghost use Rattle.tp_manager.specs.Kills.{Slain};
 ghost use Rattle.tp_manager.specs.Requeues.{IsBetween};
 ghost use Rattle.tp_manager.specs.RowSets.{IsEmpty};
-ghost use Rattle.tp_manager.specs.Walks.{Looked, Steady};
+ghost use Rattle.tp_manager.specs.CallSteps.{Looked, Steady};
 
 use crate::manager::{Manager, Pass, Shared};
 use crate::row_set::RowSet;

@@ -4,17 +4,23 @@ ghost use Rattle.tp_model.specs.Steps.{part_rows, rows_of, AreLimits, IsServerSt
 ghost use Rattle.tp_rule.specs.Views.{view_of, IsSameSeat};
 ghost use Rattle.tp_rule.specs.Tables.{table_limits, IsSeatOf};
 ghost use Rattle.tp_manager.specs.Bounds.{drawn_steps, claim_next_steps, claim_next_steps_left};
-ghost use Rattle.tp_manager.specs.Bounds.{scan_steps, try_steps, turn_steps};
+ghost use Rattle.tp_manager.specs.Bounds.{scan_steps, try_steps, circle_steps};
 ghost use Rattle.tp_model.specs.declared.types.TheConstants.{BLOCK_ROWS};
 ghost use Rattle.tp_manager.specs.Calls.{ClaimsNext, Follows};
 ghost use Rattle.tp_manager.specs.Shown.{marks_of, IsOf, NoneFalls};
-ghost use Rattle.tp_manager.specs.Walks.{Begun, EachRow, IsSpare, StepsTo, PassedBy, Remembers};
-ghost use Rattle.tp_manager.specs.Walks.{RemembersDone};
-ghost use Rattle.tp_manager.specs.Walks.{RemembersDrawn, RisesAt, Sought, Steady, Took, TookNext};
+ghost use Rattle.tp_manager.specs.CallSteps.{StepsTo};
+ghost use Rattle.tp_manager.specs.Marks.{Remembers};
+ghost use Rattle.tp_manager.specs.Scans.{Begun, EachRow, IsSpare, PassedBy};
+ghost use Rattle.tp_manager.specs.BetweenCalls.{RemembersDone};
+ghost use Rattle.tp_manager.specs.CallSteps.{Steady};
+ghost use Rattle.tp_manager.specs.BetweenCalls.{RemembersDrawn};
+ghost use Rattle.tp_manager.specs.Marks.{RisesAt};
+ghost use Rattle.tp_manager.specs.Scans.{Sought, Took, TookNext};
 ghost use Rattle.tp_model.specs.declared.types.Limits.{Limits};
 ghost use Rattle.tp_manager.specs.Turns.{EachHasItsTurn};
 
 use crate::manager::{Manager, Pass, Shared, Task};
+use crate::marking::Lows;
 use crate::scanning::{Taken, past_done};
 use tp_model::types::{Claimed, Work};
 use tp_rule::Seat;
@@ -44,7 +50,7 @@ fn turn_in(places: &[u32; 16], stage: u8) -> u32
     places[stage as usize]
 }
 
-/// A stage's next claim in turn begins behind this row, and those of other stages where they did.
+/// A stage's next claim in turn begins after this row, and those of other stages where they did.
 #[inline(always)]
 fn go_on_behind(turns: &mut [u32; 16], stage: u8, row: u32)
     requires stage { IsServerStage stage }
@@ -62,7 +68,7 @@ impl Shared {
     fn scan_span_from_mark(
         &self,
         seat: &mut Seat,
-        lows: &mut [u16; 33],
+        lows: &mut Lows,
         part: u16,
         from: u32,
         to: u32,
@@ -113,7 +119,7 @@ impl Shared {
     fn scan_span(
         &self,
         seat: &mut Seat,
-        lows: &mut [u16; 33],
+        lows: &mut Lows,
         part: u16,
         from: u32,
         to: u32,
@@ -153,7 +159,7 @@ impl Shared {
     fn scan_spans(
         &self,
         seat: &mut Seat,
-        lows: &mut [u16; 33],
+        lows: &mut Lows,
         from: u32,
         to: u32,
         done: Option<u32>,
@@ -237,7 +243,7 @@ impl Shared {
     fn scan_rows(
         &self,
         seat: &mut Seat,
-        lows: &mut [u16; 33],
+        lows: &mut Lows,
         drawn: &mut u16,
         from: u32,
         to: u32,
@@ -261,7 +267,7 @@ impl Shared {
         ensures few { let l = table_limits self.now.words in let p = part_rows l in
             let n = drawn_steps l.spare + (to - p - (from - p)) * try_steps in
             StepsTo (scan_steps l try_steps 3 lows.old l.parts + n) (view_of seat.old) (view_of seat.new) }
-        ensures told { let l = table_limits self.now.words in let n = turn_steps l (to - from) in
+        ensures told { let l = table_limits self.now.words in let n = circle_steps l (to - from) in
             MatchOption result
             (Begun l (PassedBy l stage) n from to (view_of seat.old) (view_of seat.new))
             (λ t. Took l n from stage unit (view_of seat.old) (view_of seat.new) t.element t.attempt
@@ -285,7 +291,7 @@ impl Shared {
     pub(crate) fn scan_turn(
         &self,
         seat: &mut Seat,
-        lows: &mut [u16; 33],
+        lows: &mut Lows,
         drawn: &mut u16,
         turn: u32,
         done: Option<u32>,
@@ -323,8 +329,8 @@ impl Shared {
 }
 
 impl Manager {
-    /// Takes the element that waits in the stage, 1 to 14, and comes first behind the one of the stage that
-    /// the pass took last by such a call: behind the last id comes the first. Otherwise as `claim`.
+    /// Takes the element that waits in the stage, 1 to 14, and comes first after the one of the stage that
+    /// the pass took last by such a call. After the last id comes the first. Otherwise as `claim`.
     pub fn claim_next(&self, pass: &mut Pass, stage: u8) -> Claimed
         requires own { IsOf self.now pass.old }
         requires stage { IsServerStage stage }

@@ -16,7 +16,7 @@ ghost use Rattle.tp_manager.specs.Bounds.{root_steps, stride_steps};
 ghost use Rattle.tp_words.specs.Words.{head_of};
 ghost use Rattle.tp_manager.specs.Families.{IsAsked, IsFound, Followed, Listed};
 ghost use Rattle.tp_manager.specs.RowSets.{IsEmpty};
-ghost use Rattle.tp_manager.specs.Walks.{Acted, Looked, Steady};
+ghost use Rattle.tp_manager.specs.CallSteps.{Acted, Looked, Steady};
 
 use crate::ahead::Ahead;
 use crate::manager::Shared;
@@ -32,7 +32,7 @@ pub(crate) const MAX_ROWS: u32 = 10_240;
 /// What a walk finds at an element that it has come to.
 #[derive(Clone, Copy, Debug, PartialEq, Eq)]
 pub(crate) enum Found {
-    /// A unit consumed it, and has made so many elements, with the ids from `first` on.
+    /// A unit consumed it, and has made this many elements, with the ids from `first` on.
     Outputs { first: u16, count: u8 },
     /// It is a reply, and waited.
     Reply,

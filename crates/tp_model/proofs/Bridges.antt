@@ -210,7 +210,7 @@ waits_below limit h (TakenWord n u r) m some e = taken (end_of h u) e
 waits_below limit h (KilledWord n u r) m some e = absurd cc
 waits_below limit h (AgainWord r) m some e = let z : 0 ≡ m = cc in omega arith
 
--- what a claim word tells where nobody holds its element, it tells in each longer history
+-- what a claim word says where nobody holds its element, it says in each longer history
 pub word_stays : (limit : ℕ) (h g : List Event) (w : ClaimWord) → IsPrefix h g → ((u n : ℕ) → word_status limit h w ≢ Held u n) → word_status limit g w ≡ word_status limit h w
 word_stays limit h g FreeWord b not = refl
 word_stays limit h g (TakenWord n u r) b not = go (end_of h u) refl

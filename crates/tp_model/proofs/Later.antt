@@ -1,4 +1,4 @@
--- What a history tells of later ones, and what an end of a unit tells of the births and claims before it.
+-- What a history says of later ones, and what an end of a unit says of the births and claims before it.
 use Rattle.std.proofs.Common.{◌≡◌, ◌≢◌, ◌⊎◌, ℕ, suc, ◌+◌, ◌-◌, ◌*◌, ◌<◌, ◌≤◌, ◌==◌, Option, Some, None, List, [], ◌∷◌, ◌++◌, length, refl, sym, ◌∙◌, ap, subst, inl, inr, ⊎_elim, arith, suc-mul, mul-le-mul_right}
 use Rattle.std.proofs.lemmas.Bool.Decides.{eqb_tells}
 use Rattle.std.specs.List.{find}
@@ -94,7 +94,7 @@ stands_after l h (Requeue c j k) legal step i n u is not =
     go (Some (Committed f m)) not e = cc
     go (Some Aborted) not e = not refl
 
--- a claim that was seen, whose unit isn't aborted later, still stands later
+-- a claim that was seen, whose unit isn't aborted later, is still there later
 pub claim_stands : (l : Limits) (a b : List Event) → IsLegal l b → IsPrefix a b → (i n u : ℕ) {r : ℕ} → claim_word a i ≡ TakenWord n u r → end_of b u ≢ Some Aborted → claim_word b i ≡ TakenWord n u r
 claim_stands l a b legal begins i n u {r} is not = rw (← begins.1) (along l (λ z. end_of z u ≢ Some Aborted → claim_word z i ≡ TakenWord n u r) more a begins.0 (rw begins.1 legal) (λ _. is) (rw begins.1 not))
   where
@@ -161,7 +161,7 @@ abort_ends [] c u there_is p = absurd (in_none there_is)
 abort_ends (e ∷ h) c u there_is p = let t = option_or-none (end_by u e) (end_of h u) p in
     ⊎_elim (λ same. let q : Some Aborted ≡ None = sym (if_same u u (Some Aborted) None refl) ∙ (ap (end_by u) same ∙ t.0) in absurd cc) (λ q. abort_ends h c u q t.1) (in_cons there_is)
 
--- what a claim word that was found, and after it the end of its unit, tell of the status then: unless the unit was aborted, the claim still stands
+-- what a claim word that was found, and after it the end of its unit, say of the status then: unless the unit was aborted, the claim is still there
 pub status_found : (l : Limits) (a b : List Event) → IsLegal l b → IsPrefix a b → (i n u : ℕ) {r : ℕ} → claim_word a i ≡ TakenWord n u r → end_of b u ≢ Some Aborted → status_of l.attempts b i ≡ taken_status l.attempts n u (end_of b u)
 status_found l a b legal begins i n u is not = status_taken l b i n u legal (claim_stands l a b legal begins i n u is not)
 

@@ -18,7 +18,7 @@ alike a b w e c p k =
     ∙ (ap (λ z. record { waiting = b.waiting; held = b.held; consumed = b.consumed; parked = z; killed = a.killed }) p
     ∙ ap (λ z. record { waiting = b.waiting; held = b.held; consumed = b.consumed; parked = b.parked; killed = z }) k)))
 
--- one more element, at the front or at the end
+-- one more element, at the beginning or at the end
 
 abbrev one_if : Bool → ℕ
 one_if test = cond test 1 0

@@ -120,7 +120,7 @@ killed_round (TakenWord n u r) = refl
 killed_round (KilledWord n u r) = refl
 killed_round (AgainWord r) = refl
 
--- the claim word tells them, and there are not too many
+-- the claim word has them, and there are not too many
 abbrev TellsRounds : List Event → ℕ → Type 0
 TellsRounds h i = (round_in (claim_word h i) ≡ rounds h i) × (rounds h i ≤ MAX_ROUNDS)
 
@@ -161,7 +161,7 @@ same_rises (AgainWord r) = inl refl
 abbrev Onward : ClaimWord → ClaimWord → Type 0
 Onward v w = (w ≡ v) ⊎ (IsPast v w ⊎ (w ≡ kill_word v))
 
--- w tells the same attempt as v, or a later one
+-- w is the same attempt as v, or a later one
 abbrev pub IsLate : ClaimWord → ClaimWord → Type 0
 IsLate v w = (round_in v < round_in w) ⊎ ((round_in v ≡ round_in w) × (attempt_in v ≤ attempt_in w))
 
@@ -177,7 +177,7 @@ late_onward v w (inr (inl (inl later))) = inl later
 late_onward v w (inr (inl (inr more))) = let less : attempt_in v < attempt_in w = more.1 in inr (more.0, omega arith)
 late_onward v w (inr (inr same)) = let k = killed_same v in let at : attempt_in v ≡ attempt_in (kill_word v) = k.1 in rw same (inr (k.0, omega arith))
 
--- a later word tells no earlier attempt
+-- a later word is no earlier attempt
 pub rises_late : (v w : ClaimWord) → Rises v w → IsLate v w
 rises_late FreeWord w r = late_onward FreeWord w r
 rises_late (TakenWord n u k) w r = late_onward (TakenWord n u k) w r

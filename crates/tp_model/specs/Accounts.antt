@@ -2,7 +2,7 @@
 use Rattle.std.specs.Prelude.{◌≡◌, ◌≢◌, ◌<◌, ℕ, ◌+◌, ◌-◌, ◌==◌, ◌&&◌, ◌||◌, nat_le, Bool, true, List, map}
 use Rattle.std.specs.Prelude.{take, length, sum_by, count_by, slice_index_or}
 use Rattle.std.specs.List.{filter_map, range_with_len}
-use Rattle.tp_model.specs.declared.types.TheConstants.{MAX_STAGE}
+use Rattle.tp_model.specs.declared.types.TheConstants.{MAX_STAGE, STAGES}
 use Rattle.tp_model.specs.declared.types.Account.{Account}
 use Rattle.tp_model.specs.declared.types.Counts.{Counts}
 use Rattle.tp_model.specs.declared.types.Element.{Element}
@@ -17,7 +17,7 @@ use Rattle.tp_model.specs.Steps.{IsLegal, IsStage, rows_of}
 
 -- the stages of an account, in order
 abbrev pub all_stages : List ℕ
-all_stages = range_with_len 1 15
+all_stages = range_with_len 1 STAGES
 
 -- the account of these elements after a history
 abbrev pub account_among : ℕ → List Event → List Element → Account
@@ -35,7 +35,7 @@ account_of limit h = account_among limit h (born h)
 abbrev pub elements_below : List Event → ℕ → List Element
 elements_below h n = filter_map (element_of h) (range_with_len 0 n)
 
--- these counts, and one more element, which stands so
+-- these counts, and one more element of this status
 abbrev pub one_more : Status → Counts → Counts
 one_more (Waiting n) c = record {
   waiting = c.waiting + 1;

@@ -71,7 +71,7 @@ abbrev pub StatusByWords : Type 0
 StatusByWords = (l : Limits) (h : List Event) (i : ℕ) → IsLegal l h
     → status_of l.attempts h i ≡ word_status l.attempts h (claim_word h i)
 
--- a claim word tells how many rounds the element was given, which is at most three
+-- a claim word says how many rounds the element was given, which is at most three
 abbrev pub RoundsByWords : Type 0
 RoundsByWords = (l : Limits) (h : List Event) (i : ℕ) → IsLegal l h
     → (round_in (claim_word h i) ≡ rounds h i) × (rounds h i ≤ MAX_ROUNDS)

@@ -24,7 +24,7 @@ pub record IsNext (limit : ℕ) (h : List Event) (root : ℕ) (gone : List ℕ) 
   pub fresh : ¬ In i gone
   pub least : (j : ℕ) → IsReached limit h root gone j → ¬ In j gone → i ≤ j
 
--- so it goes on from each of these, one after another, behind those from which it has gone on
+-- so it goes on from each of these, one after another, after those from which it has gone on
 abbrev pub IsWalk : ℕ → List Event → ℕ → List ℕ → List ℕ → Type 0
 IsWalk limit h root gone [] = Unit {0}
 IsWalk limit h root gone (i ∷ ids) = IsNext limit h root gone i × IsWalk limit h root (gone ++ i ∷ []) ids

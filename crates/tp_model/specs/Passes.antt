@@ -69,9 +69,9 @@ pub record IsPassView (l : Limits) (v : PassView) : Type 0 where
   pub open_own : (u : ℕ) → v.open_unit ≡ Some u → IsOwnOpen v.seen v.number u
 
 -- whether a step looks at the table: what it finds or changes there is tied to what is seen after it. A draft
--- store sees nothing, the load that cuts or joins seats tells nothing, the choice of a unit is told nothing
+-- store sees nothing, the load that cuts or joins seats says nothing, the choice of a unit finds nothing out
 -- of its word, and the exchanges of a mark, of the counter of drawn blocks, and of the head of a row that is
--- left behind are told nothing of the history.
+-- left behind say nothing of the history.
 abbrev pub looks : StepKind → Bool
 looks DraftStore = false
 looks SeatLoad = false

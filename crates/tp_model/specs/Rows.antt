@@ -19,7 +19,7 @@ use Rattle.tp_model.specs.Births.{request}
 abbrev pub row_limits : Limits
 row_limits = record { parts = 2; rows = 8; units = 256; attempts = 3; spare = 0 }
 
--- a body whose words are told by an amount: the key is 0, and the others count on from the amount
+-- a body whose words follow from an amount: the key is 0, and the others count on from the amount
 abbrev pub body : ℕ → List ℕ
 body amount = 0 ∷ amount ∷ (amount + 1) ∷ (amount + 2) ∷ []
 
@@ -63,7 +63,7 @@ spare_limits = record { parts = 2; rows = 1; units = 1; attempts = 1; spare = 1 
 abbrev pub in_spare_block : List Event
 in_spare_block = Enqueue 1 (request 2 1 (body 4)) ∷ []
 
--- so many wait and so many are consumed
+-- this many wait and this many are consumed
 abbrev pub so_many : ℕ → ℕ → Counts
 so_many waiting consumed = record { waiting = waiting; held = 0; consumed = consumed; parked = 0; killed = 0 }
 
@@ -106,5 +106,5 @@ pub record WorkedRows : Type 0 where
   -- that pass may make another one there, and no other pass may
   pub spare_again : Step spare_limits in_spare_block (Enqueue 1 (request 9 1 (body 5)))
   pub spare_of_another : ¬ Step spare_limits in_spare_block (Enqueue 0 (request 9 1 (body 5)))
-  -- the one that has no row is behind the block
+  -- the one that has no row is after the block
   pub behind_spare : ¬ Step spare_limits in_spare_block (Enqueue 1 (request 10 1 (body 5)))

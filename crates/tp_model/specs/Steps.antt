@@ -8,7 +8,7 @@ use Rattle.tp_model.specs.declared.event.Event.{Event}
 use Rattle.tp_model.specs.declared.event.Event.TheVariants.{Enqueue, Claim, Commit, Abort, Kill, Requeue}
 use Rattle.tp_model.specs.declared.types.TheConstants.{BLOCK_ROWS, BODY_WORDS, MAX_ATTEMPTS, MAX_BLOCKS}
 use Rattle.tp_model.specs.declared.types.TheConstants.{MAX_PART_ROWS, MAX_PASSES, MAX_ROUNDS, MAX_STAGE}
-use Rattle.tp_model.specs.declared.types.TheConstants.{MAX_UNITS, REPLY_STAGE}
+use Rattle.tp_model.specs.declared.types.TheConstants.{MAX_OUTPUTS, MAX_UNITS, REPLY_STAGE}
 use Rattle.tp_model.specs.History.{In, births, element_of, status_of, rounds, UnitClaim, claim_of, end_of}
 use Rattle.tp_model.specs.History.{first_id, pass_of}
 
@@ -20,7 +20,7 @@ pub record AreLimits (l : Limits) : Type 0 where
   pub attempts : (1 ≤ l.attempts) × (l.attempts ≤ MAX_ATTEMPTS)
   pub spare : l.spare ≤ MAX_BLOCKS
 
--- how many attempts an element has in all its rounds, the first among them, where so many are allowed in each
+-- how many attempts an element has in all its rounds, the first among them, where this many are allowed in each
 abbrev pub tries : ℕ → ℕ
 tries attempts = (MAX_ROUNDS + 1) * attempts
 
@@ -32,7 +32,7 @@ changes attempts = tries attempts + MAX_ROUNDS
 abbrev pub part_rows : Limits → ℕ
 part_rows l = l.parts * l.rows
 
--- how many rows there are: those of the parts, and behind them those of the spare blocks
+-- how many rows there are: those of the parts, and after them those of the spare blocks
 abbrev pub rows_of : Limits → ℕ
 rows_of l = part_rows l + BLOCK_ROWS * l.spare
 
@@ -140,7 +140,7 @@ pub record MayCommit (l : Limits) (h : List Event) (c u : ℕ) (outs : List Elem
   pub own : taking.pass ≡ c
   pub item : Element
   pub taken : element_of h taking.item ≡ Some item
-  pub few : length outs ≤ 4
+  pub few : length outs ≤ MAX_OUTPUTS
   pub outputs : AreOutputs l h c u item.root (first_id outs) outs
 
 -- Abort c u may come next: any pass may abort an open unit

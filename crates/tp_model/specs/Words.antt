@@ -15,7 +15,7 @@ pub data ClaimWord : Type 0 where
   KilledWord : ℕ → ℕ → ℕ → ClaimWord
   AgainWord : ℕ → ClaimWord
 
--- the round that a claim word tells: 0 is the first
+-- the round in a claim word: 0 is the first
 abbrev pub round_in : ClaimWord → ℕ
 round_in FreeWord = 0
 round_in (TakenWord n u r) = r
@@ -53,14 +53,14 @@ word_status limit h (TakenWord n u r) = taken_status limit n u (end_of h u)
 word_status limit h (KilledWord n u r) = Killed
 word_status limit h (AgainWord r) = Waiting 0
 
--- the attempt that a claim word tells
+-- the attempt in a claim word
 abbrev pub attempt_in : ClaimWord → ℕ
 attempt_in FreeWord = 0
 attempt_in (TakenWord n u r) = n
 attempt_in (KilledWord n u r) = n
 attempt_in (AgainWord r) = 0
 
--- w tells a later attempt than v: in a later round, or in the same one
+-- w is a later attempt than v: in a later round, or in the same one
 abbrev pub IsPast : ClaimWord → ClaimWord → Type 0
 IsPast v w = (round_in v < round_in w) ⊎ ((round_in v ≡ round_in w) × (attempt_in v < attempt_in w))
 

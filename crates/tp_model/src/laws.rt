@@ -44,7 +44,7 @@ pub fn later_histories()
     ensures words { WordsRise }
 {}
 
-/// Once the family of a client's element is settled, it stays so and nothing is born in it; no element of it
+/// Once the family of a client's element is settled, it stays so and nothing is born in it. No element of it
 /// is claimed any more, and no unit that claimed one commits.
 pub fn settled_for_good()
     ensures never { NeverWorkedOn }
@@ -67,7 +67,7 @@ pub fn status_by_words()
     ensures rounds { RoundsByWords }
 {}
 
-/// In all and in each stage the five counts add up to the born elements. An account tells the counts of each
+/// In all and in each stage the five counts add up to the born elements. An account has the counts of each
 /// stage, and these add up to the total; what it has open is what waits or is held in the servers' stages.
 pub fn counts_add_up()
     ensures kinds { CountsAddUp }

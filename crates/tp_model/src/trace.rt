@@ -11,7 +11,7 @@ pub enum StepKind {
     Publish,
     /// The load of a word.
     Load,
-    /// The load by which what a thread steps with is cut in two, or joined with another's. It tells nothing
+    /// The load by which what a thread steps with is cut in two, or joined with another's. It shows nothing
     /// of the table.
     SeatLoad,
     /// The look at the word of an own unit that was never claimed, which is thereby chosen for the next
@@ -27,13 +27,13 @@ pub enum StepKind {
     KillExchange,
     /// The compare-exchange of a parked element's claim word by which it is given another round.
     RequeueExchange,
-    /// The compare-exchange of a part's mark, by which it is raised. It tells nothing but of the mark.
+    /// The compare-exchange of a part's mark, by which it is raised. It shows nothing but the mark.
     Raise,
-    /// The compare-exchange of the counter of drawn blocks, by which a spare block is drawn. It tells nothing
+    /// The compare-exchange of the counter of drawn blocks, by which a spare block is drawn. It shows nothing
     /// but of the counter.
     Draw,
     /// The compare-exchange of the head of a row that the pass has left behind, by which it is marked as one
-    /// that is never used. It tells nothing but of that head.
+    /// that is never used. It shows nothing but that head.
     Void,
 }
 

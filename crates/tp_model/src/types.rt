@@ -25,10 +25,10 @@ pub struct Element {
     pub body: Body,
 }
 
-/// How an element stands.
+/// The status of an element.
 #[derive(Clone, Copy, Debug, PartialEq, Eq)]
 pub enum Status {
-    /// It may be claimed. So many units of work took it in its round and were aborted: fewer than the attempt
+    /// It may be claimed. This many units of work took it in its round and were aborted: fewer than the attempt
     /// limit.
     Waiting { attempts: u8 },
     /// An undecided unit of work holds it, and is the `attempt`-th to do so in its round.
@@ -269,6 +269,7 @@ pub struct Draft {
 }
 
 impl Model for Draft {
+    ghost use Rattle.tp_model.specs.declared.types.TheConstants.{REPLY_STAGE};
     ghost use Rattle.std.specs.Prelude.{◌≤◌};
     ghost use Rattle.tp_model.specs.Drafts.{DraftView};
     ghost use Rattle.tp_model.specs.Steps.{IsBody};
@@ -277,17 +278,18 @@ impl Model for Draft {
 
     ghost view = { λ d. record { stage = d.stage; body = d.body } };
 
-    ghost invariant = { λ d. (1 ≤ d.stage) × (d.stage ≤ 15) × IsBody d.body };
+    ghost invariant = { λ d. (1 ≤ d.stage) × (d.stage ≤ REPLY_STAGE) × IsBody d.body };
 
     ghost inverse = { λ d. record { stage = d.stage; body = d.body } };
 }
 
 impl Draft {
+    ghost use Rattle.tp_model.specs.declared.types.TheConstants.{REPLY_STAGE};
     ghost use Rattle.tp_model.specs.Steps.{IsBody};
 
     /// A draft for a stage, or `None` unless the stage is 1 to 15.
     pub fn new(stage: u8, body: Body) -> Option<Draft>
-        ensures some { IsSome result ↔ ((1 ≤ stage) × (stage ≤ 15)) }
+        ensures some { IsSome result ↔ ((1 ≤ stage) × (stage ≤ REPLY_STAGE)) }
         ensures value { IfSome result (λ d. d ≡ record { stage = stage; body = body }) }
     {
         if stage >= 1 && stage <= REPLY_STAGE {
@@ -301,7 +303,7 @@ impl Draft {
     pub fn stage(&self) -> u8
         ensures value { result ≡ self.now.stage }
         ensures low { 1 ≤ result }
-        ensures high { result ≤ 15 }
+        ensures high { result ≤ REPLY_STAGE }
     {
         self.stage
     }
@@ -317,9 +319,10 @@ impl Draft {
 
 /// The draft that fills unused places: a reply with a body of zeros.
 impl Default for Draft {
+    ghost use Rattle.tp_model.specs.declared.types.TheConstants.{REPLY_STAGE};
     ghost use Rattle.std.specs.Prelude.{[], ◌∷◌};
 
-    ghost is_default = { λ d. d ≡ record { stage = 15; body = 0 ∷ 0 ∷ 0 ∷ 0 ∷ [] } };
+    ghost is_default = { λ d. d ≡ record { stage = REPLY_STAGE; body = 0 ∷ 0 ∷ 0 ∷ 0 ∷ [] } };
 
     fn default() -> Draft {
         Draft {

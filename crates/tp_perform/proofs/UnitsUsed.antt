@@ -15,7 +15,7 @@ use Rattle.tp_workers.proofs.Turns.{turn_claims, turn_room}
 use Rattle.tp_commands.specs.Acting.{PlaceShown, TurnsAt}
 use Rattle.tp_perform.specs.Drains.{Turn, TurnTaken, has_claimed}
 use Rattle.tp_perform.specs.Scenes.{Scene, passes_in}
-use Rattle.tp_perform.specs.Units.{units_left, units_of}
+use Rattle.tp_perform.specs.Units.{units_left, units_left_to}
 
 -- how many elements a turn claimed
 abbrev pub count : Bool → ℕ
@@ -35,7 +35,7 @@ counted (turneds.Lost element) = refl
 counted (turneds.Full element) = refl
 
 module _ (l : Limits) where
-  turn_uses : (order : Order) (t : Turned) (p q : PlaceShown) → TurnsAt order l t p q → count (has_claimed t) + units_of l q.desk.pass ≡ units_of l p.desk.pass
+  turn_uses : (order : Order) (t : Turned) (p q : PlaceShown) → TurnsAt order l t p q → count (has_claimed t) + units_left_to l q.desk.pass ≡ units_left_to l p.desk.pass
   turn_uses order t p q f =
       let more = turn_claims order l p.desk.behaviour p.desk.registers p.desk.pass q.desk.pass t q.desk.registers f.turn.answer in
       let room = turn_room order l p.desk.behaviour p.desk.registers p.desk.pass q.desk.pass t q.desk.registers f.turn.answer in
@@ -46,19 +46,19 @@ module _ (l : Limits) where
   pass_of p = p.desk.pass
 
   -- one place went on
-  set_uses : (n : ℕ) (ps : List PlaceShown) (i : ℕ) (p q : PlaceShown) → slice_get ps i ≡ Some p → n + units_of l (pass_of q) ≡ units_of l (pass_of p)
+  set_uses : (n : ℕ) (ps : List PlaceShown) (i : ℕ) (p q : PlaceShown) → slice_get ps i ≡ Some p → n + units_left_to l (pass_of q) ≡ units_left_to l (pass_of p)
       → n + units_left l (map pass_of (slice_set ps i q)) ≡ units_left l (map pass_of ps)
   set_uses n [] i p q at one = absurd cc
   set_uses n (x ∷ ps) zero p q at one =
       let same : x ≡ p = cc in
-      let is = ap (λ z. units_of l (pass_of z)) same in
-      let before = sum_by-cons (units_of l) (pass_of x) (map pass_of ps) in
-      let after = sum_by-cons (units_of l) (pass_of q) (map pass_of ps) in
+      let is = ap (λ z. units_left_to l (pass_of z)) same in
+      let before = sum_by-cons (units_left_to l) (pass_of x) (map pass_of ps) in
+      let after = sum_by-cons (units_left_to l) (pass_of q) (map pass_of ps) in
       omega (arith, is, before, after, one)
   set_uses n (x ∷ ps) (suc i) p q at one =
       let rest = set_uses n ps i p q at one in
-      let before = sum_by-cons (units_of l) (pass_of x) (map pass_of ps) in
-      let after = sum_by-cons (units_of l) (pass_of x) (map pass_of (slice_set ps i q)) in
+      let before = sum_by-cons (units_left_to l) (pass_of x) (map pass_of ps) in
+      let after = sum_by-cons (units_left_to l) (pass_of x) (map pass_of (slice_set ps i q)) in
       omega (arith, rest, before, after)
 
   -- passes that have looked have used up none
@@ -69,17 +69,17 @@ module _ (l : Limits) where
   looks_use n h (p ∷ ps) (q ∷ qs) zip =
       let one = ap claims_in zip.0.quiet.mine in
       let rest = looks_use n h ps qs zip.1 in
-      let before = sum_by-cons (units_of l) p ps in
-      let after = sum_by-cons (units_of l) q qs in
+      let before = sum_by-cons (units_left_to l) p ps in
+      let after = sum_by-cons (units_left_to l) q qs in
       omega (arith, one, rest, before, after)
 
   abbrev in_scene : Scene → ℕ
   in_scene s = units_left l (passes_in s)
 
-  parts : (s : Scene) → in_scene s ≡ units_of l s.client + (units_left l (map pass_of s.places) + units_left l s.racers)
+  parts : (s : Scene) → in_scene s ≡ units_left_to l s.client + (units_left l (map pass_of s.places) + units_left l s.racers)
   parts s =
-      let first = sum_by-cons (units_of l) s.client (map pass_of s.places ++ s.racers) in
-      let rest = sum_by-append (units_of l) (map pass_of s.places) s.racers in
+      let first = sum_by-cons (units_left_to l) s.client (map pass_of s.places ++ s.racers) in
+      let rest = sum_by-append (units_left_to l) (map pass_of s.places) s.racers in
       omega (arith, first, rest)
 
 module _ (order : Order) (m : ManagerShown) (at : ℕ) (keeper keeper' : KeeperShown) (old new : Scene) (c : Bool) where
@@ -91,7 +91,7 @@ module _ (order : Order) (m : ManagerShown) (at : ℕ) (keeper keeper' : KeeperS
       let one = turn_uses l order t.turned t.turns.old t.turns.new t.turns.turns in
       let set = set_uses l (count (has_claimed t.turned)) old.places at t.turns.old t.turns.new t.turns.there one in
       let places = ap (λ ps. units_left l (map (pass_of l) ps)) t.turns.others in
-      let client = ap (units_of l) t.others.client in
+      let client = ap (units_left_to l) t.others.client in
       let racers = ap (units_left l) t.others.racers in
       let is = ap count t.claimed_is in
       let looked = looks_use l _ _ (passes_in t.done) (passes_in new) t.gathered.gathers.passes in

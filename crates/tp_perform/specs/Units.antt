@@ -5,9 +5,9 @@ use Rattle.tp_manager.specs.Calls.{claims_in}
 use Rattle.tp_manager.specs.Shown.{PassShown}
 
 -- the units of a pass that no claim of it has taken
-abbrev pub units_of : Limits → PassShown → ℕ
-units_of l p = l.units - claims_in p.mine
+abbrev pub units_left_to : Limits → PassShown → ℕ
+units_left_to l p = l.units - claims_in p.mine
 
 -- those of all these passes
 abbrev pub units_left : Limits → List PassShown → ℕ
-units_left l passes = sum_by (units_of l) passes
+units_left l passes = sum_by (units_left_to l) passes

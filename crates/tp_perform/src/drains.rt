@@ -20,8 +20,8 @@ use tp_report::{Answer, line};
 use tp_server::Server;
 
 /// Has the free desks take turns in rounds, whose claims are in this order, until a whole round claims nothing,
-/// and answers the line that tells of it. The passes are all that the keeper gave out: the client's, then one for
-/// each server, then those of races. They gather behind each turn.
+/// and returns its line. The passes are all that the keeper gave out: the client's, then one for
+/// each server, then those of races. They gather after each turn.
 pub(crate) fn drain_line(
     alloc: Global,
     manager: &Manager,

@@ -66,7 +66,7 @@ fn line_of(
 }
 
 /// Writes a final line for each server of a script, unless there is a race in it, since what a race leaves
-/// isn't told. The servers are the script's, in their order.
+/// isn't reported. The servers are the script's, in their order.
 pub fn finals<W: Sink>(
     alloc: Global,
     script: &Script,

@@ -1,4 +1,5 @@
 //! The command `race`: all free servers work, each on a thread of its own, beside clients and killers.
+ghost use Rattle.tp_model.specs.declared.types.TheConstants.{MAX_PART_ROWS};
 ghost use Rattle.std.specs.List.{swap};
 ghost use Rattle.std.specs.Prelude.{◌≡◌, ◌+◌, ◌-◌, ◌*◌, ◌≤◌, ◌<◌, ◌^◌, None, All, IfOk, length, replicate};
 ghost use Rattle.std.specs.Prelude.{sum_by, take, true};
@@ -42,7 +43,7 @@ fn client_job(alloc: Global, plan: Race) -> Result<ClientJob, AllocError>
 
 /// What each killer of a race is to do: to kill the elements of all rows in the parts of these clients.
 fn kill_job(plan: Race, clients: &[Pass], rows: u16) -> KillJob
-    requires { rows ≤ 256 }
+    requires { rows ≤ MAX_PART_ROWS }
     ensures job { result ≡ kill_job rows plan clients.now }
     ensures few { result.first + plan.clients * rows < 2 ^ 25 }
 {
@@ -54,7 +55,7 @@ fn kill_job(plan: Race, clients: &[Pass], rows: u16) -> KillJob
     KillJob { first, end }
 }
 
-/// The jobs of so many clients of a race, all alike.
+/// The jobs of this many clients of a race, all alike.
 fn client_jobs(alloc: Global, many: usize, plan: Race) -> Result<Vec<ClientJob>, AllocError>
     requires { IsServerStage plan.stage }
     ensures jobs { IfOk result (λ jobs. All IsClientJob jobs.items) }
@@ -69,7 +70,7 @@ fn client_jobs(alloc: Global, many: usize, plan: Race) -> Result<Vec<ClientJob>,
     Ok(jobs)
 }
 
-/// A list of so many jobs, all alike.
+/// A list of this many jobs, all alike.
 fn kill_jobs(alloc: Global, many: usize, job: KillJob) -> Result<Vec<KillJob>, AllocError>
     requires { IsKillJob job }
     ensures jobs { IfOk result (λ jobs. All IsKillJob jobs.items) }
@@ -84,7 +85,7 @@ fn kill_jobs(alloc: Global, many: usize, job: KillJob) -> Result<Vec<KillJob>, A
     Ok(jobs)
 }
 
-/// Has each free server take at most so many turns, while clients submit and killers kill, each on a thread
+/// Has each free server take at most this many turns, while clients submit and killers kill, each on a thread
 /// of its own; answers how many submits were accepted. The passes are the clients' and then the killers'.
 /// Each killer kills each id of the clients' rows once.
 pub(crate) fn run_race<R: Threads + Sync>(
@@ -104,7 +105,7 @@ pub(crate) fn run_race<R: Threads + Sync>(
     requires racers { All (IsFreePass manager.now) racers.old }
     requires enough { plan.clients ≤ length racers.old }
     requires most { length racers.old ≤ 510 }
-    requires rows { rows ≤ 256 }
+    requires rows { rows ≤ MAX_PART_ROWS }
     requires stage { IsServerStage plan.stage }
     ensures own { All (IsOf manager.now) passes.new }
     ensures lie { AllLie behaviour registers pending passes.new servers.new places.new }
@@ -137,7 +138,7 @@ pub(crate) fn run_race<R: Threads + Sync>(
 }
 
 /// Races the free servers among those from `at` on, and the ones before `front`, which are free: for that
-/// time the free ones stand in front, each with its pass.
+/// time the free ones come first, each with its pass.
 fn race_free<R: Threads + Sync>(
     rt: &R,
     manager: &Manager,
@@ -222,7 +223,7 @@ fn race_free<R: Threads + Sync>(
     submitted
 }
 
-/// Races the servers in front, which are free.
+/// Races the first servers, which are free.
 fn race_front<R: Threads + Sync>(
     rt: &R,
     manager: &Manager,

@@ -237,7 +237,7 @@ is_found s from stage reached (Some look) is =
 
 -- What it leaves.
 
--- so many attempts are below the limit
+-- this many attempts are below the limit
 pub waits_below : (s : State) (stage : ℕ) (e : Element) (n : ℕ) → IsReachable s → Waits s stage e n → n < s.limits.attempts
 waits_below s stage e n reached w = waiting_below s.limits s.history e.id n reached.legal reached.limits.attempts.0 w.waits
 

@@ -45,7 +45,7 @@ are_outputs l h c u root id (d ∷ ds) whole rows = (
   are_outputs l h c u root (id + 1) ds (All-tail IsWhole d ds whole) (λ i low high. rows i (omega arith) (omega arith)),
 )
 
--- and with the first id as the history tells it
+-- and with the first id as the history says it
 are_outputs_from : (l : Limits) (h : List Event) (c u root id : ℕ) (ds : List DraftView) → AreOutputs l h c u root id (outputs u root id ds) → AreOutputs l h c u root (first_id (outputs u root id ds)) (outputs u root id ds)
 are_outputs_from l h c u root id [] are = tt
 are_outputs_from l h c u root id (d ∷ ds) are = are

@@ -110,7 +110,7 @@ module _ (s : State) (c i r n : ℕ) (e : Element) (born_is : element_of s.histo
       go true less = let below : rounds s.history i < 3 = grind (arith, nat_tests) in absurd (omega arith)
       go false less = refl
 
--- the round that was read is the one that the history tells
+-- the round that was read is the one that the history says
 pub round_read : (l : Limits) (h : List Event) (kept : List ℕ) (i r : ℕ) → KeepsRounds l h kept → i < rows_of l → r ≡ slice_index_or kept i r → r ≡ rounds h i
 round_read l h kept i r k there read = get_or_read kept i r (rw k.as_many there) read 0 ∙ k.each i there
 

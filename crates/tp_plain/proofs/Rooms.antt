@@ -37,7 +37,7 @@ module _ (l : Limits) (h : List Event) (drawn c next left : ℕ) (run : RunFits 
   pub run_area : IsArea l run.first (next + left)
   run_area = ⊎_elim (λ part. inl (c, part)) (λ t. inr (t.0, t.2)) run.area
 
-  -- it lies in front of the blocks that are left
+  -- it lies before the blocks that are left
   pub run_below : next + left ≤ block_first l drawn
   run_below = ⊎_elim
       (λ part. let below : c < l.parts = part.0 in let at = part.2 in let all : suc c * l.rows ≤ l.parts * l.rows = mul-le-mul_right l.rows below in omega (arith, suc-mul c l.rows))

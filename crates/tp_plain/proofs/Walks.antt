@@ -164,7 +164,7 @@ module _ (s : State) (root : ℕ) (legal : IsLegal s.limits s.history) where
   abbrev h : List Event
   h = s.history
 
-  -- the test tells what has been reached
+  -- the test says what has been reached
 
   led : (gone : List ℕ) (j u : ℕ) (x : Element) → element_of h j ≡ Some x → x.by ≡ Some u → consumed_one s gone u ≡ true → IsReached limit h root gone j
   led gone j u x born by is =

@@ -7,7 +7,7 @@ use Rattle.tp_model.specs.declared.event.Event.{Event}
 use Rattle.tp_model.specs.Families.{family, IsSettledFamily, WorksOn}
 use Rattle.tp_plain.specs.OneThread.{State, start, Call, CallCancel, Answers, Run}
 
--- in the longer history g the family is settled and has the elements that it had in h, and no event behind h
+-- in the longer history g the family is settled and has the elements that it had in h, and no event after h
 -- claims an element of it, or commits a unit that claimed one
 pub record StaysSettled (l : Limits) (root : ℕ) (h g : List Event) : Type 0 where
   pub settled : IsSettledFamily l.attempts g root

@@ -29,7 +29,7 @@ use Rattle.tp_model.specs.declared.event.Event.TheVariants.{Enqueue, Claim, Comm
 use Rattle.tp_model.specs.Counts.{is_killed}
 use Rattle.tp_model.specs.Drafts.{DraftView}
 use Rattle.tp_model.specs.History.{element_of, UnitEnd, Committed, Aborted, end_of, rounds, status_of}
-use Rattle.tp_model.specs.declared.types.TheConstants.{MAX_ROUNDS, MAX_STAGE, REPLY_STAGE}
+use Rattle.tp_model.specs.declared.types.TheConstants.{MAX_OUTPUTS, MAX_ROUNDS, MAX_STAGE, REPLY_STAGE}
 use Rattle.tp_plain.specs.Looks.{look_at, sooner, attempts_in, is_unsettled_of, looks_after_all}
 use Rattle.tp_model.specs.Births.{IsWhole, request}
 use Rattle.tp_plain.specs.OneThread.{Answers, CallSubmit, CallClaim, CallClaimId, CallClaimNext, CallCommit}
@@ -86,7 +86,7 @@ abbrev pub claim_of_stage : State → ℕ → ℕ → Claimed × State
 claim_of_stage s c stage = if nat_lt (pass_at s c).claimed s.limits.units
     then claim_found s c (next_waiting s 0 stage) else (claimed.NoUnit, s)
 
--- a claim in turn of what was found to wait: the next one of the stage goes on behind it
+-- a claim in turn of what was found to wait: the next one of the stage goes on after it
 abbrev pub claim_next_found : State → ℕ → ℕ → Option Look → Claimed × State
 claim_next_found s c stage None = (claimed.Idle, s)
 claim_next_found s c stage (Some look) = (claimed.Work (work_on s c look), with_claim s c look (slice_set (pass_at s c).turns stage (look.element.id + 1)))
@@ -98,7 +98,7 @@ claim_next_of_stage s c stage =
     then claim_next_found s c stage (next_waiting s (turn_of s c stage) stage)
     else (claimed.NoUnit, s)
 
--- a claim of a given element that stands so
+-- a claim of a given element of this status
 abbrev pub claim_id_at : State → ℕ → Element → Status → Result Work Refusal × State
 claim_id_at s c e (Waiting n) =
     let look : Look = record { element = e; status = Waiting n } in
@@ -178,7 +178,7 @@ rounds_found s id (Some e) = Ok (rounds s.history id)
 abbrev pub rounds_of : State → ℕ → Result ℕ Refusal
 rounds_of s id = rounds_found s id (element_of s.history id)
 
--- a kill of an element that stands so
+-- a kill of an element of this status
 abbrev pub kill_at : State → ℕ → ℕ → Status → Result KilledAnswer Refusal × State
 kill_at s c i (Waiting n) = (Ok (record { units_aborted = 0 }), extended s (Kill c i))
 kill_at s c i (Held u n) = (Ok (record { units_aborted = 1 }), extended (extended s (Abort c u)) (Kill c i))
@@ -195,7 +195,7 @@ kill_found s c i (Some e) = kill_at s c i (status_of s.limits.attempts s.history
 abbrev pub kill_of : State → ℕ → ℕ → Result KilledAnswer Refusal × State
 kill_of s c i = kill_found s c i (element_of s.history i)
 
--- a release of an element that stands so
+-- a release of an element of this status
 abbrev pub release_at : State → ℕ → Status → Result Released Refusal × State
 release_at s c (Held u n) = (Ok (record { unit = u; attempt = n }), extended s (Abort c u))
 release_at s c other = (Err refusal.NotHeld, s)
@@ -238,7 +238,7 @@ collect_next_of s c root = collect_next_found s c (next_reply_of s root 0)
 abbrev pub family_of : State → ℕ → ℕ → Option Look
 family_of s root from = option_and_then (λ i. result_ok (read_of s i)) (next_member_of s root from)
 
--- a requeue of an element that stands so, and has had so many rounds
+-- a requeue of an element of this status, and has had this many rounds
 abbrev pub requeue_at : State → ℕ → ℕ → ℕ → Status → Result ℕ Refusal × State
 requeue_at s c i k (Waiting n) = (Err refusal.NotParked, s)
 requeue_at s c i k (Held u n) = (Err refusal.NotParked, s)
@@ -286,7 +286,7 @@ cancel_found s c root (Some e) =
 abbrev pub cancel_of : State → ℕ → ℕ → Result Cancelled Refusal × State
 cancel_of s c root = cancel_found s c root (element_of s.history root)
 
--- this answer and this state are the computed ones, unless memory was wanting, which changed nothing
+-- this answer and this state are the computed ones, unless it ran out of memory, which changed nothing
 abbrev pub IsComputed : {A : Type 0} → State → State → Result A Refusal → Result A Refusal × State → Type 0
 IsComputed old new (Ok x) computed = (computed.0 ≡ Ok x) × (new ≡ computed.1)
 IsComputed old new (Err refusal.NoMemory) computed = new ≡ old
@@ -323,7 +323,7 @@ pub record AreAllowed (s : State) (c : ℕ) : Type 0 where
       (claim_next_of_stage s c stage).1
   pub claim_id : (i : ℕ) → (pass_at s c).holding ≡ None
       → Answers s (CallClaimId c i (claim_id_of s c i).0) (claim_id_of s c i).1
-  pub commit : (u : ℕ) (drafts : List DraftView) → (pass_at s c).holding ≡ Some u → length drafts ≤ 4
+  pub commit : (u : ℕ) (drafts : List DraftView) → (pass_at s c).holding ≡ Some u → length drafts ≤ MAX_OUTPUTS
       → All IsWhole drafts
       → Answers s (CallCommit c drafts (Ok (commit_of s c drafts).0)) (commit_of s c drafts).1
   pub abort : (u : ℕ) → (pass_at s c).holding ≡ Some u → Answers s (CallAbort c (abort_of s c).0)

@@ -1,4 +1,4 @@
--- The looks of a manager of one thread: how each born element stands.
+-- The looks of a manager of one thread: the status of each born element.
 use Rattle.std.specs.Prelude.{◌≡◌, ◌<◌, length, slice_index_or, ℕ, ◌==◌, nat_lt, Bool, true, false, not, ◌&&◌}
 use Rattle.std.specs.Prelude.{◌||◌, if◌then◌else◌, Option, Some, None, List, map}
 use Rattle.tp_model.specs.declared.types.TheConstants.{REPLY_STAGE}

@@ -45,7 +45,7 @@ pub record State : Type 0 where
 abbrev pub no_pass : PassState
 no_pass = record { next = 0; left = 0; claimed = 0; holding = None; turns = replicate 16 0 }
 
--- pass c, which has done nothing: so many rows are left to it, all those of its part
+-- pass c, which has done nothing: this many rows are left to it, all those of its part
 abbrev pub fresh_pass : ℕ → ℕ → PassState
 fresh_pass rows c = record {
   next = c * rows;
@@ -164,7 +164,7 @@ pub record Submits (s : State) (c stage : ℕ) (body : List ℕ) (id : ℕ) (t :
   pub step : Step s.limits s.history (Enqueue c (request id stage body))
   pub after : t ≡ moved (with_draw s c 1) (Enqueue c (request id stage body)) c (used_up (ready s c 1) 1)
 
--- a submit is refused for its stage, then for want of a row, then for want of memory
+-- a submit is refused for its stage, then for the lack of a row, then as out of memory
 abbrev pub RefusesSubmit : State → ℕ → ℕ → Refusal → Type 0
 RefusesSubmit s c stage refusal.NoMemory = IsServerStage stage × HasRoom s c 1
 RefusesSubmit s c stage refusal.BadStage = ¬ IsServerStage stage
@@ -198,8 +198,8 @@ pub record Takes (s : State) (c stage : ℕ) (w : Work) (t : State) : Type 0 whe
 abbrev pub IsBefore : ℕ → ℕ → ℕ → Type 0
 IsBefore from id i = ((from ≤ i) × (i < id)) ⊎ ((id < from) × ((from ≤ i) ⊎ (i < id)))
 
--- a claim in turn took work: of the waiting elements of the stage the first behind the one that the pass took
--- last by such a claim, where behind the last id comes the first; and the next one begins behind it
+-- a claim in turn took work: of the waiting elements of the stage the first after the one that the pass took
+-- last by such a claim, where after the last id comes the first; and the next one begins after it
 pub record TakesNext (s : State) (c stage : ℕ) (w : Work) (t : State) : Type 0 where
   pub room : (pass_at s c).claimed < s.limits.units
   pub next : w.unit ≡ next_unit s c
@@ -288,7 +288,7 @@ AnswersCommit s c u drafts outcome.Lost t =
     (length drafts)))
 AnswersCommit s c u drafts outcome.Full t = IsFull s c (length drafts) × EndsByAbort s c u t
 
--- a commit that is neither full nor lost is refused for want of memory alone
+-- a commit that is neither full nor lost is refused only as out of memory
 abbrev pub RefusesCommit : State → ℕ → ℕ → List DraftView → Refusal → Type 0
 RefusesCommit s c u drafts refusal.NoMemory = HasRoom s c (length drafts)
     × (end_of s.history u ≢ Some Aborted)
@@ -315,7 +315,7 @@ RefusesRead s id other = ⊥
 abbrev pub extended : State → Event → State
 extended s e = record { limits = s.limits; history = s.history ++ e ∷ []; passes = s.passes; drawn = s.drawn }
 
--- a kill by pass c went through, after so many Aborts of its own: none where nobody held the element, and
+-- a kill by pass c went through, after this many Aborts of its own: none where nobody held the element, and
 -- else one, of the unit that held it
 abbrev pub Kills : State → ℕ → ℕ → ℕ → State → Type 0
 Kills s c i zero t = Step s.limits s.history (Kill c i) × (t ≡ extended s (Kill c i))

@@ -9,7 +9,7 @@ use Rattle.tp_model.specs.History.{In, births, pass_of, IsUnborn, UnitClaim, cla
 use Rattle.tp_model.specs.Steps.{AreLimits, IsBlock, IsOpen, IsLegal, IsPart, block_first}
 use Rattle.tp_plain.specs.OneThread.{State, pass_at}
 
--- the rows from `next` on that are left to pass c, where so many spare blocks are drawn, are a run
+-- the rows from `next` on that are left to pass c, where this many spare blocks are drawn, are a run
 pub record RunFits (l : Limits) (h : List Event) (drawn c next left : ℕ) : Type 0 where
   pub first : ℕ
   -- it reaches to the end of an area: of the pass's part, or of a drawn block

@@ -35,7 +35,7 @@ abbrev pub and_from : List ℕ → Option ℕ → List ℕ
 and_from gone None = gone
 and_from gone (Some i) = gone ++ i ∷ []
 
--- the walk after so many elements at most
+-- the walk after this many elements at most
 abbrev pub walk_for : State → ℕ → ℕ → List ℕ
 walk_for s root n = fold (λ gone k. and_from gone (next_of_walk s root gone)) [] (range_with_len 0 n)
 

@@ -8,10 +8,10 @@ use crate::plain::Plain;
 use tp_model::types::{Cancelled, Refusal};
 
 impl Plain {
-    /// Cancels the request of a client whose element has this id: kills each element of its family that is no
-    /// reply, and neither consumed nor killed, in the order of a walk through the family. A unit that holds
-    /// one is aborted first. From then on no element of the family is claimed or committed, and none is born.
-    /// Replies are left alone.
+    /// Cancels the request of a client whose element has this id. It kills each element of its family that is
+    /// no reply, and neither consumed nor killed, in the order of a walk through the family. A unit that
+    /// holds one is aborted first. From then on no element of the family is claimed or committed, and none is
+    /// born. Replies are left alone.
     ///
     /// `NotThere` where no client's element with this id is born.
     pub fn cancel(&mut self, caller: u16, root: u32) -> Result<Cancelled, Refusal>

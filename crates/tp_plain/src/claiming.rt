@@ -21,7 +21,7 @@ fn turn_in(places: &[u32; 16], stage: u8) -> u32
     places[stage as usize]
 }
 
-// The places with that of a stage behind this row.
+// The places with that of a stage after this row.
 fn go_on_behind(turns: [u32; 16], stage: u8, row: u32) -> [u32; 16]
     requires stage { IsServerStage stage }
     requires few { row < 65536 }
@@ -54,8 +54,8 @@ impl Plain {
         Ok(Claimed::Work(self.take(caller, look, used.turns)))
     }
 
-    /// A pass takes the waiting element of a stage, by its next unit, that comes first behind the one of the
-    /// stage that it took last by such a call. Behind the last id comes the first.
+    /// A pass takes the waiting element of a stage, by its next unit, that comes first after the one of the
+    /// stage that it took last by such a call. After the last id comes the first.
     pub fn claim_next(&mut self, caller: u16, stage: u8) -> Result<Claimed, Refusal>
         requires pass { caller < self.old.limits.parts }
         requires server { IsServerStage stage }
@@ -86,7 +86,7 @@ impl Plain {
         self.passes[caller as usize]
     }
 
-    // The first waiting element of a stage from an id on, where behind the last id comes the first.
+    // The first waiting element of a stage from an id on, where after the last id comes the first.
     fn first_waiting(&self, from: u32, stage: u8) -> Option<Look>
         ensures first { result ≡ next_waiting self.now from stage }
         ensures waits { IfSome result (λ look. Waits self.now stage look.element (attempts_in look.status)) }

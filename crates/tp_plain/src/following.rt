@@ -1,4 +1,4 @@
-//! The next element of a request, wherever it stands.
+//! The next element of a request, in whatever stage it is.
 ghost use Rattle.std.specs.Prelude.{◌≡◌};
 ghost use Rattle.tp_model.specs.History.{element_of};
 ghost use Rattle.tp_plain.specs.Computed.{family_of};
@@ -8,7 +8,7 @@ use crate::plain::Plain;
 use tp_model::types::Look;
 
 impl Plain {
-    /// The element of the request with this root that has the least id from this one on, and how it stands. `None`
+    /// The element of the request with this root that has the least id from this one on, and its status. `None`
     /// where there is none.
     pub fn family(&self, root: u32, from: u32) -> Option<Look>
         ensures computed { result ≡ family_of self.now root from }

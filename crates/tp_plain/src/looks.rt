@@ -1,4 +1,4 @@
-//! The looks of a manager of one thread: each born element as it stands.
+//! The looks of a manager of one thread: each born element with its status.
 ghost use Rattle.std.specs.Prelude.{◌≡◌, ◌==◌, if◌then◌else◌, ◌<◌, ◌+◌, ◌^◌, length, IfOk, map, Some};
 ghost use Rattle.std.specs.List.{find, fold, All};
 ghost use Rattle.tp_plain.specs.Listings.{reply_found};
@@ -78,7 +78,7 @@ pub(crate) fn apply(limit: u8, looks: &mut [Look], note: &Note<'_>)
     }
 }
 
-/// The first waiting element of a stage from an id on, where behind the last id comes the first.
+/// The first waiting element of a stage from an id on, where after the last id comes the first.
 pub(crate) fn next_waiting(looks: &[Look], from: u32, stage: u8) -> Option<Look>
     ensures { result ≡ fold (sooner from stage) None looks.now }
 {
@@ -178,7 +178,7 @@ pub(crate) fn fresh_looks(alloc: Global, outs: &[Element]) -> Result<Vec<Look>, 
     Ok(looks)
 }
 
-/// The id of the first of so many outputs, or 0 where there is none.
+/// The id of the first of this many outputs, or 0 where there is none.
 pub(crate) fn first_of(count: usize, first: u32) -> u32
     ensures { result ≡ (if count == 0 then 0 else first) }
 {

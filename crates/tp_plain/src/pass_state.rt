@@ -11,6 +11,6 @@ pub struct PassState {
     pub claimed: u16,
     /// The unit of work that it has claimed, and neither committed nor aborted itself.
     pub holding: Option<u16>,
-    /// For each stage the row behind the element that it took last in its turn, and 0 before.
+    /// For each stage the row after the element that it took last in its turn, and 0 before.
     pub turns: [u32; 16],
 }

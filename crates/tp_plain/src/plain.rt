@@ -1,4 +1,5 @@
 //! The manager of one thread.
+ghost use Rattle.tp_model.specs.declared.types.TheConstants.{MAX_OUTPUTS};
 ghost use Rattle.std.specs.Prelude.{◌≡◌, ℕ, nat_lt, ◌<◌, ◌≤◌, ◌↔◌, ◌⊎◌, length, map, IfOk, IfErr, IsSome};
 ghost use Rattle.std.specs.Prelude.{is_some, replicate};
 ghost use Rattle.std.specs.List.{range_with_len};
@@ -160,7 +161,7 @@ impl Plain {
     pub fn commit(&mut self, caller: u16, drafts: &[Draft]) -> Result<Outcome, Refusal>
         requires pass { caller < self.old.limits.parts }
         requires holding { IsSome (pass_at self.old caller).holding }
-        requires few { length drafts.now ≤ 4 }
+        requires few { length drafts.now ≤ MAX_OUTPUTS }
         ensures answer { Answers self.old (CallCommit caller drafts.now result) self.new }
         ensures computed { IsComputedOk self.old self.new result (commit_of self.old caller drafts.now) }
         ensures free { IfOk result (λ _. (pass_at self.new caller).holding ≡ None) }
@@ -288,7 +289,7 @@ impl Plain {
         self.history = self.history.then(note);
     }
 
-    /// The element with this id, and how it stands.
+    /// The element with this id, and its status.
     pub fn read(&self, id: u32) -> Result<Look, Refusal>
         ensures answer { Answers self.now (CallRead id result) self.now }
         ensures computed { result ≡ read_of self.now id }
@@ -300,7 +301,7 @@ impl Plain {
     }
 }
 
-// No round so far, for so many ids.
+// No round so far, for this many ids.
 fn fresh_rounds(alloc: Global, rows: u32) -> Result<Vec<u8>, AllocError>
     ensures { IfOk result (λ v. v.items ≡ replicate rows 0) }
 {
@@ -311,7 +312,7 @@ fn fresh_rounds(alloc: Global, rows: u32) -> Result<Vec<u8>, AllocError>
     Ok(rounds)
 }
 
-// So many passes that have done nothing, each with so many rows.
+// This many passes that have done nothing, each with this many rows.
 fn fresh_passes(alloc: Global, parts: u16, rows: u16) -> Result<Vec<PassState>, AllocError>
     ensures { IfOk result (λ v. v.items ≡ map (fresh_pass rows) (range_with_len 0 parts)) }
 {

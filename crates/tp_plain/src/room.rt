@@ -8,7 +8,7 @@ use crate::plain::Plain;
 use tp_model::types::{BLOCK_ROWS, Limits};
 
 impl Plain {
-    /// What a pass has used when it goes on to use so many rows. A block that it draws is then its run.
+    /// What a pass has used when it goes on to use this many rows. A block that it draws is then its run.
     pub(crate) fn ready(&self, caller: u16, rows: usize) -> PassState
         requires { caller < self.now.limits.parts }
         ensures { result ≡ ready self.now caller rows }
@@ -24,7 +24,7 @@ impl Plain {
         }
     }
 
-    /// How many spare blocks are drawn when a pass goes on to use so many rows.
+    /// How many spare blocks are drawn when a pass goes on to use this many rows.
     pub(crate) fn drawn_with(&self, caller: u16, rows: usize) -> u16
         requires { caller < self.now.limits.parts }
         ensures { result ≡ (with_draw self.now caller rows).drawn }
@@ -36,7 +36,7 @@ impl Plain {
         }
     }
 
-    // Whether a pass draws the next spare block for so many rows.
+    // Whether a pass draws the next spare block for this many rows.
     fn draws(&self, caller: u16, rows: usize) -> bool
         requires { caller < self.now.limits.parts }
         ensures { result ≡ draws self.now caller rows }
@@ -45,7 +45,7 @@ impl Plain {
     }
 }
 
-/// The first row of a spare block. For the number of blocks it is the row behind all.
+/// The first row of a spare block. For the number of blocks it is the row after all.
 pub(crate) fn block_first(limits: Limits, block: u16) -> u32
     requires limits { AreLimits limits }
     requires block { block ≤ limits.spare }

@@ -1,4 +1,4 @@
--- Each round of a drain that claims something uses a unit of work, and there are so many units and no more.
+-- Each round of a drain that claims something uses a unit of work, and there are this many units and no more.
 use Rattle.std.proofs.Common.{◌≡◌, ℕ, zero, suc, ◌+◌, ◌-◌, ◌*◌, ◌<◌, ◌≤◌, ◌||◌, nat_lt, Bool, true, false, List, [], ◌∷◌, length, Option, Some, None, Result, Ok, Err, slice_set, refl, sym, ◌∙◌, ap, subst, arith}
 use Rattle.std.specs.Prelude.{slice_get, sum_by, if◌then◌else◌}
 use Rattle.std.proofs.lemmas.Bool.{ltb-true}
@@ -33,7 +33,7 @@ use Rattle.tp_reference.specs.DrainEnds.{DrainsEnd}
 abbrev begun : PassState → ℕ
 begun p = p.claimed
 
--- how many are left to a pass that may begin so many, and to all passes
+-- how many are left to a pass that may begin this many, and to all passes
 abbrev left_of : ℕ → PassState → ℕ
 left_of units p = units - begun p
 

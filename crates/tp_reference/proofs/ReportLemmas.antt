@@ -49,7 +49,7 @@ unfolding rounds
 rounds_last order servers (suc n) s new some round = rw round refl
 rounds_last order servers zero s new some round = absurd (omega (arith, some))
 
--- and behind another one are those that are left
+-- and after another one are those that are left
 pub rounds_next : (order : Order) (servers : List ServerView) (n : ℕ) (s new : ReportState) → 0 < n → round_of order servers s ≡ (true, new) → rounds order servers n s ≡ rounds order servers (n - 1) new
 unfolding rounds
 rounds_next order servers (suc n) s new some round =

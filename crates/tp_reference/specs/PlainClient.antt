@@ -1,4 +1,4 @@
--- What the script's own client is told where nobody else acts: each command with its line, computed. The
+-- What the script's own client is answered where nobody else acts: each command with its line, computed. The
 -- client acts through pass 0.
 use Rattle.std.specs.Prelude.{ℕ, zero, suc, ◌==◌, ◌&&◌, if◌then◌else◌, List, [], ◌∷◌, ◌++◌, Bool, Option}
 use Rattle.std.specs.Prelude.{Some, None, Result, Ok, Err}
@@ -110,7 +110,7 @@ unfoldable pub counts_below : thread.State → ℕ → Counts
 counts_below m zero = record { waiting = 0; held = 0; consumed = 0; parked = 0; killed = 0 }
 counts_below m (suc id) = counted (read_of m id) (counts_below m id)
 
--- how all elements stand
+-- how many elements have each status
 abbrev pub counts_of : thread.State → Counts
 counts_of m = counts_below m (rows_of m.limits)
 

@@ -28,7 +28,7 @@ pub record ReportState : Type 0 where
   pub manager : thread.State
   pub desks : List PlainDesk
 
--- the pass of the server at a place: behind the client's, in the order of the servers
+-- the pass of the server at a place: after the client's, in the order of the servers
 abbrev pub worker : ℕ → ℕ
 worker i = i + 1
 
@@ -86,7 +86,7 @@ round_turn order (Some server) (Some desk) i s =
     else (false, s)
 round_turn order server desk i s = (false, s)
 
--- a round of the servers in front of a place: each free desk takes one turn, in the order of the servers
+-- a round of the servers before a place: each free desk takes one turn, in the order of the servers
 unfoldable pub round_below : Order → List ServerView → ℕ → ReportState → Bool × ReportState
 round_below order servers zero s = (false, s)
 round_below order servers (suc i) s =
@@ -98,7 +98,7 @@ round_below order servers (suc i) s =
 abbrev pub round_of : Order → List ServerView → ReportState → Bool × ReportState
 round_of order servers s = round_below order servers (length servers) s
 
--- rounds, one after another, until one claims nothing, and so many at most
+-- rounds, one after another, until one claims nothing, and this many at most
 unfoldable pub rounds : Order → List ServerView → ℕ → ReportState → ReportState
 rounds order servers zero s = s
 rounds order servers (suc n) s =
@@ -139,13 +139,13 @@ abbrev pub final_line : Option ServerView → Option PlainDesk → List ℕ
 final_line (Some server) (Some desk) = line (final_text server.name desk.registers)
 final_line server desk = []
 
--- the final lines of the servers in front of a place, in their order
+-- the final lines of the servers before a place, in their order
 unfoldable pub finals_below : List ServerView → List PlainDesk → ℕ → List ℕ
 finals_below servers desks zero = []
 finals_below servers desks (suc i) = finals_below servers desks i ++ final_line (slice_get servers i)
     (slice_get desks i)
 
--- the manager when the desks in front of a place are ended: what each of them has in hand is given up
+-- the manager when the desks before a place are ended: what each of them has in hand is given up
 unfoldable pub ended_below : thread.State → ℕ → thread.State
 ended_below m zero = m
 ended_below m (suc i) = given_up (ended_below m i) (worker i)
@@ -155,7 +155,7 @@ abbrev pub account_line : Bool → ℕ → ReportState → List ℕ
 account_line true servers s = line (account_text (counts_of (ended_below s.manager servers)))
 account_line false servers s = []
 
--- what is told behind the commands
+-- what is printed after the commands
 abbrev pub closing : List ServerView → Bool → ReportState → List ℕ
 closing servers account s = finals_below servers s.desks (length servers)
     ++ account_line account (length servers) s

@@ -16,7 +16,7 @@ abbrev pub races : Result ScriptView Refused → Bool
 races (Ok s) = has_race s.commands
 races (Err r) = false
 
--- Without fault the report is written and nothing else, after a lack of memory or a failed write a front of
+-- Without fault the report is written and nothing else, where memory ran out or a write failed a prefix of
 -- it, and after a failed read nothing. The exit says whether the script was refused, or wasn't run for a race
 -- in it; then nothing is written.
 abbrev pub Reports : Result PlainExit Fault → Result ScriptView Refused → Option (List ℕ) → Option (List ℕ)

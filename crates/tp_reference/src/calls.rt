@@ -1,4 +1,5 @@
 //! The calls of a server's pass to the manager of one thread, and what they leave of the client's.
+ghost use Rattle.tp_model.specs.declared.types.TheConstants.{MAX_OUTPUTS};
 ghost use Rattle.std.specs.Prelude.{◌≡◌, ◌<◌, ◌≤◌, None, length, IfOk, IsSome};
 ghost use Rattle.tp_model.specs.History.{element_of};
 ghost use Rattle.tp_model.specs.Steps.{IsServerStage};
@@ -64,7 +65,7 @@ fn is_of_other(plain: &Plain, stage: u8, id: u32) -> bool
 pub(crate) fn commit(plain: &mut Plain, pass: u16, drafts: &[Draft]) -> Result<Outcome, AllocError>
     requires pass { (1 ≤ pass) × (pass < plain.old.limits.parts) }
     requires holding { IsSome (pass_at plain.old pass).holding }
-    requires few { length drafts.now ≤ 4 }
+    requires few { length drafts.now ≤ MAX_OUTPUTS }
     ensures gives { IfOk result (λ a. commit_of plain.old pass drafts.now ≡ (a, plain.new)) }
     ensures client { IfOk result (λ _. (pass_at plain.new 0).holding ≡ (pass_at plain.old 0).holding) }
     ensures limits { plain.new.limits ≡ plain.old.limits }

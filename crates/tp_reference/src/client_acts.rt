@@ -1,4 +1,4 @@
-//! What the script's own client asks of the manager of one thread, and what it is told.
+//! What the script's own client asks of the manager of one thread, and what it is answered.
 ghost use Rattle.std.specs.Prelude.{◌≡◌, ◌+◌, ◌-◌, ◌<◌, ◌≤◌, ◌^◌, None, IfOk, OnOk, string_bytes};
 ghost use Rattle.tp_model.specs.Accounts.{all_in, one_more};
 ghost use Rattle.tp_model.specs.Steps.{rows_of};
@@ -235,7 +235,7 @@ fn collect_all(plain: &mut Plain, replies: &[Element])
     }
 }
 
-/// How all elements stand.
+/// How many elements have each status.
 pub(crate) fn counts(plain: &Plain) -> Counts
     ensures { result ≡ counts_of plain.now }
 {
@@ -264,7 +264,7 @@ fn counted_with(plain: &Plain, id: u32, counts: Counts) -> Counts
     }
 }
 
-/// These counts, and one element more, which stands so.
+/// These counts, and one more element of this status.
 fn one_more(counts: Counts, status: Status) -> Counts
     requires { all_in counts < 2 ^ 32 - 1 }
     ensures { result ≡ one_more status counts }

@@ -1,4 +1,4 @@
-//! What is told behind the commands of a script over the manager of one thread.
+//! What is printed after the commands of a script over the manager of one thread.
 ghost use Rattle.std.specs.Prelude.{◌≡◌, ◌<◌, map, length, string_bytes, IfOk, slice_get};
 ghost use Rattle.tp_script.specs.Script.{server_view};
 ghost use Rattle.tp_reference.specs.PlainReport.{account_line, closing, ended_below, final_line};

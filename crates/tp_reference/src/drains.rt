@@ -23,7 +23,7 @@ fn has_claimed(answer: ServerAnswer) -> bool
     }
 }
 
-/// How many rounds a drain has at most, with so many servers whose passes may each begin so many units.
+/// How many rounds a drain has at most, with this many servers whose passes may each begin this many units.
 fn most_rounds(servers: usize, units: u16) -> u32
     requires { servers ≤ MAX_SERVERS }
     ensures { result ≡ (1 + servers) * units + 1 }

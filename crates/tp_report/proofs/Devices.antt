@@ -42,7 +42,7 @@ pub written_line : (a b c : Option (List ℕ)) (bytes line after : List ℕ) →
 written_line a b c bytes line after so_far more =
     (so_far.0 ++ line, so_far.1 ∙ sym (append_assoc so_far.0 line after), Appends-then a b c so_far.0 line so_far.2 more)
 
--- a front of a line more
+-- a prefix of a line more
 pub front_more : (a b c : Option (List ℕ)) (bytes line after : List ℕ) → IsWrittenUpTo a b bytes (line ++ after) → AppendsFront b c line → AppendsFront a c bytes
 front_more a b c bytes line after so_far more =
     (more.0 ++ after, (so_far.0 ++ more.1.0, so_far.1 ∙ ap (λ (w : List ℕ). so_far.0 ++ (w ++ after)) more.1.1 ∙ ap (λ (w : List ℕ). so_far.0 ++ w) (append_assoc more.1.0 more.0 after) ∙ sym (append_assoc so_far.0 more.1.0 (more.0 ++ after)), Appends-then a b c so_far.0 more.1.0 so_far.2 more.1.2))
@@ -67,6 +67,6 @@ pub if_some : {A : Type 0} (o : Option A) (P : A → Type 0) → ((x : A) → P 
 if_some None P h = tt
 if_some (Some x) P h = h x
 
--- a front of what follows is a front of the whole
+-- a prefix of what follows is a prefix of the whole
 pub front_then : (a b c : Option (List ℕ)) (xs ys : List ℕ) → Appends a b xs → AppendsFront b c ys → AppendsFront a c (xs ++ ys)
 front_then a b c xs ys p q = (q.0, (xs ++ q.1.0, ap (λ (w : List ℕ). xs ++ w) q.1.1 ∙ sym (append_assoc xs q.1.0 q.0), Appends-then a b c xs q.1.0 p q.1.2))

@@ -29,15 +29,15 @@ nothing_written most a = lines_front 0 most a a (omega arith) (no_lines a)
 pub lines_then : (n m : ℕ) (a b c : Option (List ℕ)) → Writes n a b → Writes m b c → Writes (n + m) a c
 lines_then n m a b c p q = (p.0 ++ q.0, both n m p.0 q.0 p.1 q.1, Appends-then a b c p.0 q.0 p.2 q.2)
 
--- some lines, and then a front of others
+-- some lines, and then a prefix of others
 pub lines_then_front : (n m : ℕ) (a b c : Option (List ℕ)) → Writes n a b → WritesFront m b c → WritesFront (n + m) a c
 lines_then_front n m a b c p q = (n + q.0, p.0 ++ q.1, omega (arith, q.2), both n q.0 p.0 q.1 p.1 q.3, front_then a b c p.0 q.1 p.2 q.4)
 
--- a front of fewer lines
+-- a prefix of fewer lines
 pub front_fewer : (n m : ℕ) (a b : Option (List ℕ)) → n ≤ m → WritesFront n a b → WritesFront m a b
 front_fewer n m a b le w = (w.0, w.1, omega (arith, le, w.2), w.3, w.4)
 
--- a line behind n lines
+-- a line after n lines
 added : (n : ℕ) (front last : List ℕ) → AreLines n front → IsLine last → AreLines (n + 1) (front ++ last)
 added n front last lines is =
     let more : AreLines (suc n) (front ++ last) = (front, last, lines, is, refl) in

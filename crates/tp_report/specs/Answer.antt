@@ -98,7 +98,7 @@ abbrev pub maker_text : Option ℕ → List ℕ
 maker_text None = codes "client"
 maker_text (Some unit) = decimal unit
 
--- how an element stands
+-- the status of an element
 abbrev pub status_text : Status → List ℕ
 status_text (status.Waiting attempts) = codes "waiting " <> decimal attempts
 status_text (status.Held unit attempt) = codes "held " <> decimal unit <> codes " " <> decimal attempt
@@ -106,7 +106,7 @@ status_text (status.Consumed unit) = codes "consumed " <> decimal unit
 status_text (status.Parked attempts) = codes "parked " <> decimal attempts
 status_text status.Killed = codes "killed"
 
--- whether words 2 and 3 of a body are 0: then they aren't told
+-- whether words 2 and 3 of a body are 0: then they aren't printed
 abbrev pub is_short : List ℕ → Bool
 is_short body = (slice_index body 2 == 0) && (slice_index body 3 == 0)
 
@@ -142,7 +142,7 @@ replies_text root replies = (codes "replies " <> decimal root) <> flat_map reply
 abbrev pub collected_text : ℕ → List Element → List ℕ
 collected_text root replies = (codes "collected " <> decimal root) <> flat_map reply_text replies
 
--- how an element stands, in one word
+-- the status of an element, in one word
 abbrev pub state_text : Status → List ℕ
 state_text (status.Waiting attempts) = codes "waiting"
 state_text (status.Held unit attempt) = codes "held"
@@ -150,7 +150,7 @@ state_text (status.Consumed unit) = codes "consumed"
 state_text (status.Parked attempts) = codes "parked"
 state_text status.Killed = codes "killed"
 
--- an element of a request: its id, its stage, and how it stands
+-- an element of a request: its id, its stage, and its status
 abbrev pub member_text : Look → List ℕ
 member_text look = (codes " " <> decimal look.element.id <> codes ":" <> decimal look.element.stage <> codes ":") <> state_text look.status
 
@@ -162,11 +162,11 @@ family_text root looks = (codes "family " <> decimal root) <> flat_map member_te
 abbrev pub errors_text : List ℕ → List ℕ
 errors_text ids = codes "errors" <> flat_map (λ id. codes " " <> decimal id) ids
 
--- how many elements stand in each way
+-- how many elements have each status
 abbrev pub counts_text : Counts → List ℕ
 counts_text c = codes "waiting " <> decimal c.waiting <> codes " held " <> decimal c.held <> codes " consumed " <> decimal c.consumed <> codes " parked " <> decimal c.parked <> codes " killed " <> decimal c.killed
 
--- how many are born, and how they stand
+-- how many are born, and how many have each status
 abbrev pub account_text : Counts → List ℕ
 account_text c = codes "account born " <> decimal (all_in c) <> codes " " <> counts_text c
 

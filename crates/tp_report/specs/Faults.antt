@@ -26,7 +26,7 @@ exit_status (Ok exits.Done) = 0
 exit_status (Ok exits.Refused) = 2
 exit_status (Err fault) = 1
 
--- after a fault its line is written, or a front of it where the writer has failed, and without one nothing
+-- after a fault its line is written, or a prefix of it where the writer has failed, and without one nothing
 abbrev pub TellsFault : Result Exit Fault → Bool → Option (List ℕ) → Option (List ℕ) → Type 0
 TellsFault (Ok exit) failed before after = after ≡ before
 TellsFault (Err fault) failed before after = AppendsUnlessFailed failed before after (line (fault_text fault))

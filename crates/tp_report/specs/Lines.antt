@@ -18,7 +18,7 @@ AreLines (suc n) text = (front last : List ℕ) × AreLines n front × IsLine la
 abbrev pub Writes : ℕ → Option (List ℕ) → Option (List ℕ) → Type 0
 Writes n old new = (text : List ℕ) × AreLines n text × Appends old new text
 
--- a front of at most n such lines was written
+-- a prefix of at most n such lines was written
 abbrev pub WritesFront : ℕ → Option (List ℕ) → Option (List ℕ) → Type 0
 WritesFront n old new = (some : ℕ) × (text : List ℕ) × (some ≤ n) × AreLines some text
     × AppendsFront old new text

@@ -11,7 +11,7 @@ use crate::sink::{Sink, write_all};
 use std::alloc::Global;
 use tp_model::types::Account;
 
-/// Writes the line of the closing account: how many elements are born, and how many of them stand in each
+/// Writes the line of the closing account: how many elements are born, and how many of them have each
 /// way.
 pub fn account_line<W: Sink>(
     alloc: Global,

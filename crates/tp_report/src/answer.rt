@@ -1,4 +1,4 @@
-//! The answers that commands come to. Each is one line of the report; `display.rt` says how they are told.
+//! The answers that commands come to. Each is one line of the report; `display.rt` has their texts.
 ghost use Rattle.std.specs.Prelude.{◌≡◌, IfOk, string_bytes};
 ghost use Rattle.tp_script.specs.Fault.{refused_text};
 ghost use Rattle.tp_report.specs.Answer.{answer_text, line};
@@ -65,12 +65,12 @@ pub enum Answer<'a> {
         root: u32,
         replies: &'a [Element],
     },
-    /// The element is killed, and so many units that held it were aborted.
+    /// The element is killed, and this many units that held it were aborted.
     Killed {
         id: u32,
         aborted: u8,
     },
-    /// The request of this root is cancelled, and so many elements were killed.
+    /// The request of this root is cancelled, and this many elements were killed.
     Cancelled {
         root: u32,
         killed: u32,
@@ -111,9 +111,9 @@ pub enum Answer<'a> {
         k: u64,
         sum: u128,
     },
-    /// How many elements stand in each way.
+    /// How many elements have each status.
     Count(Counts),
-    /// How many elements are born at the end, and how they stand.
+    /// How many elements are born at the end, and how many have each status.
     Account(Counts),
     /// How many submits of a race's clients were accepted.
     Raced {

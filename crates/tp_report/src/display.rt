@@ -1,4 +1,4 @@
-//! How answers are told: the one place where the texts of a report's lines stand.
+//! The texts of answers: the one place where the texts of a report's lines are.
 ghost use Rattle.std.specs.Prelude.{◌≡◌, Some};
 ghost use Rattle.std.specs.Fmt.{WritesOnOk};
 ghost use Rattle.tp_report.specs.Answer.{turned_text, server_text, refusal_name, refusal_number};
@@ -116,7 +116,7 @@ fn maker<W: fmt::Write>(f: &mut fmt::Formatter<W>, by: Option<u16>) -> fmt::Resu
     }
 }
 
-// How an element stands.
+// The status of an element.
 fn status<W: fmt::Write>(f: &mut fmt::Formatter<W>, status: Status) -> fmt::Result
     ensures { WritesOnOk W.write_str_gives f.old result (status_text status) f.new }
 {
@@ -129,7 +129,7 @@ fn status<W: fmt::Write>(f: &mut fmt::Formatter<W>, status: Status) -> fmt::Resu
     }
 }
 
-// Whether words 2 and 3 of a body are 0: then they aren't told.
+// Whether words 2 and 3 of a body are 0: then they aren't printed.
 fn is_short(body: &Body) -> bool
     ensures { result ≡ is_short body.now }
 {
@@ -216,7 +216,7 @@ fn collected<W: fmt::Write>(
     Ok(())
 }
 
-// How an element stands, in one word.
+// The status of an element, in one word.
 fn state<W: fmt::Write>(f: &mut fmt::Formatter<W>, status: Status) -> fmt::Result
     ensures { WritesOnOk W.write_str_gives f.old result (state_text status) f.new }
 {
@@ -232,7 +232,7 @@ fn state<W: fmt::Write>(f: &mut fmt::Formatter<W>, status: Status) -> fmt::Resul
     }
 }
 
-// An element of a request: its id, its stage, and how it stands.
+// An element of a request: its id, its stage, and its status.
 fn member<W: fmt::Write>(f: &mut fmt::Formatter<W>, look: &Look) -> fmt::Result
     ensures { WritesOnOk W.write_str_gives f.old result (member_text look.now) f.new }
 {
@@ -290,7 +290,7 @@ fn last<W: fmt::Write>(f: &mut fmt::Formatter<W>, name: &str, registers: &[u64])
     Ok(())
 }
 
-// How many elements stand in each way.
+// How many elements have each status.
 fn counts<W: fmt::Write>(f: &mut fmt::Formatter<W>, all: Counts) -> fmt::Result
     ensures { WritesOnOk W.write_str_gives f.old result (counts_text all) f.new }
 {

@@ -56,7 +56,7 @@ pub enum Fault {
     NoMemory,
     /// The script could not be read: nothing of it was run.
     Read,
-    /// The report could not be written: what was written is a front of it.
+    /// The report could not be written: what was written is a prefix of it.
     Write,
 }
 
@@ -103,7 +103,7 @@ pub fn exit_status(outcome: Result<Exit, Fault>) -> u8
     }
 }
 
-/// Writes the line of the fault with which the program ended, if it did. Where the writer fails, a front of
+/// Writes the line of the fault with which the program ended, if it did. Where the writer fails, a prefix of
 /// it is written.
 pub fn write_fault<W: Sink>(outcome: Result<Exit, Fault>, writer: &mut W)
     ensures { TellsFault outcome (W.has_failed writer.new) (W.contents writer.old) (W.contents writer.new) }

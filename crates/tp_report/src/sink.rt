@@ -14,7 +14,7 @@ pub trait Sink {
 
     ghost has_failed: { Self → Bool };
 
-    /// Takes a front of the bytes, and answers how many. To take none of some is a failure; `Failed` where
+    /// Takes a prefix of the bytes, and answers how many. To take none of some is a failure; `Failed` where
     /// the writer failed and took none.
     fn write(&mut self, bytes: &[u8]) -> Result<usize, Failed>
         ensures count { IfOk result (λ n. n ≤ length bytes.now) }
@@ -85,7 +85,7 @@ fn write_again<W: Write>(writer: &mut W, bytes: &[u8]) -> Result<usize, Failed>
     Err(Failed)
 }
 
-/// Writes all the bytes, or a front of them.
+/// Writes all the bytes, or a prefix of them.
 pub fn write_all<S: Sink>(sink: &mut S, bytes: &[u8]) -> Result<(), Failed>
     ensures ok { OnOk result (Appends (S.contents sink.old) (S.contents sink.new) bytes.now) }
     ensures err { OnErr result (AppendsFront (S.contents sink.old) (S.contents sink.new) bytes.now) }

@@ -22,7 +22,7 @@ alone v a = record { limits = v.limits; seen = v.seen; also_seen = v.also_seen; 
 only : (v : View) → IsOnePass v → alone v (hand v) ≡ v
 only v one = (λ i. record { limits = v.limits; seen = v.seen; also_seen = v.also_seen; known = v.known; hands = sym one i })
 
--- a word that is stored behind others is one more of the body
+-- a word that is stored after others is one more of the body
 word_alone : (v : View) (a : Hand) (b : List ℕ) (k x : ℕ) → drafted (with_word k x) (drafted (with_body b) (alone v a)) ≡ drafted (with_body (set b k x)) (drafted unchanged (alone v a))
 word_alone v a b k x = refl
 
@@ -60,7 +60,7 @@ stored_kept (suc n) v one =
     (one_after kinds.DraftStore unchanged (stored n v).seen (stored n v).known (stored n v) (stored (suc n) v) (stored_one n v one) refl).1 ∙ ap (λ (h : Hand). noted kinds.DraftStore (stored n v).seen h) (stored_kept n v one) in
     is ∙ sym (ap (λ (h : Hand). with_trace h.trace (hand v)) is)
 
--- n stores were made, and the words b stand in the next row by now
+-- n stores were made, and the words b are in the next row by now
 abbrev Worded : ℕ → List ℕ → View → View → Type 0
 Worded zero b v w = (w ≡ v) × ((hand v).next_body ≡ b)
 Worded (suc n) b v w = w ≡ drafted (with_body b) (stored n v)
@@ -93,7 +93,7 @@ if_few false = omega arith
 one_at_most : (x : ℕ) → stores_of_word x ≤ 1
 one_at_most x = if_few (x == 0)
 
--- the body stands there, then
+-- the body is there, then
 bodied_by : (v w : View) (body : List ℕ) (m : ℕ) → IsOnePass v → m ≡ stores_of body → m ≤ BODY_WORDS → Worded m body v w → Bodied body v w
 bodied_by v w body zero one exact few none = record {
   stores = 0;

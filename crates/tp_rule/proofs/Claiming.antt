@@ -35,7 +35,7 @@ use Rattle.tp_rule.proofs.Storing.{drawn_rises, may_claim, row_left}
 use Rattle.tp_rule.proofs.Tellings.{claim_now, told_later}
 use Rattle.tp_rule.proofs.Units.{decide}
 
--- a claim's word tells the claim
+-- a claim's word holds the claim
 pub claim_told : (a b : ClaimWord) → IsFitClaim a → IsFitClaim b → pack_claim a ≡ pack_claim b → a ≡ b
 claim_told FreeWord FreeWord f g e = refl
 claim_told FreeWord (TakenWord m v s) f g e = absurd (omega arith)
@@ -123,7 +123,7 @@ module _ (k : Limits) where
   round_fits (KilledWord n u r) f = f.3
   round_fits (AgainWord r) f = f.1
 
-  -- the claim that stands where its word was found
+  -- the claim that is there where its word was found
   pub claim_there : (t : Turn k) (row old : ℕ) (w : ClaimWord) → row < rows_of k → IsFitClaim w → old ≡ pack_claim w → get_or t.state.words (claim_place row) 0 ≡ old → claim_word t.rule.history row ≡ w
   claim_there t row old w room fit from hit = let told = t.rule.world.tells (ClaimOf row) room in claim_told (claim_word t.rule.history row) w told.1 fit (sym told.0 ∙ (hit ∙ from))
 

@@ -107,7 +107,7 @@ module _ (k : Limits) where
         (λ ne. r.closed z j o q (holds_no_other held u z holding ne) (decide_undecided z (end_of h z) e (sym (end_of-snoc h e z) ∙ un)))) (λ q. other c z j o q) (claim_either h e c z j o p);
   }
 
-  -- what the words tell after an event that decides unit u, where those of each row that is born hold its element
+  -- what the words say after an event that decides unit u, where those of each row that is born hold its element
   decided_told : (h : List Event) (ws : List ℕ) (e : Event) (u : ℕ) → ((i : ℕ) → claim_word_after i (claim_word h i) e ≡ claim_word h i) → ((z : ℕ) → z ≢ u → decide z (end_of h z) e ≡ end_of h z)
       → ((y : Element) → In y (births e) → Holds ws y × IsFitHead (head_of y)) → (w : Word) → IsThere k w → w ≢ UnitWord u → WordIs h w (get_or ws (place_of k w) 0) → WordIs (h ++ e ∷ []) w (get_or ws (place_of k w) 0)
   decided_told h ws e u quiet else_is full (HeadWord i) at other old = head_later h e i (get_or ws (head_place i) 0) (λ y q id. let f = full y q in (subst (λ z. get_or ws (head_place z) 0 ≡ pack_head (head_of y)) id f.0.0, f.1)) old

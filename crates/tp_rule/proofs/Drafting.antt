@@ -41,7 +41,7 @@ module _ (k : Limits) where
     abbrev stored_words : List ℕ
     stored_words = set ws (place_of k w) x
 
-    -- leaves the drafts, which are behind it
+    -- leaves the drafts, which are after it
     pub drafts_stay : (body : List ℕ) (ds : List Element) → body_row w ≡ Some row → 0 < rest → RowsHold h ws first end first_draft row rest body ds → (e : Element) → In e ds → Holds stored_words e
     drafts_stay body ds is room r e q = let b = in_run first_draft ds e r.run q in let low = b.0 in let high = b.1 in let count = r.counted in let top = r.ends in
         holds_same ws stored_words e (row_left k ws w x at e.id (omega arith) (λ z. let same : e.id ≡ row = cc in omega arith)) (r.written e q)
@@ -53,7 +53,7 @@ module _ (k : Limits) where
     heads_left : (i : ℕ) → w ≢ HeadWord i → i < end → get_or ws (head_place i) 0 ≡ 0 → get_or stored_words (head_place i) 0 ≡ 0
     heads_left i other below empty = head_left i other below ∙ empty
 
-    -- no word of a body behind it is stored
+    -- no word of a body after it is stored
     pub unwritten_behind : body_row w ≡ Some row → row + rest ≡ end → ((i : ℕ) → row + 1 ≤ i → i < row + rest → IsUnwritten ws i)
         → (i : ℕ) → row + 1 ≤ i → i < row + rest → IsUnwritten stored_words i
     unwritten_behind is top old i low high j few =
@@ -88,7 +88,7 @@ module _ (k : Limits) where
       e_whole,
     )
 
-    -- no head behind it is stored
+    -- no head after it is stored
     pub empty_behind : row + rest ≡ end → w ≡ HeadWord row → (i : ℕ) → row + 1 ≤ i → i < row + rest → ((j : ℕ) → row ≤ j → j < row + rest → get_or ws (head_place j) 0 ≡ 0) → get_or stored_words (head_place i) 0 ≡ 0
     empty_behind top is i low high empty = heads_left i (λ e. let q : HeadWord row ≡ HeadWord i = sym is ∙ e in let same : row ≡ i = cc in omega arith) (omega arith) (empty i (omega arith) high)
 
@@ -155,7 +155,7 @@ module _ (k : Limits) where
     pub next_tells : (w : Word) → body_row w ≡ Some next → (i : ℕ) → body_row w ≡ Some i → IsMine k t i
     next_tells w is i at = subst (IsMine k t) (row_is_next w i is at) next_own
 
-    -- a store to a word of the row that the pass draws next, of which the history tells nothing
+    -- a store to a word of the row that the pass draws next, of which the history says nothing
     stores : (w : Word) (x : ℕ) → IsThere k w → body_row w ≡ Some next → WordIs t.rule.history w x → (f : Hand → Hand) → Stays k t f
         → HandHolds k t.rule.history (set t.state.words (place_of k w) x) (f (me k t))
         → Rule k record { words = set t.state.words (place_of k w) x; homes = t.state.homes; views = set t.state.views t.id (drafted f t.view) }

@@ -102,7 +102,7 @@ module _ (k : Limits) where
     written = λ x q. absurd (in_none q);
   }
 
-  -- the counter stands at b, and is raised to one more
+  -- the counter is at b, and is raised to one more
   module _ (t : Turn k) (b : ℕ) (none : (hand t.view).drafts ≡ []) (room : b < k.spare) (at_b : drawn_in k t.state.words ≡ b) where
     abbrev words_after : List ℕ
     words_after = set t.state.words (drawn_place k) (b + 1)
@@ -194,7 +194,7 @@ module _ (k : Limits) where
       holds = λ c has. in_left (b ∷ []) has;
     }
 
-  -- the counter doesn't stand there, and the seat remembers it
+  -- the counter isn't there, and the seat remembers it
   not_drawn : (t : Turn k) → Rule k record { words = t.state.words; homes = t.state.homes; views = set t.state.views t.id (drew unchanged (drawn_in k t.state.words) t.view) }
   not_drawn t = let h = t.rule.history in let seat = seat_holds k t in moved k t record {
     kind = kinds.Draw;

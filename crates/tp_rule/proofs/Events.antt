@@ -57,7 +57,7 @@ module _ (k : Limits) (t : Turn k) where
   blocks_kept : (f : Hand → Hand) → Stays k t f → AreBlocksFor k t.rule.history (f (me k t))
   blocks_kept f stays b has = let same = stays (me k t) in subst (λ c. IsBlockFor k t.rule.history c b) (sym same.0) (mine_for k t b (subst (In b) same.1 has))
 
-  -- a step that adds an event of the pass, and stores the number that now tells it
+  -- a step that adds an event of the pass, and stores the number that is now its packing
   pub record Act : Type 0 where
     pub event : Event
     pub word : Word
@@ -68,7 +68,7 @@ module _ (k : Limits) (t : Turn k) where
     -- it is the pass's own, and may come next
     pub own : pass_of event ≡ (me k t).number
     pub step : Step k t.rule.history event
-    -- the word tells it, and every other word tells what it has to
+    -- the word says it, and every other word says what it has to
     pub there : IsThere k word
     pub told : WordIs (t.rule.history ++ event ∷ []) word number
     pub rest : (w : Word) → IsThere k w → w ≢ word → WordIs (t.rule.history ++ event ∷ []) w (get_or t.state.words (place_of k w) 0)
@@ -76,7 +76,7 @@ module _ (k : Limits) (t : Turn k) where
     pub may : MayStore k t.state.words word number
     pub unmarked : (s p : ℕ) → word ≡ MarkWord s p → ⊥
     pub uncounted : word ≢ DrawnWord
-    -- what it tells of and what is born is in the area of the pass's run
+    -- what it is about and what is born is in the area of the pass's run
     pub tells_own : (i : ℕ) → body_row word ≡ Some i → IsMine k t i
     pub births_own : (x : Element) → In x (births event) → IsMine k t x.id
     -- the pass is as its seat knows it

@@ -198,7 +198,7 @@ module _ (k : Limits) (t : Turn k) where
     pub stays : (a : Hand) → (f a).number ≡ a.number
     pub begins : IsPrefix seen history
     pub grows : IsPrefix t.rule.history history
-    -- the words tell the history, the pass is as its seat knows it, the others are as they were, and words that stay stay
+    -- the words say the history, the pass is as its seat knows it, the others are as they were, and words that stay stay
     pub world : World k history words
     pub mine : HandHolds k history words (f me)
     pub others : (a : Hand) → a.number ≢ me.number → IsDrawer k t.rule.owner a → HandHolds k t.rule.history t.state.words a → HandHolds k history words a

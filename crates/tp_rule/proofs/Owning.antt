@@ -24,7 +24,7 @@ use Rattle.tp_rule.specs.declared.view.View.{View}
 abbrev pub S : Type 0
 S = State (Unit {0}) View
 
--- an event of a history, and those before and behind it
+-- an event of a history, and those before and after it
 split_at : (h : List Event) (e : Event) → In e h → (before : List Event) × (after : List Event) × (before ++ e ∷ after ≡ h)
 split_at [] e p = absurd (in_none p)
 split_at (d ∷ h) e p = ⊎_elim (λ same. ([], h, ap (λ z. z ∷ h) same)) (λ q. let t = split_at h e q in (d ∷ t.0, t.1, ap (λ z. d ∷ z) t.2)) (in_cons p)

@@ -34,7 +34,7 @@ use Rattle.tp_rule.proofs.Units.{decide}
 enqueue_quiet : (c : ℕ) (y : Element) (u : ℕ) (w : Option UnitEnd) → decide u w (Enqueue c y) ≡ w
 enqueue_quiet c y u w = option_or-None w
 
--- what the words tell after the birth of a client's element whose body stands in its row
+-- what the words say after the birth of a client's element whose body is in its row
 birth_told : (h : List Event) (c : ℕ) (y : Element) (w : Word) (n : ℕ) → w ≢ HeadWord y.id → ((j : ℕ) → w ≡ BodyWord y.id j → n ≡ slice_index y.body j) → WordIs h w n → WordIs (h ++ Enqueue c y ∷ []) w n
 birth_told h c y (HeadWord i) n other body old = head_later h (Enqueue c y) i n (λ x q id. absurd (other (ap HeadWord (sym id ∙ ap (λ (e : Element). e.id) (in_one q))))) old
 birth_told h c y (BodyWord i j) n other body old = body_later h (Enqueue c y) i n (λ e. slice_index e.body j)

@@ -1,4 +1,4 @@
--- What a load tells of the place that it read.
+-- What a load says of the place that it read.
 use Rattle.std.proofs.Common.{◌≡◌, ℕ, List, [], ◌∷◌, ◌++◌, map, sym, ◌∙◌, subst, ap, refl, append_assoc, ⊎_elim, Option, Some, None}
 use Rattle.tp_rule.specs.Rule.{IsDraft, WordIs}
 use Rattle.tp_rule.specs.Views.{IsOnePass, first_hand, hand}
@@ -19,7 +19,7 @@ use Rattle.tp_words.specs.declared.words.Head.{Head}
 use Rattle.tp_words.specs.declared.words.Head.TheVariants.{Filled}
 use mathlib.Core.List.{IsPrefix}
 
--- what a load tells of a word that is there
+-- what a load says of a word that is there
 pub told : (v w : View) (l : Limits) (x : Word) (word r : ℕ) → v.limits ≡ l → IsThere l x → word ≡ place_of l x → Loads v word r w → WordIs w.seen x r
 told v w l x word r lim there at t = t.1 x (subst (λ (z : Limits). IsThere z x) (sym lim) there) (at ∙ ap (λ (z : Limits). place_of z x) (sym lim))
 

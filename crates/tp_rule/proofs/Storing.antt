@@ -15,7 +15,7 @@ use Rattle.tp_rule.specs.Rule.{Holds, IsUnwritten, StillSo, drawn_in}
 use Rattle.tp_rule.specs.declared.view.Known.{Known}
 use Rattle.tp_rule.specs.declared.view.Known.TheVariants.{RowHead, PartMark, MarkAbove, BlocksDrawn}
 
--- the row whose element the word tells of, beside its claim
+-- the row whose element the word is about, beside its claim
 abbrev pub body_row : Word → Option ℕ
 body_row (HeadWord i) = Some i
 body_row (BodyWord i j) = Some i
@@ -81,7 +81,7 @@ module _ (l : Limits) where
     pub stored : length ws ≡ size_of l → get_or (set ws (place_of l w) x) (place_of l w) 0 ≡ x
     stored wide = get_or-set_same ws (place_of l w) x 0 (subst (λ n. place_of l w < n) (sym wide) (places_inside l w at))
 
-    -- and so every row of which w tells nothing
+    -- and so every row of which w says nothing
     pub row_left : (i : ℕ) → i < rows_of l → body_row w ≢ Some i → SameRow ws (set ws (place_of l w) x) i
     row_left i there other = (
       left (HeadWord i) there (λ e. other (sym (ap body_row e))),
@@ -135,7 +135,7 @@ module _ (l : Limits) where
           (λ e. let inside = may.word i j (sym e) in absurd (omega arith))
           (λ other. left (BodyWord i j) (there, few) other ∙ old i (omega arith) there j few)
 
-      -- and behind an empty head in an area there are only empty and void ones
+      -- and after an empty head in an area there are only empty and void ones
       pub behind_after : (first end i j : ℕ) → IsArea l first end → end ≤ rows_of l → first ≤ i → i ≤ j → j < end → (get_or ws (head_place i) 0 ≡ 0 → IsBare ws j)
           → get_or (set ws (place_of l w) x) (head_place i) 0 ≡ 0 → IsBare (set ws (place_of l w) x) j
       behind_after first end i j area top low later high old zero = let there_i : i < rows_of l = omega arith in let there_j : j < rows_of l = omega arith in dite (ℕ_discrete i j)

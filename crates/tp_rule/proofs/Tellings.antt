@@ -1,4 +1,4 @@
--- What the words tell of a history that goes on by one event.
+-- What the words say of a history that goes on by one event.
 use Rattle.std.proofs.Common.{◌≡◌, ◌≢◌, ℕ, suc, ◌+◌, ◌*◌, ◌<◌, ◌≤◌, suc-mul, mul-le-mul_right, List, [], ◌∷◌, ◌++◌, set, get_or, slice_index, sym, refl, ap, ◌∙◌, subst, inl, inr, ⊎_elim, arith, length-set, Option, Some, None}
 use mathlib.Core.Logic.{dite}
 use native.Mathlib.Decide.{ℕ_discrete}
@@ -26,7 +26,7 @@ use Rattle.tp_rule.proofs.Births.{MadeBy, by_unit}
 use Rattle.tp_rule.proofs.Storing.{MayStore, bare_after, behind_after, drawn_inside, full_head, heads_kept, left, same_or_other, stored, unwritten_after}
 use Rattle.tp_rule.proofs.Units.{decide}
 
--- a head's word tells the head
+-- a head's word holds the head
 pub head_told : (a b : Head) → IsFitHead a → IsFitHead b → pack_head a ≡ pack_head b → a ≡ b
 head_told Empty Empty f g e = refl
 head_told Empty Void f g e = absurd (omega arith)
@@ -61,7 +61,7 @@ module _ (k : Limits) (h : List Event) (ws : List ℕ) (world : World k h ws) wh
   pub recall : (i : ℕ) (head : Head) (x : Element) → StillSo k ws (RowHead i head) → head ≢ Empty → element_of h i ≡ Some x → head ≡ head_of x
   recall i head x still some p = let t = world.tells (HeadWord i) still.0 in head_told head t.head still.1 t.fit (sym (still.2 some) ∙ t.packed) ∙ t.born x p
 
-  -- the head of a born element is one that a word can tell
+  -- the head of a born element is one that a word can hold
   pub born_fit : (i : ℕ) (x : Element) → element_of h i ≡ Some x → IsFitHead (head_of x)
   born_fit i x p = let id = element_of-id h i x p in let t = world.tells (HeadWord x.id) (births_inside k h world.legal x (is_born h i x p)) in subst IsFitHead (t.born x (is_born h i x p)) t.fit
 
@@ -107,7 +107,7 @@ module _ (k : Limits) (h : List Event) (ws : List ℕ) (world : World k h ws) wh
       let e : Void ≡ head_of t.0 = sym head ∙ told.born t.0 (born_at h i t.0 t.1 t.2) in absurd cc)
       (λ none. none) (born_or_not h i)
 
-  -- nor behind an empty one in its area
+  -- nor after an empty one in its area
   pub none_behind : (first end i j : ℕ) → IsArea k first end → first ≤ i → i ≤ j → j < end → get_or ws (head_place i) 0 ≡ 0 → IsUnborn h j
   none_behind first end i j area low later high zero = let top = area_inside k first end area in ⊎_elim (empty_unborn j (omega arith)) (void_unborn j (omega arith)) (world.behind first end i j area low later high zero)
 
@@ -169,7 +169,7 @@ module _ (h : List Event) (e : Event) where
   pub unit_now : (u n : ℕ) (w : Option UnitEnd) → decide u (end_of h u) e ≡ w → n ≡ pack_unit w → IsFitUnit w → WordIs (h ++ e ∷ []) (UnitWord u) n
   unit_now u n w is at fit = let now = sym (end_of-snoc h e u ∙ is) in (at ∙ ap pack_unit now, subst IsFitUnit now fit)
 
-  -- a word that tells nothing of what an event without births changes
+  -- a word that says nothing of what an event without births changes
   pub told_later : births e ≡ [] → (w : Word) (n : ℕ) → ((i : ℕ) → w ≡ ClaimOf i → claim_word_after i (claim_word h i) e ≡ claim_word h i) → ((u : ℕ) → w ≡ UnitWord u → decide u (end_of h u) e ≡ end_of h u) → WordIs h w n → WordIs (h ++ e ∷ []) w n
   told_later none (HeadWord i) n claims units old = head_later i n (λ x q. absurd (in_none (subst (In x) none q))) old
   told_later none (BodyWord i j) n claims units old = body_later i n (λ x. slice_index x.body j) (λ x q. absurd (in_none (subst (In x) none q))) old
@@ -178,7 +178,7 @@ module _ (h : List Event) (e : Event) where
   told_later none (MarkWord s p) n claims units old = tt
   told_later none DrawnWord n claims units old = tt
 
--- the words after a store to w, which may be made: it tells what is now so, and so do the others
+-- the words after a store to w, which may be made: it says what is now so, and so do the others
 pub world_stored : (k : Limits) (h h' : List Event) (ws : List ℕ) (w : Word) (x : ℕ) → World k h ws → IsLegal k h' → IsPrefix h h' → IsThere k w → WordIs h' w x → ((v : Word) → IsThere k v → v ≢ w → WordIs h' v (get_or ws (place_of k v) 0))
     → MayStore k ws w x → ((s p : ℕ) → w ≡ MarkWord s p → MarkHolds k s h' (set ws (place_of k w) x) p x) → World k h' (set ws (place_of k w) x)
 world_stored k h h' ws w x world legal begins at now rest may mark = record {

@@ -17,7 +17,7 @@ use Rattle.tp_words.specs.declared.words.Head.TheVariants.{Empty, Void}
 use Rattle.tp_rule.specs.Doors.{Permits}
 use Rattle.tp_rule.specs.Plays.{voids}
 use Rattle.tp_rule.specs.Rule.{HandHolds, HeadTold, Rule, StillSo, drawn_in}
-use Rattle.tp_rule.specs.Steps.{IsLeft, after, unchanged}
+use Rattle.tp_rule.specs.Steps.{IsLeftBehind, after, unchanged}
 use Rattle.tp_rule.specs.Views.{IsOnePass, hand}
 use Rattle.tp_rule.specs.declared.view.Hand.{Hand}
 use Rattle.tp_rule.specs.declared.view.Known.{Known}
@@ -28,7 +28,7 @@ use Rattle.tp_rule.proofs.Owning.{IsDrawer, own_apart, own_drawn, own_inside}
 use Rattle.tp_rule.proofs.Storing.{MayStore, drawn_left, drawn_rises, row_left, still_left, stored}
 use Rattle.tp_rule.proofs.Tellings.{empty_unborn, world_stored}
 
-module _ (k : Limits) (t : Turn k) (i : ℕ) (away : IsLeft k (hand t.view) i) where
+module _ (k : Limits) (t : Turn k) (i : ℕ) (away : IsLeftBehind k (hand t.view) i) where
   abbrev me : Hand
   me = hand t.view
 
@@ -126,8 +126,8 @@ module _ (k : Limits) (t : Turn k) (i : ℕ) (away : IsLeft k (hand t.view) i) w
   }
 
 -- the head of row i is empty no more, and is known
-pub voids_go : (k l : Limits) (v : View) (word i : ℕ) → l ≡ k → IsOnePass v → v.limits ≡ l → IsLeft l (hand v) i → word ≡ head_place i → Permits k v word (λ x. either (eqb x 0) 2 x) (voids word 0 2 v)
-voids_go k l v word i keyed one lim gone place s r id at = let away : IsLeft k (hand v) i = subst (λ (z : Limits). IsLeft z (hand v) i) keyed gone in let t : Turn k = record { state = s; rule = r; id = id; view = v; at = at; one = one } in let x : ℕ = get_or s.words word 0 in let seat = seat_holds k t in
+pub voids_go : (k l : Limits) (v : View) (word i : ℕ) → l ≡ k → IsOnePass v → v.limits ≡ l → IsLeftBehind l (hand v) i → word ≡ head_place i → Permits k v word (λ x. either (eqb x 0) 2 x) (voids word 0 2 v)
+voids_go k l v word i keyed one lim gone place s r id at = let away : IsLeftBehind k (hand v) i = subst (λ (z : Limits). IsLeftBehind z (hand v) i) keyed gone in let t : Turn k = record { state = s; rule = r; id = id; view = v; at = at; one = one } in let x : ℕ = get_or s.words word 0 in let seat = seat_holds k t in
     let is : x ≡ get_or s.words (head_place i) 0 = ap (λ z. get_or s.words z 0) place in dite (ℕ_discrete x 0)
     (λ hit. (
       after kinds.Void unchanged v.seen (RowHead i Void ∷ v.known) v,

@@ -16,7 +16,7 @@ use Rattle.tp_rule.proofs.Frames.{Turn, hand_holds}
 use Rattle.tp_rule.proofs.Events.{looking_after, watched}
 
 module _ (k : Limits) where
-  -- the rows behind the drafts of a lost unit
+  -- the rows after the drafts of a lost unit
   pub rows_lost : (h : List Event) (ws : List ℕ) (first end first_draft next left : ℕ) (body : List ℕ) (ds : List Element) → RowsHold h ws first end first_draft next left body ds → RowsHold h ws first end next next left body []
   rows_lost h ws first end first_draft next left body ds r = let count = r.counted in record {
     counted = omega arith;

@@ -11,7 +11,7 @@ use Rattle.tp_rule.specs.Views.{SeatShown, no_seat, spent}
 use Rattle.tp_rule.specs.declared.seat.SharedTable.{SharedTable}
 use Rattle.tp_rule.specs.declared.view.View.{View}
 
--- which table the words stand in
+-- which table the words are in
 abbrev pub id_of : SharedTable → TableId
 id_of t = t.table.shared.table_id
 
@@ -34,7 +34,7 @@ IsSole [] = Unit {0}
 IsSole (v ∷ more) = more ≡ []
 
 -- Whatever the table is when the word changes, there is a new view of the seat with which the rule holds
--- again, and which tells so much of the number that was found.
+-- again, and which says so much of the number that was found.
 abbrev pub Permits : Limits → View → ℕ → (ℕ → ℕ) → (ℕ → View → Type 0) → Type 0
 Permits l v word change Told = (s : State (Unit {0}) View) → Rule l s → (id : ℕ)
     → get_elem? s.views id ≡ some v

@@ -1,9 +1,9 @@
--- What the steps tell, of the numbers that the table's steps take and give: a place, one or two numbers, and
+-- What the steps say, of the numbers that the table's steps take and give: a place, one or two numbers, and
 -- the number that was found at the place. In each definition v is the view before the step, and w the view
 -- after it.
 use Rattle.std.specs.Prelude.{◌≡◌, ◌≢◌, ℕ, ◌<◌, ◌≤◌, [], Some, None}
 use Rattle.tp_model.specs.Words.{TakenWord, AgainWord}
-use Rattle.tp_model.specs.declared.types.TheConstants.{BODY_WORDS}
+use Rattle.tp_model.specs.declared.types.TheConstants.{BODY_WORDS, REPLY_STAGE}
 use Rattle.tp_model.specs.declared.trace.StepKind.TheVariants as kinds
 use Rattle.tp_words.specs.declared.words.Head.{Head}
 use Rattle.tp_words.specs.declared.words.Head.TheVariants.{Filled}
@@ -36,11 +36,11 @@ stores_word word number second v r w = (i : ℕ) × (k : ℕ) × (k < BODY_WORDS
     × (w ≡ drafted (with_word k number) v)
 
 abbrev pub stores_head : Telling
-stores_head word packed second v r w = (stage : ℕ) × (root : ℕ) × (u : ℕ) × (stage ≤ 15) × (root < 65536)
+stores_head word packed second v r w = (stage : ℕ) × (root : ℕ) × (u : ℕ) × (stage ≤ REPLY_STAGE) × (root < 65536)
     × (packed ≡ pack_head (Filled stage root (Some u))) × Drafts v stage root u w
 
 abbrev pub publishes : Telling
-publishes word packed second v r w = (stage : ℕ) × (stage ≤ 15)
+publishes word packed second v r w = (stage : ℕ) × (stage ≤ REPLY_STAGE)
     × (packed ≡ pack_head (Filled stage (next_row v) None)) × Publishes v stage w
 
 abbrev pub chooses : Telling

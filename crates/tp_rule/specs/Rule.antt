@@ -68,13 +68,13 @@ pub record RowsHold (h : List Event) (ws : List ℕ) (first end first_draft next
   pub full : (i : ℕ) → first ≤ i → i < next → slice_index ws (head_place i) ≢ 0
   -- the head of each row that is left is empty
   pub empty : (i : ℕ) → next ≤ i → i < next + left → slice_index ws (head_place i) ≡ 0
-  -- and no word of those behind the next one was stored
+  -- and no word of those after the next one was stored
   pub unwritten : (i : ℕ) → next + 1 ≤ i → i < next + left → IsUnwritten ws i
   -- the pass remembers the words of a whole body
   pub body_whole : IsBody body
-  -- which stand in the next row
+  -- which are in the next row
   pub body_there : 0 < left → HoldsBody ws next body
-  -- the drafts stand in the rows from the first draft on, one after another
+  -- the drafts are in the rows from the first draft on, one after another
   pub run : HaveIdsFrom first_draft drafts
   -- the words of each draft's row hold it
   pub written : (x : Element) → In x drafts → Holds ws x
@@ -84,9 +84,9 @@ pub record UnitsHold (l : Limits) (h : List Event) (c claimed : ℕ)
     (spare_unit open_unit : Option ℕ) : Type 0 where
   -- no more units are claimed than the pass has
   pub used_below : claimed ≤ l.units
-  -- no unit behind those is in a claim
+  -- no unit after those is in a claim
   pub unused : (u : ℕ) → c * l.units + claimed ≤ u → u < c * l.units + l.units → IsUnused h u
-  -- a spare unit is the first of those behind
+  -- a spare unit is the first of those after
   pub spare_next : (u : ℕ) → spare_unit ≡ Some u → (u ≡ c * l.units + claimed) × (claimed < l.units)
   -- an open unit was claimed by this pass, is not committed, and was not aborted by this pass
   pub open_own : (u : ℕ) → open_unit ≡ Some u → IsOwnOpen h c u
@@ -152,10 +152,10 @@ pub record SeatHolds (l : Limits) (h : List Event) (ws : List ℕ) (owner : Owne
   -- each of its passes is as the seat knows it
   pub hands : (a : Hand) → In a v.hands → HandHolds l h ws a
 
--- what the head of row i tells, where the number n stands there
+-- what the head of row i says, where the number n is there
 pub record HeadTold (h : List Event) (i n : ℕ) : Type 0 where
   pub head : Head
-  -- the number is the packing of a value that a head can tell
+  -- the number is the packing of a value that a head can hold
   pub packed : n ≡ pack_head head
   pub fit : IsFitHead head
   -- where an element is born in the row, it is that element's head
@@ -163,7 +163,7 @@ pub record HeadTold (h : List Event) (i n : ℕ) : Type 0 where
   -- where none is born, it is empty or void, or names a unit
   pub draft : IsUnborn h i → IsDraft head
 
--- what each word tells of the history h, where the number n stands there
+-- what each word says of the history h, where the number n is there
 abbrev pub WordIs : List Event → Word → ℕ → Type 0
 -- a head: what it says, which is that of the element where one is born
 WordIs h (HeadWord i) n = HeadTold h i n
@@ -218,7 +218,7 @@ IsUseless l s h ws i = IsFinished l h ws i ⊎ IsAside ws s i
 abbrev pub IsInside : Limits → ℕ → ℕ → Type 0
 IsInside l p n = (¬ (p ≡ l.parts) → n ≤ l.rows) × (p ≡ l.parts → n ≤ BLOCK_ROWS * l.spare)
 
--- what the mark n of kind s of part p, or of the spare rows, tells: each of its rows below it is of no use
+-- what the mark n of kind s of part p, or of the spare rows, says: each of its rows below it is of no use
 pub record MarkHolds (l : Limits) (s : ℕ) (h : List Event) (ws : List ℕ) (p n : ℕ) : Type 0 where
   pub inside : IsInside l p n
   pub below : (i : ℕ) → p * l.rows ≤ i → i < p * l.rows + n → IsUseless l s h ws i
@@ -229,7 +229,7 @@ pub record World (l : Limits) (h : List Event) (ws : List ℕ) : Type 0 where
   pub legal : IsLegal l h
   -- there are as many words as the limits say
   pub wide : length ws ≡ size_of l
-  -- each word tells what the history says
+  -- each word says what the history says
   pub tells : (w : Word) → IsThere l w → WordIs h w (slice_index ws (place_of l w))
   -- the rows below each mark are of no use to its kind
   pub marks : (s p : ℕ) → IsThere l (MarkWord s p) → MarkHolds l s h ws p (slice_index ws (mark_place l s p))
@@ -239,7 +239,7 @@ pub record World (l : Limits) (h : List Event) (ws : List ℕ) : Type 0 where
   pub bare : (i : ℕ) → block_first l (drawn_in l ws) ≤ i → i < rows_of l → slice_index ws (head_place i) ≡ 0
   -- and no word of their bodies was stored
   pub unwritten : (i : ℕ) → block_first l (drawn_in l ws) ≤ i → i < rows_of l → IsUnwritten ws i
-  -- behind an empty head there are only empty and void ones in its area
+  -- after an empty head there are only empty and void ones in its area
   pub behind : (first end i j : ℕ) → IsArea l first end → first ≤ i → i ≤ j → j < end
       → slice_index ws (head_place i) ≡ 0
       → (slice_index ws (head_place j) ≡ 0) ⊎ (slice_index ws (head_place j) ≡ pack_head Void)
@@ -262,7 +262,7 @@ pub record Rule (l : Limits) (s : State (Unit {0}) View) : Type 0 where
   pub history : List Event
   -- which seat stands for each pass, and which pass has drawn each block
   pub owner : Owners
-  -- the words tell what the history says
+  -- the words say what the history says
   pub world : World l history s.words
   -- each seat has seen a beginning of the history, and its passes are as it knows them
   pub seats : (j : ℕ) (v : View) → get_elem? s.views j ≡ some v → SeatHolds l history s.words owner j v

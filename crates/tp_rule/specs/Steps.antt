@@ -1,4 +1,4 @@
--- What each kind of step makes of a seat's view, and what it tells. In each definition v is the view before
+-- What each kind of step makes of a seat's view, and what it says. In each definition v is the view before
 -- the step, and w the view after it. A view changes in two ways alone: `after` a step, and by a split or a
 -- join of seats.
 use Rattle.std.specs.Prelude.{◌≡◌, ◌≢◌, ◌⊎◌, ℕ, zero, suc, ◌+◌, ◌-◌, ◌*◌, ◌<◌, ◌≤◌, ◌==◌, if◌then◌else◌, List}
@@ -100,7 +100,7 @@ pub record Grew (kind : StepKind) (f : Hand → Hand) (events : List Event) (v w
 abbrev pub unchanged : Hand → Hand
 unchanged a = a
 
--- what the number r tells, which was found at the place `word` after h
+-- what the number r says, which was found at the place `word` after h
 abbrev pub Found : Limits → List Event → ℕ → ℕ → Type 0
 Found l h word r = (w : Word) → IsThere l w → word ≡ place_of l w → WordIs h w r
 
@@ -160,7 +160,7 @@ abbrev pub stored : ℕ → View → View
 stored zero v = v
 stored (suc n) v = drafted unchanged (stored n v)
 
--- and where there are any, by the last of them this body stands there
+-- and where there are any, by the last of them this body is there
 abbrev pub bodied : ℕ → List ℕ → View → View
 bodied zero body v = v
 bodied (suc n) body v = drafted (with_body body) (stored n v)
@@ -195,7 +195,7 @@ with_draft x a = record a {
       ++ x ∷ [];
 }
 
--- a whole body stands in the next row
+-- a whole body is in the next row
 abbrev pub HasBodyStored : View → Type 0
 HasBodyStored v = IsOnePass v × IsBody (hand v).next_body
 
@@ -404,8 +404,8 @@ pub record DrawsNone (v : View) (b n : ℕ) (w : View) : Type 0 where
 -- void
 
 -- row i is in an area of the pass that its run has left
-abbrev pub IsLeft : Limits → Hand → ℕ → Type 0
-IsLeft l a i = (first : ℕ) × (end : ℕ) × IsOwnArea l a.number a.blocks first end × (first ≤ i) × (i < end)
+abbrev pub IsLeftBehind : Limits → Hand → ℕ → Type 0
+IsLeftBehind l a i = (first : ℕ) × (end : ℕ) × IsOwnArea l a.number a.blocks first end × (first ≤ i) × (i < end)
     × (end ≢ a.next + a.left)
 
 -- the exchange of the head of row i, from empty to void, after which nothing more is seen: the head isn't

@@ -10,7 +10,7 @@ use Rattle.tp_rule.specs.declared.words.Words.{Words}
 abbrev pub table_limits : Words → Limits
 table_limits words = words.places.limits
 
--- which table the words stand in
+-- which table the words are in
 abbrev pub table_of : Words → TableId
 table_of words = id_of words.table
 

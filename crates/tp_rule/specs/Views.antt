@@ -22,7 +22,7 @@ view_of seat = seat.view
 abbrev pub IsSameSeat : SeatShown → SeatShown → Type 0
 IsSameSeat old new = new.table ≡ old.table
 
--- the words that stand in a row before any is stored
+-- the words that are in a row before any is stored
 abbrev pub blank_body : List ℕ
 blank_body = replicate BODY_WORDS 0
 
@@ -43,7 +43,7 @@ fresh l c = record {
   open_unit = None;
 }
 
--- so many passes from c on, which have done nothing
+-- this many passes from c on, which have done nothing
 abbrev pub fresh_from : Limits → ℕ → ℕ → List Hand
 fresh_from l c zero = []
 fresh_from l c (suc n) = fresh l c ∷ fresh_from l (c + 1) n

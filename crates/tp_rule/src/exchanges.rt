@@ -1,6 +1,6 @@
 //! The choice of a unit, and the exchanges. An exchange compares a whole word with what was found there
 //! before, and changes it only if it is still the same; so it acts on the state that its caller read. One
-//! that fails changes no word, and tells the word that it found.
+//! that fails changes no word, and returns the word that it found.
 ghost use Rattle.std.specs.Prelude.{◌≡◌, ◌+◌, ◌*◌, ◌<◌, ◌≤◌, ◌⊎◌, ℕ, [], IfErr, IfOk, length, true, false};
 ghost use Rattle.std.specs.Prelude.{Some, None};
 ghost use Rattle.tp_model.specs.declared.trace.StepKind.TheVariants as kinds;
@@ -12,7 +12,7 @@ ghost use Rattle.tp_rule.specs.Rule.{IsInside};
 ghost use Rattle.tp_rule.specs.Views.{hand_of, seen_by, view_of, IsNextUnit, IsSameSeat};
 ghost use Rattle.tp_rule.specs.declared.view.Known.TheVariants.{MarkAbove, PartMark};
 ghost use Rattle.tp_words.specs.declared.places.TheConstants.{MARK_KINDS};
-ghost use Rattle.tp_rule.specs.Steps.{RaisesMark, Draws, DrawsNone, IsLeft, Voids, Knows, KnowsUseless};
+ghost use Rattle.tp_rule.specs.Steps.{RaisesMark, Draws, DrawsNone, IsLeftBehind, Voids, Knows, KnowsUseless};
 ghost use Rattle.tp_rule.specs.Steps.{Chooses, MakesClaim, MakesCommit, MakesAbort, MakesKill, MakesRequeue};
 ghost use Rattle.tp_rule.specs.Steps.{LosesUnit, FindsOther, FindsEnded, AllowsClaim, AllowsKill};
 ghost use Rattle.tp_rule.specs.Steps.{AllowsRequeue, HasElement, HasWork, IsOwnWork, IsClaimed};
@@ -27,6 +27,7 @@ use tp_words::bits::{HEAD_EMPTY, HEAD_VOID, UNIT_ABORTED, UNIT_UNDECIDED};
 use tp_words::{Claim, FoundClaim, UnitWord};
 
 impl Words {
+    ghost use Rattle.tp_model.specs.declared.types.TheConstants.{MAX_OUTPUTS};
     ghost use Rattle.tp_rule.specs.Tables.{table_limits, IsSeatOf, IsPassOf};
 
     /// Looks at the word of the pass's next unit, which is thereby the spare one: the next claim is made with it. The
@@ -44,9 +45,9 @@ impl Words {
     }
 
     /// The spare unit takes the element of a row, for the `attempt`-th time that a unit does, if the
-    /// element's claim is still the one that was found: it was free, or its unit was aborted and the attempts
-    /// are not used up, or it was given another round. `Ok` adds the claim to the history, and the unit is
-    /// the pass's open one. `Err` has the claim as it is by now.
+    /// element's claim is still the one that was found. That was free, or of a unit that was aborted with
+    /// attempts left, or it was given another round. `Ok` adds the claim to the history, and the unit is the
+    /// pass's open one. `Err` has the claim as it is by now.
     #[inline(always)]
     pub fn claim_exchange(
         &self,
@@ -92,7 +93,7 @@ impl Words {
         requires unit { ((hand_of seat.old).open_unit ≡ Some unit)
             × (unit < units_of (table_limits self.now)) }
         requires work { IsOwnWork (view_of seat.old) unit }
-        requires count { (count ≡ length (hand_of seat.old).drafts) × (count ≤ 4) }
+        requires count { (count ≡ length (hand_of seat.old).drafts) × (count ≤ MAX_OUTPUTS) }
         requires first { first ≡ first_id (hand_of seat.old).drafts }
         ensures same { IsSameSeat seat.old seat.new }
         ensures hit { result ≡ true → MakesCommit (view_of seat.old) unit (view_of seat.new) }
@@ -164,7 +165,7 @@ impl Words {
         Err(FoundClaim::read(was))
     }
 
-    /// The parked element of a row is given its next round, if its claim is still the one that was found: its
+    /// The parked element of a row is given its next round, if its claim is still the one that was found. Its
     /// unit was aborted, the attempts are used up, and there is a round left. `Ok` adds the requeue to the
     /// history, and the element waits again. `Err` has the claim as it is by now.
     pub fn requeue_exchange(
@@ -197,10 +198,10 @@ impl Words {
         Err(FoundClaim::read(was))
     }
 
-    /// The mark of a kind of a part, or of the spare rows where `part` is the number of parts, is raised over
-    /// rows that the seat knows of no use to it, if it is still the one that was found. `true`: it is so high
-    /// now, and the seat remembers it. `false`: it is above what was found. Nothing more is seen by it, nor
-    /// has the history changed.
+    /// The mark of a kind of a part, or of the spare rows where `part` is the number of parts, is raised if
+    /// it is still the one that was found. It is raised over rows that the seat knows of no use to it.
+    /// `true`: it is so high now, and the seat remembers it. `false`: it is above what was found. Nothing
+    /// more is seen by it, nor has the history changed.
     pub fn raise(&self, seat: &mut Seat, kind: u8, part: u16, from: u16, to: u16) -> bool
         requires own { IsSeatOf self.now seat.old }
         requires one { IsPassOf self.now seat.old }
@@ -223,7 +224,7 @@ impl Words {
         was == from as u64
     }
 
-    /// Draws the next spare block, if so many are drawn as the caller believes. `Ok`: the block with that
+    /// Draws the next spare block, if this many are drawn as the caller believes. `Ok`: the block with that
     /// number is the pass's, and its 8 rows are the run; what was left of the old run stays unused. `Err` has
     /// how many are drawn by now. Nothing more is seen by it, nor has the history changed.
     #[tactic(auto, using(crate::proofs::Drawing::draws_go))]
@@ -247,14 +248,14 @@ impl Words {
         }
     }
 
-    /// Marks a row as one that is never used, if its head is empty: it is in the pass's part or in a block
+    /// Marks a row as one that is never used, if its head is empty. It is in the pass's part or in a block
     /// that the pass has drawn, and the pass has left that for another block. The head isn't empty by then,
     /// and the seat remembers it. Nothing more is seen by it, nor has the history changed.
     pub fn void(&self, seat: &mut Seat, row: u32)
         requires own { IsSeatOf self.now seat.old }
         requires one { IsPassOf self.now seat.old }
         requires row { row < rows_of (table_limits self.now) }
-        requires left { IsLeft (table_limits self.now) (hand_of seat.old) row }
+        requires left { IsLeftBehind (table_limits self.now) (hand_of seat.old) row }
         ensures same { IsSameSeat seat.old seat.new }
         ensures voids { Voids (view_of seat.old) row (view_of seat.new) }
     {

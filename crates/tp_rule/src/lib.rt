@@ -1,9 +1,9 @@
-//! One legal history behind the shared words, and the kinds of atomic step that keep it.
+//! One legal history after the shared words, and the kinds of atomic step that keep it.
 //!
 //! A table of words is shared by threads. Each thread acts through a [`Seat`], which stands for one or more
-//! passes and has a view, what it knows. The rule ties words and views: at every moment there is one legal
-//! history of which every claim and unit word is the packing, every row born in it holds its element, and of
-//! which each seat has seen a beginning and each pass has made exactly its own events. docs/RULE.md draws it.
+//! passes and has a view, what it knows. The rule ties words and views. At every moment there is one legal
+//! history of which every claim and unit word is the packing. Every row that is born in it holds its element.
+//! Each seat has seen a prefix of it, and each pass has made exactly its own events. docs/RULE.md draws it.
 #![tactic(auto)]
 
 mod exchanges;

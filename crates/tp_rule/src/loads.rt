@@ -118,9 +118,9 @@ impl Words {
         UnitWord::read(found)
     }
 
-    /// Reads the mark of a kind of a part, or of the spare rows where `part` is the number of parts, and the
-    /// seat remembers it: no row of the part below it has an element of a stage that this kind is about and
-    /// that isn't consumed or killed, neither now nor at any later time.
+    /// Reads the mark of a kind of a part, or of the spare rows where `part` is the number of parts. The seat
+    /// remembers it. No row of the part below it has an element of a stage that this kind is about and that
+    /// isn't consumed or killed, neither now nor at any later time.
     #[inline(always)]
     pub fn load_mark(&self, seat: &mut Seat, kind: u8, part: u16) -> u16
         requires own { IsSeatOf self.now seat.old }
@@ -154,9 +154,9 @@ impl Words {
         self.load_drawn_together(seat)
     }
 
-    /// Reads that number by a seat that may stand for several passes, each of which has one more entry in its trace.
-    /// Each block that one of them has drawn is below it, and no other pass's; where the seat stands for
-    /// every pass, each block below it is one that a pass has drawn.
+    /// Reads that number by a seat that may stand for several passes, each of which has one more entry in its
+    /// trace. Each block that one of them has drawn is below it, and no other pass's. Where the seat stands
+    /// for every pass, each block below it is one that a pass has drawn.
     #[inline(always)]
     pub fn load_drawn_together(&self, seat: &mut Seat) -> u16
         requires own { IsSeatOf self.now seat.old }

@@ -1,4 +1,4 @@
-//! What each kind of step tells the functions of this crate, in the numbers of the table, and how seats are
+//! What each kind of step says to the functions of this crate, in the numbers of the table, and how seats are
 //! cut and joined.
 ghost use Rattle.tp_rule.specs.Plays.{Telling, loads, loads_head, stores_word, stores_head, publishes};
 ghost use Rattle.tp_rule.specs.Plays.{chooses, exchanges_claim, exchanges_commit, exchanges_abort};
@@ -10,7 +10,7 @@ ghost use Rattle.tp_rule.specs.Steps.{handed_on, handed_out, kept, parted, joine
 use crate::view::View;
 use atomic_table::{Join, Split};
 
-/// What a step makes of the seat's view, and what it tells.
+/// What a step makes of the seat's view, and what it says.
 pub(crate) trait Effect {
     // Of the place, the one or two numbers that the step takes, the view before, the number found (at a
     // store, the number stored) and the view after.

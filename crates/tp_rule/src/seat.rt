@@ -1,7 +1,7 @@
 //! What a thread steps with, and the one door to the shared table.
 //!
-//! The fields of both types are this module's alone, so that no other code of the crate reaches the table:
-//! each step goes through a method here, which asks for a seat and notes the step in the seat's view.
+//! The fields of both types are this module's alone, so that no other code of the crate reaches the table.
+//! Each step goes through a method here, which asks for a seat and notes the step in the seat's view.
 ghost use Rattle.std.specs.Prelude.{◌≡◌, ◌<◌, [], ◌==◌, IfOk};
 ghost use mathlib.Core.Option.{none};
 ghost use prog.Atomic.{either};
@@ -61,7 +61,7 @@ impl Seat {
     }
 }
 
-/// What a step with this effect tells the table, which has slots too: that it leaves those alone.
+/// What a step with this effect says to the table, which has slots too: that it leaves those alone.
 pub(crate) struct Alone<E> {
     effect: PhantomData<E>,
 }

@@ -29,7 +29,7 @@ pub struct Hand {
     pub left: u16,
     /// The spare blocks that the pass has drawn, in ascending order.
     pub blocks: LinkedList<u16>,
-    /// The words that stand in the body of the next row: 0 where none is stored yet.
+    /// The words that are in the body of the next row: 0 where none is stored yet.
     pub next_body: LinkedList<u64>,
     /// The outputs that are written for the open unit, and are born when it commits.
     pub drafts: LinkedList<Element>,
@@ -42,7 +42,7 @@ pub struct Hand {
     pub open_unit: Option<u16>,
 }
 
-/// What a seat has found in a word that stays, or changes in one direction alone. So it tells something of
+/// What a seat has found in a word that stays, or changes in one direction alone. So it says something of
 /// the word at any later time too.
 pub enum Known {
     /// The head of a row: once it isn't empty, it stays as it is.

@@ -27,7 +27,7 @@ impl Words {
     ghost use Rattle.tp_rule.specs.Tables.{table_limits, table_of, IsSeatOf, IsPassOf};
 
     /// The words of a table in which nothing has happened, all 0, and the keeper's seat, which stands for all passes.
-    /// The one error is want of memory.
+    /// The one error is out of memory.
     pub fn new(alloc: Global, places: Places) -> Result<(Words, Seat), AllocError>
         ensures limits { IfOk result (λ made. table_limits made.0 ≡ places.limits) }
         ensures seat { IfOk result (λ made. IsSeatOf made.0 made.1) }

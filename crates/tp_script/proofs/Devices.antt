@@ -15,7 +15,7 @@ pub Consumes-none : (a : Option (List ℕ)) → Consumes a a []
 Consumes-none None = tt
 Consumes-none (Some x) = refl
 
--- what stands while bytes are read
+-- what is so while bytes are read
 pub record ReadSoFar (old now : Option (List ℕ)) (read : List ℕ) (len asked_before asked turns : ℕ) : Type 0 where
   pub bytes : Consumes old now read
   pub short : len ≤ MAX_SCRIPT_BYTES

@@ -40,7 +40,7 @@ pub script_past : (bytes : List ℕ) → MAX_SCRIPT_BYTES < length bytes → scr
 unfolding script
 script_past bytes long = rw (lt-ltb MAX_SCRIPT_BYTES (length bytes) long) refl
 
--- a front that is too long says as much as all
+-- a prefix that is too long says as much as all
 pub script_front : (bytes : List ℕ) → script (take (MAX_SCRIPT_BYTES + 1) bytes) ≡ script bytes
 script_front bytes = elim (cases_lt MAX_SCRIPT_BYTES (length bytes)) [
   | inl long ↦ script_past (take (MAX_SCRIPT_BYTES + 1) bytes) (omega (arith, length-take (MAX_SCRIPT_BYTES + 1) bytes, long)) ∙ sym (script_past bytes long)

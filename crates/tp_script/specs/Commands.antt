@@ -39,7 +39,7 @@ pub record SubmitWords : Type 0 where
   pub word_two : List ℕ
   pub word_three : List ℕ
 
--- STAGE KEY AMOUNT, with words 2 and 3 of the body behind; missing ones are 0
+-- STAGE KEY AMOUNT, with words 2 and 3 of the body after; missing ones are 0
 abbrev pub submit_words : List (List ℕ) → Result SubmitWords LineFault
 submit_words (stage ∷ key ∷ amount ∷ []) =
     Ok (record { stage = stage; key = key; amount = amount; word_two = codes "0"; word_three = codes "0" })
@@ -130,7 +130,7 @@ drain_at [] = Ok Drain
 drain_at (w ∷ []) = if bytes_eq w (codes "next") then Ok DrainNext else Err Syntax
 drain_at ws = Err Syntax
 
--- a command of this first word, with the words behind it
+-- a command of this first word, with the words after it
 unfoldable pub command_at : Verb → List (List ℕ) → ScriptView → Result Command LineFault
 command_at verb.Submit ws s = submit_words ws >>= λ w. submit_at w
 command_at verb.Kill ws s = one_id ws >>= λ id. Ok (Client (client.Kill id))

@@ -1,4 +1,4 @@
--- The faults of a script, by their numbers and names, and how a refusal is told.
+-- The faults of a script, by their numbers and names, and the text of a refusal.
 use Rattle.std.specs.Prelude.{ℕ, List, ◌++◌, codes, decimal}
 use Rattle.tp_script.specs.declared.fault.LineFault.{LineFault}
 use Rattle.tp_script.specs.declared.fault.LineFault.TheVariants.{Syntax, BadNumber, BadLimits, BadRecipe}

@@ -56,14 +56,14 @@ spare_line w s = do
 unfoldable pub account_line : List (List ℕ) → ScriptView → Result ScriptView LineFault
 account_line ws s = none ws >>= λ _. Ok (record s { account = true })
 
--- a line behind `account` is out of order, whatever it says, unless it says nothing that a line could
+-- a line after `account` is out of order, whatever it says, unless it says nothing that a line could
 abbrev pub behind_account : Result ScriptView LineFault → Result ScriptView LineFault
 behind_account (Err Syntax) = Err Syntax
 behind_account read = Err Order
 
 -- ---- a whole line, and all lines
 
--- a line of this first word, with the words behind it
+-- a line of this first word, with the words after it
 unfoldable pub keyword_line : Keyword → List (List ℕ) → ScriptView → Result ScriptView LineFault
 keyword_line first.Rows ws s = one ws >>= λ w. rows_line w s
 keyword_line first.Units ws s = one ws >>= λ w. units_line w s

@@ -32,22 +32,22 @@ abbrev pub known : {A : Type 0} → Option A → LineFault → Result A LineFaul
 known (Some x) fault = Ok x
 known None fault = Err fault
 
--- no word behind the first
+-- no word after the first
 abbrev pub none : List (List ℕ) → Result (Unit {0}) LineFault
 none [] = Ok tt
 none ws = Err Syntax
 
--- the one word behind the first
+-- the one word after the first
 abbrev pub one : List (List ℕ) → Result (List ℕ) LineFault
 one (a ∷ []) = Ok a
 one ws = Err Syntax
 
--- the two words behind the first
+-- the two words after the first
 abbrev pub two : List (List ℕ) → Result (List ℕ × List ℕ) LineFault
 two (a ∷ b ∷ []) = Ok (a, b)
 two ws = Err Syntax
 
--- the three words behind the first
+-- the three words after the first
 abbrev pub three : List (List ℕ) → Result (List ℕ × List ℕ × List ℕ) LineFault
 three (a ∷ b ∷ c ∷ []) = Ok (a, b, c)
 three ws = Err Syntax

@@ -1,4 +1,4 @@
--- How what the code reads stands to what a script says.
+-- How what the code reads is related to what a script says.
 use Rattle.std.specs.Prelude.{◌≡◌, ℕ, Result, Ok, Err, map}
 use Rattle.tp_script.specs.declared.fault.LineFault.{LineFault}
 use Rattle.tp_script.specs.declared.fault.LineError.{LineError}

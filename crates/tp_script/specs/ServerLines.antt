@@ -13,6 +13,7 @@ use Rattle.tp_script.specs.declared.script.TheConstants.{MAX_SERVERS}
 use Rattle.tp_script.specs.LineWords.{◌>>=◌, require, known, number_at, is_name, kind_at, act_at, is_output}
 use Rattle.tp_script.specs.LineWords.{outputs_at}
 use Rattle.tp_script.specs.Script.{ScriptView, ServerView}
+use Rattle.tp_model.specs.declared.types.TheConstants.{MAX_OUTPUTS}
 
 -- whether there is a command
 abbrev pub has_commands : ScriptView → Bool
@@ -37,7 +38,7 @@ unfoldable pub shape_at : List (List ℕ) → Result Shape LineFault
 shape_at (name ∷ kind ∷ stage ∷ registers ∷ act ∷ outputs) = do
   kind ← kind_at kind
   deed ← act_at act
-  _ ← require (nat_le (length outputs) 4 && list_all is_output outputs) Syntax
+  _ ← require (nat_le (length outputs) MAX_OUTPUTS && list_all is_output outputs) Syntax
   Ok (record {
     name = name;
     kind = kind;

@@ -29,6 +29,7 @@ use Rattle.tp_script.specs.Keyword.{keyword}
 use Rattle.tp_script.specs.Script.{ScriptView, script_view}
 use Rattle.tp_script.specs.ServerLines.{new_name, server_line, shape_at}
 use Rattle.tp_script.specs.LineWords.{◌>>=◌, require, known, none, one, two, three, number_at}
+use Rattle.tp_model.specs.declared.types.TheConstants.{MAX_OUTPUTS, REPLY_STAGE}
 
 -- ---- the head
 
@@ -70,7 +71,7 @@ is_draft w = nat_le 2 (colons w) && nat_le (colons w) 4
 -- a stage that an output may go to
 unfoldable pub output_stage : List ℕ → Result ℕ LineFault
 output_stage w = do
-  stage ← number_at 15 w
+  stage ← number_at REPLY_STAGE w
   _ ← require (nat_le 1 stage) BadNumber
   Ok stage
 
@@ -84,7 +85,7 @@ draft_of w = do
   word_three ← number_at (2 ^ 64 - 1) w.word_three
   Ok (record { stage = stage; body = key ∷ amount ∷ word_two ∷ word_three ∷ [] })
 
--- STAGE:W0:W1, with words 2 and 3 of the body behind; missing ones are 0
+-- STAGE:W0:W1, with words 2 and 3 of the body after; missing ones are 0
 unfoldable pub draft_at : List ℕ → Result DraftView LineFault
 draft_at w = submit_words (slice_split (λ b. b == 58) w) >>= λ ws. draft_of ws
 
@@ -96,10 +97,10 @@ drafts_at (w ∷ ws) = do
   others ← drafts_at ws
   Ok (first ∷ others)
 
--- the words of drafts behind a name, at most four
+-- the words of drafts after a name, at most four
 abbrev pub draft_words : List (List ℕ) → Result (List (List ℕ)) LineFault
 draft_words (name ∷ drafts) =
-    require (nat_le (length drafts) 4 && list_all is_draft drafts) Syntax >>= λ _. Ok drafts
+    require (nat_le (length drafts) MAX_OUTPUTS && list_all is_draft drafts) Syntax >>= λ _. Ok drafts
 draft_words [] = Err Syntax
 
 -- ---- commands
@@ -125,7 +126,7 @@ worker_commit ws = do
   drafts ← drafts_at drafts
   Ok (does.Commit (record { items = drafts }))
 
--- what a worker is asked by a line of this first word; its name is the first of the words behind
+-- what a worker is asked by a line of this first word; its name is the first of the words after
 unfoldable pub worker_act : Verb → List (List ℕ) → Result WorkerAct LineFault
 worker_act (verb.Desk desk.Claim) ws = one ws >>= λ _. Ok does.Claim
 worker_act (verb.Desk desk.Commit) ws = worker_commit ws
@@ -135,7 +136,7 @@ worker_act verb.Take ws = worker_take ws
 worker_act verb.Balance ws = two ws >>= λ _. Err BadName
 worker_act other ws = Err Syntax
 
--- the words behind this first word begin with a name
+-- the words after this first word begin with a name
 abbrev pub is_named : Verb → Bool
 is_named (verb.Desk a) = true
 is_named verb.Take = true
@@ -209,12 +210,12 @@ head_words (w ∷ ws) h = if bytes_eq w (codes "worker")
 unfoldable pub head_at : List ℕ → HeadView → Result (HeadView × Option Act) LineFault
 head_at line h = line_words line >>= λ ws. head_words ws h
 
--- a line of the head behind it: unless it says nothing that such a line could
+-- a line of the head after it: unless it says nothing that such a line could
 abbrev pub out_of_order : {A : Type 0} → Result A LineFault → Result (Option Act) LineFault
 out_of_order (Ok x) = Err Order
 out_of_order (Err fault) = Err fault
 
--- a line behind the head, of a script's first word: a line of the head is out of order there
+-- a line after the head, of a script's first word: a line of the head is out of order there
 unfoldable pub body_keyword : Keyword → List (List ℕ) → HeadView → Result (Option Act) LineFault
 body_keyword first.Rows ws h = out_of_order (one ws)
 body_keyword first.Units ws h = out_of_order (one ws)
@@ -225,19 +226,19 @@ body_keyword first.Start ws h = out_of_order (three ws)
 body_keyword (first.Do v) ws h = act_at v ws h >>= λ a. Ok (Some a)
 body_keyword first.Account ws h = none ws >>= λ _. Ok (Some act.Account)
 
--- the words of a line behind the head
+-- the words of a line after the head
 unfoldable pub body_words : List (List ℕ) → HeadView → Result (Option Act) LineFault
 body_words [] h = Ok None
 body_words (w ∷ ws) h = if bytes_eq w (codes "worker") then out_of_order (two ws)
     else (known (keyword w) Syntax >>= λ k. body_keyword k ws h)
 
--- a line behind the head
+-- a line after the head
 unfoldable pub body_at : List ℕ → HeadView → Result (Option Act) LineFault
 body_at line h = line_words line >>= λ ws. body_words ws h
 
 -- ---- what acts name
 
--- one of so many servers or workers, where it is an act of one
+-- one of this many servers or workers, where it is an act of one
 abbrev pub IsActInRange : ℕ → ℕ → Act → Type 0
 IsActInRange servers workers (act.Client a) = Unit {0}
 IsActInRange servers workers (act.Desk server a) = server < servers

@@ -9,7 +9,7 @@ use Rattle.std.specs.Str.Parse.{digits_value}
 abbrev pub lines : List ℕ → List (List ℕ)
 lines script = slice_split (λ b. b == 10) script
 
--- what stands between spaces
+-- what is between spaces
 abbrev pub words : List ℕ → List (List ℕ)
 words line = filter (λ w. not (length w == 0)) (slice_split (λ b. b == 32) line)
 

@@ -32,7 +32,7 @@ pub(crate) struct SubmitWords<'a> {
     pub word_three: &'a [u8],
 }
 
-/// STAGE KEY AMOUNT, with words 2 and 3 of the body behind; missing ones are 0.
+/// STAGE KEY AMOUNT, with words 2 and 3 of the body after; missing ones are 0.
 pub(crate) fn submit_words<'a>(words: &[&'a [u8]]) -> Result<SubmitWords<'a>, LineError>
     ensures { Gives submit_view result (submit_words (map (λ x. x.now) words.now)) }
 {
@@ -200,7 +200,7 @@ impl Script {
         Ok(Command::Balance { server, k })
     }
 
-    /// The command of this first word, with the words behind it.
+    /// The command of this first word, with the words after it.
     #[tactic(auto, unfolding(crate::specs::Commands::command_at))]
     pub(crate) fn command_at(&self, verb: Verb, words: &[&[u8]]) -> Result<Command, LineError>
         ensures gives { Gives (λ c. c) result (command_at verb (map (λ x. x.now) words.now)

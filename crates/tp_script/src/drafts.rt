@@ -1,4 +1,5 @@
 //! The outputs of a worker's commit, as its line says them.
+ghost use Rattle.tp_model.specs.declared.types.TheConstants.{MAX_OUTPUTS, REPLY_STAGE};
 ghost use Rattle.std.specs.Prelude.{◌≡◌, ◌≤◌, ◌&&◌, map, length, IfOk, nat_le};
 ghost use Rattle.std.specs.List.{list_all};
 ghost use Rattle.tp_script.specs.Reading.{Gives, submit_view};
@@ -11,7 +12,7 @@ use crate::line_words::number_at;
 use crate::text::parts;
 use arrayvec::ArrayVec;
 use std::alloc::Global;
-use tp_model::types::{Draft, REPLY_STAGE};
+use tp_model::types::{Draft, MAX_OUTPUTS, REPLY_STAGE};
 
 // How many colons a word has.
 fn colons(word: &[u8]) -> usize
@@ -35,15 +36,15 @@ fn all_drafts(words: &[&[u8]]) -> bool
     words.iter().all(|word| is_draft(word))
 }
 
-/// The words of drafts behind a name.
+/// The words of drafts after a name.
 pub(crate) fn draft_words<'a>(words: &'a [&'a [u8]]) -> Result<&'a [&'a [u8]], LineError>
     ensures gives { Gives (λ v. map (λ x. x.now) v.now) result (draft_words (map (λ x. x.now) words.now)) }
-    ensures few { IfOk result (λ v. length v.now ≤ 4) }
+    ensures few { IfOk result (λ v. length v.now ≤ MAX_OUTPUTS) }
 {
     let [_name, drafts @ ..] = words else {
         return Err(LineFault::Syntax.into());
     };
-    if drafts.len() > 4 || !all_drafts(drafts) {
+    if drafts.len() > MAX_OUTPUTS || !all_drafts(drafts) {
         return Err(LineFault::Syntax.into());
     }
     Ok(drafts)
@@ -53,7 +54,7 @@ pub(crate) fn draft_words<'a>(words: &'a [&'a [u8]]) -> Result<&'a [&'a [u8]], L
 #[tactic(auto, unfolding(crate::specs::Session::output_stage))]
 fn output_stage(word: &[u8]) -> Result<u8, LineError>
     ensures gives { Gives (λ n. n) result (output_stage word.now) }
-    ensures bounds { IfOk result (λ n. (1 ≤ n) × (n ≤ 15)) }
+    ensures bounds { IfOk result (λ n. (1 ≤ n) × (n ≤ REPLY_STAGE)) }
 {
     let stage = number_at(word, u64::from(REPLY_STAGE))?;
     if stage < 1 {
@@ -80,7 +81,7 @@ fn draft_of(words: SubmitWords<'_>) -> Result<Draft, LineError>
     }
 }
 
-// `STAGE:W0:W1`, with words 2 and 3 behind.
+// `STAGE:W0:W1`, with words 2 and 3 after.
 #[tactic(auto, unfolding(crate::specs::Session::draft_at))]
 fn draft_at(alloc: Global, word: &[u8]) -> Result<Draft, LineError>
     ensures { Gives (λ d. d) result (draft_at word.now) }
@@ -91,7 +92,7 @@ fn draft_at(alloc: Global, word: &[u8]) -> Result<Draft, LineError>
 
 /// The drafts that words say.
 pub(crate) fn drafts_at(alloc: Global, words: &[&[u8]]) -> Result<ArrayVec<Draft, 4>, LineError>
-    requires { length words.now ≤ 4 }
+    requires { length words.now ≤ MAX_OUTPUTS }
     ensures { Gives (λ v. v.items) result (drafts_at (map (λ x. x.now) words.now)) }
 {
     let mut drafts = ArrayVec::new();

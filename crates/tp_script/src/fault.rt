@@ -37,7 +37,7 @@ pub enum LineFault {
     BadName,
     /// 6: a line above 200 bytes, or a script above 65,536 bytes.
     TooLong,
-    /// 7: a setting behind a server, one of these behind a command, or a line of any kind behind `account`.
+    /// 7: a setting after a server, one of these after a command, or a line of any kind after `account`.
     Order,
 }
 

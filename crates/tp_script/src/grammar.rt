@@ -86,7 +86,7 @@ impl Script {
         Ok(())
     }
 
-    /// What a line says behind its first word.
+    /// What a line says after its first word.
     #[tactic(auto, unfolding(crate::specs::Grammar::keyword_line))]
     pub(crate) fn keyword_line(
         &mut self,

@@ -43,11 +43,11 @@ pub enum Act {
     Desk { server: usize, act: DeskAct },
     /// A worker does this.
     Worker { worker: usize, act: WorkerAct },
-    /// A register of a server is told.
+    /// A register of a server is reported.
     Balance { server: usize, k: u64 },
-    /// The sum of a register over all servers is told.
+    /// The sum of a register over all servers is reported.
     Sum { k: u64 },
-    /// The account is told.
+    /// The account is reported.
     Account,
 }
 

@@ -1,4 +1,5 @@
 //! What the words of a line say.
+ghost use Rattle.tp_model.specs.declared.types.TheConstants.{MAX_OUTPUTS};
 ghost use Rattle.std.specs.Prelude.{◌≡◌, ◌≤◌, ◌-◌, ◌^◌, ◌&&◌, map, length, IfOk, IsTrue, nat_le};
 ghost use Rattle.std.specs.List.{list_all};
 ghost use Rattle.std.specs.Str.{bytes_eq};
@@ -14,7 +15,7 @@ use arrayvec::ArrayVec;
 use std::alloc::Global;
 use tp_server::{Act, AmountFrom, KeyFrom, Output};
 
-/// No word of a line behind the first.
+/// No word of a line after the first.
 pub(crate) fn none(words: &[&[u8]]) -> Result<(), LineError>
     ensures { Gives (λ x. x) result (none (map (λ x. x.now) words.now)) }
 {
@@ -24,7 +25,7 @@ pub(crate) fn none(words: &[&[u8]]) -> Result<(), LineError>
     }
 }
 
-/// The one word of a line behind the first.
+/// The one word of a line after the first.
 pub(crate) fn one<'a>(words: &[&'a [u8]]) -> Result<&'a [u8], LineError>
     ensures { Gives (λ x. x.now) result (one (map (λ x. x.now) words.now)) }
 {
@@ -34,7 +35,7 @@ pub(crate) fn one<'a>(words: &[&'a [u8]]) -> Result<&'a [u8], LineError>
     }
 }
 
-/// The two words of a line behind the first.
+/// The two words of a line after the first.
 pub(crate) fn two<'a>(words: &[&'a [u8]]) -> Result<(&'a [u8], &'a [u8]), LineError>
     ensures { Gives (λ x. (x.0.now, x.1.now)) result (two (map (λ x. x.now) words.now)) }
 {
@@ -44,7 +45,7 @@ pub(crate) fn two<'a>(words: &[&'a [u8]]) -> Result<(&'a [u8], &'a [u8]), LineEr
     }
 }
 
-/// The three words of a line behind the first.
+/// The three words of a line after the first.
 pub(crate) fn three<'a>(words: &[&'a [u8]]) -> Result<(&'a [u8], &'a [u8], &'a [u8]), LineError>
     ensures { Gives (λ x. (x.0.now, x.1.now, x.2.now)) result (three (map (λ x. x.now) words.now)) }
 {
@@ -216,7 +217,7 @@ pub(crate) fn all_outputs(words: &[&[u8]]) -> bool
 
 /// The outputs that words say.
 pub(crate) fn outputs_at(alloc: Global, words: &[&[u8]]) -> Result<ArrayVec<Output, 4>, LineError>
-    requires { length words.now ≤ 4 }
+    requires { length words.now ≤ MAX_OUTPUTS }
     ensures { Gives (λ v. v.items) result (outputs_at (map (λ x. x.now) words.now)) }
 {
     let mut outputs = ArrayVec::new();

@@ -81,7 +81,7 @@ pub enum ClientAct {
     Family { root: u32 },
     /// It lists the parked elements.
     Errors,
-    /// It counts the elements by how they stand.
+    /// It counts the elements by status.
     Count,
 }
 
@@ -113,7 +113,7 @@ pub struct Race {
     pub clients: u8,
     /// How often each of them submits, 0 to 256.
     pub submits: u16,
-    /// What each of them submits, with zeros behind key and amount; the stage is 1 to 14.
+    /// What each of them submits, with zeros after key and amount; the stage is 1 to 14.
     pub stage: u8,
     pub key: u64,
     pub amount: u64,
@@ -130,9 +130,9 @@ pub enum Command {
     Client(ClientAct),
     /// The desk of a server does this.
     Desk { server: usize, act: DeskAct },
-    /// A register of a server is told.
+    /// A register of a server is reported.
     Balance { server: usize, k: u64 },
-    /// The sum of a register over all servers is told.
+    /// The sum of a register over all servers is reported.
     Sum { k: u64 },
     /// A race is run.
     Race(Race),
@@ -172,7 +172,7 @@ pub struct Script {
     pub servers: Vec<ScriptServer>,
     /// Its commands, in their order.
     pub commands: Vec<Command>,
-    /// Whether it asks for the closing account, behind all commands.
+    /// Whether it asks for the closing account, after all commands.
     pub account: bool,
     // How many passes it needs.
     pass_count: u16,

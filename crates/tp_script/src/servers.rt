@@ -1,4 +1,5 @@
 //! The lines that make servers.
+ghost use Rattle.tp_model.specs.declared.types.TheConstants.{MAX_OUTPUTS};
 ghost use Rattle.std.specs.Prelude.{◌≡◌, ◌≤◌, ◌<◌, map, length, IfOk, IfSome, OnErr, OnOk, position, vec_len};
 ghost use Rattle.std.specs.Prelude.{string_bytes, replicate, Ok, is_ok};
 ghost use Rattle.std.specs.Str.{bytes_eq};
@@ -13,6 +14,7 @@ use crate::line_words::{act_at, all_outputs, is_name, kind_at, name_text, number
 use crate::script::{Kind, MAX_SERVERS, Script, ScriptServer};
 use std::alloc::Global;
 use std::string::String;
+use tp_model::types::MAX_OUTPUTS;
 use tp_server::{Act, Recipe, Registers};
 
 /// The words of a server line, each in its place.
@@ -31,14 +33,14 @@ pub(crate) struct Shape<'a> {
 #[tactic(auto, unfolding(crate::specs::ServerLines::shape_at))]
 pub(crate) fn shape_at<'a>(alloc: Global, words: &'a [&'a [u8]]) -> Result<Shape<'a>, LineError>
     ensures gives { Gives shape_view result (shape_at (map (λ x. x.now) words.now)) }
-    ensures few { IfOk result (λ shape. length shape.outputs.now ≤ 4) }
+    ensures few { IfOk result (λ shape. length shape.outputs.now ≤ MAX_OUTPUTS) }
 {
     let [name, kind, stage, registers, act, outputs @ ..] = words else {
         return Err(LineFault::Syntax.into());
     };
     let kind = kind_at(kind)?;
     let (act, word) = act_at(alloc, act)?;
-    if outputs.len() > 4 || !all_outputs(outputs) {
+    if outputs.len() > MAX_OUTPUTS || !all_outputs(outputs) {
         return Err(LineFault::Syntax.into());
     }
     Ok(Shape {
@@ -55,7 +57,7 @@ pub(crate) fn shape_at<'a>(alloc: Global, words: &'a [&'a [u8]]) -> Result<Shape
 // The numbers of a server line.
 #[tactic(auto, unfolding(crate::specs::ServerLines::recipe_at))]
 fn recipe_at(alloc: Global, shape: &Shape<'_>) -> Result<Recipe, LineError>
-    requires { length shape.now.outputs.now ≤ 4 }
+    requires { length shape.now.outputs.now ≤ MAX_OUTPUTS }
     ensures { Gives (λ r. r) result (recipe_at (shape_view shape.now)) }
 {
     let stage = number_at(shape.stage, 255)? as u8;
@@ -100,7 +102,7 @@ impl Script {
             .position(|server| server.name.as_bytes() == name)
     }
 
-    // The place of the server of this name, if there is one.
+    // The same in the script as contracts see it: names are their bytes there.
     fn place(&self, name: &[u8]) -> Option<usize>
         ensures found { result ≡ position (λ server. bytes_eq server.name name.now)
             (script_view self.now).servers }

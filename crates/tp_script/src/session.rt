@@ -98,7 +98,7 @@ fn worker_act(alloc: Global, verb: Verb, words: &[&[u8]]) -> Result<WorkerAct, L
     }
 }
 
-// Whether the words behind this first word begin with a name.
+// Whether the words after this first word begin with a name.
 fn is_named(verb: Verb) -> bool
     ensures { result ≡ is_named verb }
 {
@@ -151,7 +151,7 @@ impl Head {
         self.find(name)
     }
 
-    // The worker that the words behind a first word name.
+    // The worker that the words after a first word name.
     fn worker_of(&self, verb: Verb, words: &[&[u8]]) -> Option<usize>
         ensures found { result ≡ worker_of verb (map (λ x. x.now) words.now) (head_view self.now) }
         ensures within { IfSome result (λ i. i < vec_len self.now.workers) }
@@ -165,7 +165,7 @@ impl Head {
         self.worker_at(name)
     }
 
-    // The command of this first word, with the words behind it.
+    // The command of this first word, with the words after it.
     #[tactic(auto, unfolding(crate::specs::Session::act_at))]
     fn act_at(&self, alloc: Global, verb: Verb, words: &[&[u8]]) -> Result<Act, LineError>
         ensures gives { Gives (λ a. a) result (act_at verb (map (λ x. x.now) words.now) (head_view self.now)) }
@@ -300,7 +300,7 @@ impl Head {
         self.head_words(alloc, words.as_slice())
     }
 
-    // A line behind the head, of a script's first word.
+    // A line after the head, of a script's first word.
     #[tactic(auto, unfolding(crate::specs::Session::body_keyword))]
     fn body_keyword(
         &self,
@@ -337,7 +337,7 @@ impl Head {
         }
     }
 
-    // The words of a line behind the head.
+    // The words of a line after the head.
     #[tactic(auto, unfolding(crate::specs::Session::body_words))]
     fn body_words(&self, alloc: Global, words: &[&[u8]]) -> Result<Option<Act>, LineError>
         ensures gives { Gives (λ a. a) result (body_words (map (λ x. x.now) words.now) (head_view self.now)) }
@@ -355,7 +355,7 @@ impl Head {
         self.body_keyword(alloc, keyword, others)
     }
 
-    /// What a line behind the head asks for, if it isn't empty or a comment.
+    /// What a line after the head asks for, if it isn't empty or a comment.
     #[tactic(auto, unfolding(crate::specs::Session::body_at))]
     pub fn body_line(&self, alloc: Global, line: &[u8]) -> Result<Option<Act>, LineError>
         ensures gives { Gives (λ a. a) result (body_at line.now (head_view self.now)) }
@@ -367,7 +367,7 @@ impl Head {
     }
 }
 
-// A setting behind the head.
+// A setting after the head.
 fn late_setting(words: &[&[u8]]) -> Result<Option<Act>, LineError>
     ensures gives { Gives (λ a. a) result (out_of_order (one (map (λ x. x.now) words.now))) }
     ensures refused { IfOk result (λ _. ⊥) }

@@ -2,7 +2,7 @@
 use Rattle.std.specs.Prelude.{◌↔◌, ℕ, List, ◌++◌}
 use Rattle.tp_server.specs.Behaviour.{Behaviour, Done, Folds}
 
--- the fold of one list of work behind another is that of the second, from the registers to which the first
+-- the fold of one list of work after another is that of the second, from the registers to which the first
 -- led
 abbrev pub FoldsGoOn : Type 0
 FoldsGoOn =

@@ -1,4 +1,5 @@
 //! What a server of one's own does with an element, as one function.
+ghost use Rattle.tp_model.specs.declared.types.TheConstants.{MAX_OUTPUTS, REPLY_STAGE};
 ghost use Rattle.std.specs.Prelude.{◌≡◌, ◌≤◌, ◌<◌, [], ◌∷◌, ◌++◌, length};
 
 use crate::recipe::Declined;
@@ -22,7 +23,7 @@ impl<const N: usize> Model for Effect<N> {
 }
 
 impl<const N: usize> Effect<N> {
-    /// It leaves the registers so, and has no output.
+    /// An effect that leaves these registers, and has no output.
     pub fn new(registers: [u64; N]) -> Effect<N>
         ensures { result ≡ record { registers = registers.entry; drafts = [] } }
     {
@@ -35,8 +36,8 @@ impl<const N: usize> Effect<N> {
     /// The same with one more output. The stage is 1 to 15, and there are 4 outputs at most.
     pub fn output(mut self, stage: u8, body: Body) -> Effect<N>
         requires low { 1 ≤ stage }
-        requires high { stage ≤ 15 }
-        requires room { length self.drafts < 4 }
+        requires high { stage ≤ REPLY_STAGE }
+        requires room { length self.drafts < MAX_OUTPUTS }
         ensures { result ≡ record {
           registers = self.entry.registers;
           drafts = self.entry.drafts
@@ -68,7 +69,7 @@ pub trait Handler<const N: usize>: Drop {
 
     /// What the element comes to, where these are the registers. It may ask the outside, and must do
     /// nothing there that can't be
-    /// undone: the work can still be called off, and no call tells of that.
+    /// undone: the work can still be called off, and no call reports that.
     fn effect(&mut self, element: &Element, registers: &[u64; N]) -> Result<Effect<N>, Declined>
         ensures behaviour { behaviour self.new ≡ behaviour self.old }
         ensures allowed { Allows (behaviour self.old) registers.now element.now result };

@@ -29,8 +29,8 @@ pub fn tests_stay_passed()
     ensures { AllPreserve }
 {}
 
-/// A server's registers go on across a rollover: the fold of what was committed in the old manager and then
-/// in the new one is that of the latter, from the registers to which the former led.
+/// A server's registers go on across a rollover. The fold of what was committed in both managers is that of
+/// what was committed in the new one, from the registers to which the old one led.
 pub fn folds_go_on()
     ensures { FoldsGoOn }
 {}

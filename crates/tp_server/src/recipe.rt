@@ -7,7 +7,7 @@ use crate::registers::Registers;
 use arrayvec::ArrayVec;
 use std::error::Error;
 use std::fmt;
-use tp_model::types::MAX_STAGE;
+use tp_model::types::{MAX_STAGE, REPLY_STAGE};
 
 /// What a server does to the register that an element's key names: the key is word 0 of its body.
 #[derive(Clone, Copy, Debug, PartialEq, Eq)]
@@ -54,14 +54,15 @@ pub struct Output {
 
 /// A reply with the element's own body. It only fills unused places.
 impl Default for Output {
+    ghost use Rattle.tp_model.specs.declared.types.TheConstants.{REPLY_STAGE};
     ghost use Rattle.tp_server.specs.declared.recipe.KeyFrom.TheVariants.{Same};
     ghost use Rattle.tp_server.specs.declared.recipe.AmountFrom.TheVariants.{Same as SameAmount};
 
-    ghost is_default = { λ output. output ≡ record { stage = 15; key = Same; amount = SameAmount } };
+    ghost is_default = { λ output. output ≡ record { stage = REPLY_STAGE; key = Same; amount = SameAmount } };
 
     fn default() -> Output {
         Output {
-            stage: 15,
+            stage: REPLY_STAGE,
             key: KeyFrom::Same,
             amount: AmountFrom::Same,
         }
@@ -114,7 +115,7 @@ impl fmt::Display for BadRecipe {
 
 impl Error for BadRecipe {}
 
-/// Why a server declined an element. Where several hold, the first is told.
+/// Why a server declined an element. Where several hold, it is the first.
 #[derive(Clone, Copy, Debug, PartialEq, Eq)]
 pub enum Declined {
     /// The element's key isn't below the number of registers. This holds for each act.
@@ -184,5 +185,5 @@ fn are_outputs_good(outputs: &[Output]) -> bool
 {
     outputs
         .iter()
-        .all(|output| 1 <= output.stage && output.stage <= 15)
+        .all(|output| 1 <= output.stage && output.stage <= REPLY_STAGE)
 }

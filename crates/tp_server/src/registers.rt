@@ -23,7 +23,7 @@ impl Model for Registers {
 }
 
 impl Registers {
-    /// So many registers, all 0, or `None` unless the count is 1 to 64.
+    /// This many registers, all 0, or `None` unless the count is 1 to 64.
     pub fn new(count: u8) -> Option<Registers>
         ensures some { IsSome result ↔ ((1 ≤ count) × (count ≤ 64)) }
         ensures zeros { IfSome result (λ r. r ≡ replicate count 0) }

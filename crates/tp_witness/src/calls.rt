@@ -95,7 +95,7 @@ pub fn claim_id(
     Ok(pass.has_open())
 }
 
-/// Commits with so many drafts, at most four.
+/// Commits with this many drafts, at most four.
 pub fn commit(
     manager: &Manager,
     pass: &mut Pass,

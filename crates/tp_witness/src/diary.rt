@@ -29,7 +29,7 @@ pub enum Made {
         id: u32,
         answer: Result<Work, Refusal>,
     },
-    /// So many drafts: they go to one stage, the first with this body, and each further one with a body in
+    /// This many drafts: they go to one stage, the first with this body, and each further one with a body in
     /// which each word but the key is one more.
     Commit {
         drafts: u8,

@@ -3,7 +3,7 @@
 //! each element stands at the end. What the logs say is for another to judge, who trusts nothing here:
 //! `tools/witness`.
 //!
-//! `tp_witness SEED ROUNDS TURNS` makes so many managers, one after another, and each thread takes so many
+//! `tp_witness SEED ROUNDS TURNS` makes this many managers, one after another, and each thread takes this many
 //! turns at each.
 #![tactic(auto)]
 
@@ -127,7 +127,7 @@ fn passes(manager: &Manager, keeper: &mut Keeper) -> Result<(Pass, Pass, Pass, P
     Ok((first, second, third, fourth))
 }
 
-/// How each element stands at the end, as the manager shows it. Of those that are held still about half are
+/// The status of each element at the end, as the manager shows it. Of those that are held still about half are
 /// released.
 fn read_all(manager: &Manager, pass: &mut Pass, diary: &mut Diary) -> Result<(), ProgramFault>
     requires own { IsOf manager.now pass.old }

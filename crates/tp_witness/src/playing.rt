@@ -135,7 +135,7 @@ fn take_turn(manager: &Manager, pass: &mut Pass, diary: &mut Diary) -> Result<()
     }
 }
 
-/// A client's calls: the first reply to a request, the first from that one on, and the first behind it.
+/// A client's calls: the first reply to a request, the first from that one on, and the first after it.
 fn list_replies(
     manager: &Manager,
     pass: &mut Pass,
@@ -206,7 +206,7 @@ fn follow(manager: &Manager, pass: &mut Pass, diary: &mut Diary) -> Result<(), P
     Ok(())
 }
 
-/// The first element that is parked, the first from that one on, and the first behind it; and another round
+/// The first element that is parked, the first from that one on, and the first after it; and another round
 /// for the first.
 fn list_errors(manager: &Manager, pass: &mut Pass, diary: &mut Diary) -> Result<(), ProgramFault>
     requires own { IsOf manager.now pass.old }
@@ -306,7 +306,7 @@ fn linger(diary: &mut Diary) {
     }
 }
 
-/// A killer's calls: a few reads, and a kill of what they may have told is held.
+/// A killer's calls: a few reads, and a kill of what these may have shown to be held.
 fn hunt(manager: &Manager, pass: &mut Pass, diary: &mut Diary) -> Result<(), ProgramFault>
     requires own { IsOf manager.now pass.old }
     requires free { pass.old.open_unit ≡ None }
@@ -318,7 +318,7 @@ fn hunt(manager: &Manager, pass: &mut Pass, diary: &mut Diary) -> Result<(), Pro
     kill(manager, pass, diary, id)
 }
 
-/// A supervisor's calls: a few reads, and a release of what they may have told is held.
+/// A supervisor's calls: a few reads, and a release of what these may have shown to be held.
 fn supervise(manager: &Manager, pass: &mut Pass, diary: &mut Diary) -> Result<(), ProgramFault>
     requires own { IsOf manager.now pass.old }
     requires free { pass.old.open_unit ≡ None }
@@ -344,8 +344,8 @@ fn look_around(manager: &Manager, pass: &mut Pass, diary: &mut Diary) -> Result<
     Ok(())
 }
 
-/// An id that others are likely to be at: one behind the last that the thread has claimed, where they claim
-/// next, or one near the newest of some pass, or of the spare blocks.
+/// An id that others are likely to be at. It is one after the last that the thread has claimed, where they
+/// claim next, or one near the newest of some pass, or of the spare blocks.
 fn some_id(diary: &mut Diary) -> u32 {
     let pass = diary.dice.below(4);
     let back = diary.dice.below(NEAR);

@@ -1,4 +1,4 @@
--- Where the words stand in the table.
+-- Where the words are in the table.
 use Rattle.std.specs.Prelude.{◌≡◌, ℕ, ◌+◌, ◌*◌, ◌<◌, ◌≤◌}
 use Rattle.tp_model.specs.declared.types.TheConstants.{BODY_WORDS}
 use Rattle.tp_model.specs.declared.types.Limits.{Limits}
@@ -13,20 +13,20 @@ head_place i = ROW_WORDS * i
 abbrev pub body_place : ℕ → ℕ → ℕ
 body_place i k = head_place i + 1 + k
 
--- the place of the claim of row i, behind its body
+-- the place of the claim of row i, after its body
 abbrev pub claim_place : ℕ → ℕ
 claim_place i = body_place i BODY_WORDS
 
--- the place of the word of unit u, behind those of all rows
+-- the place of the word of unit u, after those of all rows
 abbrev pub unit_place : Limits → ℕ → ℕ
 unit_place l u = head_place (rows_of l) + u
 
--- the place of the mark of kind s of part p, or of the spare rows where p is the number of parts, behind the
+-- the place of the mark of kind s of part p, or of the spare rows where p is the number of parts, after the
 -- words of all units: those of one kind lie side by side
 abbrev pub mark_place : Limits → ℕ → ℕ → ℕ
 mark_place l s p = head_place (rows_of l) + units_of l + MARK_LINE * s + p
 
--- the place of the counter of drawn blocks, behind all marks
+-- the place of the counter of drawn blocks, after all marks
 abbrev pub drawn_place : Limits → ℕ
 drawn_place l = head_place (rows_of l) + units_of l + MARK_LINE * MARK_KINDS
 

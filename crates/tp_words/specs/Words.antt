@@ -3,7 +3,7 @@ use Rattle.std.specs.Prelude.{◌≡◌, ◌⊎◌, ℕ, ◌+◌, ◌*◌, ◌/�
 use Rattle.tp_model.specs.declared.types.Element.{Element}
 use Rattle.tp_model.specs.History.{UnitEnd, Committed, Aborted}
 use Rattle.tp_model.specs.Words.{ClaimWord, FreeWord, TakenWord, KilledWord, AgainWord}
-use Rattle.tp_model.specs.declared.types.TheConstants.{MAX_ATTEMPTS, MAX_OUTPUTS, MAX_ROUNDS}
+use Rattle.tp_model.specs.declared.types.TheConstants.{MAX_ATTEMPTS, MAX_OUTPUTS, MAX_ROUNDS, REPLY_STAGE}
 use Rattle.tp_words.specs.declared.bits.TheConstants.{HEAD_EMPTY, HEAD_VOID, HEAD_PRESENT, HEAD_STAGE}
 use Rattle.tp_words.specs.declared.bits.TheConstants.{HEAD_ROOT, HEAD_BY, CLAIM_FREE, CLAIM_TAKEN}
 use Rattle.tp_words.specs.declared.bits.TheConstants.{CLAIM_KILLED, CLAIM_AGAIN, CLAIM_ATTEMPT, CLAIM_UNIT}
@@ -29,7 +29,7 @@ unit_value unit.Undecided = None
 unit_value (unit.Committed first count) = Some (Committed first count)
 unit_value unit.Aborted = Some Aborted
 
--- what the head of an element tells
+-- what the head of an element says
 abbrev pub head_of : Element → Head
 head_of x = Filled x.stage x.root x.by
 
@@ -61,7 +61,7 @@ pack_unit (Some Aborted) = UNIT_ABORTED
 abbrev pub IsFitHead : Head → Type 0
 IsFitHead Empty = Unit {0}
 IsFitHead Void = Unit {0}
-IsFitHead (Filled stage root by) = (1 ≤ stage) × (stage ≤ 15) × (root ≤ MAX_ID) × (pack_by by ≤ MAX_UNIT + 1)
+IsFitHead (Filled stage root by) = (1 ≤ stage) × (stage ≤ REPLY_STAGE) × (root ≤ MAX_ID) × (pack_by by ≤ MAX_UNIT + 1)
 
 -- the values that claim words have: an element that was taken is so for the first time or a later one, one
 -- that was killed without being taken in its round has no unit, and one that was given a round has one beside

@@ -1,8 +1,8 @@
 //! The bits of the words, each said once. Bits are counted from the least.
 //!
-//! A field's constant is what a value of 1 in that field counts in the word, so a word is the sum of its
-//! fields, each times its constant, and a field is read by `word % NEXT / OWN`, where `NEXT` is the constant
-//! of the field above it.
+//! A field's constant is what a value of 1 in that field counts in the word. So a word is the sum of its
+//! fields, each times its constant. A field is read by `word % NEXT / OWN`, where `NEXT` is the constant of
+//! the field above it.
 
 /// The head of a row that has neither an element nor a draft.
 pub const HEAD_EMPTY: u64 = 0;

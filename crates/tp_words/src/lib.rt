@@ -5,5 +5,5 @@ pub mod bits;
 mod places;
 mod words;
 
-pub use places::{Places, places_differ};
+pub use places::{MARK_KINDS, Places, places_differ};
 pub use words::{Claim, FoundClaim, Head, UnitWord};

@@ -1,6 +1,6 @@
-//! Where the words stand in the table: those of each row, then one for each unit, then the marks, one of each
-//! kind for each part and one for all spare rows, then one that counts drawn blocks. The rows of the parts
-//! come first, and behind them those of the spare blocks.
+//! Where the words are in the table. First come those of each row, then one for each unit. Then come the
+//! marks, one of each kind for each part and one for all spare rows. The last one counts drawn blocks. The
+//! rows of the parts come first, and after them those of the spare blocks.
 ghost use Rattle.std.specs.Prelude.{◌≡◌, ◌+◌, ◌*◌, ◌<◌, ◌≤◌, ◌↔◌, ℕ, IsOk, IfOk, Err};
 ghost use Rattle.tp_model.specs.Steps.{AreLimits};
 ghost use Rattle.tp_words.specs.Places.{mark_place as marks_from, unit_place as units_from, IsThere};
@@ -23,7 +23,7 @@ pub const MARK_LINE: usize = 40;
 pub struct Places {
     /// What the table has room for, each limit in its range.
     pub limits: Limits,
-    /// The places of the first unit's word and of the first mark, reckoned once: nearly every step asks for
+    /// The places of the first unit's word and of the first mark, computed once: nearly every step asks for
     /// one.
     first_unit: u32,
     first_mark: u32,
@@ -76,7 +76,7 @@ impl Places {
         self.part_rows() + BLOCK_ROWS as u32 * self.limits.spare as u32
     }
 
-    /// The first row of a spare block. For the number of blocks it is the row behind the last one.
+    /// The first row of a spare block. For the number of blocks it is the row after the last one.
     pub fn block_first(&self, block: u16) -> u32
         requires { block ≤ self.now.limits.spare }
         ensures first { result ≡ block_first self.now.limits block }
@@ -85,7 +85,7 @@ impl Places {
         self.part_rows() + BLOCK_ROWS as u32 * block as u32
     }
 
-    /// The row behind the last one of this row's part, or of its block where it is a spare one.
+    /// The row after the last one of this row's part, or of its block where it is a spare one.
     #[tactic(auto, using(crate::proofs::PlaceLemmas::part_area, crate::proofs::PlaceLemmas::block_area))]
     pub fn area_end(&self, row: u32) -> u32
         requires { row < rows_of self.now.limits }

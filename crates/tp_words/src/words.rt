@@ -1,9 +1,9 @@
 //! The words as typed values, and as numbers.
 //!
-//! `Head`, `Claim` and `UnitWord` can each hold more than the words tell; `pack` asks for a value that a word
-//! can tell, and `unpack` answers such values alone. `unpack` undoes `pack`, and `pack` undoes `unpack`.
+//! `Head`, `Claim` and `UnitWord` can each hold more than the words can; `pack` asks for a value that a word
+//! can hold, and `unpack` answers such values alone. `unpack` undoes `pack`, and `pack` undoes `unpack`.
 //! `read` is the same for a number of which it is proved that it is such a word. A `FoundClaim` is a claim
-//! beside the word that tells it.
+//! beside the word that it is in.
 ghost use Rattle.std.specs.Prelude.{◌≡◌, ◌↔◌, ℕ, IfSome, IsSome, Option, Some};
 ghost use Rattle.std.specs.Option.{option_map};
 ghost use Rattle.tp_model.specs.History.{UnitEnd};
@@ -17,7 +17,7 @@ use crate::bits::{
 };
 use tp_model::types::{MAX_ATTEMPTS, MAX_OUTPUTS, MAX_ROUNDS};
 
-/// What the head word of a row tells.
+/// What the head word of a row says.
 #[derive(Clone, Copy, Debug, PartialEq, Eq)]
 pub enum Head {
     /// The row has neither an element nor a draft.
@@ -36,7 +36,7 @@ pub enum Head {
     },
 }
 
-/// What the claim word of a row tells.
+/// What the claim word of a row says.
 #[derive(Clone, Copy, Debug, PartialEq, Eq)]
 pub enum Claim {
     /// The element was never taken, or the row has none.
@@ -52,16 +52,16 @@ pub enum Claim {
     Again { round: u8 },
 }
 
-/// A claim as it was found: the word, which an exchange compares, and what it tells.
+/// A claim as it was found: the word, which an exchange compares, and what it says.
 #[derive(Clone, Copy, Debug, PartialEq, Eq)]
 pub struct FoundClaim {
     word: u64,
-    /// What the word tells.
+    /// What the word says.
     pub tells: Claim,
     pub ghost same: { word ≡ pack_claim (claim_value tells) },
 }
 
-/// What the word of a unit tells.
+/// What the word of a unit says.
 #[derive(Clone, Copy, Debug, PartialEq, Eq)]
 pub enum UnitWord {
     /// The unit was never used, or it is open.
@@ -78,7 +78,7 @@ impl Head {
     ghost use Rattle.tp_words.specs.declared.words.Head.{Head};
     ghost use Rattle.tp_words.specs.declared.words.Head.TheVariants.{Filled};
 
-    /// The word that tells this.
+    /// The word that is packed from this.
     #[inline(always)]
     pub fn pack(self) -> u64
         requires { IsFitHead self }
@@ -97,7 +97,7 @@ impl Head {
         }
     }
 
-    /// What a head word tells.
+    /// What a head word says.
     #[inline(always)]
     pub fn read(word: u64) -> Head
         requires { (h : Head) × IsFitHead h × (word ≡ pack_head h) }
@@ -118,7 +118,7 @@ impl Head {
         }
     }
 
-    /// The stage that the head word of an element or a draft tells, without the rest.
+    /// The stage in the head word of an element or a draft, without the rest.
     #[inline(always)]
     pub fn stage(word: u64) -> u8
         requires { (h : Head) × IsFitHead h × (word ≡ pack_head h) }
@@ -129,7 +129,7 @@ impl Head {
         (word % HEAD_ROOT / HEAD_STAGE) as u8
     }
 
-    /// What the word tells, or `None` for a number that is no head word.
+    /// What the word says, or `None` for a number that is no head word.
     #[inline(always)]
     pub fn unpack(word: u64) -> Option<Head>
         ensures of_pack { (h : Head) → IsFitHead h → word ≡ pack_head h → result ≡ Some h }
@@ -160,7 +160,7 @@ impl Head {
 impl Claim {
     ghost use Rattle.tp_words.specs.Words.{IsClaimWord};
 
-    /// The word that tells this.
+    /// The word that is packed from this.
     #[inline(always)]
     pub fn pack(self) -> u64
         requires { IsFitClaim (claim_value self) }
@@ -192,7 +192,7 @@ impl Claim {
         }
     }
 
-    /// The round that the claim tells: 0 is the first.
+    /// The round of the claim: 0 is the first.
     #[inline(always)]
     pub fn round(self) -> u8
         ensures { result ≡ round_in (claim_value self) }
@@ -213,7 +213,7 @@ impl Claim {
         }
     }
 
-    /// What a claim word tells.
+    /// What a claim word says.
     #[inline(always)]
     pub fn read(word: u64) -> Claim
         requires { (w : ClaimWord) × IsFitClaim w × (word ≡ pack_claim w) }
@@ -243,7 +243,7 @@ impl Claim {
         }
     }
 
-    /// What the word tells, or `None` for a number that is no claim word.
+    /// What the word says, or `None` for a number that is no claim word.
     #[inline(always)]
     pub fn unpack(word: u64) -> Option<Claim>
         ensures of_pack { (w : ClaimWord) → IsFitClaim w → word ≡ pack_claim w
@@ -342,7 +342,7 @@ impl FoundClaim {
 impl UnitWord {
     ghost use Rattle.tp_words.specs.Words.{pack_unit, unit_value, IsFitUnit, IsUnitWord};
 
-    /// The word that tells this.
+    /// The word that is packed from this.
     #[inline(always)]
     pub fn pack(self) -> u64
         requires { IsFitUnit (unit_value self) }
@@ -357,7 +357,7 @@ impl UnitWord {
         }
     }
 
-    /// What a unit's word tells.
+    /// What a unit's word says.
     #[inline(always)]
     pub fn read(word: u64) -> UnitWord
         requires { (w : Option UnitEnd) × IsFitUnit w × (word ≡ pack_unit w) }
@@ -375,7 +375,7 @@ impl UnitWord {
         }
     }
 
-    /// What the word tells, or `None` for a number that is no word of a unit.
+    /// What the word says, or `None` for a number that is no word of a unit.
     #[inline(always)]
     pub fn unpack(word: u64) -> Option<UnitWord>
         ensures of_pack { (w : Option UnitEnd) → IsFitUnit w → word ≡ pack_unit w

@@ -78,7 +78,7 @@ module _ {B : Type 0} (behaviour : B → Behaviour) (registers : B → List ℕ)
     pub behaviour_is : behaviour new.1 ≡ behaviour old.1
     pub ready : IsDeskOf m new
 
--- The same of a desk itself. Where no box is in sight, a server's members are told of a pair.
+-- The same of a desk itself. Where no box is in sight, a server's members are named of a pair.
 module _ {X : Type 0} {F : X → Type 0} (behaviour : (x : X) × F x → Behaviour) (registers : (x : X) × F x
     → List ℕ)
     (pending : (x : X) × F x → Option Pending) where

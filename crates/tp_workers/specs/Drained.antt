@@ -13,6 +13,7 @@ use Rattle.tp_workers.specs.Calling.{MadeCalls}
 use Rattle.tp_workers.specs.Desks.{IsDeskOf, Place, TakesTurn, place}
 use Rattle.tp_workers.specs.Gains.{commits_in}
 use Rattle.tp_workers.specs.Tally.{claimed, turn_count}
+use Rattle.tp_model.specs.declared.types.TheConstants.{MAX_UNITS}
 
 -- turns were taken there, whose claims were in this order, and the last found nothing to claim
 pub record EndsIdle (order : Order) (l : Limits) (old new : Place) : Type 0 where
@@ -51,7 +52,7 @@ module _ {B : Type 0} (behaviour : B → Behaviour) (registers : B → List ℕ)
     pub calls : MadeCalls (TakesTurn order m.limits) turn_count taken (place behaviour registers pending old) counts
         (place behaviour registers pending new)
     pub done : counts.done + commits_in old.0 ≡ commits_in new.0
-    pub few : counts.done ≤ 1024
+    pub few : counts.done ≤ MAX_UNITS
     pub idle : EndsIdle order m.limits (place behaviour registers pending old)
         (place behaviour registers pending new)
     pub leaves : Leaves (behaviour old.1) (registers old.1) (registers new.1) old.0 new.0

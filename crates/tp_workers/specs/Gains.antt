@@ -8,7 +8,7 @@ use Rattle.tp_manager.specs.Shown.{PassShown}
 abbrev pub GainsOnly : (Event → Type 0) → PassShown → PassShown → Type 0
 GainsOnly Is old new = (more : List Event) × (new.mine ≡ old.mine ++ more) × All Is more
 
--- the events are told apart
+-- the events differ
 abbrev pub is_enqueue : Event → Bool
 is_enqueue (Enqueue c e) = true
 is_enqueue other = false

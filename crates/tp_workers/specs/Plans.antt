@@ -3,10 +3,10 @@ use Rattle.std.specs.Prelude.{ℕ}
 use Rattle.tp_desk.specs.declared.order.Order.TheVariants as orders
 use Rattle.tp_workers.specs.declared.plan.Plan.{Plan}
 
--- so many turns, each of which claims the element with the least id
+-- this many turns, each of which claims the element with the least id
 abbrev pub least_first : ℕ → Plan
 least_first turns = record { turns = turns; order = orders.LeastFirst }
 
--- so many turns whose claims are in turn
+-- this many turns whose claims are in turn
 abbrev pub in_turn : ℕ → Plan
 in_turn turns = record { turns = turns; order = orders.InTurn }

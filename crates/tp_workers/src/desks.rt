@@ -1,4 +1,5 @@
 //! Desks in a shift: each is made on its worker's own stack, of a pass and a server that are lent to it.
+ghost use Rattle.tp_model.specs.declared.types.TheConstants.{MAX_OUTPUTS};
 ghost use Rattle.std.specs.Prelude.{◌≡◌, ◌≤◌, None, Some};
 ghost use Rattle.tp_manager.specs.Bounds.{commit_steps};
 ghost use Rattle.tp_manager.specs.Calls.{Follows};
@@ -113,7 +114,8 @@ fn work_at<G: Gate>(desk: &mut Desk, work: Work, worker: u32, gate: &G) -> Turne
     ensures behaviour { shown behaviour desk.new.server.now ≡ shown behaviour desk.old.server.now }
     ensures free { desk.new.work ≡ None }
     ensures turn { desk.new.pass.now.from ≡ desk.old.pass.now.from }
-    ensures follows { Follows (commit_steps desk.old.manager.now.limits 4) desk.old.pass.now desk.new.pass.now }
+    ensures follows { Follows (commit_steps desk.old.manager.now.limits MAX_OUTPUTS)
+        desk.old.pass.now desk.new.pass.now }
     ensures answer { WorksOff (shown behaviour desk.old.server.now) (shown registers desk.old.server.now) work
         desk.old.pass.now desk.new.pass.now result (shown registers desk.new.server.now) }
     ensures steady { SteadyDesk (shown behaviour) (shown registers) (shown pending) desk.new }

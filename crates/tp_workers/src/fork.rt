@@ -10,7 +10,7 @@ use std::thread::{Threads, join_mut};
 
 /// Runs each worker on a thread of its own, numbered from `first` on. Where there is a place for each
 /// worker's counts, they
-/// are told one by one, and else only their sum.
+/// are given one by one, and else only their sum.
 #[cycle(fork)]
 pub(crate) fn fork<R: Threads + Sync, T: Send, U: Send, F: Fn(&mut T, &mut U, u32) -> Shift + Sync>(
     rt: &R,
@@ -152,7 +152,7 @@ fn fork_two<
 }
 
 /// Runs the workers of three kinds, numbered from `first`, `second` and `third` on. Those of the first
-/// kind are told as by
+/// kind are given as by
 /// `fork`.
 pub(crate) fn fork_three<
     R: Threads + Sync,
@@ -226,7 +226,7 @@ pub(crate) fn in_turn<T, U, F: Fn(&mut T, &mut U, u32) -> Shift>(
     a.plus(b)
 }
 
-/// The number that comes so many after another, or the greatest one that there is.
+/// The number that comes this many after another, or the greatest one that there is.
 pub(crate) fn number_after(first: u32, count: usize) -> u32
     ensures { first + count < 2 ^ 32 → result ≡ first + count }
 {

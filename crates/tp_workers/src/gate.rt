@@ -1,6 +1,6 @@
 //! The points at which workers can be held.
 
-/// Where a worker stands.
+/// Where a worker is.
 #[derive(Clone, Copy, Debug, PartialEq, Eq)]
 pub enum Point {
     /// A turn or a call begins.
@@ -16,6 +16,7 @@ pub enum Point {
 /// What each worker calls at its points. Workers are numbered from 0: desks first, then clients, then
 /// killers.
 pub trait Gate: Sync {
+    /// Holds the worker with this number at this point, and returns when it may go on.
     fn pause(&self, worker: u32, point: Point);
 }
 

@@ -15,7 +15,7 @@ pub struct Plan {
 impl Plan {
     ghost use Rattle.tp_workers.specs.Plans.{least_first, in_turn};
 
-    /// So many turns, each of which claims the element with the least id.
+    /// This many turns, each of which claims the element with the least id.
     pub fn least_first(turns: u32) -> Plan
         ensures { result ≡ least_first turns }
     {
@@ -25,7 +25,7 @@ impl Plan {
         }
     }
 
-    /// So many turns whose claims are in turn.
+    /// This many turns whose claims are in turn.
     pub fn in_turn(turns: u32) -> Plan
         ensures { result ≡ in_turn turns }
     {

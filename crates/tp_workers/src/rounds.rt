@@ -24,9 +24,9 @@ pub struct Drained {
 }
 
 /// Has a desk of each pass with the server at its place take turns on the caller's thread, one turn each in a
-/// round, whose claims are in this order, until a whole round claims nothing: each desk's last turn found
-/// nothing to wait, or no unit left. All passes come from this manager's keeper and have no unit open, and
-/// the servers have nothing prepared; so it is afterwards.
+/// round. Its claims are in this order. It ends after a whole round that claims nothing: each desk's last
+/// turn found nothing to wait, or no unit left. All passes come from this manager's keeper and have no unit
+/// open, and the servers have nothing prepared; so it is afterwards.
 pub fn drain(
     manager: &Manager,
     passes: &mut [Pass],

@@ -21,10 +21,10 @@ use tp_manager::{Manager, Pass};
 use tp_server::Server;
 
 /// Runs a desk of each of the first passes with the server at its place, a client of each of the second with
-/// the job at its place, and a killer of each of the third with the job at its place, each on a thread of its
-/// own, until all are through. A desk takes as many turns as planned, claiming in the planned order, or fewer
-/// where its pass has no unit left. The answer is what all did together; where `counts` has a place for each
-/// desk, what each desk did is left there.
+/// the job at its place, and a killer of each of the third with the job at its place. Each is on a thread of
+/// its own. It returns when all are through. A desk takes as many turns as planned, claiming in the planned
+/// order, or fewer where its pass has no unit left. The answer is what all did together; where `counts` has a
+/// place for each desk, what each desk did is left there.
 ///
 /// All passes come from this manager's keeper and have no unit open, and the servers have nothing prepared;
 /// so it is afterwards. The jobs stay as they are.

@@ -29,7 +29,7 @@ struct Parts {
     server: Box<dyn Server + Send>,
 }
 
-/// A bench for this server, whose passes have so many rows and units, where an element has three attempts.
+/// A bench for this server, whose passes have this many rows and units, where an element has three attempts.
 fn bench<R: Abort + AllocGlobal>(
     rt: &R,
     rows: u16,

@@ -29,7 +29,7 @@ const SMALL: Limits = Limits {
     spare: 0,
 };
 
-/// How a new element stands.
+/// The status of a new element.
 const NEW: Status = Status::Waiting { attempts: 0 };
 
 /// A commit with no outputs.

@@ -20,7 +20,7 @@ use tp_server::{
 
 const MAX: u64 = 18446744073709551615;
 
-/// An element with this key and amount. The words behind them are 70 and 80, as in each draft.
+/// An element with this key and amount. The words after them are 70 and 80, as in each draft.
 fn element(key: u64, amount: u64) -> Element {
     Element {
         id: 0,
@@ -384,7 +384,7 @@ fn unused_outputs(rt: HostRuntime) {
     assert!(rt; Output::default() == output(15, KeyFrom::Same, AmountFrom::Same));
 }
 
-/// Registers `[0, 5]`, Add, output `15:same:after`: the effect tells what is in the register then, and a key past the
+/// Registers `[0, 5]`, Add, output `15:same:after`: the effect says what is in the register then, and a key past the
 /// last has none.
 fn has_effect(rt: &impl Abort, recipe: &Recipe, registers: &Registers) {
     assert!(rt; recipe.check() == Ok(()));

@@ -66,7 +66,7 @@ fn three_passes<R: Abort>(rt: &R, keeper: &mut Keeper, manager: &Manager) -> [Pa
     [first, second, third]
 }
 
-/// A client of stage 1, which submits so many bodies with the key 0 and this amount.
+/// A client of stage 1, which submits this many bodies with the key 0 and this amount.
 fn client<R: Abort + AllocGlobal>(rt: &R, amount: u64, count: u32) -> ClientJob
     ensures job { IsClientJob result }
     ensures count { calls_of result ≡ count }
@@ -98,7 +98,7 @@ fn three(
     [one, other, third]
 }
 
-/// How the elements of a stage stand.
+/// The statuses of the elements of a stage.
 #[derive(Clone, Copy, Default)]
 struct Standing {
     waiting: u32,
@@ -130,7 +130,7 @@ impl Standing {
     }
 }
 
-/// How the elements of this stage with ids below `end` stand.
+/// The statuses of the elements of this stage with ids below `end`.
 fn survey(manager: &Manager, reader: &mut Pass, stage: u8, end: u32) -> Standing
     requires { IsOf manager.now reader.old }
     ensures { IsOf manager.now reader.new }

@@ -19,7 +19,7 @@ struct Prepared {
     left: u64,
 }
 
-/// Pays out of two accounts, and tells what is left. The words of a payment are its account, its payee, what is paid,
+/// Pays out of two accounts, and outputs what is left. The words of a payment are its account, its payee, what is paid,
 /// and its number in the payee's books.
 #[derive(Debug, Drop)]
 pub(crate) struct Accounts {

@@ -24,7 +24,7 @@ pub(crate) fn two<R: Abort + AllocGlobal>(rt: &R, rows: u16, units: u16, attempt
     Plain::new(rt.alloc(), limits).expect(rt, "no manager")
 }
 
-/// A manager of two passes with eight units each, and so many spare blocks.
+/// A manager of two passes with eight units each, and this many spare blocks.
 pub(crate) fn sparing<R: Abort + AllocGlobal>(rt: &R, rows: u16, spare: u16) -> Plain
     ensures { result.limits.parts ≡ 2 }
 {
@@ -38,7 +38,7 @@ pub(crate) fn sparing<R: Abort + AllocGlobal>(rt: &R, rows: u16, spare: u16) -> 
     Plain::new(rt.alloc(), limits).expect(rt, "no manager")
 }
 
-/// The body of key 0 with this amount, and with words that differ behind it.
+/// The body of key 0 with this amount, and with words that differ after it.
 pub(crate) fn body(amount: u64) -> Body {
     [0, amount, 71, 72]
 }

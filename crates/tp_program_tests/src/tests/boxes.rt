@@ -159,7 +159,7 @@ fn registers_are_those_of_committed_work(rt: HostRuntime) {
         let (answer, consumed, sum) = failed_at(&rt, &script, fails_at).expect(&rt, "nothing made");
         assert!(rt; answer == Err(RunFault::Write), "at call {fails_at}");
         assert_eq!(rt; sum, consumed, "at call {fails_at}");
-        // The second call is the drain's line, and nothing waits behind a drain.
+        // The second call is the drain's line, and nothing waits after a drain.
         assert!(rt; fails_at == 1 || sum == 200, "at call {fails_at}");
     }
 }

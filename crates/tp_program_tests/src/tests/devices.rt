@@ -3,7 +3,7 @@
 use tp_report::Sink;
 use tp_script::{Failed, Source};
 
-/// A reader of these bytes that hands out at most so many a call, and fails at a call.
+/// A reader of these bytes that hands out at most this many a call, and fails at a call.
 #[derive(Drop)]
 pub struct Reader<'a> {
     pub bytes: &'a [u8],
@@ -36,7 +36,7 @@ impl Source for Reader<'_> {
     }
 }
 
-/// A writer that takes at most so many bytes a call, and fails at a call.
+/// A writer that takes at most this many bytes a call, and fails at a call.
 #[derive(Drop)]
 pub struct Writer {
     pub taken: Vec<u8>,

@@ -17,7 +17,7 @@ pub(crate) const CLIENT: u16 = 0;
 
 pub(crate) const SERVER: u16 = 1;
 
-/// A call, and behind what it is given what it is to answer.
+/// A call, and after what it is given what it is to answer.
 #[derive(Clone, Copy)]
 pub(crate) enum Call<'a> {
     /// A submit to the stage of a body with this amount.
@@ -46,7 +46,7 @@ pub(crate) enum Call<'a> {
     Collects(u32, Result<Element, Refusal>),
     /// A collect of the next reply to the request: its id.
     CollectsNext(u32, Option<u32>),
-    /// The next element of the request from this id on: its id and how it stands.
+    /// The next element of the request from this id on: its id and its status.
     Follows(u32, u32, Option<(u32, Status)>),
     /// A cancel of the request.
     Cancels(u32, Result<Cancelled, Refusal>),

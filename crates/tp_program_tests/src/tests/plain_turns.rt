@@ -37,7 +37,7 @@ fn each_has_its_turn(rt: HostRuntime) {
     plays(&rt, two(&rt, 4, 16, 3), &calls);
 }
 
-// Each pass has a place for each stage. Behind the last id comes the first: behind 5, an output, come 2 and 3.
+// Each pass has a place for each stage. After the last id comes the first: after 5, an output, come 2 and 3.
 #[test]
 fn places_of_passes_and_stages(rt: HostRuntime) {
     let outputs = [draft(&rt, 2, 5), draft(&rt, 2, 6)];

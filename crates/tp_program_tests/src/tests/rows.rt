@@ -12,7 +12,7 @@ fn is_reported<R: Abort + AllocGlobal + Threads + Sync>(rt: &R, script: &str, wa
     assert_eq!(rt; held.as_slice(), want.as_bytes(), "at {script:?}");
 }
 
-/// The script is refused, and this is what its one line says behind `refused line`.
+/// The script is refused, and this is what its one line says after `refused line`.
 fn is_refused<R: Abort + AllocGlobal + Threads + Sync>(rt: &R, script: &str, want: &str) {
     let (answer, held) = agreed(rt, script);
     assert_eq!(rt; answer, Ok(PlainExit::Refused), "at {script:?}");

@@ -49,7 +49,7 @@ fn adder(alloc: Global) -> Option<Box<dyn Server + Send>>
     Some(boxed)
 }
 
-/// What is answered to a first command, which is in line 3, and to the lines behind it.
+/// What is answered to a first command, which is in line 3, and to the lines after it.
 fn answered(
     alloc: Global,
     head: &Head,
@@ -102,7 +102,7 @@ fn answered(
     Some(held)
 }
 
-/// The answers to `submit 1 5 6 7 8` and to what stands behind it.
+/// The answers to `submit 1 5 6 7 8` and to what comes after it.
 fn session(alloc: Global, text: &str) -> Option<Vec<u8>> {
     let mut head = Head::new(alloc);
     let _ = head.head_line(alloc, b"server till eager 2 1 add").ok()?;

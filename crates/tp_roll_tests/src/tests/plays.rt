@@ -131,7 +131,7 @@ fn answers(manager: &Manager, pass: &mut Pass, call: Call) -> bool
 }
 
 /// Whether the call of the pass at this place gives its answer.
-#[tactic(auto, using(tp_manager::proofs::Together::one_set))]
+#[tactic(auto, using(tp_manager::proofs::Accounts::Together::one_set))]
 fn answers_at(manager: &Manager, passes: &mut [Pass], by: usize, call: Call) -> bool
     requires { All (IsOf manager.now) passes.old }
     ensures { All (IsOf manager.now) passes.new }

@@ -10,7 +10,7 @@ abbrev pub invariant-loop-reply : goal.invariant-loop-reply
 invariant-loop-reply l = record {
   free : IsFreePass l.manager l.client;
   number : l.client.number ≡ l.initial.client.number;
-  -- what is taken from here on stands behind what was taken
+  -- what is taken from here on comes after what was taken
   found : (more : List Element) (last : PassShown) → TellsCollected l.manager.limits l.root l.client more last
       → TellsCollected l.manager.limits l.root l.fn.client (l.found.items ++ more) last;
 }

@@ -10,7 +10,7 @@ invariant-loop-from l = record {
   free : IsFreePass l.manager l.client;
   number : l.client.number ≡ l.initial.client.number;
   capacity : l.capacity ≡ rows_of l.manager.limits;
-  -- what is found from here on stands behind what was found
+  -- what is found from here on comes after what was found
   found : (more : List ℕ) (last : PassShown) → TellsErrors l.manager.limits l.from l.client more last
       → TellsErrors l.manager.limits 0 l.fn.client (l.parked.items ++ more) last;
 }

@@ -11,7 +11,7 @@ invariant-loop-from l = record {
   free : IsFreePass l.manager l.client;
   number : l.client.number ≡ l.initial.client.number;
   capacity : l.capacity ≡ rows_of l.manager.limits;
-  -- what is found from here on stands behind what was found
+  -- what is found from here on comes after what was found
   found : (more : List Look) (last : PassShown) → TellsFamily l.manager.limits l.root l.from l.client more last
       → TellsFamily l.manager.limits l.root 0 l.fn.client (l.found.items ++ more) last;
 }

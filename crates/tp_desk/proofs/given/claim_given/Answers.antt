@@ -1,7 +1,7 @@
 use Rattle.std.proofs.Common.{◌≡◌, ◌<◌, ◌+◌, arith}
 use Rattle.tp_manager.specs.Bounds.{claim_id_steps, read_steps}
 use Rattle.tp_manager.specs.Calls.{claims_in}
-use Rattle.tp_manager.proofs.Follows.{follows_then}
+use Rattle.tp_manager.proofs.Calls.Follows.{follows_then}
 use Rattle.tp_desk.proofs.GivenClaims.{given_then}
 use Rattle.tp_desk.proofs.given.claim_given.Goals as goal
 

@@ -116,7 +116,7 @@ pub(super) fn turns_next(desk: &mut Desk, answer: Turned) -> bool
     !desk.has_open() && desk.turn_next() == answer
 }
 
-/// Whether a request of stage 1 with the key 0, this amount, and 8 and 9 behind it is accepted as the element with this
+/// Whether a request of stage 1 with the key 0, this amount, and 8 and 9 after it is accepted as the element with this
 /// id.
 pub(super) fn submits(manager: &Manager, client: &mut Pass, amount: u64, id: u32) -> bool
     requires { IsOf manager.now client.old }
@@ -125,7 +125,7 @@ pub(super) fn submits(manager: &Manager, client: &mut Pass, amount: u64, id: u32
     manager.submit(client, 1, [0, amount, 8, 9]) == Ok(id)
 }
 
-/// Whether a kill of the element aborts so many units.
+/// Whether a kill of the element aborts this many units.
 pub(super) fn kills(manager: &Manager, client: &mut Pass, id: u32, units_aborted: u8) -> bool
     requires { IsOf manager.now client.old }
     ensures { IsOf manager.now client.new }

@@ -8,7 +8,7 @@ use tp_manager::{Manager, Pass};
 use tp_model::types::{Claimed, Killed, Outcome, Status, Work};
 use tp_server::Server;
 
-/// Whether a request of stage 1 with the key 0, this amount, and 8 and 9 behind it is accepted as the element
+/// Whether a request of stage 1 with the key 0, this amount, and 8 and 9 after it is accepted as the element
 /// with this id.
 pub(crate) fn submits(manager: &Manager, client: &mut Pass, amount: u64, id: u32) -> bool
     requires { IsOf manager.now client.old }
@@ -18,7 +18,7 @@ pub(crate) fn submits(manager: &Manager, client: &mut Pass, amount: u64, id: u32
     manager.submit(client, 1, [0, amount, 8, 9]) == Ok(id)
 }
 
-/// Whether a kill of the element aborts so many units.
+/// Whether a kill of the element aborts this many units.
 pub(crate) fn kills(manager: &Manager, client: &mut Pass, id: u32, units_aborted: u8) -> bool
     requires own { IsOf manager.now client.old }
     requires free { client.old.open_unit ≡ None }

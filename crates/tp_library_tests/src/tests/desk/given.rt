@@ -34,7 +34,7 @@ fn the_one_that_is_asked_for(rt: HostRuntime) {
     plays(&rt, 4, 8, eager(&rt, recipe(1, Act::Add, &[REPLY])), &steps);
 }
 
-/// A refusal uses no unit, and a pass without units is told so first.
+/// A refusal uses no unit, and a pass without units is refused first.
 #[test]
 fn without_units(rt: HostRuntime) {
     let calls = [

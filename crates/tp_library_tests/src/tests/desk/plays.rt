@@ -11,12 +11,12 @@ use tp_manager::{Manager, Pass};
 use tp_model::types::{Claimed, Ended, Look, Outcome, Refusal, Status, Work};
 use tp_server::{Declined, Server};
 
-/// A call of the client, and behind what it is given what it is to answer.
+/// A call of the client, and after what it is given what it is to answer.
 #[derive(Clone, Copy)]
 pub(super) enum Asks {
     /// A submit of this amount.
     Submits(u64, u32),
-    /// A kill of the element, which aborts so many units.
+    /// A kill of the element, which aborts this many units.
     Kills(u32, u8),
     /// A read of the element.
     Reads(u32, Result<Look, Refusal>),
@@ -26,7 +26,7 @@ pub(super) enum Asks {
     NextError(u32, Option<u32>),
 }
 
-/// A call at a desk, and behind what it is given what it is to answer.
+/// A call at a desk, and after what it is given what it is to answer.
 #[derive(Clone, Copy)]
 pub(super) enum Does {
     /// A claim.
@@ -66,9 +66,9 @@ pub(super) enum Does {
 pub(super) enum Step<'a> {
     /// A call of the client.
     Asked(Asks),
-    /// Calls at a desk, which ends behind them.
+    /// Calls at a desk, which ends after them.
     Ended(&'a [Does]),
-    /// Calls at a desk, which is dropped behind them.
+    /// Calls at a desk, which is dropped after them.
     Dropped(&'a [Does]),
     /// Whether the worker's pass has a unit open, and the server something prepared.
     Left(bool, bool),
@@ -133,7 +133,7 @@ fn at_desk<R: Abort>(rt: &R, manager: &Manager, client: &mut Pass, desk: &mut De
     }
 }
 
-/// Plays calls at a desk that ends behind them.
+/// Plays calls at a desk that ends after them.
 fn ended<R: Abort>(
     rt: &R,
     manager: &Manager,
@@ -154,7 +154,7 @@ fn ended<R: Abort>(
     desk.end();
 }
 
-/// Plays calls at a desk that is dropped behind them.
+/// Plays calls at a desk that is dropped after them.
 fn dropped<R: Abort>(
     rt: &R,
     manager: &Manager,
@@ -205,7 +205,7 @@ fn play<R: Abort>(
     }
 }
 
-/// Plays the steps of a table by a client, and at desks for this server, whose passes have so many rows and units.
+/// Plays the steps of a table by a client, and at desks for this server, whose passes have this many rows and units.
 pub(super) fn plays<R: Abort + AllocGlobal>(
     rt: &R,
     rows: u16,

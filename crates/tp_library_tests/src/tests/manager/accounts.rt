@@ -50,7 +50,7 @@ fn nothing_happened(rt: HostRuntime) {
     assert!(rt; !keeper.has_all(&[]));
 }
 
-/// The closing account, behind a gathering, if these are all passes of the keeper.
+/// The closing account, after a gathering, if these are all passes of the keeper.
 fn accounted(manager: &Manager, keeper: &mut Keeper, passes: &mut [Pass]) -> Option<Account>
     requires kept { IsKeptBy manager.now keeper.old }
     requires own { All (IsOf manager.now) passes.old }
@@ -65,7 +65,7 @@ fn accounted(manager: &Manager, keeper: &mut Keeper, passes: &mut [Pass]) -> Opt
     }
 }
 
-/// Plays parts of a table, behind each of which the closing account is this.
+/// Plays parts of a table, after each of which the closing account is this.
 fn accounts<R: Abort>(
     rt: &R,
     manager: &Manager,
@@ -174,7 +174,7 @@ fn a_pass_comes_after(rt: HostRuntime) {
     drop(manager);
 }
 
-/// Whether these passes are all of the keeper's, and neither those behind the first are nor the first alone is.
+/// Whether these passes are all of the keeper's, and neither those after the first are nor the first alone is.
 fn are_all(keeper: &Keeper, passes: &[Pass; 2]) -> bool {
     let all: &[Pass] = passes;
     keeper.has_all(all) && !keeper.has_all(&all[1..]) && !keeper.has_all(&all[..1])

@@ -51,7 +51,7 @@ fn bodies_aborted_and_lost(rt: HostRuntime) {
         (CLIENT, Finds(asked, Status::Killed)),
         (CLIENT, Reads(4, Err(Refusal::NotThere))),
         (CLIENT, Reads(5, Err(Refusal::NotThere))),
-        // What is committed later has its own words, in the rows behind.
+        // What is committed later has its own words, in the rows after.
         (CLIENT, Submits(1, LATER, Ok(1))),
         (SERVER, Claims(1, work(5, 1, request(1, 1, LATER)))),
         (SERVER, Commits(&drafts, committed)),

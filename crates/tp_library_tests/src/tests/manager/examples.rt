@@ -1,4 +1,4 @@
-//! Requests that are worked off, and what two passes tell each other.
+//! Requests that are worked off, and what two passes show each other.
 ghost use Rattle.tp_manager.specs.Shown.{IsOf};
 
 use super::plays::Call::{Aborts, Capacity, Claims, Commits, Finds, NextError, Submits, Takes};

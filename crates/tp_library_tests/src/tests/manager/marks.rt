@@ -1,4 +1,4 @@
-//! Claims that begin behind what is finished.
+//! Claims that begin after what is finished.
 
 use super::plays::Call::{Aborts, Claims, Commits, Kills, Low, NextError, Reply, Submits, Takes};
 use super::plays::{CLIENT, SERVER, plays};
@@ -101,7 +101,7 @@ fn mark_passes_dead_drafts(rt: HostRuntime) {
         (SERVER, Commits(&drafts[..1], one)),
         (SERVER, Claims(1, Claimed::Idle)),
         (SERVER, Low(1, 0, 2)),
-        // The reply that is born behind them is of no use to a claim. Who asks for it comes to it from its request.
+        // The reply that is born after them is of no use to a claim. Who asks for it comes to it from its request.
         (SERVER, Low(1, 1, 3)),
         (CLIENT, Reply(0, 0, None)),
         (CLIENT, Reply(1, 0, Some(6))),

@@ -16,7 +16,7 @@ pub(super) const CLIENT: usize = 0;
 
 pub(super) const SERVER: usize = 1;
 
-/// A call, and behind what it is given what it is to answer.
+/// A call, and after what it is given what it is to answer.
 #[derive(Clone, Copy)]
 pub(super) enum Call<'a> {
     /// A submit of a body to the stage.
@@ -57,7 +57,7 @@ pub(super) enum Call<'a> {
     Stands(u32, Status),
     /// The request's first reply from this id on.
     Reply(u32, u32, Option<u32>),
-    /// The request's first element from this id on: its id, and how it stands.
+    /// The request's first element from this id on: its id and status.
     Family(u32, u32, Option<(u32, Status)>),
     /// The first parked element from this id on.
     NextError(u32, Option<u32>),
@@ -117,7 +117,7 @@ fn answers(manager: &Manager, pass: &mut Pass, call: Call<'_>) -> bool
 }
 
 /// Whether the call of the pass at this place gives its answer.
-#[tactic(auto, using(tp_manager::proofs::Together::one_set))]
+#[tactic(auto, using(tp_manager::proofs::Accounts::Together::one_set))]
 fn answers_at(manager: &Manager, passes: &mut [Pass], by: usize, call: Call<'_>) -> bool
     requires { All (IsOf manager.now) passes.old }
     ensures { All (IsOf manager.now) passes.new }

@@ -33,7 +33,7 @@ fn each_has_its_turn(rt: HostRuntime) {
         (SERVER, TakesNext(1, 2)),
         (SERVER, Commits(&[], NOTHING)),
         (SERVER, NextIdle(1)),
-        // Row 1 waits in another stage, of which this mark isn't: it is behind all rows.
+        // Row 1 waits in another stage, of which this mark isn't: it is after all rows.
         (SERVER, Low(1, 0, 4)),
         (SERVER, TakesNext(2, 1)),
         (SERVER, Commits(&[], NOTHING)),

@@ -5,7 +5,7 @@ use std::process::Abort;
 use tp_model::types::Draft;
 use tp_server::{Declined, Server};
 
-/// A call, and behind what it is given what it is to answer.
+/// A call, and after what it is given what it is to answer.
 #[derive(Clone, Copy)]
 pub(super) enum Call<'a> {
     /// The preparation of an element with this key and amount.

@@ -33,7 +33,7 @@ fn limits() -> CrewLimits {
     }
 }
 
-/// How many turns these counts tell of.
+/// How many turns these counts are of.
 fn turns_of(counts: &Shift) -> u32 {
     counts
         .done

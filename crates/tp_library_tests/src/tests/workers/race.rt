@@ -45,7 +45,7 @@ fn raced<R: Threads + Sync + Abort + AllocGlobal>(
     (counts, drained)
 }
 
-/// What the race and the rounds count, how the elements stand, and the registers add up.
+/// What the race and the rounds count, the statuses of the elements, and what the registers add up to.
 fn adds_up<R: Abort>(
     rt: &R,
     manager: &Manager,

@@ -13,7 +13,7 @@ use tp_model::types::Limits;
 use tp_server::{Act, Server};
 use tp_workers::{NoGate, Plan, Shift, drain, shift};
 
-/// The requests 0 to 49 are cancelled, and those behind them are not.
+/// The requests 0 to 49 are cancelled, and those after them are not.
 const CANCELLED: u32 = 50;
 
 const SUBMITTED: u32 = 100;
@@ -129,7 +129,7 @@ fn turns_and_cancels<R: Threads + Sync>(
     join_mut(rt, &mut work, &mut cancels)
 }
 
-/// How the elements of the cancelled requests stand that are no replies.
+/// The statuses of the elements of the cancelled requests that are no replies.
 fn families(manager: &Manager, reader: &mut Pass) -> Standing
     requires { IsOf manager.now reader.old }
     ensures { IsOf manager.now reader.new }

@@ -12,7 +12,7 @@ use tp_model::types::Limits;
 use tp_server::{Act, Server};
 use tp_workers::{KillJob, NoGate, Plan, Shift, shift};
 
-/// All work at once: the desks with so many turns, the clients and the killers.
+/// All work at once: the desks with this many turns, the clients and the killers.
 fn all_work<R: Threads + Sync + Abort + AllocGlobal>(
     rt: &R,
     manager: &Manager,
@@ -47,7 +47,7 @@ fn all_work<R: Threads + Sync + Abort + AllocGlobal>(
     )
 }
 
-/// What the shift counts, how the elements stand, and the three registers add up.
+/// What the shift counts, the statuses of the elements, and what the three registers add up to.
 fn adds_up<R: Abort>(
     rt: &R,
     manager: &Manager,

@@ -32,7 +32,7 @@ fn submits<R: Abort>(rt: &R, manager: &Manager, client: &mut Pass)
     assert!(rt; manager.submit(client, 1, [0, 0, 0, 0]) == Ok(2));
 }
 
-/// What a worker counts in three turns, and how the first element stands behind them.
+/// What a worker counts in three turns, and the status of the first element after them.
 fn worked<R: Abort + AllocGlobal>(rt: &R, plan: Plan, counts: Shift, status: Status) {
     let (manager, mut keeper) = manager(rt, LIMITS);
     let mut client = pass(rt, &mut keeper, &manager);

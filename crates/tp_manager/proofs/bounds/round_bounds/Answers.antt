@@ -3,7 +3,7 @@ use Rattle.tp_model.specs.declared.types.Limits.{Limits}
 use Rattle.tp_model.specs.declared.types.TheConstants.{BLOCK_ROWS}
 use Rattle.tp_model.specs.Steps.{changes, rows_of}
 use Rattle.tp_manager.specs.Bounds.{drawn_steps, find_steps, listing_steps, look_steps}
-use Rattle.tp_manager.proofs.RoundAccounts.{account_round, cancel_round, gather_round}
+use Rattle.tp_manager.proofs.Accounts.RoundAccounts.{account_round, cancel_round, gather_round}
 use Rattle.tp_manager.proofs.bounds.round_bounds.Goals as goal
 
 -- a listing that begins at no mark

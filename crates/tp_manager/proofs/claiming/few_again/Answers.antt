@@ -1,4 +1,4 @@
-use Rattle.tp_manager.proofs.Again.{again_few}
+use Rattle.tp_manager.proofs.Marks.Again.{again_few}
 use Rattle.tp_manager.proofs.claiming.few_again.Goals as goal
 
 pub returns : goal.returns

@@ -1,4 +1,4 @@
-use Rattle.tp_manager.proofs.Upwards as up
+use Rattle.tp_manager.proofs.Calls.Upwards as up
 use Rattle.tp_manager.proofs.drawing.ids_go_up.Goals as goal
 
 pub returns : goal.returns

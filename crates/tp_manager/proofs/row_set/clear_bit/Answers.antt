@@ -1,4 +1,4 @@
-use Rattle.tp_manager.proofs.RowBits.{clear_has, clear_others}
+use Rattle.tp_manager.proofs.Families.RowBits.{clear_has, clear_others}
 use Rattle.tp_manager.proofs.row_set.clear_bit.Goals as goal
 
 pub returns-clause-has : goal.returns-clause-has

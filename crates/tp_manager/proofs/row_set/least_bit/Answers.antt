@@ -1,7 +1,7 @@
 use Rattle.std.proofs.Common.{◌+◌, slice_index, subst, sym, w64, arith}
 use Rattle.std.specs.Int.{trailing_zeros}
 use Rattle.tp_manager.specs.RowSets.{IsLeast}
-use Rattle.tp_manager.proofs.RowBits.{lowest_has}
+use Rattle.tp_manager.proofs.Families.RowBits.{lowest_has}
 use Rattle.tp_manager.proofs.row_set.least_bit.Goals as goal
 
 pub returns-then-word-ne0 : goal.returns-then-word-ne0

@@ -1,4 +1,4 @@
-use Rattle.tp_manager.proofs.RowBits.{lowest_has}
+use Rattle.tp_manager.proofs.Families.RowBits.{lowest_has}
 use Rattle.tp_manager.proofs.row_set.lowest_bit.Goals as goal
 
 pub returns-clause-least : goal.returns-clause-least

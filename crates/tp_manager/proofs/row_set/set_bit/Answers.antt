@@ -1,4 +1,4 @@
-use Rattle.tp_manager.proofs.RowBits.{set_has, set_others}
+use Rattle.tp_manager.proofs.Families.RowBits.{set_has, set_others}
 use Rattle.tp_manager.proofs.row_set.set_bit.Goals as goal
 
 pub returns-clause-has : goal.returns-clause-has

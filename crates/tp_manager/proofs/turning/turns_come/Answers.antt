@@ -1,4 +1,4 @@
-use Rattle.tp_manager.proofs.EachTurn.{each_has_its_turn}
+use Rattle.tp_manager.proofs.Claims.EachTurn.{each_has_its_turn}
 use Rattle.tp_manager.proofs.turning.turns_come.Goals as goal
 
 pub returns : goal.returns

@@ -1,4 +1,4 @@
-use Rattle.tp_manager.proofs.Follows.{follows_then}
+use Rattle.tp_manager.proofs.Calls.Follows.{follows_then}
 use Rattle.tp_desk.proofs.desk.Desk.turn_by.Goals as goal
 
 pub returns-in-Work-clause-follows : goal.returns-in-Work-clause-follows

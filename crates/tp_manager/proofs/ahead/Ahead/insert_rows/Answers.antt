@@ -1,5 +1,5 @@
 use Rattle.std.proofs.Common.{◌+◌}
-use Rattle.tp_manager.proofs.Aheads.{runs_more}
+use Rattle.tp_manager.proofs.Families.Aheads.{runs_more}
 use Rattle.tp_manager.proofs.ahead.Ahead.insert_rows.Goals as goal
 
 pub returns-then-place-clause-has : goal.returns-then-place-clause-has

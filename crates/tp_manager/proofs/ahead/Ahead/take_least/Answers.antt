@@ -1,4 +1,4 @@
-use Rattle.tp_manager.proofs.Aheads.{runs_alone, set_empty}
+use Rattle.tp_manager.proofs.Families.Aheads.{runs_alone, set_empty}
 use Rattle.tp_manager.proofs.ahead.Ahead.take_least.Goals as goal
 
 pub returns-then-self-clause-least : goal.returns-then-self-clause-least

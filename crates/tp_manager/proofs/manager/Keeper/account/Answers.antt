@@ -7,12 +7,12 @@ use Rattle.tp_manager.specs.Accounts.{Accounts, steps_together}
 use Rattle.tp_manager.specs.Bounds.{account_steps, first_steps, kept_steps, led_steps}
 use Rattle.tp_manager.specs.Shown.{ManagerShown, KeeperShown, PassShown, shown, steps_in, spot}
 use Rattle.tp_manager.specs.Together.{IsAt}
-use Rattle.tp_manager.specs.Walks.{Keeps}
-use Rattle.tp_manager.proofs.Accounted.{account_enough, account_led, accounts_none, all_at, all_steps, all_still, gathers, keeps_seen, kept_long}
-use Rattle.tp_manager.proofs.Passes.{drawn_risen, rests_drawn, rests_looked, steady_at}
-use Rattle.tp_manager.proofs.RowCounts.{none_left}
-use Rattle.tp_manager.proofs.Together.{first_at, rest_at}
-use Rattle.tp_manager.proofs.Walks.{looked, rises_same, remembers}
+use Rattle.tp_manager.specs.BetweenCalls.{Keeps}
+use Rattle.tp_manager.proofs.Accounts.Accounted.{account_enough, account_led, accounts_none, all_at, all_steps, all_still, gathers, keeps_seen, kept_long}
+use Rattle.tp_manager.proofs.Calls.Passes.{drawn_risen, rests_drawn, rests_looked, steady_at}
+use Rattle.tp_manager.proofs.Accounts.RowCounts.{none_left}
+use Rattle.tp_manager.proofs.Accounts.Together.{first_at, rest_at}
+use Rattle.tp_manager.proofs.Calls.CallSteps.{looked, rises_same, remembers}
 use Rattle.tp_manager.proofs.manager.Keeper.account.Goals as goal
 use Rattle.tp_manager.proofs.manager.Keeper.account.Goals.{After-count_with-drawn, After-split_first_mut}
 

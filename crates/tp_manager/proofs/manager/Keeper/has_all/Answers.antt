@@ -1,6 +1,6 @@
 use Rattle.std.proofs.Common.{ap, ◌≡◌, ◌+◌, ◌∙◌, rules, arith}
 use Rattle.tp_manager.specs.Shown.{PassShown}
-use Rattle.tp_manager.proofs.Closing.{from_places, number_at}
+use Rattle.tp_manager.proofs.Accounts.Closing.{from_places, number_at}
 use Rattle.tp_manager.proofs.manager.Keeper.has_all.Goals as goal
 
 pub returns-clause-yes : goal.returns-clause-yes

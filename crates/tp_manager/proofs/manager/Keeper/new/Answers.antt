@@ -1,6 +1,6 @@
 use Rattle.std.proofs.Common.{ap}
 use Rattle.tp_rule.specs.declared.view.View.{View}
-use Rattle.tp_manager.proofs.Fresh.{first_keeps, first_none}
+use Rattle.tp_manager.proofs.Calls.Fresh.{first_keeps, first_none}
 use Rattle.tp_manager.proofs.manager.Keeper.new.Goals as goal
 
 pub invariant_of-result-in-Ok-new : goal.invariant_of-result-in-Ok-new

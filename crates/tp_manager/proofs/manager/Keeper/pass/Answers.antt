@@ -2,7 +2,7 @@ use Rattle.std.proofs.Common.{refl, ◌∙◌, ◌*◌, ap, arith, sym}
 use Rattle.tp_model.specs.declared.types.Limits.{Limits}
 use Rattle.tp_manager.specs.Shown.{ManagerShown, KeeperShown}
 use Rattle.tp_rule.specs.declared.view.Hand.{Hand}
-use Rattle.tp_manager.proofs.Fresh.{keeps_on, none_in, no_lows, fresh_hand, fresh_seen, fresh_rests, fresh_shows, fresh_limits}
+use Rattle.tp_manager.proofs.Calls.Fresh.{keeps_on, none_in, no_lows, fresh_hand, fresh_seen, fresh_rests, fresh_shows, fresh_limits}
 use Rattle.tp_manager.proofs.manager.Keeper.pass.Goals as goal
 
 pub invariant_of-result-2 : goal.invariant_of-result-2

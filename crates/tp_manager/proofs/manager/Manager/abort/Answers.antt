@@ -7,10 +7,12 @@ use Rattle.tp_rule.specs.Tables.{table_limits}
 use Rattle.tp_rule.specs.Views.{hand, view_of}
 use Rattle.tp_manager.specs.Shown.{ManagerShown, PassShown, spot}
 use Rattle.tp_manager.specs.Bounds.{abort_steps}
-use Rattle.tp_manager.specs.Walks.{Steady, Shut, IsTask, unit_in}
-use Rattle.tp_manager.proofs.Walks.{follows, climbs_same, remembers}
-use Rattle.tp_manager.proofs.Passes.{done_walked, steady_at}
-use Rattle.tp_manager.proofs.Shuts.{closed_ended, task_claimed, abort_ended, shut_hit, shut_miss, shut_rests, shut_closes, shut_keeps, shut_adds, shut_loses}
+use Rattle.tp_manager.specs.CallSteps.{Steady}
+use Rattle.tp_manager.specs.BetweenCalls.{IsTask, unit_in}
+use Rattle.tp_manager.specs.Drafts.{Shut}
+use Rattle.tp_manager.proofs.Calls.CallSteps.{follows, climbs_same, remembers}
+use Rattle.tp_manager.proofs.Calls.Passes.{done_walked, steady_at}
+use Rattle.tp_manager.proofs.Rows.Drafts.{closed_ended, task_claimed, abort_ended, shut_hit, shut_miss, shut_rests, shut_closes, shut_keeps, shut_adds, shut_loses}
 use Rattle.tp_manager.proofs.manager.Manager.abort.Goals as goal
 use Rattle.tp_manager.proofs.manager.Manager.abort.Goals.{In-Some}
 

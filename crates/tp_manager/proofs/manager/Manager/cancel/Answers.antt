@@ -9,14 +9,14 @@ use Rattle.tp_manager.specs.Bounds.{cancel_steps, end_steps, ends_steps, family_
 use Rattle.tp_manager.specs.Calls.{Follows}
 use Rattle.tp_manager.specs.Cancels.{Cancels}
 use Rattle.tp_manager.specs.Endings.{CancelsIn}
-use Rattle.tp_manager.specs.Walks.{Rests}
-use Rattle.tp_manager.proofs.Answered.{request_inside}
-use Rattle.tp_manager.proofs.InTurn.{cancels_after}
-use Rattle.tp_manager.proofs.Cancels.{rests_swept, cancels_shown, request_later, swept_begins}
-use Rattle.tp_manager.proofs.Passes.{rests_looked, quiet_looked, point_none, task_none}
-use Rattle.tp_manager.proofs.Points.{has_more}
-use Rattle.tp_manager.proofs.Trees.{family_few}
-use Rattle.tp_manager.proofs.Walks.{at_point, climbs_same, follows, has_looked, looked, looked_none, point_last, remembers, walked_then}
+use Rattle.tp_manager.specs.BetweenCalls.{Rests}
+use Rattle.tp_manager.proofs.Families.Answered.{request_inside}
+use Rattle.tp_manager.proofs.Families.InTurn.{cancels_after}
+use Rattle.tp_manager.proofs.Families.Cancels.{rests_swept, cancels_shown, request_later, swept_begins}
+use Rattle.tp_manager.proofs.Calls.Passes.{rests_looked, quiet_looked, point_none, task_none}
+use Rattle.tp_manager.proofs.Calls.Points.{has_more}
+use Rattle.tp_manager.proofs.Families.Trees.{family_few}
+use Rattle.tp_manager.proofs.Calls.CallSteps.{at_point, climbs_same, follows, has_looked, looked, looked_none, point_last, remembers, walked_then}
 use Rattle.tp_manager.proofs.manager.Manager.cancel.Goals as goal
 use Rattle.tp_manager.proofs.manager.Manager.cancel.Goals.{After-rows, After-is_request, After-cancel_family-killed}
 

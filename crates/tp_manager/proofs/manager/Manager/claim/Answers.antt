@@ -5,14 +5,15 @@ use Rattle.tp_rule.specs.Tables.{table_limits}
 use Rattle.tp_rule.specs.Views.{view_of}
 use Rattle.tp_manager.specs.Shown.{ManagerShown, PassShown, Spot, marks_of, shown, spot}
 use Rattle.tp_manager.specs.Raises.{RaisesMarks}
-use Rattle.tp_manager.proofs.Rests.{rests_before, rests_shown, spare_before, spare_shown}
+use Rattle.tp_manager.proofs.Marks.Rests.{rests_before, rests_shown, spare_before, spare_shown}
 use Rattle.tp_manager.specs.Bounds.{claim_steps, claim_steps_left, marked_steps, part_steps, spare_left, try_steps}
 use Rattle.tp_manager.specs.Calls.{Claims, Takes}
-use Rattle.tp_manager.specs.Walks.{RemembersAll, Steady}
-use Rattle.tp_manager.proofs.Walks.{follows, remembers}
-use Rattle.tp_manager.proofs.Lows.{claim_few, claim_shown, marked_most, remembers_in, rises_in}
-use Rattle.tp_manager.proofs.Passes.{done_walked, drawn_walked, rests_drawn, steady_at}
-use Rattle.tp_manager.proofs.Claims.{chose_steady, chose_walked, chose_rests, idle_walked, idle_answer, took_walked, took_answer, took_first, took_rests}
+use Rattle.tp_manager.specs.CallSteps.{Steady}
+use Rattle.tp_manager.specs.Marks.{RemembersAll}
+use Rattle.tp_manager.proofs.Calls.CallSteps.{follows, remembers}
+use Rattle.tp_manager.proofs.Marks.Lows.{claim_few, claim_shown, marked_most, remembers_in, rises_in}
+use Rattle.tp_manager.proofs.Calls.Passes.{done_walked, drawn_walked, rests_drawn, steady_at}
+use Rattle.tp_manager.proofs.Claims.UnitsChosen.{chose_steady, chose_walked, chose_rests, idle_walked, idle_answer, took_walked, took_answer, took_first, took_rests}
 use Rattle.tp_manager.proofs.manager.Manager.claim.Goals as goal
 use Rattle.tp_manager.proofs.manager.Manager.claim.Goals.{After-choose_unit}
 

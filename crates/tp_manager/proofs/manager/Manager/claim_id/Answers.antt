@@ -11,18 +11,19 @@ use Rattle.tp_model.proofs.Bridges.{found_later}
 use Rattle.tp_rule.specs.Tables.{table_limits}
 use Rattle.tp_rule.specs.Views.{seen_by, view_of}
 use Rattle.tp_manager.specs.Shown.{ManagerShown, PassShown, shown, spot}
-use Rattle.tp_manager.specs.Bounds.{birth_steps, claim_id_steps, given_steps}
+use Rattle.tp_manager.specs.Bounds.{birth_steps, claim_id_steps, claim_row_steps}
 use Rattle.tp_manager.specs.Calls.{Opens, claims_in}
 use Rattle.tp_manager.specs.Given.{ClaimIdFails, HasReplyStage, HasUnwaiting}
 use Rattle.tp_manager.specs.Looks.{IsBornAs}
-use Rattle.tp_manager.specs.Walks.{Acted, Steady, Took}
-use Rattle.tp_manager.proofs.Walks.{acted_then, climbs_same, follows, has_looked, looked, looked_none, remembers}
-use Rattle.tp_manager.proofs.Passes.{point_none, quiet_looked, steady_at, unborn_beyond}
-use Rattle.tp_manager.proofs.Claims.{chose_steady, took_walked, took_answer, took_rests}
-use Rattle.tp_manager.proofs.RowCounts.{stage_there}
-use Rattle.tp_manager.proofs.Releases.{head_stage}
-use Rattle.tp_manager.proofs.Scans.{took_behind}
-use Rattle.tp_manager.proofs.GivenRows.{left_between, left_last, left_looked, left_quiet, left_rests, left_walked, some_unit}
+use Rattle.tp_manager.specs.CallSteps.{Acted, Steady}
+use Rattle.tp_manager.specs.Scans.{Took}
+use Rattle.tp_manager.proofs.Calls.CallSteps.{acted_then, climbs_same, follows, has_looked, looked, looked_none, remembers}
+use Rattle.tp_manager.proofs.Calls.Passes.{point_none, quiet_looked, steady_at, unborn_beyond}
+use Rattle.tp_manager.proofs.Claims.UnitsChosen.{chose_steady, took_walked, took_answer, took_rests}
+use Rattle.tp_manager.proofs.Accounts.RowCounts.{stage_there}
+use Rattle.tp_manager.proofs.Kills.Releases.{head_stage}
+use Rattle.tp_manager.proofs.Claims.Scans.{took_behind}
+use Rattle.tp_manager.proofs.Claims.GivenRows.{left_between, left_last, left_looked, left_quiet, left_rests, left_walked, some_unit}
 use Rattle.tp_manager.proofs.manager.Manager.claim_id.Goals as goal
 use Rattle.tp_manager.proofs.manager.Manager.claim_id.Goals.{After-rows, After-birth_from, In_default-claim_row, In-Some-claim_row}
 
@@ -120,8 +121,8 @@ claim_row-requires-clause-stage c = served (goal.at.claim_row-requires-clause-st
 
 -- it didn't wait
 
-left : (c : In_default-claim_row) → Acted (table_limits c.self.inside.shared.words) birth_steps (view_of c.choose_unit.new.seat) (view_of c.birth_from.new.seat) → Acted (table_limits c.self.inside.shared.words) (birth_steps + given_steps) (view_of c.choose_unit.new.seat) (view_of c.claim_row.new.seat)
-left c a = acted_then _ birth_steps (given_steps) _ _ _ a c.in_default-claim_row.ensures.told.0
+left : (c : In_default-claim_row) → Acted (table_limits c.self.inside.shared.words) birth_steps (view_of c.choose_unit.new.seat) (view_of c.birth_from.new.seat) → Acted (table_limits c.self.inside.shared.words) (birth_steps + claim_row_steps) (view_of c.choose_unit.new.seat) (view_of c.claim_row.new.seat)
+left c a = acted_then _ birth_steps (claim_row_steps) _ _ _ a c.in_default-claim_row.ensures.told.0
 
 pub invariant_of-pass-in_default-claim_row : goal.invariant_of-pass-in_default-claim_row
 invariant_of-pass-in_default-claim_row c = let at = goal.at.invariant_of-pass-in_default-claim_row c in let s = steady at.After-rows in let g = c.choose_unit.ensures.chooses in let a = left at.In_default-claim_row (two at.After-birth_from) in (
@@ -144,16 +145,16 @@ returns-in_default-claim_row-clause-answer c = let at = goal.at.returns-in_defau
     subst (λ (z : Limits). ClaimIdFails z c.args.id c.args.pass.now (shown t' (view_of c.claim_row.new.seat)) refusals.NotWaiting) (limits at.After-rows) (
       room at.After-rows,
       left_quiet _ _ _ _ _ _ s g (left at.In_default-claim_row b) t t' c.args.pass.now c.pass.view_is,
-      left_between l _ birth_steps given_steps _ _ (view_of c.birth_from.new.seat) _ s g b told.0 t t' c.args.pass.now c.pass.view_is (HasUnwaiting l c.args.id)
+      left_between l _ birth_steps claim_row_steps _ _ (view_of c.birth_from.new.seat) _ s g b told.0 t t' c.args.pass.now c.pass.view_is (HasUnwaiting l c.args.id)
           (let p = told.1 in (p.0, p.1, p.2, (there.0, found_later (seen_by c.birth_from.new.seat) p.0 p.1 c.args.id there.0 there.1, (λ reply. c.if-birth-eq-REPLY_STAGE.false (sym (head_stage there.0 _ _ _ there.2) ∙ reply)), p.3))),
     )
 
 -- it was taken
 
 taken : (c : In-Some-claim_row) → Acted (table_limits c.self.inside.shared.words) birth_steps (view_of c.choose_unit.new.seat) (view_of c.birth_from.new.seat) → let l : Limits = table_limits c.self.inside.shared.words in let x = c.in-Some-claim_row.taken.element in
-    Took l (birth_steps + given_steps) c.args.id x.stage (c.pass.inside.number * c.self.inside.shared.places.limits.units + c.pass.inside.used) (view_of c.choose_unit.new.seat) (view_of c.claim_row.new.seat) x c.in-Some-claim_row.taken.attempt
+    Took l (birth_steps + claim_row_steps) c.args.id x.stage (c.pass.inside.number * c.self.inside.shared.places.limits.units + c.pass.inside.used) (view_of c.choose_unit.new.seat) (view_of c.claim_row.new.seat) x c.in-Some-claim_row.taken.attempt
 taken c a = let l : Limits = table_limits c.self.inside.shared.words in let x = c.in-Some-claim_row.taken.element in
-    took_behind l x.stage _ c.in-Some-claim_row.taken.attempt x birth_steps given_steps c.args.id _ _ _ (looked l birth_steps _ _ a) c.in-Some-claim_row.ensures.told.0
+    took_behind l x.stage _ c.in-Some-claim_row.taken.attempt x birth_steps claim_row_steps c.args.id _ _ _ (looked l birth_steps _ _ a) c.in-Some-claim_row.ensures.told.0
 
 pub invariant_of-pass-2 : goal.invariant_of-pass-2
 invariant_of-pass-2 c = let at = goal.at.invariant_of-pass-2 c in let l : Limits = table_limits c.self.inside.shared.words in let s = steady at.After-rows in let g = c.choose_unit.ensures.chooses in let k = taken at.In-Some-claim_row (two at.After-birth_from) in let told = c.in-Some-claim_row.ensures.told in let x = c.in-Some-claim_row.taken in (

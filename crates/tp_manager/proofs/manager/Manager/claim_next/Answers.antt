@@ -5,17 +5,18 @@ use Rattle.tp_rule.specs.Tables.{table_limits}
 use Rattle.tp_rule.specs.Views.{seen_by, view_of}
 use Rattle.tp_manager.specs.Shown.{ManagerShown, PassShown, marks_of, shown, spot, turn_of}
 use Rattle.tp_model.specs.declared.types.TheConstants.{BLOCK_ROWS}
-use Rattle.tp_manager.proofs.Makes.{made, made_then, walked_made}
+use Rattle.tp_manager.proofs.Calls.Makes.{made, made_then, walked_made}
 use Rattle.tp_manager.specs.Bounds.{drawn_steps, claim_next_steps, claim_next_steps_left, scan_steps, try_steps}
 use Rattle.tp_model.specs.Steps.{rows_of}
 use Rattle.tp_model.proofs.Later.{births_inside}
-use Rattle.tp_manager.proofs.Cancels.{few_rows}
+use Rattle.tp_manager.proofs.Families.Cancels.{few_rows}
 use Rattle.tp_manager.specs.Calls.{Claims, IsBefore, TakesNext}
-use Rattle.tp_manager.specs.Walks.{RemembersAll, Steady}
-use Rattle.tp_manager.proofs.Walks.{follows, remembers}
-use Rattle.tp_manager.proofs.Lows.{next_few, next_shown, remembers_in, rises_in}
-use Rattle.tp_manager.proofs.Passes.{done_walked, drawn_walked, rests_drawn, steady_at}
-use Rattle.tp_manager.proofs.Claims.{chose_steady, chose_walked, chose_rests, idle_walked, idle_answer, took_walked, took_answer, took_first, took_rests}
+use Rattle.tp_manager.specs.CallSteps.{Steady}
+use Rattle.tp_manager.specs.Marks.{RemembersAll}
+use Rattle.tp_manager.proofs.Calls.CallSteps.{follows, remembers}
+use Rattle.tp_manager.proofs.Marks.Lows.{next_few, next_shown, remembers_in, rises_in}
+use Rattle.tp_manager.proofs.Calls.Passes.{done_walked, drawn_walked, rests_drawn, steady_at}
+use Rattle.tp_manager.proofs.Claims.UnitsChosen.{chose_steady, chose_walked, chose_rests, idle_walked, idle_answer, took_walked, took_answer, took_first, took_rests}
 use Rattle.tp_manager.proofs.manager.Manager.claim_next.Goals as goal
 use Rattle.tp_manager.proofs.manager.Manager.claim_next.Goals.{After-choose_unit}
 
@@ -82,7 +83,7 @@ returns-clause-follows c = let at = (goal.at.returns-clause-follows c).After-cho
     follows (spot c.pass.inside.seat.table c.pass.inside.lows c.pass.inside.run.drawn c.pass.inside.from) (spot c.scan_turn.new.seat.table (set c.pass.inside.lows c.args.stage c.scan_turn.new.lows) c.scan_turn.new.drawn c.go_on_behind.new.turns) (rises_in c.pass.inside.lows c.scan_turn.new.lows c.args.stage (kinds at) c.scan_turn.ensures.lows, c.scan_turn.ensures.risen) (view_of c.pass.inside.seat) (view_of c.scan_turn.new.seat) c.args.pass.now c.pass.view_is l _ _
     (took_walked l _ _ (view_of c.choose_unit.new.seat) (steady at) c.choose_unit.ensures.chooses _ c.in-Some.taken.element.id _ _ _ _ told.0.took) (claim_next_steps c.args.self.now.limits) (most at)
 
--- what it goes on behind
+-- what it goes on after
 turn : (c : After-choose_unit) → c.turn_in-turn.result ≡ turn_of c.args.pass.now c.args.stage
 turn c = c.turn_in-turn.ensures ∙ ap (λ (p : PassShown). turn_of p c.args.stage) c.pass.view_is
 

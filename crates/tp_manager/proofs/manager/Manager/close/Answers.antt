@@ -13,10 +13,12 @@ use Rattle.tp_rule.specs.Tables.{table_limits}
 use Rattle.tp_rule.specs.Views.{hand, view_of}
 use Rattle.tp_manager.specs.Shown.{ManagerShown, PassShown, spot}
 use Rattle.tp_manager.specs.Bounds.{close_steps}
-use Rattle.tp_manager.specs.Walks.{Rests, Steady, Shut, unit_in}
-use Rattle.tp_manager.proofs.Walks.{follows, climbs_same, remembers}
-use Rattle.tp_manager.proofs.Passes.{done_walked, steady_at}
-use Rattle.tp_manager.proofs.Shuts.{units_few, own_work, own_count, own_first, wrote_shut, committed_answer, task_claimed, shut_done, shut_hit, shut_miss, shut_rests, shut_closes, shut_uses, shut_loses}
+use Rattle.tp_manager.specs.CallSteps.{Steady}
+use Rattle.tp_manager.specs.BetweenCalls.{Rests, unit_in}
+use Rattle.tp_manager.specs.Drafts.{Shut}
+use Rattle.tp_manager.proofs.Calls.CallSteps.{follows, climbs_same, remembers}
+use Rattle.tp_manager.proofs.Calls.Passes.{done_walked, steady_at}
+use Rattle.tp_manager.proofs.Rows.Drafts.{units_few, own_work, own_count, own_first, wrote_shut, committed_answer, task_claimed, shut_done, shut_hit, shut_miss, shut_rests, shut_closes, shut_uses, shut_loses}
 use Rattle.tp_manager.proofs.manager.Manager.close.Goals as goal
 use Rattle.tp_manager.proofs.manager.Manager.close.Goals.{In-Some, After-write_all, then-count-eq0, else-count-eq0}
 

@@ -7,14 +7,15 @@ use Rattle.tp_rule.specs.Views.{hand, seen_by, view_of}
 use Rattle.tp_rule.specs.declared.view.Hand.{Hand}
 use Rattle.tp_manager.specs.Shown.{ManagerShown, PassShown, shown, spot}
 use Rattle.tp_manager.specs.Bounds.{birth_steps, collect_steps, take_steps}
-use Rattle.tp_manager.specs.Walks.{Rests, Acted}
-use Rattle.tp_manager.proofs.Points.{has_more}
-use Rattle.tp_manager.proofs.Walks.{acted_then, looked, looked_none, follows, at_point, has_looked, point_last, walked_then, climbs_same, remembers}
-use Rattle.tp_manager.proofs.Passes.{rests_looked, quiet_looked, point_none, unborn_beyond, task_none}
+use Rattle.tp_manager.specs.CallSteps.{Acted}
+use Rattle.tp_manager.specs.BetweenCalls.{Rests}
+use Rattle.tp_manager.proofs.Calls.Points.{has_more}
+use Rattle.tp_manager.proofs.Calls.CallSteps.{acted_then, looked, looked_none, follows, at_point, has_looked, point_last, walked_then, climbs_same, remembers}
+use Rattle.tp_manager.proofs.Calls.Passes.{rests_looked, quiet_looked, point_none, unborn_beyond, task_none}
 use Rattle.tp_manager.specs.Kills.{Slain}
 use Rattle.tp_manager.specs.Releases.{CollectFails, HasNoReply}
-use Rattle.tp_manager.proofs.Kills.{freed_looked, freed_slain, rests_slain}
-use Rattle.tp_manager.proofs.Releases.{collect_shown, collects_shown, head_stage}
+use Rattle.tp_manager.proofs.Kills.OneKill.{freed_looked, freed_slain, rests_slain}
+use Rattle.tp_manager.proofs.Kills.Releases.{collect_shown, collects_shown, head_stage}
 use Rattle.tp_manager.proofs.manager.Manager.collect.Goals as goal
 use Rattle.tp_manager.proofs.manager.Manager.collect.Goals.{After-rows, After-birth_from, In-Ok, In-Err}
 

@@ -9,14 +9,15 @@ use Rattle.tp_manager.specs.Shown.{ManagerShown, PassShown, shown, spot}
 use Rattle.tp_manager.specs.Bounds.{collect_next_steps, family_collect_steps, one_take_steps, root_steps, takes_steps}
 use Rattle.tp_manager.specs.Calls.{Follows, claims_in}
 use Rattle.tp_manager.specs.Lists.{CollectsNext, NoneCollected}
-use Rattle.tp_manager.specs.Walks.{Gained, Rests}
-use Rattle.tp_manager.proofs.Answered.{none_killed, request_inside}
-use Rattle.tp_manager.proofs.Collected.{taken_answer, taken_gained, killed_none}
-use Rattle.tp_manager.proofs.Gains.{gained_looked, gained_then, rests_gained}
-use Rattle.tp_manager.proofs.Passes.{rests_looked, quiet_looked, task_none}
-use Rattle.tp_manager.proofs.Points.{has_more}
-use Rattle.tp_manager.proofs.Trees.{family_few}
-use Rattle.tp_manager.proofs.Walks.{climbs_same, follows, has_looked, looked, looked_none, remembers, walked_then}
+use Rattle.tp_manager.specs.CallSteps.{Gained}
+use Rattle.tp_manager.specs.BetweenCalls.{Rests}
+use Rattle.tp_manager.proofs.Families.Answered.{none_killed, request_inside}
+use Rattle.tp_manager.proofs.Families.Collected.{taken_answer, taken_gained, killed_none}
+use Rattle.tp_manager.proofs.Calls.Gains.{gained_looked, gained_then, rests_gained}
+use Rattle.tp_manager.proofs.Calls.Passes.{rests_looked, quiet_looked, task_none}
+use Rattle.tp_manager.proofs.Calls.Points.{has_more}
+use Rattle.tp_manager.proofs.Families.Trees.{family_few}
+use Rattle.tp_manager.proofs.Calls.CallSteps.{climbs_same, follows, has_looked, looked, looked_none, remembers, walked_then}
 use Rattle.tp_manager.proofs.manager.Manager.collect_next.Goals as goal
 use Rattle.tp_manager.proofs.manager.Manager.collect_next.Goals.{After-rows, After-is_request, After-take_of_family}
 

@@ -1,7 +1,7 @@
 use Rattle.std.proofs.Common.{◌+◌, length, arith}
 use Rattle.tp_manager.specs.Bounds.{abort_steps, close_steps, commit_steps, draw_steps}
-use Rattle.tp_manager.proofs.Follows.{follows_then, follows_within}
-use Rattle.tp_manager.proofs.Rooms.{room_follows, room_settles}
+use Rattle.tp_manager.proofs.Calls.Follows.{follows_then, follows_within}
+use Rattle.tp_manager.proofs.Rows.Rooms.{room_follows, room_settles}
 use Rattle.tp_manager.proofs.manager.Manager.commit.Goals as goal
 
 pub returns-then-has_room-clause-follows : goal.returns-then-has_room-clause-follows

@@ -10,11 +10,11 @@ use Rattle.tp_manager.specs.Shown.{ManagerShown, PassShown, shown, spot}
 use Rattle.tp_manager.specs.Bounds.{family_look_steps, family_reply_steps, family_steps, read_steps, root_steps, walk_steps}
 use Rattle.tp_manager.specs.Calls.{Follows}
 use Rattle.tp_manager.specs.Lists.{NextOfFamily}
-use Rattle.tp_manager.specs.Walks.{Acted}
-use Rattle.tp_manager.proofs.Answered.{followed_beyond, followed_none, followed_some, none_followed, request_inside}
-use Rattle.tp_manager.proofs.Passes.{rests_looked}
-use Rattle.tp_manager.proofs.Trees.{family_few, family_grows}
-use Rattle.tp_manager.proofs.Walks.{acted_then, climbs_same, follows, has_looked, looked, looked_begins, looked_then, remembers}
+use Rattle.tp_manager.specs.CallSteps.{Acted}
+use Rattle.tp_manager.proofs.Families.Answered.{followed_beyond, followed_none, followed_some, none_followed, request_inside}
+use Rattle.tp_manager.proofs.Calls.Passes.{rests_looked}
+use Rattle.tp_manager.proofs.Families.Trees.{family_few, family_grows}
+use Rattle.tp_manager.proofs.Calls.CallSteps.{acted_then, climbs_same, follows, has_looked, looked, looked_begins, looked_then, remembers}
 use Rattle.tp_manager.proofs.manager.Manager.family.Goals as goal
 use Rattle.tp_manager.proofs.manager.Manager.family.Goals.{After-rows-capacity, After-is_request, After-first_of_family, After-look_at}
 

@@ -5,10 +5,10 @@ use Rattle.tp_rule.specs.Views.{view_of}
 use Rattle.tp_manager.specs.Bounds.{draw_steps, room_steps}
 use Rattle.tp_manager.specs.Shown.{ManagerShown, PassShown, spot}
 use Rattle.tp_manager.specs.declared.manager.Run.{Run}
-use Rattle.tp_manager.proofs.Rooms.{drew_shown, tried_same, tried_shown}
-use Rattle.tp_manager.specs.Walks.{Walked}
+use Rattle.tp_manager.proofs.Rows.Rooms.{drew_shown, tried_same, tried_shown}
+use Rattle.tp_manager.specs.CallSteps.{Stepped}
 use Rattle.tp_model.specs.declared.trace.TraceEntry.{TraceEntry}
-use Rattle.tp_manager.proofs.Walks.{follows, remembers, rises_same}
+use Rattle.tp_manager.proofs.Calls.CallSteps.{follows, remembers, rises_same}
 use Rattle.tp_manager.proofs.manager.Manager.has_room.Goals as goal
 use Rattle.tp_manager.proofs.manager.Manager.has_room.Goals.{After-draw_on}
 
@@ -47,7 +47,7 @@ returns-clause-no c = λ q. let at = (goal.at.returns-clause-no c).After-draw_on
     )
 
 -- the steps, whether a block was drawn or not
-walked : (c : After-draw_on) (t : Bool) → c.draw_on.result ≡ t → (n : ℕ) × (ms : List TraceEntry) × Walked (table_limits c.self.inside.shared.words) n ms (view_of c.pass.inside.seat) (view_of c.draw_on.new.seat)
+walked : (c : After-draw_on) (t : Bool) → c.draw_on.result ≡ t → (n : ℕ) × (ms : List TraceEntry) × Stepped (table_limits c.self.inside.shared.words) n ms (view_of c.pass.inside.seat) (view_of c.draw_on.new.seat)
 walked c true drew = let d = (c.draw_on.ensures.yes drew).1 in (_, d.marks, d.walk)
 walked c false none = let d = (c.draw_on.ensures.no none).0 in (_, d.marks, d.walk)
 

@@ -10,11 +10,12 @@ use Rattle.tp_rule.specs.declared.view.Hand.{Hand}
 use Rattle.tp_manager.specs.Shown.{ManagerShown, PassShown, shown, spot}
 use Rattle.tp_manager.specs.Bounds.{birth_steps, kill_steps, slay_steps}
 use Rattle.tp_manager.specs.Calls.{Kills, KillFails}
-use Rattle.tp_manager.specs.Walks.{Rests, Acted}
-use Rattle.tp_manager.proofs.Points.{has_more}
-use Rattle.tp_manager.proofs.Walks.{acted_then, looked, looked_none, follows, at_point, has_looked, point_last, walked_begins, walked_then, climbs_same, remembers}
-use Rattle.tp_manager.proofs.Passes.{rests_looked, quiet_looked, point_none, unborn_beyond, task_none}
-use Rattle.tp_manager.proofs.Kills.{kills_after, fails_after, kills_shown, fails_shown, rests_slain, rests_freed}
+use Rattle.tp_manager.specs.CallSteps.{Acted}
+use Rattle.tp_manager.specs.BetweenCalls.{Rests}
+use Rattle.tp_manager.proofs.Calls.Points.{has_more}
+use Rattle.tp_manager.proofs.Calls.CallSteps.{acted_then, looked, looked_none, follows, at_point, has_looked, point_last, walked_begins, walked_then, climbs_same, remembers}
+use Rattle.tp_manager.proofs.Calls.Passes.{rests_looked, quiet_looked, point_none, unborn_beyond, task_none}
+use Rattle.tp_manager.proofs.Kills.OneKill.{kills_after, fails_after, kills_shown, fails_shown, rests_slain, rests_freed}
 use Rattle.tp_manager.proofs.manager.Manager.kill.Goals as goal
 use Rattle.tp_manager.proofs.manager.Manager.kill.Goals.{After-rows, After-birth_from}
 

@@ -3,10 +3,10 @@ use Rattle.tp_rule.specs.Tables.{table_limits}
 use Rattle.tp_rule.specs.Views.{view_of}
 use Rattle.tp_manager.specs.Bounds.{meet_steps, met_steps}
 use Rattle.tp_manager.specs.Shown.{ManagerShown, PassShown, spot}
-use Rattle.tp_manager.specs.Walks.{Acted, Steady}
-use Rattle.tp_manager.proofs.Meetings.{met_first, met_second, met_shown}
-use Rattle.tp_manager.proofs.Walks.{follows, has_looked, looked, climbs_same, remembers}
-use Rattle.tp_manager.proofs.Passes.{quiet_looked, rests_looked, steady_at}
+use Rattle.tp_manager.specs.CallSteps.{Acted, Steady}
+use Rattle.tp_manager.proofs.Accounts.Meetings.{met_first, met_second, met_shown}
+use Rattle.tp_manager.proofs.Calls.CallSteps.{follows, has_looked, looked, climbs_same, remembers}
+use Rattle.tp_manager.proofs.Calls.Passes.{quiet_looked, rests_looked, steady_at}
 use Rattle.tp_manager.proofs.manager.Manager.meet.Goals as goal
 use Rattle.tp_manager.proofs.manager.Manager.meet.Goals.{After-meet}
 

@@ -7,11 +7,11 @@ use Rattle.tp_manager.specs.Shown.{ManagerShown, PassShown, marks_of, shown, spo
 use Rattle.tp_manager.specs.Lists.{NoneParked, NextError}
 use Rattle.tp_manager.specs.Bounds.{next_error_steps, listing_steps_left, look_steps, marked_steps}
 use Rattle.tp_manager.specs.Calls.{Follows}
-use Rattle.tp_manager.specs.Walks.{Acted, IsKnown}
-use Rattle.tp_manager.proofs.Lows.{listing_few, listing_shown, remembers_in, rises_in, marked_most}
-use Rattle.tp_manager.proofs.Walks.{looked, follows, has_looked, remembers, climbs_same, walked_none}
-use Rattle.tp_manager.proofs.Passes.{rests_drawn, quiet_looked, rests_looked}
-use Rattle.tp_manager.proofs.Finds.{finds_acted, error_answer, none_beyond}
+use Rattle.tp_manager.specs.CallSteps.{Acted, IsKnown}
+use Rattle.tp_manager.proofs.Marks.Lows.{listing_few, listing_shown, remembers_in, rises_in, marked_most}
+use Rattle.tp_manager.proofs.Calls.CallSteps.{looked, follows, has_looked, remembers, climbs_same, walked_none}
+use Rattle.tp_manager.proofs.Calls.Passes.{rests_drawn, quiet_looked, rests_looked}
+use Rattle.tp_manager.proofs.Rows.Finds.{finds_acted, error_answer, none_beyond}
 use Rattle.tp_manager.proofs.manager.Manager.next_error.Goals as goal
 use Rattle.tp_manager.proofs.manager.Manager.next_error.Goals.{After-rows, After-find}
 

@@ -8,9 +8,9 @@ use Rattle.tp_rule.specs.Views.{seen_by, view_of}
 use Rattle.tp_manager.specs.Shown.{ManagerShown, PassShown, spot}
 use Rattle.tp_manager.specs.Bounds.{birth_steps, body_steps, read_steps}
 use Rattle.tp_manager.specs.Calls.{IsLook}
-use Rattle.tp_manager.specs.Walks.{Acted}
-use Rattle.tp_manager.proofs.Walks.{acted_then, looked, looked_begins, follows, at_point, has_looked, point_last, climbs_same, remembers}
-use Rattle.tp_manager.proofs.Passes.{rests_looked, point_none, unborn_beyond}
+use Rattle.tp_manager.specs.CallSteps.{Acted}
+use Rattle.tp_manager.proofs.Calls.CallSteps.{acted_then, looked, looked_begins, follows, at_point, has_looked, point_last, climbs_same, remembers}
+use Rattle.tp_manager.proofs.Calls.Passes.{rests_looked, point_none, unborn_beyond}
 use Rattle.tp_manager.proofs.manager.Manager.read.Goals as goal
 use Rattle.tp_manager.proofs.manager.Manager.read.Goals.{After-rows, After-birth_from, After-status_at-status}
 

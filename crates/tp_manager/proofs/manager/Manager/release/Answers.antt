@@ -7,12 +7,13 @@ use Rattle.tp_rule.specs.Views.{hand, seen_by, view_of}
 use Rattle.tp_rule.specs.declared.view.Hand.{Hand}
 use Rattle.tp_manager.specs.Shown.{ManagerShown, PassShown, shown, spot}
 use Rattle.tp_manager.specs.Bounds.{birth_steps, release_steps, free_steps}
-use Rattle.tp_manager.specs.Walks.{Rests, Acted}
-use Rattle.tp_manager.proofs.Points.{has_more}
-use Rattle.tp_manager.proofs.Walks.{acted_then, looked, looked_none, follows, at_point, has_looked, point_last, walked_then, climbs_same, remembers}
-use Rattle.tp_manager.proofs.Passes.{rests_looked, quiet_looked, point_none, unborn_beyond, task_none}
+use Rattle.tp_manager.specs.CallSteps.{Acted}
+use Rattle.tp_manager.specs.BetweenCalls.{Rests}
+use Rattle.tp_manager.proofs.Calls.Points.{has_more}
+use Rattle.tp_manager.proofs.Calls.CallSteps.{acted_then, looked, looked_none, follows, at_point, has_looked, point_last, walked_then, climbs_same, remembers}
+use Rattle.tp_manager.proofs.Calls.Passes.{rests_looked, quiet_looked, point_none, unborn_beyond, task_none}
 use Rattle.tp_manager.specs.Releases.{Freeing, ReleaseFails, Releases}
-use Rattle.tp_manager.proofs.Releases.{freeing_then, release_shown, releases_shown, rests_freeing}
+use Rattle.tp_manager.proofs.Kills.Releases.{freeing_then, release_shown, releases_shown, rests_freeing}
 use Rattle.tp_manager.proofs.manager.Manager.release.Goals as goal
 use Rattle.tp_manager.proofs.manager.Manager.release.Goals.{After-rows, After-birth_from, In-Ok, In-Err}
 

@@ -8,12 +8,12 @@ use Rattle.tp_manager.specs.Shown.{ManagerShown, PassShown, shown, spot}
 use Rattle.tp_manager.specs.Bounds.{family_reply_steps, reply_steps, root_steps, walk_steps}
 use Rattle.tp_manager.specs.Calls.{Follows}
 use Rattle.tp_manager.specs.Lists.{AllKilled, NextReply}
-use Rattle.tp_manager.specs.Walks.{Acted}
-use Rattle.tp_manager.proofs.Answered.{listed_answer, listed_inside, none_killed, request_inside}
-use Rattle.tp_manager.proofs.Finds.{killed_beyond}
-use Rattle.tp_manager.proofs.Passes.{rests_looked}
-use Rattle.tp_manager.proofs.Trees.{family_few}
-use Rattle.tp_manager.proofs.Walks.{acted_then, climbs_same, follows, has_looked, looked, remembers}
+use Rattle.tp_manager.specs.CallSteps.{Acted}
+use Rattle.tp_manager.proofs.Families.Answered.{listed_answer, listed_inside, none_killed, request_inside}
+use Rattle.tp_manager.proofs.Rows.Finds.{killed_beyond}
+use Rattle.tp_manager.proofs.Calls.Passes.{rests_looked}
+use Rattle.tp_manager.proofs.Families.Trees.{family_few}
+use Rattle.tp_manager.proofs.Calls.CallSteps.{acted_then, climbs_same, follows, has_looked, looked, remembers}
 use Rattle.tp_manager.proofs.manager.Manager.reply.Goals as goal
 use Rattle.tp_manager.proofs.manager.Manager.reply.Goals.{After-rows-capacity, After-list_family}
 

@@ -8,11 +8,11 @@ use Rattle.tp_rule.specs.declared.view.Hand.{Hand}
 use Rattle.tp_manager.specs.Shown.{ManagerShown, PassShown, shown, spot}
 use Rattle.tp_manager.specs.Bounds.{birth_steps, renew_steps, requeue_steps}
 use Rattle.tp_manager.specs.Requeues.{Renewed, RequeueFails}
-use Rattle.tp_manager.specs.Walks.{Acted}
-use Rattle.tp_manager.proofs.Points.{has_more}
-use Rattle.tp_manager.proofs.Walks.{acted_then, looked, looked_none, follows, at_point, has_looked, point_last, walked_then, climbs_same, remembers}
-use Rattle.tp_manager.proofs.Passes.{rests_looked, quiet_looked, point_none, unborn_beyond}
-use Rattle.tp_manager.proofs.Requeues.{renewed_then, requeue_shown, requeues_shown, rests_renewed}
+use Rattle.tp_manager.specs.CallSteps.{Acted}
+use Rattle.tp_manager.proofs.Calls.Points.{has_more}
+use Rattle.tp_manager.proofs.Calls.CallSteps.{acted_then, looked, looked_none, follows, at_point, has_looked, point_last, walked_then, climbs_same, remembers}
+use Rattle.tp_manager.proofs.Calls.Passes.{rests_looked, quiet_looked, point_none, unborn_beyond}
+use Rattle.tp_manager.proofs.Kills.Requeues.{renewed_then, requeue_shown, requeues_shown, rests_renewed}
 use Rattle.tp_manager.proofs.manager.Manager.requeue.Goals as goal
 use Rattle.tp_manager.proofs.manager.Manager.requeue.Goals.{After-rows, After-birth_from, In-Ok, In-Err}
 

@@ -1,7 +1,7 @@
 use Rattle.std.proofs.Common.{◌+◌, arith}
 use Rattle.tp_manager.specs.Bounds.{next_steps, room_steps, submit_steps}
-use Rattle.tp_manager.proofs.Follows.{follows_within}
-use Rattle.tp_manager.proofs.Rooms.{room_follows}
+use Rattle.tp_manager.proofs.Calls.Follows.{follows_within}
+use Rattle.tp_manager.proofs.Rows.Rooms.{room_follows}
 use Rattle.tp_manager.proofs.manager.Manager.submit.Goals as goal
 
 pub returns-clause-follows : goal.returns-clause-follows

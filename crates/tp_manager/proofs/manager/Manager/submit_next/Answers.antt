@@ -8,10 +8,10 @@ use Rattle.tp_manager.specs.Shown.{ManagerShown, PassShown, shown, spot}
 use Rattle.tp_manager.specs.Calls.{Adds}
 use Rattle.tp_model.specs.declared.event.Event.TheVariants.{Enqueue}
 use Rattle.tp_manager.specs.Bounds.{next_steps}
-use Rattle.tp_manager.specs.Walks.{Steady}
-use Rattle.tp_manager.proofs.Walks.{follows, climbs_same, remembers}
-use Rattle.tp_manager.proofs.Passes.{steady_at}
-use Rattle.tp_manager.proofs.Submits.{made_adds, made_request, made_rests, made_walked}
+use Rattle.tp_manager.specs.CallSteps.{Steady}
+use Rattle.tp_manager.proofs.Calls.CallSteps.{follows, climbs_same, remembers}
+use Rattle.tp_manager.proofs.Calls.Passes.{steady_at}
+use Rattle.tp_manager.proofs.Rows.Submits.{made_adds, made_request, made_rests, made_walked}
 use Rattle.tp_manager.proofs.manager.Manager.submit_next.Goals as goal
 use Rattle.tp_manager.proofs.manager.Manager.submit_next.Goals.{After-publish}
 

@@ -2,7 +2,7 @@ use Rattle.std.proofs.Common.{◌≡◌, rules, slice_index, subst}
 use Rattle.tp_rule.specs.Steps.{IsLow}
 use Rattle.tp_rule.specs.Views.{view_of}
 use Rattle.tp_manager.specs.Shown.{PassShown, marks_of}
-use Rattle.tp_manager.proofs.Lows.{low_is}
+use Rattle.tp_manager.proofs.Marks.Lows.{low_is}
 use Rattle.tp_manager.proofs.manager.Pass.low.Goals as goal
 
 pub returns-in-Some-get-clause-low : goal.returns-in-Some-get-clause-low

@@ -2,7 +2,7 @@ use Rattle.std.proofs.Common.{[], subst, arith}
 use Rattle.tp_rule.specs.Views.{view_of}
 use Rattle.tp_manager.specs.Calls.{Follows}
 use Rattle.tp_manager.specs.Shown.{spot}
-use Rattle.tp_manager.proofs.Walks.{follows, climbs_same, walked_none}
+use Rattle.tp_manager.proofs.Calls.CallSteps.{follows, climbs_same, walked_none}
 use Rattle.tp_manager.proofs.manager.Pass.stays.Goals as goal
 
 pub returns : goal.returns

@@ -12,9 +12,9 @@ use Rattle.tp_rule.specs.Views.{seen_by, view_of}
 use Rattle.tp_manager.specs.Bounds.{slay_from}
 use Rattle.tp_manager.specs.Kills.{Freed, takers}
 use Rattle.tp_manager.specs.Looks.{IsEnough}
-use Rattle.tp_manager.proofs.Walks.{acted_by, looked, walked_begins}
-use Rattle.tp_manager.proofs.Kills.{allows_alive, freed_looked, freed_look, freed_few, freed_then, freed_slain, slain_by, slain_few}
-use Rattle.tp_manager.proofs.Tries.{enough_next, enough_some, fewer_last, fewer_next}
+use Rattle.tp_manager.proofs.Calls.CallSteps.{acted_by, looked, walked_begins}
+use Rattle.tp_manager.proofs.Kills.OneKill.{allows_alive, freed_looked, freed_look, freed_few, freed_then, freed_slain, slain_by, slain_few}
+use Rattle.tp_manager.proofs.Kills.Tries.{enough_next, enough_some, fewer_last, fewer_next}
 use Rattle.tp_manager.proofs.manager.Shared.+kill.Goals as goal
 use Rattle.tp_manager.proofs.manager.Shared.+kill.Goals.{kill_from-In-Err-kill_exchange}
 
@@ -44,7 +44,7 @@ so_far : (t : ℕ) (c : kill_from-In-Err-kill_exchange t) → Freed (table_limit
 so_far t c = let l : Limits = table_limits c.args.self.now.words in let f = c.in-Ok.ensures.told.3 in
     freed_look l (takers (claim_value c.args.claim.tells)) 1 c.args.row _ _ _ _ f (looked l 1 _ _ (acted_by l kinds.KillExchange (view_of c.loosen.new.seat) (view_of c.kill_exchange.new.seat) f.gained.walk.steady refl c.in-Err-kill_exchange.ensures.miss.0))
 
--- so many steps are left for the next claim
+-- this many steps are left for the next claim
 fewer : (t : ℕ) (c : kill_from-In-Err-kill_exchange t) → (takers (claim_value c.args.claim.tells) + 1) + slay_from (c.args.left - takers (claim_value c.args.claim.tells)) (claim_value c.in-Err-kill_exchange.now.tells) ≤ slay_from c.args.left (claim_value c.args.claim.tells)
 fewer t c = let l : Limits = table_limits c.args.self.now.words in let w = claim_value c.args.claim.tells in let f = so_far t c in let miss = c.in-Err-kill_exchange.ensures.miss in
     let less = some l c.args.self.now.words.places.valid (seen_by c.args.seat.now) c.args.row c.args.left c.args.claim.tells c.requires.steady.shows.legal c.requires.found.0 c.requires.enough in

@@ -6,10 +6,11 @@ use Rattle.tp_rule.proofs.Seats.{one_has}
 use Rattle.tp_manager.specs.Bounds.{led_steps}
 use Rattle.tp_manager.specs.Shown.{PassShown, spot}
 use Rattle.tp_manager.specs.Together.{IsAt}
-use Rattle.tp_manager.specs.Walks.{RemembersDrawn, Steady}
-use Rattle.tp_manager.proofs.Passes.{rests_drawn, rests_looked, steady_at}
-use Rattle.tp_manager.proofs.Walks.{looked, looked_begins, rises_same, remembers}
-use Rattle.tp_manager.proofs.Together.{first_at, rest_at, met_one, joined_acted, joined_drawn, joined_found, joined_lots, joined_others, joined_risen, joined_shown, looks_with}
+use Rattle.tp_manager.specs.CallSteps.{Steady}
+use Rattle.tp_manager.specs.BetweenCalls.{RemembersDrawn}
+use Rattle.tp_manager.proofs.Calls.Passes.{rests_drawn, rests_looked, steady_at}
+use Rattle.tp_manager.proofs.Calls.CallSteps.{looked, looked_begins, rises_same, remembers}
+use Rattle.tp_manager.proofs.Accounts.Together.{first_at, rest_at, met_one, joined_acted, joined_drawn, joined_found, joined_lots, joined_others, joined_risen, joined_shown, looks_with}
 use Rattle.tp_manager.proofs.manager.Shared.+look_together.Goals as goal
 use Rattle.tp_manager.proofs.manager.Shared.+look_together.Goals.{After-meet_seat-2, After-part}
 

@@ -10,10 +10,10 @@ use Rattle.tp_rule.specs.Views.{seen_by, view_of}
 use Rattle.tp_rule.proofs.Reading.{grew_begins}
 use Rattle.tp_manager.specs.Bounds.{retry_steps}
 use Rattle.tp_manager.specs.Looks.{IsEnough}
-use Rattle.tp_manager.specs.Walks.{Looked}
-use Rattle.tp_manager.proofs.Walks.{acted_by, looked, looked_none, looked_few, looked_then, looked_begins}
-use Rattle.tp_manager.proofs.Looks.{claim_is, held_yet, held_still, consumed_now, consumed_still, returned}
-use Rattle.tp_manager.proofs.Tries.{enough_next, enough_some}
+use Rattle.tp_manager.specs.CallSteps.{Looked}
+use Rattle.tp_manager.proofs.Calls.CallSteps.{acted_by, looked, looked_none, looked_few, looked_then, looked_begins}
+use Rattle.tp_manager.proofs.Rows.Looks.{claim_is, held_yet, held_still, consumed_now, consumed_still, returned}
+use Rattle.tp_manager.proofs.Kills.Tries.{enough_next, enough_some}
 use Rattle.tp_manager.proofs.manager.Shared.+status.Goals as goal
 use Rattle.tp_manager.proofs.manager.Shared.+status.Goals.{status_from-In-Taken, status_from-After-load_unit, status_from-After-load_claim-again}
 

@@ -4,8 +4,8 @@ use Rattle.tp_model.specs.declared.trace.StepKind.TheVariants as kinds
 use Rattle.tp_model.specs.Steps.{block_first}
 use Rattle.tp_rule.specs.Tables.{table_limits}
 use Rattle.tp_rule.specs.Views.{view_of}
-use Rattle.tp_manager.proofs.Passes.{drawn_risen}
-use Rattle.tp_manager.proofs.Walks.{acted_by}
+use Rattle.tp_manager.proofs.Calls.Passes.{drawn_risen}
+use Rattle.tp_manager.proofs.Calls.CallSteps.{acted_by}
 use Rattle.tp_manager.proofs.manager.Shared.blocks_end.Goals as goal
 
 pub returns-clause-told : goal.returns-clause-told

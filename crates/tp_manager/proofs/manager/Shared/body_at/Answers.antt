@@ -3,9 +3,9 @@ use Rattle.tp_model.specs.declared.types.Limits.{Limits}
 use Rattle.tp_model.specs.declared.trace.StepKind.TheVariants as kinds
 use Rattle.tp_rule.specs.Tables.{table_limits}
 use Rattle.tp_rule.specs.Views.{seen_by, view_of}
-use Rattle.tp_manager.specs.Walks.{Acted}
-use Rattle.tp_manager.proofs.Walks.{acted_by, looked, looked_then, looked_begins}
-use Rattle.tp_manager.proofs.Looks.{body_there}
+use Rattle.tp_manager.specs.CallSteps.{Acted}
+use Rattle.tp_manager.proofs.Calls.CallSteps.{acted_by, looked, looked_then, looked_begins}
+use Rattle.tp_manager.proofs.Rows.Looks.{body_there}
 use Rattle.tp_manager.proofs.manager.Shared.body_at.Goals as goal
 
 pub returns-clause-looked : goal.returns-clause-looked

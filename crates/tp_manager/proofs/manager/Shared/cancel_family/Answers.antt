@@ -8,9 +8,9 @@ use Rattle.tp_manager.specs.Bounds.{end_steps, ends_steps}
 use Rattle.tp_manager.specs.Endings.{Cancelling}
 use Rattle.tp_manager.specs.Aheads.{IsAhead, IsSorted}
 use Rattle.tp_manager.specs.declared.ahead.Ahead.{Ahead}
-use Rattle.tp_manager.proofs.Cancels.{few_rows}
-use Rattle.tp_manager.proofs.Endings.{cancelling_begins, cancelling_ends, cancelling_few, cancelling_most, cancelling_outputs, cancelling_there, cancelling_unworked}
-use Rattle.tp_manager.proofs.Listings.{outputs_inside}
+use Rattle.tp_manager.proofs.Families.Cancels.{few_rows}
+use Rattle.tp_manager.proofs.Families.CancelWalks.{cancelling_begins, cancelling_ends, cancelling_few, cancelling_most, cancelling_outputs, cancelling_there, cancelling_unworked}
+use Rattle.tp_manager.proofs.Families.ReplyWalks.{outputs_inside}
 use Rattle.tp_manager.proofs.manager.Shared.cancel_family.Goals as goal
 use Rattle.tp_manager.proofs.manager.Shared.cancel_family.Goals.{In-Some, in-Outputs, in-Killed, in-Before}
 

@@ -6,14 +6,14 @@ use Rattle.tp_model.specs.Steps.{IsServerStage}
 use Rattle.tp_model.proofs.Bridges.{begins_refl, begins_trans}
 use Rattle.tp_rule.specs.Tables.{table_limits}
 use Rattle.tp_rule.specs.Views.{seen_by, view_of}
-use Rattle.tp_manager.specs.Bounds.{body_steps, given_steps}
+use Rattle.tp_manager.specs.Bounds.{body_steps, claim_row_steps}
 use Rattle.tp_manager.specs.Calls.{IsWaiting}
-use Rattle.tp_manager.specs.Walks.{Looked}
-use Rattle.tp_manager.proofs.Walks.{acted_by, looked, looked_begins, looked_few, looked_then}
-use Rattle.tp_manager.proofs.Looks.{there_later}
-use Rattle.tp_manager.proofs.Marks.{not_waiting}
-use Rattle.tp_manager.proofs.Scans.{allows_later, took_by, took_few}
-use Rattle.tp_manager.proofs.GivenRows.{between_from, gone_waiting}
+use Rattle.tp_manager.specs.CallSteps.{Looked}
+use Rattle.tp_manager.proofs.Calls.CallSteps.{acted_by, looked, looked_begins, looked_few, looked_then}
+use Rattle.tp_manager.proofs.Rows.Looks.{there_later}
+use Rattle.tp_manager.proofs.Marks.Raises.{not_waiting}
+use Rattle.tp_manager.proofs.Claims.Scans.{allows_later, took_by, took_few}
+use Rattle.tp_manager.proofs.Claims.GivenRows.{between_from, gone_waiting}
 use Rattle.tp_manager.proofs.manager.Shared.claim_row.Goals as goal
 use Rattle.tp_manager.proofs.manager.Shared.claim_row.Goals.{After-load_claim-claim, After-stand_of}
 
@@ -30,13 +30,13 @@ stand_of-requires-clause-steady c = (claimed (goal.at.stand_of-requires-clause-s
 
 pub returns-in-Over-clause-told : goal.returns-in-Over-clause-told
 returns-in-Over-clause-told c = let l : Limits = table_limits c.args.self.now.words in let at = goal.at.returns-in-Over-clause-told c in let b = found at.After-stand_of (claimed at.After-load_claim-claim) in let h = seen_by c.stand_of.new.seat in (
-  looked_few l 2 given_steps _ _ (omega arith) b,
+  looked_few l 2 claim_row_steps _ _ (omega arith) b,
   (h, looked_begins l _ _ _ b, begins_refl h, not_waiting l (status_of l.attempts h c.args.row) c.in-Over.ensures.stands),
 )
 
 pub returns-in-Busy-clause-told : goal.returns-in-Busy-clause-told
 returns-in-Busy-clause-told c = let l : Limits = table_limits c.args.self.now.words in let at = goal.at.returns-in-Busy-clause-told c in let a = claimed at.After-load_claim-claim in let b = found at.After-stand_of a in let t = c.in-Busy.ensures.stands in (
-  looked_few l 2 given_steps _ _ (omega arith) b,
+  looked_few l 2 claim_row_steps _ _ (omega arith) b,
   (t.0, begins_trans _ _ t.0 (looked_begins l _ _ _ a) t.1, t.2, t.3),
 )
 
@@ -67,7 +67,7 @@ returns-in-Err-clause-told c = let l : Limits = table_limits c.args.self.now.wor
 pub returns-in-Ok-clause-told : goal.returns-in-Ok-clause-told
 returns-in-Ok-clause-told c = let l : Limits = table_limits c.args.self.now.words in let m = found (goal.at.returns-in-Ok-clause-told c).After-stand_of (claimed (goal.at.returns-in-Ok-clause-told c).After-load_claim-claim) in let e = c.element_at-element.ensures in
     let a = looked_then l _ body_steps _ _ _ m e.looked in let x = c.element_at-element.result in (
-      took_few l x.stage c.args.unit (c.in-Ready.attempts + 1) x _ given_steps c.args.row _ _ (omega arith)
+      took_few l x.stage c.args.unit (c.in-Ready.attempts + 1) x _ claim_row_steps c.args.row _ _ (omega arith)
           (took_by l x.stage c.args.unit (c.in-Ready.attempts + 1) x _ c.args.row _ _ _ e.head.2 a e.born refl c.in-Ok.ensures.hit),
       e.head.1,
       e.head.2,

@@ -9,10 +9,10 @@ use Rattle.tp_rule.specs.Tables.{table_limits}
 use Rattle.tp_rule.specs.Views.{seen_by, view_of}
 use Rattle.tp_rule.proofs.Reading.{grew_begins}
 use Rattle.tp_manager.specs.Bounds.{body_steps, take_steps}
-use Rattle.tp_manager.specs.Walks.{Looked}
-use Rattle.tp_manager.proofs.Walks.{acted_by, looked, looked_begins, looked_few, looked_then}
-use Rattle.tp_manager.proofs.Kills.{freed_looked, slain_by}
-use Rattle.tp_manager.proofs.Releases.{head_stage, killed_between, reply_allows}
+use Rattle.tp_manager.specs.CallSteps.{Looked}
+use Rattle.tp_manager.proofs.Calls.CallSteps.{acted_by, looked, looked_begins, looked_few, looked_then}
+use Rattle.tp_manager.proofs.Kills.OneKill.{freed_looked, slain_by}
+use Rattle.tp_manager.proofs.Kills.Releases.{head_stage, killed_between, reply_allows}
 use Rattle.tp_manager.proofs.manager.Shared.collect_row.Goals as goal
 use Rattle.tp_manager.proofs.manager.Shared.collect_row.Goals.{After-load_claim-claim, After-element_at-element}
 

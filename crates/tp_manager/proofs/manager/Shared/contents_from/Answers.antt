@@ -8,9 +8,9 @@ use Rattle.tp_rule.specs.Views.{seen_by, view_of}
 use Rattle.tp_rule.specs.Steps.{Knows}
 use Rattle.tp_rule.specs.declared.view.Known.TheVariants.{RowHead}
 use Rattle.tp_words.specs.declared.words.Head.TheVariants.{Filled}
-use Rattle.tp_manager.specs.Walks.{Acted}
-use Rattle.tp_manager.proofs.Walks.{acted_by, looked, looked_none, looked_few}
-use Rattle.tp_manager.proofs.Looks.{head_now, none_outside, none_unit, there_unit}
+use Rattle.tp_manager.specs.CallSteps.{Acted}
+use Rattle.tp_manager.proofs.Calls.CallSteps.{acted_by, looked, looked_none, looked_few}
+use Rattle.tp_manager.proofs.Rows.Looks.{head_now, none_outside, none_unit, there_unit}
 use Rattle.tp_manager.proofs.manager.Shared.contents_from.Goals as goal
 use Rattle.tp_manager.proofs.manager.Shared.contents_from.Goals.{After-load_unit, In-Committed, then-row-first-via-then-row-first, then-row-first-via-else-row-first+then-row-first-2}
 

@@ -5,10 +5,10 @@ use Rattle.tp_rule.specs.Tables.{table_limits}
 use Rattle.tp_rule.specs.Views.{seen_by, view_of}
 use Rattle.tp_manager.specs.Bounds.{birth_steps, look_steps}
 use Rattle.tp_manager.specs.Together.{account_below, with_one}
-use Rattle.tp_manager.specs.Walks.{Acted}
-use Rattle.tp_manager.proofs.Walks.{acted_then, looked, looked_begins, looked_few}
-use Rattle.tp_manager.proofs.Looks.{there_later, unborn_before}
-use Rattle.tp_manager.proofs.RowCounts.{none_counted, none_more, one_counted, stage_there, within_more}
+use Rattle.tp_manager.specs.CallSteps.{Acted}
+use Rattle.tp_manager.proofs.Calls.CallSteps.{acted_then, looked, looked_begins, looked_few}
+use Rattle.tp_manager.proofs.Rows.Looks.{there_later, unborn_before}
+use Rattle.tp_manager.proofs.Accounts.RowCounts.{none_counted, none_more, one_counted, stage_there, within_more}
 use Rattle.tp_rule.proofs.Parts.{fair_rows}
 use Rattle.tp_model.specs.Steps.{max_rows}
 use Rattle.tp_manager.proofs.manager.Shared.count_row.Goals as goal

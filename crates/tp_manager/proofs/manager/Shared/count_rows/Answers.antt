@@ -5,9 +5,9 @@ use Rattle.tp_rule.specs.Tables.{table_limits}
 use Rattle.tp_rule.specs.Views.{seen_by, view_of}
 use Rattle.tp_manager.specs.Bounds.{look_steps}
 use Rattle.tp_manager.specs.Together.{account_below}
-use Rattle.tp_manager.proofs.Walks.{looked_begins, looked_few, looked_none, looked_then}
-use Rattle.tp_manager.proofs.RowCounts.{squeezed}
-use Rattle.tp_manager.proofs.Seeks.{rows_more}
+use Rattle.tp_manager.proofs.Calls.CallSteps.{looked_begins, looked_few, looked_none, looked_then}
+use Rattle.tp_manager.proofs.Accounts.RowCounts.{squeezed}
+use Rattle.tp_manager.proofs.Rows.Seeks.{rows_more}
 use Rattle.tp_manager.proofs.manager.Shared.count_rows.Goals as goal
 
 pub loop-row-init : goal.loop-row-init

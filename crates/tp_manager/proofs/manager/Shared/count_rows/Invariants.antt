@@ -4,7 +4,7 @@ use Rattle.tp_rule.specs.Tables.{table_limits}
 use Rattle.tp_rule.specs.Views.{IsSameSeat, view_of}
 use Rattle.tp_manager.specs.Bounds.{look_steps}
 use Rattle.tp_manager.specs.Together.{HasCounted, IsWithin}
-use Rattle.tp_manager.specs.Walks.{Looked}
+use Rattle.tp_manager.specs.CallSteps.{Looked}
 use Rattle.tp_manager.proofs.manager.Shared.count_rows.Given as goal
 
 abbrev pub invariant-loop-row : goal.invariant-loop-row

@@ -2,7 +2,7 @@ use Rattle.tp_rule.specs.Tables.{table_limits, table_of}
 use Rattle.tp_rule.specs.Views.{seen_by, view_of}
 use Rattle.tp_rule.specs.declared.view.Known.TheVariants.{BlocksDrawn}
 use Rattle.tp_manager.specs.Bounds.{led_steps}
-use Rattle.tp_manager.proofs.Closing.{counts_with, joins_at}
+use Rattle.tp_manager.proofs.Accounts.Closing.{counts_with, joins_at}
 use Rattle.tp_manager.proofs.manager.Shared.count_with.Goals as goal
 
 pub look_together-drawn-requires-clause-passes : goal.look_together-drawn-requires-clause-passes

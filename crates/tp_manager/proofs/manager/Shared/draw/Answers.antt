@@ -4,7 +4,7 @@ use Rattle.tp_model.specs.Steps.{block_first}
 use Rattle.tp_rule.specs.Tables.{table_limits}
 use Rattle.tp_rule.specs.Views.{view_of}
 use Rattle.tp_manager.specs.declared.manager.Run.{Run}
-use Rattle.tp_manager.proofs.Blocks.{draws_drew, drew_then, more_drawn, none_tried, tried_few, tried_then}
+use Rattle.tp_manager.proofs.Rows.Blocks.{draws_drew, drew_then, more_drawn, none_tried, tried_few, tried_then}
 use Rattle.tp_manager.proofs.manager.Shared.draw.Goals as goal
 use Rattle.tp_manager.proofs.manager.Shared.draw.Goals.{After-loop-run}
 

@@ -1,7 +1,8 @@
 use Rattle.std.proofs.Common.{◌≡◌, ◌-◌, ◌≤◌}
 use Rattle.tp_rule.specs.Tables.{table_limits}
 use Rattle.tp_rule.specs.Views.{IsSameSeat, view_of}
-use Rattle.tp_manager.specs.Walks.{RemembersDrawn, Tried}
+use Rattle.tp_manager.specs.CallSteps.{Tried}
+use Rattle.tp_manager.specs.BetweenCalls.{RemembersDrawn}
 use Rattle.tp_manager.proofs.manager.Shared.draw.Given as goal
 
 abbrev pub invariant-loop-run : goal.invariant-loop-run

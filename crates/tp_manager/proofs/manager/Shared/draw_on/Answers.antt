@@ -4,7 +4,7 @@ use Rattle.tp_rule.specs.Tables.{table_limits}
 use Rattle.tp_rule.specs.Views.{view_of}
 use Rattle.tp_manager.specs.Bounds.{draw_steps}
 use Rattle.tp_manager.specs.Spares.{AreLeft}
-use Rattle.tp_manager.proofs.Spares.{drew_tried, left_behind}
+use Rattle.tp_manager.proofs.Claims.Spares.{drew_tried, left_behind}
 use Rattle.tp_manager.proofs.manager.Shared.draw_on.Goals as goal
 
 pub void_rows-requires-clause-left : goal.void_rows-requires-clause-left

@@ -1,8 +1,8 @@
 use Rattle.tp_model.proofs.Bridges.{element_of-id}
 use Rattle.tp_rule.specs.Views.{seen_by}
 use Rattle.tp_manager.specs.Bounds.{body_steps}
-use Rattle.tp_manager.proofs.Walks.{looked_begins}
-use Rattle.tp_manager.proofs.Looks.{element_there}
+use Rattle.tp_manager.proofs.Calls.CallSteps.{looked_begins}
+use Rattle.tp_manager.proofs.Rows.Looks.{element_there}
 use Rattle.tp_manager.proofs.manager.Shared.element_at.Goals as goal
 
 pub returns-clause-born : goal.returns-clause-born

@@ -7,9 +7,9 @@ use Rattle.tp_rule.specs.Tables.{table_limits}
 use Rattle.tp_rule.specs.Views.{seen_by, view_of}
 use Rattle.tp_manager.specs.Bounds.{end_steps, slay_steps}
 use Rattle.tp_manager.specs.Cancels.{IsTarget}
-use Rattle.tp_manager.specs.Walks.{Looked}
-use Rattle.tp_manager.proofs.Endings.{ends_killed, ends_left, ends_reply, target}
-use Rattle.tp_manager.proofs.Walks.{looked, looked_begins}
+use Rattle.tp_manager.specs.CallSteps.{Looked}
+use Rattle.tp_manager.proofs.Families.CancelWalks.{ends_killed, ends_left, ends_reply, target}
+use Rattle.tp_manager.proofs.Calls.CallSteps.{looked, looked_begins}
 use Rattle.tp_manager.proofs.manager.Shared.end_row.Goals as goal
 use Rattle.tp_manager.proofs.manager.Shared.end_row.Goals.{After-head_at-head, Else-is_reply}
 

@@ -5,10 +5,10 @@ use Rattle.tp_rule.specs.Tables.{table_limits}
 use Rattle.tp_rule.specs.Views.{seen_by, view_of}
 use Rattle.tp_manager.specs.Bounds.{look_steps, scan_steps, spare_left}
 use Rattle.tp_manager.specs.Finds.{Hits, PassedOver}
-use Rattle.tp_manager.specs.Walks.{Begun, EachRow, Sought}
-use Rattle.tp_manager.proofs.Finds.{find_both, finds_behind}
-use Rattle.tp_manager.proofs.Lows.{spare_rises}
-use Rattle.tp_manager.proofs.Walks.{looked_none}
+use Rattle.tp_manager.specs.Scans.{Begun, EachRow, Sought}
+use Rattle.tp_manager.proofs.Rows.Finds.{find_both, finds_behind}
+use Rattle.tp_manager.proofs.Marks.Lows.{spare_rises}
+use Rattle.tp_manager.proofs.Calls.CallSteps.{looked_none}
 use Rattle.tp_manager.proofs.manager.Shared.find.Goals as goal
 
 pub returns-clause-told : goal.returns-clause-told

@@ -3,7 +3,8 @@ use Rattle.tp_rule.specs.Tables.{table_limits}
 use Rattle.tp_rule.specs.Views.{IsSameSeat, view_of}
 use Rattle.tp_manager.specs.Bounds.{look_steps}
 use Rattle.tp_manager.specs.Finds.{PassedOver}
-use Rattle.tp_manager.specs.Walks.{Begun, Rose}
+use Rattle.tp_manager.specs.Marks.{Rose}
+use Rattle.tp_manager.specs.Scans.{Begun}
 use Rattle.tp_manager.proofs.manager.Shared.find_from_mark.Given as goal
 
 abbrev pub invariant-loop-row : goal.invariant-loop-row

@@ -5,8 +5,8 @@ use Rattle.tp_model.specs.Steps.{rows_of}
 use Rattle.tp_rule.specs.Tables.{table_limits}
 use Rattle.tp_rule.specs.Views.{view_of}
 use Rattle.tp_manager.specs.Bounds.{look_steps, spare_left}
-use Rattle.tp_manager.proofs.Lows.{drawn_one}
-use Rattle.tp_manager.proofs.Spares.{find_drawn}
+use Rattle.tp_manager.proofs.Marks.Lows.{drawn_one}
+use Rattle.tp_manager.proofs.Claims.Spares.{find_drawn}
 use Rattle.tp_manager.proofs.manager.Shared.find_in_blocks.Goals as goal
 
 pub returns-clause-told : goal.returns-clause-told

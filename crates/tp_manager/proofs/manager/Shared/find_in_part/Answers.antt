@@ -4,10 +4,10 @@ use Rattle.tp_rule.specs.Tables.{table_limits}
 use Rattle.tp_rule.specs.Views.{view_of}
 use Rattle.tp_manager.specs.Bounds.{look_steps}
 use Rattle.tp_manager.specs.Finds.{PassedOver}
-use Rattle.tp_manager.proofs.Finds.{finds_behind, none_over, over_remembered, over_widens}
-use Rattle.tp_manager.proofs.Lows.{lows_inside}
-use Rattle.tp_manager.proofs.Seeks.{sought_bare}
-use Rattle.tp_manager.proofs.Walks.{remembers_kind, sought_few}
+use Rattle.tp_manager.proofs.Rows.Finds.{finds_behind, none_over, over_remembered, over_widens}
+use Rattle.tp_manager.proofs.Marks.Lows.{lows_inside}
+use Rattle.tp_manager.proofs.Rows.Seeks.{sought_bare}
+use Rattle.tp_manager.proofs.Calls.CallSteps.{remembers_kind, sought_few}
 use Rattle.tp_manager.proofs.manager.Shared.find_in_part.Goals as goal
 use Rattle.tp_manager.proofs.manager.Shared.find_in_part.Goals.{After-later-start}
 

@@ -5,16 +5,17 @@ use Rattle.tp_rule.specs.Tables.{table_limits}
 use Rattle.tp_rule.specs.Views.{SeatShown, view_of}
 use Rattle.tp_manager.specs.Bounds.{look_steps, scan_steps}
 use Rattle.tp_manager.specs.Finds.{PassedOver}
-use Rattle.tp_manager.specs.Walks.{Begun, EachRow, Remembers, Sought}
+use Rattle.tp_manager.specs.Marks.{Remembers}
+use Rattle.tp_manager.specs.Scans.{Begun, EachRow, Sought}
 use Rattle.tp_manager.specs.Shown.{NoneFalls}
-use Rattle.tp_manager.proofs.Lows.{rises_then, scan_next, scan_rises}
-use Rattle.tp_manager.proofs.Walks.{rises_none, sought_few}
-use Rattle.tp_manager.proofs.Finds.{over_widens}
-use Rattle.tp_manager.proofs.Seeks.{begun_done, begun_few, begun_on, begun_sought, rows_more}
+use Rattle.tp_manager.proofs.Marks.Lows.{rises_then, scan_next, scan_rises}
+use Rattle.tp_manager.proofs.Calls.CallSteps.{rises_none, sought_few}
+use Rattle.tp_manager.proofs.Rows.Finds.{over_widens}
+use Rattle.tp_manager.proofs.Rows.Seeks.{begun_done, begun_few, begun_on, begun_sought, rows_more}
 use Rattle.tp_manager.proofs.manager.Shared.find_in_parts.Goals as goal
 use Rattle.tp_manager.proofs.manager.Shared.find_in_parts.Goals.{else-row-end, then-row-end+in_default}
 
--- the end of a part is no row behind all rows
+-- the end of a part is no row after all rows
 inside : (l k : Limits) → l ≡ k → (n : ℕ) → n < k.parts → n * k.rows + k.rows ≤ part_rows l
 inside l k same n less = subst (λ (z : Limits). n * k.rows + k.rows ≤ part_rows z) (sym same) (rows_more n k.parts k.rows less)
 

@@ -5,7 +5,8 @@ use Rattle.tp_rule.specs.Views.{IsSameSeat, view_of}
 use Rattle.tp_manager.specs.Bounds.{look_steps, scan_steps}
 use Rattle.tp_manager.specs.Shown.{NoneFalls}
 use Rattle.tp_manager.specs.Finds.{PassedOver}
-use Rattle.tp_manager.specs.Walks.{Begun, Remembers}
+use Rattle.tp_manager.specs.Marks.{Remembers}
+use Rattle.tp_manager.specs.Scans.{Begun}
 use Rattle.tp_manager.proofs.manager.Shared.find_in_parts.Given as goal
 
 abbrev pub invariant-loop-part : goal.invariant-loop-part

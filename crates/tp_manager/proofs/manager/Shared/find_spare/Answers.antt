@@ -8,13 +8,15 @@ use Rattle.tp_rule.specs.declared.view.Known.TheVariants.{PartMark}
 use Rattle.tp_rule.specs.declared.view.View.{View}
 use Rattle.tp_manager.specs.Bounds.{look_steps}
 use Rattle.tp_manager.specs.Finds.{Hits, PassedOver}
-use Rattle.tp_manager.specs.Walks.{Begun, EachRow, Looked, Remembers, RisesAt, Rose, Sought}
-use Rattle.tp_manager.proofs.Finds.{not_server, none_over, over_low, over_widens, sought_raised}
-use Rattle.tp_manager.proofs.Lows.{rises_at_then}
-use Rattle.tp_manager.proofs.Marks.{goes_walked, rose_none, rose_then}
-use Rattle.tp_manager.proofs.Seeks.{begun_few, begun_hit, begun_looked, begun_on, rows_more, sought_from}
-use Rattle.tp_manager.proofs.Spares.{sought_passed}
-use Rattle.tp_manager.proofs.Walks.{remembers_kind, sought_few}
+use Rattle.tp_manager.specs.CallSteps.{Looked}
+use Rattle.tp_manager.specs.Marks.{Remembers, RisesAt, Rose}
+use Rattle.tp_manager.specs.Scans.{Begun, EachRow, Sought}
+use Rattle.tp_manager.proofs.Rows.Finds.{not_server, none_over, over_low, over_widens, sought_raised}
+use Rattle.tp_manager.proofs.Marks.Lows.{rises_at_then}
+use Rattle.tp_manager.proofs.Marks.Raises.{goes_walked, rose_none, rose_then}
+use Rattle.tp_manager.proofs.Rows.Seeks.{begun_few, begun_hit, begun_looked, begun_on, rows_more, sought_from}
+use Rattle.tp_manager.proofs.Claims.Spares.{sought_passed}
+use Rattle.tp_manager.proofs.Calls.CallSteps.{remembers_kind, sought_few}
 use Rattle.tp_manager.proofs.manager.Shared.find_spare.Goals as goal
 use Rattle.tp_manager.proofs.manager.Shared.find_spare.Goals.{After-later-start, After-is_parked_at, After-loop-row, After-mark_at-mark, After-part_rows}
 

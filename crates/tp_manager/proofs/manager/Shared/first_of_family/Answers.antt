@@ -7,10 +7,10 @@ use Rattle.tp_manager.specs.Bounds.{stride_steps, walk_steps}
 use Rattle.tp_manager.specs.Families.{Following, Followed}
 use Rattle.tp_manager.specs.Aheads.{IsAhead, IsSorted}
 use Rattle.tp_manager.specs.declared.ahead.Ahead.{Ahead}
-use Rattle.tp_manager.proofs.Cancels.{few_rows}
-use Rattle.tp_manager.proofs.Listings.{outputs_inside}
-use Rattle.tp_manager.proofs.Onward.{following_begins, following_ends, following_most, following_nothing, following_outputs, following_reply, following_there}
-use Rattle.tp_manager.proofs.Walks.{looked_begins, looked_few, looked_none, looked_then}
+use Rattle.tp_manager.proofs.Families.Cancels.{few_rows}
+use Rattle.tp_manager.proofs.Families.ReplyWalks.{outputs_inside}
+use Rattle.tp_manager.proofs.Families.Onward.{following_begins, following_ends, following_most, following_nothing, following_outputs, following_reply, following_there}
+use Rattle.tp_manager.proofs.Calls.CallSteps.{looked_begins, looked_few, looked_none, looked_then}
 use Rattle.tp_manager.proofs.manager.Shared.first_of_family.Goals as goal
 use Rattle.tp_manager.proofs.manager.Shared.first_of_family.Goals.{In-Some, in-Outputs, in-Reply, in-Nothing}
 

@@ -1,4 +1,4 @@
-use Rattle.tp_manager.specs.Walks.{AreFinished}
+use Rattle.tp_manager.specs.Marks.{AreFinished}
 use Rattle.tp_manager.proofs.manager.Shared.first_open.Given as goal
 
 abbrev pub invariant-loop-part : goal.invariant-loop-part

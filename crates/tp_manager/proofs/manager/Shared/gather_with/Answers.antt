@@ -1,7 +1,7 @@
 use Rattle.tp_rule.specs.Tables.{table_limits, table_of}
 use Rattle.tp_rule.specs.Views.{view_of}
 use Rattle.tp_rule.specs.declared.view.Known.TheVariants.{BlocksDrawn}
-use Rattle.tp_manager.proofs.Closing.{gathers_with}
+use Rattle.tp_manager.proofs.Accounts.Closing.{gathers_with}
 use Rattle.tp_manager.proofs.manager.Shared.gather_with.Goals as goal
 
 pub returns-clause-gathers : goal.returns-clause-gathers

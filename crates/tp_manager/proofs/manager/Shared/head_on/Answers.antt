@@ -1,7 +1,7 @@
 use Rattle.std.proofs.Common.{sym, subst, arith, rules}
 use Rattle.tp_model.specs.declared.types.Limits.{Limits}
 use Rattle.tp_model.specs.Steps.{IsArea}
-use Rattle.tp_manager.proofs.Looks.{goes_end}
+use Rattle.tp_manager.proofs.Rows.Looks.{goes_end}
 use Rattle.tp_manager.proofs.manager.Shared.head_on.Goals as goal
 
 pub returns-then-eq-clause-on : goal.returns-then-eq-clause-on

@@ -6,13 +6,15 @@ use Rattle.tp_rule.specs.Views.{seen_by, view_of}
 use Rattle.tp_rule.specs.declared.view.View.{View}
 use Rattle.tp_manager.specs.Bounds.{look_steps, status_steps}
 use Rattle.tp_manager.specs.Finds.{PassedOver}
-use Rattle.tp_manager.specs.Walks.{Acted, EachRow, Looked, Rose, Sought}
-use Rattle.tp_manager.proofs.Walks.{acted_few, acted_then, looked, looked_begins, looked_none, looked_then}
-use Rattle.tp_manager.proofs.Looks.{there_later}
-use Rattle.tp_manager.proofs.Cancels.{few_rows}
-use Rattle.tp_manager.proofs.Finds.{head_aside, hits_at, none_over, over_aside, over_found, over_unborn, over_widens}
-use Rattle.tp_manager.proofs.Marks.{near_low, near_past, rose_aside, rose_dead, rose_none, rose_one}
-use Rattle.tp_manager.proofs.Seeks.{sought_on}
+use Rattle.tp_manager.specs.CallSteps.{Acted, Looked}
+use Rattle.tp_manager.specs.Marks.{Rose}
+use Rattle.tp_manager.specs.Scans.{EachRow, Sought}
+use Rattle.tp_manager.proofs.Calls.CallSteps.{acted_few, acted_then, looked, looked_begins, looked_none, looked_then}
+use Rattle.tp_manager.proofs.Rows.Looks.{there_later}
+use Rattle.tp_manager.proofs.Families.Cancels.{few_rows}
+use Rattle.tp_manager.proofs.Rows.Finds.{head_aside, hits_at, none_over, over_aside, over_found, over_unborn, over_widens}
+use Rattle.tp_manager.proofs.Marks.Raises.{near_low, near_past, rose_aside, rose_dead, rose_none, rose_one}
+use Rattle.tp_manager.proofs.Rows.Seeks.{sought_on}
 use Rattle.tp_manager.proofs.manager.Shared.is_parked_at.Goals as goal
 use Rattle.tp_manager.proofs.manager.Shared.is_parked_at.Goals.{After-contents_from, After-head_on-head, After-status_at-status}
 

@@ -11,10 +11,10 @@ use Rattle.tp_rule.proofs.Reading.{grew_begins}
 use Rattle.tp_manager.specs.Bounds.{slay_from, slay_steps}
 use Rattle.tp_manager.specs.Kills.{FailsIn, KillsIn}
 use Rattle.tp_manager.specs.Looks.{IsEnough}
-use Rattle.tp_manager.specs.Walks.{Looked}
-use Rattle.tp_manager.proofs.Walks.{acted_by, looked}
-use Rattle.tp_manager.proofs.Kills.{match_map, kills_after, fails_after}
-use Rattle.tp_manager.proofs.Tries.{enough_first}
+use Rattle.tp_manager.specs.CallSteps.{Looked}
+use Rattle.tp_manager.proofs.Calls.CallSteps.{acted_by, looked}
+use Rattle.tp_manager.proofs.Kills.OneKill.{match_map, kills_after, fails_after}
+use Rattle.tp_manager.proofs.Kills.Tries.{enough_first}
 use Rattle.tp_manager.proofs.manager.Shared.kill_row.Goals as goal
 use Rattle.tp_manager.proofs.manager.Shared.kill_row.Goals.{After-load_claim-claim}
 

@@ -7,9 +7,9 @@ use Rattle.tp_manager.specs.Bounds.{stride_steps, walk_steps}
 use Rattle.tp_manager.specs.Families.{Listing, Listed}
 use Rattle.tp_manager.specs.Aheads.{IsAhead, IsSorted}
 use Rattle.tp_manager.specs.declared.ahead.Ahead.{Ahead}
-use Rattle.tp_manager.proofs.Cancels.{few_rows}
-use Rattle.tp_manager.proofs.Listings.{listing_begins, listing_ends, listing_few, listing_nothing, listing_outputs, listing_reply, listing_there, outputs_inside}
-use Rattle.tp_manager.proofs.Walks.{looked_begins, looked_few, looked_none, looked_then}
+use Rattle.tp_manager.proofs.Families.Cancels.{few_rows}
+use Rattle.tp_manager.proofs.Families.ReplyWalks.{listing_begins, listing_ends, listing_few, listing_nothing, listing_outputs, listing_reply, listing_there, outputs_inside}
+use Rattle.tp_manager.proofs.Calls.CallSteps.{looked_begins, looked_few, looked_none, looked_then}
 use Rattle.tp_manager.proofs.manager.Shared.list_family.Goals as goal
 use Rattle.tp_manager.proofs.manager.Shared.list_family.Goals.{In-Some, in-Outputs, in-Reply, in-Nothing}
 

@@ -3,7 +3,7 @@ use Rattle.tp_rule.specs.Views.{IsSameSeat, seen_by, view_of}
 use Rattle.tp_manager.specs.Bounds.{walk_steps}
 use Rattle.tp_manager.specs.Families.{Listing}
 use Rattle.tp_manager.specs.Aheads.{IsAhead, IsSorted}
-use Rattle.tp_manager.specs.Walks.{Looked}
+use Rattle.tp_manager.specs.CallSteps.{Looked}
 use Rattle.tp_manager.proofs.manager.Shared.list_family.Given as goal
 
 abbrev pub invariant-loop-past : goal.invariant-loop-past

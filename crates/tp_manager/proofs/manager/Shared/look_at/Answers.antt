@@ -4,8 +4,8 @@ use Rattle.tp_model.proofs.Bridges.{found_later}
 use Rattle.tp_rule.specs.Tables.{table_limits}
 use Rattle.tp_rule.specs.Views.{view_of}
 use Rattle.tp_manager.specs.Bounds.{birth_steps, body_steps, status_steps}
-use Rattle.tp_manager.specs.Walks.{Looked}
-use Rattle.tp_manager.proofs.Walks.{looked, looked_begins, looked_then}
+use Rattle.tp_manager.specs.CallSteps.{Looked}
+use Rattle.tp_manager.proofs.Calls.CallSteps.{looked, looked_begins, looked_then}
 use Rattle.tp_manager.proofs.manager.Shared.look_at.Goals as goal
 use Rattle.tp_manager.proofs.manager.Shared.look_at.Goals.{After-birth_from, After-status_at-status}
 

@@ -10,10 +10,10 @@ use Rattle.tp_rule.specs.Steps.{HasElement}
 use Rattle.tp_rule.specs.Tables.{table_limits}
 use Rattle.tp_rule.specs.Views.{seen_by, view_of}
 use Rattle.tp_manager.specs.Bounds.{stride_steps}
-use Rattle.tp_manager.specs.Walks.{Looked}
-use Rattle.tp_manager.proofs.Looks.{consumed_now}
-use Rattle.tp_manager.proofs.Listings.{found_killed, found_sooner, found_taken}
-use Rattle.tp_manager.proofs.Walks.{acted_by, looked, looked_begins, looked_few, looked_then}
+use Rattle.tp_manager.specs.CallSteps.{Looked}
+use Rattle.tp_manager.proofs.Rows.Looks.{consumed_now}
+use Rattle.tp_manager.proofs.Families.ReplyWalks.{found_killed, found_sooner, found_taken}
+use Rattle.tp_manager.proofs.Calls.CallSteps.{acted_by, looked, looked_begins, looked_few, looked_then}
 use Rattle.tp_manager.proofs.manager.Shared.look_on.Goals as goal
 use Rattle.tp_manager.proofs.manager.Shared.look_on.Goals.{After-load_claim-claim, In-Taken, After-load_unit}
 

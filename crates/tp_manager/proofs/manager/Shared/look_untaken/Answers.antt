@@ -4,9 +4,9 @@ use Rattle.tp_model.specs.declared.types.Limits.{Limits}
 use Rattle.tp_model.proofs.Bridges.{begins_refl, found_later}
 use Rattle.tp_rule.specs.Tables.{table_limits}
 use Rattle.tp_rule.specs.Views.{seen_by, view_of}
-use Rattle.tp_manager.specs.Walks.{Looked}
-use Rattle.tp_manager.proofs.Listings.{found_other, found_reply}
-use Rattle.tp_manager.proofs.Walks.{acted_by, looked, looked_begins}
+use Rattle.tp_manager.specs.CallSteps.{Looked}
+use Rattle.tp_manager.proofs.Families.ReplyWalks.{found_other, found_reply}
+use Rattle.tp_manager.proofs.Calls.CallSteps.{acted_by, looked, looked_begins}
 use Rattle.tp_manager.proofs.manager.Shared.look_untaken.Goals as goal
 use Rattle.tp_manager.proofs.manager.Shared.look_untaken.Goals.{After-load_stage-stage}
 

@@ -13,17 +13,17 @@ use Rattle.tp_rule.specs.Tables.{table_limits}
 use Rattle.tp_rule.specs.Views.{hand, seen_by, view_of}
 use Rattle.tp_rule.specs.declared.view.View.{View}
 use Rattle.tp_manager.specs.Kills.{Freed, Loosened, takers}
-use Rattle.tp_manager.specs.Walks.{Looked, Steady}
-use Rattle.tp_manager.proofs.Walks.{acted_by, looked, looked_begins, looked_none}
-use Rattle.tp_manager.proofs.Looks.{consumed_now}
-use Rattle.tp_manager.proofs.Kills.{allows_aborted, freed_abort, freed_looked}
+use Rattle.tp_manager.specs.CallSteps.{Looked, Steady}
+use Rattle.tp_manager.proofs.Calls.CallSteps.{acted_by, looked, looked_begins, looked_none}
+use Rattle.tp_manager.proofs.Rows.Looks.{consumed_now}
+use Rattle.tp_manager.proofs.Kills.OneKill.{allows_aborted, freed_abort, freed_looked}
 use Rattle.tp_manager.proofs.manager.Shared.loosen.Goals as goal
 use Rattle.tp_manager.proofs.manager.Shared.loosen.Goals.{In-Taken}
 
 taken : (c : In-Taken) → claim_word (seen_by c.args.seat.now) c.args.row ≡ TakenWord c.in-Taken.attempt c.in-Taken.unit c.in-Taken.round
 taken c = sym c.requires.found ∙ ap claim_value c.in-Taken.is
 
--- what is told of the claim, and of the number of units in the way
+-- what is found of the claim, and of the number of units in the way
 told : (l : Limits) (i count : ℕ) (v w : View) (x y : Claim) → x ≡ y → Loosened l i (claim_value y) count v w → Loosened l i (claim_value x) count v w
 told l i count v w x y is t = subst (λ z. Loosened l i (claim_value z) count v w) (sym is) t
 

@@ -4,17 +4,18 @@ use native.Mathlib.Decide.{dec_le}
 use Rattle.tp_model.specs.declared.types.Limits.{Limits}
 use Rattle.tp_rule.specs.Tables.{table_limits}
 use Rattle.tp_rule.specs.Views.{view_of}
-use Rattle.tp_manager.specs.Walks.{Acted, MayRemember, Remembers}
-use Rattle.tp_manager.proofs.Marks.{goes_walked, low_any}
-use Rattle.tp_manager.proofs.Rests.{remembers_set, rose_found}
-use Rattle.tp_manager.proofs.Walks.{acted_by, remembers_kind}
+use Rattle.tp_manager.specs.CallSteps.{Acted}
+use Rattle.tp_manager.specs.Marks.{MayRemember, Remembers}
+use Rattle.tp_manager.proofs.Marks.Raises.{goes_walked, low_any}
+use Rattle.tp_manager.proofs.Marks.Rests.{remembers_set, rose_found}
+use Rattle.tp_manager.proofs.Calls.CallSteps.{acted_by, remembers_kind}
 use Rattle.tp_manager.proofs.manager.Shared.low_at.Goals as goal
 use Rattle.tp_manager.proofs.manager.Shared.low_at.Goals.{After-load_mark-mark}
 
 acted : (c : After-load_mark-mark) → Acted (table_limits c.args.self.now.words) 1 (view_of c.args.seat.now) (view_of c.load_mark-mark.new.seat)
 acted c = acted_by _ _ _ _ c.requires.steady refl c.load_mark-mark.ensures.grew
 
--- what was remembered is so behind the load
+-- what was remembered is so after the load
 kept : (c : After-load_mark-mark) → Remembers c.args.stage (view_of c.load_mark-mark.new.seat) c.args.lows.now
 kept c = remembers_kind c.args.stage c.args.lows.now _ _ _ _ _ (acted c).walk c.requires.remembers
 

@@ -1,5 +1,5 @@
 use Rattle.std.proofs.Common.{refl}
-use Rattle.tp_manager.proofs.Walks.{acted_by}
+use Rattle.tp_manager.proofs.Calls.CallSteps.{acted_by}
 use Rattle.tp_manager.proofs.manager.Shared.mark_at.Goals as goal
 
 pub returns-clause-acted : goal.returns-clause-acted

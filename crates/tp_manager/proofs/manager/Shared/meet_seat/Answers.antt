@@ -3,7 +3,7 @@ use Rattle.tp_rule.specs.Tables.{table_limits}
 use Rattle.tp_rule.specs.Views.{view_of}
 use Rattle.tp_rule.specs.declared.view.View.{View}
 use Rattle.tp_rule.proofs.Seats.{one_has}
-use Rattle.tp_manager.proofs.Together.{joins_has, met_acted, met_found, met_lots, met_others, met_saw}
+use Rattle.tp_manager.proofs.Accounts.Together.{joins_has, met_acted, met_found, met_lots, met_others, met_saw}
 use Rattle.tp_manager.proofs.manager.Shared.meet_seat.Goals as goal
 
 pub join-requires-clause-pass : goal.join-requires-clause-pass

@@ -8,9 +8,9 @@ use Rattle.tp_model.proofs.Later.{claim_taken, unit_inside}
 use Rattle.tp_words.specs.Words.{unit_value}
 use Rattle.tp_rule.specs.Tables.{table_limits}
 use Rattle.tp_rule.specs.Views.{seen_by, view_of}
-use Rattle.tp_manager.specs.Walks.{Looked}
-use Rattle.tp_manager.proofs.Endings.{consumed_taken}
-use Rattle.tp_manager.proofs.Walks.{acted_by, looked, looked_begins}
+use Rattle.tp_manager.specs.CallSteps.{Looked}
+use Rattle.tp_manager.proofs.Families.CancelWalks.{consumed_taken}
+use Rattle.tp_manager.proofs.Calls.CallSteps.{acted_by, looked, looked_begins}
 use Rattle.tp_manager.proofs.manager.Shared.outputs_of.Goals as goal
 use Rattle.tp_manager.proofs.manager.Shared.outputs_of.Goals.{After-load_unit}
 

@@ -4,11 +4,12 @@ use Rattle.tp_rule.specs.Rule.{IsInside}
 use Rattle.tp_rule.specs.Tables.{table_limits}
 use Rattle.tp_rule.specs.Views.{view_of}
 use Rattle.tp_rule.specs.declared.view.View.{View}
-use Rattle.tp_manager.specs.Walks.{Looked, MayRemember, Rose}
-use Rattle.tp_manager.proofs.Walks.{looked_few, looked_none, remembers_kind}
-use Rattle.tp_manager.proofs.Marks.{goes_walked, raised_looked, rose_low}
-use Rattle.tp_manager.proofs.Rests.{remembers_set}
-use Rattle.tp_manager.proofs.Useless.{rose_later}
+use Rattle.tp_manager.specs.CallSteps.{Looked}
+use Rattle.tp_manager.specs.Marks.{MayRemember, Rose}
+use Rattle.tp_manager.proofs.Calls.CallSteps.{looked_few, looked_none, remembers_kind}
+use Rattle.tp_manager.proofs.Marks.Raises.{goes_walked, raised_looked, rose_low}
+use Rattle.tp_manager.proofs.Marks.Rests.{remembers_set}
+use Rattle.tp_manager.proofs.Marks.Useless.{rose_later}
 use Rattle.tp_manager.proofs.manager.Shared.raise_low.Goals as goal
 use Rattle.tp_manager.proofs.manager.Shared.raise_low.Goals.{After-raise-raised}
 

@@ -3,10 +3,11 @@ use Rattle.tp_model.specs.declared.types.Limits.{Limits}
 use Rattle.tp_rule.specs.Rule.{IsInside}
 use Rattle.tp_rule.specs.Tables.{table_limits}
 use Rattle.tp_rule.specs.Views.{view_of}
-use Rattle.tp_manager.specs.Walks.{Looked, Rose}
-use Rattle.tp_manager.proofs.Rests.{remembers_set}
-use Rattle.tp_manager.proofs.Walks.{looked_few, looked_none, remembers_kind}
-use Rattle.tp_manager.proofs.Marks.{raised_looked, rose_low}
+use Rattle.tp_manager.specs.CallSteps.{Looked}
+use Rattle.tp_manager.specs.Marks.{Rose}
+use Rattle.tp_manager.proofs.Marks.Rests.{remembers_set}
+use Rattle.tp_manager.proofs.Calls.CallSteps.{looked_few, looked_none, remembers_kind}
+use Rattle.tp_manager.proofs.Marks.Raises.{raised_looked, rose_low}
 use Rattle.tp_manager.proofs.manager.Shared.raise_to.Goals as goal
 use Rattle.tp_manager.proofs.manager.Shared.raise_to.Goals.{After-raise}
 

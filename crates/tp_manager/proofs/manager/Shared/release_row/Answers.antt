@@ -10,10 +10,10 @@ use Rattle.tp_rule.specs.Tables.{table_limits}
 use Rattle.tp_rule.specs.Views.{seen_by, view_of}
 use Rattle.tp_rule.specs.declared.view.Hand.{Hand}
 use Rattle.tp_manager.specs.Bounds.{free_steps}
-use Rattle.tp_manager.specs.Walks.{Looked}
-use Rattle.tp_manager.proofs.Walks.{acted_by, looked, looked_begins, looked_few, looked_then}
-use Rattle.tp_manager.proofs.Looks.{consumed_now}
-use Rattle.tp_manager.proofs.Releases.{aborted_between, freeing_by, freeing_then, unheld_consumed, unheld_killed, unheld_waiting}
+use Rattle.tp_manager.specs.CallSteps.{Looked}
+use Rattle.tp_manager.proofs.Calls.CallSteps.{acted_by, looked, looked_begins, looked_few, looked_then}
+use Rattle.tp_manager.proofs.Rows.Looks.{consumed_now}
+use Rattle.tp_manager.proofs.Kills.Releases.{aborted_between, freeing_by, freeing_then, unheld_consumed, unheld_killed, unheld_waiting}
 use Rattle.tp_manager.proofs.manager.Shared.release_row.Goals as goal
 use Rattle.tp_manager.proofs.manager.Shared.release_row.Goals.{After-load_claim-claim, In-Taken, In-Err}
 

@@ -10,10 +10,10 @@ use Rattle.tp_rule.specs.Tables.{table_limits}
 use Rattle.tp_rule.specs.Steps.{AllowsRequeue}
 use Rattle.tp_rule.specs.Views.{seen_by, view_of}
 use Rattle.tp_manager.specs.Bounds.{renew_steps}
-use Rattle.tp_manager.specs.Walks.{Looked}
-use Rattle.tp_manager.proofs.Walks.{acted_by, looked, looked_begins, looked_few, looked_then}
-use Rattle.tp_manager.proofs.Looks.{consumed_now, held_yet}
-use Rattle.tp_manager.proofs.Requeues.{gone_on, no_round, not_consumed, not_held, not_killed, not_waiting, not_yet, renewed_by}
+use Rattle.tp_manager.specs.CallSteps.{Looked}
+use Rattle.tp_manager.proofs.Calls.CallSteps.{acted_by, looked, looked_begins, looked_few, looked_then}
+use Rattle.tp_manager.proofs.Rows.Looks.{consumed_now, held_yet}
+use Rattle.tp_manager.proofs.Kills.Requeues.{gone_on, no_round, not_consumed, not_held, not_killed, not_waiting, not_yet, renewed_by}
 use Rattle.tp_manager.proofs.manager.Shared.requeue_row.Goals as goal
 use Rattle.tp_manager.proofs.manager.Shared.requeue_row.Goals.{After-load_claim-claim, In-Taken, After-load_unit, In-Err}
 

@@ -4,12 +4,13 @@ use Rattle.tp_model.specs.Steps.{part_rows, rows_of}
 use Rattle.tp_rule.specs.Tables.{table_limits}
 use Rattle.tp_rule.specs.Views.{view_of}
 use Rattle.tp_manager.specs.Bounds.{scan_steps, spare_left, try_steps}
-use Rattle.tp_manager.proofs.Lows.{spare_rises}
-use Rattle.tp_manager.proofs.Scans.{scan_behind, scan_both}
-use Rattle.tp_manager.proofs.Walks.{looked_none}
+use Rattle.tp_manager.proofs.Marks.Lows.{spare_rises}
+use Rattle.tp_manager.proofs.Claims.Scans.{scan_behind, scan_both}
+use Rattle.tp_manager.proofs.Calls.CallSteps.{looked_none}
 use Rattle.tp_model.specs.declared.trace.TraceEntry.{TraceEntry}
-use Rattle.tp_manager.specs.Walks.{RestsAt, Walked}
-use Rattle.tp_manager.proofs.Rests.{begun_walked, rests_behind, spare_before}
+use Rattle.tp_manager.specs.CallSteps.{Stepped}
+use Rattle.tp_manager.specs.Marks.{RestsAt}
+use Rattle.tp_manager.proofs.Marks.Rests.{begun_walked, rests_behind, spare_before}
 use Rattle.tp_manager.proofs.manager.Shared.scan.Goals as goal
 use Rattle.tp_manager.proofs.manager.Shared.scan.Goals.{After-scan_blocks}
 
@@ -21,7 +22,7 @@ returns-clause-told c = let l : Limits = table_limits c.args.self.now.words in l
     (scan_both l c.args.stage c.args.unit k (spare_left l try_steps m) v (view_of c.scan_parts.new.seat) y c.scan_blocks.result c.in_default.ensures.told c.scan_blocks.ensures.told)
 
 -- the steps in the parts, and then in the spare blocks
-blocks : (c : After-scan_blocks) → (ms : List TraceEntry) × Walked (table_limits c.args.self.now.words) (spare_left (table_limits c.args.self.now.words) try_steps (slice_index c.scan_parts.new.lows (table_limits c.args.self.now.words).parts)) ms (view_of c.scan_parts.new.seat) (view_of c.scan_blocks.new.seat)
+blocks : (c : After-scan_blocks) → (ms : List TraceEntry) × Stepped (table_limits c.args.self.now.words) (spare_left (table_limits c.args.self.now.words) try_steps (slice_index c.scan_parts.new.lows (table_limits c.args.self.now.words).parts)) ms (view_of c.scan_parts.new.seat) (view_of c.scan_blocks.new.seat)
 blocks c = let l : Limits = table_limits c.args.self.now.words in
     begun_walked l c.args.stage c.args.unit (spare_left l try_steps (slice_index c.scan_parts.new.lows l.parts)) (part_rows l) (rows_of l) (view_of c.scan_parts.new.seat) (view_of c.scan_blocks.new.seat) c.scan_blocks.result c.in_default.ensures.told.walk.steady c.scan_blocks.ensures.told
 

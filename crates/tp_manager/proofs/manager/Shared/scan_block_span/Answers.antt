@@ -3,16 +3,17 @@ use Rattle.tp_model.specs.declared.types.Limits.{Limits}
 use Rattle.tp_rule.specs.Tables.{table_limits}
 use Rattle.tp_rule.specs.Views.{seen_by, view_of}
 use Rattle.tp_manager.specs.Bounds.{drawn_steps, try_steps}
-use Rattle.tp_manager.specs.Walks.{EachRow, Looked, PassedBy}
-use Rattle.tp_manager.proofs.Lows.{drawn_one}
-use Rattle.tp_manager.proofs.Passes.{drawn_walked}
-use Rattle.tp_manager.proofs.Scans.{none_passed, passed_widens, took_few, took_from, took_then}
-use Rattle.tp_manager.proofs.Seeks.{begun_few, begun_looked, begun_on, rows_more, sought_up}
-use Rattle.tp_manager.proofs.Walks.{sought_few}
+use Rattle.tp_manager.specs.CallSteps.{Looked}
+use Rattle.tp_manager.specs.Scans.{EachRow, PassedBy}
+use Rattle.tp_manager.proofs.Marks.Lows.{drawn_one}
+use Rattle.tp_manager.proofs.Calls.Passes.{drawn_walked}
+use Rattle.tp_manager.proofs.Claims.Scans.{none_passed, passed_widens, took_few, took_from, took_then}
+use Rattle.tp_manager.proofs.Rows.Seeks.{begun_few, begun_looked, begun_on, rows_more, sought_up}
+use Rattle.tp_manager.proofs.Calls.CallSteps.{sought_few}
 use Rattle.tp_manager.proofs.manager.Shared.scan_block_span.Goals as goal
 use Rattle.tp_manager.proofs.manager.Shared.scan_block_span.Goals.{After-loop-row}
 
--- the steps at the rows, behind the load of the counter
+-- the steps at the rows, after the load of the counter
 since : (c : After-loop-row) → Looked (table_limits c.args.self.now.words) (c.loop-row.invariant.begun.0 * try_steps) (view_of c.blocks_end.new.seat) (view_of c.loop-row.seat)
 since c = let l : Limits = table_limits c.args.self.now.words in
     begun_looked l (PassedBy l c.args.stage) (passed_widens l c.args.stage) _ _ c.loop-row.row _ _ c.loop-row.invariant.begun.3 c.in-Some.ensures.told.1.walk.steady

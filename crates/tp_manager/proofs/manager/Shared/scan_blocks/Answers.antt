@@ -5,12 +5,12 @@ use Rattle.tp_model.specs.Steps.{part_rows, rows_of}
 use Rattle.tp_rule.specs.Tables.{table_limits}
 use Rattle.tp_rule.specs.Views.{view_of}
 use Rattle.tp_manager.specs.Bounds.{spare_left, try_steps}
-use Rattle.tp_manager.proofs.Lows.{drawn_one}
+use Rattle.tp_manager.proofs.Marks.Lows.{drawn_one}
 use Rattle.tp_manager.specs.Spares.{SpareRests}
-use Rattle.tp_manager.proofs.Rests.{drawn_walked, spare_before}
-use Rattle.tp_manager.proofs.Spares.{scan_drawn}
+use Rattle.tp_manager.proofs.Marks.Rests.{drawn_walked, spare_before}
+use Rattle.tp_manager.proofs.Claims.Spares.{scan_drawn}
 use Rattle.tp_rule.specs.Views.{SeatShown}
-use Rattle.tp_manager.proofs.Walks.{remembers_kind}
+use Rattle.tp_manager.proofs.Calls.CallSteps.{remembers_kind}
 use Rattle.tp_manager.proofs.manager.Shared.scan_blocks.Goals as goal
 
 pub returns-clause-told : goal.returns-clause-told

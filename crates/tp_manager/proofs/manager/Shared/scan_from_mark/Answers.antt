@@ -6,17 +6,20 @@ use Rattle.tp_model.proofs.Bridges.{begins_refl}
 use Rattle.tp_rule.specs.Tables.{table_limits}
 use Rattle.tp_rule.specs.Views.{seen_by, view_of}
 use Rattle.tp_manager.specs.Bounds.{try_steps}
-use Rattle.tp_manager.specs.Walks.{EachRow, Looked, OfPart, PassedBy, Remembers, RemembersDone, RisesAt, Rose, Sought, Walked, WasOfUse}
-use Rattle.tp_manager.proofs.Rests.{rests_by}
-use Rattle.tp_manager.proofs.Walks.{looked_begins, remembers_kind, sought_few, walked_begins, walked_then}
+use Rattle.tp_manager.specs.CallSteps.{Looked, Stepped}
+use Rattle.tp_manager.specs.BetweenCalls.{RemembersDone}
+use Rattle.tp_manager.specs.Marks.{Remembers, RisesAt, Rose, WasOfUse}
+use Rattle.tp_manager.specs.Scans.{EachRow, OfPart, PassedBy, Sought}
+use Rattle.tp_manager.proofs.Marks.Rests.{rests_by}
+use Rattle.tp_manager.proofs.Calls.CallSteps.{looked_begins, remembers_kind, sought_few, walked_begins, walked_then}
 use Rattle.tp_rule.specs.declared.view.Known.TheVariants.{PartMark}
 use mathlib.Core.Logic.{dite}
 use native.Mathlib.Decide.{dec_le}
-use Rattle.tp_manager.proofs.Lows.{rises_at_then}
-use Rattle.tp_manager.proofs.Passes.{done_walked}
-use Rattle.tp_manager.proofs.Marks.{done_passed, goes_walked, over_passed, past_near, rose_both, rose_past, rose_then, took_looked, use_later}
-use Rattle.tp_manager.proofs.Scans.{passed_widens, took_few, took_from, took_then}
-use Rattle.tp_manager.proofs.Seeks.{part_on, begun_few, begun_looked, begun_on, rows_more, sought_from, sought_then}
+use Rattle.tp_manager.proofs.Marks.Lows.{rises_at_then}
+use Rattle.tp_manager.proofs.Calls.Passes.{done_walked}
+use Rattle.tp_manager.proofs.Marks.Raises.{done_passed, goes_walked, over_passed, past_near, rose_both, rose_past, rose_then, took_looked, use_later}
+use Rattle.tp_manager.proofs.Claims.Scans.{passed_widens, took_few, took_from, took_then}
+use Rattle.tp_manager.proofs.Rows.Seeks.{part_on, begun_few, begun_looked, begun_on, rows_more, sought_from, sought_then}
 use Rattle.tp_manager.proofs.manager.Shared.scan_from_mark.Goals as goal
 use Rattle.tp_manager.proofs.manager.Shared.scan_from_mark.Goals.{After-loop-row, After-low_at-mark, After-past_done-begin, After-try_row}
 
@@ -30,11 +33,11 @@ wide c = ap (λ (z : Limits). z.rows) c.args.self.now.same
 abbrev from : (c : After-past_done-begin) → ℕ
 from c = c.args.part * c.args.self.now.places.limits.rows + slice_index c.low_at-mark.new.lows c.args.part
 
--- what the pass remembers as done is so behind the load of the mark
+-- what the pass remembers as done is so after the load of the mark
 still_done : (c : After-low_at-mark) → RemembersDone (view_of c.low_at-mark.new.seat) c.args.done
 still_done c = done_walked _ 1 _ _ _ c.args.done c.requires.steady.pass.1 c.low_at-mark.ensures.acted.walk c.requires.done
 
--- the scan begins at the mark, or one row behind it
+-- the scan begins at the mark, or one row after it
 begins : (c : After-past_done-begin) → (from c ≤ c.past_done-begin.result) × (c.past_done-begin.result ≤ from c + 1) × (c.past_done-begin.result ≤ c.args.part * c.args.self.now.places.limits.rows + c.args.self.now.places.limits.rows)
 begins c = let inside = c.low_at-mark.ensures.low.0 in let w = ap (λ (z : Limits). z.rows) c.args.self.now.same in
     past_near (table_limits c.args.self.now.words) c.past_done-begin.result (from c) _ c.args.done (omega arith) c.past_done-begin.ensures
@@ -59,13 +62,13 @@ under c j from_on below = let l : Limits = table_limits c.args.self.now.words in
     (λ not. over_passed l c.args.stage (seen_by c.low_at-mark.new.seat) c.args.part (slice_index c.low_at-mark.new.lows c.args.part) j c.requires.stage.0 c.low_at-mark.ensures.low.1 from_on (omega arith))
 
 -- what is known finished after one more row
-rose : (c : After-try_row) (n : ℕ) (ms : List TraceEntry) → Walked (table_limits c.args.self.now.words) n ms (view_of c.loop-row.seat) (view_of c.try_row.new.seat)
+rose : (c : After-try_row) (n : ℕ) (ms : List TraceEntry) → Stepped (table_limits c.args.self.now.words) n ms (view_of c.loop-row.seat) (view_of c.try_row.new.seat)
     → Rose c.args.stage (view_of c.try_row.new.seat) (c.args.part * c.args.self.now.places.limits.rows + c.low_at-mark.result) c.try_row.new.low
 rose c n ms a = let l : Limits = table_limits c.args.self.now.words in let v = view_of c.loop-row.seat in
     rose_then l c.args.stage v (view_of c.try_row.new.seat) _ c.loop-row.low c.try_row.new.low (goes_walked l n ms v _ (since c).walk.steady.pass.1 a) c.loop-row.invariant.rose c.try_row.ensures.low.1
 
 -- the first row that isn't known of no use, after one more row
-stuck : (c : After-try_row) (n : ℕ) (ms : List TraceEntry) → Walked (table_limits c.args.self.now.words) n ms (view_of c.loop-row.seat) (view_of c.try_row.new.seat) → c.try_row.new.low < c.try_row.new.row
+stuck : (c : After-try_row) (n : ℕ) (ms : List TraceEntry) → Stepped (table_limits c.args.self.now.words) n ms (view_of c.loop-row.seat) (view_of c.try_row.new.seat) → c.try_row.new.low < c.try_row.new.row
     → WasOfUse (table_limits c.args.self.now.words) c.args.stage c.try_row.new.low (seen_by c.low_at-mark.new.seat) (seen_by c.try_row.new.seat)
 stuck c n ms a less = let l : Limits = table_limits c.args.self.now.words in let h = seen_by c.low_at-mark.new.seat in let i = c.loop-row.invariant in
     ⊎_elim (λ t. subst (λ z. WasOfUse l c.args.stage z h (seen_by c.try_row.new.seat)) (sym t.1) (use_later l c.args.stage c.loop-row.low h h _ _ (begins_refl h) (walked_begins l n ms _ _ a) (i.stuck t.0)))

@@ -2,7 +2,8 @@ use Rattle.std.proofs.Common.{◌<◌, ◌≡◌, ◌-◌, ◌+◌, ◌*◌, ◌
 use Rattle.tp_rule.specs.Tables.{table_limits}
 use Rattle.tp_rule.specs.Views.{IsSameSeat, seen_by, view_of}
 use Rattle.tp_manager.specs.Bounds.{try_steps}
-use Rattle.tp_manager.specs.Walks.{Begun, PassedBy, Rose, WasOfUse}
+use Rattle.tp_manager.specs.Marks.{Rose, WasOfUse}
+use Rattle.tp_manager.specs.Scans.{Begun, PassedBy}
 use Rattle.tp_manager.proofs.manager.Shared.scan_from_mark.Given as goal
 
 abbrev pub invariant-loop-row : goal.invariant-loop-row

@@ -3,15 +3,15 @@ use Rattle.tp_model.specs.declared.types.Limits.{Limits}
 use Rattle.tp_rule.specs.Tables.{table_limits}
 use Rattle.tp_rule.specs.Views.{view_of}
 use Rattle.tp_manager.specs.Bounds.{scan_steps, try_steps}
-use Rattle.tp_manager.specs.Walks.{EachRow, OfPart, PassedBy, Sought, Took}
-use Rattle.tp_manager.proofs.Lows.{rises_then, scan_next, scan_rises}
-use Rattle.tp_manager.proofs.Walks.{rises_none, sought_few}
-use Rattle.tp_manager.proofs.Scans.{finished_passed, passed_widens, took_then, took_few, begun_rows, finished_took}
-use Rattle.tp_manager.proofs.Rests.{part_before, parts_on}
+use Rattle.tp_manager.specs.Scans.{EachRow, OfPart, PassedBy, Sought, Took}
+use Rattle.tp_manager.proofs.Marks.Lows.{rises_then, scan_next, scan_rises}
+use Rattle.tp_manager.proofs.Calls.CallSteps.{rises_none, sought_few}
+use Rattle.tp_manager.proofs.Claims.Scans.{finished_passed, passed_widens, took_then, took_few, begun_rows, finished_took}
+use Rattle.tp_manager.proofs.Marks.Rests.{part_before, parts_on}
 use mathlib.Core.Logic.{dite}
 use native.Mathlib.Decide.{dec_le}
-use Rattle.tp_manager.proofs.Seeks.{rows_more, begun_done, begun_few, begun_looked, begun_on, one_row, part_widens, sought_all}
-use Rattle.tp_manager.proofs.Passes.{done_walked}
+use Rattle.tp_manager.proofs.Rows.Seeks.{rows_more, begun_done, begun_few, begun_looked, begun_on, one_row, part_widens, sought_all}
+use Rattle.tp_manager.proofs.Calls.Passes.{done_walked}
 use Rattle.tp_manager.proofs.manager.Shared.scan_parts.Goals as goal
 
 pub scan_part-requires-clause-part : goal.scan_part-requires-clause-part

@@ -3,7 +3,8 @@ use Rattle.tp_rule.specs.Tables.{table_limits}
 use Rattle.tp_rule.specs.Views.{IsSameSeat, view_of}
 use Rattle.tp_manager.specs.Bounds.{scan_steps, try_steps}
 use Rattle.tp_manager.specs.Shown.{NoneFalls}
-use Rattle.tp_manager.specs.Walks.{Begun, OfPart, PassedBy, Remembers, RestsAt}
+use Rattle.tp_manager.specs.Marks.{Remembers, RestsAt}
+use Rattle.tp_manager.specs.Scans.{Begun, OfPart, PassedBy}
 use Rattle.tp_manager.proofs.manager.Shared.scan_parts.Given as goal
 
 abbrev pub invariant-loop-part : goal.invariant-loop-part

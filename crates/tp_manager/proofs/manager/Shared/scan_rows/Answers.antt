@@ -2,22 +2,22 @@ use Rattle.std.proofs.Common.{◌≡◌, ℕ, ◌+◌, ◌-◌, ◌*◌, ◌∙�
 use Rattle.tp_model.specs.declared.types.Limits.{Limits}
 use Rattle.tp_rule.specs.Tables.{table_limits}
 use Rattle.tp_rule.specs.Views.{view_of}
-use Rattle.tp_manager.specs.Bounds.{drawn_steps, scan_steps, try_steps, turn_steps}
-use Rattle.tp_manager.proofs.Circles.{rows_both, split_rows}
-use Rattle.tp_manager.specs.Walks.{PassedBy}
-use Rattle.tp_manager.proofs.Rests.{begun_walked}
-use Rattle.tp_manager.proofs.Scans.{passed_widens}
-use Rattle.tp_manager.proofs.Seeks.{begun_looked}
-use Rattle.tp_manager.proofs.Walks.{remembers_kind}
+use Rattle.tp_manager.specs.Bounds.{drawn_steps, scan_steps, try_steps, circle_steps}
+use Rattle.tp_manager.proofs.Claims.Circles.{rows_both, split_rows}
+use Rattle.tp_manager.specs.Scans.{PassedBy}
+use Rattle.tp_manager.proofs.Marks.Rests.{begun_walked}
+use Rattle.tp_manager.proofs.Claims.Scans.{passed_widens}
+use Rattle.tp_manager.proofs.Rows.Seeks.{begun_looked}
+use Rattle.tp_manager.proofs.Calls.CallSteps.{remembers_kind}
 use Rattle.tp_model.specs.Steps.{part_rows}
-use Rattle.tp_manager.proofs.Makes.{made, made_few, made_then}
+use Rattle.tp_manager.proofs.Calls.Makes.{made, made_few, made_then}
 use Rattle.tp_manager.proofs.manager.Shared.scan_rows.Goals as goal
 use Rattle.tp_manager.proofs.manager.Shared.scan_rows.Goals.{After-part_rows-parts}
 
 pub returns-clause-told : goal.returns-clause-told
 returns-clause-told c = let l : Limits = table_limits c.args.self.now.words in let s = try_steps in let a = c.if-from-parts.false in let b = c.if-to-parts.false in let mid = c.part_rows-parts.result in
     let e = split_rows c.args.from mid c.args.to s (omega arith) (omega arith) in
-    rows_both l c.args.stage c.args.unit (turn_steps l (c.args.to - c.args.from)) (3 * l.parts + (mid - c.args.from) * s) (drawn_steps l.spare + (c.args.to - mid) * s) c.args.from mid c.args.to (view_of c.args.seat.now) (view_of c.scan_spans-2.new.seat) (view_of c.scan_block_span-2.new.seat) c.scan_block_span-2.result
+    rows_both l c.args.stage c.args.unit (circle_steps l (c.args.to - c.args.from)) (3 * l.parts + (mid - c.args.from) * s) (drawn_steps l.spare + (c.args.to - mid) * s) c.args.from mid c.args.to (view_of c.args.seat.now) (view_of c.scan_spans-2.new.seat) (view_of c.scan_block_span-2.new.seat) c.scan_block_span-2.result
     (omega arith) (omega arith) (omega arith) c.in_default.ensures.told c.scan_block_span-2.ensures.told
 
 pub returns-then-from-parts-clause-remembers : goal.returns-then-from-parts-clause-remembers

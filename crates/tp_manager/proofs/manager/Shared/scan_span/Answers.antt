@@ -3,14 +3,14 @@ use Rattle.tp_model.specs.declared.types.Limits.{Limits}
 use Rattle.tp_rule.specs.Tables.{table_limits}
 use Rattle.tp_rule.specs.Views.{view_of}
 use Rattle.tp_manager.specs.Bounds.{try_steps}
-use Rattle.tp_manager.specs.Walks.{PassedBy}
-use Rattle.tp_manager.proofs.Lows.{lows_inside}
-use Rattle.tp_manager.proofs.Makes.{made, made_few, made_then}
-use Rattle.tp_manager.proofs.Marks.{remembered_passed}
-use Rattle.tp_manager.proofs.Passes.{done_walked}
-use Rattle.tp_manager.proofs.Scans.{none_passed, passed_widens, scan_behind}
-use Rattle.tp_manager.proofs.Seeks.{sought_bare}
-use Rattle.tp_manager.proofs.Walks.{remembers_kind, sought_few}
+use Rattle.tp_manager.specs.Scans.{PassedBy}
+use Rattle.tp_manager.proofs.Marks.Lows.{lows_inside}
+use Rattle.tp_manager.proofs.Calls.Makes.{made, made_few, made_then}
+use Rattle.tp_manager.proofs.Marks.Raises.{remembered_passed}
+use Rattle.tp_manager.proofs.Calls.Passes.{done_walked}
+use Rattle.tp_manager.proofs.Claims.Scans.{none_passed, passed_widens, scan_behind}
+use Rattle.tp_manager.proofs.Rows.Seeks.{sought_bare}
+use Rattle.tp_manager.proofs.Calls.CallSteps.{remembers_kind, sought_few}
 use Rattle.tp_manager.proofs.manager.Shared.scan_span.Goals as goal
 
 pub is_bare-requires-clause-row : goal.is_bare-requires-clause-row

@@ -7,16 +7,19 @@ use Rattle.tp_rule.specs.Tables.{table_limits}
 use Rattle.tp_rule.specs.Views.{seen_by, view_of}
 use Rattle.tp_rule.specs.declared.view.Known.TheVariants.{PartMark}
 use Rattle.tp_manager.specs.Bounds.{try_steps}
-use Rattle.tp_manager.specs.Walks.{EachRow, Looked, PassedBy, Remembers, RemembersDone, Rose, Walked}
-use Rattle.tp_manager.proofs.Walks.{remembers_kind, sought_few}
+use Rattle.tp_manager.specs.CallSteps.{Looked, Stepped}
+use Rattle.tp_manager.specs.BetweenCalls.{RemembersDone}
+use Rattle.tp_manager.specs.Marks.{Remembers, Rose}
+use Rattle.tp_manager.specs.Scans.{EachRow, PassedBy}
+use Rattle.tp_manager.proofs.Calls.CallSteps.{remembers_kind, sought_few}
 use mathlib.Core.Logic.{dite}
 use native.Mathlib.Decide.{dec_le}
-use Rattle.tp_manager.proofs.Circles.{sought_less}
-use Rattle.tp_manager.proofs.Makes.{made, made_few, made_then}
-use Rattle.tp_manager.proofs.Passes.{done_walked}
-use Rattle.tp_manager.proofs.Marks.{done_passed, goes_walked, over_passed, past_near, rose_both, rose_past, rose_then, took_looked}
-use Rattle.tp_manager.proofs.Scans.{passed_widens, took_few, took_from, took_then}
-use Rattle.tp_manager.proofs.Seeks.{part_on, begun_few, begun_looked, begun_on, rows_more, sought_from, sought_then}
+use Rattle.tp_manager.proofs.Claims.Circles.{sought_less}
+use Rattle.tp_manager.proofs.Calls.Makes.{made, made_few, made_then}
+use Rattle.tp_manager.proofs.Calls.Passes.{done_walked}
+use Rattle.tp_manager.proofs.Marks.Raises.{done_passed, goes_walked, over_passed, past_near, rose_both, rose_past, rose_then, took_looked}
+use Rattle.tp_manager.proofs.Claims.Scans.{passed_widens, took_few, took_from, took_then}
+use Rattle.tp_manager.proofs.Rows.Seeks.{part_on, begun_few, begun_looked, begun_on, rows_more, sought_from, sought_then}
 use Rattle.tp_manager.proofs.manager.Shared.scan_span_from_mark.Goals as goal
 use Rattle.tp_manager.proofs.manager.Shared.scan_span_from_mark.Goals.{After-later-begin, After-loop-row, After-low_at-mark, After-try_row}
 
@@ -30,11 +33,11 @@ wide c = ap (λ (z : Limits). z.rows) c.args.self.now.same
 abbrev marked : (c : After-later-begin) → ℕ
 marked c = c.args.part * c.args.self.now.places.limits.rows + slice_index c.low_at-mark.new.lows c.args.part
 
--- what the pass remembers as done is so behind the load of the mark
+-- what the pass remembers as done is so after the load of the mark
 still_done : (c : After-later-begin) → RemembersDone (view_of c.low_at-mark.new.seat) c.args.done
 still_done c = done_walked _ 1 _ _ _ c.args.done c.requires.steady.pass.1 c.low_at-mark.ensures.acted.walk c.requires.done
 
--- what is known finished ends at the mark, or one row behind it
+-- what is known finished ends at the mark, or one row after it
 knows : (c : After-later-begin) → (marked c ≤ c.past_done-known.result) × (c.past_done-known.result ≤ marked c + 1) × (c.past_done-known.result ≤ c.args.part * c.args.self.now.places.limits.rows + c.args.self.now.places.limits.rows)
 knows c = let inside = c.low_at-mark.ensures.low.0 in let w = ap (λ (z : Limits). z.rows) c.args.self.now.same in
     past_near (table_limits c.args.self.now.words) c.past_done-known.result (marked c) _ c.args.done (omega arith) c.past_done-known.ensures
@@ -71,7 +74,7 @@ since c = let l : Limits = table_limits c.args.self.now.words in
     begun_looked l (PassedBy l c.args.stage) (passed_widens l c.args.stage) _ _ c.loop-row.row _ _ c.loop-row.invariant.begun.3 c.low_at-mark.ensures.acted.walk.steady
 
 -- what is known finished after one more row
-rose : (c : After-try_row) (n : ℕ) (ms : List TraceEntry) → Walked (table_limits c.args.self.now.words) n ms (view_of c.loop-row.seat) (view_of c.try_row.new.seat)
+rose : (c : After-try_row) (n : ℕ) (ms : List TraceEntry) → Stepped (table_limits c.args.self.now.words) n ms (view_of c.loop-row.seat) (view_of c.try_row.new.seat)
     → Rose c.args.stage (view_of c.try_row.new.seat) (c.args.part * c.args.self.now.places.limits.rows + c.low_at-mark.result) c.try_row.new.low
 rose c n ms a = let l : Limits = table_limits c.args.self.now.words in let v = view_of c.loop-row.seat in
     rose_then l c.args.stage v (view_of c.try_row.new.seat) _ c.loop-row.low c.try_row.new.low (goes_walked l n ms v _ (since c).walk.steady.pass.1 a) c.loop-row.invariant.rose c.try_row.ensures.low.1
@@ -80,7 +83,7 @@ rose c n ms a = let l : Limits = table_limits c.args.self.now.words in let v = v
 found : (c : After-low_at-mark) → c.low_at-mark.result ≤ slice_index c.low_at-mark.new.lows c.args.part
 found c = let up = c.low_at-mark.ensures.rose.0 in omega arith
 
--- which is no row behind what is known of no use
+-- which is no row after what is known of no use
 under_low : (c : After-later-begin) (lows : List ℕ) (low : ℕ) → lows ≡ c.low_at-mark.new.lows → c.past_done-known.result ≤ low → c.args.part * (table_limits c.args.self.now.words).rows + slice_index lows c.args.part ≤ low
 under_low c lows low same up = let behind = (knows c).0 in let e = ap (λ (z : Limits). c.args.part * z.rows) c.args.self.now.same in
     subst (λ z. c.args.part * (table_limits c.args.self.now.words).rows + slice_index z c.args.part ≤ low) (sym same) (omega arith)

@@ -2,7 +2,8 @@ use Rattle.std.proofs.Common.{◌≡◌, ℕ, ◌-◌, ◌+◌, ◌*◌, ◌≤�
 use Rattle.tp_rule.specs.Tables.{table_limits}
 use Rattle.tp_rule.specs.Views.{IsSameSeat, view_of}
 use Rattle.tp_manager.specs.Bounds.{try_steps}
-use Rattle.tp_manager.specs.Walks.{Begun, PassedBy, Rose}
+use Rattle.tp_manager.specs.Marks.{Rose}
+use Rattle.tp_manager.specs.Scans.{Begun, PassedBy}
 use Rattle.tp_manager.proofs.manager.Shared.scan_span_from_mark.Given as goal
 
 abbrev pub invariant-loop-row : goal.invariant-loop-row

@@ -4,13 +4,15 @@ use Rattle.tp_rule.specs.Tables.{table_limits}
 use Rattle.tp_rule.specs.Views.{SeatShown, view_of}
 use Rattle.tp_manager.specs.Bounds.{scan_steps, try_steps}
 use Rattle.tp_manager.specs.Shown.{NoneFalls}
-use Rattle.tp_manager.specs.Walks.{Begun, StepsTo, PassedBy, Remembers}
-use Rattle.tp_manager.proofs.Circles.{split_rows}
-use Rattle.tp_manager.proofs.Lows.{rises_then, scan_next, scan_rises}
-use Rattle.tp_manager.proofs.Makes.{made_few, made_then}
-use Rattle.tp_manager.proofs.Passes.{done_walked}
-use Rattle.tp_manager.proofs.Scans.{passed_widens, took_few, took_then}
-use Rattle.tp_manager.proofs.Seeks.{begun_few, begun_looked, begun_on}
+use Rattle.tp_manager.specs.CallSteps.{StepsTo}
+use Rattle.tp_manager.specs.Marks.{Remembers}
+use Rattle.tp_manager.specs.Scans.{Begun, PassedBy}
+use Rattle.tp_manager.proofs.Claims.Circles.{split_rows}
+use Rattle.tp_manager.proofs.Marks.Lows.{rises_then, scan_next, scan_rises}
+use Rattle.tp_manager.proofs.Calls.Makes.{made_few, made_then}
+use Rattle.tp_manager.proofs.Calls.Passes.{done_walked}
+use Rattle.tp_manager.proofs.Claims.Scans.{passed_widens, took_few, took_then}
+use Rattle.tp_manager.proofs.Rows.Seeks.{begun_few, begun_looked, begun_on}
 use Rattle.tp_manager.proofs.manager.Shared.scan_spans.Goals as goal
 use Rattle.tp_manager.proofs.manager.Shared.scan_spans.Goals.{else-row-end, then-row-end+in_default}
 

@@ -3,13 +3,15 @@ use Rattle.tp_rule.specs.Tables.{table_limits}
 use Rattle.tp_rule.specs.Views.{IsSameSeat, view_of}
 use Rattle.tp_manager.specs.Bounds.{scan_steps, try_steps}
 use Rattle.tp_manager.specs.Shown.{NoneFalls}
-use Rattle.tp_manager.specs.Walks.{Begun, StepsTo, PassedBy, Remembers}
+use Rattle.tp_manager.specs.CallSteps.{StepsTo}
+use Rattle.tp_manager.specs.Marks.{Remembers}
+use Rattle.tp_manager.specs.Scans.{Begun, PassedBy}
 use Rattle.tp_manager.proofs.manager.Shared.scan_spans.Given as goal
 
 abbrev pub invariant-loop-part : goal.invariant-loop-part
 invariant-loop-part l = record {
   from : l.from ≤ l.row;
-  -- the row is behind all parts so far, or is the end
+  -- the row is after all parts so far, or is the end
   reach : l.part * l.rows ≤ l.row + (l.part * l.rows - l.to);
   inside : l.row ≤ l.to;
   same : IsSameSeat l.initial.seat l.seat;

@@ -9,14 +9,16 @@ use Rattle.tp_model.proofs.Bridges.{begins_refl}
 use Rattle.tp_rule.specs.Tables.{table_limits}
 use Rattle.tp_rule.specs.Views.{seen_by, view_of}
 use Rattle.tp_manager.specs.Bounds.{try_steps}
-use Rattle.tp_manager.specs.Walks.{EachRow, Looked, PassedBy, Remembers, Rose, Walked, WasOfUse}
+use Rattle.tp_manager.specs.CallSteps.{Looked, Stepped}
+use Rattle.tp_manager.specs.Marks.{Remembers, Rose, WasOfUse}
+use Rattle.tp_manager.specs.Scans.{EachRow, PassedBy}
 use Rattle.tp_manager.specs.Spares.{SpareRests}
-use Rattle.tp_manager.proofs.Marks.{goes_walked, over_passed, rose_then, took_looked, use_later}
-use Rattle.tp_manager.proofs.Scans.{none_passed, passed_widens, took_few, took_from, took_then}
-use Rattle.tp_manager.proofs.Seeks.{begun_few, begun_looked, begun_on, rows_more, sought_from, sought_then}
-use Rattle.tp_manager.proofs.Rests.{spare_rests}
-use Rattle.tp_manager.proofs.Spares.{sought_passed}
-use Rattle.tp_manager.proofs.Walks.{looked_begins, remembers_kind, sought_few, walked_begins, walked_then}
+use Rattle.tp_manager.proofs.Marks.Raises.{goes_walked, over_passed, rose_then, took_looked, use_later}
+use Rattle.tp_manager.proofs.Claims.Scans.{none_passed, passed_widens, took_few, took_from, took_then}
+use Rattle.tp_manager.proofs.Rows.Seeks.{begun_few, begun_looked, begun_on, rows_more, sought_from, sought_then}
+use Rattle.tp_manager.proofs.Marks.Rests.{spare_rests}
+use Rattle.tp_manager.proofs.Claims.Spares.{sought_passed}
+use Rattle.tp_manager.proofs.Calls.CallSteps.{looked_begins, remembers_kind, sought_few, walked_begins, walked_then}
 use Rattle.tp_rule.specs.declared.view.Known.TheVariants.{PartMark}
 use Rattle.tp_manager.proofs.manager.Shared.scan_spare.Goals as goal
 use Rattle.tp_manager.proofs.manager.Shared.scan_spare.Goals.{After-loop-row, After-low_at-mark, After-part_rows, After-try_row}
@@ -57,13 +59,13 @@ since c = let l : Limits = table_limits c.args.self.now.words in
     begun_looked l (PassedBy l c.args.stage) (passed_widens l c.args.stage) _ _ c.loop-row.row _ _ c.loop-row.invariant.begun c.low_at-mark.ensures.acted.walk.steady
 
 -- what is known of no use after one more row
-rose : (c : After-try_row) (n : ℕ) (ms : List TraceEntry) → Walked (table_limits c.args.self.now.words) n ms (view_of c.loop-row.seat) (view_of c.try_row.new.seat)
+rose : (c : After-try_row) (n : ℕ) (ms : List TraceEntry) → Stepped (table_limits c.args.self.now.words) n ms (view_of c.loop-row.seat) (view_of c.try_row.new.seat)
     → Rose c.args.stage (view_of c.try_row.new.seat) (part_rows (table_limits c.args.self.now.words) + c.low_at-mark.result) c.try_row.new.low
 rose c n ms a = let l : Limits = table_limits c.args.self.now.words in let v = view_of c.loop-row.seat in
     rose_then l c.args.stage v (view_of c.try_row.new.seat) _ c.loop-row.low c.try_row.new.low (goes_walked l n ms v _ (since c).walk.steady.pass.1 a) c.loop-row.invariant.rose c.try_row.ensures.low.1
 
 -- the first row that isn't known of no use, after one more row
-stuck : (c : After-try_row) (n : ℕ) (ms : List TraceEntry) → Walked (table_limits c.args.self.now.words) n ms (view_of c.loop-row.seat) (view_of c.try_row.new.seat) → c.try_row.new.low < c.try_row.new.row
+stuck : (c : After-try_row) (n : ℕ) (ms : List TraceEntry) → Stepped (table_limits c.args.self.now.words) n ms (view_of c.loop-row.seat) (view_of c.try_row.new.seat) → c.try_row.new.low < c.try_row.new.row
     → WasOfUse (table_limits c.args.self.now.words) c.args.stage c.try_row.new.low (seen_by c.low_at-mark.new.seat) (seen_by c.try_row.new.seat)
 stuck c n ms a less = let l : Limits = table_limits c.args.self.now.words in let h = seen_by c.low_at-mark.new.seat in let i = c.loop-row.invariant in
     ⊎_elim (λ t. subst (λ z. WasOfUse l c.args.stage z h (seen_by c.try_row.new.seat)) (sym t.1) (use_later l c.args.stage c.loop-row.low h h _ _ (begins_refl h) (walked_begins l n ms _ _ a) (i.stuck t.0)))

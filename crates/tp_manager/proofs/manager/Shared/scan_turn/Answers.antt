@@ -3,16 +3,17 @@ use Rattle.tp_model.specs.declared.types.Limits.{Limits}
 use Rattle.tp_model.specs.Steps.{part_rows, rows_of}
 use Rattle.tp_rule.specs.Tables.{table_limits}
 use Rattle.tp_rule.specs.Views.{view_of}
-use Rattle.tp_manager.specs.Walks.{StepsTo, PassedBy}
-use Rattle.tp_manager.proofs.Circles.{turn_both, turn_first}
-use Rattle.tp_manager.proofs.Passes.{done_walked}
-use Rattle.tp_manager.proofs.Scans.{passed_widens, rows_some}
-use Rattle.tp_manager.proofs.Seeks.{begun_looked}
+use Rattle.tp_manager.specs.CallSteps.{StepsTo}
+use Rattle.tp_manager.specs.Scans.{PassedBy}
+use Rattle.tp_manager.proofs.Claims.Circles.{turn_both, turn_first}
+use Rattle.tp_manager.proofs.Calls.Passes.{done_walked}
+use Rattle.tp_manager.proofs.Claims.Scans.{passed_widens, rows_some}
+use Rattle.tp_manager.proofs.Rows.Seeks.{begun_looked}
 use Rattle.std.proofs.Math.Nat.{add-mul}
 use Rattle.tp_model.specs.declared.types.TheConstants.{BLOCK_ROWS}
 use Rattle.tp_rule.specs.declared.view.View.{View}
 use Rattle.tp_manager.specs.Bounds.{drawn_steps, scan_steps, try_steps}
-use Rattle.tp_manager.proofs.Makes.{made_few, made_then, scan_less}
+use Rattle.tp_manager.proofs.Calls.Makes.{made_few, made_then, scan_less}
 use Rattle.tp_manager.proofs.manager.Shared.scan_turn.Goals as goal
 use Rattle.tp_manager.proofs.manager.Shared.scan_turn.Goals.{After-earlier-from}
 

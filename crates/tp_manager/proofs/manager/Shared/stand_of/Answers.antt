@@ -8,10 +8,10 @@ use Rattle.tp_words.specs.Words.{claim_value, unit_value}
 use Rattle.tp_rule.specs.Tables.{table_limits}
 use Rattle.tp_rule.specs.Views.{seen_by, view_of}
 use Rattle.tp_manager.specs.Looks.{HasStand}
-use Rattle.tp_manager.specs.Walks.{Looked}
+use Rattle.tp_manager.specs.CallSteps.{Looked}
 use Rattle.tp_manager.specs.declared.scanning.Stand.TheVariants as stands
-use Rattle.tp_manager.proofs.Scans.{stands_held, stands_killed, stands_last, stands_over, stands_ready, unsettled_held, unsettled_taken, unsettled_waits}
-use Rattle.tp_manager.proofs.Walks.{acted_by, looked, looked_begins, looked_few, looked_none}
+use Rattle.tp_manager.proofs.Claims.Scans.{stands_held, stands_killed, stands_last, stands_over, stands_ready, unsettled_held, unsettled_taken, unsettled_waits}
+use Rattle.tp_manager.proofs.Calls.CallSteps.{acted_by, looked, looked_begins, looked_few, looked_none}
 use Rattle.tp_manager.proofs.manager.Shared.stand_of.Goals as goal
 use Rattle.tp_manager.proofs.manager.Shared.stand_of.Goals.{In-Taken, After-load_unit}
 

@@ -7,9 +7,9 @@ use Rattle.tp_rule.specs.Tables.{table_limits}
 use Rattle.tp_rule.specs.Views.{seen_by, view_of}
 use Rattle.tp_manager.specs.Bounds.{retry_steps}
 use Rattle.tp_manager.specs.Looks.{IsEnough}
-use Rattle.tp_manager.specs.Walks.{Acted, Looked}
-use Rattle.tp_manager.proofs.Walks.{acted_by, acted_then}
-use Rattle.tp_manager.proofs.Tries.{enough_first}
+use Rattle.tp_manager.specs.CallSteps.{Acted, Looked}
+use Rattle.tp_manager.proofs.Calls.CallSteps.{acted_by, acted_then}
+use Rattle.tp_manager.proofs.Kills.Tries.{enough_first}
 use Rattle.tp_manager.proofs.manager.Shared.status_at.Goals as goal
 use Rattle.tp_manager.proofs.manager.Shared.status_at.Goals.{After-load_claim-claim}
 

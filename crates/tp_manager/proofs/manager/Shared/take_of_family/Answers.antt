@@ -8,9 +8,9 @@ use Rattle.tp_model.proofs.Later.{births_inside}
 use Rattle.tp_rule.specs.Tables.{table_limits}
 use Rattle.tp_rule.specs.Views.{seen_by, view_of}
 use Rattle.tp_manager.specs.Lists.{IsReply}
-use Rattle.tp_manager.proofs.Cancels.{few_rows}
-use Rattle.tp_manager.proofs.Taken.{found_there, slain_on, taken_none, taken_some, taking_most, taking_on}
-use Rattle.tp_manager.proofs.Walks.{looked_begins}
+use Rattle.tp_manager.proofs.Families.Cancels.{few_rows}
+use Rattle.tp_manager.proofs.Families.Taken.{found_there, slain_on, taken_none, taken_some, taking_most, taking_on}
+use Rattle.tp_manager.proofs.Calls.CallSteps.{looked_begins}
 use Rattle.tp_manager.proofs.manager.Shared.take_of_family.Goals as goal
 use Rattle.tp_manager.proofs.manager.Shared.take_of_family.Goals.{In-Some}
 

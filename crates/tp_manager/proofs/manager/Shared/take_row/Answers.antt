@@ -4,10 +4,10 @@ use Rattle.tp_model.proofs.Bridges.{begins_trans, found_later}
 use Rattle.tp_rule.specs.Tables.{table_limits}
 use Rattle.tp_rule.specs.Views.{seen_by, view_of}
 use Rattle.tp_manager.specs.Bounds.{birth_steps, take_steps}
-use Rattle.tp_manager.specs.Walks.{Looked}
-use Rattle.tp_manager.proofs.Kills.{freed_looked, freed_slain}
-use Rattle.tp_manager.proofs.Taken.{past_killed, staged}
-use Rattle.tp_manager.proofs.Walks.{looked, looked_begins, looked_then}
+use Rattle.tp_manager.specs.CallSteps.{Looked}
+use Rattle.tp_manager.proofs.Kills.OneKill.{freed_looked, freed_slain}
+use Rattle.tp_manager.proofs.Families.Taken.{past_killed, staged}
+use Rattle.tp_manager.proofs.Calls.CallSteps.{looked, looked_begins, looked_then}
 use Rattle.tp_manager.proofs.manager.Shared.take_row.Goals as goal
 use Rattle.tp_manager.proofs.manager.Shared.take_row.Goals.{After-birth_from}
 

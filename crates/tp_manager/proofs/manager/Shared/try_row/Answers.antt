@@ -18,13 +18,15 @@ use mathlib.Core.List.{IsPrefix}
 use Rattle.std.proofs.lemmas.Bool.Decides.{eqb_tells}
 use Rattle.tp_rule.proofs.Reading.{grew_begins}
 use Rattle.tp_manager.specs.Looks.{IsBornAs}
-use Rattle.tp_manager.specs.Walks.{EachRow, Looked, PassedBy, Rose, Sought, WasOfUse, WasUnsettled}
-use Rattle.tp_manager.proofs.Cancels.{few_rows}
-use Rattle.tp_manager.proofs.Marks.{near_low, near_past, not_waiting, stays_by, use_empty, use_found, use_later, use_unborn, rose_aside, rose_dead, rose_none, rose_one, unconcerned}
-use Rattle.tp_manager.proofs.Walks.{acted_by, looked, looked_begins, looked_none, looked_then}
-use Rattle.tp_manager.proofs.Looks.{there_later}
-use Rattle.tp_manager.proofs.Scans.{allows_later, none_passed, pass_missed, pass_other, pass_status, pass_unborn, passed_widens, took_by, took_few}
-use Rattle.tp_manager.proofs.Seeks.{sought_on}
+use Rattle.tp_manager.specs.CallSteps.{Looked}
+use Rattle.tp_manager.specs.Marks.{Rose, WasOfUse, WasUnsettled}
+use Rattle.tp_manager.specs.Scans.{EachRow, PassedBy, Sought}
+use Rattle.tp_manager.proofs.Families.Cancels.{few_rows}
+use Rattle.tp_manager.proofs.Marks.Raises.{near_low, near_past, not_waiting, stays_by, use_empty, use_found, use_later, use_unborn, rose_aside, rose_dead, rose_none, rose_one, unconcerned}
+use Rattle.tp_manager.proofs.Calls.CallSteps.{acted_by, looked, looked_begins, looked_none, looked_then}
+use Rattle.tp_manager.proofs.Rows.Looks.{there_later}
+use Rattle.tp_manager.proofs.Claims.Scans.{allows_later, none_passed, pass_missed, pass_other, pass_status, pass_unborn, passed_widens, took_by, took_few}
+use Rattle.tp_manager.proofs.Rows.Seeks.{sought_on}
 use Rattle.tp_manager.proofs.manager.Shared.try_row.Goals as goal
 use Rattle.tp_manager.proofs.manager.Shared.try_row.Goals.{After-head_on-head, After-load_claim-claim, After-stand_of}
 

@@ -2,8 +2,8 @@ use Rattle.std.proofs.Common.{◌+◌, ◌∙◌, refl, arith}
 use Rattle.tp_model.specs.declared.types.Limits.{Limits}
 use Rattle.tp_rule.specs.Tables.{table_limits}
 use Rattle.tp_rule.specs.Views.{view_of}
-use Rattle.tp_manager.proofs.Blocks.{tried_then}
-use Rattle.tp_manager.proofs.Spares.{left_tried, voids_headed, voids_tried}
+use Rattle.tp_manager.proofs.Rows.Blocks.{tried_then}
+use Rattle.tp_manager.proofs.Claims.Spares.{left_tried, voids_headed, voids_tried}
 use Rattle.tp_manager.proofs.manager.Shared.void_rows.Goals as goal
 
 pub void-requires-clause-left : goal.void-requires-clause-left

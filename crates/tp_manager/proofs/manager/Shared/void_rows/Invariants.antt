@@ -1,7 +1,7 @@
 use Rattle.tp_rule.specs.Tables.{table_limits}
 use Rattle.tp_rule.specs.Views.{IsSameSeat, view_of}
 use Rattle.tp_manager.specs.Spares.{AreHeaded}
-use Rattle.tp_manager.specs.Walks.{Tried}
+use Rattle.tp_manager.specs.CallSteps.{Tried}
 use Rattle.tp_manager.proofs.manager.Shared.void_rows.Given as goal
 
 abbrev pub invariant-loop-i : goal.invariant-loop-i

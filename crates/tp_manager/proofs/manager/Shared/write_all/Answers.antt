@@ -6,8 +6,8 @@ use Rattle.tp_model.specs.Births.{IsWhole, outputs}
 use Rattle.tp_model.proofs.Outputs.{length-outputs}
 use Rattle.tp_rule.specs.Tables.{table_limits}
 use Rattle.tp_rule.specs.Views.{view_of}
-use Rattle.tp_manager.specs.Walks.{Wrote}
-use Rattle.tp_manager.proofs.Shuts.{outs_next, wrote_none, wrote_then}
+use Rattle.tp_manager.specs.Drafts.{Wrote}
+use Rattle.tp_manager.proofs.Rows.Drafts.{outs_next, wrote_none, wrote_then}
 use Rattle.tp_manager.proofs.manager.Shared.write_all.Goals as goal
 
 pub write_one-requires-clause-next : goal.write_one-requires-clause-next

@@ -3,7 +3,7 @@ use Rattle.std.specs.List.{All}
 use Rattle.tp_model.specs.Births.{IsWhole, outputs}
 use Rattle.tp_rule.specs.Tables.{table_limits}
 use Rattle.tp_rule.specs.Views.{IsSameSeat, view_of}
-use Rattle.tp_manager.specs.Walks.{Wrote}
+use Rattle.tp_manager.specs.Drafts.{Wrote}
 use Rattle.tp_manager.proofs.manager.Shared.write_all.Given as goal
 
 abbrev pub invariant-loop-i : goal.invariant-loop-i

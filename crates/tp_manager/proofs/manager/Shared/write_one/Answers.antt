@@ -2,8 +2,8 @@ use Rattle.std.proofs.Common.{[], ◌∷◌, sym, ◌∙◌, subst}
 use Rattle.tp_model.specs.declared.types.Element.{Element}
 use Rattle.tp_rule.specs.Tables.{table_limits}
 use Rattle.tp_rule.specs.Views.{view_of}
-use Rattle.tp_manager.specs.Walks.{Wrote, output}
-use Rattle.tp_manager.proofs.Submits.{draft_is, draft_wrote}
+use Rattle.tp_manager.specs.Drafts.{Wrote, output}
+use Rattle.tp_manager.proofs.Rows.Submits.{draft_is, draft_wrote}
 use Rattle.tp_manager.proofs.manager.Shared.write_one.Goals as goal
 
 pub returns-clause-wrote : goal.returns-clause-wrote

@@ -1,5 +1,5 @@
 use Rattle.std.proofs.Common.{replicate}
-use Rattle.tp_manager.proofs.RowBits.{zeros, zeros_empty, zeros_summed}
+use Rattle.tp_manager.proofs.Families.RowBits.{zeros, zeros_empty, zeros_summed}
 use Rattle.tp_manager.proofs.row_set.RowSet.new.Goals as goal
 
 pub invariant_of-result : goal.invariant_of-result

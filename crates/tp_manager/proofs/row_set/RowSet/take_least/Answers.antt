@@ -1,6 +1,6 @@
 use Rattle.std.proofs.Common.{◌≢◌, ◌↔◌, ℕ, List, subst}
 use Rattle.tp_manager.specs.RowSets.{Has, IsLeast}
-use Rattle.tp_manager.proofs.RowBits.{first_word, out}
+use Rattle.tp_manager.proofs.Families.RowBits.{first_word, out}
 use Rattle.tp_manager.proofs.row_set.RowSet.take_least.Goals as goal
 use Rattle.tp_manager.proofs.row_set.RowSet.take_least.Goals.{After-clear_bit}
 

@@ -4,7 +4,7 @@ use Rattle.tp_reference.specs.PlainReport.{drain_of, rounds}
 use Rattle.tp_reference.specs.PlainRunning.{state, IsSetUp}
 use Rattle.tp_reference.proofs.plain_run.PlainRun.drain.Given as goal
 
--- what is left to do are so many rounds at most
+-- what is left to do are this many rounds at most
 abbrev pub invariant-loop-left : goal.invariant-loop-left
 invariant-loop-left l = record {
   left : rounds l.order (map server_view l.servers) l.left (state l.self) ≡ drain_of l.order (map server_view l.servers) (state l.fn.self);

@@ -1,0 +1,202 @@
+-- The rows that a listing passed over, and the one that it answers.
+use Rattle.std.proofs.Common.{◌≡◌, ◌≢◌, ℕ, ◌+◌, ◌*◌, ◌<◌, ◌≤◌, Option, Some, None, MatchOption, List, [], ◌∷◌, ◌++◌, sym, ◌∙◌, subst, inl, inr, arith, ⊎_elim, slice_index}
+use Rattle.std.proofs.lemmas.Bool.Decides.{eqb_tells}
+use mathlib.Core.List.{IsPrefix}
+use mathlib.Core.Logic.{dite}
+use native.Mathlib.Decide.{ℕ_discrete}
+use Rattle.tp_model.specs.declared.types.Element.{Element}
+use Rattle.tp_model.specs.declared.types.Limits.{Limits}
+use Rattle.tp_model.specs.declared.types.Status.{Status}
+use Rattle.tp_model.specs.declared.types.Status.TheVariants.{Killed, Waiting, Parked}
+use Rattle.tp_model.specs.declared.event.Event.{Event}
+use Rattle.tp_model.specs.declared.event.Event.TheVariants.{Enqueue, Claim, Commit, Abort, Kill, Requeue}
+use Rattle.tp_model.specs.declared.trace.TraceEntry.{TraceEntry}
+use Rattle.tp_model.specs.History.{IsSettled, IsUnborn, element_of, status_of}
+use Rattle.tp_model.specs.Passes.{opening_of}
+use Rattle.tp_model.specs.Words.{ClaimWord, FreeWord, TakenWord, KilledWord, AgainWord, round_in, kill_word, claim_word, claim_word_after}
+use Rattle.tp_model.specs.Steps.{IsLegal, IsParked, IsServerStage, Step, rows_of, part_rows}
+use Rattle.tp_model.proofs.Lists.{if_same, if_other}
+use Rattle.tp_model.proofs.Histories.{by_steps, element_of-kept, legal_start}
+use Rattle.tp_model.proofs.WordProofs.{claim_word-snoc}
+use Rattle.tp_model.proofs.Replies.{reply_stands}
+use Rattle.tp_model.proofs.Bridges.{begins_refl, begins_trans, found_later}
+use Rattle.tp_model.proofs.Later.{births_inside}
+use Rattle.tp_words.specs.Words.{head_of}
+use Rattle.tp_words.specs.declared.words.Head.{Head}
+use Rattle.tp_words.specs.declared.words.Head.TheVariants.{Filled}
+use Rattle.tp_rule.specs.Rule.{Concerns}
+use Rattle.tp_rule.specs.Steps.{AreFinishedFor}
+use Rattle.tp_rule.specs.declared.view.View.{View}
+use Rattle.tp_manager.specs.declared.row_reads.Birth.{Birth}
+use Rattle.tp_manager.specs.Calls.{AtPoint, IsWaiting, opening}
+use Rattle.tp_manager.specs.Looks.{IsBornAs}
+use Rattle.tp_manager.specs.Shown.{Spot, PassShown, shown}
+use Rattle.tp_manager.specs.CallSteps.{Acted, Looked, Steady, Stepped}
+use Rattle.tp_manager.specs.Marks.{Remembers}
+use Rattle.tp_manager.specs.Scans.{EachRow, Begun, Sought}
+use Rattle.tp_manager.specs.Lists.{AllKilled, NextError, NoneParked}
+use Rattle.tp_manager.specs.Finds.{Finds, Hits, PassedOver}
+use Rattle.tp_manager.proofs.Rows.Seeks.{Widens, sought_behind, sought_more, sought_then}
+use Rattle.tp_manager.proofs.Marks.Raises.{low_kept}
+use Rattle.tp_manager.proofs.Calls.CallSteps.{opening_is, sought_acted, sought_few, walked_none}
+
+-- units take elements of the servers' stages alone
+module _ (l : Limits) where
+  abbrev IsServed : List Event → ℕ → Type 0
+  IsServed h i = (x : Element) × (element_of h i ≡ Some x) × IsServerStage x.stage
+
+  served_later : (h : List Event) (e : Event) (i : ℕ) → IsServed h i → IsServed (h ++ e ∷ []) i
+  served_later h e i s = (s.0, element_of-kept h (e ∷ []) i s.0 s.1, s.2)
+
+  not_taken : (w : ClaimWord) (n u r : ℕ) → kill_word w ≢ TakenWord n u r
+  not_taken FreeWord n u r p = cc
+  not_taken (TakenWord m v k) n u r p = cc
+  not_taken (KilledWord m v k) n u r p = cc
+  not_taken (AgainWord k) n u r p = cc
+
+  served_after : (h : List Event) (e : Event) → Step l h e → (i n u r : ℕ) → (claim_word h i ≡ TakenWord n u r → IsServed h i) → claim_word_after i (claim_word h i) e ≡ TakenWord n u r → IsServed (h ++ e ∷ []) i
+  served_after h (Enqueue c y) step i n u r old p = served_later h (Enqueue c y) i (old p)
+  served_after h (Claim c v j m) step i n u r old p =
+      elim (eqb_tells j i) [
+        | inl q ↦ served_later h (Claim c v j m) i (step.item, subst (λ z. element_of h z ≡ Some step.item) q.1 step.born, step.stage)
+        | inr q ↦ served_later h (Claim c v j m) i (old (sym (if_other j i (TakenWord m v (round_in (claim_word h i))) (claim_word h i) q.1) ∙ p))
+      ]
+  served_after h (Commit c v outs) step i n u r old p = served_later h (Commit c v outs) i (old p)
+  served_after h (Abort c v) step i n u r old p = served_later h (Abort c v) i (old p)
+  served_after h (Kill c j) step i n u r old p =
+      elim (eqb_tells j i) [
+        | inl q ↦ absurd (not_taken (claim_word h i) n u r (sym (if_same j i (kill_word (claim_word h i)) (claim_word h i) q.1) ∙ p))
+        | inr q ↦ served_later h (Kill c j) i (old (sym (if_other j i (kill_word (claim_word h i)) (claim_word h i) q.1) ∙ p))
+      ]
+  served_after h (Requeue c j k) step i n u r old p =
+      elim (eqb_tells j i) [
+        | inl q ↦ absurd (let e : AgainWord k ≡ TakenWord n u r = sym (if_same j i (AgainWord k) (claim_word h i) q.1) ∙ p in cc)
+        | inr q ↦ served_later h (Requeue c j k) i (old (sym (if_other j i (AgainWord k) (claim_word h i) q.1) ∙ p))
+      ]
+
+  pub taken_served : (h : List Event) → IsLegal l h → (i n u r : ℕ) → claim_word h i ≡ TakenWord n u r → IsServed h i
+  taken_served h legal = by_steps l (λ z. (i n u r : ℕ) → claim_word z i ≡ TakenWord n u r → IsServed z i) (λ i n u r p. absurd cc) more h legal
+    where
+      more : (h : List Event) (e : Event) → IsLegal l h → Step l h e → ((i n u r : ℕ) → claim_word h i ≡ TakenWord n u r → IsServed h i) → (i n u r : ℕ) → claim_word (h ++ e ∷ []) i ≡ TakenWord n u r → IsServed (h ++ e ∷ []) i
+      more h e legal step old i n u r p = served_after h e step i n u r (old i n u r) (sym (claim_word-snoc h e i) ∙ p)
+
+  -- so a reply that doesn't wait is killed
+  pub reply_killed : (h : List Event) (i : ℕ) (x : Element) → IsLegal l h → element_of h i ≡ Some x → x.stage ≡ 15 → ¬ IsWaiting (status_of l.attempts h i) → status_of l.attempts h i ≡ Killed
+  reply_killed h i x legal born staged not = ⊎_elim (λ waits. absurd (not (0, waits))) (λ killed. killed) (reply_stands l h legal i x born staged)
+
+  -- and is never parked
+  pub reply_not_parked : (h : List Event) (i : ℕ) (x : Element) → IsLegal l h → element_of h i ≡ Some x → x.stage ≡ 15 → ¬ IsParked (status_of l.attempts h i)
+  reply_not_parked h i x legal born staged parked = ⊎_elim (λ waits. (let e : Waiting 0 ≡ Parked parked.0 = sym waits ∙ parked.1 in absurd cc)) (λ killed. (let e : Killed ≡ Parked parked.0 = sym killed ∙ parked.1 in absurd cc)) (reply_stands l h legal i x born staged)
+
+module _ (l : Limits) where
+  pub over_unborn : (i : ℕ) (a h : List Event) → IsPrefix a h → IsUnborn h i → PassedOver l i a h
+  over_unborn i a h begins un = λ x p. let q = found_later a h begins i x p in let e : None ≡ Some x = sym un ∙ q in absurd cc
+
+  pub over_found : (i : ℕ) (a b : List Event) (s : Status) → IsPrefix a b → s ≡ status_of l.attempts b i → ¬ IsParked s → PassedOver l i a b
+  over_found i a b s begins status not = λ x p. (b, begins, begins_refl b, λ is. not (subst IsParked (sym status) is))
+
+-- the element of a row that was found, and is parked
+pub hits_at : (l : Limits) (i : ℕ) (h : List Event) (birth : Birth) (s : Status) → IsBornAs h i birth → s ≡ status_of l.attempts h i → IsParked s → Hits l i h
+hits_at l i h birth s t status is = (t.0, t.1, subst IsParked status is)
+
+-- nothing was passed over in a row in which nothing is born
+pub none_over : (l : Limits) (j : ℕ) (h : List Event) → IsUnborn h j → PassedOver l j h h
+none_over l j h un = over_unborn l j h h (begins_refl h) un
+
+-- a row that was passed over is so from an earlier history on, and to a later one
+pub over_widens : (l : Limits) → Widens (PassedOver l)
+over_widens l i a a' b b' before after passed x p = let t = passed x (found_later a a' before i x p) in (t.0, begins_trans a a' t.0 before t.1, begins_trans t.0 b b' t.2 after, t.3)
+
+-- a listing as a whole
+module _ (t t' : Spot) (v y : View) (old : PassShown) (is : shown t v ≡ old) (l : Limits) (m from : ℕ) (marks : List TraceEntry) (walk : Stepped l m marks v y) where
+  abbrev O : List Event
+  O = opening_of v.seen marks
+
+  opened : opening old (shown t' y) ≡ O
+  opened = opening_is t t' v y old is l m marks walk
+
+  born_there : (x : Element) → element_of (opening old (shown t' y)) x.id ≡ Some x → element_of O x.id ≡ Some x
+  born_there x p = subst (λ h. element_of h x.id ≡ Some x) opened p
+
+  point : (Holds : List Event → Type 0) (p : List Event) → IsPrefix O p → IsPrefix p y.seen → Holds p → AtPoint old (shown t' y) Holds
+  point Holds p begins ends h = (p, record { opened = subst (λ z. IsPrefix z p) (sym opened) begins; seen = ends }, h)
+
+  legal_within : (p : List Event) → IsPrefix p y.seen → IsLegal l p
+  legal_within p ends = legal_start l p ends.0 (subst (IsLegal l) (sym ends.1) walk.steady.shows.legal)
+
+  inside : (x : Element) → element_of O x.id ≡ Some x → x.id < rows_of l
+  inside x p = births_inside l O (legal_within O walk.closes) x p
+
+  none_parked : (end : ℕ) (Ids : ℕ → Type 0) → ((i : ℕ) → Ids i → i < rows_of l → (from ≤ i) × (i < end)) → EachRow (PassedOver l) from end O y.seen → NoneParked l Ids old (shown t' y)
+  none_parked end Ids range passed x p id = let born = born_there x p in let r = range x.id id (inside x born) in let q = passed x.id r.0 r.1 x born in
+      point (λ h. ¬ IsParked (status_of l.attempts h x.id)) q.0 q.1 q.2 q.3
+
+  error_none : EachRow (PassedOver l) from (rows_of l) O y.seen → NoneParked l (λ i. from ≤ i) old (shown t' y)
+  error_none passed = none_parked (rows_of l) (λ i. from ≤ i) (λ i low high. (low, high)) passed
+
+  error_some : (id : ℕ) → from ≤ id → Hits l id y.seen → EachRow (PassedOver l) from id O y.seen → NextError l from id old (shown t' y)
+  error_some id low hit passed = record {
+    from_on = low;
+    parked = point (λ h. (x : Element) × (element_of h id ≡ Some x) × IsParked (status_of l.attempts h id)) y.seen walk.closes (begins_refl y.seen) hit;
+    before = none_parked id (λ i. (from ≤ i) × (i < id)) (λ i range _. range) passed;
+  }
+
+pub finds_acted : (l : Limits) (n from end : ℕ) (v y : View) (r : Option ℕ) → Finds l n from end v y r → Acted l n v y
+finds_acted l n from end v y None s = sought_acted l n (EachRow (PassedOver l) from end) v y s
+finds_acted l n from end v y (Some id) s = sought_acted l n (EachRow (PassedOver l) from id) v y s.3
+
+-- an element isn't looked for where it is over, or of a stage that the marks aren't about at which the listing starts
+not_parked : (stage : ℕ) (s : Status) → (stage ≡ 15 → ¬ IsParked s) → (Concerns 0 stage → IsSettled s) → ¬ IsParked s
+not_parked stage s unparked over is = dite (ℕ_discrete stage 15) (λ reply. unparked reply is) (λ other. subst IsSettled is.1 (over other))
+
+pub over_aside : (l : Limits) (i : ℕ) (a h : List Event) → IsLegal l h → IsPrefix a h → ((x : Element) → element_of h i ≡ Some x → ¬ Concerns 0 x.stage) → PassedOver l i a h
+over_aside l i a h legal begins aside x p = let born = found_later a h begins i x p in
+    (h, begins, begins_refl h, not_parked x.stage (status_of l.attempts h i) (reply_not_parked l h i x legal born) (λ about. absurd (aside x born about)))
+
+pub over_low : (l : Limits) (h : List Event) (p n i : ℕ) → IsLegal l h → AreFinishedFor l 0 h p n → p * l.rows ≤ i → i < p * l.rows + n → PassedOver l i h h
+over_low l h p n i legal over low high x born = (h, begins_refl h, begins_refl h, not_parked x.stage (status_of l.attempts h i) (reply_not_parked l h i x legal born) (over i low high x born))
+
+-- what the pass remembers says of the rows below a mark also later
+pub over_remembered : (l : Limits) (lows : List ℕ) (p i n : ℕ) (ms : List TraceEntry) (v w : View) → Remembers 0 v lows → Stepped l n ms v w → p * l.rows ≤ i → i < p * l.rows + slice_index lows p → PassedOver l i w.seen w.seen
+over_remembered l lows p i n ms v w r a low high =
+    over_low l w.seen p (slice_index lows p) i a.steady.shows.legal (low_kept l 0 v w p n ms lows a r (omega arith)).1 low high
+
+-- the marks at which a listing starts are about no server's stage alone
+pub not_server : ¬ IsServerStage 0
+not_server fair = let low = fair.0 in omega arith
+
+-- an element whose head is of a stage that a kind isn't about is of that stage
+pub head_aside : (c : ℕ) (head : Head) (x : Element) → head ≡ head_of x → ((found root : ℕ) (by : Option ℕ) → head ≡ Filled found root by → ¬ Concerns c found) → ¬ Concerns c x.stage
+head_aside c head x is aside = aside x.stage x.root x.by is
+
+-- a listing of some rows, after a look that found nothing
+pub finds_behind : (l : Limits) (n m k from end : ℕ) (v w y : View) (r : Option ℕ) → n + m ≤ k → Looked l n v w → Finds l m from end w y r → Finds l k from end v y r
+finds_behind l n m k from end v w y None le a s = sought_few l (n + m) k (EachRow (PassedOver l) from end) v y le (sought_behind l n m (PassedOver l) (over_widens l) from end v w y a s)
+finds_behind l n m k from end v w y (Some id) le a s = (s.0, s.1, s.2, sought_few l (n + m) k (EachRow (PassedOver l) from id) v y le (sought_behind l n m (PassedOver l) (over_widens l) from id v w y a s.3))
+
+-- the row that was found, after which a mark was raised
+pub sought_raised : (l : Limits) (n from to : ℕ) (v w y : View) → Sought l n (EachRow (PassedOver l) from to) v w → Looked l 1 w y → Sought l (n + 1) (EachRow (PassedOver l) from to) v y
+sought_raised l n from to v w y s a = sought_then l n 1 (EachRow (PassedOver l) from to) v w y (λ a b c later each j low high. over_widens l j a a b c (begins_refl a) later (each j low high)) s a
+
+module _ (t t' : Spot) (v y : View) (old : PassShown) (is : shown t v ≡ old) (l : Limits) (n from : ℕ) where
+  pub error_answer : (r : Option ℕ) → Finds l n from (rows_of l) v y r → MatchOption r (NoneParked l (λ i. from ≤ i) old (shown t' y)) (λ id. NextError l from id old (shown t' y))
+  error_answer None s = error_none t t' v y old is l n from s.marks s.walk s.passed
+  error_answer (Some id) s = error_some t t' v y old is l n from s.3.marks s.3.walk id s.0 s.2 s.3.passed
+
+-- from the capacity on there is nothing
+module _ (t : Spot) (v : View) (old : PassShown) (is : shown t v ≡ old) (l : Limits) (s : Steady l v) (from : ℕ) (out : rows_of l ≤ from) where
+  nothing : (x : Element) → element_of (opening old (shown t v)) x.id ≡ Some x → from ≤ x.id → ⊥
+  nothing x p low = let born : element_of v.seen x.id ≡ Some x = subst (λ h. element_of h x.id ≡ Some x) (opening_is t t v v old is l 0 [] (walked_none l v s)) p in let less = births_inside l v.seen s.shows.legal x born in omega arith
+
+  pub none_beyond : NoneParked l (λ i. from ≤ i) old (shown t v)
+  none_beyond x p low = absurd (nothing x p low)
+
+  pub killed_beyond : (root : ℕ) → AllKilled l root (λ i. from ≤ i) old (shown t v)
+  killed_beyond root x p reply low = absurd (nothing x p low)
+
+-- what a look at the parts and then at the spare blocks came to
+pub find_both : (l : Limits) (n m from : ℕ) (v w y : View) (o : Option ℕ) → from ≤ part_rows l → Sought l n (EachRow (PassedOver l) from (part_rows l)) v w
+    → MatchOption o (Begun l (PassedOver l) m (part_rows l) (rows_of l) w y) (λ id. (part_rows l ≤ id) × (id < rows_of l) × Hits l id y.seen × Sought l m (EachRow (PassedOver l) (part_rows l) id) w y)
+    → Finds l (n + m) from (rows_of l) v y o
+find_both l n m from v w y None start s b = sought_more l (PassedOver l) (over_widens l) n m from (part_rows l) (rows_of l) v w y start (omega arith) s b
+find_both l n m from v w y (Some id) start s b = let low = b.0 in (omega arith, b.1, b.2, sought_more l (PassedOver l) (over_widens l) n m from (part_rows l) id v w y start low s (inr b.3))

@@ -1,0 +1,147 @@
+-- Calls that first look for room for rows.
+use Rattle.std.proofs.Common.{◌≡◌, ℕ, ◌+◌, ◌<◌, ◌≤◌, List, [], ◌∷◌, ◌++◌, length, sym, refl, ap, ◌∙◌, subst, inl, inr, ⊎_elim, arith}
+use Rattle.tp_model.specs.Drafts.{DraftView}
+use Rattle.tp_model.specs.declared.types.Ended.{Ended}
+use Rattle.tp_model.specs.declared.types.Ended.TheVariants as endeds
+use Rattle.tp_model.specs.declared.types.Limits.{Limits}
+use Rattle.tp_model.specs.declared.types.Outcome.{Outcome}
+use Rattle.tp_model.specs.declared.types.Outcome.TheVariants as outcomes
+use Rattle.tp_model.specs.declared.trace.TraceEntry.{TraceEntry}
+use Rattle.tp_model.specs.Steps.{block_first}
+use Rattle.tp_model.proofs.Bridges.{append_nil}
+use Rattle.tp_rule.specs.Views.{hand}
+use Rattle.tp_rule.specs.declared.view.Hand.{Hand}
+use Rattle.tp_rule.specs.declared.view.View.{View}
+use Rattle.tp_manager.specs.Bounds.{room_steps}
+use Rattle.tp_manager.specs.Calls.{Closes, AnswersAbort, FindsNoBlock, Follows, Settles, Submits, UsesRows}
+use Rattle.tp_manager.specs.Draws.{HasRoom, NoRoom, on_block}
+use Rattle.tp_manager.specs.Shown.{PassShown, Spot, shown}
+use Rattle.tp_manager.specs.CallSteps.{Tried}
+use Rattle.tp_manager.specs.Drafts.{Drew}
+use Rattle.tp_manager.proofs.Calls.Follows.{follows_then, follows_within}
+
+-- what a pass shows that has drawn a block
+pub drew_shown : (t t' : Spot) (old : PassShown) (l : Limits) (n b : ℕ) (v w : View) → shown t v ≡ old → t'.table ≡ t.table → t'.lows ≡ t.lows → t'.from ≡ t.from → v.limits ≡ l → Drew l n b v w → shown t' w ≡ on_block b old (shown t' w)
+drew_shown t t' old l n b v w is table lows from lim d = subst (λ p. shown t' w ≡ on_block b p (shown t' w)) is
+    (let h = d.hand_is in let same : w.limits ≡ v.limits = d.walk.steady.pass.1 ∙ sym lim in let first : block_first l b ≡ block_first v.limits b = ap (λ (z : Limits). block_first z b) (sym lim) in
+    λ i. record {
+      table = table i;
+      limits = same i;
+      number = ap (λ (a : Hand). a.number) h i;
+      seen = d.seen i;
+      mine = ap (λ (a : Hand). a.mine) h i;
+      open_unit = ap (λ (a : Hand). a.open_unit) h i;
+      next = (ap (λ (a : Hand). a.next) h ∙ first) i;
+      left = ap (λ (a : Hand). a.left) h i;
+      blocks = ap (λ (a : Hand). a.blocks) h i;
+      trace = (hand w).trace;
+      lows = lows i;
+      from = from i;
+      seen_blocks = t'.drawn;
+    })
+
+-- or that has found none
+pub tried_shown : (t t' : Spot) (old : PassShown) (l : Limits) (n : ℕ) (v w : View) → shown t v ≡ old → t'.table ≡ t.table → t'.lows ≡ t.lows → t'.from ≡ t.from → t'.drawn ≡ l.spare → v.limits ≡ l → Tried l n v w → shown t' w ≡ record old { trace = (shown t' w).trace; seen_blocks = old.limits.spare }
+tried_shown t t' old l n v w is table lows from drawn lim d = subst (λ (p : PassShown). shown t' w ≡ record p { trace = (shown t' w).trace; seen_blocks = p.limits.spare }) is
+    (let h = d.hand_is in let same : w.limits ≡ v.limits = d.walk.steady.pass.1 ∙ sym lim in let all : t'.drawn ≡ v.limits.spare = drawn ∙ ap (λ (z : Limits). z.spare) (sym lim) in
+    λ i. record {
+      table = table i;
+      limits = same i;
+      number = ap (λ (a : Hand). a.number) h i;
+      seen = d.seen i;
+      mine = ap (λ (a : Hand). a.mine) h i;
+      open_unit = ap (λ (a : Hand). a.open_unit) h i;
+      next = ap (λ (a : Hand). a.next) h i;
+      left = ap (λ (a : Hand). a.left) h i;
+      blocks = ap (λ (a : Hand). a.blocks) h i;
+      trace = (hand w).trace;
+      lows = lows i;
+      from = from i;
+      seen_blocks = all i;
+    })
+
+no_steps : (ms : List TraceEntry) → length ms ≤ 0 → ms ≡ []
+no_steps [] few = refl
+no_steps (m ∷ ms) few = absurd (omega arith)
+
+-- where there are no spare blocks, nothing has changed
+pub tried_same : (t t' : Spot) (old : PassShown) (l : Limits) (n : ℕ) (v w : View) → shown t v ≡ old → t'.table ≡ t.table → t'.lows ≡ t.lows → t'.from ≡ t.from → t'.drawn ≡ t.drawn → v.limits ≡ l → n ≡ 0 → Tried l n v w → shown t' w ≡ old
+tried_same t t' old l n v w is table lows from drawn lim none d =
+    let h = d.hand_is in let same : w.limits ≡ v.limits = d.walk.steady.pass.1 ∙ sym lim in let few = d.walk.few in
+    let trace : (hand w).trace ≡ (hand v).trace = d.walk.traced ∙ (ap (λ m. (hand v).trace ++ m) (no_steps d.marks (omega arith)) ∙ append_nil (hand v).trace) in
+    (λ i. record {
+      table = table i;
+      limits = same i;
+      number = ap (λ (a : Hand). a.number) h i;
+      seen = d.seen i;
+      mine = ap (λ (a : Hand). a.mine) h i;
+      open_unit = ap (λ (a : Hand). a.open_unit) h i;
+      next = ap (λ (a : Hand). a.next) h i;
+      left = ap (λ (a : Hand). a.left) h i;
+      blocks = ap (λ (a : Hand). a.blocks) h i;
+      trace = trace i;
+      lows = lows i;
+      from = from i;
+      seen_blocks = drawn i;
+    }) ∙ is
+
+module _ (l : Limits) (p m q : PassShown) where
+  pub room_follows : (rows n : ℕ) → HasRoom l rows p m → Follows n m q → Follows (room_steps l rows + n) p q
+  room_follows rows n room f = ⊎_elim
+      (λ t. follows_within n (room_steps l rows + n) p q (omega arith) (subst (λ z. Follows n z q) t.1 f))
+      (λ t. follows_then (room_steps l rows) n p m q t.4 f) room
+
+  -- rows of the block that was drawn
+  uses_block : (k first b : ℕ) → 0 < k → k ≤ 8 → p.left < k → p.seen_blocks ≤ b → b < q.seen_blocks → UsesRows k first (on_block b p m) q → UsesRows k first p q
+  uses_block k first b some few less fresh seen uses = ⊎_elim
+      (λ r. inr record { few = less; block = b; first_is = r.first_is; next = r.next; left = r.left; blocks = r.blocks; fresh = fresh; seen = seen })
+      (λ r. absurd (let out = r.few in omega arith)) uses
+
+  pub room_submits : (id stage : ℕ) (body : List ℕ) → HasRoom l 1 p m → m.seen_blocks ≤ q.seen_blocks → Submits id stage body m q → Submits id stage body p q
+  room_submits id stage body room up s = ⊎_elim
+      (λ t. subst (λ z. Submits id stage body z q) t.1 s)
+      (λ t. let r : Submits id stage body (on_block t.1 p m) q = subst (λ z. Submits id stage body z q) t.2 s in record {
+        stage_is = r.stage_is;
+        adds = record { mine = r.adds.mine; before = r.adds.before; seen = r.adds.seen; begins = r.adds.begins };
+        is_born = r.is_born;
+        open_unit = r.open_unit;
+        run = uses_block 1 id t.1 (omega arith) (omega arith) t.0 t.3.0 (let seen = t.3.1 in omega arith) r.run;
+      }) room
+
+  pub room_settles : (ds : List DraftView) (o : Outcome) → length ds ≤ 4 → HasRoom l (length ds) p m → m.seen_blocks ≤ q.seen_blocks → Settles ds m q o → Settles ds p q o
+  room_settles ds o few room up s = ⊎_elim
+      (λ t. subst (λ z. Settles ds z q o) t.1 s)
+      (λ t. go o t.0 t.1 t.3.0 (let seen = t.3.1 in omega arith) (subst (λ z. Settles ds z q o) t.2 s)) room
+    where
+      go : (o : Outcome) → p.left < length ds → (b : ℕ) → p.seen_blocks ≤ b → b < q.seen_blocks → Settles ds (on_block b p m) q o → Settles ds p q o
+      go outcomes.Full less b fresh seen r = absurd (let out = r.0 in omega arith)
+      go outcomes.Lost less b fresh seen r = (r.0, record { was_open = r.1.was_open; open_unit = r.1.open_unit; ended = r.1.ended }, r.2, uses_block (length ds) r.2 b (omega arith) (omega arith) less fresh seen r.3, r.4)
+      go (outcomes.Committed first count) less b fresh seen r = record {
+        unit = r.unit;
+        root = r.root;
+        row = r.row;
+        root_is = r.root_is;
+        closes = record { was_open = r.closes.was_open; open_unit = r.closes.open_unit; ended = r.closes.ended };
+        run = uses_block (length ds) r.row b (omega arith) (omega arith) less fresh seen r.run;
+        adds = record { mine = r.adds.mine; before = r.adds.before; seen = r.adds.seen; begins = r.adds.begins };
+        consumed = r.consumed;
+        first_is = r.first_is;
+        count_is = r.count_is;
+      }
+
+  -- no room, and the unit is given up
+  pub none_settles : (ds : List DraftView) (e : Ended) → NoRoom l (length ds) p m → q.seen_blocks ≡ m.seen_blocks → AnswersAbort m q e → Settles ds p q outcomes.Full
+  none_settles ds e none kept ends =
+      let n : FindsNoBlock (length ds) p m = none.0 in
+      let blocks : q.seen_blocks ≡ p.limits.spare = kept ∙ ap (λ (z : PassShown). z.seen_blocks) n.same in
+      go e blocks (subst (λ z. AnswersAbort z q e) n.same ends)
+    where
+      go : (e : Ended) → q.seen_blocks ≡ p.limits.spare → AnswersAbort (record p { trace = m.trace; seen_blocks = p.limits.spare }) q e → Settles ds p q outcomes.Full
+      go endeds.Aborted blocks r = (none.0.few, blocks, (r.0, record { was_open = r.1.was_open; open_unit = r.1.open_unit; ended = r.1.ended }, r.2, inl (record { mine = r.3.mine; before = r.3.before; seen = r.3.seen; begins = r.3.begins })))
+      go endeds.AlreadyAborted blocks r = (none.0.few, blocks, (r.0, record { was_open = r.1.was_open; open_unit = r.1.open_unit; ended = r.1.ended }, r.2, inr r.3))
+
+-- whatever a commit answers, the unit is closed
+pub settles_closes : (ds : List DraftView) (p q : PassShown) (o : Outcome) → Settles ds p q o → (u : ℕ) × Closes u p q
+settles_closes ds p q outcomes.Full s = (s.2.0, s.2.1)
+settles_closes ds p q outcomes.Lost s = (s.0, s.1)
+settles_closes ds p q (outcomes.Committed first count) s = (s.unit, s.closes)
