@@ -26,7 +26,7 @@ def ratio(ours, other):
 
 def shown(key):
     """Turns are measured by sixteens; some of these are enough."""
-    return key[0] not in ("turn", "turn_bare", "turn_relaxed") or key[1] in (0, 64, 240)
+    return key[0] not in ("turn", "turn_bare", "turn_next", "turn_relaxed") or key[1] in (0, 64, 240)
 
 
 ours, mutex, bare = (least(name) for name in ("tp_bench", "mutex", "bare"))

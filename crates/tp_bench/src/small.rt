@@ -3,8 +3,8 @@ ghost use Rattle.std.specs.Prelude.{◌≡◌, None, IfSome};
 ghost use Rattle.tp_manager.specs.Shown.{IsOf, IsKeptBy};
 
 use crate::calls::{
-    aborts, bare_turns, errors, gathers, kept, kills, now, pass, reads, replies, submits,
-    submits_with, turns,
+    aborts, bare_turns, bare_turns_next, errors, gathers, kept, kills, now, pass, reads, replies,
+    submits, submits_with, turns,
 };
 use std::alloc::Global;
 use std::io;
@@ -93,6 +93,30 @@ fn bare_sixteen(rt: &HostRuntime, manager: &Manager, server: &mut Pass) -> io::R
     Ok(())
 }
 
+/// The same by claims in turn.
+fn of_next_turns(
+    rt: &HostRuntime,
+    manager: &Manager,
+    client: &mut Pass,
+    server: &mut Pass,
+) -> io::Result<()>
+    requires own { IsOf manager.now client.old × IsOf manager.now server.old }
+    requires free { (client.old.open_unit ≡ None) × (server.old.open_unit ≡ None) }
+{
+    submits(manager, client, 1, 256);
+    for k in 0..16u32 {
+        let t0 = now(rt);
+        let a = bare_turns_next(manager, server, 1, 16);
+        let t1 = now(rt);
+        println!(rt;
+            "turn_next {} {} {a}",
+            k.wrapping_mul(16),
+            t1.wrapping_sub(t0)
+        )?;
+    }
+    Ok(())
+}
+
 /// The same with one reply each; then the replies are asked for.
 fn of_turns(
     rt: &HostRuntime,
@@ -168,6 +192,7 @@ fn of_gathers(rt: &HostRuntime) -> io::Result<()> {
 enum Group {
     Clients,
     BareTurns,
+    NextTurns,
     Turns,
 }
 
@@ -179,6 +204,7 @@ fn measured(rt: &HostRuntime, group: Group) -> io::Result<()> {
     match group {
         Group::Clients => of_clients(rt, &manager, &mut first, &mut second),
         Group::BareTurns => of_bare_turns(rt, &manager, &mut first, &mut second),
+        Group::NextTurns => of_next_turns(rt, &manager, &mut first, &mut second),
         Group::Turns => of_turns(rt, &manager, &mut first, &mut second),
     }
 }
@@ -186,6 +212,7 @@ fn measured(rt: &HostRuntime, group: Group) -> io::Result<()> {
 pub fn round(rt: &HostRuntime) -> io::Result<()> {
     measured(rt, Group::Clients)?;
     measured(rt, Group::BareTurns)?;
+    measured(rt, Group::NextTurns)?;
     measured(rt, Group::Turns)?;
     of_aborts(rt)?;
     of_gathers(rt)

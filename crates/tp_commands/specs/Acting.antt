@@ -305,6 +305,21 @@ pub record StaysIn (at : ℕ) (olds news : List PlaceShown) : Type 0 where
 
 -- ---- the end
 
+-- the desk gave up what it had in hand, if it had something
+pub record GivesUpAt (l : Limits) (old new : PlaceShown) : Type 0 where
+  pub drops : DropsAt old.desk new.desk
+  pub limits : new.desk.pass.limits ≡ l
+  pub began : new.began ≡ old.began
+  pub kept : new.is_dropped ≡ old.is_dropped
+
+-- so did the desk at one of the places, and the others are as they were
+pub record GivesUpIn (l : Limits) (at : ℕ) (olds news : List PlaceShown) : Type 0 where
+  pub old : PlaceShown
+  pub there : slice_get olds at ≡ Some old
+  pub new : PlaceShown
+  pub gives_up : GivesUpAt l old new
+  pub others : news ≡ slice_set olds at new
+
 -- a desk is ended: what it had in hand is given up, and its registers stay
 pub record EndsDesk (old : PlaceShown) (pass : PassShown) (registers : List ℕ) : Type 0 where
   pub gives_up : EndsOpen old.desk.pass.open_unit old.desk.pass pass

@@ -3,7 +3,7 @@ ghost use Rattle.std.specs.Prelude.{◌≡◌, ◌<◌, All, IfOk, IfSome, Match
 ghost use Rattle.std.specs.Prelude.{true};
 ghost use Rattle.tp_manager.specs.Shown.{IsOf};
 ghost use Rattle.tp_desk.specs.Steady.{IsSameDesk, SteadyDesk, shown};
-ghost use Rattle.tp_commands.specs.Acting.{Does, DoesAt, DoesIn, TellsAbort, TellsClaim, TellsCommit};
+ghost use Rattle.tp_commands.specs.Acting.{Does, DoesAt, DoesIn, DropsAt, TellsAbort, TellsClaim, TellsCommit};
 ghost use Rattle.tp_commands.specs.Acting.{TellsDrop, TellsPrepare, TellsTake, TellsTurn, desk_shown};
 ghost use Rattle.tp_commands.specs.Acting.{StaysIn, TurnsAt, TurnsIn, place_of, place_shown, places_shown};
 ghost use Rattle.tp_commands.specs.Places.{AllLie, Lies, first_of, firsts, is_free_at};
@@ -211,7 +211,7 @@ fn act_by(desk: &mut Desk, act: DeskAct) -> ServerAnswer
         DeskAct::Prepare => prepare(desk),
         DeskAct::Commit => commit(desk),
         DeskAct::Abort => abort(desk),
-        DeskAct::Drop => give_up(desk),
+        DeskAct::Drop => drop_desk(desk),
     }
 }
 
@@ -342,16 +342,27 @@ fn abort(desk: &mut Desk) -> ServerAnswer
     }
 }
 
-/// `drop NAME`: what is in hand is given up, as by a drop of the desk.
-fn give_up(desk: &mut Desk) -> ServerAnswer
+/// `drop NAME`
+fn drop_desk(desk: &mut Desk) -> ServerAnswer
     requires steady { SteadyDesk (shown behaviour) (shown registers) (shown pending) desk.old }
     ensures same { IsSameDesk desk.old desk.new }
     ensures steady { SteadyDesk (shown behaviour) (shown registers) (shown pending) desk.new }
     ensures tells { TellsDrop (desk_shown behaviour registers pending desk.old) result
         (desk_shown behaviour registers pending desk.new) }
 {
+    give_up(desk);
+    ServerAnswer::Dropped
+}
+
+/// What is in hand is given up, as by a drop of the desk.
+pub(crate) fn give_up(desk: &mut Desk)
+    requires steady { SteadyDesk (shown behaviour) (shown registers) (shown pending) desk.old }
+    ensures same { IsSameDesk desk.old desk.new }
+    ensures steady { SteadyDesk (shown behaviour) (shown registers) (shown pending) desk.new }
+    ensures gives_up { DropsAt (desk_shown behaviour registers pending desk.old)
+        (desk_shown behaviour registers pending desk.new) }
+{
     if desk.has_open() {
         let _ = desk.abort();
     }
-    ServerAnswer::Dropped
 }

@@ -4,10 +4,12 @@
 
 mod client;
 mod desks;
+mod giving_up;
 mod lines;
 mod place;
 
 pub use client::{client_line, count};
 pub use desks::{desk_line, turn_in};
+pub use giving_up::give_up_in;
 pub use lines::{balance_line, sum};
 pub use place::{Place, end_all, places_for};

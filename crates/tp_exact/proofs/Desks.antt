@@ -28,7 +28,7 @@ use Rattle.tp_desk.specs.Given.{ClaimsGiven, GivenFails, given_steps}
 use Rattle.tp_desk.specs.Turns.{EndsOpen}
 use Rattle.tp_report.specs.declared.answer.ServerAnswer.{ServerAnswer}
 use Rattle.tp_report.specs.declared.answer.ServerAnswer.TheVariants as told
-use Rattle.tp_commands.specs.Acting.{AbortsAt, ClaimsAt, DeskShown, TellsAbort, TellsClaim, TellsDrop, TakesAt, TellsTake}
+use Rattle.tp_commands.specs.Acting.{AbortsAt, ClaimsAt, DeskShown, DropsAt, TellsAbort, TellsClaim, TellsDrop, TakesAt, TellsTake}
 use Rattle.tp_reference.specs.declared.plain_desk.PlainDesk.{PlainDesk}
 use Rattle.tp_reference.specs.PlainDesks.{DeskAnswered, abort_step, abort_work, aborted_as, claim_by, claim_step, claimed_as, drop_step, given_up, has_open, in_hand, nothing_done, with_drop, claim_given, given_as, take_step}
 use Rattle.tp_alone.specs.Thread.{Alone, not_given, state_of, thread_of}
@@ -212,6 +212,12 @@ module _ (recipe : Recipe) (l : Limits) (keeper keeper' : KeeperShown) (olds new
     idle l keeper keeper' olds news h h' c old.pass new.pass a none ∙ sym (ap (λ (b : Bool). if b then (abort_of m c).1 else m) (ap (λ (o : Option ℕ). is_some o) (holds ∙ at))),
     ap (λ (p : PassShown). p.open_unit) none ∙ at,
   )
+
+  -- what a desk gives up before all end
+  pub gives_up : DropsAt old new → (thread_of l news h' ≡ given_up m c) × IsForDesk new d × (new.pass.open_unit ≡ None)
+  gives_up f =
+      let t = given_by old.pass.open_unit refl f.gives_up f.follows f.turn in
+      (t.0, claims_none t.1 f.none_left f.server.1, t.1)
 
   pub drops : (answer : ServerAnswer) → TellsDrop old answer new → Exact answer (drop_step c m d)
   drops told.Dropped f =

@@ -55,7 +55,7 @@ both_true true b e = (refl, e)
 both_true false b e = absurd cc
 
 -- two lists side by side are as long as each other
-beside_long : {A B : Type 0} (R : A → B → Type 0) (xs : List A) (ys : List B) → AllZip R xs ys → length ys ≡ length xs
+pub beside_long : {A B : Type 0} (R : A → B → Type 0) (xs : List A) (ys : List B) → AllZip R xs ys → length ys ≡ length xs
 beside_long R [] [] zip = refl
 beside_long R [] (y ∷ ys) zip = absurd zip
 beside_long R (x ∷ xs) [] zip = absurd zip

@@ -4,18 +4,17 @@ use Rattle.std.specs.Prelude.{slice_get}
 use Rattle.std.specs.Io.KnownBytes.{Appends}
 use Rattle.std.proofs.lemmas.Bool.Decides.{eqb_tells}
 use Rattle.std.proofs.lemmas.List.{append-nil}
-use Rattle.tp_manager.specs.Accounts.{Accounts}
 use Rattle.tp_manager.specs.Shown.{ManagerShown}
 use Rattle.tp_report.specs.Written.{AppendsFront}
 use Rattle.tp_report.proofs.Devices.{Appends-then}
 use Rattle.tp_script.specs.Script.{ScriptView, ServerView}
-use Rattle.tp_perform.specs.Ending.{AccountFront, final_line, final_lines, finals_of}
+use Rattle.tp_perform.specs.Ending.{final_line, final_lines, finals_of}
 use Rattle.tp_perform.specs.Performing.{final_count}
 use Rattle.tp_perform.specs.Reported.{ClosingFront, CommandsFront, LastFront}
 use Rattle.tp_reference.specs.PlainReport.{report_of}
 use Rattle.tp_exact.specs.Script.{ExactFront, IsCoveredScript}
 use Rattle.tp_exact.proofs.Chain.{ran, rest_is, told_so}
-use Rattle.tp_exact.proofs.Scripts.{lines_same}
+use Rattle.tp_exact.proofs.Scripts.{account, closes_front, lines_same}
 
 -- nothing is written
 front_none : (a : Option (List ℕ)) (bytes : List ℕ) → AppendsFront a a bytes
@@ -60,15 +59,21 @@ module _ (s : ScriptView) (is : IsCoveredScript s) (before after : Option (List 
       let few = front_lines s.servers p.registers f.finals.0 (final_count s) f.finals.1 in
       let these = subst (AppendsFront p.commands_done after) (sym few.1) (front_longer p.commands_done after (final_lines s.servers p.registers f.finals.0) few.0 f.finals.2) in
       subst (AppendsFront before after) (lines_same s is m before p)
-      (front_then before p.commands_done after p.told.0 (finals_of s p.registers) p.told.2 these)
+      (front_then before p.commands_done after p.told.0 (finals_of s p.registers ++ account s is) p.told.2
+      (front_longer p.commands_done after (finals_of s p.registers) (account s is) these))
 
-  closing_front : ClosingFront s m before after → ⊥
-  closing_front f = subst (λ b. AccountFront b (Accounts m.limits f.performed.kept f.keeper' f.performed.left f.closed) f.finals_done after) is.account f.account
+  closing_front : ClosingFront s m before after → AppendsFront before after (report_of s)
+  closing_front f =
+      let p = f.performed in
+      let last = closes_front s is m before p f.keeper' f.closed s.account f.finals_done after f.account in
+      subst (AppendsFront before after) (lines_same s is m before p)
+      (front_then before p.commands_done after p.told.0 (finals_of s p.registers ++ account s is) p.told.2
+      (front_then p.commands_done f.finals_done after (finals_of s p.registers) (account s is) f.finals last))
 
   some_front : (CommandsFront s m before after ⊎ (LastFront s m before after ⊎ ClosingFront s m before after)) → AppendsFront before after (report_of s)
   some_front (inl f) = commands_front f
   some_front (inr (inl f)) = last_front f
-  some_front (inr (inr f)) = absurd (closing_front f)
+  some_front (inr (inr f)) = closing_front f
 
 pub exact_front : ExactFront
 exact_front s before after is (inl same) = subst (λ b. AppendsFront before b (report_of s)) (sym same) (front_none before (report_of s))

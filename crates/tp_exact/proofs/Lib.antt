@@ -18,9 +18,11 @@ pub mod DeskActs
 pub mod Places
 pub mod Scenes
 pub mod Drains
+pub mod GivingUps
 pub mod Covered
 pub mod Begins
 pub mod Chain
 pub mod Scripts
 pub mod Fronts
 pub mod Runs
+pub mod Checked

@@ -172,7 +172,7 @@ zip_set R (w ∷ xs) [] i x y a r = absurd a
 zip_set R (w ∷ xs) (z ∷ ys) zero x y a r = (r, a.1)
 zip_set R (w ∷ xs) (z ∷ ys) (suc i) x y a r = (a.0, zip_set R xs ys i x y a.1 r)
 
-zip_beside : {A B : Type 0} (R : A → B → Type 0) (xs : List A) (ys : List B) (i : ℕ) (x : A) (y : B) → AllZip R xs ys → slice_get ys i ≡ Some y → R x y → AllZip R (slice_set xs i x) ys
+pub zip_beside : {A B : Type 0} (R : A → B → Type 0) (xs : List A) (ys : List B) (i : ℕ) (x : A) (y : B) → AllZip R xs ys → slice_get ys i ≡ Some y → R x y → AllZip R (slice_set xs i x) ys
 zip_beside R [] [] i x y a is r = a
 zip_beside R [] (z ∷ ys) i x y a is r = absurd a
 zip_beside R (w ∷ xs) [] i x y a is r = absurd a

@@ -1,15 +1,17 @@
--- The whole report of a script whose commands are covered.
-use Rattle.std.proofs.Common.{◌≡◌, ℕ, List, [], ◌∷◌, ◌++◌, length, map, Option, refl, sym, ◌∙◌, ap, subst}
+-- The whole report of a script without a race.
+use Rattle.std.proofs.Common.{◌≡◌, ℕ, Bool, true, false, List, [], ◌∷◌, ◌++◌, length, map, Option, refl, sym, ◌∙◌, ap, subst}
 use Rattle.std.specs.List.{AllZip}
 use Rattle.std.specs.Io.KnownBytes.{Appends}
-use Rattle.std.proofs.lemmas.List.{append-nil}
+use Rattle.tp_model.specs.declared.types.Counts.{Counts}
 use Rattle.tp_manager.specs.Accounts.{Accounts}
-use Rattle.tp_manager.specs.Shown.{ManagerShown, PassShown}
+use Rattle.tp_manager.specs.Shown.{KeeperShown, ManagerShown, PassShown}
 use Rattle.tp_report.proofs.Devices.{Appends-then}
+use Rattle.tp_report.specs.Answer.{account_text, line}
+use Rattle.tp_report.specs.Written.{AppendsFront}
 use Rattle.tp_script.specs.Script.{ScriptView}
 use Rattle.tp_commands.specs.Acting.{AllEnded, PlaceShown}
 use Rattle.tp_commands.specs.Places.{workers}
-use Rattle.tp_perform.specs.Ending.{TellsAccount, finals_of}
+use Rattle.tp_perform.specs.Ending.{AccountFront, TellsAccount, finals_of}
 use Rattle.tp_perform.specs.Reported.{Performed}
 use Rattle.tp_reference.specs.declared.plain_desk.PlainDesk.{PlainDesk}
 use Rattle.tp_reference.specs.PlainReport.{account_line, finals_below, report_of}
@@ -17,6 +19,7 @@ use Rattle.tp_exact.specs.Script.{ExactScript, IsCoveredScript}
 use Rattle.tp_exact.specs.Stands.{IsFor, Stands}
 use Rattle.tp_exact.proofs.Chain.{ran, report_is, told_so}
 use Rattle.tp_exact.proofs.Finals.{exact_finals}
+use Rattle.tp_exact.proofs.GivingUps.{account_so, idle_stands}
 
 -- the registers that are left
 registers_left : (ps : List PlaceShown) (qs : List PassShown) (rs : List (List ℕ)) (ds : List PlainDesk) → AllEnded ps qs rs → AllZip IsFor ps ds → rs ≡ map (λ d. d.registers) ds
@@ -35,29 +38,47 @@ module _ (s : ScriptView) (is : IsCoveredScript s) where
   abbrev pub finals : List ℕ
   finals = finals_below s.servers (ran s (length s.commands)).1.desks (length s.servers)
 
-  pub report : report_of s ≡ (ran s (length s.commands)).0 ++ finals
-  report =
-      report_is s ∙ ap (λ t. (ran s (length s.commands)).0 ++ t) (ap (λ b. finals ++ account_line b (length s.servers) (ran s (length s.commands)).1) is.account ∙ append-nil finals)
+  -- and the line of the account, where it is asked for
+  abbrev pub account : List ℕ
+  account = account_line s.account (length s.servers) (ran s (length s.commands)).1
+
+  pub report : report_of s ≡ (ran s (length s.commands)).0 ++ (finals ++ account)
+  report = report_is s
 
   module _ (m : ManagerShown) (before : Option (List ℕ)) (p : Performed s m before) where
     pub so : (p.told.0 ≡ (ran s (length s.commands)).0) × Stands s.servers m.limits p.kept p.kept.seen p.last (ran s (length s.commands)).1
     so = told_so s is m p.keeper p.first p.begins (length s.commands) p.told.0 p.kept p.last p.told.1
 
+    left_all : AllEnded p.ended.idle.places (workers (length s.servers) p.left) p.registers
+    left_all = p.ended.ended
+
     finals_same : finals_of s p.registers ≡ finals
     finals_same =
         exact_finals s p.registers (ran s (length s.commands)).1.desks is.commands
-        (registers_left p.last.places (workers (length s.servers) p.left) p.registers (ran s (length s.commands)).1.desks p.ended so.1.desks)
+        (registers_left p.ended.idle.places (workers (length s.servers) p.left) p.registers (ran s (length s.commands)).1.desks left_all (idle_stands s.servers m p.kept p.ended_keeper p.last p.left p.registers (ran s (length s.commands)).1 so.1 p.ended).desks)
 
-    -- the commands' lines, and the final ones
-    pub lines_same : p.told.0 ++ finals_of s p.registers ≡ report_of s
-    lines_same = ap (λ t. t ++ finals_of s p.registers) so.0 ∙ (ap (λ t. (ran s (length s.commands)).0 ++ t) finals_same ∙ sym report)
+    -- the commands' lines, the final ones, and the account's
+    pub lines_same : p.told.0 ++ (finals_of s p.registers ++ account) ≡ report_of s
+    lines_same = ap (λ t. t ++ (finals_of s p.registers ++ account)) so.0 ∙ (ap (λ t. (ran s (length s.commands)).0 ++ (t ++ account)) finals_same ∙ sym report)
+
+    -- what is written of the account
+    pub closes : (keeper' : KeeperShown) (closed : List PassShown) (b : Bool) (told after : Option (List ℕ)) → TellsAccount b (Accounts m.limits p.ended_keeper keeper' p.left closed) told after
+        → Appends told after (account_line b (length s.servers) (ran s (length s.commands)).1)
+    closes keeper' closed false told after t = t
+    closes keeper' closed true told after t = subst (λ (c : Counts). Appends told after (line (account_text c)))
+        (account_so s.servers m p.kept p.ended_keeper keeper' p.last p.left closed p.registers (ran s (length s.commands)).1 t.0 so.1 p.ended t.1) t.2
+
+    pub closes_front : (keeper' : KeeperShown) (closed : List PassShown) (b : Bool) (told after : Option (List ℕ)) → AccountFront b (Accounts m.limits p.ended_keeper keeper' p.left closed) told after
+        → AppendsFront told after (account_line b (length s.servers) (ran s (length s.commands)).1)
+    closes_front keeper' closed false told after t = absurd t
+    closes_front keeper' closed true told after t = subst (λ (c : Counts). AppendsFront told after (line (account_text c)))
+        (account_so s.servers m p.kept p.ended_keeper keeper' p.last p.left closed p.registers (ran s (length s.commands)).1 t.0 so.1 p.ended t.1) t.2
 
 pub exact_script : ExactScript
 exact_script s m before after is r =
     let p = r.performed in
     let finals = finals_of s p.registers in
-    let last : Appends r.finals_done after [] = subst (λ b. TellsAccount b (Accounts m.limits p.kept r.keeper' p.left r.closed) r.finals_done after) is.account r.account in
-    let closing : Appends p.commands_done after finals = subst (Appends p.commands_done after) (append-nil finals)
-    (Appends-then p.commands_done r.finals_done after finals [] r.finals last) in
+    let last = closes s is m before p r.keeper' r.closed s.account r.finals_done after r.account in
     subst (Appends before after) (lines_same s is m before p)
-    (Appends-then before p.commands_done after p.told.0 finals p.told.2 closing)
+    (Appends-then before p.commands_done after p.told.0 (finals ++ account s is) p.told.2
+    (Appends-then p.commands_done r.finals_done after finals (account s is) r.finals last))

@@ -29,15 +29,15 @@ pub fn exact_desk()
     ensures { ExactDesk }
 {}
 
-/// The report of a whole script without a race, which asks for no account: it is the computed one, and after a
-/// fault a prefix of it.
+/// The report of a whole script without a race: it is the computed one, and after a fault a prefix of it.
 pub fn exact_script()
     ensures whole { ExactScript }
     ensures front { ExactFront }
 {}
 
-/// What `tp_perform::run` leaves of such a script, by its clause `report`: the computed report, and after a
-/// fault a prefix of it.
+/// What `tp_perform::run` leaves of the bytes of a script without a race, by its clause `report`: the computed
+/// report, or the line of the refusal, and after a fault a prefix of it. So it and `tp_reference::run_plain`
+/// write the same.
 pub fn exact_run()
     ensures { ExactRun }
 {}

@@ -6,6 +6,7 @@ pub mod Slices
 pub mod Gatherings
 pub mod UnitsUsed
 pub mod Rounds
+pub mod GivingUps
 pub mod Chains
 pub mod Parts
 pub mod Races

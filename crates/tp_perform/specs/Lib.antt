@@ -1,6 +1,7 @@
 pub mod Ending
 pub mod Performing
 pub mod Drains
+pub mod GivingUp
 pub mod Reported
 pub mod Scenes
 pub mod Together

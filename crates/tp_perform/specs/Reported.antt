@@ -11,10 +11,9 @@ use Rattle.tp_script.specs.Script.{ScriptView, passes}
 use Rattle.tp_workers.specs.Free.{IsFreePass}
 use Rattle.tp_commands.specs.Acting.{PlaceShown}
 use Rattle.tp_perform.specs.Ending.{AccountFront, FinalsFront, TellsAccount, finals_of}
-use Rattle.tp_commands.specs.Places.{workers}
+use Rattle.tp_perform.specs.GivingUp.{DesksEnd}
 use Rattle.tp_perform.specs.Scenes.{Scene}
-use Rattle.tp_perform.specs.Told.{ArePasses, ToldAll, ToldFront}
-use Rattle.tp_commands.specs.Acting.{AllEnded}
+use Rattle.tp_perform.specs.Told.{ToldAll, ToldFront}
 
 -- the limits that a script asks for
 abbrev pub limits_of : ScriptView → Limits
@@ -59,8 +58,8 @@ pub record Begins (s : ScriptView) (m : ManagerShown) (first : Scene) : Type 0 w
   pub recipes : map (λ p. p.desk.behaviour) first.places ≡ map (λ x. behaviour_of x.recipe) s.servers
   pub registers : map (λ p. p.desk.registers) first.places ≡ map (λ x. x.registers) s.servers
 
--- All commands were performed and their lines written, and the desks ended: what they left. The client and
--- the racers did nothing behind the last command, and the servers' passes only what ends a desk.
+-- All commands were performed and their lines written, and the desks ended: what they left. After the last
+-- command the client and the racers did nothing but look, and the servers' passes only what ends a desk.
 pub record Performed (s : ScriptView) (m : ManagerShown) (before : Option (List ℕ)) : Type 0 where
   pub keeper : KeeperShown
   pub kept : KeeperShown
@@ -69,10 +68,10 @@ pub record Performed (s : ScriptView) (m : ManagerShown) (before : Option (List 
   pub begins : Begins s m first
   pub commands_done : Option (List ℕ)
   pub told : ToldAll m s keeper first kept last before commands_done
+  pub ended_keeper : KeeperShown
   pub left : List PassShown
-  pub all : ArePasses (length s.servers) last left
   pub registers : List (List ℕ)
-  pub ended : AllEnded last.places (workers (length s.servers) left) registers
+  pub ended : DesksEnd m (length s.servers) kept last ended_keeper left registers
 
 -- behind them the final lines, of the registers that are left, and then what is written of the account of
 -- what all passes have seen
@@ -84,7 +83,7 @@ pub record ClosesReport (Tells : Bool → (Account → Type 0) → Option (List 
   pub keeper' : KeeperShown
   pub closed : List PassShown
   pub account :
-      Tells s.account (Accounts m.limits performed.kept keeper' performed.left closed) finals_done after
+      Tells s.account (Accounts m.limits performed.ended_keeper keeper' performed.left closed) finals_done after
 
 -- a whole report: the account's line last, where it is asked for
 abbrev pub Reported : ScriptView → ManagerShown → Option (List ℕ) → Option (List ℕ) → Type 0

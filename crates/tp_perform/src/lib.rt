@@ -4,6 +4,7 @@
 pub mod account;
 mod drains;
 pub mod finals;
+mod giving_up;
 pub mod perform;
 mod program;
 mod racing;

@@ -3,9 +3,10 @@
 ghost use Rattle.std.specs.Prelude.{◌≡◌, ◌+◌, ◌≤◌, None, All, IfOk, IsErrOf, IsTrue, OnErr, OnOk, length};
 ghost use Rattle.std.specs.Prelude.{map, string_bytes};
 ghost use Rattle.tp_manager.specs.Accounts.{AreAll};
-ghost use Rattle.tp_manager.specs.Shown.{IsKeptBy, IsOf};
+ghost use Rattle.tp_manager.specs.Shown.{IsKeptBy, IsOf, KeeperShown};
 ghost use Rattle.tp_workers.specs.Free.{IsFreePass, numbers};
 ghost use Rattle.tp_report.specs.Lines.{IsLine, Writes, WritesFront};
+ghost use Rattle.tp_perform.specs.GivingUp.{DesksEnd};
 ghost use Rattle.tp_perform.specs.Scenes.{Scene, scene};
 ghost use Rattle.tp_perform.specs.Told.{ArePasses, AreReady, IsFirstScene, IsScene, Performs, PerformsAll};
 ghost use Rattle.tp_perform.specs.Told.{TellsCommand, ToldAll, ToldFront, drain_order};
@@ -17,6 +18,7 @@ ghost use Rattle.tp_script.specs.Ranges.{IsInRange};
 ghost use Rattle.tp_script.specs.Script.{passes as passes_of, script_view};
 
 use crate::drains::drain_line;
+use crate::giving_up::give_up_all;
 use crate::racing::run_race;
 use arrayvec::ArrayVec;
 use std::alloc::{AllocError, Global};
@@ -286,11 +288,40 @@ fn end_desks(
     end_all(manager, workers, servers, places);
 }
 
+/// Has each desk give up what it has in hand, with a gathering behind each, and then ends all desks. The passes
+/// are all that the keeper gave out.
+fn close_desks(
+    manager: &Manager,
+    keeper: &mut Keeper,
+    passes: &mut [Pass],
+    servers: &mut [Box<dyn Server + Send>],
+    places: &mut [Place],
+)
+    requires keeper { IsKeptBy manager.now keeper.old }
+    requires given { AreAll keeper.old passes.old }
+    requires ready { AreReady behaviour registers pending manager.now passes.old servers.old places.old }
+    requires enough { 1 + length servers.old ≤ length passes.old }
+    ensures keeper { IsKeptBy manager.now keeper.new }
+    ensures given { AreAll keeper.new passes.new }
+    ensures free { All (IsFreePass manager.now) passes.new }
+    ensures clear { All (λ server. pending server ≡ None) servers.new }
+    ensures left { AllLeft behaviour registers (firsts places.old)
+        (workers (length servers.old) passes.new) servers.new }
+    ensures numbered { numbers passes.new ≡ numbers passes.old }
+    ensures ended { (last : Scene)
+        → IsScene behaviour registers pending passes.old servers.old places.old last
+        → DesksEnd manager.now (length servers.old) keeper.old last keeper.new passes.new
+        (map (λ server. registers server) servers.new) }
+{
+    give_up_all(manager, keeper, passes, servers, places);
+    end_desks(manager, passes, servers, places);
+}
+
 /// Performs the commands of a script over the manager, each server at a desk of its own, and writes a line
 /// for each as it comes. The passes are all that the keeper gave out: the client's, then one for each server,
 /// then those of each race. The servers are the script's, in their order. When the commands are done, and
 /// after a fault, all desks are ended: each server's registers are then what its behaviour makes of what its
-/// pass has committed. Behind the last command nothing else is done. What was done before a fault stands.
+/// pass has committed. After the last command nothing else is done. What was done before a fault stands.
 pub fn perform<R: Threads + Sync, W: Sink>(
     rt: &R,
     alloc: Global,
@@ -314,12 +345,11 @@ pub fn perform<R: Threads + Sync, W: Sink>(
     ensures servers { All (λ server. pending server ≡ None) servers.new }
     ensures left { let many = length servers.old in AllLeft behaviour registers
         (all_firsts (workers many passes.old) servers.old) (workers many passes.new) servers.new }
-    ensures told { OnOk result ((first : Scene) × (last : Scene)
+    ensures told { OnOk result ((first : Scene) × (kept : KeeperShown) × (last : Scene)
         × IsFirstScene behaviour registers pending passes.old servers.old first
-        × ToldAll manager.now (script_view script.now) keeper.old first keeper.new last
+        × ToldAll manager.now (script_view script.now) keeper.old first kept last
         (W.contents writer.old) (W.contents writer.new)
-        × ArePasses (length servers.old) last passes.new
-        × AllEnded last.places (workers (length servers.old) passes.new)
+        × DesksEnd manager.now (length servers.old) kept last keeper.new passes.new
         (map (λ server. registers server) servers.new)) }
     ensures told_front { OnErr result ((first : Scene)
         × IsFirstScene behaviour registers pending passes.old servers.old first
@@ -336,6 +366,6 @@ pub fn perform<R: Threads + Sync, W: Sink>(
     let done = perform_all(
         rt, alloc, script, manager, keeper, passes, servers, places, writer,
     );
-    end_desks(manager, passes, servers, places);
+    close_desks(manager, keeper, passes, servers, places);
     done
 }

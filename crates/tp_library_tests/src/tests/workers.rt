@@ -10,6 +10,7 @@ mod cancels;
 mod counts;
 mod crew;
 mod full;
+mod order;
 mod overlap;
 mod own;
 mod race;

@@ -25,30 +25,29 @@ pub perform_all-done-requires-clause-as_many : goal.perform_all-done-requires-cl
 perform_all-done-requires-clause-as_many g c κs within =
     rw c.as_mut_slice-places.ensures.value (sym (lie_servers (λ b. (goal.Server-dyn g (b.vtable, b.value)).behaviour b.value) (λ b. (goal.Server-dyn g (b.vtable, b.value)).registers b.value) (λ b. (goal.Server-dyn g (b.vtable, b.value)).pending b.value) (workers (length c.args.servers.now) c.args.passes.now) c.args.servers.now c.first_places-places.result.items c.first_places-places.ensures.lie) ∙ c.requires.all)
 
-pub returns-clause-given : goal.returns-clause-given
-returns-clause-given g c =
-    let all = all_same c.args.keeper.now c.args.passes.now c.end_desks.new.passes (c.end_desks.ensures.numbered ∙ c.perform_all-done.ensures.numbered) c.requires.given in
+pub close_desks-requires-clause-given : goal.close_desks-requires-clause-given
+close_desks-requires-clause-given g c =
+    let all = all_same c.args.keeper.now c.args.passes.now c.perform_all-done.new.passes c.perform_all-done.ensures.numbered c.requires.given in
     (all.0 ∙ sym c.perform_all-done.ensures.given, all.1)
 
 pub returns-clause-left : goal.returns-clause-left
 returns-clause-left g c =
     let many : length c.perform_all-done.new.servers ≡ length c.args.servers.now = c.perform_all-done.auto.servers in
     let began = c.perform_all-done.ensures.began ∙ (ap firsts c.as_mut_slice-places.ensures.value ∙ c.first_places-places.ensures.began) in
-    subst (λ fs. AllLeft (λ b. (goal.Server-dyn g (b.vtable, b.value)).behaviour b.value) (λ b. (goal.Server-dyn g (b.vtable, b.value)).registers b.value) fs (workers (length c.args.servers.now) c.end_desks.new.passes) c.end_desks.new.servers) began
-    (subst (λ n. AllLeft (λ b. (goal.Server-dyn g (b.vtable, b.value)).behaviour b.value) (λ b. (goal.Server-dyn g (b.vtable, b.value)).registers b.value) (firsts c.perform_all-done.new.places) (workers n c.end_desks.new.passes) c.end_desks.new.servers) many c.end_desks.ensures.left)
+    subst (λ fs. AllLeft (λ b. (goal.Server-dyn g (b.vtable, b.value)).behaviour b.value) (λ b. (goal.Server-dyn g (b.vtable, b.value)).registers b.value) fs (workers (length c.args.servers.now) c.close_desks.new.passes) c.close_desks.new.servers) began
+    (subst (λ n. AllLeft (λ b. (goal.Server-dyn g (b.vtable, b.value)).behaviour b.value) (λ b. (goal.Server-dyn g (b.vtable, b.value)).registers b.value) (firsts c.perform_all-done.new.places) (workers n c.close_desks.new.passes) c.close_desks.new.servers) many c.close_desks.ensures.left)
 
 pub returns-clause-told : goal.returns-clause-told
 returns-clause-told g c =
     let many : length c.perform_all-done.new.servers ≡ length c.args.servers.now = c.perform_all-done.auto.servers in
     let shown = ap (λ os. places_shown (λ b. (goal.Server-dyn g (b.vtable, b.value)).behaviour b.value) (λ b. (goal.Server-dyn g (b.vtable, b.value)).registers b.value) (λ b. (goal.Server-dyn g (b.vtable, b.value)).pending b.value) (workers (length c.args.servers.now) c.args.passes.now) c.args.servers.now os) c.as_mut_slice-places.ensures.value ∙ c.first_places-places.ensures.shown in
-    on_ok_weaker c.perform_all-done.result (λ told.
-    let ends = rw many at (c.end_desks.ensures.ended told.1 told.4) in (
+    on_ok_weaker c.perform_all-done.result (λ told. (
       told.0,
+      c.perform_all-done.new.keeper,
       told.1,
       is_first (λ b. (goal.Server-dyn g (b.vtable, b.value)).behaviour b.value) (λ b. (goal.Server-dyn g (b.vtable, b.value)).registers b.value) (λ b. (goal.Server-dyn g (b.vtable, b.value)).pending b.value) c.args.passes.now c.args.servers.now _ told.0 told.2 shown,
       told.3,
-      ends.0,
-      ends.1,
+      rw many at (c.close_desks.ensures.ended told.1 told.4),
     )) c.perform_all-done.ensures.told
 
 pub returns-clause-told_front : goal.returns-clause-told_front

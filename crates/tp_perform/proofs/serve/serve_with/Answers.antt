@@ -27,9 +27,9 @@ returns-clause-told g c =
     let commands = c.in_ok-perform.ensures.told in
     let count : length c.args.boxes.now ≡ length c.args.script.now.servers.items = sym (length-map c.args.boxes.now _) ∙ (ap length c.requires.behaviours ∙ length-map c.args.script.now.servers.items _) in
     let many = count ∙ sym (length-map c.args.script.now.servers.items server_view) in
-    let begins = begins_of _ _ _ (script_view c.args.script.now) c.args.manager.now c.args.passes.now _ commands.0 commands.2 many c.requires.limits c.requires.enough c.requires.given.1 c.requires.passes c.requires.new
+    let begins = begins_of _ _ _ (script_view c.args.script.now) c.args.manager.now c.args.passes.now _ commands.0 commands.3 many c.requires.limits c.requires.enough c.requires.given.1 c.requires.passes c.requires.new
     (c.requires.behaviours ∙ recipes_shown c.args.script.now.servers.items) (c.requires.registers ∙ registers_shown c.args.script.now.servers.items) in
-    let performed = performed_of (script_view c.args.script.now) c.args.manager.now c.args.keeper.now c.perform.new.keeper commands.0 commands.1 (g.W.Sink.contents c.args.writer.now) (g.W.Sink.contents c.perform.new.writer) c.perform.new.passes _ _ begins many commands.3 commands.4 commands.5 in
+    let performed = performed_of (script_view c.args.script.now) c.args.manager.now c.args.keeper.now commands.1 c.perform.new.keeper commands.0 commands.2 (g.W.Sink.contents c.args.writer.now) (g.W.Sink.contents c.perform.new.writer) c.perform.new.passes _ _ begins many commands.4 commands.5 in
     on_ok_weaker c.close.result (λ account. record {
       performed = performed;
       finals_done = g.W.Sink.contents c.finals.new.writer;
@@ -53,9 +53,9 @@ returns-in_err-finals-clause-told_front g c =
     let commands = c.in_ok-perform.ensures.told in
     let count : length c.args.boxes.now ≡ length c.args.script.now.servers.items = sym (length-map c.args.boxes.now _) ∙ (ap length c.requires.behaviours ∙ length-map c.args.script.now.servers.items _) in
     let many = count ∙ sym (length-map c.args.script.now.servers.items server_view) in
-    let begins = begins_of _ _ _ (script_view c.args.script.now) c.args.manager.now c.args.passes.now _ commands.0 commands.2 many c.requires.limits c.requires.enough c.requires.given.1 c.requires.passes c.requires.new
+    let begins = begins_of _ _ _ (script_view c.args.script.now) c.args.manager.now c.args.passes.now _ commands.0 commands.3 many c.requires.limits c.requires.enough c.requires.given.1 c.requires.passes c.requires.new
     (c.requires.behaviours ∙ recipes_shown c.args.script.now.servers.items) (c.requires.registers ∙ registers_shown c.args.script.now.servers.items) in
-    let performed = performed_of (script_view c.args.script.now) c.args.manager.now c.args.keeper.now c.perform.new.keeper commands.0 commands.1 (g.W.Sink.contents c.args.writer.now) (g.W.Sink.contents c.perform.new.writer) c.perform.new.passes _ _ begins many commands.3 commands.4 commands.5 in
+    let performed = performed_of (script_view c.args.script.now) c.args.manager.now c.args.keeper.now commands.1 c.perform.new.keeper commands.0 commands.2 (g.W.Sink.contents c.args.writer.now) (g.W.Sink.contents c.perform.new.writer) c.perform.new.passes _ _ begins many commands.4 commands.5 in
     always_err c.from_residual-in_err-finals.result (inr (c.args.manager.now, inr (inl (record { performed = performed; finals = c.in_err-finals.ensures.told_front }))))
 
 pub returns-clause-told_front : goal.returns-clause-told_front
@@ -63,9 +63,9 @@ returns-clause-told_front g c =
     let commands = c.in_ok-perform.ensures.told in
     let count : length c.args.boxes.now ≡ length c.args.script.now.servers.items = sym (length-map c.args.boxes.now _) ∙ (ap length c.requires.behaviours ∙ length-map c.args.script.now.servers.items _) in
     let many = count ∙ sym (length-map c.args.script.now.servers.items server_view) in
-    let begins = begins_of _ _ _ (script_view c.args.script.now) c.args.manager.now c.args.passes.now _ commands.0 commands.2 many c.requires.limits c.requires.enough c.requires.given.1 c.requires.passes c.requires.new
+    let begins = begins_of _ _ _ (script_view c.args.script.now) c.args.manager.now c.args.passes.now _ commands.0 commands.3 many c.requires.limits c.requires.enough c.requires.given.1 c.requires.passes c.requires.new
     (c.requires.behaviours ∙ recipes_shown c.args.script.now.servers.items) (c.requires.registers ∙ registers_shown c.args.script.now.servers.items) in
-    let performed = performed_of (script_view c.args.script.now) c.args.manager.now c.args.keeper.now c.perform.new.keeper commands.0 commands.1 (g.W.Sink.contents c.args.writer.now) (g.W.Sink.contents c.perform.new.writer) c.perform.new.passes _ _ begins many commands.3 commands.4 commands.5 in
+    let performed = performed_of (script_view c.args.script.now) c.args.manager.now c.args.keeper.now commands.1 c.perform.new.keeper commands.0 commands.2 (g.W.Sink.contents c.args.writer.now) (g.W.Sink.contents c.perform.new.writer) c.perform.new.passes _ _ begins many commands.4 commands.5 in
     on_err_weaker c.close.result (λ account. inr (
       c.args.manager.now,
       inr (inr (record {
