@@ -22,31 +22,31 @@ module _ {X : Type 0} {F : X → Type 0} (behaviour : DynBox X Global F → Beha
   abbrev Box : Type 0
   Box = DynBox X Global F
 
-  new_passes : (ps : List PassShown) (ss : List Box) → length ps ≡ length ss → map (λ p. p.desk.pass) (new_places behaviour registers pending ps ss) ≡ ps
+  pub new_passes : (ps : List PassShown) (ss : List Box) → length ps ≡ length ss → map (λ p. p.desk.pass) (new_places behaviour registers pending ps ss) ≡ ps
   new_passes [] [] long = refl
   new_passes [] (s ∷ ss) long = absurd (omega (arith, long))
   new_passes (p ∷ ps) [] long = absurd (omega (arith, long))
   new_passes (p ∷ ps) (s ∷ ss) long = ap (λ qs. p ∷ qs) (new_passes ps ss (omega (arith, long)))
 
-  new_length : (ps : List PassShown) (ss : List Box) → length ps ≡ length ss → length (new_places behaviour registers pending ps ss) ≡ length ss
+  pub new_length : (ps : List PassShown) (ss : List Box) → length ps ≡ length ss → length (new_places behaviour registers pending ps ss) ≡ length ss
   new_length [] [] long = refl
   new_length [] (s ∷ ss) long = absurd (omega (arith, long))
   new_length (p ∷ ps) [] long = absurd (omega (arith, long))
   new_length (p ∷ ps) (s ∷ ss) long = ap suc (new_length ps ss (omega (arith, long)))
 
-  all_new : (ps : List PassShown) (ss : List Box) → All IsNewPlace (new_places behaviour registers pending ps ss)
+  pub all_new : (ps : List PassShown) (ss : List Box) → All IsNewPlace (new_places behaviour registers pending ps ss)
   all_new [] [] = All-nil IsNewPlace
   all_new [] (s ∷ ss) = All-nil IsNewPlace
   all_new (p ∷ ps) [] = All-nil IsNewPlace
   all_new (p ∷ ps) (s ∷ ss) = All-cons IsNewPlace (new_place behaviour registers pending p s) (new_places behaviour registers pending ps ss) (record { began = refl; work = refl; kept = refl }) (all_new ps ss)
 
-  new_behaviours : (ps : List PassShown) (ss : List Box) → length ps ≡ length ss → map (λ p. p.desk.behaviour) (new_places behaviour registers pending ps ss) ≡ map behaviour ss
+  pub new_behaviours : (ps : List PassShown) (ss : List Box) → length ps ≡ length ss → map (λ p. p.desk.behaviour) (new_places behaviour registers pending ps ss) ≡ map behaviour ss
   new_behaviours [] [] long = refl
   new_behaviours [] (s ∷ ss) long = absurd (omega (arith, long))
   new_behaviours (p ∷ ps) [] long = absurd (omega (arith, long))
   new_behaviours (p ∷ ps) (s ∷ ss) long = ap (λ qs. behaviour s ∷ qs) (new_behaviours ps ss (omega (arith, long)))
 
-  new_registers : (ps : List PassShown) (ss : List Box) → length ps ≡ length ss → map (λ p. p.desk.registers) (new_places behaviour registers pending ps ss) ≡ map registers ss
+  pub new_registers : (ps : List PassShown) (ss : List Box) → length ps ≡ length ss → map (λ p. p.desk.registers) (new_places behaviour registers pending ps ss) ≡ map registers ss
   new_registers [] [] long = refl
   new_registers [] (s ∷ ss) long = absurd (omega (arith, long))
   new_registers (p ∷ ps) [] long = absurd (omega (arith, long))

@@ -49,7 +49,7 @@ fn final_line(
 }
 
 /// The final line of the server at a place.
-fn line_of(
+pub fn line_of(
     alloc: Global,
     script: &Script,
     servers: &[Box<dyn Server + Send>],

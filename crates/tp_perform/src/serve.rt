@@ -179,7 +179,7 @@ fn serve_with<R: Threads + Sync, W: Sink>(
 }
 
 /// Puts one more boxed server behind the others.
-fn put(
+pub fn put(
     boxes: &mut Vec<Box<dyn Server + Send>>,
     made: Box<dyn Server + Send>,
 ) -> Result<(), AllocError>
@@ -196,7 +196,7 @@ fn put(
 }
 
 /// A server of a script that changes its registers as it prepares.
-fn eager(server: &ScriptServer) -> Result<EagerServer, AllocError>
+pub fn eager(server: &ScriptServer) -> Result<EagerServer, AllocError>
     ensures behaviour { IfOk result (λ made.
         ⟦<EagerServer as Server>⟧.behaviour made ≡ behaviour_of server.now.recipe) }
     ensures registers { IfOk result (λ made.
@@ -210,7 +210,7 @@ fn eager(server: &ScriptServer) -> Result<EagerServer, AllocError>
 }
 
 /// A server of a script that keeps what it will write.
-fn lazy(server: &ScriptServer) -> Result<LazyServer, AllocError>
+pub fn lazy(server: &ScriptServer) -> Result<LazyServer, AllocError>
     ensures behaviour { IfOk result (λ made.
         ⟦<LazyServer as Server>⟧.behaviour made ≡ behaviour_of server.now.recipe) }
     ensures registers { IfOk result (λ made. ⟦<LazyServer as Server>⟧.registers made ≡ server.now.registers) }

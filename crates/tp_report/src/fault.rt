@@ -54,10 +54,30 @@ impl From<Failed> for RunFault {
 pub enum Fault {
     /// Memory could not be had.
     NoMemory,
-    /// The script could not be read: nothing of it was run.
+    /// The reader failed: nothing of a script was run, and a session ended there.
     Read,
     /// The report could not be written: what was written is a prefix of it.
     Write,
+}
+
+impl<T: Drop> From<AllocFailed<T>> for Fault {
+    ghost use Rattle.tp_report.specs.declared.fault.Fault.TheVariants.{NoMemory};
+
+    ghost from_gives = { λ _ e. e ≡ NoMemory };
+
+    fn from(_: AllocFailed<T>) -> Fault {
+        Fault::NoMemory
+    }
+}
+
+impl From<AllocError> for Fault {
+    ghost use Rattle.tp_report.specs.declared.fault.Fault.TheVariants.{NoMemory};
+
+    ghost from_gives = { λ _ e. e ≡ NoMemory };
+
+    fn from(_: AllocError) -> Fault {
+        Fault::NoMemory
+    }
 }
 
 impl Fault {

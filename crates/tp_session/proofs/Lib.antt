@@ -1,3 +1,12 @@
-pub mod Pushes
-pub mod RegisterLemmas
+pub mod AttendLemmas
+pub mod BeginLemmas
+pub mod CommandLemmas
+pub mod HandLemmas
+pub mod HeardLemmas
+pub mod LineLemmas
+pub mod OpenLemmas
+pub mod ReadingLemmas
+pub mod SessionLemmas
 pub mod TellLemmas
+pub mod ToldLemmas
+pub mod WholeLemmas

@@ -13,7 +13,7 @@ use Rattle.tp_model.specs.declared.types.Work.{Work}
 use Rattle.tp_manager.specs.Calls.{AnswersAbort, Claims, Settles}
 use Rattle.tp_manager.specs.Given.{ClaimIdFails, TakesId}
 use Rattle.tp_manager.specs.Shown.{IsOf, ManagerShown}
-use Rattle.tp_desk.specs.Turns.{settled}
+use Rattle.tp_desk.specs.Turns.{EndsOpen, settled}
 use Rattle.tp_desk.specs.declared.turned.Turned.TheVariants as turneds
 use Rattle.tp_report.specs.declared.answer.ServerAnswer.TheVariants as told
 use Rattle.tp_script.specs.declared.head.WorkerAct.{WorkerAct}
@@ -103,3 +103,9 @@ WorkerDoes l stage acts.Claim old a new = TellsClaim l stage old a new
 WorkerDoes l stage (acts.Take id) old a new = TellsTake l id old a new
 WorkerDoes l stage (acts.Commit drafts) old a new = TellsCommit drafts.items old a new
 WorkerDoes l stage acts.Abort old a new = TellsAbort old a new
+
+-- the worker gave up what it had in hand
+pub record GivesUp (old new : Hand) : Type 0 where
+  pub ends : EndsOpen old.pass.open_unit old.pass new.pass
+  pub free : new.pass.open_unit ≡ None
+  pub none_left : new.work ≡ None

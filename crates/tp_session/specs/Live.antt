@@ -1,5 +1,6 @@
 -- What the lines of a session are told.
-use Rattle.std.specs.Prelude.{◌≡◌, ◌⊎◌, ℕ, List, Some, slice_get, slice_set, string_bytes, IfSome}
+use Rattle.std.specs.Prelude.{◌≡◌, ◌||◌, ℕ, Bool, true, false, List, Option, Some, is_some, slice_get, slice_set, string_bytes, IfSome}
+use Rattle.std.specs.List.{list_any}
 use Rattle.tp_manager.specs.Shown.{ManagerShown, PassShown}
 use Rattle.tp_model.specs.Steps.{rows_of}
 use Rattle.tp_report.specs.Answer.{account_text, answer_text, line, named_text}
@@ -12,7 +13,12 @@ use Rattle.tp_script.specs.declared.head.WorkerLine.{WorkerLine}
 use Rattle.tp_script.specs.declared.script.ClientAct.{ClientAct}
 use Rattle.tp_script.specs.declared.script.DeskAct.{DeskAct}
 use Rattle.tp_script.specs.declared.script.ScriptServer.{ScriptServer}
-use Rattle.tp_commands.specs.Acting.{DoesIn, PlaceShown}
+use Rattle.std.specs.declared.alloc.Global.{Global}
+use Rattle.std.specs.declared.dyn_box.DynBox.{DynBox}
+use Rattle.tp_server.specs.Behaviour.{Behaviour}
+use Rattle.tp_server.specs.Pending.{Pending}
+use Rattle.tp_commands.specs.declared.place.Place.{Place}
+use Rattle.tp_commands.specs.Acting.{DoesIn, PlaceShown, places_shown}
 use Rattle.tp_commands.specs.Asked.{FoundLine, TellsClient, TellsCount}
 use Rattle.tp_commands.specs.Registers.{TellsBalance, register_sum}
 use Rattle.tp_session.specs.Answers.{busy_line, worker_line}
@@ -26,6 +32,19 @@ pub record Live : Type 0 where
   pub client : PassShown
   pub places : List PlaceShown
   pub hands : List Hand
+
+module _ {X : Type 0} {F : X → Type 0} (behaviour : DynBox X Global F → Behaviour)
+    (registers : DynBox X Global F → List ℕ) (pending : DynBox X Global F → Option Pending) where
+  abbrev pub live : PassShown → List PassShown → List (DynBox X Global F) → List (Place X F) → List Hand → Live
+  live client passes servers places hands = record {
+    client = client;
+    places = places_shown behaviour registers pending passes servers places;
+    hands = hands;
+  }
+
+-- whether a unit of work is open: one of a desk or of a worker
+abbrev pub is_open : Live → Bool
+is_open l = list_any (λ h. is_some h.work) l.hands || list_any (λ p. is_some p.desk.work) l.places
 
 -- the line tells what the client did, and nothing else has changed
 pub record ClientTold (m : ManagerShown) (act : ClientAct) (old : Live) (text : List ℕ) (new : Live) : Type 0 where
@@ -69,11 +88,11 @@ pub record BalanceTold (servers : List ScriptServer) (at k : ℕ)
       (λ it. TellsBalance (string_bytes it.name) k place.desk.registers place.is_dropped text)
   pub same : new ≡ old
 
--- the line tells how many elements stand in each way, by reads of the client one after another; or that a unit
--- of work is open, and then nothing was done
-abbrev pub AccountTold : ManagerShown → PassShown → List ℕ → PassShown → Type 0
-AccountTold m old text new = ((text ≡ busy_line) × (new ≡ old))
-    ⊎ FoundLine (TellsCount m.limits (rows_of m.limits)) account_text old text new
+-- with a unit of work open the account is refused, and nothing is done; else the line tells how many elements
+-- stand in each way, by reads of the client one after another
+abbrev pub AccountTold : ManagerShown → Bool → PassShown → List ℕ → PassShown → Type 0
+AccountTold m true old text new = (text ≡ busy_line) × (new ≡ old)
+AccountTold m false old text new = FoundLine (TellsCount m.limits (rows_of m.limits)) account_text old text new
 
 -- the line of what is asked for
 abbrev pub TellsAct : ManagerShown → List ScriptServer → List WorkerLine → Act → Live → List ℕ → Live → Type 0
@@ -83,5 +102,5 @@ TellsAct m servers workers (acts.Worker at act) old text new = WorkerTold m work
 TellsAct m servers workers (acts.Balance at k) old text new = BalanceTold servers at k old text new
 TellsAct m servers workers (acts.Sum k) old text new =
     (text ≡ line (answer_text (answer.Sum k (register_sum k old.places)))) × (new ≡ old)
-TellsAct m servers workers acts.Account old text new = AccountTold m old.client text new.client
+TellsAct m servers workers acts.Account old text new = AccountTold m (is_open old) old.client text new.client
     × (new.places ≡ old.places) × (new.hands ≡ old.hands)

@@ -1,12 +1,13 @@
 //! What a line of a session asks for, performed, and the line of its answer.
-ghost use Rattle.std.specs.Prelude.{◌≡◌, ◌<◌, ◌⊎◌, All, IfOk, IfSome, length, slice_get, string_bytes, vec_len};
-ghost use Rattle.tp_commands.specs.Acting.{places_shown};
-ghost use Rattle.tp_commands.specs.Places.{AllLie};
+ghost use Rattle.std.specs.Prelude.{◌≡◌, ◌<◌, ◌||◌, All, IfOk, IfSome, is_some, length, slice_get, string_bytes, vec_len};
+ghost use Rattle.std.specs.List.{list_any};
+ghost use Rattle.tp_commands.specs.Acting.{work_in};
+ghost use Rattle.tp_commands.specs.Places.{AllLie, firsts};
 ghost use Rattle.tp_manager.specs.Shown.{IsOf};
 ghost use Rattle.tp_workers.specs.Free.{IsFreePass};
 ghost use Rattle.tp_script.specs.Session.{IsActInRange};
 ghost use Rattle.tp_session.specs.Hands.{IsHand};
-ghost use Rattle.tp_session.specs.Live.{AccountTold, TellsAct, WorkerDid};
+ghost use Rattle.tp_session.specs.Live.{AccountTold, TellsAct, WorkerDid, live};
 
 use crate::answers::{busy_line, worker_line};
 use crate::hand::{Hand, worker_act};
@@ -41,20 +42,43 @@ fn worker_told(
 }
 
 /// Whether a worker has something in hand.
-fn has_hand(hands: &[Hand]) -> bool {
+fn has_hand(hands: &[Hand]) -> bool
+    ensures { result ≡ list_any (λ h. is_some h.work) hands.now }
+{
     hands.iter().any(|hand| hand.work.is_some())
 }
 
+/// Whether the desk at a place has something in hand.
+fn has_open(place: &Place) -> bool
+    ensures { result ≡ is_some (work_in place.now.aside) }
+{
+    match &place.aside {
+        Some(aside) => aside.has_open(),
+        None => false,
+    }
+}
+
 /// Whether a server's desk has something in hand.
-fn has_place(places: &[Place]) -> bool {
+fn has_place(places: &[Place]) -> bool
+    ensures { result ≡ list_any (λ p. is_some (work_in p.aside)) places.now }
+{
     for i in 0..places.len() {
-        if let Some(aside) = &places[i].aside {
-            if aside.has_open() {
-                return true;
-            }
+        if has_open(&places[i]) {
+            return true;
         }
     }
     false
+}
+
+/// Whether a unit of work is open.
+fn is_open(places: &[Place], hands: &[Hand]) -> bool
+    ensures { result ≡ (list_any (λ h. is_some h.work) hands.now
+        || list_any (λ p. is_some (work_in p.aside)) places.now) }
+{
+    if has_hand(hands) {
+        return true;
+    }
+    has_place(places)
 }
 
 /// The line of `account`. Nothing is counted while a unit of work is open.
@@ -67,7 +91,7 @@ fn account_told(
     requires client { IsFreePass manager.now client.old }
     ensures client { IsFreePass manager.now client.new }
     ensures tells { IfOk result (λ text.
-        AccountTold manager.now client.old (string_bytes text) client.new) }
+        AccountTold manager.now is_open client.old (string_bytes text) client.new) }
 {
     if is_open {
         return busy_line(alloc);
@@ -99,13 +123,14 @@ pub fn act_line(
     ensures own { All (IsOf manager.now) passes.new }
     ensures lie { AllLie behaviour registers pending passes.new servers.new places.new }
     ensures as_many { length places.new ≡ length places.old }
+    ensures began { firsts places.new ≡ firsts places.old }
     ensures hands { All (IsHand manager.now) hands.new }
     ensures each { length hands.new ≡ length hands.old }
     ensures tells { IfOk result (λ text.
         TellsAct manager.now head.now.script.servers.items head.now.workers.items act.now
-        (record { client = client.old; places = places_shown behaviour registers pending passes.old servers.old places.old; hands = hands.old })
+        (live behaviour registers pending client.old passes.old servers.old places.old hands.old)
         (string_bytes text)
-        (record { client = client.new; places = places_shown behaviour registers pending passes.new servers.new places.new; hands = hands.new })) }
+        (live behaviour registers pending client.new passes.new servers.new places.new hands.new)) }
 {
     let named = head.script.servers.as_slice();
     match act {
@@ -126,7 +151,7 @@ pub fn act_line(
             line(alloc, Answer::Sum { k: *k, sum })
         }
         Act::Account => {
-            let is_open = has_hand(hands) || has_place(places);
+            let is_open = is_open(places, hands);
             account_told(alloc, manager, client, is_open)
         }
     }

@@ -1,7 +1,7 @@
 //! A worker outside of the program: the pass that it acts through, and the work that it has in hand.
-ghost use Rattle.std.specs.Prelude.{◌≡◌, ◌≤◌, None, length};
+ghost use Rattle.std.specs.Prelude.{◌≡◌, ◌≤◌, length};
 ghost use Rattle.tp_model.specs.Steps.{IsServerStage};
-ghost use Rattle.tp_session.specs.Hands.{IsHand, WorkerDoes};
+ghost use Rattle.tp_session.specs.Hands.{GivesUp, IsHand, WorkerDoes};
 ghost use Rattle.tp_session.specs.Hands.{TellsAbort, TellsClaim, TellsCommit, TellsTake};
 
 use tp_desk::Turned;
@@ -119,7 +119,7 @@ fn abort(manager: &Manager, hand: &mut Hand) -> WorkerAnswer
 pub fn give_up(manager: &Manager, hand: &mut Hand)
     requires holds { IsHand manager.now hand.old }
     ensures holds { IsHand manager.now hand.new }
-    ensures free { hand.new.work ≡ None }
+    ensures gives_up { GivesUp hand.old hand.new }
 {
     let _ = abort(manager, hand);
 }

@@ -2,15 +2,18 @@
 #![tactic(auto)]
 
 mod acts;
+mod answering;
 mod answers;
-mod body;
-mod finals;
+mod ending;
 mod hand;
+mod heading;
+mod making;
 mod reading;
+mod session;
 
 pub use acts::act_line;
+pub use answering::attend;
 pub use answers::{busy_line, refused_line, worker_line};
-pub use body::attend;
-pub use finals::final_line;
 pub use hand::{Hand, WorkerAnswer, give_up, worker_act};
 pub use reading::{Lines, MAX_ASKED, MAX_KEPT};
+pub use session::{answer_to_end, converse, converse_to_end};

@@ -1,5 +1,6 @@
 //! The lines of a reader, one by one, and the answers that are not written yet.
-ghost use Rattle.std.specs.Prelude.{◌≡◌, ◌≤◌, ◌<◌, ◌+◌, ◌-◌, ◌^◌, ◌++◌, IfOk, IsErrOf, IsTrue, OnOk, vec_len};
+ghost use Rattle.std.specs.Prelude.{◌≡◌, ◌≤◌, ◌<◌, ◌+◌, ◌^◌, ◌==◌, ◌++◌, [], false, IfOk, IsErrOf, IsTrue};
+ghost use Rattle.std.specs.Prelude.{OnErr, OnOk, position, take, vec_len};
 ghost use Rattle.tp_session.specs.declared.reading.TheConstants.{MAX_ASKED, MAX_KEPT};
 
 use std::alloc::{AllocError, Global};
@@ -25,10 +26,34 @@ pub struct Lines {
     ghost inside: { at ≤ vec_len chunk },
 }
 
+/// Where the first line of these bytes ends, if it does.
+fn line_end(bytes: &[u8]) -> Option<usize>
+    ensures { result ≡ position (λ b. b == 10) bytes.now }
+{
+    bytes.iter().position(|byte| *byte == b'\n')
+}
+
+/// Adds bytes to a line, of which no more are kept than tell that it is too long.
+fn keep(line: &mut Vec<u8>, bytes: &[u8]) -> Result<(), AllocError>
+    requires short { vec_len line.old ≤ MAX_KEPT }
+    ensures short { vec_len line.new ≤ MAX_KEPT }
+    ensures kept { OnOk result (line.new.items ≡ take MAX_KEPT (line.old.items ++ bytes.now)) }
+{
+    let room = MAX_KEPT - line.len();
+    line.extend_from_slice(&bytes[..bytes.len().min(room)])
+}
+
 impl Lines {
+    ghost use Rattle.std.specs.Io.KnownBytes.{Appends, Consumes, IsAtEnd};
+    ghost use Rattle.tp_report.specs.Written.{AppendsFront};
+    ghost use Rattle.tp_session.specs.Heard.{Next, Tells};
+    ghost use Rattle.tp_session.specs.Reading.{TakesLine, to_come, unused};
+
     /// Nothing was read yet.
     pub fn new(alloc: Global) -> Lines
-        ensures { result.left ≡ MAX_ASKED }
+        ensures left { result.left ≡ MAX_ASKED }
+        ensures unused { unused result ≡ [] }
+        ensures untold { result.answers.items ≡ [] }
     {
         Lines {
             chunk: Vec::new(alloc),
@@ -50,6 +75,8 @@ impl Lines {
     pub fn tell(&mut self, text: &[u8]) -> Result<(), AllocError>
         ensures told { OnOk result (self.new.answers.items ≡ self.old.answers.items ++ text.now) }
         ensures left { self.new.left ≡ self.old.left }
+        ensures unused { unused self.new ≡ unused self.old }
+        ensures line { self.new.line ≡ self.old.line }
     {
         self.answers.extend_from_slice(text)
     }
@@ -57,7 +84,13 @@ impl Lines {
     /// Writes the answers.
     pub fn flush<W: Sink>(&mut self, writer: &mut W) -> Result<(), Fault>
         ensures left { self.new.left ≡ self.old.left }
-        ensures none { OnOk result (vec_len self.new.answers ≡ 0) }
+        ensures unused { unused self.new ≡ unused self.old }
+        ensures line { self.new.line ≡ self.old.line }
+        ensures none { OnOk result (self.new.answers.items ≡ []) }
+        ensures told { OnOk result
+            (Appends (W.contents writer.old) (W.contents writer.new) self.old.answers.items) }
+        ensures front { OnErr result
+            (AppendsFront (W.contents writer.old) (W.contents writer.new) self.old.answers.items) }
         ensures write { IsErrOf result Fault.Write → IsTrue (W.has_failed writer.new) }
     {
         match write_all(writer, self.answers.as_slice()) {
@@ -73,35 +106,41 @@ impl Lines {
     fn take_line(&mut self) -> Result<bool, AllocError>
         ensures left { self.new.left ≡ self.old.left }
         ensures same { self.new.answers ≡ self.old.answers }
+        ensures takes { IfOk result (λ ended. TakesLine ended self.old self.new) }
     {
         let rest = &self.chunk[self.at..];
-        let end = rest.iter().position(|byte| *byte == b'\n');
-        let many = match end {
-            Some(place) => place,
-            None => rest.len(),
-        };
-        let room = MAX_KEPT - self.line.len();
-        self.line.extend_from_slice(&rest[..many.min(room)])?;
-        match end {
+        match line_end(rest) {
             Some(place) => {
+                keep(&mut self.line, &rest[..place])?;
                 self.at += place + 1;
                 Ok(true)
             }
             None => {
+                keep(&mut self.line, rest)?;
                 self.at = self.chunk.len();
                 Ok(false)
             }
         }
     }
 
-    /// Reads more, once the answers are written: whether there was more.
+    /// Reads more, once the answers are written: whether there was more. All that was read before is used.
     fn read_more<R: Source, W: Sink>(
         &mut self,
         reader: &mut R,
         writer: &mut W,
     ) -> Result<bool, Fault>
         requires asked { R.asked reader.old + self.old.left < 2 ^ 64 }
+        requires used { unused self.old ≡ [] }
         ensures asked { R.asked reader.new + self.new.left < 2 ^ 64 }
+        ensures line { self.new.line ≡ self.old.line }
+        ensures read { OnOk result
+            (Consumes (to_come self.old (R.rest reader.old)) (to_come self.new (R.rest reader.new)) []) }
+        ensures end { IfOk result (λ some. some ≡ false → IsAtEnd (to_come self.new (R.rest reader.new))) }
+        ensures told { OnOk result (Tells (W.contents writer.old) (W.contents writer.new)
+            self.new.answers.items self.old.answers.items) }
+        ensures front { OnErr result
+            (AppendsFront (W.contents writer.old) (W.contents writer.new) self.old.answers.items) }
+        ensures write { IsErrOf result Fault.Write → IsTrue (W.has_failed writer.new) }
     {
         self.flush(writer)?;
         if self.left == 0 {
@@ -130,6 +169,13 @@ impl Lines {
     ) -> Result<bool, Fault>
         requires asked { R.asked reader.old + self.old.left < 2 ^ 64 }
         ensures asked { R.asked reader.new + self.new.left < 2 ^ 64 }
+        ensures next { IfOk result (λ more. Next more (to_come self.old (R.rest reader.old))
+            self.new.line.items (to_come self.new (R.rest reader.new))) }
+        ensures told { OnOk result (Tells (W.contents writer.old) (W.contents writer.new)
+            self.new.answers.items self.old.answers.items) }
+        ensures front { OnErr result
+            (AppendsFront (W.contents writer.old) (W.contents writer.new) self.old.answers.items) }
+        ensures write { IsErrOf result Fault.Write → IsTrue (W.has_failed writer.new) }
     {
         self.line.clear();
         for _read in 0..MAX_ASKED {

@@ -1,5 +1,12 @@
 use Rattle.std.proofs.Common.{◌+◌, ◌<◌, ◌^◌}
+use Rattle.tp_session.specs.Heard.{ReadsLine, Tells}
+use Rattle.tp_session.specs.Reading.{to_come}
 use Rattle.tp_session.proofs.reading.Lines.next.Given as goal
 
+-- what was read of the line, and what was told before
 abbrev pub invariant-loop-read : goal.invariant-loop-read
-invariant-loop-read g l = (g.R.Source.asked l.reader + l.self.left) < 2 ^ 64
+invariant-loop-read g l = record {
+  asked : (g.R.Source.asked l.reader + l.self.left) < 2 ^ 64;
+  read : ReadsLine (to_come l.fn.self (g.R.Source.rest l.fn.reader)) (to_come l.self (g.R.Source.rest l.reader)) l.self.line.items;
+  told : Tells (g.W.Sink.contents l.fn.writer) (g.W.Sink.contents l.writer) l.self.answers.items l.fn.self.answers.items;
+}

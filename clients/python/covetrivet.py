@@ -1,0 +1,625 @@
+"""A client of Covetrivet's live sessions: the manager runs as a child process, and each command is a call.
+
+    with Session(["rows 8", "server till eager 2 1 add", "worker packer 1"]) as session:
+        session.submit(1, 5, 6)
+        work = session.claim("packer")
+        session.commit("packer", Draft(2, 0, 10), Draft(15, 5, 6))
+
+A call returns a dataclass, or raises the refusal by its name. Several commands are sent at once in a batch:
+
+    with session.batch() as batch:
+        asked = [batch.add(submit(1, customer, price)) for customer, price in orders]
+    ids = [it.value.element for it in asked]
+
+docs/LIVE.md says what each line of a session does. It needs Python 3.10 and its standard library alone.
+"""
+from __future__ import annotations
+
+import os
+import re
+import select
+import subprocess
+from collections.abc import Callable, Iterable, Sequence
+from dataclasses import dataclass
+from types import TracebackType
+from typing import Generic, TypeVar
+
+T = TypeVar("T")
+
+RUN = os.path.join(os.path.dirname(os.path.dirname(os.path.dirname(os.path.realpath(__file__)))), "run")
+
+
+# ---- refusals
+
+
+class Refusal(Exception):
+    """A command was answered by a refusal, whose name is that of its class. Nothing was done, unless the class says so."""
+
+
+class Syntax(Refusal):
+    """A line has no such form."""
+
+
+class BadNumber(Refusal):
+    """A number of a line is out of its range."""
+
+
+class BadLimits(Refusal):
+    """A setting is out of its range, or there are too many servers or workers."""
+
+
+class BadRecipe(Refusal):
+    """A server's recipe is refused, or it has no such register."""
+
+
+class BadName(Refusal):
+    """A name is none, is used twice, or nobody has it; or a worker can't do this."""
+
+
+class TooLong(Refusal):
+    """A line has more than 200 bytes."""
+
+
+class Order(Refusal):
+    """A line of the head came behind it, or a setting behind a server."""
+
+
+class BadStage(Refusal):
+    """The stage isn't 1 to 14; of a taken element, it is another server's."""
+
+
+class NotThere(Refusal):
+    """No such element is born."""
+
+
+class Consumed(Refusal):
+    """The element is consumed, by the unit that `args` names."""
+
+
+class AlreadyKilled(Refusal):
+    """The element is killed."""
+
+
+class Full(Refusal):
+    """The pass has no rows left. Of a commit: the unit is aborted."""
+
+
+class NotParked(Refusal):
+    """The element isn't parked."""
+
+
+class NoRound(Refusal):
+    """The element has had all rounds of attempts."""
+
+
+class Busy(Refusal):
+    """A unit of work is open."""
+
+
+class NotHeld(Refusal):
+    """No unit holds the element."""
+
+
+class NotWaiting(Refusal):
+    """The element is held, consumed, parked or killed."""
+
+
+class NoUnit(Refusal):
+    """The pass has no unit of work left."""
+
+
+class NoneOpen(Refusal):
+    """No unit of work is open."""
+
+
+class Lost(Refusal):
+    """Another caller had aborted the unit: nothing is committed."""
+
+
+class Declined(Refusal):
+    """A server declined its work, for the reason that `args` names. The unit is aborted."""
+
+
+class AlreadyAborted(Refusal):
+    """Another caller had aborted the unit."""
+
+
+class Ended(Refusal):
+    """The server's desk was dropped."""
+
+
+class SessionEnded(Exception):
+    """The program has ended. What it wrote on standard error is in `args`."""
+
+
+REFUSALS = {it.__name__: it for it in Refusal.__subclasses__()}
+
+
+# ---- answers
+
+
+@dataclass(frozen=True)
+class Submitted:
+    element: int
+
+
+@dataclass(frozen=True)
+class Work:
+    """What a worker or a server's desk took. Of a server root and words aren't told."""
+
+    element: int
+    unit: int
+    attempt: int
+    root: int | None = None
+    words: tuple[int, int, int, int] | None = None
+
+
+@dataclass(frozen=True)
+class Done:
+    """A committed unit, and the ids of its outputs."""
+
+    element: int
+    unit: int
+    outputs: range
+
+
+@dataclass(frozen=True)
+class Killed:
+    element: int
+    aborted: int
+
+
+@dataclass(frozen=True)
+class Cancelled:
+    root: int
+    killed: int
+
+
+@dataclass(frozen=True)
+class Requeued:
+    element: int
+    round: int
+
+
+@dataclass(frozen=True)
+class Released:
+    element: int
+    unit: int
+    attempt: int
+
+
+@dataclass(frozen=True)
+class Reply:
+    element: int
+    words: tuple[int, int, int, int]
+
+
+@dataclass(frozen=True)
+class Member:
+    """An element of a request, by how it stands."""
+
+    element: int
+    stage: int
+    state: str
+
+
+@dataclass(frozen=True)
+class Look:
+    """An element that was read: `by` is `client` or the unit that made it, and the status is as in `held 16 1`."""
+
+    element: int
+    stage: int
+    root: int
+    words: tuple[int, int, int, int]
+    by: str
+    status: str
+
+
+@dataclass(frozen=True)
+class Counts:
+    waiting: int
+    held: int
+    consumed: int
+    parked: int
+    killed: int
+
+
+@dataclass(frozen=True)
+class Account:
+    born: int
+    waiting: int
+    held: int
+    consumed: int
+    parked: int
+    killed: int
+
+
+@dataclass(frozen=True)
+class Draft:
+    """An output of a commit: its stage, which is 15 for a reply, and its words."""
+
+    stage: int
+    zero: int = 0
+    one: int = 0
+    two: int = 0
+    three: int = 0
+
+    def __str__(self) -> str:
+        return f"{self.stage}:{self.zero}:{self.one}:{self.two}:{self.three}"
+
+
+# ---- commands
+
+
+@dataclass(frozen=True)
+class Command(Generic[T]):
+    """A line, and what its answer is read as."""
+
+    line: str
+    read: Callable[[str], T]
+
+
+def numbers(answer: str, form: str) -> tuple[int, ...]:
+    """Returns the numbers of an answer of this form, in which each N is one."""
+    found = re.fullmatch(form.replace("N", "([0-9]+)"), answer)
+    if not found:
+        raise ValueError(f"no such answer is known: {answer!r}")
+    return tuple(int(it) for it in found.groups())
+
+
+def words_of(text: str) -> tuple[int, int, int, int]:
+    """Returns the four words of a body that is told with two or four."""
+    words = [int(it) for it in text.split(":")]
+    zero, one, two, three = words + [0] * (4 - len(words))
+    return zero, one, two, three
+
+
+def said_of(name: str, answer: str) -> str:
+    """Returns what is told behind a name, and raises what is told by one word, or by a refusal."""
+    said = answer.removeprefix(f"{name} ")
+    first, *others = said.split()
+    words = {"nounit": NoUnit, "busy": Busy, "none": NoneOpen, "lost": Lost, "full": Full, "already": AlreadyAborted, "ended": Ended}
+    if first in words and len(others) <= 1:
+        raise words[first](*others)
+    if first == "refused":
+        raise REFUSALS.get(others[1], Declined)(*others)
+    return said
+
+
+def submit(stage: int, *words: int) -> Command[Submitted]:
+    line = " ".join(str(it) for it in ("submit", stage, *words, *[0] * (2 - len(words))))
+    return Command(line, lambda said: Submitted(*numbers(said, "submitted N")))
+
+
+def took(name: str) -> Callable[[str], Work | None]:
+    def read(answer: str) -> Work | None:
+        said = said_of(name, answer)
+        if said == "idle":
+            return None
+        if " root " not in said:
+            return Work(*numbers(said, "work N unit N attempt N"))
+        shown, body = said.rsplit(" body ", 1)
+        return Work(*numbers(shown, "work N unit N attempt N root N"), words_of(body))
+
+    return read
+
+
+def done(name: str) -> Callable[[str], Done | None]:
+    def read(answer: str) -> Done | None:
+        said = said_of(name, answer)
+        if said == "idle":
+            return None
+        element, unit, first, count = numbers(said, "done N unit N outputs N N")
+        return Done(element, unit, range(first, first + count))
+
+    return read
+
+
+def committed(name: str) -> Callable[[str], Done]:
+    def read(answer: str) -> Done:
+        found = done(name)(answer)
+        assert found is not None
+        return found
+
+    return read
+
+
+def replies_of(word: str) -> Callable[[str], tuple[Reply, ...]]:
+    def read(answer: str) -> tuple[Reply, ...]:
+        first, _root, *listed = answer.split(" ")
+        assert first == word
+        return tuple(Reply(int(it.split(":")[0]), words_of(it.split(":", 1)[1])) for it in listed)
+
+    return read
+
+
+def members(answer: str) -> tuple[Member, ...]:
+    listed = [it.split(":") for it in answer.split(" ")[2:]]
+    return tuple(Member(int(element), int(stage), state) for element, stage, state in listed)
+
+
+def looked(answer: str) -> Look:
+    form = r"(\d+) stage (\d+) root (\d+) key (\d+) amount (\d+) (?:more (\d+) (\d+) )?by (\w+) (.+)"
+    found = re.fullmatch(form, answer)
+    if not found:
+        raise ValueError(f"no such answer is known: {answer!r}")
+    element, stage, root, *words = (int(it or 0) for it in found.groups()[:7])
+    return Look(element, stage, root, words_of(":".join(str(it) for it in words)), found[8], found[9])
+
+
+def claim(name: str) -> Command[Work | None]:
+    return Command(f"claim {name}", took(name))
+
+
+def take(name: str, element: int) -> Command[Work | None]:
+    return Command(f"take {name} {element}", took(name))
+
+
+def commit(name: str, *drafts: Draft) -> Command[Done]:
+    return Command(" ".join(["commit", name, *(str(it) for it in drafts)]), committed(name))
+
+
+def abort(name: str) -> Command[int]:
+    return Command(f"abort {name}", lambda said: numbers(said_of(name, said), "aborted N")[0])
+
+
+def turn(name: str) -> Command[Done | None]:
+    return Command(f"turn {name}", done(name))
+
+
+def prepare(name: str) -> Command[None]:
+    return Command(f"prepare {name}", lambda said: (said_of(name, said), None)[1])
+
+
+def drop(name: str) -> Command[None]:
+    return Command(f"drop {name}", lambda said: (said_of(name, said), None)[1])
+
+
+def kill(element: int) -> Command[Killed]:
+    return Command(f"kill {element}", lambda said: Killed(*numbers(said, "killed N aborted N")))
+
+
+def cancel(root: int) -> Command[Cancelled]:
+    return Command(f"cancel {root}", lambda said: Cancelled(*numbers(said, "cancelled N killed N")))
+
+
+def requeue(element: int) -> Command[Requeued]:
+    return Command(f"requeue {element}", lambda said: Requeued(*numbers(said, "requeued N round N")))
+
+
+def release(element: int) -> Command[Released]:
+    return Command(f"release {element}", lambda said: Released(*numbers(said, "released N unit N attempt N")))
+
+
+def read(element: int) -> Command[Look]:
+    return Command(f"read {element}", looked)
+
+
+def reply(root: int) -> Command[tuple[Reply, ...]]:
+    return Command(f"reply {root}", replies_of("replies"))
+
+
+def collect(root: int) -> Command[tuple[Reply, ...]]:
+    return Command(f"collect {root}", replies_of("collected"))
+
+
+def family(root: int) -> Command[tuple[Member, ...]]:
+    return Command(f"family {root}", members)
+
+
+def errors() -> Command[tuple[int, ...]]:
+    return Command("errors", lambda said: tuple(int(it) for it in said.split()[1:]))
+
+
+def count() -> Command[Counts]:
+    return Command("count", lambda said: Counts(*numbers(said, "waiting N held N consumed N parked N killed N")))
+
+
+def balance(name: str, register: int) -> Command[int | None]:
+    def value(answer: str) -> int | None:
+        said = said_of(name, answer.removeprefix("balance "))
+        told = said.rsplit(" ", 1)[1]
+        return None if told == "none" else int(told)
+
+    return Command(f"balance {name} {register}", value)
+
+
+def total(register: int) -> Command[int]:
+    """The sum of a register over all servers (`sum`, which is a word of Python)."""
+    return Command(f"sum {register}", lambda said: numbers(said, "sum N N")[1])
+
+
+def account() -> Command[Account]:
+    return Command("account", lambda said: Account(*numbers(said, "account born N waiting N held N consumed N parked N killed N")))
+
+
+# ---- sessions
+
+
+class Later(Generic[T]):
+    """The answer of a command of a batch, which is there once the batch has ended."""
+
+    def __init__(self, command: Command[T]) -> None:
+        self.command = command
+        self.answer: str | None = None
+
+    @property
+    def value(self) -> T:
+        """Returns the answer, or raises the refusal."""
+        if self.answer is None:
+            raise ValueError("the batch hasn't ended")
+        return answered(self.command, self.answer)
+
+
+def answered(command: Command[T], answer: str) -> T:
+    """Returns what a command is answered, or raises the refusal by its name."""
+    refused = re.fullmatch(r"refused (?:line \d+: )?\d+ (\w+)(?: (\d+))?", answer)
+    if refused:
+        raise REFUSALS[refused[1]](*(it for it in (command.line, refused[2]) if it))
+    return command.read(answer)
+
+
+class Batch:
+    """Commands that are sent together, once the `with` block ends without an exception."""
+
+    def __init__(self, session: Session) -> None:
+        self.session = session
+        self.asked: list[Later[object]] = []
+
+    def add(self, command: Command[T]) -> Later[T]:
+        later = Later(command)
+        self.asked.append(later)  # type: ignore[arg-type]
+        return later
+
+    def __enter__(self) -> Batch:
+        return self
+
+    def __exit__(self, kind: type[BaseException] | None, fault: BaseException | None, trace: TracebackType | None) -> None:
+        if kind is None:
+            answers = self.session.exchange([it.command.line for it in self.asked])
+            for later, answer in zip(self.asked, answers):
+                later.answer = answer
+
+
+class Session:
+    """A session, in a `with` block. `head` are the lines of its head; `log`, where it is given, takes each line that is sent.
+
+    The program is `./run --live` of the repository that this file is in, unless another is named, or the environment variable
+    COVETRIVET_LIVE names one.
+    """
+
+    def __init__(self, head: Iterable[str], program: Sequence[str] | None = None, log: Callable[[str], object] | None = None) -> None:
+        named = os.environ.get("COVETRIVET_LIVE")
+        self.program = list(program or ([named] if named else [RUN, "--live"]))
+        self.head = list(head)
+        self.log = log
+        self.rest = b""
+        self.finals: dict[str, tuple[int, ...]] = {}
+
+    def __enter__(self) -> Session:
+        pipes = subprocess.PIPE
+        self.process = subprocess.Popen(self.program, stdin=pipes, stdout=pipes, stderr=pipes, bufsize=0)
+        assert self.process.stdin and self.process.stdout
+        self.input, self.output = self.process.stdin.fileno(), self.process.stdout.fileno()
+        os.set_blocking(self.input, False)
+        try:
+            # A line of the head has no answer unless it is refused, so a first command tells that none was.
+            answer = self.exchange([*self.head, "count"], answers=1)[0]
+            refused = re.fullmatch(r"refused line (\d+): \d+ (\w+)", answer)
+            if refused:
+                raise REFUSALS[refused[2]](self.head[int(refused[1]) - 1])
+        except BaseException:
+            self.close()
+            raise
+        return self
+
+    def __exit__(self, kind: type[BaseException] | None, fault: BaseException | None, trace: TracebackType | None) -> None:
+        self.close()
+
+    def close(self) -> None:
+        """Ends the input. The final lines of the servers are in `finals` then."""
+        assert self.process.stdin and self.process.stdout and self.process.stderr
+        if self.process.stdin.closed:
+            return
+        self.process.stdin.close()
+        said = self.rest + self.process.stdout.read()
+        self.process.stderr.read()
+        self.process.wait()
+        self.process.stdout.close()
+        self.process.stderr.close()
+        for line in said.decode("ascii").splitlines():
+            if line.startswith("final "):
+                _final, name, *values = line.split()
+                self.finals[name] = tuple(int(it) for it in values)
+
+    def exchange(self, lines: Sequence[str], answers: int | None = None) -> list[str]:
+        """Sends lines and returns their answers, one for each unless another number is given. It reads while it writes."""
+        left = b"".join(line.encode("ascii") + b"\n" for line in lines)
+        for line in lines:
+            if self.log:
+                self.log(line)
+        wanted = len(lines) if answers is None else answers
+        while left or self.rest.count(b"\n") < wanted:
+            can_read, can_write, _ = select.select([self.output], [self.input] if left else [], [])
+            try:
+                if can_write:
+                    left = left[os.write(self.input, left) :]
+                some = os.read(self.output, 65536) if can_read else None
+            except BrokenPipeError:
+                some = b""
+            if some == b"":
+                assert self.process.stderr
+                raise SessionEnded(self.process.stderr.read().decode("ascii", "replace"))
+            self.rest += some or b""
+        *told, self.rest = self.rest.split(b"\n", wanted)
+        return [it.decode("ascii") for it in told]
+
+    def do(self, command: Command[T]) -> T:
+        """Sends one command. Returns its answer, or raises the refusal."""
+        return answered(command, self.exchange([command.line])[0])
+
+    def batch(self) -> Batch:
+        return Batch(self)
+
+    def submit(self, stage: int, *words: int) -> Submitted:
+        return self.do(submit(stage, *words))
+
+    def claim(self, name: str) -> Work | None:
+        return self.do(claim(name))
+
+    def take(self, name: str, element: int) -> Work | None:
+        return self.do(take(name, element))
+
+    def commit(self, name: str, *drafts: Draft) -> Done:
+        return self.do(commit(name, *drafts))
+
+    def abort(self, name: str) -> int:
+        return self.do(abort(name))
+
+    def turn(self, name: str) -> Done | None:
+        return self.do(turn(name))
+
+    def prepare(self, name: str) -> None:
+        return self.do(prepare(name))
+
+    def drop(self, name: str) -> None:
+        return self.do(drop(name))
+
+    def kill(self, element: int) -> Killed:
+        return self.do(kill(element))
+
+    def cancel(self, root: int) -> Cancelled:
+        return self.do(cancel(root))
+
+    def requeue(self, element: int) -> Requeued:
+        return self.do(requeue(element))
+
+    def release(self, element: int) -> Released:
+        return self.do(release(element))
+
+    def read(self, element: int) -> Look:
+        return self.do(read(element))
+
+    def reply(self, root: int) -> tuple[Reply, ...]:
+        return self.do(reply(root))
+
+    def collect(self, root: int) -> tuple[Reply, ...]:
+        return self.do(collect(root))
+
+    def family(self, root: int) -> tuple[Member, ...]:
+        return self.do(family(root))
+
+    def errors(self) -> tuple[int, ...]:
+        return self.do(errors())
+
+    def count(self) -> Counts:
+        return self.do(count())
+
+    def balance(self, name: str, register: int) -> int | None:
+        return self.do(balance(name, register))
+
+    def total(self, register: int) -> int:
+        return self.do(total(register))
+
+    def account(self) -> Account:
+        return self.do(account())

@@ -1,0 +1,145 @@
+"""Tests of the client: `python3 test_covetrivet.py`. The environment variable COVETRIVET_LIVE may name the program."""
+import contextlib
+import unittest
+
+import covetrivet
+from covetrivet import Account, Counts, Done, Draft, Look, Member, Released, Reply, Session, Work, claim, submit
+
+HEAD = ["rows 8", "units 8", "limit 2", "server till eager 2 1 add", "start till 0 100", "worker packer 1"]
+
+
+class Calls(unittest.TestCase):
+    def setUp(self):
+        self.session = self.enterContext(Session(HEAD)) if hasattr(self, "enterContext") else self.entered(Session(HEAD))
+
+    def entered(self, session):
+        stack = contextlib.ExitStack()
+        self.addCleanup(stack.close)
+        return stack.enter_context(session)
+
+    def test_a_commit(self):
+        session = self.session
+        self.assertEqual(session.submit(1, 5, 6, 7, 8).element, 0)
+        self.assertEqual(session.claim("packer"), Work(0, 16, 1, 0, (5, 6, 7, 8)))
+        self.assertEqual(session.commit("packer", Draft(2, 0, 10), Draft(15, 5, 6, 0, 9)), Done(0, 16, range(16, 18)))
+        self.assertEqual(session.reply(0), (Reply(17, (5, 6, 0, 9)),))
+        self.assertEqual(session.turn("till"), Done(16, 8, range(0)))
+        self.assertIsNone(session.turn("till"))
+        self.assertIsNone(session.claim("packer"))
+        self.assertEqual((session.balance("till", 0), session.balance("till", 1), session.total(0)), (110, None, 110))
+        self.assertEqual(session.family(0), (Member(0, 1, "consumed"), Member(16, 2, "consumed"), Member(17, 15, "waiting")))
+        self.assertEqual(session.collect(0), (Reply(17, (5, 6, 0, 9)),))
+        self.assertEqual(session.collect(0), ())
+        self.assertEqual(session.account(), Account(3, 0, 0, 2, 0, 1))
+        session.close()
+        self.assertEqual(session.finals, {"till": (110,)})
+
+    def test_attempts(self):
+        session = self.session
+        session.submit(1, 1)
+        self.assertEqual(session.take("packer", 0), Work(0, 16, 1, 0, (1, 0, 0, 0)))
+        self.assertEqual(session.read(0), Look(0, 1, 0, (1, 0, 0, 0), "client", "held 16 1"))
+        self.assertEqual(session.abort("packer"), 0)
+        session.claim("packer")
+        self.assertEqual(session.release(0), Released(0, 17, 2))
+        with self.assertRaises(covetrivet.Lost):
+            session.commit("packer")
+        self.assertEqual(session.errors(), (0,))
+        self.assertEqual(session.requeue(0).round, 1)
+        self.assertEqual(session.count(), Counts(1, 0, 0, 0, 0))
+        self.assertEqual(session.cancel(0).killed, 1)
+
+    def test_a_desk(self):
+        session = self.session
+        session.submit(2, 0, 7)
+        self.assertEqual(session.claim("till"), Work(0, 8, 1))
+        session.prepare("till")
+        self.assertEqual(session.balance("till", 0), 100)
+        self.assertEqual(session.commit("till"), Done(0, 8, range(0)))
+        session.submit(2, 3, 7)
+        with self.assertRaises(covetrivet.Declined) as caught:
+            session.turn("till")
+        self.assertEqual(caught.exception.args, ("1", "NoRegister"))
+        session.drop("till")
+        with self.assertRaises(covetrivet.Ended):
+            session.turn("till")
+        with self.assertRaises(covetrivet.Ended):
+            session.balance("till", 0)
+
+    def test_refusals(self):
+        session = self.session
+        session.submit(1, 0, 1)
+        refused = {
+            covetrivet.BadStage: lambda: session.submit(0, 0, 0),
+            covetrivet.BadNumber: lambda: session.submit(1, -1, 0),
+            covetrivet.BadName: lambda: session.claim("nobody"),
+            covetrivet.Syntax: lambda: session.submit(1, 1, 2, 3, 4, 5),
+            covetrivet.NotThere: lambda: session.kill(5),
+            covetrivet.NotParked: lambda: session.requeue(0),
+            covetrivet.NotHeld: lambda: session.release(0),
+            covetrivet.NoneOpen: lambda: session.abort("packer"),
+            covetrivet.TooLong: lambda: session.do(covetrivet.Command("count".ljust(201), str)),
+            covetrivet.Order: lambda: session.do(covetrivet.Command("rows 8", str)),
+        }
+        for kind, call in refused.items():
+            with self.subTest(kind.__name__), self.assertRaises(kind):
+                call()
+        session.claim("packer")
+        for call in (session.account, lambda: session.claim("packer")):
+            with self.assertRaises(covetrivet.Busy):
+                call()
+        session.commit("packer")
+        with self.assertRaises(covetrivet.Consumed) as caught:
+            session.kill(0)
+        self.assertEqual(caught.exception.args, ("kill 0", "16"))
+        for _ in range(7):
+            session.submit(2, 0, 0)
+        with self.assertRaises(covetrivet.Full):
+            session.submit(2, 0, 0)
+
+    def test_a_batch(self):
+        with self.session.batch() as batch:
+            asked = [batch.add(submit(1, i, 2 * i)) for i in range(9)]
+            work = batch.add(claim("packer"))
+            with self.assertRaises(ValueError):
+                _ = work.value
+        self.assertEqual([it.value.element for it in asked[:8]], list(range(8)))
+        with self.assertRaises(covetrivet.Full):
+            _ = asked[8].value
+        self.assertEqual(work.value, Work(0, 16, 1, 0, (0, 0, 0, 0)))
+
+    def test_a_batch_past_any_pipe(self):
+        with self.session.batch() as batch:
+            asked = [batch.add(covetrivet.count()) for _ in range(20_000)]
+        self.assertEqual({it.value for it in asked}, {Counts(0, 0, 0, 0, 0)})
+
+    def test_a_batch_that_is_left(self):
+        with self.assertRaises(KeyError), self.session.batch() as batch:
+            batch.add(submit(1, 0, 0))
+            raise KeyError
+        self.assertEqual(self.session.count(), Counts(0, 0, 0, 0, 0))
+
+
+class Heads(unittest.TestCase):
+    def test_a_refused_line(self):
+        with self.assertRaises(covetrivet.BadLimits) as caught, Session(["rows 8", "units 0", "rows 9"]):
+            pass
+        self.assertEqual(caught.exception.args, ("units 0",))
+
+    def test_a_log_answers_the_same(self):
+        sent = []
+        with Session(HEAD, log=sent.append) as session:
+            answers = session.exchange(["submit 1 0 6", "claim packer", "commit packer 2:0:6", "turn till", "nonsense"])
+        self.assertEqual(answers[3:], ["till done 16 unit 8 outputs 0 0", "refused line 12: 1 Syntax"])
+        self.assertEqual(session.finals, {"till": (106,)})
+        with Session(HEAD) as again:
+            self.assertEqual(again.exchange(sent[len(HEAD) + 1 :]), answers)
+        self.assertEqual(again.finals, session.finals)
+
+    def test_a_program_that_ends(self):
+        with self.assertRaises(covetrivet.SessionEnded), Session(HEAD, program=["true"]):
+            pass
+
+
+if __name__ == "__main__":
+    unittest.main()

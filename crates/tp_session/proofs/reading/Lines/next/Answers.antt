@@ -1,0 +1,34 @@
+use Rattle.std.proofs.Common.{◌≡◌, ◌∙◌, ◌==◌, ap, arith, length, not, subst, vec_len}
+use Rattle.tp_report.proofs.Devices.{always_err}
+use Rattle.tp_session.specs.Heard.{ReadsLine}
+use Rattle.tp_session.specs.Reading.{TakesLine, to_come}
+use Rattle.tp_session.proofs.HeardLemmas.{read_to_end, reads_on}
+use Rattle.tp_session.proofs.ReadingLemmas.{took_part, took_whole}
+use Rattle.tp_session.proofs.ToldLemmas.{told_front, told_then}
+use Rattle.tp_session.proofs.reading.Lines.next.Goals as goal
+
+pub returns-in-Ok-true-clause-next : goal.returns-in-Ok-true-clause-next
+returns-in-Ok-true-clause-next g c =
+    took_whole _ (g.R.Source.rest c.loop-read.reader) c.loop-read.self c.take_line.new.self c.loop-read.invariant.read (subst (λ e. TakesLine e c.loop-read.self c.take_line.new.self) c.in-Ok-true.field-0-test c.in-Ok-true.ensures.takes)
+
+pub returns-in_err-read_more-clause-front : goal.returns-in_err-read_more-clause-front
+returns-in_err-read_more-clause-front g c = always_err c.from_residual.result (told_front _ _ _ _ _ c.loop-read.invariant.told (rw c.take_line.ensures.same at c.in_err-read_more.ensures.front))
+
+pub returns-then-not-branch-clause-told : goal.returns-then-not-branch-clause-told
+returns-then-not-branch-clause-told g c = told_then _ _ _ _ _ _ c.loop-read.invariant.told (rw c.take_line.ensures.same at c.in_ok-read_more.ensures.told)
+
+pub returns-then-not-branch-clause-next : goal.returns-then-not-branch-clause-next
+returns-then-not-branch-clause-next g c =
+    let before = took_part _ (g.R.Source.rest c.loop-read.reader) c.loop-read.self c.take_line.new.self c.loop-read.invariant.read (subst (λ e. TakesLine e c.loop-read.self c.take_line.new.self) c.in-Ok-false.field-0-test c.in-Ok-false.ensures.takes) in
+    let kept : ReadsLine (to_come c.args.self.now (g.R.Source.rest c.args.reader.now)) (to_come c.read_more.new.self (g.R.Source.rest c.read_more.new.reader)) c.read_more.new.self.line.items = rw c.in_ok-read_more.ensures.line (reads_on _ _ _ _ before c.in_ok-read_more.ensures.read) in
+    let long : vec_len c.read_more.new.self.line ≡ length c.read_more.new.self.line.items = omega (arith, c.read_more.new.self.line.ok.0) in
+    read_to_end _ _ _ _ kept (c.in_ok-read_more.ensures.end c.if-not-branch.true) (ap not (c.is_empty.ensures ∙ ap (λ n. n == 0) long))
+
+pub loop-read-preserved : goal.loop-read-preserved
+loop-read-preserved g c = record {
+  asked = c.in_ok-read_more.ensures.asked;
+  read =
+      let before = took_part _ (g.R.Source.rest c.loop-read.reader) c.loop-read.self c.take_line.new.self c.loop-read.invariant.read (subst (λ e. TakesLine e c.loop-read.self c.take_line.new.self) c.in-Ok-false.field-0-test c.in-Ok-false.ensures.takes) in
+      rw c.in_ok-read_more.ensures.line (reads_on _ _ _ _ before c.in_ok-read_more.ensures.read);
+  told = told_then _ _ _ _ _ _ c.loop-read.invariant.told (rw c.take_line.ensures.same at c.in_ok-read_more.ensures.told);
+}

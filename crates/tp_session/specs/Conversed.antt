@@ -1,0 +1,185 @@
+-- What a whole session is told.
+use Rattle.std.specs.Prelude.{◌≡◌, ◌⊎◌, ℕ, ◌+◌, Bool, true, false, List, [], ◌∷◌, ◌++◌, All, Option, Some, None}
+use Rattle.std.specs.Prelude.{Result, Ok, Err, length, map, take}
+use Rattle.std.specs.List.{AllZip}
+use Rattle.std.specs.Io.KnownBytes.{Appends}
+use Rattle.tp_model.specs.declared.types.Limits.{Limits}
+use Rattle.tp_server.specs.Behaviour.{behaviour_of}
+use Rattle.tp_manager.specs.Accounts.{AreNumberedFrom}
+use Rattle.tp_manager.specs.Shown.{ManagerShown, PassShown}
+use Rattle.tp_workers.specs.Free.{IsFreePass}
+use Rattle.tp_report.specs.Written.{AppendsFront}
+use Rattle.tp_report.specs.declared.fault.Exit.{Exit}
+use Rattle.tp_report.specs.declared.fault.Exit.TheVariants as exits
+use Rattle.tp_report.specs.declared.fault.Fault.{Fault}
+use Rattle.tp_script.specs.Session.{HeadView, head_at, head_view, no_head}
+use Rattle.tp_script.specs.declared.fault.LineFault.{LineFault}
+use Rattle.tp_script.specs.declared.head.Act.{Act}
+use Rattle.tp_script.specs.declared.head.Head.{Head}
+use Rattle.tp_commands.specs.Acting.{AllEnded, IsSteadyPlace}
+use Rattle.tp_perform.specs.Ending.{final_lines}
+use Rattle.tp_perform.specs.Reported.{IsNewPass, IsNewPlace}
+use Rattle.tp_session.specs.Hands.{GivesUp}
+use Rattle.tp_session.specs.Heard.{Hears, HearsFront, IsAllOf, IsSilent, heard}
+use Rattle.tp_session.specs.Live.{Live}
+use Rattle.tp_session.specs.Told.{BodyLines, BodyTold, HeadLine, HeadLines, HeadTold}
+use Rattle.tp_session.specs.declared.hand.Hand.{Hand}
+use Rattle.tp_session.specs.declared.reading.TheConstants.{MAX_KEPT}
+
+-- ---- the head
+
+-- this line is the first command behind this head
+abbrev pub IsCommand : List ℕ → HeadView → Type 0
+IsCommand line head = (act : Act) × (head_at line head ≡ Ok (head, Some act))
+
+-- a line was the first command, or it was answered as one of the head; and this was told before and after
+abbrev pub TakesHeadLine : Bool → ℕ → Result (HeadView × Option Act) LineFault → HeadView → List ℕ → HeadView
+    → List ℕ → Type 0
+TakesHeadLine true n said old before new after =
+    (act : Act) × (said ≡ Ok (new, Some act)) × (after ≡ before)
+TakesHeadLine false n said old before new after =
+    (text : List ℕ) × HeadLine n said old text new × (after ≡ before ++ text)
+
+-- the head was read and told up to the first command, of which this is kept, or to the end of the input
+abbrev pub HeadRead : Option ℕ → Option (List ℕ) → Option (List ℕ) → List ℕ → HeadView → HeadView
+    → (List ℕ → Type 0) → Type 0
+HeadRead None come left kept old new Told = IsSilent left × HeadTold (λ taken. Hears come taken left) old new Told
+HeadRead (Some past) come left kept old new Told = (line : List ℕ) × (kept ≡ take MAX_KEPT line) × IsCommand line new
+    × HeadTold (λ taken. Hears come (taken ++ line ∷ []) left × (length taken ≡ past)) old new Told
+
+-- ---- what is made
+
+-- the limits of a session: a pass for the client, and one for each server and each worker
+abbrev pub limits_of : HeadView → Limits
+limits_of h = record {
+  parts = 1 + length h.script.servers + length h.workers;
+  rows = h.script.settings.rows;
+  units = h.script.settings.units;
+  attempts = h.script.settings.attempts;
+  spare = h.script.settings.spare;
+}
+
+-- all passes
+abbrev pub passes_in : Live → List PassShown
+passes_in l = l.client ∷ (map (λ p. p.desk.pass) l.places ++ map (λ h. h.pass) l.hands)
+
+-- passes of a new manager, in order of number, and workers that have nothing in hand
+pub record AreNewPasses (m : ManagerShown) (client : PassShown) (passes : List PassShown) (hands : List Hand)
+    : Type 0 where
+  pub numbered : AreNumberedFrom 0 (client ∷ (passes ++ map (λ h. h.pass) hands))
+  pub own : All (IsFreePass m) (client ∷ (passes ++ map (λ h. h.pass) hands))
+  pub new : All IsNewPass (client ∷ (passes ++ map (λ h. h.pass) hands))
+  pub idle : All (λ hand. hand.work ≡ None) hands
+
+-- what is there before the first command: a new manager's passes, in order of number, new desks, of which each
+-- has the recipe and the registers of its line, and workers that have nothing in hand
+pub record LiveBegins (h : HeadView) (m : ManagerShown) (first : Live) : Type 0 where
+  pub limits : m.limits ≡ limits_of h
+  pub many : length (passes_in first) ≡ m.limits.parts
+  pub numbered : AreNumberedFrom 0 (passes_in first)
+  pub own : All (IsFreePass m) (passes_in first)
+  pub new : All IsNewPass (passes_in first)
+  pub desks : All IsNewPlace first.places
+  pub recipes : map (λ p. p.desk.behaviour) first.places ≡ map (λ x. behaviour_of x.recipe) h.script.servers
+  pub registers : map (λ p. p.desk.registers) first.places ≡ map (λ x. x.registers) h.script.servers
+  pub each : length first.hands ≡ length h.workers
+  pub idle : All (λ hand. hand.work ≡ None) first.hands
+
+-- ---- the end
+
+-- the workers gave up what they had in hand, and the desks were ended: the registers that are left are the fold
+-- of what each desk has committed since it began
+pub record LiveEnds (last : Live) (registers : List (List ℕ)) : Type 0 where
+  pub passes : List PassShown
+  pub ended : AllEnded last.places passes registers
+  pub steady : All IsSteadyPlace last.places
+  pub hands : List Hand
+  pub given_up : AllZip GivesUp last.hands hands
+
+-- ---- behind the head, to the end
+
+-- All lines behind the head were answered, the final lines are those of the registers that are left, and all
+-- of that was told.
+pub record BodyWhole (m : ManagerShown) (head : Head) (past : ℕ) (begun : List (List ℕ)) (come : Option (List ℕ))
+    (Told : List ℕ → Type 0) : Type 0 where
+  pub first : Live
+  pub begins : LiveBegins (head_view head) m first
+  pub last : Live
+  pub registers : List (List ℕ)
+  pub ends : LiveEnds last registers
+  pub body : BodyTold m head past begun (IsAllOf come) first last
+      (λ text. Told (text ++ final_lines (head_view head).script.servers registers (length (head_view head).script.servers)))
+
+-- some of them were, and this was told
+pub record BodyPart (m : ManagerShown) (head : Head) (past : ℕ) (begun : List (List ℕ)) (come : Option (List ℕ))
+    (Told : List ℕ → Type 0) : Type 0 where
+  pub first : Live
+  pub begins : LiveBegins (head_view head) m first
+  pub last : Live
+  pub body : BodyTold m head past begun (HearsFront come) first last Told
+
+-- after a fault: nothing more was told than before, or a front of that
+abbrev pub BodyFront : Head → ℕ → List (List ℕ) → Option (List ℕ) → (List ℕ → Type 0) → Type 0
+BodyFront head past begun come Told = Told [] ⊎ ((m : ManagerShown)
+    × (BodyPart m head past begun come Told ⊎ BodyWhole m head past begun come Told))
+
+-- ---- a whole session
+
+-- the first line behind a head is a command
+abbrev pub BeginsBody : List (List ℕ) → HeadView → Type 0
+BeginsBody [] head = Unit {0}
+BeginsBody (line ∷ others) head = IsCommand line head
+
+-- The lines of the bytes are those of the head and those behind it, of which the first is a command. Each is
+-- answered, in order, and behind the answers are the final lines. Told says of the text what became of it.
+pub record Session (bytes : List ℕ) (m : ManagerShown) (Told : List ℕ → Type 0) : Type 0 where
+  pub head : Head
+  pub taken : List (List ℕ)
+  pub head_text : List ℕ
+  pub heads : HeadLines 0 taken no_head head_text (head_view head)
+  pub behind : List (List ℕ)
+  pub lines_are : heard bytes ≡ taken ++ behind
+  pub command : BeginsBody behind (head_view head)
+  pub first : Live
+  pub begins : LiveBegins (head_view head) m first
+  pub text : List ℕ
+  pub last : Live
+  pub body : BodyLines m head (length taken) behind first text last
+  pub registers : List (List ℕ)
+  pub ends : LiveEnds last registers
+  pub told : Told (head_text ++ (text ++ final_lines (head_view head).script.servers registers (length (head_view head).script.servers)))
+
+-- the same of some lines, and without the final ones
+pub record SessionPart (bytes : List ℕ) (m : ManagerShown) (Told : List ℕ → Type 0) : Type 0 where
+  pub head : Head
+  pub taken : List (List ℕ)
+  pub head_text : List ℕ
+  pub heads : HeadLines 0 taken no_head head_text (head_view head)
+  pub behind : List (List ℕ)
+  pub others : List (List ℕ)
+  pub lines_are : heard bytes ≡ taken ++ (behind ++ others)
+  pub command : BeginsBody behind (head_view head)
+  pub first : Live
+  pub begins : LiveBegins (head_view head) m first
+  pub text : List ℕ
+  pub last : Live
+  pub body : BodyLines m head (length taken) behind first text last
+  pub told : Told (head_text ++ text)
+
+-- a whole session was answered, and its answers and final lines written
+abbrev pub Conversed : List ℕ → Option (List ℕ) → Option (List ℕ) → Type 0
+Conversed bytes before after = (m : ManagerShown) × Session bytes m (Appends before after)
+
+-- After a fault a front of the answers to some first lines is written: to lines of the head, to some behind it
+-- too, or to all, with the final lines.
+abbrev pub ConversedFront : List ℕ → Option (List ℕ) → Option (List ℕ) → Type 0
+ConversedFront bytes before after =
+    ((head : HeadView) × HeadTold (HearsFront (Some bytes)) no_head head (AppendsFront before after))
+    ⊎ ((m : ManagerShown) × (SessionPart bytes m (AppendsFront before after)
+    ⊎ Session bytes m (AppendsFront before after)))
+
+-- by how the program ended
+abbrev pub ConversedAs : Result Exit Fault → List ℕ → Option (List ℕ) → Option (List ℕ) → Type 0
+ConversedAs (Ok exits.Done) bytes before after = Conversed bytes before after
+ConversedAs (Ok exits.Refused) bytes before after = ⊥
+ConversedAs (Err fault) bytes before after = ConversedFront bytes before after

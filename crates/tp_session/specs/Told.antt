@@ -1,0 +1,73 @@
+-- What the lines of a session are answered, one after another.
+use Rattle.std.specs.Prelude.{◌≡◌, ℕ, ◌+◌, List, [], ◌∷◌, ◌++◌, Option, Some, None, Result, Ok, Err}
+use Rattle.tp_manager.specs.Shown.{ManagerShown}
+use Rattle.tp_script.specs.Session.{HeadView, body_at, head_at, head_view}
+use Rattle.tp_script.specs.declared.fault.LineFault.{LineFault}
+use Rattle.tp_script.specs.declared.head.Act.{Act}
+use Rattle.tp_script.specs.declared.head.Head.{Head}
+use Rattle.tp_session.specs.Answers.{refused_line}
+use Rattle.tp_session.specs.Live.{Live, TellsAct}
+
+-- ---- the head
+
+-- A line of the head has no answer where the head takes it. A faulty one is refused, by its number, and leaves
+-- the head as it was. The first command is no line of the head.
+abbrev pub HeadLine : ℕ → Result (HeadView × Option Act) LineFault → HeadView → List ℕ → HeadView → Type 0
+HeadLine n (Ok (taken, None)) old text new = (text ≡ []) × (new ≡ taken)
+HeadLine n (Ok (taken, Some act)) old text new = ⊥
+HeadLine n (Err fault) old text new = (text ≡ refused_line n fault) × (new ≡ old)
+
+-- such lines one after another, behind so many others
+abbrev pub HeadLines : ℕ → List (List ℕ) → HeadView → List ℕ → HeadView → Type 0
+HeadLines past [] old text new = (text ≡ []) × (new ≡ old)
+HeadLines past (line ∷ others) old text new =
+    (first : List ℕ) × (rest : List ℕ) × (between : HeadView)
+    × HeadLine (past + 1) (head_at line old) old first between
+    × HeadLines (past + 1) others between rest new
+    × (text ≡ first ++ rest)
+
+-- lines of the head from the first on, as far as they were heard and told
+pub record HeadTold (Heard : List (List ℕ) → Type 0) (old new : HeadView) (Told : List ℕ → Type 0) : Type 0 where
+  pub taken : List (List ℕ)
+  pub heard : Heard taken
+  pub text : List ℕ
+  pub lines : HeadLines 0 taken old text new
+  pub told : Told text
+
+-- ---- behind the head
+
+-- A line behind the head has no answer where it asks for nothing. A faulty one is refused, by its number, and
+-- leaves all as it was. Else its answer is what was done.
+abbrev pub LineTold : ManagerShown → Head → ℕ → Result (Option Act) LineFault → Live → List ℕ → Live → Type 0
+LineTold m head n (Ok None) old text new = (text ≡ []) × (new ≡ old)
+LineTold m head n (Ok (Some act)) old text new =
+    TellsAct m head.script.servers.items head.workers.items act old text new
+LineTold m head n (Err fault) old text new = (text ≡ refused_line n fault) × (new ≡ old)
+
+-- such lines one after another, behind so many others
+abbrev pub BodyLines : ManagerShown → Head → ℕ → List (List ℕ) → Live → List ℕ → Live → Type 0
+BodyLines m head past [] old text new = (text ≡ []) × (new ≡ old)
+BodyLines m head past (line ∷ others) old text new =
+    (first : List ℕ) × (rest : List ℕ) × (between : Live)
+    × LineTold m head (past + 1) (body_at line (head_view head)) old first between
+    × BodyLines m head (past + 1) others between rest new
+    × (text ≡ first ++ rest)
+
+-- these lines, and then others, as far as they were heard and told
+pub record BodyTold (m : ManagerShown) (head : Head) (past : ℕ) (begun : List (List ℕ))
+    (Heard : List (List ℕ) → Type 0) (old new : Live) (Told : List ℕ → Type 0) : Type 0 where
+  pub taken : List (List ℕ)
+  pub heard : Heard taken
+  pub text : List ℕ
+  pub lines : BodyLines m head past (begun ++ taken) old text new
+  pub told : Told text
+
+-- the line of the first command, if there is one, of which this is kept
+abbrev pub begun : Option ℕ → List ℕ → List (List ℕ)
+begun None kept = []
+begun (Some past) kept = kept ∷ []
+
+-- how many lines stand in front of it
+abbrev pub past_of : Option ℕ → ℕ
+past_of None = 0
+past_of (Some past) = past

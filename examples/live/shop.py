@@ -1,0 +1,69 @@
+#!/usr/bin/env python3
+"""A shop whose clerk, bank and packer work outside of the manager: three stages, one after another.
+
+One customer can't pay at first: the bank gives the order up twice, it is parked, and another round is given to it once there is money.
+One order is cancelled while the bank works on it: the bank's commit is lost, and no money is taken.
+"""
+import os
+import sys
+
+sys.path.insert(0, os.path.join(os.path.dirname(os.path.realpath(__file__)), "../../clients/python"))
+from covetrivet import Draft, Lost, Session, Work, submit  # noqa: E402
+
+HEAD = ["rows 16", "units 16", "limit 2", "worker clerk 1", "worker bank 2", "worker packer 3"]
+ORDERS = [(1, 30), (2, 70), (1, 50), (3, 20)]
+REPLIES = 15
+
+
+def check(session: Session) -> None:
+    """The clerk passes each order on to the bank."""
+    while work := session.claim("clerk"):
+        customer, price = work.words[:2]
+        session.commit("clerk", Draft(2, customer, price))
+
+
+def pay(session: Session, money: dict[int, int], work: Work) -> str:
+    """The bank takes the price from the customer's money, if there is enough; it pays only what was committed."""
+    customer, price = work.words[:2]
+    if money[customer] < price:
+        session.abort("bank")
+        return "declined"
+    try:
+        session.commit("bank", Draft(3, customer, price))
+    except Lost:
+        return "lost"
+    money[customer] -= price
+    return "paid"
+
+
+def main() -> None:
+    money = {1: 100, 2: 60, 3: 20}
+    with Session(HEAD) as session:
+        with session.batch() as batch:
+            asked = [batch.add(submit(1, customer, price)) for customer, price in ORDERS]
+        orders = [it.value.element for it in asked]
+        print("orders", *orders)
+        check(session)
+
+        work = session.claim("bank")
+        print("cancelled in flight:", session.cancel(work.root).killed, "killed; the bank:", pay(session, money, work))
+        while work := session.claim("bank"):
+            print("order", work.root, "attempt", work.attempt, pay(session, money, work))
+
+        print("parked", *session.errors())
+        money[2] += 40
+        for element in session.errors():
+            session.requeue(element)
+        while work := session.claim("bank"):
+            print("order", work.root, "attempt", work.attempt, pay(session, money, work))
+
+        while work := session.claim("packer"):
+            session.commit("packer", Draft(REPLIES, *work.words))
+        for order in orders:
+            print("order", order, *(f"replied {it.words[0]}:{it.words[1]}" for it in session.collect(order)))
+        print("money", money)
+        print(session.account())
+
+
+if __name__ == "__main__":
+    main()
