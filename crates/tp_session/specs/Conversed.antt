@@ -43,8 +43,10 @@ TakesHeadLine false n said old before new after =
 -- the head was read and told up to the first command, of which this is kept, or to the end of the input
 abbrev pub HeadRead : Option ℕ → Option (List ℕ) → Option (List ℕ) → List ℕ → HeadView → HeadView
     → (List ℕ → Type 0) → Type 0
-HeadRead None come left kept old new Told = IsSilent left × HeadTold (λ taken. Hears come taken left) old new Told
-HeadRead (Some past) come left kept old new Told = (line : List ℕ) × (kept ≡ take MAX_KEPT line) × IsCommand line new
+HeadRead None come left kept old new Told = IsSilent left
+    × HeadTold (λ taken. Hears come taken left) old new Told
+HeadRead (Some past) come left kept old new Told = (line : List ℕ) × (kept ≡ take MAX_KEPT line)
+    × IsCommand line new
     × HeadTold (λ taken. Hears come (taken ++ line ∷ []) left × (length taken ≡ past)) old new Told
 
 -- ---- what is made
@@ -96,23 +98,27 @@ pub record LiveEnds (last : Live) (registers : List (List ℕ)) : Type 0 where
   pub hands : List Hand
   pub given_up : AllZip GivesUp last.hands hands
 
+-- the final lines: one for each server of the head, with the registers that are left
+abbrev pub finals_of : HeadView → List (List ℕ) → List ℕ
+finals_of h registers = final_lines h.script.servers registers (length h.script.servers)
+
 -- ---- behind the head, to the end
 
 -- All lines behind the head were answered, the final lines are those of the registers that are left, and all
 -- of that was told.
-pub record BodyWhole (m : ManagerShown) (head : Head) (past : ℕ) (begun : List (List ℕ)) (come : Option (List ℕ))
-    (Told : List ℕ → Type 0) : Type 0 where
+pub record BodyWhole (m : ManagerShown) (head : Head) (past : ℕ) (begun : List (List ℕ))
+    (come : Option (List ℕ)) (Told : List ℕ → Type 0) : Type 0 where
   pub first : Live
   pub begins : LiveBegins (head_view head) m first
   pub last : Live
   pub registers : List (List ℕ)
   pub ends : LiveEnds last registers
   pub body : BodyTold m head past begun (IsAllOf come) first last
-      (λ text. Told (text ++ final_lines (head_view head).script.servers registers (length (head_view head).script.servers)))
+      (λ text. Told (text ++ finals_of (head_view head) registers))
 
 -- some of them were, and this was told
-pub record BodyPart (m : ManagerShown) (head : Head) (past : ℕ) (begun : List (List ℕ)) (come : Option (List ℕ))
-    (Told : List ℕ → Type 0) : Type 0 where
+pub record BodyPart (m : ManagerShown) (head : Head) (past : ℕ) (begun : List (List ℕ))
+    (come : Option (List ℕ)) (Told : List ℕ → Type 0) : Type 0 where
   pub first : Live
   pub begins : LiveBegins (head_view head) m first
   pub last : Live
@@ -147,7 +153,7 @@ pub record Session (bytes : List ℕ) (m : ManagerShown) (Told : List ℕ → Ty
   pub body : BodyLines m head (length taken) behind first text last
   pub registers : List (List ℕ)
   pub ends : LiveEnds last registers
-  pub told : Told (head_text ++ (text ++ final_lines (head_view head).script.servers registers (length (head_view head).script.servers)))
+  pub told : Told (head_text ++ (text ++ finals_of (head_view head) registers))
 
 -- the same of some lines, and without the final ones
 pub record SessionPart (bytes : List ℕ) (m : ManagerShown) (Told : List ℕ → Type 0) : Type 0 where

@@ -1,5 +1,6 @@
 -- What the lines of a session are told.
-use Rattle.std.specs.Prelude.{◌≡◌, ◌||◌, ℕ, Bool, true, false, List, Option, Some, is_some, slice_get, slice_set, string_bytes, IfSome}
+use Rattle.std.specs.Prelude.{◌≡◌, ◌||◌, ℕ, Bool, true, false, List, Option, Some, IfSome, is_some}
+use Rattle.std.specs.Prelude.{slice_get, slice_set, string_bytes}
 use Rattle.std.specs.List.{list_any}
 use Rattle.tp_manager.specs.Shown.{ManagerShown, PassShown}
 use Rattle.tp_model.specs.Steps.{rows_of}
@@ -35,7 +36,8 @@ pub record Live : Type 0 where
 
 module _ {X : Type 0} {F : X → Type 0} (behaviour : DynBox X Global F → Behaviour)
     (registers : DynBox X Global F → List ℕ) (pending : DynBox X Global F → Option Pending) where
-  abbrev pub live : PassShown → List PassShown → List (DynBox X Global F) → List (Place X F) → List Hand → Live
+  abbrev pub live : PassShown → List PassShown → List (DynBox X Global F) → List (Place X F) → List Hand
+      → Live
   live client passes servers places hands = record {
     client = client;
     places = places_shown behaviour registers pending passes servers places;

@@ -27,7 +27,8 @@ HeadLines past (line ∷ others) old text new =
     × (text ≡ first ++ rest)
 
 -- lines of the head from the first on, as far as they were heard and told
-pub record HeadTold (Heard : List (List ℕ) → Type 0) (old new : HeadView) (Told : List ℕ → Type 0) : Type 0 where
+pub record HeadTold (Heard : List (List ℕ) → Type 0) (old new : HeadView) (Told : List ℕ → Type 0)
+    : Type 0 where
   pub taken : List (List ℕ)
   pub heard : Heard taken
   pub text : List ℕ

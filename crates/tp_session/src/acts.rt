@@ -1,5 +1,6 @@
 //! What a line of a session asks for, performed, and the line of its answer.
-ghost use Rattle.std.specs.Prelude.{◌≡◌, ◌<◌, ◌||◌, All, IfOk, IfSome, is_some, length, slice_get, string_bytes, vec_len};
+ghost use Rattle.std.specs.Prelude.{◌≡◌, ◌<◌, ◌||◌, All, IfOk, IfSome, is_some, length, slice_get};
+ghost use Rattle.std.specs.Prelude.{string_bytes, vec_len};
 ghost use Rattle.std.specs.List.{list_any};
 ghost use Rattle.tp_commands.specs.Acting.{work_in};
 ghost use Rattle.tp_commands.specs.Places.{AllLie, firsts};

@@ -1,6 +1,6 @@
 //! The lines behind the head, answered one by one.
-ghost use Rattle.std.specs.Prelude.{◌≡◌, ◌+◌, ◌<◌, ◌^◌, ◌++◌, ◌∷◌, ◌⊎◌, ℕ, List, [], None, All, IsErrOf, IsTrue, OnErr, OnOk};
-ghost use Rattle.std.specs.Prelude.{length, vec_len};
+ghost use Rattle.std.specs.Prelude.{◌≡◌, ◌+◌, ◌<◌, ◌^◌, ◌++◌, ◌∷◌, ◌⊎◌, ℕ, List, [], None, All, IsErrOf};
+ghost use Rattle.std.specs.Prelude.{IsTrue, OnErr, OnOk, length, vec_len};
 ghost use Rattle.tp_report.specs.Written.{AppendsFront};
 ghost use Rattle.tp_commands.specs.Places.{AllLie, firsts};
 ghost use Rattle.tp_manager.specs.Shown.{IsOf};
@@ -31,7 +31,8 @@ pub(crate) fn refuse(
     number: u64,
     fault: LineFault,
 ) -> Result<(), Fault>
-    ensures told { OnOk result (lines.new.answers.items ≡ lines.old.answers.items ++ refused_line number fault) }
+    ensures told { OnOk result (lines.new.answers.items
+        ≡ lines.old.answers.items ++ refused_line number fault) }
     ensures left { lines.new.left ≡ lines.old.left }
     ensures unused { unused lines.new ≡ unused lines.old }
     ensures line { lines.new.line ≡ lines.old.line }
@@ -204,7 +205,8 @@ pub fn attend<R: Source, W: Sink>(
     Err(Fault::Read)
 }
 
-/// Answers the line that was read last, behind so many others, and then line after line to the end of the input.
+/// Answers the line that was read last, behind so many others, and then line after line to the end of the
+/// input.
 fn answer_from<R: Source, W: Sink>(
     alloc: Global,
     head: &Head,
@@ -240,7 +242,8 @@ fn answer_from<R: Source, W: Sink>(
         (live behaviour registers pending client.new passes.new servers.new places.new hands.new)
         (λ text. Tells (W.contents writer.old) (W.contents writer.new)
         lines.new.answers.items (lines.old.answers.items ++ text))) }
-    ensures front { OnErr result (AppendsFront (W.contents writer.old) (W.contents writer.new) lines.old.answers.items
+    ensures front { OnErr result (AppendsFront (W.contents writer.old) (W.contents writer.new)
+        lines.old.answers.items
         ⊎ (new : Live) × BodyTold manager.now head.now past (lines.old.line.items ∷ [])
         (HearsFront (to_come lines.old (R.rest reader.old)))
         (live behaviour registers pending client.old passes.old servers.old places.old hands.old)
@@ -315,7 +318,8 @@ pub(crate) fn answer_all<R: Source, W: Sink>(
         (live behaviour registers pending client.new passes.new servers.new places.new hands.new)
         (λ text. Tells (W.contents writer.old) (W.contents writer.new)
         lines.new.answers.items (lines.old.answers.items ++ text))) }
-    ensures front { OnErr result (AppendsFront (W.contents writer.old) (W.contents writer.new) lines.old.answers.items
+    ensures front { OnErr result (AppendsFront (W.contents writer.old) (W.contents writer.new)
+        lines.old.answers.items
         ⊎ (new : Live) × BodyTold manager.now head.now (past_of first) (begun first lines.old.line.items)
         (HearsFront (to_come lines.old (R.rest reader.old)))
         (live behaviour registers pending client.old passes.old servers.old places.old hands.old)

@@ -1,6 +1,6 @@
 //! A whole session: its head, what it needs, its lines, and its end.
-ghost use Rattle.std.specs.Prelude.{◌≡◌, ◌+◌, ◌<◌, ◌^◌, ◌++◌, ◌⊎◌, [], None, All, IfSome, IsErrOf, IsTrue, OnErr, OnOk, Result};
-ghost use Rattle.std.specs.Prelude.{length, map, vec_len};
+ghost use Rattle.std.specs.Prelude.{◌≡◌, ◌+◌, ◌<◌, ◌^◌, ◌++◌, ◌⊎◌, None, All, IfSome, IsErrOf, IsTrue, OnErr};
+ghost use Rattle.std.specs.Prelude.{[], OnOk, Result, length, map, vec_len};
 ghost use Rattle.std.specs.Io.KnownBytes.{Appends};
 ghost use Rattle.tp_manager.specs.Shown.{IsKeptBy, ManagerShown};
 ghost use Rattle.tp_workers.specs.Free.{IsFreePass};
@@ -113,7 +113,8 @@ fn hold<R: Source, W: Sink>(
         (λ text. Appends (W.contents writer.old) (W.contents writer.new) (lines.old.answers.items ++ text))) }
     ensures front { OnErr result (BodyFront head.now (past_of first)
         (begun first lines.old.line.items) (to_come lines.old (R.rest reader.old))
-        (λ text. AppendsFront (W.contents writer.old) (W.contents writer.new) (lines.old.answers.items ++ text))) }
+        (λ text. AppendsFront (W.contents writer.old) (W.contents writer.new)
+        (lines.old.answers.items ++ text))) }
     ensures write { IsErrOf result Fault.Write → IsTrue (W.has_failed writer.new) }
 {
     match Keeper::new(alloc, limits_of(head)) {
@@ -155,7 +156,8 @@ fn with_manager<R: Source, W: Sink>(
         (λ text. Appends (W.contents writer.old) (W.contents writer.new) (lines.old.answers.items ++ text))) }
     ensures front { OnErr result (BodyFront head.now (past_of first)
         (begun first lines.old.line.items) (to_come lines.old (R.rest reader.old))
-        (λ text. AppendsFront (W.contents writer.old) (W.contents writer.new) (lines.old.answers.items ++ text))) }
+        (λ text. AppendsFront (W.contents writer.old) (W.contents writer.new)
+        (lines.old.answers.items ++ text))) }
     ensures write { IsErrOf result Fault.Write → IsTrue (W.has_failed writer.new) }
 {
     let mut client = next_pass(manager, keeper);
@@ -200,7 +202,8 @@ fn with_passes<R: Source, W: Sink>(
         (λ text. Appends (W.contents writer.old) (W.contents writer.new) (lines.old.answers.items ++ text))) }
     ensures front { OnErr result (BodyFront head.now (past_of first)
         (begun first lines.old.line.items) (to_come lines.old (R.rest reader.old))
-        (λ text. AppendsFront (W.contents writer.old) (W.contents writer.new) (lines.old.answers.items ++ text))) }
+        (λ text. AppendsFront (W.contents writer.old) (W.contents writer.new)
+        (lines.old.answers.items ++ text))) }
     ensures write { IsErrOf result Fault.Write → IsTrue (W.has_failed writer.new) }
 {
     let mut servers: Vec<Box<dyn Server + Send>> = Vec::new(alloc);
@@ -256,7 +259,8 @@ fn with_servers<R: Source, W: Sink>(
         (λ text. Appends (W.contents writer.old) (W.contents writer.new) (lines.old.answers.items ++ text))) }
     ensures front { OnErr result (BodyFront head.now (past_of first)
         (begun first lines.old.line.items) (to_come lines.old (R.rest reader.old))
-        (λ text. AppendsFront (W.contents writer.old) (W.contents writer.new) (lines.old.answers.items ++ text))) }
+        (λ text. AppendsFront (W.contents writer.old) (W.contents writer.new)
+        (lines.old.answers.items ++ text))) }
     ensures write { IsErrOf result Fault.Write → IsTrue (W.has_failed writer.new) }
 {
     answer_to_end(
@@ -299,16 +303,25 @@ pub fn answer_to_end<R: Source, W: Sink>(
     ensures told { OnOk result ((last : Live)
         × BodyTold manager.now head.now (past_of first) (begun first lines.old.line.items)
         (IsAllOf (to_come lines.old (R.rest reader.old)))
-        (record { client = client.old; places = new_places behaviour registers pending passes.old servers.old; hands = hands.old })
+        (record {
+          client = client.old;
+          places = new_places behaviour registers pending passes.old servers.old;
+          hands = hands.old;
+        })
         last
         (λ text. Tells (W.contents writer.old) (W.contents writer.new)
         lines.new.answers.items (lines.old.answers.items ++ text))
         × LiveEnds last (map (λ server. registers server) servers.new)) }
-    ensures front { OnErr result (AppendsFront (W.contents writer.old) (W.contents writer.new) lines.old.answers.items
+    ensures front { OnErr result (AppendsFront (W.contents writer.old) (W.contents writer.new)
+        lines.old.answers.items
         ⊎ (last : Live)
         × BodyTold manager.now head.now (past_of first) (begun first lines.old.line.items)
         (HearsFront (to_come lines.old (R.rest reader.old)))
-        (record { client = client.old; places = new_places behaviour registers pending passes.old servers.old; hands = hands.old })
+        (record {
+          client = client.old;
+          places = new_places behaviour registers pending passes.old servers.old;
+          hands = hands.old;
+        })
         last
         (λ text. AppendsFront (W.contents writer.old) (W.contents writer.new)
         (lines.old.answers.items ++ text))) }
