@@ -12,6 +12,7 @@ mod families;
 mod large;
 mod pipeline;
 mod race;
+mod rollovers;
 mod small;
 
 use std::{env, io};
@@ -30,6 +31,7 @@ fn main(rt: HostRuntime) -> io::Result<()> {
         large::round(&rt)?;
         families::round(&rt)?;
         pipeline::round(&rt)?;
+        rollovers::round(&rt)?;
         race::round(&rt, &rt, rt.alloc())?;
     }
     Ok(())

@@ -1,8 +1,9 @@
 -- How much is left to the pass that has the least.
-use Rattle.std.specs.Prelude.{◌≡◌, ℕ, ◌-◌, ◌<◌, ◌≤◌, List, length, slice_index_or}
+use Rattle.std.specs.Prelude.{◌≡◌, ◌⊎◌, ℕ, ◌-◌, ◌<◌, ◌≤◌, List, length, slice_index_or}
 use Rattle.tp_model.specs.declared.types.Limits.{Limits}
 use Rattle.tp_manager.specs.Calls.{claims_in}
 use Rattle.tp_manager.specs.Shown.{PassShown}
+use Rattle.tp_crew.specs.declared.crew.Crew.{Crew}
 
 -- how many units of work a pass can begin
 abbrev pub units_left : Limits → PassShown → ℕ
@@ -22,3 +23,23 @@ pub record IsLeastOf (measure : PassShown → ℕ) (passes : List PassShown) (k 
 -- the least of what all passes have
 abbrev pub IsLeast : (PassShown → ℕ) → List PassShown → ℕ → Type 0
 IsLeast measure passes n = IsLeastOf measure passes (length passes) n
+
+module _ {X : Type 0} {F : X → Type 0} where
+  -- one of the crew's passes has the fewest rows left, and one the fewest units: so many
+  pub record HasLeft (rows units : ℕ) (c : Crew X F) : Type 0 where
+    pub rows_are : IsLeast rows_left c.passes.items rows
+    pub units_are : IsLeast (units_left c.manager.limits) c.passes.items units
+
+  -- each has as many rows and units left, or more
+  pub record HasRoom (rows units : ℕ) (c : Crew X F) : Type 0 where
+    pub least_rows : ℕ
+    pub least_units : ℕ
+    pub left : HasLeft least_rows least_units c
+    pub enough : (rows ≤ least_rows) × (units ≤ least_units)
+
+  -- one has fewer rows or units left
+  pub record LacksRoom (rows units : ℕ) (c : Crew X F) : Type 0 where
+    pub least_rows : ℕ
+    pub least_units : ℕ
+    pub left : HasLeft least_rows least_units c
+    pub short : (least_rows < rows) ⊎ (least_units < units)

@@ -3,15 +3,16 @@
 ghost use Rattle.std.specs.Prelude.{◌≡◌, ◌≤◌, MatchOption, MatchResult};
 ghost use Rattle.tp_model.specs.History.{IsUnborn};
 ghost use Rattle.tp_model.specs.declared.types.Refusal.TheVariants as refusals;
-ghost use Rattle.tp_manager.specs.Bounds.{cancel_steps, kill_steps, next_error_steps, read_steps};
-ghost use Rattle.tp_manager.specs.Bounds.{reply_steps, requeue_steps, submit_steps};
+ghost use Rattle.tp_manager.specs.Bounds.{cancel_steps, collect_next_steps, kill_steps, next_error_steps};
+ghost use Rattle.tp_manager.specs.Bounds.{read_steps, reply_steps, requeue_steps, submit_steps};
 ghost use Rattle.tp_manager.specs.Calls.{AtPoint, KillFails, Kills, Reads, SubmitRefused, Submits};
 ghost use Rattle.tp_manager.specs.Cancels.{CancelFails, Cancels};
-ghost use Rattle.tp_manager.specs.Lists.{AllKilled, NextError, NextReply, NoneParked};
+ghost use Rattle.tp_manager.specs.Lists.{AllKilled, CollectsNext, NextError, NextReply, NoneCollected};
+ghost use Rattle.tp_manager.specs.Lists.{NoneParked};
 ghost use Rattle.tp_manager.specs.Requeues.{RequeueFails, Requeues};
 
 use crate::crew::Crew;
-use tp_model::types::{Body, Cancelled, Killed, Look, Refusal};
+use tp_model::types::{Body, Cancelled, Element, Killed, Look, Refusal};
 
 impl Crew {
     ghost use Rattle.tp_crew.specs.Crew.{IsSteadyCrew, OwnCall};
@@ -81,6 +82,18 @@ impl Crew {
             (λ id. NextReply self.old.manager.limits root from id p q)) self.old self.new }
     {
         self.manager.reply(&mut self.passes[0], root, from)
+    }
+
+    /// Takes the least reply to the request with this root that it finds waiting, once, as
+    /// `Manager::collect_next`.
+    pub fn collect_next(&mut self, root: u32) -> Option<Element>
+        requires steady { IsSteadyCrew behaviour registers pending self.old }
+        ensures steady { IsSteadyCrew behaviour registers pending self.new }
+        ensures call { OwnCall (collect_next_steps self.old.manager.limits)
+            (λ p q. MatchOption result (NoneCollected self.old.manager.limits root p q)
+            (λ x. CollectsNext self.old.manager.limits root x p q)) self.old self.new }
+    {
+        self.manager.collect_next(&mut self.passes[0], root)
     }
 
     /// The least id from this one on of an element that is parked, as `Manager::next_error`.

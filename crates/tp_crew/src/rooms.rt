@@ -1,10 +1,13 @@
 //! How much is left to a crew.
-ghost use Rattle.std.specs.Prelude.{◌≡◌, ◌≤◌, All, length};
+ghost use Rattle.std.specs.Prelude.{◌≡◌, ◌≤◌, All, IfErr, IfOk, IfSome, None, Ok, length};
 ghost use Rattle.tp_manager.specs.Shown.{IsOf};
+ghost use Rattle.tp_crew.specs.Rolling.{IsCrewFault};
 ghost use Rattle.tp_crew.specs.Rooms.{IsLeast, rows_left, units_left};
 
 use crate::crew::Crew;
+use std::alloc::Global;
 use tp_manager::{Manager, Pass, Room};
+use tp_rollover::{Moved, RollFault};
 
 /// The fewest rows, and the fewest units, that are left to one of these passes.
 fn least_room(manager: &Manager, passes: &[Pass]) -> Room
@@ -24,6 +27,8 @@ fn least_room(manager: &Manager, passes: &[Pass]) -> Room
 
 impl Crew {
     ghost use Rattle.tp_crew.specs.Crew.{IsSteadyCrew};
+    ghost use Rattle.tp_crew.specs.Rolling.{CrewRolls, CrewStays};
+    ghost use Rattle.tp_crew.specs.Rooms.{HasRoom, LacksRoom};
 
     /// The fewest rows, and the fewest units, that are left to one of the crew's passes. Spare blocks, which
     /// any pass may draw, aren't counted.
@@ -33,5 +38,35 @@ impl Crew {
         ensures units { IsLeast (units_left self.now.manager.limits) self.now.passes.items result.units }
     {
         least_room(&self.manager, &self.passes)
+    }
+
+    /// Rolls over, as `roll_over` does, where one of the crew's passes has fewer rows or units left than
+    /// these. The answer is `None` where all have enough, and then nothing has happened.
+    pub fn roll_when(
+        &mut self,
+        alloc: Global,
+        rows: u16,
+        units: u16,
+    ) -> Result<Option<Vec<Moved>>, RollFault>
+        requires steady { IsSteadyCrew behaviour registers pending self.old }
+        ensures steady { IsSteadyCrew behaviour registers pending self.new }
+        ensures boxes { self.new.boxes ≡ self.old.boxes }
+        ensures clients { self.new.clients ≡ self.old.clients }
+        ensures limits { self.new.manager.limits ≡ self.old.manager.limits }
+        ensures enough { result ≡ Ok None → (self.new ≡ self.old) × HasRoom rows units self.old }
+        ensures moved { IfOk result (λ answer. IfSome answer (λ moved. LacksRoom rows units self.old
+            × CrewRolls self.old self.new moved.items)) }
+        ensures refused { IfErr result (λ fault. LacksRoom rows units self.old
+            × CrewStays self.old self.new) }
+        ensures fault { IfErr result IsCrewFault }
+    {
+        let room = self.room();
+        if room.rows >= rows && room.units >= units {
+            return Ok(None);
+        }
+        match self.roll_over(alloc) {
+            Ok(moved) => Ok(Some(moved)),
+            Err(fault) => Err(fault),
+        }
     }
 }

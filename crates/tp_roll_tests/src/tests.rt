@@ -2,6 +2,8 @@
 mod crews;
 mod plays;
 mod scenes;
+mod statuses;
+mod storms;
 
 use plays::Call::{Aborts, Cancels, Commits, Kills, Requeues, Shows, Stands, Submits, Takes};
 use plays::{Call, Stand};

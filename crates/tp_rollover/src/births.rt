@@ -40,16 +40,13 @@ fn home_of(limits: Limits, id: u32) -> usize {
 
 /// A place for the family of each root, with how many of its elements are alive.
 fn count_families(alloc: Global, capacity: u32, alive: &[Alive]) -> Result<Vec<Family>, Stop> {
-    let mut families = Vec::new(alloc);
-    for _ in 0..capacity {
-        let family = Family {
-            carrier: None,
-            left: 0,
-        };
-        if families.push(family).is_err() {
-            return Err(Stop::NoMemory);
-        }
-    }
+    let none = Family {
+        carrier: None,
+        left: 0,
+    };
+    let Ok(mut families) = Vec::from_elem(alloc, none, capacity as usize) else {
+        return Err(Stop::NoMemory);
+    };
     for one in alive {
         let root = one.root as usize;
         if root < families.len() {
@@ -257,8 +254,11 @@ pub(crate) fn bear_all(
     ensures stays { Stays pass.old pass.new }
     ensures numbers { numbers passes.new ≡ numbers passes.old }
 {
-    let mut families = count_families(alloc, old.capacity(), alive)?;
     let mut moved = Vec::new(alloc);
+    if alive.is_empty() {
+        return Ok(moved);
+    }
+    let mut families = count_families(alloc, old.capacity(), alive)?;
     let mut cursor = Cursor::start();
     for _turn in 0..alive.len() {
         let from = moved.len();

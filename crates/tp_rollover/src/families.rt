@@ -5,15 +5,6 @@ ghost use Rattle.tp_rollover.specs.Checks.{AreFamilies, HasPut};
 use crate::moved::Moved;
 use std::alloc::{AllocError, Global};
 
-/// A table of so many places with nothing in them.
-fn places(alloc: Global, count: u32) -> Result<Vec<Option<u32>>, AllocError> {
-    let mut places = Vec::new(alloc);
-    for _ in 0..count {
-        places.push(None)?;
-    }
-    Ok(places)
-}
-
 /// Whether the place is free or has this value, which it has then. The others stay.
 fn takes(places: &mut [Option<u32>], at: u32, value: u32) -> bool
     ensures { result ≡ true → HasPut at value places.old places.new }
@@ -58,7 +49,10 @@ pub(crate) fn are_families(
 ) -> Result<bool, AllocError>
     ensures { IfOk result (λ yes. yes ≡ true → AreFamilies moved.now) }
 {
-    let mut new_roots = places(alloc, old_rows)?;
-    let mut old_roots = places(alloc, new_rows)?;
+    if moved.is_empty() {
+        return Ok(true);
+    }
+    let mut new_roots = Vec::from_elem(alloc, None, old_rows as usize)?;
+    let mut old_roots = Vec::from_elem(alloc, None, new_rows as usize)?;
     Ok(put_all(moved, &mut new_roots, &mut old_roots))
 }

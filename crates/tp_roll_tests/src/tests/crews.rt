@@ -14,7 +14,7 @@ use tp_server::{Act, AmountFrom, EagerServer, KeyFrom, Output, Recipe, Registers
 
 /// A box of this stage with one register, and with so many replies to each element, at most four. A reply has
 /// the element's key and amount.
-fn server<R: Abort + AllocGlobal>(
+pub(super) fn server<R: Abort + AllocGlobal>(
     rt: &R,
     stage: u8,
     act: Act,
@@ -45,7 +45,7 @@ fn server<R: Abort + AllocGlobal>(
 }
 
 /// Limits of so many rows for each pass, where an element is parked after one attempt.
-fn limits(rows: u16) -> CrewLimits {
+pub(super) fn limits(rows: u16) -> CrewLimits {
     CrewLimits {
         rows,
         units: 16,
@@ -81,7 +81,7 @@ fn hired_small<R: Abort + AllocGlobal>(rt: &R) -> Crew
 }
 
 /// The first box has added up to this.
-fn has_added<R: Abort>(rt: &R, crew: &Crew, sum: u64) {
+pub(super) fn has_added<R: Abort>(rt: &R, crew: &Crew, sum: u64) {
     match crew.server(0) {
         Some(server) => assert_eq!(rt; server.balance(0), Some(sum)),
         None => panic!(rt; "no box"),
@@ -99,7 +99,7 @@ fn works<R: Abort>(rt: &R, crew: &mut Crew, stage: u8, amount: u64, id: u32)
 }
 
 /// The element of this id stands so.
-fn stands<R: Abort>(rt: &R, crew: &mut Crew, id: u32, status: Status)
+pub(super) fn stands<R: Abort>(rt: &R, crew: &mut Crew, id: u32, status: Status)
     requires { IsSteadyCrew (shown behaviour) (shown registers) (shown pending) crew.old }
     ensures steady { IsSteadyCrew (shown behaviour) (shown registers) (shown pending) crew.new }
 {
@@ -108,7 +108,7 @@ fn stands<R: Abort>(rt: &R, crew: &mut Crew, id: u32, status: Status)
 }
 
 /// The crew rolls over, which carries so many elements.
-fn rolls<R: Abort + AllocGlobal>(rt: &R, crew: &mut Crew, many: usize) -> Vec<Moved>
+pub(super) fn rolls<R: Abort + AllocGlobal>(rt: &R, crew: &mut Crew, many: usize) -> Vec<Moved>
     requires { IsSteadyCrew (shown behaviour) (shown registers) (shown pending) crew.old }
     ensures steady { IsSteadyCrew (shown behaviour) (shown registers) (shown pending) crew.new }
     ensures count { length result.items ≡ many }
@@ -180,5 +180,44 @@ fn crew_without_room(rt: HostRuntime) {
     assert!(rt; crew.kill(2).is_ok());
     drop(rolls(&rt, &mut crew, 2));
     has_added(&rt, &crew, 10);
+    drop(crew);
+}
+
+/// Each rollover carries so many elements, as often as that.
+fn rolls_often<R: Abort + AllocGlobal>(rt: &R, crew: &mut Crew, many: usize, times: u32)
+    requires { IsSteadyCrew (shown behaviour) (shown registers) (shown pending) crew.old }
+    ensures steady { IsSteadyCrew (shown behaviour) (shown registers) (shown pending) crew.new }
+{
+    for _time in 0..times {
+        drop(rolls(rt, crew, many));
+    }
+}
+
+/// 200 managers one after another: what is parked, waits or is a reply goes on through all of them, and no
+/// more than one carrier is in each. In the last one the parked element has the row 0, and the waiting one the
+/// row 1. The carrier has the row 16 and the first unit of the first desk, and the reply the row 17.
+#[test]
+fn two_hundred_managers(rt: HostRuntime) {
+    let mut crew = hired(&rt);
+    works(&rt, &mut crew, 1, 10, 0);
+    works(&rt, &mut crew, 2, 5, 1);
+    works(&rt, &mut crew, 3, 7, 2);
+    rolls_often(&rt, &mut crew, 3, 199);
+    let moved = rolls(&rt, &mut crew, 3);
+    assert_eq!(rt; (moved[0].old, moved[1].old, moved[2].old), (0, 1, 17));
+    assert_eq!(rt; (moved[0].new, moved[1].new, moved[2].new), (0, 1, 17));
+    assert_eq!(rt; moved[2].new_root, 16);
+    stands(&rt, &mut crew, 0, Status::Parked { attempts: 1 });
+    stands(&rt, &mut crew, 1, Status::Waiting { attempts: 0 });
+    stands(&rt, &mut crew, 16, Status::Consumed { unit: 16 });
+    assert_eq!(rt;
+        crew.room(),
+        Room {
+            rows: 14,
+            units: 15
+        }
+    );
+    has_added(&rt, &crew, 10);
+    drop(moved);
     drop(crew);
 }

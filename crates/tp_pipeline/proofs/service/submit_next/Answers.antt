@@ -1,0 +1,9 @@
+use Rattle.tp_pipeline.proofs.Careers.{goes_further}
+use Rattle.tp_pipeline.proofs.service.submit_next.Goals as goal
+
+pub loop-one-preserved : goal.loop-one-preserved
+loop-one-preserved g c = record {
+  steady = c.in_ok-submit_one.ensures.steady;
+  staffed = c.in_ok-submit_one.ensures.staffed;
+  goes_on = goes_further _ _ _ _ _ c.loop-one.invariant.goes_on c.in_ok-submit_one.ensures.goes_on;
+}

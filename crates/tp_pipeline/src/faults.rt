@@ -1,0 +1,62 @@
+//! What can keep the pipeline from going on.
+
+use std::alloc::{AllocError, AllocFailed};
+use std::io;
+use tp_manager::MakeFault;
+use tp_model::types::Refusal;
+use tp_rollover::RollFault;
+
+/// Why the pipeline couldn't go on. A `?` makes it of what the calls answer.
+#[derive(Debug, Drop)]
+pub enum PipelineFault {
+    /// No manager could be made.
+    NoManager(MakeFault),
+    /// The allocator refused.
+    NoMemory,
+    /// Nothing could be read or printed.
+    NoOutput,
+    /// A call was refused.
+    Refused(Refusal),
+    /// The crew couldn't go on in a new manager.
+    NoRollover(RollFault),
+    /// A new manager has no room for a payment.
+    NoRoom,
+    /// The books don't agree with one another.
+    BadBooks,
+}
+
+impl From<MakeFault> for PipelineFault {
+    fn from(fault: MakeFault) -> PipelineFault {
+        PipelineFault::NoManager(fault)
+    }
+}
+
+impl From<AllocError> for PipelineFault {
+    fn from(_: AllocError) -> PipelineFault {
+        PipelineFault::NoMemory
+    }
+}
+
+impl<T: Drop> From<AllocFailed<T>> for PipelineFault {
+    fn from(_: AllocFailed<T>) -> PipelineFault {
+        PipelineFault::NoMemory
+    }
+}
+
+impl From<io::Error> for PipelineFault {
+    fn from(_: io::Error) -> PipelineFault {
+        PipelineFault::NoOutput
+    }
+}
+
+impl From<Refusal> for PipelineFault {
+    fn from(refusal: Refusal) -> PipelineFault {
+        PipelineFault::Refused(refusal)
+    }
+}
+
+impl From<RollFault> for PipelineFault {
+    fn from(fault: RollFault) -> PipelineFault {
+        PipelineFault::NoRollover(fault)
+    }
+}

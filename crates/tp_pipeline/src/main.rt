@@ -1,0 +1,85 @@
+//! Payments that go through three stages: each is validated, charged and shipped. However many there are, a
+//! crew works them off, in one manager after another.
+//!
+//! The arguments, each of which may be left out: how many payments there are, how many turns each desk takes
+//! on a thread of its own before what is left of a batch is drained on one, and how many steps each turn's
+//! work takes. With any argument a line more tells of the managers.
+#![tactic(auto)]
+
+mod audit;
+mod bank;
+mod books;
+mod faults;
+mod servers;
+mod service;
+
+use audit::audit;
+use bank::Terminal;
+use faults::PipelineFault;
+use servers::{Charger, Shipper, Validator};
+use service::{Boxed, Served, Task, serve};
+use std::env;
+use std::thread::Threads;
+use std::time::Clock;
+use tp_server::{OwnServer, three};
+
+/// The highest amount that the validator lets through.
+const CEILING: u64 = 98;
+
+fn main(rt: HostRuntime) -> Result<(), PipelineFault> {
+    let mut numbers = [3000, 900, 0];
+    let mut given = 0;
+    for word in env::args(&rt)? {
+        if let Ok(number) = word.parse::<u64>() {
+            if given < 3 {
+                numbers[given] = number;
+                given += 1;
+            }
+        }
+    }
+    let [payments, turns, steps] = numbers;
+    let task = Task {
+        payments,
+        turns: turns.min(60_000) as u16,
+    };
+    run(&rt, task, steps.min(1_000_000) as u32, given > 0)
+}
+
+/// Hires the servers, which work all payments off, and tells of the books, and of the managers if asked.
+fn run<R: AllocGlobal + Clock + Print + Threads + Sync>(
+    rt: &R,
+    task: Task,
+    steps: u32,
+    managers_too: bool,
+) -> Result<(), PipelineFault> {
+    let validator = Validator {
+        ceiling: CEILING,
+        steps,
+    };
+    let charger = Charger {
+        bank: Terminal { calls: 0 },
+        steps,
+    };
+    let first: Boxed = Box::new(rt.alloc(), OwnServer::new(validator, [0]))?;
+    let second: Boxed = Box::new(rt.alloc(), OwnServer::new(charger, [0, 0]))?;
+    let third: Boxed = Box::new(rt.alloc(), OwnServer::new(Shipper { steps }, [0]))?;
+    let fourth: Boxed = Box::new(rt.alloc(), OwnServer::new(Shipper { steps }, [0]))?;
+    let mut boxes = Vec::from_array(rt.alloc(), three(first, second, third))?;
+    boxes.push(fourth)?;
+    let served = serve(rt, boxes, task)?;
+    audit(rt, &served, task, CEILING)?;
+    if managers_too {
+        tell(rt, &served)?;
+    }
+    Ok(())
+}
+
+/// What the managers were used for.
+fn tell<R: Print>(rt: &R, served: &Served) -> Result<(), PipelineFault> {
+    let books = &served.books;
+    println!(rt;
+        "managers {} carried {} requeued {} rolling {}",
+        books.managers, books.carried, books.requeued, books.rolling
+    )?;
+    Ok(())
+}

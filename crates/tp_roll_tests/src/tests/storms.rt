@@ -1,0 +1,117 @@
+//! Rollovers of crews between threads' shifts, and where memory lacks.
+ghost use Rattle.std.specs.Prelude.{◌≡◌, IfSome, None, length};
+ghost use Rattle.tp_desk.specs.Steady.{shown};
+ghost use Rattle.tp_crew.specs.Crew.{IsSteadyCrew};
+
+use super::crews::{limits, rolls, server, stands};
+use std::process::Abort;
+use std::thread::Threads;
+use tp_crew::Crew;
+use tp_desk::Order;
+use tp_model::types::Status;
+use tp_rollover::RollFault;
+use tp_server::{Act, Server};
+use tp_workers::{ClientJob, NoGate, Plan};
+
+/// A crew of two boxes of stage 1 that add up, and one client.
+fn two_adders<R: Abort + AllocGlobal>(rt: &R) -> Crew
+    ensures steady { IsSteadyCrew (shown behaviour) (shown registers) (shown pending) result }
+    ensures hired { (length result.boxes.items ≡ 2) × (result.clients ≡ 1) }
+{
+    let mut boxes: Vec<Box<dyn Server + Send>> = Vec::new(rt.alloc());
+    boxes
+        .push(server(rt, 1, Act::Add, 0))
+        .expect(rt, "no memory");
+    boxes
+        .push(server(rt, 1, Act::Add, 0))
+        .expect(rt, "no memory");
+    Crew::new(rt.alloc(), limits(64), boxes, 1).expect(rt, "no crew")
+}
+
+/// A rollover, of whatever is left.
+fn rolls_on<R: Abort + AllocGlobal>(rt: &R, crew: &mut Crew)
+    requires steady { IsSteadyCrew (shown behaviour) (shown registers) (shown pending) crew.old }
+    requires hired { (length crew.old.boxes.items ≡ 2) × (crew.old.clients ≡ 1) }
+    ensures steady { IsSteadyCrew (shown behaviour) (shown registers) (shown pending) crew.new }
+    ensures hired { (length crew.new.boxes.items ≡ 2) × (crew.new.clients ≡ 1) }
+{
+    drop(crew.roll_over(rt.alloc()).expect(rt, "no rollover"));
+}
+
+/// A rollover, a shift in which twelve elements of amount 1 are submitted, and each desk takes four turns, and
+/// another rollover.
+fn rolls_and_works<R: Abort + AllocGlobal + Threads + Sync>(rt: &R, crew: &mut Crew)
+    requires steady { IsSteadyCrew (shown behaviour) (shown registers) (shown pending) crew.old }
+    requires hired { (length crew.old.boxes.items ≡ 2) × (crew.old.clients ≡ 1) }
+    ensures steady { IsSteadyCrew (shown behaviour) (shown registers) (shown pending) crew.new }
+    ensures hired { (length crew.new.boxes.items ≡ 2) × (crew.new.clients ≡ 1) }
+{
+    rolls_on(rt, crew);
+    let bodies = Vec::from_array(rt.alloc(), [[0, 1, 0, 0]; 12]).expect(rt, "no memory");
+    let mut jobs = [ClientJob { stage: 1, bodies }];
+    let counts = crew.shift(rt, Plan::in_turn(4), &mut jobs, &mut [], &NoGate);
+    assert_eq!(rt; counts.submitted, 12);
+    drop(jobs);
+    rolls_on(rt, crew);
+}
+
+/// What both boxes have added up to.
+fn added<R: Abort>(rt: &R, crew: &Crew) -> u64 {
+    let (Some(first), Some(second)) = (crew.server(0), crew.server(1)) else {
+        panic!(rt; "no box");
+    };
+    let (Some(one), Some(other)) = (first.balance(0), second.balance(0)) else {
+        panic!(rt; "no register");
+    };
+    one.saturating_add(other)
+}
+
+/// Six rollovers before and behind three shifts lose nothing and repeat nothing.
+#[test]
+fn between_shifts(rt: HostRuntime) {
+    let mut crew = two_adders(&rt);
+    rolls_and_works(&rt, &mut crew);
+    rolls_and_works(&rt, &mut crew);
+    rolls_and_works(&rt, &mut crew);
+    crew.drain(Order::InTurn);
+    assert_eq!(rt; added(&rt, &crew), 36);
+    drop(crew);
+}
+
+/// A crew of the caller's own pass alone, if there is memory for it.
+fn without_boxes<R: AllocGlobal>(rt: &R) -> Option<Crew>
+    ensures steady { IfSome result (λ crew. IsSteadyCrew (shown behaviour) (shown registers) (shown pending) crew) }
+{
+    let boxes: Vec<Box<dyn Server + Send>> = Vec::new(rt.alloc());
+    match Crew::new(rt.alloc(), limits(16), boxes, 0) {
+        Ok(crew) => Some(crew),
+        Err(_) => None,
+    }
+}
+
+/// A rollover that is refused for memory leaves the element as it was, and one with memory carries it over.
+fn rolls_or_stays<R: Abort + AllocGlobal>(rt: &R, crew: &mut Crew)
+    requires { IsSteadyCrew (shown behaviour) (shown registers) (shown pending) crew.old }
+    ensures steady { IsSteadyCrew (shown behaviour) (shown registers) (shown pending) crew.new }
+{
+    match crew.roll_over(rt.alloc()) {
+        Ok(moved) => drop(moved),
+        Err(fault) => {
+            assert_eq!(rt; fault, RollFault::NoMemory);
+            stands(rt, crew, 0, Status::Waiting { attempts: 0 });
+            drop(rolls(rt, crew, 1));
+        }
+    }
+    stands(rt, crew, 0, Status::Waiting { attempts: 0 });
+}
+
+/// Whichever allocation fails, the crew goes on. With memory for all this tells little: `tools/allocations`
+/// has each one fail in turn.
+#[test]
+fn want_of_memory_changes_nothing(rt: HostRuntime) {
+    if let Some(mut crew) = without_boxes(&rt) {
+        assert_eq!(rt; crew.submit(3, [0, 7, 0, 0]), Ok(0));
+        rolls_or_stays(&rt, &mut crew);
+        drop(crew);
+    }
+}
