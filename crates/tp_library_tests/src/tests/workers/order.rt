@@ -128,6 +128,34 @@ fn both_take<R: Threads + Sync>(
     join_mut(rt, &mut one, &mut other);
 }
 
+/// Both submit, and both others take meanwhile. Answers how many submits were accepted.
+fn all_at_once<R: Threads + Sync>(
+    rt: &R,
+    manager: &Manager,
+    first: &mut Pass,
+    second: &mut Pass,
+    third: &mut Pass,
+    fourth: &mut Pass,
+    one_taken: &mut Taken,
+    other_taken: &mut Taken,
+) -> (u32, u32)
+    requires first { IsFreePass manager.now first.old }
+    requires second { IsFreePass manager.now second.old }
+    requires third { IsFreePass manager.now third.old }
+    requires fourth { IsFreePass manager.now fourth.old }
+    ensures third { IsFreePass manager.now third.new }
+{
+    let mut submits = || -> (u32, u32)
+        requires { IsSync R.row × IsFreePass manager.now first.now × IsFreePass manager.now second.now }
+    { both_submit(rt, manager, first, second) };
+    let mut takes = || -> ()
+        requires { IsSync R.row × IsFreePass manager.now third.now × IsFreePass manager.now fourth.now }
+        ensures { IsFreePass manager.entry.now third.exit.now }
+    { both_take(rt, manager, third, fourth, one_taken, other_taken) };
+    let (accepted, ()) = join_mut(rt, &mut submits, &mut takes);
+    accepted
+}
+
 #[test]
 fn each_callers_elements_leave_in_order(rt: HostRuntime) {
     let (manager, mut keeper) = manager(&rt, LIMITS);
@@ -137,20 +165,26 @@ fn each_callers_elements_leave_in_order(rt: HostRuntime) {
     let mut fourth = pass(&rt, &mut keeper, &manager);
     let mut one = Taken::nothing();
     let mut other = Taken::nothing();
-    let ((a, b), ()) = {
-        let mut submits = || -> (u32, u32)
-            requires { IsSync HostRuntime.row × IsFreePass manager.now first.now × IsFreePass manager.now second.now }
-        { both_submit(&rt, &manager, &mut first, &mut second) };
-        let mut takes = || -> ()
-            requires { IsSync HostRuntime.row × IsFreePass manager.now third.now × IsFreePass manager.now fourth.now }
-            ensures { IsFreePass manager.entry.now third.exit.now × IsFreePass manager.entry.now fourth.exit.now }
-        { both_take(&rt, &manager, &mut third, &mut fourth, &mut one, &mut other) };
-        join_mut(&rt, &mut submits, &mut takes)
-    };
+    let (a, b) = all_at_once(
+        &rt,
+        &manager,
+        &mut first,
+        &mut second,
+        &mut third,
+        &mut fourth,
+        &mut one,
+        &mut other,
+    );
     assert!(rt; a == ROWS && b == ROWS);
 
     // What is left is taken too, in order.
     take(&manager, &mut third, 2 * ROWS, &mut one);
     assert!(rt; one.in_order && other.in_order);
     assert_eq!(rt; one.count.wrapping_add(other.count), 2 * ROWS);
+    drop(fourth);
+    drop(third);
+    drop(second);
+    drop(first);
+    drop(keeper);
+    drop(manager);
 }
