@@ -2,7 +2,7 @@
 use Rattle.std.proofs.Common.{◌≡◌, ◌≤◌, ℕ, ◌+◌, zero, suc, List, [], ◌∷◌, ◌++◌, All, refl, sym, ◌∙◌, ap, ap₂, subst, arith, length, take, drop, set, get_or, zip, inl, inr, ⊎_elim, ◌⊎◌, ◌<◌, map, Option, Some, None}
 use Rattle.std.specs.Prelude.{slice_get}
 use Rattle.std.specs.List.{AllZip}
-use Rattle.std.proofs.lemmas.List.{length-map, length-append, length-set, map-append, take-append-drop}
+use Rattle.std.proofs.lemmas.List.{length-map, length-set, map-append, take-append-drop}
 use Rattle.std.proofs.lemmas.List.Elements.{All-append, All-cons, All-drop, All-head, All-nil, All-set, All-tail, All-take}
 use Rattle.tp_model.specs.declared.event.Event.{Event}
 use Rattle.tp_model.specs.History.{UnitClaim, claim_of}
@@ -15,6 +15,7 @@ use Rattle.tp_server.specs.Pending.{Pending}
 use Rattle.tp_manager.specs.Accounts.{AreAll, AreNumberedFrom, Attends}
 use Rattle.tp_manager.specs.Shown.{IsOf}
 use Rattle.tp_alone.specs.Thread.{Stays}
+use Rattle.tp_rollover.specs.Managed.{IsNewPass}
 use Rattle.tp_rollover.proofs.Seen.{quiet_stays}
 use Rattle.tp_manager.specs.Shown.{IsKeptBy, KeeperShown, ManagerShown, PassShown, view_in}
 use Rattle.tp_desk.specs.Serving.{AreEnded, Leaves, gained}
@@ -27,21 +28,11 @@ use Rattle.tp_workers.specs.declared.tally.Shift.{Shift}
 use Rattle.tp_manager.specs.Calls.{Follows}
 use Rattle.tp_crew.specs.Crew.{IsSteadyCrew, OwnCall, folds}
 use Rattle.tp_crew.specs.Folds.{BeginsFold}
-use Rattle.tp_crew.specs.CrewPasses.{HasServed, HaveServed, IsFirstPass, Shows, clients_in, desks_in, own_in}
+use Rattle.tp_crew.specs.CrewPasses.{HasServed, HaveServed, Shows, clients_in, desks_in, own_in}
 use Rattle.tp_workers.specs.Desks.{DeskRan}
 use Rattle.tp_workers.specs.Drained.{DeskDrained}
 use Rattle.tp_workers.specs.Free.{IsFreePass, numbers}
 use Rattle.tp_workers.specs.Ran.{RanAll, RanEach}
-
--- one pass more, with the next number
-from_more : (c : ℕ) (ps : List PassShown) (p : PassShown) → p.number ≡ c + length ps → AreNumberedFrom c ps → AreNumberedFrom c (ps ++ p ∷ [])
-from_more c [] p next all = (omega (arith, next), tt)
-from_more c (q ∷ ps) p next all = (all.0, from_more (c + 1) ps p (omega (arith, next)) all.1)
-
-pub all_more : (old new : KeeperShown) (ps : List PassShown) (p : PassShown) → p.number ≡ old.given → new.given ≡ old.given + 1 → AreAll old ps → AreAll new (ps ++ p ∷ [])
-all_more old new ps p next given all =
-    let long = length-append ps (p ∷ []) in
-    (omega (arith, long, all.0, given), from_more 0 ps p (omega (arith, next, all.0)) all.1)
 
 -- others with the same numbers
 from_same : (c : ℕ) (ps qs : List PassShown) → numbers qs ≡ numbers ps → AreNumberedFrom c ps → AreNumberedFrom c qs
@@ -201,13 +192,13 @@ module _ {B : Type 0} (behaviour : B → Behaviour) (registers : B → List ℕ)
       → HaveServed behaviour registers gs qs vs → HaveServed behaviour registers fs ps us
   served_same folds passes boxes h = rw (folds, passes, boxes) h
 
-  pub served_first : (ps : List PassShown) (us : List B) → All IsFirstPass ps → HaveServed behaviour registers (zip (desks_in (length us) ps) us) ps us
-  served_first ps us all = all_none (desks_in (length us) ps) us (all_show (desks_in (length us) ps) (All-take IsFirstPass (length us) (drop 1 ps) (All-drop IsFirstPass 1 ps all)))
+  pub served_first : (ps : List PassShown) (us : List B) → All IsNewPass ps → HaveServed behaviour registers (zip (desks_in (length us) ps) us) ps us
+  served_first ps us all = all_none (desks_in (length us) ps) us (all_show (desks_in (length us) ps) (All-take IsNewPass (length us) (drop 1 ps) (All-drop IsNewPass 1 ps all)))
     where
-      all_show : (qs : List PassShown) → All IsFirstPass qs → All (λ p. IsPassView p.limits (view_in p)) qs
+      all_show : (qs : List PassShown) → All IsNewPass qs → All (λ p. IsPassView p.limits (view_in p)) qs
       all_show [] each = All-nil (λ p. IsPassView p.limits (view_in p))
       all_show (q ∷ qs) each =
-          All-cons (λ p. IsPassView p.limits (view_in p)) q qs (All-head IsFirstPass q qs each).shows (all_show qs (All-tail IsFirstPass q qs each))
+          All-cons (λ p. IsPassView p.limits (view_in p)) q qs (All-head IsNewPass q qs each).shows (all_show qs (All-tail IsNewPass q qs each))
 
   -- nor by passes that are new
   pub served_new : (ps : List PassShown) (us : List B) → All Shows ps → HaveServed behaviour registers (zip (desks_in (length us) ps) us) ps us

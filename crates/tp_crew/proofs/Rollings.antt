@@ -1,5 +1,5 @@
 -- A crew in a new manager.
-use Rattle.std.proofs.Common.{◌≡◌, ◌≤◌, ◌∙◌, ℕ, List, [], ◌∷◌, Option, All, refl, sym, ap, subst, arith, length, zip, ⊎_elim}
+use Rattle.std.proofs.Common.{◌≡◌, ◌∙◌, ℕ, List, [], ◌∷◌, Option, All, refl, sym, ap, subst, length, zip}
 use Rattle.std.specs.List.{AllZip}
 use Rattle.std.proofs.lemmas.List.Elements.{All-cons, All-nil}
 use Rattle.std.specs.declared.alloc.Global.{Global}
@@ -13,7 +13,8 @@ use Rattle.tp_server.specs.Pending.{Pending}
 use Rattle.tp_manager.specs.Accounts.{AreAll}
 use Rattle.tp_manager.specs.Shown.{IsKeptBy, IsOf, KeeperShown, ManagerShown, PassShown, view_in}
 use Rattle.tp_alone.specs.Thread.{AreTogether, HasSeen, Stays}
-use Rattle.tp_rollover.specs.Faults.{AreFree, IsDue}
+use Rattle.tp_rollover.specs.Faults.{AreFree}
+use Rattle.tp_rollover.specs.Managed.{IsRefusedFor}
 use Rattle.tp_rollover.specs.declared.moved.RollFault.{RollFault}
 use Rattle.tp_rollover.specs.declared.moved.RollFault.TheVariants.{BadLimits, Busy, Full, NoMemory, NoPass, Unequal}
 use Rattle.tp_workers.specs.Free.{IsFreePass}
@@ -48,17 +49,13 @@ pub stays_free : (m : ManagerShown) (ps qs : List PassShown) → AllZip Stays ps
 stays_free m ps qs stays free own = both_all m qs own (free_stays ps qs stays (free_all m ps free))
 
 -- a steady crew meets no other fault
-not_empty : (ps : List PassShown) → 1 ≤ length ps → ps ≡ [] → ⊥
-not_empty ps some none = let e = ap length none in omega (arith, some, e)
-
-pub crew_fault : (l k : Limits) (olds news news' : List PassShown) (fault : RollFault) → k.attempts ≡ l.attempts → 1 ≤ length olds → 1 ≤ length news → AreFree olds
-    → IsDue l k olds news news' fault → IsCrewFault fault
-crew_fault l k olds news news' NoMemory same some some' free due = tt
-crew_fault l k olds news news' BadLimits same some some' free due = due same
-crew_fault l k olds news news' NoPass same some some' free due = ⊎_elim (λ none. not_empty olds some none) (λ none. not_empty news some' none) due.1
-crew_fault l k olds news news' Busy same some some' free due = due.2 free
-crew_fault l k olds news news' Full same some some' free due = tt
-crew_fault l k olds news news' Unequal same some some' free due = tt
+pub crew_fault : (l : Limits) (passes : List PassShown) (fault : RollFault) → AreFree passes → IsRefusedFor l passes fault → IsCrewFault l fault
+crew_fault l passes NoMemory free due = tt
+crew_fault l passes BadLimits free due = due
+crew_fault l passes NoPass free due = due
+crew_fault l passes Busy free due = due free
+crew_fault l passes Full free due = due.1
+crew_fault l passes Unequal free due = tt
 
 module _ {X : Type 0} {F : X → Type 0} (behaviour : DynBox X Global F → Behaviour) (registers : DynBox X Global F → List ℕ)
     (pending : DynBox X Global F → Option Pending) where

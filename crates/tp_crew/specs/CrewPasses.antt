@@ -1,5 +1,5 @@
 -- A crew's passes and boxes.
-use Rattle.std.specs.Prelude.{◌≡◌, ℕ, ◌+◌, List, [], length, drop, take, zip}
+use Rattle.std.specs.Prelude.{◌≡◌, ℕ, ◌+◌, List, length, drop, take, zip}
 use Rattle.std.specs.List.{AllZip}
 use Rattle.tp_model.specs.declared.types.Limits.{Limits}
 use Rattle.tp_model.specs.Passes.{IsPassView}
@@ -36,12 +36,6 @@ clients_in boxes passes = drop boxes (drop 1 passes)
 -- the pass shows what every pass shows between calls
 abbrev pub Shows : PassShown → Type 0
 Shows p = IsPassView p.limits (view_in p)
-
--- nothing is in sight of the pass yet
-pub record IsFirstPass (p : PassShown) : Type 0 where
-  pub shows : IsPassView p.limits (view_in p)
-  pub seen : p.seen ≡ []
-  pub mine : p.mine ≡ []
 
 module _ {B : Type 0} (behaviour : B → Behaviour) (registers : B → List ℕ) where
   -- The registers of the box's committed work are those that its effects led to, over the elements that its

@@ -1,9 +1,11 @@
 -- What a rollover of a crew leaves, and why one is refused.
 use Rattle.std.specs.Prelude.{◌≡◌, List, length, zip}
 use Rattle.std.specs.List.{AllZip}
+use Rattle.tp_model.specs.declared.types.Limits.{Limits}
 use Rattle.tp_manager.specs.Shown.{KeeperShown, PassShown}
 use Rattle.tp_alone.specs.Thread.{Stays}
 use Rattle.tp_rollover.specs.Answers.{Rolls}
+use Rattle.tp_rollover.specs.Managed.{WasShort}
 use Rattle.tp_rollover.specs.declared.moved.Moved.{Moved}
 use Rattle.tp_rollover.specs.declared.moved.RollFault.{RollFault}
 use Rattle.tp_rollover.specs.declared.moved.RollFault.TheVariants.{Full, NoMemory, Unequal}
@@ -30,10 +32,10 @@ module _ {X : Type 0} {F : X → Type 0} where
     pub given : new.keeper.given ≡ old.keeper.given
     pub passes : AllZip Stays old.passes.items new.passes.items
 
--- the faults that a steady crew can meet: its new manager has the same attempt limit, it has passes, and none
--- of them has a unit open
-abbrev pub IsCrewFault : RollFault → Type 0
-IsCrewFault NoMemory = Unit {0}
-IsCrewFault Full = Unit {0}
-IsCrewFault Unequal = Unit {0}
-IsCrewFault other = ⊥
+-- The faults that a steady crew, whose manager has these limits, can meet: its new manager has the same attempt
+-- limit, it has passes, and none of them has a unit open. Full only where the new manager was short.
+abbrev pub IsCrewFault : Limits → RollFault → Type 0
+IsCrewFault l NoMemory = Unit {0}
+IsCrewFault l Full = WasShort l
+IsCrewFault l Unequal = Unit {0}
+IsCrewFault l other = ⊥

@@ -3,10 +3,10 @@ ghost use Rattle.std.specs.Prelude.{◌≡◌, ◌+◌, ◌*◌, ◌<◌, ◌≤
 ghost use Rattle.std.specs.Prelude.{length, option_copied, sum_by, slice_get, slice_index_or, slice_set, zip};
 ghost use Rattle.tp_model.specs.Steps.{AreLimits};
 ghost use Rattle.tp_manager.specs.declared.manager.MakeFault.TheVariants as faults;
-ghost use Rattle.tp_manager.specs.Accounts.{Accounts, AreAll};
-ghost use Rattle.tp_manager.specs.Shown.{IsKeptBy};
+ghost use Rattle.tp_manager.specs.Accounts.{Accounts};
+ghost use Rattle.tp_rollover.specs.Managed.{IsNewPass};
 ghost use Rattle.tp_workers.specs.Clients.{ClientRan, IsClientJob};
-ghost use Rattle.tp_crew.specs.CrewPasses.{IsFirstPass, clients_in, crew_passes, desks_in, limits_with};
+ghost use Rattle.tp_crew.specs.CrewPasses.{clients_in, crew_passes, desks_in, limits_with};
 ghost use Rattle.tp_crew.specs.CrewPasses.{own_in};
 ghost use Rattle.tp_workers.specs.Desks.{DeskRan};
 ghost use Rattle.tp_workers.specs.Drained.{DeskDrained, LastTurn};
@@ -18,12 +18,13 @@ ghost use Rattle.tp_workers.specs.Sums.{calls_of, client_part, desk_part};
 ghost use Rattle.tp_workers.specs.declared.tally.Shift.{Shift};
 
 use crate::fold_start::FoldStart;
-use std::alloc::{AllocError, Global};
+use std::alloc::Global;
 use std::mem::swap;
 use std::thread::Threads;
 use tp_desk::Order;
 use tp_manager::{Keeper, MakeFault, Manager, Pass};
 use tp_model::types::{Account, Limits};
+use tp_rollover::Managed;
 use tp_server::Server;
 use tp_workers::{ClientJob, Drained, Gate, Plan, Shift, drain, shift};
 
@@ -74,27 +75,6 @@ fn passes_for(boxes: usize, clients: u8) -> u16
 {
     let all = boxes.saturating_add(usize::from(clients)).saturating_add(1);
     u16::try_from(all).unwrap_or(u16::MAX)
-}
-
-/// All passes of a new keeper.
-pub(crate) fn all_passes(
-    alloc: Global,
-    manager: &Manager,
-    keeper: &mut Keeper,
-) -> Result<Vec<Pass>, AllocError>
-    requires keeper { IsKeptBy manager.now keeper.old }
-    requires fresh { (keeper.old.given ≡ 0) × (keeper.old.seen ≡ []) }
-    ensures keeper { IsKeptBy manager.now keeper.new }
-    ensures free { IfOk result (λ passes. All (IsFreePass manager.now) passes.items) }
-    ensures given { IfOk result (λ passes. AreAll keeper.new passes.items) }
-    ensures new { IfOk result (λ passes. All IsFirstPass passes.items) }
-    ensures all { IfOk result (λ passes. length passes.items ≡ manager.now.limits.parts) }
-{
-    let mut passes = Vec::new(alloc);
-    while let Ok(pass) = keeper.pass(manager) {
-        passes.push(pass)?;
-    }
-    Ok(passes)
 }
 
 /// Drains the desks of a crew with these passes.
@@ -201,17 +181,18 @@ impl Crew {
         ensures boxes { IfOk result (λ crew. (crew.boxes ≡ boxes) × (crew.clients ≡ clients)) }
         ensures folds { IfOk result (λ crew.
             folds crew ≡ zip (desks_in (length boxes.items) crew.passes.items) boxes.items) }
-        ensures new { IfOk result (λ crew. All IsFirstPass crew.passes.items) }
+        ensures new { IfOk result (λ crew. All IsNewPass crew.passes.items) }
         ensures limits { IfOk result (λ crew.
             crew.manager.limits ≡ limits_with limits (crew_passes (length boxes.items) clients)) }
         ensures bad { (result ≡ Err faults.BadLimits) ↔ (¬ AreLimits (limits_with limits (crew_passes (length boxes.items) clients))) }
         ensures part { ¬ (result ≡ Err faults.NoPart) }
     {
         let parts = passes_for(boxes.len(), clients);
-        let (manager, mut keeper) = Keeper::new(alloc, limits.with_parts(parts))?;
-        let Ok(passes) = all_passes(alloc, &manager, &mut keeper) else {
-            return Err(MakeFault::NoMemory);
-        };
+        let Managed {
+            manager,
+            keeper,
+            passes,
+        } = Managed::new(alloc, limits.with_parts(parts))?;
         let Ok(starts) = FoldStart::each(alloc, &passes, &boxes) else {
             return Err(MakeFault::NoMemory);
         };

@@ -6,76 +6,20 @@ ghost use Rattle.tp_manager.specs.Accounts.{AreAll};
 ghost use Rattle.tp_manager.specs.Shown.{IsKeptBy, IsOf};
 ghost use Rattle.tp_alone.specs.Thread.{Stays};
 ghost use Rattle.tp_rollover.specs.Answers.{Rolls};
+ghost use Rattle.tp_rollover.specs.Managed.{IsManaged};
 ghost use Rattle.tp_workers.specs.Free.{IsFreePass};
 ghost use Rattle.tp_crew.specs.CrewPasses.{Shows};
 ghost use Rattle.tp_crew.specs.Rolling.{IsCrewFault};
 
-use crate::crew::{Crew, all_passes};
+use crate::crew::Crew;
 use crate::fold_start::FoldStart;
 use std::alloc::Global;
 use tp_manager::{Keeper, Manager, Pass};
-use tp_rollover::{Moved, RollFault, roll_over};
+use tp_rollover::{Managed, Moved, RollFault, Successor, succeed};
 use tp_server::Server;
 
-/// The manager that follows on one that is used up, its keeper and all its passes, and what was carried over.
-struct Successor {
-    manager: Manager,
-    keeper: Keeper,
-    passes: Vec<Pass>,
-    moved: Vec<Moved>,
-}
-
-/// What is alive in this manager goes on in a new one with the same limits.
-fn succeed(
-    alloc: Global,
-    old: &Manager,
-    old_keeper: &mut Keeper,
-    old_passes: &mut [Pass],
-) -> Result<Successor, RollFault>
-    requires keeper { IsKeptBy old.now old_keeper.old }
-    requires limits { AreLimits old.now.limits }
-    requires all { AreAll old_keeper.old old_passes.old }
-    requires parts { length old_passes.old ≡ old.now.limits.parts }
-    requires free { All (IsFreePass old.now) old_passes.old }
-    ensures keeper { IsKeptBy old.now old_keeper.new × (old_keeper.new.given ≡ old_keeper.old.given) }
-    ensures own { All (IsOf old.now) old_passes.new }
-    ensures all { AreAll old_keeper.new old_passes.new }
-    ensures limits { IfOk result (λ next. next.manager.limits ≡ old.now.limits) }
-    ensures new_keeper { IfOk result (λ next. IsKeptBy next.manager next.keeper) }
-    ensures new_all { IfOk result (λ next. AreAll next.keeper next.passes.items) }
-    ensures new_parts { IfOk result (λ next. length next.passes.items ≡ next.manager.limits.parts) }
-    ensures new_free { IfOk result (λ next. All (IsFreePass next.manager) next.passes.items) }
-    ensures rolls { IfOk result (λ next. Rolls old.now.limits next.manager.limits old_keeper.new next.keeper
-        old_passes.old old_passes.new next.passes.items next.moved.items) }
-    ensures stays { IfErr result (λ fault. AllZip Stays old_passes.old old_passes.new) }
-    ensures fault { IfErr result IsCrewFault }
-{
-    let Ok((manager, mut keeper)) = Keeper::new(alloc, old.limits()) else {
-        return Err(RollFault::NoMemory);
-    };
-    let Ok(mut passes) = all_passes(alloc, &manager, &mut keeper) else {
-        return Err(RollFault::NoMemory);
-    };
-    match roll_over(
-        alloc,
-        old,
-        old_keeper,
-        old_passes,
-        &manager,
-        &mut keeper,
-        &mut passes,
-    ) {
-        Ok(moved) => Ok(Successor {
-            manager,
-            keeper,
-            passes,
-            moved,
-        }),
-        Err(fault) => Err(fault),
-    }
-}
-
-/// The same. Where it is refused, all passes have seen one history at the end.
+/// What is alive in this manager goes on in a new one with the same limits. Where it is refused, all passes
+/// have seen one history at the end.
 fn succeed_or_gather(
     alloc: Global,
     old: &Manager,
@@ -90,16 +34,14 @@ fn succeed_or_gather(
     ensures keeper { IsKeptBy old.now old_keeper.new × (old_keeper.new.given ≡ old_keeper.old.given) }
     ensures own { All (IsOf old.now) old_passes.new }
     ensures all { AreAll old_keeper.new old_passes.new }
-    ensures limits { IfOk result (λ next. next.manager.limits ≡ old.now.limits) }
-    ensures new_keeper { IfOk result (λ next. IsKeptBy next.manager next.keeper) }
-    ensures new_all { IfOk result (λ next. AreAll next.keeper next.passes.items) }
-    ensures new_parts { IfOk result (λ next. length next.passes.items ≡ next.manager.limits.parts) }
-    ensures new_free { IfOk result (λ next. All (IsFreePass next.manager) next.passes.items) }
-    ensures rolls { IfOk result (λ next. Rolls old.now.limits next.manager.limits old_keeper.new next.keeper
-        old_passes.old old_passes.new next.passes.items next.moved.items) }
+    ensures managed { IfOk result (λ next. IsManaged next.managed) }
+    ensures limits { IfOk result (λ next. next.managed.manager.limits ≡ old.now.limits) }
+    ensures new_free { IfOk result (λ next. All (IsFreePass next.managed.manager) next.managed.passes.items) }
+    ensures rolls { IfOk result (λ next. Rolls old.now.limits next.managed.manager.limits old_keeper.new
+        next.managed.keeper old_passes.old old_passes.new next.managed.passes.items next.moved.items) }
     ensures stays { IfErr result (λ fault. AllZip Stays old_passes.old old_passes.new) }
     ensures shows { IfErr result (λ fault. All Shows old_passes.new) }
-    ensures fault { IfErr result IsCrewFault }
+    ensures fault { IfErr result (IsCrewFault old.now.limits) }
 {
     match succeed(alloc, old, old_keeper, old_passes) {
         Ok(next) => Ok(next),
@@ -126,17 +68,17 @@ impl Crew {
         ensures limits { self.new.manager.limits ≡ self.old.manager.limits }
         ensures moved { IfOk result (λ moved. CrewRolls self.old self.new moved.items) }
         ensures refused { IfErr result (λ fault. CrewStays self.old self.new) }
-        ensures fault { IfErr result IsCrewFault }
+        ensures fault { IfErr result (IsCrewFault self.old.manager.limits) }
     {
         let answer = succeed_or_gather(alloc, &self.manager, &mut self.keeper, &mut self.passes);
         match answer {
             Ok(next) => {
-                let Successor {
+                let Successor { managed, moved } = next;
+                let Managed {
                     manager,
                     keeper,
                     passes,
-                    moved,
-                } = next;
+                } = managed;
                 FoldStart::begin_all(&mut self.starts, &passes, &self.boxes);
                 self.manager = manager;
                 self.keeper = keeper;

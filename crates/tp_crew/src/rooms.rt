@@ -58,7 +58,7 @@ impl Crew {
             × CrewRolls self.old self.new moved.items)) }
         ensures refused { IfErr result (λ fault. LacksRoom rows units self.old
             × CrewStays self.old self.new) }
-        ensures fault { IfErr result IsCrewFault }
+        ensures fault { IfErr result (IsCrewFault self.old.manager.limits) }
     {
         let room = self.room();
         if room.rows >= rows && room.units >= units {

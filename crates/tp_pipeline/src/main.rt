@@ -18,6 +18,7 @@ use bank::Terminal;
 use faults::PipelineFault;
 use servers::{Charger, Shipper, Validator};
 use service::{Boxed, Served, Task, serve};
+use std::alloc::{AllocError, Global};
 use std::env;
 use std::thread::Threads;
 use std::time::Clock;
@@ -25,6 +26,9 @@ use tp_server::{OwnServer, three};
 
 /// The highest amount that the validator lets through.
 const CEILING: u64 = 98;
+
+/// How many words a large piece of memory has: a megabyte, twelve times as much as a manager of the crew takes.
+const LARGE_PIECE: usize = 1 << 17;
 
 fn main(rt: HostRuntime) -> Result<(), PipelineFault> {
     let mut numbers = [3000, 900, 0];
@@ -45,6 +49,15 @@ fn main(rt: HostRuntime) -> Result<(), PipelineFault> {
     run(&rt, task, steps.min(1_000_000) as u32, given > 0)
 }
 
+/// Takes a large piece of memory and gives it back at once. After that the allocator of the system (glibc's)
+/// keeps what a manager leaves for the next one. Before, it gives it back, and each manager's pages are asked
+/// for and zeroed anew.
+fn keep_memory(alloc: Global) -> Result<(), AllocError> {
+    let piece: Vec<u64> = Vec::with_capacity(alloc, LARGE_PIECE)?;
+    drop(piece);
+    Ok(())
+}
+
 /// Hires the servers, which work all payments off, and tells of the books, and of the managers if asked.
 fn run<R: AllocGlobal + Clock + Print + Threads + Sync>(
     rt: &R,
@@ -52,6 +65,7 @@ fn run<R: AllocGlobal + Clock + Print + Threads + Sync>(
     steps: u32,
     managers_too: bool,
 ) -> Result<(), PipelineFault> {
+    keep_memory(rt.alloc())?;
     let validator = Validator {
         ceiling: CEILING,
         steps,

@@ -21,10 +21,11 @@ use tp_workers::{NoGate, Plan};
 
 pub type Boxed = Box<dyn Server + Send>;
 
-/// The limits of each of the crew's managers.
+/// The limits of each of the crew's managers. A desk begins a unit for each payment of a batch, which are at
+/// most 256, and some for what is carried over. Units that are never begun cost too: each has a word.
 const LIMITS: CrewLimits = CrewLimits {
     rows: 256,
-    units: 1024,
+    units: 384,
     attempts: 1,
     spare: 0,
 };

@@ -8,6 +8,7 @@ use Rattle.tp_model.specs.declared.types.Limits.{Limits}
 use Rattle.tp_model.specs.declared.types.Status.TheVariants.{Waiting, Held}
 use Rattle.tp_model.specs.declared.event.Event.{Event}
 use Rattle.tp_model.specs.declared.event.Event.TheVariants.{Kill}
+use Rattle.tp_model.specs.Counts.{counts}
 use Rattle.tp_model.specs.History.{In, events_by, here, status_of, there}
 use Rattle.tp_model.specs.Steps.{IsLegal}
 use Rattle.tp_model.proofs.Bridges.{begins_trans, born_or_not, in_either, in_left, in_right}
@@ -20,10 +21,11 @@ use Rattle.tp_alone.proofs.Apart.{zip_left}
 use Rattle.tp_alone.proofs.Gatherings.{gathered_together}
 use Rattle.tp_alone.proofs.Idle.{alone_idle}
 use Rattle.tp_rollover.specs.Answers.{IsHistoryOf, IsReadyToKill, Rolls}
+use Rattle.tp_rollover.specs.Checks.{CountsOnly}
 use Rattle.tp_rollover.specs.Closing.{AreEnds, IsStuck, Made, NoKill, StopsAmong}
-use Rattle.tp_rollover.specs.Finding.{AreAlive}
+use Rattle.tp_rollover.specs.Finding.{AreAlive, AreAliveOf, CountsAlive}
 use Rattle.tp_rollover.specs.Passes.{numbers}
-use Rattle.tp_rollover.specs.Phases.{FoundWhole, IsCarriedWhole, KillsAll, StopsKilling}
+use Rattle.tp_rollover.specs.Phases.{FoundAlike, IsCarriedAlike, IsCarriedWhole, KillsAll, StopsKilling}
 use Rattle.tp_rollover.specs.Rolls.{AscendFrom, IsCarried, RollsOver, kills}
 use Rattle.tp_rollover.specs.Told.{ToldFirst, seen_first}
 use Rattle.tp_rollover.specs.declared.alive.Alive.{Alive}
@@ -32,6 +34,7 @@ use Rattle.tp_rollover.proofs.Ends.{not_stuck}
 use Rattle.tp_rollover.proofs.Heads.{tail_all}
 use Rattle.tp_rollover.proofs.Killing.{made_trans}
 use Rattle.tp_rollover.proofs.Lists.{from_map, in_map}
+use Rattle.tp_rollover.proofs.Others.{only_named}
 use Rattle.tp_rollover.proofs.Seen.{between, stays_trans}
 use Rattle.tp_rollover.proofs.Since.{since, until}
 
@@ -110,9 +113,9 @@ module _ (l k : Limits) (keeper keeper' : KeeperShown) (ps qs rs : List PassShow
       let parts : from.0 ++ to.0 ≡ es = append_cancel_left h (from.0 ++ to.0) es (sym (append_assoc h from.0 to.0) ∙ (ap (λ z. z ++ to.0) from.1 ∙ (to.1 ∙ grown))) in
       let inside : (e : Event) → In e from.0 → In e es = λ e p. subst (In e) parts (in_left to.0 p) in
       let in_moved : In s.one moved = subst (In s.one) (sym s.parts) (in_right s.done here) in
-      let carried : IsCarried l.attempts h g s.one = whole.carried s.one in_moved in
+      let carried : IsCarried l.attempts h g s.one = whole.alike.carried s.one in_moved in
       let ends : AreEnds from.0 = λ e p. ⊎_elim (λ a. kills_end _ s.done e a) (λ b. t.ends e b) (in_either (kills _ s.done) t.events (inside e p)) in
-      let ascend : AscendFrom (λ m. m.old) 0 (s.done ++ s.one ∷ s.rest) = subst (AscendFrom (λ m. m.old) 0) s.parts whole.ascend.0 in
+      let ascend : AscendFrom (λ m. m.old) 0 (s.done ++ s.one ∷ s.rest) = subst (AscendFrom (λ m. m.old) 0) s.parts whole.alike.ascend.0 in
       let none : NoKill s.one.old t.events → NoKill s.one.old from.0 = λ no_kills c p. ⊎_elim
       (λ a. let m = from_map (λ (m : Moved). Kill _ m.old) s.done (Kill c s.one.old) a in
       let same : m.0.old ≡ s.one.old = kill_id _ c m.0.old s.one.old m.2 in
@@ -146,12 +149,12 @@ pub rolled : (l k : Limits) (h h' g : List Event) (alive : List Alive) (moved : 
 rolled l k h h' g alive moved limit legal legal' new_legal found whole killed = record {
   legal = (legal', new_legal);
   limit = limit;
-  carried = whole.carried;
+  carried = whole.alike.carried;
   each = λ x born killable. let t = (found x born (births_inside l h legal x born)).1 killable in
-      let s = from_map (λ (m : Moved). m.old) moved t.0.id (subst (In t.0.id) whole.same (in_map (λ (a : Alive). a.id) alive t.0 t.1)) in
+      let s = from_map (λ (m : Moved). m.old) moved t.0.id (subst (In t.0.id) whole.alike.same (in_map (λ (a : Alive). a.id) alive t.0 t.1)) in
       (s.0, s.1, s.2 ∙ t.2);
-  once = whole.ascend;
-  families = whole.families;
+  once = whole.alike.ascend;
+  families = whole.alike.families;
   rest = λ y born. whole.only y born (births_inside k g new_legal y born);
   idle = λ i u n held. ⊎_elim
       (λ t. (found t.0 t.1 (births_inside l h legal t.0 t.1)).0 u n (ap (status_of l.attempts h) t.2 ∙ held))
@@ -206,16 +209,16 @@ free_stays (p ∷ ps) [] zip free = absurd zip
 free_stays (p ∷ ps) (q ∷ qs) zip free = All-cons (λ (z : PassShown). z.open_unit ≡ None) q qs (zip.0.quiet.open_unit ∙ free 0 p (omega arith)) (free_stays ps qs zip.1 (tail_all (λ (z : PassShown). z.open_unit ≡ None) p ps free))
 
 -- all up to the kills
-module _ (m m' : ManagerShown) (a b d c : ℕ) (ok0 ok1 ok2 nk0 nk1 nk2 : KeeperShown) (olds0 olds1 olds2 olds3 olds4 olds5 news1 news2 news3 news4 : List PassShown) (alive : List Alive) (moved : List Moved) where
+module _ (m m' : ManagerShown) (limit : m'.limits.attempts ≡ m.limits.attempts) (n a b d c : ℕ) (ok0 ok1 ok2 nk0 nk1 nk2 : KeeperShown) (olds0 olds1 olds2 olds3 olds4 olds5 news1 news2 news3 news4 : List PassShown) (alive : List Alive) (moved : List Moved) where
   pub ready : Gathers m.limits a ok0 ok1 olds0 olds1 → AreAll ok1 olds1 → ok1.given ≡ ok0.given → All (IsOf m) olds1
-      → AllZip Stays olds1 olds2 → ToldFirst olds1 olds2 (AreAlive m.limits alive) → 1 ≤ length olds1
+      → AllZip Stays olds1 olds2 → ToldFirst olds1 olds2 (AreAliveOf m.limits n alive) → CountsAlive n (counts m.limits.attempts ok1.seen) → 1 ≤ length olds1
       → AllZip Stays olds2 olds3
-      → Gathers m'.limits b nk0 nk1 news1 news2 → AreAll nk1 news2 → nk1.given ≡ nk0.given → All (IsOf m') news2
-      → AllZip Stays olds3 olds4 → AllZip Stays news2 news3 → FoundWhole m.limits m'.limits alive moved olds3 olds4 news2 news3 → 1 ≤ length news2
+      → Gathers m'.limits b nk0 nk1 news1 news2 → AreAll nk1 news2 → nk1.given ≡ nk0.given → All (IsOf m') news2 → CountsOnly (length moved) (counts m'.limits.attempts nk1.seen)
+      → AllZip Stays olds3 olds4 → AllZip Stays news2 news3 → FoundAlike m.limits alive moved olds3 olds4 news2 news3 → 1 ≤ length news2
       → Gathers m'.limits d nk1 nk2 news3 news4 → AreAll nk2 news4 → nk2.given ≡ nk1.given → All (IsOf m') news4
       → Gathers m.limits c ok1 ok2 olds4 olds5 → AreAll ok2 olds5 → ok2.given ≡ ok1.given → All (IsOf m) olds5
       → IsReadyToKill m.limits m'.limits ok2 nk2 olds0 olds5 news4 moved
-  ready g1 all1 given1 own1 s12 told some1 s23 g2 all2 given2 own2 s34 n23 found some2 g3 all3 given3 own3 g4 all4 given4 own4 =
+  ready g1 all1 given1 own1 s12 told counted1 some1 s23 g2 all2 given2 own2 counted s34 n23 found some2 g3 all3 given3 own3 g4 all4 given4 own4 =
       let t1 = gathered m a ok0 ok1 olds0 olds1 g1 all1 given1 own1 in
       let t2 = gathered m' b nk0 nk1 news1 news2 g2 all2 given2 own2 in
       let t3 = gathered m' d nk1 nk2 news3 news4 g3 all3 given3 own3 in
@@ -227,15 +230,17 @@ module _ (m m' : ManagerShown) (a b d c : ℕ) (ok0 ok1 ok2 nk0 nk1 nk2 : Keeper
       let at3 : seen_first olds3 ≡ seen_first olds1 = first_between olds1 olds3 olds4 (stay_trans olds1 olds2 olds3 s12 s23) s34 old.2 in
       let h : seen_first olds1 ≡ ok2.seen = old.1 ∙ sym old.0 in
       let g : seen_first news2 ≡ nk2.seen = new.1 ∙ sym new.0 in
-      let all_found : AreAlive m.limits alive ok2.seen = subst (AreAlive m.limits alive) h (told at2) in
-      let is_whole : IsCarriedWhole m.limits m'.limits alive moved (seen_first olds3) (seen_first news2) = found (old.2 ∙ sym at3) new.2 in
+      let all_found : AreAlive m.limits alive ok2.seen = subst (AreAliveOf m.limits n alive) h (told at2) t4.0.legal (subst (λ z. CountsAlive n (counts m.limits.attempts z)) (sym old.0) counted1) in
+      let is_alike : IsCarriedAlike m.limits alive moved (seen_first olds3) (seen_first news2) = found (old.2 ∙ sym at3) new.2 in
+      let stands : IsCarriedAlike m.limits alive moved ok2.seen nk2.seen = subst (IsCarriedAlike m.limits alive moved ok2.seen) g (subst (λ z. IsCarriedAlike m.limits alive moved z (seen_first news2)) (at3 ∙ h) is_alike) in
+      let counts_so : CountsOnly (length moved) (counts m'.limits.attempts nk2.seen) = subst (λ z. CountsOnly (length moved) (counts m'.limits.attempts z)) (sym new.0) counted in
       record {
         history = history_of m.limits ok1 olds0 olds1 ok2.seen ok2 (subst (AreTogether m.limits ok1 olds1) (sym old.0) t1.0) t1.1 given4;
         old_together = t4.0;
         new_together = t3.0;
         alive = alive;
         found = all_found;
-        whole = subst (IsCarriedWhole m.limits m'.limits alive moved ok2.seen) g (subst (λ z. IsCarriedWhole m.limits m'.limits alive moved z (seen_first news2)) (at3 ∙ h) is_whole);
+        whole = record { alike = stands; only = only_named m'.limits m.limits.attempts ok2.seen nk2.seen moved limit t3.0.legal stands.ascend stands.carried counts_so };
         some = zip_some olds1 olds5 (stay_trans olds1 olds4 olds5 s14 t4.1) some1;
       }
 

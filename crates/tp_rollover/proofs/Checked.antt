@@ -1,11 +1,10 @@
 -- What looks at rows and elements find, row by row and element by element.
-use Rattle.std.proofs.Common.{◌≡◌, ◌≢◌, ◌⊎◌, ℕ, ◌+◌, ◌<◌, ◌≤◌, true, Option, Some, None, List, ◌++◌, length, take, drop, get_or, slice_index_or, sym, ◌∙◌, ap, subst, inl, inr, ⊎_elim, arith}
+use Rattle.std.proofs.Common.{◌≡◌, ◌≢◌, ℕ, ◌+◌, ◌<◌, ◌≤◌, Option, Some, None, List, ◌++◌, length, take, drop, get_or, slice_index_or, sym, ◌∙◌, ap, subst, inl, inr, ⊎_elim, arith}
 use Rattle.std.proofs.lemmas.Bool.Decides.{eqb_tells}
 use mathlib.Core.List.{IsPrefix}
 use Rattle.tp_model.specs.declared.types.Limits.{Limits}
 use Rattle.tp_model.specs.declared.types.Look.{Look}
 use Rattle.tp_model.specs.declared.event.Event.{Event}
-use Rattle.tp_model.specs.Counts.{is_consumed}
 use Rattle.tp_model.specs.History.{In, here, status_of}
 use Rattle.tp_model.specs.Steps.{IsKillable}
 use Rattle.tp_model.proofs.Bridges.{begins_trans, born_at, in_left, in_right}
@@ -13,26 +12,26 @@ use Rattle.tp_manager.specs.Calls.{IsLook}
 use Rattle.tp_manager.specs.Requeues.{HasHadRounds}
 use Rattle.tp_manager.specs.Shown.{PassShown}
 use Rattle.tp_alone.specs.Thread.{Stays}
-use Rattle.tp_rollover.specs.Checks.{AreCarried, AreFamilies, AreInTables, AreOnly, AreOnlyBelow, AreTheSame, MovedAscend, HasPut, IsAlike, IsNamedOrConsumed}
+use Rattle.tp_rollover.specs.Checks.{AreCarried, AreFamilies, AreInTables, AreTheSame, MovedAscend, HasPut, IsAlike}
 use Rattle.tp_rollover.specs.Finding.{AreAliveBelow, IsAliveAt, listed}
-use Rattle.tp_rollover.specs.Phases.{IsCarriedWhole}
-use Rattle.tp_rollover.specs.Rolls.{AscendFrom, IsCarried, IsNamed}
+use Rattle.tp_rollover.specs.Phases.{IsCarriedAlike}
+use Rattle.tp_rollover.specs.Rolls.{AscendFrom, IsCarried}
 use Rattle.tp_rollover.specs.Told.{HoldsAsSeen, ToldBoth}
 use Rattle.tp_rollover.specs.declared.alive.Alive.{Alive}
 use Rattle.tp_rollover.specs.declared.moved.Moved.{Moved}
 use Rattle.tp_rollover.proofs.Lists.{drop_here, in_all_taken, in_take_more}
-use Rattle.tp_rollover.proofs.Seen.{between, told_first, told_second}
+use Rattle.tp_rollover.proofs.Seen.{between, told_second}
 
 -- one more row
 
 in_listed : (o : Option Alive) (a : Alive) → o ≡ Some a → In a (listed o)
 in_listed o a e = subst (λ z. In a (listed z)) (sym e) here
 
-alive_next : (limit row : ℕ) (h : List Event) (found : List Alive) (o : Option Alive) → AreAliveBelow limit row found h → IsAliveAt limit row o h → AreAliveBelow limit (row + 1) (found ++ listed o) h
+pub alive_next : (limit row : ℕ) (h : List Event) (found : List Alive) (o : Option Alive) → AreAliveBelow limit row found h → IsAliveAt limit row o h → AreAliveBelow limit (row + 1) (found ++ listed o) h
 alive_next limit row h found o below at x born less =
     elim (eqb_tells x.id row) [
       | inl p ↦
-          let t = at x (born_at h row x born p.1) in
+          let t = at.0 x (born_at h row x born p.1) in
           (λ u n e. t.0 u n (ap (status_of limit h) (sym p.1) ∙ e), λ alive. let s = t.1 (subst (λ i. IsKillable (status_of limit h i)) p.1 alive) in (s.0, in_right found (in_listed o s.0 s.1), s.2 ∙ sym p.1))
       | inr p ↦
           let not : x.id ≢ row = p.1 in
@@ -40,26 +39,8 @@ alive_next limit row h found o below at x born less =
           (t.0, λ alive. let s = t.1 alive in (s.0, in_left (listed o) s.1, s.2))
     ]
 
-pub alive_then : (limit row : ℕ) (found : List Alive) (o : Option Alive) (p q r : PassShown) → Stays p q → Stays q r → HoldsAsSeen p q (AreAliveBelow limit row found) → HoldsAsSeen q r (IsAliveAt limit row o) → HoldsAsSeen p r (AreAliveBelow limit (row + 1) (found ++ listed o))
-alive_then limit row found o p q r a b below at same =
-    alive_next limit row p.seen found o (told_first (AreAliveBelow limit row found) p.seen q.seen r.seen a.sees b.sees below same) (told_second (IsAliveAt limit row o) p.seen q.seen r.seen a.sees b.sees at same)
-
 pub alive_none : (limit : ℕ) (found : List Alive) (h : List Event) → AreAliveBelow limit 0 found h
 alive_none limit found h x born less = absurd (omega (arith, less))
-
-only_next : (limit row : ℕ) (moved : List Moved) (g : List Event) → AreOnlyBelow limit row moved g → IsNamedOrConsumed limit row moved g → AreOnlyBelow limit (row + 1) moved g
-only_next limit row moved g below at y born less =
-    elim (eqb_tells y.id row) [
-      | inl p ↦ subst (λ i. IsNamed (λ (m : Moved). m.new) i moved ⊎ (is_consumed (status_of limit g i) ≡ true)) (sym p.1) (at y (born_at g row y born p.1))
-      | inr p ↦ let not : y.id ≢ row = p.1 in below y born (omega arith)
-    ]
-
-pub only_then : (limit row : ℕ) (moved : List Moved) (p q r : PassShown) → Stays p q → Stays q r → HoldsAsSeen p q (AreOnlyBelow limit row moved) → HoldsAsSeen q r (IsNamedOrConsumed limit row moved) → HoldsAsSeen p r (AreOnlyBelow limit (row + 1) moved)
-only_then limit row moved p q r a b below at same =
-    only_next limit row moved p.seen (told_first (AreOnlyBelow limit row moved) p.seen q.seen r.seen a.sees b.sees below same) (told_second (IsNamedOrConsumed limit row moved) p.seen q.seen r.seen a.sees b.sees at same)
-
-pub only_none : (limit : ℕ) (moved : List Moved) (g : List Event) → AreOnlyBelow limit 0 moved g
-only_none limit moved g y born less = absurd (omega (arith, less))
 
 -- one more element
 
@@ -146,14 +127,12 @@ ascend_on id low next moved i d less low_is next_is rest =
 
 -- all checks together
 
-pub whole : (l k : Limits) (alive : List Alive) (moved : List Moved) (p0 p1 q0 q1 q2 : PassShown) → Stays q0 q1 → Stays q1 q2
+pub alike : (l : Limits) (alive : List Alive) (moved : List Moved) (p0 p1 q0 q1 : PassShown)
     → AreTheSame alive moved → MovedAscend moved → AreFamilies moved
-    → ToldBoth p0 p1 q0 q1 (λ h g. AreCarried l.attempts h g moved) → HoldsAsSeen q1 q2 (AreOnly k moved)
-    → ToldBoth p0 p1 q0 q2 (IsCarriedWhole l k alive moved)
-whole l k alive moved p0 p1 q0 q1 q2 a b same ascend families carried only e f = record {
+    → ToldBoth p0 p1 q0 q1 (λ h g. AreCarried l.attempts h g moved) → ToldBoth p0 p1 q0 q1 (IsCarriedAlike l alive moved)
+alike l alive moved p0 p1 q0 q1 same ascend families carried e f = record {
   same = same;
   ascend = ascend;
   families = families;
-  carried = carried e (between q0.seen q1.seen q2.seen a.sees b.sees f);
-  only = told_second (AreOnly k moved) q0.seen q1.seen q2.seen a.sees b.sees only f;
+  carried = carried e f;
 }

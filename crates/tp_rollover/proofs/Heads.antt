@@ -1,11 +1,13 @@
 -- The first of the passes, and the others.
-use Rattle.std.proofs.Common.{◌≡◌, ◌≢◌, ℕ, true, zero, Option, Some, suc, ◌+◌, ◌<◌, All, None, List, [], ◌∷◌, length, get_or, refl, sym, ◌∙◌, ap, subst, inl, inr, arith}
+use Rattle.std.proofs.Common.{◌≡◌, ◌≢◌, ℕ, true, zero, Option, Result, Ok, Err, IfOk, Some, suc, ◌+◌, ◌<◌, All, None, List, [], ◌∷◌, length, get_or, refl, sym, ◌∙◌, ap, subst, inl, inr, arith}
 use Rattle.std.proofs.lemmas.Bool.Decides.{eqb_tells}
 use Rattle.std.proofs.lemmas.List.Elements.{All-cons}
 use Rattle.std.specs.List.{AllZip}
 use Rattle.std.specs.Option.{is_some}
+use Rattle.tp_model.specs.declared.event.Event.{Event}
 use Rattle.tp_manager.specs.Shown.{PassShown}
 use Rattle.tp_alone.specs.Thread.{Stays}
+use Rattle.tp_rollover.specs.Told.{HoldsAsSeen, ToldFirst}
 use Rattle.tp_rollover.proofs.Seen.{stays_refl}
 
 pub tail_all : {A : Type 0} (P : A → Type 0) (x : A) (xs : List A) → All P (x ∷ xs) → All P xs
@@ -45,3 +47,9 @@ open_some (Some u) some free = absurd cc
 pub not_free : (ps : List PassShown) (i : ℕ) (p : PassShown) → i < length ps → p ≡ get_or ps i p → is_some p.open_unit ≡ true
     → All (λ (z : PassShown). z.open_unit ≡ None) ps → ⊥
 not_free ps i p less is some free = open_some p.open_unit some (ap (λ (z : PassShown). z.open_unit) is ∙ free i p less)
+
+-- what the first of the passes was told
+pub first_told : {X E : Type 0} (r : Result X E) (Holds : X → List Event → Type 0) (ps qs : List PassShown) (p q : PassShown) → ps ≡ p ∷ qs → IfOk r (λ x. HoldsAsSeen p q (Holds x))
+    → IfOk r (λ x. ToldFirst ps (q ∷ qs) (Holds x))
+first_told (Ok x) Holds ps qs p q is told = subst (λ z. ToldFirst z (q ∷ qs) (Holds x)) (sym is) told
+first_told (Err e) Holds ps qs p q is told = told

@@ -6,5 +6,9 @@ pub mod Lists
 pub mod Checked
 pub mod Heads
 pub mod Killing
+pub mod Others
+pub mod Founds
 pub mod Assembly
+pub mod Managing
+pub mod Tallies
 mod Worked

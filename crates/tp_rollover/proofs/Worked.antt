@@ -180,12 +180,14 @@ all_told : AreOnly small both anew
 all_told y is less = from_each Told (born anew) y (inr refl, (inl (first_moved, here, refl), (inl (second_moved, there here, refl), tt))) (find_in y.id (born anew) y is).0
 
 whole : IsCarriedWhole small small found both before anew
-whole = record { same = refl; ascend = ((lit≤ tt, (lit≤ tt, tt)), (lit≤ tt, (lit≤ tt, tt))); families = one_family; carried = all_carried; only = all_told }
+whole = record { alike = record { same = refl; ascend = ((lit≤ tt, (lit≤ tt, tt)), (lit≤ tt, (lit≤ tt, tt))); families = one_family; carried = all_carried }; only = all_told }
 
 pub pair : WorkedPair
 pair = record {
   over = rolled small small before (before ++ Kill 0 2 ∷ Kill 0 3 ∷ []) anew found both refl legal_before legal_after legal_anew all_found whole refl;
   waits = refl;
   parked = refl;
+  counts_before = refl;
+  counts_anew = refl;
   left_out = λ r. (let t = r.each (output 3 3 30) refl tt in let one = ap (λ (m : Moved). m.old) (in_one t.1) in let no : 2 ≡ 3 = sym one ∙ t.2 in absurd cc);
 }

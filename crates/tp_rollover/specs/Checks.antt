@@ -1,11 +1,12 @@
 -- What the checks of a rollover find. h is the old manager's history, g the new one's.
-use Rattle.std.specs.Prelude.{◌≡◌, ◌⊎◌, ◌↔◌, ℕ, ◌<◌, true, Option, None, Some, List, map, slice_index_or}
+use Rattle.std.specs.Prelude.{◌≡◌, ◌⊎◌, ◌↔◌, ℕ, ◌+◌, ◌<◌, true, Option, None, Some, List, map, slice_index_or}
+use Rattle.tp_model.specs.declared.types.Counts.{Counts}
 use Rattle.tp_model.specs.declared.types.Element.{Element}
 use Rattle.tp_model.specs.declared.types.Limits.{Limits}
 use Rattle.tp_model.specs.declared.types.Look.{Look}
 use Rattle.tp_model.specs.declared.event.Event.{Event}
 use Rattle.tp_model.specs.Counts.{is_consumed}
-use Rattle.tp_model.specs.History.{In, IsBorn, element_of, status_of}
+use Rattle.tp_model.specs.History.{In, IsBorn, status_of}
 use Rattle.tp_model.specs.Steps.{IsKillable, rows_of}
 use Rattle.tp_rollover.specs.Rolls.{AscendFrom, IsCarried, IsNamed}
 use Rattle.tp_rollover.specs.declared.alive.Alive.{Alive}
@@ -25,19 +26,16 @@ pub record IsAlike (was is : Look) (m : Moved) : Type 0 where
 abbrev pub AreCarried : ℕ → List Event → List Event → List Moved → Type 0
 AreCarried limit h g moved = (m : Moved) → In m moved → IsCarried limit h g m
 
--- the element of this row is named or consumed
-abbrev pub IsNamedOrConsumed : ℕ → ℕ → List Moved → List Event → Type 0
-IsNamedOrConsumed limit row moved g = (y : Element) → element_of g row ≡ Some y
-    → IsNamed (λ m. m.new) row moved ⊎ (is_consumed (status_of limit g row) ≡ true)
-
--- and so is each that is born below this row
-abbrev pub AreOnlyBelow : ℕ → ℕ → List Moved → List Event → Type 0
-AreOnlyBelow limit row moved g = (y : Element) → IsBorn g y → y.id < row
-    → IsNamed (λ m. m.new) y.id moved ⊎ (is_consumed (status_of limit g y.id) ≡ true)
-
--- and in all rows
+-- each that is born there is named or consumed
 abbrev pub AreOnly : Limits → List Moved → List Event → Type 0
-AreOnly l moved g = AreOnlyBelow l.attempts (rows_of l) moved g
+AreOnly l moved g = (y : Element) → IsBorn g y → y.id < rows_of l
+    → IsNamed (λ m. m.new) y.id moved ⊎ (is_consumed (status_of l.attempts g y.id) ≡ true)
+
+-- so many of these elements wait or are parked, and all others are consumed
+pub record CountsOnly (n : ℕ) (c : Counts) : Type 0 where
+  pub alive : c.waiting + c.parked ≡ n
+  pub held : c.held ≡ 0
+  pub killed : c.killed ≡ 0
 
 -- these name the same elements of the old manager
 abbrev pub AreTheSame : List Alive → List Moved → Type 0

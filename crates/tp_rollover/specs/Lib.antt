@@ -9,3 +9,4 @@ pub mod Closing
 pub mod Phases
 pub mod Answers
 pub mod Faults
+pub mod Managed

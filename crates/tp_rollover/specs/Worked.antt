@@ -1,11 +1,13 @@
 -- A worked rollover, with one pass of 8 rows and 8 units, and one attempt.
 use Rattle.std.specs.Prelude.{◌≡◌, ℕ, Some, List, [], ◌∷◌, ◌++◌}
+use Rattle.tp_model.specs.declared.types.Counts.{Counts}
 use Rattle.tp_model.specs.declared.types.Element.{Element}
 use Rattle.tp_model.specs.declared.types.Limits.{Limits}
 use Rattle.tp_model.specs.declared.types.Status.TheVariants.{Waiting, Parked}
 use Rattle.tp_model.specs.declared.event.Event.{Event}
 use Rattle.tp_model.specs.declared.event.Event.TheVariants.{Enqueue, Claim, Commit, Abort, Kill}
 use Rattle.tp_model.specs.Births.{request}
+use Rattle.tp_model.specs.Counts.{counts}
 use Rattle.tp_model.specs.History.{status_of}
 use Rattle.tp_rollover.specs.Rolls.{RollsOver}
 use Rattle.tp_rollover.specs.declared.moved.Moved.{Moved}
@@ -37,10 +39,19 @@ abbrev pub anew : List Event
 anew = Enqueue 0 (request 0 1 (word 5)) ∷ Claim 0 0 0 1 ∷ Commit 0 0 (output 1 2 20 ∷ output 2 3 30 ∷ [])
     ∷ Claim 0 1 2 1 ∷ Abort 0 1 ∷ []
 
+-- how many elements have each status before it, and in the new manager
+abbrev pub counted_before : Counts
+counted_before = record { waiting = 1; held = 0; consumed = 2; parked = 1; killed = 0 }
+
+abbrev pub counted_anew : Counts
+counted_anew = record { waiting = 1; held = 0; consumed = 1; parked = 1; killed = 0 }
+
 -- this is a rollover, and it is none where an element that was alive is left out
 pub record WorkedPair : Type 0 where
   pub over : RollsOver small small 0 before (before ++ Kill 0 2 ∷ Kill 0 3 ∷ []) anew (first_moved
       ∷ second_moved ∷ [])
   pub waits : status_of 1 anew 1 ≡ Waiting 0
   pub parked : status_of 1 anew 2 ≡ Parked 1
+  pub counts_before : counts 1 before ≡ counted_before
+  pub counts_anew : counts 1 anew ≡ counted_anew
   pub left_out : ¬ RollsOver small small 0 before (before ++ Kill 0 2 ∷ []) anew (first_moved ∷ [])

@@ -1,15 +1,15 @@
 //! What is alive in the old manager.
-ghost use Rattle.std.specs.Prelude.{◌≡◌, ◌++◌, IfOk, OnOk};
+ghost use Rattle.std.specs.Prelude.{◌≡◌, ◌++◌, IfOk, IfSome, OnOk};
 ghost use Rattle.tp_manager.specs.Shown.{IsOf};
 ghost use Rattle.tp_alone.specs.Thread.{Stays};
-ghost use Rattle.tp_rollover.specs.Finding.{AreAlive, IsAliveAt, listed};
+ghost use Rattle.tp_rollover.specs.Finding.{AreAliveOf, CountsAlive, IsAliveAt, listed};
 ghost use Rattle.tp_rollover.specs.Told.{HoldsAsSeen};
 
 use crate::looks::look;
 use crate::stops::Stop;
 use std::alloc::Global;
 use tp_manager::{Manager, Pass};
-use tp_model::types::Status;
+use tp_model::types::{Account, Status};
 
 /// An element that waits or is parked, and its root.
 #[derive(Clone, Copy, Debug, PartialEq, Eq)]
@@ -56,20 +56,39 @@ fn keep(found: &mut Vec<Alive>, one: Option<Alive>) -> Result<(), Stop>
     }
 }
 
-/// All elements that are alive, in the order of their ids.
+/// How many elements an account counts as waiting or parked. `None` where it counts one as held.
+pub(crate) fn alive_in(account: &Account) -> Option<usize>
+    ensures { IfSome result (λ n. CountsAlive n account.now.total) }
+{
+    let total = account.total;
+    if total.held != 0 {
+        return None;
+    }
+    match total.waiting.checked_add(total.parked) {
+        Some(alive) => Some(alive as usize),
+        None => None,
+    }
+}
+
+/// All elements that are alive, in the order of their ids, where there are so many. The search ends with the
+/// last one.
 pub(crate) fn find_alive(
     alloc: Global,
     manager: &Manager,
     pass: &mut Pass,
+    count: usize,
 ) -> Result<Vec<Alive>, Stop>
     requires own { IsOf manager.now pass.old }
     ensures own { IsOf manager.now pass.new }
     ensures stays { Stays pass.old pass.new }
     ensures told { IfOk result (λ found.
-        HoldsAsSeen pass.old pass.new (AreAlive manager.now.limits found.items)) }
+        HoldsAsSeen pass.old pass.new (AreAliveOf manager.now.limits count found.items)) }
 {
     let mut found = Vec::new(alloc);
     for row in 0..manager.capacity() {
+        if found.len() >= count {
+            return Ok(found);
+        }
         let one = alive_at(manager, pass, row)?;
         keep(&mut found, one)?;
     }

@@ -38,13 +38,19 @@ fn home_of(limits: Limits, id: u32) -> usize {
     home.min(u32::from(limits.parts)) as usize
 }
 
-/// A place for the family of each root, with how many of its elements are alive.
+/// A place for the family of each root up to the highest of these, with how many of its elements are alive.
+/// So many elements the manager has room for.
 fn count_families(alloc: Global, capacity: u32, alive: &[Alive]) -> Result<Vec<Family>, Stop> {
+    let mut highest: u32 = 0;
+    for one in alive {
+        highest = highest.max(one.root);
+    }
+    let places = highest.saturating_add(1).min(capacity);
     let none = Family {
         carrier: None,
         left: 0,
     };
-    let Ok(mut families) = Vec::from_elem(alloc, none, capacity as usize) else {
+    let Ok(mut families) = Vec::from_elem(alloc, none, places as usize) else {
         return Err(Stop::NoMemory);
     };
     for one in alive {
@@ -254,10 +260,12 @@ pub(crate) fn bear_all(
     ensures stays { Stays pass.old pass.new }
     ensures numbers { numbers passes.new ≡ numbers passes.old }
 {
-    let mut moved = Vec::new(alloc);
     if alive.is_empty() {
-        return Ok(moved);
+        return Ok(Vec::new(alloc));
     }
+    let Ok(mut moved) = Vec::with_capacity(alloc, alive.len()) else {
+        return Err(Stop::NoMemory);
+    };
     let mut families = count_families(alloc, old.capacity(), alive)?;
     let mut cursor = Cursor::start();
     for _turn in 0..alive.len() {

@@ -1,18 +1,17 @@
 //! What was born in the new manager is held against what is alive in the old one.
-ghost use Rattle.std.specs.Prelude.{◌≡◌, true, length, IsSome};
+ghost use Rattle.std.specs.Prelude.{◌≡◌, true, length};
 ghost use Rattle.tp_model.specs.Steps.{IsKillable};
 ghost use Rattle.tp_manager.specs.Shown.{IsOf};
 ghost use Rattle.tp_alone.specs.Thread.{Stays};
-ghost use Rattle.tp_rollover.specs.Checks.{AreCarried, AreOnly, AreTheSame, MovedAscend, IsAlike};
-ghost use Rattle.tp_rollover.specs.Checks.{IsNamedOrConsumed};
+ghost use Rattle.tp_rollover.specs.Checks.{AreCarried, AreTheSame, CountsOnly, MovedAscend, IsAlike};
 ghost use Rattle.tp_rollover.specs.Rolls.{IsCarried};
-ghost use Rattle.tp_rollover.specs.Told.{HoldsAsSeen, ToldBoth};
+ghost use Rattle.tp_rollover.specs.Told.{ToldBoth};
 
 use crate::alive::Alive;
 use crate::looks::{look, rounds_had};
 use crate::moved::Moved;
 use tp_manager::{Manager, Pass};
-use tp_model::types::{Look, Status};
+use tp_model::types::{Account, Look, Status};
 
 /// Whether the element is alive.
 fn is_alive(status: Status) -> bool
@@ -105,51 +104,16 @@ pub(crate) fn all_carried(
     true
 }
 
-/// Whether the element of the row, where one is born, is the next of these or consumed. The place of the next
-/// one behind it.
-fn row_is_told(
-    manager: &Manager,
-    pass: &mut Pass,
-    row: u32,
-    moved: &[Moved],
-    place: usize,
-) -> Option<usize>
-    requires own { IsOf manager.now pass.old }
-    ensures own { IsOf manager.now pass.new }
-    ensures stays { Stays pass.old pass.new }
-    ensures told { IsSome result → HoldsAsSeen pass.old pass.new
-        (IsNamedOrConsumed manager.now.limits.attempts row moved.now) }
+/// Whether an account counts as many elements alive as these are, none held or killed, and so all others as
+/// consumed.
+pub(crate) fn counts_only(account: &Account, moved: &[Moved]) -> bool
+    ensures { result ≡ true → CountsOnly (length moved.now) account.now.total }
 {
-    let Some(found) = look(manager, pass, row) else {
-        return Some(place);
+    let total = account.total;
+    let Some(alive) = total.waiting.checked_add(total.parked) else {
+        return false;
     };
-    if let Status::Consumed { unit: _ } = found.status {
-        return Some(place);
-    }
-    if place >= moved.len() {
-        return None;
-    }
-    if moved[place].new != row {
-        return None;
-    }
-    Some(place + 1)
-}
-
-/// Whether each element that is born there is one of these or consumed.
-pub(crate) fn are_only(manager: &Manager, pass: &mut Pass, moved: &[Moved]) -> bool
-    requires own { IsOf manager.now pass.old }
-    ensures own { IsOf manager.now pass.new }
-    ensures stays { Stays pass.old pass.new }
-    ensures told { result ≡ true → HoldsAsSeen pass.old pass.new (AreOnly manager.now.limits moved.now) }
-{
-    let mut place = 0;
-    for row in 0..manager.capacity() {
-        let Some(next) = row_is_told(manager, pass, row, moved, place) else {
-            return false;
-        };
-        place = next;
-    }
-    true
+    alive as usize == moved.len() && total.held == 0 && total.killed == 0
 }
 
 /// Whether these are the same elements of the old manager, in the same order.

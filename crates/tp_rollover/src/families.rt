@@ -39,6 +39,15 @@ fn put_all(moved: &[Moved], new_roots: &mut [Option<u32>], old_roots: &mut [Opti
     true
 }
 
+/// The highest root of these in the old manager, and the highest in the new one.
+fn highest_roots(moved: &[Moved]) -> (u32, u32) {
+    let mut highest = (0, 0);
+    for one in moved {
+        highest = (highest.0.max(one.old_root), highest.1.max(one.new_root));
+    }
+    highest
+}
+
 /// Whether two of these are of one family in the new manager exactly where they were in the old one. So many
 /// elements the managers have room for.
 pub(crate) fn are_families(
@@ -52,7 +61,10 @@ pub(crate) fn are_families(
     if moved.is_empty() {
         return Ok(true);
     }
-    let mut new_roots = Vec::from_elem(alloc, None, old_rows as usize)?;
-    let mut old_roots = Vec::from_elem(alloc, None, new_rows as usize)?;
+    let (old_root, new_root) = highest_roots(moved);
+    let old_places = old_root.saturating_add(1).min(old_rows);
+    let new_places = new_root.saturating_add(1).min(new_rows);
+    let mut new_roots = Vec::from_elem(alloc, None, old_places as usize)?;
+    let mut old_roots = Vec::from_elem(alloc, None, new_places as usize)?;
     Ok(put_all(moved, &mut new_roots, &mut old_roots))
 }

@@ -1,6 +1,7 @@
 //! The laws over the pair of managers. These functions do nothing: their contracts are the laws.
 
-ghost use Rattle.tp_rollover.specs.Laws.{CancelledStays, ConsumedInOne, OldIsOver, SettledNotCarried};
+ghost use Rattle.tp_rollover.specs.Laws.{CancelledStays, ConsumedInOne, OldIsOver, RolloverAddsUp};
+ghost use Rattle.tp_rollover.specs.Laws.{SettledNotCarried};
 ghost use Rattle.tp_rollover.specs.Worked.{WorkedPair};
 
 /// A family that was cancelled in the old manager is settled in the new one.
@@ -19,8 +20,14 @@ pub fn old_is_over()
     ensures { OldIsOver }
 {}
 
-/// A worked rollover, of a family of which one element waits and one is parked. The laws are of such pairs.
-/// Where one that was alive is left out, it is none.
+/// The accounts of both managers add up: as many wait and are parked in the new one as did in the old one, all
+/// else there is consumed, and in the old one as many more are killed.
+pub fn accounts_add_up()
+    ensures { RolloverAddsUp }
+{}
+
+/// A worked rollover, of a family of which one element waits and one is parked, with what is counted in both
+/// managers. The laws are of such pairs. Where one that was alive is left out, it is none.
 pub fn worked_pair()
     ensures { WorkedPair }
 {}

@@ -7,14 +7,14 @@ ghost use Rattle.tp_alone.specs.Thread.{Stays};
 ghost use Rattle.tp_rollover.specs.Answers.{IsReadyToKill, Rolls};
 ghost use Rattle.tp_rollover.specs.declared.moved.RollFault.TheVariants as faults;
 ghost use Rattle.tp_rollover.specs.Faults.{AreFree, IsDue, LacksPass};
-ghost use Rattle.tp_rollover.specs.Finding.{AreAlive};
+ghost use Rattle.tp_rollover.specs.Finding.{AreAliveOf};
 ghost use Rattle.tp_rollover.specs.Passes.{numbers};
-ghost use Rattle.tp_rollover.specs.Phases.{FoundWhole, IsCarriedWhole, KillsAll, StopsKilling};
+ghost use Rattle.tp_rollover.specs.Phases.{FoundAlike, IsCarriedAlike, KillsAll, StopsKilling};
 ghost use Rattle.tp_rollover.specs.Told.{ToldBoth, ToldFirst};
 
-use crate::alive::{Alive, find_alive};
+use crate::alive::{Alive, alive_in, find_alive};
 use crate::births::bear_all;
-use crate::checking::{all_carried, are_only, are_the_same, ascend};
+use crate::checking::{all_carried, are_the_same, ascend, counts_only};
 use crate::closing::kill_all;
 use crate::families::are_families;
 use crate::moved::{Moved, RollFault};
@@ -24,7 +24,7 @@ use std::alloc::Global;
 use tp_manager::{Keeper, Manager, Pass};
 
 /// Whether one of these passes has a unit of work open.
-fn has_open(passes: &[Pass]) -> bool
+pub(crate) fn has_open(passes: &[Pass]) -> bool
     ensures free { result ≡ false → AreFree passes.now }
     ensures busy { result ≡ true → ¬ AreFree passes.now }
 {
@@ -55,19 +55,24 @@ fn lacks_pass(olds: &[Pass], news: &[Pass]) -> bool
     news.len() == 0
 }
 
-/// All that is alive, as the first of the passes finds it.
-fn find(alloc: Global, manager: &Manager, passes: &mut [Pass]) -> Result<Vec<Alive>, Stop>
+/// All that is alive, where there are so many, as the first of the passes finds it.
+fn find(
+    alloc: Global,
+    manager: &Manager,
+    passes: &mut [Pass],
+    count: usize,
+) -> Result<Vec<Alive>, Stop>
     requires own { All (IsOf manager.now) passes.old }
     ensures own { All (IsOf manager.now) passes.new }
     ensures stays { AllZip Stays passes.old passes.new }
     ensures told { IfOk result (λ found.
-        ToldFirst passes.old passes.new (AreAlive manager.now.limits found.items)) }
+        ToldFirst passes.old passes.new (AreAliveOf manager.now.limits count found.items)) }
     ensures some { OnOk result (1 ≤ length passes.old) }
 {
     let Some((first, _rest)) = passes.split_first_mut() else {
         return Err(Stop::Unequal);
     };
-    find_alive(alloc, manager, first)
+    find_alive(alloc, manager, first, count)
 }
 
 /// All that is alive in the old manager is born in the new one, with its attempts and rounds.
@@ -110,8 +115,7 @@ fn carry(
     carry_by(alloc, old, first, new, new_passes, alive)
 }
 
-/// Whether these are what was alive, and stand in the new manager as in the old one, and nothing else does.
-/// `Unequal` where not.
+/// Whether these are what was alive, and stand in the new manager as in the old one. `Unequal` where not.
 fn hold_by(
     alloc: Global,
     old: &Manager,
@@ -126,7 +130,7 @@ fn hold_by(
     ensures own { IsOf old.now pass.new × IsOf new.now new_pass.new }
     ensures stays { Stays pass.old pass.new × Stays new_pass.old new_pass.new }
     ensures told { OnOk result (ToldBoth pass.old pass.new new_pass.old new_pass.new
-        (IsCarriedWhole old.now.limits new.now.limits alive.now moved.now)) }
+        (IsCarriedAlike old.now.limits alive.now moved.now)) }
 {
     if !are_the_same(alive, moved) {
         return Err(Stop::Unequal);
@@ -141,9 +145,6 @@ fn hold_by(
         return Err(Stop::Unequal);
     }
     if !all_carried(old, pass, new, new_pass, moved) {
-        return Err(Stop::Unequal);
-    }
-    if !are_only(new, new_pass, moved) {
         return Err(Stop::Unequal);
     }
     Ok(())
@@ -165,7 +166,7 @@ fn hold(
     ensures new_own { All (IsOf new.now) new_passes.new }
     ensures stays { AllZip Stays old_passes.old old_passes.new }
     ensures new_stays { AllZip Stays new_passes.old new_passes.new }
-    ensures told { OnOk result (FoundWhole old.now.limits new.now.limits alive.now moved.now
+    ensures told { OnOk result (FoundAlike old.now.limits alive.now moved.now
         old_passes.old old_passes.new new_passes.old new_passes.new) }
     ensures some { OnOk result (1 ≤ length new_passes.old) }
 {
@@ -221,8 +222,11 @@ fn prepare(
         IsReadyToKill old.now.limits new.now.limits old_keeper.new new_keeper.new
         old_passes.old old_passes.new new_passes.new moved.items) }
 {
-    old_keeper.gather(old, old_passes);
-    let alive = match find(alloc, old, old_passes) {
+    let before = old_keeper.account(old, old_passes);
+    let Some(count) = alive_in(&before) else {
+        return Err(Stop::Unequal);
+    };
+    let alive = match find(alloc, old, old_passes, count) {
         Ok(alive) => alive,
         Err(fault) => return Err(fault),
     };
@@ -230,7 +234,10 @@ fn prepare(
         Ok(moved) => moved,
         Err(fault) => return Err(fault),
     };
-    new_keeper.gather(new, new_passes);
+    let account = new_keeper.account(new, new_passes);
+    if !counts_only(&account, &moved) {
+        return Err(Stop::Unequal);
+    }
     match hold(alloc, old, old_passes, new, new_passes, &alive, &moved) {
         Ok(()) => {}
         Err(fault) => return Err(fault),

@@ -1,21 +1,25 @@
 use Rattle.std.proofs.Common.{◌≤◌, ◌∙◌, ap, length, refl, subst}
+use Rattle.tp_model.specs.declared.types.Limits.{Limits}
 use Rattle.tp_crew.proofs.CrewLemmas.{exact, served_first, served_same}
+use Rattle.tp_crew.proofs.Rollings.{both_all}
 use Rattle.tp_crew.proofs.crew.Crew.new.Goals as goal
 
 pub returns-clause-steady : goal.returns-clause-steady
 returns-clause-steady g c =
-    let parts = ap (λ l. l.parts) (c.in_ok-manager.ensures.limits.0 ∙ c.with_parts.ensures) in
-    let within : c.passes_for-parts.result ≤ 32 = subst (λ (n : _). n ≤ 32) (ap (λ l. l.parts) c.with_parts.ensures) c.in_ok-manager.ensures.limits.1.parts.1 in
-    let long = c.in-Ok.ensures.all ∙ (parts ∙ exact _ c.passes_for-parts.result c.passes_for-parts.ensures.few c.passes_for-parts.ensures.many within) in
-    let begins = rw (c.deref.ensures.value, c.deref-2.ensures.value) at c.in-Ok-each.ensures.begun in
+    let made = c.in_ok-manager.field-0 in
+    let e = c.in_ok-manager.ensures in
+    let parts = ap (λ (l : Limits). l.parts) (e.limits ∙ c.with_parts.ensures) in
+    let within : c.passes_for-parts.result ≤ 32 = subst (λ (n : _). n ≤ 32) parts e.managed.limits.parts.1 in
+    let long = e.managed.parts ∙ (parts ∙ exact _ c.passes_for-parts.result c.passes_for-parts.ensures.few c.passes_for-parts.ensures.many within) in
+    let begins = rw (c.deref.ensures.value, c.deref-2.ensures.value) at c.in-Ok.ensures.begun in
     record {
-      kept = c.all_passes.ensures.keeper;
-      limits = rw (c.in_ok-manager.ensures.limits.0) c.in_ok-manager.ensures.limits.1;
-      parts = c.in-Ok.ensures.all;
-      all = c.in-Ok.ensures.given;
-      free = c.in-Ok.ensures.free;
+      kept = e.managed.keeper;
+      limits = e.managed.limits;
+      parts = e.managed.parts;
+      all = e.managed.all;
+      free = both_all made.manager made.passes.items e.managed.own e.free;
       count = rw (long, c.len.ensures, c.args.boxes.ok.0) refl;
       clear = c.requires.clear;
-      same_count = c.in-Ok-each.ensures.count ∙ ap length c.deref-2.ensures.value;
-      served = served_same _ _ {ps = c.in-Ok.passes.items} {us = c.args.boxes.items} begins refl refl (served_first _ _ c.in-Ok.passes.items c.args.boxes.items c.in-Ok.ensures.new);
+      same_count = c.in-Ok.ensures.count ∙ ap length c.deref-2.ensures.value;
+      served = served_same _ _ {ps = made.passes.items} {us = c.args.boxes.items} begins refl refl (served_first _ _ made.passes.items c.args.boxes.items e.new);
     }

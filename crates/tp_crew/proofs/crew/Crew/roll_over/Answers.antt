@@ -11,7 +11,7 @@ returns-in-Ok-clause-steady g c =
     let old = c.args.self.now in
     let e = c.in-Ok.ensures in
     let begins = rw (c.deref.ensures.value, c.deref-in-Ok.ensures.value) at c.begin_all.ensures.begun in
-    rolled_steady _ _ _ old _ _ _ c.requires.steady refl refl e.limits e.new_keeper e.new_all e.new_parts e.new_free e.rolls.new_together c.begin_all.ensures.kept begins
+    rolled_steady _ _ _ old _ _ _ c.requires.steady refl refl e.limits e.managed.keeper e.managed.all e.managed.parts e.new_free e.rolls.new_together c.begin_all.ensures.kept begins
 
 pub returns-in-Err-clause-steady : goal.returns-in-Err-clause-steady
 returns-in-Err-clause-steady g c =

@@ -1,16 +1,15 @@
 use Rattle.std.proofs.Common.{◌≡◌, ◌-◌, [], All}
 use Rattle.tp_manager.specs.Accounts.{AreAll}
-use Rattle.tp_manager.specs.Shown.{IsKeptBy}
-use Rattle.tp_crew.specs.CrewPasses.{IsFirstPass}
-use Rattle.tp_workers.specs.Free.{IsFreePass}
-use Rattle.tp_crew.proofs.crew.all_passes.Given as goal
+use Rattle.tp_manager.specs.Shown.{IsKeptBy, IsOf}
+use Rattle.tp_rollover.specs.Managed.{IsNewPass}
+use Rattle.tp_rollover.proofs.managed.all_passes.Given as goal
 
 abbrev pub invariant-loop-pass : goal.invariant-loop-pass
 invariant-loop-pass l = record {
   keeper : IsKeptBy l.manager l.keeper;
-  free : All (IsFreePass l.manager) l.passes.items;
+  own : All (IsOf l.manager) l.passes.items;
   seen : l.keeper.seen ≡ [];
-  new : All IsFirstPass l.passes.items;
+  new : All IsNewPass l.passes.items;
   given : AreAll l.keeper l.passes.items;
 }
 

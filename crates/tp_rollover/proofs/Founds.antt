@@ -1,0 +1,142 @@
+-- Where as many were found alive as there are, nothing is alive in the rows after them.
+use Rattle.std.proofs.Common.{◌≡◌, ℕ, zero, suc, ◌+◌, ◌-◌, ◌<◌, ◌≤◌, Option, Some, None, List, [], ◌++◌, length, refl, sym, ◌∙◌, ap, subst, ⊎_elim, arith}
+use Rattle.std.proofs.lemmas.List.{length-append}
+use Rattle.std.proofs.lemmas.List.Sums.{sum_by-cons}
+use Rattle.std.specs.List.{range_with_len, sum_by}
+use Rattle.tp_model.specs.declared.types.Element.{Element}
+use Rattle.tp_model.specs.declared.types.Limits.{Limits}
+use Rattle.tp_model.specs.declared.types.Status.{Status}
+use Rattle.tp_model.specs.declared.types.Status.TheVariants.{Waiting, Held, Consumed, Parked, Killed}
+use Rattle.tp_model.specs.declared.event.Event.{Event}
+use Rattle.tp_model.specs.Counts.{counts, is_held, is_parked, is_waiting}
+use Rattle.tp_model.specs.History.{In, IsBorn, born, element_of, status_of}
+use Rattle.tp_model.specs.Steps.{IsKillable, IsLegal, rows_of}
+use Rattle.tp_model.proofs.Bridges.{element_of-id}
+use Rattle.tp_model.proofs.RowTallies.{rows_sum}
+use Rattle.tp_rollover.specs.Finding.{AreAlive, AreAliveBelow, CountsAlive, IsAliveAt, listed}
+use Rattle.tp_rollover.specs.declared.alive.Alive.{Alive}
+use Rattle.tp_rollover.specs.declared.moved.Moved.{Moved}
+use Rattle.tp_rollover.proofs.Others.{all_named, sum_both}
+use Rattle.tp_rollover.proofs.Tallies.{alive_one, by_rows, one_if, over}
+use Rattle.tp_manager.specs.Shown.{PassShown}
+use Rattle.tp_alone.specs.Thread.{Stays}
+use Rattle.tp_rollover.specs.Told.{HoldsAsSeen}
+use Rattle.std.proofs.lemmas.Bool.Decides.{leb_tells}
+use Rattle.tp_rollover.proofs.Checked.{alive_next, alive_none}
+use Rattle.tp_rollover.proofs.Seen.{told_first, told_second}
+
+-- whether an element is alive, and whether that of a row is, as numbers
+
+abbrev alive_in : ℕ → List Event → Element → ℕ
+alive_in limit h x = one_if (is_waiting (status_of limit h x.id)) + one_if (is_parked (status_of limit h x.id))
+
+abbrev pub row_alive : ℕ → List Event → ℕ → ℕ
+row_alive limit h i = over (alive_in limit h) (element_of h i)
+
+not_one : (s : Status) → ¬ IsKillable s → one_if (is_waiting s) + one_if (is_parked s) ≡ 0
+not_one (Waiting n) not = absurd (not tt)
+not_one (Held u n) not = refl
+not_one (Consumed u) not = refl
+not_one (Parked n) not = absurd (not tt)
+not_one Killed not = refl
+
+none_some : (a : Alive) → None ≡ Some a → ⊥
+none_some a e = cc
+
+at_counted : (limit row : ℕ) (o : Option Alive) (h : List Event) → IsAliveAt limit row o h → row_alive limit h row ≡ length (listed o)
+at_counted limit row None h at = go (element_of h row) refl
+  where
+    go : (e : Option Element) → element_of h row ≡ e → row_alive limit h row ≡ 0
+    go None is = ap (over (alive_in limit h)) is
+    go (Some x) is =
+        ap (over (alive_in limit h)) is
+        ∙ not_one (status_of limit h x.id) (λ alive. let s = (at.0 x is).1 (subst (λ i. IsKillable (status_of limit h i)) (element_of-id h row x is) alive) in none_some s.0 s.1)
+at_counted limit row (Some a) h at =
+    let there = at.1 a refl in
+    ap (over (alive_in limit h)) there.born ∙ alive_one (status_of limit h there.item.id) (subst (λ i. IsKillable (status_of limit h i)) (sym (element_of-id h row there.item there.born)) there.alive)
+
+-- what is summed over rows, and over those after them
+split : (F : ℕ → ℕ) (a n m k : ℕ) → n + m ≡ k → sum_by F (range_with_len a k) ≡ sum_by F (range_with_len a n) + sum_by F (range_with_len (a + n) m)
+split F a zero m k e =
+    let same : k ≡ m = omega (arith, e) in
+    let first : a + 0 ≡ a = omega arith in
+    let none : sum_by F (range_with_len a 0) ≡ 0 = refl in
+    let s : sum_by F (range_with_len a k) ≡ sum_by F (range_with_len a m) = ap (λ z. sum_by F (range_with_len a z)) same in
+    let t : sum_by F (range_with_len (a + 0) m) ≡ sum_by F (range_with_len a m) = ap (λ z. sum_by F (range_with_len z m)) first in
+    omega arith
+split F a (suc n) m zero e = absurd (omega (arith, e))
+split F a (suc n) m (suc k) e =
+    let one = sum_by-cons F a (range_with_len (a + 1) k) in
+    let two = sum_by-cons F a (range_with_len (a + 1) n) in
+    let rest = split F (a + 1) n m k (omega (arith, e)) in
+    let at : a + suc n ≡ a + 1 + n = omega arith in
+    let same : sum_by F (range_with_len (a + suc n) m) ≡ sum_by F (range_with_len (a + 1 + n) m) = ap (λ z. sum_by F (range_with_len z m)) at in
+    omega arith
+
+one_more : (F : ℕ → ℕ) (n : ℕ) → sum_by F (range_with_len 0 (n + 1)) ≡ sum_by F (range_with_len 0 n) + F n
+one_more F n =
+    let all = split F 0 n 1 (n + 1) refl in
+    let last = sum_by-cons F (0 + n) [] in
+    let none : sum_by F [] ≡ 0 = refl in
+    let at : 0 + n ≡ n = omega arith in
+    let same : F (0 + n) ≡ F n = ap F at in
+    let one : sum_by F (range_with_len (0 + n) 1) ≡ F (0 + n) + sum_by F [] = last in
+    omega arith
+
+-- of the first rows each element that is alive was found, and no more were
+abbrev pub FoundBelow : ℕ → ℕ → List Alive → List Event → Type 0
+FoundBelow limit row found h = AreAliveBelow limit row found h × (sum_by (row_alive limit h) (range_with_len 0 row) ≡ length found)
+
+pub found_none : (limit : ℕ) (h : List Event) → FoundBelow limit 0 [] h
+found_none limit h = (alive_none limit [] h, refl)
+
+found_next : (limit row : ℕ) (h : List Event) (found : List Alive) (o : Option Alive) → FoundBelow limit row found h → IsAliveAt limit row o h → FoundBelow limit (row + 1) (found ++ listed o) h
+found_next limit row h found o below at =
+    let more = one_more (row_alive limit h) row in
+    let one = at_counted limit row o h at in
+    let long = length-append found (listed o) in
+    let before = below.1 in
+    (alive_next limit row h found o below.0 at, omega arith)
+
+pub found_then : (limit row : ℕ) (found : List Alive) (o : Option Alive) (p q r : PassShown) → Stays p q → Stays q r → HoldsAsSeen p q (FoundBelow limit row found) → HoldsAsSeen q r (IsAliveAt limit row o) → HoldsAsSeen p r (FoundBelow limit (row + 1) (found ++ listed o))
+found_then limit row found o p q r a b below at same =
+    found_next limit row p.seen found o (told_first (FoundBelow limit row found) p.seen q.seen r.seen a.sees b.sees below same) (told_second (IsAliveAt limit row o) p.seen q.seen r.seen a.sees b.sees at same)
+
+-- where as many are found as an account counts
+module _ (l : Limits) (h : List Event) (n : ℕ) (found : List Alive) (legal : IsLegal l h) (counted : CountsAlive n (counts l.attempts h)) where
+  zero_at : (f : Element → ℕ) (a m : ℕ) → sum_by (λ i. over f (element_of h i)) (range_with_len a m) ≡ 0 → (x : Element) → IsBorn h x → a ≤ x.id → x.id < a + m → f x ≡ 0
+  zero_at f a m total x is low high =
+      ⊎_elim (λ e. sym (ap (over f) is) ∙ e) (λ named. elim named.1 [ ])
+      (all_named (λ (q : Moved). q.new) (λ i. over f (element_of h i)) a m [] tt (λ q p. elim p [ ]) (λ q p. elim p [ ]) total x.id low high)
+
+  total : sum_by (row_alive l.attempts h) (range_with_len 0 (rows_of l)) ≡ n
+  total =
+      sym (by_rows (alive_in l.attempts h) h 0 (rows_of l))
+      ∙ (rows_sum l h legal (alive_in l.attempts h)
+      ∙ (sum_both (λ x. one_if (is_waiting (status_of l.attempts h x.id))) (λ x. one_if (is_parked (status_of l.attempts h x.id))) (born h) ∙ counted.alive))
+
+  held : sum_by (λ i. over (λ x. one_if (is_held (status_of l.attempts h x.id))) (element_of h i)) (range_with_len 0 (rows_of l)) ≡ 0
+  held = sym (by_rows (λ x. one_if (is_held (status_of l.attempts h x.id))) h 0 (rows_of l)) ∙ (rows_sum l h legal (λ x. one_if (is_held (status_of l.attempts h x.id))) ∙ counted.held)
+
+  pub all_found : (row : ℕ) → row ≤ rows_of l → FoundBelow l.attempts row found h → n ≤ length found → AreAlive l found h
+  all_found row inside below enough x is less = ⊎_elim
+      (λ p. let low : x.id + 1 ≤ row = p.1 in below.0 x is (omega arith))
+      (λ p. (no_held p.1, none_alive p.1))
+      (leb_tells (x.id + 1) row)
+    where
+      no_held : row < x.id + 1 → (u m : ℕ) → ¬ (status_of l.attempts h x.id ≡ Held u m)
+      no_held low u m e =
+          let nothing = zero_at (λ y. one_if (is_held (status_of l.attempts h y.id))) 0 (rows_of l) held x is (omega arith) (omega arith) in
+          let one = ap (λ s. one_if (is_held s)) e in
+          let is_one : one_if (is_held (Held u m)) ≡ 1 = refl in
+          omega arith
+
+      none_alive : row < x.id + 1 → IsKillable (status_of l.attempts h x.id) → (a : Alive) × In a found × (a.id ≡ x.id)
+      none_alive low alive =
+          let parts = split (row_alive l.attempts h) 0 row (rows_of l - row) (rows_of l) (omega arith) in
+          let sum = total in
+          let front = below.1 in
+          let rest : sum_by (row_alive l.attempts h) (range_with_len (0 + row) (rows_of l - row)) ≡ 0 = omega arith in
+          let nothing = zero_at (alive_in l.attempts h) (0 + row) (rows_of l - row) rest x is (omega arith) (omega arith) in
+          let one = alive_one (status_of l.attempts h x.id) alive in
+          absurd (omega arith)

@@ -1,0 +1,65 @@
+-- All passes of a manager.
+use Rattle.std.proofs.Common.{◌≡◌, ℕ, ◌+◌, ◌≤◌, All, List, [], ◌∷◌, ◌++◌, sym, ◌∙◌, ap, subst, arith, length, ⊎_elim}
+use Rattle.std.proofs.lemmas.List.{length-append, with_items_is}
+use Rattle.std.specs.Vec.{with_items}
+use Rattle.tp_model.specs.declared.types.Limits.{Limits}
+use Rattle.tp_manager.specs.Accounts.{AreAll, AreNumberedFrom}
+use Rattle.tp_manager.specs.Shown.{IsKeptBy, IsOf, KeeperShown, PassShown}
+use Rattle.tp_rollover.specs.Faults.{AreFree, HasShort, IsDue}
+use Rattle.tp_rollover.specs.Managed.{IsManaged, IsRefusedFor, WasShort}
+use Rattle.tp_rollover.specs.declared.managed.Managed.{Managed}
+use Rattle.tp_rollover.specs.declared.moved.RollFault.{RollFault}
+use Rattle.tp_rollover.specs.declared.moved.RollFault.TheVariants.{BadLimits, Busy, Full, NoMemory, NoPass, Unequal}
+
+-- one pass more, with the next number
+from_more : (c : ℕ) (ps : List PassShown) (p : PassShown) → p.number ≡ c + length ps → AreNumberedFrom c ps → AreNumberedFrom c (ps ++ p ∷ [])
+from_more c [] p next all = (omega (arith, next), tt)
+from_more c (q ∷ ps) p next all = (all.0, from_more (c + 1) ps p (omega (arith, next)) all.1)
+
+pub all_more : (old new : KeeperShown) (ps : List PassShown) (p : PassShown) → p.number ≡ old.given → new.given ≡ old.given + 1 → AreAll old ps → AreAll new (ps ++ p ∷ [])
+all_more old new ps p next given all =
+    let long = length-append ps (p ∷ []) in
+    (omega (arith, long, all.0, given), from_more 0 ps p (omega (arith, next, all.0)) all.1)
+
+-- the faults that a manager with all its passes can meet, where none has a unit open
+not_empty : (ps : List PassShown) → 1 ≤ length ps → ps ≡ [] → ⊥
+not_empty ps some none = let e = ap length none in omega (arith, some, e)
+
+pub refused_for : (l k : Limits) (olds news news' : List PassShown) (fault : RollFault) → k.attempts ≡ l.attempts → 1 ≤ length olds → 1 ≤ length news → AreFree olds
+    → (HasShort k news' → WasShort l) → IsDue l k olds news news' fault → IsRefusedFor l olds fault
+refused_for l k olds news news' NoMemory same some some' free short due = free
+refused_for l k olds news news' BadLimits same some some' free short due = due same
+refused_for l k olds news news' NoPass same some some' free short due = ⊎_elim (λ none. not_empty olds some none) (λ none. not_empty news some' none) due.1
+refused_for l k olds news news' Busy same some some' free short due = due.2
+refused_for l k olds news news' Full same some some' free short due = (free, short due.1)
+refused_for l k olds news news' Unequal same some some' free short due = free
+
+-- the same manager, with as many passes, after calls by them
+module _ (m : Managed) (keeper : KeeperShown) (qs : List PassShown) (h : IsManaged m) (kept : IsKeptBy m.manager keeper) (given : keeper.given ≡ m.keeper.given) (own : All (IsOf m.manager) qs)
+    (all : AreAll keeper qs) where
+  as_long : length qs ≡ length m.passes.items
+  as_long = all.0 ∙ (given ∙ sym h.all.0)
+
+  pub again_is : (with_items m.passes qs).items ≡ qs
+  again_is = with_items_is m.passes qs (as_long ∙ sym m.passes.ok.0)
+
+  pub managed_again : IsManaged (record { manager = m.manager; keeper = keeper; passes = with_items m.passes qs })
+  managed_again = record {
+    keeper = kept;
+    limits = h.limits;
+    own = subst (All (IsOf m.manager)) (sym again_is) own;
+    all = subst (AreAll keeper) (sym again_is) all;
+    parts = ap length again_is ∙ (as_long ∙ h.parts);
+  }
+
+  pub free_again : AreFree qs → AreFree (with_items m.passes qs).items
+  free_again free = subst AreFree (sym again_is) free
+
+  pub was_short : (l : Limits) → m.manager.limits ≡ l → HasShort m.manager.limits qs → WasShort l
+  was_short l same short =
+      record {
+        new = record { manager = m.manager; keeper = keeper; passes = with_items m.passes qs };
+        managed = managed_again;
+        limits = same;
+        short = subst (λ (k : Limits). HasShort k (with_items m.passes qs).items) same (subst (HasShort m.manager.limits) (sym again_is) short);
+      }

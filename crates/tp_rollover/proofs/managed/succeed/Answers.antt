@@ -1,0 +1,33 @@
+use Rattle.std.proofs.Common.{◌∙◌, ap, arith, length, refl}
+use Rattle.tp_model.specs.declared.types.Limits.{Limits}
+use Rattle.tp_rollover.proofs.Heads.{stay_same}
+use Rattle.tp_rollover.proofs.Managing.{free_again, managed_again, refused_for, was_short}
+use Rattle.tp_rollover.proofs.managed.succeed.Goals as goal
+
+pub returns-then-has_open-clause-stays : goal.returns-then-has_open-clause-stays
+returns-then-has_open-clause-stays c = stay_same c.args.old_passes.now
+
+pub returns-in_default-clause-stays : goal.returns-in_default-clause-stays
+returns-in_default-clause-stays c = stay_same c.args.old_passes.now
+
+pub returns-in-Ok-roll_over-clause-managed : goal.returns-in-Ok-roll_over-clause-managed
+returns-in-Ok-roll_over-clause-managed c =
+    let e = c.roll_over.ensures in
+    managed_again c.in-Ok.new c.roll_over.new.new_keeper c.roll_over.new.new_passes c.in-Ok.ensures.managed e.new_keeper.0 e.new_keeper.1 e.own.1 e.all.1
+
+pub returns-in-Ok-roll_over-clause-free : goal.returns-in-Ok-roll_over-clause-free
+returns-in-Ok-roll_over-clause-free c =
+    let e = c.roll_over.ensures in
+    free_again c.in-Ok.new c.roll_over.new.new_keeper c.roll_over.new.new_passes c.in-Ok.ensures.managed e.new_keeper.0 e.new_keeper.1 e.own.1 e.all.1 c.in-Ok-roll_over.ensures.free
+
+pub returns-in-Err-clause-fault : goal.returns-in-Err-clause-fault
+returns-in-Err-clause-fault c =
+    let e = c.roll_over.ensures in
+    let new = c.in-Ok.new in
+    let same = c.in-Ok.ensures.limits ∙ c.limits.ensures in
+    let news = c.deref_mut.result.now in
+    let long = ap length c.deref_mut.ensures.value ∙ (c.in-Ok.ensures.managed.parts ∙ ap (λ (l : Limits). l.parts) same) in
+    refused_for c.args.old.now.limits new.manager.limits c.args.old_passes.now news c.roll_over.new.new_passes c.in-Err.fault (ap (λ (l : Limits). l.attempts) same)
+    (omega (arith, c.requires.parts, c.requires.limits.parts.0)) (omega (arith, long, c.requires.limits.parts.0)) (c.if-has_open.ensures.free refl)
+    (was_short new c.roll_over.new.new_keeper c.roll_over.new.new_passes c.in-Ok.ensures.managed e.new_keeper.0 e.new_keeper.1 e.own.1 e.all.1 c.args.old.now.limits same)
+    c.in-Err.ensures.due

@@ -1,0 +1,72 @@
+-- A manager with its keeper and all its passes, and how it goes on in a new one.
+use Rattle.std.specs.Prelude.{◌≡◌, ℕ, ◌*◌, All, None, List, [], length}
+use Rattle.std.specs.List.{AllZip}
+use Rattle.tp_model.specs.declared.types.Limits.{Limits}
+use Rattle.tp_model.specs.Passes.{IsPassView}
+use Rattle.tp_model.specs.Steps.{AreLimits}
+use Rattle.tp_manager.specs.Accounts.{AreAll}
+use Rattle.tp_manager.specs.Shown.{IsKeptBy, IsOf, KeeperShown, PassShown, low_of, turn_of, view_in}
+use Rattle.tp_alone.specs.Thread.{Stays}
+use Rattle.tp_rollover.specs.Answers.{Rolls}
+use Rattle.tp_rollover.specs.Faults.{AreFree, HasShort}
+use Rattle.tp_rollover.specs.declared.managed.Managed.{Managed}
+use Rattle.tp_rollover.specs.declared.moved.Moved.{Moved}
+use Rattle.tp_rollover.specs.declared.moved.RollFault.{RollFault}
+use Rattle.tp_rollover.specs.declared.moved.RollFault.TheVariants.{Busy, Full, NoMemory, Unequal}
+
+-- The pass has seen nothing and has done nothing: all rows of its part are left to it, it has drawn no spare
+-- block and knows of none, it has no unit open, and its marks and turns are at the first row.
+pub record IsNewPass (p : PassShown) : Type 0 where
+  pub shows : IsPassView p.limits (view_in p)
+  pub seen : p.seen ≡ []
+  pub mine : p.mine ≡ []
+  pub open_unit : p.open_unit ≡ None
+  pub next : p.next ≡ p.number * p.limits.rows
+  pub left : p.left ≡ p.limits.rows
+  pub blocks : p.blocks ≡ []
+  pub turn : (stage : ℕ) → turn_of p stage ≡ 0
+  pub lows : (c part : ℕ) → low_of p c part ≡ 0
+  pub drawn : p.seen_blocks ≡ 0
+
+-- it has the keeper and all passes of its manager, in order of number
+pub record IsManaged (m : Managed) : Type 0 where
+  pub keeper : IsKeptBy m.manager m.keeper
+  pub limits : AreLimits m.manager.limits
+  pub own : All (IsOf m.manager) m.passes.items
+  pub all : AreAll m.keeper m.passes.items
+  pub parts : length m.passes.items ≡ m.manager.limits.parts
+
+-- It has gone on in another manager, of the same limits. No unit was open, and none is. From what the old
+-- passes had done before the rollover went to what the new ones have seen. The old manager's keeper and passes
+-- showed these at the last.
+pub record GoesOn (old new : Managed) (moved : List Moved) : Type 0 where
+  pub keeper : KeeperShown
+  pub passes : List PassShown
+  pub given : keeper.given ≡ old.keeper.given
+  pub limits : new.manager.limits ≡ old.manager.limits
+  pub rolls : Rolls old.manager.limits new.manager.limits keeper new.keeper old.passes.items passes
+      new.passes.items moved
+  pub idle : AreFree old.passes.items
+  pub free : AreFree new.passes.items
+
+-- it has the same manager, and its passes have done nothing but look
+pub record StaysManaged (old new : Managed) : Type 0 where
+  pub manager : new.manager ≡ old.manager
+  pub given : new.keeper.given ≡ old.keeper.given
+  pub passes : AllZip Stays old.passes.items new.passes.items
+
+-- a pass of another manager with these limits, which is given up, was short
+pub record WasShort (l : Limits) : Type 0 where
+  pub new : Managed
+  pub managed : IsManaged new
+  pub limits : new.manager.limits ≡ l
+  pub short : HasShort l new.passes.items
+
+-- Which fault a manager with these limits and passes is refused with: Busy where a unit is open, and else one
+-- of these three, Full only where the new manager was short.
+abbrev pub IsRefusedFor : Limits → List PassShown → RollFault → Type 0
+IsRefusedFor l passes Busy = ¬ AreFree passes
+IsRefusedFor l passes NoMemory = AreFree passes
+IsRefusedFor l passes Full = AreFree passes × WasShort l
+IsRefusedFor l passes Unequal = AreFree passes
+IsRefusedFor l passes other = ⊥

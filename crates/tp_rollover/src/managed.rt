@@ -1,0 +1,149 @@
+//! A manager with its keeper and all its passes, which goes on in a new one by itself.
+ghost use Rattle.std.specs.Prelude.{◌≡◌, ◌↔◌, All, Err, IfErr, IfOk, [], length};
+ghost use Rattle.std.specs.List.{AllZip};
+ghost use Rattle.tp_model.specs.Steps.{AreLimits};
+ghost use Rattle.tp_manager.specs.Accounts.{AreAll};
+ghost use Rattle.tp_manager.specs.Shown.{IsKeptBy, IsOf};
+ghost use Rattle.tp_manager.specs.declared.manager.MakeFault.TheVariants as faults;
+ghost use Rattle.tp_alone.specs.Thread.{Stays};
+ghost use Rattle.tp_rollover.specs.declared.moved.RollFault.TheVariants as refusals;
+ghost use Rattle.tp_rollover.specs.Answers.{Rolls};
+ghost use Rattle.tp_rollover.specs.Faults.{AreFree};
+ghost use Rattle.tp_rollover.specs.Managed.{GoesOn, IsManaged, IsNewPass, IsRefusedFor, StaysManaged};
+
+use crate::moved::{Moved, RollFault};
+use crate::rolling::{has_open, roll_over};
+use std::alloc::{AllocError, Global};
+use tp_manager::{Keeper, MakeFault, Manager, Pass};
+use tp_model::types::Limits;
+
+/// A manager, its keeper, and all its passes, in order of number.
+#[derive(Drop)]
+pub struct Managed {
+    pub manager: Manager,
+    pub keeper: Keeper,
+    pub passes: Vec<Pass>,
+}
+
+/// The manager that follows on one that is used up, and what was carried over.
+pub struct Successor {
+    pub managed: Managed,
+    pub moved: Vec<Moved>,
+}
+
+/// All passes of a new keeper.
+fn all_passes(
+    alloc: Global,
+    manager: &Manager,
+    keeper: &mut Keeper,
+) -> Result<Vec<Pass>, AllocError>
+    requires keeper { IsKeptBy manager.now keeper.old }
+    requires fresh { (keeper.old.given ≡ 0) × (keeper.old.seen ≡ []) }
+    ensures keeper { IsKeptBy manager.now keeper.new × (keeper.new.seen ≡ []) }
+    ensures own { IfOk result (λ passes. All (IsOf manager.now) passes.items) }
+    ensures given { IfOk result (λ passes. AreAll keeper.new passes.items) }
+    ensures new { IfOk result (λ passes. All IsNewPass passes.items) }
+    ensures all { IfOk result (λ passes. length passes.items ≡ manager.now.limits.parts) }
+{
+    let mut passes = Vec::with_capacity(alloc, usize::from(manager.limits().parts))?;
+    while let Ok(pass) = keeper.pass(manager) {
+        passes.push(pass)?;
+    }
+    Ok(passes)
+}
+
+/// What is alive in this manager goes on in a new one with the same limits (`roll_over`). Where it is refused,
+/// the old passes have done nothing but look. The caller lends all of them, in order of number.
+pub fn succeed(
+    alloc: Global,
+    old: &Manager,
+    old_keeper: &mut Keeper,
+    old_passes: &mut [Pass],
+) -> Result<Successor, RollFault>
+    requires keeper { IsKeptBy old.now old_keeper.old }
+    requires limits { AreLimits old.now.limits }
+    requires own { All (IsOf old.now) old_passes.old }
+    requires all { AreAll old_keeper.old old_passes.old }
+    requires parts { length old_passes.old ≡ old.now.limits.parts }
+    ensures keeper { IsKeptBy old.now old_keeper.new × (old_keeper.new.given ≡ old_keeper.old.given) }
+    ensures own { All (IsOf old.now) old_passes.new }
+    ensures all { AreAll old_keeper.new old_passes.new }
+    ensures managed { IfOk result (λ next. IsManaged next.managed) }
+    ensures limits { IfOk result (λ next. next.managed.manager.limits ≡ old.now.limits) }
+    ensures rolls { IfOk result (λ next. Rolls old.now.limits next.managed.manager.limits old_keeper.new
+        next.managed.keeper old_passes.old old_passes.new next.managed.passes.items next.moved.items) }
+    ensures idle { IfOk result (λ next. AreFree old_passes.old) }
+    ensures free { IfOk result (λ next. AreFree next.managed.passes.items) }
+    ensures stays { IfErr result (λ fault. AllZip Stays old_passes.old old_passes.new) }
+    ensures fault { IfErr result (IsRefusedFor old.now.limits old_passes.old) }
+{
+    if has_open(old_passes) {
+        return Err(RollFault::Busy);
+    }
+    let Ok(mut new) = Managed::new(alloc, old.limits()) else {
+        return Err(RollFault::NoMemory);
+    };
+    match roll_over(
+        alloc,
+        old,
+        old_keeper,
+        old_passes,
+        &new.manager,
+        &mut new.keeper,
+        &mut new.passes,
+    ) {
+        Ok(moved) => Ok(Successor {
+            managed: new,
+            moved,
+        }),
+        Err(fault) => Err(fault),
+    }
+}
+
+impl Managed {
+    /// A manager with these limits, its keeper and all its passes. `BadLimits` where a limit is outside its
+    /// range, `NoMemory` only where the allocator refused.
+    pub fn new(alloc: Global, limits: Limits) -> Result<Managed, MakeFault>
+        ensures managed { IfOk result IsManaged }
+        ensures limits { IfOk result (λ made. made.manager.limits ≡ limits) }
+        ensures seen { IfOk result (λ made. made.keeper.seen ≡ []) }
+        ensures free { IfOk result (λ made. AreFree made.passes.items) }
+        ensures new { IfOk result (λ made. All IsNewPass made.passes.items) }
+        ensures bad { (result ≡ Err faults.BadLimits) ↔ (¬ AreLimits limits) }
+        ensures part { ¬ (result ≡ Err faults.NoPart) }
+    {
+        let (manager, mut keeper) = Keeper::new(alloc, limits)?;
+        let Ok(passes) = all_passes(alloc, &manager, &mut keeper) else {
+            return Err(MakeFault::NoMemory);
+        };
+        Ok(Managed {
+            manager,
+            keeper,
+            passes,
+        })
+    }
+
+    /// What is alive, each element once, goes on in a new manager with the same limits, and nothing else does.
+    /// What each is there, in the order of their ids, which is the same in both managers (`roll_over`).
+    /// `Busy` exactly where a pass has a unit open. Where it is refused, the manager is the same, and its
+    /// passes have done nothing but look.
+    pub fn roll_over(&mut self, alloc: Global) -> Result<Vec<Moved>, RollFault>
+        requires managed { IsManaged self.old }
+        ensures managed { IsManaged self.new }
+        ensures limits { self.new.manager.limits ≡ self.old.manager.limits }
+        ensures moved { IfOk result (λ moved. GoesOn self.old self.new moved.items) }
+        ensures refused { IfErr result (λ fault. StaysManaged self.old self.new) }
+        ensures fault { IfErr result (IsRefusedFor self.old.manager.limits self.old.passes.items) }
+        ensures busy { (result ≡ Err refusals.Busy) ↔ (¬ AreFree self.old.passes.items) }
+    {
+        let answer = succeed(alloc, &self.manager, &mut self.keeper, &mut self.passes);
+        match answer {
+            Ok(next) => {
+                let Successor { managed, moved } = next;
+                *self = managed;
+                Ok(moved)
+            }
+            Err(fault) => Err(fault),
+        }
+    }
+}
