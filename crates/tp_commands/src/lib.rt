@@ -12,4 +12,4 @@ pub use client::{client_line, count};
 pub use desks::{desk_line, turn_in};
 pub use giving_up::give_up_in;
 pub use lines::{balance_line, sum};
-pub use place::{Place, end_all, places_for};
+pub use place::{Place, begin_again, end_all, places_for};

@@ -60,6 +60,29 @@ pub fn places_for(
     places
 }
 
+/// Lays a new desk aside at each place, of one of these passes and of these servers, which have nothing in
+/// hand. A desk that was dropped stays dropped.
+pub fn begin_again(passes: &[Pass], servers: &[Box<dyn Server + Send>], places: &mut [Place])
+    requires free { All (λ pass. pass.open_unit ≡ None) passes.now }
+    requires clear { All (λ server. pending server ≡ None) servers.now }
+    requires paired { (length passes.now ≡ length places.old) × (length servers.now ≡ length places.old) }
+    ensures lie { AllLie behaviour registers pending passes.now servers.now places.new }
+    ensures began { firsts places.new ≡ all_firsts passes.now servers.now }
+    ensures dropped { map (λ place. place.is_dropped) places.new ≡ map (λ place. place.is_dropped) places.old }
+{
+    let Some((pass, passes)) = passes.split_first() else {
+        return;
+    };
+    let Some((server, servers)) = servers.split_first() else {
+        return;
+    };
+    let Some((place, places)) = places.split_first_mut() else {
+        return;
+    };
+    place.aside = Some(Aside::nothing(pass, server));
+    begin_again(passes, servers, places);
+}
+
 /// Ends all desks: what they have in hand is given up.
 pub fn end_all(
     manager: &Manager,

@@ -14,9 +14,10 @@ use Rattle.tp_workers.specs.Free.{IsFreePass}
 use Rattle.tp_commands.specs.Acting.{new_place, new_places}
 use Rattle.tp_commands.specs.Places.{workers}
 use Rattle.tp_perform.specs.GivingUp.{DesksEnd}
-use Rattle.tp_perform.specs.Reported.{Begins, IsNewPass, IsNewPlace, Performed, limits_of}
-use Rattle.tp_perform.specs.Scenes.{Scene}
-use Rattle.tp_perform.specs.Told.{ArePasses, IsFirstScene, ToldAll}
+use Rattle.tp_perform.specs.Reported.{Begins, IsNewPlace, Performed, limits_of}
+use Rattle.tp_perform.specs.Scenes.{Scene, Stand}
+use Rattle.tp_rollover.specs.Managed.{IsNewPass}
+use Rattle.tp_perform.specs.Told.{IsFirstScene, ToldAll}
 
 module _ {X : Type 0} {F : X → Type 0} (behaviour : DynBox X Global F → Behaviour) (registers : DynBox X Global F → List ℕ) (pending : DynBox X Global F → Option Pending) where
   abbrev Box : Type 0
@@ -87,11 +88,9 @@ registers_shown [] = refl
 registers_shown (x ∷ xs) = ap (λ l. x.registers ∷ l) (registers_shown xs)
 
 -- what stands when the commands are done
-abbrev pub performed_of : (s : ScriptView) (m : ManagerShown) (keeper kept ended_keeper : KeeperShown) (first last : Scene) (before commands_done : Option (List ℕ)) (left : List PassShown) (registers : List (List ℕ)) (n : ℕ)
-    → Begins s m first → n ≡ length s.servers → ToldAll m s keeper first kept last before commands_done → DesksEnd m n kept last ended_keeper left registers → Performed s m before
-performed_of s m keeper kept ended_keeper first last before commands_done left registers n begins many told ended = record {
-  keeper = keeper;
-  kept = kept;
+abbrev pub performed_of : (s : ScriptView) (ended_keeper : KeeperShown) (first last : Stand) (before commands_done : Option (List ℕ)) (left : List PassShown) (registers : List (List ℕ)) (n : ℕ)
+    → Begins s first.manager first.scene → n ≡ length s.servers → ToldAll s first last before commands_done → DesksEnd last.manager n last.keeper last.scene ended_keeper left registers → Performed s before
+performed_of s ended_keeper first last before commands_done left registers n begins many told ended = record {
   first = first;
   last = last;
   begins = begins;
@@ -100,5 +99,5 @@ performed_of s m keeper kept ended_keeper first last before commands_done left r
   ended_keeper = ended_keeper;
   left = left;
   registers = registers;
-  ended = subst (λ k. DesksEnd m k kept last ended_keeper left registers) many ended;
+  ended = subst (λ k. DesksEnd last.manager k last.keeper last.scene ended_keeper left registers) many ended;
 }

@@ -1,13 +1,18 @@
 -- How a run ends: with its final lines, or before its first.
-use Rattle.std.proofs.Common.{◌≡◌, inl, refl, ◌∙◌, ◌+◌, ℕ, suc, List, [], ◌++◌, Option, false, ap, arith, length, slice_get, subst, sym}
+use Rattle.std.proofs.Common.{◌≡◌, inl, refl, ◌∙◌, ◌+◌, ℕ, suc, List, [], ◌++◌, Option, None, Some, IfSome, false, ap, arith, length, slice_get, subst, sym}
 use Rattle.std.specs.Io.KnownBytes.{Appends}
 use Rattle.std.proofs.lemmas.List.{length-map}
 use Rattle.std.specs.Prelude.{Result, Ok, Err}
 use Rattle.tp_script.specs.declared.script.Script.{Script}
 use Rattle.tp_script.specs.Passes.{has_race}
-use Rattle.tp_perform.specs.Performing.{final_count}
+use Rattle.tp_perform.specs.Performing.{final_count, line_count}
 use Rattle.tp_script.specs.Script.{ScriptView, ServerView, script_view, server_view}
 use Rattle.tp_report.specs.declared.fault.Fault.TheVariants as faults
+use Rattle.tp_report.specs.declared.fault.RunFault.{RunFault}
+use Rattle.tp_report.specs.declared.fault.RunFault.TheVariants as runs
+use Rattle.tp_report.specs.Faults.{fault_of}
+use Rattle.tp_report.specs.Lines.{WritesFront}
+use Rattle.tp_perform.specs.Reported.{ReportedFront}
 use Rattle.tp_script.specs.declared.fault.Refused.{Refused}
 use Rattle.tp_script.specs.Fault.{refused_text}
 use Rattle.tp_report.specs.Answer.{line}
@@ -46,3 +51,15 @@ module _ (servers : List ServerView) (registers : List (List ℕ)) (n : ℕ) (a 
 
   pub finals_front : Appends a b (final_lines servers registers n) → AppendsFront a b (final_lines servers registers n)
   finals_front before = whole_front a b (final_lines servers registers n) before
+
+-- a fault while a script was performed
+pub answered_fault : (said : Result ScriptView Refused) (s : ScriptView) (fault : RunFault) (a b : Option (List ℕ)) → said ≡ Ok s → WritesFront (line_count s) a b → ReportedFront s a b → Answered (Err (fault_of fault)) said a b
+answered_fault said s fault a b is written front = subst (λ (r : Result ScriptView Refused). Answered (Err (fault_of fault)) r a b) (sym is) (go fault)
+  where
+    go : (f : RunFault) → Answered (Err (fault_of f)) (Ok s) a b
+    go runs.NoMemory = (written, front)
+    go runs.Write = (written, front)
+
+pub some_weaker : {A : Type 0} (o : Option A) (P Q : A → Type 0) → ((x : A) → P x → Q x) → IfSome o P → IfSome o Q
+some_weaker None P Q f p = tt
+some_weaker (Some x) P Q f p = f x p

@@ -1,22 +1,12 @@
 -- All passes that a keeper gave out, and the account that ends a report.
-use Rattle.std.proofs.Common.{◌≡◌, ℕ, ◌+◌, List, [], ◌∷◌, ◌++◌, true, refl, sym, ◌∙◌, ap, arith, length}
-use Rattle.std.proofs.lemmas.List.{length-map, length-append}
+use Rattle.std.proofs.Common.{◌≡◌, ℕ, ◌+◌, List, [], ◌∷◌, true, refl, sym, ◌∙◌, ap, length}
+use Rattle.std.proofs.lemmas.List.{length-map}
 use Rattle.tp_manager.specs.Accounts.{AreAll, AreNumberedFrom}
 use Rattle.tp_manager.specs.Shown.{KeeperShown, PassShown}
 use Rattle.tp_script.specs.declared.script.Script.{Script}
 use Rattle.tp_script.specs.Script.{script_view}
 use Rattle.tp_workers.specs.Free.{numbers}
 use Rattle.tp_perform.specs.Performing.{account_count}
-
--- one pass more, with the next number
-from_more : (c : ℕ) (ps : List PassShown) (p : PassShown) → p.number ≡ c + length ps → AreNumberedFrom c ps → AreNumberedFrom c (ps ++ p ∷ [])
-from_more c [] p next all = (omega (arith, next), tt)
-from_more c (q ∷ ps) p next all = (all.0, from_more (c + 1) ps p (omega (arith, next)) all.1)
-
-pub all_more : (old new : KeeperShown) (ps : List PassShown) (p : PassShown) → p.number ≡ old.given → new.given ≡ old.given + 1 → AreAll old ps → AreAll new (ps ++ p ∷ [])
-all_more old new ps p next given all =
-    let long = length-append ps (p ∷ []) in
-    (omega (arith, long, all.0, given), from_more 0 ps p (omega (arith, next, all.0)) all.1)
 
 -- others with the same numbers
 from_same : (c : ℕ) (ps qs : List PassShown) → numbers qs ≡ numbers ps → AreNumberedFrom c ps → AreNumberedFrom c qs

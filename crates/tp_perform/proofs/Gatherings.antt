@@ -16,6 +16,7 @@ use Rattle.tp_server.specs.Behaviour.{Behaviour}
 use Rattle.tp_server.specs.Pending.{Pending}
 use Rattle.tp_manager.specs.Accounts.{AreAll, Attends, Gathers}
 use Rattle.tp_manager.specs.Bounds.{gather_steps}
+use Rattle.tp_manager.specs.Calls.{IsQuiet}
 use Rattle.tp_manager.specs.Shown.{IsOf, KeeperShown, ManagerShown, PassShown}
 use Rattle.tp_desk.specs.declared.aside.Aside.{Aside}
 use Rattle.tp_desk.specs.InHand.{InHand, IsSteady}
@@ -26,131 +27,167 @@ use Rattle.tp_commands.specs.declared.place.Place.{Place}
 use Rattle.tp_commands.specs.Acting.{places_shown}
 use Rattle.tp_commands.specs.Places.{AllLie, Lies, workers}
 use Rattle.tp_perform.specs.Scenes.{Gathered, OnlyPass, Scene, passes_in}
-use Rattle.tp_perform.specs.Told.{AreReady, IsScene}
+use Rattle.tp_perform.specs.Told.{AreReady, IsScene, RacersFree, units_held}
 
 -- ---- lists side by side
 
 module _ {A : Type 0} (R : A → A → Type 0) where
-  zip_take : (n : ℕ) (xs ys : List A) → AllZip R xs ys → AllZip R (take n xs) (take n ys)
+  pub zip_take : (n : ℕ) (xs ys : List A) → AllZip R xs ys → AllZip R (take n xs) (take n ys)
   zip_take zero xs ys zip = tt
   zip_take (suc n) [] [] zip = tt
   zip_take (suc n) [] (y ∷ ys) zip = absurd zip
   zip_take (suc n) (x ∷ xs) [] zip = absurd zip
   zip_take (suc n) (x ∷ xs) (y ∷ ys) zip = (zip.0, zip_take n xs ys zip.1)
 
-  zip_drop : (n : ℕ) (xs ys : List A) → AllZip R xs ys → AllZip R (drop n xs) (drop n ys)
+  pub zip_drop : (n : ℕ) (xs ys : List A) → AllZip R xs ys → AllZip R (drop n xs) (drop n ys)
   zip_drop zero xs ys zip = zip
   zip_drop (suc n) [] [] zip = tt
   zip_drop (suc n) [] (y ∷ ys) zip = absurd zip
   zip_drop (suc n) (x ∷ xs) [] zip = absurd zip
   zip_drop (suc n) (x ∷ xs) (y ∷ ys) zip = zip_drop n xs ys zip.1
 
+-- ---- passes that have the same units open
+
+heads_tails : (a b : Option ℕ) (xs ys : List (Option ℕ)) → a ∷ xs ≡ b ∷ ys → (a ≡ b) × (xs ≡ ys)
+heads_tails a b xs ys e = (cc, cc)
+
+still_free : (m m' : ManagerShown) (ps qs : List PassShown) → map (λ (p : PassShown). p.open_unit) qs ≡ map (λ (p : PassShown). p.open_unit) ps → All (IsOf m') qs → All (IsFreePass m) ps → All (IsFreePass m') qs
+still_free m m' [] [] same own all = All-nil (IsFreePass m')
+still_free m m' [] (q ∷ qs) same own all = absurd cc
+still_free m m' (p ∷ ps) [] same own all = absurd cc
+still_free m m' (p ∷ ps) (q ∷ qs) same own all =
+    let parts = heads_tails q.open_unit p.open_unit (map (λ (p : PassShown). p.open_unit) qs) (map (λ (p : PassShown). p.open_unit) ps) same in
+    let free = All-head (IsFreePass m) p ps all in
+    All-cons (IsFreePass m') q qs (record { own = All-head (IsOf m') q qs own; free = parts.0 ∙ free.free })
+    (still_free m m' ps qs parts.1 (All-tail (IsOf m') q qs own) (All-tail (IsFreePass m) p ps all))
+
+-- those of races, of all
+pub racers_still : (m m' : ManagerShown) (n : ℕ) (ps qs : List PassShown) → units_held n qs ≡ units_held n ps → All (IsOf m') qs → RacersFree m n ps → RacersFree m' n qs
+racers_still m m' n ps qs same own free = still_free m m' (drop n (drop 1 ps)) (drop n (drop 1 qs)) same (All-drop (IsOf m') n _ (All-drop (IsOf m') 1 qs own)) free
+
 -- ---- a pass that has done nothing but look
 
-module _ (k : ℕ) (h : List Event) where
-  abbrev Looks : PassShown → PassShown → Type 0
-  Looks p q = Attends k h p q
+pub record Looks (p q : PassShown) : Type 0 where
+  pub number : q.number ≡ p.number
+  pub quiet : IsQuiet p q
+  pub sees : IsPrefix p.seen q.seen
 
-  looks_on : (p q : PassShown) → Looks p q → IsPrefix p.seen q.seen
-  looks_on p q looks = begins_trans p.seen _ q.seen looks.follows.opened looks.follows.closed
+pub attended : (k : ℕ) (h : List Event) (p q : PassShown) → Attends k h p q → Looks p q
+attended k h p q a = record { number = a.follows.number; quiet = a.quiet; sees = begins_trans p.seen _ q.seen a.follows.opened a.follows.closed }
 
-  looks_own : (m : ManagerShown) (p q : PassShown) → Looks p q → IsFreePass m p → IsOf m q → IsFreePass m q
-  looks_own m p q looks free own = record { own = own; free = looks.quiet.open_unit ∙ free.free }
+pub zip_with : {R S : PassShown → PassShown → Type 0} → ((p q : PassShown) → R p q → S p q) → (ps qs : List PassShown) → AllZip R ps qs → AllZip S ps qs
+zip_with f [] [] zip = tt
+zip_with f [] (q ∷ qs) zip = absurd zip
+zip_with f (p ∷ ps) [] zip = absurd zip
+zip_with f (p ∷ ps) (q ∷ qs) zip = (f p q zip.0, zip_with f ps qs zip.1)
 
-  all_free : (m : ManagerShown) (ps qs : List PassShown) → AllZip Looks ps qs → All (IsOf m) qs → All (IsFreePass m) ps → All (IsFreePass m) qs
-  all_free m [] [] zip own all = All-nil (IsFreePass m)
-  all_free m [] (q ∷ qs) zip own all = absurd zip
-  all_free m (p ∷ ps) [] zip own all = absurd zip
-  all_free m (p ∷ ps) (q ∷ qs) zip own all =
-      All-cons (IsFreePass m) q qs (looks_own m p q zip.0 (All-head (IsFreePass m) p ps all) (All-head (IsOf m) q qs own))
-      (all_free m ps qs zip.1 (All-tail (IsOf m) q qs own) (All-tail (IsFreePass m) p ps all))
+looks_own : (m : ManagerShown) (p q : PassShown) → Looks p q → IsFreePass m p → IsOf m q → IsFreePass m q
+looks_own m p q looks free own = record { own = own; free = looks.quiet.open_unit ∙ free.free }
 
-  pub same_numbers : (ps qs : List PassShown) → AllZip Looks ps qs → numbers qs ≡ numbers ps
-  same_numbers [] [] zip = refl
-  same_numbers [] (q ∷ qs) zip = absurd zip
-  same_numbers (p ∷ ps) [] zip = absurd zip
-  same_numbers (p ∷ ps) (q ∷ qs) zip = let one = zip.0.follows.number in ap (λ z. z ∷ numbers qs) one ∙ ap (λ zs. p.number ∷ zs) (same_numbers ps qs zip.1)
+all_free : (m : ManagerShown) (ps qs : List PassShown) → AllZip Looks ps qs → All (IsOf m) qs → All (IsFreePass m) ps → All (IsFreePass m) qs
+all_free m [] [] zip own all = All-nil (IsFreePass m)
+all_free m [] (q ∷ qs) zip own all = absurd zip
+all_free m (p ∷ ps) [] zip own all = absurd zip
+all_free m (p ∷ ps) (q ∷ qs) zip own all =
+    All-cons (IsFreePass m) q qs (looks_own m p q zip.0 (All-head (IsFreePass m) p ps all) (All-head (IsOf m) q qs own))
+    (all_free m ps qs zip.1 (All-tail (IsOf m) q qs own) (All-tail (IsFreePass m) p ps all))
 
-  -- its desk stays steady
-  none_some : (t : UnitClaim) → None ≡ Some t → ⊥
-  none_some t e = cc
+pub same_numbers : (ps qs : List PassShown) → AllZip Looks ps qs → numbers qs ≡ numbers ps
+same_numbers [] [] zip = refl
+same_numbers [] (q ∷ qs) zip = absurd zip
+same_numbers (p ∷ ps) [] zip = absurd zip
+same_numbers (p ∷ ps) (q ∷ qs) zip = let one = zip.0.number in ap (λ z. z ∷ numbers qs) one ∙ ap (λ zs. p.number ∷ zs) (same_numbers ps qs zip.1)
 
-  in_hand : (behaviour : Behaviour) (r : List ℕ) (pending : Option Pending) (f p q : PassShown) (work : Option Work) (drafts : List DraftView) → Looks p q → InHand behaviour r pending work drafts f p → InHand behaviour r pending work drafts f q
-  in_hand behaviour r pending f p q None drafts looks free = record { open_unit = looks.quiet.open_unit ∙ free.open_unit; unprepared = free.unprepared }
-  in_hand behaviour r pending f p q (Some w) drafts looks holds =
-      let seen = looks_on p q looks in
-      record {
-        open_unit = looks.quiet.open_unit ∙ holds.open_unit;
-        claimed = subst (λ (h : List Event). IsClaim (gained f.mine h) q.number w.unit w.element.id w.attempt) (sym looks.quiet.mine)
-            (subst (λ (c : ℕ). IsClaim (gained f.mine p.mine) c w.unit w.element.id w.attempt) (sym looks.follows.number) holds.claimed);
-        is_born = subst (λ (h : List Event). element_of h w.element.id ≡ Some w.element) seen.1 (element_of-kept p.seen seen.0 w.element.id w.element holds.is_born);
-        prepared = holds.prepared;
-      }
+same_open : (ps qs : List PassShown) → AllZip Looks ps qs → map (λ (p : PassShown). p.open_unit) qs ≡ map (λ (p : PassShown). p.open_unit) ps
+same_open [] [] zip = refl
+same_open [] (q ∷ qs) zip = absurd zip
+same_open (p ∷ ps) [] zip = absurd zip
+same_open (p ∷ ps) (q ∷ qs) zip =
+    let one : q.open_unit ≡ p.open_unit = zip.0.quiet.open_unit in
+    ap (λ (z : Option ℕ). z ∷ map (λ (p : PassShown). p.open_unit) qs) one ∙ ap (λ (zs : List (Option ℕ)). p.open_unit ∷ zs) (same_open ps qs zip.1)
 
-  steady : (behaviour : Behaviour) (r : List ℕ) (pending : Option Pending) (start : List ℕ) (f p q : PassShown) (work : Option Work) (drafts : List DraftView)
-      → Looks p q → IsSteady behaviour r pending start f p work drafts → IsSteady behaviour r pending start f q work drafts
-  steady behaviour r pending start f p q work drafts looks s =
-      let seen = looks_on p q looks in
-      record {
-        serves = serves_more behaviour start r r f p q [] [] looks.follows.number seen (looks.quiet.mine ∙ sym (append_nil p.mine)) refl (λ c u outs at. absurd (in_none at)) refl (λ u t claimed. absurd (none_some t claimed)) s.serves;
-        in_hand = in_hand behaviour r pending f p q work drafts looks s.in_hand;
-        ended = subst (λ (o : Option ℕ). AreEnded o (gained f.mine q.mine) q.seen) (sym looks.quiet.open_unit) (subst (λ (h : List Event). AreEnded p.open_unit (gained f.mine h) q.seen) (sym looks.quiet.mine) (still_ended (gained f.mine p.mine) p.seen q.seen p.open_unit seen s.ended));
-      }
+pub same_held : (n : ℕ) (ps qs : List PassShown) → AllZip Looks ps qs → units_held n qs ≡ units_held n ps
+same_held n ps qs zip = same_open (drop n (drop 1 ps)) (drop n (drop 1 qs)) (zip_drop Looks n _ _ (zip_drop Looks 1 ps qs zip))
 
-  module _ {X : Type 0} {F : X → Type 0} (behaviour : DynBox X Global F → Behaviour) (registers : DynBox X Global F → List ℕ) (pending : DynBox X Global F → Option Pending) where
-    abbrev Box : Type 0
-    Box = DynBox X Global F
+-- its desk stays steady
+none_some : (t : UnitClaim) → None ≡ Some t → ⊥
+none_some t e = cc
 
-    lies_on : (p q : PassShown) (s : Box) (a : Option (Aside X F)) → Looks p q → Lies behaviour registers pending p s a → Lies behaviour registers pending q s a
-    lies_on p q s None looks lies = absurd lies
-    lies_on p q s (Some a) looks lies = steady (behaviour s) (registers s) (pending s) (registers a.first_server.value) a.first_pass.value p q a.work a.drafts.items looks lies
-
-    lie_on : (ps qs : List PassShown) (ss : List Box) (os : List (Place X F)) → AllZip Looks ps qs → AllLie behaviour registers pending ps ss os → AllLie behaviour registers pending qs ss os
-    lie_on [] [] ss os zip all = all
-    lie_on [] (q ∷ qs) ss os zip all = absurd zip
-    lie_on (p ∷ ps) [] ss os zip all = absurd zip
-    lie_on (p ∷ ps) (q ∷ qs) [] os zip all = absurd all
-    lie_on (p ∷ ps) (q ∷ qs) (s ∷ ss) [] zip all = absurd all
-    lie_on (p ∷ ps) (q ∷ qs) (s ∷ ss) (o ∷ os) zip all = (lies_on p q s o.aside zip.0 all.0, lie_on ps qs ss os zip.1 all.1)
-
-    pub ready_on : (m : ManagerShown) (ps qs : List PassShown) (ss : List Box) (os : List (Place X F)) → AllZip Looks ps qs → All (IsOf m) qs → AreReady behaviour registers pending m ps ss os → AreReady behaviour registers pending m qs ss os
-    ready_on m ps qs ss os zip own ready = record {
-      own = own;
-      client = all_free m (take 1 ps) (take 1 qs) (zip_take Looks 1 ps qs zip) (All-take (IsOf m) 1 qs own) ready.client;
-      racers = all_free m _ _ (zip_drop Looks (length ss) _ _ (zip_drop Looks 1 ps qs zip)) (All-drop (IsOf m) (length ss) _ (All-drop (IsOf m) 1 qs own)) ready.racers;
-      lie = lie_on _ _ ss os (zip_take Looks (length ss) _ _ (zip_drop Looks 1 ps qs zip)) ready.lie;
+in_hand : (behaviour : Behaviour) (r : List ℕ) (pending : Option Pending) (f p q : PassShown) (work : Option Work) (drafts : List DraftView) → Looks p q → InHand behaviour r pending work drafts f p → InHand behaviour r pending work drafts f q
+in_hand behaviour r pending f p q None drafts looks free = record { open_unit = looks.quiet.open_unit ∙ free.open_unit; unprepared = free.unprepared }
+in_hand behaviour r pending f p q (Some w) drafts looks holds =
+    let seen = looks.sees in
+    record {
+      open_unit = looks.quiet.open_unit ∙ holds.open_unit;
+      claimed = subst (λ (h : List Event). IsClaim (gained f.mine h) q.number w.unit w.element.id w.attempt) (sym looks.quiet.mine)
+          (subst (λ (c : ℕ). IsClaim (gained f.mine p.mine) c w.unit w.element.id w.attempt) (sym looks.number) holds.claimed);
+      is_born = subst (λ (h : List Event). element_of h w.element.id ≡ Some w.element) seen.1 (element_of-kept p.seen seen.0 w.element.id w.element holds.is_born);
+      prepared = holds.prepared;
     }
 
-    -- the passes of places are those that were lent
-    shown_passes : (ps : List PassShown) (ss : List Box) (os : List (Place X F)) → AllLie behaviour registers pending ps ss os → map (λ p. p.desk.pass) (places_shown behaviour registers pending ps ss os) ≡ ps
-    shown_passes [] [] [] all = refl
-    shown_passes [] [] (o ∷ os) all = absurd all
-    shown_passes [] (s ∷ ss) os all = absurd all
-    shown_passes (p ∷ ps) [] os all = absurd all
-    shown_passes (p ∷ ps) (s ∷ ss) [] all = absurd all
-    shown_passes (p ∷ ps) (s ∷ ss) (o ∷ os) all = ap (λ zs. p ∷ zs) (shown_passes ps ss os all.1)
+steady : (behaviour : Behaviour) (r : List ℕ) (pending : Option Pending) (start : List ℕ) (f p q : PassShown) (work : Option Work) (drafts : List DraftView)
+    → Looks p q → IsSteady behaviour r pending start f p work drafts → IsSteady behaviour r pending start f q work drafts
+steady behaviour r pending start f p q work drafts looks s =
+    let seen = looks.sees in
+    record {
+      serves = serves_more behaviour start r r f p q [] [] looks.number seen (looks.quiet.mine ∙ sym (append_nil p.mine)) refl (λ c u outs at. absurd (in_none at)) refl (λ u t claimed. absurd (none_some t claimed)) s.serves;
+      in_hand = in_hand behaviour r pending f p q work drafts looks s.in_hand;
+      ended = subst (λ (o : Option ℕ). AreEnded o (gained f.mine q.mine) q.seen) (sym looks.quiet.open_unit) (subst (λ (h : List Event). AreEnded p.open_unit (gained f.mine h) q.seen) (sym looks.quiet.mine) (still_ended (gained f.mine p.mine) p.seen q.seen p.open_unit seen s.ended));
+    }
 
-    pub all_in : (m : ManagerShown) (ps : List PassShown) (ss : List Box) (os : List (Place X F)) (a : Scene) → AreReady behaviour registers pending m ps ss os → IsScene behaviour registers pending ps ss os a → passes_in a ≡ ps
-    all_in m ps ss os a ready is =
-        ap (λ zs. a.client ∷ (zs ++ a.racers)) (ap (map (λ p. p.desk.pass)) is.1 ∙ shown_passes (workers (length ss) ps) ss os ready.lie) ∙ sym is.0
+module _ {X : Type 0} {F : X → Type 0} (behaviour : DynBox X Global F → Behaviour) (registers : DynBox X Global F → List ℕ) (pending : DynBox X Global F → Option Pending) where
+  abbrev Box : Type 0
+  Box = DynBox X Global F
 
-    -- nothing else is shown
-    only_passes : (ps qs : List PassShown) (ss : List Box) (os : List (Place X F)) → AllZip Looks ps qs → AllZip OnlyPass (places_shown behaviour registers pending ps ss os) (places_shown behaviour registers pending qs ss os)
-    only_passes [] [] ss os zip = tt
-    only_passes [] (q ∷ qs) ss os zip = absurd zip
-    only_passes (p ∷ ps) [] ss os zip = absurd zip
-    only_passes (p ∷ ps) (q ∷ qs) [] os zip = tt
-    only_passes (p ∷ ps) (q ∷ qs) (s ∷ ss) [] zip = tt
-    only_passes (p ∷ ps) (q ∷ qs) (s ∷ ss) (o ∷ os) zip = (refl, only_passes ps qs ss os zip.1)
+  lies_on : (p q : PassShown) (s : Box) (a : Option (Aside X F)) → Looks p q → Lies behaviour registers pending p s a → Lies behaviour registers pending q s a
+  lies_on p q s None looks lies = absurd lies
+  lies_on p q s (Some a) looks lies = steady (behaviour s) (registers s) (pending s) (registers a.first_server.value) a.first_pass.value p q a.work a.drafts.items looks lies
 
-    -- there is a scene of passes that looked
-    scene_on : (ps qs : List PassShown) (ss : List Box) (os : List (Place X F)) (a : Scene) → AllZip Looks ps qs → IsScene behaviour registers pending ps ss os a → (b : Scene) × IsScene behaviour registers pending qs ss os b
-    scene_on [] qs ss os a zip is = let e : [] ≡ a.client ∷ (workers (length ss) [] ++ a.racers) = is.0 in absurd cc
-    scene_on (p ∷ ps) [] ss os a zip is = absurd zip
-    scene_on (p ∷ ps) (q ∷ qs) ss os a zip is = (
-      record { client = q; places = places_shown behaviour registers pending (take (length ss) qs) ss os; racers = drop (length ss) qs },
-      (ap (λ zs. q ∷ zs) (sym (take-append-drop (length ss) qs)), refl),
-    )
+  lie_on : (ps qs : List PassShown) (ss : List Box) (os : List (Place X F)) → AllZip Looks ps qs → AllLie behaviour registers pending ps ss os → AllLie behaviour registers pending qs ss os
+  lie_on [] [] ss os zip all = all
+  lie_on [] (q ∷ qs) ss os zip all = absurd zip
+  lie_on (p ∷ ps) [] ss os zip all = absurd zip
+  lie_on (p ∷ ps) (q ∷ qs) [] os zip all = absurd all
+  lie_on (p ∷ ps) (q ∷ qs) (s ∷ ss) [] zip all = absurd all
+  lie_on (p ∷ ps) (q ∷ qs) (s ∷ ss) (o ∷ os) zip all = (lies_on p q s o.aside zip.0 all.0, lie_on ps qs ss os zip.1 all.1)
+
+  pub ready_on : (m : ManagerShown) (ps qs : List PassShown) (ss : List Box) (os : List (Place X F)) → AllZip Looks ps qs → All (IsOf m) qs → AreReady behaviour registers pending m ps ss os → AreReady behaviour registers pending m qs ss os
+  ready_on m ps qs ss os zip own ready = record {
+    own = own;
+    client = all_free m (take 1 ps) (take 1 qs) (zip_take Looks 1 ps qs zip) (All-take (IsOf m) 1 qs own) ready.client;
+    lie = lie_on _ _ ss os (zip_take Looks (length ss) _ _ (zip_drop Looks 1 ps qs zip)) ready.lie;
+  }
+
+  -- the passes of places are those that were lent
+  shown_passes : (ps : List PassShown) (ss : List Box) (os : List (Place X F)) → AllLie behaviour registers pending ps ss os → map (λ p. p.desk.pass) (places_shown behaviour registers pending ps ss os) ≡ ps
+  shown_passes [] [] [] all = refl
+  shown_passes [] [] (o ∷ os) all = absurd all
+  shown_passes [] (s ∷ ss) os all = absurd all
+  shown_passes (p ∷ ps) [] os all = absurd all
+  shown_passes (p ∷ ps) (s ∷ ss) [] all = absurd all
+  shown_passes (p ∷ ps) (s ∷ ss) (o ∷ os) all = ap (λ zs. p ∷ zs) (shown_passes ps ss os all.1)
+
+  pub all_in : (m : ManagerShown) (ps : List PassShown) (ss : List Box) (os : List (Place X F)) (a : Scene) → AreReady behaviour registers pending m ps ss os → IsScene behaviour registers pending ps ss os a → passes_in a ≡ ps
+  all_in m ps ss os a ready is =
+      ap (λ zs. a.client ∷ (zs ++ a.racers)) (ap (map (λ p. p.desk.pass)) is.1 ∙ shown_passes (workers (length ss) ps) ss os ready.lie) ∙ sym is.0
+
+  -- nothing else is shown
+  pub only_passes : (ps qs : List PassShown) (ss : List Box) (os : List (Place X F)) → AllZip Looks ps qs → AllZip OnlyPass (places_shown behaviour registers pending ps ss os) (places_shown behaviour registers pending qs ss os)
+  only_passes [] [] ss os zip = tt
+  only_passes [] (q ∷ qs) ss os zip = absurd zip
+  only_passes (p ∷ ps) [] ss os zip = absurd zip
+  only_passes (p ∷ ps) (q ∷ qs) [] os zip = tt
+  only_passes (p ∷ ps) (q ∷ qs) (s ∷ ss) [] zip = tt
+  only_passes (p ∷ ps) (q ∷ qs) (s ∷ ss) (o ∷ os) zip = (refl, only_passes ps qs ss os zip.1)
+
+  -- there is a scene of passes that looked
+  pub scene_on : (ps qs : List PassShown) (ss : List Box) (os : List (Place X F)) (a : Scene) → AllZip Looks ps qs → IsScene behaviour registers pending ps ss os a → (b : Scene) × IsScene behaviour registers pending qs ss os b
+  scene_on [] qs ss os a zip is = let e : [] ≡ a.client ∷ (workers (length ss) [] ++ a.racers) = is.0 in absurd cc
+  scene_on (p ∷ ps) [] ss os a zip is = absurd zip
+  scene_on (p ∷ ps) (q ∷ qs) ss os a zip is = (
+    record { client = q; places = places_shown behaviour registers pending (take (length ss) qs) ss os; racers = drop (length ss) qs },
+    (ap (λ zs. q ∷ zs) (sym (take-append-drop (length ss) qs)), refl),
+  )
 
 -- all passes of a scene gathered
 module _ {X : Type 0} {F : X → Type 0} (behaviour : DynBox X Global F → Behaviour) (registers : DynBox X Global F → List ℕ) (pending : DynBox X Global F → Option Pending) (m : ManagerShown) (keeper keeper' : KeeperShown)
@@ -159,17 +196,23 @@ module _ {X : Type 0} {F : X → Type 0} (behaviour : DynBox X Global F → Beha
   abbrev steps : ℕ
   steps = gather_steps m.limits (length ps)
 
+  looked : AllZip Looks ps qs
+  looked = zip_with (attended steps keeper'.seen) ps qs gathers.passes
+
   pub ready_gathered : AreReady behaviour registers pending m qs ss os
-  ready_gathered = ready_on steps keeper'.seen behaviour registers pending m ps qs ss os gathers.passes own ready
+  ready_gathered = ready_on behaviour registers pending m ps qs ss os looked own ready
 
   pub numbers_gathered : numbers qs ≡ numbers ps
-  numbers_gathered = same_numbers steps keeper'.seen ps qs gathers.passes
+  numbers_gathered = same_numbers ps qs looked
+
+  pub held_gathered : (n : ℕ) → units_held n qs ≡ units_held n ps
+  held_gathered n = same_held n ps qs looked
 
   pub gathered : (a : Scene) → IsScene behaviour registers pending ps ss os a → (b : Scene) × Gathered m keeper keeper' a b × IsScene behaviour registers pending qs ss os b
   gathered a is =
-      let b = scene_on steps keeper'.seen behaviour registers pending ps qs ss os a gathers.passes is in
-      let olds : ps ≡ passes_in a = sym (all_in steps keeper'.seen behaviour registers pending m ps ss os a ready is) in
-      let news : qs ≡ passes_in b.0 = sym (all_in steps keeper'.seen behaviour registers pending m qs ss os b.0 ready_gathered b.1) in (
+      let b = scene_on behaviour registers pending ps qs ss os a looked is in
+      let olds : ps ≡ passes_in a = sym (all_in behaviour registers pending m ps ss os a ready is) in
+      let news : qs ≡ passes_in b.0 = sym (all_in behaviour registers pending m qs ss os b.0 ready_gathered b.1) in (
         b.0,
         record {
           gathers = subst (λ zs. Gathers m.limits (gather_steps m.limits (length zs)) keeper keeper' zs (passes_in b.0)) olds (subst (λ zs. Gathers m.limits (gather_steps m.limits (length ps)) keeper keeper' ps zs) news gathers);
@@ -177,7 +220,7 @@ module _ {X : Type 0} {F : X → Type 0} (behaviour : DynBox X Global F → Beha
           given = given;
           own = subst (All (IsOf m)) news own;
           places = subst (λ zs. AllZip OnlyPass zs b.0.places) (sym is.1) (subst (λ zs. AllZip OnlyPass (places_shown behaviour registers pending (workers (length ss) ps) ss os) zs) (sym b.1.1)
-              (only_passes steps keeper'.seen behaviour registers pending (workers (length ss) ps) (workers (length ss) qs) ss os (zip_take (Attends steps keeper'.seen) (length ss) (drop 1 ps) (drop 1 qs) (zip_drop (Attends steps keeper'.seen) 1 ps qs gathers.passes))));
+              (only_passes behaviour registers pending (workers (length ss) ps) (workers (length ss) qs) ss os (zip_take Looks (length ss) (drop 1 ps) (drop 1 qs) (zip_drop Looks 1 ps qs looked))));
         },
         b.1,
       )

@@ -12,3 +12,6 @@ pub mod Parts
 pub mod Races
 pub mod Beginnings
 pub mod Pushes
+pub mod Rollovers
+pub mod Began
+pub mod Managers

@@ -79,8 +79,8 @@ module _ {X : Type 0} {F : X → Type 0} (behaviour : DynBox X Global F → Beha
   pub units_used : (order : Order) (m : ManagerShown) (n : ℕ) (keeper keeper' : KeeperShown) (ps qs : List PassShown) (ss ts : List Box) (os ns : List (Place X F)) (b : Bool) → Ready m ps ss os → Ready m qs ts ns
       → TurnedOnce order m n keeper ps ss os b keeper' qs ts ns → count b + units_left m.limits qs ≡ units_left m.limits ps
   units_used order m n keeper keeper' ps qs ss ts os ns b before after o =
-      let was : passes_in o.0 ≡ ps = all_in 0 [] behaviour registers pending m ps ss os o.0 before o.2 in
-      let is : passes_in o.1 ≡ qs = all_in 0 [] behaviour registers pending m qs ts ns o.1 after o.4 in
+      let was : passes_in o.0 ≡ ps = all_in behaviour registers pending m ps ss os o.0 before o.2 in
+      let is : passes_in o.1 ≡ qs = all_in behaviour registers pending m qs ts ns o.1 after o.4 in
       subst (λ z. count b + units_left m.limits z ≡ units_left m.limits ps) is
       (turn_left order m n keeper keeper' o.0 o.1 b o.3 ∙ ap (units_left m.limits) was)
 

@@ -1,10 +1,10 @@
 -- All passes in one list: the client's, those of the servers, and those of races.
-use Rattle.std.proofs.Common.{◌≡◌, ◌≤◌, ℕ, List, [], ◌∷◌, ◌++◌, All, Option, Some, None, refl, sym, ◌∙◌, ap, subst, arith, length, drop, take}
+use Rattle.std.proofs.Common.{◌≡◌, ◌≤◌, ◌+◌, ℕ, suc, List, [], ◌∷◌, ◌++◌, All, Option, Some, None, refl, sym, ◌∙◌, ap, subst, arith, length, map, drop, take}
 use Rattle.std.specs.Option.{option_map}
 use Rattle.std.specs.declared.alloc.Global.{Global}
 use Rattle.std.specs.declared.dyn_box.DynBox.{DynBox}
 use Rattle.std.proofs.Math.Seq.{drop-append_seam, take-append_seam}
-use Rattle.std.proofs.lemmas.List.{length-map, take-append-drop}
+use Rattle.std.proofs.lemmas.List.{length-append, length-map, length-take, take-append-drop}
 use Rattle.std.proofs.lemmas.List.Elements.{All-append, All-cons, All-drop, All-head, All-nil, All-take}
 use Rattle.tp_server.specs.Behaviour.{Behaviour}
 use Rattle.tp_server.specs.Pending.{Pending}
@@ -17,7 +17,7 @@ use Rattle.tp_commands.specs.Places.{AllLeft, AllLie, IsLeft, Lies, first_of, fi
 use Rattle.tp_commands.proofs.Lefts.{same_parts, same_within, workers_are}
 use Rattle.tp_commands.proofs.Lies.{lie_passes, lie_servers}
 use Rattle.tp_perform.specs.Scenes.{Scene, scene}
-use Rattle.tp_perform.specs.Told.{ArePasses, AreReady, IsScene}
+use Rattle.tp_perform.specs.Told.{ArePasses, AreReady, IsScene, RacersFree, after_servers, units_held}
 
 first_same : {A : Type 0} (x y : A) (xs ys : List A) → x ∷ xs ≡ y ∷ ys → (x ≡ y) × (xs ≡ ys)
 first_same x y xs ys e = (cc, cc)
@@ -62,6 +62,14 @@ module _ {X : Type 0} {F : X → Type 0} (behaviour : DynBox X Global F → Beha
     record { client = p; places = places_shown behaviour registers pending (take (length ss) ps) ss os; racers = drop (length ss) ps },
     (ap (λ zs. p ∷ zs) (sym (take-append-drop (length ss) ps)), refl),
   )
+
+  -- how many passes of races there are
+  pub racers_long : (ps : List PassShown) (ss : List Box) (os : List (Place X F)) (a : Scene) → Is ps ss os a → length ps ≤ 1 + length ss + length a.racers
+  racers_long ps ss os a is =
+      let whole : length ps ≡ suc (length (workers (length ss) ps ++ a.racers)) = ap length is.0 in
+      let both = length-append (workers (length ss) ps) a.racers in
+      let few = length-take (length ss) (drop 1 ps) in
+      omega (arith, whole, both, few)
 
   -- desks that began with the same passes have passes of the same numbers
   began_number : (p q : PassShown) (s t : Box) (a b : Option (Aside X F)) → Lies behaviour registers pending p s a → Lies behaviour registers pending q t b
@@ -131,42 +139,67 @@ module _ {X : Type 0} {F : X → Type 0} (behaviour : DynBox X Global F → Beha
     pub lie_workers : AllLie behaviour registers pending ws ss os
     lie_workers = subst (λ zs. AllLie behaviour registers pending zs ss os) these ready.lie
 
-    rest_free : All (IsFreePass m) rest
-    rest_free = subst (All (IsFreePass m)) behind ready.racers
+    -- those behind are the manager's own
+    rest_own : All (IsOf m) rest
+    rest_own = subst (All (IsOf m)) behind (All-drop (IsOf m) (length ss) (drop 1 ps) (All-drop (IsOf m) 1 ps ready.own))
 
-    front_free : All (IsFreePass m) front
-    front_free = subst (All (IsFreePass m)) (ap (take (length front)) before ∙ take-append_seam front rear) (All-take (IsFreePass m) (length front) rest rest_free)
+    front_own : All (IsOf m) front
+    front_own = subst (All (IsOf m)) (ap (take (length front)) before ∙ take-append_seam front rear) (All-take (IsOf m) (length front) rest rest_own)
 
-    rear_free : All (IsFreePass m) rear
-    rear_free = subst (All (IsFreePass m)) (ap (drop (length front)) before ∙ drop-append_seam front rear) (All-drop (IsFreePass m) (length front) rest rest_free)
+    rear_own : All (IsOf m) rear
+    rear_own = subst (All (IsOf m)) (ap (drop (length front)) before ∙ drop-append_seam front rear) (All-drop (IsOf m) (length front) rest rest_own)
 
-    pub here_free : All (IsFreePass m) here
-    here_free = subst (All (IsFreePass m)) (ap (take (length here)) race ∙ take-append_seam here back) (All-take (IsFreePass m) (length here) rear rear_free)
+    back_own : All (IsOf m) back
+    back_own = subst (All (IsOf m)) (ap (drop (length here)) race ∙ drop-append_seam here back) (All-drop (IsOf m) (length here) rear rear_own)
 
-    back_free : All (IsFreePass m) back
-    back_free = subst (All (IsFreePass m)) (ap (drop (length here)) race ∙ drop-append_seam here back) (All-drop (IsFreePass m) (length here) rear rear_free)
+    -- where those behind are free
+    module _ (racers_free : RacersFree m (length ss) ps) where
+      rest_free : All (IsFreePass m) rest
+      rest_free = subst (All (IsFreePass m)) behind racers_free
+
+      front_free : All (IsFreePass m) front
+      front_free = subst (All (IsFreePass m)) (ap (take (length front)) before ∙ take-append_seam front rear) (All-take (IsFreePass m) (length front) rest rest_free)
+
+      rear_free : All (IsFreePass m) rear
+      rear_free = subst (All (IsFreePass m)) (ap (drop (length front)) before ∙ drop-append_seam front rear) (All-drop (IsFreePass m) (length front) rest rest_free)
+
+      pub here_free : All (IsFreePass m) here
+      here_free = subst (All (IsFreePass m)) (ap (take (length here)) race ∙ take-append_seam here back) (All-take (IsFreePass m) (length here) rear rear_free)
+
+      back_free : All (IsFreePass m) back
+      back_free = subst (All (IsFreePass m)) (ap (drop (length here)) race ∙ drop-append_seam here back) (All-drop (IsFreePass m) (length here) rear rear_free)
 
     -- behind a command
-    module _ (client' : PassShown) (ws' here' : List PassShown) (ss' : List Box) (os' : List (Place X F)) (free : IsFreePass m client') (own : All (IsOf m) ws') (lie : AllLie behaviour registers pending ws' ss' os') (race_free : All (IsFreePass m) here') where
+    module _ (client' : PassShown) (ws' here' : List PassShown) (ss' : List Box) (os' : List (Place X F)) (free : IsFreePass m client') (own : All (IsOf m) ws') (lie : AllLie behaviour registers pending ws' ss' os') (here_own : All (IsOf m) here') where
       abbrev others' : List PassShown
       others' = front ++ (here' ++ back)
 
       many' : length ws' ≡ length ss'
       many' = lie_passes behaviour registers pending ws' ss' os' lie ∙ sym (lie_servers behaviour registers pending ws' ss' os' lie)
 
-      free' : All (IsFreePass m) others'
-      free' = All-append (IsFreePass m) front (here' ++ back) front_free (All-append (IsFreePass m) here' back race_free back_free)
-
-      owned : (xs : List PassShown) → All (IsFreePass m) xs → All (IsOf m) xs
-      owned xs free i d within = (free i d within).own
+      own' : All (IsOf m) others'
+      own' = All-append (IsOf m) front (here' ++ back) front_own (All-append (IsOf m) here' back here_own back_own)
 
       pub ready_after : Ready m (client' ∷ (ws' ++ others')) ss' os'
       ready_after = record {
-        own = All-cons (IsOf m) client' (ws' ++ others') free.own (All-append (IsOf m) ws' others' own (owned others' free'));
+        own = All-cons (IsOf m) client' (ws' ++ others') free.own (All-append (IsOf m) ws' others' own own');
         client = All-cons (IsFreePass m) client' [] free (All-nil (IsFreePass m));
-        racers = subst (All (IsFreePass m)) (sym (ap (λ n. drop n (ws' ++ others')) (sym many') ∙ drop-append_seam ws' others')) free';
         lie = subst (λ zs. AllLie behaviour registers pending zs ss' os') (sym (workers_are behaviour registers pending (length ss') client' ws' others' many')) lie;
       }
+
+      -- those behind, where there are as many servers as before
+      module _ (long : length ss' ≡ length ss) where
+        behind_after : after_servers (length ss) (client' ∷ (ws' ++ others')) ≡ others'
+        behind_after = ap (λ n. drop n (ws' ++ others')) (sym long ∙ sym many') ∙ drop-append_seam ws' others'
+
+        pub held_after : map (λ (p : PassShown). p.open_unit) here' ≡ map (λ (p : PassShown). p.open_unit) here → units_held (length ss) (client' ∷ (ws' ++ others')) ≡ units_held (length ss) ps
+        held_after same =
+            let rest_same : map (λ (p : PassShown). p.open_unit) others' ≡ map (λ (p : PassShown). p.open_unit) rest = same_within (λ (p : PassShown). p.open_unit) rest front rear here back here' before race same in
+            ap (map (λ (p : PassShown). p.open_unit)) behind_after ∙ (rest_same ∙ ap (map (λ (p : PassShown). p.open_unit)) (sym behind))
+
+        pub racers_after : RacersFree m (length ss) ps → All (IsFreePass m) here' → RacersFree m (length ss) (client' ∷ (ws' ++ others'))
+        racers_after before_free here'_free =
+            subst (All (IsFreePass m)) (sym behind_after) (All-append (IsFreePass m) front (here' ++ back) (front_free before_free) (All-append (IsFreePass m) here' back here'_free (back_free before_free)))
 
       pub numbers_after : client'.number ≡ client.number → firsts os' ≡ firsts os → numbers here' ≡ numbers here → numbers (client' ∷ (ws' ++ others')) ≡ numbers ps
       numbers_after same began race_same =
@@ -184,8 +217,8 @@ module _ {X : Type 0} {F : X → Type 0} (behaviour : DynBox X Global F → Beha
 
     -- behind the ends of desks
     module _ (qs : List PassShown) (ts : List Box) (free : All (IsFreePass m) qs) (left : AllLeft behaviour registers (firsts os) qs ts) where
-      pub free_left : All (IsFreePass m) (client ∷ (qs ++ rest))
-      free_left = All-cons (IsFreePass m) client (qs ++ rest) client_free (All-append (IsFreePass m) qs rest free rest_free)
+      pub free_left : RacersFree m (length ss) ps → All (IsFreePass m) (client ∷ (qs ++ rest))
+      free_left racers_free = All-cons (IsFreePass m) client (qs ++ rest) client_free (All-append (IsFreePass m) qs rest free (rest_free racers_free))
 
       numbers_left : numbers qs ≡ numbers ws
       numbers_left = ended_numbers ws qs ss ts os lie_workers left

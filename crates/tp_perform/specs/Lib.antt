@@ -3,6 +3,7 @@ pub mod Performing
 pub mod Drains
 pub mod GivingUp
 pub mod Reported
+pub mod Rollover
 pub mod Scenes
 pub mod Together
 pub mod Told

@@ -1,18 +1,19 @@
 -- What is reported of a script that was performed to its end.
-use Rattle.std.specs.Prelude.{◌≡◌, ◌⊎◌, ℕ, ◌*◌, Bool, false, List, [], ◌∷◌, ◌++◌, All, Option, Some, None}
+use Rattle.std.specs.Prelude.{◌≡◌, ◌⊎◌, ℕ, Bool, false, List, ◌∷◌, ◌++◌, All, Option, Some, None}
 use Rattle.std.specs.Prelude.{length, map}
 use Rattle.std.specs.Io.KnownBytes.{Appends}
 use Rattle.tp_model.specs.declared.types.Account.{Account}
 use Rattle.tp_model.specs.declared.types.Limits.{Limits}
 use Rattle.tp_server.specs.Behaviour.{behaviour_of}
 use Rattle.tp_manager.specs.Accounts.{Accounts, AreNumberedFrom}
-use Rattle.tp_manager.specs.Shown.{KeeperShown, ManagerShown, PassShown, turn_of}
+use Rattle.tp_manager.specs.Shown.{KeeperShown, ManagerShown, PassShown}
 use Rattle.tp_script.specs.Script.{ScriptView, passes}
+pub use Rattle.tp_rollover.specs.Managed.{IsNewPass}
 use Rattle.tp_workers.specs.Free.{IsFreePass}
 use Rattle.tp_commands.specs.Acting.{PlaceShown}
 use Rattle.tp_perform.specs.Ending.{AccountFront, FinalsFront, TellsAccount, finals_of}
 use Rattle.tp_perform.specs.GivingUp.{DesksEnd}
-use Rattle.tp_perform.specs.Scenes.{Scene}
+use Rattle.tp_perform.specs.Scenes.{Scene, Stand}
 use Rattle.tp_perform.specs.Told.{ToldAll, ToldFront}
 
 -- the limits that a script asks for
@@ -24,17 +25,6 @@ limits_of s = record {
   attempts = s.settings.attempts;
   spare = s.settings.spare;
 }
-
--- the pass has seen nothing, and has done nothing: all rows of its part are left to it, and it has drawn no
--- spare block
-pub record IsNewPass (p : PassShown) : Type 0 where
-  pub seen : p.seen ≡ []
-  pub mine : p.mine ≡ []
-  pub open_unit : p.open_unit ≡ None
-  pub next : p.next ≡ p.number * p.limits.rows
-  pub left : p.left ≡ p.limits.rows
-  pub blocks : p.blocks ≡ []
-  pub turn : (stage : ℕ) → turn_of p stage ≡ 0
 
 -- the desk begins there
 pub record IsNewPlace (p : PlaceShown) : Type 0 where
@@ -60,52 +50,50 @@ pub record Begins (s : ScriptView) (m : ManagerShown) (first : Scene) : Type 0 w
 
 -- All commands were performed and their lines written, and the desks ended: what they left. After the last
 -- command the client and the racers did nothing but look, and the servers' passes only what ends a desk.
-pub record Performed (s : ScriptView) (m : ManagerShown) (before : Option (List ℕ)) : Type 0 where
-  pub keeper : KeeperShown
-  pub kept : KeeperShown
-  pub first : Scene
-  pub last : Scene
-  pub begins : Begins s m first
+pub record Performed (s : ScriptView) (before : Option (List ℕ)) : Type 0 where
+  pub first : Stand
+  pub last : Stand
+  pub begins : Begins s first.manager first.scene
   pub commands_done : Option (List ℕ)
-  pub told : ToldAll m s keeper first kept last before commands_done
+  pub told : ToldAll s first last before commands_done
   pub ended_keeper : KeeperShown
   pub left : List PassShown
   pub registers : List (List ℕ)
-  pub ended : DesksEnd m (length s.servers) kept last ended_keeper left registers
+  pub ended : DesksEnd last.manager (length s.servers) last.keeper last.scene ended_keeper left registers
 
 -- behind them the final lines, of the registers that are left, and then what is written of the account of
--- what all passes have seen
+-- what all passes of the last manager have seen
 pub record ClosesReport (Tells : Bool → (Account → Type 0) → Option (List ℕ) → Option (List ℕ) → Type 0)
-    (s : ScriptView) (m : ManagerShown) (before after : Option (List ℕ)) : Type 0 where
-  pub performed : Performed s m before
+    (s : ScriptView) (before after : Option (List ℕ)) : Type 0 where
+  pub performed : Performed s before
   pub finals_done : Option (List ℕ)
   pub finals : Appends performed.commands_done finals_done (finals_of s performed.registers)
   pub keeper' : KeeperShown
   pub closed : List PassShown
   pub account :
-      Tells s.account (Accounts m.limits performed.ended_keeper keeper' performed.left closed) finals_done after
+      let l = performed.last.manager.limits in
+      Tells s.account (Accounts l performed.ended_keeper keeper' performed.left closed) finals_done after
 
 -- a whole report: the account's line last, where it is asked for
-abbrev pub Reported : ScriptView → ManagerShown → Option (List ℕ) → Option (List ℕ) → Type 0
-Reported s m before after = ClosesReport TellsAccount s m before after
+abbrev pub Reported : ScriptView → Option (List ℕ) → Option (List ℕ) → Type 0
+Reported s before after = ClosesReport TellsAccount s before after
 
 -- The same up to a fault: a front of the lines of commands is written,
-pub record CommandsFront (s : ScriptView) (m : ManagerShown) (before after : Option (List ℕ)) : Type 0 where
-  pub keeper : KeeperShown
-  pub first : Scene
-  pub begins : Begins s m first
-  pub told : ToldFront m s keeper first before after
+pub record CommandsFront (s : ScriptView) (before after : Option (List ℕ)) : Type 0 where
+  pub first : Stand
+  pub begins : Begins s first.manager first.scene
+  pub told : ToldFront s first before after
 
 -- all of these and a front of the final lines,
-pub record LastFront (s : ScriptView) (m : ManagerShown) (before after : Option (List ℕ)) : Type 0 where
-  pub performed : Performed s m before
+pub record LastFront (s : ScriptView) (before after : Option (List ℕ)) : Type 0 where
+  pub performed : Performed s before
   pub finals : FinalsFront s performed.registers performed.commands_done after
 
 -- or these too and a front of the account's line
-abbrev pub ClosingFront : ScriptView → ManagerShown → Option (List ℕ) → Option (List ℕ) → Type 0
-ClosingFront s m before after = ClosesReport AccountFront s m before after
+abbrev pub ClosingFront : ScriptView → Option (List ℕ) → Option (List ℕ) → Type 0
+ClosingFront s before after = ClosesReport AccountFront s before after
 
 -- where nothing could be made, nothing is written
 abbrev pub ReportedFront : ScriptView → Option (List ℕ) → Option (List ℕ) → Type 0
-ReportedFront s before after = (after ≡ before) ⊎ ((m : ManagerShown)
-    × (CommandsFront s m before after ⊎ (LastFront s m before after ⊎ ClosingFront s m before after)))
+ReportedFront s before after = (after ≡ before)
+    ⊎ (CommandsFront s before after ⊎ (LastFront s before after ⊎ ClosingFront s before after))

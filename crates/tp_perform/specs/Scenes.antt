@@ -31,6 +31,12 @@ module _ {X : Type 0} {F : X → Type 0} (behaviour : DynBox X Global F → Beha
     racers = racers;
   }
 
+-- what stands between two commands
+pub record Stand : Type 0 where
+  pub manager : ManagerShown
+  pub keeper : KeeperShown
+  pub scene : Scene
+
 -- nothing but the client's pass has changed
 pub record OnlyClient (old new : Scene) : Type 0 where
   pub places : new.places ≡ old.places

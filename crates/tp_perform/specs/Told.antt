@@ -1,6 +1,7 @@
 -- What the commands of a script are told, one after another: the line of each is that of its call's answer.
 use Rattle.std.specs.Prelude.{◌≡◌, ◌≤◌, ℕ, zero, suc, List, [], ◌∷◌, ◌++◌, All, Option, Some, None, length}
-use Rattle.std.specs.Prelude.{slice_get, drop, take}
+use Rattle.std.specs.Prelude.{IfSome, IsSome, map, slice_get, drop, take}
+use Rattle.std.specs.Option.{option_map}
 use Rattle.std.specs.Io.KnownBytes.{Appends}
 use Rattle.std.specs.declared.alloc.Global.{Global}
 use Rattle.std.specs.declared.dyn_box.DynBox.{DynBox}
@@ -8,6 +9,7 @@ use Rattle.tp_model.specs.declared.types.Limits.{Limits}
 use Rattle.tp_server.specs.Behaviour.{Behaviour}
 use Rattle.tp_server.specs.Pending.{Pending}
 use Rattle.tp_manager.specs.Shown.{IsOf, KeeperShown, ManagerShown, PassShown}
+use Rattle.tp_desk.specs.Serving.{Leaves}
 use Rattle.tp_desk.specs.declared.order.Order.{Order}
 use Rattle.tp_desk.specs.declared.order.Order.TheVariants as orders
 use Rattle.tp_workers.specs.Free.{IsFreePass}
@@ -28,7 +30,8 @@ use Rattle.tp_script.specs.declared.script.Race.{Race}
 use Rattle.tp_commands.specs.Registers.{TellsBalance, register_sum}
 use Rattle.tp_commands.specs.Places.{AllLie, workers}
 use Rattle.tp_perform.specs.Drains.{Drains}
-use Rattle.tp_perform.specs.Scenes.{Gathered, OnlyClient, OnlyPlaces, Scene}
+use Rattle.tp_perform.specs.Rollover.{RollsOn}
+use Rattle.tp_perform.specs.Scenes.{Gathered, OnlyClient, OnlyPlaces, Scene, Stand}
 use Rattle.tp_perform.specs.Together.{Races}
 
 -- the line tells what the client did
@@ -97,8 +100,8 @@ drain_order command.Drain = Some orders.LeastFirst
 drain_order command.DrainNext = Some orders.InTurn
 drain_order other = None
 
--- A command leads from one scene to another, this is its line, and all have gathered after it. In a drain they
--- gather after each turn.
+-- A command leads from one scene to another, this is its line, and all have gathered after it. In a drain
+-- they gather after each turn.
 abbrev pub PerformsBy : Option Order → ManagerShown → ScriptView → Command → ℕ → KeeperShown → Scene → List ℕ
     → KeeperShown → Scene → Type 0
 PerformsBy None m s c raced keeper old text keeper' new =
@@ -109,33 +112,55 @@ abbrev pub PerformsAll : ManagerShown → ScriptView → Command → ℕ → Kee
     → Scene → Type 0
 PerformsAll m s c = PerformsBy (drain_order c) m s c
 
--- All passes have gathered, and then the first n commands of a script have led from one scene to another. The
--- lines of these commands are this text.
-abbrev pub Told : ManagerShown → ScriptView → KeeperShown → Scene → ℕ → List ℕ → KeeperShown → Scene → Type 0
-Told m s keeper old zero text keeper' new = (text ≡ []) × Gathered m keeper keeper' old new
-Told m s keeper old (suc n) text keeper' new =
-    (before : List ℕ) × (last : List ℕ) × (c : Command) × (kept : KeeperShown) × (between : Scene)
-    × Told m s keeper old n before kept between × (slice_get s.commands n ≡ Some c)
-    × PerformsAll m s c (racing (take n s.commands)) kept between last keeper' new
+-- all passes have gathered, and the manager is the same
+abbrev pub GathersAt : Stand → Stand → Type 0
+GathersAt old new = (new.manager ≡ old.manager)
+    × Gathered old.manager old.keeper new.keeper old.scene new.scene
+
+-- A command leads from what stood before it to what stands after it, and this is its line. Only a rollover
+-- leads to another manager.
+abbrev pub PerformsAt : ScriptView → Command → ℕ → Stand → List ℕ → Stand → Type 0
+PerformsAt s command.Rollover raced = RollsOn
+PerformsAt s c raced = λ old text new. (new.manager ≡ old.manager)
+    × PerformsAll old.manager s c raced old.keeper old.scene text new.keeper new.scene
+
+-- All passes have gathered, and then the first n commands of a script have led from what stood to what
+-- stands. The lines of these commands are this text.
+abbrev pub Told : ScriptView → Stand → ℕ → List ℕ → Stand → Type 0
+Told s old zero text new = (text ≡ []) × GathersAt old new
+Told s old (suc n) text new =
+    (before : List ℕ) × (last : List ℕ) × (c : Command) × (between : Stand)
+    × Told s old n before between × (slice_get s.commands n ≡ Some c)
+    × PerformsAt s c (racing (take n s.commands)) between last new
     × (text ≡ before ++ last)
 
 -- all of them were performed, and their lines written
-abbrev pub ToldAll : ManagerShown → ScriptView → KeeperShown → Scene → KeeperShown → Scene
-    → Option (List ℕ) → Option (List ℕ) → Type 0
-ToldAll m s keeper old keeper' new before after = (text : List ℕ)
-    × Told m s keeper old (length s.commands) text keeper' new × Appends before after text
+abbrev pub ToldAll : ScriptView → Stand → Stand → Option (List ℕ) → Option (List ℕ) → Type 0
+ToldAll s old new before after = (text : List ℕ)
+    × Told s old (length s.commands) text new × Appends before after text
 
 -- some of them were performed, and a front of their lines written
-abbrev pub ToldFront : ManagerShown → ScriptView → KeeperShown → Scene → Option (List ℕ) → Option (List ℕ)
-    → Type 0
-ToldFront m s keeper old before after =
-    (n : ℕ) × (text : List ℕ) × (keeper' : KeeperShown) × (new : Scene) × (n ≤ length s.commands)
-    × Told m s keeper old n text keeper' new × AppendsFront before after text
+abbrev pub ToldFront : ScriptView → Stand → Option (List ℕ) → Option (List ℕ) → Type 0
+ToldFront s old before after =
+    (n : ℕ) × (text : List ℕ) × (new : Stand) × (n ≤ length s.commands)
+    × Told s old n text new × AppendsFront before after text
 
 -- of all passes the first is the client's, then comes one for each of so many servers, and the rest are those
 -- of races
 abbrev pub ArePasses : ℕ → Scene → List PassShown → Type 0
 ArePasses servers s passes = passes ≡ s.client ∷ (workers servers passes ++ s.racers)
+
+-- the passes of races: those after the client's and those of this many servers
+abbrev pub after_servers : ℕ → List PassShown → List PassShown
+after_servers servers passes = drop servers (drop 1 passes)
+
+-- they are free
+abbrev pub RacersFree : ManagerShown → ℕ → List PassShown → Type 0
+RacersFree m servers passes = All (IsFreePass m) (after_servers servers passes)
+
+-- the units that they have open
+abbrev pub units_held : ℕ → List PassShown → List (Option ℕ)
+units_held servers passes = map (λ p. p.open_unit) (after_servers servers passes)
 
 module _ {X : Type 0} {F : X → Type 0} (behaviour : DynBox X Global F → Behaviour)
     (registers : DynBox X Global F → List ℕ) (pending : DynBox X Global F → Option Pending) where
@@ -150,11 +175,26 @@ module _ {X : Type 0} {F : X → Type 0} (behaviour : DynBox X Global F → Beha
   IsScene passes servers places s = ArePasses (length servers) s passes
       × (s.places ≡ places_shown behaviour registers pending (workers (length servers) passes) servers places)
 
-  -- What holds of all passes between commands: the client's and those of races are free, and with the
-  -- servers' passes their desks lie aside.
+  -- What holds of all passes between commands: the client's is free, and with the servers' passes their desks
+  -- lie aside.
   pub record AreReady (m : ManagerShown) (passes : List PassShown) (servers : List (DynBox X Global F))
       (places : List (Place X F)) : Type 0 where
     pub own : All (IsOf m) passes
     pub client : All (IsFreePass m) (take 1 passes)
-    pub racers : All (IsFreePass m) (drop (length servers) (drop 1 passes))
     pub lie : AllLie behaviour registers pending (workers (length servers) passes) servers places
+
+module _ {X : Type 0} {F : X → Type 0} (registers : DynBox X Global F → List ℕ) where
+  -- what the pass and the registers of the desk at a place were as it began
+  abbrev pub began_of : Place X F → Option (PassShown × List ℕ)
+  began_of place = option_map (λ a. (a.first_pass.value, registers a.first_server.value)) place.aside
+
+module _ {X : Type 0} {F : X → Type 0} (behaviour : DynBox X Global F → Behaviour)
+    (registers : DynBox X Global F → List ℕ) where
+  -- The desks at these places have ended with these passes and servers: each server's registers are the fold
+  -- of what its pass has committed since its desk began, and no unit is left open.
+  abbrev pub AllLeftAt : List PlaceShown → List PassShown → List (DynBox X Global F) → Type 0
+  AllLeftAt [] [] [] = Unit {0}
+  AllLeftAt (o ∷ os) (p ∷ ps) (s ∷ ss) =
+      IsSome o.began × IfSome o.began (λ began. Leaves (behaviour s) began.1 (registers s) began.0 p)
+      × AllLeftAt os ps ss
+  AllLeftAt os ps ss = ⊥

@@ -11,7 +11,6 @@ use Rattle.tp_script.specs.Script.{ScriptView}
 use Rattle.tp_script.specs.Fault.{refused_text}
 use Rattle.tp_report.specs.Answer.{line}
 use Rattle.tp_report.specs.Lines.{Writes, WritesFront}
-use Rattle.tp_manager.specs.Shown.{ManagerShown}
 use Rattle.tp_perform.specs.Performing.{line_count}
 use Rattle.tp_perform.specs.Reported.{Reported, ReportedFront}
 
@@ -21,7 +20,7 @@ use Rattle.tp_perform.specs.Reported.{Reported, ReportedFront}
 abbrev pub Answered : Result Exit Fault → Result ScriptView Refused → Option (List ℕ) → Option (List ℕ)
     → Type 0
 Answered (Ok exits.Done) (Ok script) old new =
-    Writes (line_count script) old new × ((m : ManagerShown) × Reported script m old new)
+    Writes (line_count script) old new × Reported script old new
 Answered (Ok exits.Done) (Err refused) old new = ⊥
 Answered (Ok exits.Refused) (Ok script) old new = ⊥
 Answered (Ok exits.Refused) (Err refused) old new = Appends old new (line (refused_text refused))

@@ -8,7 +8,7 @@ ghost use Rattle.tp_commands.specs.Acting.{StaysIn, TurnsIn};
 ghost use Rattle.tp_commands.specs.Places.{firsts};
 ghost use Rattle.tp_perform.specs.Drains.{Drains, Round, Turn, has_claimed};
 ghost use Rattle.tp_perform.specs.Scenes.{OnlyPlaces, Scene};
-ghost use Rattle.tp_perform.specs.Told.{AreReady, IsScene};
+ghost use Rattle.tp_perform.specs.Told.{AreReady, IsScene, units_held};
 ghost use Rattle.tp_perform.specs.Units.{units_left};
 
 use std::alloc::{AllocError, Global};
@@ -41,6 +41,7 @@ pub(crate) fn drain_line(
     ensures as_many { length places.new ≡ length places.old }
     ensures began { firsts places.new ≡ firsts places.old }
     ensures numbered { numbers passes.new ≡ numbers passes.old }
+    ensures held { units_held (length servers.old) passes.new ≡ units_held (length servers.old) passes.old }
     ensures tells { IfOk result (λ text. (old : Scene) × (new : Scene)
         × IsScene behaviour registers pending passes.old servers.old places.old old
         × Drains order manager.now keeper.old old (string_bytes text) keeper.new new
@@ -71,6 +72,7 @@ fn round(
     ensures as_many { length places.new ≡ length places.old }
     ensures began { firsts places.new ≡ firsts places.old }
     ensures numbered { numbers passes.new ≡ numbers passes.old }
+    ensures held { units_held (length servers.old) passes.new ≡ units_held (length servers.old) passes.old }
     ensures turns { (old : Scene) × (new : Scene)
         × IsScene behaviour registers pending passes.old servers.old places.old old
         × Round order manager.now keeper.old old result keeper.new new
@@ -110,6 +112,7 @@ fn turn(
     ensures as_many { length places.new ≡ length places.old }
     ensures began { firsts places.new ≡ firsts places.old }
     ensures numbered { numbers passes.new ≡ numbers passes.old }
+    ensures held { units_held (length servers.old) passes.new ≡ units_held (length servers.old) passes.old }
     ensures turn { (old : Scene) × (new : Scene)
         × IsScene behaviour registers pending passes.old servers.old places.old old
         × Turn order manager.now at keeper.old old result keeper.new new
@@ -150,6 +153,7 @@ fn turn_of_all(
     ensures as_many { length places.new ≡ length places.old }
     ensures began { firsts places.new ≡ firsts places.old }
     ensures numbered { numbers passes.new ≡ numbers passes.old }
+    ensures held { units_held (length servers.old) passes.new ≡ units_held (length servers.old) passes.old }
     ensures turn { (old : Scene) × (new : Scene)
         × IsScene behaviour registers pending passes.old servers.old places.old old
         × OnlyPlaces old new

@@ -7,7 +7,7 @@ ghost use Rattle.tp_commands.specs.Acting.{GivesUpIn};
 ghost use Rattle.tp_commands.specs.Places.{firsts};
 ghost use Rattle.tp_perform.specs.GivingUp.{GiveUpAll, GivesUp};
 ghost use Rattle.tp_perform.specs.Scenes.{OnlyPlaces, Scene};
-ghost use Rattle.tp_perform.specs.Told.{AreReady, IsScene};
+ghost use Rattle.tp_perform.specs.Told.{AreReady, IsScene, units_held};
 
 use tp_commands::{Place, give_up_in};
 use tp_manager::{Keeper, Manager, Pass};
@@ -34,6 +34,7 @@ pub(crate) fn give_up_all(
     ensures as_many { length places.new ≡ length places.old }
     ensures began { firsts places.new ≡ firsts places.old }
     ensures numbered { numbers passes.new ≡ numbers passes.old }
+    ensures held { units_held (length servers.old) passes.new ≡ units_held (length servers.old) passes.old }
     ensures gives_up { (old : Scene) × (new : Scene)
         × IsScene behaviour registers pending passes.old servers.old places.old old
         × GiveUpAll manager.now keeper.old old keeper.new new
@@ -65,6 +66,7 @@ fn give_up(
     ensures as_many { length places.new ≡ length places.old }
     ensures began { firsts places.new ≡ firsts places.old }
     ensures numbered { numbers passes.new ≡ numbers passes.old }
+    ensures held { units_held (length servers.old) passes.new ≡ units_held (length servers.old) passes.old }
     ensures gives_up { (old : Scene) × (new : Scene)
         × IsScene behaviour registers pending passes.old servers.old places.old old
         × GivesUp manager.now at keeper.old old keeper.new new
@@ -89,6 +91,7 @@ fn give_up_of_all(
     ensures as_many { length places.new ≡ length places.old }
     ensures began { firsts places.new ≡ firsts places.old }
     ensures numbered { numbers passes.new ≡ numbers passes.old }
+    ensures held { units_held (length servers.old) passes.new ≡ units_held (length servers.old) passes.old }
     ensures gives_up { (old : Scene) × (new : Scene)
         × IsScene behaviour registers pending passes.old servers.old places.old old
         × OnlyPlaces old new

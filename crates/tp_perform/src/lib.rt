@@ -2,12 +2,18 @@
 #![tactic(auto)]
 
 pub mod account;
+mod commands;
 mod drains;
 pub mod finals;
 mod giving_up;
+mod one_command;
 pub mod perform;
 mod program;
+mod race_lines;
 mod racing;
+mod rollover;
 pub mod serve;
 
+pub use one_command::perform_next;
 pub use program::{run, run_to_end};
+pub use rollover::roll_over_line;

@@ -1,231 +1,70 @@
 //! A script performed over the shared manager: each server at a desk of its own, each command one line of the
 //! report.
-ghost use Rattle.std.specs.Prelude.{◌≡◌, ◌+◌, ◌≤◌, None, All, IfOk, IsErrOf, IsTrue, OnErr, OnOk, length};
-ghost use Rattle.std.specs.Prelude.{map, string_bytes};
+ghost use Rattle.std.specs.Prelude.{◌≡◌, ◌+◌, ◌≤◌, None, List, ℕ, All, IsErrOf, IsTrue, OnErr, OnOk, length, map};
 ghost use Rattle.tp_manager.specs.Accounts.{AreAll};
-ghost use Rattle.tp_manager.specs.Shown.{IsKeptBy, IsOf, KeeperShown};
+ghost use Rattle.tp_manager.specs.Shown.{IsKeptBy};
+ghost use Rattle.tp_rollover.specs.Faults.{AreFree};
+ghost use Rattle.tp_rollover.specs.Managed.{IsManaged};
 ghost use Rattle.tp_workers.specs.Free.{IsFreePass, numbers};
-ghost use Rattle.tp_report.specs.Lines.{IsLine, Writes, WritesFront};
+ghost use Rattle.tp_report.specs.Lines.{Writes, WritesFront};
 ghost use Rattle.tp_perform.specs.GivingUp.{DesksEnd};
-ghost use Rattle.tp_perform.specs.Scenes.{Scene, scene};
-ghost use Rattle.tp_perform.specs.Told.{ArePasses, AreReady, IsFirstScene, IsScene, Performs, PerformsAll};
-ghost use Rattle.tp_perform.specs.Told.{TellsCommand, ToldAll, ToldFront, drain_order};
+ghost use Rattle.tp_perform.specs.Rollover.{stand};
+ghost use Rattle.tp_perform.specs.Scenes.{Scene, Stand};
+ghost use Rattle.tp_perform.specs.Told.{AllLeftAt, ArePasses, AreReady, IsFirstScene, IsScene, RacersFree, Told};
+ghost use Rattle.tp_perform.specs.Told.{ToldAll, ToldFront, began_of};
 ghost use Rattle.tp_commands.specs.Acting.{AllEnded, new_places, places_shown};
 ghost use Rattle.tp_commands.specs.Places.{AllLeft, AllLie, all_firsts, firsts, workers};
-ghost use Rattle.tp_script.specs.Passes.{racers as racers_of};
 ghost use Rattle.tp_script.specs.declared.script.TheConstants.{MAX_SERVERS};
-ghost use Rattle.tp_script.specs.Ranges.{IsInRange};
 ghost use Rattle.tp_script.specs.Script.{passes as passes_of, script_view};
 
-use crate::drains::drain_line;
+use crate::commands::perform_one;
 use crate::giving_up::give_up_all;
-use crate::racing::run_race;
+use crate::rollover::gather_all;
 use arrayvec::ArrayVec;
-use std::alloc::{AllocError, Global};
-use std::string::String;
+use std::alloc::Global;
 use std::thread::Threads;
-use tp_commands::{Place, balance_line, client_line, desk_line, end_all, places_for, sum};
-use tp_desk::Order;
+use tp_commands::{Place, end_all, places_for};
 use tp_manager::{Keeper, Manager, Pass};
-use tp_report::{Answer, RunFault, Sink, line, write_all};
-use tp_script::{Command, MAX_SERVERS, Script};
+use tp_report::{RunFault, Sink, write_all};
+use tp_rollover::Managed;
+use tp_script::{MAX_SERVERS, Script};
 use tp_server::Server;
 
-/// Performs a command that is no drain, and answers its line. The racers are the passes of its race, if it is one.
-fn command_line<R: Threads + Sync>(
-    rt: &R,
-    alloc: Global,
-    script: &Script,
-    manager: &Manager,
-    client: &mut Pass,
-    passes: &mut [Pass],
-    servers: &mut [Box<dyn Server + Send>],
-    places: &mut [Place],
-    racers: &mut [Pass],
-    command: Command,
-) -> Result<String, AllocError>
-    requires client { IsFreePass manager.now client.old }
-    requires own { All (IsOf manager.now) passes.old }
-    requires lie { AllLie behaviour registers pending passes.old servers.old places.old }
-    requires as_many { length places.old ≡ length script.now.servers.items }
-    requires racers { All (IsFreePass manager.now) racers.old }
-    requires enough { length racers.old ≡ racers_of command }
-    requires in_range { IsInRange (length script.now.servers.items) command }
-    requires no_drain { drain_order command ≡ None }
-    ensures client { IsFreePass manager.now client.new }
-    ensures client_number { client.new.number ≡ client.old.number }
-    ensures own { All (IsOf manager.now) passes.new }
-    ensures lie { AllLie behaviour registers pending passes.new servers.new places.new }
-    ensures as_many { length places.new ≡ length places.old }
-    ensures began { firsts places.new ≡ firsts places.old }
-    ensures racers { All (IsFreePass manager.now) racers.new }
-    ensures racers_numbered { numbers racers.new ≡ numbers racers.old }
-    ensures tells { IfOk result (λ text.
-        TellsCommand manager.now (script_view script.now) command
-        (scene behaviour registers pending client.old passes.old servers.old places.old racers.old)
-        (string_bytes text)
-        (scene behaviour registers pending client.new passes.new servers.new places.new racers.new)) }
-    ensures line { IfOk result (λ text. IsLine (string_bytes text)) }
-{
-    let named = script.servers.as_slice();
-    match command {
-        Command::Client(act) => client_line(alloc, manager, client, act),
-        Command::Desk { server, act } => desk_line(
-            alloc, named, manager, passes, servers, places, server, act,
-        ),
-        Command::Balance { server, k } => balance_line(
-            alloc,
-            &named[server],
-            &servers[server],
-            places[server].is_dropped,
-            k,
-        ),
-        Command::Sum { k } => {
-            let sum = sum(servers, places, k);
-            line(alloc, Answer::Sum { k, sum })
-        }
-        Command::Race(race) => {
-            let rows = script.settings.rows;
-            let submitted = run_race(
-                rt, alloc, manager, passes, servers, places, racers, rows, race,
-            )?;
-            line(alloc, Answer::Raced { submitted })
-        }
-        Command::Drain => unreachable!(),
-        Command::DrainNext => unreachable!(),
-    }
-}
-
-/// Performs a command that is no drain by the passes that it needs of all: the client's, those of the servers,
-/// and those of its race, which lie behind those of the races before it.
-fn command_in<R: Threads + Sync>(
-    rt: &R,
-    alloc: Global,
-    script: &Script,
-    manager: &Manager,
-    passes: &mut [Pass],
-    servers: &mut [Box<dyn Server + Send>],
-    places: &mut [Place],
-    raced: usize,
-    command: Command,
-) -> Result<String, AllocError>
-    requires ready { AreReady behaviour registers pending manager.now passes.old servers.old places.old }
-    requires as_many { length places.old ≡ length script.now.servers.items }
-    requires enough { 1 + length servers.old + raced + racers_of command ≤ length passes.old }
-    requires in_range { IsInRange (length script.now.servers.items) command }
-    requires no_drain { drain_order command ≡ None }
-    ensures ready { AreReady behaviour registers pending manager.now passes.new servers.new places.new }
-    ensures as_many { length places.new ≡ length places.old }
-    ensures began { firsts places.new ≡ firsts places.old }
-    ensures numbered { numbers passes.new ≡ numbers passes.old }
-    ensures tells { IfOk result (λ text. (old : Scene) × (new : Scene)
-        × IsScene behaviour registers pending passes.old servers.old places.old old
-        × Performs manager.now (script_view script.now) command raced old (string_bytes text) new
-        × IsScene behaviour registers pending passes.new servers.new places.new new) }
-    ensures line { IfOk result (λ text. IsLine (string_bytes text)) }
-{
-    let Some((client, others)) = passes.split_first_mut() else {
-        unreachable!();
-    };
-    let (workers, rest) = others.split_at_mut(servers.len());
-    let (_before, racers) = rest.split_at_mut(raced);
-    let (here, _after) = racers.split_at_mut(usize::from(command.racers()));
-    command_line(
-        rt, alloc, script, manager, client, workers, servers, places, here, command,
-    )
-}
-
-/// In which order the desks of a drain claim, or `None` for a command that is no drain.
-fn order_of(command: Command) -> Option<Order>
-    ensures { result ≡ drain_order command }
-{
-    match command {
-        Command::Drain => Some(Order::LeastFirst),
-        Command::DrainNext => Some(Order::InTurn),
-        Command::Client(_) => None,
-        Command::Desk { .. } => None,
-        Command::Balance { .. } => None,
-        Command::Sum { .. } => None,
-        Command::Race(_) => None,
-    }
-}
-
-/// Performs a command, after which all passes gather, and answers its line. In a drain they gather behind each
-/// turn.
-fn perform_one<R: Threads + Sync>(
-    rt: &R,
-    alloc: Global,
-    script: &Script,
-    manager: &Manager,
-    keeper: &mut Keeper,
-    passes: &mut [Pass],
-    servers: &mut [Box<dyn Server + Send>],
-    places: &mut [Place],
-    raced: usize,
-    command: Command,
-) -> Result<String, AllocError>
-    requires keeper { IsKeptBy manager.now keeper.old }
-    requires given { AreAll keeper.old passes.old }
-    requires ready { AreReady behaviour registers pending manager.now passes.old servers.old places.old }
-    requires as_many { length places.old ≡ length script.now.servers.items }
-    requires enough { 1 + length servers.old + raced + racers_of command ≤ length passes.old }
-    requires in_range { IsInRange (length script.now.servers.items) command }
-    ensures keeper { IsKeptBy manager.now keeper.new }
-    ensures given { keeper.new.given ≡ keeper.old.given }
-    ensures ready { AreReady behaviour registers pending manager.now passes.new servers.new places.new }
-    ensures as_many { length places.new ≡ length places.old }
-    ensures began { firsts places.new ≡ firsts places.old }
-    ensures numbered { numbers passes.new ≡ numbers passes.old }
-    ensures tells { IfOk result (λ text. (old : Scene) × (new : Scene)
-        × IsScene behaviour registers pending passes.old servers.old places.old old
-        × PerformsAll manager.now (script_view script.now) command raced
-        keeper.old old (string_bytes text) keeper.new new
-        × IsScene behaviour registers pending passes.new servers.new places.new new) }
-    ensures line { IfOk result (λ text. IsLine (string_bytes text)) }
-{
-    match order_of(command) {
-        Some(order) => drain_line(alloc, manager, keeper, passes, servers, places, order),
-        None => {
-            let line = command_in(
-                rt, alloc, script, manager, passes, servers, places, raced, command,
-            )?;
-            keeper.gather(manager, passes);
-            Ok(line)
-        }
-    }
-}
-
-/// Performs commands one after another, and writes the line of each as it comes. The passes are all that the
-/// keeper gave out. They gather before the first command, and behind each of them.
+/// Performs commands one after another, and writes the line of each as it comes. All passes gather before the
+/// first command, and behind each of them.
 fn perform_all<R: Threads + Sync, W: Sink>(
     rt: &R,
     alloc: Global,
     script: &Script,
-    manager: &Manager,
-    keeper: &mut Keeper,
-    passes: &mut [Pass],
+    managed: &mut Managed,
     servers: &mut [Box<dyn Server + Send>],
     places: &mut [Place],
     writer: &mut W,
 ) -> Result<(), RunFault>
-    requires keeper { IsKeptBy manager.now keeper.old }
-    requires given { AreAll keeper.old passes.old }
-    requires ready { AreReady behaviour registers pending manager.now passes.old servers.old places.old }
+    requires managed { IsManaged managed.old }
+    requires ready { AreReady behaviour registers pending managed.old.manager managed.old.passes.items
+        servers.old places.old }
+    requires free { RacersFree managed.old.manager (length servers.old) managed.old.passes.items }
     requires as_many { length places.old ≡ length script.now.servers.items }
-    requires enough { length passes.old ≡ passes_of (script_view script.now) }
-    ensures keeper { IsKeptBy manager.now keeper.new }
-    ensures given { keeper.new.given ≡ keeper.old.given }
-    ensures ready { AreReady behaviour registers pending manager.now passes.new servers.new places.new }
-    ensures began { firsts places.new ≡ firsts places.old }
-    ensures numbered { numbers passes.new ≡ numbers passes.old }
+    requires enough { length managed.old.passes.items ≡ passes_of (script_view script.now) }
+    ensures managed { IsManaged managed.new }
+    ensures limits { managed.new.manager.limits ≡ managed.old.manager.limits }
+    ensures ready { AreReady behaviour registers pending managed.new.manager managed.new.passes.items
+        servers.new places.new }
+    ensures free { RacersFree managed.new.manager (length servers.old) managed.new.passes.items }
+    ensures began { (old : Scene) × (n : ℕ) × (text : List ℕ) × (last : Stand)
+        × IsScene behaviour registers pending managed.old.passes.items servers.old places.old old
+        × Told (script_view script.now) (stand managed.old old) n text last
+        × (managed.new.manager ≡ last.manager)
+        × (map (λ place. place.began) last.scene.places ≡ map (began_of registers) places.new) }
     ensures told { OnOk result ((old : Scene) × (new : Scene)
-        × IsScene behaviour registers pending passes.old servers.old places.old old
-        × ToldAll manager.now (script_view script.now) keeper.old old keeper.new new
+        × IsScene behaviour registers pending managed.old.passes.items servers.old places.old old
+        × ToldAll (script_view script.now) (stand managed.old old) (stand managed.new new)
         (W.contents writer.old) (W.contents writer.new)
-        × IsScene behaviour registers pending passes.new servers.new places.new new) }
+        × IsScene behaviour registers pending managed.new.passes.items servers.new places.new new) }
     ensures told_front { OnErr result ((old : Scene)
-        × IsScene behaviour registers pending passes.old servers.old places.old old
-        × ToldFront manager.now (script_view script.now) keeper.old old
+        × IsScene behaviour registers pending managed.old.passes.items servers.old places.old old
+        × ToldFront (script_view script.now) (stand managed.old old)
         (W.contents writer.old) (W.contents writer.new)) }
     ensures done { OnOk result (Writes (length script.now.commands.items)
         (W.contents writer.old) (W.contents writer.new)) }
@@ -233,12 +72,10 @@ fn perform_all<R: Threads + Sync, W: Sink>(
         (W.contents writer.old) (W.contents writer.new)) }
     ensures write { IsErrOf result RunFault.Write → IsTrue (W.has_failed writer.new) }
 {
-    keeper.gather(manager, passes);
+    gather_all(managed);
     let mut raced = 0usize;
     for command in &script.commands {
-        let line = perform_one(
-            rt, alloc, script, manager, keeper, passes, servers, places, raced, *command,
-        )?;
+        let line = perform_one(rt, alloc, script, managed, servers, places, raced, *command)?;
         raced += usize::from(command.racers());
         write_all(writer, line.as_bytes())?;
     }
@@ -269,6 +106,7 @@ fn end_desks(
     places: &mut [Place],
 )
     requires ready { AreReady behaviour registers pending manager.now passes.old servers.old places.old }
+    requires racers { RacersFree manager.now (length servers.old) passes.old }
     requires enough { 1 + length servers.old ≤ length passes.old }
     ensures free { All (IsFreePass manager.now) passes.new }
     ensures clear { All (λ server. pending server ≡ None) servers.new }
@@ -288,8 +126,8 @@ fn end_desks(
     end_all(manager, workers, servers, places);
 }
 
-/// Has each desk give up what it has in hand, with a gathering behind each, and then ends all desks. The passes
-/// are all that the keeper gave out.
+/// Has each desk give up what it has in hand, with a gathering behind each, and then ends all desks. The
+/// passes are all that the keeper gave out.
 fn close_desks(
     manager: &Manager,
     keeper: &mut Keeper,
@@ -300,6 +138,7 @@ fn close_desks(
     requires keeper { IsKeptBy manager.now keeper.old }
     requires given { AreAll keeper.old passes.old }
     requires ready { AreReady behaviour registers pending manager.now passes.old servers.old places.old }
+    requires racers { RacersFree manager.now (length servers.old) passes.old }
     requires enough { 1 + length servers.old ≤ length passes.old }
     ensures keeper { IsKeptBy manager.now keeper.new }
     ensures given { AreAll keeper.new passes.new }
@@ -317,43 +156,72 @@ fn close_desks(
     end_desks(manager, passes, servers, places);
 }
 
-/// Performs the commands of a script over the manager, each server at a desk of its own, and writes a line
-/// for each as it comes. The passes are all that the keeper gave out: the client's, then one for each server,
-/// then those of each race. The servers are the script's, in their order. When the commands are done, and
-/// after a fault, all desks are ended: each server's registers are then what its behaviour makes of what its
-/// pass has committed. After the last command nothing else is done. What was done before a fault stands.
+/// The same of all passes of a manager.
+fn close_all(managed: &mut Managed, servers: &mut [Box<dyn Server + Send>], places: &mut [Place])
+    requires managed { IsManaged managed.old }
+    requires ready { AreReady behaviour registers pending managed.old.manager managed.old.passes.items
+        servers.old places.old }
+    requires racers { RacersFree managed.old.manager (length servers.old) managed.old.passes.items }
+    requires enough { 1 + length servers.old ≤ length managed.old.passes.items }
+    ensures managed { IsManaged managed.new }
+    ensures manager { managed.new.manager ≡ managed.old.manager }
+    ensures free { AreFree managed.new.passes.items }
+    ensures clear { All (λ server. pending server ≡ None) servers.new }
+    ensures left { AllLeft behaviour registers (firsts places.old)
+        (workers (length servers.old) managed.new.passes.items) servers.new }
+    ensures ended { (last : Scene)
+        → IsScene behaviour registers pending managed.old.passes.items servers.old places.old last
+        → DesksEnd managed.old.manager (length servers.old) managed.old.keeper last managed.new.keeper
+        managed.new.passes.items (map (λ server. registers server) servers.new) }
+{
+    close_desks(
+        &managed.manager,
+        &mut managed.keeper,
+        managed.passes.as_mut_slice(),
+        servers,
+        places,
+    );
+}
+
+/// Performs the commands of a script, each server at a desk of its own, and writes a line for each as it
+/// comes. The passes are the client's, then one for each server, then those of each race. The servers are the
+/// script's, in their order. When the commands are done, and after a fault, all desks are ended: each
+/// server's registers are then what its behaviour makes of what its pass has committed since its desk began,
+/// at the beginning or at the last rollover, where the registers stay the same. After the last command
+/// nothing else is done. What was done before a fault stands.
 pub fn perform<R: Threads + Sync, W: Sink>(
     rt: &R,
     alloc: Global,
     script: &Script,
-    manager: &Manager,
-    keeper: &mut Keeper,
-    passes: &mut [Pass],
+    managed: &mut Managed,
     servers: &mut [Box<dyn Server + Send>],
     writer: &mut W,
 ) -> Result<(), RunFault>
-    requires keeper { IsKeptBy manager.now keeper.old }
-    requires given { AreAll keeper.old passes.old }
-    requires passes { All (IsFreePass manager.now) passes.old }
-    requires enough { length passes.old ≡ passes_of (script_view script.now) }
+    requires managed { IsManaged managed.old }
+    requires free { AreFree managed.old.passes.items }
+    requires enough { length managed.old.passes.items ≡ passes_of (script_view script.now) }
     requires servers { All (λ server. pending server ≡ None) servers.old }
     requires all { length servers.old ≡ length script.now.servers.items }
-    ensures keeper { IsKeptBy manager.now keeper.new }
-    ensures given { AreAll keeper.new passes.new }
-    ensures passes { All (IsFreePass manager.now) passes.new }
-    ensures numbered { numbers passes.new ≡ numbers passes.old }
+    ensures managed { IsManaged managed.new }
+    ensures limits { managed.new.manager.limits ≡ managed.old.manager.limits }
+    ensures free { AreFree managed.new.passes.items }
     ensures servers { All (λ server. pending server ≡ None) servers.new }
-    ensures left { let many = length servers.old in AllLeft behaviour registers
-        (all_firsts (workers many passes.old) servers.old) (workers many passes.new) servers.new }
-    ensures told { OnOk result ((first : Scene) × (kept : KeeperShown) × (last : Scene)
-        × IsFirstScene behaviour registers pending passes.old servers.old first
-        × ToldAll manager.now (script_view script.now) keeper.old first kept last
+    ensures left { (first : Scene) × (n : ℕ) × (text : List ℕ) × (last : Stand)
+        × IsFirstScene behaviour registers pending managed.old.passes.items servers.old first
+        × Told (script_view script.now) (stand managed.old first) n text last
+        × (managed.new.manager ≡ last.manager)
+        × AllLeftAt behaviour registers last.scene.places
+        (workers (length servers.old) managed.new.passes.items) servers.new }
+    ensures told { OnOk result ((first : Scene) × (last : Stand)
+        × IsFirstScene behaviour registers pending managed.old.passes.items servers.old first
+        × ToldAll (script_view script.now) (stand managed.old first) last
         (W.contents writer.old) (W.contents writer.new)
-        × DesksEnd manager.now (length servers.old) kept last keeper.new passes.new
-        (map (λ server. registers server) servers.new)) }
+        × (managed.new.manager ≡ last.manager)
+        × DesksEnd last.manager (length servers.old) last.keeper last.scene managed.new.keeper
+        managed.new.passes.items (map (λ server. registers server) servers.new)) }
     ensures told_front { OnErr result ((first : Scene)
-        × IsFirstScene behaviour registers pending passes.old servers.old first
-        × ToldFront manager.now (script_view script.now) keeper.old first
+        × IsFirstScene behaviour registers pending managed.old.passes.items servers.old first
+        × ToldFront (script_view script.now) (stand managed.old first)
         (W.contents writer.old) (W.contents writer.new)) }
     ensures done { OnOk result (Writes (length script.now.commands.items)
         (W.contents writer.old) (W.contents writer.new)) }
@@ -361,11 +229,9 @@ pub fn perform<R: Threads + Sync, W: Sink>(
         (W.contents writer.old) (W.contents writer.new)) }
     ensures write { IsErrOf result RunFault.Write → IsTrue (W.has_failed writer.new) }
 {
-    let mut places = first_places(passes, servers);
+    let mut places = first_places(&managed.passes, servers);
     let places = places.as_mut_slice();
-    let done = perform_all(
-        rt, alloc, script, manager, keeper, passes, servers, places, writer,
-    );
-    close_desks(manager, keeper, passes, servers, places);
+    let done = perform_all(rt, alloc, script, managed, servers, places, writer);
+    close_all(managed, servers, places);
     done
 }

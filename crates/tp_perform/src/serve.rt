@@ -2,13 +2,12 @@
 ghost use Rattle.std.specs.Prelude.{◌≡◌, ◌+◌, ◌++◌, ◌∷◌, [], None, IfOk, OnErr, OnOk, IsErrOf, IsTrue, All};
 ghost use Rattle.std.specs.Prelude.{length, map};
 ghost use Rattle.tp_script.specs.declared.script.ScriptServer.{ScriptServer};
-ghost use Rattle.tp_manager.specs.Accounts.{AreAll};
-ghost use Rattle.tp_manager.specs.Shown.{IsKeptBy, ManagerShown};
+ghost use Rattle.tp_rollover.specs.Faults.{AreFree};
+ghost use Rattle.tp_rollover.specs.Managed.{IsManaged, IsNewPass};
 ghost use Rattle.tp_report.specs.Lines.{Writes, WritesFront};
-ghost use Rattle.tp_workers.specs.Free.{IsFreePass};
 ghost use Rattle.tp_perform.specs.Performing.{line_count};
 ghost use Rattle.tp_server.specs.Behaviour.{behaviour_of};
-ghost use Rattle.tp_perform.specs.Reported.{IsNewPass, Reported, ReportedFront, limits_of};
+ghost use Rattle.tp_perform.specs.Reported.{Reported, ReportedFront, limits_of};
 ghost use Rattle.tp_script.specs.Script.{passes as passes_of, script_view};
 
 use crate::account::close;
@@ -16,9 +15,10 @@ use crate::finals::finals;
 use crate::perform::perform;
 use std::alloc::{AllocError, Global};
 use std::thread::Threads;
-use tp_manager::{Keeper, MakeFault, Manager, Pass};
+use tp_manager::MakeFault;
 use tp_model::types::Limits;
 use tp_report::{RunFault, Sink};
+use tp_rollover::Managed;
 use tp_script::{Kind, Script, ScriptServer};
 use tp_server::{EagerServer, LazyServer, Server};
 
@@ -31,7 +31,7 @@ pub fn serve<R: Threads + Sync, W: Sink>(
     script: &Script,
     writer: &mut W,
 ) -> Result<(), RunFault>
-    ensures told { OnOk result ((m : ManagerShown) × Reported (script_view script.now) m
+    ensures told { OnOk result (Reported (script_view script.now)
         (W.contents writer.old) (W.contents writer.new)) }
     ensures told_front { OnErr result (ReportedFront (script_view script.now)
         (W.contents writer.old) (W.contents writer.new)) }
@@ -41,19 +41,8 @@ pub fn serve<R: Threads + Sync, W: Sink>(
         (W.contents writer.new)) }
     ensures write { IsErrOf result RunFault.Write → IsTrue (W.has_failed writer.new) }
 {
-    match Keeper::new(alloc, limits_of(script)) {
-        Ok((manager, mut keeper)) => {
-            let mut passes = all_passes(alloc, &manager, &mut keeper)?;
-            serve_by(
-                rt,
-                alloc,
-                script,
-                &manager,
-                &mut keeper,
-                passes.as_mut_slice(),
-                writer,
-            )
-        }
+    match Managed::new(alloc, limits_of(script)) {
+        Ok(mut managed) => serve_by(rt, alloc, script, &mut managed, writer),
         Err(MakeFault::NoMemory) => Err(RunFault::NoMemory),
         Err(MakeFault::BadLimits) => unreachable!(),
         Err(MakeFault::NoPart) => unreachable!(),
@@ -73,45 +62,21 @@ fn limits_of(script: &Script) -> Limits
     }
 }
 
-/// All passes of a new keeper.
-fn all_passes(
-    alloc: Global,
-    manager: &Manager,
-    keeper: &mut Keeper,
-) -> Result<Vec<Pass>, AllocError>
-    requires keeper { IsKeptBy manager.now keeper.old }
-    requires fresh { (keeper.old.given ≡ 0) × (keeper.old.seen ≡ []) }
-    ensures keeper { IsKeptBy manager.now keeper.new }
-    ensures free { IfOk result (λ passes. All (IsFreePass manager.now) passes.items) }
-    ensures given { IfOk result (λ passes. AreAll keeper.new passes.items) }
-    ensures new { IfOk result (λ passes. All IsNewPass passes.items) }
-    ensures all { IfOk result (λ passes. length passes.items ≡ manager.now.limits.parts) }
-{
-    let mut passes = Vec::new(alloc);
-    while let Ok(pass) = keeper.pass(manager) {
-        passes.push(pass)?;
-    }
-    Ok(passes)
-}
-
 /// Makes the boxed servers, and serves the script with them.
 #[tactic(auto, using(tp_report::proofs::LineProofs::nothing_written, tp_report::proofs::LineProofs::front_fewer))]
 fn serve_by<R: Threads + Sync, W: Sink>(
     rt: &R,
     alloc: Global,
     script: &Script,
-    manager: &Manager,
-    keeper: &mut Keeper,
-    passes: &mut [Pass],
+    managed: &mut Managed,
     writer: &mut W,
 ) -> Result<(), RunFault>
-    requires keeper { IsKeptBy manager.now keeper.old }
-    requires given { AreAll keeper.old passes.old }
-    requires passes { All (IsFreePass manager.now) passes.old }
-    requires new { All IsNewPass passes.old }
-    requires limits { manager.now.limits ≡ limits_of (script_view script.now) }
-    requires enough { length passes.old ≡ passes_of (script_view script.now) }
-    ensures told { OnOk result (Reported (script_view script.now) manager.now
+    requires managed { IsManaged managed.old }
+    requires free { AreFree managed.old.passes.items }
+    requires new { All IsNewPass managed.old.passes.items }
+    requires limits { managed.old.manager.limits ≡ limits_of (script_view script.now) }
+    requires enough { length managed.old.passes.items ≡ passes_of (script_view script.now) }
+    ensures told { OnOk result (Reported (script_view script.now)
         (W.contents writer.old) (W.contents writer.new)) }
     ensures told_front { OnErr result (ReportedFront (script_view script.now)
         (W.contents writer.old) (W.contents writer.new)) }
@@ -128,16 +93,7 @@ fn serve_by<R: Threads + Sync, W: Sink>(
             Kind::Lazy => put(&mut servers, Box::new(alloc, lazy(server)?)?)?,
         }
     }
-    serve_with(
-        rt,
-        alloc,
-        script,
-        manager,
-        keeper,
-        passes,
-        servers.as_mut_slice(),
-        writer,
-    )
+    serve_with(rt, alloc, script, managed, servers.as_mut_slice(), writer)
 }
 
 /// Performs the commands with these servers, and writes the final lines and the account.
@@ -146,24 +102,21 @@ fn serve_with<R: Threads + Sync, W: Sink>(
     rt: &R,
     alloc: Global,
     script: &Script,
-    manager: &Manager,
-    keeper: &mut Keeper,
-    passes: &mut [Pass],
+    managed: &mut Managed,
     boxes: &mut [Box<dyn Server + Send>],
     writer: &mut W,
 ) -> Result<(), RunFault>
-    requires keeper { IsKeptBy manager.now keeper.old }
-    requires given { AreAll keeper.old passes.old }
-    requires passes { All (IsFreePass manager.now) passes.old }
-    requires new { All IsNewPass passes.old }
-    requires limits { manager.now.limits ≡ limits_of (script_view script.now) }
-    requires enough { length passes.old ≡ passes_of (script_view script.now) }
+    requires managed { IsManaged managed.old }
+    requires free { AreFree managed.old.passes.items }
+    requires new { All IsNewPass managed.old.passes.items }
+    requires limits { managed.old.manager.limits ≡ limits_of (script_view script.now) }
+    requires enough { length managed.old.passes.items ≡ passes_of (script_view script.now) }
     requires behaviours { map (λ server. behaviour server) boxes.old
         ≡ map (λ line. behaviour_of line.recipe) script.now.servers.items }
     requires registers { map (λ server. registers server) boxes.old
         ≡ map (λ line. line.registers) script.now.servers.items }
     requires clear { All (λ server. pending server ≡ None) boxes.old }
-    ensures told { OnOk result (Reported (script_view script.now) manager.now
+    ensures told { OnOk result (Reported (script_view script.now)
         (W.contents writer.old) (W.contents writer.new)) }
     ensures told_front { OnErr result (ReportedFront (script_view script.now)
         (W.contents writer.old) (W.contents writer.new)) }
@@ -173,9 +126,16 @@ fn serve_with<R: Threads + Sync, W: Sink>(
         (W.contents writer.new)) }
     ensures write { IsErrOf result RunFault.Write → IsTrue (W.has_failed writer.new) }
 {
-    perform(rt, alloc, script, manager, keeper, passes, boxes, writer)?;
+    perform(rt, alloc, script, managed, boxes, writer)?;
     finals(alloc, script, boxes, writer)?;
-    close(alloc, script, manager, keeper, passes, writer)
+    close(
+        alloc,
+        script,
+        &managed.manager,
+        &mut managed.keeper,
+        managed.passes.as_mut_slice(),
+        writer,
+    )
 }
 
 /// Puts one more boxed server behind the others.

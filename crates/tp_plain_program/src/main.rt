@@ -2,7 +2,7 @@
 //! standard output. What the tests hold the program against.
 //!
 //! Exit status 0: done. 1: a fault, with its line on standard error. 2: the script was refused, and the
-//! report is the line that says so. 3: there is a race in the script, so that it wasn't run.
+//! report is the line that says so. 3: there is a race or a rollover in the script, so that it wasn't run.
 #![tactic(auto)]
 
 use std::io;
@@ -17,7 +17,7 @@ fn main(rt: HostRuntime) -> ExitCode {
     match run_plain(rt.alloc(), &mut source, &mut sink) {
         Ok(PlainExit::Done) => ExitCode::from(0),
         Ok(PlainExit::Refused) => ExitCode::from(2),
-        Ok(PlainExit::Races) => ExitCode::from(3),
+        Ok(PlainExit::NotRun) => ExitCode::from(3),
         Err(fault) => {
             let _ = write_all(&mut StdSink::new(rt.stderr()), fault.line().as_bytes());
             ExitCode::from(1)

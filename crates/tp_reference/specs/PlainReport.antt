@@ -1,4 +1,5 @@
--- What is reported of a script: the run of one thread over its commands. It covers all commands but races.
+-- What is reported of a script: the run of one thread over its commands. It covers all commands but races
+-- and rollovers.
 use Rattle.std.specs.Prelude.{ℕ, zero, suc, ◌+◌, ◌*◌, ◌||◌, Bool, true, false, if◌then◌else◌, List, [], ◌∷◌}
 use Rattle.std.specs.Prelude.{◌++◌, length, map, Option, Some, None, Result, Ok, Err, slice_get, slice_set}
 use Rattle.std.specs.Prelude.{sum_by}
@@ -7,7 +8,7 @@ use Rattle.tp_plain.specs.OneThread as thread
 use Rattle.tp_plain.specs.OneThread.{start}
 use Rattle.tp_script.specs.declared.script.Command.{Command}
 use Rattle.tp_script.specs.declared.script.Command.TheVariants.{Client, Desk, Balance, Sum, Race, Drain}
-use Rattle.tp_script.specs.declared.script.Command.TheVariants.{DrainNext}
+use Rattle.tp_script.specs.declared.script.Command.TheVariants.{DrainNext, Rollover}
 use Rattle.tp_script.specs.declared.script.DeskAct.{DeskAct}
 use Rattle.tp_script.specs.declared.fault.Refused.{Refused}
 use Rattle.tp_script.specs.Fault.{refused_text}
@@ -118,7 +119,7 @@ drain_of order servers s = rounds order servers (most_rounds s.manager.limits) s
 abbrev pub with_manager : ReportState → List ℕ × thread.State → List ℕ × ReportState
 with_manager s (text, manager) = (text, record { manager = manager; desks = s.desks })
 
--- one command; a race writes nothing, since its script isn't run
+-- one command; a race or a rollover writes nothing, since its script isn't run
 abbrev pub command_step : List ServerView → Command → ReportState → List ℕ × ReportState
 command_step servers (Client act) s = with_manager s (client_step act s.manager)
 command_step servers (Desk server act) s = desk_step servers server act s
@@ -129,6 +130,7 @@ command_step servers (Balance server k) s = (
 )
 command_step servers (Sum k) s = (line (answer_text (answer.Sum k (register_sum k s))), s)
 command_step servers (Race race) s = ([], s)
+command_step servers Rollover s = ([], s)
 command_step servers Drain s = (line (answer_text answer.Drained), drain_of LeastFirst servers s)
 command_step servers DrainNext s = (line (answer_text answer.Drained), drain_of InTurn servers s)
 
@@ -189,7 +191,7 @@ new_desk server = record {
 abbrev pub begin : ScriptView → ReportState
 begin s = record { manager = start (limits_of s); desks = map new_desk s.servers }
 
--- the report of a script without races
+-- the report of a script without races and rollovers
 abbrev pub report_of : ScriptView → List ℕ
 report_of s = reports s.servers s.account s.commands (begin s)
 

@@ -16,12 +16,13 @@ pub enum PlainExit {
     Done,
     /// The script was refused, and the refusal written.
     Refused,
-    /// There is a race among its commands, which takes several threads. Nothing was run, and nothing written.
-    Races,
+    /// There is a race among its commands, which takes several threads, or a rollover, which takes two managers.
+    /// Nothing was run, and nothing written.
+    NotRun,
 }
 
 /// Reads a script, runs it over the manager of one thread, and writes its report and nothing else. A script
-/// with a race isn't run. The reader is asked at most 100,000 times.
+/// with a race or a rollover isn't run. The reader is asked at most 100,000 times.
 pub fn run_plain<R: Source, W: Sink>(
     alloc: Global,
     reader: &mut R,
@@ -36,8 +37,8 @@ pub fn run_plain<R: Source, W: Sink>(
 {
     match read_script(alloc, reader) {
         Ok(script) => {
-            if script.has_race() {
-                return Ok(PlainExit::Races);
+            if script.has_race() || script.has_rollover() {
+                return Ok(PlainExit::NotRun);
             }
             match write_plain_report(alloc, &script, writer) {
                 Ok(()) => Ok(PlainExit::Done),

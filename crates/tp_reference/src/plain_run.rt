@@ -154,8 +154,9 @@ impl PlainRun {
                 let sum = self.sum(k);
                 line(alloc, Answer::Sum { k, sum })
             }
-            // A script with a race isn't run.
+            // A script with one of these isn't run.
             Command::Race(_) => Ok(String::new(alloc)),
+            Command::Rollover => Ok(String::new(alloc)),
             Command::Drain => {
                 self.drain(servers, Order::LeastFirst)?;
                 line(alloc, Answer::Drained)

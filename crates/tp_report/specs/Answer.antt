@@ -1,6 +1,6 @@
 -- The texts of answers, and the lines of a report.
 use Rattle.std.specs.Prelude.{ℕ, List, [], Bool, ◌&&◌, ◌==◌, if◌then◌else◌, Option, Some, None, codes}
-use Rattle.std.specs.Prelude.{decimal, slice_index}
+use Rattle.std.specs.Prelude.{decimal, length, slice_index}
 use Rattle.std.specs.List.{flat_map}
 use Rattle.tp_model.specs.declared.types.Counts.{Counts}
 use Rattle.tp_model.specs.declared.types.Element.{Element}
@@ -13,6 +13,7 @@ use Rattle.tp_model.specs.Accounts.{all_in}
 use Rattle.tp_server.specs.Names.{declined_name}
 use Rattle.tp_report.specs.declared.answer.Answer.{Answer}
 use Rattle.tp_report.specs.declared.answer.Answer.TheVariants as answer
+use Rattle.tp_report.specs.declared.answer.Renamed.{Renamed}
 use Rattle.tp_report.specs.declared.answer.ServerAnswer.{ServerAnswer}
 use Rattle.tp_report.specs.declared.answer.ServerAnswer.TheVariants as server
 use Rattle.tp_desk.specs.declared.turned.Turned.{Turned}
@@ -181,6 +182,16 @@ balance_text name k None = codes "balance " <> name <> codes " " <> decimal k <>
 abbrev pub final_text : List ℕ → List ℕ → List ℕ
 final_text name registers = (codes "final " <> name) <> flat_map (λ v. codes " " <> decimal v) registers
 
+-- ---- rollovers
+
+-- an element that was carried over: its id in the old manager, and in the new one
+abbrev pub renamed_text : Renamed → List ℕ
+renamed_text e = codes " " <> decimal e.old <> codes ":" <> decimal e.new
+
+-- how many were carried over, and each of them
+abbrev pub rolled_text : List Renamed → List ℕ
+rolled_text elements = (codes "rolled over " <> decimal (length elements)) <> flat_map renamed_text elements
+
 -- ---- all of them
 
 -- the text of an answer
@@ -203,4 +214,7 @@ answer_text (answer.Count all) = counts_text all
 answer_text (answer.Account all) = account_text all
 answer_text (answer.Raced submitted) = codes "race submitted " <> decimal submitted
 answer_text answer.Drained = codes "drained"
+answer_text (answer.RolledOver elements) = rolled_text elements.now
+answer_text answer.Busy = codes "refused 11 Busy"
+answer_text answer.Unequal = codes "refused 14 Unequal"
 answer_text (answer.Final name registers) = final_text name.now registers.now

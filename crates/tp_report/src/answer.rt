@@ -46,6 +46,13 @@ pub enum ServerAnswer {
     Ended,
 }
 
+/// An element that a rollover carried over: its id in the old manager, and in the new one.
+#[derive(Clone, Copy, Debug, PartialEq, Eq)]
+pub struct Renamed {
+    pub old: u32,
+    pub new: u32,
+}
+
 /// What a command came to.
 #[derive(Clone, Copy, Debug, PartialEq, Eq)]
 pub enum Answer<'a> {
@@ -121,6 +128,12 @@ pub enum Answer<'a> {
     },
     /// Nothing is left for the servers.
     Drained,
+    /// The manager has gone on in a new one, into which these elements were carried over.
+    RolledOver(&'a [Renamed]),
+    /// A unit of work is open, and nothing was done.
+    Busy,
+    /// What a rollover found in the new manager wasn't what was alive in the old one, and nothing was done.
+    Unequal,
     /// What the registers of the server of this name hold at the end.
     Final {
         name: &'a str,

@@ -6,8 +6,9 @@ ghost use Rattle.tp_report.specs.Answer.{refusal_text, maker_text, status_text, 
 ghost use Rattle.tp_report.specs.Answer.{element_text, look_text, reply_text, replies_text, collected_text};
 ghost use Rattle.tp_report.specs.Answer.{state_text, member_text, family_text, errors_text, counts_text};
 ghost use Rattle.tp_report.specs.Answer.{account_text, balance_text, final_text, answer_text};
+ghost use Rattle.tp_report.specs.Answer.{renamed_text, rolled_text};
 
-use crate::answer::{Answer, ServerAnswer};
+use crate::answer::{Answer, Renamed, ServerAnswer};
 use std::fmt;
 use tp_desk::Turned;
 use tp_model::types::{Body, Counts, Element, Look, Refusal, Status};
@@ -290,6 +291,26 @@ fn last<W: fmt::Write>(f: &mut fmt::Formatter<W>, name: &str, registers: &[u64])
     Ok(())
 }
 
+// An element that was carried over: its id in the old manager, and in the new one.
+fn renamed<W: fmt::Write>(f: &mut fmt::Formatter<W>, element: &Renamed) -> fmt::Result
+    ensures { WritesOnOk W.write_str_gives f.old result (renamed_text element.now) f.new }
+{
+    let Renamed { old, new } = *element;
+    write!(f, " {old}:{new}")
+}
+
+// All that a rollover carried over.
+fn rolled_over<W: fmt::Write>(f: &mut fmt::Formatter<W>, elements: &[Renamed]) -> fmt::Result
+    ensures { WritesOnOk W.write_str_gives f.old result (rolled_text elements.now) f.new }
+{
+    let many = elements.len();
+    write!(f, "rolled over {many}")?;
+    for element in elements {
+        renamed(f, element)?;
+    }
+    Ok(())
+}
+
 // How many elements have each status.
 fn counts<W: fmt::Write>(f: &mut fmt::Formatter<W>, all: Counts) -> fmt::Result
     ensures { WritesOnOk W.write_str_gives f.old result (counts_text all) f.new }
@@ -344,6 +365,9 @@ impl fmt::Display for Answer<'_> {
             Answer::Account(all) => account(f, all),
             Answer::Raced { submitted } => write!(f, "race submitted {submitted}"),
             Answer::Drained => write!(f, "drained"),
+            Answer::RolledOver(elements) => rolled_over(f, elements),
+            Answer::Busy => write!(f, "refused 11 Busy"),
+            Answer::Unequal => write!(f, "refused 14 Unequal"),
             Answer::Final { name, registers } => last(f, name, registers),
         }
     }

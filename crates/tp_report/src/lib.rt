@@ -9,7 +9,7 @@ mod refusal;
 mod sink;
 
 pub use account::account_line;
-pub use answer::{Answer, ServerAnswer, line, refused_line};
+pub use answer::{Answer, Renamed, ServerAnswer, line, refused_line};
 pub use fault::{Exit, Fault, RunFault, exit_status, fault_of, write_fault};
 pub use refusal::write_refusal;
 pub use sink::{Sink, StdSink, write_all};

@@ -8,7 +8,7 @@ use Rattle.tp_script.specs.declared.keyword.Verb.{Verb}
 use Rattle.tp_script.specs.declared.keyword.Verb.TheVariants as verb
 use Rattle.tp_script.specs.declared.script.Command.{Command}
 use Rattle.tp_script.specs.declared.script.Command.TheVariants.{Client, Desk, Balance, Sum, Race, Drain}
-use Rattle.tp_script.specs.declared.script.Command.TheVariants.{DrainNext}
+use Rattle.tp_script.specs.declared.script.Command.TheVariants.{DrainNext, Rollover}
 use Rattle.tp_script.specs.declared.script.ClientAct.TheVariants as client
 use Rattle.tp_script.specs.declared.script.DeskAct.TheVariants as desk
 use Rattle.tp_model.specs.declared.types.TheConstants.{MAX_PART_ROWS, MAX_PASSES, MAX_STAGE}
@@ -149,6 +149,7 @@ command_at verb.Balance ws s = two ws >>= λ w. balance_at w s
 command_at verb.Sum ws s = one ws >>= λ w. number_at (2 ^ 64 - 1) w >>= λ k. Ok (Sum k)
 command_at verb.Race ws s = race_words ws >>= λ w. race_at w
 command_at verb.Drain ws s = drain_at ws
+command_at verb.Rollover ws s = none ws >>= λ _. Ok Rollover
 
 -- the script with one command more, unless it needs more passes then than there can be
 unfoldable pub with_command : Command → ScriptView → Result ScriptView LineFault

@@ -39,6 +39,7 @@ first_words =
     ∷ (codes "count", Do verb.Count)
     ∷ (codes "race", Do verb.Race)
     ∷ (codes "drain", Do verb.Drain)
+    ∷ (codes "rollover", Do verb.Rollover)
     ∷ (codes "account", Account)
     ∷ []
 

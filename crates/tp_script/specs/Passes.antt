@@ -1,8 +1,8 @@
--- How many passes commands need, and whether they race.
+-- How many passes commands need, and whether they race or roll over.
 use Rattle.std.specs.Prelude.{ℕ, ◌+◌, List, Bool, true, false}
 use Rattle.std.specs.List.{list_any, sum_by}
 use Rattle.tp_script.specs.declared.script.Command.{Command}
-use Rattle.tp_script.specs.declared.script.Command.TheVariants.{Race}
+use Rattle.tp_script.specs.declared.script.Command.TheVariants.{Race, Rollover}
 
 -- what a command needs for itself: a race's clients and killers
 abbrev pub racers : Command → ℕ
@@ -21,3 +21,12 @@ is_race other = false
 -- whether there is a race among the commands
 abbrev pub has_race : List Command → Bool
 has_race commands = list_any is_race commands
+
+-- a rollover
+abbrev pub is_rollover : Command → Bool
+is_rollover Rollover = true
+is_rollover other = false
+
+-- whether there is a rollover among the commands
+abbrev pub has_rollover : List Command → Bool
+has_rollover commands = list_any is_rollover commands

@@ -1,5 +1,5 @@
 -- What a line of a live session says, by the definitions of the lines of scripts.
-use Rattle.std.specs.Prelude.{ℕ, ◌-◌, ◌^◌, ◌<◌, List, [], ◌∷◌, ◌++◌, length, map, Bool, true, false, ◌&&◌}
+use Rattle.std.specs.Prelude.{◌≡◌, ℕ, ◌-◌, ◌^◌, ◌<◌, List, [], ◌∷◌, ◌++◌, length, map, Bool, true, false, ◌&&◌}
 use Rattle.std.specs.Prelude.{Option, Some, None, Result, Ok, Err, nat_lt, nat_le, position, is_none, codes}
 use Rattle.std.specs.Prelude.{if◌then◌else◌, count_by, ◌==◌, string_bytes}
 use Rattle.std.specs.List.{slice_split, list_all}
@@ -13,7 +13,6 @@ use Rattle.tp_script.specs.declared.keyword.Keyword.TheVariants as first
 use Rattle.tp_script.specs.declared.keyword.Verb.{Verb}
 use Rattle.tp_script.specs.declared.keyword.Verb.TheVariants as verb
 use Rattle.tp_script.specs.declared.script.Command.{Command}
-use Rattle.tp_script.specs.declared.script.Command.TheVariants as command
 use Rattle.tp_script.specs.declared.script.DeskAct.TheVariants as desk
 use Rattle.tp_script.specs.declared.head.Act.{Act}
 use Rattle.tp_script.specs.declared.head.Act.TheVariants as act
@@ -26,6 +25,8 @@ use Rattle.tp_script.specs.Text.{words}
 use Rattle.tp_script.specs.Commands.{SubmitWords, submit_words, stage_at, command_at}
 use Rattle.tp_script.specs.Grammar.{is_comment, keyword_line, no_lines}
 use Rattle.tp_script.specs.Keyword.{keyword}
+use Rattle.tp_script.specs.Passes.{is_race}
+use Rattle.tp_script.specs.Ranges.{IsInRange}
 use Rattle.tp_script.specs.Script.{ScriptView, script_view}
 use Rattle.tp_script.specs.ServerLines.{new_name, server_line, shape_at}
 use Rattle.tp_script.specs.LineWords.{◌>>=◌, require, known, none, one, two, three, number_at}
@@ -105,15 +106,9 @@ draft_words [] = Err Syntax
 
 -- ---- commands
 
--- what a session does of the commands of scripts: it has no races and no drains
+-- what a session does of the commands of scripts: it has no races
 abbrev pub live : Command → Result Act LineFault
-live (command.Client a) = Ok (act.Client a)
-live (command.Desk server a) = Ok (act.Desk server a)
-live (command.Balance server k) = Ok (act.Balance server k)
-live (command.Sum k) = Ok (act.Sum k)
-live (command.Race race) = Err Syntax
-live command.Drain = Err Syntax
-live command.DrainNext = Err Syntax
+live c = if is_race c then Err Syntax else Ok (act.Command c)
 
 -- `take NAME ID` of a worker
 unfoldable pub worker_take : List (List ℕ) → Result WorkerAct LineFault
@@ -238,11 +233,8 @@ body_at line h = line_words line >>= λ ws. body_words ws h
 
 -- ---- what acts name
 
--- one of this many servers or workers, where it is an act of one
+-- a command of scripts on one of this many servers, and no race; or an act of one of this many workers
 abbrev pub IsActInRange : ℕ → ℕ → Act → Type 0
-IsActInRange servers workers (act.Client a) = Unit {0}
-IsActInRange servers workers (act.Desk server a) = server < servers
+IsActInRange servers workers (act.Command c) = IsInRange servers c × (is_race c ≡ false)
 IsActInRange servers workers (act.Worker worker a) = worker < workers
-IsActInRange servers workers (act.Balance server k) = server < servers
-IsActInRange servers workers (act.Sum k) = Unit {0}
 IsActInRange servers workers act.Account = Unit {0}

@@ -244,6 +244,10 @@ impl Script {
             }),
             Verb::Race => race_at(race_words(words)?),
             Verb::Drain => drain_at(words),
+            Verb::Rollover => {
+                none(words)?;
+                Ok(Command::Rollover)
+            }
         }
     }
 }

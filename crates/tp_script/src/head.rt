@@ -2,7 +2,7 @@
 ghost use Rattle.std.specs.Prelude.{◌≤◌, vec_len};
 ghost use Rattle.tp_script.specs.declared.head.TheConstants.{MAX_WORKERS};
 
-use crate::script::{ClientAct, DeskAct, Script};
+use crate::script::{Command, Script};
 use arrayvec::ArrayVec;
 use std::string::String;
 use tp_model::types::Draft;
@@ -34,19 +34,13 @@ pub enum WorkerAct {
     Abort,
 }
 
-/// What a line of a session asks for. Servers and workers are given by their places.
+/// What a line of a session asks for. A worker is given by its place.
 #[derive(Drop)]
 pub enum Act {
-    /// The client does this.
-    Client(ClientAct),
-    /// The desk of a server does this.
-    Desk { server: usize, act: DeskAct },
+    /// A command of scripts, but no race.
+    Command(Command),
     /// A worker does this.
     Worker { worker: usize, act: WorkerAct },
-    /// A register of a server is reported.
-    Balance { server: usize, k: u64 },
-    /// The sum of a register over all servers is reported.
-    Sum { k: u64 },
     /// The account is reported.
     Account,
 }

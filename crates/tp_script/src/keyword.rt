@@ -40,10 +40,11 @@ pub enum Verb {
     Sum,
     Race,
     Drain,
+    Rollover,
 }
 
 /// The first words that lines may have: how each is written, and what the line is.
-const FIRST_WORDS: [(&str, Keyword); 30] = [
+const FIRST_WORDS: [(&str, Keyword); 31] = [
     ("rows", Keyword::Rows),
     ("units", Keyword::Units),
     ("limit", Keyword::Limit),
@@ -73,6 +74,7 @@ const FIRST_WORDS: [(&str, Keyword); 30] = [
     ("count", Keyword::Do(Verb::Count)),
     ("race", Keyword::Do(Verb::Race)),
     ("drain", Keyword::Do(Verb::Drain)),
+    ("rollover", Keyword::Do(Verb::Rollover)),
     ("account", Keyword::Account),
 ];
 

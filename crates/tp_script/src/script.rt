@@ -140,16 +140,25 @@ pub enum Command {
     Drain,
     /// The same by turns that take the element whose turn it is.
     DrainNext,
+    /// What is alive goes on in a new manager.
+    Rollover,
 }
 
 impl Command {
-    ghost use Rattle.tp_script.specs.Passes.{is_race, racers};
+    ghost use Rattle.tp_script.specs.Passes.{is_race, is_rollover, racers};
 
     /// Whether it is a race.
-    fn is_race(self) -> bool
+    pub fn is_race(self) -> bool
         ensures { result ≡ is_race self }
     {
         matches!(self, Command::Race(_))
+    }
+
+    /// Whether it is a rollover.
+    pub fn is_rollover(self) -> bool
+        ensures { result ≡ is_rollover self }
+    {
+        matches!(self, Command::Rollover)
     }
 
     /// How many passes it needs for itself: those of a race's clients and killers.
@@ -184,7 +193,7 @@ pub struct Script {
 
 impl Script {
     ghost use Rattle.tp_script.specs.Grammar.{no_lines};
-    ghost use Rattle.tp_script.specs.Passes.{has_race};
+    ghost use Rattle.tp_script.specs.Passes.{has_race, has_rollover};
     ghost use Rattle.tp_script.specs.Script.{script_view, server_view, passes};
     ghost use Rattle.tp_script.specs.ServerLines.{with_server};
     ghost use Rattle.tp_script.specs.Commands.{with_command};
@@ -221,6 +230,13 @@ impl Script {
         ensures { result ≡ has_race self.now.commands.items }
     {
         self.commands.iter().any(|command| command.is_race())
+    }
+
+    /// Whether there is a rollover among its commands.
+    pub fn has_rollover(&self) -> bool
+        ensures { result ≡ has_rollover self.now.commands.items }
+    {
+        self.commands.iter().any(|command| command.is_rollover())
     }
 
     /// Adds a server.

@@ -2,10 +2,11 @@
 ghost use Rattle.std.specs.Prelude.{◌≡◌, ◌≤◌, ◌<◌, ◌&&◌, map, length, IfOk, IfSome, OnErr, nat_le, position};
 ghost use Rattle.std.specs.Prelude.{string_bytes, vec_len};
 ghost use Rattle.std.specs.Str.{bytes_eq};
-ghost use Rattle.std.specs.Prelude.{None};
+ghost use Rattle.std.specs.Prelude.{None, ℕ};
 ghost use Rattle.tp_script.specs.Grammar.{keyword_line};
 ghost use Rattle.tp_script.specs.LineWords.{one};
 ghost use Rattle.tp_script.specs.declared.keyword.Verb.TheVariants as verbs;
+ghost use Rattle.tp_script.specs.Ranges.{IsInRange};
 ghost use Rattle.tp_script.specs.Reading.{Gives};
 ghost use Rattle.tp_script.specs.Script.{script_view};
 ghost use Rattle.tp_script.specs.Session.{HeadView, IsActInRange, act_at, body_at, body_keyword, body_words};
@@ -26,19 +27,16 @@ use crate::text::words;
 use std::alloc::Global;
 use std::string::String;
 
-// What a session does of the commands of scripts.
+// What a session does of the commands of scripts: all but races.
 fn live(command: Command) -> Result<Act, LineError>
     ensures gives { Gives (λ a. a) result (live command) }
+    ensures in_range { (servers : ℕ) → (workers : ℕ) → IsInRange servers command
+        → IfOk result (λ a. IsActInRange servers workers a) }
 {
-    match command {
-        Command::Client(act) => Ok(Act::Client(act)),
-        Command::Desk { server, act } => Ok(Act::Desk { server, act }),
-        Command::Balance { server, k } => Ok(Act::Balance { server, k }),
-        Command::Sum { k } => Ok(Act::Sum { k }),
-        Command::Race(_) => Err(LineFault::Syntax.into()),
-        Command::Drain => Err(LineFault::Syntax.into()),
-        Command::DrainNext => Err(LineFault::Syntax.into()),
+    if command.is_race() {
+        return Err(LineFault::Syntax.into());
     }
+    Ok(Act::Command(command))
 }
 
 // `take NAME ID` of a worker.

@@ -13,6 +13,7 @@ rounds-init g c = record {
   as_many = refl;
   began = refl;
   numbered = refl;
+  held = refl;
   rounds = rounds_none (λ b. (goal.Server-dyn g (b.vtable, b.value)).behaviour b.value) (λ b. (goal.Server-dyn g (b.vtable, b.value)).registers b.value) (λ b. (goal.Server-dyn g (b.vtable, b.value)).pending b.value) c.args.order c.args.manager.now c.args.keeper.now c.args.passes.now c.args.servers.now c.args.places.now (omega (arith, c.requires.enough));
 }
 
@@ -29,6 +30,7 @@ rounds-preserved g c =
       as_many = e.as_many ∙ i.as_many;
       began = e.began ∙ i.began;
       numbered = e.numbered ∙ i.numbered;
+      held = (rw c.rounds.auto.servers at e.held) ∙ i.held;
       rounds = round_more (λ b. (goal.Server-dyn g (b.vtable, b.value)).behaviour b.value) (λ b. (goal.Server-dyn g (b.vtable, b.value)).registers b.value) (λ b. (goal.Server-dyn g (b.vtable, b.value)).pending b.value) c.args.order c.args.manager.now c.args.keeper.now c.rounds.keeper c.round.new.keeper c.args.passes.now c.rounds.passes c.round.new.passes c.args.servers.now c.rounds.servers c.round.new.servers c.args.places.now c.rounds.places c.round.new.places c.round.result c.rounds-test.true i.rounds e.turns;
     }
 

@@ -4,7 +4,7 @@ use Rattle.tp_manager.specs.Shown.{IsKeptBy}
 use Rattle.tp_desk.specs.Steady.{shown}
 use Rattle.tp_workers.specs.Free.{numbers}
 use Rattle.tp_commands.specs.Places.{firsts}
-use Rattle.tp_perform.specs.Told.{AreReady}
+use Rattle.tp_perform.specs.Told.{AreReady, units_held}
 use Rattle.tp_perform.specs.Units.{units_left}
 use Rattle.tp_perform.proofs.Rounds.{WentRounds}
 use Rattle.tp_perform.proofs.drains.drain_line.Given as goal
@@ -19,6 +19,7 @@ invariant-rounds g l = record {
   as_many : length l.places ≡ length l.fn.places;
   began : firsts l.places ≡ firsts l.fn.places;
   numbered : numbers l.passes ≡ numbers l.fn.passes;
+  held : units_held (length l.fn.servers) l.passes ≡ units_held (length l.fn.servers) l.fn.passes;
   rounds : WentRounds (shown (λ z. (goal.Server-dyn g z).behaviour z.1)) (shown (λ z. (goal.Server-dyn g z).registers z.1)) (shown (λ z. (goal.Server-dyn g z).pending z.1)) l.order l.manager l.fn.keeper l.fn.passes l.fn.servers l.fn.places l.keeper l.passes l.servers l.places;
 }
 

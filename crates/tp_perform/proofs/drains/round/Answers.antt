@@ -14,6 +14,7 @@ loop-at-init g c = record {
   as_many = refl;
   began = refl;
   numbered = refl;
+  held = refl;
   turns = turned_none (λ b. (goal.Server-dyn g (b.vtable, b.value)).behaviour b.value) (λ b. (goal.Server-dyn g (b.vtable, b.value)).registers b.value) (λ b. (goal.Server-dyn g (b.vtable, b.value)).pending b.value) c.args.order c.args.manager.now c.args.keeper.now c.args.passes.now c.args.servers.now c.args.places.now (omega (arith, c.requires.enough));
   fewer = omega arith;
 }
@@ -39,6 +40,7 @@ loop-at-preserved g c =
       as_many = e.as_many ∙ i.as_many;
       began = e.began ∙ i.began;
       numbered = e.numbered ∙ i.numbered;
+      held = (rw c.loop-at.auto.servers at e.held) ∙ i.held;
       turns = turned_more (λ b. (goal.Server-dyn g (b.vtable, b.value)).behaviour b.value) (λ b. (goal.Server-dyn g (b.vtable, b.value)).registers b.value) (λ b. (goal.Server-dyn g (b.vtable, b.value)).pending b.value) c.args.order c.args.manager.now c.loop-at.at c.args.keeper.now c.loop-at.keeper c.turn.new.keeper c.args.passes.now c.loop-at.passes c.turn.new.passes c.args.servers.now c.loop-at.servers c.turn.new.servers c.args.places.now c.loop-at.places c.turn.new.places c.loop-at.claims c.turn.result c.if-turn.claims i.turns e.turn is;
       fewer = omega (arith, used, more, counted, fewer);
     }

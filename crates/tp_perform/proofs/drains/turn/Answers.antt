@@ -1,6 +1,6 @@
-use Rattle.std.proofs.Common.{◌∙◌, inl, inr, refl}
+use Rattle.std.proofs.Common.{◌∙◌, inl, inr, length, refl}
 use Rattle.tp_perform.proofs.Everyone.{all_same}
-use Rattle.tp_perform.proofs.Gatherings.{gathered, numbers_gathered, ready_gathered}
+use Rattle.tp_perform.proofs.Gatherings.{gathered, held_gathered, numbers_gathered, ready_gathered}
 use Rattle.tp_perform.proofs.Slices.{scene_same}
 use Rattle.tp_perform.proofs.drains.turn.Goals as goal
 
@@ -36,3 +36,6 @@ returns-clause-turn g c =
       inl (record { turned = c.in-Some.turned; claimed_is = c.claims.ensures; done = t.1; turns = t.4; others = t.3; gathered = b.1 }),
       b.2,
     )
+
+pub returns-clause-held : goal.returns-clause-held
+returns-clause-held g c = held_gathered (λ b. (goal.Server-dyn g (b.vtable, b.value)).behaviour b.value) (λ b. (goal.Server-dyn g (b.vtable, b.value)).registers b.value) (λ b. (goal.Server-dyn g (b.vtable, b.value)).pending b.value) c.args.manager.now c.args.keeper.now c.gather.new.self c.turn_of_all.new.passes c.gather.new.passes c.turn_of_all.new.servers c.turn_of_all.new.places c.in-Some.ensures.ready c.gather.ensures.gathers c.gather.ensures.all c.gather.ensures.keeper.1 c.gather.ensures.own (length c.args.servers.now) ∙ c.in-Some.ensures.held

@@ -1,6 +1,6 @@
-use Rattle.std.proofs.Common.{◌∙◌}
+use Rattle.std.proofs.Common.{◌∙◌, length}
 use Rattle.tp_perform.proofs.Everyone.{all_same}
-use Rattle.tp_perform.proofs.Gatherings.{gathered, numbers_gathered, ready_gathered}
+use Rattle.tp_perform.proofs.Gatherings.{gathered, held_gathered, numbers_gathered, ready_gathered}
 use Rattle.tp_perform.proofs.giving_up.give_up.Goals as goal
 
 pub gather-requires-clause-all : goal.gather-requires-clause-all
@@ -22,3 +22,6 @@ returns-clause-gives_up g c =
       record { done = t.1; gives_up = t.4; others = t.3; gathered = b.1 },
       b.2,
     )
+
+pub returns-clause-held : goal.returns-clause-held
+returns-clause-held g c = held_gathered (λ b. (goal.Server-dyn g (b.vtable, b.value)).behaviour b.value) (λ b. (goal.Server-dyn g (b.vtable, b.value)).registers b.value) (λ b. (goal.Server-dyn g (b.vtable, b.value)).pending b.value) c.args.manager.now c.args.keeper.now c.gather.new.self c.give_up_of_all.new.passes c.gather.new.passes c.give_up_of_all.new.servers c.give_up_of_all.new.places c.give_up_of_all.ensures.ready c.gather.ensures.gathers c.gather.ensures.all c.gather.ensures.keeper.1 c.gather.ensures.own (length c.args.servers.now) ∙ c.give_up_of_all.ensures.held

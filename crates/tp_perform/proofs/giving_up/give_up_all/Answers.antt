@@ -12,6 +12,7 @@ loop-at-init g c = record {
   as_many = refl;
   began = refl;
   numbered = refl;
+  held = refl;
   given_up = given_none (λ b. (goal.Server-dyn g (b.vtable, b.value)).behaviour b.value) (λ b. (goal.Server-dyn g (b.vtable, b.value)).registers b.value) (λ b. (goal.Server-dyn g (b.vtable, b.value)).pending b.value) c.args.manager.now c.args.keeper.now c.args.passes.now c.args.servers.now c.args.places.now (omega (arith, c.requires.enough));
 }
 
@@ -28,6 +29,7 @@ loop-at-preserved g c =
       as_many = e.as_many ∙ i.as_many;
       began = e.began ∙ i.began;
       numbered = e.numbered ∙ i.numbered;
+      held = (rw c.loop-at.auto.servers at e.held) ∙ i.held;
       given_up = given_more (λ b. (goal.Server-dyn g (b.vtable, b.value)).behaviour b.value) (λ b. (goal.Server-dyn g (b.vtable, b.value)).registers b.value) (λ b. (goal.Server-dyn g (b.vtable, b.value)).pending b.value) c.args.manager.now c.loop-at.at c.args.keeper.now c.loop-at.keeper c.give_up.new.keeper c.args.passes.now c.loop-at.passes c.give_up.new.passes c.args.servers.now c.loop-at.servers c.give_up.new.servers c.args.places.now c.loop-at.places c.give_up.new.places i.given_up e.gives_up;
     }
 

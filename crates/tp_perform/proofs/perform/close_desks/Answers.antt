@@ -1,6 +1,7 @@
 use Rattle.std.proofs.Common.{◌≡◌, ◌∙◌, length, subst, sym}
 use Rattle.tp_commands.specs.Places.{AllLeft, firsts, workers}
 use Rattle.tp_perform.proofs.Everyone.{all_same}
+use Rattle.tp_perform.proofs.Gatherings.{racers_still}
 use Rattle.tp_perform.proofs.Slices.{one_scene}
 use Rattle.tp_perform.specs.GivingUp.{GiveUpAll}
 use Rattle.tp_perform.proofs.perform.close_desks.Goals as goal
@@ -28,3 +29,7 @@ returns-clause-ended g c = λ last is.
       all = ends.0;
       ended = ends.1;
     }
+
+pub end_desks-requires-clause-racers : goal.end_desks-requires-clause-racers
+end_desks-requires-clause-racers g c =
+    rw c.give_up_all.auto.servers (racers_still c.args.manager.now c.args.manager.now (length c.args.servers.now) c.args.passes.now c.give_up_all.new.passes c.give_up_all.ensures.held c.give_up_all.ensures.ready.own c.requires.racers)

@@ -16,7 +16,7 @@ pub returns-clause-free : goal.returns-clause-free
 returns-clause-free g c =
     free_left (λ b. (goal.Server-dyn g (b.vtable, b.value)).behaviour b.value) (λ b. (goal.Server-dyn g (b.vtable, b.value)).registers b.value) (λ b. (goal.Server-dyn g (b.vtable, b.value)).pending b.value) c.args.manager.now c.args.passes.now c.in-Some._client.now c.in-Some.others.now c.split_at_mut-workers.result.0.now c.split_at_mut-workers.result.1.now [] c.split_at_mut-workers.result.1.now [] c.split_at_mut-workers.result.1.now
     c.args.servers.now c.args.places.now c.in-Some.ensures.cases.0 c.split_at_mut-workers.ensures.value c.split_at_mut-workers.ensures.front_len refl refl c.requires.ready
-    c.end_all.new.passes c.end_all.new.servers c.end_all.ensures.free c.end_all.ensures.left
+    c.end_all.new.passes c.end_all.new.servers c.end_all.ensures.free c.end_all.ensures.left c.requires.racers
 
 pub returns-clause-left : goal.returns-clause-left
 returns-clause-left g c =

@@ -6,7 +6,7 @@ use Rattle.tp_commands.proofs.Shows.{shown_sum}
 use Rattle.std.specs.Prelude.{string_bytes}
 use Rattle.tp_commands.proofs.Lies.{lie_servers}
 use Rattle.tp_perform.proofs.Tellings.{balance_told, client_told, server_told}
-use Rattle.tp_perform.proofs.perform.command_line.Goals as goal
+use Rattle.tp_perform.proofs.one_command.command_line.Goals as goal
 
 pub bounds-servers-server : goal.bounds-servers-server
 bounds-servers-server g c =
@@ -35,7 +35,3 @@ pub returns-in-Sum-clause-tells : goal.returns-in-Sum-clause-tells
 returns-in-Sum-clause-tells g c =
     let is = c.sum-sum.ensures ∙ shown_sum (λ b. (goal.Server-dyn g (b.vtable, b.value)).behaviour b.value) (λ b. (goal.Server-dyn g (b.vtable, b.value)).registers b.value) (λ b. (goal.Server-dyn g (b.vtable, b.value)).pending b.value) c.in-Sum.k c.args.passes.now c.args.servers.now c.args.places.now c.requires.lie in
     rw c.in-Sum.is (IfOk-weaker c.line.result _ _ (λ s told. (told ∙ ap (λ n. line (answer_text (answer.Sum c.in-Sum.k n))) is, refl)) c.line.ensures.text)
-
-pub returns-in_ok-submitted-in-Race-clause-tells : goal.returns-in_ok-submitted-in-Race-clause-tells
-returns-in_ok-submitted-in-Race-clause-tells g c =
-    rw c.in-Race.is (IfOk-weaker c.line-in-Race.result _ _ (λ s told. record { submitted = c.in_ok-submitted-in-Race.submitted; races = c.in_ok-submitted-in-Race.ensures.raced; text_is = told; client = refl }) c.line-in-Race.ensures.text)

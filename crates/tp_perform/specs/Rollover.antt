@@ -1,0 +1,82 @@
+-- What a rollover does between two commands, and its line.
+use Rattle.std.specs.Prelude.{◌≡◌, ◌⊎◌, ℕ, List, All, None, Some, length, map}
+use Rattle.std.specs.List.{AllZip}
+use Rattle.tp_manager.specs.Shown.{IsOf, KeeperShown, PassShown}
+use Rattle.tp_model.specs.declared.types.Refusal.TheVariants as refusals
+use Rattle.tp_alone.specs.Thread.{Stays}
+use Rattle.tp_rollover.specs.Answers.{Rolls}
+use Rattle.tp_rollover.specs.Faults.{AreFree}
+use Rattle.tp_rollover.specs.Managed.{IsRefusedFor}
+use Rattle.tp_rollover.specs.declared.managed.Managed.{Managed}
+use Rattle.tp_rollover.specs.declared.moved.Moved.{Moved}
+use Rattle.tp_rollover.specs.declared.moved.RollFault.{RollFault}
+use Rattle.tp_rollover.specs.declared.moved.RollFault.TheVariants as faults
+use Rattle.tp_report.specs.Answer.{answer_text, line, refusal_text, rolled_text}
+use Rattle.tp_report.specs.declared.answer.Answer.TheVariants as answer
+use Rattle.tp_report.specs.declared.answer.Renamed.{Renamed}
+use Rattle.tp_commands.specs.Acting.{PlaceShown}
+use Rattle.tp_perform.specs.Scenes.{Gathered, OnlyPass, Scene, Stand, passes_in}
+
+-- what a manager with its keeper and this scene shows
+abbrev pub stand : Managed → Scene → Stand
+stand m s = record { manager = m.manager; keeper = m.keeper; scene = s }
+
+-- what an element is called that was carried over
+abbrev pub renamed : Moved → Renamed
+renamed m = record { old = m.old; new = m.new }
+
+-- the desk at a place had nothing in hand, and begins anew with another pass: its server has the same
+-- registers. One that was dropped stays dropped
+pub record BeginsAgain (old new : PlaceShown) : Type 0 where
+  pub idle : old.desk.work ≡ None
+  pub unprepared : old.desk.pending ≡ None
+  pub desk : new.desk ≡ record old.desk { pass = new.desk.pass }
+  pub began : new.began ≡ Some (new.desk.pass, new.desk.registers)
+  pub kept : new.is_dropped ≡ old.is_dropped
+
+-- No unit was open. What was alive goes on in another manager with the same limits, whose passes are
+-- together; there are as many of them, and none has a unit open. The old manager's keeper and passes showed
+-- these at the last. The line tells the elements that were carried over.
+pub record RolledOver (old : Stand) (text : List ℕ) (new : Stand) : Type 0 where
+  pub moved : List Moved
+  pub keeper : KeeperShown
+  pub passes : List PassShown
+  pub given : keeper.given ≡ old.keeper.given
+  pub limits : new.manager.limits ≡ old.manager.limits
+  pub rolls : Rolls old.manager.limits new.manager.limits keeper new.keeper (passes_in old.scene) passes
+      (passes_in new.scene) moved
+  pub idle : AreFree (passes_in old.scene)
+  pub free : AreFree (passes_in new.scene)
+  pub own : All (IsOf new.manager) (passes_in new.scene)
+  pub places : AllZip BeginsAgain old.scene.places new.scene.places
+  pub racers : length new.scene.racers ≡ length old.scene.racers
+  pub text_is : text ≡ line (rolled_text (map renamed moved))
+
+-- the line of a rollover that was refused
+abbrev pub roll_refused_text : RollFault → List ℕ
+roll_refused_text faults.NoMemory = refusal_text refusals.NoMemory
+roll_refused_text faults.Full = refusal_text refusals.Full
+roll_refused_text faults.Busy = answer_text answer.Busy
+roll_refused_text other = answer_text answer.Unequal
+
+-- nothing has changed at the places but what their passes show, and these have done nothing but look
+pub record OnlyLooked (old new : Scene) : Type 0 where
+  pub passes : AllZip Stays (passes_in old) (passes_in new)
+  pub places : AllZip OnlyPass old.places new.places
+
+-- It was refused: with Busy where a unit was open, and with Full where the new manager was short. The manager
+-- is the same, its passes have done nothing but look, and then all have gathered.
+pub record RollRefused (old : Stand) (text : List ℕ) (new : Stand) : Type 0 where
+  pub why : RollFault
+  pub due : IsRefusedFor old.manager.limits (passes_in old.scene) why
+  pub manager : new.manager ≡ old.manager
+  pub keeper : KeeperShown
+  pub given : keeper.given ≡ old.keeper.given
+  pub between : Scene
+  pub looked : OnlyLooked old.scene between
+  pub gathered : Gathered old.manager keeper new.keeper between new.scene
+  pub text_is : text ≡ line (roll_refused_text why)
+
+-- one or the other
+abbrev pub RollsOn : Stand → List ℕ → Stand → Type 0
+RollsOn old text new = RolledOver old text new ⊎ RollRefused old text new

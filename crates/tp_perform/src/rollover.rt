@@ -1,0 +1,131 @@
+//! The command `rollover`: what is alive goes on in a new manager, and the desks begin anew in it.
+ghost use Rattle.std.specs.Prelude.{◌≡◌, ◌+◌, ◌≤◌, List, ℕ, None, IfOk, All, length, map, string_bytes};
+ghost use Rattle.tp_manager.specs.Accounts.{Gathers};
+ghost use Rattle.tp_manager.specs.Bounds.{gather_steps};
+ghost use Rattle.tp_report.specs.Answer.{line, rolled_text};
+ghost use Rattle.tp_report.specs.Lines.{IsLine};
+ghost use Rattle.tp_rollover.specs.Faults.{AreFree};
+ghost use Rattle.tp_rollover.specs.Managed.{IsManaged};
+ghost use Rattle.tp_commands.specs.Places.{AllLie, all_firsts, firsts, workers};
+ghost use Rattle.tp_perform.specs.Rollover.{RollsOn, renamed, roll_refused_text, stand};
+ghost use Rattle.tp_perform.specs.Scenes.{Scene};
+ghost use Rattle.tp_perform.specs.Told.{AreReady, IsScene, units_held};
+
+use std::alloc::{AllocError, Global};
+use std::string::String;
+use tp_commands::{Place, begin_again};
+use tp_manager::Pass;
+use tp_model::types::Refusal;
+use tp_report::{Answer, Renamed, line};
+use tp_rollover::{Managed, Moved, RollFault};
+use tp_server::Server;
+
+/// What the elements that were carried over are called.
+fn all_renamed(alloc: Global, moved: &[Moved]) -> Result<Vec<Renamed>, AllocError>
+    ensures { IfOk result (λ all. all.items ≡ map renamed moved.now) }
+{
+    let mut all = Vec::new(alloc);
+    for element in moved {
+        all.push(Renamed {
+            old: element.old,
+            new: element.new,
+        })?;
+    }
+    Ok(all)
+}
+
+/// The line of a rollover that carried these over.
+fn rolled_line(alloc: Global, moved: &[Moved]) -> Result<String, AllocError>
+    ensures text { IfOk result (λ text. string_bytes text ≡ line (rolled_text (map renamed moved.now))) }
+    ensures line { IfOk result (λ text. IsLine (string_bytes text)) }
+{
+    let elements = all_renamed(alloc, moved)?;
+    line(alloc, Answer::RolledOver(&elements))
+}
+
+/// The line of a rollover that was refused.
+fn refused_line(alloc: Global, why: RollFault) -> Result<String, AllocError>
+    ensures text { IfOk result (λ text. string_bytes text ≡ line (roll_refused_text why)) }
+    ensures line { IfOk result (λ text. IsLine (string_bytes text)) }
+{
+    match why {
+        RollFault::NoMemory => line(alloc, Answer::Refused(Refusal::NoMemory)),
+        RollFault::Full => line(alloc, Answer::Refused(Refusal::Full)),
+        RollFault::Busy => line(alloc, Answer::Busy),
+        RollFault::BadLimits => line(alloc, Answer::Unequal),
+        RollFault::NoPass => line(alloc, Answer::Unequal),
+        RollFault::Unequal => line(alloc, Answer::Unequal),
+    }
+}
+
+/// All passes gather.
+pub(crate) fn gather_all(managed: &mut Managed)
+    requires managed { IsManaged managed.old }
+    ensures managed { IsManaged managed.new }
+    ensures manager { managed.new.manager ≡ managed.old.manager }
+    ensures given { managed.new.keeper.given ≡ managed.old.keeper.given }
+    ensures gathers { let l = managed.old.manager.limits in
+        Gathers l (gather_steps l (length managed.old.passes.items)) managed.old.keeper managed.new.keeper
+        managed.old.passes.items managed.new.passes.items }
+{
+    managed
+        .keeper
+        .gather(&managed.manager, managed.passes.as_mut_slice());
+}
+
+/// Has the desks begin anew. The passes are all, from the client's on, and none has a unit open.
+fn begin_all_again(passes: &[Pass], servers: &[Box<dyn Server + Send>], places: &mut [Place])
+    requires free { AreFree passes.now }
+    requires clear { All (λ server. pending server ≡ None) servers.now }
+    requires enough { 1 + length servers.now ≤ length passes.now }
+    requires as_many { length servers.now ≡ length places.old }
+    ensures lie { AllLie behaviour registers pending
+        (workers (length servers.now) passes.now) servers.now places.new }
+    ensures began { firsts places.new ≡ all_firsts (workers (length servers.now) passes.now) servers.now }
+    ensures dropped { map (λ place. place.is_dropped) places.new ≡ map (λ place. place.is_dropped) places.old }
+{
+    begin_again(&passes[1..1 + servers.len()], servers, places);
+}
+
+/// Has what is alive, each element once, go on in a new manager with the same limits, in which the desks
+/// begin anew with the same registers, and answers `rolled over N OLD:NEW ..`, with what was carried over.
+/// Where it is refused, nothing has changed, and all passes gather. What is promised in `rolled` is so too
+/// where the line can't be made. The passes are the client's, then one for each server, then others.
+pub fn roll_over_line(
+    alloc: Global,
+    managed: &mut Managed,
+    servers: &[Box<dyn Server + Send>],
+    places: &mut [Place],
+) -> Result<String, AllocError>
+    requires managed { IsManaged managed.old }
+    requires ready { AreReady behaviour registers pending managed.old.manager managed.old.passes.items
+        servers.now places.old }
+    requires enough { 1 + length servers.now ≤ length managed.old.passes.items }
+    ensures managed { IsManaged managed.new }
+    ensures limits { managed.new.manager.limits ≡ managed.old.manager.limits }
+    ensures ready { AreReady behaviour registers pending managed.new.manager managed.new.passes.items
+        servers.now places.new }
+    ensures as_many { length places.new ≡ length places.old }
+    ensures held { units_held (length servers.now) managed.new.passes.items
+        ≡ units_held (length servers.now) managed.old.passes.items }
+    ensures rolled { (old : Scene) × (new : Scene) × (text : List ℕ)
+        × IsScene behaviour registers pending managed.old.passes.items servers.now places.old old
+        × RollsOn (stand managed.old old) text (stand managed.new new)
+        × IsScene behaviour registers pending managed.new.passes.items servers.now places.new new }
+    ensures rolls { IfOk result (λ text. (old : Scene) × (new : Scene)
+        × IsScene behaviour registers pending managed.old.passes.items servers.now places.old old
+        × RollsOn (stand managed.old old) (string_bytes text) (stand managed.new new)
+        × IsScene behaviour registers pending managed.new.passes.items servers.now places.new new) }
+    ensures line { IfOk result (λ text. IsLine (string_bytes text)) }
+{
+    match managed.roll_over(alloc) {
+        Ok(moved) => {
+            begin_all_again(&managed.passes, servers, places);
+            rolled_line(alloc, &moved)
+        }
+        Err(why) => {
+            gather_all(managed);
+            refused_line(alloc, why)
+        }
+    }
+}
