@@ -11,6 +11,9 @@ A call returns a dataclass, or raises the refusal by its name. Several commands 
         asked = [batch.add(submit(1, customer, price)) for customer, price in orders]
     ids = [it.value.element for it in asked]
 
+A manager's rows and units are used once. `rollover` carries what is alive into a new one. A session with `on_full="rollover"` does so by
+itself, and the ids that it tells last: they are the same before and after.
+
 docs/LIVE.md says what each line of a session does. It needs Python 3.10 and its standard library alone.
 """
 from __future__ import annotations
@@ -20,9 +23,9 @@ import re
 import select
 import subprocess
 from collections.abc import Callable, Iterable, Sequence
-from dataclasses import dataclass
+from dataclasses import dataclass, replace
 from types import TracebackType
-from typing import Generic, TypeVar
+from typing import Generic, Literal, TypeVar
 
 T = TypeVar("T")
 
@@ -106,6 +109,14 @@ class NotWaiting(Refusal):
 
 class NoUnit(Refusal):
     """The pass has no unit of work left."""
+
+
+class NoMemory(Refusal):
+    """The program had no memory for a rollover."""
+
+
+class Unequal(Refusal):
+    """A rollover would have been wrong. No test came to that."""
 
 
 class NoneOpen(Refusal):
@@ -235,6 +246,13 @@ class Account:
 
 
 @dataclass(frozen=True)
+class RolledOver:
+    """What is alive, by its id in the old manager, and its id in the new one."""
+
+    moved: dict[int, int]
+
+
+@dataclass(frozen=True)
 class Draft:
     """An output of a commit: its stage, which is 15 for a reply, and its words."""
 
@@ -253,10 +271,15 @@ class Draft:
 
 @dataclass(frozen=True)
 class Command(Generic[T]):
-    """A line, and what its answer is read as."""
+    """A line without the id at its end, what its answer is read as, and the id, where there is one."""
 
-    line: str
+    words: str
     read: Callable[[str], T]
+    element: int | None = None
+
+    @property
+    def line(self) -> str:
+        return self.words if self.element is None else f"{self.words} {self.element}"
 
 
 def numbers(answer: str, form: str) -> tuple[int, ...]:
@@ -352,7 +375,7 @@ def claim(name: str) -> Command[Work | None]:
 
 
 def take(name: str, element: int) -> Command[Work | None]:
-    return Command(f"take {name} {element}", took(name))
+    return Command(f"take {name}", took(name), element)
 
 
 def commit(name: str, *drafts: Draft) -> Command[Done]:
@@ -376,35 +399,35 @@ def drop(name: str) -> Command[None]:
 
 
 def kill(element: int) -> Command[Killed]:
-    return Command(f"kill {element}", lambda said: Killed(*numbers(said, "killed N aborted N")))
+    return Command("kill", lambda said: Killed(*numbers(said, "killed N aborted N")), element)
 
 
 def cancel(root: int) -> Command[Cancelled]:
-    return Command(f"cancel {root}", lambda said: Cancelled(*numbers(said, "cancelled N killed N")))
+    return Command("cancel", lambda said: Cancelled(*numbers(said, "cancelled N killed N")), root)
 
 
 def requeue(element: int) -> Command[Requeued]:
-    return Command(f"requeue {element}", lambda said: Requeued(*numbers(said, "requeued N round N")))
+    return Command("requeue", lambda said: Requeued(*numbers(said, "requeued N round N")), element)
 
 
 def release(element: int) -> Command[Released]:
-    return Command(f"release {element}", lambda said: Released(*numbers(said, "released N unit N attempt N")))
+    return Command("release", lambda said: Released(*numbers(said, "released N unit N attempt N")), element)
 
 
 def read(element: int) -> Command[Look]:
-    return Command(f"read {element}", looked)
+    return Command("read", looked, element)
 
 
 def reply(root: int) -> Command[tuple[Reply, ...]]:
-    return Command(f"reply {root}", replies_of("replies"))
+    return Command("reply", replies_of("replies"), root)
 
 
 def collect(root: int) -> Command[tuple[Reply, ...]]:
-    return Command(f"collect {root}", replies_of("collected"))
+    return Command("collect", replies_of("collected"), root)
 
 
 def family(root: int) -> Command[tuple[Member, ...]]:
-    return Command(f"family {root}", members)
+    return Command("family", members, root)
 
 
 def errors() -> Command[tuple[int, ...]]:
@@ -433,6 +456,82 @@ def account() -> Command[Account]:
     return Command("account", lambda said: Account(*numbers(said, "account born N waiting N held N consumed N parked N killed N")))
 
 
+def drain() -> Command[None]:
+    """The servers take turns until a round of them finds nothing."""
+    return Command("drain", lambda said: None)
+
+
+def drain_next() -> Command[None]:
+    """The same by turns that take elements in turn."""
+    return Command("drain next", lambda said: None)
+
+
+def rolled(answer: str) -> RolledOver:
+    _rolled, _over, _many, *listed = answer.split(" ")
+    return RolledOver(dict((int(old), int(new)) for old, new in (it.split(":") for it in listed)))
+
+
+def rollover() -> Command[RolledOver]:
+    return Command("rollover", rolled)
+
+
+# ---- ids that last
+
+
+class Ids:
+    """Ids that stay the same over rollovers: an id, and above it, in bits 32 and up, how many rollovers came before its birth.
+
+    An element keeps its root. What a drain made isn't told, so its root has a new id after a rollover, unless it was alive itself.
+    """
+
+    def __init__(self) -> None:
+        self.past = 0
+        # what was carried over, or is the root of that: its id now by its lasting one, and the other way round
+        self.now: dict[int, int] = {}
+        self.lasting: dict[int, int] = {}
+        # the root of each output that was told since the last rollover, or carried over
+        self.roots: dict[int, int] = {}
+
+    def roll_over(self, moved: dict[int, int], roots: dict[int, int]) -> None:
+        """Takes what was carried over, with the roots that it has now."""
+        kept = {self.told(old): new for old, new in moved.items()}
+        old_roots = {it: self.roots.get(it, it) for it in kept}
+        for it, new in list(kept.items()):
+            if it in self.roots:
+                kept.setdefault(old_roots[it], roots[new])
+        self.past += 1
+        self.now, self.lasting = kept, {new: it for it, new in kept.items()}
+        self.roots = {it: root for it, root in old_roots.items() if it != root}
+
+    def told(self, element: int) -> int:
+        """Returns the lasting id of an element."""
+        return self.lasting.get(element, self.past << 32 | element)
+
+    def known(self, element: int) -> int:
+        """Returns what an element's id is now. One that wasn't alive at a rollover is nowhere."""
+        if element in self.now:
+            return self.now[element]
+        if element >> 32 != self.past:
+            raise NotThere(str(element))
+        return element & 0xFFFFFFFF
+
+    def of(self, value: T) -> T:
+        """Returns an answer with lasting ids."""
+        if isinstance(value, tuple):
+            return tuple(self.told(it) if isinstance(it, int) else self.of(it) for it in value)  # type: ignore[return-value]
+        changed: dict[str, object] = {}
+        for name in ("element", "root"):
+            if isinstance(getattr(value, name, None), int):
+                changed[name] = self.told(getattr(value, name))
+        if isinstance(value, Done):
+            # They are just born, so none of them was carried over.
+            outputs = range(*(self.past << 32 | it for it in (value.outputs.start, value.outputs.stop)))
+            root = self.roots.get(self.told(value.element), self.told(value.element))
+            self.roots |= {it: root for it in outputs}
+            changed["outputs"] = outputs
+        return replace(value, **changed) if changed else value  # type: ignore[type-var]
+
+
 # ---- sessions
 
 
@@ -441,14 +540,23 @@ class Later(Generic[T]):
 
     def __init__(self, command: Command[T]) -> None:
         self.command = command
-        self.answer: str | None = None
+        self.answer: list[T] = []
+        self.refusal: Refusal | None = None
 
     @property
     def value(self) -> T:
         """Returns the answer, or raises the refusal."""
-        if self.answer is None:
+        if self.refusal:
+            raise self.refusal
+        if not self.answer:
             raise ValueError("the batch hasn't ended")
-        return answered(self.command, self.answer)
+        return self.answer[0]
+
+    def take(self, session: Session, answer: str) -> None:
+        try:
+            self.answer.append(session.read_answer(self.command, answer))
+        except Refusal as refusal:
+            self.refusal = refusal
 
 
 def answered(command: Command[T], answer: str) -> T:
@@ -476,23 +584,36 @@ class Batch:
 
     def __exit__(self, kind: type[BaseException] | None, fault: BaseException | None, trace: TracebackType | None) -> None:
         if kind is None:
-            answers = self.session.exchange([it.command.line for it in self.asked])
+            answers = self.session.exchange([self.session.line_of(it.command) for it in self.asked])
             for later, answer in zip(self.asked, answers):
-                later.answer = answer
+                later.take(self.session, answer)
 
 
 class Session:
     """A session, in a `with` block. `head` are the lines of its head; `log`, where it is given, takes each line that is sent.
 
+    With `on_full="rollover"` a call that finds no rows or no units left (`Full`, `NoUnit`) has the session roll over, and is made once
+    more. A commit's unit is over then: its `Full` is raised after the rollover, and the element waits or is parked. Where a unit is
+    open elsewhere nothing rolls over, and the refusal is raised. Commands of a batch are never made again. All ids last.
+
     The program is `./run --live` of the repository that this file is in, unless another is named, or the environment variable
     COVETRIVET_LIVE names one.
     """
 
-    def __init__(self, head: Iterable[str], program: Sequence[str] | None = None, log: Callable[[str], object] | None = None) -> None:
+    def __init__(
+        self,
+        head: Iterable[str],
+        program: Sequence[str] | None = None,
+        log: Callable[[str], object] | None = None,
+        on_full: Literal["rollover"] | None = None,
+    ) -> None:
         named = os.environ.get("COVETRIVET_LIVE")
         self.program = list(program or ([named] if named else [RUN, "--live"]))
         self.head = list(head)
         self.log = log
+        self.ids = Ids() if on_full else None
+        # how many there were
+        self.rollovers = 0
         self.rest = b""
         self.finals: dict[str, tuple[int, ...]] = {}
 
@@ -556,7 +677,42 @@ class Session:
 
     def do(self, command: Command[T]) -> T:
         """Sends one command. Returns its answer, or raises the refusal."""
-        return answered(command, self.exchange([command.line])[0])
+        try:
+            return self.once(command)
+        except (Full, NoUnit) as refusal:
+            if self.ids is None or command.words == "rollover" or not self.has_rolled_over():
+                raise
+            if isinstance(refusal, Full) and not command.words.startswith("submit "):
+                raise
+            return self.once(command)
+
+    def has_rolled_over(self) -> bool:
+        try:
+            self.rollover()
+        except Refusal:
+            return False
+        return True
+
+    def once(self, command: Command[T]) -> T:
+        return self.read_answer(command, self.exchange([self.line_of(command)])[0])
+
+    def line_of(self, command: Command[T]) -> str:
+        """Returns a command's line, in which ids are those of the manager that there is now."""
+        if self.ids is None or command.element is None:
+            return command.line
+        return replace(command, element=self.ids.known(command.element)).line
+
+    def read_answer(self, command: Command[T], answer: str) -> T:
+        value = answered(command, answer)
+        self.rollovers += isinstance(value, RolledOver)
+        if self.ids is None:
+            return value
+        if isinstance(value, RolledOver):
+            kept = [self.ids.told(old) for old in value.moved]
+            now = [looked(it) for it in self.exchange([f"read {new}" for new in value.moved.values()])]
+            self.ids.roll_over(value.moved, {it.element: it.root for it in now})
+            return RolledOver({it: it for it in kept})  # type: ignore[return-value]
+        return self.ids.of(value)
 
     def batch(self) -> Batch:
         return Batch(self)
@@ -623,3 +779,12 @@ class Session:
 
     def account(self) -> Account:
         return self.do(account())
+
+    def drain(self) -> None:
+        return self.do(drain())
+
+    def drain_next(self) -> None:
+        return self.do(drain_next())
+
+    def rollover(self) -> RolledOver:
+        return self.do(rollover())

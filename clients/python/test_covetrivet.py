@@ -3,7 +3,7 @@ import contextlib
 import unittest
 
 import covetrivet
-from covetrivet import Account, Counts, Done, Draft, Look, Member, Released, Reply, Session, Work, claim, submit
+from covetrivet import Account, Counts, Done, Draft, Look, Member, Released, Reply, RolledOver, Session, Work, claim, submit
 
 HEAD = ["rows 8", "units 8", "limit 2", "server till eager 2 1 add", "start till 0 100", "worker packer 1"]
 
@@ -118,6 +118,61 @@ class Calls(unittest.TestCase):
             batch.add(submit(1, 0, 0))
             raise KeyError
         self.assertEqual(self.session.count(), Counts(0, 0, 0, 0, 0))
+
+
+class Rollovers(unittest.TestCase):
+    def test_a_rollover(self):
+        with Session(HEAD) as session:
+            session.submit(1, 5)
+            session.submit(1, 6)
+            session.claim("packer")
+            with self.assertRaises(covetrivet.Busy):
+                session.rollover()
+            session.commit("packer", Draft(2, 0, 10), Draft(15, 5, 6))
+            self.assertEqual(session.rollover(), RolledOver({1: 0, 16: 17, 17: 18}))
+            self.assertEqual(session.reply(16), (Reply(18, (5, 6, 0, 0)),))
+            self.assertEqual(session.turn("till"), Done(17, 8, range(0)))
+            self.assertEqual(session.account(), Account(4, 2, 0, 2, 0, 0))
+        self.assertEqual(session.finals, {"till": (110,)})
+
+    def test_drains(self):
+        with Session(HEAD) as session:
+            for amount in (1, 2, 3, 4):
+                session.submit(2, 0, amount)
+            session.drain()
+            self.assertEqual(session.total(0), 110)
+            session.submit(2, 0, 5)
+            session.drain_next()
+            self.assertEqual(session.total(0), 115)
+
+    def test_ids_last(self):
+        orders = []
+        with Session(["rows 32", "units 6", "worker w 1"], on_full="rollover") as session:
+            for customer in range(100):
+                orders.append(session.submit(1, customer).element)
+                work = session.claim("w")
+                self.assertEqual((work.element, work.root, work.words[0]), (orders[-1], orders[-1], customer))
+                session.commit("w", Draft(15, customer), Draft(3, customer))
+                if customer > 1:
+                    # Its reply and its second output may have been carried over meanwhile, and keep their root.
+                    self.assertEqual([it.words[0] for it in session.collect(orders[-3])], [customer - 2])
+                    self.assertEqual(session.cancel(orders[-3]).killed, 1)
+            self.assertEqual(len({*orders}), 100)
+            self.assertGreater(session.rollovers, 10)
+            with self.assertRaises(covetrivet.NotThere):
+                session.read(orders[0])
+
+    def test_what_finds_no_room(self):
+        with Session(["rows 2", "units 8", "limit 2", "worker w 1", "worker v 1"], on_full="rollover") as session:
+            order = session.submit(1, 1).element
+            session.claim("w")
+            with self.assertRaises(covetrivet.Full):
+                session.commit("w", Draft(15), Draft(15), Draft(15))
+            self.assertEqual(session.read(order).status, "waiting 1")
+            session.claim("v")
+            session.submit(1, 2)
+            with self.assertRaises(covetrivet.Full):
+                session.submit(1, 3)
 
 
 class Heads(unittest.TestCase):

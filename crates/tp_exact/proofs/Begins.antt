@@ -22,7 +22,8 @@ use Rattle.tp_script.specs.declared.script.Command.{Command}
 use Rattle.tp_script.specs.declared.script.Command.TheVariants as command
 use Rattle.tp_commands.specs.Acting.{PlaceShown}
 use Rattle.tp_workers.specs.Free.{IsFreePass}
-use Rattle.tp_perform.specs.Reported.{Begins, IsNewPass, IsNewPlace}
+use Rattle.tp_perform.specs.Reported.{Begins, IsNewPlace}
+use Rattle.tp_rollover.specs.Managed.{IsNewPass}
 use Rattle.tp_perform.specs.Scenes.{Gathered, Scene, passes_in}
 use Rattle.tp_reference.specs.PlainReport as plain
 use Rattle.tp_reference.specs.PlainReport.{begin, new_desk}
@@ -48,6 +49,7 @@ no_racer (command.Balance at k) raceless = refl
 no_racer (command.Sum k) raceless = refl
 no_racer command.Drain raceless = refl
 no_racer command.DrainNext raceless = refl
+no_racer command.Rollover raceless = refl
 
 no_racers : (cs : List Command) → has_race cs ≡ false → racing cs ≡ 0
 no_racers [] raceless = refl
@@ -73,7 +75,7 @@ stage_good server is =
 -- ---- the first scene
 
 -- the servers do what their recipes say
-served_first : (ps : List PlaceShown) (servers : List ServerView) → map (λ p. p.desk.behaviour) ps ≡ map (λ x. behaviour_of x.recipe) servers → All IsChecked servers → AllZip IsServedBy ps servers
+pub served_first : (ps : List PlaceShown) (servers : List ServerView) → map (λ p. p.desk.behaviour) ps ≡ map (λ x. behaviour_of x.recipe) servers → All IsChecked servers → AllZip IsServedBy ps servers
 served_first [] [] same good = tt
 served_first [] (x ∷ servers) same good = absurd cc
 served_first (p ∷ ps) [] same good = absurd cc
@@ -92,14 +94,14 @@ abbrev none_if : Option ℕ → Option Work
 none_if o = if is_some o then None else None
 
 -- no desk has anything in hand
-desks_first : (ps : List PlaceShown) (servers : List ServerView) → All IsNewPlace ps → ((p : PassShown) → In p (map (λ p. p.desk.pass) ps) → IsNewPass p) → map (λ p. p.desk.registers) ps ≡ map (λ x. x.registers) servers
+pub desks_first : (ps : List PlaceShown) (servers : List ServerView) → All IsNewPlace ps → ((p : PassShown) → In p (map (λ p. p.desk.pass) ps) → p.open_unit ≡ None) → map (λ p. p.desk.registers) ps ≡ map (λ x. x.registers) servers
     → AllZip IsFor ps (map new_desk servers)
 desks_first [] [] new passes same = tt
 desks_first [] (x ∷ servers) new passes same = absurd cc
 desks_first (p ∷ ps) [] new passes same = absurd cc
 desks_first (p ∷ ps) (x ∷ servers) new passes same =
     let one = All-head IsNewPlace p ps new in
-    let free : p.desk.pass.open_unit ≡ None = (passes p.desk.pass here).open_unit in (
+    let free : p.desk.pass.open_unit ≡ None = passes p.desk.pass here in (
       record {
         desk = record {
           registers = sym (first same);
@@ -163,6 +165,6 @@ module _ (s : ScriptView) (is : IsCoveredScript s) (m : ManagerShown) (first : S
           together = is_so;
           manager = ap start limits_same ∙ sym (alone_start m.limits keeper' (passes_in new) keeper'.seen is_so all_fresh);
           desks = still_all first.places new.places (map new_desk s.servers) only.places
-              (desks_first first.places s.servers begins.desks (λ p at. all_new p (there (in_left first.racers at))) begins.registers);
+              (desks_first first.places s.servers begins.desks (λ p at. (all_new p (there (in_left first.racers at))).open_unit) begins.registers);
           served = served_all first.places new.places s.servers only.places (served_first first.places s.servers begins.recipes is.servers);
         }

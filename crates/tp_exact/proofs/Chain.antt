@@ -1,14 +1,14 @@
 -- The commands of a script, one behind the other: the lines of the first n are the computed ones.
 use Rattle.std.proofs.Common.{◌≡◌, ◌<◌, ◌≤◌, ℕ, zero, suc, ◌+◌, false, List, [], ◌∷◌, ◌++◌, length, drop, take, get_or, slice_get, Option, Some, None, refl, sym, ◌∙◌, ap, subst, append_assoc, arith}
 use Rattle.std.proofs.lemmas.Option.{slice_get-get_or}
-use Rattle.tp_manager.specs.Shown.{KeeperShown, ManagerShown}
-use Rattle.tp_script.specs.Passes.{has_race, is_race, racing}
+use Rattle.tp_manager.specs.Shown.{ManagerShown}
+use Rattle.tp_script.specs.Passes.{has_race, has_rollover, is_race, is_rollover, racing}
 use Rattle.tp_script.specs.Script.{ScriptView, ServerView}
 use Rattle.tp_script.specs.declared.script.Command.{Command}
 use Rattle.tp_script.specs.declared.script.Command.TheVariants as command
 use Rattle.tp_perform.specs.Reported.{Begins}
-use Rattle.tp_perform.specs.Scenes.{Scene}
-use Rattle.tp_perform.specs.Told.{Told}
+use Rattle.tp_perform.specs.Scenes.{Stand}
+use Rattle.tp_perform.specs.Told.{PerformsAll, PerformsAt, Told}
 use Rattle.tp_reference.specs.PlainReport.{ReportState, begin, closing, command_step, report_of, reports}
 use Rattle.tp_reference.proofs.ReportLemmas.{reports_done, reports_more}
 use Rattle.tp_exact.specs.Script.{IsCoveredScript}
@@ -20,6 +20,23 @@ no_race_at : (cs : List Command) (n : ℕ) (c : Command) → has_race cs ≡ fal
 no_race_at [] n c raceless is = absurd cc
 no_race_at (d ∷ cs) zero c raceless is = let same : d ≡ c = cc in ap is_race (sym same) ∙ (none_raced (is_race d) (has_race cs) raceless).0
 no_race_at (d ∷ cs) (suc n) c raceless is = no_race_at cs n c (none_raced (is_race d) (has_race cs) raceless).1 is
+
+no_rollover_at : (cs : List Command) (n : ℕ) (c : Command) → has_rollover cs ≡ false → slice_get cs n ≡ Some c → is_rollover c ≡ false
+no_rollover_at [] n c none is = absurd cc
+no_rollover_at (d ∷ cs) zero c none is = let same : d ≡ c = cc in ap is_rollover (sym same) ∙ (none_raced (is_rollover d) (has_rollover cs) none).0
+no_rollover_at (d ∷ cs) (suc n) c none is = no_rollover_at cs n c (none_raced (is_rollover d) (has_rollover cs) none).1 is
+
+-- such a command leaves the manager as it is
+stays_so : (s : ScriptView) (c : Command) (raced : ℕ) (old new : Stand) (text : List ℕ) → is_rollover c ≡ false → PerformsAt s c raced old text new
+    → (new.manager ≡ old.manager) × PerformsAll old.manager s c raced old.keeper old.scene text new.keeper new.scene
+stays_so s (command.Client act) raced old new text other p = p
+stays_so s (command.Desk at act) raced old new text other p = p
+stays_so s (command.Balance at k) raced old new text other p = p
+stays_so s (command.Sum k) raced old new text other p = p
+stays_so s (command.Race plan) raced old new text other p = p
+stays_so s command.Drain raced old new text other p = p
+stays_so s command.DrainNext raced old new text other p = p
+stays_so s command.Rollover raced old new text other p = absurd cc
 
 -- one command more, if there is one
 abbrev pub next : List ServerView → Option Command → List ℕ × ReportState → List ℕ × ReportState
@@ -62,16 +79,20 @@ module _ (s : ScriptView) where
 
   -- ---- the lines that are told
 
-  module _ (covered : IsCoveredScript s) (m : ManagerShown) (keeper : KeeperShown) (first : Scene) (begins : Begins s m first) where
-    pub told_so : (n : ℕ) (text : List ℕ) (keeper' : KeeperShown) (new : Scene) → Told m s keeper first n text keeper' new → (text ≡ (ran n).0) × Stands s.servers m.limits keeper' keeper'.seen new (ran n).1
-    told_so zero text keeper' new t = (t.0, begins_so s covered m first begins keeper keeper' new t.1)
-    told_so (suc n) text keeper' new t =
-        let kept : KeeperShown = t.3 in
-        let between : Scene = t.4 in
-        let before = told_so n t.0 kept between t.5 in
+  module _ (covered : IsCoveredScript s) (first : Stand) (begins : Begins s first.manager first.scene) where
+    pub told_so : (n : ℕ) (text : List ℕ) (new : Stand) → Told s first n text new → (text ≡ (ran n).0) × Stands s.servers new.manager.limits new.keeper new.keeper.seen new.scene (ran n).1
+    told_so zero text new t = (
+      t.0,
+      subst (λ (m : ManagerShown). Stands s.servers m.limits new.keeper new.keeper.seen new.scene (begin s)) (sym t.1.0) (begins_so s covered first.manager first.scene begins first.keeper new.keeper new.scene t.1.1),
+    )
+    told_so (suc n) text new t =
+        let between : Stand = t.3 in
+        let before = told_so n t.0 between t.4 in
         let step : List ℕ × ReportState = command_step s.servers t.2 (ran n).1 in
-        let one = exact_command t.2 (no_race_at s.commands n t.2 covered.commands t.6) m s (racing (take n s.commands)) kept keeper' between new t.1 (ran n).1 before.1 t.7 in
-        let is = ran_more n t.2 t.6 in (
-          t.8 ∙ (ap (λ x. x ++ t.1) before.0 ∙ (ap (λ x. (ran n).0 ++ x) one.0 ∙ sym (ap (λ (r : List ℕ × ReportState). r.0) is))),
-          subst (λ (r : ReportState). Stands s.servers m.limits keeper' keeper'.seen new r) (sym (ap (λ (r : List ℕ × ReportState). r.1) is)) one.1,
+        let stays = stays_so s t.2 (racing (take n s.commands)) between new t.1 (no_rollover_at s.commands n t.2 covered.rollovers t.5) t.6 in
+        let one = exact_command t.2 (no_race_at s.commands n t.2 covered.commands t.5) between.manager s (racing (take n s.commands)) between.keeper new.keeper between.scene new.scene t.1 (ran n).1 before.1 stays.1 in
+        let is = ran_more n t.2 t.5 in (
+          t.7 ∙ (ap (λ x. x ++ t.1) before.0 ∙ (ap (λ x. (ran n).0 ++ x) one.0 ∙ sym (ap (λ (r : List ℕ × ReportState). r.0) is))),
+          subst (λ (m : ManagerShown). Stands s.servers m.limits new.keeper new.keeper.seen new.scene (ran (suc n)).1) (sym stays.0)
+              (subst (λ (r : ReportState). Stands s.servers between.manager.limits new.keeper new.keeper.seen new.scene r) (sym (ap (λ (r : List ℕ × ReportState). r.1) is)) one.1),
         )

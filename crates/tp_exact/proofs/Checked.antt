@@ -30,7 +30,7 @@ Good s = All IsChecked s.servers
 
 -- ---- chains that went through
 
-went : {A B : Type 0} (r : Result A LineFault) (f : A → Result B LineFault) (y : B) → (r >>= f) ≡ Ok y → (a : A) × (r ≡ Ok a) × (f a ≡ Ok y)
+pub went : {A B : Type 0} (r : Result A LineFault) (f : A → Result B LineFault) (y : B) → (r >>= f) ≡ Ok y → (a : A) × (r ≡ Ok a) × (f a ≡ Ok y)
 went (Ok a) f y is = (a, refl, is)
 went (Err e) f y is = absurd cc
 
@@ -42,10 +42,10 @@ found : {A : Type 0} (o : Option A) (e : LineFault) (a : A) → known o e ≡ Ok
 found (Some x) e a is = let same : x ≡ a = cc in ap (λ z. Some z) same
 found None e a is = absurd cc
 
-abbrev read_as : {A : Type 0} → A → Result A LineFault
+abbrev pub read_as : {A : Type 0} → A → Result A LineFault
 read_as x = Ok x
 
-went_to : {A : Type 0} (x y : A) → read_as x ≡ Ok y → x ≡ y
+pub went_to : {A : Type 0} (x y : A) → read_as x ≡ Ok y → x ≡ y
 went_to x y is = cc
 
 ok_is : (r : Result (Unit {0}) BadRecipe) → is_ok r ≡ true → r ≡ Ok tt
@@ -120,7 +120,7 @@ module _ (ws : List (List ℕ)) (s : ScriptView) where
   abbrev of_shape : Shape → Result ScriptView LineFault
   of_shape shape = require (not (has_commands s)) fault.Order >>= λ u. in_order shape
 
-  server_good : (t : ScriptView) → server_line ws s ≡ Ok t → Good s → Good t
+  pub server_good : (t : ScriptView) → server_line ws s ≡ Ok t → Good s → Good t
   unfolding server_line
   server_good t is good =
       let shape = went (shape_at ws) of_shape t is in
@@ -180,7 +180,7 @@ module _ (name k v : List ℕ) (s : ScriptView) where
 
 -- ---- a whole line, and all lines
 
-keyword_good : (k : Keyword) (ws : List (List ℕ)) (s t : ScriptView) → keyword_line k ws s ≡ Ok t → Good s → Good t
+pub keyword_good : (k : Keyword) (ws : List (List ℕ)) (s t : ScriptView) → keyword_line k ws s ≡ Ok t → Good s → Good t
 unfolding keyword_line
 keyword_good first.Rows ws s t is good = let a = went (one ws) (λ w. rows_line w s) t is in same_good s t (rows_same a.0 s t a.2) good
 keyword_good first.Units ws s t is good = let a = went (one ws) (λ w. units_line w s) t is in same_good s t (units_same a.0 s t a.2) good

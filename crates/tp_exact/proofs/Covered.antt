@@ -47,6 +47,7 @@ module _ (m : ManagerShown) (script : ScriptView) (raced : ℕ) (keeper keeper' 
   single (command.Race plan) raceless p = absurd cc
   single command.Drain raceless p = absurd p.tells
   single command.DrainNext raceless p = absurd p.tells
+  single command.Rollover raceless p = absurd p.tells
 
 pub exact_command : ExactCommand
 exact_command (command.Client act) raceless m script raced keeper keeper' old new text s stands p = single m script raced keeper keeper' old p.0 new text s stands p.2 (command.Client act) raceless p.1
@@ -54,5 +55,6 @@ exact_command (command.Desk at act) raceless m script raced keeper keeper' old n
 exact_command (command.Balance at k) raceless m script raced keeper keeper' old new text s stands p = single m script raced keeper keeper' old p.0 new text s stands p.2 (command.Balance at k) raceless p.1
 exact_command (command.Sum k) raceless m script raced keeper keeper' old new text s stands p = single m script raced keeper keeper' old p.0 new text s stands p.2 (command.Sum k) raceless p.1
 exact_command (command.Race plan) raceless m script raced keeper keeper' old new text s stands p = absurd cc
+exact_command command.Rollover raceless m script raced keeper keeper' old new text s stands p = single m script raced keeper keeper' old p.0 new text s stands p.2 command.Rollover raceless p.1
 exact_command command.Drain raceless m script raced keeper keeper' old new text s stands p = drained script.servers orders.LeastFirst m keeper keeper' old new text s stands p
 exact_command command.DrainNext raceless m script raced keeper keeper' old new text s stands p = drained script.servers orders.InTurn m keeper keeper' old new text s stands p

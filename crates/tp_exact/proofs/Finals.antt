@@ -17,7 +17,7 @@ line_so (Some server) None = refl
 line_so None b = refl
 
 -- those of the first n servers
-lines_so : (servers : List ServerView) (desks : List PlainDesk) (n : ℕ) → final_lines servers (map (λ d. d.registers) desks) n ≡ finals_below servers desks n
+pub lines_so : (servers : List ServerView) (desks : List PlainDesk) (n : ℕ) → final_lines servers (map (λ d. d.registers) desks) n ≡ finals_below servers desks n
 unfolding finals_below
 lines_so servers desks zero = refl
 lines_so servers desks (suc n) =

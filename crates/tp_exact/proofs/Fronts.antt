@@ -4,7 +4,6 @@ use Rattle.std.specs.Prelude.{slice_get}
 use Rattle.std.specs.Io.KnownBytes.{Appends}
 use Rattle.std.proofs.lemmas.Bool.Decides.{eqb_tells}
 use Rattle.std.proofs.lemmas.List.{append-nil}
-use Rattle.tp_manager.specs.Shown.{ManagerShown}
 use Rattle.tp_report.specs.Written.{AppendsFront}
 use Rattle.tp_report.proofs.Devices.{Appends-then}
 use Rattle.tp_script.specs.Script.{ScriptView, ServerView}
@@ -22,7 +21,7 @@ front_none None bytes = (bytes, ([], refl, tt))
 front_none (Some x) bytes = (bytes, ([], refl, sym (append-nil x)))
 
 -- more could follow
-front_longer : (a b : Option (List ℕ)) (x y : List ℕ) → AppendsFront a b x → AppendsFront a b (x ++ y)
+pub front_longer : (a b : Option (List ℕ)) (x y : List ℕ) → AppendsFront a b x → AppendsFront a b (x ++ y)
 front_longer a b x y f = (f.0 ++ y, (f.1.0, ap (λ t. t ++ y) f.1.1 ∙ append_assoc f.1.0 f.0 y, f.1.2))
 
 -- something is written before it
@@ -45,36 +44,36 @@ front_lines servers registers n (suc m) few =
           (before.0 ++ one, ap (λ t. t ++ one) before.1 ∙ append_assoc (final_lines servers registers n) before.0 one)
     ]
 
-module _ (s : ScriptView) (is : IsCoveredScript s) (before after : Option (List ℕ)) (m : ManagerShown) where
-  commands_front : CommandsFront s m before after → AppendsFront before after (report_of s)
+module _ (s : ScriptView) (is : IsCoveredScript s) (before after : Option (List ℕ)) where
+  commands_front : CommandsFront s before after → AppendsFront before after (report_of s)
   commands_front f =
       let t = f.told in
-      let text = told_so s is m f.keeper f.first f.begins t.0 t.1 t.2 t.3 t.5 in
-      let rest = rest_is s t.0 t.4 in
-      subst (AppendsFront before after) (sym rest.1) (front_longer before after (ran s t.0).0 rest.0 (subst (AppendsFront before after) text.0 t.6))
+      let text = told_so s is f.first f.begins t.0 t.1 t.2 t.4 in
+      let rest = rest_is s t.0 t.3 in
+      subst (AppendsFront before after) (sym rest.1) (front_longer before after (ran s t.0).0 rest.0 (subst (AppendsFront before after) text.0 t.5))
 
-  last_front : LastFront s m before after → AppendsFront before after (report_of s)
+  last_front : LastFront s before after → AppendsFront before after (report_of s)
   last_front f =
       let p = f.performed in
       let few = front_lines s.servers p.registers f.finals.0 (final_count s) f.finals.1 in
       let these = subst (AppendsFront p.commands_done after) (sym few.1) (front_longer p.commands_done after (final_lines s.servers p.registers f.finals.0) few.0 f.finals.2) in
-      subst (AppendsFront before after) (lines_same s is m before p)
+      subst (AppendsFront before after) (lines_same s is before p)
       (front_then before p.commands_done after p.told.0 (finals_of s p.registers ++ account s is) p.told.2
       (front_longer p.commands_done after (finals_of s p.registers) (account s is) these))
 
-  closing_front : ClosingFront s m before after → AppendsFront before after (report_of s)
+  closing_front : ClosingFront s before after → AppendsFront before after (report_of s)
   closing_front f =
       let p = f.performed in
-      let last = closes_front s is m before p f.keeper' f.closed s.account f.finals_done after f.account in
-      subst (AppendsFront before after) (lines_same s is m before p)
+      let last = closes_front s is before p f.keeper' f.closed s.account f.finals_done after f.account in
+      subst (AppendsFront before after) (lines_same s is before p)
       (front_then before p.commands_done after p.told.0 (finals_of s p.registers ++ account s is) p.told.2
       (front_then p.commands_done f.finals_done after (finals_of s p.registers) (account s is) f.finals last))
 
-  some_front : (CommandsFront s m before after ⊎ (LastFront s m before after ⊎ ClosingFront s m before after)) → AppendsFront before after (report_of s)
+  some_front : (CommandsFront s before after ⊎ (LastFront s before after ⊎ ClosingFront s before after)) → AppendsFront before after (report_of s)
   some_front (inl f) = commands_front f
   some_front (inr (inl f)) = last_front f
   some_front (inr (inr f)) = closing_front f
 
 pub exact_front : ExactFront
 exact_front s before after is (inl same) = subst (λ b. AppendsFront before b (report_of s)) (sym same) (front_none before (report_of s))
-exact_front s before after is (inr t) = some_front s is before after t.0 t.1
+exact_front s before after is (inr t) = some_front s is before after t

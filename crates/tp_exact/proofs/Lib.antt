@@ -26,3 +26,8 @@ pub mod Scripts
 pub mod Fronts
 pub mod Runs
 pub mod Checked
+pub mod WorkerActs
+pub mod SessionHeads
+pub mod SessionLines
+pub mod Sessions
+pub mod HeadsChecked

@@ -5,3 +5,6 @@ pub mod Commands
 pub mod Finals
 pub mod Desks
 pub mod Script
+pub mod PlainWorkers
+pub mod PlainSession
+pub mod Sessions

@@ -2,7 +2,6 @@
 use Rattle.std.specs.Prelude.{◌≡◌, ℕ, false, List, All, Option, Result, Ok, Err}
 use Rattle.std.specs.Io.KnownBytes.{Appends, Keeps}
 use Rattle.tp_server.specs.Check.{check_of}
-use Rattle.tp_manager.specs.Shown.{ManagerShown}
 use Rattle.tp_report.specs.declared.fault.Exit.{Exit}
 use Rattle.tp_report.specs.declared.fault.Exit.TheVariants as exits
 use Rattle.tp_report.specs.declared.fault.Fault.{Fault}
@@ -10,7 +9,7 @@ use Rattle.tp_report.specs.declared.fault.Fault.TheVariants as faults
 use Rattle.tp_report.specs.Written.{AppendsFront}
 use Rattle.tp_script.specs.declared.fault.Refused.{Refused}
 use Rattle.tp_script.specs.Grammar.{script}
-use Rattle.tp_script.specs.Passes.{has_race}
+use Rattle.tp_script.specs.Passes.{has_race, has_rollover}
 use Rattle.tp_script.specs.Script.{ScriptView, ServerView}
 use Rattle.tp_perform.specs.Reported.{Reported, ReportedFront}
 use Rattle.tp_perform.specs.Whole.{Answered}
@@ -20,16 +19,17 @@ use Rattle.tp_reference.specs.PlainReport.{report_of, report_of_read}
 abbrev pub IsChecked : ServerView → Type 0
 IsChecked server = check_of server.recipe ≡ Ok tt
 
--- the scripts that this is about: there is no race in them
+-- the scripts that this is about: there is no race and no rollover in them
 pub record IsCoveredScript (s : ScriptView) : Type 0 where
   pub servers : All IsChecked s.servers
   pub commands : has_race s.commands ≡ false
+  pub rollovers : has_rollover s.commands ≡ false
 
 -- what is written of such a script is the computed report, and nothing else
 abbrev pub ExactScript : Type 0
 ExactScript =
-    (s : ScriptView) (m : ManagerShown) (before after : Option (List ℕ))
-    → IsCoveredScript s → Reported s m before after → Appends before after (report_of s)
+    (s : ScriptView) (before after : Option (List ℕ))
+    → IsCoveredScript s → Reported s before after → Appends before after (report_of s)
 
 -- and after a fault a prefix of it
 abbrev pub ExactFront : Type 0
@@ -37,10 +37,10 @@ ExactFront =
     (s : ScriptView) (before after : Option (List ℕ))
     → IsCoveredScript s → ReportedFront s before after → AppendsFront before after (report_of s)
 
--- there is no race in what was read
-abbrev pub IsRaceless : Result ScriptView Refused → Type 0
-IsRaceless (Ok s) = has_race s.commands ≡ false
-IsRaceless (Err refused) = Unit {0}
+-- there is no race and no rollover in what was read
+abbrev pub IsCoveredText : Result ScriptView Refused → Type 0
+IsCoveredText (Ok s) = (has_race s.commands ≡ false) × (has_rollover s.commands ≡ false)
+IsCoveredText (Err refused) = Unit {0}
 
 -- how the program ends: it performed the script, or refused it
 abbrev pub exit_of : Result ScriptView Refused → Exit
@@ -59,5 +59,5 @@ Computes (Err other) said before after = AppendsFront before after (report_of_re
 abbrev pub ExactRun : Type 0
 ExactRun =
     (outcome : Result Exit Fault) (bytes : List ℕ) (before after : Option (List ℕ))
-    → IsRaceless (script bytes) → Answered outcome (script bytes) before after
+    → IsCoveredText (script bytes) → Answered outcome (script bytes) before after
     → Computes outcome (script bytes) before after

@@ -5,6 +5,7 @@ ghost use Rattle.tp_exact.specs.Commands.{ExactCommand};
 ghost use Rattle.tp_exact.specs.Desks.{ExactDesk};
 ghost use Rattle.tp_exact.specs.Finals.{ExactAccount, ExactFinals};
 ghost use Rattle.tp_exact.specs.Script.{ExactFront, ExactRun, ExactScript};
+ghost use Rattle.tp_exact.specs.Sessions.{ExactLine, ExactSession, ExactSessionFront, ExactWorker};
 
 /// The line of a client's command where nobody else acts, and what the command leaves.
 pub fn exact_client()
@@ -29,15 +30,33 @@ pub fn exact_desk()
     ensures { ExactDesk }
 {}
 
-/// The report of a whole script without a race: it is the computed one, and after a fault a prefix of it.
+/// The report of a whole script without a race or a rollover: it is the computed one, and after a fault a
+/// prefix of it.
 pub fn exact_script()
     ensures whole { ExactScript }
     ensures front { ExactFront }
 {}
 
-/// What `tp_perform::run` leaves of the bytes of a script without a race, by its clause `report`: the computed
-/// report, or the line of the refusal, and after a fault a prefix of it. So it and `tp_reference::run_plain`
-/// write the same.
+/// What `tp_perform::run` leaves of the bytes of a script without a race or a rollover, by its clause
+/// `report`: the computed report, or the line of the refusal, and after a fault a prefix of it. So it and
+/// `tp_reference::run_plain` write the same.
 pub fn exact_run()
     ensures { ExactRun }
+{}
+
+/// What a live session's worker is asked: its answer, and what that leaves.
+pub fn exact_worker()
+    ensures { ExactWorker }
+{}
+
+/// A line of a live session, between two gatherings: its answer, and what it leaves.
+pub fn exact_line()
+    ensures { ExactLine }
+{}
+
+/// The answers to a whole live session without a rollover: they are the computed ones, and after a fault a
+/// prefix of them.
+pub fn exact_session()
+    ensures whole { ExactSession }
+    ensures front { ExactSessionFront }
 {}

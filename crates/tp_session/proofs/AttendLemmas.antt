@@ -1,7 +1,6 @@
 -- Line after line of a session, read and answered.
 use Rattle.std.proofs.Common.{◌≡◌, ◌∙◌, ℕ, ◌+◌, true, false, List, [], ◌∷◌, ◌++◌, Option, Some, None, Ok, refl, sym, ap, subst, arith, append-nil, append_assoc, length}
 use Rattle.std.proofs.lemmas.List.{length-append}
-use Rattle.tp_manager.specs.Shown.{ManagerShown}
 use Rattle.tp_report.specs.Written.{AppendsFront}
 use Rattle.tp_script.specs.Session.{HeadView, body_at, head_at, head_view}
 use Rattle.tp_script.specs.declared.head.Head.{Head}
@@ -98,10 +97,10 @@ head_front a b n old new w x y answers prior so_far front = record {
 
 -- ---- behind the head
 
-module _ (m : ManagerShown) (head : Head) (past : ℕ) where
+module _ (head : Head) (past : ℕ) where
   abbrev pub BodySoFar : Option (List ℕ) → Option (List ℕ) → ℕ → Live → Live → Option (List ℕ) → Option (List ℕ) → List ℕ → List ℕ → Type 0
   BodySoFar a b n old new w x answers prior =
-      BodyTold m head past [] (λ taken. Hears a taken b × (n ≡ past + length taken)) old new (λ text. Tells w x answers (prior ++ text))
+      BodyTold head past [] (λ taken. Hears a taken b × (n ≡ past + length taken)) old new (λ text. Tells w x answers (prior ++ text))
 
   pub body_none : (a : Option (List ℕ)) (old : Live) (w : Option (List ℕ)) (prior : List ℕ) → BodySoFar a a past old old w w prior prior
   body_none a old w prior = record {
@@ -115,22 +114,22 @@ module _ (m : ManagerShown) (head : Head) (past : ℕ) where
   -- a line more
   pub body_next : (a b b' b'' : Option (List ℕ)) (n : ℕ) (old mid new : Live) (w x y : Option (List ℕ)) (kept answers answers' answers'' prior : List ℕ)
       → BodySoFar a b n old mid w x answers prior → Next true b kept b' → Tells x y answers' answers → b'' ≡ b'
-      → (text : List ℕ) × (answers'' ≡ answers' ++ text) × LineTold m head (n + 1) (body_at kept (head_view head)) mid text new → BodySoFar a b'' (n + 1) old new w y answers'' prior
+      → (text : List ℕ) × (answers'' ≡ answers' ++ text) × LineTold head (n + 1) (body_at kept (head_view head)) mid text new → BodySoFar a b'' (n + 1) old new w y answers'' prior
   body_next a b b' b'' n old mid new w x y kept answers answers' answers'' prior so_far next told same answered =
-      let one = subst (λ said. LineTold m head (n + 1) said mid answered.0 new) (kept_body kept next.0 (head_view head) next.1) answered.2 in
+      let one = subst (λ said. LineTold head (n + 1) said mid answered.0 new) (kept_body kept next.0 (head_view head) next.1) answered.2 in
       let number : n + 1 ≡ past + length so_far.taken + 1 = omega (arith, so_far.heard.1) in
       record {
         taken = so_far.taken ++ next.0 ∷ [];
         heard = (subst (Hears a (so_far.taken ++ next.0 ∷ [])) (sym same) (Hears-then a b b' so_far.taken (next.0 ∷ []) so_far.heard.0 next.2), omega (arith, length-append so_far.taken (next.0 ∷ []), so_far.heard.1));
         text = so_far.text ++ answered.0;
-        lines = body_more m head past (n + 1) so_far.taken next.0 old mid new so_far.text answered.0 number so_far.lines one;
+        lines = body_more head past (n + 1) so_far.taken next.0 old mid new so_far.text answered.0 number so_far.lines one;
         told = subst (Tells w y answers'') (append_assoc prior so_far.text answered.0)
             (told_more w y answers'' answers' (prior ++ so_far.text) answered.0 answered.1 (told_then w x y answers' answers (prior ++ so_far.text) so_far.told told));
       }
 
   -- the end of the input
   pub body_end : (a b b' : Option (List ℕ)) (n : ℕ) (old new : Live) (w x y : Option (List ℕ)) (kept answers answers' prior : List ℕ)
-      → BodySoFar a b n old new w x answers prior → Next false b kept b' → Tells x y answers' answers → BodyTold m head past [] (IsAllOf a) old new (λ text. Tells w y answers' (prior ++ text))
+      → BodySoFar a b n old new w x answers prior → Next false b kept b' → Tells x y answers' answers → BodyTold head past [] (IsAllOf a) old new (λ text. Tells w y answers' (prior ++ text))
   body_end a b b' n old new w x y kept answers answers' prior so_far next told = record {
     taken = so_far.taken;
     heard = hears_all a b' so_far.taken (subst (λ ls. Hears a ls b') (append-nil so_far.taken) (Hears-then a b b' so_far.taken [] so_far.heard.0 next.0)) next.1;
@@ -141,22 +140,19 @@ module _ (m : ManagerShown) (head : Head) (past : ℕ) where
 
   -- after a fault
   pub body_front : (a b : Option (List ℕ)) (n : ℕ) (old new : Live) (w x y : Option (List ℕ)) (answers prior : List ℕ)
-      → BodySoFar a b n old new w x answers prior → AppendsFront x y answers → (last : Live) × BodyTold m head past [] (HearsFront a) old last (λ text. AppendsFront w y (prior ++ text))
-  body_front a b n old new w x y answers prior so_far front = (
-    new,
-    record {
-      taken = so_far.taken;
-      heard = hears_some a b so_far.taken so_far.heard.0;
-      text = so_far.text;
-      lines = so_far.lines;
-      told = told_front w x y answers (prior ++ so_far.text) so_far.told front;
-    },
-  )
+      → BodySoFar a b n old new w x answers prior → AppendsFront x y answers → BodyTold head past [] (HearsFront a) old new (λ text. AppendsFront w y (prior ++ text))
+  body_front a b n old new w x y answers prior so_far front = record {
+    taken = so_far.taken;
+    heard = hears_some a b so_far.taken so_far.heard.0;
+    text = so_far.text;
+    lines = so_far.lines;
+    told = told_front w x y answers (prior ++ so_far.text) so_far.told front;
+  }
 
   -- a line, and then others
   pub body_begun : (a a' : Option (List ℕ)) (Heard : Option (List ℕ) → List (List ℕ) → Type 0) (kept : List ℕ) (old mid new : Live) (answers answers' : List ℕ) (Told : List ℕ → Type 0) → a' ≡ a
-      → (text : List ℕ) × (answers' ≡ answers ++ text) × LineTold m head (past + 1) (body_at kept (head_view head)) old text mid
-      → BodyTold m head (past + 1) [] (Heard a') mid new (λ text. Told (answers' ++ text)) → BodyTold m head past (kept ∷ []) (Heard a) old new (λ text. Told (answers ++ text))
+      → (text : List ℕ) × (answers' ≡ answers ++ text) × LineTold head (past + 1) (body_at kept (head_view head)) old text mid
+      → BodyTold head (past + 1) [] (Heard a') mid new (λ text. Told (answers' ++ text)) → BodyTold head past (kept ∷ []) (Heard a) old new (λ text. Told (answers ++ text))
   body_begun a a' Heard kept old mid new answers answers' Told same one others = record {
     taken = others.taken;
     heard = subst (λ come. Heard come others.taken) same others.heard;

@@ -1,21 +1,23 @@
 -- Workers that give up what they have in hand.
-use Rattle.std.proofs.Common.{◌≡◌, ◌∙◌, None, List, [], ◌∷◌, All, map, subst, sym, ap}
+use Rattle.std.proofs.Common.{◌≡◌, ◌∙◌, ℕ, None, Option, List, [], ◌∷◌, All, map, subst, sym, ap, refl, arith, length}
 use Rattle.std.specs.List.{AllZip}
 use Rattle.std.proofs.lemmas.List.Elements.{All-cons, All-head, All-nil, All-tail}
 use Rattle.std.specs.Option.{option_map}
 use Rattle.tp_model.specs.declared.types.Work.{Work}
 use Rattle.tp_model.specs.declared.types.Ended.TheVariants as endeds
-use Rattle.tp_manager.specs.Shown.{ManagerShown}
+use Rattle.tp_manager.specs.Shown.{IsOf, ManagerShown, PassShown}
 use Rattle.tp_desk.specs.Turns.{EndsOpen}
 use Rattle.tp_workers.specs.Free.{IsFreePass}
 use Rattle.tp_report.specs.declared.answer.ServerAnswer.TheVariants as told
-use Rattle.tp_session.specs.Hands.{GivesUp, IsHand, TellsAbort}
-use Rattle.tp_session.specs.declared.hand.Hand.{Hand}
+use Rattle.tp_session.specs.Hands.{AllHold, GivesUp, Hand, IsHand, TellsAbort, hand, hands, unit_of}
 use Rattle.tp_session.specs.declared.hand.WorkerAnswer.{WorkerAnswer}
 use Rattle.tp_session.specs.declared.hand.WorkerAnswer.TheVariants.{Told}
 
+heads_tails : (a b : Option ℕ) (xs ys : List (Option ℕ)) → a ∷ xs ≡ b ∷ ys → (a ≡ b) × (xs ≡ ys)
+heads_tails a b xs ys e = (cc, cc)
+
 -- an abort of what is in hand, if there is something
-pub gives_up : (m : ManagerShown) (old new : Hand) (a : WorkerAnswer) → IsHand m old → IsHand m new → TellsAbort old a new → GivesUp old new
+pub gives_up : (m : ManagerShown) (old new : Hand) (a : WorkerAnswer) → IsHand m old → IsHand m new → TellsAbort m.limits old a new → GivesUp old new
 gives_up m old new (Told (told.Aborted element)) was is t = record {
   ends = subst (λ o. EndsOpen o old.pass new.pass) (sym (was.held ∙ ap (option_map (λ (work : Work). work.unit)) t.held)) (endeds.Aborted, t.answer);
   free = is.held ∙ ap (option_map (λ (work : Work). work.unit)) t.none_left;
@@ -35,19 +37,31 @@ gives_up m old new (Told told.NoneOpen) was is t =
     }
 gives_up m old new other was is t = absurd t
 
--- their passes are free then
-pub free_hands : (m : ManagerShown) (olds news : List Hand) → All (IsHand m) news → AllZip GivesUp olds news → All (λ (h : Hand). IsFreePass m h.pass) news
-free_hands m [] [] hold given = All-nil (λ (h : Hand). IsFreePass m h.pass)
-free_hands m [] (n ∷ news) hold given = absurd given
-free_hands m (o ∷ olds) [] hold given = absurd given
-free_hands m (o ∷ olds) (n ∷ news) hold given =
-    let own : IsHand m n = All-head (IsHand m) n news hold in
-    All-cons (λ (h : Hand). IsFreePass m h.pass) n news (record { own = own.own; free = given.0.free }) (free_hands m olds news (All-tail (IsHand m) n news hold) given.1)
+-- ---- of all workers
 
--- workers with free passes and nothing in hand
-pub hands_hold : (m : ManagerShown) (hands : List Hand) → All (IsFreePass m) (map (λ (h : Hand). h.pass) hands) → All (λ (h : Hand). h.work ≡ None) hands → All (IsHand m) hands
-hands_hold m [] free idle = All-nil (IsHand m)
-hands_hold m (h ∷ hands) free idle =
-    let own : IsFreePass m h.pass = All-head (IsFreePass m) h.pass (map (λ (x : Hand). x.pass) hands) free in
-    All-cons (IsHand m) h hands (record { own = own.own; held = own.free ∙ sym (ap (option_map (λ (work : Work). work.unit)) (All-head (λ (x : Hand). x.work ≡ None) h hands idle)) })
-    (hands_hold m hands (All-tail (IsFreePass m) h.pass (map (λ (x : Hand). x.pass) hands) free) (All-tail (λ (x : Hand). x.work ≡ None) h hands idle))
+-- each pass has the unit open that its worker has in hand
+pub hands_hold : (m : ManagerShown) (ps : List PassShown) (ws : List (Option Work)) → All (IsOf m) ps → map (λ (p : PassShown). p.open_unit) ps ≡ map unit_of ws → AllHold m ps ws
+hands_hold m [] [] own same = tt
+hands_hold m [] (w ∷ ws) own same = absurd cc
+hands_hold m (p ∷ ps) [] own same = absurd cc
+hands_hold m (p ∷ ps) (w ∷ ws) own same =
+    let parts = heads_tails p.open_unit (unit_of w) (map (λ (q : PassShown). q.open_unit) ps) (map unit_of ws) same in
+    (record { own = All-head (IsOf m) p ps own; held = parts.0 }, hands_hold m ps ws (All-tail (IsOf m) p ps own) parts.1)
+
+-- passes are free where nothing is in hand any more
+pub free_hands : (m : ManagerShown) (ps : List PassShown) (ws : List (Option Work)) (olds : List Hand) → AllHold m ps ws → AllZip GivesUp olds (hands ps ws) → All (IsFreePass m) ps
+free_hands m [] ws olds hold given = All-nil (IsFreePass m)
+free_hands m (p ∷ ps) [] olds hold given = absurd hold
+free_hands m (p ∷ ps) (w ∷ ws) [] hold given = absurd given
+free_hands m (p ∷ ps) (w ∷ ws) (o ∷ olds) hold given =
+    All-cons (IsFreePass m) p ps (record { own = hold.0.own; free = given.0.free }) (free_hands m ps ws olds hold.1 given.1)
+
+-- free passes, and workers that have nothing in hand
+pub none_in_hand : (ps : List PassShown) (ws : List (Option Work)) → length ps ≡ length ws → All (λ (p : PassShown). p.open_unit ≡ None) ps → All (λ (w : Option Work). w ≡ None) ws → map (λ (p : PassShown). p.open_unit) ps ≡ map unit_of ws
+none_in_hand [] [] long free idle = refl
+none_in_hand [] (w ∷ ws) long free idle = absurd (omega (arith, long))
+none_in_hand (p ∷ ps) [] long free idle = absurd (omega (arith, long))
+none_in_hand (p ∷ ps) (w ∷ ws) long free idle =
+    let one : p.open_unit ≡ unit_of w = All-head (λ (q : PassShown). q.open_unit ≡ None) p ps free ∙ sym (ap unit_of (All-head (λ (v : Option Work). v ≡ None) w ws idle)) in
+    ap (λ (u : Option ℕ). u ∷ map (λ (q : PassShown). q.open_unit) ps) one
+    ∙ ap (λ (us : List (Option ℕ)). unit_of w ∷ us) (none_in_hand ps ws (omega (arith, long)) (All-tail (λ (q : PassShown). q.open_unit ≡ None) p ps free) (All-tail (λ (v : Option Work). v ≡ None) w ws idle))

@@ -1,10 +1,15 @@
+pub mod ActLemmas
 pub mod AttendLemmas
 pub mod BeginLemmas
 pub mod CommandLemmas
+pub mod EndLemmas
 pub mod HandLemmas
 pub mod HeardLemmas
+pub mod LeftLemmas
 pub mod LineLemmas
+pub mod LiveLemmas
 pub mod OpenLemmas
+pub mod PassLemmas
 pub mod ReadingLemmas
 pub mod SessionLemmas
 pub mod TellLemmas

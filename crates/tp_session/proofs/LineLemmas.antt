@@ -2,7 +2,6 @@
 use Rattle.std.proofs.Common.{◌≡◌, ◌∙◌, ℕ, ◌+◌, ◌<◌, List, [], ◌∷◌, ◌++◌, Err, refl, sym, ap, subst, arith, append-nil, append_assoc, length, take, inl, inr}
 use Rattle.std.proofs.lemmas.Bool.{cases_lt, lt-leb}
 use Rattle.std.proofs.lemmas.List.{length-take, take_all}
-use Rattle.tp_manager.specs.Shown.{ManagerShown}
 use Rattle.tp_script.specs.LineWords.{◌>>=◌}
 use Rattle.tp_script.specs.Session.{HeadView, body_at, body_words, head_at, head_view, head_words, line_words}
 use Rattle.tp_script.specs.declared.fault.LineFault.TheVariants.{TooLong}
@@ -21,12 +20,12 @@ head_more past n [] line old mid new text last is so_far one =
 head_more past n (l ∷ ls) line old mid new text last is so_far one =
     (so_far.0, so_far.1 ++ last, so_far.2, so_far.3, head_more (past + 1) n ls line so_far.2 mid new so_far.1 last (omega (arith, is)) so_far.4 one, ap (λ t. t ++ last) so_far.5 ∙ append_assoc so_far.0 so_far.1 last)
 
-module _ (m : ManagerShown) (head : Head) where
+module _ (head : Head) where
   pub body_more : (past n : ℕ) (ls : List (List ℕ)) (line : List ℕ) (old mid new : Live) (text last : List ℕ) → n ≡ past + length ls + 1
-      → BodyLines m head past ls old text mid → LineTold m head n (body_at line (head_view head)) mid last new → BodyLines m head past (ls ++ line ∷ []) old (text ++ last) new
+      → BodyLines head past ls old text mid → LineTold head n (body_at line (head_view head)) mid last new → BodyLines head past (ls ++ line ∷ []) old (text ++ last) new
   body_more past n [] line old mid new text last is so_far one =
       let number : n ≡ past + 1 = omega (arith, is) in
-      (last, [], new, subst (λ k. LineTold m head k (body_at line (head_view head)) old last new) number (subst (λ l. LineTold m head n (body_at line (head_view head)) l last new) so_far.1 one), (refl, refl), ap (λ t. t ++ last) so_far.0 ∙ sym (append-nil last))
+      (last, [], new, subst (λ k. LineTold head k (body_at line (head_view head)) old last new) number (subst (λ l. LineTold head n (body_at line (head_view head)) l last new) so_far.1 one), (refl, refl), ap (λ t. t ++ last) so_far.0 ∙ sym (append-nil last))
   body_more past n (l ∷ ls) line old mid new text last is so_far one =
       (so_far.0, so_far.1 ++ last, so_far.2, so_far.3, body_more (past + 1) n ls line so_far.2 mid new so_far.1 last (omega (arith, is)) so_far.4 one, ap (λ t. t ++ last) so_far.5 ∙ append_assoc so_far.0 so_far.1 last)
 

@@ -2,7 +2,6 @@
 use Rattle.std.proofs.Common.{◌≡◌, ℕ, List, ◌++◌, Option, Some, None, sym, subst, append_assoc, append-nil, inl, inr, length}
 use Rattle.std.specs.Prelude.{IfSome}
 use Rattle.std.specs.Io.KnownBytes.{Appends}
-use Rattle.tp_manager.specs.Shown.{ManagerShown}
 use Rattle.tp_report.specs.Written.{AppendsFront}
 use Rattle.tp_report.proofs.Devices.{front_none}
 use Rattle.tp_script.specs.Session.{HeadView, head_view, no_head}
@@ -31,22 +30,22 @@ module _ (first : Option ℕ) (kept : List ℕ) (head : Head) (a b c : Option (L
   none_known None bytes read = read.1.heard
   none_known (Some past) bytes read = read.3.heard.0
 
-  pub conversed : (come left : Option (List ℕ)) → Read come left → (m : ManagerShown) × BodyWhole m head (past_of first) (begun first kept) left (λ text. Appends b c (answers ++ text))
+  pub conversed : (come left : Option (List ℕ)) → Read come left → BodyWhole head (past_of first) (begun first kept) left (λ text. Appends b c (answers ++ text))
       → IfSome come (λ bytes. Conversed bytes a c)
   conversed None left read held = tt
   conversed (Some bytes) None read held = absurd (none_known first bytes read)
   conversed (Some bytes) (Some rest) read held =
-      (held.0, session_whole bytes rest kept head held.0 (λ text. Tells a b answers text) (λ text. Appends b c (answers ++ text)) (Appends a c) (λ h t told done. told_with a b c answers h t told done) first read held.1)
+      session_whole bytes rest kept head (λ text. Tells a b answers text) (λ text. Appends b c (answers ++ text)) (Appends a c) (λ h t told done. told_with a b c answers h t told done) first read held
 
   pub conversed_front : (come left : Option (List ℕ)) → Read come left → BodyFront head (past_of first) (begun first kept) left Front → IfSome come (λ bytes. ConversedFront bytes a c)
   conversed_front None left read held = tt
   conversed_front (Some bytes) None read held = absurd (none_known first bytes read)
   conversed_front (Some bytes) (Some rest) read (inl none) =
       inl (head_view head, session_head bytes rest kept head (λ text. Tells a b answers text) Front (AppendsFront a c) (λ h t told done. told_with_front a b c answers h t told done) first read none)
-  conversed_front (Some bytes) (Some rest) read (inr (m, inl part)) =
-      inr (m, inl (session_part bytes rest kept head m (λ text. Tells a b answers text) Front (AppendsFront a c) (λ h t told done. told_with_front a b c answers h t told done) first read part))
-  conversed_front (Some bytes) (Some rest) read (inr (m, inr whole)) =
-      inr (m, inr (session_whole bytes rest kept head m (λ text. Tells a b answers text) Front (AppendsFront a c) (λ h t told done. told_with_front a b c answers h t told done) first read whole))
+  conversed_front (Some bytes) (Some rest) read (inr (inl part)) =
+      inr (inl (session_part bytes rest kept head (λ text. Tells a b answers text) Front (AppendsFront a c) (λ h t told done. told_with_front a b c answers h t told done) first read part))
+  conversed_front (Some bytes) (Some rest) read (inr (inr whole)) =
+      inr (inr (session_whole bytes rest kept head (λ text. Tells a b answers text) Front (AppendsFront a c) (λ h t told done. told_with_front a b c answers h t told done) first read whole))
 
 -- a fault in the head
 pub head_fault : (come : Option (List ℕ)) (a c : Option (List ℕ)) → (new : HeadView) × HeadTold (HearsFront come) no_head new (λ text. AppendsFront a c text) → IfSome come (λ bytes. ConversedFront bytes a c)
@@ -63,12 +62,12 @@ front_before head past before come a c prior front = inl (subst (AppendsFront a 
 pub front_nothing : (head : Head) (past : ℕ) (before : List (List ℕ)) (come a : Option (List ℕ)) (prior : List ℕ) → BodyFront head past before come (λ text. AppendsFront a a (prior ++ text))
 front_nothing head past before come a prior = front_before head past before come a a prior (front_none a prior)
 
-module _ (m : ManagerShown) (head : Head) (past : ℕ) (before : List (List ℕ)) (come a b c : Option (List ℕ)) (answers prior : List ℕ) (first last : Live) (begins : LiveBegins (head_view head) m first) where
+module _ (head : Head) (past : ℕ) (before : List (List ℕ)) (come a b c : Option (List ℕ)) (answers prior : List ℕ) (first last : Live) (begins : LiveBegins (head_view head) first) where
   -- the final lines of these servers are told too
   module _ (registers : List (List ℕ)) (ends : LiveEnds last registers) (finals : List ℕ)
       (are : final_lines (head_view head).script.servers registers (length (head_view head).script.servers) ≡ finals)
-      (told : BodyTold m head past before (IsAllOf come) first last (λ text. Tells a b answers (prior ++ text))) where
-    whole : (Wrote : List ℕ → Type 0) → ((text : List ℕ) → Tells a b answers (prior ++ text) → Wrote (text ++ finals)) → BodyWhole m head past before come Wrote
+      (told : BodyTold head past before (IsAllOf come) first last (λ text. Tells a b answers (prior ++ text))) where
+    whole : (Wrote : List ℕ → Type 0) → ((text : List ℕ) → Tells a b answers (prior ++ text) → Wrote (text ++ finals)) → BodyWhole head past before come Wrote
     whole Wrote so = record {
       first = first;
       begins = begins;
@@ -84,8 +83,8 @@ module _ (m : ManagerShown) (head : Head) (past : ℕ) (before : List (List ℕ)
       };
     }
 
-    pub body_whole : Appends b c (answers ++ finals) → BodyWhole m head past before come (λ text. Appends a c (prior ++ text))
+    pub body_whole : Appends b c (answers ++ finals) → BodyWhole head past before come (λ text. Appends a c (prior ++ text))
     body_whole done = whole (λ text. Appends a c (prior ++ text)) (λ text t. subst (Appends a c) (append_assoc prior text finals) (told_with a b c answers (prior ++ text) finals t done))
 
-    pub body_whole_front : AppendsFront b c (answers ++ finals) → BodyWhole m head past before come (λ text. AppendsFront a c (prior ++ text))
+    pub body_whole_front : AppendsFront b c (answers ++ finals) → BodyWhole head past before come (λ text. AppendsFront a c (prior ++ text))
     body_whole_front done = whole (λ text. AppendsFront a c (prior ++ text)) (λ text t. subst (AppendsFront a c) (append_assoc prior text finals) (told_with_front a b c answers (prior ++ text) finals t done))

@@ -1,6 +1,5 @@
 -- A whole session, put together from its head and what stands behind it.
 use Rattle.std.proofs.Common.{◌≡◌, ◌∙◌, ℕ, ◌+◌, List, [], ◌∷◌, ◌++◌, Option, Some, None, refl, sym, ap, subst, append-nil, append_assoc, length, take}
-use Rattle.tp_manager.specs.Shown.{ManagerShown}
 use Rattle.tp_script.specs.Session.{head_view, no_head}
 use Rattle.tp_script.specs.declared.head.Head.{Head}
 use Rattle.tp_session.specs.Conversed.{BodyPart, BodyWhole, HeadRead, Session, SessionPart}
@@ -18,9 +17,9 @@ come_all l None is = refl
 come_all l (Some bytes) is = ap (λ u. Some (u ++ bytes)) is
 
 -- the same lines, and something else of what was told
-pub body_then : (m : ManagerShown) (head : Head) (past : ℕ) (before : List (List ℕ)) (Heard Heard' : List (List ℕ) → Type 0) (old new : Live) (Told Told' : List ℕ → Type 0)
-    → ((ls : List (List ℕ)) → Heard ls → Heard' ls) → ((t : List ℕ) → Told t → Told' t) → BodyTold m head past before Heard old new Told → BodyTold m head past before Heard' old new Told'
-body_then m head past before Heard Heard' old new Told Told' also so b = record {
+pub body_then : (head : Head) (past : ℕ) (before : List (List ℕ)) (Heard Heard' : List (List ℕ) → Type 0) (old new : Live) (Told Told' : List ℕ → Type 0)
+    → ((ls : List (List ℕ)) → Heard ls → Heard' ls) → ((t : List ℕ) → Told t → Told' t) → BodyTold head past before Heard old new Told → BodyTold head past before Heard' old new Told'
+body_then head past before Heard Heard' old new Told Told' also so b = record {
   taken = b.taken;
   heard = also b.taken b.heard;
   text = b.text;
@@ -29,20 +28,20 @@ body_then m head past before Heard Heard' old new Told Told' also so b = record 
 }
 
 -- the first line by what is kept of it
-kept_first : (m : ManagerShown) (head : Head) (past : ℕ) (kept line : List ℕ) (others : List (List ℕ)) (old new : Live) (text : List ℕ) → kept ≡ take MAX_KEPT line
-    → BodyLines m head past (kept ∷ others) old text new → BodyLines m head past (line ∷ others) old text new
-kept_first m head past kept line others old new text is b =
-    (b.0, b.1, b.2, subst (λ said. LineTold m head (past + 1) said old b.0 b.2) (kept_body kept line (head_view head) is) b.3, b.4, b.5)
+kept_first : (head : Head) (past : ℕ) (kept line : List ℕ) (others : List (List ℕ)) (old new : Live) (text : List ℕ) → kept ≡ take MAX_KEPT line
+    → BodyLines head past (kept ∷ others) old text new → BodyLines head past (line ∷ others) old text new
+kept_first head past kept line others old new text is b =
+    (b.0, b.1, b.2, subst (λ said. LineTold head (past + 1) said old b.0 b.2) (kept_body kept line (head_view head) is) b.3, b.4, b.5)
 
 -- no front of nothing
 no_front : (xs ys : List (List ℕ)) → xs ++ ys ≡ [] → xs ≡ []
 no_front [] ys is = refl
 no_front (x ∷ xs) ys is = absurd cc
 
-module _ (bytes rest kept : List ℕ) (head : Head) (m : ManagerShown) (HeadDone Done Wrote : List ℕ → Type 0) (both : (h t : List ℕ) → HeadDone h → Done t → Wrote (h ++ t)) where
+module _ (bytes rest kept : List ℕ) (head : Head) (HeadDone Done Wrote : List ℕ → Type 0) (both : (h t : List ℕ) → HeadDone h → Done t → Wrote (h ++ t)) where
   -- all of it
   pub session_whole : (first : Option ℕ) → HeadRead first (Some bytes) (Some rest) kept no_head (head_view head) HeadDone
-      → BodyWhole m head (past_of first) (begun first kept) (Some rest) Done → Session bytes m Wrote
+      → BodyWhole head (past_of first) (begun first kept) (Some rest) Done → Session bytes Wrote
   session_whole None read whole =
       let none : whole.body.taken ≡ [] = sym whole.body.heard ∙ read.0 in
       record {
@@ -57,7 +56,7 @@ module _ (bytes rest kept : List ℕ) (head : Head) (m : ManagerShown) (HeadDone
         begins = whole.begins;
         text = whole.body.text;
         last = whole.last;
-        body = subst (λ ls. BodyLines m head 0 ls whole.first whole.body.text whole.last) none whole.body.lines;
+        body = subst (λ ls. BodyLines head 0 ls whole.first whole.body.text whole.last) none whole.body.lines;
         registers = whole.registers;
         ends = whole.ends;
         told = both read.1.text _ read.1.told whole.body.told;
@@ -74,7 +73,7 @@ module _ (bytes rest kept : List ℕ) (head : Head) (m : ManagerShown) (HeadDone
     begins = whole.begins;
     text = whole.body.text;
     last = whole.last;
-    body = kept_first m head (length read.3.taken) kept read.0 whole.body.taken whole.first whole.last whole.body.text read.1 (subst (λ n. BodyLines m head n (kept ∷ whole.body.taken) whole.first whole.body.text whole.last) (sym read.3.heard.1) whole.body.lines);
+    body = kept_first head (length read.3.taken) kept read.0 whole.body.taken whole.first whole.last whole.body.text read.1 (subst (λ n. BodyLines head n (kept ∷ whole.body.taken) whole.first whole.body.text whole.last) (sym read.3.heard.1) whole.body.lines);
     registers = whole.registers;
     ends = whole.ends;
     told = both read.3.text _ read.3.told whole.body.told;
@@ -82,7 +81,7 @@ module _ (bytes rest kept : List ℕ) (head : Head) (m : ManagerShown) (HeadDone
 
   -- some of it
   pub session_part : (first : Option ℕ) → HeadRead first (Some bytes) (Some rest) kept no_head (head_view head) HeadDone
-      → BodyPart m head (past_of first) (begun first kept) (Some rest) Done → SessionPart bytes m Wrote
+      → BodyPart head (past_of first) (begun first kept) (Some rest) Done → SessionPart bytes Wrote
   session_part None read part =
       let none : part.body.taken ≡ [] = no_front part.body.taken part.body.heard.0 (sym part.body.heard.1 ∙ read.0) in
       record {
@@ -98,7 +97,7 @@ module _ (bytes rest kept : List ℕ) (head : Head) (m : ManagerShown) (HeadDone
         begins = part.begins;
         text = part.body.text;
         last = part.last;
-        body = subst (λ ls. BodyLines m head 0 ls part.first part.body.text part.last) none part.body.lines;
+        body = subst (λ ls. BodyLines head 0 ls part.first part.body.text part.last) none part.body.lines;
         told = both read.1.text part.body.text read.1.told part.body.told;
       }
   session_part (Some past) read part = record {
@@ -114,7 +113,7 @@ module _ (bytes rest kept : List ℕ) (head : Head) (m : ManagerShown) (HeadDone
     begins = part.begins;
     text = part.body.text;
     last = part.last;
-    body = kept_first m head (length read.3.taken) kept read.0 part.body.taken part.first part.last part.body.text read.1 (subst (λ n. BodyLines m head n (kept ∷ part.body.taken) part.first part.body.text part.last) (sym read.3.heard.1) part.body.lines);
+    body = kept_first head (length read.3.taken) kept read.0 part.body.taken part.first part.last part.body.text read.1 (subst (λ n. BodyLines head n (kept ∷ part.body.taken) part.first part.body.text part.last) (sym read.3.heard.1) part.body.lines);
     told = both read.3.text part.body.text read.3.told part.body.told;
   }
 

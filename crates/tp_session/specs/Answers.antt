@@ -11,10 +11,6 @@ use Rattle.tp_session.specs.declared.hand.WorkerAnswer.TheVariants.{Took, Told}
 abbrev pub refused_line : ℕ → LineFault → List ℕ
 refused_line number fault = codes "refused line " <> decimal number <> codes ": " <> fault_text fault <> codes "\n"
 
--- the line of an account while a unit of work is open
-abbrev pub busy_line : List ℕ
-busy_line = codes "refused 11 Busy\n"
-
 -- all words of a body
 abbrev pub body_text : List ℕ → List ℕ
 body_text body = decimal (slice_index body 0) <> codes ":" <> decimal (slice_index body 1) <> codes ":" <> decimal (slice_index body 2) <> codes ":" <> decimal (slice_index body 3)

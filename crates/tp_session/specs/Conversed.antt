@@ -5,8 +5,12 @@ use Rattle.std.specs.List.{AllZip}
 use Rattle.std.specs.Io.KnownBytes.{Appends}
 use Rattle.tp_model.specs.declared.types.Limits.{Limits}
 use Rattle.tp_server.specs.Behaviour.{behaviour_of}
-use Rattle.tp_manager.specs.Accounts.{AreNumberedFrom}
-use Rattle.tp_manager.specs.Shown.{ManagerShown, PassShown}
+use Rattle.tp_model.specs.declared.types.Work.{Work}
+use Rattle.tp_manager.specs.Accounts.{AreAll}
+use Rattle.tp_manager.specs.Shown.{PassShown}
+use Rattle.tp_rollover.specs.Faults.{AreFree}
+use Rattle.tp_rollover.specs.Managed.{IsManaged, IsNewPass}
+use Rattle.tp_rollover.specs.declared.managed.Managed.{Managed}
 use Rattle.tp_workers.specs.Free.{IsFreePass}
 use Rattle.tp_report.specs.Written.{AppendsFront}
 use Rattle.tp_report.specs.declared.fault.Exit.{Exit}
@@ -18,12 +22,12 @@ use Rattle.tp_script.specs.declared.head.Act.{Act}
 use Rattle.tp_script.specs.declared.head.Head.{Head}
 use Rattle.tp_commands.specs.Acting.{AllEnded, IsSteadyPlace}
 use Rattle.tp_perform.specs.Ending.{final_lines}
-use Rattle.tp_perform.specs.Reported.{IsNewPass, IsNewPlace}
-use Rattle.tp_session.specs.Hands.{GivesUp}
+use Rattle.tp_perform.specs.Reported.{IsNewPlace}
+use Rattle.tp_perform.specs.Scenes.{Stand, passes_in}
+use Rattle.tp_session.specs.Hands.{GivesUp, hands}
 use Rattle.tp_session.specs.Heard.{Hears, HearsFront, IsAllOf, IsSilent, heard}
 use Rattle.tp_session.specs.Live.{Live}
 use Rattle.tp_session.specs.Told.{BodyLines, BodyTold, HeadLine, HeadLines, HeadTold}
-use Rattle.tp_session.specs.declared.hand.Hand.{Hand}
 use Rattle.tp_session.specs.declared.reading.TheConstants.{MAX_KEPT}
 
 -- ---- the head
@@ -61,31 +65,34 @@ limits_of h = record {
   spare = h.script.settings.spare;
 }
 
--- all passes
-abbrev pub passes_in : Live → List PassShown
-passes_in l = l.client ∷ (map (λ p. p.desk.pass) l.places ++ map (λ h. h.pass) l.hands)
+-- a new manager with these limits, and all its passes, in order of number: none of them has done anything
+pub record IsNew (l : Limits) (s : Stand) : Type 0 where
+  pub limits : s.manager.limits ≡ l
+  pub many : length (passes_in s.scene) ≡ l.parts
+  pub all : AreAll s.keeper (passes_in s.scene)
+  pub seen : s.keeper.seen ≡ []
+  pub own : All (IsFreePass s.manager) (passes_in s.scene)
+  pub new : All IsNewPass (passes_in s.scene)
 
--- passes of a new manager, in order of number, and workers that have nothing in hand
-pub record AreNewPasses (m : ManagerShown) (client : PassShown) (passes : List PassShown) (hands : List Hand)
-    : Type 0 where
-  pub numbered : AreNumberedFrom 0 (client ∷ (passes ++ map (λ h. h.pass) hands))
-  pub own : All (IsFreePass m) (client ∷ (passes ++ map (λ h. h.pass) hands))
-  pub new : All IsNewPass (client ∷ (passes ++ map (λ h. h.pass) hands))
-  pub idle : All (λ hand. hand.work ≡ None) hands
+-- the same in memory
+pub record IsNewManaged (l : Limits) (m : Managed) : Type 0 where
+  pub managed : IsManaged m
+  pub limits : m.manager.limits ≡ l
+  pub seen : m.keeper.seen ≡ []
+  pub free : AreFree m.passes.items
+  pub new : All IsNewPass m.passes.items
 
--- what is there before the first command: a new manager's passes, in order of number, new desks, of which each
--- has the recipe and the registers of its line, and workers that have nothing in hand
-pub record LiveBegins (h : HeadView) (m : ManagerShown) (first : Live) : Type 0 where
-  pub limits : m.limits ≡ limits_of h
-  pub many : length (passes_in first) ≡ m.limits.parts
-  pub numbered : AreNumberedFrom 0 (passes_in first)
-  pub own : All (IsFreePass m) (passes_in first)
-  pub new : All IsNewPass (passes_in first)
-  pub desks : All IsNewPlace first.places
-  pub recipes : map (λ p. p.desk.behaviour) first.places ≡ map (λ x. behaviour_of x.recipe) h.script.servers
-  pub registers : map (λ p. p.desk.registers) first.places ≡ map (λ x. x.registers) h.script.servers
-  pub each : length first.hands ≡ length h.workers
-  pub idle : All (λ hand. hand.work ≡ None) first.hands
+-- what is there before the first command: a new manager, new desks, of which each has the recipe and the
+-- registers of its line, and workers that have nothing in hand
+pub record LiveBegins (h : HeadView) (first : Live) : Type 0 where
+  pub new : IsNew (limits_of h) first.stand
+  pub desks : All IsNewPlace first.stand.scene.places
+  pub recipes :
+      map (λ p. p.desk.behaviour) first.stand.scene.places ≡ map (λ x. behaviour_of x.recipe) h.script.servers
+  pub registers :
+      map (λ p. p.desk.registers) first.stand.scene.places ≡ map (λ x. x.registers) h.script.servers
+  pub each_worker : length first.works ≡ length h.workers
+  pub idle : All (λ work. work ≡ None) first.works
 
 -- ---- the end
 
@@ -93,10 +100,11 @@ pub record LiveBegins (h : HeadView) (m : ManagerShown) (first : Live) : Type 0 
 -- of what each desk has committed since it began
 pub record LiveEnds (last : Live) (registers : List (List ℕ)) : Type 0 where
   pub passes : List PassShown
-  pub ended : AllEnded last.places passes registers
-  pub steady : All IsSteadyPlace last.places
-  pub hands : List Hand
-  pub given_up : AllZip GivesUp last.hands hands
+  pub ended : AllEnded last.stand.scene.places passes registers
+  pub steady : All IsSteadyPlace last.stand.scene.places
+  pub workers : List PassShown
+  pub works : List (Option Work)
+  pub given_up : AllZip GivesUp (hands last.stand.scene.racers last.works) (hands workers works)
 
 -- the final lines: one for each server of the head, with the registers that are left
 abbrev pub finals_of : HeadView → List (List ℕ) → List ℕ
@@ -106,28 +114,28 @@ finals_of h registers = final_lines h.script.servers registers (length h.script.
 
 -- All lines behind the head were answered, the final lines are those of the registers that are left, and all
 -- of that was told.
-pub record BodyWhole (m : ManagerShown) (head : Head) (past : ℕ) (begun : List (List ℕ))
-    (come : Option (List ℕ)) (Told : List ℕ → Type 0) : Type 0 where
+pub record BodyWhole (head : Head) (past : ℕ) (begun : List (List ℕ)) (come : Option (List ℕ))
+    (Told : List ℕ → Type 0) : Type 0 where
   pub first : Live
-  pub begins : LiveBegins (head_view head) m first
+  pub begins : LiveBegins (head_view head) first
   pub last : Live
   pub registers : List (List ℕ)
   pub ends : LiveEnds last registers
-  pub body : BodyTold m head past begun (IsAllOf come) first last
+  pub body : BodyTold head past begun (IsAllOf come) first last
       (λ text. Told (text ++ finals_of (head_view head) registers))
 
 -- some of them were, and this was told
-pub record BodyPart (m : ManagerShown) (head : Head) (past : ℕ) (begun : List (List ℕ))
-    (come : Option (List ℕ)) (Told : List ℕ → Type 0) : Type 0 where
+pub record BodyPart (head : Head) (past : ℕ) (begun : List (List ℕ)) (come : Option (List ℕ))
+    (Told : List ℕ → Type 0) : Type 0 where
   pub first : Live
-  pub begins : LiveBegins (head_view head) m first
+  pub begins : LiveBegins (head_view head) first
   pub last : Live
-  pub body : BodyTold m head past begun (HearsFront come) first last Told
+  pub body : BodyTold head past begun (HearsFront come) first last Told
 
 -- after a fault: nothing more was told than before, or a front of that
 abbrev pub BodyFront : Head → ℕ → List (List ℕ) → Option (List ℕ) → (List ℕ → Type 0) → Type 0
-BodyFront head past begun come Told = Told [] ⊎ ((m : ManagerShown)
-    × (BodyPart m head past begun come Told ⊎ BodyWhole m head past begun come Told))
+BodyFront head past begun come Told =
+    Told [] ⊎ (BodyPart head past begun come Told ⊎ BodyWhole head past begun come Told)
 
 -- ---- a whole session
 
@@ -138,7 +146,7 @@ BeginsBody (line ∷ others) head = IsCommand line head
 
 -- The lines of the bytes are those of the head and those behind it, of which the first is a command. Each is
 -- answered, in order, and behind the answers are the final lines. Told says of the text what became of it.
-pub record Session (bytes : List ℕ) (m : ManagerShown) (Told : List ℕ → Type 0) : Type 0 where
+pub record Session (bytes : List ℕ) (Told : List ℕ → Type 0) : Type 0 where
   pub head : Head
   pub taken : List (List ℕ)
   pub head_text : List ℕ
@@ -147,16 +155,16 @@ pub record Session (bytes : List ℕ) (m : ManagerShown) (Told : List ℕ → Ty
   pub lines_are : heard bytes ≡ taken ++ behind
   pub command : BeginsBody behind (head_view head)
   pub first : Live
-  pub begins : LiveBegins (head_view head) m first
+  pub begins : LiveBegins (head_view head) first
   pub text : List ℕ
   pub last : Live
-  pub body : BodyLines m head (length taken) behind first text last
+  pub body : BodyLines head (length taken) behind first text last
   pub registers : List (List ℕ)
   pub ends : LiveEnds last registers
   pub told : Told (head_text ++ (text ++ finals_of (head_view head) registers))
 
 -- the same of some lines, and without the final ones
-pub record SessionPart (bytes : List ℕ) (m : ManagerShown) (Told : List ℕ → Type 0) : Type 0 where
+pub record SessionPart (bytes : List ℕ) (Told : List ℕ → Type 0) : Type 0 where
   pub head : Head
   pub taken : List (List ℕ)
   pub head_text : List ℕ
@@ -166,23 +174,22 @@ pub record SessionPart (bytes : List ℕ) (m : ManagerShown) (Told : List ℕ �
   pub lines_are : heard bytes ≡ taken ++ (behind ++ others)
   pub command : BeginsBody behind (head_view head)
   pub first : Live
-  pub begins : LiveBegins (head_view head) m first
+  pub begins : LiveBegins (head_view head) first
   pub text : List ℕ
   pub last : Live
-  pub body : BodyLines m head (length taken) behind first text last
+  pub body : BodyLines head (length taken) behind first text last
   pub told : Told (head_text ++ text)
 
 -- a whole session was answered, and its answers and final lines written
 abbrev pub Conversed : List ℕ → Option (List ℕ) → Option (List ℕ) → Type 0
-Conversed bytes before after = (m : ManagerShown) × Session bytes m (Appends before after)
+Conversed bytes before after = Session bytes (Appends before after)
 
 -- After a fault a front of the answers to some first lines is written: to lines of the head, to some behind it
 -- too, or to all, with the final lines.
 abbrev pub ConversedFront : List ℕ → Option (List ℕ) → Option (List ℕ) → Type 0
 ConversedFront bytes before after =
     ((head : HeadView) × HeadTold (HearsFront (Some bytes)) no_head head (AppendsFront before after))
-    ⊎ ((m : ManagerShown) × (SessionPart bytes m (AppendsFront before after)
-    ⊎ Session bytes m (AppendsFront before after)))
+    ⊎ (SessionPart bytes (AppendsFront before after) ⊎ Session bytes (AppendsFront before after))
 
 -- by how the program ended
 abbrev pub ConversedAs : Result Exit Fault → List ℕ → Option (List ℕ) → Option (List ℕ) → Type 0

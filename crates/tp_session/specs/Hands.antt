@@ -1,6 +1,6 @@
 -- What a worker outside of the program is answered, and what its pass did for it. `old` is what is in its hand
 -- before the command, and `new` what is in it after.
-use Rattle.std.specs.Prelude.{◌≡◌, ℕ, List, Some, None, IsSome}
+use Rattle.std.specs.Prelude.{◌≡◌, ℕ, List, [], ◌∷◌, Option, Some, None, IsSome, length}
 use Rattle.std.specs.Option.{option_map}
 use Rattle.tp_model.specs.Drafts.{DraftView}
 use Rattle.tp_model.specs.declared.types.Claimed.TheVariants as claimeds
@@ -10,32 +10,59 @@ use Rattle.tp_model.specs.declared.types.Limits.{Limits}
 use Rattle.tp_model.specs.declared.types.Outcome.{Outcome}
 use Rattle.tp_model.specs.declared.types.Refusal.TheVariants as refusals
 use Rattle.tp_model.specs.declared.types.Work.{Work}
+use Rattle.tp_commands.specs.Asked.{Called}
+use Rattle.tp_manager.specs.Bounds.{abort_steps, claim_id_steps, claim_steps, commit_steps}
 use Rattle.tp_manager.specs.Calls.{AnswersAbort, Claims, Settles}
 use Rattle.tp_manager.specs.Given.{ClaimIdFails, TakesId}
-use Rattle.tp_manager.specs.Shown.{IsOf, ManagerShown}
+use Rattle.tp_manager.specs.Shown.{IsOf, ManagerShown, PassShown}
 use Rattle.tp_desk.specs.Turns.{EndsOpen, settled}
 use Rattle.tp_desk.specs.declared.turned.Turned.TheVariants as turneds
 use Rattle.tp_report.specs.declared.answer.ServerAnswer.TheVariants as told
 use Rattle.tp_script.specs.declared.head.WorkerAct.{WorkerAct}
 use Rattle.tp_script.specs.declared.head.WorkerAct.TheVariants as acts
-use Rattle.tp_session.specs.declared.hand.Hand.{Hand}
 use Rattle.tp_session.specs.declared.hand.WorkerAnswer.{WorkerAnswer}
 use Rattle.tp_session.specs.declared.hand.WorkerAnswer.TheVariants.{Took, Told}
+
+-- a worker's pass, and the work that it has in hand
+pub record Hand : Type 0 where
+  pub pass : PassShown
+  pub work : Option Work
+
+abbrev pub hand : PassShown → Option Work → Hand
+hand pass work = record { pass = pass; work = work }
+
+-- those of all workers
+abbrev pub hands : List PassShown → List (Option Work) → List Hand
+hands (p ∷ ps) (w ∷ ws) = hand p w ∷ hands ps ws
+hands ps ws = []
+
+-- the unit of what is in hand
+abbrev pub unit_of : Option Work → Option ℕ
+unit_of work = option_map (λ w. w.unit) work
 
 -- the pass is of this manager, and the work in hand is of the unit that it has open
 pub record IsHand (m : ManagerShown) (h : Hand) : Type 0 where
   pub own : IsOf m h.pass
-  pub held : h.pass.open_unit ≡ option_map (λ work. work.unit) h.work
+  pub held : h.pass.open_unit ≡ unit_of h.work
+
+-- so it is of each worker, for lists that are as long as each other
+abbrev pub AllHold : ManagerShown → List PassShown → List (Option Work) → Type 0
+AllHold m [] [] = Unit {0}
+AllHold m [] (w ∷ ws) = ⊥
+AllHold m (p ∷ ps) [] = ⊥
+AllHold m (p ∷ ps) (w ∷ ws) = IsHand m (hand p w) × AllHold m ps ws
 
 -- a claim from the worker's stage that took this
 pub record ClaimTook (l : Limits) (stage : ℕ) (work : Work) (old new : Hand) : Type 0 where
   pub idle : old.work ≡ None
+  pub called : Called l (claim_steps l) old.pass new.pass
   pub answer : Claims l stage old.pass new.pass (claimeds.Work work)
   pub held : new.work ≡ Some work
 
--- a claim that took nothing
-pub record TookNothing (Answers : Type 0) (old new : Hand) : Type 0 where
+-- a claim of at most n steps that took nothing
+pub record TookNothing (l : Limits) (n : ℕ) (Answers : Type 0) (old new : Hand) : Type 0 where
   pub idle : old.work ≡ None
+  pub called : Called l n old.pass new.pass
   pub answer : Answers
   pub held : new.work ≡ None
 
@@ -50,59 +77,64 @@ IsIdle old new = (old.work ≡ None) × (new ≡ old)
 abbrev pub TellsClaim : Limits → ℕ → Hand → WorkerAnswer → Hand → Type 0
 TellsClaim l stage old (Took work) new = ClaimTook l stage work old new
 TellsClaim l stage old (Told (told.Turned turneds.Idle)) new =
-    TookNothing (Claims l stage old.pass new.pass claimeds.Idle) old new
+    TookNothing l (claim_steps l) (Claims l stage old.pass new.pass claimeds.Idle) old new
 TellsClaim l stage old (Told (told.Turned turneds.NoUnit)) new =
-    TookNothing (Claims l stage old.pass new.pass claimeds.NoUnit) old new
+    TookNothing l (claim_steps l) (Claims l stage old.pass new.pass claimeds.NoUnit) old new
 TellsClaim l stage old (Told told.Busy) new = IsBusy old new
 TellsClaim l stage old other new = ⊥
 
 -- a claim of the element with this id that took it
 pub record TakeTook (l : Limits) (id : ℕ) (work : Work) (old new : Hand) : Type 0 where
   pub idle : old.work ≡ None
+  pub called : Called l claim_id_steps old.pass new.pass
   pub answer : TakesId l id work old.pass new.pass
   pub held : new.work ≡ Some work
 
 abbrev pub TellsTake : Limits → ℕ → Hand → WorkerAnswer → Hand → Type 0
 TellsTake l id old (Took work) new = TakeTook l id work old new
 TellsTake l id old (Told (told.Turned turneds.NoUnit)) new =
-    TookNothing (ClaimIdFails l id old.pass new.pass refusals.NoUnit) old new
+    TookNothing l claim_id_steps (ClaimIdFails l id old.pass new.pass refusals.NoUnit) old new
+TellsTake l id old (Told (told.NotTaken element refusals.NoUnit)) new = ⊥
 TellsTake l id old (Told (told.NotTaken element why)) new =
-    (element ≡ id) × TookNothing (ClaimIdFails l id old.pass new.pass why) old new
+    (element ≡ id) × TookNothing l claim_id_steps (ClaimIdFails l id old.pass new.pass why) old new
 TellsTake l id old (Told told.Busy) new = IsBusy old new
 TellsTake l id old other new = ⊥
 
 -- the work in hand was committed with just these drafts, which came to this
-pub record CommitsHand (drafts : List DraftView) (outcome : Outcome) (work : Work) (old new : Hand) : Type 0 where
+pub record CommitsHand (l : Limits) (drafts : List DraftView) (outcome : Outcome) (work : Work) (old new : Hand)
+    : Type 0 where
   pub held : old.work ≡ Some work
+  pub called : Called l (commit_steps l (length drafts)) old.pass new.pass
   pub answer : Settles drafts old.pass new.pass outcome
   pub none_left : new.work ≡ None
 
-abbrev pub TellsCommit : List DraftView → Hand → WorkerAnswer → Hand → Type 0
-TellsCommit drafts old (Told (told.Turned turned)) new = (work : Work) × (outcome : Outcome)
-    × CommitsHand drafts outcome work old new × (turned ≡ settled work outcome)
-TellsCommit drafts old (Told told.NoneOpen) new = IsIdle old new
-TellsCommit drafts old other new = ⊥
+abbrev pub TellsCommit : Limits → List DraftView → Hand → WorkerAnswer → Hand → Type 0
+TellsCommit l drafts old (Told (told.Turned turned)) new = (work : Work) × (outcome : Outcome)
+    × CommitsHand l drafts outcome work old new × (turned ≡ settled work outcome)
+TellsCommit l drafts old (Told told.NoneOpen) new = IsIdle old new
+TellsCommit l drafts old other new = ⊥
 
 -- the work in hand was given up
-pub record AbortsHand (ended : Ended) (element : ℕ) (old new : Hand) : Type 0 where
+pub record AbortsHand (l : Limits) (ended : Ended) (element : ℕ) (old new : Hand) : Type 0 where
   pub work : Work
   pub held : old.work ≡ Some work
+  pub called : Called l abort_steps old.pass new.pass
   pub element_is : element ≡ work.element.id
   pub answer : AnswersAbort old.pass new.pass ended
   pub none_left : new.work ≡ None
 
-abbrev pub TellsAbort : Hand → WorkerAnswer → Hand → Type 0
-TellsAbort old (Told (told.Aborted element)) new = AbortsHand endeds.Aborted element old new
-TellsAbort old (Told (told.AlreadyAborted element)) new = AbortsHand endeds.AlreadyAborted element old new
-TellsAbort old (Told told.NoneOpen) new = IsIdle old new
-TellsAbort old other new = ⊥
+abbrev pub TellsAbort : Limits → Hand → WorkerAnswer → Hand → Type 0
+TellsAbort l old (Told (told.Aborted element)) new = AbortsHand l endeds.Aborted element old new
+TellsAbort l old (Told (told.AlreadyAborted element)) new = AbortsHand l endeds.AlreadyAborted element old new
+TellsAbort l old (Told told.NoneOpen) new = IsIdle old new
+TellsAbort l old other new = ⊥
 
 -- what a worker of a stage was asked
 abbrev pub WorkerDoes : Limits → ℕ → WorkerAct → Hand → WorkerAnswer → Hand → Type 0
 WorkerDoes l stage acts.Claim old a new = TellsClaim l stage old a new
 WorkerDoes l stage (acts.Take id) old a new = TellsTake l id old a new
-WorkerDoes l stage (acts.Commit drafts) old a new = TellsCommit drafts.items old a new
-WorkerDoes l stage acts.Abort old a new = TellsAbort old a new
+WorkerDoes l stage (acts.Commit drafts) old a new = TellsCommit l drafts.items old a new
+WorkerDoes l stage acts.Abort old a new = TellsAbort l old a new
 
 -- the worker gave up what it had in hand
 pub record GivesUp (old new : Hand) : Type 0 where

@@ -1,108 +1,150 @@
 -- What the lines of a session are told.
-use Rattle.std.specs.Prelude.{◌≡◌, ◌||◌, ℕ, Bool, true, false, List, Option, Some, IfSome, is_some}
+use Rattle.std.specs.Prelude.{◌≡◌, ◌+◌, ◌||◌, ℕ, Bool, true, false, List, Option, Some, is_some, length, map}
 use Rattle.std.specs.Prelude.{slice_get, slice_set, string_bytes}
 use Rattle.std.specs.List.{list_any}
-use Rattle.tp_manager.specs.Shown.{ManagerShown, PassShown}
-use Rattle.tp_model.specs.Steps.{rows_of}
-use Rattle.tp_report.specs.Answer.{account_text, answer_text, line, named_text}
-use Rattle.tp_report.specs.declared.answer.Answer.TheVariants as answer
-use Rattle.tp_report.specs.declared.answer.ServerAnswer.{ServerAnswer}
-use Rattle.tp_script.specs.declared.head.Act.{Act}
-use Rattle.tp_script.specs.declared.head.Act.TheVariants as acts
-use Rattle.tp_script.specs.declared.head.WorkerAct.{WorkerAct}
-use Rattle.tp_script.specs.declared.head.WorkerLine.{WorkerLine}
-use Rattle.tp_script.specs.declared.script.ClientAct.{ClientAct}
-use Rattle.tp_script.specs.declared.script.DeskAct.{DeskAct}
-use Rattle.tp_script.specs.declared.script.ScriptServer.{ScriptServer}
 use Rattle.std.specs.declared.alloc.Global.{Global}
 use Rattle.std.specs.declared.dyn_box.DynBox.{DynBox}
+use Rattle.tp_model.specs.Steps.{rows_of}
+use Rattle.tp_model.specs.declared.types.Work.{Work}
 use Rattle.tp_server.specs.Behaviour.{Behaviour}
 use Rattle.tp_server.specs.Pending.{Pending}
-use Rattle.tp_commands.specs.declared.place.Place.{Place}
-use Rattle.tp_commands.specs.Acting.{DoesIn, PlaceShown, places_shown}
-use Rattle.tp_commands.specs.Asked.{FoundLine, TellsClient, TellsCount}
-use Rattle.tp_commands.specs.Registers.{TellsBalance, register_sum}
-use Rattle.tp_session.specs.Answers.{busy_line, worker_line}
-use Rattle.tp_session.specs.Hands.{WorkerDoes}
-use Rattle.tp_session.specs.declared.hand.Hand.{Hand}
+use Rattle.tp_manager.specs.Shown.{ManagerShown, PassShown}
+use Rattle.tp_rollover.specs.Managed.{IsManaged}
+use Rattle.tp_report.specs.Answer.{account_text, answer_text, line}
+use Rattle.tp_report.specs.declared.answer.Answer.TheVariants as answer
+use Rattle.tp_script.specs.Passes.{is_rollover}
+use Rattle.tp_script.specs.Script.{ScriptView, script_view}
+use Rattle.tp_script.specs.declared.head.Act.{Act}
+use Rattle.tp_script.specs.declared.head.Act.TheVariants as acts
+use Rattle.tp_script.specs.declared.head.Head.{Head}
+use Rattle.tp_script.specs.declared.head.WorkerAct.{WorkerAct}
+use Rattle.tp_script.specs.declared.head.WorkerLine.{WorkerLine}
+use Rattle.tp_script.specs.declared.script.Command.{Command}
+use Rattle.tp_commands.specs.Asked.{FoundLine, TellsCount}
+use Rattle.tp_perform.specs.Rollover.{RollsOn}
+use Rattle.tp_perform.specs.Scenes.{Gathered, Stand}
+use Rattle.tp_perform.specs.Told.{AreReady, IsScene, PerformsAll, units_held}
+use Rattle.tp_session.specs.Answers.{worker_line}
+use Rattle.tp_session.specs.Hands.{Hand, WorkerDoes, unit_of}
 use Rattle.tp_session.specs.declared.hand.WorkerAnswer.{WorkerAnswer}
+use Rattle.tp_session.specs.declared.held.Held.{Held}
 
--- what is there between two lines: the client's pass, the desks of the servers, and what the workers have in
--- hand
+-- what is there between two lines: the manager with its keeper and all passes, of which those of the workers
+-- come last, and what each worker has in hand
 pub record Live : Type 0 where
-  pub client : PassShown
-  pub places : List PlaceShown
-  pub hands : List Hand
-
-module _ {X : Type 0} {F : X → Type 0} (behaviour : DynBox X Global F → Behaviour)
-    (registers : DynBox X Global F → List ℕ) (pending : DynBox X Global F → Option Pending) where
-  abbrev pub live : PassShown → List PassShown → List (DynBox X Global F) → List (Place X F) → List Hand
-      → Live
-  live client passes servers places hands = record {
-    client = client;
-    places = places_shown behaviour registers pending passes servers places;
-    hands = hands;
-  }
+  pub stand : Stand
+  pub works : List (Option Work)
 
 -- whether a unit of work is open: one of a desk or of a worker
 abbrev pub is_open : Live → Bool
-is_open l = list_any (λ h. is_some h.work) l.hands || list_any (λ p. is_some p.desk.work) l.places
+is_open l = list_any is_some l.works || list_any (λ p. is_some p.desk.work) l.stand.scene.places
 
--- the line tells what the client did, and nothing else has changed
-pub record ClientTold (m : ManagerShown) (act : ClientAct) (old : Live) (text : List ℕ) (new : Live) : Type 0 where
-  pub tells : TellsClient m.limits act old.client text new.client
-  pub places : new.places ≡ old.places
-  pub hands : new.hands ≡ old.hands
+-- all passes have gathered, and nothing else was done
+pub record LiveGathers (old new : Live) : Type 0 where
+  pub manager : new.stand.manager ≡ old.stand.manager
+  pub gathered : Gathered old.stand.manager old.stand.keeper new.stand.keeper old.stand.scene new.stand.scene
+  pub works : new.works ≡ old.works
 
--- the line tells, with the server's name, what the desk at its place answered
-pub record ServerTold (m : ManagerShown) (servers : List ScriptServer) (act : DeskAct) (at : ℕ)
-    (old : Live) (text : List ℕ) (new : Live) : Type 0 where
-  pub answer : ServerAnswer
-  pub does : DoesIn m.limits act at old.places answer new.places
-  pub text_is : IfSome (slice_get servers at) (λ it. text ≡ line (named_text (string_bytes it.name) answer))
-  pub client : new.client ≡ old.client
-  pub hands : new.hands ≡ old.hands
+-- the line is that of a script's command, and the workers have what they had
+pub record CommandTold (s : ScriptView) (c : Command) (old : Live) (text : List ℕ) (new : Live) : Type 0 where
+  pub performs : PerformsAll old.stand.manager s c 0 old.stand.keeper old.stand.scene text
+      new.stand.keeper new.stand.scene
+  pub manager : new.stand.manager ≡ old.stand.manager
+  pub works : new.works ≡ old.works
 
--- a worker did what it was asked, and this is its line; the others are as they were
-pub record WorkerDid (m : ManagerShown) (it : WorkerLine) (act : WorkerAct) (at : ℕ)
-    (old : List Hand) (text : List ℕ) (new : List Hand) : Type 0 where
-  pub hand : Hand
-  pub there : slice_get old at ≡ Some hand
+-- the line tells what has gone on in a new manager, and the workers have what they had
+pub record RolloverTold (old : Live) (text : List ℕ) (new : Live) : Type 0 where
+  pub rolls : RollsOn old.stand text new.stand
+  pub works : new.works ≡ old.works
+
+abbrev pub TellsBy : Bool → ScriptView → Command → Live → List ℕ → Live → Type 0
+TellsBy true s c = RolloverTold
+TellsBy false s c = CommandTold s c
+
+-- a worker did what it was asked, and all else is as it was
+pub record WorkerDid (it : WorkerLine) (act : WorkerAct) (at : ℕ) (old : Live) (answer : WorkerAnswer)
+    (new : Live) : Type 0 where
+  pub before : Hand
+  pub pass : slice_get old.stand.scene.racers at ≡ Some before.pass
+  pub work : slice_get old.works at ≡ Some before.work
   pub after : Hand
-  pub answer : WorkerAnswer
-  pub does : WorkerDoes m.limits it.stage act hand answer after
-  pub others : new ≡ slice_set old at after
-  pub text_is : text ≡ worker_line (string_bytes it.name) answer
+  pub does : WorkerDoes old.stand.manager.limits it.stage act before answer after
+  pub stand : new.stand ≡ record old.stand {
+    scene =
+        record old.stand.scene { racers = slice_set old.stand.scene.racers at after.pass };
+  }
+  pub works : new.works ≡ slice_set old.works at after.work
 
 -- the line tells, with the worker's name, what it was answered
-pub record WorkerTold (m : ManagerShown) (workers : List WorkerLine) (act : WorkerAct) (at : ℕ)
-    (old : Live) (text : List ℕ) (new : Live) : Type 0 where
-  pub did : IfSome (slice_get workers at) (λ it. WorkerDid m it act at old.hands text new.hands)
-  pub client : new.client ≡ old.client
-  pub places : new.places ≡ old.places
-
--- the line tells a register of the server, or that its desk was dropped, and nothing has changed
-pub record BalanceTold (servers : List ScriptServer) (at k : ℕ)
-    (old : Live) (text : List ℕ) (new : Live) : Type 0 where
-  pub place : PlaceShown
-  pub there : slice_get old.places at ≡ Some place
-  pub tells : IfSome (slice_get servers at)
-      (λ it. TellsBalance (string_bytes it.name) k place.desk.registers place.is_dropped text)
-  pub same : new ≡ old
+pub record WorkerTold (workers : List WorkerLine) (act : WorkerAct) (at : ℕ) (old : Live) (text : List ℕ)
+    (new : Live) : Type 0 where
+  pub it : WorkerLine
+  pub named : slice_get workers at ≡ Some it
+  pub answer : WorkerAnswer
+  pub done : Live
+  pub did : WorkerDid it act at old answer done
+  pub text_is : text ≡ worker_line (string_bytes it.name) answer
+  pub gathers : LiveGathers done new
 
 -- with a unit of work open the account is refused, and nothing is done; else the line tells how many elements
 -- stand in each way, by reads of the client one after another
-abbrev pub AccountTold : ManagerShown → Bool → PassShown → List ℕ → PassShown → Type 0
-AccountTold m true old text new = (text ≡ busy_line) × (new ≡ old)
-AccountTold m false old text new = FoundLine (TellsCount m.limits (rows_of m.limits)) account_text old text new
+abbrev pub TellsAccount : ManagerShown → Bool → PassShown → List ℕ → PassShown → Type 0
+TellsAccount m true old text new = (text ≡ line (answer_text answer.Busy)) × (new ≡ old)
+TellsAccount m false old text new =
+    FoundLine (TellsCount m.limits (rows_of m.limits)) account_text old text new
+
+-- the client did that, and all else is as it was
+pub record ClientCounts (old : Live) (text : List ℕ) (new : Live) : Type 0 where
+  pub client : PassShown
+  pub tells : TellsAccount old.stand.manager (is_open old) old.stand.scene.client text client
+  pub stand : new.stand ≡ record old.stand { scene = record old.stand.scene { client = client } }
+  pub works : new.works ≡ old.works
+
+pub record AccountTold (old : Live) (text : List ℕ) (new : Live) : Type 0 where
+  pub done : Live
+  pub counts : ClientCounts old text done
+  pub gathers : LiveGathers done new
 
 -- the line of what is asked for
-abbrev pub TellsAct : ManagerShown → List ScriptServer → List WorkerLine → Act → Live → List ℕ → Live → Type 0
-TellsAct m servers workers (acts.Client act) old text new = ClientTold m act old text new
-TellsAct m servers workers (acts.Desk at act) old text new = ServerTold m servers act at old text new
-TellsAct m servers workers (acts.Worker at act) old text new = WorkerTold m workers act at old text new
-TellsAct m servers workers (acts.Balance at k) old text new = BalanceTold servers at k old text new
-TellsAct m servers workers (acts.Sum k) old text new =
-    (text ≡ line (answer_text (answer.Sum k (register_sum k old.places)))) × (new ≡ old)
-TellsAct m servers workers acts.Account old text new = AccountTold m (is_open old) old.client text new.client
-    × (new.places ≡ old.places) × (new.hands ≡ old.hands)
+abbrev pub TellsAct : Head → Act → Live → List ℕ → Live → Type 0
+TellsAct head (acts.Command c) old text new = TellsBy (is_rollover c) (script_view head.script) c old text new
+TellsAct head (acts.Worker at act) old text new = WorkerTold head.workers.items act at old text new
+TellsAct head acts.Account old text new = AccountTold old text new
+
+-- ---- what is held in memory
+
+module _ {X : Type 0} {F : X → Type 0} (behaviour : DynBox X Global F → Behaviour)
+    (registers : DynBox X Global F → List ℕ) (pending : DynBox X Global F → Option Pending) where
+  -- What holds between two lines: of all passes the client's is free, with the servers' their desks lie
+  -- aside, and each worker's has the unit open that the worker has in hand.
+  pub record IsHeld (head : Head) (h : Held X F) : Type 0 where
+    pub managed : IsManaged h.managed
+    pub ready : AreReady behaviour registers pending h.managed.manager h.managed.passes.items h.servers.items
+        h.places.items
+    pub each_server : length h.servers.items ≡ length head.script.servers.items
+    pub each_worker : length h.works.items ≡ length head.workers.items
+    pub parts : length h.managed.passes.items ≡ 1 + length h.servers.items + length h.works.items
+    pub in_hand : units_held (length h.servers.items) h.managed.passes.items ≡ map unit_of h.works.items
+
+  -- this is what is there
+  pub record IsLive (h : Held X F) (l : Live) : Type 0 where
+    pub manager : l.stand.manager ≡ h.managed.manager
+    pub keeper : l.stand.keeper ≡ h.managed.keeper
+    pub scene : IsScene behaviour registers pending h.managed.passes.items h.servers.items h.places.items
+        l.stand.scene
+    pub works : l.works ≡ h.works.items
+
+  -- what is there before and after
+  pub record Leads (R : Live → Live → Type 0) (old new : Held X F) : Type 0 where
+    pub before : Live
+    pub after : Live
+    pub was : IsLive old before
+    pub leads : R before after
+    pub is : IsLive new after
+
+  -- what was there before, and some time after
+  pub record Begins (R : Live → Live → Type 0) (old : Held X F) : Type 0 where
+    pub before : Live
+    pub after : Live
+    pub was : IsLive old before
+    pub leads : R before after

@@ -1,6 +1,5 @@
 -- What the lines of a session are answered, one after another.
 use Rattle.std.specs.Prelude.{◌≡◌, ℕ, ◌+◌, List, [], ◌∷◌, ◌++◌, Option, Some, None, Result, Ok, Err}
-use Rattle.tp_manager.specs.Shown.{ManagerShown}
 use Rattle.tp_script.specs.Session.{HeadView, body_at, head_at, head_view}
 use Rattle.tp_script.specs.declared.fault.LineFault.{LineFault}
 use Rattle.tp_script.specs.declared.head.Act.{Act}
@@ -39,28 +38,27 @@ pub record HeadTold (Heard : List (List ℕ) → Type 0) (old new : HeadView) (T
 
 -- A line behind the head has no answer where it asks for nothing. A faulty one is refused, by its number, and
 -- leaves all as it was. Else its answer is what was done.
-abbrev pub LineTold : ManagerShown → Head → ℕ → Result (Option Act) LineFault → Live → List ℕ → Live → Type 0
-LineTold m head n (Ok None) old text new = (text ≡ []) × (new ≡ old)
-LineTold m head n (Ok (Some act)) old text new =
-    TellsAct m head.script.servers.items head.workers.items act old text new
-LineTold m head n (Err fault) old text new = (text ≡ refused_line n fault) × (new ≡ old)
+abbrev pub LineTold : Head → ℕ → Result (Option Act) LineFault → Live → List ℕ → Live → Type 0
+LineTold head n (Ok None) old text new = (text ≡ []) × (new ≡ old)
+LineTold head n (Ok (Some act)) old text new = TellsAct head act old text new
+LineTold head n (Err fault) old text new = (text ≡ refused_line n fault) × (new ≡ old)
 
 -- such lines one after another, behind so many others
-abbrev pub BodyLines : ManagerShown → Head → ℕ → List (List ℕ) → Live → List ℕ → Live → Type 0
-BodyLines m head past [] old text new = (text ≡ []) × (new ≡ old)
-BodyLines m head past (line ∷ others) old text new =
+abbrev pub BodyLines : Head → ℕ → List (List ℕ) → Live → List ℕ → Live → Type 0
+BodyLines head past [] old text new = (text ≡ []) × (new ≡ old)
+BodyLines head past (line ∷ others) old text new =
     (first : List ℕ) × (rest : List ℕ) × (between : Live)
-    × LineTold m head (past + 1) (body_at line (head_view head)) old first between
-    × BodyLines m head (past + 1) others between rest new
+    × LineTold head (past + 1) (body_at line (head_view head)) old first between
+    × BodyLines head (past + 1) others between rest new
     × (text ≡ first ++ rest)
 
 -- these lines, and then others, as far as they were heard and told
-pub record BodyTold (m : ManagerShown) (head : Head) (past : ℕ) (begun : List (List ℕ))
-    (Heard : List (List ℕ) → Type 0) (old new : Live) (Told : List ℕ → Type 0) : Type 0 where
+pub record BodyTold (head : Head) (past : ℕ) (begun : List (List ℕ)) (Heard : List (List ℕ) → Type 0)
+    (old new : Live) (Told : List ℕ → Type 0) : Type 0 where
   pub taken : List (List ℕ)
   pub heard : Heard taken
   pub text : List ℕ
-  pub lines : BodyLines m head past (begun ++ taken) old text new
+  pub lines : BodyLines head past (begun ++ taken) old text new
   pub told : Told text
 
 -- the line of the first command, if there is one, of which this is kept

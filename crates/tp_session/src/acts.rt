@@ -1,52 +1,158 @@
-//! What a line of a session asks for, performed, and the line of its answer.
-ghost use Rattle.std.specs.Prelude.{◌≡◌, ◌<◌, ◌||◌, All, IfOk, IfSome, is_some, length, slice_get};
-ghost use Rattle.std.specs.Prelude.{string_bytes, vec_len};
+//! What a line of a session asks for, performed, and the line of its answer. All passes gather after it.
+ghost use Rattle.std.specs.Prelude.{◌≡◌, ◌<◌, ◌||◌, List, ℕ, IfOk, IfSome, false, is_some, slice_get, string_bytes};
+ghost use Rattle.std.specs.Prelude.{vec_len};
 ghost use Rattle.std.specs.List.{list_any};
 ghost use Rattle.tp_commands.specs.Acting.{work_in};
-ghost use Rattle.tp_commands.specs.Places.{AllLie, firsts};
-ghost use Rattle.tp_manager.specs.Shown.{IsOf};
-ghost use Rattle.tp_workers.specs.Free.{IsFreePass};
+ghost use Rattle.tp_script.specs.Passes.{is_race, is_rollover};
+ghost use Rattle.tp_script.specs.Ranges.{IsInRange};
+ghost use Rattle.tp_script.specs.Script.{script_view};
 ghost use Rattle.tp_script.specs.Session.{IsActInRange};
-ghost use Rattle.tp_session.specs.Hands.{IsHand};
-ghost use Rattle.tp_session.specs.Live.{AccountTold, TellsAct, WorkerDid, live};
+ghost use Rattle.tp_workers.specs.Free.{IsFreePass};
+ghost use Rattle.tp_session.specs.Left.{Acted, OrSame, Reaches, began_in};
+ghost use Rattle.tp_session.specs.Live.{AccountTold, ClientCounts, CommandTold, IsHeld, Leads, LiveGathers};
+ghost use Rattle.tp_session.specs.Live.{RolloverTold, TellsAccount, TellsAct, TellsBy, WorkerDid, WorkerTold};
 
-use crate::answers::{busy_line, worker_line};
-use crate::hand::{Hand, worker_act};
+use crate::answers::worker_line;
+use crate::hand::{WorkerAnswer, worker_act};
+use crate::held::Held;
 use std::alloc::{AllocError, Global};
 use std::string::String;
-use tp_commands::{Place, balance_line, client_line, count, desk_line, sum};
+use tp_commands::{Place, count};
 use tp_manager::{Manager, Pass};
+use tp_model::types::Work;
+use tp_perform::{perform_next, roll_over_line};
 use tp_report::{Answer, line};
-use tp_script::{Act, Head, WorkerAct, WorkerLine};
+use tp_script::{Act, Command, Head, WorkerAct};
 use tp_server::Server;
 
-/// Has a worker do what is asked, and answers its line.
+/// Performs a command of scripts that is neither a race nor a rollover.
+fn command_told(
+    alloc: Global,
+    head: &Head,
+    held: &mut Held,
+    command: Command,
+) -> Result<String, AllocError>
+    requires held { IsHeld behaviour registers pending head.now held.old }
+    requires in_range { IsInRange (vec_len head.now.script.servers) command }
+    requires no_race { is_race command ≡ false }
+    requires no_rollover { is_rollover command ≡ false }
+    ensures held { IsHeld behaviour registers pending head.now held.new }
+    ensures began { began_in registers held.new ≡ began_in registers held.old }
+    ensures tells { IfOk result (λ text. Leads behaviour registers pending (λ old new.
+        CommandTold (script_view head.now.script) command old (string_bytes text) new) held.old held.new) }
+{
+    perform_next(
+        alloc,
+        &head.script,
+        &held.managed.manager,
+        &mut held.managed.keeper,
+        held.managed.passes.as_mut_slice(),
+        held.servers.as_mut_slice(),
+        held.places.as_mut_slice(),
+        command,
+    )
+}
+
+/// What is alive goes on in a new manager.
+fn rollover_told(alloc: Global, head: &Head, held: &mut Held) -> Result<String, AllocError>
+    requires held { IsHeld behaviour registers pending head.now held.old }
+    ensures held { IsHeld behaviour registers pending head.now held.new }
+    ensures went { Reaches behaviour registers pending (λ old new. (text : List ℕ) × RolloverTold old text new)
+        held.old held.new }
+    ensures tells { IfOk result (λ text. Leads behaviour registers pending (λ old new.
+        RolloverTold old (string_bytes text) new) held.old held.new) }
+{
+    roll_over_line(
+        alloc,
+        &mut held.managed,
+        held.servers.as_slice(),
+        held.places.as_mut_slice(),
+    )
+}
+
+/// Performs a command of scripts that is no race.
+fn told_by(
+    alloc: Global,
+    head: &Head,
+    held: &mut Held,
+    command: Command,
+) -> Result<String, AllocError>
+    requires held { IsHeld behaviour registers pending head.now held.old }
+    requires in_range { IsInRange (vec_len head.now.script.servers) command }
+    requires no_race { is_race command ≡ false }
+    ensures held { IsHeld behaviour registers pending head.now held.new }
+    ensures went { Reaches behaviour registers pending (OrSame (λ old new. (text : List ℕ)
+        × TellsBy (is_rollover command) (script_view head.now.script) command old text new)) held.old held.new }
+    ensures tells { IfOk result (λ text. Leads behaviour registers pending (λ old new.
+        TellsBy (is_rollover command) (script_view head.now.script) command old (string_bytes text) new)
+        held.old held.new) }
+{
+    if command.is_rollover() {
+        return rollover_told(alloc, head, held);
+    }
+    command_told(alloc, head, held, command)
+}
+
+/// All passes gather.
+fn gather(head: &Head, held: &mut Held)
+    requires held { IsHeld behaviour registers pending head.now held.old }
+    ensures held { IsHeld behaviour registers pending head.now held.new }
+    ensures began { began_in registers held.new ≡ began_in registers held.old }
+    ensures gathers { Leads behaviour registers pending LiveGathers held.old held.new }
+{
+    let managed = &mut held.managed;
+    managed
+        .keeper
+        .gather(&managed.manager, managed.passes.as_mut_slice());
+}
+
+/// Has a worker do what is asked.
+fn worker_does(head: &Head, held: &mut Held, worker: usize, act: &WorkerAct) -> WorkerAnswer
+    requires held { IsHeld behaviour registers pending head.now held.old }
+    requires within { worker < vec_len head.now.workers }
+    ensures held { IsHeld behaviour registers pending head.now held.new }
+    ensures began { began_in registers held.new ≡ began_in registers held.old }
+    ensures does { IfSome (slice_get head.now.workers.items worker) (λ it.
+        Leads behaviour registers pending (λ old done. WorkerDid it act.now worker old result done)
+        held.old held.new) }
+{
+    let stage = head.workers[worker].stage;
+    let at = 1 + held.servers.len() + worker;
+    let pass = &mut held.managed.passes[at];
+    worker_act(
+        &held.managed.manager,
+        stage,
+        pass,
+        &mut held.works[worker],
+        act,
+    )
+}
+
+/// The same, after which all gather. Answers the worker's line.
 fn worker_told(
     alloc: Global,
-    workers: &[WorkerLine],
-    manager: &Manager,
-    hands: &mut [Hand],
+    head: &Head,
+    held: &mut Held,
     worker: usize,
     act: &WorkerAct,
 ) -> Result<String, AllocError>
-    requires hands { All (IsHand manager.now) hands.old }
-    requires each { length hands.old ≡ length workers.now }
-    requires within { worker < length workers.now }
-    ensures hands { All (IsHand manager.now) hands.new }
-    ensures each { length hands.new ≡ length hands.old }
-    ensures tells { IfOk result (λ text. IfSome (slice_get workers.now worker) (λ it.
-        WorkerDid manager.now it act.now worker hands.old (string_bytes text) hands.new)) }
+    requires held { IsHeld behaviour registers pending head.now held.old }
+    requires within { worker < vec_len head.now.workers }
+    ensures held { IsHeld behaviour registers pending head.now held.new }
+    ensures began { began_in registers held.new ≡ began_in registers held.old }
+    ensures tells { IfOk result (λ text. Leads behaviour registers pending (λ old new.
+        WorkerTold head.now.workers.items act.now worker old (string_bytes text) new) held.old held.new) }
 {
-    let it = &workers[worker];
-    let answer = worker_act(manager, it.stage, &mut hands[worker], act);
-    worker_line(alloc, it.name.as_str(), answer)
+    let answer = worker_does(head, held, worker, act);
+    gather(head, held);
+    worker_line(alloc, head.workers[worker].name.as_str(), answer)
 }
 
 /// Whether a worker has something in hand.
-fn has_hand(hands: &[Hand]) -> bool
-    ensures { result ≡ list_any (λ h. is_some h.work) hands.now }
+fn has_work(works: &[Option<Work>]) -> bool
+    ensures { result ≡ list_any is_some works.now }
 {
-    hands.iter().any(|hand| hand.work.is_some())
+    works.iter().any(|work| work.is_some())
 }
 
 /// Whether the desk at a place has something in hand.
@@ -72,18 +178,17 @@ fn has_place(places: &[Place]) -> bool
 }
 
 /// Whether a unit of work is open.
-fn is_open(places: &[Place], hands: &[Hand]) -> bool
-    ensures { result ≡ (list_any (λ h. is_some h.work) hands.now
-        || list_any (λ p. is_some (work_in p.aside)) places.now) }
+fn is_open(places: &[Place], works: &[Option<Work>]) -> bool
+    ensures { result ≡ (list_any is_some works.now || list_any (λ p. is_some (work_in p.aside)) places.now) }
 {
-    if has_hand(hands) {
+    if has_work(works) {
         return true;
     }
     has_place(places)
 }
 
 /// The line of `account`. Nothing is counted while a unit of work is open.
-fn account_told(
+fn account_line(
     alloc: Global,
     manager: &Manager,
     client: &mut Pass,
@@ -91,69 +196,64 @@ fn account_told(
 ) -> Result<String, AllocError>
     requires client { IsFreePass manager.now client.old }
     ensures client { IsFreePass manager.now client.new }
+    ensures number { client.new.number ≡ client.old.number }
     ensures tells { IfOk result (λ text.
-        AccountTold manager.now is_open client.old (string_bytes text) client.new) }
+        TellsAccount manager.now is_open client.old (string_bytes text) client.new) }
 {
     if is_open {
-        return busy_line(alloc);
+        return line(alloc, Answer::Busy);
     }
     let counts = count(manager, client);
     line(alloc, Answer::Account(counts))
 }
 
-/// Has done what a line asks for, and answers the line of its answer.
+/// The client counts the elements, unless a unit of work is open. Answers the line.
+fn client_counts(alloc: Global, head: &Head, held: &mut Held) -> Result<String, AllocError>
+    requires held { IsHeld behaviour registers pending head.now held.old }
+    ensures held { IsHeld behaviour registers pending head.now held.new }
+    ensures began { began_in registers held.new ≡ began_in registers held.old }
+    ensures counts { IfOk result (λ text. Leads behaviour registers pending (λ old done.
+        ClientCounts old (string_bytes text) done) held.old held.new) }
+{
+    let is_open = is_open(held.places.as_slice(), held.works.as_slice());
+    account_line(
+        alloc,
+        &held.managed.manager,
+        &mut held.managed.passes[0],
+        is_open,
+    )
+}
+
+/// The same, after which all gather.
+fn account_told(alloc: Global, head: &Head, held: &mut Held) -> Result<String, AllocError>
+    requires held { IsHeld behaviour registers pending head.now held.old }
+    ensures held { IsHeld behaviour registers pending head.now held.new }
+    ensures began { began_in registers held.new ≡ began_in registers held.old }
+    ensures tells { IfOk result (λ text. Leads behaviour registers pending (λ old new.
+        AccountTold old (string_bytes text) new) held.old held.new) }
+{
+    let text = client_counts(alloc, head, held)?;
+    gather(head, held);
+    Ok(text)
+}
+
+/// Has done what a line asks for, after which all passes gather, and answers the line of its answer.
 pub fn act_line(
     alloc: Global,
     head: &Head,
-    manager: &Manager,
-    client: &mut Pass,
-    passes: &mut [Pass],
-    servers: &mut [Box<dyn Server + Send>],
-    places: &mut [Place],
-    hands: &mut [Hand],
+    held: &mut Held,
     act: &Act,
 ) -> Result<String, AllocError>
-    requires client { IsFreePass manager.now client.old }
-    requires own { All (IsOf manager.now) passes.old }
-    requires lie { AllLie behaviour registers pending passes.old servers.old places.old }
-    requires as_many { length places.old ≡ vec_len head.now.script.servers }
-    requires hands { All (IsHand manager.now) hands.old }
-    requires each { length hands.old ≡ vec_len head.now.workers }
+    requires held { IsHeld behaviour registers pending head.now held.old }
     requires in_range { IsActInRange (vec_len head.now.script.servers) (vec_len head.now.workers) act.now }
-    ensures client { IsFreePass manager.now client.new }
-    ensures own { All (IsOf manager.now) passes.new }
-    ensures lie { AllLie behaviour registers pending passes.new servers.new places.new }
-    ensures as_many { length places.new ≡ length places.old }
-    ensures began { firsts places.new ≡ firsts places.old }
-    ensures hands { All (IsHand manager.now) hands.new }
-    ensures each { length hands.new ≡ length hands.old }
-    ensures tells { IfOk result (λ text.
-        TellsAct manager.now head.now.script.servers.items head.now.workers.items act.now
-        (live behaviour registers pending client.old passes.old servers.old places.old hands.old)
-        (string_bytes text)
-        (live behaviour registers pending client.new passes.new servers.new places.new hands.new)) }
+    ensures held { IsHeld behaviour registers pending head.now held.new }
+    ensures went { Reaches behaviour registers pending (Acted head.now act.now) held.old held.new }
+    ensures tells { IfOk result (λ text. Leads behaviour registers pending (λ old new.
+        TellsAct head.now act.now old (string_bytes text) new) held.old held.new) }
 {
-    let named = head.script.servers.as_slice();
     match act {
-        Act::Client(act) => client_line(alloc, manager, client, *act),
-        Act::Desk { server, act } => desk_line(
-            alloc, named, manager, passes, servers, places, *server, *act,
-        ),
-        Act::Worker { worker, act } => {
-            let workers = head.workers.as_slice();
-            worker_told(alloc, workers, manager, hands, *worker, act)
-        }
-        Act::Balance { server, k } => {
-            let at = *server;
-            balance_line(alloc, &named[at], &servers[at], places[at].is_dropped, *k)
-        }
-        Act::Sum { k } => {
-            let sum = sum(servers, places, *k);
-            line(alloc, Answer::Sum { k: *k, sum })
-        }
-        Act::Account => {
-            let is_open = is_open(places, hands);
-            account_told(alloc, manager, client, is_open)
-        }
+        Act::Command(command) => told_by(alloc, head, held, *command),
+        Act::Worker { worker, act } => worker_told(alloc, head, held, *worker, act),
+        Act::Account => account_told(alloc, head, held),
     }
 }

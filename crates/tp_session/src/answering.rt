@@ -1,25 +1,20 @@
 //! The lines behind the head, answered one by one.
-ghost use Rattle.std.specs.Prelude.{◌≡◌, ◌+◌, ◌<◌, ◌^◌, ◌++◌, ◌∷◌, ◌⊎◌, ℕ, List, [], None, All, IsErrOf};
-ghost use Rattle.std.specs.Prelude.{IsTrue, OnErr, OnOk, length, vec_len};
+ghost use Rattle.std.specs.Prelude.{◌≡◌, ◌+◌, ◌<◌, ◌^◌, ◌++◌, ◌∷◌, ◌⊎◌, List, ℕ, [], None, IsErrOf, IsTrue};
+ghost use Rattle.std.specs.Prelude.{OnErr, OnOk, vec_len};
 ghost use Rattle.tp_report.specs.Written.{AppendsFront};
-ghost use Rattle.tp_commands.specs.Places.{AllLie, firsts};
-ghost use Rattle.tp_manager.specs.Shown.{IsOf};
-ghost use Rattle.tp_workers.specs.Free.{IsFreePass};
 ghost use Rattle.tp_script.specs.Session.{IsActInRange, body_at, head_view};
 ghost use Rattle.tp_session.specs.Answers.{refused_line};
-ghost use Rattle.tp_session.specs.Hands.{IsHand};
 ghost use Rattle.tp_session.specs.Heard.{HearsFront, IsAllOf, IsSilent, Tells};
-ghost use Rattle.tp_session.specs.Live.{Live, TellsAct, live};
-ghost use Rattle.tp_session.specs.Reading.{to_come, unused};
+ghost use Rattle.tp_session.specs.Left.{Acted, BodyDone, LineDone, Reaches};
+ghost use Rattle.tp_session.specs.Live.{Begins, IsHeld, Leads, TellsAct};
+ghost use Rattle.tp_session.specs.Reading.{IsOver, room, to_come, unused};
 ghost use Rattle.tp_session.specs.Told.{BodyTold, LineTold, begun, past_of};
 
 use crate::acts::act_line;
 use crate::answers::refused_line;
-use crate::hand::Hand;
+use crate::held::Held;
 use crate::reading::Lines;
 use std::alloc::Global;
-use tp_commands::Place;
-use tp_manager::{Manager, Pass};
 use tp_report::{Fault, Sink};
 use tp_script::{Act, Head, LineError, LineFault, Source};
 use tp_server::Server;
@@ -37,6 +32,7 @@ pub(crate) fn refuse(
     ensures unused { unused lines.new ≡ unused lines.old }
     ensures line { lines.new.line ≡ lines.old.line }
     ensures no_write { ¬ (IsErrOf result Fault.Write) }
+    ensures no_read { ¬ (IsErrOf result Fault.Read) }
 {
     match refused_line(alloc, number, fault) {
         Ok(text) => match lines.tell(text.as_bytes()) {
@@ -51,43 +47,24 @@ pub(crate) fn refuse(
 fn answer(
     alloc: Global,
     head: &Head,
-    manager: &Manager,
-    client: &mut Pass,
-    passes: &mut [Pass],
-    servers: &mut [Box<dyn Server + Send>],
-    places: &mut [Place],
-    hands: &mut [Hand],
+    held: &mut Held,
     act: &Act,
     lines: &mut Lines,
 ) -> Result<(), Fault>
-    requires client { IsFreePass manager.now client.old }
-    requires own { All (IsOf manager.now) passes.old }
-    requires lie { AllLie behaviour registers pending passes.old servers.old places.old }
-    requires as_many { length places.old ≡ vec_len head.now.script.servers }
-    requires hands { All (IsHand manager.now) hands.old }
-    requires each { length hands.old ≡ vec_len head.now.workers }
+    requires held { IsHeld behaviour registers pending head.now held.old }
     requires in_range { IsActInRange (vec_len head.now.script.servers) (vec_len head.now.workers) act.now }
-    ensures client { IsFreePass manager.now client.new }
-    ensures own { All (IsOf manager.now) passes.new }
-    ensures lie { AllLie behaviour registers pending passes.new servers.new places.new }
-    ensures as_many { length places.new ≡ length places.old }
-    ensures began { firsts places.new ≡ firsts places.old }
-    ensures hands { All (IsHand manager.now) hands.new }
-    ensures each { length hands.new ≡ length hands.old }
+    ensures held { IsHeld behaviour registers pending head.now held.new }
+    ensures went { Reaches behaviour registers pending (Acted head.now act.now) held.old held.new }
     ensures left { lines.new.left ≡ lines.old.left }
     ensures unused { unused lines.new ≡ unused lines.old }
     ensures tells { OnOk result ((text : List ℕ)
         × (lines.new.answers.items ≡ lines.old.answers.items ++ text)
-        × TellsAct manager.now head.now.script.servers.items head.now.workers.items act.now
-        (live behaviour registers pending client.old passes.old servers.old places.old hands.old)
-        text
-        (live behaviour registers pending client.new passes.new servers.new places.new hands.new)) }
+        × Leads behaviour registers pending (λ old new. TellsAct head.now act.now old text new)
+        held.old held.new) }
     ensures no_write { ¬ (IsErrOf result Fault.Write) }
+    ensures no_read { ¬ (IsErrOf result Fault.Read) }
 {
-    let text = act_line(
-        alloc, head, manager, client, passes, servers, places, hands, act,
-    );
-    match text {
+    match act_line(alloc, head, held, act) {
         Ok(text) => match lines.tell(text.as_bytes()) {
             Ok(()) => Ok(()),
             Err(_) => Err(Fault::NoMemory),
@@ -100,43 +77,27 @@ fn answer(
 pub(crate) fn answer_line(
     alloc: Global,
     head: &Head,
-    manager: &Manager,
-    client: &mut Pass,
-    passes: &mut [Pass],
-    servers: &mut [Box<dyn Server + Send>],
-    places: &mut [Place],
-    hands: &mut [Hand],
+    held: &mut Held,
     number: u64,
     lines: &mut Lines,
 ) -> Result<(), Fault>
-    requires client { IsFreePass manager.now client.old }
-    requires own { All (IsOf manager.now) passes.old }
-    requires lie { AllLie behaviour registers pending passes.old servers.old places.old }
-    requires as_many { length places.old ≡ vec_len head.now.script.servers }
-    requires hands { All (IsHand manager.now) hands.old }
-    requires each { length hands.old ≡ vec_len head.now.workers }
-    ensures client { IsFreePass manager.now client.new }
-    ensures own { All (IsOf manager.now) passes.new }
-    ensures lie { AllLie behaviour registers pending passes.new servers.new places.new }
-    ensures as_many { length places.new ≡ length places.old }
-    ensures began { firsts places.new ≡ firsts places.old }
-    ensures hands { All (IsHand manager.now) hands.new }
-    ensures each { length hands.new ≡ length hands.old }
+    requires held { IsHeld behaviour registers pending head.now held.old }
+    ensures held { IsHeld behaviour registers pending head.now held.new }
+    ensures went { Reaches behaviour registers pending (LineDone head.now number lines.old.line.items)
+        held.old held.new }
     ensures left { lines.new.left ≡ lines.old.left }
     ensures unused { unused lines.new ≡ unused lines.old }
     ensures tells { OnOk result ((text : List ℕ)
         × (lines.new.answers.items ≡ lines.old.answers.items ++ text)
-        × LineTold manager.now head.now number (body_at lines.old.line.items (head_view head.now))
-        (live behaviour registers pending client.old passes.old servers.old places.old hands.old)
-        text
-        (live behaviour registers pending client.new passes.new servers.new places.new hands.new)) }
+        × Leads behaviour registers pending (λ old new.
+        LineTold head.now number (body_at lines.old.line.items (head_view head.now)) old text new)
+        held.old held.new) }
     ensures no_write { ¬ (IsErrOf result Fault.Write) }
+    ensures no_read { ¬ (IsErrOf result Fault.Read) }
 {
     match head.body_line(alloc, lines.line()) {
         Ok(None) => Ok(()),
-        Ok(Some(act)) => answer(
-            alloc, head, manager, client, passes, servers, places, hands, &act, lines,
-        ),
+        Ok(Some(act)) => answer(alloc, head, held, &act, lines),
         Err(LineError::Fault(fault)) => refuse(alloc, lines, number, fault),
         Err(LineError::NoMemory) => Err(Fault::NoMemory),
     }
@@ -146,63 +107,38 @@ pub(crate) fn answer_line(
 pub fn attend<R: Source, W: Sink>(
     alloc: Global,
     head: &Head,
-    manager: &Manager,
-    client: &mut Pass,
-    passes: &mut [Pass],
-    servers: &mut [Box<dyn Server + Send>],
-    places: &mut [Place],
-    hands: &mut [Hand],
+    held: &mut Held,
     past: u64,
     lines: &mut Lines,
     reader: &mut R,
     writer: &mut W,
 ) -> Result<(), Fault>
-    requires client { IsFreePass manager.now client.old }
-    requires own { All (IsOf manager.now) passes.old }
-    requires lie { AllLie behaviour registers pending passes.old servers.old places.old }
-    requires as_many { length places.old ≡ vec_len head.now.script.servers }
-    requires hands { All (IsHand manager.now) hands.old }
-    requires each { length hands.old ≡ vec_len head.now.workers }
+    requires held { IsHeld behaviour registers pending head.now held.old }
     requires asked { R.asked reader.old + lines.old.left < 2 ^ 64 }
-    ensures client { IsFreePass manager.now client.new }
-    ensures own { All (IsOf manager.now) passes.new }
-    ensures lie { AllLie behaviour registers pending passes.new servers.new places.new }
-    ensures as_many { length places.new ≡ length places.old }
-    ensures began { firsts places.new ≡ firsts places.old }
-    ensures hands { All (IsHand manager.now) hands.new }
-    ensures each { length hands.new ≡ length hands.old }
-    ensures told { OnOk result (BodyTold manager.now head.now past []
-        (IsAllOf (to_come lines.old (R.rest reader.old)))
-        (live behaviour registers pending client.old passes.old servers.old places.old hands.old)
-        (live behaviour registers pending client.new passes.new servers.new places.new hands.new)
+    requires few { past + room lines.old + 1 < 2 ^ 64 }
+    ensures held { IsHeld behaviour registers pending head.now held.new }
+    ensures went { Reaches behaviour registers pending
+        (BodyDone head.now past [] (to_come lines.old (R.rest reader.old))) held.old held.new }
+    ensures told { OnOk result (Leads behaviour registers pending (λ old new.
+        BodyTold head.now past [] (IsAllOf (to_come lines.old (R.rest reader.old))) old new
         (λ text. Tells (W.contents writer.old) (W.contents writer.new)
-        lines.new.answers.items (lines.old.answers.items ++ text))) }
-    ensures front { OnErr result ((new : Live) × BodyTold manager.now head.now past []
-        (HearsFront (to_come lines.old (R.rest reader.old)))
-        (live behaviour registers pending client.old passes.old servers.old places.old hands.old)
-        new
+        lines.new.answers.items (lines.old.answers.items ++ text))) held.old held.new) }
+    ensures front { OnErr result (Begins behaviour registers pending (λ old last.
+        BodyTold head.now past [] (HearsFront (to_come lines.old (R.rest reader.old))) old last
         (λ text. AppendsFront (W.contents writer.old) (W.contents writer.new)
-        (lines.old.answers.items ++ text))) }
+        (lines.old.answers.items ++ text))) held.old) }
     ensures write { IsErrOf result Fault.Write → IsTrue (W.has_failed writer.new) }
+    ensures read { IsErrOf result Fault.Read
+        → IsOver (R.has_failed reader.new) (R.asked reader.old + lines.old.left) (R.asked reader.new) }
 {
     for number in past..u64::MAX {
         if !lines.next(reader, writer)? {
             return Ok(());
         }
-        answer_line(
-            alloc,
-            head,
-            manager,
-            client,
-            passes,
-            servers,
-            places,
-            hands,
-            number + 1,
-            lines,
-        )?;
+        answer_line(alloc, head, held, number + 1, lines)?;
     }
-    Err(Fault::Read)
+    // A line takes a byte, or asks once more, so that there are fewer lines.
+    unreachable!();
 }
 
 /// Answers the line that was read last, behind so many others, and then line after line to the end of the
@@ -210,74 +146,37 @@ pub fn attend<R: Source, W: Sink>(
 fn answer_from<R: Source, W: Sink>(
     alloc: Global,
     head: &Head,
+    held: &mut Held,
     past: u64,
-    manager: &Manager,
-    client: &mut Pass,
-    passes: &mut [Pass],
-    servers: &mut [Box<dyn Server + Send>],
-    places: &mut [Place],
-    hands: &mut [Hand],
     lines: &mut Lines,
     reader: &mut R,
     writer: &mut W,
 ) -> Result<(), Fault>
-    requires client { IsFreePass manager.now client.old }
-    requires own { All (IsOf manager.now) passes.old }
-    requires lie { AllLie behaviour registers pending passes.old servers.old places.old }
-    requires as_many { length places.old ≡ vec_len head.now.script.servers }
-    requires hands { All (IsHand manager.now) hands.old }
-    requires each { length hands.old ≡ vec_len head.now.workers }
+    requires held { IsHeld behaviour registers pending head.now held.old }
     requires asked { R.asked reader.old + lines.old.left < 2 ^ 64 }
-    requires few { past + 1 < 2 ^ 64 }
-    ensures client { IsFreePass manager.now client.new }
-    ensures own { All (IsOf manager.now) passes.new }
-    ensures lie { AllLie behaviour registers pending passes.new servers.new places.new }
-    ensures as_many { length places.new ≡ length places.old }
-    ensures began { firsts places.new ≡ firsts places.old }
-    ensures hands { All (IsHand manager.now) hands.new }
-    ensures each { length hands.new ≡ length hands.old }
-    ensures told { OnOk result (BodyTold manager.now head.now past (lines.old.line.items ∷ [])
-        (IsAllOf (to_come lines.old (R.rest reader.old)))
-        (live behaviour registers pending client.old passes.old servers.old places.old hands.old)
-        (live behaviour registers pending client.new passes.new servers.new places.new hands.new)
+    requires few { past + room lines.old + 2 < 2 ^ 64 }
+    ensures held { IsHeld behaviour registers pending head.now held.new }
+    ensures went { Reaches behaviour registers pending
+        (BodyDone head.now past (lines.old.line.items ∷ []) (to_come lines.old (R.rest reader.old)))
+        held.old held.new }
+    ensures told { OnOk result (Leads behaviour registers pending (λ old new.
+        BodyTold head.now past (lines.old.line.items ∷ [])
+        (IsAllOf (to_come lines.old (R.rest reader.old))) old new
         (λ text. Tells (W.contents writer.old) (W.contents writer.new)
-        lines.new.answers.items (lines.old.answers.items ++ text))) }
+        lines.new.answers.items (lines.old.answers.items ++ text))) held.old held.new) }
     ensures front { OnErr result (AppendsFront (W.contents writer.old) (W.contents writer.new)
         lines.old.answers.items
-        ⊎ (new : Live) × BodyTold manager.now head.now past (lines.old.line.items ∷ [])
-        (HearsFront (to_come lines.old (R.rest reader.old)))
-        (live behaviour registers pending client.old passes.old servers.old places.old hands.old)
-        new
+        ⊎ Begins behaviour registers pending (λ old last.
+        BodyTold head.now past (lines.old.line.items ∷ [])
+        (HearsFront (to_come lines.old (R.rest reader.old))) old last
         (λ text. AppendsFront (W.contents writer.old) (W.contents writer.new)
-        (lines.old.answers.items ++ text))) }
+        (lines.old.answers.items ++ text))) held.old) }
     ensures write { IsErrOf result Fault.Write → IsTrue (W.has_failed writer.new) }
+    ensures read { IsErrOf result Fault.Read
+        → IsOver (R.has_failed reader.new) (R.asked reader.old + lines.old.left) (R.asked reader.new) }
 {
-    answer_line(
-        alloc,
-        head,
-        manager,
-        client,
-        passes,
-        servers,
-        places,
-        hands,
-        past + 1,
-        lines,
-    )?;
-    attend(
-        alloc,
-        head,
-        manager,
-        client,
-        passes,
-        servers,
-        places,
-        hands,
-        past + 1,
-        lines,
-        reader,
-        writer,
-    )
+    answer_line(alloc, head, held, past + 1, lines)?;
+    attend(alloc, head, held, past + 1, lines, reader, writer)
 }
 
 /// Answers the line that was read last, where it is the first command, and then those behind it to the end of
@@ -285,54 +184,38 @@ fn answer_from<R: Source, W: Sink>(
 pub(crate) fn answer_all<R: Source, W: Sink>(
     alloc: Global,
     head: &Head,
+    held: &mut Held,
     first: Option<u64>,
-    manager: &Manager,
-    client: &mut Pass,
-    passes: &mut [Pass],
-    servers: &mut [Box<dyn Server + Send>],
-    places: &mut [Place],
-    hands: &mut [Hand],
     lines: &mut Lines,
     reader: &mut R,
     writer: &mut W,
 ) -> Result<(), Fault>
-    requires client { IsFreePass manager.now client.old }
-    requires own { All (IsOf manager.now) passes.old }
-    requires lie { AllLie behaviour registers pending passes.old servers.old places.old }
-    requires as_many { length places.old ≡ vec_len head.now.script.servers }
-    requires hands { All (IsHand manager.now) hands.old }
-    requires each { length hands.old ≡ vec_len head.now.workers }
+    requires held { IsHeld behaviour registers pending head.now held.old }
     requires asked { R.asked reader.old + lines.old.left < 2 ^ 64 }
-    requires few { past_of first + 1 < 2 ^ 64 }
+    requires few { past_of first + room lines.old + 2 < 2 ^ 64 }
     requires ended { first ≡ None → IsSilent (to_come lines.old (R.rest reader.old)) }
-    ensures client { IsFreePass manager.now client.new }
-    ensures own { All (IsOf manager.now) passes.new }
-    ensures lie { AllLie behaviour registers pending passes.new servers.new places.new }
-    ensures as_many { length places.new ≡ length places.old }
-    ensures began { firsts places.new ≡ firsts places.old }
-    ensures hands { All (IsHand manager.now) hands.new }
-    ensures each { length hands.new ≡ length hands.old }
-    ensures told { OnOk result (BodyTold manager.now head.now (past_of first) (begun first lines.old.line.items)
-        (IsAllOf (to_come lines.old (R.rest reader.old)))
-        (live behaviour registers pending client.old passes.old servers.old places.old hands.old)
-        (live behaviour registers pending client.new passes.new servers.new places.new hands.new)
+    ensures held { IsHeld behaviour registers pending head.now held.new }
+    ensures went { Reaches behaviour registers pending
+        (BodyDone head.now (past_of first) (begun first lines.old.line.items)
+        (to_come lines.old (R.rest reader.old))) held.old held.new }
+    ensures told { OnOk result (Leads behaviour registers pending (λ old new.
+        BodyTold head.now (past_of first) (begun first lines.old.line.items)
+        (IsAllOf (to_come lines.old (R.rest reader.old))) old new
         (λ text. Tells (W.contents writer.old) (W.contents writer.new)
-        lines.new.answers.items (lines.old.answers.items ++ text))) }
+        lines.new.answers.items (lines.old.answers.items ++ text))) held.old held.new) }
     ensures front { OnErr result (AppendsFront (W.contents writer.old) (W.contents writer.new)
         lines.old.answers.items
-        ⊎ (new : Live) × BodyTold manager.now head.now (past_of first) (begun first lines.old.line.items)
-        (HearsFront (to_come lines.old (R.rest reader.old)))
-        (live behaviour registers pending client.old passes.old servers.old places.old hands.old)
-        new
+        ⊎ Begins behaviour registers pending (λ old last.
+        BodyTold head.now (past_of first) (begun first lines.old.line.items)
+        (HearsFront (to_come lines.old (R.rest reader.old))) old last
         (λ text. AppendsFront (W.contents writer.old) (W.contents writer.new)
-        (lines.old.answers.items ++ text))) }
+        (lines.old.answers.items ++ text))) held.old) }
     ensures write { IsErrOf result Fault.Write → IsTrue (W.has_failed writer.new) }
+    ensures read { IsErrOf result Fault.Read
+        → IsOver (R.has_failed reader.new) (R.asked reader.old + lines.old.left) (R.asked reader.new) }
 {
     match first {
         None => Ok(()),
-        Some(past) => answer_from(
-            alloc, head, past, manager, client, passes, servers, places, hands, lines, reader,
-            writer,
-        ),
+        Some(past) => answer_from(alloc, head, held, past, lines, reader, writer),
     }
 }

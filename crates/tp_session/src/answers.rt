@@ -1,6 +1,6 @@
 //! The lines of a session that scripts don't have.
 ghost use Rattle.std.specs.Prelude.{◌≡◌, IfOk, string_bytes};
-ghost use Rattle.tp_session.specs.Answers.{body_text, busy_line, refused_line, took_line, worker_line};
+ghost use Rattle.tp_session.specs.Answers.{body_text, refused_line, took_line, worker_line};
 
 use crate::hand::WorkerAnswer;
 use std::alloc::{AllocError, Global};
@@ -14,13 +14,6 @@ pub fn refused_line(alloc: Global, number: u64, fault: LineFault) -> Result<Stri
     ensures { IfOk result (λ s. string_bytes s ≡ refused_line number fault) }
 {
     format!(in alloc; "refused line {number}: {fault}\n")
-}
-
-/// The line of an account that is asked for while a unit of work is open.
-pub fn busy_line(alloc: Global) -> Result<String, AllocError>
-    ensures { IfOk result (λ s. string_bytes s ≡ busy_line) }
-{
-    format!(in alloc; "refused 11 Busy\n")
 }
 
 /// The words of a body.

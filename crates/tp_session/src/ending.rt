@@ -1,32 +1,72 @@
 //! The end of a session: open units are aborted, and the final lines told.
 ghost use Rattle.std.specs.List.{AllZip};
-ghost use Rattle.std.specs.Prelude.{◌≡◌, ◌<◌, ◌++◌, All, IsErrOf, IsTrue, OnErr, OnOk, length, map, slice_get};
+ghost use Rattle.std.specs.Prelude.{◌≡◌, ◌+◌, ◌<◌, ◌++◌, None, All, IsErrOf, IsTrue, OnErr, OnOk, length, map};
+ghost use Rattle.std.specs.Prelude.{slice_get};
 ghost use Rattle.std.specs.Io.KnownBytes.{Appends};
 ghost use Rattle.tp_report.specs.Written.{AppendsFront};
 ghost use Rattle.tp_script.specs.Script.{script_view};
 ghost use Rattle.tp_perform.specs.Ending.{final_line, final_lines};
-ghost use Rattle.tp_session.specs.Hands.{GivesUp, IsHand};
+ghost use Rattle.tp_workers.specs.Free.{IsFreePass};
+ghost use Rattle.tp_commands.specs.Acting.{AllEnded, places_shown};
+ghost use Rattle.tp_commands.specs.Places.{AllLeft, firsts, workers};
+ghost use Rattle.tp_perform.specs.Told.{AreReady, after_servers, units_held};
+ghost use Rattle.tp_session.specs.Hands.{AllHold, GivesUp, hands, unit_of};
 
-use crate::hand::{Hand, give_up};
+use crate::hand::give_up;
 use crate::reading::Lines;
 use std::alloc::Global;
-use tp_manager::Manager;
+use tp_commands::{Place, end_all};
+use tp_manager::{Manager, Pass};
+use tp_model::types::Work;
 use tp_perform::finals::line_of;
 use tp_report::{Fault, Sink};
 use tp_script::Script;
 use tp_server::Server;
 
 /// Has each worker give up what it has in hand.
-pub(crate) fn give_up_all(manager: &Manager, hands: &mut [Hand])
-    requires holds { All (IsHand manager.now) hands.old }
-    ensures holds { All (IsHand manager.now) hands.new }
-    ensures given_up { AllZip GivesUp hands.old hands.new }
+fn give_up_all(manager: &Manager, passes: &mut [Pass], works: &mut [Option<Work>])
+    requires holds { AllHold manager.now passes.old works.old }
+    ensures holds { AllHold manager.now passes.new works.new }
+    ensures given_up { AllZip GivesUp (hands passes.old works.old) (hands passes.new works.new) }
 {
-    let Some((hand, hands)) = hands.split_first_mut() else {
+    let Some((pass, passes)) = passes.split_first_mut() else {
         return;
     };
-    give_up(manager, hand);
-    give_up_all(manager, hands);
+    let Some((work, works)) = works.split_first_mut() else {
+        return;
+    };
+    give_up(manager, pass, work);
+    give_up_all(manager, passes, works);
+}
+
+/// Ends all desks, and has each worker give up what it has in hand. The passes are all, from the client's on.
+pub(crate) fn end_passes(
+    manager: &Manager,
+    passes: &mut [Pass],
+    servers: &mut [Box<dyn Server + Send>],
+    places: &mut [Place],
+    works: &mut [Option<Work>],
+)
+    requires ready { AreReady behaviour registers pending manager.now passes.old servers.old places.old }
+    requires parts { length passes.old ≡ 1 + length servers.old + length works.old }
+    requires in_hand { units_held (length servers.old) passes.old ≡ map unit_of works.old }
+    ensures free { All (IsFreePass manager.now) passes.new }
+    ensures clear { All (λ server. pending server ≡ None) servers.new }
+    ensures each_server { length servers.new ≡ length servers.old }
+    ensures left { let many = length servers.old in
+        AllLeft behaviour registers (firsts places.old) (workers many passes.new) servers.new }
+    ensures ended { let many = length servers.old in AllEnded
+        (places_shown behaviour registers pending (workers many passes.old) servers.old places.old)
+        (workers many passes.new) (map (λ server. registers server) servers.new) }
+    ensures given_up { let many = length servers.old in AllZip GivesUp
+        (hands (after_servers many passes.old) works.old) (hands (after_servers many passes.new) works.new) }
+{
+    let Some((_client, others)) = passes.split_first_mut() else {
+        unreachable!();
+    };
+    let (desks, rest) = others.split_at_mut(servers.len());
+    end_all(manager, desks, servers, places);
+    give_up_all(manager, rest, works);
 }
 
 /// Tells the final line of the server at a place.
@@ -43,6 +83,7 @@ fn tell_final(
         ++ final_line (slice_get (script_view script.now).servers i)
         (slice_get (map (λ server. registers server) servers.now) i)) }
     ensures no_write { ¬ (IsErrOf result Fault.Write) }
+    ensures no_read { ¬ (IsErrOf result Fault.Read) }
 {
     match line_of(alloc, script, servers, i) {
         Ok(text) => match lines.tell(text.as_bytes()) {
@@ -69,6 +110,7 @@ pub(crate) fn finals<W: Sink>(
         (lines.old.answers.items ++ final_lines (script_view script.now).servers
         (map (λ server. registers server) servers.now) (length servers.now))) }
     ensures write { IsErrOf result Fault.Write → IsTrue (W.has_failed writer.new) }
+    ensures no_read { ¬ (IsErrOf result Fault.Read) }
 {
     for i in 0..servers.len() {
         tell_final(alloc, script, servers, i, lines)?;

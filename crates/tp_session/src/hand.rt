@@ -1,7 +1,7 @@
-//! A worker outside of the program: the pass that it acts through, and the work that it has in hand.
+//! A worker outside of the program: what it has in hand, and what its pass does for it.
 ghost use Rattle.std.specs.Prelude.{◌≡◌, ◌≤◌, length};
 ghost use Rattle.tp_model.specs.Steps.{IsServerStage};
-ghost use Rattle.tp_session.specs.Hands.{GivesUp, IsHand, WorkerDoes};
+ghost use Rattle.tp_session.specs.Hands.{GivesUp, IsHand, WorkerDoes, hand};
 ghost use Rattle.tp_session.specs.Hands.{TellsAbort, TellsClaim, TellsCommit, TellsTake};
 
 use tp_desk::Turned;
@@ -9,15 +9,6 @@ use tp_manager::{Manager, Pass};
 use tp_model::types::{Claimed, Draft, Ended, Refusal, Work};
 use tp_report::ServerAnswer;
 use tp_script::WorkerAct;
-
-/// A worker's pass, and the work that it has in hand.
-#[derive(Drop)]
-pub struct Hand {
-    /// The pass.
-    pub pass: Pass,
-    /// What it took, until its commit or abort.
-    pub work: Option<Work>,
-}
 
 /// What a worker is answered.
 #[derive(Clone, Copy, Debug, PartialEq, Eq)]
@@ -28,35 +19,46 @@ pub enum WorkerAnswer {
     Told(ServerAnswer),
 }
 
-/// Has a worker of a stage do what is asked, by one call of the manager.
-pub fn worker_act(manager: &Manager, stage: u8, hand: &mut Hand, act: &WorkerAct) -> WorkerAnswer
-    requires holds { IsHand manager.now hand.old }
+/// Has a worker of a stage do what is asked, by one call of the manager. `work` is what it took, until its
+/// commit or abort.
+pub fn worker_act(
+    manager: &Manager,
+    stage: u8,
+    pass: &mut Pass,
+    work: &mut Option<Work>,
+    act: &WorkerAct,
+) -> WorkerAnswer
+    requires holds { IsHand manager.now (hand pass.old work.old) }
     requires stage { IsServerStage stage }
-    ensures holds { IsHand manager.now hand.new }
-    ensures tells { WorkerDoes manager.now.limits stage act.now hand.old result hand.new }
+    ensures holds { IsHand manager.now (hand pass.new work.new) }
+    ensures number { pass.new.number ≡ pass.old.number }
+    ensures tells { WorkerDoes manager.now.limits stage act.now
+        (hand pass.old work.old) result (hand pass.new work.new) }
 {
     match act {
-        WorkerAct::Claim => claim(manager, stage, hand),
-        WorkerAct::Take { id } => take(manager, hand, *id),
-        WorkerAct::Commit { drafts } => commit(manager, hand, drafts.as_slice()),
-        WorkerAct::Abort => abort(manager, hand),
+        WorkerAct::Claim => claim(manager, stage, pass, work),
+        WorkerAct::Take { id } => take(manager, pass, work, *id),
+        WorkerAct::Commit { drafts } => commit(manager, pass, work, drafts.as_slice()),
+        WorkerAct::Abort => abort(manager, pass, work),
     }
 }
 
 /// `claim NAME`
-fn claim(manager: &Manager, stage: u8, hand: &mut Hand) -> WorkerAnswer
-    requires holds { IsHand manager.now hand.old }
+fn claim(manager: &Manager, stage: u8, pass: &mut Pass, work: &mut Option<Work>) -> WorkerAnswer
+    requires holds { IsHand manager.now (hand pass.old work.old) }
     requires stage { IsServerStage stage }
-    ensures holds { IsHand manager.now hand.new }
-    ensures tells { TellsClaim manager.now.limits stage hand.old result hand.new }
+    ensures holds { IsHand manager.now (hand pass.new work.new) }
+    ensures number { pass.new.number ≡ pass.old.number }
+    ensures tells { TellsClaim manager.now.limits stage
+        (hand pass.old work.old) result (hand pass.new work.new) }
 {
-    if hand.work.is_some() {
+    if work.is_some() {
         return WorkerAnswer::Told(ServerAnswer::Busy);
     }
-    match manager.claim(&mut hand.pass, stage) {
-        Claimed::Work(work) => {
-            hand.work = Some(work);
-            WorkerAnswer::Took(work)
+    match manager.claim(pass, stage) {
+        Claimed::Work(taken) => {
+            *work = Some(taken);
+            WorkerAnswer::Took(taken)
         }
         Claimed::Idle => WorkerAnswer::Told(ServerAnswer::Turned(Turned::Idle)),
         Claimed::NoUnit => WorkerAnswer::Told(ServerAnswer::Turned(Turned::NoUnit)),
@@ -64,18 +66,19 @@ fn claim(manager: &Manager, stage: u8, hand: &mut Hand) -> WorkerAnswer
 }
 
 /// `take NAME ID`
-fn take(manager: &Manager, hand: &mut Hand, id: u32) -> WorkerAnswer
-    requires holds { IsHand manager.now hand.old }
-    ensures holds { IsHand manager.now hand.new }
-    ensures tells { TellsTake manager.now.limits id hand.old result hand.new }
+fn take(manager: &Manager, pass: &mut Pass, work: &mut Option<Work>, id: u32) -> WorkerAnswer
+    requires holds { IsHand manager.now (hand pass.old work.old) }
+    ensures holds { IsHand manager.now (hand pass.new work.new) }
+    ensures number { pass.new.number ≡ pass.old.number }
+    ensures tells { TellsTake manager.now.limits id (hand pass.old work.old) result (hand pass.new work.new) }
 {
-    if hand.work.is_some() {
+    if work.is_some() {
         return WorkerAnswer::Told(ServerAnswer::Busy);
     }
-    match manager.claim_id(&mut hand.pass, id) {
-        Ok(work) => {
-            hand.work = Some(work);
-            WorkerAnswer::Took(work)
+    match manager.claim_id(pass, id) {
+        Ok(taken) => {
+            *work = Some(taken);
+            WorkerAnswer::Took(taken)
         }
         Err(Refusal::NoUnit) => WorkerAnswer::Told(ServerAnswer::Turned(Turned::NoUnit)),
         Err(why) => WorkerAnswer::Told(ServerAnswer::NotTaken { element: id, why }),
@@ -83,32 +86,40 @@ fn take(manager: &Manager, hand: &mut Hand, id: u32) -> WorkerAnswer
 }
 
 /// `commit NAME OUT..`
-fn commit(manager: &Manager, hand: &mut Hand, drafts: &[Draft]) -> WorkerAnswer
-    requires holds { IsHand manager.now hand.old }
+fn commit(
+    manager: &Manager,
+    pass: &mut Pass,
+    work: &mut Option<Work>,
+    drafts: &[Draft],
+) -> WorkerAnswer
+    requires holds { IsHand manager.now (hand pass.old work.old) }
     requires few { length drafts.now ≤ 4 }
-    ensures holds { IsHand manager.now hand.new }
-    ensures tells { TellsCommit drafts.now hand.old result hand.new }
+    ensures holds { IsHand manager.now (hand pass.new work.new) }
+    ensures number { pass.new.number ≡ pass.old.number }
+    ensures tells { TellsCommit manager.now.limits drafts.now
+        (hand pass.old work.old) result (hand pass.new work.new) }
 {
-    let Some(work) = hand.work else {
+    let Some(taken) = *work else {
         return WorkerAnswer::Told(ServerAnswer::NoneOpen);
     };
-    let outcome = manager.commit(&mut hand.pass, drafts);
-    hand.work = None;
-    WorkerAnswer::Told(ServerAnswer::Turned(Turned::settled(&work, outcome)))
+    let outcome = manager.commit(pass, drafts);
+    *work = None;
+    WorkerAnswer::Told(ServerAnswer::Turned(Turned::settled(&taken, outcome)))
 }
 
 /// `abort NAME`
-fn abort(manager: &Manager, hand: &mut Hand) -> WorkerAnswer
-    requires holds { IsHand manager.now hand.old }
-    ensures holds { IsHand manager.now hand.new }
-    ensures tells { TellsAbort hand.old result hand.new }
+fn abort(manager: &Manager, pass: &mut Pass, work: &mut Option<Work>) -> WorkerAnswer
+    requires holds { IsHand manager.now (hand pass.old work.old) }
+    ensures holds { IsHand manager.now (hand pass.new work.new) }
+    ensures number { pass.new.number ≡ pass.old.number }
+    ensures tells { TellsAbort manager.now.limits (hand pass.old work.old) result (hand pass.new work.new) }
 {
-    let Some(work) = hand.work else {
+    let Some(taken) = *work else {
         return WorkerAnswer::Told(ServerAnswer::NoneOpen);
     };
-    let element = work.element.id;
-    let ended = manager.abort(&mut hand.pass);
-    hand.work = None;
+    let element = taken.element.id;
+    let ended = manager.abort(pass);
+    *work = None;
     match ended {
         Ended::Aborted => WorkerAnswer::Told(ServerAnswer::Aborted { element }),
         Ended::AlreadyAborted => WorkerAnswer::Told(ServerAnswer::AlreadyAborted { element }),
@@ -116,10 +127,10 @@ fn abort(manager: &Manager, hand: &mut Hand) -> WorkerAnswer
 }
 
 /// Gives up what a worker has in hand, if there is something.
-pub fn give_up(manager: &Manager, hand: &mut Hand)
-    requires holds { IsHand manager.now hand.old }
-    ensures holds { IsHand manager.now hand.new }
-    ensures gives_up { GivesUp hand.old hand.new }
+pub fn give_up(manager: &Manager, pass: &mut Pass, work: &mut Option<Work>)
+    requires holds { IsHand manager.now (hand pass.old work.old) }
+    ensures holds { IsHand manager.now (hand pass.new work.new) }
+    ensures gives_up { GivesUp (hand pass.old work.old) (hand pass.new work.new) }
 {
-    let _ = abort(manager, hand);
+    let _ = abort(manager, pass, work);
 }

@@ -4,7 +4,7 @@ ghost use Rattle.tp_report.specs.Written.{AppendsFront};
 ghost use Rattle.tp_script.specs.Session.{HeadView, head_at, head_view};
 ghost use Rattle.tp_session.specs.Conversed.{HeadRead, TakesHeadLine};
 ghost use Rattle.tp_session.specs.Heard.{HearsFront, Tells};
-ghost use Rattle.tp_session.specs.Reading.{to_come, unused};
+ghost use Rattle.tp_session.specs.Reading.{IsOver, room, to_come, unused};
 ghost use Rattle.tp_session.specs.Told.{HeadTold, past_of};
 
 use crate::answering::refuse;
@@ -23,6 +23,7 @@ fn take_line(alloc: Global, head: &mut Head, lines: &mut Lines, number: u64) -> 
         (head_at lines.old.line.items (head_view head.old)) (head_view head.old)
         lines.old.answers.items (head_view head.new) lines.new.answers.items) }
     ensures no_write { ¬ (IsErrOf result Fault.Write) }
+    ensures no_read { ¬ (IsErrOf result Fault.Read) }
 {
     match head.head_line(alloc, lines.line()) {
         Ok(None) => Ok(false),
@@ -46,9 +47,10 @@ pub(crate) fn read_head<R: Source, W: Sink>(
     writer: &mut W,
 ) -> Result<Option<u64>, Fault>
     requires asked { R.asked reader.old + lines.old.left < 2 ^ 64 }
-    ensures asked { R.asked reader.new + lines.new.left < 2 ^ 64 }
-    ensures few { IfOk result (λ first. past_of first + 1 < 2 ^ 64) }
-    ensures read { IfOk result (λ first. HeadRead first
+    requires few { room lines.old + 1 < 2 ^ 64 }
+    ensures asked { R.asked reader.new + lines.new.left ≡ R.asked reader.old + lines.old.left }
+    ensures few { IfOk result (λ first. past_of first + room lines.new + 2 < 2 ^ 64) }
+    ensures head { IfOk result (λ first. HeadRead first
         (to_come lines.old (R.rest reader.old)) (to_come lines.new (R.rest reader.new))
         lines.new.line.items (head_view head.old) (head_view head.new)
         (λ text. Tells (W.contents writer.old) (W.contents writer.new)
@@ -58,6 +60,8 @@ pub(crate) fn read_head<R: Source, W: Sink>(
         (λ text. AppendsFront (W.contents writer.old) (W.contents writer.new)
         (lines.old.answers.items ++ text))) }
     ensures write { IsErrOf result Fault.Write → IsTrue (W.has_failed writer.new) }
+    ensures read { IsErrOf result Fault.Read
+        → IsOver (R.has_failed reader.new) (R.asked reader.old + lines.old.left) (R.asked reader.new) }
 {
     for past in 0..u64::MAX {
         if !lines.next(reader, writer)? {
@@ -67,5 +71,6 @@ pub(crate) fn read_head<R: Source, W: Sink>(
             return Ok(Some(past));
         }
     }
-    Err(Fault::Read)
+    // A line takes a byte, or asks once more, so that there are fewer lines.
+    unreachable!();
 }

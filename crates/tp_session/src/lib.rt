@@ -7,13 +7,15 @@ mod answers;
 mod ending;
 mod hand;
 mod heading;
+mod held;
 mod making;
 mod reading;
 mod session;
 
 pub use acts::act_line;
 pub use answering::attend;
-pub use answers::{busy_line, refused_line, worker_line};
-pub use hand::{Hand, WorkerAnswer, give_up, worker_act};
+pub use answers::{refused_line, worker_line};
+pub use hand::{WorkerAnswer, give_up, worker_act};
+pub use held::Held;
 pub use reading::{Lines, MAX_ASKED, MAX_KEPT};
 pub use session::{answer_to_end, converse, converse_to_end};

@@ -10,8 +10,9 @@ use tp_script::{Failed, Source};
 /// The bytes of a line that are kept: one more than a line may have, so that a longer one is known by it.
 pub const MAX_KEPT: usize = 201;
 
-/// How often a reader is asked in a session.
-pub const MAX_ASKED: u64 = 18_446_744_073_709_551_614;
+/// How often a reader is asked in a session at most: a million times a second for 71 years. The lines that
+/// come meanwhile have numbers below 2 ^ 64.
+pub const MAX_ASKED: u64 = 2_251_799_813_685_248;
 
 /// What was read last and not used yet, the line so far, and the answers that are not written yet.
 #[derive(Drop)]
@@ -24,6 +25,7 @@ pub struct Lines {
     pub left: u64,
     ghost short: { vec_len line ≤ MAX_KEPT },
     ghost inside: { at ≤ vec_len chunk },
+    ghost few: { left ≤ MAX_ASKED },
 }
 
 /// Where the first line of these bytes ends, if it does.
@@ -47,7 +49,7 @@ impl Lines {
     ghost use Rattle.std.specs.Io.KnownBytes.{Appends, Consumes, IsAtEnd};
     ghost use Rattle.tp_report.specs.Written.{AppendsFront};
     ghost use Rattle.tp_session.specs.Heard.{Next, Tells};
-    ghost use Rattle.tp_session.specs.Reading.{TakesLine, to_come, unused};
+    ghost use Rattle.tp_session.specs.Reading.{IsOver, TakesLine, room, to_come, unused};
 
     /// Nothing was read yet.
     pub fn new(alloc: Global) -> Lines
@@ -92,6 +94,7 @@ impl Lines {
         ensures front { OnErr result
             (AppendsFront (W.contents writer.old) (W.contents writer.new) self.old.answers.items) }
         ensures write { IsErrOf result Fault.Write → IsTrue (W.has_failed writer.new) }
+        ensures no_read { ¬ (IsErrOf result Fault.Read) }
     {
         match write_all(writer, self.answers.as_slice()) {
             Ok(()) => {
@@ -131,9 +134,11 @@ impl Lines {
     ) -> Result<bool, Fault>
         requires asked { R.asked reader.old + self.old.left < 2 ^ 64 }
         requires used { unused self.old ≡ [] }
-        ensures asked { R.asked reader.new + self.new.left < 2 ^ 64 }
+        ensures asked { R.asked reader.new + self.new.left ≡ R.asked reader.old + self.old.left }
+        ensures once { OnOk result (self.new.left + 1 ≡ self.old.left) }
+        ensures room { OnOk result (room self.new + 1 ≤ room self.old) }
         ensures line { self.new.line ≡ self.old.line }
-        ensures read { OnOk result
+        ensures consumes { OnOk result
             (Consumes (to_come self.old (R.rest reader.old)) (to_come self.new (R.rest reader.new)) []) }
         ensures end { IfOk result (λ some. some ≡ false → IsAtEnd (to_come self.new (R.rest reader.new))) }
         ensures told { OnOk result (Tells (W.contents writer.old) (W.contents writer.new)
@@ -141,6 +146,8 @@ impl Lines {
         ensures front { OnErr result
             (AppendsFront (W.contents writer.old) (W.contents writer.new) self.old.answers.items) }
         ensures write { IsErrOf result Fault.Write → IsTrue (W.has_failed writer.new) }
+        ensures read { IsErrOf result Fault.Read
+            → IsOver (R.has_failed reader.new) (R.asked reader.old + self.old.left) (R.asked reader.new) }
     {
         self.flush(writer)?;
         if self.left == 0 {
@@ -168,7 +175,8 @@ impl Lines {
         writer: &mut W,
     ) -> Result<bool, Fault>
         requires asked { R.asked reader.old + self.old.left < 2 ^ 64 }
-        ensures asked { R.asked reader.new + self.new.left < 2 ^ 64 }
+        ensures asked { R.asked reader.new + self.new.left ≡ R.asked reader.old + self.old.left }
+        ensures room { OnOk result (room self.new + 1 ≤ room self.old) }
         ensures next { IfOk result (λ more. Next more (to_come self.old (R.rest reader.old))
             self.new.line.items (to_come self.new (R.rest reader.new))) }
         ensures told { OnOk result (Tells (W.contents writer.old) (W.contents writer.new)
@@ -176,6 +184,8 @@ impl Lines {
         ensures front { OnErr result
             (AppendsFront (W.contents writer.old) (W.contents writer.new) self.old.answers.items) }
         ensures write { IsErrOf result Fault.Write → IsTrue (W.has_failed writer.new) }
+        ensures read { IsErrOf result Fault.Read
+            → IsOver (R.has_failed reader.new) (R.asked reader.old + self.old.left) (R.asked reader.new) }
     {
         self.line.clear();
         for _read in 0..MAX_ASKED {

@@ -1,8 +1,8 @@
-//! A whole session: its head, what it needs, its lines, and its end.
-ghost use Rattle.std.specs.Prelude.{◌≡◌, ◌+◌, ◌<◌, ◌^◌, ◌++◌, ◌⊎◌, None, All, IfSome, IsErrOf, IsTrue, OnErr};
-ghost use Rattle.std.specs.Prelude.{[], OnOk, Result, length, map, vec_len};
+//! A session from its first line to its final lines: its head is read, what it needs is made, and each line
+//! is answered.
+ghost use Rattle.std.specs.Prelude.{◌≡◌, ◌+◌, ◌<◌, ◌^◌, ◌++◌, ◌⊎◌, None, All, IfSome, IsErrOf, IsTrue};
+ghost use Rattle.std.specs.Prelude.{OnErr, OnOk, Result, length, map};
 ghost use Rattle.std.specs.Io.KnownBytes.{Appends};
-ghost use Rattle.tp_manager.specs.Shown.{IsKeptBy, ManagerShown};
 ghost use Rattle.tp_workers.specs.Free.{IsFreePass};
 ghost use Rattle.tp_server.specs.Behaviour.{behaviour_of};
 ghost use Rattle.tp_report.specs.Faults.{TellsFault, exit_status};
@@ -10,29 +10,29 @@ ghost use Rattle.tp_report.specs.Written.{AppendsFront};
 ghost use Rattle.tp_report.specs.declared.fault.Exit.{Exit};
 ghost use Rattle.tp_report.specs.declared.fault.Fault.{Fault};
 ghost use Rattle.tp_script.specs.Session.{head_view};
-ghost use Rattle.tp_commands.specs.Acting.{new_places};
-ghost use Rattle.tp_commands.specs.Places.{AllLeft, all_firsts};
-ghost use Rattle.tp_session.specs.Conversed.{AreNewPasses, BodyFront, BodyWhole, Conversed, ConversedAs};
-ghost use Rattle.tp_session.specs.Conversed.{ConversedFront, LiveEnds, limits_of};
-ghost use Rattle.tp_session.specs.Hands.{IsHand};
+ghost use Rattle.tp_session.specs.Conversed.{BodyFront, BodyWhole, Conversed, ConversedAs, ConversedFront};
+ghost use Rattle.tp_session.specs.Conversed.{IsNewManaged, LiveEnds, limits_of};
 ghost use Rattle.tp_session.specs.Heard.{HearsFront, IsAllOf, IsSilent, Tells};
-ghost use Rattle.tp_session.specs.Live.{Live};
-ghost use Rattle.tp_session.specs.Reading.{to_come};
+ghost use Rattle.tp_commands.specs.Places.{workers};
+ghost use Rattle.tp_perform.specs.Told.{AllLeftAt};
+ghost use Rattle.tp_session.specs.Left.{BodyDone};
+ghost use Rattle.tp_session.specs.Live.{Begins, IsHeld, IsLive, Live};
+ghost use Rattle.tp_session.specs.Reading.{IsOver, room, to_come};
 ghost use Rattle.tp_session.specs.Told.{BodyTold, begun, past_of};
 ghost use Rattle.tp_session.specs.declared.reading.TheConstants.{MAX_ASKED};
 
 use crate::answering::answer_all;
-use crate::ending::{finals, give_up_all};
-use crate::hand::Hand;
+use crate::ending::{end_passes, finals};
 use crate::heading::read_head;
-use crate::making::{hands_for, next_pass, passes_for};
+use crate::held::Held;
+use crate::making::{first_places, no_works};
 use crate::reading::{Lines, MAX_ASKED};
 use std::alloc::Global;
-use tp_commands::{end_all, places_for};
-use tp_manager::{Keeper, MakeFault, Manager, Pass};
+use tp_manager::MakeFault;
 use tp_model::types::Limits;
 use tp_perform::serve::{eager, lazy, put};
 use tp_report::{Exit, Fault, Sink, exit_status, write_fault};
+use tp_rollover::Managed;
 use tp_script::{Head, Kind, Source};
 use tp_server::Server;
 
@@ -49,6 +49,8 @@ pub fn converse<R: Source, W: Sink>(
     ensures front { OnErr result (IfSome (R.rest reader.old)
         (λ bytes. ConversedFront bytes (W.contents writer.old) (W.contents writer.new))) }
     ensures write { IsErrOf result Fault.Write → IsTrue (W.has_failed writer.new) }
+    ensures read { IsErrOf result Fault.Read
+        → IsOver (R.has_failed reader.new) (R.asked reader.old + MAX_ASKED) (R.asked reader.new) }
 {
     let mut lines = Lines::new(alloc);
     let mut head = Head::new(alloc);
@@ -69,6 +71,8 @@ pub fn converse_to_end<R: Source, W: Sink, E: Sink>(
         × IfSome (R.rest reader.old) (λ bytes. ConversedAs outcome bytes
         (W.contents writer.old) (W.contents writer.new))
         × (IsErrOf outcome Fault.Write → IsTrue (W.has_failed writer.new))
+        × (IsErrOf outcome Fault.Read
+        → IsOver (R.has_failed reader.new) (R.asked reader.old + MAX_ASKED) (R.asked reader.new))
         × (result ≡ exit_status outcome)
         × TellsFault outcome (E.has_failed faults.new) (E.contents faults.old) (E.contents faults.new) }
 {
@@ -106,105 +110,51 @@ fn hold<R: Source, W: Sink>(
     writer: &mut W,
 ) -> Result<(), Fault>
     requires asked { R.asked reader.old + lines.old.left < 2 ^ 64 }
-    requires few { past_of first + 1 < 2 ^ 64 }
+    requires few { past_of first + room lines.old + 2 < 2 ^ 64 }
     requires ended { first ≡ None → IsSilent (to_come lines.old (R.rest reader.old)) }
-    ensures told { OnOk result ((m : ManagerShown) × BodyWhole m head.now (past_of first)
-        (begun first lines.old.line.items) (to_come lines.old (R.rest reader.old))
+    ensures told { OnOk result (BodyWhole head.now (past_of first) (begun first lines.old.line.items)
+        (to_come lines.old (R.rest reader.old))
         (λ text. Appends (W.contents writer.old) (W.contents writer.new) (lines.old.answers.items ++ text))) }
-    ensures front { OnErr result (BodyFront head.now (past_of first)
-        (begun first lines.old.line.items) (to_come lines.old (R.rest reader.old))
+    ensures front { OnErr result (BodyFront head.now (past_of first) (begun first lines.old.line.items)
+        (to_come lines.old (R.rest reader.old))
         (λ text. AppendsFront (W.contents writer.old) (W.contents writer.new)
         (lines.old.answers.items ++ text))) }
     ensures write { IsErrOf result Fault.Write → IsTrue (W.has_failed writer.new) }
+    ensures read { IsErrOf result Fault.Read
+        → IsOver (R.has_failed reader.new) (R.asked reader.old + lines.old.left) (R.asked reader.new) }
 {
-    match Keeper::new(alloc, limits_of(head)) {
-        Ok((manager, mut keeper)) => with_manager(
-            alloc,
-            head,
-            first,
-            &manager,
-            &mut keeper,
-            lines,
-            reader,
-            writer,
-        ),
+    match Managed::new(alloc, limits_of(head)) {
+        Ok(managed) => with_managed(alloc, head, first, managed, lines, reader, writer),
         Err(MakeFault::NoMemory) => Err(Fault::NoMemory),
         Err(MakeFault::BadLimits) => unreachable!(),
         Err(MakeFault::NoPart) => unreachable!(),
     }
 }
 
-/// Makes the passes: the client's, one for each server, and one for each worker.
-fn with_manager<R: Source, W: Sink>(
-    alloc: Global,
-    head: &Head,
-    first: Option<u64>,
-    manager: &Manager,
-    keeper: &mut Keeper,
-    lines: &mut Lines,
-    reader: &mut R,
-    writer: &mut W,
-) -> Result<(), Fault>
-    requires keeper { IsKeptBy manager.now keeper.old }
-    requires fresh { (keeper.old.given ≡ 0) × (keeper.old.seen ≡ []) }
-    requires limits { manager.now.limits ≡ limits_of (head_view head.now) }
-    requires asked { R.asked reader.old + lines.old.left < 2 ^ 64 }
-    requires few { past_of first + 1 < 2 ^ 64 }
-    requires ended { first ≡ None → IsSilent (to_come lines.old (R.rest reader.old)) }
-    ensures told { OnOk result (BodyWhole manager.now head.now (past_of first)
-        (begun first lines.old.line.items) (to_come lines.old (R.rest reader.old))
-        (λ text. Appends (W.contents writer.old) (W.contents writer.new) (lines.old.answers.items ++ text))) }
-    ensures front { OnErr result (BodyFront head.now (past_of first)
-        (begun first lines.old.line.items) (to_come lines.old (R.rest reader.old))
-        (λ text. AppendsFront (W.contents writer.old) (W.contents writer.new)
-        (lines.old.answers.items ++ text))) }
-    ensures write { IsErrOf result Fault.Write → IsTrue (W.has_failed writer.new) }
-{
-    let mut client = next_pass(manager, keeper);
-    let mut passes = passes_for(alloc, manager, keeper, head.script.servers.len())?;
-    let mut hands = hands_for(alloc, manager, keeper, head.workers.len())?;
-    with_passes(
-        alloc,
-        head,
-        first,
-        manager,
-        &mut client,
-        passes.as_mut_slice(),
-        hands.as_mut_slice(),
-        lines,
-        reader,
-        writer,
-    )
-}
-
 /// Makes the boxed servers.
-fn with_passes<R: Source, W: Sink>(
+fn with_managed<R: Source, W: Sink>(
     alloc: Global,
     head: &Head,
     first: Option<u64>,
-    manager: &Manager,
-    client: &mut Pass,
-    passes: &mut [Pass],
-    hands: &mut [Hand],
+    managed: Managed,
     lines: &mut Lines,
     reader: &mut R,
     writer: &mut W,
 ) -> Result<(), Fault>
-    requires limits { manager.now.limits ≡ limits_of (head_view head.now) }
-    requires new { AreNewPasses manager.now client.old passes.old hands.old }
-    requires each_server { length passes.old ≡ vec_len head.now.script.servers }
-    requires each_worker { length hands.old ≡ vec_len head.now.workers }
+    requires new { IsNewManaged (limits_of (head_view head.now)) managed }
     requires asked { R.asked reader.old + lines.old.left < 2 ^ 64 }
-    requires few { past_of first + 1 < 2 ^ 64 }
+    requires few { past_of first + room lines.old + 2 < 2 ^ 64 }
     requires ended { first ≡ None → IsSilent (to_come lines.old (R.rest reader.old)) }
-    ensures told { OnOk result (BodyWhole manager.now head.now (past_of first)
-        (begun first lines.old.line.items) (to_come lines.old (R.rest reader.old))
+    ensures told { OnOk result (BodyWhole head.now (past_of first) (begun first lines.old.line.items)
+        (to_come lines.old (R.rest reader.old))
         (λ text. Appends (W.contents writer.old) (W.contents writer.new) (lines.old.answers.items ++ text))) }
-    ensures front { OnErr result (BodyFront head.now (past_of first)
-        (begun first lines.old.line.items) (to_come lines.old (R.rest reader.old))
+    ensures front { OnErr result (BodyFront head.now (past_of first) (begun first lines.old.line.items)
+        (to_come lines.old (R.rest reader.old))
         (λ text. AppendsFront (W.contents writer.old) (W.contents writer.new)
         (lines.old.answers.items ++ text))) }
     ensures write { IsErrOf result Fault.Write → IsTrue (W.has_failed writer.new) }
+    ensures read { IsErrOf result Fault.Read
+        → IsOver (R.has_failed reader.new) (R.asked reader.old + lines.old.left) (R.asked reader.new) }
 {
     let mut servers: Vec<Box<dyn Server + Send>> = Vec::new(alloc);
     for server in &head.script.servers {
@@ -213,19 +163,7 @@ fn with_passes<R: Source, W: Sink>(
             Kind::Lazy => put(&mut servers, Box::new(alloc, lazy(server)?)?)?,
         }
     }
-    with_servers(
-        alloc,
-        head,
-        first,
-        manager,
-        client,
-        passes,
-        servers.as_mut_slice(),
-        hands,
-        lines,
-        reader,
-        writer,
-    )
+    with_servers(alloc, head, first, managed, servers, lines, reader, writer)
 }
 
 /// Answers the lines, and then writes the final lines of these servers.
@@ -233,106 +171,93 @@ fn with_servers<R: Source, W: Sink>(
     alloc: Global,
     head: &Head,
     first: Option<u64>,
-    manager: &Manager,
-    client: &mut Pass,
-    passes: &mut [Pass],
-    servers: &mut [Box<dyn Server + Send>],
-    hands: &mut [Hand],
+    managed: Managed,
+    servers: Vec<Box<dyn Server + Send>>,
     lines: &mut Lines,
     reader: &mut R,
     writer: &mut W,
 ) -> Result<(), Fault>
-    requires limits { manager.now.limits ≡ limits_of (head_view head.now) }
-    requires new { AreNewPasses manager.now client.old passes.old hands.old }
-    requires each_server { length passes.old ≡ vec_len head.now.script.servers }
-    requires each_worker { length hands.old ≡ vec_len head.now.workers }
-    requires behaviours { map (λ server. behaviour server) servers.old
+    requires new { IsNewManaged (limits_of (head_view head.now)) managed }
+    requires behaviours { map (λ server. behaviour server) servers.items
         ≡ map (λ line. behaviour_of line.recipe) head.now.script.servers.items }
-    requires registers { map (λ server. registers server) servers.old
+    requires registers { map (λ server. registers server) servers.items
         ≡ map (λ line. line.registers) head.now.script.servers.items }
-    requires clear { All (λ server. pending server ≡ None) servers.old }
+    requires clear { All (λ server. pending server ≡ None) servers.items }
     requires asked { R.asked reader.old + lines.old.left < 2 ^ 64 }
-    requires few { past_of first + 1 < 2 ^ 64 }
+    requires few { past_of first + room lines.old + 2 < 2 ^ 64 }
     requires ended { first ≡ None → IsSilent (to_come lines.old (R.rest reader.old)) }
-    ensures told { OnOk result (BodyWhole manager.now head.now (past_of first)
-        (begun first lines.old.line.items) (to_come lines.old (R.rest reader.old))
+    ensures told { OnOk result (BodyWhole head.now (past_of first) (begun first lines.old.line.items)
+        (to_come lines.old (R.rest reader.old))
         (λ text. Appends (W.contents writer.old) (W.contents writer.new) (lines.old.answers.items ++ text))) }
-    ensures front { OnErr result (BodyFront head.now (past_of first)
-        (begun first lines.old.line.items) (to_come lines.old (R.rest reader.old))
+    ensures front { OnErr result (BodyFront head.now (past_of first) (begun first lines.old.line.items)
+        (to_come lines.old (R.rest reader.old))
         (λ text. AppendsFront (W.contents writer.old) (W.contents writer.new)
         (lines.old.answers.items ++ text))) }
     ensures write { IsErrOf result Fault.Write → IsTrue (W.has_failed writer.new) }
+    ensures read { IsErrOf result Fault.Read
+        → IsOver (R.has_failed reader.new) (R.asked reader.old + lines.old.left) (R.asked reader.new) }
 {
-    answer_to_end(
-        alloc, head, first, manager, client, passes, servers, hands, lines, reader, writer,
-    )?;
-    finals(alloc, &head.script, servers, lines, writer)
+    let works = no_works(alloc, head.workers.len())?;
+    let places = first_places(managed.passes.as_slice(), servers.as_slice());
+    let mut held = Held {
+        managed,
+        servers,
+        places,
+        works,
+    };
+    answer_to_end(alloc, head, &mut held, first, lines, reader, writer)?;
+    finals(alloc, &head.script, held.servers.as_slice(), lines, writer)
 }
 
-/// Answers the lines behind the head, each server at a desk of its own. At the end, and after a fault, the
-/// workers give up what they have in hand, and the desks are ended: each server's registers are then what its
-/// behaviour makes of what its pass has committed. What was done before a fault stands.
+/// Answers the lines behind the head. At the end, and after a fault, the desks are ended, and the workers give
+/// up what they have in hand: each server's registers are then what its behaviour makes of what its pass has
+/// committed since its desk began, at the beginning or at the last rollover, where the registers stay the same.
+/// What was done before a fault stands.
 pub fn answer_to_end<R: Source, W: Sink>(
     alloc: Global,
     head: &Head,
+    held: &mut Held,
     first: Option<u64>,
-    manager: &Manager,
-    client: &mut Pass,
-    passes: &mut [Pass],
-    servers: &mut [Box<dyn Server + Send>],
-    hands: &mut [Hand],
     lines: &mut Lines,
     reader: &mut R,
     writer: &mut W,
 ) -> Result<(), Fault>
-    requires client { IsFreePass manager.now client.old }
-    requires passes { All (IsFreePass manager.now) passes.old }
-    requires servers { All (λ server. pending server ≡ None) servers.old }
-    requires paired { length passes.old ≡ length servers.old }
-    requires each_server { length servers.old ≡ vec_len head.now.script.servers }
-    requires hands { All (IsHand manager.now) hands.old }
-    requires each_worker { length hands.old ≡ vec_len head.now.workers }
+    requires held { IsHeld behaviour registers pending head.now held.old }
     requires asked { R.asked reader.old + lines.old.left < 2 ^ 64 }
-    requires few { past_of first + 1 < 2 ^ 64 }
+    requires few { past_of first + room lines.old + 2 < 2 ^ 64 }
     requires ended { first ≡ None → IsSilent (to_come lines.old (R.rest reader.old)) }
-    ensures client { IsFreePass manager.now client.new }
-    ensures passes { All (IsFreePass manager.now) passes.new }
-    ensures servers { All (λ server. pending server ≡ None) servers.new }
-    ensures left { AllLeft behaviour registers (all_firsts passes.old servers.old) passes.new servers.new }
-    ensures hands { All (λ hand. IsFreePass manager.now hand.pass) hands.new }
-    ensures told { OnOk result ((last : Live)
-        × BodyTold manager.now head.now (past_of first) (begun first lines.old.line.items)
-        (IsAllOf (to_come lines.old (R.rest reader.old)))
-        (record {
-          client = client.old;
-          places = new_places behaviour registers pending passes.old servers.old;
-          hands = hands.old;
-        })
-        last
+    ensures free { All (IsFreePass held.new.managed.manager) held.new.managed.passes.items }
+    ensures clear { All (λ server. pending server ≡ None) held.new.servers.items }
+    ensures each_server { length held.new.servers.items ≡ length held.old.servers.items }
+    ensures left { (before : Live) × (last : Live) × IsLive behaviour registers pending held.old before
+        × BodyDone head.now (past_of first) (begun first lines.old.line.items)
+        (to_come lines.old (R.rest reader.old)) before last
+        × AllLeftAt behaviour registers last.stand.scene.places
+        (workers (length held.old.servers.items) held.new.managed.passes.items) held.new.servers.items }
+    ensures told { OnOk result (Begins behaviour registers pending (λ old last.
+        BodyTold head.now (past_of first) (begun first lines.old.line.items)
+        (IsAllOf (to_come lines.old (R.rest reader.old))) old last
         (λ text. Tells (W.contents writer.old) (W.contents writer.new)
         lines.new.answers.items (lines.old.answers.items ++ text))
-        × LiveEnds last (map (λ server. registers server) servers.new)) }
+        × LiveEnds last (map (λ server. registers server) held.new.servers.items)) held.old) }
     ensures front { OnErr result (AppendsFront (W.contents writer.old) (W.contents writer.new)
         lines.old.answers.items
-        ⊎ (last : Live)
-        × BodyTold manager.now head.now (past_of first) (begun first lines.old.line.items)
-        (HearsFront (to_come lines.old (R.rest reader.old)))
-        (record {
-          client = client.old;
-          places = new_places behaviour registers pending passes.old servers.old;
-          hands = hands.old;
-        })
-        last
+        ⊎ Begins behaviour registers pending (λ old last.
+        BodyTold head.now (past_of first) (begun first lines.old.line.items)
+        (HearsFront (to_come lines.old (R.rest reader.old))) old last
         (λ text. AppendsFront (W.contents writer.old) (W.contents writer.new)
-        (lines.old.answers.items ++ text))) }
+        (lines.old.answers.items ++ text))) held.old) }
     ensures write { IsErrOf result Fault.Write → IsTrue (W.has_failed writer.new) }
+    ensures read { IsErrOf result Fault.Read
+        → IsOver (R.has_failed reader.new) (R.asked reader.old + lines.old.left) (R.asked reader.new) }
 {
-    let mut places = places_for(passes, servers);
-    let places = places.as_mut_slice();
-    let done = answer_all(
-        alloc, head, first, manager, client, passes, servers, places, hands, lines, reader, writer,
+    let done = answer_all(alloc, head, held, first, lines, reader, writer);
+    end_passes(
+        &held.managed.manager,
+        held.managed.passes.as_mut_slice(),
+        held.servers.as_mut_slice(),
+        held.places.as_mut_slice(),
+        held.works.as_mut_slice(),
     );
-    end_all(manager, passes, servers, places);
-    give_up_all(manager, hands);
     done
 }

@@ -1,48 +1,55 @@
-use Rattle.std.proofs.Common.{◌∙◌, refl}
-use Rattle.tp_report.proofs.Devices.{always_err, front_none}
+use Rattle.std.proofs.Common.{◌∙◌, ap, arith, length, refl, inr}
+use Rattle.tp_report.proofs.Devices.{always_err}
 use Rattle.tp_session.proofs.AttendLemmas.{body_end, body_front, body_next, body_none, come_same}
+use Rattle.tp_session.proofs.LiveLemmas.{begins_so, leads_none, leads_so, leads_then}
 use Rattle.tp_session.proofs.ToldLemmas.{told_so_far}
+use Rattle.tp_session.proofs.LeftLemmas.{body_done, line_done, reach_lead, reach_then}
 use Rattle.tp_session.proofs.answering.attend.Goals as goal
 
 pub loop-number-init : goal.loop-number-init
 loop-number-init g c = record {
-  client = c.requires.client;
-  own = c.requires.own;
-  lie = c.requires.lie;
-  as_many = refl;
-  began = refl;
-  hands = c.requires.hands;
-  each = refl;
-  asked = c.requires.asked;
-  told = body_none c.args.manager.now c.args.head.now c.args.past _ _ _ _;
+  held = c.requires.held;
+  asked = refl;
+  room = omega arith;
+  told = leads_none (λ b. (goal.Server-dyn g (b.vtable, b.value)).behaviour b.value) (λ b. (goal.Server-dyn g (b.vtable, b.value)).registers b.value) (λ b. (goal.Server-dyn g (b.vtable, b.value)).pending b.value) c.args.head.now c.args.held.now _ c.requires.held (λ l. body_none c.args.head.now c.args.past _ l _ _);
 }
 
 pub loop-number-preserved : goal.loop-number-preserved
-loop-number-preserved g c = record {
-  client = c.in_ok-answer_line.ensures.client;
-  own = c.in_ok-answer_line.ensures.own;
-  lie = c.in_ok-answer_line.ensures.lie;
-  as_many = c.in_ok-answer_line.ensures.as_many ∙ c.loop-number.invariant.as_many;
-  began = c.in_ok-answer_line.ensures.began ∙ c.loop-number.invariant.began;
-  hands = c.in_ok-answer_line.ensures.hands;
-  each = c.in_ok-answer_line.ensures.each ∙ c.loop-number.invariant.each;
-  asked = rw c.in_ok-answer_line.ensures.left c.in_ok-next.ensures.asked;
-  told = body_next c.args.manager.now c.args.head.now c.args.past _ _ _ _ c.loop-number.number _ _ _ _ _ _ _ _ _ _ _ c.loop-number.invariant.told (rw c.if-not-branch.false at c.in_ok-next.ensures.next) c.in_ok-next.ensures.told
-      (come_same c.next.new.self c.answer_line.new.lines (g.R.Source.rest c.next.new.reader) c.in_ok-answer_line.ensures.unused) c.in_ok-answer_line.ensures.tells;
-}
+loop-number-preserved g c =
+    let t = c.in_ok-answer_line.ensures.tells in
+    record {
+      held = c.in_ok-answer_line.ensures.held;
+      asked = rw c.in_ok-answer_line.ensures.left (c.in_ok-next.ensures.asked ∙ c.loop-number.invariant.asked);
+      room = omega (arith, c.in_ok-next.ensures.room, c.loop-number.invariant.room, c.in_ok-answer_line.ensures.left, ap length c.in_ok-answer_line.ensures.unused);
+      told = leads_then (λ b. (goal.Server-dyn g (b.vtable, b.value)).behaviour b.value) (λ b. (goal.Server-dyn g (b.vtable, b.value)).registers b.value) (λ b. (goal.Server-dyn g (b.vtable, b.value)).pending b.value) _ _ _ c.args.held.now c.loop-number.held c.answer_line.new.held
+          (λ a m b so_far one. body_next c.args.head.now c.args.past _ _ _ _ c.loop-number.number a m b _ _ _ _ _ _ _ _ so_far (rw c.if-not-branch.false at c.in_ok-next.ensures.next) c.in_ok-next.ensures.told
+          (come_same c.next.new.self c.answer_line.new.lines (g.R.Source.rest c.next.new.reader) c.in_ok-answer_line.ensures.unused) (t.0, t.1, one))
+          c.loop-number.invariant.told t.2;
+    }
 
 pub returns-then-not-branch-clause-told : goal.returns-then-not-branch-clause-told
 returns-then-not-branch-clause-told g c =
-    body_end c.args.manager.now c.args.head.now c.args.past _ _ _ c.loop-number.number _ _ _ _ _ c.next.new.self.line.items _ _ _ c.loop-number.invariant.told (rw c.if-not-branch.true at c.in_ok-next.ensures.next) c.in_ok-next.ensures.told
+    leads_so (λ b. (goal.Server-dyn g (b.vtable, b.value)).behaviour b.value) (λ b. (goal.Server-dyn g (b.vtable, b.value)).registers b.value) (λ b. (goal.Server-dyn g (b.vtable, b.value)).pending b.value) _ _ c.args.held.now c.loop-number.held
+    (λ a b so_far. body_end c.args.head.now c.args.past _ _ _ c.loop-number.number a b _ _ _ c.next.new.self.line.items _ _ _ so_far (rw c.if-not-branch.true at c.in_ok-next.ensures.next) c.in_ok-next.ensures.told) c.loop-number.invariant.told
 
 pub returns-in_err-next-clause-front : goal.returns-in_err-next-clause-front
 returns-in_err-next-clause-front g c =
-    always_err c.from_residual.result (body_front c.args.manager.now c.args.head.now c.args.past _ _ c.loop-number.number _ _ _ _ _ _ _ c.loop-number.invariant.told c.in_err-next.ensures.front)
+    always_err c.from_residual.result (begins_so (λ b. (goal.Server-dyn g (b.vtable, b.value)).behaviour b.value) (λ b. (goal.Server-dyn g (b.vtable, b.value)).registers b.value) (λ b. (goal.Server-dyn g (b.vtable, b.value)).pending b.value) _ _ c.args.held.now c.loop-number.held (λ a b so_far. body_front c.args.head.now c.args.past _ _ c.loop-number.number a b _ _ _ _ _ so_far c.in_err-next.ensures.front) c.loop-number.invariant.told)
 
 pub returns-in_err-answer_line-clause-front : goal.returns-in_err-answer_line-clause-front
 returns-in_err-answer_line-clause-front g c =
-    always_err c.from_residual-in_err-answer_line.result (body_front c.args.manager.now c.args.head.now c.args.past _ _ c.loop-number.number _ _ _ _ _ _ _ c.loop-number.invariant.told (told_so_far _ _ _ _ c.in_ok-next.ensures.told))
+    always_err c.from_residual-in_err-answer_line.result (begins_so (λ b. (goal.Server-dyn g (b.vtable, b.value)).behaviour b.value) (λ b. (goal.Server-dyn g (b.vtable, b.value)).registers b.value) (λ b. (goal.Server-dyn g (b.vtable, b.value)).pending b.value) _ _ c.args.held.now c.loop-number.held (λ a b so_far. body_front c.args.head.now c.args.past _ _ c.loop-number.number a b _ _ _ _ _ so_far (told_so_far _ _ _ _ c.in_ok-next.ensures.told)) c.loop-number.invariant.told)
 
-pub returns-clause-front : goal.returns-clause-front
-returns-clause-front g c =
-    body_front c.args.manager.now c.args.head.now c.args.past _ _ c.loop-number.number _ _ _ _ _ _ _ c.loop-number.invariant.told (front_none _ _)
+pub returns-then-not-branch-clause-went : goal.returns-then-not-branch-clause-went
+returns-then-not-branch-clause-went g c =
+    reach_lead (λ b. (goal.Server-dyn g (b.vtable, b.value)).behaviour b.value) (λ b. (goal.Server-dyn g (b.vtable, b.value)).registers b.value) (λ b. (goal.Server-dyn g (b.vtable, b.value)).pending b.value) c.args.head.now c.args.held.now c.loop-number.held _ _ c.loop-number.invariant.held (λ a b so_far. inr (body_done c.args.head.now c.args.past _ _ c.loop-number.number a b _ _ _ _ so_far)) c.loop-number.invariant.told
+
+pub returns-in_err-next-clause-went : goal.returns-in_err-next-clause-went
+returns-in_err-next-clause-went g c =
+    reach_lead (λ b. (goal.Server-dyn g (b.vtable, b.value)).behaviour b.value) (λ b. (goal.Server-dyn g (b.vtable, b.value)).registers b.value) (λ b. (goal.Server-dyn g (b.vtable, b.value)).pending b.value) c.args.head.now c.args.held.now c.loop-number.held _ _ c.loop-number.invariant.held (λ a b so_far. inr (body_done c.args.head.now c.args.past _ _ c.loop-number.number a b _ _ _ _ so_far)) c.loop-number.invariant.told
+
+pub returns-in_err-answer_line-clause-went : goal.returns-in_err-answer_line-clause-went
+returns-in_err-answer_line-clause-went g c =
+    reach_then (λ b. (goal.Server-dyn g (b.vtable, b.value)).behaviour b.value) (λ b. (goal.Server-dyn g (b.vtable, b.value)).registers b.value) (λ b. (goal.Server-dyn g (b.vtable, b.value)).pending b.value) c.args.held.now c.loop-number.held c.answer_line.new.held _ _ _
+    (λ a m b so_far line. line_done c.args.head.now c.args.past _ _ _ c.loop-number.number a m b _ _ _ _ _ _ _ so_far (rw c.if-not-branch.false at c.in_ok-next.ensures.next) c.in_ok-next.ensures.told line)
+    c.loop-number.invariant.told c.in_err-answer_line.ensures.went

@@ -1,4 +1,4 @@
-use Rattle.std.proofs.Common.{ap}
+use Rattle.std.proofs.Common.{◌∙◌, ap, arith, length}
 use Rattle.tp_report.proofs.Devices.{always_err}
 use Rattle.tp_script.specs.Session.{head_view}
 use Rattle.tp_session.proofs.AttendLemmas.{come_same, head_command, head_end, head_front, head_next}
@@ -9,22 +9,23 @@ pub returns-in_err-next-clause-front : goal.returns-in_err-next-clause-front
 returns-in_err-next-clause-front g c =
     always_err c.from_residual.result (head_view c.loop-past.head, head_front _ _ c.loop-past.past _ _ _ _ _ _ _ c.loop-past.invariant.read c.in_err-next.ensures.front)
 
-pub returns-then-not-branch-clause-read : goal.returns-then-not-branch-clause-read
-returns-then-not-branch-clause-read g c =
+pub returns-then-not-branch-clause-head : goal.returns-then-not-branch-clause-head
+returns-then-not-branch-clause-head g c =
     head_end _ _ _ c.loop-past.past _ _ _ _ _ c.next.new.self.line.items _ _ _ c.loop-past.invariant.read (rw c.if-not-branch.true at c.in_ok-next.ensures.next) c.in_ok-next.ensures.told
 
 pub returns-in_err-take_line-clause-front : goal.returns-in_err-take_line-clause-front
 returns-in_err-take_line-clause-front g c =
     always_err c.from_residual-in_err-take_line.result (head_view c.loop-past.head, head_front _ _ c.loop-past.past _ _ _ _ _ _ _ c.loop-past.invariant.read (told_so_far _ _ _ _ c.in_ok-next.ensures.told))
 
-pub returns-then-branch-clause-read : goal.returns-then-branch-clause-read
-returns-then-branch-clause-read g c =
+pub returns-then-branch-clause-head : goal.returns-then-branch-clause-head
+returns-then-branch-clause-head g c =
     head_command _ _ _ _ c.loop-past.past _ _ _ _ _ _ c.next.new.self.line.items _ _ _ _ _ c.loop-past.invariant.read (rw c.if-not-branch.false at c.in_ok-next.ensures.next) c.in_ok-next.ensures.told
     (come_same c.next.new.self c.take_line.new.lines (g.R.Source.rest c.next.new.reader) c.in_ok-take_line.ensures.unused) (ap (λ v. v.items) c.in_ok-take_line.ensures.line) (rw c.if-branch.true at c.in_ok-take_line.ensures.takes)
 
 pub loop-past-preserved : goal.loop-past-preserved
 loop-past-preserved g c = record {
-  asked = rw c.in_ok-take_line.ensures.left c.in_ok-next.ensures.asked;
+  asked = rw c.in_ok-take_line.ensures.left (c.in_ok-next.ensures.asked ∙ c.loop-past.invariant.asked);
+  room = omega (arith, c.in_ok-next.ensures.room, c.loop-past.invariant.room, c.in_ok-take_line.ensures.left, ap length c.in_ok-take_line.ensures.unused);
   read = head_next _ _ _ _ c.loop-past.past _ _ _ _ _ _ c.next.new.self.line.items _ _ _ _ c.loop-past.invariant.read (rw c.if-not-branch.false at c.in_ok-next.ensures.next) c.in_ok-next.ensures.told
       (come_same c.next.new.self c.take_line.new.lines (g.R.Source.rest c.next.new.reader) c.in_ok-take_line.ensures.unused) (rw c.if-branch.false at c.in_ok-take_line.ensures.takes);
 }

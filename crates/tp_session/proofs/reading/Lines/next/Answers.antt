@@ -1,9 +1,9 @@
-use Rattle.std.proofs.Common.{◌≡◌, ◌∙◌, ◌==◌, ap, arith, length, not, subst, vec_len}
+use Rattle.std.proofs.Common.{◌≡◌, ◌∙◌, ◌==◌, ap, arith, inr, length, not, subst, vec_len}
 use Rattle.tp_report.proofs.Devices.{always_err}
 use Rattle.tp_session.specs.Heard.{ReadsLine}
 use Rattle.tp_session.specs.Reading.{TakesLine, to_come}
 use Rattle.tp_session.proofs.HeardLemmas.{read_to_end, reads_on}
-use Rattle.tp_session.proofs.ReadingLemmas.{took_part, took_whole}
+use Rattle.tp_session.proofs.ReadingLemmas.{part_room, took_part, took_whole, whole_room}
 use Rattle.tp_session.proofs.ToldLemmas.{told_front, told_then}
 use Rattle.tp_session.proofs.reading.Lines.next.Goals as goal
 
@@ -20,15 +20,28 @@ returns-then-not-branch-clause-told g c = told_then _ _ _ _ _ _ c.loop-read.inva
 pub returns-then-not-branch-clause-next : goal.returns-then-not-branch-clause-next
 returns-then-not-branch-clause-next g c =
     let before = took_part _ (g.R.Source.rest c.loop-read.reader) c.loop-read.self c.take_line.new.self c.loop-read.invariant.read (subst (λ e. TakesLine e c.loop-read.self c.take_line.new.self) c.in-Ok-false.field-0-test c.in-Ok-false.ensures.takes) in
-    let kept : ReadsLine (to_come c.args.self.now (g.R.Source.rest c.args.reader.now)) (to_come c.read_more.new.self (g.R.Source.rest c.read_more.new.reader)) c.read_more.new.self.line.items = rw c.in_ok-read_more.ensures.line (reads_on _ _ _ _ before c.in_ok-read_more.ensures.read) in
+    let kept : ReadsLine (to_come c.args.self.now (g.R.Source.rest c.args.reader.now)) (to_come c.read_more.new.self (g.R.Source.rest c.read_more.new.reader)) c.read_more.new.self.line.items = rw c.in_ok-read_more.ensures.line (reads_on _ _ _ _ before c.in_ok-read_more.ensures.consumes) in
     let long : vec_len c.read_more.new.self.line ≡ length c.read_more.new.self.line.items = omega (arith, c.read_more.new.self.line.ok.0) in
     read_to_end _ _ _ _ kept (c.in_ok-read_more.ensures.end c.if-not-branch.true) (ap not (c.is_empty.ensures ∙ ap (λ n. n == 0) long))
 
 pub loop-read-preserved : goal.loop-read-preserved
 loop-read-preserved g c = record {
-  asked = c.in_ok-read_more.ensures.asked;
+  asked = rw c.take_line.ensures.left at (c.in_ok-read_more.ensures.asked) ∙ c.loop-read.invariant.asked;
+  room = omega (arith, c.in_ok-read_more.ensures.room, part_room c.loop-read.self c.take_line.new.self c.take_line.ensures.left (subst (λ e. TakesLine e c.loop-read.self c.take_line.new.self) c.in-Ok-false.field-0-test c.in-Ok-false.ensures.takes), c.loop-read.invariant.room);
+  left = omega (arith, c.in_ok-read_more.ensures.once, c.take_line.ensures.left, c.loop-read.invariant.left);
   read =
       let before = took_part _ (g.R.Source.rest c.loop-read.reader) c.loop-read.self c.take_line.new.self c.loop-read.invariant.read (subst (λ e. TakesLine e c.loop-read.self c.take_line.new.self) c.in-Ok-false.field-0-test c.in-Ok-false.ensures.takes) in
-      rw c.in_ok-read_more.ensures.line (reads_on _ _ _ _ before c.in_ok-read_more.ensures.read);
+      rw c.in_ok-read_more.ensures.line (reads_on _ _ _ _ before c.in_ok-read_more.ensures.consumes);
   told = told_then _ _ _ _ _ _ c.loop-read.invariant.told (rw c.take_line.ensures.same at c.in_ok-read_more.ensures.told);
 }
+
+pub returns-in-Ok-true-clause-room : goal.returns-in-Ok-true-clause-room
+returns-in-Ok-true-clause-room g c =
+    omega (arith, whole_room c.loop-read.self c.take_line.new.self c.take_line.ensures.left (subst (λ e. TakesLine e c.loop-read.self c.take_line.new.self) c.in-Ok-true.field-0-test c.in-Ok-true.ensures.takes), c.loop-read.invariant.room)
+
+pub returns-then-not-branch-clause-room : goal.returns-then-not-branch-clause-room
+returns-then-not-branch-clause-room g c =
+    omega (arith, c.in_ok-read_more.ensures.room, part_room c.loop-read.self c.take_line.new.self c.take_line.ensures.left (subst (λ e. TakesLine e c.loop-read.self c.take_line.new.self) c.in-Ok-false.field-0-test c.in-Ok-false.ensures.takes), c.loop-read.invariant.room)
+
+pub returns-clause-read : goal.returns-clause-read
+returns-clause-read g c _ = inr (omega (arith, c.loop-read.invariant.left, c.loop-read.invariant.asked, c.loop-read-test.false))

@@ -6,10 +6,10 @@ use Rattle.tp_perform.proofs.Pushes.{extended, renamed}
 use Rattle.tp_server.specs.Behaviour.{Behaviour, behaviour_of}
 use Rattle.tp_perform.specs.contracts.serve.put.{dyn-1-ghosts}
 use denote.Param.Object.{read_made}
-use Rattle.tp_session.proofs.session.with_passes.OwnLists.{own-1, lawful-own-1}
-use Rattle.tp_session.proofs.session.with_passes.Hidden.{sends-own-1}
-use Rattle.tp_session.proofs.session.with_passes.Goals.{in-Eager+in_ok-eager-in-Eager+in_ok-new-in-Eager+in_ok-put-in-Eager, in-Lazy+in_ok-lazy-in-Lazy+in_ok-new-in-Lazy+in_ok-put-in-Lazy}
-use Rattle.tp_session.proofs.session.with_passes.Goals as goal
+use Rattle.tp_session.proofs.session.with_managed.OwnLists.{own-1, lawful-own-1}
+use Rattle.tp_session.proofs.session.with_managed.Hidden.{sends-own-1}
+use Rattle.tp_session.proofs.session.with_managed.Goals.{in-Eager+in_ok-eager-in-Eager+in_ok-new-in-Eager+in_ok-put-in-Eager, in-Lazy+in_ok-lazy-in-Lazy+in_ok-new-in-Lazy+in_ok-put-in-Lazy}
+use Rattle.tp_session.proofs.session.with_managed.Goals as goal
 
 pub loop-server-preserved : goal.loop-server-preserved
 loop-server-preserved g c = record {

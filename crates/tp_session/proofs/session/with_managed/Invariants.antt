@@ -1,9 +1,9 @@
 use Rattle.std.proofs.Common.{◌≡◌, None, map, take, All}
 use Rattle.tp_server.specs.Behaviour.{behaviour_of}
 use Rattle.tp_perform.specs.contracts.serve.put.{dyn-1-ghosts}
-use Rattle.tp_session.proofs.session.with_passes.OwnLists.{own-1, lawful-own-1}
-use Rattle.tp_session.proofs.session.with_passes.Hidden.{sends-own-1}
-use Rattle.tp_session.proofs.session.with_passes.Given as goal
+use Rattle.tp_session.proofs.session.with_managed.OwnLists.{own-1, lawful-own-1}
+use Rattle.tp_session.proofs.session.with_managed.Hidden.{sends-own-1}
+use Rattle.tp_session.proofs.session.with_managed.Given as goal
 
 -- each box so far shows the recipe and the registers of its line, and has nothing prepared
 abbrev pub invariant-loop-server : goal.invariant-loop-server

@@ -1,0 +1,252 @@
+-- What an act leaves: what holds of what is held, and what is there.
+use Rattle.std.proofs.Common.{◌≡◌, ◌∙◌, ℕ, ◌+◌, ◌≤◌, ◌<◌, ◌||◌, Bool, List, [], ◌∷◌, All, None, Option, Some, refl, sym, ap, subst, arith, length, map, is_some, slice_set, slice_get, get_or, take, drop, ◌++◌}
+use Rattle.std.specs.List.{list_any}
+use Rattle.std.specs.declared.alloc.Global.{Global}
+use Rattle.std.specs.declared.dyn_box.DynBox.{DynBox}
+use Rattle.std.proofs.lemmas.List.{append-nil, drop_all, length-set, take_all}
+use Rattle.std.proofs.lemmas.Option.{slice_get-get_or}
+use Rattle.tp_model.specs.Steps.{AreLimits}
+use Rattle.tp_model.specs.declared.types.Work.{Work}
+use Rattle.tp_server.specs.Behaviour.{Behaviour}
+use Rattle.tp_server.specs.Pending.{Pending}
+use Rattle.tp_manager.specs.Accounts.{AreAll, Gathers}
+use Rattle.tp_manager.specs.Bounds.{gather_steps}
+use Rattle.tp_manager.specs.Shown.{IsKeptBy, IsOf, KeeperShown, ManagerShown, PassShown}
+use Rattle.tp_workers.specs.Free.{IsFreePass, numbers}
+use Rattle.tp_script.specs.Script.{script_view}
+use Rattle.tp_script.specs.declared.head.Head.{Head}
+use Rattle.tp_script.specs.declared.head.WorkerAct.{WorkerAct}
+use Rattle.tp_script.specs.declared.head.WorkerLine.{WorkerLine}
+use Rattle.tp_script.specs.declared.script.Command.{Command}
+use Rattle.tp_commands.specs.declared.place.Place.{Place}
+use Rattle.tp_commands.specs.Acting.{work_in}
+use Rattle.tp_perform.specs.Rollover.{RollsOn, stand}
+use Rattle.tp_perform.specs.Scenes.{Scene}
+use Rattle.tp_perform.specs.Told.{AreReady, IsScene, PerformsAll, units_held}
+use Rattle.tp_perform.proofs.Gatherings.{gathered, held_gathered, ready_gathered}
+use Rattle.tp_session.specs.Hands.{IsHand, WorkerDoes, hand, unit_of}
+use Rattle.tp_session.specs.Live.{ClientCounts, CommandTold, IsHeld, IsLive, Leads, Live, LiveGathers, RolloverTold, TellsAccount, WorkerDid, is_open}
+use Rattle.tp_session.specs.declared.hand.WorkerAnswer.{WorkerAnswer}
+use Rattle.tp_session.specs.declared.held.Held.{Held}
+use Rattle.tp_session.proofs.LiveLemmas.{is_live, live_of, live_there}
+use Rattle.tp_session.proofs.OpenLemmas.{shown_open}
+use Rattle.tp_session.proofs.PassLemmas.{client_first, held_first, held_set, racers_are, ready_first, ready_set, numbered_set, scene_first, scene_set, worker_there}
+
+-- what is written back as a slice is what was lent
+pub refilled : {A : Type 0} (n : ℕ) (xs ws : List A) → n ≡ length xs → length ws ≡ length xs → take n (ws ++ drop (length ws) xs) ≡ ws
+refilled n xs ws is long =
+    ap (λ r. take n (ws ++ r)) (drop_all (length ws) xs (omega (arith, long))) ∙ (ap (take n) (append-nil ws) ∙ take_all n ws (omega (arith, is, long)))
+
+module _ {X : Type 0} {F : X → Type 0} (behaviour : DynBox X Global F → Behaviour) (registers : DynBox X Global F → List ℕ) (pending : DynBox X Global F → Option Pending) where
+  abbrev Ready : Held X F → Type 0
+  Ready h = AreReady behaviour registers pending h.managed.manager h.managed.passes.items h.servers.items h.places.items
+
+  abbrev IsAt : Held X F → Scene → Type 0
+  IsAt h s = IsScene behaviour registers pending h.managed.passes.items h.servers.items h.places.items s
+
+  -- what holds goes on holding, with the same manager
+  pub held_on : (head : Head) (old new : Held X F) → IsHeld behaviour registers pending head old → new.managed.manager ≡ old.managed.manager
+      → IsKeptBy new.managed.manager new.managed.keeper → AreAll new.managed.keeper new.managed.passes.items → Ready new
+      → length new.managed.passes.items ≡ length old.managed.passes.items → length new.servers.items ≡ length old.servers.items → length new.works.items ≡ length old.works.items
+      → units_held (length new.servers.items) new.managed.passes.items ≡ map unit_of new.works.items → IsHeld behaviour registers pending head new
+  held_on head old new held same kept all ready passes servers works in_hand = record {
+    managed = record {
+      keeper = kept;
+      limits = subst (λ (m : ManagerShown). AreLimits m.limits) (sym same) held.managed.limits;
+      own = ready.own;
+      all = all;
+      parts = passes ∙ held.managed.parts ∙ ap (λ (m : ManagerShown). m.limits.parts) (sym same);
+    };
+    ready = ready;
+    each_server = servers ∙ held.each_server;
+    each_worker = works ∙ held.each_worker;
+    parts = omega (arith, passes, servers, works, held.parts);
+    in_hand = in_hand;
+  }
+
+  -- the same of what lies in these lists
+  pub held_of : (head : Head) (old new : Held X F) (qs : List PassShown) (ss : List (DynBox X Global F)) (os : List (Place X F)) → IsHeld behaviour registers pending head old → new.managed.manager ≡ old.managed.manager
+      → new.managed.passes.items ≡ qs → new.servers.items ≡ ss → new.places.items ≡ os → IsKeptBy old.managed.manager new.managed.keeper → AreAll new.managed.keeper qs → AreReady behaviour registers pending old.managed.manager qs ss os
+      → length qs ≡ length old.managed.passes.items → length ss ≡ length old.servers.items → length new.works.items ≡ length old.works.items → units_held (length ss) qs ≡ map unit_of new.works.items → IsHeld behaviour registers pending head new
+  held_of head old new qs ss os held same passes servers places kept all ready long many works in_hand =
+      held_on head old new held same (subst (λ m. IsKeptBy m new.managed.keeper) (sym same) kept) (subst (AreAll new.managed.keeper) (sym passes) all)
+      (subst (λ m. AreReady behaviour registers pending m new.managed.passes.items new.servers.items new.places.items) (sym same)
+      (subst (λ ps. AreReady behaviour registers pending old.managed.manager ps new.servers.items new.places.items) (sym passes)
+      (subst (λ x. AreReady behaviour registers pending old.managed.manager qs x new.places.items) (sym servers)
+      (subst (λ x. AreReady behaviour registers pending old.managed.manager qs ss x) (sym places) ready))))
+      (ap length passes ∙ long) (ap length servers ∙ many) works
+      (ap (λ x. units_held (length x) new.managed.passes.items) servers ∙ (ap (units_held (length ss)) passes ∙ in_hand))
+
+  pub at_of : (new : Held X F) (qs : List PassShown) (ss : List (DynBox X Global F)) (os : List (Place X F)) (s : Scene) → new.managed.passes.items ≡ qs → new.servers.items ≡ ss → new.places.items ≡ os → IsScene behaviour registers pending qs ss os s → IsAt new s
+  at_of new qs ss os s passes servers places is =
+      subst (λ ps. IsScene behaviour registers pending ps new.servers.items new.places.items s) (sym passes)
+      (subst (λ x. IsScene behaviour registers pending qs x new.places.items s) (sym servers) (subst (λ x. IsScene behaviour registers pending qs ss x s) (sym places) is))
+
+  -- ---- a command
+
+  pub command_leads : (head : Head) (c : Command) (old new : Held X F) (text : List ℕ) → new.managed.manager ≡ old.managed.manager → new.works.items ≡ old.works.items
+      → (a : Scene) × (b : Scene) × IsAt old a × PerformsAll old.managed.manager (script_view head.script) c 0 old.managed.keeper a text new.managed.keeper b × IsAt new b
+      → Leads behaviour registers pending (λ x y. CommandTold (script_view head.script) c x text y) old new
+  command_leads head c old new text same works t = record {
+    before = live_of behaviour registers pending old t.0;
+    after = live_of behaviour registers pending new t.1;
+    was = is_live behaviour registers pending old t.0 t.2;
+    leads = record { performs = t.3; manager = same; works = works };
+    is = is_live behaviour registers pending new t.1 t.4;
+  }
+
+  -- ---- a rollover
+
+  pub rollover_leads : (old new : Held X F) (text : List ℕ) → new.works.items ≡ old.works.items
+      → (a : Scene) × (b : Scene) × IsAt old a × RollsOn (stand old.managed a) text (stand new.managed b) × IsAt new b
+      → Leads behaviour registers pending (λ x y. RolloverTold x text y) old new
+  rollover_leads old new text works t = record {
+    before = live_of behaviour registers pending old t.0;
+    after = live_of behaviour registers pending new t.1;
+    was = is_live behaviour registers pending old t.0 t.2;
+    leads = record { rolls = t.3; works = works };
+    is = is_live behaviour registers pending new t.1 t.4;
+  }
+
+  -- ---- all gather
+
+  module _ (head : Head) (old : Held X F) (keeper' : KeeperShown) (qs : List PassShown) (held : IsHeld behaviour registers pending head old)
+      (gathers : Gathers old.managed.manager.limits (gather_steps old.managed.manager.limits (length old.managed.passes.items)) old.managed.keeper keeper' old.managed.passes.items qs)
+      (all : AreAll keeper' qs) (given : keeper'.given ≡ old.managed.keeper.given) (own : All (IsOf old.managed.manager) qs) where
+    pub gather_ready : AreReady behaviour registers pending old.managed.manager qs old.servers.items old.places.items
+    gather_ready = ready_gathered behaviour registers pending old.managed.manager old.managed.keeper keeper' old.managed.passes.items qs old.servers.items old.places.items held.ready gathers all given own
+
+    pub gather_in_hand : units_held (length old.servers.items) qs ≡ map unit_of old.works.items
+    gather_in_hand = held_gathered behaviour registers pending old.managed.manager old.managed.keeper keeper' old.managed.passes.items qs old.servers.items old.places.items held.ready gathers all given own (length old.servers.items) ∙ held.in_hand
+
+    pub gather_leads : (new : Held X F) → new.managed.manager ≡ old.managed.manager → new.managed.keeper ≡ keeper' → new.managed.passes.items ≡ qs → new.servers.items ≡ old.servers.items → new.places.items ≡ old.places.items → new.works.items ≡ old.works.items
+        → Leads behaviour registers pending LiveGathers old new
+    gather_leads new manager keeper passes servers places works =
+        let l = live_there behaviour registers pending head old held in
+        let b = gathered behaviour registers pending old.managed.manager old.managed.keeper keeper' old.managed.passes.items qs old.servers.items old.places.items held.ready gathers all given own l.0.stand.scene l.1.scene in
+        let at : IsAt new b.0 = subst (λ ps. IsScene behaviour registers pending ps new.servers.items new.places.items b.0) (sym passes)
+        (subst (λ ss. IsScene behaviour registers pending qs ss new.places.items b.0) (sym servers) (subst (λ os. IsScene behaviour registers pending qs old.servers.items os b.0) (sym places) b.2)) in
+        record {
+          before = l.0;
+          after = live_of behaviour registers pending new b.0;
+          was = l.1;
+          leads = record {
+            manager = manager ∙ sym l.1.manager;
+            gathered = rw (l.1.manager, l.1.keeper, keeper) b.1;
+            works = works ∙ sym l.1.works;
+          };
+          is = is_live behaviour registers pending new b.0 at;
+        }
+
+  -- ---- a worker
+
+  module _ (head : Head) (w at : ℕ) (p : PassShown) (work : Option Work) (old new : Held X F) (held : IsHeld behaviour registers pending head old) (within : w < length head.workers.items) (at_is : at ≡ 1 + length old.servers.items + w)
+      (manager : new.managed.manager ≡ old.managed.manager) (keeper : new.managed.keeper ≡ old.managed.keeper) (passes : new.managed.passes.items ≡ slice_set old.managed.passes.items at p)
+      (servers : new.servers.items ≡ old.servers.items) (places : new.places.items ≡ old.places.items) (works : new.works.items ≡ slice_set old.works.items w work) where
+    pub here : w < length old.works.items
+    here = omega (arith, within, held.each_worker)
+
+    pub inside : at < length old.managed.passes.items
+    inside = omega (arith, here, held.parts, at_is)
+
+    some : 1 ≤ length old.managed.passes.items
+    some = omega (arith, held.parts)
+
+    numbered : length new.managed.passes.items ≡ length old.managed.passes.items
+    numbered = ap length passes ∙ length-set old.managed.passes.items at p
+
+    pub worker_held : (d : PassShown) → p.number ≡ (get_or old.managed.passes.items at d).number → IsHand old.managed.manager (hand p work) → IsHeld behaviour registers pending head new
+    worker_held d same is =
+        let all : AreAll old.managed.keeper (slice_set old.managed.passes.items at p) = (length-set old.managed.passes.items at p ∙ held.managed.all.0, numbered_set 0 at old.managed.passes.items p d same held.managed.all.1) in
+        held_on head old new held manager (subst (λ m. IsKeptBy m new.managed.keeper) (sym manager) (subst (IsKeptBy old.managed.manager) (sym keeper) held.managed.keeper)) (subst (λ k. AreAll k new.managed.passes.items) (sym keeper) (subst (AreAll old.managed.keeper) (sym passes) all))
+        (subst (λ m. AreReady behaviour registers pending m new.managed.passes.items new.servers.items new.places.items) (sym manager)
+        (subst (λ ps. AreReady behaviour registers pending old.managed.manager ps new.servers.items new.places.items) (sym passes)
+        (subst (λ ss. AreReady behaviour registers pending old.managed.manager (slice_set old.managed.passes.items at p) ss new.places.items) (sym servers)
+        (subst (λ os. AreReady behaviour registers pending old.managed.manager (slice_set old.managed.passes.items at p) old.servers.items os) (sym places)
+        (ready_set behaviour registers pending old.managed.manager w p old.servers.items old.places.items at old.managed.passes.items at_is some is.own held.ready)))))
+        numbered (ap length servers) (ap length works ∙ length-set old.works.items w work)
+        (ap (λ ss. units_held (length ss) new.managed.passes.items) servers ∙ (ap (units_held (length old.servers.items)) passes
+        ∙ (held_set behaviour registers pending (length old.servers.items) w at p work old.managed.passes.items old.works.items at_is some is.held held.in_hand ∙ ap (map unit_of) (sym works))))
+
+    pub worker_leads : (it : WorkerLine) (act : WorkerAct) (answer : WorkerAnswer) (d : PassShown) (e : Option Work) → d ≡ get_or old.managed.passes.items at d → e ≡ get_or old.works.items w e
+        → WorkerDoes old.managed.manager.limits it.stage act (hand d e) answer (hand p work)
+        → Leads behaviour registers pending (λ a b. WorkerDid it act w a answer b) old new
+    worker_leads it act answer d e d_is e_is does =
+        let l = live_there behaviour registers pending head old held in
+        let s = l.0.stand.scene in
+        let racers = racers_are behaviour registers pending old.managed.passes.items old.servers.items old.places.items s l.1.scene in
+        record {
+          before = l.0;
+          after = record { stand = record l.0.stand { scene = record s { racers = slice_set s.racers w p } }; works = slice_set l.0.works w work };
+          was = l.1;
+          leads = record {
+            before = hand d e;
+            pass = ap (λ rs. slice_get rs w) racers ∙ (worker_there (length old.servers.items) w at old.managed.passes.items d at_is inside ∙ ap (λ x. Some x) (sym d_is));
+            work = ap (λ ws. slice_get ws w) l.1.works ∙ (slice_get-get_or old.works.items w e here ∙ ap (λ x. Some x) (sym e_is));
+            after = hand p work;
+            does = subst (λ (m : ManagerShown). WorkerDoes m.limits it.stage act (hand d e) answer (hand p work)) (sym l.1.manager) does;
+            stand = refl;
+            works = refl;
+          };
+          is = record {
+            manager = l.1.manager ∙ sym manager;
+            keeper = l.1.keeper ∙ sym keeper;
+            scene = subst (λ ps. IsScene behaviour registers pending ps new.servers.items new.places.items (record s { racers = slice_set s.racers w p })) (sym passes)
+                (subst (λ ss. IsScene behaviour registers pending (slice_set old.managed.passes.items at p) ss new.places.items (record s { racers = slice_set s.racers w p })) (sym servers)
+                (subst (λ os. IsScene behaviour registers pending (slice_set old.managed.passes.items at p) old.servers.items os (record s { racers = slice_set s.racers w p })) (sym places)
+                (scene_set behaviour registers pending old.managed.manager w p old.servers.items old.places.items at old.managed.passes.items s at_is l.1.scene)));
+            works = ap (λ ws. slice_set ws w work) l.1.works ∙ sym works;
+          };
+        }
+
+  -- ---- the client
+
+  module _ (head : Head) (p : PassShown) (old new : Held X F) (held : IsHeld behaviour registers pending head old)
+      (manager : new.managed.manager ≡ old.managed.manager) (keeper : new.managed.keeper ≡ old.managed.keeper) (passes : new.managed.passes.items ≡ slice_set old.managed.passes.items 0 p)
+      (servers : new.servers.items ≡ old.servers.items) (places : new.places.items ≡ old.places.items) (works : new.works.items ≡ old.works.items) where
+    some_client : 1 ≤ length old.managed.passes.items
+    some_client = omega (arith, held.parts)
+
+    pub client_held : IsFreePass old.managed.manager p → AreAll new.managed.keeper new.managed.passes.items → IsHeld behaviour registers pending head new
+    client_held free all =
+        held_on head old new held manager (subst (λ m. IsKeptBy m new.managed.keeper) (sym manager) (subst (IsKeptBy old.managed.manager) (sym keeper) held.managed.keeper)) all
+        (subst (λ m. AreReady behaviour registers pending m new.managed.passes.items new.servers.items new.places.items) (sym manager)
+        (subst (λ ps. AreReady behaviour registers pending old.managed.manager ps new.servers.items new.places.items) (sym passes)
+        (subst (λ ss. AreReady behaviour registers pending old.managed.manager (slice_set old.managed.passes.items 0 p) ss new.places.items) (sym servers)
+        (subst (λ os. AreReady behaviour registers pending old.managed.manager (slice_set old.managed.passes.items 0 p) old.servers.items os) (sym places)
+        (ready_first behaviour registers pending old.managed.manager p old.servers.items old.places.items old.managed.passes.items some_client free held.ready)))))
+        (ap length passes ∙ length-set old.managed.passes.items 0 p) (ap length servers) (ap length works)
+        (ap (λ ss. units_held (length ss) new.managed.passes.items) servers ∙ (ap (units_held (length old.servers.items)) passes
+        ∙ (held_first behaviour registers pending (length old.servers.items) p old.managed.passes.items ∙ (held.in_hand ∙ ap (map unit_of) (sym works)))))
+
+    pub client_leads : (text : List ℕ) (b : Bool) (d : PassShown) → b ≡ (list_any is_some old.works.items || list_any (λ o. is_some (work_in o.aside)) old.places.items) → d ≡ get_or old.managed.passes.items 0 d → TellsAccount old.managed.manager b d text p
+        → Leads behaviour registers pending (λ a b. ClientCounts a text b) old new
+    client_leads text b d b_is d_is tells =
+        let l = live_there behaviour registers pending head old held in
+        let s = l.0.stand.scene in
+        let first = client_first behaviour registers pending old.managed.passes.items old.servers.items old.places.items s l.1.scene d in
+        let counted : (list_any is_some old.works.items || list_any (λ o. is_some (work_in o.aside)) old.places.items) ≡ is_open l.0 =
+        ap (λ b. list_any is_some old.works.items || b) (shown_open behaviour registers pending _ old.servers.items old.places.items held.ready.lie)
+        ∙ (ap (λ ps. list_any is_some old.works.items || list_any (λ q. is_some q.desk.work) ps) (sym l.1.scene.1)
+        ∙ ap (λ ws. list_any is_some ws || list_any (λ q. is_some q.desk.work) s.places) (sym l.1.works)) in
+        record {
+          before = l.0;
+          after = record { stand = record l.0.stand { scene = record s { client = p } }; works = l.0.works };
+          was = l.1;
+          leads = record {
+            client = p;
+            tells = subst (λ (m : ManagerShown). TellsAccount m (is_open l.0) s.client text p) (sym l.1.manager)
+                (subst (λ x. TellsAccount old.managed.manager x s.client text p) (b_is ∙ counted) (subst (λ x. TellsAccount old.managed.manager b x text p) (d_is ∙ first) tells));
+            stand = refl;
+            works = refl;
+          };
+          is = record {
+            manager = l.1.manager ∙ sym manager;
+            keeper = l.1.keeper ∙ sym keeper;
+            scene = subst (λ ps. IsScene behaviour registers pending ps new.servers.items new.places.items (record s { client = p })) (sym passes)
+                (subst (λ ss. IsScene behaviour registers pending (slice_set old.managed.passes.items 0 p) ss new.places.items (record s { client = p })) (sym servers)
+                (subst (λ os. IsScene behaviour registers pending (slice_set old.managed.passes.items 0 p) old.servers.items os (record s { client = p })) (sym places)
+                (scene_first behaviour registers pending old.managed.manager p old.servers.items old.places.items old.managed.passes.items s l.1.scene)));
+            works = l.1.works ∙ sym works;
+          };
+        }

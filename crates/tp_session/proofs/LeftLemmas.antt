@@ -1,0 +1,111 @@
+-- What desks began with, and what they leave.
+use Rattle.std.proofs.Common.{◌≡◌, ◌∙◌, ℕ, ◌+◌, true, List, [], ◌∷◌, ◌++◌, Option, Some, None, Result, Ok, IfSome, IsSome, inl, inr, refl, sym, ap, subst, length, map}
+use Rattle.std.specs.declared.alloc.Global.{Global}
+use Rattle.std.specs.declared.dyn_box.DynBox.{DynBox}
+use Rattle.tp_server.specs.Behaviour.{Behaviour}
+use Rattle.tp_server.specs.Pending.{Pending}
+use Rattle.tp_script.specs.Session.{body_at, head_view}
+use Rattle.tp_script.specs.declared.fault.LineFault.{LineFault}
+use Rattle.tp_script.specs.declared.head.Act.{Act}
+use Rattle.tp_script.specs.declared.head.Head.{Head}
+use Rattle.tp_commands.specs.declared.place.Place.{Place}
+use Rattle.tp_commands.specs.Places.{firsts}
+use Rattle.tp_perform.specs.Rollover.{RollsOn, stand}
+use Rattle.tp_perform.specs.Scenes.{Scene}
+use Rattle.tp_perform.specs.Told.{AreReady, IsScene, began_of}
+use Rattle.tp_perform.proofs.Began.{began_same, scene_began}
+use Rattle.tp_session.specs.Heard.{HearsFront, Next, Tells}
+use Rattle.tp_session.specs.Left.{Acted, BodyDone, LineDone, OrSame, Reaches, began_at, began_in}
+use Rattle.tp_session.specs.Live.{IsHeld, IsLive, Leads, Live, RolloverTold}
+use Rattle.tp_session.specs.Told.{BodyTold, LineTold}
+use Rattle.tp_session.specs.declared.held.Held.{Held}
+use Rattle.tp_session.proofs.AttendLemmas.{BodySoFar, body_begun, body_next}
+use Rattle.tp_session.proofs.HeardLemmas.{Hears-none, hears_some}
+use Rattle.tp_session.proofs.LiveLemmas.{is_live, live_of, live_there, one_live}
+
+module _ {X : Type 0} {F : X → Type 0} (behaviour : DynBox X Global F → Behaviour) (registers : DynBox X Global F → List ℕ) (pending : DynBox X Global F → Option Pending) where
+  abbrev Box : Type 0
+  Box = DynBox X Global F
+
+  -- ---- what was done
+
+  live_began : (head : Head) (h : Held X F) (l : Live) → IsHeld behaviour registers pending head h → IsLive behaviour registers pending h l → began_at l ≡ began_in registers h
+  live_began head h l held is = scene_began behaviour registers pending h.managed.manager h.managed.passes.items h.servers.items h.places.items l.stand.scene held.ready is.scene
+
+  pub reach_same : (head : Head) (h h' : Held X F) (R : Live → Live → Type 0) → IsHeld behaviour registers pending head h → began_in registers h' ≡ began_in registers h → Reaches behaviour registers pending (OrSame R) h h'
+  reach_same head h h' R held same =
+      let l = live_there behaviour registers pending head h held in
+      record { before = l.0; after = l.0; was = l.1; done = inl refl; began = live_began head h l.0 held l.1 ∙ sym same }
+
+  pub reach_lead : (head : Head) (h h' : Held X F) (R S : Live → Live → Type 0) → IsHeld behaviour registers pending head h' → ((a b : Live) → R a b → S a b) → Leads behaviour registers pending R h h' → Reaches behaviour registers pending S h h'
+  reach_lead head h h' R S held so p = record { before = p.before; after = p.after; was = p.was; done = so p.before p.after p.leads; began = live_began head h' p.after held p.is }
+
+  pub reach_so : (h h' : Held X F) (R S : Live → Live → Type 0) → ((a b : Live) → R a b → S a b) → Reaches behaviour registers pending R h h' → Reaches behaviour registers pending S h h'
+  reach_so h h' R S so p = record { before = p.before; after = p.after; was = p.was; done = so p.before p.after p.done; began = p.began }
+
+  pub reach_then : (h h' h'' : Held X F) (R S T : Live → Live → Type 0) → ((a b c : Live) → R a b → S b c → T a c) → Leads behaviour registers pending R h h' → Reaches behaviour registers pending S h' h'' → Reaches behaviour registers pending T h h''
+  reach_then h h' h'' R S T both p q = record {
+    before = p.before;
+    after = q.after;
+    was = p.was;
+    done = both p.before p.after q.after p.leads (subst (λ l. S l q.after) (one_live behaviour registers pending h' q.before p.after q.was p.is) q.done);
+    began = q.began;
+  }
+
+  -- a rollover, whatever became of its line
+  pub rollover_reaches : (old new : Held X F) → AreReady behaviour registers pending new.managed.manager new.managed.passes.items new.servers.items new.places.items → new.works.items ≡ old.works.items
+      → (a : Scene) × (b : Scene) × (text : List ℕ) × IsScene behaviour registers pending old.managed.passes.items old.servers.items old.places.items a × RollsOn (stand old.managed a) text (stand new.managed b) × IsScene behaviour registers pending new.managed.passes.items new.servers.items new.places.items b
+      → Reaches behaviour registers pending (λ x y. (text : List ℕ) × RolloverTold x text y) old new
+  rollover_reaches old new ready works t = record {
+    before = live_of behaviour registers pending old t.0;
+    after = live_of behaviour registers pending new t.1;
+    was = is_live behaviour registers pending old t.0 t.3;
+    done = (t.2, record { rolls = t.4; works = works });
+    began = scene_began behaviour registers pending new.managed.manager new.managed.passes.items new.servers.items new.places.items t.1 ready t.5;
+  }
+
+  pub began_refilled : (os ns ms : List (Place X F)) → ms ≡ ns → firsts ns ≡ firsts os → map (began_of registers) ms ≡ map (began_of registers) os
+  began_refilled os ns ms is same = ap (map (began_of registers)) is ∙ began_same behaviour registers pending os ns same
+
+-- ---- lines
+
+-- one line alone
+pub one_done : (head : Head) (past : ℕ) (kept : List ℕ) (come : Option (List ℕ)) (old new : Live) → LineDone head (past + 1) kept old new → BodyDone head past (kept ∷ []) come old new
+one_done head past kept come old new (inl same) = inl same
+one_done head past kept come old new (inr line) = inr (record {
+  taken = [];
+  heard = hears_some come come [] (Hears-none come);
+  text = line.0 ++ [];
+  lines = (line.0, [], new, line.1, (refl, refl), refl);
+  told = tt;
+})
+
+-- lines so far
+pub body_done : (head : Head) (past : ℕ) (a b : Option (List ℕ)) (n : ℕ) (old new : Live) (w x : Option (List ℕ)) (answers prior : List ℕ) → BodySoFar head past a b n old new w x answers prior
+    → BodyTold head past [] (HearsFront a) old new (λ text. Unit {0})
+body_done head past a b n old new w x answers prior so_far = record {
+  taken = so_far.taken;
+  heard = hears_some a b so_far.taken so_far.heard.0;
+  text = so_far.text;
+  lines = so_far.lines;
+  told = tt;
+}
+
+-- and one more
+pub line_done : (head : Head) (past : ℕ) (a b b' : Option (List ℕ)) (n : ℕ) (old mid new : Live) (w x y : Option (List ℕ)) (kept answers answers' prior : List ℕ) → BodySoFar head past a b n old mid w x answers prior → Next true b kept b' → Tells x y answers' answers
+    → LineDone head (n + 1) kept mid new → BodyDone head past [] a old new
+line_done head past a b b' n old mid new w x y kept answers answers' prior so_far next told (inl same) =
+    inr (subst (λ l. BodyTold head past [] (HearsFront a) old l (λ text. Unit {0})) (sym same) (body_done head past a b n old mid w x answers prior so_far))
+line_done head past a b b' n old mid new w x y kept answers answers' prior so_far next told (inr line) =
+    inr (body_done head past a b' (n + 1) old new w y (answers' ++ line.0) prior (body_next head past a b b' b' n old mid new w x y kept answers answers' (answers' ++ line.0) prior so_far next told refl (line.0, refl, line.1)))
+
+-- a line, and then others
+pub from_done : (head : Head) (past : ℕ) (kept : List ℕ) (come come' : Option (List ℕ)) (old mid new : Live) → come' ≡ come → (text : List ℕ) × LineTold head (past + 1) (body_at kept (head_view head)) old text mid → BodyDone head (past + 1) [] come' mid new
+    → BodyDone head past (kept ∷ []) come old new
+from_done head past kept come come' old mid new is one (inl same) = one_done head past kept come old new (inr (one.0, subst (λ l. LineTold head (past + 1) (body_at kept (head_view head)) old one.0 l) (sym same) one.1))
+from_done head past kept come come' old mid new is one (inr others) = inr (body_begun head past come come' HearsFront kept old mid new [] one.0 (λ text. Unit {0}) is (one.0, refl, one.1) others)
+
+-- an act is what its line asks for
+pub act_done : (head : Head) (n : ℕ) (said : Result (Option Act) LineFault) (act : Act) (old new : Live) → said ≡ Ok (Some act) → Acted head act old new → OrSame (λ a b. (text : List ℕ) × LineTold head n said a text b) old new
+act_done head n said act old new is (inl same) = inl same
+act_done head n said act old new is (inr t) = inr (t.0, subst (λ r. LineTold head n r old t.0 new) (sym is) t.1)
