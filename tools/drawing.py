@@ -161,6 +161,10 @@ class Drawing:
             self.text(to, last + 4, {"done": "commit", "aborted": "abort"}.get(hold.how, hold.how), "small", "middle")
         if hold.killed >= 0:
             self.cross(to, self.y[hold.killed], colour)
+            if it.end != hold.killed or it.how != "killed":
+                # (the unit was aborted by a release, and the element waits again)
+                self.put(f'<path class="way spur r{colour}" d="M{to + side:.0f},{self.y[hold.killed]:.0f} H{x:.0f}"/>')
+                return self.y[hold.killed]
         return None if ends else last
 
     def end(self, it, at, colour):

@@ -70,7 +70,7 @@ def read_rounds(lines):
             rounds.append((read_value(line.split(" ", 2)[2]), [], []))
         elif line.startswith("account "):
             rounds[-1][2].append(read_value(line[len("account "):]))
-        else:
+        elif not line.startswith("carried "):
             thread, before, after, made = line.split(" ", 3)
             rounds[-1][1].append(Call(int(thread), int(before), int(after), read_value(made)))
     return rounds

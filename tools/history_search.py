@@ -14,6 +14,12 @@ TRIES = 20_000
 NOT_SO = {"NotParked": "parked", "NotHeld": "held", "NotWaiting": "waiting"}
 
 
+def drafts_of(stage, body, count):
+    """The drafts of a commit: in each further one each word but the key is one more."""
+    key, *words = body
+    return [(stage, (key, *(word + it for word in words))) for it in range(count)]
+
+
 class GaveUp(Exception):
     """Neither a history was found nor that there is none."""
 
@@ -147,8 +153,7 @@ class Log:
             self.ends[self.open] = ("aborted by another", call)
         else:
             first = self.first_row(call, count, call.answer["first"]) if count else 0
-            key, *words = told["body"]
-            drafts = [(told["stage"], (key, *(word + it for word in words))) for it in range(count)]
+            drafts = told.get("outputs") or drafts_of(told["stage"], told["body"], count)
             wanted = {"is": "Committed", "first": first, "count": len(drafts)}
             self.must(call.answer == wanted, call, "not the drafts' ids")
             made = self.point(call, "commit", call.thread, self.open, first, drafts)
@@ -257,7 +262,7 @@ class Log:
                     raise Wrong(f"{root} was taken, and not born")
             self.roots[id] = root
             made = made.what
-            self.stages[id] = made[2] if root == id else made[3][0][0]
+            self.stages[id] = made[2] if root == id else made[3][id - made[2]][0]
 
     # How each element stood, one status after another, each from a point on.
 

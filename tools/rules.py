@@ -1,6 +1,8 @@
-"""The rules of scripts, written once more from docs/SCRIPTS.md alone: what each command answers, by one thread and one list of elements.
+"""The rules of scripts and of live sessions, written once more from docs/SCRIPTS.md and docs/LIVE.md alone: what each command answers,
+by one thread and one list of elements.
 
-No words, no marks, and no units of work but their numbers. tools/random_scripts holds the program against this.
+No words, no marks, and no units of work but their numbers. tools/random_scripts and tools/random_sessions hold the programs against
+this. A rollover is in rollover_rules.py.
 """
 from dataclasses import dataclass, field
 
@@ -30,14 +32,21 @@ class Element:
 
 
 @dataclass
-class Rows:
-    """The rows that are left to a pass: a number of them, from the next one on."""
+class Pass:
+    """A pass by its number: the rows that are left to it, from the next one on, and how many units it has begun."""
+    number: int
     next: int
     left: int
+    begun: int = 0
 
     def use(self, count):
         self.next, self.left = self.next + count, self.left - count
         return self.next - count
+
+    def begin(self, units):
+        """Returns the next of its units."""
+        self.begun += 1
+        return self.number * units + self.begun - 1
 
 
 @dataclass
@@ -49,8 +58,6 @@ class Server:
     # which word of a body is the amount
     word: int
     outputs: list
-    rows: object = None
-    begun: int = 0
     # the unit that is open, the element that it took, and what was prepared
     unit: object = None
     item: int = 0
@@ -76,6 +83,15 @@ class Server:
 
 
 @dataclass
+class Worker:
+    """A worker of a live session, which does its work outside."""
+    name: str
+    stage: int
+    unit: object = None
+    item: int = 0
+
+
+@dataclass
 class Run:
     rows: int
     units: int
@@ -85,63 +101,70 @@ class Run:
     servers: list
     elements: dict = field(default_factory=dict)
     drawn: int = 0
-    client: object = None
+    workers: list = field(default_factory=list)
+    # the client's, one for each server, and one for each worker
+    passes: list = field(default_factory=list)
 
     def begin(self):
-        """Gives each pass its rows: the client's first."""
-        self.client = Rows(0, self.rows)
-        for at, server in enumerate(self.servers):
-            server.rows = Rows((at + 1) * self.rows, self.rows)
+        """Gives each pass its rows."""
+        self.passes = [Pass(at, at * self.rows, self.rows) for at in range(1 + len(self.servers) + len(self.workers))]
 
-    def has_room(self, rows, count):
+    def has_room(self, by, count):
         """Whether there are `count` rows for the pass, if need be in the next spare block."""
-        if rows.left < count and self.drawn < self.spare:
-            rows.next, rows.left = (1 + len(self.servers)) * self.rows + 8 * self.drawn, 8
+        if by.left < count and self.drawn < self.spare:
+            by.next, by.left = len(self.passes) * self.rows + 8 * self.drawn, 8
             self.drawn += 1
-        return rows.left >= count
+        return by.left >= count
 
     def give_up(self, element):
         element.status = "waiting" if element.attempts < self.limit else "parked"
 
-    def abort(self, server):
-        """Ends the open unit by an abort: whether it was this one."""
-        element = self.elements[server.item]
-        ours = element.status == "held" and element.unit == server.unit
+    def holds(self, who):
+        """Whether the open unit still has its element."""
+        element = self.elements[who.item]
+        return element.status == "held" and element.unit == who.unit
+
+    def abort(self, who):
+        """Ends the open unit of a server or worker by an abort: whether it was this one."""
+        ours = self.holds(who)
         if ours:
-            self.give_up(element)
-        server.unit = server.pending = None
+            self.give_up(self.elements[who.item])
+        who.unit = who.pending = None
         return ours
+
+    def waiting(self, stage):
+        """The elements that wait in a stage, in the order of their ids."""
+        return [i for i, it in sorted(self.elements.items()) if it.status == "waiting" and it.stage == stage]
 
     def claim(self, at, in_turn=False):
         server = self.servers[at]
-        if server.begun == self.units:
+        if self.passes[at + 1].begun == self.units:
             return "nounit"
-        found = [i for i in sorted(self.elements) if self.elements[i].status == "waiting" and self.elements[i].stage == server.stage]
+        found = self.waiting(server.stage)
         if not found:
             return "idle"
         number = found[0]
         if in_turn:
             number = min(found, key=lambda i: (i < server.place, i))
             server.place = number + 1
-        return self.hold(at, number)
+        return self.held_by(server, at + 1, number)
 
     def take(self, at, number):
         server, element = self.servers[at], self.elements.get(number)
-        if server.begun == self.units:
+        if self.passes[at + 1].begun == self.units:
             return "nounit"
         if element is None:
             return f"refused {number} NotThere"
         if element.stage != server.stage:
             return f"refused {number} BadStage"
-        return self.hold(at, number) if element.status == "waiting" else f"refused {number} NotWaiting"
+        return self.held_by(server, at + 1, number) if element.status == "waiting" else f"refused {number} NotWaiting"
 
-    def hold(self, at, number):
-        """A new unit of the server takes the element."""
-        server, element = self.servers[at], self.elements[number]
-        server.unit, server.item = (at + 1) * self.units + server.begun, number
-        server.begun += 1
-        element.status, element.unit, element.attempts = "held", server.unit, element.attempts + 1
-        return f"work {number} unit {server.unit} attempt {element.attempts}"
+    def held_by(self, who, by, number):
+        """A new unit of a server or worker takes the element."""
+        element = self.elements[number]
+        who.unit, who.item = self.passes[by].begin(self.units), number
+        element.status, element.unit, element.attempts = "held", who.unit, element.attempts + 1
+        return f"work {number} unit {who.unit} attempt {element.attempts}"
 
     def prepare(self, server):
         element = self.elements[server.item]
@@ -160,16 +183,22 @@ class Run:
             if answer != "ready":
                 return answer
         key, after, drafts = server.pending
-        unit, item, element = server.unit, server.item, self.elements[server.item]
-        if not self.has_room(server.rows, len(drafts)):
-            self.abort(server)
+        answer = self.ended(server, at + 1, drafts)
+        if answer.startswith("done"):
+            server.registers[key] = after
+        return answer
+
+    def ended(self, who, by, drafts):
+        """The open unit of a server or worker commits with these drafts."""
+        unit, item, element, own = who.unit, who.item, self.elements[who.item], self.passes[by]
+        if not self.has_room(own, len(drafts)):
+            self.abort(who)
             return f"full {item}"
-        first = server.rows.use(len(drafts))
-        server.unit = server.pending = None
-        if element.status != "held" or element.unit != unit:
+        first, ours = own.use(len(drafts)), self.holds(who)
+        who.unit = who.pending = None
+        if not ours:
             return f"lost {item}"
         element.status = "consumed"
-        server.registers[key] = after
         for place, (stage, body) in enumerate(drafts):
             self.elements[first + place] = Element(stage, element.root, body, unit)
         return f"done {item} unit {unit} outputs {first if drafts else 0} {len(drafts)}"
@@ -210,12 +239,42 @@ class Run:
             return self.commit(at)
         return f"{'aborted' if self.abort(server) else 'already'} {server.item}"
 
+    def at_worker(self, verb, at, *words):
+        """What a worker's line is answered. The words of a commit are its drafts."""
+        worker, by = self.workers[at], 1 + len(self.servers) + at
+        if verb == "claim" or verb == "take":
+            if worker.unit is not None:
+                return "busy"
+            return self.taken(worker, by, *words)
+        if worker.unit is None:
+            return "none"
+        if verb == "commit":
+            return self.ended(worker, by, words)
+        return f"{'aborted' if self.abort(worker) else 'already'} {worker.item}"
+
+    def taken(self, worker, by, *words):
+        """A worker claims from its stage, or takes the element with this id, of any stage but that of replies."""
+        if self.passes[by].begun == self.units:
+            return "nounit"
+        found = words or self.waiting(worker.stage)
+        if not found:
+            return "idle"
+        number, element = found[0], self.elements.get(found[0])
+        if element is None:
+            return f"refused {number} NotThere"
+        if element.stage == 15:
+            return f"refused {number} BadStage"
+        if element.status != "waiting":
+            return f"refused {number} NotWaiting"
+        told = self.held_by(worker, by, number)
+        return f"{told} root {element.root} body {':'.join(map(str, element.body))}"
+
     def submit(self, stage, *words):
         if not 1 <= stage <= 14:
             return "refused 3 BadStage"
-        if not self.has_room(self.client, 1):
+        if not self.has_room(self.passes[0], 1):
             return "refused 7 Full"
-        number = self.client.use(1)
+        number = self.passes[0].use(1)
         self.elements[number] = Element(stage, number, [*words, 0, 0][:4])
         return f"submitted {number}"
 

@@ -1,7 +1,7 @@
-"""What a script's run did, by its report: which elements were born, who held them, and where they ended."""
+"""What the run of a script or a live session did, by its report: which elements were born, who held them, and where they ended."""
 from dataclasses import dataclass, field
 
-SETTINGS = ("rows", "units", "limit")
+SETTINGS = ("rows", "units", "limit", "spare")
 
 
 class Untold(Exception):
@@ -57,6 +57,15 @@ class Row:
     is_crowd: bool = False
 
 
+def session_told(session, answers):
+    """Returns a session as a script and its report: without the lines that had no answer or were refused, but with those of its head."""
+    lines, told = session.splitlines(), answers.splitlines()
+    behind = told[len(lines):]
+    told += [""] * (len(lines) - len(told))
+    both = [(line, said) for line, said in zip(lines, told) if not said.startswith("refused line ")]
+    return "".join(f"{line}\n" for line, _ in both), "".join(f"{it}\n" for it in [*(said for _, said in both if said), *behind])
+
+
 class Story:
     def __init__(self, script, report):
         self.title, self.servers, self.rows, self.elements = "", [], [], {}
@@ -67,13 +76,16 @@ class Story:
             raise Untold(f"the script was refused: {lines[0]}")
         if len(lines) < len(commands):
             raise Untold("the report has fewer lines than the script has commands")
+        finals = lines[len(commands):]
         for (command, gap), line in zip(commands, lines):
             self.rows.append(Row(command, line, gap))
+            if line.startswith("rolled over"):
+                break
             self.tell(len(self.rows) - 1, command.split(), line.split())
-        self.end(lines[len(commands) :])
+        self.end(finals)
 
     def read_script(self, script):
-        commands, gap, before = [], False, []
+        commands, gap, before, workers = [], False, [], []
         for line in script.splitlines():
             words = line.split()
             if not words or line.startswith("#"):
@@ -82,12 +94,16 @@ class Story:
                     before.append(line.lstrip("# "))
             elif words[0] == "server":
                 self.servers.append(Server(words[1], words[2], int(words[3]), words[5], words[6:]))
+            elif words[0] == "worker":
+                workers.append(Server(words[1], "worker", int(words[2]), "a worker", []))
             elif words[0] == "limit":
                 self.attempts = int(words[1])
-            elif words[0] not in SETTINGS and words[0] not in ("start", "account"):
+            elif words[0] not in SETTINGS and words[0] != "start" and (words[0] != "account" or workers):
                 commands.append((" ".join(words), gap))
                 gap = False
         self.title = " ".join(before)
+        # (a session's account comes among its commands)
+        self.servers += workers
         return commands
 
     def lane(self, name):
@@ -119,10 +135,13 @@ class Story:
         elif verb == "take" and line[1] != "work":
             return
         elif verb in ("turn", "claim", "next", "take", "prepare", "commit", "abort", "drop"):
+            server = self.servers[self.lane(command[1]) - 1]
+            if server.kind == "worker":
+                server.outputs = command[2:]
             self.serve(row, self.lane(command[1]), line[1:])
 
     def serve(self, row, lane, answer):
-        """What a server did with an element: `answer` is the report's line without the server's name."""
+        """What a server or worker did with an element: `answer` is the report's line without its name."""
         what = answer[0]
         element = self.elements.get(int(answer[1])) if len(answer) > 1 else self.open.get(lane)
         if what == "work":

@@ -1,14 +1,16 @@
 //! Four threads of clients, servers, supervisors, killers and cancellers at one manager. Each writes down its
 //! calls and their answers, and what a shared counter said before and after each; all is printed, with how
-//! each element stands at the end. What the logs say is for another to judge, who trusts nothing here:
-//! `tools/witness`.
+//! each element stands at the end. Then what is alive goes on in a second manager, at which they do the same.
+//! What the logs say is for another to judge, who trusts nothing here: `tools/witness`.
 //!
-//! `tp_witness SEED ROUNDS TURNS` makes this many managers, one after another, and each thread takes this many
-//! turns at each.
+//! `tp_witness SEED ROUNDS TURNS` makes this many pairs of managers, one after another, and each thread takes this
+//! many turns at each.
 #![tactic(auto)]
 
-ghost use Rattle.std.specs.Prelude.{◌≡◌, All, None, IfOk};
-ghost use Rattle.tp_manager.specs.Shown.{IsKeptBy, IsOf};
+ghost use Rattle.std.specs.Prelude.{◌≡◌, All, None, OnOk};
+ghost use Rattle.tp_manager.specs.Shown.{IsOf};
+ghost use Rattle.tp_rollover.specs.Faults.{AreFree};
+ghost use Rattle.tp_rollover.specs.Managed.{IsManaged};
 
 mod calls;
 mod diary;
@@ -26,8 +28,9 @@ use std::process::ExitCode;
 use std::rt::Env;
 use std::sync::atomic::AtomicU64;
 use std::thread::Threads;
-use tp_manager::{Keeper, Manager, Pass};
+use tp_manager::{Manager, Pass};
 use tp_model::types::Limits;
+use tp_rollover::{Managed, RollFault};
 
 /// Few rows and units, so that threads meet at the same elements and draw spare blocks, and run out of all
 /// three.
@@ -56,8 +59,12 @@ fn rounds<R: AllocGlobal + Env + Print + Threads + Sync>(rt: &R) -> Result<(), P
     let rounds = number(words.next())?;
     let turns = number(words.next())?;
     for round in 0..rounds {
-        println!(rt; "round {round} {LIMITS:?}")?;
-        play(rt, u64::from(seed).wrapping_add(u64::from(round)), turns)?;
+        play(
+            rt,
+            round,
+            u64::from(seed).wrapping_add(u64::from(round)),
+            turns,
+        )?;
     }
     Ok(())
 }
@@ -69,62 +76,140 @@ fn number(word: Option<String>) -> Result<u32, ProgramFault> {
     }
 }
 
-/// One round: a manager, and its threads' turns.
+/// One round: a manager and its threads' turns, and the same of the one in which what is alive goes on.
 fn play<R: AllocGlobal + Print + Threads + Sync>(
     rt: &R,
+    round: u32,
     seed: u64,
     turns: u32,
 ) -> Result<(), ProgramFault> {
-    let (manager, mut keeper) = Keeper::new(rt.alloc(), LIMITS)?;
-    let (mut first, mut second, mut third, mut fourth) = passes(&manager, &mut keeper)?;
+    let mut managed = Managed::new(rt.alloc(), LIMITS)?;
+    play_in(rt, &mut managed, round, seed, turns)?;
+    match managed.roll_over(rt.alloc()) {
+        Ok(moved) => {
+            let moved = moved.as_slice();
+            println!(rt; "carried {moved:?}")?;
+            play_in(rt, &mut managed, round, !seed, turns)
+        }
+        Err(RollFault::Full) => Ok(()),
+        Err(_) => Err(ProgramFault::NoRollover),
+    }
+}
+
+/// The threads' turns at a manager, and its account. Each thread has ended its unit then.
+fn play_in<R: AllocGlobal + Print + Threads + Sync>(
+    rt: &R,
+    managed: &mut Managed,
+    round: u32,
+    seed: u64,
+    turns: u32,
+) -> Result<(), ProgramFault>
+    requires managed { IsManaged managed.old }
+    requires free { AreFree managed.old.passes.items }
+    ensures managed { OnOk result (IsManaged managed.new) }
+{
+    println!(rt; "round {round} {LIMITS:?}")?;
+    play_with(
+        rt,
+        &managed.manager,
+        managed.passes.as_mut_slice(),
+        seed,
+        turns,
+    )?;
+    if !managed.keeper.has_all(&managed.passes) {
+        return Err(ProgramFault::NoPass);
+    }
+    let account = managed
+        .keeper
+        .account(&managed.manager, managed.passes.as_mut_slice());
+    println!(rt; "account {account:?}")?;
+    Ok(())
+}
+
+/// The turns of four threads, each with one of these passes.
+fn play_with<R: AllocGlobal + Print + Threads + Sync>(
+    rt: &R,
+    manager: &Manager,
+    passes: &mut [Pass],
+    seed: u64,
+    turns: u32,
+) -> Result<(), ProgramFault>
+    requires own { All (IsOf manager.now) passes.old }
+    requires free { AreFree passes.old }
+    ensures own { All (IsOf manager.now) passes.new }
+{
+    let Some((first, others)) = passes.split_first_mut() else {
+        return Err(ProgramFault::NoPass);
+    };
+    let Some((second, others)) = others.split_first_mut() else {
+        return Err(ProgramFault::NoPass);
+    };
+    let Some((third, others)) = others.split_first_mut() else {
+        return Err(ProgramFault::NoPass);
+    };
+    let Some((fourth, _others)) = others.split_first_mut() else {
+        return Err(ProgramFault::NoPass);
+    };
+    play_four(rt, manager, first, second, third, fourth, seed, turns)
+}
+
+/// The threads' turns, what is read then, and all that they wrote down.
+fn play_four<R: AllocGlobal + Print + Threads + Sync>(
+    rt: &R,
+    manager: &Manager,
+    first: &mut Pass,
+    second: &mut Pass,
+    third: &mut Pass,
+    fourth: &mut Pass,
+    seed: u64,
+    turns: u32,
+) -> Result<(), ProgramFault>
+    requires own { IsOf manager.now first.old × IsOf manager.now second.old
+        × IsOf manager.now third.old × IsOf manager.now fourth.old }
+    requires free { (first.old.open_unit ≡ None) × (second.old.open_unit ≡ None)
+        × (third.old.open_unit ≡ None) × (fourth.old.open_unit ≡ None) }
+    ensures own { IsOf manager.now first.new × IsOf manager.now second.new
+        × IsOf manager.now third.new × IsOf manager.now fourth.new }
+{
     let clock = AtomicU64::new(0);
     let mut first_diary = Diary::new(rt.alloc(), &clock, Dice::new(seed, 1));
     let mut second_diary = Diary::new(rt.alloc(), &clock, Dice::new(seed, 2));
     let mut third_diary = Diary::new(rt.alloc(), &clock, Dice::new(seed, 3));
     let mut fourth_diary = Diary::new(rt.alloc(), &clock, Dice::new(seed, 4));
-    let played = four(
+    four(
         rt,
-        &manager,
-        &mut first,
-        &mut second,
-        &mut third,
-        &mut fourth,
+        manager,
+        first,
+        second,
+        third,
+        fourth,
         &mut first_diary,
         &mut second_diary,
         &mut third_diary,
         &mut fourth_diary,
         turns,
-    );
-    let read = read_all(&manager, &mut first, &mut first_diary);
-    let one = first_diary.print(rt, 0);
-    let two = second_diary.print(rt, 1);
-    let three = third_diary.print(rt, 2);
-    let four = fourth_diary.print(rt, 3);
-    let mut all = [first, second, third, fourth];
-    let told = tell_account(rt, &manager, &mut keeper, &mut all);
-    played
-        .and(read)
-        .and(one)
-        .and(two)
-        .and(three)
-        .and(four)
-        .and(told)
+    )?;
+    read_all(manager, first, &mut first_diary)?;
+    end(manager, second, &mut second_diary)?;
+    end(manager, third, &mut third_diary)?;
+    end(manager, fourth, &mut fourth_diary)?;
+    read_all(manager, first, &mut first_diary)?;
+    first_diary.print(rt, 0)?;
+    second_diary.print(rt, 1)?;
+    third_diary.print(rt, 2)?;
+    fourth_diary.print(rt, 3)
 }
 
-/// The four passes of a manager.
-fn passes(manager: &Manager, keeper: &mut Keeper) -> Result<(Pass, Pass, Pass, Pass), ProgramFault>
-    requires kept { IsKeptBy manager.now keeper.old }
-    ensures kept { IsKeptBy manager.now keeper.new }
-    ensures own { IfOk result (λ all. IsOf manager.now all.0 × IsOf manager.now all.1
-        × IsOf manager.now all.2 × IsOf manager.now all.3) }
-    ensures free { IfOk result (λ all. (all.0.open_unit ≡ None) × (all.1.open_unit ≡ None)
-        × (all.2.open_unit ≡ None) × (all.3.open_unit ≡ None)) }
+/// Aborts the unit that is open, if there is one.
+fn end(manager: &Manager, pass: &mut Pass, diary: &mut Diary) -> Result<(), ProgramFault>
+    requires own { IsOf manager.now pass.old }
+    ensures own { IsOf manager.now pass.new }
+    ensures free { pass.new.open_unit ≡ None }
 {
-    let first = keeper.pass(manager)?;
-    let second = keeper.pass(manager)?;
-    let third = keeper.pass(manager)?;
-    let fourth = keeper.pass(manager)?;
-    Ok((first, second, third, fourth))
+    if pass.has_open() {
+        return abort(manager, pass, diary);
+    }
+    Ok(())
 }
 
 /// The status of each element at the end, as the manager shows it. Of those that are held still about half are
@@ -133,32 +218,13 @@ fn read_all(manager: &Manager, pass: &mut Pass, diary: &mut Diary) -> Result<(),
     requires own { IsOf manager.now pass.old }
     ensures own { IsOf manager.now pass.new }
 {
-    if pass.has_open() {
-        abort(manager, pass, diary)?;
-    }
+    end(manager, pass, diary)?;
     for id in 0..manager.capacity() {
         read(manager, pass, diary, id)?;
         if diary.last == id && diary.dice.below(2) == 0 {
             release(manager, pass, diary, id)?;
             read(manager, pass, diary, id)?;
         }
-    }
-    Ok(())
-}
-
-/// The closing account, as the manager counts.
-fn tell_account<R: Print>(
-    rt: &R,
-    manager: &Manager,
-    keeper: &mut Keeper,
-    passes: &mut [Pass],
-) -> Result<(), ProgramFault>
-    requires kept { IsKeptBy manager.now keeper.old }
-    requires own { All (IsOf manager.now) passes.old }
-{
-    if keeper.has_all(passes) {
-        let account = keeper.account(manager, passes);
-        println!(rt; "account {account:?}")?;
     }
     Ok(())
 }

@@ -8,6 +8,8 @@ use tp_manager::MakeFault;
 pub enum ProgramFault {
     NoManager(MakeFault),
     NoMemory,
+    NoPass,
+    NoRollover,
     NoNumber,
     NoOutput,
 }

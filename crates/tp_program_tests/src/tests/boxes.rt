@@ -1,17 +1,19 @@
 //! What a performance leaves in the caller's boxes where its writer fails.
 ghost use Rattle.std.specs.Prelude.{◌≡◌, All, IfSome, None};
-ghost use Rattle.tp_manager.specs.Shown.{IsKeptBy, IsOf};
-ghost use Rattle.tp_workers.specs.Free.{IsFreePass};
+ghost use Rattle.tp_manager.specs.Shown.{IsOf};
+ghost use Rattle.tp_rollover.specs.Faults.{AreFree};
+ghost use Rattle.tp_rollover.specs.Managed.{IsManaged};
 
 use super::devices::Writer;
 use arrayvec::ArrayVec;
 use std::alloc::Global;
 use std::process::Abort;
 use std::thread::Threads;
-use tp_manager::{Keeper, Manager, Pass};
+use tp_manager::{Manager, Pass};
 use tp_model::types::{Limits, Status};
 use tp_perform::perform::perform;
 use tp_report::RunFault;
+use tp_rollover::Managed;
 use tp_script::{Script, StdSource, read_script};
 use tp_server::{Act, EagerServer, Recipe, Registers, Server, three};
 
@@ -26,14 +28,6 @@ const LIMITS: Limits = Limits {
 
 const SCRIPT: &str =
     "server a eager 1 1 add\nserver b eager 1 1 add\nserver c eager 1 1 add\nrace 4 50 1 0 1 0 100\ndrain\ncount\nsum 0\n";
-
-fn pass(keeper: &mut Keeper, manager: &Manager) -> Option<Pass>
-    requires { IsKeptBy manager.now keeper.old }
-    ensures kept { IsKeptBy manager.now keeper.new }
-    ensures free { IfSome result (IsFreePass manager.now) }
-{
-    keeper.pass(manager).ok()
-}
 
 /// A boxed server of stage 1 that adds to one register.
 fn adder(alloc: Global) -> Option<Box<dyn Server + Send>>
@@ -68,7 +62,7 @@ fn consumed(manager: &Manager, reader: &mut Pass) -> u64
 
 /// What the first of these passes reads as consumed.
 fn consumed_by_first(manager: &Manager, passes: &mut [Pass]) -> Option<u64>
-    requires { All (IsFreePass manager.now) passes.old }
+    requires { All (IsOf manager.now) passes.old }
 {
     let (reader, _others) = passes.split_first_mut()?;
     Some(consumed(manager, reader))
@@ -88,24 +82,22 @@ fn left_by<R: Threads + Sync>(
     rt: &R,
     alloc: Global,
     script: &Script,
-    manager: &Manager,
-    keeper: &mut Keeper,
-    passes: &mut [Pass],
+    managed: &mut Managed,
     servers: &mut [Box<dyn Server + Send>],
     writer: &mut Writer,
 ) -> Option<(Result<(), RunFault>, u64, u64)>
-    requires kept { IsKeptBy manager.now keeper.old }
-    requires free { All (IsFreePass manager.now) passes.old }
+    requires managed { IsManaged managed.old }
+    requires free { AreFree managed.old.passes.items }
     requires clear { All (λ server. pending server ≡ None) servers.old }
 {
-    if passes.len() != usize::from(script.passes()) || servers.len() != script.servers.len() {
+    if managed.passes.len() != usize::from(script.passes()) {
         return None;
     }
-    if !keeper.has_all(passes) {
+    if servers.len() != script.servers.len() {
         return None;
     }
-    let answer = perform(rt, alloc, script, manager, keeper, passes, servers, writer);
-    let consumed = consumed_by_first(manager, passes)?;
+    let answer = perform(rt, alloc, script, managed, servers, writer);
+    let consumed = consumed_by_first(&managed.manager, managed.passes.as_mut_slice())?;
     Some((answer, consumed, sum_of(servers)))
 }
 
@@ -115,17 +107,7 @@ fn failed_at<R: Abort + AllocGlobal + Threads + Sync>(
     script: &Script,
     fails_at: u64,
 ) -> Option<(Result<(), RunFault>, u64, u64)> {
-    let (manager, mut keeper) = Keeper::new(rt.alloc(), LIMITS).ok()?;
-    let mut passes = [
-        pass(&mut keeper, &manager).expect(rt, "no pass"),
-        pass(&mut keeper, &manager).expect(rt, "no pass"),
-        pass(&mut keeper, &manager).expect(rt, "no pass"),
-        pass(&mut keeper, &manager).expect(rt, "no pass"),
-        pass(&mut keeper, &manager).expect(rt, "no pass"),
-        pass(&mut keeper, &manager).expect(rt, "no pass"),
-        pass(&mut keeper, &manager).expect(rt, "no pass"),
-        pass(&mut keeper, &manager).expect(rt, "no pass"),
-    ];
+    let mut managed = Managed::new(rt.alloc(), LIMITS).ok()?;
     let mut servers = three(
         adder(rt.alloc()).expect(rt, "no server"),
         adder(rt.alloc()).expect(rt, "no server"),
@@ -141,9 +123,7 @@ fn failed_at<R: Abort + AllocGlobal + Threads + Sync>(
         rt,
         rt.alloc(),
         script,
-        &manager,
-        &mut keeper,
-        &mut passes,
+        &mut managed,
         &mut servers,
         &mut writer,
     )

@@ -4,7 +4,7 @@ use tp_model::types::Body;
 use tp_script::{ClientAct, Command, DeskAct, Kind, Race, StdSource, read_script};
 
 const SCRIPT: &str =
-    "units 3\nspare 256\nserver a eager 1 2 add:3\nserver b lazy 2 1 take 15:7:after\nstart a 1 5\nsubmit 9 8 7\nsubmit 9 8 7 6\nsubmit 9 8 7 6 5\nturn b\nreply 6\nclaim a\nnext b\ntake b 9\nprepare b\ncommit a\nabort b\ndrop a\nkill 5\ncancel 6\nrequeue 7\nread 4\nerrors\nbalance b 3\nsum 2\ncount\nrace 4 256 14 3 2 1 10000\ndrain\ndrain next\naccount\n";
+    "units 3\nspare 256\nserver a eager 1 2 add:3\nserver b lazy 2 1 take 15:7:after\nstart a 1 5\nsubmit 9 8 7\nsubmit 9 8 7 6\nsubmit 9 8 7 6 5\nturn b\nreply 6\nclaim a\nnext b\ntake b 9\nprepare b\ncommit a\nabort b\ndrop a\nkill 5\ncancel 6\nrequeue 7\nread 4\nerrors\nbalance b 3\nsum 2\ncount\nrace 4 256 14 3 2 1 10000\ndrain\ndrain next\nrollover\naccount\n";
 
 /// The client's command.
 fn client(act: ClientAct) -> Command {
@@ -75,6 +75,7 @@ fn each_command(rt: HostRuntime) {
                 }),
                 Command::Drain,
                 Command::DrainNext,
+                Command::Rollover,
             ];
             assert_eq!(rt; script.commands.as_slice(), commands.as_slice());
             assert!(rt; script.account);

@@ -86,13 +86,17 @@ fn refusals(rt: HostRuntime) {
     }
 }
 
-// What a race comes to isn't what a script says.
+// What a race comes to isn't what a script says, and a rollover takes a second manager.
 #[test]
-fn a_race_is_not_run(rt: HostRuntime) {
-    let script = "server a eager 1 1 add\nsubmit 1 0 1\nrace 1 1 1 0 1 1 1\n";
-    let (answer, held) = written(&rt, script.as_bytes());
-    assert_eq!(rt; answer, Ok(PlainExit::Races));
-    assert!(rt; held.is_empty());
+fn what_is_not_run(rt: HostRuntime) {
+    for script in [
+        "server a eager 1 1 add\nsubmit 1 0 1\nrace 1 1 1 0 1 1 1\n",
+        "server a eager 1 1 add\nsubmit 1 0 1\nrollover\n",
+    ] {
+        let (answer, held) = written(&rt, script.as_bytes());
+        assert_eq!(rt; answer, Ok(PlainExit::NotRun));
+        assert!(rt; held.is_empty());
+    }
 }
 
 #[test]

@@ -61,8 +61,17 @@ fn work_given_up_and_taken_away(rt: HostRuntime) {
 fn refused_lines_between(rt: HostRuntime) {
     is_answered(
         &rt,
-        "# a comment\n\nturn packer\nrows 3\nworker other 2\nclaim packer\ncommit packer 16:1:1\ncommit packer 15:1\ncommit packer 2:1:1 2:1:1 2:1:1 2:1:1 2:1:1\ndrain\nclaim other\ncommit packer 15:1:1\nreply 0\nsum 0\n",
+        "# a comment\n\nturn packer\nrows 3\nworker other 2\nclaim packer\ncommit packer 16:1:1\ncommit packer 15:1\ncommit packer 2:1:1 2:1:1 2:1:1 2:1:1 2:1:1\nrace 1 1 1 1 1 0 1\nclaim other\ncommit packer 15:1:1\nreply 0\nsum 0\n",
         "submitted 0\nrefused line 6: 5 BadName\nrefused line 7: 7 Order\nrefused line 8: 7 Order\npacker work 0 unit 512 attempt 1 root 0 body 5:6:7:8\nrefused line 10: 2 BadNumber\nrefused line 11: 1 Syntax\nrefused line 12: 1 Syntax\nrefused line 13: 1 Syntax\nrefused line 14: 5 BadName\npacker done 0 unit 512 outputs 128 1\nreplies 0 128:1:1\nsum 0 0\nfinal till 0\n",
+    );
+}
+
+#[test]
+fn a_drain_behind_a_rollover(rt: HostRuntime) {
+    is_answered(
+        &rt,
+        "claim packer\nrollover\ncommit packer 2:0:10 2:0:4 15:5:6\nrollover\nreply 128\ndrain\nsum 0\naccount\n",
+        "submitted 0\npacker work 0 unit 512 attempt 1 root 0 body 5:6:7:8\nrefused 11 Busy\npacker done 0 unit 512 outputs 128 3\nrolled over 3 128:129 129:130 130:131\nreplies 128 131:5:6\ndrained\nsum 0 14\naccount born 4 waiting 1 held 0 consumed 3 parked 0 killed 0\nfinal till 14\n",
     );
 }
 
