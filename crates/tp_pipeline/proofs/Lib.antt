@@ -1,1 +1,2 @@
 pub mod Careers
+pub mod Audits

@@ -1,2 +1,4 @@
 pub mod Payments
 pub mod Books
+pub mod Ends
+pub mod Audits

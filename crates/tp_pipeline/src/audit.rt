@@ -1,66 +1,107 @@
 //! The servers' registers, the pipeline's books and what was asked for are held against one another.
+ghost use Rattle.std.specs.Prelude.{◌≡◌, IfOk, IfSome, OnOk, option_copied, slice_get};
+ghost use Rattle.tp_pipeline.specs.Audits.{Agree, Shows, passed, takings_due};
+ghost use Rattle.tp_pipeline.specs.Ends.{AreClosed};
 
+use crate::books::Books;
 use crate::faults::PipelineFault;
-use crate::service::{Served, Task, body_of};
+use crate::service::{Boxed, Served, Task, body_of};
 use tp_server::Server;
 
 /// What is to come of so many payments where this is the ceiling: how many are let through, and their
-/// amounts together.
-fn expected(payments: u64, ceiling: u64) -> (u64, u64) {
+/// amounts together. `None` where that is more than a register holds.
+fn expected(payments: u64, ceiling: u64) -> Option<(u64, u64)>
+    ensures due { IfSome result (λ due. (due.0 ≡ passed ceiling payments)
+        × (due.1 ≡ takings_due ceiling payments)) }
+{
     let mut count = 0u64;
     let mut amounts = 0u64;
     for number in 0..payments {
         let [amount, ..] = body_of(number);
         if amount <= ceiling {
-            count = count.saturating_add(1);
-            amounts = amounts.saturating_add(amount);
+            count = count.checked_add(1)?;
+            amounts = amounts.checked_add(amount)?;
         }
     }
-    (count, amounts)
+    Some((count, amounts))
 }
 
-/// The register with this number of the box with this number.
-fn register(served: &Served, place: usize, k: u64) -> Result<u64, PipelineFault> {
-    let Some(server) = served.boxes.get(place) else {
+/// The box at this place.
+fn box_at(boxes: &[Boxed], place: usize) -> Option<&Boxed>
+    ensures { option_copied result ≡ slice_get boxes.now place }
+{
+    boxes.get(place)
+}
+
+/// The register with this number of a box.
+fn value_of(server: &Boxed, k: u64) -> Option<u64>
+    ensures { result ≡ slice_get (registers server.now) k }
+{
+    server.balance(k)
+}
+
+/// The register with this number of the box at this place.
+fn register(boxes: &[Boxed], place: usize, k: u64) -> Result<u64, PipelineFault>
+    ensures shows { IfOk result (Shows registers boxes.now place k) }
+{
+    let Some(server) = box_at(boxes, place) else {
         return Err(PipelineFault::BadBooks);
     };
-    let Some(value) = server.balance(k) else {
+    let Some(value) = value_of(server, k) else {
         return Err(PipelineFault::BadBooks);
     };
     Ok(value)
 }
 
-/// Prints the books, if all of them agree.
+/// Nothing, if both are alike.
+fn same(found: u64, due: u64) -> Result<(), PipelineFault>
+    ensures same { OnOk result (found ≡ due) }
+{
+    if found != due {
+        return Err(PipelineFault::BadBooks);
+    }
+    Ok(())
+}
+
+/// Nothing, if the registers of these boxes and the books are what was due.
+fn agree(boxes: &[Boxed], books: &Books, payments: u64, ceiling: u64) -> Result<(), PipelineFault>
+    requires closed { AreClosed payments books.now }
+    ensures agree { OnOk result (Agree registers payments ceiling boxes.now books.now) }
+{
+    let Some((count, amounts)) = expected(payments, ceiling) else {
+        return Err(PipelineFault::BadBooks);
+    };
+    same(register(boxes, 0, 0)?, count)?;
+    same(register(boxes, 1, 0)?, amounts)?;
+    same(register(boxes, 1, 1)?, count)?;
+    let first = register(boxes, 2, 0)?;
+    let second = register(boxes, 3, 0)?;
+    let Some(shipped) = first.checked_add(second) else {
+        return Err(PipelineFault::BadBooks);
+    };
+    same(shipped, count)?;
+    same(books.collected, count)?;
+    same(books.paid, amounts)?;
+    Ok(())
+}
+
+/// Prints the books, where the servers' registers and the books are what was due. Else nothing is printed.
 pub fn audit<R: Print>(
     rt: &R,
     served: &Served,
     task: Task,
     ceiling: u64,
-) -> Result<(), PipelineFault> {
+) -> Result<(), PipelineFault>
+    requires closed { AreClosed task.payments served.now.books }
+    ensures agree { OnOk result (Agree registers task.payments ceiling
+        served.now.boxes.items served.now.books) }
+{
     let books = &served.books;
-    let (count, amounts) = expected(task.payments, ceiling);
-    let validated = register(served, 0, 0)?;
-    let takings = register(served, 1, 0)?;
-    let charges = register(served, 1, 1)?;
-    let shipped = register(served, 2, 0)?.saturating_add(register(served, 3, 0)?);
-    let counts = [validated, charges, shipped, books.collected];
-    for place in 0..counts.len() {
-        if counts[place] != count {
-            return Err(PipelineFault::BadBooks);
-        }
-    }
-    if takings != amounts || books.paid != amounts {
-        return Err(PipelineFault::BadBooks);
-    }
-    if books.submitted != task.payments
-        || books.collected.saturating_add(books.cancelled) != task.payments
-    {
-        return Err(PipelineFault::BadBooks);
-    }
+    agree(&served.boxes, books, task.payments, ceiling)?;
     println!(rt;
-        "payments {}: {shipped} shipped, {} cancelled",
-        task.payments, books.cancelled
+        "payments {}: {} shipped, {} cancelled",
+        task.payments, books.collected, books.cancelled
     )?;
-    println!(rt; "takings {takings} of {charges} charges")?;
+    println!(rt; "takings {} of {} charges", books.paid, books.collected)?;
     Ok(())
 }

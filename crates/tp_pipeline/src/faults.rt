@@ -23,6 +23,8 @@ pub enum PipelineFault {
     NoRoom,
     /// The books don't agree with one another.
     BadBooks,
+    /// So many batches that their number has more than 32 bits were not enough.
+    TooLong,
 }
 
 impl From<MakeFault> for PipelineFault {

@@ -1,16 +1,17 @@
 //! The service: a crew works off payments, batch after batch, and goes on in a new manager whenever its own
 //! is used up.
-ghost use Rattle.std.specs.Prelude.{◌≡◌, ℕ, All, IfOk, None, OnOk, length};
+ghost use Rattle.std.specs.Prelude.{◌≡◌, ◌+◌, ◌<◌, ◌≤◌, ◌^◌, ℕ, All, IfOk, None, OnOk, length};
 ghost use Rattle.tp_desk.specs.Steady.{shown};
 ghost use Rattle.tp_server.specs.Books.{Raises};
 ghost use Rattle.tp_crew.specs.Crew.{IsSteadyCrew};
 ghost use Rattle.tp_pipeline.specs.Books.{GoesOn, HaveWorked, IsStaffed, charges_in, count_in, one, takings_in};
+ghost use Rattle.tp_pipeline.specs.Audits.{payment};
+ghost use Rattle.tp_pipeline.specs.Ends.{AddUp, AreClosed};
 ghost use Rattle.tp_pipeline.specs.Payments.{amount_of, charger, shipper, validator};
 
 use crate::books::Books;
 use crate::faults::PipelineFault;
 use std::alloc::Global;
-use std::mem::swap;
 use std::thread::Threads;
 use std::time::Clock;
 use tp_crew::{Crew, CrewLimits};
@@ -49,7 +50,9 @@ pub struct Served {
 }
 
 /// The body of the payment with this number: its amount, 1 to 100, and the number.
-pub fn body_of(number: u64) -> Body {
+pub fn body_of(number: u64) -> Body
+    ensures { result ≡ payment number }
+{
     [number % 100 + 1, number, 0, 0]
 }
 
@@ -73,9 +76,12 @@ fn make_room(
 ) -> Result<(), PipelineFault>
     requires steady { IsSteadyCrew (shown behaviour) (shown registers) (shown pending) crew.old }
     requires staffed { IsStaffed crew.old }
+    requires add_up { AddUp books.old }
     ensures steady { OnOk result (IsSteadyCrew (shown behaviour) (shown registers) (shown pending) crew.new) }
     ensures staffed { OnOk result (IsStaffed crew.new) }
     ensures goes_on { OnOk result (GoesOn (shown behaviour) (shown registers) crew.old crew.new) }
+    ensures add_up { OnOk result (AddUp books.new) }
+    ensures submitted { OnOk result (books.new.submitted ≡ books.old.submitted) }
 {
     let before = now(clock);
     let Some(moved) = crew.roll_when(alloc, WANTED, 2 * WANTED)? else {
@@ -83,7 +89,7 @@ fn make_room(
     };
     let spent = now(clock).saturating_sub(before);
     books.rolling = books.rolling.saturating_add(spent);
-    if !books.roll(&moved)? {
+    if !books.roll(&moved) {
         return Err(PipelineFault::BadBooks);
     }
     Ok(())
@@ -94,9 +100,12 @@ fn make_room(
 fn answer(crew: &mut Crew, books: &mut Books, id: u32) -> Result<(), PipelineFault>
     requires steady { IsSteadyCrew (shown behaviour) (shown registers) (shown pending) crew.old }
     requires staffed { IsStaffed crew.old }
+    requires add_up { AddUp books.old }
     ensures steady { OnOk result (IsSteadyCrew (shown behaviour) (shown registers) (shown pending) crew.new) }
     ensures staffed { OnOk result (IsStaffed crew.new) }
     ensures goes_on { OnOk result (GoesOn (shown behaviour) (shown registers) crew.old crew.new) }
+    ensures add_up { OnOk result (AddUp books.new) }
+    ensures submitted { OnOk result (books.new.submitted ≡ books.old.submitted) }
 {
     let element = crew.read(id)?.element;
     if element.stage == 1 {
@@ -115,9 +124,12 @@ fn answer(crew: &mut Crew, books: &mut Books, id: u32) -> Result<(), PipelineFau
 fn answer_all(crew: &mut Crew, books: &mut Books) -> Result<(), PipelineFault>
     requires steady { IsSteadyCrew (shown behaviour) (shown registers) (shown pending) crew.old }
     requires staffed { IsStaffed crew.old }
+    requires add_up { AddUp books.old }
     ensures steady { OnOk result (IsSteadyCrew (shown behaviour) (shown registers) (shown pending) crew.new) }
     ensures staffed { OnOk result (IsStaffed crew.new) }
     ensures goes_on { OnOk result (GoesOn (shown behaviour) (shown registers) crew.old crew.new) }
+    ensures add_up { OnOk result (AddUp books.new) }
+    ensures submitted { OnOk result (books.new.submitted ≡ books.old.submitted) }
 {
     let mut from = 0;
     for _past in 0..u32::MAX {
@@ -134,13 +146,16 @@ fn answer_all(crew: &mut Crew, books: &mut Books) -> Result<(), PipelineFault>
 fn submit_one(crew: &mut Crew, books: &mut Books) -> Result<(), PipelineFault>
     requires steady { IsSteadyCrew (shown behaviour) (shown registers) (shown pending) crew.old }
     requires staffed { IsStaffed crew.old }
+    requires add_up { AddUp books.old }
+    requires few { books.old.submitted + 1 < 2 ^ 64 }
     ensures steady { OnOk result (IsSteadyCrew (shown behaviour) (shown registers) (shown pending) crew.new) }
     ensures staffed { OnOk result (IsStaffed crew.new) }
     ensures goes_on { OnOk result (GoesOn (shown behaviour) (shown registers) crew.old crew.new) }
+    ensures add_up { OnOk result (AddUp books.new) }
+    ensures submitted { OnOk result (books.new.submitted ≡ books.old.submitted + 1) }
 {
     let root = crew.submit(1, body_of(books.submitted))?;
-    books.submitted = books.submitted.saturating_add(1);
-    books.open.push(root)?;
+    books.submit(root)?;
     Ok(())
 }
 
@@ -148,9 +163,13 @@ fn submit_one(crew: &mut Crew, books: &mut Books) -> Result<(), PipelineFault>
 fn submit_next(crew: &mut Crew, books: &mut Books, payments: u64) -> Result<(), PipelineFault>
     requires steady { IsSteadyCrew (shown behaviour) (shown registers) (shown pending) crew.old }
     requires staffed { IsStaffed crew.old }
+    requires add_up { AddUp books.old }
+    requires few { books.old.submitted ≤ payments }
     ensures steady { OnOk result (IsSteadyCrew (shown behaviour) (shown registers) (shown pending) crew.new) }
     ensures staffed { OnOk result (IsStaffed crew.new) }
     ensures goes_on { OnOk result (GoesOn (shown behaviour) (shown registers) crew.old crew.new) }
+    ensures add_up { OnOk result (AddUp books.new) }
+    ensures few { OnOk result (books.new.submitted ≤ payments) }
 {
     for _one in 0..crew.room().rows {
         if books.submitted >= payments {
@@ -188,39 +207,45 @@ fn work<R: Threads + Sync>(rt: &R, crew: &mut Crew, turns: u16)
     crew.drain(Order::InTurn);
 }
 
-/// The reply to one payment is collected, if there is one; else the payment is open as before.
-fn collect_one(crew: &mut Crew, books: &mut Books, root: u32) -> Result<(), PipelineFault>
+/// The reply to the open payment at this place is collected, if there is one; else the payment is open as
+/// before.
+fn collect_one(crew: &mut Crew, books: &mut Books, place: usize)
     requires steady { IsSteadyCrew (shown behaviour) (shown registers) (shown pending) crew.old }
     requires staffed { IsStaffed crew.old }
-    ensures steady { OnOk result (IsSteadyCrew (shown behaviour) (shown registers) (shown pending) crew.new) }
-    ensures staffed { OnOk result (IsStaffed crew.new) }
-    ensures goes_on { OnOk result (GoesOn (shown behaviour) (shown registers) crew.old crew.new) }
+    requires add_up { AddUp books.old }
+    requires within { place < length books.old.roots.items }
+    ensures steady { IsSteadyCrew (shown behaviour) (shown registers) (shown pending) crew.new }
+    ensures staffed { IsStaffed crew.new }
+    ensures goes_on { GoesOn (shown behaviour) (shown registers) crew.old crew.new }
+    ensures add_up { AddUp books.new }
+    ensures submitted { books.new.submitted ≡ books.old.submitted }
+    ensures left { length books.old.roots.items ≤ length books.new.roots.items + 1 }
 {
-    let Some(reply) = crew.collect_next(root) else {
-        books.open.push(root)?;
-        return Ok(());
+    let Some(reply) = crew.collect_next(books.roots[place]) else {
+        return;
     };
-    books.pay(reply.body[0]);
-    Ok(())
+    books.pay(place, reply.body[0]);
 }
 
-/// The replies are collected, of each open payment that has one.
-fn collect_all(alloc: Global, crew: &mut Crew, books: &mut Books) -> Result<(), PipelineFault>
+/// The replies are collected, of each open payment that has one. The last one is asked for first, so that
+/// each that is taken out leaves those before it where they are.
+fn collect_all(crew: &mut Crew, books: &mut Books)
     requires steady { IsSteadyCrew (shown behaviour) (shown registers) (shown pending) crew.old }
     requires staffed { IsStaffed crew.old }
-    ensures steady { OnOk result (IsSteadyCrew (shown behaviour) (shown registers) (shown pending) crew.new) }
-    ensures staffed { OnOk result (IsStaffed crew.new) }
-    ensures goes_on { OnOk result (GoesOn (shown behaviour) (shown registers) crew.old crew.new) }
+    requires add_up { AddUp books.old }
+    ensures steady { IsSteadyCrew (shown behaviour) (shown registers) (shown pending) crew.new }
+    ensures staffed { IsStaffed crew.new }
+    ensures goes_on { GoesOn (shown behaviour) (shown registers) crew.old crew.new }
+    ensures add_up { AddUp books.new }
+    ensures submitted { books.new.submitted ≡ books.old.submitted }
 {
-    let mut roots = Vec::new(alloc);
-    swap(&mut roots, &mut books.open);
-    for place in 0..roots.len() {
-        collect_one(crew, books, roots[place])?;
+    let count = books.roots.len();
+    for past in 0..count {
+        collect_one(crew, books, count - 1 - past);
     }
-    Ok(())
 }
 
-/// One batch: room, what was parked before, the next payments, and their replies.
+/// One batch: room, the next payments, what is parked, and the replies.
 fn batch<R: Clock + Threads + Sync + AllocGlobal>(
     rt: &R,
     crew: &mut Crew,
@@ -229,15 +254,20 @@ fn batch<R: Clock + Threads + Sync + AllocGlobal>(
 ) -> Result<(), PipelineFault>
     requires steady { IsSteadyCrew (shown behaviour) (shown registers) (shown pending) crew.old }
     requires staffed { IsStaffed crew.old }
+    requires add_up { AddUp books.old }
+    requires few { books.old.submitted ≤ task.payments }
     ensures steady { OnOk result (IsSteadyCrew (shown behaviour) (shown registers) (shown pending) crew.new) }
     ensures staffed { OnOk result (IsStaffed crew.new) }
     ensures goes_on { OnOk result (GoesOn (shown behaviour) (shown registers) crew.old crew.new) }
+    ensures add_up { OnOk result (AddUp books.new) }
+    ensures few { OnOk result (books.new.submitted ≤ task.payments) }
 {
     make_room(rt, rt.alloc(), crew, books)?;
-    answer_all(crew, books)?;
     submit_next(crew, books, task.payments)?;
     work(rt, crew, task.turns);
-    collect_all(rt.alloc(), crew, books)?;
+    answer_all(crew, books)?;
+    crew.drain(Order::InTurn);
+    collect_all(crew, books);
     Ok(())
 }
 
@@ -250,22 +280,25 @@ fn run<R: Clock + Threads + Sync + AllocGlobal>(
 ) -> Result<(), PipelineFault>
     requires steady { IsSteadyCrew (shown behaviour) (shown registers) (shown pending) crew.old }
     requires staffed { IsStaffed crew.old }
+    requires add_up { AddUp books.old }
+    requires few { books.old.submitted ≤ task.payments }
     ensures steady { OnOk result (IsSteadyCrew (shown behaviour) (shown registers) (shown pending) crew.new) }
     ensures staffed { OnOk result (IsStaffed crew.new) }
     ensures goes_on { OnOk result (GoesOn (shown behaviour) (shown registers) crew.old crew.new) }
+    ensures closed { OnOk result (AreClosed task.payments books.new) }
 {
     for _batch in 0..u32::MAX {
-        if books.submitted >= task.payments && books.open.is_empty() {
-            break;
+        if books.submitted >= task.payments && books.roots.is_empty() {
+            return Ok(());
         }
         batch(rt, crew, books, task)?;
     }
-    Ok(())
+    Err(PipelineFault::TooLong)
 }
 
 /// Works off so many payments with these boxes: a validator, a charger and two shippers. Over however many
 /// managers that goes, each box's registers are what its own effects made of the payments that it consumed,
-/// each once.
+/// each once. All those payments were submitted, and each has its end.
 pub fn serve<R: Clock + Threads + Sync + AllocGlobal>(
     rt: &R,
     boxes: Vec<Boxed>,
@@ -275,6 +308,7 @@ pub fn serve<R: Clock + Threads + Sync + AllocGlobal>(
     requires four { length boxes.items ≡ 4 }
     ensures worked { IfOk result (λ served. HaveWorked behaviour registers boxes.items served.boxes.items) }
     ensures kept { IfOk result (λ served. length served.boxes.items ≡ 4) }
+    ensures closed { IfOk result (λ served. AreClosed task.payments served.books) }
 {
     each_payment();
     let mut books = Books::new(rt.alloc());

@@ -1,7 +1,8 @@
 -- Rounds of turns.
-use Rattle.std.proofs.Common.{◌≡◌, ℕ, ◌+◌, ◌-◌, ◌*◌, ◌≤◌, ◌<◌, List, [], ◌∷◌, Option, All, refl, sym, ◌∙◌, ap, ap₂, subst, arith, length, sum_by, zip, None}
+use Rattle.std.proofs.Common.{◌≡◌, ℕ, ◌+◌, ◌-◌, ◌*◌, ◌≤◌, ◌<◌, List, [], ◌∷◌, Option, All, refl, sym, ◌∙◌, ap, ap₂, subst, ◌⊎◌, inl, inr, arith, length, sum_by, zip, None}
 use Rattle.std.proofs.lemmas.List.Elements.{All-head, All-tail}
 use Rattle.std.proofs.lemmas.List.Sums.{sum_by-cons}
+use Rattle.tp_model.specs.Steps.{AreLimits}
 use Rattle.tp_server.specs.Behaviour.{Behaviour}
 use Rattle.tp_server.specs.Pending.{Pending}
 use Rattle.tp_manager.specs.Calls.{claims_in}
@@ -9,17 +10,18 @@ use Rattle.tp_manager.specs.Shown.{ManagerShown, PassShown}
 use Rattle.tp_desk.specs.Serving.{AreEnded, Leaves, Serves, gained}
 use Rattle.tp_desk.proofs.Serves.{ended_none, leaves_then, serves_none}
 use Rattle.tp_desk.specs.declared.order.Order.{Order}
+use Rattle.tp_workers.specs.declared.plan.Plan.{Plan}
 use Rattle.tp_workers.specs.declared.tally.Shift.{Shift}
 use Rattle.tp_workers.specs.Calling.{MadeCalls}
-use Rattle.tp_workers.specs.Desks.{IsDeskOf, Place, TakesTurn, place}
+use Rattle.tp_workers.specs.Desks.{DeskWorked, IsDeskOf, Place, TakesTurn, place}
 use Rattle.tp_workers.specs.Drained.{DeskDrained, EndsIdle, LastTurn, TookTurn}
 use Rattle.tp_workers.specs.Free.{IsFreePass, numbers}
 use Rattle.tp_workers.specs.Gains.{commits_in}
 use Rattle.tp_workers.specs.Ran.{RanAll, RanEach}
 use Rattle.tp_workers.specs.Tally.{claimed, none, plus, turn_count}
-use Rattle.tp_workers.proofs.Calling.{called_more, called_none}
+use Rattle.tp_workers.proofs.Calling.{called_more, called_none, called_then}
 use Rattle.tp_workers.proofs.Shifts.{desks_ready, each_gains, each_paired, passes_free, same_numbers, servers_clear, sum_first, zip_length}
-use Rattle.tp_workers.proofs.Turns.{turn_claims, turn_room, turns_claim, turns_commit}
+use Rattle.tp_workers.proofs.Turns.{turn_claims, turn_room, turns_claim, turns_commit, turns_room}
 
 four : (n m k l : ℕ) → (n + m) + (k + l) ≡ (n + k) + (m + l)
 four n m k l = omega arith
@@ -97,6 +99,59 @@ module _ {B : Type 0} (behaviour : B → Behaviour) (registers : B → List ℕ)
   going_round (x ∷ xs) (y ∷ ys) [] s t h k = absurd k
   going_round (x ∷ xs) (y ∷ ys) (z ∷ zs) s t h k =
       (plus h.0 k.0, plus h.1 k.1, one_round x y z h.0 k.0 h.2 k.2, going_round xs ys zs h.1 k.1 h.3 k.3, ap₂ plus h.4 k.4 ∙ plus_swap h.0 h.1 k.0 k.1)
+
+  abbrev Worked : Plan → PassShown × B → Shift → PassShown × B → Type 0
+  Worked plan x s y = DeskWorked behaviour registers pending m plan x s y
+
+  works_on : (plan : Plan) → plan.order ≡ order → (x y : PassShown × B) (s : Shift) (h : Worked plan x s y) → MadeCalls (TakesTurn order m.limits) turn_count h.turns_taken.taken (at x) s (at y)
+  works_on plan is x y s h = subst (λ (o : Order). MadeCalls (TakesTurn o m.limits) turn_count h.turns_taken.taken (at x) s (at y)) is h.turns_taken.calls
+
+  few_claimed : (n units a b : ℕ) (s : Shift) → units ≤ 1024 → claimed s + a ≡ b → (b ≤ units) ⊎ (b ≡ a) → s.done ≤ 1024
+  few_claimed n units a b s most claims (inl few) = omega (arith, most, claims, few)
+  few_claimed n units a b s most claims (inr same) = omega (arith, most, claims, same)
+
+  -- a desk goes on until it finds nothing
+  one_more : (plan : Plan) → plan.order ≡ order → AreLimits m.limits → (x y z : PassShown × B) (s t : Shift) → Going x s y → Worked plan y t z → Going x (plus s t) z
+  one_more plan is limits x y z s t h k =
+      let calls = called_then (TakesTurn order m.limits) turn_count h.taken k.turns_taken.taken (at x) (at y) (at z) s t h.calls (works_on plan is y z t k) in
+      let n = h.taken + k.turns_taken.taken in
+      let leaves : Leaves (behaviour x.1) (registers x.1) (registers z.1) x.0 z.0 =
+      leaves_then (behaviour x.1) (registers x.1) (registers y.1) (registers z.1) x.0 y.0 z.0 h.serves h.ended (subst (λ r. Leaves r (registers y.1) (registers z.1) y.0 z.0) h.behaviour_is k.leaves) in
+      record {
+        taken = n;
+        calls = calls;
+        few = few_claimed n m.limits.units (claims_in x.0.mine) (claims_in z.0.mine) (plus s t) limits.units.1 (turns_claim order m.limits n (at x) (at z) (plus s t) calls) (turns_room order m.limits n (at x) (at z) (plus s t) calls);
+        serves = leaves.serves;
+        ended = leaves.ended;
+        behaviour_is = k.behaviour_is ∙ h.behaviour_is;
+        ready = k.ready;
+      }
+
+  -- one round, and then each desk until it finds nothing
+  going_more : (plan : Plan) → plan.order ≡ order → (xs ys zs ws : List (PassShown × B)) (s t u : Shift)
+      → RanAll Going xs s ys → RanAll Took ys t zs → RanAll (Worked plan) zs u ws → RanAll Going xs (plus (plus s t) u) ws
+  going_more plan is [] [] [] [] s t u h k j = ap₂ plus (ap₂ plus h k) j
+  going_more plan is [] [] [] (w ∷ ws) s t u h k j = absurd j
+  going_more plan is [] [] (z ∷ zs) ws s t u h k j = absurd k
+  going_more plan is [] (y ∷ ys) zs ws s t u h k j = absurd h
+  going_more plan is (x ∷ xs) [] zs ws s t u h k j = absurd h
+  going_more plan is (x ∷ xs) (y ∷ ys) [] ws s t u h k j = absurd k
+  going_more plan is (x ∷ xs) (y ∷ ys) (z ∷ zs) [] s t u h k j = absurd j
+  going_more plan is (x ∷ xs) (y ∷ ys) (z ∷ zs) (w ∷ ws) s t u h k j =
+      let before : plus s t ≡ plus (plus h.0 k.0) (plus h.1 k.1) = ap₂ plus h.4 k.4 ∙ plus_swap h.0 h.1 k.0 k.1 in
+      let sum : plus (plus s t) u ≡ plus (plus (plus h.0 k.0) j.0) (plus (plus h.1 k.1) j.1) =
+      ap₂ plus before j.4 ∙ plus_swap (plus h.0 k.0) (plus h.1 k.1) j.0 j.1 in
+      let one : Going x (plus (plus h.0 k.0) j.0) w = one_more plan is k.2.limits x z w (plus h.0 k.0) j.0 (one_round x y z h.0 k.0 h.2 k.2) j.2 in
+      (plus (plus h.0 k.0) j.0, plus (plus h.1 k.1) j.1, one, going_more plan is xs ys zs ws h.1 k.1 j.1 h.3 k.3 j.3, sum)
+
+  more_left : (plan : Plan) → plan.order ≡ order → (xs : List (PassShown × B)) (s : Shift) (ys : List (PassShown × B)) → RanAll (Worked plan) xs s ys
+      → sum_by (λ (x : PassShown × B). left_of x.0) ys ≤ sum_by (λ (x : PassShown × B). left_of x.0) xs
+  more_left plan is [] s [] h = omega arith
+  more_left plan is [] s (y ∷ ys) h = absurd h
+  more_left plan is (x ∷ xs) s [] h = absurd h
+  more_left plan is (x ∷ xs) s (y ∷ ys) h =
+      let f : PassShown × B → ℕ = λ z. left_of z.0 in
+      omega (arith, turns_claim order m.limits h.2.turns_taken.taken (at x) (at y) h.0 (works_on plan is x y h.0 h.2), more_left plan is xs h.1 ys h.3, sum_by-cons f x xs, sum_by-cons f y ys)
 
   few_all : (xs : List (PassShown × B)) (s : Shift) (ys : List (PassShown × B)) → RanAll Going xs s ys → s.done ≤ length xs * 1024
   few_all [] s [] h = omega (arith, ap (λ (u : Shift). u.done) h)
@@ -193,6 +248,20 @@ module _ {B : Type 0} (behaviour : B → Behaviour) (registers : B → List ℕ)
 
   pub going_on : (xs : List PassShown) (us : List B) (ys : List PassShown) (vs : List B) (zs : List PassShown) (ws : List B) (s t : Shift) → RanEach Going xs us s ys vs → RanEach Took ys vs t zs ws → RanEach Going xs us (plus s t) zs ws
   going_on xs us ys vs zs ws s t h k = record { ran = going_round (zip xs us) (zip ys vs) (zip zs ws) s t h.ran k.ran; on_kept = k.on_kept ∙ h.on_kept; by_kept = k.by_kept ∙ h.by_kept }
+
+  -- one round more, and then each desk until it finds nothing
+  pub going_further : (plan : Plan) → plan.order ≡ order → (xs : List PassShown) (us : List B) (ys : List PassShown) (vs : List B) (zs : List PassShown) (ws : List B) (ps : List PassShown) (qs : List B) (s t u : Shift)
+      → RanEach Going xs us s ys vs → RanEach Took ys vs t zs ws → RanEach (Worked plan) zs ws u ps qs → RanEach Going xs us (plus (plus s t) u) ps qs
+  going_further plan is xs us ys vs zs ws ps qs s t u h k j = record {
+    ran = going_more plan is (zip xs us) (zip ys vs) (zip zs ws) (zip ps qs) s t u h.ran k.ran j.ran;
+    on_kept = j.on_kept ∙ (k.on_kept ∙ h.on_kept);
+    by_kept = j.by_kept ∙ (k.by_kept ∙ h.by_kept);
+  }
+
+  pub further_smaller : (plan : Plan) → plan.order ≡ order → (xs : List PassShown) (us : List B) (s : Shift) (ys : List PassShown) (vs : List B) → length xs ≡ length us
+      → RanEach (Worked plan) xs us s ys vs → sum_by left_of ys ≤ sum_by left_of xs
+  further_smaller plan is xs us s ys vs e h =
+      omega (arith, more_left plan is (zip xs us) s (zip ys vs) h.ran, sum_first left_of xs us e, sum_first left_of ys vs (each_paired (Worked plan) xs us s ys vs e h))
 
   -- the last round claimed nothing
   pub all_end : (xs : List PassShown) (us : List B) (ys : List PassShown) (vs : List B) (zs : List PassShown) (ws : List B) (s t : Shift) → RanEach Going xs us s ys vs → RanEach Took ys vs t zs ws → claimed t ≡ 0 → RanEach (DeskDrained behaviour registers pending m order) xs us (plus s t) zs ws

@@ -1,5 +1,5 @@
 -- What turns add to a pass, and what a desk that took them leaves of it.
-use Rattle.std.proofs.Common.{◌≡◌, ℕ, ◌+◌, ◌≤◌, List, [], ◌∷◌, ◌++◌, Option, Some, None, refl, sym, ◌∙◌, ap, ap₂, subst, ⊎_elim, arith, cond, count_by, zero-add}
+use Rattle.std.proofs.Common.{◌≡◌, ℕ, ◌+◌, ◌≤◌, List, [], ◌∷◌, ◌++◌, Option, Some, None, refl, sym, ◌∙◌, ap, ap₂, subst, ◌⊎◌, inl, inr, ⊎_elim, arith, cond, count_by, zero-add}
 use Rattle.std.specs.declared.alloc.Global.{Global}
 use Rattle.std.specs.declared.dyn_box.DynBox.{DynBox}
 use Rattle.tp_model.specs.Drafts.{DraftView}
@@ -30,7 +30,7 @@ use Rattle.tp_workers.specs.Desks.{DeskRan, DeskWorked, IsDeskOf, IsResting, Pla
 use Rattle.tp_workers.specs.Drained.{TookTurn}
 use Rattle.tp_workers.specs.Gains.{commits_in, is_commit}
 use Rattle.tp_workers.specs.Tally.{claimed, none, plus, total, turn_count}
-use Rattle.tp_workers.proofs.Calling.{called_gains, called_more, called_none, called_total}
+use Rattle.tp_workers.proofs.Calling.{called_gains, called_keeps, called_more, called_none, called_total}
 use Rattle.tp_workers.proofs.Events.{claims_one, counted_one}
 
 -- a turn as this counts its commit, and its claim
@@ -94,6 +94,11 @@ one_turn (turneds.Refused element why) = refl
 one_turn (turneds.Lost element) = refl
 one_turn (turneds.Full element) = refl
 
+room_then : (u a b c : ℕ) → (b ≤ u) ⊎ (b ≡ a) → (c ≤ u) ⊎ (c ≡ b) → (c ≤ u) ⊎ (c ≡ a)
+room_then u a b c h (inl few) = inl few
+room_then u a b c (inl few) (inr same) = inl (omega (arith, few, same))
+room_then u a b c (inr before) (inr same) = inr (same ∙ before)
+
 -- turns one after another count their commits, and their claims
 module _ (order : Order) (l : Limits) (n : ℕ) (x y : Place) (s : Shift) (h : MadeCalls (TakesTurn order l) turn_count n x s y) where
   pub turns_commit : s.done + commits_in x.pass ≡ commits_in y.pass
@@ -105,6 +110,13 @@ module _ (order : Order) (l : Limits) (n : ℕ) (x y : Place) (s : Shift) (h : M
   turns_claim =
       called_gains (TakesTurn order l) turn_count claimed (λ (p : Place). claims_in p.pass.mine) refl (λ a b. omega arith)
       (λ p t q r. turn_claims order l p.behaviour p.registers p.pass q.pass t q.registers r.answer) n x y s h
+
+  -- no more units are used up than there are, where any is
+  pub turns_room : (claims_in y.pass.mine ≤ l.units) ⊎ (claims_in y.pass.mine ≡ claims_in x.pass.mine)
+  turns_room =
+      called_keeps (TakesTurn order l) turn_count (λ a b. (claims_in b.pass.mine ≤ l.units) ⊎ (claims_in b.pass.mine ≡ claims_in a.pass.mine)) (λ a. inr refl)
+      (λ a b c p q. room_then l.units (claims_in a.pass.mine) (claims_in b.pass.mine) (claims_in c.pass.mine) p q)
+      (λ p t q r. inl (omega (arith, turn_claims order l p.behaviour p.registers p.pass q.pass t q.registers r.answer, turn_room order l p.behaviour p.registers p.pass q.pass t q.registers r.answer))) n x y s h
 
   pub turns_total : total s ≡ n
   turns_total = called_total (TakesTurn order l) turn_count one_turn n x y s h

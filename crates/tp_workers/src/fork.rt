@@ -115,7 +115,7 @@ fn tell(told: &mut [Shift], counts: Shift)
     }
 }
 
-/// Runs the workers of two kinds.
+/// Runs the workers of two kinds. A kind that has none is given no thread.
 fn fork_two<
     R: Threads + Sync,
     T: Send,
@@ -140,6 +140,11 @@ fn fork_two<
     ensures xs_ran { RanEach (Runs F.Fn run_x.now) xs.old xs_by.old result.0 xs.new xs_by.new }
     ensures ys_ran { RanEach (Runs H.Fn run_y.now) ys.old ys_by.old result.1 ys.new ys_by.new }
 {
+    if xs.is_empty() {
+        let a = fork(rt, run_x, low, xs, xs_by, &mut []);
+        let b = fork(rt, run_y, high, ys, ys_by, &mut []);
+        return (a, b);
+    }
     let mut one = || -> Shift
         requires { MayRun F.Fn run_x.now xs.now xs_by.now }
         ensures { RanEach (Runs F.Fn run_x.entry.now) xs.entry.now xs_by.entry.now result xs.exit.now xs_by.exit.now }
@@ -152,8 +157,7 @@ fn fork_two<
 }
 
 /// Runs the workers of three kinds, numbered from `first`, `second` and `third` on. Those of the first
-/// kind are given as by
-/// `fork`.
+/// kind are given as by `fork`. Where there are no others, they are given no thread.
 pub(crate) fn fork_three<
     R: Threads + Sync,
     T: Send,
@@ -189,6 +193,13 @@ pub(crate) fn fork_three<
     ensures zs_ran { RanEach (Runs K.Fn run_z.now) zs.old zs_by.old result.1.1 zs.new zs_by.new }
     ensures xs_told { AreTold (Runs F.Fn run_x.now) xs.old xs_by.old xs_told.old result.0 xs.new xs_by.new xs_told.new }
 {
+    if ys.is_empty() {
+        if zs.is_empty() {
+            let alone = fork(rt, run_x, first, xs, xs_by, xs_told);
+            let others = fork_two(rt, run_y, run_z, second, third, ys, ys_by, zs, zs_by);
+            return (alone, others);
+        }
+    }
     let mut one = || -> Shift
         requires { MayRun F.Fn run_x.now xs.now xs_by.now }
         ensures { RanEach (Runs F.Fn run_x.entry.now) xs.entry.now xs_by.entry.now result xs.exit.now xs_by.exit.now

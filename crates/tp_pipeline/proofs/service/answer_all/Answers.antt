@@ -1,3 +1,4 @@
+use Rattle.std.proofs.Common.{◌∙◌}
 use Rattle.tp_pipeline.proofs.Careers.{goes_further, goes_same}
 use Rattle.tp_pipeline.proofs.service.answer_all.Goals as goal
 
@@ -8,6 +9,8 @@ loop-past-preserved g c = record {
   goes_on =
       let looked = goes_same _ _ _ _ c.next_error.ensures.call.same.starts in
       goes_further _ _ _ _ _ c.loop-past.invariant.goes_on (goes_further _ _ _ _ _ looked c.in_ok-answer.ensures.goes_on);
+  add_up = c.in_ok-answer.ensures.add_up;
+  submitted = c.in_ok-answer.ensures.submitted ∙ c.loop-past.invariant.submitted;
 }
 
 pub returns-in_default-clause-goes_on : goal.returns-in_default-clause-goes_on

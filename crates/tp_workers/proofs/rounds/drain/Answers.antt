@@ -1,6 +1,6 @@
 use Rattle.std.proofs.Common.{arith, refl}
 use Rattle.tp_workers.specs.Tally.{none, plus}
-use Rattle.tp_workers.proofs.Drains.{all_end, all_last, drained_clear, drained_free, drained_numbers, drained_sum, going_clear, going_few, going_free, going_none, going_on, round_smaller}
+use Rattle.tp_workers.proofs.Drains.{all_end, all_last, drained_clear, drained_free, drained_numbers, drained_sum, further_smaller, going_clear, going_few, going_free, going_further, going_none, going_on, round_smaller}
 use Rattle.tp_workers.proofs.Shifts.{each_paired}
 use Rattle.tp_workers.proofs.rounds.drain.Goals as goal
 
@@ -49,12 +49,33 @@ returns-then-not-has_claimed-clause-numbered g c = drained_numbers _ _ _ c.args.
 pub returns-then-not-has_claimed-clause-kept : goal.returns-then-not-has_claimed-clause-kept
 returns-then-not-has_claimed-clause-kept g c = let all = (returns-then-not-has_claimed-clause-desks g c).2 in (all.on_kept, all.by_kept)
 
+pub work_off_each-more-requires-clause-paired : goal.work_off_each-more-requires-clause-paired
+work_off_each-more-requires-clause-paired g c = each_paired _ _ _ _ _ _ c.requires.paired (going_on _ _ _ c.args.manager.now c.args.order _ _ _ _ _ _ _ _ c.rounds.invariant.ran c.round-counts.ensures.ran)
+
+pub work_off_each-more-requires-clause-free : goal.work_off_each-more-requires-clause-free
+work_off_each-more-requires-clause-free g c = going_free _ _ _ c.args.manager.now c.args.order _ _ _ _ _ c.requires.paired (going_on _ _ _ c.args.manager.now c.args.order _ _ _ _ _ _ _ _ c.rounds.invariant.ran c.round-counts.ensures.ran)
+
+pub work_off_each-more-requires-clause-clear : goal.work_off_each-more-requires-clause-clear
+work_off_each-more-requires-clause-clear g c = going_clear _ _ _ c.args.manager.now c.args.order _ _ _ _ _ c.requires.paired (going_on _ _ _ c.args.manager.now c.args.order _ _ _ _ _ _ _ _ c.rounds.invariant.ran c.round-counts.ensures.ran)
+
+pub work_off_each-more-requires-clause-fit : goal.work_off_each-more-requires-clause-fit
+work_off_each-more-requires-clause-fit g c = let same = (going_on _ _ _ c.args.manager.now c.args.order _ _ _ _ _ _ _ _ c.rounds.invariant.ran c.round-counts.ensures.ran).on_kept in omega (arith, same, c.requires.fit)
+
+pub overflow_add-done-in-rounds : goal.overflow_add-done-in-rounds
+overflow_add-done-in-rounds g c =
+    let few = going_few _ _ _ c.args.manager.now c.args.order _ _ _ _ _ c.requires.paired (going_further _ _ _ c.args.manager.now c.args.order _ refl _ _ _ _ _ _ _ _ _ _ _ c.rounds.invariant.ran c.round-counts.ensures.ran c.work_off_each-more.ensures.ran) in
+    omega (arith, few, c.rounds.invariant.counted)
+
 pub rounds-smaller : goal.rounds-smaller
-rounds-smaller g c = round_smaller _ _ _ c.args.manager.now c.args.order _ _ _ _ _ (each_paired _ _ _ _ _ _ c.requires.paired c.rounds.invariant.ran) c.round-counts.ensures.ran c.if-not-has_claimed.ensures.claimed
+rounds-smaller g c =
+    let paired = each_paired _ _ _ _ _ _ c.requires.paired (going_on _ _ _ c.args.manager.now c.args.order _ _ _ _ _ _ _ _ c.rounds.invariant.ran c.round-counts.ensures.ran) in
+    let less = further_smaller _ _ _ c.args.manager.now c.args.order _ refl _ _ _ _ _ paired c.work_off_each-more.ensures.ran in
+    let round = round_smaller _ _ _ c.args.manager.now c.args.order _ _ _ _ _ (each_paired _ _ _ _ _ _ c.requires.paired c.rounds.invariant.ran) c.round-counts.ensures.ran c.if-not-has_claimed.ensures.claimed in
+    omega (arith, less, round)
 
 pub rounds-preserved : goal.rounds-preserved
 rounds-preserved g c = record {
-  counts = plus c.rounds.invariant.counts c.round-counts.result;
-  ran = going_on _ _ _ c.args.manager.now c.args.order _ _ _ _ _ _ _ _ c.rounds.invariant.ran c.round-counts.ensures.ran;
+  counts = plus (plus c.rounds.invariant.counts c.round-counts.result) c.work_off_each-more.result;
+  ran = (going_further _ _ _ c.args.manager.now c.args.order _ refl _ _ _ _ _ _ _ _ _ _ _ c.rounds.invariant.ran c.round-counts.ensures.ran c.work_off_each-more.ensures.ran);
   counted = omega (arith, c.rounds.invariant.counted);
 }
