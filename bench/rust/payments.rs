@@ -181,27 +181,29 @@ impl Server {
     }
 }
 
+/// Has the servers take a turn each, round after round, until nothing waits.  One server after another would cost more
+/// here: the ordered sets would grow.
+fn drain(servers: &mut [Server], m: &Manager) {
+    loop {
+        let mut claimed = false;
+        for server in &mut *servers {
+            claimed |= server.turn(m);
+        }
+        if !claimed {
+            break;
+        }
+    }
+}
+
 fn main() {
     let numbers: Vec<u64> = std::env::args().skip(1).filter_map(|w| w.parse().ok()).collect();
     let number = |at: usize, otherwise: u64| numbers.get(at).copied().unwrap_or(otherwise);
-    let (payments, turns, steps) = (number(0, 3000), number(1, 900), number(2, 0) as u32);
+    let (payments, turns, steps) = (number(0, 3000), number(1, BATCH), number(2, 0) as u32);
     let m = Manager::default();
     let mut servers = [1, 2, 3, 3].map(|stage| Server { stage, registers: [0, 0], calls: 0, last: 0, steps });
     let (mut submitted, mut collected, mut paid, mut cancelled, mut requeued) = (0, 0u64, 0u64, 0u64, 0u64);
     let mut open: Vec<u64> = Vec::new();
     while submitted < payments || !open.is_empty() {
-        let mut from = 0;
-        while let Some((id, element)) = m.next_error(from) {
-            if element.stage == 1 {
-                m.cancel(element.root);
-                open.retain(|&root| root != element.root);
-                cancelled += 1;
-            } else {
-                m.requeue(id);
-                requeued += 1;
-            }
-            from = id + 1;
-        }
         for _ in 0..BATCH {
             if submitted < payments {
                 open.push(m.submit([submitted % 100 + 1, submitted, 0, 0]));
@@ -216,15 +218,20 @@ fn main() {
                 }
             });
         }
-        loop {
-            let mut claimed = false;
-            for server in &mut servers {
-                claimed |= server.turn(&m);
+        drain(&mut servers, &m);
+        let mut from = 0;
+        while let Some((id, element)) = m.next_error(from) {
+            if element.stage == 1 {
+                m.cancel(element.root);
+                open.retain(|&root| root != element.root);
+                cancelled += 1;
+            } else {
+                m.requeue(id);
+                requeued += 1;
             }
-            if !claimed {
-                break;
-            }
+            from = id + 1;
         }
+        drain(&mut servers, &m);
         open.retain(|&root| match m.collect_next(root) {
             Some(reply) => {
                 collected += 1;

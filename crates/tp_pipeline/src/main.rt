@@ -2,8 +2,8 @@
 //! crew works them off, in one manager after another.
 //!
 //! The arguments, each of which may be left out: how many payments there are, how many turns each desk takes
-//! on a thread of its own before what is left of a batch is drained on one, and how many steps each turn's
-//! work takes. With any argument a line more tells of the managers.
+//! on a thread of its own before what is left of a batch is drained on one (as many as a batch has payments, if
+//! not said), and how many steps each turn's work takes. With any argument a line more tells of the managers.
 #![tactic(auto)]
 
 mod audit;
@@ -17,7 +17,7 @@ use audit::audit;
 use bank::Terminal;
 use faults::PipelineFault;
 use servers::{Charger, Shipper, Validator};
-use service::{Boxed, Served, Task, serve};
+use service::{BATCH, Boxed, Served, Task, serve};
 use std::alloc::{AllocError, Global};
 use std::env;
 use std::thread::Threads;
@@ -31,7 +31,7 @@ const CEILING: u64 = 98;
 const LARGE_PIECE: usize = 1 << 17;
 
 fn main(rt: HostRuntime) -> Result<(), PipelineFault> {
-    let mut numbers = [3000, 900, 0];
+    let mut numbers = [3000, u64::from(BATCH), 0];
     let mut given = 0;
     for word in env::args(&rt)? {
         if let Ok(number) = word.parse::<u64>() {

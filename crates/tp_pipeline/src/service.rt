@@ -22,10 +22,13 @@ use tp_workers::{NoGate, Plan};
 
 pub type Boxed = Box<dyn Server + Send>;
 
-/// The limits of each of the crew's managers. A desk begins a unit for each payment of a batch, which are at
-/// most 256, and some for what is carried over. Units that are never begun cost too: each has a word.
+/// How many payments a batch has at most: a row of the caller's own for each.
+pub const BATCH: u16 = 256;
+
+/// The limits of each of the crew's managers. A desk begins a unit for each payment of a batch, and some for
+/// what is given another round or was carried over. Units that are never begun cost too: each has a word.
 const LIMITS: CrewLimits = CrewLimits {
-    rows: 256,
+    rows: BATCH,
     units: 384,
     attempts: 1,
     spare: 0,
@@ -191,7 +194,7 @@ fn work_on_threads<R: Threads + Sync>(rt: &R, crew: &mut Crew, turns: u16)
     if turns == 0 {
         return;
     }
-    let plan = Plan::least_first(u32::from(turns));
+    let plan = Plan::in_turn(u32::from(turns));
     crew.shift(rt, plan, &mut [], &mut [], &NoGate);
 }
 
