@@ -1,12 +1,12 @@
 -- What boxes did over several managers.
-use Rattle.std.proofs.Common.{◌≡◌, ℕ, List, [], Option, Some, ap, subst, sym, length, zip}
+use Rattle.std.proofs.Common.{◌≡◌, ℕ, List, [], Option, Some, subst, sym, length, zip}
 use Rattle.std.specs.Prelude.{slice_get}
 use Rattle.std.specs.declared.alloc.Global.{Global}
 use Rattle.std.specs.declared.dyn_box.DynBox.{DynBox}
 use Rattle.tp_server.specs.Behaviour.{Behaviour}
 use Rattle.tp_server.specs.Books.{Raises}
 use Rattle.tp_server.specs.Pending.{Pending}
-use Rattle.tp_crew.specs.Careers.{HasBecome, HasCome, Stint}
+use Rattle.tp_crew.specs.Careers.{HasBecome, Stint}
 use Rattle.tp_crew.specs.Crew.{IsSteadyCrew, folds}
 use Rattle.tp_crew.specs.CrewPasses.{desks_in}
 use Rattle.tp_crew.specs.declared.crew.Crew.{Crew}

@@ -5,7 +5,7 @@ ghost use Rattle.tp_pipeline.specs.Ends.{AreClosed};
 
 use crate::books::Books;
 use crate::faults::PipelineFault;
-use crate::service::{Boxed, Served, Task, body_of};
+use crate::service::{Boxed, Task, body_of};
 use tp_server::Server;
 
 /// What is to come of so many payments where this is the ceiling: how many are let through, and their
@@ -64,11 +64,11 @@ fn same(found: u64, due: u64) -> Result<(), PipelineFault>
 }
 
 /// Nothing, if the registers of these boxes and the books are what was due.
-fn agree(boxes: &[Boxed], books: &Books, payments: u64, ceiling: u64) -> Result<(), PipelineFault>
-    requires closed { AreClosed payments books.now }
-    ensures agree { OnOk result (Agree registers payments ceiling boxes.now books.now) }
+pub fn agree(boxes: &[Boxed], books: &Books, task: Task) -> Result<(), PipelineFault>
+    requires closed { AreClosed task.payments books.now }
+    ensures agree { OnOk result (Agree registers task.payments task.ceiling boxes.now books.now) }
 {
-    let Some((count, amounts)) = expected(payments, ceiling) else {
+    let Some((count, amounts)) = expected(task.payments, task.ceiling) else {
         return Err(PipelineFault::BadBooks);
     };
     same(register(boxes, 0, 0)?, count)?;
@@ -82,26 +82,5 @@ fn agree(boxes: &[Boxed], books: &Books, payments: u64, ceiling: u64) -> Result<
     same(shipped, count)?;
     same(books.collected, count)?;
     same(books.paid, amounts)?;
-    Ok(())
-}
-
-/// Prints the books, where the servers' registers and the books are what was due. Else nothing is printed.
-pub fn audit<R: Print>(
-    rt: &R,
-    served: &Served,
-    task: Task,
-    ceiling: u64,
-) -> Result<(), PipelineFault>
-    requires closed { AreClosed task.payments served.now.books }
-    ensures agree { OnOk result (Agree registers task.payments ceiling
-        served.now.boxes.items served.now.books) }
-{
-    let books = &served.books;
-    agree(&served.boxes, books, task.payments, ceiling)?;
-    println!(rt;
-        "payments {}: {} shipped, {} cancelled",
-        task.payments, books.collected, books.cancelled
-    )?;
-    println!(rt; "takings {} of {} charges", books.paid, books.collected)?;
     Ok(())
 }

@@ -13,11 +13,11 @@ mod faults;
 mod servers;
 mod service;
 
-use audit::audit;
 use bank::Terminal;
+use books::Books;
 use faults::PipelineFault;
 use servers::{Charger, Shipper, Validator};
-use service::{BATCH, Boxed, Served, Task, serve};
+use service::{BATCH, Boxed, Task, serve};
 use std::alloc::{AllocError, Global};
 use std::env;
 use std::thread::Threads;
@@ -44,6 +44,7 @@ fn main(rt: HostRuntime) -> Result<(), PipelineFault> {
     let [payments, turns, steps] = numbers;
     let task = Task {
         payments,
+        ceiling: CEILING,
         turns: turns.min(60_000) as u16,
     };
     run(&rt, task, steps.min(1_000_000) as u32, given > 0)
@@ -67,7 +68,7 @@ fn run<R: AllocGlobal + Clock + Print + Threads + Sync>(
 ) -> Result<(), PipelineFault> {
     keep_memory(rt.alloc())?;
     let validator = Validator {
-        ceiling: CEILING,
+        ceiling: task.ceiling,
         steps,
     };
     let charger = Charger {
@@ -81,16 +82,25 @@ fn run<R: AllocGlobal + Clock + Print + Threads + Sync>(
     let mut boxes = Vec::from_array(rt.alloc(), three(first, second, third))?;
     boxes.push(fourth)?;
     let served = serve(rt, boxes, task)?;
-    audit(rt, &served, task, CEILING)?;
+    tell(rt, &served.books)?;
     if managers_too {
-        tell(rt, &served)?;
+        tell_of_managers(rt, &served.books)?;
     }
     Ok(())
 }
 
+/// What became of the payments.
+fn tell<R: Print>(rt: &R, books: &Books) -> Result<(), PipelineFault> {
+    println!(rt;
+        "payments {}: {} shipped, {} cancelled",
+        books.submitted, books.collected, books.cancelled
+    )?;
+    println!(rt; "takings {} of {} charges", books.paid, books.collected)?;
+    Ok(())
+}
+
 /// What the managers were used for.
-fn tell<R: Print>(rt: &R, served: &Served) -> Result<(), PipelineFault> {
-    let books = &served.books;
+fn tell_of_managers<R: Print>(rt: &R, books: &Books) -> Result<(), PipelineFault> {
     println!(rt;
         "managers {} carried {} requeued {} rolling {}",
         books.managers, books.carried, books.requeued, books.rolling

@@ -5,10 +5,11 @@ ghost use Rattle.tp_desk.specs.Steady.{shown};
 ghost use Rattle.tp_server.specs.Books.{Raises};
 ghost use Rattle.tp_crew.specs.Crew.{IsSteadyCrew};
 ghost use Rattle.tp_pipeline.specs.Books.{GoesOn, HaveWorked, IsStaffed, charges_in, count_in, one, takings_in};
-ghost use Rattle.tp_pipeline.specs.Audits.{payment};
+ghost use Rattle.tp_pipeline.specs.Audits.{Agree, payment};
 ghost use Rattle.tp_pipeline.specs.Ends.{AddUp, AreClosed};
 ghost use Rattle.tp_pipeline.specs.Payments.{amount_of, charger, shipper, validator};
 
+use crate::audit::agree;
 use crate::books::Books;
 use crate::faults::PipelineFault;
 use std::alloc::Global;
@@ -37,11 +38,13 @@ const LIMITS: CrewLimits = CrewLimits {
 /// With fewer rows left, or with fewer than twice as many units, the crew rolls over.
 const WANTED: u16 = 32;
 
-/// What is asked of the pipeline: how many payments, and how many turns each desk takes on a thread of its own
-/// before what is left is drained on one. With none all is done on one.
+/// What is asked of the pipeline: how many payments, up to which amount the validator lets them through, and how
+/// many turns each desk takes on a thread of its own before what is left is drained on one. With none all is
+/// done on one.
 #[derive(Clone, Copy, Debug)]
 pub struct Task {
     pub payments: u64,
+    pub ceiling: u64,
     pub turns: u16,
 }
 
@@ -299,9 +302,10 @@ fn run<R: Clock + Threads + Sync + AllocGlobal>(
     Err(PipelineFault::TooLong)
 }
 
-/// Works off so many payments with these boxes: a validator, a charger and two shippers. Over however many
-/// managers that goes, each box's registers are what its own effects made of the payments that it consumed,
-/// each once. All those payments were submitted, and each has its end.
+/// Works off so many payments with these boxes, whose registers are 0: a validator, a charger and two shippers.
+/// Over however many managers that goes, each box's registers are what its own effects made of the payments
+/// that it consumed, each once. They are what was due, and so are the books: all those payments were submitted,
+/// and each has its end.
 pub fn serve<R: Clock + Threads + Sync + AllocGlobal>(
     rt: &R,
     boxes: Vec<Boxed>,
@@ -311,16 +315,16 @@ pub fn serve<R: Clock + Threads + Sync + AllocGlobal>(
     requires four { length boxes.items ≡ 4 }
     ensures worked { IfOk result (λ served. HaveWorked behaviour registers boxes.items served.boxes.items) }
     ensures kept { IfOk result (λ served. length served.boxes.items ≡ 4) }
-    ensures closed { IfOk result (λ served. AreClosed task.payments served.books) }
+    ensures agree { IfOk result (λ served. Agree registers task.payments task.ceiling
+        served.boxes.items served.books) }
 {
     each_payment();
     let mut books = Books::new(rt.alloc());
     let mut crew = Crew::new(rt.alloc(), LIMITS, boxes, 0)?;
     run(rt, &mut crew, &mut books, task)?;
-    Ok(Served {
-        boxes: crew.end(),
-        books,
-    })
+    let boxes = crew.end();
+    agree(&boxes, &books, task)?;
+    Ok(Served { boxes, books })
 }
 
 /// What each payment adds to the servers' registers.
