@@ -1,5 +1,5 @@
 -- A crew in a new manager.
-use Rattle.std.proofs.Common.{◌≡◌, ◌∙◌, ℕ, List, [], ◌∷◌, Option, All, refl, sym, ap, subst, length, zip}
+use Rattle.std.proofs.Common.{◌≡◌, ◌∙◌, ◌+◌, ◌≤◌, arith, ℕ, List, [], ◌∷◌, Option, All, refl, sym, ap, subst, length, zip}
 use Rattle.std.specs.List.{AllZip}
 use Rattle.std.proofs.lemmas.List.Elements.{All-cons, All-nil}
 use Rattle.std.specs.declared.alloc.Global.{Global}
@@ -10,9 +10,11 @@ use Rattle.tp_model.specs.History.{In, here, there}
 use Rattle.tp_model.specs.Passes.{IsPassView}
 use Rattle.tp_server.specs.Behaviour.{Behaviour}
 use Rattle.tp_server.specs.Pending.{Pending}
-use Rattle.tp_manager.specs.Accounts.{AreAll}
+use Rattle.tp_manager.specs.Accounts.{AreAll, steps_together}
+use Rattle.tp_manager.specs.Bounds.{gather_steps}
 use Rattle.tp_manager.specs.Shown.{IsKeptBy, IsOf, KeeperShown, ManagerShown, PassShown, view_in}
 use Rattle.tp_alone.specs.Thread.{AreTogether, HasSeen, Stays}
+use Rattle.tp_rollover.specs.Bounds.{AllMake, alive_after, prepare_steps}
 use Rattle.tp_rollover.specs.Faults.{AreFree}
 use Rattle.tp_rollover.specs.Managed.{IsRefusedFor}
 use Rattle.tp_rollover.specs.declared.moved.RollFault.{RollFault}
@@ -21,8 +23,9 @@ use Rattle.tp_workers.specs.Free.{IsFreePass}
 use Rattle.tp_crew.specs.declared.crew.Crew.{Crew}
 use Rattle.tp_crew.specs.Crew.{IsSteadyCrew, folds}
 use Rattle.tp_crew.specs.CrewPasses.{Shows, desks_in}
-use Rattle.tp_crew.specs.Rolling.{IsCrewFault}
+use Rattle.tp_crew.specs.Rolling.{IsCrewFault, RefusedSteps}
 use Rattle.tp_rollover.proofs.Assembly.{free_stays}
+use Rattle.tp_rollover.proofs.Sums.{all_make}
 use Rattle.tp_crew.proofs.CrewLemmas.{served_new, served_same}
 
 pub own_all : (m : ManagerShown) (ps : List PassShown) → All (IsFreePass m) ps → All (IsOf m) ps
@@ -47,6 +50,15 @@ show_each l keeper ps h t = go ps t.each
 -- passes that were free and did nothing but look are free
 pub stays_free : (m : ManagerShown) (ps qs : List PassShown) → AllZip Stays ps qs → All (IsFreePass m) ps → All (IsOf m) qs → All (IsFreePass m) qs
 stays_free m ps qs stays free own = both_all m qs own (free_stays ps qs stays (free_all m ps free))
+
+-- a gathering after what was refused
+pub gathered_after : (l : Limits) (h : List Event) (keeper keeper1 keeper2 : KeeperShown) (olds olds1 olds2 : List PassShown) → keeper1.given ≡ l.parts → AreAll keeper1 olds1 → AreAll keeper2 olds2 → keeper2.given ≡ keeper1.given
+    → steps_together olds1 olds2 + keeper2.steps ≤ keeper1.steps + gather_steps l keeper1.given → AllMake (prepare_steps l l.parts (alive_after l.attempts h)) keeper olds keeper1 olds1
+    → RefusedSteps l h keeper olds keeper2 olds2
+gathered_after l h keeper keeper1 keeper2 olds olds1 olds2 parts all all' given gathered made =
+    let e = all_make (gather_steps l keeper1.given) keeper1 keeper2 olds1 olds2 all all' given gathered in
+    let f = subst (λ n. AllMake (gather_steps l n) keeper1 olds1 keeper2 olds2) parts e in
+    omega (arith, f, made)
 
 -- a steady crew meets no other fault
 pub crew_fault : (l : Limits) (passes : List PassShown) (fault : RollFault) → AreFree passes → IsRefusedFor l passes fault → IsCrewFault l fault

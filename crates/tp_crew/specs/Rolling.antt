@@ -1,10 +1,14 @@
 -- What a rollover of a crew leaves, and why one is refused.
-use Rattle.std.specs.Prelude.{◌≡◌, List, length, zip}
+use Rattle.std.specs.Prelude.{◌≡◌, ◌+◌, List, length, zip}
 use Rattle.std.specs.List.{AllZip}
+use mathlib.Core.List.{IsPrefix}
+use Rattle.tp_model.specs.declared.event.Event.{Event}
 use Rattle.tp_model.specs.declared.types.Limits.{Limits}
+use Rattle.tp_manager.specs.Bounds.{gather_steps}
 use Rattle.tp_manager.specs.Shown.{KeeperShown, PassShown}
 use Rattle.tp_alone.specs.Thread.{Stays}
 use Rattle.tp_rollover.specs.Answers.{Rolls}
+use Rattle.tp_rollover.specs.Bounds.{AllMake, alive_after, prepare_steps}
 use Rattle.tp_rollover.specs.Managed.{WasShort}
 use Rattle.tp_rollover.specs.declared.moved.Moved.{Moved}
 use Rattle.tp_rollover.specs.declared.moved.RollFault.{RollFault}
@@ -12,6 +16,13 @@ use Rattle.tp_rollover.specs.declared.moved.RollFault.TheVariants.{Full, NoMemor
 use Rattle.tp_crew.specs.declared.crew.Crew.{Crew}
 use Rattle.tp_crew.specs.Crew.{IsSameCrew, folds}
 use Rattle.tp_crew.specs.CrewPasses.{desks_in}
+
+-- a rollover that was refused, with so many alive as after this history, and a gathering
+abbrev pub RefusedSteps : Limits → List Event → KeeperShown → List PassShown → KeeperShown → List PassShown
+    → Type 0
+RefusedSteps l point keeper olds keeper' news =
+    AllMake (prepare_steps l l.parts (alive_after l.attempts point) + gather_steps l l.parts)
+    keeper olds keeper' news
 
 module _ {X : Type 0} {F : X → Type 0} where
   -- The crew has another manager, of the same limits, and all its passes. From what its passes had done before
@@ -31,6 +42,13 @@ module _ {X : Type 0} {F : X → Type 0} where
     pub boxes : new.boxes ≡ old.boxes
     pub given : new.keeper.given ≡ old.keeper.given
     pub passes : AllZip Stays old.passes.items new.passes.items
+
+  -- Refused, its passes have made at most the steps up to the kills, with as many alive as after a history that
+  -- all have seen since, and those of a gathering.
+  pub record RefusedWithin (old new : Crew X F) : Type 0 where
+    pub point : List Event
+    pub seen : IsPrefix point new.keeper.seen
+    pub steps : RefusedSteps old.manager.limits point old.keeper old.passes.items new.keeper new.passes.items
 
 -- The faults that a steady crew, whose manager has these limits, can meet: its new manager has the same attempt
 -- limit, it has passes, and none of them has a unit open. Full only where the new manager was short.

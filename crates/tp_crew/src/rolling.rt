@@ -1,15 +1,18 @@
 //! A crew goes on in a new manager.
-ghost use Rattle.std.specs.Prelude.{◌≡◌, All, IfErr, IfOk, [], length};
+ghost use Rattle.std.specs.Prelude.{◌≡◌, ◌≤◌, All, IfErr, IfOk, List, [], length};
 ghost use Rattle.std.specs.List.{AllZip};
+ghost use mathlib.Core.List.{IsPrefix};
+ghost use Rattle.tp_model.specs.declared.event.Event.{Event};
 ghost use Rattle.tp_model.specs.Steps.{AreLimits};
 ghost use Rattle.tp_manager.specs.Accounts.{AreAll};
 ghost use Rattle.tp_manager.specs.Shown.{IsKeptBy, IsOf};
 ghost use Rattle.tp_alone.specs.Thread.{Stays};
 ghost use Rattle.tp_rollover.specs.Answers.{Rolls};
+ghost use Rattle.tp_rollover.specs.Bounds.{made_by_all, most_successor_steps, successor_steps};
 ghost use Rattle.tp_rollover.specs.Managed.{IsManaged};
 ghost use Rattle.tp_workers.specs.Free.{IsFreePass};
 ghost use Rattle.tp_crew.specs.CrewPasses.{Shows};
-ghost use Rattle.tp_crew.specs.Rolling.{IsCrewFault};
+ghost use Rattle.tp_crew.specs.Rolling.{IsCrewFault, RefusedSteps};
 
 use crate::crew::Crew;
 use crate::fold_start::FoldStart;
@@ -42,6 +45,12 @@ fn succeed_or_gather(
     ensures stays { IfErr result (λ fault. AllZip Stays old_passes.old old_passes.new) }
     ensures shows { IfErr result (λ fault. All Shows old_passes.new) }
     ensures fault { IfErr result (IsCrewFault old.now.limits) }
+    ensures steps { IfOk result (λ next. made_by_all next.managed.keeper next.managed.passes.items
+        ≤ most_successor_steps old.now.limits (length next.moved.items)) }
+    ensures replayed { IfOk result (λ next. made_by_all next.managed.keeper next.managed.passes.items
+        ≤ successor_steps old.now.limits next.managed.keeper.seen next.moved.items) }
+    ensures refused_steps { IfErr result (λ fault. (point : List Event) × IsPrefix point old_keeper.new.seen
+        × RefusedSteps old.now.limits point old_keeper.old old_passes.old old_keeper.new old_passes.new) }
 {
     match succeed(alloc, old, old_keeper, old_passes) {
         Ok(next) => Ok(next),
@@ -54,7 +63,7 @@ fn succeed_or_gather(
 
 impl Crew {
     ghost use Rattle.tp_crew.specs.Crew.{IsSteadyCrew};
-    ghost use Rattle.tp_crew.specs.Rolling.{CrewRolls, CrewStays};
+    ghost use Rattle.tp_crew.specs.Rolling.{CrewRolls, CrewStays, RefusedWithin};
 
     /// What is alive, each element once, goes on in a new manager with the same limits, and the crew with
     /// it. Its boxes go on with their registers, and the folds of their work begin anew. The answer is what was
@@ -69,6 +78,11 @@ impl Crew {
         ensures moved { IfOk result (λ moved. CrewRolls self.old self.new moved.items) }
         ensures refused { IfErr result (λ fault. CrewStays self.old self.new) }
         ensures fault { IfErr result (IsCrewFault self.old.manager.limits) }
+        ensures steps { IfOk result (λ moved. made_by_all self.new.keeper self.new.passes.items
+            ≤ most_successor_steps self.old.manager.limits (length moved.items)) }
+        ensures replayed { IfOk result (λ moved. made_by_all self.new.keeper self.new.passes.items
+            ≤ successor_steps self.old.manager.limits self.new.keeper.seen moved.items) }
+        ensures refused_steps { IfErr result (λ fault. RefusedWithin self.old self.new) }
     {
         let answer = succeed_or_gather(alloc, &self.manager, &mut self.keeper, &mut self.passes);
         match answer {

@@ -1,6 +1,7 @@
 //! How much is left to a crew.
 ghost use Rattle.std.specs.Prelude.{◌≡◌, ◌≤◌, All, IfErr, IfOk, IfSome, None, Ok, length};
 ghost use Rattle.tp_manager.specs.Shown.{IsOf};
+ghost use Rattle.tp_rollover.specs.Bounds.{made_by_all, most_successor_steps, successor_steps};
 ghost use Rattle.tp_crew.specs.Rolling.{IsCrewFault};
 ghost use Rattle.tp_crew.specs.Rooms.{IsLeast, rows_left, units_left};
 
@@ -27,7 +28,7 @@ fn least_room(manager: &Manager, passes: &[Pass]) -> Room
 
 impl Crew {
     ghost use Rattle.tp_crew.specs.Crew.{IsSteadyCrew};
-    ghost use Rattle.tp_crew.specs.Rolling.{CrewRolls, CrewStays};
+    ghost use Rattle.tp_crew.specs.Rolling.{CrewRolls, CrewStays, RefusedWithin};
     ghost use Rattle.tp_crew.specs.Rooms.{HasRoom, LacksRoom};
 
     /// The fewest rows, and the fewest units, that are left to one of the crew's passes. Spare blocks, which
@@ -59,6 +60,13 @@ impl Crew {
         ensures refused { IfErr result (λ fault. LacksRoom rows units self.old
             × CrewStays self.old self.new) }
         ensures fault { IfErr result (IsCrewFault self.old.manager.limits) }
+        ensures steps { IfOk result (λ answer. IfSome answer (λ moved.
+            made_by_all self.new.keeper self.new.passes.items
+            ≤ most_successor_steps self.old.manager.limits (length moved.items))) }
+        ensures replayed { IfOk result (λ answer. IfSome answer (λ moved.
+            made_by_all self.new.keeper self.new.passes.items
+            ≤ successor_steps self.old.manager.limits self.new.keeper.seen moved.items)) }
+        ensures refused_steps { IfErr result (λ fault. RefusedWithin self.old self.new) }
     {
         let room = self.room();
         if room.rows >= rows && room.units >= units {

@@ -82,6 +82,27 @@ nothing_happened l k k' ps qs rs h h' before a b after some =
     let end : seen_first rs ≡ h' = first_is l k' rs h' after (zip_some ps rs all some) in
     (same, at, first_between ps qs rs a b (end ∙ (same ∙ sym at)))
 
+-- between an account and a gathering the old passes have only looked
+pub old_same : (m : ManagerShown) (a c : ℕ) (k0 k1 k2 : KeeperShown) (olds olds1 olds2 olds3 : List PassShown) → Gathers m.limits a k0 k1 olds olds1 → AreAll k1 olds1 → k1.given ≡ k0.given → All (IsOf m) olds1
+    → AllZip Stays olds1 olds2 → Gathers m.limits c k1 k2 olds2 olds3 → AreAll k2 olds3 → k2.given ≡ k1.given → All (IsOf m) olds3 → 1 ≤ length olds1 → k2.seen ≡ k1.seen
+old_same m a c k0 k1 k2 olds olds1 olds2 olds3 g1 all1 given1 own1 stay g2 all2 given2 own2 some =
+    let t1 = gathered m a k0 k1 olds olds1 g1 all1 given1 own1 in
+    let t2 = gathered m c k1 k2 olds2 olds3 g2 all2 given2 own2 in
+    (nothing_happened m.limits k1 k2 olds1 olds2 olds3 k1.seen k2.seen t1.0 stay t2.1 t2.0 some).0
+
+-- and what was told of the first of them holds of what they have seen
+pub told_same : (m : ManagerShown) (a c : ℕ) (k0 k1 k2 : KeeperShown) (olds olds1 olds2 olds3 olds4 olds5 : List PassShown) (Holds : List Event → Type 0) → Gathers m.limits a k0 k1 olds olds1 → AreAll k1 olds1 → k1.given ≡ k0.given
+    → All (IsOf m) olds1 → AllZip Stays olds1 olds2 → AllZip Stays olds2 olds3 → AllZip Stays olds3 olds4 → Gathers m.limits c k1 k2 olds4 olds5 → AreAll k2 olds5 → k2.given ≡ k1.given → All (IsOf m) olds5 → 1 ≤ length olds1
+    → ToldFirst olds2 olds3 Holds → Holds k2.seen
+told_same m a c k0 k1 k2 olds olds1 olds2 olds3 olds4 olds5 Holds g1 all1 given1 own1 s12 s23 s34 g2 all2 given2 own2 some told =
+    let t1 = gathered m a k0 k1 olds olds1 g1 all1 given1 own1 in
+    let t2 = gathered m c k1 k2 olds4 olds5 g2 all2 given2 own2 in
+    let s13 = stay_trans olds1 olds2 olds3 s12 s23 in
+    let none = nothing_happened m.limits k1 k2 olds1 olds4 olds5 k1.seen k2.seen t1.0 (stay_trans olds1 olds3 olds4 s13 s34) t2.1 t2.0 some in
+    let at2 : seen_first olds2 ≡ seen_first olds1 = first_between olds1 olds2 olds4 s12 (stay_trans olds2 olds3 olds4 s23 s34) none.2 in
+    let at3 : seen_first olds3 ≡ seen_first olds1 = first_between olds1 olds3 olds4 s13 s34 none.2 in
+    subst Holds (at2 ∙ (none.1 ∙ sym none.0)) (told (at3 ∙ sym at2))
+
 -- ids that ascend
 low_less : (id : Moved → ℕ) (low : ℕ) (xs : List Moved) (m : Moved) (ys : List Moved) → AscendFrom id low (xs ++ m ∷ ys) → low ≤ id m
 low_less id low [] m ys a = a.0
@@ -245,17 +266,25 @@ module _ (m m' : ManagerShown) (limit : m'.limits.attempts ≡ m.limits.attempts
       }
 
 -- and with them
+pub rolled_over : (m m' : ManagerShown) (c : ℕ) (ok2 ok3 nk2 : KeeperShown) (olds0 olds5 olds6 olds7 news4 : List PassShown) (moved : List Moved)
+    → m'.limits.attempts ≡ m.limits.attempts → IsReadyToKill m.limits m'.limits ok2 nk2 olds0 olds5 news4 moved → KillsAll moved olds5 olds6
+    → Gathers m.limits c ok2 ok3 olds6 olds7 → AreAll ok3 olds7 → ok3.given ≡ ok2.given → All (IsOf m) olds7
+    → RollsOver m.limits m'.limits 0 ok2.seen ok3.seen nk2.seen moved
+rolled_over m m' c ok2 ok3 nk2 olds0 olds5 olds6 olds7 news4 moved limit r kill g all given own =
+    let t = gathered m c ok2 ok3 olds6 olds7 g all given own in
+    let grown = all_killed m.limits m'.limits ok2 ok3 olds5 olds6 olds7 ok2.seen ok3.seen nk2.seen r.alive moved r.old_together t.1 t.0 r.whole kill in
+    rolled m.limits m'.limits ok2.seen ok3.seen nk2.seen r.alive moved limit r.old_together.legal t.0.legal r.new_together.legal r.found r.whole grown
+
 pub rolls : (m m' : ManagerShown) (c : ℕ) (ok2 ok3 nk2 : KeeperShown) (olds0 olds5 olds6 olds7 news4 : List PassShown) (moved : List Moved)
     → m'.limits.attempts ≡ m.limits.attempts → IsReadyToKill m.limits m'.limits ok2 nk2 olds0 olds5 news4 moved → KillsAll moved olds5 olds6
     → Gathers m.limits c ok2 ok3 olds6 olds7 → AreAll ok3 olds7 → ok3.given ≡ ok2.given → All (IsOf m) olds7
     → Rolls m.limits m'.limits ok3 nk2 olds0 olds7 news4 moved
 rolls m m' c ok2 ok3 nk2 olds0 olds5 olds6 olds7 news4 moved limit r kill g all given own =
     let t = gathered m c ok2 ok3 olds6 olds7 g all given own in
-    let grown = all_killed m.limits m'.limits ok2 ok3 olds5 olds6 olds7 ok2.seen ok3.seen nk2.seen r.alive moved r.old_together t.1 t.0 r.whole kill in
     record {
       before = ok2.seen;
       history = record { own = r.history.own; others = λ d low. r.history.others d (subst (λ n. n ≤ d) given low) };
-      over = rolled m.limits m'.limits ok2.seen ok3.seen nk2.seen r.alive moved limit r.old_together.legal t.0.legal r.new_together.legal r.found r.whole grown;
+      over = rolled_over m m' c ok2 ok3 nk2 olds0 olds5 olds6 olds7 news4 moved limit r kill g all given own;
       old_together = t.0;
       new_together = r.new_together;
     }

@@ -10,3 +10,5 @@ pub mod Phases
 pub mod Answers
 pub mod Faults
 pub mod Managed
+pub mod Bounds
+pub mod Births

@@ -1,7 +1,9 @@
 //! What is alive in the old manager.
-ghost use Rattle.std.specs.Prelude.{◌≡◌, ◌++◌, IfOk, IfSome, OnOk};
+ghost use Rattle.std.specs.Prelude.{◌≡◌, ◌≤◌, ◌++◌, IfOk, IfSome, OnOk, length};
+ghost use Rattle.tp_manager.specs.Bounds.{read_steps};
 ghost use Rattle.tp_manager.specs.Shown.{IsOf};
 ghost use Rattle.tp_alone.specs.Thread.{Stays};
+ghost use Rattle.tp_rollover.specs.Bounds.{PassMakes, search_steps};
 ghost use Rattle.tp_rollover.specs.Finding.{AreAliveOf, CountsAlive, IsAliveAt, listed};
 ghost use Rattle.tp_rollover.specs.Told.{HoldsAsSeen};
 
@@ -24,6 +26,7 @@ fn alive_at(manager: &Manager, pass: &mut Pass, row: u32) -> Result<Option<Alive
     requires own { IsOf manager.now pass.old }
     ensures own { IsOf manager.now pass.new }
     ensures stays { Stays pass.old pass.new }
+    ensures steps { PassMakes (read_steps manager.now.limits) pass.old pass.new }
     ensures told { IfOk result (λ found.
         HoldsAsSeen pass.old pass.new (IsAliveAt manager.now.limits.attempts row found)) }
 {
@@ -81,6 +84,8 @@ pub(crate) fn find_alive(
     requires own { IsOf manager.now pass.old }
     ensures own { IsOf manager.now pass.new }
     ensures stays { Stays pass.old pass.new }
+    ensures steps { PassMakes (search_steps manager.now.limits count) pass.old pass.new }
+    ensures few { IfOk result (λ found. length found.items ≤ count) }
     ensures told { IfOk result (λ found.
         HoldsAsSeen pass.old pass.new (AreAliveOf manager.now.limits count found.items)) }
 {

@@ -1,8 +1,11 @@
 //! What is alive in the old manager is born in the new one. Nothing is promised here but that the old pass
 //! only looks, and that the new passes stay those of their manager: what was born is checked afterwards.
-ghost use Rattle.std.specs.Prelude.{◌≡◌, ◌≤◌, All, length};
+ghost use Rattle.std.specs.Prelude.{◌≡◌, ◌+◌, ◌*◌, ◌≤◌, All, IfOk, OnOk, length};
+ghost use Rattle.tp_manager.specs.Bounds.{claim_id_steps, commit_steps, read_steps, submit_steps};
 ghost use Rattle.tp_manager.specs.Shown.{IsOf};
 ghost use Rattle.tp_alone.specs.Thread.{Stays};
+ghost use Rattle.tp_rollover.specs.Bounds.{PassMakes, PassesMake, bear_steps, origin_steps};
+ghost use Rattle.tp_rollover.specs.Births.{born_of};
 ghost use Rattle.tp_rollover.specs.Passes.{numbers};
 
 use crate::alive::Alive;
@@ -110,6 +113,8 @@ fn submit_copy(
     ensures own { IsOf old.now pass.new × All (IsOf new.now) passes.new }
     ensures stays { Stays pass.old pass.new }
     ensures numbers { numbers passes.new ≡ numbers passes.old }
+    ensures steps { PassMakes (read_steps old.now.limits) pass.old pass.new
+        × PassesMake (submit_steps new.now.limits) passes.old passes.new }
 {
     let Some(found) = look(old, pass, root) else {
         return Err(Stop::Unequal);
@@ -118,6 +123,32 @@ fn submit_copy(
         return Err(Stop::Full);
     };
     submit_by(new, passes, at, found.element.stage, found.element.body)
+}
+
+/// The root of a family in the new manager, and the element of which its next ones are born. Both are a copy of
+/// the root where there is none yet.
+fn carrier_of(
+    old: &Manager,
+    pass: &mut Pass,
+    root: u32,
+    family: Family,
+    new: &Manager,
+    passes: &mut [Pass],
+    cursor: &mut Cursor,
+    home: usize,
+) -> Result<(u32, u32), Stop>
+    requires own { IsOf old.now pass.old × All (IsOf new.now) passes.old }
+    ensures own { IsOf old.now pass.new × All (IsOf new.now) passes.new }
+    ensures stays { Stays pass.old pass.new }
+    ensures numbers { numbers passes.new ≡ numbers passes.old }
+    ensures steps { PassMakes (read_steps old.now.limits) pass.old pass.new
+        × PassesMake (submit_steps new.now.limits) passes.old passes.new }
+{
+    if let Some(carrier) = family.carrier {
+        return Ok(carrier);
+    }
+    let id = submit_copy(old, pass, root, new, passes, cursor, home)?;
+    Ok((id, id))
 }
 
 /// Drafts of these elements, and of a carrier: the filler, which waits until its family's next turn.
@@ -131,6 +162,7 @@ fn drafts_of(
     requires few { length group.now ≤ 4 }
     ensures own { IsOf old.now pass.new }
     ensures stays { Stays pass.old pass.new }
+    ensures steps { PassMakes (length group.now * read_steps old.now.limits) pass.old pass.new }
 {
     for place in 0..group.len() {
         let Some(found) = look(old, pass, group[place].id) else {
@@ -162,6 +194,9 @@ fn bear_group(
     ensures own { IsOf old.now pass.new × All (IsOf new.now) passes.new }
     ensures stays { Stays pass.old pass.new }
     ensures numbers { numbers passes.new ≡ numbers passes.old }
+    ensures steps { let n = length group.now in
+        PassMakes (n * read_steps old.now.limits) pass.old pass.new
+        × PassesMake (claim_id_steps + commit_steps new.now.limits (n + 1)) passes.old passes.new }
 {
     let Some(filler) = Draft::new(1, [0; 4]) else {
         return Err(Stop::Unequal);
@@ -195,6 +230,10 @@ fn bear_next(
     ensures own { IsOf old.now pass.new × All (IsOf new.now) passes.new }
     ensures stays { Stays pass.old pass.new }
     ensures numbers { numbers passes.new ≡ numbers passes.old }
+    ensures inside { IfOk result (λ group. (1 ≤ group.count) × (group.count ≤ length rest.now)) }
+    ensures steps { let n = born_of rest.now result in
+        PassMakes (n * origin_steps old.now.limits 1) pass.old pass.new
+        × PassesMake (n * bear_steps new.now.limits 1) passes.old passes.new }
 {
     let next = rest[0];
     let limits = old.limits();
@@ -203,14 +242,8 @@ fn bear_next(
         return Err(Stop::Unequal);
     }
     let family = families[place];
-    let (root, carrier) = match family.carrier {
-        Some(carrier) => carrier,
-        None => {
-            let home = home_of(limits, next.id);
-            let id = submit_copy(old, pass, next.root, new, passes, cursor, home)?;
-            (id, id)
-        }
-    };
+    let home = home_of(limits, next.id);
+    let (root, carrier) = carrier_of(old, pass, next.root, family, new, passes, cursor, home)?;
     if next.id == next.root {
         return Ok(Group {
             root,
@@ -229,9 +262,12 @@ fn bear_next(
 }
 
 /// Names the elements of a group that was born.
-fn name(moved: &mut Vec<Moved>, rest: &[Alive], group: Group) -> Result<(), Stop> {
+fn name(moved: &mut Vec<Moved>, rest: &[Alive], group: Group) -> Result<(), Stop>
+    requires inside { group.count ≤ length rest.now }
+    ensures named { OnOk result (length moved.new.items ≡ length moved.old.items + group.count) }
+{
     let mut new = group.first;
-    for place in 0..group.count.min(rest.len()) {
+    for place in 0..group.count {
         let one = Moved {
             old: rest[place].id,
             new,
@@ -259,6 +295,10 @@ pub(crate) fn bear_all(
     ensures own { IsOf old.now pass.new × All (IsOf new.now) passes.new }
     ensures stays { Stays pass.old pass.new }
     ensures numbers { numbers passes.new ≡ numbers passes.old }
+    ensures few { IfOk result (λ moved. length moved.items ≤ length alive.now) }
+    ensures steps { let n = length alive.now in
+        PassMakes (n * origin_steps old.now.limits 1) pass.old pass.new
+        × PassesMake (n * bear_steps new.now.limits 1) passes.old passes.new }
 {
     if alive.is_empty() {
         return Ok(Vec::new(alloc));

@@ -1,7 +1,9 @@
 //! The calls on the new manager, each by the pass with an index. They promise nothing but that the passes
 //! stay those of the manager: what they have made is checked when all is born.
-ghost use Rattle.std.specs.Prelude.{◌≡◌, ◌≤◌, All, None, length};
+ghost use Rattle.std.specs.Prelude.{◌≡◌, ◌+◌, ◌≤◌, ◌⊎◌, All, None, length};
+ghost use Rattle.tp_manager.specs.Bounds.{claim_id_steps, commit_steps, requeue_steps, submit_steps};
 ghost use Rattle.tp_manager.specs.Shown.{IsOf};
+ghost use Rattle.tp_rollover.specs.Bounds.{PassMakes, PassesMake, attempt_steps};
 ghost use Rattle.tp_rollover.specs.Passes.{numbers};
 
 use crate::stops::Stop;
@@ -28,6 +30,7 @@ pub(crate) fn submit_by(
     requires own { All (IsOf manager.now) passes.old }
     ensures own { All (IsOf manager.now) passes.new }
     ensures numbers { numbers passes.new ≡ numbers passes.old }
+    ensures steps { PassesMake (submit_steps manager.now.limits) passes.old passes.new }
 {
     if at >= passes.len() {
         return Err(Stop::Full);
@@ -39,6 +42,7 @@ fn submit_one(manager: &Manager, pass: &mut Pass, stage: u8, body: Body) -> Resu
     requires own { IsOf manager.now pass.old }
     ensures own { IsOf manager.now pass.new }
     ensures number { pass.new.number ≡ pass.old.number }
+    ensures steps { PassMakes (submit_steps manager.now.limits) pass.old pass.new }
 {
     match manager.submit(pass, stage, body) {
         Ok(id) => Ok(id),
@@ -58,6 +62,8 @@ pub(crate) fn bear_by(
     requires few { length drafts.now ≤ 4 }
     ensures own { All (IsOf manager.now) passes.new }
     ensures numbers { numbers passes.new ≡ numbers passes.old }
+    ensures steps { PassesMake (claim_id_steps + commit_steps manager.now.limits (length drafts.now))
+        passes.old passes.new }
 {
     if at >= passes.len() {
         return Err(Stop::Full);
@@ -70,6 +76,8 @@ fn bear_one(manager: &Manager, pass: &mut Pass, carrier: u32, drafts: &[Draft]) 
     requires few { length drafts.now ≤ 4 }
     ensures own { IsOf manager.now pass.new }
     ensures number { pass.new.number ≡ pass.old.number }
+    ensures steps { PassMakes (claim_id_steps + commit_steps manager.now.limits (length drafts.now))
+        pass.old pass.new }
 {
     if pass.has_open() {
         return Err(Stop::Unequal);
@@ -94,6 +102,8 @@ pub(crate) fn attempt_by(
     requires own { All (IsOf manager.now) passes.old }
     ensures own { All (IsOf manager.now) passes.new }
     ensures numbers { numbers passes.new ≡ numbers passes.old }
+    ensures steps { PassesMake attempt_steps passes.old passes.new }
+    ensures allowed { PassesMake 0 passes.old passes.new ⊎ (1 ≤ manager.now.limits.attempts) }
 {
     if at >= passes.len() {
         return Err(Stop::Full);
@@ -105,6 +115,8 @@ fn attempt_one(manager: &Manager, pass: &mut Pass, id: u32) -> Result<(), Stop>
     requires own { IsOf manager.now pass.old }
     ensures own { IsOf manager.now pass.new }
     ensures number { pass.new.number ≡ pass.old.number }
+    ensures steps { PassMakes attempt_steps pass.old pass.new }
+    ensures allowed { PassMakes 0 pass.old pass.new ⊎ (1 ≤ manager.now.limits.attempts) }
 {
     if pass.has_open() {
         return Err(Stop::Unequal);
@@ -128,6 +140,7 @@ pub(crate) fn requeue_by(
     requires own { All (IsOf manager.now) passes.old }
     ensures own { All (IsOf manager.now) passes.new }
     ensures numbers { numbers passes.new ≡ numbers passes.old }
+    ensures steps { PassesMake requeue_steps passes.old passes.new }
 {
     if at >= passes.len() {
         return Err(Stop::Full);
@@ -139,6 +152,7 @@ fn requeue_one(manager: &Manager, pass: &mut Pass, id: u32) -> Result<(), Stop>
     requires own { IsOf manager.now pass.old }
     ensures own { IsOf manager.now pass.new }
     ensures number { pass.new.number ≡ pass.old.number }
+    ensures steps { PassMakes requeue_steps pass.old pass.new }
 {
     match manager.requeue(pass, id) {
         Ok(_) => Ok(()),

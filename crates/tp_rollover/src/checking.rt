@@ -1,8 +1,9 @@
 //! What was born in the new manager is held against what is alive in the old one.
-ghost use Rattle.std.specs.Prelude.{◌≡◌, true, length};
+ghost use Rattle.std.specs.Prelude.{◌≡◌, ◌*◌, true, length};
 ghost use Rattle.tp_model.specs.Steps.{IsKillable};
 ghost use Rattle.tp_manager.specs.Shown.{IsOf};
 ghost use Rattle.tp_alone.specs.Thread.{Stays};
+ghost use Rattle.tp_rollover.specs.Bounds.{PassMakes, compare_steps, past_steps};
 ghost use Rattle.tp_rollover.specs.Checks.{AreCarried, AreTheSame, CountsOnly, MovedAscend, IsAlike};
 ghost use Rattle.tp_rollover.specs.Rolls.{IsCarried};
 ghost use Rattle.tp_rollover.specs.Told.{ToldBoth};
@@ -54,6 +55,8 @@ fn is_carried(
     requires limit { new.now.limits.attempts ≡ old.now.limits.attempts }
     ensures own { IsOf old.now old_pass.new × IsOf new.now new_pass.new }
     ensures stays { Stays old_pass.old old_pass.new × Stays new_pass.old new_pass.new }
+    ensures steps { PassMakes (past_steps old.now.limits) old_pass.old old_pass.new
+        × PassMakes (compare_steps new.now.limits) new_pass.old new_pass.new }
     ensures told { result ≡ true → ToldBoth old_pass.old old_pass.new new_pass.old new_pass.new
         (λ h g. IsCarried old.now.limits.attempts h g one) }
 {
@@ -93,6 +96,9 @@ pub(crate) fn all_carried(
     requires limit { new.now.limits.attempts ≡ old.now.limits.attempts }
     ensures own { IsOf old.now old_pass.new × IsOf new.now new_pass.new }
     ensures stays { Stays old_pass.old old_pass.new × Stays new_pass.old new_pass.new }
+    ensures steps { let n = length moved.now in
+        PassMakes (n * past_steps old.now.limits) old_pass.old old_pass.new
+        × PassMakes (n * compare_steps new.now.limits) new_pass.old new_pass.new }
     ensures told { result ≡ true → ToldBoth old_pass.old old_pass.new new_pass.old new_pass.new
         (λ h g. AreCarried old.now.limits.attempts h g moved.now) }
 {

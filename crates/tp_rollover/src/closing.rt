@@ -1,6 +1,8 @@
 //! The end of the old manager: what was carried over is killed there.
-ghost use Rattle.std.specs.Prelude.{◌≡◌, None, true, false};
+ghost use Rattle.std.specs.Prelude.{◌≡◌, ◌*◌, None, true, false, length};
+ghost use Rattle.tp_manager.specs.Bounds.{kill_steps};
 ghost use Rattle.tp_manager.specs.Shown.{IsOf};
+ghost use Rattle.tp_rollover.specs.Bounds.{PassMakes};
 ghost use Rattle.tp_rollover.specs.Closing.{Made, Stops, StopsAmong, ended};
 ghost use Rattle.tp_rollover.specs.Rolls.{kills};
 
@@ -13,6 +15,7 @@ fn kill_one(manager: &Manager, pass: &mut Pass, id: u32) -> bool
     requires free { pass.old.open_unit ≡ None }
     ensures own { IsOf manager.now pass.new }
     ensures number { pass.new.number ≡ pass.old.number }
+    ensures steps { PassMakes (kill_steps manager.now.limits) pass.old pass.new }
     ensures done { result ≡ true → Made (ended pass.old.number id) pass.old pass.new }
     ensures stops { result ≡ false → Stops manager.now.limits.attempts id pass.old pass.new }
 {
@@ -28,6 +31,7 @@ pub(crate) fn kill_all(manager: &Manager, pass: &mut Pass, moved: &[Moved]) -> b
     requires free { pass.old.open_unit ≡ None }
     ensures own { IsOf manager.now pass.new }
     ensures number { pass.new.number ≡ pass.old.number }
+    ensures steps { PassMakes (length moved.now * kill_steps manager.now.limits) pass.old pass.new }
     ensures done { result ≡ true → Made (kills pass.old.number moved.now) pass.old pass.new }
     ensures stops { result ≡ false → StopsAmong manager.now.limits.attempts moved.now pass.old pass.new }
 {

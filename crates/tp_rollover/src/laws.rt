@@ -1,5 +1,7 @@
 //! The laws over the pair of managers. These functions do nothing: their contracts are the laws.
 
+ghost use Rattle.tp_model.specs.declared.types.Limits.{Limits};
+ghost use Rattle.tp_rollover.specs.Bounds.{PerElement};
 ghost use Rattle.tp_rollover.specs.Laws.{CancelledStays, ConsumedInOne, OldIsOver, RolloverAddsUp};
 ghost use Rattle.tp_rollover.specs.Laws.{SettledNotCarried};
 ghost use Rattle.tp_rollover.specs.Worked.{WorkedPair};
@@ -30,4 +32,9 @@ pub fn accounts_add_up()
 /// managers. The laws are of such pairs. Where one that was alive is left out, it is none.
 pub fn worked_pair()
     ensures { WorkedPair }
+{}
+
+/// How many steps a rollover makes for each element, in round numbers.
+pub fn steps_of_one()
+    ensures { (l : Limits) → PerElement l }
 {}

@@ -1,11 +1,14 @@
 //! Looks at one element, by one pass. What a look finds holds of the history that the pass had seen, if it
 //! has seen nothing new by the end.
-ghost use Rattle.std.specs.Prelude.{◌≡◌, MatchOption};
+ghost use Rattle.std.specs.Prelude.{◌≡◌, ◌≤◌, IfSome, MatchOption};
+ghost use Rattle.tp_model.specs.declared.types.TheConstants.{MAX_ROUNDS};
 ghost use Rattle.tp_model.specs.History.{IsUnborn};
+ghost use Rattle.tp_manager.specs.Bounds.{read_steps, rounds_steps};
 ghost use Rattle.tp_manager.specs.Calls.{IsLook};
 ghost use Rattle.tp_manager.specs.Requeues.{HasHadRounds};
 ghost use Rattle.tp_manager.specs.Shown.{IsOf};
 ghost use Rattle.tp_alone.specs.Thread.{Stays};
+ghost use Rattle.tp_rollover.specs.Bounds.{PassMakes, attempts_had};
 ghost use Rattle.tp_rollover.specs.Told.{HoldsAsSeen};
 
 use tp_manager::{Manager, Pass};
@@ -16,6 +19,9 @@ pub(crate) fn look(manager: &Manager, pass: &mut Pass, id: u32) -> Option<Look>
     requires own { IsOf manager.now pass.old }
     ensures own { IsOf manager.now pass.new }
     ensures stays { Stays pass.old pass.new }
+    ensures steps { PassMakes (read_steps manager.now.limits) pass.old pass.new }
+    ensures few { let limit = manager.now.limits.attempts in
+        IfSome result (λ look. 1 ≤ limit → attempts_had look.status ≤ limit) }
     ensures told { HoldsAsSeen pass.old pass.new (λ h. MatchOption result
         (IsUnborn h id) (λ look. IsLook manager.now.limits id look h)) }
 {
@@ -30,6 +36,8 @@ pub(crate) fn rounds_had(manager: &Manager, pass: &mut Pass, id: u32) -> Option<
     requires own { IsOf manager.now pass.old }
     ensures own { IsOf manager.now pass.new }
     ensures stays { Stays pass.old pass.new }
+    ensures steps { PassMakes rounds_steps pass.old pass.new }
+    ensures few { IfSome result (λ n. n ≤ MAX_ROUNDS) }
     ensures told { HoldsAsSeen pass.old pass.new (λ h. MatchOption result (IsUnborn h id)
         (λ n. HasHadRounds id n h)) }
 {

@@ -1,5 +1,5 @@
 //! A manager with its keeper and all its passes, which goes on in a new one by itself.
-ghost use Rattle.std.specs.Prelude.{◌≡◌, ◌↔◌, All, Err, IfErr, IfOk, [], length};
+ghost use Rattle.std.specs.Prelude.{◌≡◌, ◌↔◌, ◌+◌, ◌≤◌, All, Err, IfErr, IfOk, [], length};
 ghost use Rattle.std.specs.List.{AllZip};
 ghost use Rattle.tp_model.specs.Steps.{AreLimits};
 ghost use Rattle.tp_manager.specs.Accounts.{AreAll};
@@ -8,6 +8,8 @@ ghost use Rattle.tp_manager.specs.declared.manager.MakeFault.TheVariants as faul
 ghost use Rattle.tp_alone.specs.Thread.{Stays};
 ghost use Rattle.tp_rollover.specs.declared.moved.RollFault.TheVariants as refusals;
 ghost use Rattle.tp_rollover.specs.Answers.{Rolls};
+ghost use Rattle.tp_rollover.specs.Bounds.{AllMake, alive_after, made_by_all, most_successor_steps};
+ghost use Rattle.tp_rollover.specs.Bounds.{old_steps, prepare_steps, successor_steps};
 ghost use Rattle.tp_rollover.specs.Faults.{AreFree};
 ghost use Rattle.tp_rollover.specs.Managed.{GoesOn, IsManaged, IsNewPass, IsRefusedFor, StaysManaged};
 
@@ -44,6 +46,8 @@ fn all_passes(
     ensures given { IfOk result (λ passes. AreAll keeper.new passes.items) }
     ensures new { IfOk result (λ passes. All IsNewPass passes.items) }
     ensures all { IfOk result (λ passes. length passes.items ≡ manager.now.limits.parts) }
+    ensures steps { IfOk result (λ passes.
+        made_by_all keeper.new passes.items ≡ keeper.old.steps + manager.now.limits.parts) }
 {
     let mut passes = Vec::with_capacity(alloc, usize::from(manager.limits().parts))?;
     while let Ok(pass) = keeper.pass(manager) {
@@ -76,6 +80,14 @@ pub fn succeed(
     ensures free { IfOk result (λ next. AreFree next.managed.passes.items) }
     ensures stays { IfErr result (λ fault. AllZip Stays old_passes.old old_passes.new) }
     ensures fault { IfErr result (IsRefusedFor old.now.limits old_passes.old) }
+    ensures steps { IfOk result (λ next. let n = length next.moved.items in let l = old.now.limits in
+        AllMake (old_steps l l.parts n) old_keeper.old old_passes.old old_keeper.new old_passes.new
+        × (made_by_all next.managed.keeper next.managed.passes.items ≤ most_successor_steps l n)) }
+    ensures replayed { IfOk result (λ next. made_by_all next.managed.keeper next.managed.passes.items
+        ≤ successor_steps old.now.limits next.managed.keeper.seen next.moved.items) }
+    ensures refused_steps { IfErr result (λ fault. let l = old.now.limits in
+        let n = alive_after l.attempts old_keeper.new.seen in
+        AllMake (prepare_steps l l.parts n) old_keeper.old old_passes.old old_keeper.new old_passes.new) }
 {
     if has_open(old_passes) {
         return Err(RollFault::Busy);
@@ -109,6 +121,7 @@ impl Managed {
         ensures seen { IfOk result (λ made. made.keeper.seen ≡ []) }
         ensures free { IfOk result (λ made. AreFree made.passes.items) }
         ensures new { IfOk result (λ made. All IsNewPass made.passes.items) }
+        ensures steps { IfOk result (λ made. made_by_all made.keeper made.passes.items ≡ limits.parts) }
         ensures bad { (result ≡ Err faults.BadLimits) ↔ (¬ AreLimits limits) }
         ensures part { ¬ (result ≡ Err faults.NoPart) }
     {
@@ -135,6 +148,14 @@ impl Managed {
         ensures refused { IfErr result (λ fault. StaysManaged self.old self.new) }
         ensures fault { IfErr result (IsRefusedFor self.old.manager.limits self.old.passes.items) }
         ensures busy { (result ≡ Err refusals.Busy) ↔ (¬ AreFree self.old.passes.items) }
+        ensures steps { IfOk result (λ moved. made_by_all self.new.keeper self.new.passes.items
+            ≤ most_successor_steps self.old.manager.limits (length moved.items)) }
+        ensures replayed { IfOk result (λ moved. made_by_all self.new.keeper self.new.passes.items
+            ≤ successor_steps self.old.manager.limits self.new.keeper.seen moved.items) }
+        ensures refused_steps { IfErr result (λ fault. let l = self.old.manager.limits in
+            let n = alive_after l.attempts self.new.keeper.seen in
+            AllMake (prepare_steps l l.parts n)
+            self.old.keeper self.old.passes.items self.new.keeper self.new.passes.items) }
     {
         let answer = succeed(alloc, &self.manager, &mut self.keeper, &mut self.passes);
         match answer {

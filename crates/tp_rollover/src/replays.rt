@@ -1,8 +1,13 @@
 //! Elements that are born anew are given the attempts and rounds that the old ones had.
-ghost use Rattle.std.specs.Prelude.{◌≡◌, ◌≤◌, All, length};
+ghost use Rattle.std.specs.Prelude.{◌≡◌, ◌*◌, ◌≤◌, ◌⊎◌, All, IfSome, OnOk, length};
+ghost use Rattle.tp_model.specs.History.{rounds};
 ghost use Rattle.tp_manager.specs.Shown.{IsOf};
 ghost use Rattle.tp_alone.specs.Thread.{Stays};
+ghost use Rattle.tp_rollover.specs.Bounds.{PassMakes, PassesMake, attempt_steps, attempts_had};
+ghost use Rattle.tp_rollover.specs.Bounds.{most_replay_steps, past_steps, replay_steps, replays_of};
+ghost use Rattle.tp_rollover.specs.Bounds.{tries_had};
 ghost use Rattle.tp_rollover.specs.Passes.{numbers};
+ghost use Rattle.tp_rollover.specs.Told.{HoldsAsSeen};
 
 use crate::calls::{attempt_by, requeue_by};
 use crate::looks::{look, rounds_had};
@@ -34,6 +39,8 @@ fn attempts(
     requires own { All (IsOf new.now) passes.old }
     ensures own { All (IsOf new.now) passes.new }
     ensures numbers { numbers passes.new ≡ numbers passes.old }
+    ensures steps { PassesMake (times * attempt_steps) passes.old passes.new }
+    ensures allowed { PassesMake 0 passes.old passes.new ⊎ (1 ≤ new.now.limits.attempts) }
 {
     for _time in 0..times {
         *from = with_unit(new, passes, *from);
@@ -53,12 +60,29 @@ fn rounds(
     requires own { All (IsOf new.now) passes.old }
     ensures own { All (IsOf new.now) passes.new }
     ensures numbers { numbers passes.new ≡ numbers passes.old }
+    ensures steps { PassesMake (replay_steps (times * new.now.limits.attempts) times) passes.old passes.new }
 {
     for _round in 0..times {
         attempts(new, passes, from, id, new.limits().attempts)?;
         requeue_by(new, passes, 0, id)?;
     }
     Ok(())
+}
+
+/// How many attempts an element that is alive has had in its round, or `None` where it isn't alive.
+fn attempts_of(status: Status) -> Option<u8>
+    ensures { IfSome result (λ times. times ≡ attempts_had status) }
+{
+    match status {
+        Status::Waiting { attempts } => Some(attempts),
+        Status::Held {
+            unit: _,
+            attempt: _,
+        } => None,
+        Status::Consumed { unit: _ } => None,
+        Status::Parked { attempts } => Some(attempts),
+        Status::Killed => None,
+    }
 }
 
 /// The new element is given what the old one had.
@@ -71,22 +95,20 @@ fn replay(
     one: Moved,
 ) -> Result<(), Stop>
     requires own { IsOf old.now pass.old × All (IsOf new.now) passes.old }
+    requires limit { new.now.limits.attempts ≡ old.now.limits.attempts }
     ensures own { IsOf old.now pass.new × All (IsOf new.now) passes.new }
     ensures stays { Stays pass.old pass.new }
     ensures numbers { numbers passes.new ≡ numbers passes.old }
+    ensures steps { PassMakes (past_steps old.now.limits) pass.old pass.new
+        × PassesMake (most_replay_steps new.now.limits.attempts) passes.old passes.new }
+    ensures told { OnOk result (HoldsAsSeen pass.old pass.new (λ h. let limit = old.now.limits.attempts in
+        PassesMake (replay_steps (tries_had limit h one.old) (rounds h one.old)) passes.old passes.new)) }
 {
     let Some(found) = look(old, pass, one.old) else {
         return Err(Stop::Unequal);
     };
-    let times = match found.status {
-        Status::Waiting { attempts } => attempts,
-        Status::Parked { attempts } => attempts,
-        Status::Held {
-            unit: _,
-            attempt: _,
-        } => return Err(Stop::Unequal),
-        Status::Consumed { unit: _ } => return Err(Stop::Unequal),
-        Status::Killed => return Err(Stop::Unequal),
+    let Some(times) = attempts_of(found.status) else {
+        return Err(Stop::Unequal);
     };
     let Some(further) = rounds_had(old, pass, one.old) else {
         return Err(Stop::Unequal);
@@ -104,9 +126,15 @@ pub(crate) fn replay_all(
     moved: &[Moved],
 ) -> Result<(), Stop>
     requires own { IsOf old.now pass.old × All (IsOf new.now) passes.old }
+    requires limit { new.now.limits.attempts ≡ old.now.limits.attempts }
     ensures own { IsOf old.now pass.new × All (IsOf new.now) passes.new }
     ensures stays { Stays pass.old pass.new }
     ensures numbers { numbers passes.new ≡ numbers passes.old }
+    ensures steps { let n = length moved.now in
+        PassMakes (n * past_steps old.now.limits) pass.old pass.new
+        × PassesMake (n * most_replay_steps new.now.limits.attempts) passes.old passes.new }
+    ensures told { OnOk result (HoldsAsSeen pass.old pass.new (λ h.
+        PassesMake (replays_of (λ m. m.old) old.now.limits.attempts h moved.now) passes.old passes.new)) }
 {
     let mut from = 0;
     for place in 0..moved.len() {

@@ -1,16 +1,21 @@
 //! The rollover.
-ghost use Rattle.std.specs.Prelude.{◌≡◌, ◌≢◌, ◌≤◌, All, Err, None, IfErr, IfOk, OnOk, length, true, false};
+ghost use Rattle.std.specs.Prelude.{◌≡◌, ◌≢◌, ◌+◌, ◌*◌, ◌≤◌, All, Err, None, IfErr, IfOk, OnOk, length, true, false};
 ghost use Rattle.std.specs.List.{AllZip};
 ghost use Rattle.tp_manager.specs.Accounts.{AreAll};
+ghost use Rattle.tp_manager.specs.Bounds.{kill_steps};
 ghost use Rattle.tp_manager.specs.Shown.{IsKeptBy, IsOf};
 ghost use Rattle.tp_alone.specs.Thread.{Stays};
 ghost use Rattle.tp_rollover.specs.Answers.{IsReadyToKill, Rolls};
+ghost use Rattle.tp_rollover.specs.Bounds.{AllMake, PassMakes, PassesMake, alive_after, bear_steps};
+ghost use Rattle.tp_rollover.specs.Bounds.{carry_steps, compare_steps, most_new_steps, new_steps};
+ghost use Rattle.tp_rollover.specs.Bounds.{old_steps, past_steps, prepare_steps, renew_steps};
+ghost use Rattle.tp_rollover.specs.Bounds.{replays_of, search_steps};
 ghost use Rattle.tp_rollover.specs.declared.moved.RollFault.TheVariants as faults;
 ghost use Rattle.tp_rollover.specs.Faults.{AreFree, IsDue, LacksPass};
 ghost use Rattle.tp_rollover.specs.Finding.{AreAliveOf};
 ghost use Rattle.tp_rollover.specs.Passes.{numbers};
 ghost use Rattle.tp_rollover.specs.Phases.{FoundAlike, IsCarriedAlike, KillsAll, StopsKilling};
-ghost use Rattle.tp_rollover.specs.Told.{ToldBoth, ToldFirst};
+ghost use Rattle.tp_rollover.specs.Told.{HoldsAsSeen, ToldBoth, ToldFirst};
 
 use crate::alive::{Alive, alive_in, find_alive};
 use crate::births::bear_all;
@@ -65,6 +70,8 @@ fn find(
     requires own { All (IsOf manager.now) passes.old }
     ensures own { All (IsOf manager.now) passes.new }
     ensures stays { AllZip Stays passes.old passes.new }
+    ensures steps { PassesMake (search_steps manager.now.limits count) passes.old passes.new }
+    ensures few { IfOk result (λ found. length found.items ≤ count) }
     ensures told { IfOk result (λ found.
         ToldFirst passes.old passes.new (AreAliveOf manager.now.limits count found.items)) }
     ensures some { OnOk result (1 ≤ length passes.old) }
@@ -85,9 +92,17 @@ fn carry_by(
     alive: &[Alive],
 ) -> Result<Vec<Moved>, Stop>
     requires own { IsOf old.now pass.old × All (IsOf new.now) new_passes.old }
+    requires limit { new.now.limits.attempts ≡ old.now.limits.attempts }
     ensures own { IsOf old.now pass.new × All (IsOf new.now) new_passes.new }
     ensures stays { Stays pass.old pass.new }
     ensures numbers { numbers new_passes.new ≡ numbers new_passes.old }
+    ensures few { IfOk result (λ moved. length moved.items ≤ length alive.now) }
+    ensures steps { let n = length alive.now in
+        PassMakes (n * carry_steps old.now.limits) pass.old pass.new
+        × PassesMake (n * renew_steps new.now.limits) new_passes.old new_passes.new }
+    ensures told { IfOk result (λ moved. HoldsAsSeen pass.old pass.new (λ h.
+        let had = replays_of (λ m. m.old) old.now.limits.attempts h moved.items in
+        PassesMake (length alive.now * bear_steps new.now.limits 1 + had) new_passes.old new_passes.new)) }
 {
     let moved = bear_all(alloc, old, pass, alive, new, new_passes)?;
     replay_all(old, pass, new, new_passes, &moved)?;
@@ -104,10 +119,18 @@ fn carry(
     alive: &[Alive],
 ) -> Result<Vec<Moved>, Stop>
     requires own { All (IsOf old.now) old_passes.old × All (IsOf new.now) new_passes.old }
+    requires limit { new.now.limits.attempts ≡ old.now.limits.attempts }
     ensures own { All (IsOf old.now) old_passes.new }
     ensures new_own { All (IsOf new.now) new_passes.new }
     ensures stays { AllZip Stays old_passes.old old_passes.new }
     ensures numbers { numbers new_passes.new ≡ numbers new_passes.old }
+    ensures few { IfOk result (λ moved. length moved.items ≤ length alive.now) }
+    ensures steps { let n = length alive.now in
+        PassesMake (n * carry_steps old.now.limits) old_passes.old old_passes.new
+        × PassesMake (n * renew_steps new.now.limits) new_passes.old new_passes.new }
+    ensures told { IfOk result (λ moved. ToldFirst old_passes.old old_passes.new (λ h.
+        let had = replays_of (λ m. m.old) old.now.limits.attempts h moved.items in
+        PassesMake (length alive.now * bear_steps new.now.limits 1 + had) new_passes.old new_passes.new)) }
 {
     let Some((first, _rest)) = old_passes.split_first_mut() else {
         return Err(Stop::Unequal);
@@ -129,6 +152,9 @@ fn hold_by(
     requires limit { new.now.limits.attempts ≡ old.now.limits.attempts }
     ensures own { IsOf old.now pass.new × IsOf new.now new_pass.new }
     ensures stays { Stays pass.old pass.new × Stays new_pass.old new_pass.new }
+    ensures steps { let n = length moved.now in
+        PassMakes (n * past_steps old.now.limits) pass.old pass.new
+        × PassMakes (n * compare_steps new.now.limits) new_pass.old new_pass.new }
     ensures told { OnOk result (ToldBoth pass.old pass.new new_pass.old new_pass.new
         (IsCarriedAlike old.now.limits alive.now moved.now)) }
 {
@@ -166,6 +192,9 @@ fn hold(
     ensures new_own { All (IsOf new.now) new_passes.new }
     ensures stays { AllZip Stays old_passes.old old_passes.new }
     ensures new_stays { AllZip Stays new_passes.old new_passes.new }
+    ensures steps { let n = length moved.now in
+        PassesMake (n * past_steps old.now.limits) old_passes.old old_passes.new
+        × PassesMake (n * compare_steps new.now.limits) new_passes.old new_passes.new }
     ensures told { OnOk result (FoundAlike old.now.limits alive.now moved.now
         old_passes.old old_passes.new new_passes.old new_passes.new) }
     ensures some { OnOk result (1 ≤ length new_passes.old) }
@@ -186,6 +215,7 @@ fn bury(manager: &Manager, passes: &mut [Pass], moved: &[Moved]) -> bool
     requires some { 1 ≤ length passes.old }
     ensures own { All (IsOf manager.now) passes.new }
     ensures numbers { numbers passes.new ≡ numbers passes.old }
+    ensures steps { PassesMake (length moved.now * kill_steps manager.now.limits) passes.old passes.new }
     ensures done { result ≡ true → KillsAll moved.now passes.old passes.new }
     ensures stops { result ≡ false → StopsKilling manager.now.limits.attempts moved.now passes.old passes.new }
 {
@@ -218,6 +248,15 @@ fn prepare(
     ensures all { AreAll old_keeper.new old_passes.new }
     ensures new_all { AreAll new_keeper.new new_passes.new }
     ensures stays { AllZip Stays old_passes.old old_passes.new }
+    ensures steps { let n = alive_after old.now.limits.attempts old_keeper.new.seen in
+        AllMake (prepare_steps old.now.limits old_keeper.old.given n)
+        old_keeper.old old_passes.old old_keeper.new old_passes.new
+        × AllMake (most_new_steps new.now.limits new_keeper.old.given n)
+        new_keeper.old new_passes.old new_keeper.new new_passes.new }
+    ensures replayed { IfOk result (λ moved.
+        length moved.items ≡ alive_after old.now.limits.attempts old_keeper.new.seen
+        → AllMake (new_steps new.now.limits new_keeper.old.given new_keeper.new.seen moved.items)
+        new_keeper.old new_passes.old new_keeper.new new_passes.new) }
     ensures ready { IfOk result (λ moved.
         IsReadyToKill old.now.limits new.now.limits old_keeper.new new_keeper.new
         old_passes.old old_passes.new new_passes.new moved.items) }
@@ -282,6 +321,20 @@ pub fn roll_over(
     ensures busy { new.now.limits.attempts ≡ old.now.limits.attempts
         → ¬ LacksPass old_passes.old new_passes.old
         → ¬ AreFree old_passes.old → result ≡ Err faults.Busy }
+    ensures steps { IfOk result (λ moved. let n = length moved.items in
+        AllMake (old_steps old.now.limits old_keeper.old.given n)
+        old_keeper.old old_passes.old old_keeper.new old_passes.new
+        × AllMake (most_new_steps new.now.limits new_keeper.old.given n)
+        new_keeper.old new_passes.old new_keeper.new new_passes.new) }
+    ensures replayed { IfOk result (λ moved.
+        AllMake (new_steps new.now.limits new_keeper.old.given new_keeper.new.seen moved.items)
+        new_keeper.old new_passes.old new_keeper.new new_passes.new) }
+    ensures refused_steps { IfErr result (λ fault.
+        let n = alive_after old.now.limits.attempts old_keeper.new.seen in
+        AllMake (prepare_steps old.now.limits old_keeper.old.given n)
+        old_keeper.old old_passes.old old_keeper.new old_passes.new
+        × AllMake (most_new_steps new.now.limits new_keeper.old.given n)
+        new_keeper.old new_passes.old new_keeper.new new_passes.new) }
 {
     if !are_alike(old, new) {
         return Err(RollFault::BadLimits);

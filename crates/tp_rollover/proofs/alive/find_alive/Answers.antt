@@ -1,7 +1,9 @@
 use Rattle.std.proofs.Common.{◌+◌, arith, sym, subst}
 use Rattle.tp_rollover.proofs.Founds.{FoundBelow, all_found, found_then}
 use Rattle.tp_rollover.specs.Told.{HoldsAsSeen}
+use Rattle.tp_manager.specs.Bounds.{read_steps}
 use Rattle.tp_rollover.proofs.Seen.{stays_trans}
+use Rattle.tp_rollover.proofs.Steps.{once_more, one_kept, searched}
 use Rattle.tp_rollover.proofs.alive.find_alive.Goals as goal
 
 pub loop-row-preserved : goal.loop-row-preserved
@@ -12,6 +14,9 @@ loop-row-preserved c =
       stays = stays_trans c.args.pass.now c.loop-row.pass c.alive_at.new.pass i.stays c.alive_at.ensures.stays;
       told = subst (λ xs. HoldsAsSeen c.args.pass.now c.alive_at.new.pass (FoundBelow c.args.manager.now.limits.attempts (c.loop-row.row + 1) xs)) (sym c.in_ok-keep.ensures.kept)
           (found_then c.args.manager.now.limits.attempts c.loop-row.row c.loop-row.found.items c.in_ok-one.one c.args.pass.now c.loop-row.pass c.alive_at.new.pass i.stays c.alive_at.ensures.stays i.told c.in_ok-one.ensures.told);
+      few = one_kept c.loop-row.found.items c.keep.new.found.items c.in_ok-one.one c.args.count c.in_ok-keep.ensures.kept (let short = c.if-len-count.false in let len = c.len.ensures in omega (arith, short, len));
+      none = λ zero. (let short = c.if-len-count.false in absurd (omega (arith, short, zero)));
+      made = (let more = once_more c.loop-row.row (read_steps c.args.manager.now.limits) in omega (arith, more, i.made, c.alive_at.ensures.steps));
     }
 
 pub returns-then-len-count-clause-told : goal.returns-then-len-count-clause-told
@@ -23,3 +28,27 @@ returns-then-len-count-clause-told c same legal counted =
     let len = c.len.ensures in
     let long = l.found.ok.0 in
     all_found c.args.manager.now.limits c.args.pass.now.seen c.args.count l.found.items legal counted l.row (omega (arith, row_end, within)) (l.invariant.told same) (omega (arith, enough, len, long))
+
+pub returns-then-len-count-clause-steps : goal.returns-then-len-count-clause-steps
+returns-then-len-count-clause-steps c =
+    let i = c.loop-row.invariant in
+    searched c.args.manager.now.limits c.args.count c.loop-row.row _ _ (let less = c.loop-row-test.true in let rows = c.capacity-row-end.ensures in omega (arith, less, rows)) i.none i.made
+
+pub returns-in_err-one-clause-steps : goal.returns-in_err-one-clause-steps
+returns-in_err-one-clause-steps c =
+    let i = c.loop-row.invariant in
+    let more = once_more c.loop-row.row (read_steps c.args.manager.now.limits) in
+    searched c.args.manager.now.limits c.args.count (c.loop-row.row + 1) _ _ (let less = c.loop-row-test.true in let rows = c.capacity-row-end.ensures in omega (arith, less, rows))
+    (λ zero. (let short = c.if-len-count.false in absurd (omega (arith, short, zero)))) (omega (arith, more, i.made, c.alive_at.ensures.steps))
+
+pub returns-in_err-keep-clause-steps : goal.returns-in_err-keep-clause-steps
+returns-in_err-keep-clause-steps c =
+    let i = c.loop-row.invariant in
+    let more = once_more c.loop-row.row (read_steps c.args.manager.now.limits) in
+    searched c.args.manager.now.limits c.args.count (c.loop-row.row + 1) _ _ (let less = c.loop-row-test.true in let rows = c.capacity-row-end.ensures in omega (arith, less, rows))
+    (λ zero. (let short = c.if-len-count.false in absurd (omega (arith, short, zero)))) (omega (arith, more, i.made, c.alive_at.ensures.steps))
+
+pub returns-clause-steps : goal.returns-clause-steps
+returns-clause-steps c =
+    let i = c.loop-row.invariant in
+    searched c.args.manager.now.limits c.args.count c.loop-row.row _ _ (let less = c.loop-row.auto.row-end in let rows = c.capacity-row-end.ensures in omega (arith, less, rows)) i.none i.made

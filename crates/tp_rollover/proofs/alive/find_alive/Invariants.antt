@@ -1,6 +1,9 @@
 use Rattle.tp_manager.specs.Shown.{IsOf}
 use Rattle.tp_alone.specs.Thread.{Stays}
 use Rattle.tp_rollover.specs.Told.{HoldsAsSeen}
+use Rattle.std.proofs.Common.{◌≡◌, ◌*◌, ◌≤◌, length}
+use Rattle.tp_manager.specs.Bounds.{read_steps}
+use Rattle.tp_rollover.specs.Bounds.{PassMakes}
 use Rattle.tp_rollover.proofs.Founds.{FoundBelow}
 use Rattle.tp_rollover.proofs.alive.find_alive.Given as goal
 
@@ -9,4 +12,7 @@ invariant-loop-row l = record {
   own : IsOf l.manager l.pass;
   stays : Stays l.initial.pass l.pass;
   told : HoldsAsSeen l.initial.pass l.pass (FoundBelow l.manager.limits.attempts l.row l.found.items);
+  few : length l.found.items ≤ l.count;
+  none : l.count ≡ 0 → l.row ≡ 0;
+  made : PassMakes (l.row * read_steps l.manager.limits) l.initial.pass l.pass;
 }

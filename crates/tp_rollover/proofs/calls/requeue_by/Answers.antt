@@ -1,6 +1,10 @@
 use Rattle.std.proofs.Common.{arith}
 use Rattle.tp_rollover.proofs.Lists.{map_set_same}
+use Rattle.tp_rollover.proofs.Steps.{one_makes}
 use Rattle.tp_rollover.proofs.calls.requeue_by.Goals as goal
 
 pub returns-clause-numbers : goal.returns-clause-numbers
 returns-clause-numbers c = map_set_same (λ p. p.number) c.args.passes.now c.args.at c.requeue_one.new.pass c.index-passes-at.result (omega (arith, c.if-at-passes.false)) c.requeue_one.ensures.number
+
+pub returns-clause-steps : goal.returns-clause-steps
+returns-clause-steps c = one_makes _ c.args.passes.now c.args.at c.requeue_one.new.pass c.index-passes-at.result (omega (arith, c.if-at-passes.false)) c.requeue_one.ensures.steps

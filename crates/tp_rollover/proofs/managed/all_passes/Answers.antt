@@ -2,6 +2,7 @@ use Rattle.std.proofs.Common.{[], ◌∷◌, ◌∙◌, rules}
 use Rattle.std.proofs.lemmas.List.Elements.{All-append, All-cons, All-nil}
 use Rattle.tp_rollover.specs.Managed.{IsNewPass}
 use Rattle.tp_rollover.proofs.Managing.{all_more}
+use Rattle.tp_rollover.proofs.Sums.{one_more}
 use Rattle.tp_rollover.proofs.managed.all_passes.Goals as goal
 
 pub loop-pass-preserved : goal.loop-pass-preserved
@@ -23,4 +24,5 @@ loop-pass-preserved c = record {
         drawn = c.in-Ok.ensures.fresh.5;
       }) (All-nil IsNewPass)));
   given = rw c.in_ok-push.ensures.items (all_more c.loop-pass.keeper c.pass.new.self c.loop-pass.passes.items c.in-Ok.pass c.in-Ok.ensures.fresh.0 c.in-Ok.ensures.given.0 c.loop-pass.invariant.given);
+  made = rw c.in_ok-push.ensures.items (one_more c.loop-pass.passes.items c.in-Ok.pass c.loop-pass.keeper c.pass.new.self c.args.keeper.now.steps c.in-Ok.ensures.steps c.loop-pass.invariant.made);
 }

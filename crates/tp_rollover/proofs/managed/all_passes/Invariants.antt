@@ -1,6 +1,7 @@
-use Rattle.std.proofs.Common.{◌≡◌, ◌-◌, [], All}
+use Rattle.std.proofs.Common.{◌≡◌, ◌+◌, ◌-◌, [], All, length}
 use Rattle.tp_manager.specs.Accounts.{AreAll}
 use Rattle.tp_manager.specs.Shown.{IsKeptBy, IsOf}
+use Rattle.tp_rollover.specs.Bounds.{made_by_all}
 use Rattle.tp_rollover.specs.Managed.{IsNewPass}
 use Rattle.tp_rollover.proofs.managed.all_passes.Given as goal
 
@@ -11,6 +12,7 @@ invariant-loop-pass l = record {
   seen : l.keeper.seen ≡ [];
   new : All IsNewPass l.passes.items;
   given : AreAll l.keeper l.passes.items;
+  made : made_by_all l.keeper l.passes.items ≡ l.initial.keeper.steps + length l.passes.items;
 }
 
 abbrev pub decreases-loop-pass : goal.decreases-loop-pass

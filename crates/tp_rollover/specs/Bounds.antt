@@ -1,0 +1,144 @@
+-- How many atomic steps a rollover makes at most, by the bounds of the calls that it makes. l are the limits
+-- of the manager whose passes make them.
+use Rattle.std.specs.Prelude.{◌≡◌, ℕ, zero, suc, ◌+◌, ◌*◌, ◌≤◌, List, [], ◌∷◌, length}
+use Rattle.tp_model.specs.declared.types.Limits.{Limits}
+use Rattle.tp_model.specs.declared.types.Status.{Status}
+use Rattle.tp_model.specs.declared.types.Status.TheVariants.{Waiting, Held, Parked}
+use Rattle.tp_model.specs.declared.types.TheConstants.{MAX_ROUNDS}
+use Rattle.tp_model.specs.declared.event.Event.{Event}
+use Rattle.tp_model.specs.Counts.{counts}
+use Rattle.tp_model.specs.History.{rounds, status_of}
+use Rattle.tp_model.specs.Steps.{rows_of, tries}
+use Rattle.tp_manager.specs.Bounds.{abort_steps, account_steps, claim_id_steps, commit_steps, gather_steps}
+use Rattle.tp_manager.specs.Bounds.{kill_steps, read_steps, requeue_steps, rounds_steps, submit_steps}
+use Rattle.tp_manager.specs.Shown.{KeeperShown, PassShown}
+use Rattle.tp_rollover.specs.declared.moved.Moved.{Moved}
+
+-- the steps that these passes have made since they were given out: a trace has an entry for each
+abbrev pub steps_made : List PassShown → ℕ
+steps_made [] = 0
+steps_made (p ∷ ps) = length p.trace + steps_made ps
+
+-- a pass has made at most n steps
+abbrev pub PassMakes : ℕ → PassShown → PassShown → Type 0
+PassMakes n old new = length new.trace ≤ length old.trace + n
+
+-- these passes have, all together
+abbrev pub PassesMake : ℕ → List PassShown → List PassShown → Type 0
+PassesMake n olds news = steps_made news ≤ steps_made olds + n
+
+-- the steps that all passes of a keeper have made, those that aren't given out too
+abbrev pub made_by_all : KeeperShown → List PassShown → ℕ
+made_by_all keeper passes = steps_made passes + keeper.steps
+
+-- at most n more, all together
+abbrev pub AllMake : ℕ → KeeperShown → List PassShown → KeeperShown → List PassShown → Type 0
+AllMake n keeper olds keeper' news = made_by_all keeper' news ≤ made_by_all keeper olds + n
+
+-- how many elements are alive after this history
+abbrev pub alive_after : ℕ → List Event → ℕ
+alive_after limit h = (counts limit h).waiting + (counts limit h).parked
+
+-- how many attempts an element with this status has had in its round
+abbrev pub attempts_had : Status → ℕ
+attempts_had (Waiting n) = n
+attempts_had (Held u n) = n
+attempts_had (Parked n) = n
+attempts_had other = 0
+
+-- in all its rounds, where this many are allowed in each
+abbrev pub tries_had : ℕ → List Event → ℕ → ℕ
+tries_had limit h i = attempts_had (status_of limit h i) + rounds h i * limit
+
+-- how many all of these have had after this history, by their ids there
+abbrev pub all_tries : (Moved → ℕ) → ℕ → List Event → List Moved → ℕ
+all_tries id limit h [] = 0
+all_tries id limit h (m ∷ ms) = tries_had limit h (id m) + all_tries id limit h ms
+
+-- and how many further rounds
+abbrev pub all_rounds : (Moved → ℕ) → List Event → List Moved → ℕ
+all_rounds id h [] = 0
+all_rounds id h (m ∷ ms) = rounds h (id m) + all_rounds id h ms
+
+-- the search for n that are alive reads each row, and none where nothing is alive
+abbrev pub search_steps : Limits → ℕ → ℕ
+search_steps l zero = 0
+search_steps l (suc n) = rows_of l * read_steps l
+
+-- n elements of a family are born together: so many are read, the root to be copied and each of them
+abbrev pub origin_steps : Limits → ℕ → ℕ
+origin_steps l n = read_steps l + n * read_steps l
+
+-- and a copy of the root is submitted, claimed, and committed with them and one that carries the family on
+abbrev pub bear_steps : Limits → ℕ → ℕ
+bear_steps l n = submit_steps l + (claim_id_steps + commit_steps l (n + 1))
+
+-- an element is read, and how many rounds it had
+abbrev pub past_steps : Limits → ℕ
+past_steps l = read_steps l + rounds_steps
+
+-- an attempt that is given up
+abbrev pub attempt_steps : ℕ
+attempt_steps = claim_id_steps + abort_steps
+
+-- so many attempts and further rounds
+abbrev pub replay_steps : ℕ → ℕ → ℕ
+replay_steps attempts further = attempts * attempt_steps + further * requeue_steps
+
+-- what these have had after this history, by their ids there
+abbrev pub replays_of : (Moved → ℕ) → ℕ → List Event → List Moved → ℕ
+replays_of id limit h moved = replay_steps (all_tries id limit h moved) (all_rounds id h moved)
+
+-- all that an element can have had, with this attempt limit
+abbrev pub most_replay_steps : ℕ → ℕ
+most_replay_steps limit = replay_steps (tries limit) MAX_ROUNDS
+
+-- a new element is compared with its old one: its past is read, and its root
+abbrev pub compare_steps : Limits → ℕ
+compare_steps l = past_steps l + read_steps l
+
+-- what the old passes read of an element that is carried over: at its birth, and for its replay
+abbrev pub carry_steps : Limits → ℕ
+carry_steps l = origin_steps l 1 + past_steps l
+
+-- what the new passes make for it, with all that it can have had
+abbrev pub renew_steps : Limits → ℕ
+renew_steps l = bear_steps l 1 + most_replay_steps l.attempts
+
+-- the p old passes, up to the kills of n elements: an account, the search, what is read of each, at last to
+-- compare it, and they gather
+abbrev pub prepare_steps : Limits → ℕ → ℕ → ℕ
+prepare_steps l p n = account_steps l p + (search_steps l n + n * carry_steps l + n * past_steps l)
+    + gather_steps l p
+
+-- and with these, after which they gather once more
+abbrev pub old_steps : Limits → ℕ → ℕ → ℕ
+old_steps l p n = prepare_steps l p n + (n * kill_steps l + gather_steps l p)
+
+-- the q new passes, once n elements are there: an account, each is compared, and they gather
+abbrev pub check_steps : Limits → ℕ → ℕ → ℕ
+check_steps l q n = account_steps l q + n * compare_steps l + gather_steps l q
+
+-- and at most for n elements in all: these are born and replayed, and those
+abbrev pub most_new_steps : Limits → ℕ → ℕ → ℕ
+most_new_steps l q n = n * renew_steps l + check_steps l q n
+
+-- with the attempts and rounds that they have had after this history, by their ids there
+abbrev pub new_steps : Limits → ℕ → List Event → List Moved → ℕ
+new_steps l q g moved = (length moved * bear_steps l 1 + replays_of (λ m. m.new) l.attempts g moved)
+    + check_steps l q (length moved)
+
+-- a manager that is made for n elements gives its passes out before, by a step each
+abbrev pub most_successor_steps : Limits → ℕ → ℕ
+most_successor_steps l n = l.parts + most_new_steps l l.parts n
+
+abbrev pub successor_steps : Limits → List Event → List Moved → ℕ
+successor_steps l g moved = l.parts + new_steps l l.parts g moved
+
+-- in round numbers, with A attempts in a round and S spare blocks: what the old passes make for each element,
+-- and what the new ones do
+pub record PerElement (l : Limits) : Type 0 where
+  pub old : carry_steps l + past_steps l + kill_steps l ≡ 40 * l.attempts + 41
+  pub new : bear_steps l 1 + compare_steps l ≡ 16 * l.attempts + 2 * l.spare + 44
+  pub replay : (attempts further : ℕ) → replay_steps attempts further ≡ 11 * attempts + 5 * further
+  pub most : renew_steps l + compare_steps l ≡ 60 * l.attempts + 2 * l.spare + 59
