@@ -31,3 +31,4 @@ pub mod SessionHeads
 pub mod SessionLines
 pub mod Sessions
 pub mod HeadsChecked
+pub mod Programs

@@ -8,3 +8,4 @@ pub mod Script
 pub mod PlainWorkers
 pub mod PlainSession
 pub mod Sessions
+pub mod Programs

@@ -43,7 +43,7 @@ IsCoveredText (Ok s) = (has_race s.commands ≡ false) × (has_rollover s.comman
 IsCoveredText (Err refused) = Unit {0}
 
 -- how the program ends: it performed the script, or refused it
-abbrev pub exit_of : Result ScriptView Refused → Exit
+abbrev pub exit_of : {A : Type 0} → Result A Refused → Exit
 exit_of (Ok s) = exits.Done
 exit_of (Err refused) = exits.Refused
 

@@ -4,6 +4,7 @@ ghost use Rattle.tp_exact.specs.Client.{ExactClient};
 ghost use Rattle.tp_exact.specs.Commands.{ExactCommand};
 ghost use Rattle.tp_exact.specs.Desks.{ExactDesk};
 ghost use Rattle.tp_exact.specs.Finals.{ExactAccount, ExactFinals};
+ghost use Rattle.tp_exact.specs.Programs.{ExactProgram, NeverRefuses};
 ghost use Rattle.tp_exact.specs.Script.{ExactFront, ExactRun, ExactScript};
 ghost use Rattle.tp_exact.specs.Sessions.{ExactLine, ExactSession, ExactSessionFront, ExactWorker};
 
@@ -59,4 +60,12 @@ pub fn exact_line()
 pub fn exact_session()
     ensures whole { ExactSession }
     ensures front { ExactSessionFront }
+{}
+
+/// What `tp_session::run` leaves of the bytes of a script, by its clause `ran`, where there is no rollover and,
+/// without a worker, no race. With a worker it is the answers of the session that its lines are, else the
+/// report, or the line of the refusal; and after a fault a prefix of that.
+pub fn exact_program()
+    ensures whole { ExactProgram }
+    ensures checked { NeverRefuses }
 {}

@@ -19,6 +19,7 @@ mod plain_turns;
 mod read;
 mod rows;
 mod sessions;
+mod workers;
 
 use std::process::Abort;
 use std::thread::Threads;

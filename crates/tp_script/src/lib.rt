@@ -14,6 +14,7 @@ mod servers;
 mod session;
 mod source;
 mod text;
+mod workers;
 
 pub use fault::{LineError, LineFault, ReadFault, Refused};
 pub use head::{Act, Head, MAX_WORKERS, WorkerAct, WorkerLine};
@@ -21,4 +22,5 @@ pub use parse::read_script;
 pub use script::{
     ClientAct, Command, DeskAct, Kind, MAX_SERVERS, Race, Script, ScriptServer, Settings,
 };
-pub use source::{Failed, MAX_READS, MAX_SCRIPT_BYTES, Source, StdSource};
+pub use source::{BytesSource, Failed, MAX_READS, MAX_SCRIPT_BYTES, Source, StdSource, read_all};
+pub use workers::{check_lines, has_worker};

@@ -10,8 +10,8 @@ use crate::source::{MAX_SCRIPT_BYTES, Source, read_all};
 use crate::text::lines;
 use std::alloc::Global;
 
-// The fault of a line.
-fn at_line(line: u32, error: LineError) -> ReadFault
+/// The fault of a line.
+pub(crate) fn at_line(line: u32, error: LineError) -> ReadFault
     ensures { result ≡ fault_at line error }
 {
     match error {

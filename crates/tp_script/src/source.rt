@@ -74,6 +74,42 @@ impl<R: Read> Source for StdSource<R> {
     }
 }
 
+/// Bytes in memory as a source, which never fails.
+#[derive(Drop)]
+pub struct BytesSource<'a> {
+    bytes: &'a [u8],
+    asked: u64,
+}
+
+impl<'a> BytesSource<'a> {
+    /// The bytes as a source that wasn't asked yet.
+    pub fn new(bytes: &'a [u8]) -> BytesSource<'a>
+        ensures bytes { result.bytes.now ≡ bytes.now }
+        ensures asked { result.asked ≡ 0 }
+    {
+        BytesSource { bytes, asked: 0 }
+    }
+}
+
+impl Source for BytesSource<'_> {
+    ghost use Rattle.std.specs.Prelude.{Some};
+
+    ghost rest = { λ s. Some s.bytes.now };
+
+    ghost asked = { λ s. s.asked };
+
+    ghost has_failed = { λ _. false };
+
+    fn read(&mut self, buffer: &mut [u8]) -> Result<usize, Failed> {
+        self.asked += 1;
+        let n = buffer.len().min(self.bytes.len());
+        let (front, rest) = self.bytes.split_at(n);
+        buffer[..n].copy_from_slice(front);
+        self.bytes = rest;
+        Ok(n)
+    }
+}
+
 /// How often at most a read is tried that a signal interrupts each time.
 const TRIES: u32 = 1_000;
 

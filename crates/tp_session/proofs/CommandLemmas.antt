@@ -1,13 +1,14 @@
--- The first command of a session leaves its head as it is.
+-- The first command of a session leaves its head as it is, and says the same behind it.
 use Rattle.std.proofs.Common.{◌≡◌, ℕ, Bool, true, false, List, [], ◌∷◌, Option, Some, None, Result, Ok, Err, sym, ap}
 use Rattle.std.proofs.lemmas.Option.{none-some}
 use Rattle.std.specs.Prelude.{codes, if◌then◌else◌}
 use Rattle.std.specs.Str.{bytes_eq}
 use Rattle.tp_script.specs.Grammar.{keyword_line}
 use Rattle.tp_script.specs.Keyword.{keyword}
-use Rattle.tp_script.specs.LineWords.{◌>>=◌, known, none, two}
+use Rattle.tp_script.specs.LineWords.{◌>>=◌, known, none, one, three, two}
 use Rattle.tp_script.specs.Script.{ScriptView}
-use Rattle.tp_script.specs.Session.{HeadView, act_at, head_at, head_keyword, head_server, head_words, line_words, with_script, worker_line}
+use Rattle.tp_script.specs.Session.{HeadView, act_at, body_at, body_keyword, body_words, head_at, head_keyword, head_server, head_words, line_words, out_of_order, with_script, worker_line}
+use Rattle.tp_script.specs.ServerLines.{shape_at}
 use Rattle.tp_script.specs.declared.fault.LineFault.{LineFault}
 use Rattle.tp_script.specs.declared.fault.LineFault.TheVariants.{Syntax}
 use Rattle.tp_script.specs.declared.head.Act.{Act}
@@ -71,3 +72,59 @@ of_words h (w ∷ ws) = either h (bytes_eq w (codes "worker")) (two ws >>= λ x.
 pub command_keeps : (line : List ℕ) (h h' : HeadView) (a : Act) → head_at line h ≡ Ok (h', Some a) → h' ≡ h
 unfolding head_at
 command_keeps line h = after h (line_words line) (λ ws. head_words ws h) (λ ws. of_words h ws)
+
+-- ---- behind the head it says the same
+
+-- what is a command here is that command there
+abbrev Meets : Said → Result (Option Act) LineFault → Type 0
+Meets said behind = (h' : HeadView) (a : Act) → said ≡ Ok (h', Some a) → behind ≡ Ok (Some a)
+
+no_command : (t : HeadView) (behind : Result (Option Act) LineFault) → Meets (Ok (t, None)) behind
+no_command t behind h' a e = absurd (none-some a (ap (λ (p : HeadView × Option Act). p.1) (said_pair (t, None) (h', Some a) e)))
+
+no_answer : (f : LineFault) (behind : Result (Option Act) LineFault) → Meets (Err f) behind
+no_answer f behind h' a e = absurd cc
+
+alike : (h : HeadView) (b : Act) → Meets (Ok (h, Some b)) (Ok (Some b))
+alike h b h' a e = ap (λ (p : HeadView × Option Act). Ok p.1) (said_pair (h, Some b) (h', Some a) e)
+
+script_meets : (h : HeadView) (r : Result ScriptView LineFault) (behind : Result (Option Act) LineFault) → Meets (with_script r h) behind
+script_meets h (Ok s) behind = no_command (record h { script = s }) behind
+script_meets h (Err f) behind = no_answer f behind
+
+-- behind the same that was read, or behind what says no command
+both : {X : Type 0} (r : Result X LineFault) (k : X → Said) (l : X → Result (Option Act) LineFault) → ((x : X) → Meets (k x) (l x)) → Meets (r >>= k) (r >>= l)
+both (Ok x) k l so = so x
+both (Err f) k l so = no_answer f (Err f)
+
+never : {X : Type 0} (r : Result X LineFault) (k : X → Said) (behind : Result (Option Act) LineFault) → ((x : X) → Meets (k x) behind) → Meets (r >>= k) behind
+never (Ok x) k behind so = so x
+never (Err f) k behind so = no_answer f behind
+
+keyword_meets : (h : HeadView) (k : Keyword) (ws : List (List ℕ)) → Meets (head_keyword k ws h) (body_keyword k ws h)
+unfolding head_keyword body_keyword
+keyword_meets h first.Rows ws = script_meets h (keyword_line first.Rows ws h.script) (out_of_order (one ws))
+keyword_meets h first.Units ws = script_meets h (keyword_line first.Units ws h.script) (out_of_order (one ws))
+keyword_meets h first.Limit ws = script_meets h (keyword_line first.Limit ws h.script) (out_of_order (one ws))
+keyword_meets h first.Spare ws = script_meets h (keyword_line first.Spare ws h.script) (out_of_order (one ws))
+keyword_meets h first.Server ws = never (head_server ws h) (λ t. Ok (t, None)) (out_of_order (shape_at ws)) (λ t. no_command t (out_of_order (shape_at ws)))
+keyword_meets h first.Start ws = script_meets h (keyword_line first.Start ws h.script) (out_of_order (three ws))
+keyword_meets h (first.Do v) ws = both (act_at v ws h) (λ a. Ok (h, Some a)) (λ a. Ok (Some a)) (λ a. alike h a)
+keyword_meets h first.Account ws = both (none ws) (λ _. Ok (h, Some act.Account)) (λ _. Ok (Some act.Account)) (λ _. alike h act.Account)
+
+choice_meets : (b : Bool) (x y : Said) (v w : Result (Option Act) LineFault) → Meets x v → Meets y w → Meets (if b then x else y) (if b then v else w)
+choice_meets true x y v w p q = p
+choice_meets false x y v w p q = q
+
+words_meet : (h : HeadView) (ws : List (List ℕ)) → Meets (head_words ws h) (body_words ws h)
+unfolding head_words body_words
+words_meet h [] = no_command h (Ok None)
+words_meet h (w ∷ ws) = choice_meets (bytes_eq w (codes "worker")) (two ws >>= λ x. worker_line x h >>= λ t. Ok (t, None)) (known (keyword w) Syntax >>= λ k. head_keyword k ws h)
+    (out_of_order (two ws)) (known (keyword w) Syntax >>= λ k. body_keyword k ws h)
+    (never (two ws) (λ x. worker_line x h >>= λ t. Ok (t, None)) (out_of_order (two ws)) (λ x. never (worker_line x h) (λ t. Ok (t, None)) (out_of_order (two ws)) (λ t. no_command t (out_of_order (two ws)))))
+    (both (known (keyword w) Syntax) (λ k. head_keyword k ws h) (λ k. body_keyword k ws h) (λ k. keyword_meets h k ws))
+
+-- the first command says behind the head what it says there
+pub command_stays : (line : List ℕ) (h h' : HeadView) (a : Act) → head_at line h ≡ Ok (h', Some a) → body_at line h ≡ Ok (Some a)
+unfolding head_at body_at
+command_stays line h = both (line_words line) (λ ws. head_words ws h) (λ ws. body_words ws h) (λ ws. words_meet h ws)

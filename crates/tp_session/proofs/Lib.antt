@@ -11,7 +11,9 @@ pub mod LiveLemmas
 pub mod OpenLemmas
 pub mod PassLemmas
 pub mod ReadingLemmas
+pub mod ScriptLemmas
 pub mod SessionLemmas
+pub mod SpendLemmas
 pub mod TellLemmas
 pub mod ToldLemmas
 pub mod WholeLemmas

@@ -6,3 +6,4 @@ pub mod Heard
 pub mod Reading
 pub mod Told
 pub mod Conversed
+pub mod Scripts

@@ -1,5 +1,6 @@
 -- What was read of a session, and how a line is taken from it.
-use Rattle.std.specs.Prelude.{◌≡◌, ◌⊎◌, ℕ, ◌+◌, ◌*◌, Bool, List, ◌++◌, Option, IsTrue, length, take, drop}
+use Rattle.std.specs.Prelude.{◌≡◌, ◌≤◌, ◌⊎◌, ℕ, ◌+◌, ◌*◌, Bool, true, false, List, ◌++◌, Option, None, Some}
+use Rattle.std.specs.Prelude.{IfSome, IsTrue, length, take, drop}
 use Rattle.std.specs.Option.{option_map}
 use Rattle.tp_session.specs.Heard.{IsInLine, Takes}
 use Rattle.tp_session.specs.declared.reading.Lines.{Lines}
@@ -28,3 +29,23 @@ room l = l.left * 4097 + length (unused l)
 -- the reader has failed, or was asked as often as it may be in a session
 abbrev pub IsOver : Bool → ℕ → ℕ → Type 0
 IsOver failed most asked = IsTrue failed ⊎ (asked ≡ most)
+
+-- how often a reader with these bytes may still be asked at most: each time it gives a byte, or it is at its
+-- end, which is found out once for each line at most and once more
+abbrev pub asks_for : Lines → List ℕ → ℕ
+asks_for l rest = length rest + length (unused l ++ rest) + 1
+
+-- between the two the reader was asked no more often than that, and so many times besides
+abbrev pub Spends : ℕ → Lines → Option (List ℕ) → Lines → Option (List ℕ) → Type 0
+Spends n old None new after = Unit {0}
+Spends n old (Some before) new None = ⊥
+Spends n old (Some before) new (Some after) = old.left + asks_for new after ≤ new.left + asks_for old before + n
+
+-- a look for a line that finds the end of the input may have asked once besides
+abbrev pub besides : Bool → ℕ
+besides true = 0
+besides false = 1
+
+-- known bytes are so many that the reader may have to be asked as often as it may be
+abbrev pub IsLong : Lines → Option (List ℕ) → Type 0
+IsLong l rest = IfSome rest (λ bytes. l.left ≤ asks_for l bytes)

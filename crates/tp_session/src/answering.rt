@@ -7,7 +7,7 @@ ghost use Rattle.tp_session.specs.Answers.{refused_line};
 ghost use Rattle.tp_session.specs.Heard.{HearsFront, IsAllOf, IsSilent, Tells};
 ghost use Rattle.tp_session.specs.Left.{Acted, BodyDone, LineDone, Reaches};
 ghost use Rattle.tp_session.specs.Live.{Begins, IsHeld, Leads, TellsAct};
-ghost use Rattle.tp_session.specs.Reading.{IsOver, room, to_come, unused};
+ghost use Rattle.tp_session.specs.Reading.{IsLong, IsOver, room, to_come, unused};
 ghost use Rattle.tp_session.specs.Told.{BodyTold, LineTold, begun, past_of};
 
 use crate::acts::act_line;
@@ -130,6 +130,8 @@ pub fn attend<R: Source, W: Sink>(
     ensures write { IsErrOf result Fault.Write → IsTrue (W.has_failed writer.new) }
     ensures read { IsErrOf result Fault.Read
         → IsOver (R.has_failed reader.new) (R.asked reader.old + lines.old.left) (R.asked reader.new) }
+    ensures long { IsErrOf result Fault.Read
+        → IsTrue (R.has_failed reader.new) ⊎ IsLong lines.old (R.rest reader.old) }
 {
     for number in past..u64::MAX {
         if !lines.next(reader, writer)? {
@@ -174,6 +176,8 @@ fn answer_from<R: Source, W: Sink>(
     ensures write { IsErrOf result Fault.Write → IsTrue (W.has_failed writer.new) }
     ensures read { IsErrOf result Fault.Read
         → IsOver (R.has_failed reader.new) (R.asked reader.old + lines.old.left) (R.asked reader.new) }
+    ensures long { IsErrOf result Fault.Read
+        → IsTrue (R.has_failed reader.new) ⊎ IsLong lines.old (R.rest reader.old) }
 {
     answer_line(alloc, head, held, past + 1, lines)?;
     attend(alloc, head, held, past + 1, lines, reader, writer)
@@ -213,6 +217,8 @@ pub(crate) fn answer_all<R: Source, W: Sink>(
     ensures write { IsErrOf result Fault.Write → IsTrue (W.has_failed writer.new) }
     ensures read { IsErrOf result Fault.Read
         → IsOver (R.has_failed reader.new) (R.asked reader.old + lines.old.left) (R.asked reader.new) }
+    ensures long { IsErrOf result Fault.Read
+        → IsTrue (R.has_failed reader.new) ⊎ IsLong lines.old (R.rest reader.old) }
 {
     match first {
         None => Ok(()),

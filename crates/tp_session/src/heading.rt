@@ -1,10 +1,11 @@
 //! The lines of a session's head, up to its first command.
-ghost use Rattle.std.specs.Prelude.{◌≡◌, ◌+◌, ◌<◌, ◌^◌, ◌++◌, ℕ, List, IfOk, IsErrOf, IsTrue, OnErr, OnOk};
+ghost use Rattle.std.specs.Prelude.{◌≡◌, ◌+◌, ◌<◌, ◌^◌, ◌++◌, ◌⊎◌, ℕ, List, IfOk, IsErrOf, IsTrue};
+ghost use Rattle.std.specs.Prelude.{OnErr, OnOk};
 ghost use Rattle.tp_report.specs.Written.{AppendsFront};
 ghost use Rattle.tp_script.specs.Session.{HeadView, head_at, head_view};
 ghost use Rattle.tp_session.specs.Conversed.{HeadRead, TakesHeadLine};
 ghost use Rattle.tp_session.specs.Heard.{HearsFront, Tells};
-ghost use Rattle.tp_session.specs.Reading.{IsOver, room, to_come, unused};
+ghost use Rattle.tp_session.specs.Reading.{IsLong, IsOver, Spends, room, to_come, unused};
 ghost use Rattle.tp_session.specs.Told.{HeadTold, past_of};
 
 use crate::answering::refuse;
@@ -50,6 +51,8 @@ pub(crate) fn read_head<R: Source, W: Sink>(
     requires few { room lines.old + 1 < 2 ^ 64 }
     ensures asked { R.asked reader.new + lines.new.left ≡ R.asked reader.old + lines.old.left }
     ensures few { IfOk result (λ first. past_of first + room lines.new + 2 < 2 ^ 64) }
+    ensures spends { OnOk result
+        (Spends 1 lines.old (R.rest reader.old) lines.new (R.rest reader.new)) }
     ensures head { IfOk result (λ first. HeadRead first
         (to_come lines.old (R.rest reader.old)) (to_come lines.new (R.rest reader.new))
         lines.new.line.items (head_view head.old) (head_view head.new)
@@ -62,6 +65,8 @@ pub(crate) fn read_head<R: Source, W: Sink>(
     ensures write { IsErrOf result Fault.Write → IsTrue (W.has_failed writer.new) }
     ensures read { IsErrOf result Fault.Read
         → IsOver (R.has_failed reader.new) (R.asked reader.old + lines.old.left) (R.asked reader.new) }
+    ensures long { IsErrOf result Fault.Read
+        → IsTrue (R.has_failed reader.new) ⊎ IsLong lines.old (R.rest reader.old) }
 {
     for past in 0..u64::MAX {
         if !lines.next(reader, writer)? {

@@ -1,4 +1,5 @@
 //! Live sessions over the shared manager: each line of a reader is answered before the next one is asked for.
+//! And scripts, of which those with workers are sessions that are checked whole.
 #![tactic(auto)]
 
 mod acts;
@@ -10,6 +11,7 @@ mod heading;
 mod held;
 mod making;
 mod reading;
+mod scripts;
 mod session;
 
 pub use acts::act_line;
@@ -18,4 +20,5 @@ pub use answers::{refused_line, worker_line};
 pub use hand::{WorkerAnswer, give_up, worker_act};
 pub use held::Held;
 pub use reading::{Lines, MAX_ASKED, MAX_KEPT};
+pub use scripts::{run, run_to_end};
 pub use session::{answer_to_end, converse, converse_to_end};

@@ -1,6 +1,6 @@
 //! The lines of a reader, one by one, and the answers that are not written yet.
-ghost use Rattle.std.specs.Prelude.{◌≡◌, ◌≤◌, ◌<◌, ◌+◌, ◌^◌, ◌==◌, ◌++◌, [], false, IfOk, IsErrOf, IsTrue};
-ghost use Rattle.std.specs.Prelude.{OnErr, OnOk, position, take, vec_len};
+ghost use Rattle.std.specs.Prelude.{◌≡◌, ◌≤◌, ◌<◌, ◌+◌, ◌^◌, ◌==◌, ◌++◌, ◌⊎◌, [], false, true, IfOk, IsErrOf};
+ghost use Rattle.std.specs.Prelude.{IsTrue, OnErr, OnOk, length, position, take, vec_len};
 ghost use Rattle.tp_session.specs.declared.reading.TheConstants.{MAX_ASKED, MAX_KEPT};
 
 use std::alloc::{AllocError, Global};
@@ -49,7 +49,7 @@ impl Lines {
     ghost use Rattle.std.specs.Io.KnownBytes.{Appends, Consumes, IsAtEnd};
     ghost use Rattle.tp_report.specs.Written.{AppendsFront};
     ghost use Rattle.tp_session.specs.Heard.{Next, Tells};
-    ghost use Rattle.tp_session.specs.Reading.{IsOver, TakesLine, room, to_come, unused};
+    ghost use Rattle.tp_session.specs.Reading.{IsLong, IsOver, Spends, TakesLine, besides, room, to_come, unused};
 
     /// Nothing was read yet.
     pub fn new(alloc: Global) -> Lines
@@ -148,6 +148,8 @@ impl Lines {
         ensures write { IsErrOf result Fault.Write → IsTrue (W.has_failed writer.new) }
         ensures read { IsErrOf result Fault.Read
             → IsOver (R.has_failed reader.new) (R.asked reader.old + self.old.left) (R.asked reader.new) }
+        ensures some { IfOk result (λ some. some ≡ true → 1 ≤ length (unused self.new)) }
+        ensures over { IsErrOf result Fault.Read → IsTrue (R.has_failed reader.new) ⊎ (self.old.left ≡ 0) }
     {
         self.flush(writer)?;
         if self.left == 0 {
@@ -186,6 +188,10 @@ impl Lines {
         ensures write { IsErrOf result Fault.Write → IsTrue (W.has_failed writer.new) }
         ensures read { IsErrOf result Fault.Read
             → IsOver (R.has_failed reader.new) (R.asked reader.old + self.old.left) (R.asked reader.new) }
+        ensures spends { IfOk result (λ more.
+            Spends (besides more) self.old (R.rest reader.old) self.new (R.rest reader.new)) }
+        ensures long { IsErrOf result Fault.Read
+            → IsTrue (R.has_failed reader.new) ⊎ IsLong self.old (R.rest reader.old) }
     {
         self.line.clear();
         for _read in 0..MAX_ASKED {

@@ -1,6 +1,6 @@
 //! A session from its first line to its final lines: its head is read, what it needs is made, and each line
 //! is answered.
-ghost use Rattle.std.specs.Prelude.{◌≡◌, ◌+◌, ◌<◌, ◌^◌, ◌++◌, ◌⊎◌, None, All, IfSome, IsErrOf, IsTrue};
+ghost use Rattle.std.specs.Prelude.{◌≡◌, ◌+◌, ◌*◌, ◌<◌, ◌≤◌, ◌^◌, ◌++◌, ◌⊎◌, None, All, IfSome, IsErrOf, IsTrue};
 ghost use Rattle.std.specs.Prelude.{OnErr, OnOk, Result, length, map};
 ghost use Rattle.std.specs.Io.KnownBytes.{Appends};
 ghost use Rattle.tp_workers.specs.Free.{IsFreePass};
@@ -17,7 +17,7 @@ ghost use Rattle.tp_commands.specs.Places.{workers};
 ghost use Rattle.tp_perform.specs.Told.{AllLeftAt};
 ghost use Rattle.tp_session.specs.Left.{BodyDone};
 ghost use Rattle.tp_session.specs.Live.{Begins, IsHeld, IsLive, Live};
-ghost use Rattle.tp_session.specs.Reading.{IsOver, room, to_come};
+ghost use Rattle.tp_session.specs.Reading.{IsLong, IsOver, room, to_come};
 ghost use Rattle.tp_session.specs.Told.{BodyTold, begun, past_of};
 ghost use Rattle.tp_session.specs.declared.reading.TheConstants.{MAX_ASKED};
 
@@ -51,6 +51,8 @@ pub fn converse<R: Source, W: Sink>(
     ensures write { IsErrOf result Fault.Write → IsTrue (W.has_failed writer.new) }
     ensures read { IsErrOf result Fault.Read
         → IsOver (R.has_failed reader.new) (R.asked reader.old + MAX_ASKED) (R.asked reader.new) }
+    ensures long { IsErrOf result Fault.Read → IsTrue (R.has_failed reader.new)
+        ⊎ IfSome (R.rest reader.old) (λ bytes. MAX_ASKED ≤ 2 * length bytes + 2) }
 {
     let mut lines = Lines::new(alloc);
     let mut head = Head::new(alloc);
@@ -122,6 +124,8 @@ fn hold<R: Source, W: Sink>(
     ensures write { IsErrOf result Fault.Write → IsTrue (W.has_failed writer.new) }
     ensures read { IsErrOf result Fault.Read
         → IsOver (R.has_failed reader.new) (R.asked reader.old + lines.old.left) (R.asked reader.new) }
+    ensures long { IsErrOf result Fault.Read
+        → IsTrue (R.has_failed reader.new) ⊎ IsLong lines.old (R.rest reader.old) }
 {
     match Managed::new(alloc, limits_of(head)) {
         Ok(managed) => with_managed(alloc, head, first, managed, lines, reader, writer),
@@ -155,6 +159,8 @@ fn with_managed<R: Source, W: Sink>(
     ensures write { IsErrOf result Fault.Write → IsTrue (W.has_failed writer.new) }
     ensures read { IsErrOf result Fault.Read
         → IsOver (R.has_failed reader.new) (R.asked reader.old + lines.old.left) (R.asked reader.new) }
+    ensures long { IsErrOf result Fault.Read
+        → IsTrue (R.has_failed reader.new) ⊎ IsLong lines.old (R.rest reader.old) }
 {
     let mut servers: Vec<Box<dyn Server + Send>> = Vec::new(alloc);
     for server in &head.script.servers {
@@ -196,6 +202,8 @@ fn with_servers<R: Source, W: Sink>(
     ensures write { IsErrOf result Fault.Write → IsTrue (W.has_failed writer.new) }
     ensures read { IsErrOf result Fault.Read
         → IsOver (R.has_failed reader.new) (R.asked reader.old + lines.old.left) (R.asked reader.new) }
+    ensures long { IsErrOf result Fault.Read
+        → IsTrue (R.has_failed reader.new) ⊎ IsLong lines.old (R.rest reader.old) }
 {
     let works = no_works(alloc, head.workers.len())?;
     let places = first_places(managed.passes.as_slice(), servers.as_slice());
@@ -250,6 +258,8 @@ pub fn answer_to_end<R: Source, W: Sink>(
     ensures write { IsErrOf result Fault.Write → IsTrue (W.has_failed writer.new) }
     ensures read { IsErrOf result Fault.Read
         → IsOver (R.has_failed reader.new) (R.asked reader.old + lines.old.left) (R.asked reader.new) }
+    ensures long { IsErrOf result Fault.Read
+        → IsTrue (R.has_failed reader.new) ⊎ IsLong lines.old (R.rest reader.old) }
 {
     let done = answer_all(alloc, head, held, first, lines, reader, writer);
     end_passes(

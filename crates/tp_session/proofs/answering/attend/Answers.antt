@@ -2,6 +2,7 @@ use Rattle.std.proofs.Common.{◌∙◌, ap, arith, length, refl, inr}
 use Rattle.tp_report.proofs.Devices.{always_err}
 use Rattle.tp_session.proofs.AttendLemmas.{body_end, body_front, body_next, body_none, come_same}
 use Rattle.tp_session.proofs.LiveLemmas.{begins_so, leads_none, leads_so, leads_then}
+use Rattle.tp_session.proofs.SpendLemmas.{spends_none, spends_same, spends_then}
 use Rattle.tp_session.proofs.ToldLemmas.{told_so_far}
 use Rattle.tp_session.proofs.LeftLemmas.{body_done, line_done, reach_lead, reach_then}
 use Rattle.tp_session.proofs.answering.attend.Goals as goal
@@ -11,6 +12,7 @@ loop-number-init g c = record {
   held = c.requires.held;
   asked = refl;
   room = omega arith;
+  spends = spends_none c.args.lines.now (g.R.Source.rest c.args.reader.now);
   told = leads_none (λ b. (goal.Server-dyn g (b.vtable, b.value)).behaviour b.value) (λ b. (goal.Server-dyn g (b.vtable, b.value)).registers b.value) (λ b. (goal.Server-dyn g (b.vtable, b.value)).pending b.value) c.args.head.now c.args.held.now _ c.requires.held (λ l. body_none c.args.head.now c.args.past _ l _ _);
 }
 
@@ -21,6 +23,9 @@ loop-number-preserved g c =
       held = c.in_ok-answer_line.ensures.held;
       asked = rw c.in_ok-answer_line.ensures.left (c.in_ok-next.ensures.asked ∙ c.loop-number.invariant.asked);
       room = omega (arith, c.in_ok-next.ensures.room, c.loop-number.invariant.room, c.in_ok-answer_line.ensures.left, ap length c.in_ok-answer_line.ensures.unused);
+      spends = spends_same 0 c.args.lines.now c.next.new.self c.answer_line.new.lines (g.R.Source.rest c.args.reader.now) (g.R.Source.rest c.next.new.reader)
+          (spends_then 0 0 c.args.lines.now c.loop-number.lines c.next.new.self (g.R.Source.rest c.args.reader.now) (g.R.Source.rest c.loop-number.reader) (g.R.Source.rest c.next.new.reader) (omega arith) c.loop-number.invariant.spends
+          (rw c.if-not-branch.false at c.in_ok-next.ensures.spends)) c.in_ok-answer_line.ensures.left c.in_ok-answer_line.ensures.unused;
       told = leads_then (λ b. (goal.Server-dyn g (b.vtable, b.value)).behaviour b.value) (λ b. (goal.Server-dyn g (b.vtable, b.value)).registers b.value) (λ b. (goal.Server-dyn g (b.vtable, b.value)).pending b.value) _ _ _ c.args.held.now c.loop-number.held c.answer_line.new.held
           (λ a m b so_far one. body_next c.args.head.now c.args.past _ _ _ _ c.loop-number.number a m b _ _ _ _ _ _ _ _ so_far (rw c.if-not-branch.false at c.in_ok-next.ensures.next) c.in_ok-next.ensures.told
           (come_same c.next.new.self c.answer_line.new.lines (g.R.Source.rest c.next.new.reader) c.in_ok-answer_line.ensures.unused) (t.0, t.1, one))

@@ -1,7 +1,7 @@
 use Rattle.std.proofs.Common.{◌≡◌, ◌+◌, ◌≤◌, ◌++◌, [], length}
 use Rattle.tp_session.specs.Heard.{Hears, Tells}
 use Rattle.tp_session.specs.Live.{IsHeld, Leads}
-use Rattle.tp_session.specs.Reading.{room, to_come}
+use Rattle.tp_session.specs.Reading.{Spends, room, to_come}
 use Rattle.tp_session.specs.Told.{BodyTold}
 use Rattle.tp_session.proofs.answering.attend.Given as goal
 
@@ -11,6 +11,7 @@ invariant-loop-number g l = record {
   held : IsHeld (λ b. (goal.Server-dyn g (b.vtable, b.value)).behaviour b.value) (λ b. (goal.Server-dyn g (b.vtable, b.value)).registers b.value) (λ b. (goal.Server-dyn g (b.vtable, b.value)).pending b.value) l.head l.held;
   asked : g.R.Source.asked l.reader + l.lines.left ≡ g.R.Source.asked l.fn.reader + l.fn.lines.left;
   room : l.number + room l.lines ≤ l.past + room l.fn.lines;
+  spends : Spends 0 l.fn.lines (g.R.Source.rest l.fn.reader) l.lines (g.R.Source.rest l.reader);
   told : Leads (λ b. (goal.Server-dyn g (b.vtable, b.value)).behaviour b.value) (λ b. (goal.Server-dyn g (b.vtable, b.value)).registers b.value) (λ b. (goal.Server-dyn g (b.vtable, b.value)).pending b.value)
       (λ old new. BodyTold l.head l.past []
       (λ taken. Hears (to_come l.fn.lines (g.R.Source.rest l.fn.reader)) taken (to_come l.lines (g.R.Source.rest l.reader)) × (l.number ≡ l.past + length taken))

@@ -2,6 +2,7 @@ use Rattle.std.proofs.Common.{◌∙◌, ap, arith, length}
 use Rattle.tp_report.proofs.Devices.{always_err}
 use Rattle.tp_script.specs.Session.{head_view}
 use Rattle.tp_session.proofs.AttendLemmas.{come_same, head_command, head_end, head_front, head_next}
+use Rattle.tp_session.proofs.SpendLemmas.{spends_same, spends_then}
 use Rattle.tp_session.proofs.ToldLemmas.{told_so_far}
 use Rattle.tp_session.proofs.heading.read_head.Goals as goal
 
@@ -26,6 +27,9 @@ pub loop-past-preserved : goal.loop-past-preserved
 loop-past-preserved g c = record {
   asked = rw c.in_ok-take_line.ensures.left (c.in_ok-next.ensures.asked ∙ c.loop-past.invariant.asked);
   room = omega (arith, c.in_ok-next.ensures.room, c.loop-past.invariant.room, c.in_ok-take_line.ensures.left, ap length c.in_ok-take_line.ensures.unused);
+  spends = spends_same 0 c.args.lines.now c.next.new.self c.take_line.new.lines (g.R.Source.rest c.args.reader.now) (g.R.Source.rest c.next.new.reader)
+      (spends_then 0 0 c.args.lines.now c.loop-past.lines c.next.new.self (g.R.Source.rest c.args.reader.now) (g.R.Source.rest c.loop-past.reader) (g.R.Source.rest c.next.new.reader) (omega arith) c.loop-past.invariant.spends
+      (rw c.if-not-branch.false at c.in_ok-next.ensures.spends)) c.in_ok-take_line.ensures.left c.in_ok-take_line.ensures.unused;
   read = head_next _ _ _ _ c.loop-past.past _ _ _ _ _ _ c.next.new.self.line.items _ _ _ _ c.loop-past.invariant.read (rw c.if-not-branch.false at c.in_ok-next.ensures.next) c.in_ok-next.ensures.told
       (come_same c.next.new.self c.take_line.new.lines (g.R.Source.rest c.next.new.reader) c.in_ok-take_line.ensures.unused) (rw c.if-branch.false at c.in_ok-take_line.ensures.takes);
 }

@@ -1,9 +1,10 @@
-use Rattle.std.proofs.Common.{◌≡◌, ◌∙◌, ◌==◌, ap, arith, inr, length, not, subst, vec_len}
+use Rattle.std.proofs.Common.{◌≡◌, ◌∙◌, ◌==◌, ap, arith, inr, length, not, refl, subst, vec_len}
 use Rattle.tp_report.proofs.Devices.{always_err}
 use Rattle.tp_session.specs.Heard.{ReadsLine}
 use Rattle.tp_session.specs.Reading.{TakesLine, to_come}
 use Rattle.tp_session.proofs.HeardLemmas.{read_to_end, reads_on}
 use Rattle.tp_session.proofs.ReadingLemmas.{part_room, took_part, took_whole, whole_room}
+use Rattle.tp_session.proofs.SpendLemmas.{gave_last, gave_long, gave_more, last_spends, some_kept, whole_spends}
 use Rattle.tp_session.proofs.ToldLemmas.{told_front, told_then}
 use Rattle.tp_session.proofs.reading.Lines.next.Goals as goal
 
@@ -32,6 +33,10 @@ loop-read-preserved g c = record {
   read =
       let before = took_part _ (g.R.Source.rest c.loop-read.reader) c.loop-read.self c.take_line.new.self c.loop-read.invariant.read (subst (λ e. TakesLine e c.loop-read.self c.take_line.new.self) c.in-Ok-false.field-0-test c.in-Ok-false.ensures.takes) in
       rw c.in_ok-read_more.ensures.line (reads_on _ _ _ _ before c.in_ok-read_more.ensures.consumes);
+  gave =
+      let took = subst (λ e. TakesLine e c.loop-read.self c.take_line.new.self) c.in-Ok-false.field-0-test c.in-Ok-false.ensures.takes in
+      gave_more c.args.self.now c.loop-read.self c.take_line.new.self c.read_more.new.self (g.R.Source.rest c.args.reader.now) (g.R.Source.rest c.loop-read.reader) (g.R.Source.rest c.read_more.new.reader)
+      c.loop-read.invariant.gave c.take_line.ensures.left c.in_ok-read_more.ensures.once took.taken.1 c.in_ok-read_more.ensures.consumes (c.in_ok-read_more.ensures.some c.if-not-branch.false);
   told = told_then _ _ _ _ _ _ c.loop-read.invariant.told (rw c.take_line.ensures.same at c.in_ok-read_more.ensures.told);
 }
 
@@ -45,3 +50,23 @@ returns-then-not-branch-clause-room g c =
 
 pub returns-clause-read : goal.returns-clause-read
 returns-clause-read g c _ = inr (omega (arith, c.loop-read.invariant.left, c.loop-read.invariant.asked, c.loop-read-test.false))
+
+pub returns-in-Ok-true-clause-spends : goal.returns-in-Ok-true-clause-spends
+returns-in-Ok-true-clause-spends g c =
+    whole_spends c.args.self.now c.loop-read.self c.take_line.new.self (g.R.Source.rest c.args.reader.now) (g.R.Source.rest c.loop-read.reader) _ c.loop-read.invariant.gave c.take_line.ensures.left c.loop-read.invariant.read
+    (subst (λ e. TakesLine e c.loop-read.self c.take_line.new.self) c.in-Ok-true.field-0-test c.in-Ok-true.ensures.takes)
+
+pub returns-clause-long : goal.returns-clause-long
+returns-clause-long g c _ =
+    inr (gave_long c.args.self.now c.loop-read.self (g.R.Source.rest c.args.reader.now) (g.R.Source.rest c.loop-read.reader) c.loop-read.invariant.gave (omega (arith, c.loop-read.invariant.left, c.loop-read-test.false)))
+
+pub returns-then-not-branch-clause-spends : goal.returns-then-not-branch-clause-spends
+returns-then-not-branch-clause-spends g c =
+    let took = subst (λ e. TakesLine e c.loop-read.self c.take_line.new.self) c.in-Ok-false.field-0-test c.in-Ok-false.ensures.takes in
+    let before = took_part _ (g.R.Source.rest c.loop-read.reader) c.loop-read.self c.take_line.new.self c.loop-read.invariant.read took in
+    let kept : ReadsLine (to_come c.args.self.now (g.R.Source.rest c.args.reader.now)) (to_come c.read_more.new.self (g.R.Source.rest c.read_more.new.reader)) c.read_more.new.self.line.items = rw c.in_ok-read_more.ensures.line (reads_on _ _ _ _ before c.in_ok-read_more.ensures.consumes) in
+    let long : vec_len c.read_more.new.self.line ≡ length c.read_more.new.self.line.items = omega (arith, c.read_more.new.self.line.ok.0) in
+    last_spends c.args.self.now c.read_more.new.self (g.R.Source.rest c.args.reader.now) (g.R.Source.rest c.read_more.new.reader) _ _
+    (gave_last c.args.self.now c.loop-read.self c.take_line.new.self c.read_more.new.self (g.R.Source.rest c.args.reader.now) (g.R.Source.rest c.loop-read.reader) (g.R.Source.rest c.read_more.new.reader)
+    c.loop-read.invariant.gave c.take_line.ensures.left c.in_ok-read_more.ensures.once took.taken.1 c.in_ok-read_more.ensures.consumes)
+    kept (some_kept (length c.read_more.new.self.line.items) _ _ (ap not (c.is_empty.ensures ∙ ap (λ n. n == 0) long)) refl)
