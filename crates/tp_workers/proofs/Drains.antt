@@ -106,9 +106,9 @@ module _ {B : Type 0} (behaviour : B → Behaviour) (registers : B → List ℕ)
   works_on : (plan : Plan) → plan.order ≡ order → (x y : PassShown × B) (s : Shift) (h : Worked plan x s y) → MadeCalls (TakesTurn order m.limits) turn_count h.turns_taken.taken (at x) s (at y)
   works_on plan is x y s h = subst (λ (o : Order). MadeCalls (TakesTurn o m.limits) turn_count h.turns_taken.taken (at x) s (at y)) is h.turns_taken.calls
 
-  few_claimed : (n units a b : ℕ) (s : Shift) → units ≤ 1024 → claimed s + a ≡ b → (b ≤ units) ⊎ (b ≡ a) → s.done ≤ 1024
-  few_claimed n units a b s most claims (inl few) = omega (arith, most, claims, few)
-  few_claimed n units a b s most claims (inr same) = omega (arith, most, claims, same)
+  few_claimed : (units a b : ℕ) (s : Shift) → units ≤ 1024 → claimed s + a ≡ b → (b ≤ units) ⊎ (b ≡ a) → s.done ≤ 1024
+  few_claimed units a b s most claims (inl few) = omega (arith, most, claims, few)
+  few_claimed units a b s most claims (inr same) = omega (arith, most, claims, same)
 
   -- a desk goes on until it finds nothing
   one_more : (plan : Plan) → plan.order ≡ order → AreLimits m.limits → (x y z : PassShown × B) (s t : Shift) → Going x s y → Worked plan y t z → Going x (plus s t) z
@@ -120,7 +120,7 @@ module _ {B : Type 0} (behaviour : B → Behaviour) (registers : B → List ℕ)
       record {
         taken = n;
         calls = calls;
-        few = few_claimed n m.limits.units (claims_in x.0.mine) (claims_in z.0.mine) (plus s t) limits.units.1 (turns_claim order m.limits n (at x) (at z) (plus s t) calls) (turns_room order m.limits n (at x) (at z) (plus s t) calls);
+        few = few_claimed m.limits.units (claims_in x.0.mine) (claims_in z.0.mine) (plus s t) limits.units.1 (turns_claim order m.limits n (at x) (at z) (plus s t) calls) (turns_room order m.limits n (at x) (at z) (plus s t) calls);
         serves = leaves.serves;
         ended = leaves.ended;
         behaviour_is = k.behaviour_is ∙ h.behaviour_is;

@@ -1,5 +1,5 @@
 -- What workers of a list were told, place by place.
-use Rattle.std.proofs.Common.{◌≡◌, ℕ, ◌+◌, ◌≤◌, List, [], ◌∷◌, ◌++◌, refl, sym, ◌∙◌, ap, ap₂, subst, arith, length, length-append, get_or, slice_set, zip}
+use Rattle.std.proofs.Common.{◌≡◌, ◌+◌, List, [], ◌∷◌, ◌++◌, refl, sym, ◌∙◌, ap, ap₂, subst, arith, length, length-append, get_or, slice_set, zip}
 use Rattle.tp_workers.specs.declared.tally.Shift.{Shift}
 use Rattle.tp_workers.specs.Tally.{none, plus, sum_of}
 use Rattle.tp_workers.specs.Ran.{AreTold, RanEach, RanList}

@@ -1,4 +1,4 @@
-use Rattle.std.proofs.Common.{◌≡◌, drop}
+use Rattle.std.proofs.Common.{drop}
 use Rattle.tp_workers.specs.Calling.{MadeCalls}
 use Rattle.tp_workers.specs.Clients.{SubmitsNext, submitting}
 use Rattle.tp_workers.specs.Tally.{submit_count}

@@ -1,6 +1,6 @@
 use Rattle.std.proofs.Common.{rules, ◌≡◌, ◌≤◌, ◌∙◌, ◌++◌, ap, arith, length, length-append, sym, subst}
 use Rattle.std.proofs.Math.Nat.{min-eq_left}
-use Rattle.tp_workers.specs.Ran.{AreTold, RanEach, Runs}
+use Rattle.tp_workers.specs.Ran.{RanEach, Runs}
 use Rattle.tp_workers.proofs.Ran.{both_fit, each_append, each_single, first_accepts, may_first, may_second}
 use Rattle.tp_workers.proofs.Told.{told_append, told_single}
 use Rattle.tp_workers.proofs.fork.+fork.Goals as goal
