@@ -1,9 +1,7 @@
 -- What the whole program leaves of a script, with workers or without.
-use Rattle.std.proofs.Common.{◌≡◌, ◌∙◌, ℕ, ◌+◌, ◌||◌, ◌<◌, ◌≤◌, Bool, true, false, List, [], ◌∷◌, length, Option, Some, None, Result, Ok, Err, refl, sym, ap, subst, arith, inl, inr}
-use Rattle.std.specs.Prelude.{codes, if◌then◌else◌, is_some}
-use Rattle.std.specs.Str.{bytes_eq}
+use Rattle.std.proofs.Common.{◌≡◌, ◌∙◌, ℕ, ◌+◌, ◌||◌, Bool, true, false, List, [], ◌∷◌, length, Option, Some, None, Result, Ok, Err, refl, sym, ap, subst, inl, inr}
+use Rattle.std.specs.Prelude.{is_some}
 use Rattle.std.proofs.lemmas.Bool.{cases_lt}
-use Rattle.std.proofs.lemmas.Option.{none-some}
 use Rattle.tp_report.specs.declared.fault.Exit.{Exit}
 use Rattle.tp_report.specs.declared.fault.Exit.TheVariants as exits
 use Rattle.tp_report.specs.declared.fault.Fault.{Fault}
@@ -22,7 +20,7 @@ use Rattle.tp_session.specs.Scripts.{ChecksAndConverses, RanBy}
 use Rattle.tp_session.proofs.CommandLemmas.{command_keeps, command_stays}
 use Rattle.tp_exact.specs.PlainSession.{HeadRead, read_head, read_line}
 use Rattle.tp_exact.specs.Programs.{ExactProgram, IsCoveredBy, NeverRefuses, WritesAs, answers_of_checked, exit_by, has_refusal_in, refuses, written_by}
-use Rattle.tp_exact.specs.Script.{Computes, exit_of}
+use Rattle.tp_exact.specs.Script.{exit_of}
 use Rattle.tp_exact.specs.Sessions.{NeverRollsOver}
 use Rattle.tp_exact.proofs.Runs.{exact_run}
 use Rattle.tp_exact.proofs.Sessions.{exact_session, exact_session_front}

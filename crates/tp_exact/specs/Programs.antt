@@ -1,11 +1,10 @@
 -- What the whole program writes of a script, with workers or without: it is computed of its bytes.
-use Rattle.std.specs.Prelude.{◌≡◌, ◌||◌, ℕ, Bool, true, false, List, [], Option, Result, Ok, Err}
+use Rattle.std.specs.Prelude.{◌≡◌, ℕ, Bool, true, false, List, [], Option, Result, Ok, Err}
 use Rattle.std.specs.List.{list_any}
 use Rattle.std.specs.Io.KnownBytes.{Appends, Keeps}
 use Rattle.tp_report.specs.Answer.{line}
 use Rattle.tp_report.specs.Written.{AppendsFront}
 use Rattle.tp_report.specs.declared.fault.Exit.{Exit}
-use Rattle.tp_report.specs.declared.fault.Exit.TheVariants as exits
 use Rattle.tp_report.specs.declared.fault.Fault.{Fault}
 use Rattle.tp_report.specs.declared.fault.Fault.TheVariants as faults
 use Rattle.tp_script.specs.Fault.{refused_text}

@@ -1,5 +1,7 @@
 //! Scripts with workers, as a whole: each is checked first, and then answered as a session.
 
+ghost use Rattle.std.specs.Prelude.{◌≡◌};
+
 use super::devices::{Reader, Writer};
 use std::process::Abort;
 use std::thread::Threads;
