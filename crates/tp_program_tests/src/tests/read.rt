@@ -3,8 +3,36 @@
 use tp_model::types::Body;
 use tp_script::{ClientAct, Command, DeskAct, Kind, Race, StdSource, read_script};
 
-const SCRIPT: &str =
-    "units 3\nspare 256\nserver a eager 1 2 add:3\nserver b lazy 2 1 take 15:7:after\nstart a 1 5\nsubmit 9 8 7\nsubmit 9 8 7 6\nsubmit 9 8 7 6 5\nturn b\nreply 6\nclaim a\nnext b\ntake b 9\nprepare b\ncommit a\nabort b\ndrop a\nkill 5\ncancel 6\nrequeue 7\nread 4\nerrors\nbalance b 3\nsum 2\ncount\nrace 4 256 14 3 2 1 10000\ndrain\ndrain next\nrollover\naccount\n";
+const SCRIPT: &str = "units 3\n\
+     spare 256\n\
+     server a eager 1 2 add:3\n\
+     server b lazy 2 1 take 15:7:after\n\
+     start a 1 5\n\
+     submit 9 8 7\n\
+     submit 9 8 7 6\n\
+     submit 9 8 7 6 5\n\
+     turn b\n\
+     reply 6\n\
+     claim a\n\
+     next b\n\
+     take b 9\n\
+     prepare b\n\
+     commit a\n\
+     abort b\n\
+     drop a\n\
+     kill 5\n\
+     cancel 6\n\
+     requeue 7\n\
+     read 4\n\
+     errors\n\
+     balance b 3\n\
+     sum 2\n\
+     count\n\
+     race 4 256 14 3 2 1 10000\n\
+     drain\n\
+     drain next\n\
+     rollover\n\
+     account\n";
 
 /// The client's command.
 fn client(act: ClientAct) -> Command {

@@ -38,13 +38,39 @@ fn is_answered<R: Abort + AllocGlobal>(rt: &R, text: &str, want: &str) {
 fn work_of_a_worker(rt: HostRuntime) {
     is_answered(
         &rt,
-        "claim packer\nclaim packer\nnonsense\naccount\ncommit packer 2:0:10 15:5:6:7:8\nturn till\nbalance till 0\n",
-        "submitted 0\npacker work 0 unit 512 attempt 1 root 0 body 5:6:7:8\npacker busy\nrefused line 6: 1 Syntax\nrefused 11 Busy\npacker done 0 unit 512 outputs 128 2\ntill done 128 unit 256 outputs 0 0\nbalance till 0 10\nfinal till 10\n",
+        "claim packer\n\
+         claim packer\n\
+         nonsense\n\
+         account\n\
+         commit packer 2:0:10 15:5:6:7:8\n\
+         turn till\n\
+         balance till 0\n",
+        "submitted 0\n\
+         packer work 0 unit 512 attempt 1 root 0 body 5:6:7:8\n\
+         packer busy\n\
+         refused line 6: 1 Syntax\n\
+         refused 11 Busy\n\
+         packer done 0 unit 512 outputs 128 2\n\
+         till done 128 unit 256 outputs 0 0\n\
+         balance till 0 10\n\
+         final till 10\n",
     );
     is_answered(
         &rt,
-        "commit packer 2:0:10 15:5:6:7:8\nclaim packer\ncommit packer 2:0:1 2:0:2 2:0:3 2:0:4\nread 131\nclaim packer\naccount\n",
-        "submitted 0\npacker none\npacker work 0 unit 512 attempt 1 root 0 body 5:6:7:8\npacker done 0 unit 512 outputs 128 4\n131 stage 2 root 0 key 0 amount 4 by 512 waiting 0\npacker idle\naccount born 5 waiting 4 held 0 consumed 1 parked 0 killed 0\nfinal till 0\n",
+        "commit packer 2:0:10 15:5:6:7:8\n\
+         claim packer\n\
+         commit packer 2:0:1 2:0:2 2:0:3 2:0:4\n\
+         read 131\n\
+         claim packer\n\
+         account\n",
+        "submitted 0\n\
+         packer none\n\
+         packer work 0 unit 512 attempt 1 root 0 body 5:6:7:8\n\
+         packer done 0 unit 512 outputs 128 4\n\
+         131 stage 2 root 0 key 0 amount 4 by 512 waiting 0\n\
+         packer idle\n\
+         account born 5 waiting 4 held 0 consumed 1 parked 0 killed 0\n\
+         final till 0\n",
     );
 }
 
@@ -52,8 +78,34 @@ fn work_of_a_worker(rt: HostRuntime) {
 fn work_given_up_and_taken_away(rt: HostRuntime) {
     is_answered(
         &rt,
-        "take packer 0\nabort packer\nabort packer\nclaim packer\nrelease 0\ncommit packer 15:1:1\nclaim packer\nkill 0\nabort packer\ntake packer 0\ntake packer 9\nclaim packer\naccount",
-        "submitted 0\npacker work 0 unit 512 attempt 1 root 0 body 5:6:7:8\npacker aborted 0\npacker none\npacker work 0 unit 513 attempt 2 root 0 body 5:6:7:8\nreleased 0 unit 513 attempt 2\npacker lost 0\npacker work 0 unit 514 attempt 3 root 0 body 5:6:7:8\nkilled 0 aborted 1\npacker already 0\npacker refused 0 NotWaiting\npacker refused 9 NotThere\npacker idle\naccount born 1 waiting 0 held 0 consumed 0 parked 0 killed 1\nfinal till 0\n",
+        "take packer 0\n\
+         abort packer\n\
+         abort packer\n\
+         claim packer\n\
+         release 0\n\
+         commit packer 15:1:1\n\
+         claim packer\n\
+         kill 0\n\
+         abort packer\n\
+         take packer 0\n\
+         take packer 9\n\
+         claim packer\n\
+         account",
+        "submitted 0\n\
+         packer work 0 unit 512 attempt 1 root 0 body 5:6:7:8\n\
+         packer aborted 0\n\
+         packer none\n\
+         packer work 0 unit 513 attempt 2 root 0 body 5:6:7:8\n\
+         released 0 unit 513 attempt 2\n\
+         packer lost 0\n\
+         packer work 0 unit 514 attempt 3 root 0 body 5:6:7:8\n\
+         killed 0 aborted 1\n\
+         packer already 0\n\
+         packer refused 0 NotWaiting\n\
+         packer refused 9 NotThere\n\
+         packer idle\n\
+         account born 1 waiting 0 held 0 consumed 0 parked 0 killed 1\n\
+         final till 0\n",
     );
 }
 
@@ -61,8 +113,34 @@ fn work_given_up_and_taken_away(rt: HostRuntime) {
 fn refused_lines_between(rt: HostRuntime) {
     is_answered(
         &rt,
-        "# a comment\n\nturn packer\nrows 3\nworker other 2\nclaim packer\ncommit packer 16:1:1\ncommit packer 15:1\ncommit packer 2:1:1 2:1:1 2:1:1 2:1:1 2:1:1\nrace 1 1 1 1 1 0 1\nclaim other\ncommit packer 15:1:1\nreply 0\nsum 0\n",
-        "submitted 0\nrefused line 6: 5 BadName\nrefused line 7: 7 Order\nrefused line 8: 7 Order\npacker work 0 unit 512 attempt 1 root 0 body 5:6:7:8\nrefused line 10: 2 BadNumber\nrefused line 11: 1 Syntax\nrefused line 12: 1 Syntax\nrefused line 13: 1 Syntax\nrefused line 14: 5 BadName\npacker done 0 unit 512 outputs 128 1\nreplies 0 128:1:1\nsum 0 0\nfinal till 0\n",
+        "# a comment\n\
+         \n\
+         turn packer\n\
+         rows 3\n\
+         worker other 2\n\
+         claim packer\n\
+         commit packer 16:1:1\n\
+         commit packer 15:1\n\
+         commit packer 2:1:1 2:1:1 2:1:1 2:1:1 2:1:1\n\
+         race 1 1 1 1 1 0 1\n\
+         claim other\n\
+         commit packer 15:1:1\n\
+         reply 0\n\
+         sum 0\n",
+        "submitted 0\n\
+         refused line 6: 5 BadName\n\
+         refused line 7: 7 Order\n\
+         refused line 8: 7 Order\n\
+         packer work 0 unit 512 attempt 1 root 0 body 5:6:7:8\n\
+         refused line 10: 2 BadNumber\n\
+         refused line 11: 1 Syntax\n\
+         refused line 12: 1 Syntax\n\
+         refused line 13: 1 Syntax\n\
+         refused line 14: 5 BadName\n\
+         packer done 0 unit 512 outputs 128 1\n\
+         replies 0 128:1:1\n\
+         sum 0 0\n\
+         final till 0\n",
     );
 }
 
@@ -70,8 +148,24 @@ fn refused_lines_between(rt: HostRuntime) {
 fn a_drain_behind_a_rollover(rt: HostRuntime) {
     is_answered(
         &rt,
-        "claim packer\nrollover\ncommit packer 2:0:10 2:0:4 15:5:6\nrollover\nreply 128\ndrain\nsum 0\naccount\n",
-        "submitted 0\npacker work 0 unit 512 attempt 1 root 0 body 5:6:7:8\nrefused 11 Busy\npacker done 0 unit 512 outputs 128 3\nrolled over 3 128:129 129:130 130:131\nreplies 128 131:5:6\ndrained\nsum 0 14\naccount born 4 waiting 1 held 0 consumed 3 parked 0 killed 0\nfinal till 14\n",
+        "claim packer\n\
+         rollover\n\
+         commit packer 2:0:10 2:0:4 15:5:6\n\
+         rollover\n\
+         reply 128\n\
+         drain\n\
+         sum 0\n\
+         account\n",
+        "submitted 0\n\
+         packer work 0 unit 512 attempt 1 root 0 body 5:6:7:8\n\
+         refused 11 Busy\n\
+         packer done 0 unit 512 outputs 128 3\n\
+         rolled over 3 128:129 129:130 130:131\n\
+         replies 128 131:5:6\n\
+         drained\n\
+         sum 0 14\n\
+         account born 4 waiting 1 held 0 consumed 3 parked 0 killed 0\n\
+         final till 14\n",
     );
 }
 

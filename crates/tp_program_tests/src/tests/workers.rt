@@ -9,11 +9,19 @@ use tp_report::{Exit, Fault, StdSink};
 use tp_script::StdSource;
 use tp_session::{run, run_to_end};
 
-const SCRIPT: &str =
-    "rows 8\nserver till eager 2 1 add\nworker packer 1\nsubmit 1 5 6\nclaim packer\ncommit packer 2:0:10 15:5:6\nturn till\n";
+const SCRIPT: &str = "rows 8\n\
+     server till eager 2 1 add\n\
+     worker packer 1\n\
+     submit 1 5 6\n\
+     claim packer\n\
+     commit packer 2:0:10 15:5:6\n\
+     turn till\n";
 
-const REPORT: &str =
-    "submitted 0\npacker work 0 unit 512 attempt 1 root 0 body 5:6:0:0\npacker done 0 unit 512 outputs 16 2\ntill done 16 unit 256 outputs 0 0\nfinal till 10\n";
+const REPORT: &str = "submitted 0\n\
+     packer work 0 unit 512 attempt 1 root 0 body 5:6:0:0\n\
+     packer done 0 unit 512 outputs 16 2\n\
+     till done 16 unit 256 outputs 0 0\n\
+     final till 10\n";
 
 /// The script ends with this status, and this is written.
 fn ends<R: Abort + AllocGlobal + Threads + Sync>(rt: &R, script: &str, status: u8, want: &str) {
@@ -48,7 +56,10 @@ fn performed_and_refused(rt: HostRuntime) {
         (
             "# worker packer 1\nserver a eager 1 1 add\nrace 1 2 1 0 1 0 2\ndrain\nsum 0\naccount",
             0,
-            "race submitted 2\ndrained\nsum 0 2\naccount born 2 waiting 0 held 0 consumed 2 parked 0 killed 0\n",
+            "race submitted 2\n\
+             drained\n\
+             sum 0 2\n\
+             account born 2 waiting 0 held 0 consumed 2 parked 0 killed 0\n",
         ),
     ] {
         ends(&rt, script, status, want);
