@@ -14,7 +14,7 @@ use Rattle.tp_manager.specs.Accounts.{AreAll, steps_together}
 use Rattle.tp_manager.specs.Bounds.{gather_steps}
 use Rattle.tp_manager.specs.Shown.{IsKeptBy, IsOf, KeeperShown, ManagerShown, PassShown, view_in}
 use Rattle.tp_alone.specs.Thread.{AreTogether, HasSeen, Stays}
-use Rattle.tp_rollover.specs.Bounds.{AllMake, alive_after, prepare_steps}
+use Rattle.tp_rollover.specs.Bounds.{AllMake, alive_after, survey_steps}
 use Rattle.tp_rollover.specs.Faults.{AreFree}
 use Rattle.tp_rollover.specs.Managed.{IsRefusedFor}
 use Rattle.tp_rollover.specs.declared.moved.RollFault.{RollFault}
@@ -53,7 +53,7 @@ stays_free m ps qs stays free own = both_all m qs own (free_stays ps qs stays (f
 
 -- a gathering after what was refused
 pub gathered_after : (l : Limits) (h : List Event) (keeper keeper1 keeper2 : KeeperShown) (olds olds1 olds2 : List PassShown) → keeper1.given ≡ l.parts → AreAll keeper1 olds1 → AreAll keeper2 olds2 → keeper2.given ≡ keeper1.given
-    → steps_together olds1 olds2 + keeper2.steps ≤ keeper1.steps + gather_steps l keeper1.given → AllMake (prepare_steps l l.parts (alive_after l.attempts h)) keeper olds keeper1 olds1
+    → steps_together olds1 olds2 + keeper2.steps ≤ keeper1.steps + gather_steps l keeper1.given → AllMake (survey_steps l l.parts (alive_after l.attempts h)) keeper olds keeper1 olds1
     → RefusedSteps l h keeper olds keeper2 olds2
 gathered_after l h keeper keeper1 keeper2 olds olds1 olds2 parts all all' given gathered made =
     let e = all_make (gather_steps l keeper1.given) keeper1 keeper2 olds1 olds2 all all' given gathered in

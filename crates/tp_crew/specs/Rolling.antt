@@ -8,7 +8,7 @@ use Rattle.tp_manager.specs.Bounds.{gather_steps}
 use Rattle.tp_manager.specs.Shown.{KeeperShown, PassShown}
 use Rattle.tp_alone.specs.Thread.{Stays}
 use Rattle.tp_rollover.specs.Answers.{Rolls}
-use Rattle.tp_rollover.specs.Bounds.{AllMake, alive_after, prepare_steps}
+use Rattle.tp_rollover.specs.Bounds.{AllMake, alive_after, survey_steps}
 use Rattle.tp_rollover.specs.Managed.{WasShort}
 use Rattle.tp_rollover.specs.declared.moved.Moved.{Moved}
 use Rattle.tp_rollover.specs.declared.moved.RollFault.{RollFault}
@@ -21,7 +21,7 @@ use Rattle.tp_crew.specs.CrewPasses.{desks_in}
 abbrev pub RefusedSteps : Limits → List Event → KeeperShown → List PassShown → KeeperShown → List PassShown
     → Type 0
 RefusedSteps l point keeper olds keeper' news =
-    AllMake (prepare_steps l l.parts (alive_after l.attempts point) + gather_steps l l.parts)
+    AllMake (survey_steps l l.parts (alive_after l.attempts point) + gather_steps l l.parts)
     keeper olds keeper' news
 
 module _ {X : Type 0} {F : X → Type 0} where

@@ -5,14 +5,12 @@ use Rattle.std.proofs.lemmas.List.{append_cancel_left}
 use Rattle.std.proofs.lemmas.List.Elements.{All-cons}
 use mathlib.Core.List.{IsPrefix}
 use Rattle.tp_model.specs.declared.types.Limits.{Limits}
-use Rattle.tp_model.specs.declared.types.Status.TheVariants.{Waiting, Held}
 use Rattle.tp_model.specs.declared.event.Event.{Event}
 use Rattle.tp_model.specs.declared.event.Event.TheVariants.{Kill}
 use Rattle.tp_model.specs.Counts.{counts}
-use Rattle.tp_model.specs.History.{In, events_by, here, status_of, there}
+use Rattle.tp_model.specs.History.{In, events_by, here, there}
 use Rattle.tp_model.specs.Steps.{IsLegal}
-use Rattle.tp_model.proofs.Bridges.{begins_trans, born_or_not, in_either, in_left, in_right}
-use Rattle.tp_model.proofs.Histories.{unborn_waits}
+use Rattle.tp_model.proofs.Bridges.{begins_trans, in_either, in_left, in_right}
 use Rattle.tp_model.proofs.Later.{births_inside}
 use Rattle.tp_manager.specs.Accounts.{AreAll, AreNumberedFrom, Gathers}
 use Rattle.tp_manager.specs.Shown.{IsOf, KeeperShown, ManagerShown, PassShown}
@@ -23,17 +21,20 @@ use Rattle.tp_alone.proofs.Idle.{alone_idle}
 use Rattle.tp_rollover.specs.Answers.{IsHistoryOf, IsReadyToKill, Rolls}
 use Rattle.tp_rollover.specs.Checks.{CountsOnly}
 use Rattle.tp_rollover.specs.Closing.{AreEnds, IsStuck, Made, NoKill, StopsAmong}
-use Rattle.tp_rollover.specs.Finding.{AreAlive, AreAliveOf, CountsAlive}
+use Rattle.tp_rollover.specs.Alike.{StandAlike}
+use Rattle.tp_rollover.specs.Finding.{AreSurvivorsOf, CountsAlive}
 use Rattle.tp_rollover.specs.Passes.{numbers}
-use Rattle.tp_rollover.specs.Phases.{FoundAlike, IsCarriedAlike, IsCarriedWhole, KillsAll, StopsKilling}
+use Rattle.tp_rollover.specs.Phases.{KillsAll, StopsKilling}
 use Rattle.tp_rollover.specs.Rolls.{AscendFrom, IsCarried, RollsOver, kills}
+use Rattle.tp_rollover.specs.Survivors.{AreSurvivors, Restores, StandAgain}
 use Rattle.tp_rollover.specs.Told.{ToldFirst, seen_first}
-use Rattle.tp_rollover.specs.declared.alive.Alive.{Alive}
 use Rattle.tp_rollover.specs.declared.moved.Moved.{Moved}
+use Rattle.tp_rollover.specs.declared.survivors.Survivor.{Survivor}
+use Rattle.tp_rollover.proofs.Carrying.{all_are_named, all_carried, stand_alive}
 use Rattle.tp_rollover.proofs.Ends.{not_stuck}
 use Rattle.tp_rollover.proofs.Heads.{tail_all}
 use Rattle.tp_rollover.proofs.Killing.{made_trans}
-use Rattle.tp_rollover.proofs.Lists.{from_map, in_map}
+use Rattle.tp_rollover.proofs.Lists.{from_map}
 use Rattle.tp_rollover.proofs.Others.{only_named}
 use Rattle.tp_rollover.proofs.Seen.{between, stays_trans}
 use Rattle.tp_rollover.proofs.Since.{since, until}
@@ -82,27 +83,6 @@ nothing_happened l k k' ps qs rs h h' before a b after some =
     let end : seen_first rs ≡ h' = first_is l k' rs h' after (zip_some ps rs all some) in
     (same, at, first_between ps qs rs a b (end ∙ (same ∙ sym at)))
 
--- between an account and a gathering the old passes have only looked
-pub old_same : (m : ManagerShown) (a c : ℕ) (k0 k1 k2 : KeeperShown) (olds olds1 olds2 olds3 : List PassShown) → Gathers m.limits a k0 k1 olds olds1 → AreAll k1 olds1 → k1.given ≡ k0.given → All (IsOf m) olds1
-    → AllZip Stays olds1 olds2 → Gathers m.limits c k1 k2 olds2 olds3 → AreAll k2 olds3 → k2.given ≡ k1.given → All (IsOf m) olds3 → 1 ≤ length olds1 → k2.seen ≡ k1.seen
-old_same m a c k0 k1 k2 olds olds1 olds2 olds3 g1 all1 given1 own1 stay g2 all2 given2 own2 some =
-    let t1 = gathered m a k0 k1 olds olds1 g1 all1 given1 own1 in
-    let t2 = gathered m c k1 k2 olds2 olds3 g2 all2 given2 own2 in
-    (nothing_happened m.limits k1 k2 olds1 olds2 olds3 k1.seen k2.seen t1.0 stay t2.1 t2.0 some).0
-
--- and what was told of the first of them holds of what they have seen
-pub told_same : (m : ManagerShown) (a c : ℕ) (k0 k1 k2 : KeeperShown) (olds olds1 olds2 olds3 olds4 olds5 : List PassShown) (Holds : List Event → Type 0) → Gathers m.limits a k0 k1 olds olds1 → AreAll k1 olds1 → k1.given ≡ k0.given
-    → All (IsOf m) olds1 → AllZip Stays olds1 olds2 → AllZip Stays olds2 olds3 → AllZip Stays olds3 olds4 → Gathers m.limits c k1 k2 olds4 olds5 → AreAll k2 olds5 → k2.given ≡ k1.given → All (IsOf m) olds5 → 1 ≤ length olds1
-    → ToldFirst olds2 olds3 Holds → Holds k2.seen
-told_same m a c k0 k1 k2 olds olds1 olds2 olds3 olds4 olds5 Holds g1 all1 given1 own1 s12 s23 s34 g2 all2 given2 own2 some told =
-    let t1 = gathered m a k0 k1 olds olds1 g1 all1 given1 own1 in
-    let t2 = gathered m c k1 k2 olds4 olds5 g2 all2 given2 own2 in
-    let s13 = stay_trans olds1 olds2 olds3 s12 s23 in
-    let none = nothing_happened m.limits k1 k2 olds1 olds4 olds5 k1.seen k2.seen t1.0 (stay_trans olds1 olds3 olds4 s13 s34) t2.1 t2.0 some in
-    let at2 : seen_first olds2 ≡ seen_first olds1 = first_between olds1 olds2 olds4 s12 (stay_trans olds2 olds3 olds4 s23 s34) none.2 in
-    let at3 : seen_first olds3 ≡ seen_first olds1 = first_between olds1 olds3 olds4 s13 s34 none.2 in
-    subst Holds (at2 ∙ (none.1 ∙ sym none.0)) (told (at3 ∙ sym at2))
-
 -- ids that ascend
 low_less : (id : Moved → ℕ) (low : ℕ) (xs : List Moved) (m : Moved) (ys : List Moved) → AscendFrom id low (xs ++ m ∷ ys) → low ≤ id m
 low_less id low [] m ys a = a.0
@@ -121,8 +101,8 @@ kill_id : (c d i j : ℕ) → Kill c i ≡ Kill d j → i ≡ j
 kill_id c d i j e = cc
 
 -- the first pass can't have found one that it couldn't kill
-module _ (l k : Limits) (keeper keeper' : KeeperShown) (ps qs rs : List PassShown) (h h' g : List Event) (alive : List Alive) (moved : List Moved)
-    (before : AreTogether l keeper ps h) (rest : AllZip Stays qs rs) (after : AreTogether l keeper' rs h') (whole : IsCarriedWhole l k alive moved h g) where
+module _ (l : Limits) (keeper keeper' : KeeperShown) (ps qs rs : List PassShown) (h h' g : List Event) (moved : List Moved)
+    (before : AreTogether l keeper ps h) (rest : AllZip Stays qs rs) (after : AreTogether l keeper' rs h') (all_carry : (m : Moved) → In m moved → IsCarried l.attempts h g m) (once : AscendFrom (λ m. m.old) 0 moved) where
   never_first : (p q r : PassShown) (os ts : List PassShown) → AreTogether l keeper (p ∷ os) h → AllZip Stays (q ∷ os) (r ∷ ts) → AreTogether l keeper' (r ∷ ts) h' → StopsAmong l.attempts moved p q → ⊥
   never_first p q r os ts together stay end s =
       let t = s.stops in
@@ -134,9 +114,9 @@ module _ (l k : Limits) (keeper keeper' : KeeperShown) (ps qs rs : List PassShow
       let parts : from.0 ++ to.0 ≡ es = append_cancel_left h (from.0 ++ to.0) es (sym (append_assoc h from.0 to.0) ∙ (ap (λ z. z ++ to.0) from.1 ∙ (to.1 ∙ grown))) in
       let inside : (e : Event) → In e from.0 → In e es = λ e p. subst (In e) parts (in_left to.0 p) in
       let in_moved : In s.one moved = subst (In s.one) (sym s.parts) (in_right s.done here) in
-      let carried : IsCarried l.attempts h g s.one = whole.alike.carried s.one in_moved in
+      let carried : IsCarried l.attempts h g s.one = all_carry s.one in_moved in
       let ends : AreEnds from.0 = λ e p. ⊎_elim (λ a. kills_end _ s.done e a) (λ b. t.ends e b) (in_either (kills _ s.done) t.events (inside e p)) in
-      let ascend : AscendFrom (λ m. m.old) 0 (s.done ++ s.one ∷ s.rest) = subst (AscendFrom (λ m. m.old) 0) s.parts whole.alike.ascend.0 in
+      let ascend : AscendFrom (λ m. m.old) 0 (s.done ++ s.one ∷ s.rest) = subst (AscendFrom (λ m. m.old) 0) s.parts once in
       let none : NoKill s.one.old t.events → NoKill s.one.old from.0 = λ no_kills c p. ⊎_elim
       (λ a. let m = from_map (λ (m : Moved). Kill _ m.old) s.done (Kill c s.one.old) a in
       let same : m.0.old ≡ s.one.old = kill_id _ c m.0.old s.one.old m.2 in
@@ -163,24 +143,18 @@ module _ (l k : Limits) (keeper keeper' : KeeperShown) (ps qs rs : List PassShow
           let b : AreTogether l keeper (s.old ∷ s.others) h = subst (λ z. AreTogether l keeper z h) s.was before in
           since l keeper keeper' s.old s.new r s.others ts h h' (kills 0 moved) b (subst (λ c. Made (kills c moved) s.old s.new) b.all.1.0 s.made) (subst (λ z. AllZip Stays z (r ∷ ts)) s.is zip) t
 
--- what was alive, what was found whole, and the kills, make a rollover
-pub rolled : (l k : Limits) (h h' g : List Event) (alive : List Alive) (moved : List Moved)
-    → k.attempts ≡ l.attempts → IsLegal l h → IsLegal l h' → IsLegal k g → AreAlive l alive h → IsCarriedWhole l k alive moved h g → h' ≡ h ++ kills 0 moved
+-- what was alive, what stands again, and the kills, make a rollover
+pub rolled : (l k : Limits) (h h' g : List Event) (survivors : List Survivor) (moved : List Moved) → k.attempts ≡ l.attempts → IsLegal l h' → IsLegal k g → AreSurvivors l h survivors → StandAgain k g survivors moved → h' ≡ h ++ kills 0 moved
     → RollsOver l k 0 h h' g moved
-rolled l k h h' g alive moved limit legal legal' new_legal found whole killed = record {
+rolled l k h h' g survivors moved limit legal' new_legal found again killed = record {
   legal = (legal', new_legal);
   limit = limit;
-  carried = whole.alike.carried;
-  each = λ x born killable. let t = (found x born (births_inside l h legal x born)).1 killable in
-      let s = from_map (λ (m : Moved). m.old) moved t.0.id (subst (In t.0.id) whole.alike.same (in_map (λ (a : Alive). a.id) alive t.0 t.1)) in
-      (s.0, s.1, s.2 ∙ t.2);
-  once = whole.alike.ascend;
-  families = whole.alike.families;
-  rest = λ y born. whole.only y born (births_inside k g new_legal y born);
-  idle = λ i u n held. ⊎_elim
-      (λ t. (found t.0 t.1 (births_inside l h legal t.0 t.1)).0 u n (ap (status_of l.attempts h) t.2 ∙ held))
-      (λ unborn. (let q : Waiting 0 ≡ Held u n = sym (unborn_waits l h legal i unborn) ∙ held in absurd cc))
-      (born_or_not h i);
+  carried = all_carried l k h g survivors moved limit found again;
+  each = all_are_named l h k.attempts g survivors moved found again.each;
+  once = again.once;
+  families = again.families;
+  rest = λ y born. again.rest y born (births_inside k g new_legal y born);
+  idle = found.idle;
   killed = killed;
 }
 
@@ -229,51 +203,54 @@ free_stays [] (q ∷ qs) zip free = absurd zip
 free_stays (p ∷ ps) [] zip free = absurd zip
 free_stays (p ∷ ps) (q ∷ qs) zip free = All-cons (λ (z : PassShown). z.open_unit ≡ None) q qs (zip.0.quiet.open_unit ∙ free 0 p (omega arith)) (free_stays ps qs zip.1 (tail_all (λ (z : PassShown). z.open_unit ≡ None) p ps free))
 
--- all up to the kills
-module _ (m m' : ManagerShown) (limit : m'.limits.attempts ≡ m.limits.attempts) (n a b d c : ℕ) (ok0 ok1 ok2 nk0 nk1 nk2 : KeeperShown) (olds0 olds1 olds2 olds3 olds4 olds5 news1 news2 news3 news4 : List PassShown) (alive : List Alive) (moved : List Moved) where
-  pub ready : Gathers m.limits a ok0 ok1 olds0 olds1 → AreAll ok1 olds1 → ok1.given ≡ ok0.given → All (IsOf m) olds1
-      → AllZip Stays olds1 olds2 → ToldFirst olds1 olds2 (AreAliveOf m.limits n alive) → CountsAlive n (counts m.limits.attempts ok1.seen) → 1 ≤ length olds1
-      → AllZip Stays olds2 olds3
-      → Gathers m'.limits b nk0 nk1 news1 news2 → AreAll nk1 news2 → nk1.given ≡ nk0.given → All (IsOf m') news2 → CountsOnly (length moved) (counts m'.limits.attempts nk1.seen)
-      → AllZip Stays olds3 olds4 → AllZip Stays news2 news3 → FoundAlike m.limits alive moved olds3 olds4 news2 news3 → 1 ≤ length news2
-      → Gathers m'.limits d nk1 nk2 news3 news4 → AreAll nk2 news4 → nk2.given ≡ nk1.given → All (IsOf m') news4
-      → Gathers m.limits c ok1 ok2 olds4 olds5 → AreAll ok2 olds5 → ok2.given ≡ ok1.given → All (IsOf m) olds5
-      → IsReadyToKill m.limits m'.limits ok2 nk2 olds0 olds5 news4 moved
-  ready g1 all1 given1 own1 s12 told counted1 some1 s23 g2 all2 given2 own2 counted s34 n23 found some2 g3 all3 given3 own3 g4 all4 given4 own4 =
-      let t1 = gathered m a ok0 ok1 olds0 olds1 g1 all1 given1 own1 in
-      let t2 = gathered m' b nk0 nk1 news1 news2 g2 all2 given2 own2 in
-      let t3 = gathered m' d nk1 nk2 news3 news4 g3 all3 given3 own3 in
-      let t4 = gathered m c ok1 ok2 olds4 olds5 g4 all4 given4 own4 in
-      let s14 = stay_trans olds1 olds2 olds4 s12 (stay_trans olds2 olds3 olds4 s23 s34) in
-      let old = nothing_happened m.limits ok1 ok2 olds1 olds4 olds5 ok1.seen ok2.seen t1.0 s14 t4.1 t4.0 some1 in
-      let new = nothing_happened m'.limits nk1 nk2 news2 news3 news4 nk1.seen nk2.seen t2.0 n23 t3.1 t3.0 some2 in
-      let at2 : seen_first olds2 ≡ seen_first olds1 = first_between olds1 olds2 olds4 s12 (stay_trans olds2 olds3 olds4 s23 s34) old.2 in
-      let at3 : seen_first olds3 ≡ seen_first olds1 = first_between olds1 olds3 olds4 (stay_trans olds1 olds2 olds3 s12 s23) s34 old.2 in
-      let h : seen_first olds1 ≡ ok2.seen = old.1 ∙ sym old.0 in
-      let g : seen_first news2 ≡ nk2.seen = new.1 ∙ sym new.0 in
-      let all_found : AreAlive m.limits alive ok2.seen = subst (AreAliveOf m.limits n alive) h (told at2) t4.0.legal (subst (λ z. CountsAlive n (counts m.limits.attempts z)) (sym old.0) counted1) in
-      let is_alike : IsCarriedAlike m.limits alive moved (seen_first olds3) (seen_first news2) = found (old.2 ∙ sym at3) new.2 in
-      let stands : IsCarriedAlike m.limits alive moved ok2.seen nk2.seen = subst (IsCarriedAlike m.limits alive moved ok2.seen) g (subst (λ z. IsCarriedAlike m.limits alive moved z (seen_first news2)) (at3 ∙ h) is_alike) in
-      let counts_so : CountsOnly (length moved) (counts m'.limits.attempts nk2.seen) = subst (λ z. CountsOnly (length moved) (counts m'.limits.attempts z)) (sym new.0) counted in
+-- an account, looks by the first pass, and a gathering
+module _ (m : ManagerShown) (n a c : ℕ) (k0 k1 k2 : KeeperShown) (ps0 ps1 ps2 ps3 : List PassShown) (survivors : List Survivor) where
+  pub surveyed : Gathers m.limits a k0 k1 ps0 ps1 → AreAll k1 ps1 → k1.given ≡ k0.given → All (IsOf m) ps1
+      → AllZip Stays ps1 ps2 → ToldFirst ps1 ps2 (λ h. AreSurvivorsOf m.limits n h survivors) → CountsAlive n (counts m.limits.attempts k1.seen) → 1 ≤ length ps1
+      → Gathers m.limits c k1 k2 ps2 ps3 → AreAll k2 ps3 → k2.given ≡ k1.given → All (IsOf m) ps3
+      → (k2.seen ≡ k1.seen) × AreSurvivors m.limits k2.seen survivors × IsHistoryOf k2 ps0 k2.seen
+  surveyed g1 all1 given1 own1 stay told counted some g2 all2 given2 own2 =
+      let t1 = gathered m a k0 k1 ps0 ps1 g1 all1 given1 own1 in
+      let t2 = gathered m c k1 k2 ps2 ps3 g2 all2 given2 own2 in
+      let same = nothing_happened m.limits k1 k2 ps1 ps2 ps3 k1.seen k2.seen t1.0 stay t2.1 t2.0 some in
+      let at : seen_first ps1 ≡ k2.seen = same.1 ∙ sym same.0 in (
+        same.0,
+        subst (λ h. AreSurvivorsOf m.limits n h survivors) at (told same.2) t2.0.legal (subst (λ z. CountsAlive n (counts m.limits.attempts z)) (sym same.0) counted),
+        history_of m.limits k1 ps0 ps1 k2.seen k2 (subst (AreTogether m.limits k1 ps1) (sym same.0) t1.0) t1.1 given2,
+      )
+
+-- the same of the manager in which they stand again
+module _ (m : ManagerShown) (a c : ℕ) (k0 k1 k2 : KeeperShown) (ps0 ps1 ps2 ps3 : List PassShown) (survivors : List Survivor) (moved : List Moved) where
+  pub restored : Gathers m.limits a k0 k1 ps0 ps1 → AreAll k1 ps1 → k1.given ≡ k0.given → All (IsOf m) ps1 → CountsOnly (length moved) (counts m.limits.attempts k1.seen)
+      → AllZip Stays ps1 ps2 → ToldFirst ps1 ps2 (λ g. StandAlike m.limits.attempts g survivors moved) → 1 ≤ length ps1
+      → Gathers m.limits c k1 k2 ps2 ps3 → AreAll k2 ps3 → k2.given ≡ k1.given → All (IsOf m) ps3
+      → Restores m.limits k2 ps3 survivors moved
+  restored g1 all1 given1 own1 counted stay told some g2 all2 given2 own2 =
+      let t1 = gathered m a k0 k1 ps0 ps1 g1 all1 given1 own1 in
+      let t2 = gathered m c k1 k2 ps2 ps3 g2 all2 given2 own2 in
+      let same = nothing_happened m.limits k1 k2 ps1 ps2 ps3 k1.seen k2.seen t1.0 stay t2.1 t2.0 some in
+      let stand = subst (λ g. StandAlike m.limits.attempts g survivors moved) (same.1 ∙ sym same.0) (told same.2) in
+      let counts_so : CountsOnly (length moved) (counts m.limits.attempts k2.seen) = subst (λ z. CountsOnly (length moved) (counts m.limits.attempts z)) (sym same.0) counted in
       record {
-        history = history_of m.limits ok1 olds0 olds1 ok2.seen ok2 (subst (AreTogether m.limits ok1 olds1) (sym old.0) t1.0) t1.1 given4;
-        old_together = t4.0;
-        new_together = t3.0;
-        alive = alive;
-        found = all_found;
-        whole = record { alike = stands; only = only_named m'.limits m.limits.attempts ok2.seen nk2.seen moved limit t3.0.legal stands.ascend stands.carried counts_so };
-        some = zip_some olds1 olds5 (stay_trans olds1 olds4 olds5 s14 t4.1) some1;
+        again = record {
+          each = stand.each;
+          once = stand.once;
+          families = stand.families;
+          rest = only_named m.limits k2.seen moved t2.0.legal stand.once (stand_alive m.limits.attempts k2.seen survivors moved stand.each) counts_so;
+        };
+        together = t2.0;
       }
 
--- and with them
+-- with the kills
 pub rolled_over : (m m' : ManagerShown) (c : ℕ) (ok2 ok3 nk2 : KeeperShown) (olds0 olds5 olds6 olds7 news4 : List PassShown) (moved : List Moved)
     → m'.limits.attempts ≡ m.limits.attempts → IsReadyToKill m.limits m'.limits ok2 nk2 olds0 olds5 news4 moved → KillsAll moved olds5 olds6
     → Gathers m.limits c ok2 ok3 olds6 olds7 → AreAll ok3 olds7 → ok3.given ≡ ok2.given → All (IsOf m) olds7
     → RollsOver m.limits m'.limits 0 ok2.seen ok3.seen nk2.seen moved
 rolled_over m m' c ok2 ok3 nk2 olds0 olds5 olds6 olds7 news4 moved limit r kill g all given own =
     let t = gathered m c ok2 ok3 olds6 olds7 g all given own in
-    let grown = all_killed m.limits m'.limits ok2 ok3 olds5 olds6 olds7 ok2.seen ok3.seen nk2.seen r.alive moved r.old_together t.1 t.0 r.whole kill in
-    rolled m.limits m'.limits ok2.seen ok3.seen nk2.seen r.alive moved limit r.old_together.legal t.0.legal r.new_together.legal r.found r.whole grown
+    let carry = all_carried m.limits m'.limits ok2.seen nk2.seen r.survivors moved limit r.found r.again in
+    let grown = all_killed m.limits ok2 ok3 olds5 olds6 olds7 ok2.seen ok3.seen nk2.seen moved r.old_together t.1 t.0 carry r.again.once.0 kill in
+    rolled m.limits m'.limits ok2.seen ok3.seen nk2.seen r.survivors moved limit t.0.legal r.new_together.legal r.found r.again grown
 
 pub rolls : (m m' : ManagerShown) (c : ℕ) (ok2 ok3 nk2 : KeeperShown) (olds0 olds5 olds6 olds7 news4 : List PassShown) (moved : List Moved)
     → m'.limits.attempts ≡ m.limits.attempts → IsReadyToKill m.limits m'.limits ok2 nk2 olds0 olds5 news4 moved → KillsAll moved olds5 olds6
@@ -290,8 +267,9 @@ rolls m m' c ok2 ok3 nk2 olds0 olds5 olds6 olds7 news4 moved limit r kill g all 
     }
 
 pub never : (m m' : ManagerShown) (c : ℕ) (ok2 ok3 nk2 : KeeperShown) (olds0 olds5 olds6 olds7 news4 : List PassShown) (moved : List Moved)
-    → IsReadyToKill m.limits m'.limits ok2 nk2 olds0 olds5 news4 moved → StopsKilling m.limits.attempts moved olds5 olds6
+    → m'.limits.attempts ≡ m.limits.attempts → IsReadyToKill m.limits m'.limits ok2 nk2 olds0 olds5 news4 moved → StopsKilling m.limits.attempts moved olds5 olds6
     → Gathers m.limits c ok2 ok3 olds6 olds7 → AreAll ok3 olds7 → ok3.given ≡ ok2.given → All (IsOf m) olds7 → ⊥
-never m m' c ok2 ok3 nk2 olds0 olds5 olds6 olds7 news4 moved r stops g all given own =
+never m m' c ok2 ok3 nk2 olds0 olds5 olds6 olds7 news4 moved limit r stops g all given own =
     let t = gathered m c ok2 ok3 olds6 olds7 g all given own in
-    never_stops m.limits m'.limits ok2 ok3 olds5 olds6 olds7 ok2.seen ok3.seen nk2.seen r.alive moved r.old_together t.1 t.0 r.whole stops
+    let carry = all_carried m.limits m'.limits ok2.seen nk2.seen r.survivors moved limit r.found r.again in
+    never_stops m.limits ok2 ok3 olds5 olds6 olds7 ok2.seen ok3.seen nk2.seen moved r.old_together t.1 t.0 carry r.again.once.0 stops

@@ -1,6 +1,7 @@
 -- What looks at rows and elements find, row by row and element by element.
-use Rattle.std.proofs.Common.{◌≡◌, ◌≢◌, ℕ, ◌+◌, ◌<◌, ◌≤◌, Option, Some, None, List, ◌++◌, length, take, drop, get_or, slice_index_or, sym, ◌∙◌, ap, subst, inl, inr, ⊎_elim, arith}
+use Rattle.std.proofs.Common.{◌≡◌, ◌≢◌, ℕ, ◌+◌, ◌<◌, ◌≤◌, Option, Some, None, List, [], ◌∷◌, ◌++◌, length, take, drop, get_or, slice_index_or, refl, sym, ◌∙◌, ap, subst, inl, inr, ⊎_elim, arith}
 use Rattle.std.proofs.lemmas.Bool.Decides.{eqb_tells}
+use Rattle.std.proofs.Math.Seq.{take-length}
 use mathlib.Core.List.{IsPrefix}
 use Rattle.tp_model.specs.declared.types.Limits.{Limits}
 use Rattle.tp_model.specs.declared.types.Look.{Look}
@@ -12,84 +13,116 @@ use Rattle.tp_manager.specs.Calls.{IsLook}
 use Rattle.tp_manager.specs.Requeues.{HasHadRounds}
 use Rattle.tp_manager.specs.Shown.{PassShown}
 use Rattle.tp_alone.specs.Thread.{Stays}
-use Rattle.tp_rollover.specs.Checks.{AreCarried, AreFamilies, AreInTables, AreTheSame, MovedAscend, HasPut, IsAlike}
-use Rattle.tp_rollover.specs.Finding.{AreAliveBelow, IsAliveAt, listed}
-use Rattle.tp_rollover.specs.Phases.{IsCarriedAlike}
-use Rattle.tp_rollover.specs.Rolls.{AscendFrom, IsCarried}
-use Rattle.tp_rollover.specs.Told.{HoldsAsSeen, ToldBoth}
-use Rattle.tp_rollover.specs.declared.alive.Alive.{Alive}
+use Rattle.tp_rollover.specs.Alike.{AllStandAgain, IsAlike, IsRootAlike}
+use Rattle.tp_rollover.specs.Checks.{AreFamilies, AreInTables, HasPut}
+use Rattle.tp_rollover.specs.Finding.{AreAliveBelow, AreDescribed, IsAliveAt, IsDescribed, listed}
+use Rattle.tp_rollover.specs.Rolls.{AscendFrom}
+use Rattle.tp_rollover.specs.Survivors.{StandsAgain}
+use Rattle.tp_rollover.specs.Told.{HoldsAsSeen}
 use Rattle.tp_rollover.specs.declared.moved.Moved.{Moved}
-use Rattle.tp_rollover.proofs.Lists.{drop_here, in_all_taken, in_take_more}
-use Rattle.tp_rollover.proofs.Seen.{between, told_second}
+use Rattle.tp_rollover.specs.declared.survivors.Survivor.{Survivor}
+use Rattle.tp_rollover.proofs.Lists.{drop_here, in_all_taken, in_take_more, take_more, zip_more, zip_snoc}
+use Rattle.tp_rollover.proofs.Seen.{between, told_first, told_second}
 
 -- one more row
 
-in_listed : (o : Option Alive) (a : Alive) → o ≡ Some a → In a (listed o)
-in_listed o a e = subst (λ z. In a (listed z)) (sym e) here
+in_listed : (o : Option ℕ) (i : ℕ) → o ≡ Some i → In i (listed o)
+in_listed o i e = subst (λ z. In i (listed z)) (sym e) here
 
-pub alive_next : (limit row : ℕ) (h : List Event) (found : List Alive) (o : Option Alive) → AreAliveBelow limit row found h → IsAliveAt limit row o h → AreAliveBelow limit (row + 1) (found ++ listed o) h
+pub alive_next : (limit row : ℕ) (h : List Event) (found : List ℕ) (o : Option ℕ) → AreAliveBelow limit row found h → IsAliveAt limit row o h → AreAliveBelow limit (row + 1) (found ++ listed o) h
 alive_next limit row h found o below at x born less =
     elim (eqb_tells x.id row) [
       | inl p ↦
           let t = at.0 x (born_at h row x born p.1) in
-          (λ u n e. t.0 u n (ap (status_of limit h) (sym p.1) ∙ e), λ alive. let s = t.1 (subst (λ i. IsKillable (status_of limit h i)) p.1 alive) in (s.0, in_right found (in_listed o s.0 s.1), s.2 ∙ sym p.1))
+          (λ u n e. t.0 u n (ap (status_of limit h) (sym p.1) ∙ e), λ alive. in_right found (in_listed o x.id (t.1 (subst (λ i. IsKillable (status_of limit h i)) p.1 alive) ∙ ap Some (sym p.1))))
       | inr p ↦
           let not : x.id ≢ row = p.1 in
           let t = below x born (omega arith) in
-          (t.0, λ alive. let s = t.1 alive in (s.0, in_left (listed o) s.1, s.2))
+          (t.0, λ alive. in_left (listed o) (t.1 alive))
     ]
 
-pub alive_none : (limit : ℕ) (found : List Alive) (h : List Event) → AreAliveBelow limit 0 found h
+pub alive_none : (limit : ℕ) (found : List ℕ) (h : List Event) → AreAliveBelow limit 0 found h
 alive_none limit found h x born less = absurd (omega (arith, less))
 
--- one more element
+-- what looks show of one
 
-pub carried_one : (l k : Limits) (m : Moved) (p0 p1 p2 q0 q1 q2 q3 : PassShown) (was is root : Look) (a b : ℕ)
-    → k.attempts ≡ l.attempts → Stays p0 p1 → Stays p1 p2 → Stays q0 q1 → Stays q1 q2 → Stays q2 q3
-    → HoldsAsSeen p0 p1 (IsLook l m.old was) → HoldsAsSeen q0 q1 (IsLook k m.new is) → HoldsAsSeen p1 p2 (HasHadRounds m.old a) → HoldsAsSeen q1 q2 (HasHadRounds m.new b)
-    → HoldsAsSeen q2 q3 (IsLook k m.new_root root) → IsAlike was is m → b ≡ a → root.element.by ≡ None
-    → ToldBoth p0 p2 q0 q3 (λ h g. IsCarried l.attempts h g m)
-carried_one l k m p0 p1 p2 q0 q1 q2 q3 was is root a b limit s1 s2 t1 t2 t3 look1 look2 had1 had2 look3 alike same none e f =
-    let old = look1 (between p0.seen p1.seen p2.seen s1.sees s2.sees e) in
-    let rounds_old = told_second (HasHadRounds m.old a) p0.seen p1.seen p2.seen s1.sees s2.sees had1 e in
-    let q2_is : q2.seen ≡ q0.seen = between q0.seen q2.seen q3.seen (ends t1 t2) t3.sees f in
-    let new = look2 (between q0.seen q1.seen q2.seen t1.sees t2.sees q2_is) in
-    let rounds_new = told_second (HasHadRounds m.new b) q0.seen q1.seen q2.seen t1.sees t2.sees had2 q2_is in
-    let client = told_second (IsLook k m.new_root root) q0.seen q2.seen q3.seen (ends t1 t2) t3.sees look3 f in
-    let status_old : was.status ≡ status_of l.attempts p0.seen m.old = old.1 in
-    let status_new : is.status ≡ status_of l.attempts q0.seen m.new = new.1 ∙ ap (λ n. status_of n q0.seen m.new) limit in
+pub stands_one : (k : Limits) (s : Survivor) (m : Moved) (p q r t : PassShown) (is root : Look) (n : ℕ) → Stays p q → Stays q r → Stays r t
+    → HoldsAsSeen p q (IsLook k m.new is) → HoldsAsSeen q r (HasHadRounds m.new n) → HoldsAsSeen r t (IsLook k m.new_root root) → IsAlike s m is → IsRootAlike s root → n ≡ s.rounds
+    → HoldsAsSeen p t (λ g. StandsAgain k.attempts g s m)
+stands_one k s m p q r t is root n a b c look had look_root alike root_alike same e =
+    let both : IsPrefix p.seen r.seen = begins_trans p.seen q.seen r.seen a.sees b.sees in
+    let at_r : r.seen ≡ p.seen = between p.seen r.seen t.seen both c.sees e in
+    let at_q : q.seen ≡ p.seen = between p.seen q.seen r.seen a.sees b.sees at_r in
+    let item = look at_q in
+    let rounds_are = told_second (HasHadRounds m.new n) p.seen q.seen r.seen a.sees b.sees had at_r in
+    let request = told_second (IsLook k m.new_root root) p.seen r.seen t.seen both c.sees look_root e in
     record {
-      old = was.element;
-      new = is.element;
-      was = (old.0, alike.old_root);
-      is = (new.0, alike.new_root);
-      alive = subst IsKillable status_old alike.alive;
+      named = (alike.old, alike.old_root);
+      item = is.element;
+      born = item.0;
+      root = alike.root;
       stage = alike.stage;
       body = alike.body;
-      status = sym status_new ∙ (alike.status ∙ status_old);
-      rounds_are = rounds_new.1 ∙ (same ∙ sym rounds_old.1);
-      request = (root.element, client.0, none);
+      status = sym item.1 ∙ alike.status;
+      alive = alike.alive;
+      rounds_are = rounds_are.1 ∙ same;
+      request = root.element;
+      began = request.0;
+      by_client = root_alike.by_client;
+      root_stage = root_alike.stage;
+      root_body = root_alike.body;
       itself = alike.itself;
     }
-  where
-    ends : Stays q0 q1 → Stays q1 q2 → IsPrefix q0.seen q2.seen
-    ends x y = begins_trans q0.seen q1.seen q2.seen x.sees y.sees
 
-pub carried_then : (limit : ℕ) (moved : List Moved) (i : ℕ) (d : Moved) (p q r p' q' r' : PassShown) → i < length moved
-    → Stays p q → Stays q r → Stays p' q' → Stays q' r'
-    → ToldBoth p q p' q' (λ h g. AreCarried limit h g (take i moved)) → ToldBoth q r q' r' (λ h g. IsCarried limit h g (get_or moved i d))
-    → ToldBoth p r p' r' (λ h g. AreCarried limit h g (take (i + 1) moved))
-carried_then limit moved i d p q r p' q' r' less a b a' b' before one e e' m at =
-    let mid : q.seen ≡ p.seen = between p.seen q.seen r.seen a.sees b.sees e in
-    let mid' : q'.seen ≡ p'.seen = between p'.seen q'.seen r'.seen a'.sees b'.sees e' in
-    let last : IsCarried limit q.seen q'.seen (get_or moved i d) = one (e ∙ sym mid) (e' ∙ sym mid') in
-    ⊎_elim
-    (λ early. before mid mid' m early)
-    (λ same. subst (IsCarried limit p.seen p'.seen) (sym same) (subst (λ z. IsCarried limit p.seen z (get_or moved i d)) mid' (subst (λ z. IsCarried limit z q'.seen (get_or moved i d)) mid last)))
-    (in_take_more m moved i d less at)
+pub described_one : (l : Limits) (id : ℕ) (s : Survivor) (p q r t : PassShown) (is root : Look) (n : ℕ) → Stays p q → Stays q r → Stays r t
+    → HoldsAsSeen p q (IsLook l id is) → HoldsAsSeen q r (IsLook l is.element.root root) → HoldsAsSeen r t (HasHadRounds id n) → IsKillable is.status
+    → s ≡ record { id = id; root = is.element.root; stage = is.element.stage; body = is.element.body; status = is.status; rounds = n; root_stage = root.element.stage; root_body = root.element.body }
+    → HoldsAsSeen p t (λ h. IsDescribed l.attempts h id s)
+described_one l id s p q r t is root n a b c look look_root had alive what e =
+    let both : IsPrefix p.seen r.seen = begins_trans p.seen q.seen r.seen a.sees b.sees in
+    let at_r : r.seen ≡ p.seen = between p.seen r.seen t.seen both c.sees e in
+    let at_q : q.seen ≡ p.seen = between p.seen q.seen r.seen a.sees b.sees at_r in
+    let item = look at_q in
+    let request = told_second (IsLook l is.element.root root) p.seen q.seen r.seen a.sees b.sees look_root at_r in
+    let rounds_are = told_second (HasHadRounds id n) p.seen r.seen t.seen both c.sees had e in
+    subst (λ z. IsDescribed l.attempts p.seen id z) (sym what) (
+      refl,
+      record {
+        item = is.element;
+        born = item.0;
+        root = refl;
+        stage = refl;
+        body = refl;
+        status = sym item.1;
+        alive = alive;
+        rounds_are = rounds_are.1;
+        request = root.element;
+        began = request.0;
+        root_stage = refl;
+        root_body = refl;
+      },
+    )
 
-pub carried_none : (limit : ℕ) (moved : List Moved) (h g : List Event) → AreCarried limit h g (take 0 moved)
-carried_none limit moved h g m at = elim at [ ]
+-- and of one more
+
+pub stand_then : (limit : ℕ) (survivors : List Survivor) (moved : List Moved) (i : ℕ) (d : Survivor) (e : Moved) (p q r : PassShown) → i < length survivors → i < length moved → Stays p q → Stays q r
+    → HoldsAsSeen p q (λ g. AllStandAgain limit g (take i survivors) (take i moved)) → HoldsAsSeen q r (λ g. StandsAgain limit g (get_or survivors i d) (get_or moved i e))
+    → HoldsAsSeen p r (λ g. AllStandAgain limit g (take (i + 1) survivors) (take (i + 1) moved))
+stand_then limit survivors moved i d e p q r less less' a b before one same =
+    let x = told_first (λ g. AllStandAgain limit g (take i survivors) (take i moved)) p.seen q.seen r.seen a.sees b.sees before same in
+    let y = told_second (λ g. StandsAgain limit g (get_or survivors i d) (get_or moved i e)) p.seen q.seen r.seen a.sees b.sees one same in
+    zip_more (StandsAgain limit p.seen) survivors moved i d e less less' x y
+
+pub described_then : (limit : ℕ) (ids : List ℕ) (found found' : List Survivor) (i d : ℕ) (s : Survivor) (p q r : PassShown) → i < length ids → found' ≡ found ++ s ∷ [] → Stays p q → Stays q r
+    → HoldsAsSeen p q (λ h. AreDescribed limit h (take i ids) found) → HoldsAsSeen q r (λ h. IsDescribed limit h (get_or ids i d) s) → HoldsAsSeen p r (λ h. AreDescribed limit h (take (i + 1) ids) found')
+described_then limit ids found found' i d s p q r less is a b before one same =
+    let x = told_first (λ h. AreDescribed limit h (take i ids) found) p.seen q.seen r.seen a.sees b.sees before same in
+    let y = told_second (λ h. IsDescribed limit h (get_or ids i d) s) p.seen q.seen r.seen a.sees b.sees one same in
+    subst (λ zs. AreDescribed limit p.seen zs found') (sym (take_more ids i d less))
+    (subst (AreDescribed limit p.seen (take i ids ++ get_or ids i d ∷ [])) (sym is) (zip_snoc (IsDescribed limit p.seen) (take i ids) found (get_or ids i d) s x y))
+
+pub described_end : (limit : ℕ) (h : List Event) (ids : List ℕ) (found : List Survivor) (i : ℕ) → length ids ≤ i → i ≤ length ids → AreDescribed limit h (take i ids) found → AreDescribed limit h ids found
+described_end limit h ids found i low high all = subst (λ zs. AreDescribed limit h zs found) (ap (λ k. take k ids) (let e : i ≡ length ids = omega (arith, low, high) in e) ∙ take-length ids) all
 
 -- roots in two tables
 
@@ -124,15 +157,3 @@ pub ascend_on : (id : Moved → ℕ) (low next : ℕ) (moved : List Moved) (i : 
     → AscendFrom id next (drop (i + 1) moved) → AscendFrom id low (drop i moved)
 ascend_on id low next moved i d less low_is next_is rest =
     subst (AscendFrom id low) (sym (drop_here moved i d less)) (low_is, subst (λ n. AscendFrom id n (drop (i + 1) moved)) next_is rest)
-
--- all checks together
-
-pub alike : (l : Limits) (alive : List Alive) (moved : List Moved) (p0 p1 q0 q1 : PassShown)
-    → AreTheSame alive moved → MovedAscend moved → AreFamilies moved
-    → ToldBoth p0 p1 q0 q1 (λ h g. AreCarried l.attempts h g moved) → ToldBoth p0 p1 q0 q1 (IsCarriedAlike l alive moved)
-alike l alive moved p0 p1 q0 q1 same ascend families carried e f = record {
-  same = same;
-  ascend = ascend;
-  families = families;
-  carried = carried e f;
-}

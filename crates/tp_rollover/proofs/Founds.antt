@@ -1,5 +1,5 @@
 -- Where as many were found alive as there are, nothing is alive in the rows after them.
-use Rattle.std.proofs.Common.{◌≡◌, ℕ, zero, suc, ◌+◌, ◌-◌, ◌<◌, ◌≤◌, Option, Some, None, List, [], ◌++◌, length, refl, sym, ◌∙◌, ap, subst, ⊎_elim, arith}
+use Rattle.std.proofs.Common.{◌≡◌, IfSome, ◌∷◌, ℕ, zero, suc, ◌+◌, ◌-◌, ◌<◌, ◌≤◌, Option, Some, None, List, [], ◌++◌, length, refl, sym, ◌∙◌, ap, subst, ⊎_elim, arith}
 use Rattle.std.proofs.lemmas.List.{length-append}
 use Rattle.std.proofs.lemmas.List.Sums.{sum_by-cons}
 use Rattle.std.specs.List.{range_with_len, sum_by}
@@ -11,11 +11,12 @@ use Rattle.tp_model.specs.declared.event.Event.{Event}
 use Rattle.tp_model.specs.Counts.{counts, is_held, is_parked, is_waiting}
 use Rattle.tp_model.specs.History.{In, IsBorn, born, element_of, status_of}
 use Rattle.tp_model.specs.Steps.{IsKillable, IsLegal, rows_of}
-use Rattle.tp_model.proofs.Bridges.{element_of-id}
+use Rattle.tp_model.proofs.Bridges.{append_nil, element_of-id, in_either, in_one}
 use Rattle.tp_model.proofs.RowTallies.{rows_sum}
 use Rattle.tp_rollover.specs.Finding.{AreAlive, AreAliveBelow, CountsAlive, IsAliveAt, listed}
-use Rattle.tp_rollover.specs.declared.alive.Alive.{Alive}
 use Rattle.tp_rollover.specs.declared.moved.Moved.{Moved}
+use Rattle.tp_rollover.specs.Survivors.{Ascending}
+use Rattle.tp_rollover.proofs.Lists.{ascending_more}
 use Rattle.tp_rollover.proofs.Others.{all_named, sum_both}
 use Rattle.tp_rollover.proofs.Tallies.{alive_one, by_rows, one_if, over}
 use Rattle.tp_manager.specs.Shown.{PassShown}
@@ -40,17 +41,17 @@ not_one (Consumed u) not = refl
 not_one (Parked n) not = absurd (not tt)
 not_one Killed not = refl
 
-none_some : (a : Alive) → None ≡ Some a → ⊥
+none_some : (a : ℕ) → None ≡ Some a → ⊥
 none_some a e = cc
 
-at_counted : (limit row : ℕ) (o : Option Alive) (h : List Event) → IsAliveAt limit row o h → row_alive limit h row ≡ length (listed o)
+at_counted : (limit row : ℕ) (o : Option ℕ) (h : List Event) → IsAliveAt limit row o h → row_alive limit h row ≡ length (listed o)
 at_counted limit row None h at = go (element_of h row) refl
   where
     go : (e : Option Element) → element_of h row ≡ e → row_alive limit h row ≡ 0
     go None is = ap (over (alive_in limit h)) is
     go (Some x) is =
         ap (over (alive_in limit h)) is
-        ∙ not_one (status_of limit h x.id) (λ alive. let s = (at.0 x is).1 (subst (λ i. IsKillable (status_of limit h i)) (element_of-id h row x is) alive) in none_some s.0 s.1)
+        ∙ not_one (status_of limit h x.id) (λ alive. none_some row ((at.0 x is).1 (subst (λ i. IsKillable (status_of limit h i)) (element_of-id h row x is) alive)))
 at_counted limit row (Some a) h at =
     let there = at.1 a refl in
     ap (over (alive_in limit h)) there.born ∙ alive_one (status_of limit h there.item.id) (subst (λ i. IsKillable (status_of limit h i)) (sym (element_of-id h row there.item there.born)) there.alive)
@@ -84,13 +85,13 @@ one_more F n =
     omega arith
 
 -- of the first rows each element that is alive was found, and no more were
-abbrev pub FoundBelow : ℕ → ℕ → List Alive → List Event → Type 0
+abbrev pub FoundBelow : ℕ → ℕ → List ℕ → List Event → Type 0
 FoundBelow limit row found h = AreAliveBelow limit row found h × (sum_by (row_alive limit h) (range_with_len 0 row) ≡ length found)
 
 pub found_none : (limit : ℕ) (h : List Event) → FoundBelow limit 0 [] h
 found_none limit h = (alive_none limit [] h, refl)
 
-found_next : (limit row : ℕ) (h : List Event) (found : List Alive) (o : Option Alive) → FoundBelow limit row found h → IsAliveAt limit row o h → FoundBelow limit (row + 1) (found ++ listed o) h
+found_next : (limit row : ℕ) (h : List Event) (found : List ℕ) (o : Option ℕ) → FoundBelow limit row found h → IsAliveAt limit row o h → FoundBelow limit (row + 1) (found ++ listed o) h
 found_next limit row h found o below at =
     let more = one_more (row_alive limit h) row in
     let one = at_counted limit row o h at in
@@ -98,12 +99,12 @@ found_next limit row h found o below at =
     let before = below.1 in
     (alive_next limit row h found o below.0 at, omega arith)
 
-pub found_then : (limit row : ℕ) (found : List Alive) (o : Option Alive) (p q r : PassShown) → Stays p q → Stays q r → HoldsAsSeen p q (FoundBelow limit row found) → HoldsAsSeen q r (IsAliveAt limit row o) → HoldsAsSeen p r (FoundBelow limit (row + 1) (found ++ listed o))
+pub found_then : (limit row : ℕ) (found : List ℕ) (o : Option ℕ) (p q r : PassShown) → Stays p q → Stays q r → HoldsAsSeen p q (FoundBelow limit row found) → HoldsAsSeen q r (IsAliveAt limit row o) → HoldsAsSeen p r (FoundBelow limit (row + 1) (found ++ listed o))
 found_then limit row found o p q r a b below at same =
     found_next limit row p.seen found o (told_first (FoundBelow limit row found) p.seen q.seen r.seen a.sees b.sees below same) (told_second (IsAliveAt limit row o) p.seen q.seen r.seen a.sees b.sees at same)
 
 -- where as many are found as an account counts
-module _ (l : Limits) (h : List Event) (n : ℕ) (found : List Alive) (legal : IsLegal l h) (counted : CountsAlive n (counts l.attempts h)) where
+module _ (l : Limits) (h : List Event) (n : ℕ) (found : List ℕ) (legal : IsLegal l h) (counted : CountsAlive n (counts l.attempts h)) where
   zero_at : (f : Element → ℕ) (a m : ℕ) → sum_by (λ i. over f (element_of h i)) (range_with_len a m) ≡ 0 → (x : Element) → IsBorn h x → a ≤ x.id → x.id < a + m → f x ≡ 0
   zero_at f a m total x is low high =
       ⊎_elim (λ e. sym (ap (over f) is) ∙ e) (λ named. elim named.1 [ ])
@@ -131,7 +132,7 @@ module _ (l : Limits) (h : List Event) (n : ℕ) (found : List Alive) (legal : I
           let is_one : one_if (is_held (Held u m)) ≡ 1 = refl in
           omega arith
 
-      none_alive : row < x.id + 1 → IsKillable (status_of l.attempts h x.id) → (a : Alive) × In a found × (a.id ≡ x.id)
+      none_alive : row < x.id + 1 → IsKillable (status_of l.attempts h x.id) → In x.id found
       none_alive low alive =
           let parts = split (row_alive l.attempts h) 0 row (rows_of l - row) (rows_of l) (omega arith) in
           let sum = total in
@@ -140,3 +141,19 @@ module _ (l : Limits) (h : List Event) (n : ℕ) (found : List Alive) (legal : I
           let nothing = zero_at (alive_in l.attempts h) (0 + row) (rows_of l - row) rest x is (omega arith) (omega arith) in
           let one = alive_one (status_of l.attempts h x.id) alive in
           absurd (omega arith)
+
+-- the ids ascend, and are below the next row
+pub record IsUpTo (row : ℕ) (found : List ℕ) : Type 0 where
+  pub once : Ascending 0 found
+  pub below : (i : ℕ) → In i found → i < row
+
+pub up_none : IsUpTo 0 []
+up_none = record { once = tt; below = λ i p. elim p [ ] }
+
+pub up_next : (row : ℕ) (found found' : List ℕ) (o : Option ℕ) → IsUpTo row found → IfSome o (λ id. id ≡ row) → found' ≡ found ++ listed o → IsUpTo (row + 1) found'
+up_next row found found' None up same is = subst (IsUpTo (row + 1)) (sym (is ∙ append_nil found)) (record { once = up.once; below = λ i p. (let less = up.below i p in omega arith) })
+up_next row found found' (Some id) up same is =
+    subst (IsUpTo (row + 1)) (sym (is ∙ ap (λ n. found ++ n ∷ []) same)) (record {
+      once = ascending_more 0 found row (omega arith) up.once up.below;
+      below = λ i p. ⊎_elim (λ q. (let less = up.below i q in omega arith)) (λ q. (let e = in_one q in omega (arith, e))) (in_either found (row ∷ []) p);
+    })

@@ -1,5 +1,5 @@
 -- The first of the passes, and the others.
-use Rattle.std.proofs.Common.{◌≡◌, ◌≢◌, ℕ, true, zero, Option, Result, Ok, Err, IfOk, Some, suc, ◌+◌, ◌<◌, All, None, List, [], ◌∷◌, length, get_or, refl, sym, ◌∙◌, ap, subst, inl, inr, arith}
+use Rattle.std.proofs.Common.{◌≡◌, ◌≢◌, ℕ, true, zero, Option, Result, Ok, Err, IfOk, OnOk, Some, suc, ◌+◌, ◌<◌, All, None, List, [], ◌∷◌, length, get_or, refl, sym, ◌∙◌, ap, subst, inl, inr, arith}
 use Rattle.std.proofs.lemmas.Bool.Decides.{eqb_tells}
 use Rattle.std.proofs.lemmas.List.Elements.{All-cons}
 use Rattle.std.specs.List.{AllZip}
@@ -53,3 +53,7 @@ pub first_told : {X E : Type 0} (r : Result X E) (Holds : X → List Event → T
     → IfOk r (λ x. ToldFirst ps (q ∷ qs) (Holds x))
 first_told (Ok x) Holds ps qs p q is told = subst (λ z. ToldFirst z (q ∷ qs) (Holds x)) (sym is) told
 first_told (Err e) Holds ps qs p q is told = told
+
+pub first_done : {X E : Type 0} (r : Result X E) (Holds : List Event → Type 0) (ps qs : List PassShown) (p q : PassShown) → ps ≡ p ∷ qs → OnOk r (HoldsAsSeen p q Holds) → OnOk r (ToldFirst ps (q ∷ qs) Holds)
+first_done (Ok x) Holds ps qs p q is told = subst (λ z. ToldFirst z (q ∷ qs) Holds) (sym is) told
+first_done (Err e) Holds ps qs p q is told = told

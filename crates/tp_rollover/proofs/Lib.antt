@@ -11,9 +11,10 @@ pub mod Founds
 pub mod Assembly
 pub mod Managing
 pub mod Tallies
-pub mod Attempts
 pub mod Steps
 pub mod Bearing
 pub mod Sums
 pub mod Replaying
 mod Worked
+pub mod Carrying
+pub mod Restored

@@ -3,10 +3,11 @@ use Rattle.std.proofs.Common.{◌≡◌, ℕ, ◌+◌, ◌≤◌, All, List, [],
 use Rattle.std.proofs.lemmas.List.{length-append, with_items_is}
 use Rattle.std.specs.Vec.{with_items}
 use Rattle.tp_model.specs.declared.types.Limits.{Limits}
+use Rattle.tp_model.specs.Steps.{AreLimits}
 use Rattle.tp_manager.specs.Accounts.{AreAll, AreNumberedFrom}
 use Rattle.tp_manager.specs.Shown.{IsKeptBy, IsOf, KeeperShown, PassShown}
-use Rattle.tp_rollover.specs.Faults.{AreFree, HasShort, IsDue}
-use Rattle.tp_rollover.specs.Managed.{IsManaged, IsRefusedFor, WasShort}
+use Rattle.tp_rollover.specs.Faults.{AreFree, HasShort, IsDue, IsRestoreDue}
+use Rattle.tp_rollover.specs.Managed.{IsManaged, IsRefusedFor, IsUnrestored, WasShort}
 use Rattle.tp_rollover.specs.declared.managed.Managed.{Managed}
 use Rattle.tp_rollover.specs.declared.moved.RollFault.{RollFault}
 use Rattle.tp_rollover.specs.declared.moved.RollFault.TheVariants.{BadLimits, Busy, Full, NoMemory, NoPass, Unequal}
@@ -33,6 +34,15 @@ refused_for l k olds news news' NoPass same some some' free short due = ⊎_elim
 refused_for l k olds news news' Busy same some some' free short due = due.2
 refused_for l k olds news news' Full same some some' free short due = (free, short due.1)
 refused_for l k olds news news' Unequal same some some' free short due = free
+
+-- and those that none of descriptions can be made for
+pub unrestored_for : (l k : Limits) (news news' : List PassShown) (fault : RollFault) → AreLimits l → 1 ≤ length news → (HasShort k news' → WasShort l) → IsRestoreDue k news news' fault → IsUnrestored l fault
+unrestored_for l k news news' NoMemory limits some short due = limits
+unrestored_for l k news news' BadLimits limits some short due = absurd due
+unrestored_for l k news news' NoPass limits some short due = absurd (not_empty news some due)
+unrestored_for l k news news' Busy limits some short due = absurd due
+unrestored_for l k news news' Full limits some short due = short due
+unrestored_for l k news news' Unequal limits some short due = limits
 
 -- the same manager, with as many passes, after calls by them
 module _ (m : Managed) (keeper : KeeperShown) (qs : List PassShown) (h : IsManaged m) (kept : IsKeptBy m.manager keeper) (given : keeper.given ≡ m.keeper.given) (own : All (IsOf m.manager) qs)

@@ -14,7 +14,8 @@ use Rattle.tp_model.specs.Steps.{IsKillable, IsLegal, rows_of}
 use Rattle.tp_model.proofs.Bridges.{element_of-id, is_born}
 use Rattle.tp_model.proofs.Later.{births_inside}
 use Rattle.tp_model.proofs.RowTallies.{rows_sum}
-use Rattle.tp_rollover.specs.Checks.{AreCarried, AreOnly, CountsOnly, MovedAscend}
+use Rattle.tp_rollover.specs.Checks.{AreOnly, CountsOnly, MovedAscend}
+use Rattle.tp_rollover.specs.Finding.{StandsAlive}
 use Rattle.tp_rollover.specs.Rolls.{AscendFrom, IsNamed}
 use Rattle.tp_rollover.specs.declared.moved.Moved.{Moved}
 use Rattle.tp_rollover.proofs.Tallies.{alive_one, by_rows, one_if, over}
@@ -93,7 +94,7 @@ by_status (Consumed u) a b c = refl
 by_status (Parked n) a b c = absurd (omega (arith, a))
 by_status Killed a b c = absurd (omega (arith, c))
 
-module _ (k : Limits) (limit : ℕ) (h g : List Event) (moved : List Moved) (same : k.attempts ≡ limit) (legal : IsLegal k g) (ascend : MovedAscend moved) (carried : AreCarried limit h g moved)
+module _ (k : Limits) (g : List Event) (moved : List Moved) (legal : IsLegal k g) (ascend : MovedAscend moved) (stand : (m : Moved) → In m moved → StandsAlive k.attempts m.new g)
     (only : CountsOnly (length moved) (counts k.attempts g)) where
   -- at its row an element counts as what its status says
   row_of : (f : Element → ℕ) (y : Element) → IsBorn g y → over f (element_of g y.id) ≡ f y
@@ -113,15 +114,14 @@ module _ (k : Limits) (limit : ℕ) (h g : List Event) (moved : List Moved) (sam
 
   alive_at : (m : Moved) → In m moved → over alive (element_of g m.new) ≡ 1
   alive_at m p =
-      let c = carried m p in
-      let killable : IsKillable (status_of k.attempts g m.new) = subst (λ n. IsKillable (status_of n g m.new)) (sym same) (subst IsKillable (sym c.status) c.alive) in
-      ap (over alive) c.is.0 ∙ alive_one (status_of k.attempts g c.new.id) (subst (λ i. IsKillable (status_of k.attempts g i)) (sym (element_of-id g m.new c.new c.is.0)) killable)
+      let c = stand m p in
+      ap (over alive) c.born ∙ alive_one (status_of k.attempts g c.item.id) (subst (λ i. IsKillable (status_of k.attempts g i)) (sym (element_of-id g m.new c.item c.born)) c.alive)
 
   inside : (m : Moved) → In m moved → m.new < 0 + rows_of k
   inside m p =
-      let c = carried m p in
-      let less = births_inside k g legal c.new (is_born g m.new c.new c.is.0) in
-      let is = element_of-id g m.new c.new c.is.0 in
+      let c = stand m p in
+      let less = births_inside k g legal c.item (is_born g m.new c.item c.born) in
+      let is = element_of-id g m.new c.item c.born in
       omega arith
 
   pub only_named : AreOnly k moved g

@@ -1,5 +1,5 @@
 -- Steps of one pass among others, and of many calls.
-use Rattle.std.proofs.Common.{◌≡◌, ◌⊎◌, ℕ, zero, suc, Option, None, Some, ◌++◌, inl, inr, length-append, ◌+◌, ◌*◌, ◌<◌, ◌≤◌, List, [], ◌∷◌, length, slice_set, get_or, refl, ap, subst, arith, length-drop}
+use Rattle.std.proofs.Common.{◌≡◌, ℕ, zero, suc, Option, None, Some, ◌++◌, length-append, ◌+◌, ◌*◌, ◌<◌, ◌≤◌, List, [], ◌∷◌, length, slice_set, get_or, refl, ap, subst, arith, length-drop}
 use Rattle.std.proofs.Math.Nat.{add-mul, mul-le-mul_right, suc-mul}
 use Rattle.tp_model.specs.declared.types.Limits.{Limits}
 use Rattle.tp_model.specs.declared.types.TheConstants.{MAX_ROUNDS}
@@ -7,9 +7,8 @@ use Rattle.tp_model.specs.Steps.{rows_of}
 use Rattle.tp_manager.specs.Accounts.{steps_together}
 use Rattle.tp_manager.specs.Bounds.{read_steps, requeue_steps}
 use Rattle.tp_manager.specs.Shown.{PassShown}
-use Rattle.tp_rollover.specs.Bounds.{PassMakes, PassesMake, attempt_steps, bear_steps, most_replay_steps, origin_steps, replay_steps, search_steps, steps_made}
+use Rattle.tp_rollover.specs.Bounds.{PassMakes, PassesMake, attempt_steps, bear_steps, most_replay_steps, replay_steps, search_steps, steps_made}
 use Rattle.tp_rollover.specs.Finding.{listed}
-use Rattle.tp_rollover.specs.declared.alive.Alive.{Alive}
 
 -- one of them makes them
 pub one_makes : (n : ℕ) (ps : List PassShown) (i : ℕ) (p d : PassShown) → i < length ps → PassMakes n (get_or ps i d) p → PassesMake n ps (slice_set ps i p)
@@ -53,9 +52,6 @@ share zero a b some = absurd (omega (arith, some))
 share (suc n) a b some = shared n a b
 
 -- elements of a family that are born together take no more than each by itself
-pub read_together : (l : Limits) (n : ℕ) → 1 ≤ n → origin_steps l n ≤ n * origin_steps l 1
-read_together l n some = subst (λ z. origin_steps l n ≤ n * z) (let e : read_steps l + read_steps l ≡ origin_steps l 1 = omega arith in e) (share n (read_steps l) (read_steps l) some)
-
 pub born_together : (l : Limits) (n : ℕ) → 1 ≤ n → bear_steps l n ≤ n * bear_steps l 1
 born_together l n some =
     let a = l.spare + l.spare + 21 in
@@ -74,23 +70,16 @@ rounds_next i n limit less = let e = next_of i n limit less in omega (arith, e, 
 pub rounds_done : (i n limit : ℕ) → i ≤ n → replay_steps (i * limit) i ≤ replay_steps (n * limit) n
 rounds_done i n limit less = let e = no_more i n limit less in omega (arith, e, less)
 
--- attempts, of which one shows that the limit allows some
-pub allowed_then : (P : Type 0) (ps qs rs : List PassShown) → PassesMake 0 ps qs ⊎ P → PassesMake 0 qs rs ⊎ P → PassesMake 0 ps rs ⊎ P
-allowed_then P ps qs rs (inr p) second = inr p
-allowed_then P ps qs rs (inl none) (inr p) = inr p
-allowed_then P ps qs rs (inl none) (inl more) = inl (omega (arith, none, more))
-
 -- so an element is replayed by as many as it can have had
 pub replayed : (further times limit : ℕ) (ps qs rs : List PassShown) → further ≤ MAX_ROUNDS → PassesMake (replay_steps (further * limit) further) ps qs → PassesMake (times * attempt_steps) qs rs
-    → PassesMake 0 qs rs ⊎ (1 ≤ limit) → (1 ≤ limit → times ≤ limit) → PassesMake (most_replay_steps limit) ps rs
-replayed further times limit ps qs rs few first second (inl none) within = let e = no_more further 3 limit few in omega (arith, e, few, first, none)
-replayed further times limit ps qs rs few first second (inr some) within = let e = no_more further 3 limit few in let t = within some in omega (arith, e, few, first, second, t)
+    → times ≤ limit → PassesMake (most_replay_steps limit) ps rs
+replayed further times limit ps qs rs few first second within = let e = no_more further 3 limit few in omega (arith, e, few, first, second, within)
 
 -- all rounds are made before the attempts of the last
 pub rounds_within : (further limit : ℕ) (ps qs : List PassShown) → further ≤ MAX_ROUNDS → PassesMake (replay_steps (further * limit) further) ps qs → PassesMake (most_replay_steps limit) ps qs
 rounds_within further limit ps qs few first = let e = no_more further 3 limit few in omega (arith, e, few, first)
 
 -- one more was put behind those that were found
-pub one_kept : (xs ys : List Alive) (found : Option Alive) (count : ℕ) → ys ≡ xs ++ listed found → length xs < count → length ys ≤ count
+pub one_kept : (xs ys : List ℕ) (found : Option ℕ) (count : ℕ) → ys ≡ xs ++ listed found → length xs < count → length ys ≤ count
 one_kept xs ys None count is less = let e = ap length is in let long = length-append xs [] in omega (arith, e, long, less)
 one_kept xs ys (Some a) count is less = let e = ap length is in let long = length-append xs (a ∷ []) in omega (arith, e, long, less)

@@ -1,22 +1,22 @@
 -- The worked rollover, computed.
 use Rattle.std.proofs.Common.{◌≡◌, ◌≢◌, ◌⊎◌, true, ℕ, Some, None, List, [], ◌∷◌, ◌++◌, refl, sym, ◌∙◌, ap, inl, inr, ⊎_elim, lit<, lit≤}
 use Rattle.tp_model.specs.declared.types.Element.{Element}
-use Rattle.tp_model.specs.declared.types.Status.TheVariants.{Held}
+use Rattle.tp_model.specs.declared.types.Status.TheVariants.{Held, Parked, Waiting}
 use Rattle.tp_model.specs.declared.event.Event.{Event}
 use Rattle.tp_model.specs.declared.event.Event.TheVariants.{Enqueue, Claim, Commit, Abort, Kill}
 use Rattle.tp_model.specs.Births.{request}
 use Rattle.tp_model.specs.Counts.{is_consumed}
-use Rattle.tp_model.specs.History.{In, here, there, UnitClaim, born, claim_by, end_by, status_of}
+use Rattle.tp_model.specs.History.{In, IsBorn, here, there, UnitClaim, born, claim_by, end_by, status_of}
 use Rattle.tp_model.specs.Steps.{IsKillable, IsLegal, IsOpen, Step}
-use Rattle.tp_model.proofs.Bridges.{find_in, in_one}
-use Rattle.tp_model.proofs.Histories.{legal_empty, legal_more, open_before}
+use Rattle.tp_model.proofs.Bridges.{born_or_not, find_in, in_one}
+use Rattle.tp_model.proofs.Histories.{legal_empty, legal_more, open_before, unborn_waits}
 use Rattle.tp_model.proofs.Lists.{none_if, some_if}
-use Rattle.tp_rollover.specs.Checks.{AreCarried, AreFamilies, AreOnly}
-use Rattle.tp_rollover.specs.Finding.{AreAlive}
-use Rattle.tp_rollover.specs.Phases.{IsCarriedWhole}
-use Rattle.tp_rollover.specs.Rolls.{IsCarried, IsNamed}
-use Rattle.tp_rollover.specs.Worked.{WorkedPair, anew, before, first_moved, output, second_moved, small, word}
-use Rattle.tp_rollover.specs.declared.alive.Alive.{Alive}
+use Rattle.tp_rollover.specs.Alike.{AllStandAgain}
+use Rattle.tp_rollover.specs.Checks.{AreFamilies, AreOnly}
+use Rattle.tp_rollover.specs.Rolls.{IsNamed}
+use Rattle.tp_rollover.specs.Survivors.{AreSurvivors, IsSurvivor, StandAgain}
+use Rattle.tp_rollover.specs.Worked.{WorkedPair, anew, before, described, first_moved, output, second_moved, small, survivor, word}
+use Rattle.tp_rollover.specs.declared.survivors.Survivor.{Survivor}
 use Rattle.tp_rollover.specs.declared.moved.Moved.{Moved}
 use Rattle.tp_rollover.proofs.Assembly.{rolled}
 
@@ -141,26 +141,37 @@ park_anew = record { pass = lit< tt; taking = record { pass = 0; item = 2; attem
 legal_anew : IsLegal small anew
 legal_anew = legal_more small _ _ (legal_more small _ _ (legal_more small claimed_once _ legal_once bear_two) claim_anew) park_anew
 
-abbrev found : List Alive
-found = record { id = 2; root = 0 } ∷ record { id = 3; root = 0 } ∷ []
-
 abbrev both : List Moved
 both = first_moved ∷ second_moved ∷ []
 
--- how an element of the old manager was found
-abbrev Found : Element → Type 0
-Found x = ((u n : ℕ) → ¬ (status_of 1 before x.id ≡ Held u n)) × (IsKillable (status_of 1 before x.id) → (a : Alive) × In a found × (a.id ≡ x.id))
+-- an element of the old manager that is alive is described
+abbrev Described : Element → Type 0
+Described x = ((u n : ℕ) → ¬ (status_of 1 before x.id ≡ Held u n)) × (IsKillable (status_of 1 before x.id) → (s : Survivor) × In s described × (s.id ≡ x.id))
 
-all_found : AreAlive small found before
-all_found x is less = from_each Found (born before) x
-    ((λ u n p. absurd cc, λ k. absurd k), ((λ u n p. absurd cc, λ k. absurd k), ((λ u n p. absurd cc, λ k. (record { id = 2; root = 0 }, here, refl)), ((λ u n p. absurd cc, λ k. (record { id = 3; root = 0 }, there here, refl)), tt))))
+each_element : (x : Element) → IsBorn before x → Described x
+each_element x is = from_each Described (born before) x
+    ((λ u n p. absurd cc, λ k. absurd k), ((λ u n p. absurd cc, λ k. absurd k), ((λ u n p. absurd cc, λ k. (survivor 2 2 20 (Waiting 0), here, refl)), ((λ u n p. absurd cc, λ k. (survivor 3 3 30 (Parked 1), there here, refl)), tt))))
     (find_in x.id (born before) x is).0
 
-all_carried : AreCarried 1 before anew both
-all_carried m p = from_each (IsCarried 1 before anew) both m (
-  record { old = output 2 2 20; new = output 1 2 20; was = (refl, refl); is = (refl, refl); alive = tt; stage = refl; body = refl; status = refl; rounds_are = refl; request = (request 0 1 (word 5), refl, refl); itself = λ e. absurd cc },
-  (record { old = output 3 3 30; new = output 2 3 30; was = (refl, refl); is = (refl, refl); alive = tt; stage = refl; body = refl; status = refl; rounds_are = refl; request = (request 0 1 (word 5), refl, refl); itself = λ e. absurd cc }, tt),
-) p
+so_described : AreSurvivors small before described
+so_described = record {
+  each = λ x is alive. (each_element x is).1 alive;
+  described = λ s p. from_each (IsSurvivor 1 before) described s (
+    record { item = output 2 2 20; born = refl; root = refl; stage = refl; body = refl; status = refl; alive = tt; rounds_are = refl; request = request 0 1 (word 5); began = refl; root_stage = refl; root_body = refl },
+    (record { item = output 3 3 30; born = refl; root = refl; stage = refl; body = refl; status = refl; alive = tt; rounds_are = refl; request = request 0 1 (word 5); began = refl; root_stage = refl; root_body = refl }, tt),
+  ) p;
+  once = (lit≤ tt, (lit≤ tt, tt));
+  idle = λ i u n held. ⊎_elim
+      (λ t. (each_element t.0 t.1).0 u n (ap (status_of 1 before) t.2 ∙ held))
+      (λ unborn. (let q : Waiting 0 ≡ Held u n = sym (unborn_waits small before legal_before i unborn) ∙ held in absurd cc))
+      (born_or_not before i);
+}
+
+stand_both : AllStandAgain 1 anew described both
+stand_both = (
+  record { named = (refl, refl); item = output 1 2 20; born = refl; root = refl; stage = refl; body = refl; status = refl; alive = tt; rounds_are = refl; request = request 0 1 (word 5); began = refl; by_client = refl; root_stage = refl; root_body = refl; itself = λ e. absurd cc },
+  (record { named = (refl, refl); item = output 2 3 30; born = refl; root = refl; stage = refl; body = refl; status = refl; alive = tt; rounds_are = refl; request = request 0 1 (word 5); began = refl; by_client = refl; root_stage = refl; root_body = refl; itself = λ e. absurd cc }, tt),
+)
 
 -- both are of the family of 0, in either manager
 abbrev OfOne : Moved → Type 0
@@ -179,12 +190,14 @@ Told y = IsNamed (λ m. m.new) y.id both ⊎ (is_consumed (status_of 1 anew y.id
 all_told : AreOnly small both anew
 all_told y is less = from_each Told (born anew) y (inr refl, (inl (first_moved, here, refl), (inl (second_moved, there here, refl), tt))) (find_in y.id (born anew) y is).0
 
-whole : IsCarriedWhole small small found both before anew
-whole = record { alike = record { same = refl; ascend = ((lit≤ tt, (lit≤ tt, tt)), (lit≤ tt, (lit≤ tt, tt))); families = one_family; carried = all_carried }; only = all_told }
+stand : StandAgain small anew described both
+stand = record { each = stand_both; once = ((lit≤ tt, (lit≤ tt, tt)), (lit≤ tt, (lit≤ tt, tt))); families = one_family; rest = all_told }
 
 pub pair : WorkedPair
 pair = record {
-  over = rolled small small before (before ++ Kill 0 2 ∷ Kill 0 3 ∷ []) anew found both refl legal_before legal_after legal_anew all_found whole refl;
+  described_so = so_described;
+  again = stand;
+  over = rolled small small before (before ++ Kill 0 2 ∷ Kill 0 3 ∷ []) anew described both refl legal_after legal_anew so_described stand refl;
   waits = refl;
   parked = refl;
   counts_before = refl;

@@ -5,11 +5,10 @@ use Rattle.tp_model.specs.declared.event.Event.{Event}
 use Rattle.tp_model.specs.History.{In, events_by}
 use Rattle.tp_manager.specs.Shown.{KeeperShown, PassShown}
 use Rattle.tp_alone.specs.Thread.{AreTogether}
-use Rattle.tp_rollover.specs.Finding.{AreAlive}
-use Rattle.tp_rollover.specs.Phases.{IsCarriedWhole}
 use Rattle.tp_rollover.specs.Rolls.{RollsOver}
-use Rattle.tp_rollover.specs.declared.alive.Alive.{Alive}
+use Rattle.tp_rollover.specs.Survivors.{AreSurvivors, StandAgain}
 use Rattle.tp_rollover.specs.declared.moved.Moved.{Moved}
+use Rattle.tp_rollover.specs.declared.survivors.Survivor.{Survivor}
 
 -- the history of these passes: it has their events, and nobody else's
 pub record IsHistoryOf (keeper : KeeperShown) (passes : List PassShown) (h : List Event) : Type 0 where
@@ -32,7 +31,7 @@ pub record IsReadyToKill (l k : Limits) (old' new' : KeeperShown) (olds olds' ne
   pub history : IsHistoryOf old' olds old'.seen
   pub old_together : AreTogether l old' olds' old'.seen
   pub new_together : AreTogether k new' news' new'.seen
-  pub alive : List Alive
-  pub found : AreAlive l alive old'.seen
-  pub whole : IsCarriedWhole l k alive moved old'.seen new'.seen
+  pub survivors : List Survivor
+  pub found : AreSurvivors l old'.seen survivors
+  pub again : StandAgain k new'.seen survivors moved
   pub some : 1 ≤ length olds'

@@ -13,6 +13,7 @@ use Rattle.tp_manager.specs.Bounds.{abort_steps, account_steps, claim_id_steps, 
 use Rattle.tp_manager.specs.Bounds.{kill_steps, read_steps, requeue_steps, rounds_steps, submit_steps}
 use Rattle.tp_manager.specs.Shown.{KeeperShown, PassShown}
 use Rattle.tp_rollover.specs.declared.moved.Moved.{Moved}
+use Rattle.tp_rollover.specs.declared.survivors.Survivor.{Survivor}
 
 -- the steps that these passes have made since they were given out: a trace has an entry for each
 abbrev pub steps_made : List PassShown → ℕ
@@ -50,32 +51,29 @@ attempts_had other = 0
 abbrev pub tries_had : ℕ → List Event → ℕ → ℕ
 tries_had limit h i = attempts_had (status_of limit h i) + rounds h i * limit
 
--- how many all of these have had after this history, by their ids there
-abbrev pub all_tries : (Moved → ℕ) → ℕ → List Event → List Moved → ℕ
-all_tries id limit h [] = 0
-all_tries id limit h (m ∷ ms) = tries_had limit h (id m) + all_tries id limit h ms
+-- how many all of these have had after this history, by their ids in the new manager
+abbrev pub all_tries : ℕ → List Event → List Moved → ℕ
+all_tries limit g [] = 0
+all_tries limit g (m ∷ ms) = tries_had limit g m.new + all_tries limit g ms
 
 -- and how many further rounds
-abbrev pub all_rounds : (Moved → ℕ) → List Event → List Moved → ℕ
-all_rounds id h [] = 0
-all_rounds id h (m ∷ ms) = rounds h (id m) + all_rounds id h ms
+abbrev pub all_rounds : List Event → List Moved → ℕ
+all_rounds g [] = 0
+all_rounds g (m ∷ ms) = rounds g m.new + all_rounds g ms
 
 -- the search for n that are alive reads each row, and none where nothing is alive
 abbrev pub search_steps : Limits → ℕ → ℕ
 search_steps l zero = 0
 search_steps l (suc n) = rows_of l * read_steps l
 
--- n elements of a family are born together: so many are read, the root to be copied and each of them
-abbrev pub origin_steps : Limits → ℕ → ℕ
-origin_steps l n = read_steps l + n * read_steps l
+-- an element that is alive is read, its root, and how many rounds it had
+abbrev pub describe_steps : Limits → ℕ
+describe_steps l = read_steps l + read_steps l + rounds_steps
 
--- and a copy of the root is submitted, claimed, and committed with them and one that carries the family on
+-- n elements of a family are born together: a copy of the root is submitted, claimed, and committed with them
+-- and one that carries the family on
 abbrev pub bear_steps : Limits → ℕ → ℕ
 bear_steps l n = submit_steps l + (claim_id_steps + commit_steps l (n + 1))
-
--- an element is read, and how many rounds it had
-abbrev pub past_steps : Limits → ℕ
-past_steps l = read_steps l + rounds_steps
 
 -- an attempt that is given up
 abbrev pub attempt_steps : ℕ
@@ -85,35 +83,37 @@ attempt_steps = claim_id_steps + abort_steps
 abbrev pub replay_steps : ℕ → ℕ → ℕ
 replay_steps attempts further = attempts * attempt_steps + further * requeue_steps
 
--- what these have had after this history, by their ids there
-abbrev pub replays_of : (Moved → ℕ) → ℕ → List Event → List Moved → ℕ
-replays_of id limit h moved = replay_steps (all_tries id limit h moved) (all_rounds id h moved)
+-- what these have had after this history, by their ids in the new manager
+abbrev pub replays_of : ℕ → List Event → List Moved → ℕ
+replays_of limit g moved = replay_steps (all_tries limit g moved) (all_rounds g moved)
+
+-- what was described of one, with this attempt limit, and of all of them
+abbrev pub replay_of : ℕ → Survivor → ℕ
+replay_of limit s = replay_steps (attempts_had s.status + s.rounds * limit) s.rounds
+
+abbrev pub replays_for : ℕ → List Survivor → ℕ
+replays_for limit [] = 0
+replays_for limit (s ∷ ss) = replay_of limit s + replays_for limit ss
 
 -- all that an element can have had, with this attempt limit
 abbrev pub most_replay_steps : ℕ → ℕ
 most_replay_steps limit = replay_steps (tries limit) MAX_ROUNDS
 
--- a new element is compared with its old one: its past is read, and its root
+-- a new element is compared with what was described: it is read, how many rounds it had, and its root
 abbrev pub compare_steps : Limits → ℕ
-compare_steps l = past_steps l + read_steps l
+compare_steps l = read_steps l + rounds_steps + read_steps l
 
--- what the old passes read of an element that is carried over: at its birth, and for its replay
-abbrev pub carry_steps : Limits → ℕ
-carry_steps l = origin_steps l 1 + past_steps l
-
--- what the new passes make for it, with all that it can have had
+-- what the new passes make for each, with all that it can have had
 abbrev pub renew_steps : Limits → ℕ
 renew_steps l = bear_steps l 1 + most_replay_steps l.attempts
 
--- the p old passes, up to the kills of n elements: an account, the search, what is read of each, at last to
--- compare it, and they gather
-abbrev pub prepare_steps : Limits → ℕ → ℕ → ℕ
-prepare_steps l p n = account_steps l p + (search_steps l n + n * carry_steps l + n * past_steps l)
-    + gather_steps l p
+-- the p old passes find n elements alive: an account, the search, each is described, and they gather
+abbrev pub survey_steps : Limits → ℕ → ℕ → ℕ
+survey_steps l p n = account_steps l p + (search_steps l n + n * describe_steps l) + gather_steps l p
 
--- and with these, after which they gather once more
+-- and with the kills of them, after which they gather once more
 abbrev pub old_steps : Limits → ℕ → ℕ → ℕ
-old_steps l p n = prepare_steps l p n + (n * kill_steps l + gather_steps l p)
+old_steps l p n = survey_steps l p n + (n * kill_steps l + gather_steps l p)
 
 -- the q new passes, once n elements are there: an account, each is compared, and they gather
 abbrev pub check_steps : Limits → ℕ → ℕ → ℕ
@@ -123,9 +123,9 @@ check_steps l q n = account_steps l q + n * compare_steps l + gather_steps l q
 abbrev pub most_new_steps : Limits → ℕ → ℕ → ℕ
 most_new_steps l q n = n * renew_steps l + check_steps l q n
 
--- with the attempts and rounds that they have had after this history, by their ids there
+-- with the attempts and rounds that they have had after this history
 abbrev pub new_steps : Limits → ℕ → List Event → List Moved → ℕ
-new_steps l q g moved = (length moved * bear_steps l 1 + replays_of (λ m. m.new) l.attempts g moved)
+new_steps l q g moved = (length moved * bear_steps l 1 + replays_of l.attempts g moved)
     + check_steps l q (length moved)
 
 -- a manager that is made for n elements gives its passes out before, by a step each
@@ -138,7 +138,7 @@ successor_steps l g moved = l.parts + new_steps l l.parts g moved
 -- in round numbers, with A attempts in a round and S spare blocks: what the old passes make for each element,
 -- and what the new ones do
 pub record PerElement (l : Limits) : Type 0 where
-  pub old : carry_steps l + past_steps l + kill_steps l ≡ 40 * l.attempts + 41
+  pub old : describe_steps l + kill_steps l ≡ 24 * l.attempts + 24
   pub new : bear_steps l 1 + compare_steps l ≡ 16 * l.attempts + 2 * l.spare + 44
   pub replay : (attempts further : ℕ) → replay_steps attempts further ≡ 11 * attempts + 5 * further
   pub most : renew_steps l + compare_steps l ≡ 60 * l.attempts + 2 * l.spare + 59

@@ -1,30 +1,14 @@
--- What the checks of a rollover find. h is the old manager's history, g the new one's.
-use Rattle.std.specs.Prelude.{◌≡◌, ◌⊎◌, ◌↔◌, ℕ, ◌+◌, ◌<◌, true, Option, None, Some, List, map, slice_index_or}
+-- What the checks of a rollover find. g is the new manager's history.
+use Rattle.std.specs.Prelude.{◌≡◌, ◌⊎◌, ◌↔◌, ℕ, ◌+◌, ◌<◌, true, Option, None, Some, List, slice_index_or}
 use Rattle.tp_model.specs.declared.types.Counts.{Counts}
 use Rattle.tp_model.specs.declared.types.Element.{Element}
 use Rattle.tp_model.specs.declared.types.Limits.{Limits}
-use Rattle.tp_model.specs.declared.types.Look.{Look}
 use Rattle.tp_model.specs.declared.event.Event.{Event}
 use Rattle.tp_model.specs.Counts.{is_consumed}
 use Rattle.tp_model.specs.History.{In, IsBorn, status_of}
-use Rattle.tp_model.specs.Steps.{IsKillable, rows_of}
-use Rattle.tp_rollover.specs.Rolls.{AscendFrom, IsCarried, IsNamed}
-use Rattle.tp_rollover.specs.declared.alive.Alive.{Alive}
+use Rattle.tp_model.specs.Steps.{rows_of}
+use Rattle.tp_rollover.specs.Rolls.{AscendFrom, IsNamed}
 use Rattle.tp_rollover.specs.declared.moved.Moved.{Moved}
-
--- the one look shows an element that is alive, the other one that stands alike, with these ids
-pub record IsAlike (was is : Look) (m : Moved) : Type 0 where
-  pub alive : IsKillable was.status
-  pub status : is.status ≡ was.status
-  pub stage : is.element.stage ≡ was.element.stage
-  pub body : is.element.body ≡ was.element.body
-  pub old_root : was.element.root ≡ m.old_root
-  pub new_root : is.element.root ≡ m.new_root
-  pub itself : m.old ≡ m.old_root → m.new ≡ m.new_root
-
--- each of these stands in the new manager as in the old one
-abbrev pub AreCarried : ℕ → List Event → List Event → List Moved → Type 0
-AreCarried limit h g moved = (m : Moved) → In m moved → IsCarried limit h g m
 
 -- each that is born there is named or consumed
 abbrev pub AreOnly : Limits → List Moved → List Event → Type 0
@@ -36,10 +20,6 @@ pub record CountsOnly (n : ℕ) (c : Counts) : Type 0 where
   pub alive : c.waiting + c.parked ≡ n
   pub held : c.held ≡ 0
   pub killed : c.killed ≡ 0
-
--- these name the same elements of the old manager
-abbrev pub AreTheSame : List Alive → List Moved → Type 0
-AreTheSame alive moved = map (λ (a : Alive). a.id) alive ≡ map (λ (m : Moved). m.old) moved
 
 -- the ids ascend in both managers
 abbrev pub MovedAscend : List Moved → Type 0

@@ -42,3 +42,16 @@ IsDue l k olds news news' BadLimits = k.attempts ≢ l.attempts
 IsDue l k olds news news' NoPass = (k.attempts ≡ l.attempts) × LacksPass olds news
 IsDue l k olds news news' Busy = (k.attempts ≡ l.attempts) × (¬ LacksPass olds news) × ¬ AreFree olds
 IsDue l k olds news news' late = MayBegin l k olds news × IsLate k news' late
+
+-- when each fault of a survey comes: the first two before any call, in this order
+abbrev pub IsSurveyDue : List PassShown → RollFault → Type 0
+IsSurveyDue passes NoPass = passes ≡ []
+IsSurveyDue passes Busy = ¬ AreFree passes
+IsSurveyDue passes NoMemory = AreFree passes
+IsSurveyDue passes Unequal = AreFree passes
+IsSurveyDue passes other = ⊥
+
+-- when each fault of a restoration comes: the first one before any call
+abbrev pub IsRestoreDue : Limits → List PassShown → List PassShown → RollFault → Type 0
+IsRestoreDue k passes passes' NoPass = passes ≡ []
+IsRestoreDue k passes passes' late = IsLate k passes' late

@@ -1,5 +1,6 @@
 -- What is found alive.
 use Rattle.std.specs.Prelude.{◌≡◌, ℕ, ◌+◌, ◌<◌, Option, Some, None, List, [], ◌∷◌}
+use Rattle.std.specs.List.{AllZip}
 use Rattle.tp_model.specs.declared.types.Counts.{Counts}
 use Rattle.tp_model.specs.declared.types.Element.{Element}
 use Rattle.tp_model.specs.declared.types.Limits.{Limits}
@@ -8,7 +9,8 @@ use Rattle.tp_model.specs.declared.event.Event.{Event}
 use Rattle.tp_model.specs.Counts.{counts}
 use Rattle.tp_model.specs.History.{In, IsBorn, element_of, status_of}
 use Rattle.tp_model.specs.Steps.{IsKillable, IsLegal, rows_of}
-use Rattle.tp_rollover.specs.declared.alive.Alive.{Alive}
+use Rattle.tp_rollover.specs.Survivors.{AreSurvivors, IsSurvivor}
+use Rattle.tp_rollover.specs.declared.survivors.Survivor.{Survivor}
 
 -- the element of this row is alive
 pub record StandsAlive (limit row : ℕ) (h : List Event) : Type 0 where
@@ -16,21 +18,21 @@ pub record StandsAlive (limit row : ℕ) (h : List Event) : Type 0 where
   pub born : element_of h row ≡ Some item
   pub alive : IsKillable (status_of limit h row)
 
--- the element of this row isn't held, and is what was found where it is alive, and only then
-abbrev pub IsAliveAt : ℕ → ℕ → Option Alive → List Event → Type 0
+-- the element of this row isn't held, and its id was found where it is alive, and only then
+abbrev pub IsAliveAt : ℕ → ℕ → Option ℕ → List Event → Type 0
 IsAliveAt limit row found h = ((x : Element) → element_of h row ≡ Some x
     → ((u n : ℕ) → ¬ (status_of limit h row ≡ Held u n))
-    × (IsKillable (status_of limit h row) → (a : Alive) × (found ≡ Some a) × (a.id ≡ row)))
-    × ((a : Alive) → found ≡ Some a → StandsAlive limit row h)
+    × (IsKillable (status_of limit h row) → found ≡ Some row))
+    × ((id : ℕ) → found ≡ Some id → StandsAlive limit row h)
 
--- the same of all born elements below this row: each is among these
-abbrev pub AreAliveBelow : ℕ → ℕ → List Alive → List Event → Type 0
+-- the same of all born elements below this row: the id of each is among these
+abbrev pub AreAliveBelow : ℕ → ℕ → List ℕ → List Event → Type 0
 AreAliveBelow limit row found h = (x : Element) → IsBorn h x → x.id < row
     → ((u n : ℕ) → ¬ (status_of limit h x.id ≡ Held u n))
-    × (IsKillable (status_of limit h x.id) → (a : Alive) × In a found × (a.id ≡ x.id))
+    × (IsKillable (status_of limit h x.id) → In x.id found)
 
 -- and of all rows
-abbrev pub AreAlive : Limits → List Alive → List Event → Type 0
+abbrev pub AreAlive : Limits → List ℕ → List Event → Type 0
 AreAlive l found h = AreAliveBelow l.attempts (rows_of l) found h
 
 -- an account counts so many elements that wait or are parked, and none that is held
@@ -38,11 +40,24 @@ pub record CountsAlive (n : ℕ) (c : Counts) : Type 0 where
   pub alive : c.waiting + c.parked ≡ n
   pub held : c.held ≡ 0
 
--- these are all that are alive, if a legal history's account counts so many
-abbrev pub AreAliveOf : Limits → ℕ → List Alive → List Event → Type 0
+-- these are the ids of all that are alive, if a legal history's account counts so many
+abbrev pub AreAliveOf : Limits → ℕ → List ℕ → List Event → Type 0
 AreAliveOf l n found h = IsLegal l h → CountsAlive n (counts l.attempts h) → AreAlive l found h
 
 -- what was found, as a list
-abbrev pub listed : Option Alive → List Alive
+abbrev pub listed : Option ℕ → List ℕ
 listed None = []
-listed (Some a) = a ∷ []
+listed (Some id) = id ∷ []
+
+-- the element with this id is described so
+abbrev pub IsDescribed : ℕ → List Event → ℕ → Survivor → Type 0
+IsDescribed limit h id s = (s.id ≡ id) × IsSurvivor limit h s
+
+-- each of these is described, in their order
+abbrev pub AreDescribed : ℕ → List Event → List ℕ → List Survivor → Type 0
+AreDescribed limit h ids survivors = AllZip (IsDescribed limit h) ids survivors
+
+-- these are all that are alive, if a legal history's account counts so many
+abbrev pub AreSurvivorsOf : Limits → ℕ → List Event → List Survivor → Type 0
+AreSurvivorsOf l n h survivors = IsLegal l h → CountsAlive n (counts l.attempts h)
+    → AreSurvivors l h survivors

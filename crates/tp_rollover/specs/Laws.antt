@@ -1,5 +1,5 @@
 -- The laws over the pair of managers.
-use Rattle.std.specs.Prelude.{◌≡◌, ◌≢◌, ℕ, ◌+◌, List, length}
+use Rattle.std.specs.Prelude.{◌≡◌, ◌≢◌, ℕ, ◌+◌, ◌++◌, List, length}
 use mathlib.Core.List.{IsPrefix}
 use Rattle.tp_model.specs.declared.types.Element.{Element}
 use Rattle.tp_model.specs.declared.types.Limits.{Limits}
@@ -8,9 +8,11 @@ use Rattle.tp_model.specs.declared.event.Event.{Event}
 use Rattle.tp_model.specs.Counts.{counts}
 use Rattle.tp_model.specs.Families.{IsSettledFamily}
 use Rattle.tp_model.specs.History.{In, IsBorn, IsSettled, born, status_of}
-use Rattle.tp_model.specs.Steps.{IsLegal}
-use Rattle.tp_rollover.specs.Rolls.{RollsOver}
+use Rattle.tp_model.specs.Steps.{AreLimits, IsLegal}
+use Rattle.tp_rollover.specs.Rolls.{RollsOver, kills}
+use Rattle.tp_rollover.specs.Survivors.{AreSurvivors, StandAgain}
 use Rattle.tp_rollover.specs.declared.moved.Moved.{Moved}
+use Rattle.tp_rollover.specs.declared.survivors.Survivor.{Survivor}
 
 -- a family that is settled, as after a cancel, is settled in the new manager: at most replies of it were
 -- carried over
@@ -52,3 +54,13 @@ abbrev pub RolloverAddsUp : Type 0
 RolloverAddsUp =
     (l k : Limits) (c : ℕ) (h h' g : List Event) (moved : List Moved) → RollsOver l k c h h' g moved
     → AccountsAddUp l k h h' g moved
+
+-- What was described in one manager and stands again in another is what a rollover carries over: with the
+-- kills in the one it is a rollover. So all that holds of rollovers holds of a description that is made
+-- alive.
+abbrev pub RestoredIsRolledOver : Type 0
+RestoredIsRolledOver =
+    (l k : Limits) (h g : List Event) (survivors : List Survivor) (moved : List Moved)
+    → AreLimits l → k.attempts ≡ l.attempts → IsLegal l h → IsLegal k g
+    → AreSurvivors l h survivors → StandAgain k g survivors moved
+    → RollsOver l k 0 h (h ++ kills 0 moved) g moved

@@ -12,3 +12,5 @@ pub mod Faults
 pub mod Managed
 pub mod Bounds
 pub mod Births
+pub mod Alike
+pub mod Survivors

@@ -12,7 +12,7 @@ use Rattle.tp_rollover.specs.Faults.{AreFree, HasShort}
 use Rattle.tp_rollover.specs.declared.managed.Managed.{Managed}
 use Rattle.tp_rollover.specs.declared.moved.Moved.{Moved}
 use Rattle.tp_rollover.specs.declared.moved.RollFault.{RollFault}
-use Rattle.tp_rollover.specs.declared.moved.RollFault.TheVariants.{Busy, Full, NoMemory, Unequal}
+use Rattle.tp_rollover.specs.declared.moved.RollFault.TheVariants.{BadLimits, Busy, Full, NoMemory, Unequal}
 
 -- The pass has seen nothing and has done nothing: all rows of its part are left to it, it has drawn no spare
 -- block and knows of none, it has no unit open, and its marks and turns are at the first row.
@@ -37,8 +37,8 @@ pub record IsManaged (m : Managed) : Type 0 where
   pub parts : length m.passes.items ≡ m.manager.limits.parts
 
 -- It has gone on in another manager, of the same limits. No unit was open, and none is. From what the old
--- passes had done before the rollover went to what the new ones have seen. The old manager's keeper and passes
--- showed these at the last.
+-- passes had done before the rollover went to what the new ones have seen. The old manager's keeper and
+-- passes showed these at the last.
 pub record GoesOn (old new : Managed) (moved : List Moved) : Type 0 where
   pub keeper : KeeperShown
   pub passes : List PassShown
@@ -70,3 +70,18 @@ IsRefusedFor l passes NoMemory = AreFree passes
 IsRefusedFor l passes Full = AreFree passes × WasShort l
 IsRefusedFor l passes Unequal = AreFree passes
 IsRefusedFor l passes other = ⊥
+
+-- why it isn't surveyed: Busy where a unit is open, and else one of these
+abbrev pub IsUnsurveyed : List PassShown → RollFault → Type 0
+IsUnsurveyed passes Busy = ¬ AreFree passes
+IsUnsurveyed passes NoMemory = AreFree passes
+IsUnsurveyed passes Unequal = AreFree passes
+IsUnsurveyed passes other = ⊥
+
+-- why none with these limits is made of descriptions: Full only where one was short
+abbrev pub IsUnrestored : Limits → RollFault → Type 0
+IsUnrestored l BadLimits = ¬ AreLimits l
+IsUnrestored l NoMemory = AreLimits l
+IsUnrestored l Full = WasShort l
+IsUnrestored l Unequal = AreLimits l
+IsUnrestored l other = ⊥

@@ -15,8 +15,3 @@ seen_first (p ∷ ps) = p.seen
 -- the same of the first of these
 abbrev pub ToldFirst : List PassShown → List PassShown → (List Event → Type 0) → Type 0
 ToldFirst olds news Holds = seen_first news ≡ seen_first olds → Holds (seen_first olds)
-
--- the same of a pass of each of two managers
-abbrev pub ToldBoth : PassShown → PassShown → PassShown → PassShown → (List Event → List Event → Type 0)
-    → Type 0
-ToldBoth old new old' new' Holds = new.seen ≡ old.seen → new'.seen ≡ old'.seen → Holds old.seen old'.seen

@@ -3,6 +3,7 @@ use Rattle.std.specs.Prelude.{◌≡◌, ℕ, Some, List, [], ◌∷◌, ◌++�
 use Rattle.tp_model.specs.declared.types.Counts.{Counts}
 use Rattle.tp_model.specs.declared.types.Element.{Element}
 use Rattle.tp_model.specs.declared.types.Limits.{Limits}
+use Rattle.tp_model.specs.declared.types.Status.{Status}
 use Rattle.tp_model.specs.declared.types.Status.TheVariants.{Waiting, Parked}
 use Rattle.tp_model.specs.declared.event.Event.{Event}
 use Rattle.tp_model.specs.declared.event.Event.TheVariants.{Enqueue, Claim, Commit, Abort, Kill}
@@ -10,7 +11,9 @@ use Rattle.tp_model.specs.Births.{request}
 use Rattle.tp_model.specs.Counts.{counts}
 use Rattle.tp_model.specs.History.{status_of}
 use Rattle.tp_rollover.specs.Rolls.{RollsOver}
+use Rattle.tp_rollover.specs.Survivors.{AreSurvivors, StandAgain}
 use Rattle.tp_rollover.specs.declared.moved.Moved.{Moved}
+use Rattle.tp_rollover.specs.declared.survivors.Survivor.{Survivor}
 
 abbrev pub small : Limits
 small = record { parts = 1; rows = 8; units = 8; attempts = 1; spare = 0 }
@@ -46,8 +49,27 @@ counted_before = record { waiting = 1; held = 0; consumed = 2; parked = 1; kille
 abbrev pub counted_anew : Counts
 counted_anew = record { waiting = 1; held = 0; consumed = 1; parked = 1; killed = 0 }
 
--- this is a rollover, and it is none where an element that was alive is left out
+-- they are described so
+abbrev pub survivor : ℕ → ℕ → ℕ → Status → Survivor
+survivor id stage w status = record {
+  id = id;
+  root = 0;
+  stage = stage;
+  body = word w;
+  status = status;
+  rounds = 0;
+  root_stage = 1;
+  root_body = word 5;
+}
+
+abbrev pub described : List Survivor
+described = survivor 2 2 20 (Waiting 0) ∷ survivor 3 3 30 (Parked 1) ∷ []
+
+-- this is a rollover, and it is none where an element that was alive is left out; and these descriptions are
+-- of what is alive, which stands again so
 pub record WorkedPair : Type 0 where
+  pub described_so : AreSurvivors small before described
+  pub again : StandAgain small anew described (first_moved ∷ second_moved ∷ [])
   pub over : RollsOver small small 0 before (before ++ Kill 0 2 ∷ Kill 0 3 ∷ []) anew (first_moved
       ∷ second_moved ∷ [])
   pub waits : status_of 1 anew 1 ≡ Waiting 0

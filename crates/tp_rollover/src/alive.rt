@@ -1,10 +1,11 @@
-//! What is alive in the old manager.
+//! What is alive in a manager.
 ghost use Rattle.std.specs.Prelude.{◌≡◌, ◌≤◌, ◌++◌, IfOk, IfSome, OnOk, length};
 ghost use Rattle.tp_manager.specs.Bounds.{read_steps};
 ghost use Rattle.tp_manager.specs.Shown.{IsOf};
 ghost use Rattle.tp_alone.specs.Thread.{Stays};
 ghost use Rattle.tp_rollover.specs.Bounds.{PassMakes, search_steps};
 ghost use Rattle.tp_rollover.specs.Finding.{AreAliveOf, CountsAlive, IsAliveAt, listed};
+ghost use Rattle.tp_rollover.specs.Survivors.{Ascending};
 ghost use Rattle.tp_rollover.specs.Told.{HoldsAsSeen};
 
 use crate::looks::look;
@@ -13,30 +14,23 @@ use std::alloc::Global;
 use tp_manager::{Manager, Pass};
 use tp_model::types::{Account, Status};
 
-/// An element that waits or is parked, and its root.
-#[derive(Clone, Copy, Debug, PartialEq, Eq)]
-pub(crate) struct Alive {
-    pub id: u32,
-    pub root: u32,
-}
-
-/// The element of the row where it is alive, `None` where it isn't or none is born. It
-/// isn't held, since no pass has a unit open.
-fn alive_at(manager: &Manager, pass: &mut Pass, row: u32) -> Result<Option<Alive>, Stop>
+/// The row where its element is alive, that is where it waits or is parked, and `None` where it isn't or none
+/// is born. It isn't held, since no pass has a unit open.
+fn alive_at(manager: &Manager, pass: &mut Pass, row: u32) -> Result<Option<u32>, Stop>
     requires own { IsOf manager.now pass.old }
     ensures own { IsOf manager.now pass.new }
     ensures stays { Stays pass.old pass.new }
     ensures steps { PassMakes (read_steps manager.now.limits) pass.old pass.new }
     ensures told { IfOk result (λ found.
         HoldsAsSeen pass.old pass.new (IsAliveAt manager.now.limits.attempts row found)) }
+    ensures itself { IfOk result (λ found. IfSome found (λ id. id ≡ row)) }
 {
     let Some(found) = look(manager, pass, row) else {
         return Ok(None);
     };
-    let root = found.element.root;
     match found.status {
-        Status::Waiting { attempts: _ } => Ok(Some(Alive { id: row, root })),
-        Status::Parked { attempts: _ } => Ok(Some(Alive { id: row, root })),
+        Status::Waiting { attempts: _ } => Ok(Some(row)),
+        Status::Parked { attempts: _ } => Ok(Some(row)),
         Status::Held {
             unit: _,
             attempt: _,
@@ -46,8 +40,8 @@ fn alive_at(manager: &Manager, pass: &mut Pass, row: u32) -> Result<Option<Alive
     }
 }
 
-/// Puts what was found behind the others.
-fn keep(found: &mut Vec<Alive>, one: Option<Alive>) -> Result<(), Stop>
+/// Puts the id that was found behind the others.
+fn keep(found: &mut Vec<u32>, one: Option<u32>) -> Result<(), Stop>
     ensures kept { OnOk result (found.new.items ≡ found.old.items ++ listed one) }
 {
     match one {
@@ -73,19 +67,20 @@ pub(crate) fn alive_in(account: &Account) -> Option<usize>
     }
 }
 
-/// All elements that are alive, in the order of their ids, where there are so many. The search ends with the
-/// last one.
+/// The ids of all elements that are alive, ascending, where there are so many. The search ends with the last
+/// one.
 pub(crate) fn find_alive(
     alloc: Global,
     manager: &Manager,
     pass: &mut Pass,
     count: usize,
-) -> Result<Vec<Alive>, Stop>
+) -> Result<Vec<u32>, Stop>
     requires own { IsOf manager.now pass.old }
     ensures own { IsOf manager.now pass.new }
     ensures stays { Stays pass.old pass.new }
     ensures steps { PassMakes (search_steps manager.now.limits count) pass.old pass.new }
     ensures few { IfOk result (λ found. length found.items ≤ count) }
+    ensures once { IfOk result (λ found. Ascending 0 found.items) }
     ensures told { IfOk result (λ found.
         HoldsAsSeen pass.old pass.new (AreAliveOf manager.now.limits count found.items)) }
 {

@@ -1,19 +1,17 @@
-//! What is alive in the old manager is born in the new one. Nothing is promised here but that the old pass
-//! only looks, and that the new passes stay those of their manager: what was born is checked afterwards.
+//! What was described is born in a manager. Nothing is promised here but how many steps that takes, and that
+//! the passes stay those of their manager: what was born is checked afterwards.
 ghost use Rattle.std.specs.Prelude.{◌≡◌, ◌+◌, ◌*◌, ◌≤◌, All, IfOk, OnOk, length};
-ghost use Rattle.tp_manager.specs.Bounds.{claim_id_steps, commit_steps, read_steps, submit_steps};
+ghost use Rattle.tp_manager.specs.Bounds.{claim_id_steps, commit_steps, submit_steps};
 ghost use Rattle.tp_manager.specs.Shown.{IsOf};
-ghost use Rattle.tp_alone.specs.Thread.{Stays};
-ghost use Rattle.tp_rollover.specs.Bounds.{PassMakes, PassesMake, bear_steps, origin_steps};
+ghost use Rattle.tp_rollover.specs.Bounds.{PassesMake, bear_steps};
 ghost use Rattle.tp_rollover.specs.Births.{born_of};
 ghost use Rattle.tp_rollover.specs.Passes.{numbers};
 
-use crate::alive::Alive;
 use crate::calls::{bear_by, submit_by};
-use crate::looks::look;
 use crate::moved::Moved;
 use crate::places::Cursor;
 use crate::stops::Stop;
+use crate::survivors::Survivor;
 use std::alloc::Global;
 use tp_manager::{Manager, Pass};
 use tp_model::types::{Draft, Limits};
@@ -41,11 +39,16 @@ fn home_of(limits: Limits, id: u32) -> usize {
     home.min(u32::from(limits.parts)) as usize
 }
 
-/// A place for the family of each root up to the highest of these, with how many of its elements are alive.
-/// So many elements the manager has room for.
-fn count_families(alloc: Global, capacity: u32, alive: &[Alive]) -> Result<Vec<Family>, Stop> {
+/// A place for the family of each root up to the highest of these, with how many of its elements are alive. So
+/// many elements the manager has room for in which they are: `Unequal` where an id or a root is past that, or an
+/// element of a family is the root of another one.
+fn count_families(
+    alloc: Global,
+    capacity: u32,
+    survivors: &[Survivor],
+) -> Result<Vec<Family>, Stop> {
     let mut highest: u32 = 0;
-    for one in alive {
+    for one in survivors {
         highest = highest.max(one.root);
     }
     let places = highest.saturating_add(1).min(capacity);
@@ -56,17 +59,24 @@ fn count_families(alloc: Global, capacity: u32, alive: &[Alive]) -> Result<Vec<F
     let Ok(mut families) = Vec::from_elem(alloc, none, places as usize) else {
         return Err(Stop::NoMemory);
     };
-    for one in alive {
+    for one in survivors {
         let root = one.root as usize;
-        if root < families.len() {
-            families[root].left = families[root].left.saturating_add(1);
+        if root >= families.len() || one.id >= capacity {
+            return Err(Stop::Unequal);
+        }
+        families[root].left = families[root].left.saturating_add(1);
+    }
+    for one in survivors {
+        let id = one.id as usize;
+        if one.id != one.root && id < families.len() && families[id].left > 0 {
+            return Err(Stop::Unequal);
         }
     }
     Ok(families)
 }
 
 /// How many of these, at most four, are neighbours of one pass and one family.
-fn neighbours(limits: Limits, rest: &[Alive]) -> usize
+fn neighbours(limits: Limits, rest: &[Survivor]) -> usize
     requires some { 1 ≤ length rest.now }
     ensures few { result ≤ 4 }
     ensures some { 1 ≤ result }
@@ -86,7 +96,7 @@ fn neighbours(limits: Limits, rest: &[Alive]) -> usize
 
 /// How many of these are born next, where so many of the family are left; and whether a carrier is born with
 /// them, for more of it.
-fn next_group(limits: Limits, rest: &[Alive], left: u32) -> (usize, bool)
+fn next_group(limits: Limits, rest: &[Survivor], left: u32) -> (usize, bool)
     requires some { 1 ≤ length rest.now }
     ensures few { result.0 ≤ 4 }
     ensures some { 1 ≤ result.0 }
@@ -99,151 +109,103 @@ fn next_group(limits: Limits, rest: &[Alive], left: u32) -> (usize, bool)
     (count, left as usize > count)
 }
 
-/// A request like the root of a family, born by the next pass. Its id.
-fn submit_copy(
-    old: &Manager,
-    pass: &mut Pass,
-    root: u32,
-    new: &Manager,
-    passes: &mut [Pass],
-    cursor: &mut Cursor,
-    home: usize,
-) -> Result<u32, Stop>
-    requires own { IsOf old.now pass.old × All (IsOf new.now) passes.old }
-    ensures own { IsOf old.now pass.new × All (IsOf new.now) passes.new }
-    ensures stays { Stays pass.old pass.new }
-    ensures numbers { numbers passes.new ≡ numbers passes.old }
-    ensures steps { PassMakes (read_steps old.now.limits) pass.old pass.new
-        × PassesMake (submit_steps new.now.limits) passes.old passes.new }
-{
-    let Some(found) = look(old, pass, root) else {
-        return Err(Stop::Unequal);
-    };
-    let Some(at) = cursor.next(new, passes, home, 1, 0) else {
-        return Err(Stop::Full);
-    };
-    submit_by(new, passes, at, found.element.stage, found.element.body)
-}
-
-/// The root of a family in the new manager, and the element of which its next ones are born. Both are a copy of
-/// the root where there is none yet.
+/// The root of a family in the new manager, and the element of which its next ones are born. Both are a copy
+/// of this one's root where there is none yet, born by the next pass from `home` on.
 fn carrier_of(
-    old: &Manager,
-    pass: &mut Pass,
-    root: u32,
+    one: Survivor,
     family: Family,
-    new: &Manager,
+    manager: &Manager,
     passes: &mut [Pass],
     cursor: &mut Cursor,
     home: usize,
 ) -> Result<(u32, u32), Stop>
-    requires own { IsOf old.now pass.old × All (IsOf new.now) passes.old }
-    ensures own { IsOf old.now pass.new × All (IsOf new.now) passes.new }
-    ensures stays { Stays pass.old pass.new }
+    requires own { All (IsOf manager.now) passes.old }
+    ensures own { All (IsOf manager.now) passes.new }
     ensures numbers { numbers passes.new ≡ numbers passes.old }
-    ensures steps { PassMakes (read_steps old.now.limits) pass.old pass.new
-        × PassesMake (submit_steps new.now.limits) passes.old passes.new }
+    ensures steps { PassesMake (submit_steps manager.now.limits) passes.old passes.new }
 {
     if let Some(carrier) = family.carrier {
         return Ok(carrier);
     }
-    let id = submit_copy(old, pass, root, new, passes, cursor, home)?;
+    let Some(at) = cursor.next(manager, passes, home, 1, 0) else {
+        return Err(Stop::Full);
+    };
+    let id = submit_by(manager, passes, at, one.root_stage, one.root_body)?;
     Ok((id, id))
 }
 
-/// Drafts of these elements, and of a carrier: the filler, which waits until its family's next turn.
-fn drafts_of(
-    old: &Manager,
-    pass: &mut Pass,
-    group: &[Alive],
-    drafts: &mut [Draft; 4],
-) -> Result<(), Stop>
-    requires own { IsOf old.now pass.old }
+/// Drafts of these, and for what is left of four fillers, of which one is a carrier: it waits until its
+/// family's next turn. `None` where a stage isn't one of those that outputs have.
+fn drafts_of(group: &[Survivor]) -> Option<[Draft; 4]>
     requires few { length group.now ≤ 4 }
-    ensures own { IsOf old.now pass.new }
-    ensures stays { Stays pass.old pass.new }
-    ensures steps { PassMakes (length group.now * read_steps old.now.limits) pass.old pass.new }
 {
+    let filler = Draft::new(1, [0; 4])?;
+    let mut drafts = [filler; 4];
     for place in 0..group.len() {
-        let Some(found) = look(old, pass, group[place].id) else {
-            return Err(Stop::Unequal);
-        };
-        let Some(draft) = Draft::new(found.element.stage, found.element.body) else {
-            return Err(Stop::Unequal);
-        };
-        drafts[place] = draft;
+        drafts[place] = Draft::new(group[place].stage, group[place].body)?;
     }
-    Ok(())
+    Some(drafts)
 }
 
-/// These elements, and a further carrier where there is to be one, are born of the carrier. The id of the
-/// first.
+/// These, and a further carrier where there is to be one, are born of the carrier, by the next pass from
+/// `home` on. The id of the first.
 fn bear_group(
-    old: &Manager,
-    pass: &mut Pass,
-    group: &[Alive],
+    group: &[Survivor],
     more: bool,
     carrier: u32,
-    new: &Manager,
+    manager: &Manager,
     passes: &mut [Pass],
     cursor: &mut Cursor,
+    home: usize,
 ) -> Result<u32, Stop>
-    requires own { IsOf old.now pass.old × All (IsOf new.now) passes.old }
+    requires own { All (IsOf manager.now) passes.old }
     requires some { 1 ≤ length group.now }
     requires few { length group.now ≤ 4 }
-    ensures own { IsOf old.now pass.new × All (IsOf new.now) passes.new }
-    ensures stays { Stays pass.old pass.new }
+    ensures own { All (IsOf manager.now) passes.new }
     ensures numbers { numbers passes.new ≡ numbers passes.old }
     ensures steps { let n = length group.now in
-        PassMakes (n * read_steps old.now.limits) pass.old pass.new
-        × PassesMake (claim_id_steps + commit_steps new.now.limits (n + 1)) passes.old passes.new }
+        PassesMake (claim_id_steps + commit_steps manager.now.limits (n + 1)) passes.old passes.new }
 {
-    let Some(filler) = Draft::new(1, [0; 4]) else {
+    let Some(drafts) = drafts_of(group) else {
         return Err(Stop::Unequal);
     };
-    let mut drafts = [filler; 4];
-    drafts_of(old, pass, group, &mut drafts)?;
     let count = if more && group.len() < 4 {
         group.len() + 1
     } else {
         group.len()
     };
-    let home = home_of(old.limits(), group[0].id);
-    let Some(at) = cursor.next(new, passes, home, count as u16, 1) else {
+    let Some(at) = cursor.next(manager, passes, home, count as u16, 1) else {
         return Err(Stop::Full);
     };
-    bear_by(new, passes, at, carrier, &drafts[..count])
+    bear_by(manager, passes, at, carrier, &drafts[..count])
 }
 
-/// The next of these elements are born: a root by itself, or neighbours of one family.
+/// The next of these are born: a root by itself, or neighbours of one family. The limits are those of the
+/// manager in which they are.
 fn bear_next(
-    old: &Manager,
-    pass: &mut Pass,
-    rest: &[Alive],
-    new: &Manager,
+    limits: Limits,
+    rest: &[Survivor],
+    manager: &Manager,
     passes: &mut [Pass],
     families: &mut [Family],
     cursor: &mut Cursor,
 ) -> Result<Group, Stop>
-    requires own { IsOf old.now pass.old × All (IsOf new.now) passes.old }
+    requires own { All (IsOf manager.now) passes.old }
     requires some { 1 ≤ length rest.now }
-    ensures own { IsOf old.now pass.new × All (IsOf new.now) passes.new }
-    ensures stays { Stays pass.old pass.new }
+    ensures own { All (IsOf manager.now) passes.new }
     ensures numbers { numbers passes.new ≡ numbers passes.old }
     ensures inside { IfOk result (λ group. (1 ≤ group.count) × (group.count ≤ length rest.now)) }
     ensures steps { let n = born_of rest.now result in
-        PassMakes (n * origin_steps old.now.limits 1) pass.old pass.new
-        × PassesMake (n * bear_steps new.now.limits 1) passes.old passes.new }
+        PassesMake (n * bear_steps manager.now.limits 1) passes.old passes.new }
 {
     let next = rest[0];
-    let limits = old.limits();
     let place = next.root as usize;
     if place >= families.len() {
         return Err(Stop::Unequal);
     }
     let family = families[place];
     let home = home_of(limits, next.id);
-    let (root, carrier) = carrier_of(old, pass, next.root, family, new, passes, cursor, home)?;
+    let (root, carrier) = carrier_of(next, family, manager, passes, cursor, home)?;
     if next.id == next.root {
         return Ok(Group {
             root,
@@ -253,7 +215,7 @@ fn bear_next(
     }
     let (count, more) = next_group(limits, rest, family.left);
     let group = &rest[..count];
-    let first = bear_group(old, pass, group, more, carrier, new, passes, cursor)?;
+    let first = bear_group(group, more, carrier, manager, passes, cursor, home)?;
     families[place] = Family {
         carrier: Some((root, first.saturating_add(count as u32))),
         left: family.left.saturating_sub(count as u32),
@@ -262,7 +224,7 @@ fn bear_next(
 }
 
 /// Names the elements of a group that was born.
-fn name(moved: &mut Vec<Moved>, rest: &[Alive], group: Group) -> Result<(), Stop>
+fn name(moved: &mut Vec<Moved>, rest: &[Survivor], group: Group) -> Result<(), Stop>
     requires inside { group.count ≤ length rest.now }
     ensures named { OnOk result (length moved.new.items ≡ length moved.old.items + group.count) }
 {
@@ -282,39 +244,44 @@ fn name(moved: &mut Vec<Moved>, rest: &[Alive], group: Group) -> Result<(), Stop
     Ok(())
 }
 
-/// All these elements are born in the new manager, in their order. What they are there.
+/// All these are born in a manager, in their order. What they are there. `of` is the manager in which they
+/// are, by whose parts each goes on as an element of the pass of the same number.
 pub(crate) fn bear_all(
     alloc: Global,
-    old: &Manager,
-    pass: &mut Pass,
-    alive: &[Alive],
-    new: &Manager,
+    of: &Manager,
+    survivors: &[Survivor],
+    manager: &Manager,
     passes: &mut [Pass],
 ) -> Result<Vec<Moved>, Stop>
-    requires own { IsOf old.now pass.old × All (IsOf new.now) passes.old }
-    ensures own { IsOf old.now pass.new × All (IsOf new.now) passes.new }
-    ensures stays { Stays pass.old pass.new }
+    requires own { All (IsOf manager.now) passes.old }
+    ensures own { All (IsOf manager.now) passes.new }
     ensures numbers { numbers passes.new ≡ numbers passes.old }
-    ensures few { IfOk result (λ moved. length moved.items ≤ length alive.now) }
-    ensures steps { let n = length alive.now in
-        PassMakes (n * origin_steps old.now.limits 1) pass.old pass.new
-        × PassesMake (n * bear_steps new.now.limits 1) passes.old passes.new }
+    ensures few { IfOk result (λ moved. length moved.items ≤ length survivors.now) }
+    ensures steps { let n = length survivors.now in
+        PassesMake (n * bear_steps manager.now.limits 1) passes.old passes.new }
 {
-    if alive.is_empty() {
+    if survivors.is_empty() {
         return Ok(Vec::new(alloc));
     }
-    let Ok(mut moved) = Vec::with_capacity(alloc, alive.len()) else {
+    let Ok(mut moved) = Vec::with_capacity(alloc, survivors.len()) else {
         return Err(Stop::NoMemory);
     };
-    let mut families = count_families(alloc, old.capacity(), alive)?;
+    let mut families = count_families(alloc, of.capacity(), survivors)?;
     let mut cursor = Cursor::start();
-    for _turn in 0..alive.len() {
+    for _turn in 0..survivors.len() {
         let from = moved.len();
-        if from >= alive.len() {
+        if from >= survivors.len() {
             break;
         }
-        let rest = &alive[from..];
-        let group = bear_next(old, pass, rest, new, passes, &mut families, &mut cursor)?;
+        let rest = &survivors[from..];
+        let group = bear_next(
+            of.limits(),
+            rest,
+            manager,
+            passes,
+            &mut families,
+            &mut cursor,
+        )?;
         name(&mut moved, rest, group)?;
     }
     Ok(moved)

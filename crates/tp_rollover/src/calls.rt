@@ -103,7 +103,6 @@ pub(crate) fn attempt_by(
     ensures own { All (IsOf manager.now) passes.new }
     ensures numbers { numbers passes.new ≡ numbers passes.old }
     ensures steps { PassesMake attempt_steps passes.old passes.new }
-    ensures allowed { PassesMake 0 passes.old passes.new ⊎ (1 ≤ manager.now.limits.attempts) }
 {
     if at >= passes.len() {
         return Err(Stop::Full);
@@ -116,7 +115,6 @@ fn attempt_one(manager: &Manager, pass: &mut Pass, id: u32) -> Result<(), Stop>
     ensures own { IsOf manager.now pass.new }
     ensures number { pass.new.number ≡ pass.old.number }
     ensures steps { PassMakes attempt_steps pass.old pass.new }
-    ensures allowed { PassMakes 0 pass.old pass.new ⊎ (1 ≤ manager.now.limits.attempts) }
 {
     if pass.has_open() {
         return Err(Stop::Unequal);

@@ -1,109 +1,88 @@
-//! What was born in the new manager is held against what is alive in the old one.
+//! What was born is held against what was described.
 ghost use Rattle.std.specs.Prelude.{◌≡◌, ◌*◌, true, length};
-ghost use Rattle.tp_model.specs.Steps.{IsKillable};
 ghost use Rattle.tp_manager.specs.Shown.{IsOf};
 ghost use Rattle.tp_alone.specs.Thread.{Stays};
-ghost use Rattle.tp_rollover.specs.Bounds.{PassMakes, compare_steps, past_steps};
-ghost use Rattle.tp_rollover.specs.Checks.{AreCarried, AreTheSame, CountsOnly, MovedAscend, IsAlike};
-ghost use Rattle.tp_rollover.specs.Rolls.{IsCarried};
-ghost use Rattle.tp_rollover.specs.Told.{ToldBoth};
+ghost use Rattle.tp_rollover.specs.Bounds.{PassMakes, compare_steps};
+ghost use Rattle.tp_rollover.specs.Alike.{AllStandAgain, IsAlike, IsRootAlike};
+ghost use Rattle.tp_rollover.specs.Checks.{CountsOnly, MovedAscend};
+ghost use Rattle.tp_rollover.specs.Survivors.{StandsAgain};
+ghost use Rattle.tp_rollover.specs.Told.{HoldsAsSeen};
 
-use crate::alive::Alive;
-use crate::looks::{look, rounds_had};
+use crate::looks::{is_alive, look, rounds_had};
 use crate::moved::Moved;
+use crate::survivors::Survivor;
 use tp_manager::{Manager, Pass};
-use tp_model::types::{Account, Look, Status};
+use tp_model::types::{Account, Look};
 
-/// Whether the element is alive.
-fn is_alive(status: Status) -> bool
-    ensures { result ≡ true → IsKillable status }
+/// Whether the element that a look shows is as it was described, under these ids.
+fn is_alike(one: Survivor, named: Moved, is: &Look) -> bool
+    ensures { result ≡ true → IsAlike one named is.now }
 {
-    match status {
-        Status::Waiting { attempts: _ } => true,
-        Status::Held {
-            unit: _,
-            attempt: _,
-        } => false,
-        Status::Consumed { unit: _ } => false,
-        Status::Parked { attempts: _ } => true,
-        Status::Killed => false,
-    }
+    is_alive(one.status)
+        && named.old == one.id
+        && named.old_root == one.root
+        && is.status == one.status
+        && is.element.stage == one.stage
+        && is.element.body == one.body
+        && is.element.root == named.new_root
+        && (one.id != one.root || named.new == named.new_root)
 }
 
-/// Whether the one look shows an element that is alive, and the other one that stands alike, with these ids.
-fn is_alike(was: &Look, is: &Look, one: Moved) -> bool
-    ensures { result ≡ true → IsAlike was.now is.now one }
+/// Whether the element that a look shows is a client's, and like the root that was described.
+fn is_root_alike(one: Survivor, root: &Look) -> bool
+    ensures { result ≡ true → IsRootAlike one root.now }
 {
-    is_alive(was.status)
-        && is.status == was.status
-        && is.element.stage == was.element.stage
-        && is.element.body == was.element.body
-        && was.element.root == one.old_root
-        && is.element.root == one.new_root
-        && (one.old != one.old_root || one.new == one.new_root)
-}
-
-/// Whether the element stands in the new manager as it does in the old one.
-fn is_carried(
-    old: &Manager,
-    old_pass: &mut Pass,
-    new: &Manager,
-    new_pass: &mut Pass,
-    one: Moved,
-) -> bool
-    requires own { IsOf old.now old_pass.old × IsOf new.now new_pass.old }
-    requires limit { new.now.limits.attempts ≡ old.now.limits.attempts }
-    ensures own { IsOf old.now old_pass.new × IsOf new.now new_pass.new }
-    ensures stays { Stays old_pass.old old_pass.new × Stays new_pass.old new_pass.new }
-    ensures steps { PassMakes (past_steps old.now.limits) old_pass.old old_pass.new
-        × PassMakes (compare_steps new.now.limits) new_pass.old new_pass.new }
-    ensures told { result ≡ true → ToldBoth old_pass.old old_pass.new new_pass.old new_pass.new
-        (λ h g. IsCarried old.now.limits.attempts h g one) }
-{
-    let Some(was) = look(old, old_pass, one.old) else {
-        return false;
-    };
-    let Some(stands) = look(new, new_pass, one.new) else {
-        return false;
-    };
-    let Some(rounds_were) = rounds_had(old, old_pass, one.old) else {
-        return false;
-    };
-    let Some(rounds_are) = rounds_had(new, new_pass, one.new) else {
-        return false;
-    };
-    let Some(root) = look(new, new_pass, one.new_root) else {
-        return false;
-    };
-    if !is_alike(&was, &stands, one) {
-        return false;
-    }
-    if rounds_are != rounds_were {
-        return false;
-    }
     root.element.by.is_none()
+        && root.element.stage == one.root_stage
+        && root.element.body == one.root_body
 }
 
-/// Whether each of these does.
-pub(crate) fn all_carried(
-    old: &Manager,
-    old_pass: &mut Pass,
-    new: &Manager,
-    new_pass: &mut Pass,
+/// Whether the element stands again as it was described.
+fn stands_again(manager: &Manager, pass: &mut Pass, one: Survivor, named: Moved) -> bool
+    requires own { IsOf manager.now pass.old }
+    ensures own { IsOf manager.now pass.new }
+    ensures stays { Stays pass.old pass.new }
+    ensures steps { PassMakes (compare_steps manager.now.limits) pass.old pass.new }
+    ensures told { result ≡ true → HoldsAsSeen pass.old pass.new
+        (λ g. StandsAgain manager.now.limits.attempts g one named) }
+{
+    let Some(stands) = look(manager, pass, named.new) else {
+        return false;
+    };
+    let Some(rounds) = rounds_had(manager, pass, named.new) else {
+        return false;
+    };
+    let Some(root) = look(manager, pass, named.new_root) else {
+        return false;
+    };
+    if !is_alike(one, named, &stands) {
+        return false;
+    }
+    if !is_root_alike(one, &root) {
+        return false;
+    }
+    rounds == one.rounds
+}
+
+/// Whether each of them does, under the ids of the same place.
+pub(crate) fn all_stand_again(
+    manager: &Manager,
+    pass: &mut Pass,
+    survivors: &[Survivor],
     moved: &[Moved],
 ) -> bool
-    requires own { IsOf old.now old_pass.old × IsOf new.now new_pass.old }
-    requires limit { new.now.limits.attempts ≡ old.now.limits.attempts }
-    ensures own { IsOf old.now old_pass.new × IsOf new.now new_pass.new }
-    ensures stays { Stays old_pass.old old_pass.new × Stays new_pass.old new_pass.new }
-    ensures steps { let n = length moved.now in
-        PassMakes (n * past_steps old.now.limits) old_pass.old old_pass.new
-        × PassMakes (n * compare_steps new.now.limits) new_pass.old new_pass.new }
-    ensures told { result ≡ true → ToldBoth old_pass.old old_pass.new new_pass.old new_pass.new
-        (λ h g. AreCarried old.now.limits.attempts h g moved.now) }
+    requires own { IsOf manager.now pass.old }
+    ensures own { IsOf manager.now pass.new }
+    ensures stays { Stays pass.old pass.new }
+    ensures steps { PassMakes (length survivors.now * compare_steps manager.now.limits) pass.old pass.new }
+    ensures told { result ≡ true → HoldsAsSeen pass.old pass.new
+        (λ g. AllStandAgain manager.now.limits.attempts g survivors.now moved.now) }
 {
-    for place in 0..moved.len() {
-        if !is_carried(old, old_pass, new, new_pass, moved[place]) {
+    if moved.len() != survivors.len() {
+        return false;
+    }
+    for place in 0..survivors.len() {
+        if !stands_again(manager, pass, survivors[place], moved[place]) {
             return false;
         }
     }
@@ -120,21 +99,6 @@ pub(crate) fn counts_only(account: &Account, moved: &[Moved]) -> bool
         return false;
     };
     alive as usize == moved.len() && total.held == 0 && total.killed == 0
-}
-
-/// Whether these are the same elements of the old manager, in the same order.
-pub(crate) fn are_the_same(alive: &[Alive], moved: &[Moved]) -> bool
-    ensures { result ≡ true → AreTheSame alive.now moved.now }
-{
-    if alive.len() != moved.len() {
-        return false;
-    }
-    for place in 0..moved.len() {
-        if alive[place].id != moved[place].old {
-            return false;
-        }
-    }
-    true
 }
 
 /// Whether the ids ascend in both managers.

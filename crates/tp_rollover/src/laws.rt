@@ -3,7 +3,7 @@
 ghost use Rattle.tp_model.specs.declared.types.Limits.{Limits};
 ghost use Rattle.tp_rollover.specs.Bounds.{PerElement};
 ghost use Rattle.tp_rollover.specs.Laws.{CancelledStays, ConsumedInOne, OldIsOver, RolloverAddsUp};
-ghost use Rattle.tp_rollover.specs.Laws.{SettledNotCarried};
+ghost use Rattle.tp_rollover.specs.Laws.{RestoredIsRolledOver, SettledNotCarried};
 ghost use Rattle.tp_rollover.specs.Worked.{WorkedPair};
 
 /// A family that was cancelled in the old manager is settled in the new one.
@@ -22,14 +22,20 @@ pub fn old_is_over()
     ensures { OldIsOver }
 {}
 
-/// The accounts of both managers add up: as many wait and are parked in the new one as did in the old one, all
-/// else there is consumed, and in the old one as many more are killed.
+/// The accounts of both managers add up: as many wait and are parked in the new one as did in the old one,
+/// all else there is consumed, and in the old one as many more are killed.
 pub fn accounts_add_up()
     ensures { RolloverAddsUp }
 {}
 
+/// What was described in one manager and made alive in another is what a rollover carries over.
+pub fn restored_is_rolled_over()
+    ensures { RestoredIsRolledOver }
+{}
+
 /// A worked rollover, of a family of which one element waits and one is parked, with what is counted in both
-/// managers. The laws are of such pairs. Where one that was alive is left out, it is none.
+/// managers, and how it is described in between. The laws are of such pairs. Where one that was alive is left
+/// out, it is none.
 pub fn worked_pair()
     ensures { WorkedPair }
 {}

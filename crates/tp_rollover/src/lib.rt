@@ -1,4 +1,4 @@
-//! What is alive in a manager that is used up goes into a new one.
+//! What is alive in a manager that is used up goes into a new one, at once or from a description.
 #![tactic(auto)]
 
 mod alive;
@@ -11,11 +11,19 @@ pub mod laws;
 mod looks;
 pub mod managed;
 pub mod moved;
+mod passes;
 mod places;
 mod replays;
+mod restoring;
 mod rolling;
 mod stops;
+mod surveying;
+pub mod survivors;
 
 pub use managed::{Managed, Successor, succeed};
 pub use moved::{Moved, RollFault};
+pub use passes::has_open;
+pub use restoring::restore;
 pub use rolling::roll_over;
+pub use surveying::survey;
+pub use survivors::Survivor;

@@ -1,20 +1,26 @@
 //! A manager with its keeper and all its passes, which goes on in a new one by itself.
-ghost use Rattle.std.specs.Prelude.{◌≡◌, ◌↔◌, ◌+◌, ◌≤◌, All, Err, IfErr, IfOk, [], length};
+ghost use Rattle.std.specs.Prelude.{◌≡◌, ◌↔◌, ◌+◌, ◌≤◌, All, Err, IfErr, IfOk, OnOk, [], length};
 ghost use Rattle.std.specs.List.{AllZip};
 ghost use Rattle.tp_model.specs.Steps.{AreLimits};
 ghost use Rattle.tp_manager.specs.Accounts.{AreAll};
 ghost use Rattle.tp_manager.specs.Shown.{IsKeptBy, IsOf};
 ghost use Rattle.tp_manager.specs.declared.manager.MakeFault.TheVariants as faults;
-ghost use Rattle.tp_alone.specs.Thread.{Stays};
+ghost use Rattle.tp_alone.specs.Thread.{AreTogether, Stays};
 ghost use Rattle.tp_rollover.specs.declared.moved.RollFault.TheVariants as refusals;
-ghost use Rattle.tp_rollover.specs.Answers.{Rolls};
+ghost use Rattle.tp_rollover.specs.Answers.{IsHistoryOf, Rolls};
 ghost use Rattle.tp_rollover.specs.Bounds.{AllMake, alive_after, made_by_all, most_successor_steps};
-ghost use Rattle.tp_rollover.specs.Bounds.{old_steps, prepare_steps, successor_steps};
+ghost use Rattle.tp_rollover.specs.Bounds.{old_steps, survey_steps, successor_steps};
 ghost use Rattle.tp_rollover.specs.Faults.{AreFree};
-ghost use Rattle.tp_rollover.specs.Managed.{GoesOn, IsManaged, IsNewPass, IsRefusedFor, StaysManaged};
+ghost use Rattle.tp_rollover.specs.Managed.{GoesOn, IsManaged, IsNewPass, IsRefusedFor, IsUnrestored};
+ghost use Rattle.tp_rollover.specs.Managed.{IsUnsurveyed, StaysManaged};
+ghost use Rattle.tp_rollover.specs.Survivors.{AreSurvivors, Restores};
 
 use crate::moved::{Moved, RollFault};
-use crate::rolling::{has_open, roll_over};
+use crate::passes::has_open;
+use crate::restoring::restore;
+use crate::rolling::roll_over;
+use crate::surveying::survey;
+use crate::survivors::Survivor;
 use std::alloc::{AllocError, Global};
 use tp_manager::{Keeper, MakeFault, Manager, Pass};
 use tp_model::types::Limits;
@@ -28,6 +34,7 @@ pub struct Managed {
 }
 
 /// The manager that follows on one that is used up, and what was carried over.
+#[derive(Drop)]
 pub struct Successor {
     pub managed: Managed,
     pub moved: Vec<Moved>,
@@ -56,8 +63,8 @@ fn all_passes(
     Ok(passes)
 }
 
-/// What is alive in this manager goes on in a new one with the same limits (`roll_over`). Where it is refused,
-/// the old passes have done nothing but look. The caller lends all of them, in order of number.
+/// What is alive in this manager goes on in a new one with the same limits (`roll_over`). Where it is
+/// refused, the old passes have done nothing but look. The caller lends all of them, in order of number.
 pub fn succeed(
     alloc: Global,
     old: &Manager,
@@ -87,7 +94,7 @@ pub fn succeed(
         ≤ successor_steps old.now.limits next.managed.keeper.seen next.moved.items) }
     ensures refused_steps { IfErr result (λ fault. let l = old.now.limits in
         let n = alive_after l.attempts old_keeper.new.seen in
-        AllMake (prepare_steps l l.parts n) old_keeper.old old_passes.old old_keeper.new old_passes.new) }
+        AllMake (survey_steps l l.parts n) old_keeper.old old_passes.old old_keeper.new old_passes.new) }
 {
     if has_open(old_passes) {
         return Err(RollFault::Busy);
@@ -136,8 +143,8 @@ impl Managed {
         })
     }
 
-    /// What is alive, each element once, goes on in a new manager with the same limits, and nothing else does.
-    /// What each is there, in the order of their ids, which is the same in both managers (`roll_over`).
+    /// What is alive, each element once, goes on in a new manager with the same limits, and nothing else
+    /// does. What each is there, in the order of their ids, which is the same in both managers (`roll_over`).
     /// `Busy` exactly where a pass has a unit open. Where it is refused, the manager is the same, and its
     /// passes have done nothing but look.
     pub fn roll_over(&mut self, alloc: Global) -> Result<Vec<Moved>, RollFault>
@@ -154,7 +161,7 @@ impl Managed {
             ≤ successor_steps self.old.manager.limits self.new.keeper.seen moved.items) }
         ensures refused_steps { IfErr result (λ fault. let l = self.old.manager.limits in
             let n = alive_after l.attempts self.new.keeper.seen in
-            AllMake (prepare_steps l l.parts n)
+            AllMake (survey_steps l l.parts n)
             self.old.keeper self.old.passes.items self.new.keeper self.new.passes.items) }
     {
         let answer = succeed(alloc, &self.manager, &mut self.keeper, &mut self.passes);
@@ -164,6 +171,70 @@ impl Managed {
                 *self = managed;
                 Ok(moved)
             }
+            Err(fault) => Err(fault),
+        }
+    }
+
+    /// All that is alive, each element once, by ascending ids, with all that another manager needs to go on
+    /// with it (`restored`). The passes have done nothing but look, and have gathered. `Busy` exactly where a
+    /// pass has a unit open; `NoMemory`.
+    pub fn survey(&mut self, alloc: Global) -> Result<Vec<Survivor>, RollFault>
+        requires managed { IsManaged self.old }
+        ensures managed { IsManaged self.new }
+        ensures stays { StaysManaged self.old self.new }
+        ensures found { IfOk result (λ found.
+            AreSurvivors self.old.manager.limits self.new.keeper.seen found.items) }
+        ensures history { OnOk result
+            (IsHistoryOf self.new.keeper self.old.passes.items self.new.keeper.seen) }
+        ensures together { OnOk result (AreTogether self.old.manager.limits
+            self.new.keeper self.new.passes.items self.new.keeper.seen) }
+        ensures fault { IfErr result (IsUnsurveyed self.old.passes.items) }
+        ensures busy { (result ≡ Err refusals.Busy) ↔ (¬ AreFree self.old.passes.items) }
+        ensures steps { let l = self.old.manager.limits in
+            AllMake (survey_steps l l.parts (alive_after l.attempts self.new.keeper.seen))
+            self.old.keeper self.old.passes.items self.new.keeper self.new.passes.items }
+    {
+        survey(alloc, &self.manager, &mut self.keeper, &mut self.passes)
+    }
+
+    /// A manager with these limits, its keeper and all its passes, in which what was described (`survey`) is
+    /// alive, each element once, and nothing else is; and what each is there, in their order (`restore`).
+    /// `BadLimits` exactly where a limit is outside its range; `Full` where these limits have not the rows or
+    /// the units; `Unequal` where the descriptions contradict each other or the limits; `NoMemory`.
+    pub fn restored(
+        alloc: Global,
+        limits: Limits,
+        survivors: &[Survivor],
+    ) -> Result<Successor, RollFault>
+        ensures managed { IfOk result (λ next. IsManaged next.managed) }
+        ensures limits { IfOk result (λ next. next.managed.manager.limits ≡ limits) }
+        ensures restored { IfOk result (λ next. Restores limits next.managed.keeper
+            next.managed.passes.items survivors.now next.moved.items) }
+        ensures free { IfOk result (λ next. AreFree next.managed.passes.items) }
+        ensures fault { IfErr result (IsUnrestored limits) }
+        ensures bad { (result ≡ Err refusals.BadLimits) ↔ (¬ AreLimits limits) }
+        ensures steps { IfOk result (λ next. made_by_all next.managed.keeper next.managed.passes.items
+            ≤ most_successor_steps limits (length survivors.now)) }
+        ensures replayed { IfOk result (λ next. made_by_all next.managed.keeper next.managed.passes.items
+            ≤ successor_steps limits next.managed.keeper.seen next.moved.items) }
+    {
+        let mut new = match Managed::new(alloc, limits) {
+            Ok(new) => new,
+            Err(MakeFault::NoMemory) => return Err(RollFault::NoMemory),
+            Err(MakeFault::BadLimits) => return Err(RollFault::BadLimits),
+            Err(MakeFault::NoPart) => unreachable!(),
+        };
+        match restore(
+            alloc,
+            &new.manager,
+            &mut new.keeper,
+            &mut new.passes,
+            survivors,
+        ) {
+            Ok(moved) => Ok(Successor {
+                managed: new,
+                moved,
+            }),
             Err(fault) => Err(fault),
         }
     }

@@ -9,14 +9,13 @@ pub struct Moved {
     pub new_root: u32,
 }
 
-/// Why nothing was carried over. The old manager stands as it did; the new one is to be given up.
-/// `BadLimits`,
-/// `NoPass` and `Busy` are told before any call, the first of them in this order that applies.
+/// Why nothing was carried over or restored. The old manager stands as it did; the new one is to be given up.
+/// `BadLimits`, `NoPass` and `Busy` are told before any call, the first of them in this order that applies.
 #[derive(Clone, Copy, Debug, PartialEq, Eq)]
 pub enum RollFault {
     /// Memory could not be had.
     NoMemory,
-    /// The new manager has another attempt limit.
+    /// The new manager has another attempt limit, or would have limits outside their ranges.
     BadLimits,
     /// No pass of one of the managers was given out.
     NoPass,
@@ -25,7 +24,8 @@ pub enum RollFault {
     /// The new manager has not the rows or the units for what is alive. One of its passes has no unit left
     /// then, or fewer than four rows and no spare block.
     Full,
-    /// What stands in the new manager isn't what is alive in the old one, since something had happened there
-    /// before. Where nothing had, this would be an error of this crate; it came in no test.
+    /// What stands in the new manager isn't what is alive in the old one, or what was described: something
+    /// had happened there before, or descriptions contradict each other or its limits. In a rollover into a
+    /// manager in which nothing had happened this would be an error of this crate; it came in no test.
     Unequal,
 }

@@ -14,7 +14,8 @@ pub(crate) enum Stop {
     Unequal,
 }
 
-/// Whether the pass has no unit left, or fewer rows than the most that a commit needs, and knows of no spare block.
+/// Whether the pass has no unit left, or fewer rows than the most that a commit needs, and knows of no spare
+/// block.
 fn is_short(manager: &Manager, pass: &Pass) -> bool
     requires own { IsOf manager.now pass.now }
     ensures { result ≡ true → IsShort manager.now.limits pass.now }

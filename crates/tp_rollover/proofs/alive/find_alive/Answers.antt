@@ -1,5 +1,5 @@
 use Rattle.std.proofs.Common.{◌+◌, arith, sym, subst}
-use Rattle.tp_rollover.proofs.Founds.{FoundBelow, all_found, found_then}
+use Rattle.tp_rollover.proofs.Founds.{FoundBelow, all_found, found_then, up_next}
 use Rattle.tp_rollover.specs.Told.{HoldsAsSeen}
 use Rattle.tp_manager.specs.Bounds.{read_steps}
 use Rattle.tp_rollover.proofs.Seen.{stays_trans}
@@ -14,6 +14,7 @@ loop-row-preserved c =
       stays = stays_trans c.args.pass.now c.loop-row.pass c.alive_at.new.pass i.stays c.alive_at.ensures.stays;
       told = subst (λ xs. HoldsAsSeen c.args.pass.now c.alive_at.new.pass (FoundBelow c.args.manager.now.limits.attempts (c.loop-row.row + 1) xs)) (sym c.in_ok-keep.ensures.kept)
           (found_then c.args.manager.now.limits.attempts c.loop-row.row c.loop-row.found.items c.in_ok-one.one c.args.pass.now c.loop-row.pass c.alive_at.new.pass i.stays c.alive_at.ensures.stays i.told c.in_ok-one.ensures.told);
+      up = up_next c.loop-row.row c.loop-row.found.items c.keep.new.found.items c.in_ok-one.one i.up c.in_ok-one.ensures.itself c.in_ok-keep.ensures.kept;
       few = one_kept c.loop-row.found.items c.keep.new.found.items c.in_ok-one.one c.args.count c.in_ok-keep.ensures.kept (let short = c.if-len-count.false in let len = c.len.ensures in omega (arith, short, len));
       none = λ zero. (let short = c.if-len-count.false in absurd (omega (arith, short, zero)));
       made = (let more = once_more c.loop-row.row (read_steps c.args.manager.now.limits) in omega (arith, more, i.made, c.alive_at.ensures.steps));
@@ -52,3 +53,9 @@ pub returns-clause-steps : goal.returns-clause-steps
 returns-clause-steps c =
     let i = c.loop-row.invariant in
     searched c.args.manager.now.limits c.args.count c.loop-row.row _ _ (let less = c.loop-row.auto.row-end in let rows = c.capacity-row-end.ensures in omega (arith, less, rows)) i.none i.made
+
+pub returns-then-len-count-clause-once : goal.returns-then-len-count-clause-once
+returns-then-len-count-clause-once c = c.loop-row.invariant.up.once
+
+pub returns-clause-once : goal.returns-clause-once
+returns-clause-once c = c.loop-row.invariant.up.once

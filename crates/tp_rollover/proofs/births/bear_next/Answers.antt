@@ -4,14 +4,12 @@ use Rattle.tp_rollover.proofs.births.bear_next.Goals as goal
 pub returns-in_err-first-clause-steps : goal.returns-in_err-first-clause-steps
 returns-in_err-first-clause-steps c =
     let n = c.next_group-count.ensures in
-    let l = c.args.old.now.limits in
-    let k = c.args.new.now.limits in
-    group_stopped l k c.args.rest.now c.next_group-count.result.0 c.args.pass.now c.carrier_of.new.pass c.bear_group.new.pass c.args.passes.now c.carrier_of.new.passes c.bear_group.new.passes n.some n.inside
-    _ c.from_residual-in_err-first.ensures.0
-    (group_born l k c.args.rest.now c.next_group-count.result.0 c.args.pass.now c.carrier_of.new.pass c.bear_group.new.pass c.args.passes.now c.carrier_of.new.passes c.bear_group.new.passes n.some n.inside c.carrier_of.ensures.steps c.bear_group.ensures.steps)
+    let k = c.args.manager.now.limits in
+    let count = c.next_group-count.result.0 in
+    group_stopped k c.args.rest.now count c.args.passes.now c.carrier_of.new.passes c.bear_group.new.passes n.some n.inside _ c.from_residual-in_err-first.ensures.0
+    (group_born k c.args.rest.now count c.args.passes.now c.carrier_of.new.passes c.bear_group.new.passes n.some n.inside c.carrier_of.ensures.steps c.bear_group.ensures.steps)
 
 pub returns-clause-steps : goal.returns-clause-steps
 returns-clause-steps c =
     let n = c.next_group-count.ensures in
-    group_born c.args.old.now.limits c.args.new.now.limits c.args.rest.now c.next_group-count.result.0 c.args.pass.now c.carrier_of.new.pass c.bear_group.new.pass c.args.passes.now c.carrier_of.new.passes c.bear_group.new.passes n.some n.inside
-    c.carrier_of.ensures.steps c.bear_group.ensures.steps
+    group_born c.args.manager.now.limits c.args.rest.now c.next_group-count.result.0 c.args.passes.now c.carrier_of.new.passes c.bear_group.new.passes n.some n.inside c.carrier_of.ensures.steps c.bear_group.ensures.steps

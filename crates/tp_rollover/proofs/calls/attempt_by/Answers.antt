@@ -1,4 +1,4 @@
-use Rattle.std.proofs.Common.{arith, inl, inr, ⊎_elim}
+use Rattle.std.proofs.Common.{arith}
 use Rattle.tp_rollover.proofs.Lists.{map_set_same}
 use Rattle.tp_rollover.proofs.Steps.{one_makes}
 use Rattle.tp_rollover.proofs.calls.attempt_by.Goals as goal
@@ -8,10 +8,3 @@ returns-clause-numbers c = map_set_same (λ p. p.number) c.args.passes.now c.arg
 
 pub returns-clause-steps : goal.returns-clause-steps
 returns-clause-steps c = one_makes _ c.args.passes.now c.args.at c.attempt_one.new.pass c.index-passes-at.result (omega (arith, c.if-at-passes.false)) c.attempt_one.ensures.steps
-
-pub returns-clause-allowed : goal.returns-clause-allowed
-returns-clause-allowed c =
-    ⊎_elim
-    (λ none. inl (one_makes 0 c.args.passes.now c.args.at c.attempt_one.new.pass c.index-passes-at.result (omega (arith, c.if-at-passes.false)) none))
-    (λ some. inr some)
-    c.attempt_one.ensures.allowed

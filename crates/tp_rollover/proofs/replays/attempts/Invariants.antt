@@ -1,4 +1,4 @@
-use Rattle.std.proofs.Common.{◌≡◌, ◌⊎◌, ◌*◌, ◌≤◌, All}
+use Rattle.std.proofs.Common.{◌≡◌, ◌*◌, All}
 use Rattle.tp_manager.specs.Shown.{IsOf}
 use Rattle.tp_rollover.specs.Passes.{numbers}
 use Rattle.tp_rollover.specs.Bounds.{PassesMake, attempt_steps}
@@ -6,8 +6,7 @@ use Rattle.tp_rollover.proofs.replays.attempts.Given as goal
 
 abbrev pub invariant-loop-time : goal.invariant-loop-time
 invariant-loop-time l = record {
-  own : All (IsOf l.new) l.passes;
+  own : All (IsOf l.manager) l.passes;
   numbered : numbers l.passes ≡ numbers l.initial.passes;
   made : PassesMake (l._time * attempt_steps) l.initial.passes l.passes;
-  allowed : PassesMake 0 l.initial.passes l.passes ⊎ (1 ≤ l.new.limits.attempts);
 }

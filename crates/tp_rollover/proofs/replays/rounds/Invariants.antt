@@ -6,7 +6,7 @@ use Rattle.tp_rollover.proofs.replays.rounds.Given as goal
 
 abbrev pub invariant-loop-round : goal.invariant-loop-round
 invariant-loop-round l = record {
-  own : All (IsOf l.new) l.passes;
+  own : All (IsOf l.manager) l.passes;
   numbered : numbers l.passes ≡ numbers l.initial.passes;
-  made : PassesMake (replay_steps (l._round * l.new.limits.attempts) l._round) l.initial.passes l.passes;
+  made : PassesMake (replay_steps (l._round * l.manager.limits.attempts) l._round) l.initial.passes l.passes;
 }

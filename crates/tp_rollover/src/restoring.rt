@@ -1,0 +1,156 @@
+//! What was described is made alive in a manager in which nothing has happened.
+ghost use Rattle.std.specs.Prelude.{◌≡◌, ◌↔◌, ◌*◌, ◌≤◌, [], All, Err, IfErr, IfOk, OnOk, length};
+ghost use Rattle.std.specs.List.{AllZip};
+ghost use Rattle.tp_manager.specs.Accounts.{AreAll};
+ghost use Rattle.tp_manager.specs.Shown.{IsKeptBy, IsOf};
+ghost use Rattle.tp_alone.specs.Thread.{Stays};
+ghost use Rattle.tp_rollover.specs.Alike.{StandAlike};
+ghost use Rattle.tp_rollover.specs.Bounds.{AllMake, PassMakes, PassesMake, compare_steps, most_new_steps};
+ghost use Rattle.tp_rollover.specs.Bounds.{new_steps};
+ghost use Rattle.tp_rollover.specs.Faults.{AreFree, IsRestoreDue};
+ghost use Rattle.tp_rollover.specs.Survivors.{Restores};
+ghost use Rattle.tp_rollover.specs.Told.{HoldsAsSeen, ToldFirst};
+ghost use Rattle.tp_rollover.specs.declared.moved.RollFault.TheVariants as faults;
+
+use crate::births::bear_all;
+use crate::checking::{all_stand_again, ascend, counts_only};
+use crate::families::are_families;
+use crate::moved::{Moved, RollFault};
+use crate::passes::has_open;
+use crate::replays::replay_all;
+use crate::stops::{Stop, fault_after};
+use crate::survivors::Survivor;
+use std::alloc::Global;
+use tp_manager::{Keeper, Manager, Pass};
+
+/// Whether all stand as they were described. `Unequal` where not. `of` is the manager in which they are.
+fn hold_by(
+    alloc: Global,
+    of: &Manager,
+    survivors: &[Survivor],
+    manager: &Manager,
+    pass: &mut Pass,
+    moved: &[Moved],
+) -> Result<(), Stop>
+    requires own { IsOf manager.now pass.old }
+    ensures own { IsOf manager.now pass.new }
+    ensures stays { Stays pass.old pass.new }
+    ensures steps { PassMakes (length survivors.now * compare_steps manager.now.limits) pass.old pass.new }
+    ensures told { OnOk result (HoldsAsSeen pass.old pass.new
+        (λ g. StandAlike manager.now.limits.attempts g survivors.now moved.now)) }
+{
+    if !ascend(moved) {
+        return Err(Stop::Unequal);
+    }
+    let Ok(families) = are_families(alloc, moved, of.capacity(), manager.capacity()) else {
+        return Err(Stop::NoMemory);
+    };
+    if !families {
+        return Err(Stop::Unequal);
+    }
+    if !all_stand_again(manager, pass, survivors, moved) {
+        return Err(Stop::Unequal);
+    }
+    Ok(())
+}
+
+/// The same, by the first of the passes.
+fn hold(
+    alloc: Global,
+    of: &Manager,
+    survivors: &[Survivor],
+    manager: &Manager,
+    passes: &mut [Pass],
+    moved: &[Moved],
+) -> Result<(), Stop>
+    requires own { All (IsOf manager.now) passes.old }
+    ensures own { All (IsOf manager.now) passes.new }
+    ensures stays { AllZip Stays passes.old passes.new }
+    ensures steps { let n = length survivors.now in
+        PassesMake (n * compare_steps manager.now.limits) passes.old passes.new }
+    ensures told { OnOk result (ToldFirst passes.old passes.new
+        (λ g. StandAlike manager.now.limits.attempts g survivors.now moved.now)) }
+    ensures some { OnOk result (1 ≤ length passes.old) }
+{
+    let Some((first, _rest)) = passes.split_first_mut() else {
+        return Err(Stop::Unequal);
+    };
+    hold_by(alloc, of, survivors, manager, first, moved)
+}
+
+/// All that was described, each element once, stands in this manager as it did in `of`. What each is there.
+pub(crate) fn stand_again(
+    alloc: Global,
+    of: &Manager,
+    survivors: &[Survivor],
+    manager: &Manager,
+    keeper: &mut Keeper,
+    passes: &mut [Pass],
+) -> Result<Vec<Moved>, Stop>
+    requires keeper { IsKeptBy manager.now keeper.old }
+    requires own { All (IsOf manager.now) passes.old }
+    requires all { AreAll keeper.old passes.old }
+    ensures keeper { IsKeptBy manager.now keeper.new × (keeper.new.given ≡ keeper.old.given) }
+    ensures own { All (IsOf manager.now) passes.new }
+    ensures all { AreAll keeper.new passes.new }
+    ensures restored { IfOk result (λ moved.
+        Restores manager.now.limits keeper.new passes.new survivors.now moved.items) }
+    ensures steps { AllMake (most_new_steps manager.now.limits keeper.old.given (length survivors.now))
+        keeper.old passes.old keeper.new passes.new }
+    ensures replayed { IfOk result (λ moved.
+        AllMake (new_steps manager.now.limits keeper.old.given keeper.new.seen moved.items)
+        keeper.old passes.old keeper.new passes.new) }
+{
+    let moved = bear_all(alloc, of, survivors, manager, passes)?;
+    replay_all(manager, passes, survivors, &moved)?;
+    let account = keeper.account(manager, passes);
+    if !counts_only(&account, &moved) {
+        return Err(Stop::Unequal);
+    }
+    hold(alloc, of, survivors, manager, passes, &moved)?;
+    keeper.gather(manager, passes);
+    Ok(moved)
+}
+
+/// What was described (`survey`), each element once, is made alive in this manager, and nothing else is. What
+/// each is there, in their order. Each goes on as an element of the pass in whose part it was, by the limits
+/// of this manager. The slice holds every pass of it that was given out, in order of number, and in it
+/// nothing has happened. Where it fails the manager is to be given up: `NoPass` exactly where no pass was
+/// given out, `Full` where it has not the rows or the units, `Unequal` where the descriptions contradict each
+/// other or these limits, `NoMemory`.
+pub fn restore(
+    alloc: Global,
+    manager: &Manager,
+    keeper: &mut Keeper,
+    passes: &mut [Pass],
+    survivors: &[Survivor],
+) -> Result<Vec<Moved>, RollFault>
+    requires keeper { IsKeptBy manager.now keeper.old }
+    requires own { All (IsOf manager.now) passes.old }
+    requires all { AreAll keeper.old passes.old }
+    ensures keeper { IsKeptBy manager.now keeper.new × (keeper.new.given ≡ keeper.old.given) }
+    ensures own { All (IsOf manager.now) passes.new }
+    ensures all { AreAll keeper.new passes.new }
+    ensures restored { IfOk result (λ moved.
+        Restores manager.now.limits keeper.new passes.new survivors.now moved.items) }
+    ensures free { OnOk result (AreFree passes.new) }
+    ensures due { IfErr result (IsRestoreDue manager.now.limits passes.old passes.new) }
+    ensures no_pass { (result ≡ Err faults.NoPass) ↔ (passes.old ≡ []) }
+    ensures steps { AllMake (most_new_steps manager.now.limits keeper.old.given (length survivors.now))
+        keeper.old passes.old keeper.new passes.new }
+    ensures replayed { IfOk result (λ moved.
+        AllMake (new_steps manager.now.limits keeper.old.given keeper.new.seen moved.items)
+        keeper.old passes.old keeper.new passes.new) }
+{
+    if passes.len() == 0 {
+        return Err(RollFault::NoPass);
+    }
+    let moved = match stand_again(alloc, manager, survivors, manager, keeper, passes) {
+        Ok(moved) => moved,
+        Err(stop) => return Err(fault_after(stop, manager, passes)),
+    };
+    if has_open(passes) {
+        return Err(RollFault::Unequal);
+    }
+    Ok(moved)
+}

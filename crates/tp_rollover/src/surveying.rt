@@ -1,0 +1,140 @@
+//! A survey of a manager: what is alive there, described.
+ghost use Rattle.std.specs.Prelude.{◌≡◌, ◌↔◌, ◌+◌, ◌*◌, ◌≤◌, [], All, Err, IfErr, IfOk, OnOk, length};
+ghost use Rattle.std.specs.List.{AllZip};
+ghost use Rattle.tp_manager.specs.Accounts.{AreAll};
+ghost use Rattle.tp_manager.specs.Shown.{IsKeptBy, IsOf};
+ghost use Rattle.tp_alone.specs.Thread.{AreTogether, Stays};
+ghost use Rattle.tp_rollover.specs.Answers.{IsHistoryOf};
+ghost use Rattle.tp_rollover.specs.Bounds.{AllMake, PassMakes, PassesMake, alive_after, describe_steps};
+ghost use Rattle.tp_rollover.specs.Bounds.{search_steps, survey_steps};
+ghost use Rattle.tp_rollover.specs.Faults.{AreFree, IsSurveyDue};
+ghost use Rattle.tp_rollover.specs.Finding.{AreSurvivorsOf};
+ghost use Rattle.tp_rollover.specs.Survivors.{AreSurvivors};
+ghost use Rattle.tp_rollover.specs.Told.{HoldsAsSeen, ToldFirst};
+ghost use Rattle.tp_rollover.specs.declared.moved.RollFault.TheVariants as faults;
+
+use crate::alive::{alive_in, find_alive};
+use crate::moved::RollFault;
+use crate::passes::has_open;
+use crate::stops::Stop;
+use crate::survivors::{Survivor, describe_all};
+use std::alloc::Global;
+use tp_manager::{Keeper, Manager, Pass};
+
+/// All that is alive, described, where there are so many.
+fn find_by(
+    alloc: Global,
+    manager: &Manager,
+    pass: &mut Pass,
+    count: usize,
+) -> Result<Vec<Survivor>, Stop>
+    requires own { IsOf manager.now pass.old }
+    ensures own { IsOf manager.now pass.new }
+    ensures stays { Stays pass.old pass.new }
+    ensures steps { let l = manager.now.limits in
+        PassMakes (search_steps l count + count * describe_steps l) pass.old pass.new }
+    ensures few { IfOk result (λ found. length found.items ≤ count) }
+    ensures told { IfOk result (λ found. HoldsAsSeen pass.old pass.new
+        (λ h. AreSurvivorsOf manager.now.limits count h found.items)) }
+{
+    let ids = find_alive(alloc, manager, pass, count)?;
+    describe_all(alloc, manager, pass, &ids)
+}
+
+/// The same, by the first of the passes.
+fn find(
+    alloc: Global,
+    manager: &Manager,
+    passes: &mut [Pass],
+    count: usize,
+) -> Result<Vec<Survivor>, Stop>
+    requires own { All (IsOf manager.now) passes.old }
+    ensures own { All (IsOf manager.now) passes.new }
+    ensures stays { AllZip Stays passes.old passes.new }
+    ensures steps { let l = manager.now.limits in
+        PassesMake (search_steps l count + count * describe_steps l) passes.old passes.new }
+    ensures few { IfOk result (λ found. length found.items ≤ count) }
+    ensures told { IfOk result (λ found. ToldFirst passes.old passes.new
+        (λ h. AreSurvivorsOf manager.now.limits count h found.items)) }
+    ensures some { OnOk result (1 ≤ length passes.old) }
+{
+    let Some((first, _rest)) = passes.split_first_mut() else {
+        return Err(Stop::Unequal);
+    };
+    find_by(alloc, manager, first, count)
+}
+
+/// All that is alive, described, once all passes have gathered.
+pub(crate) fn find_all(
+    alloc: Global,
+    manager: &Manager,
+    keeper: &mut Keeper,
+    passes: &mut [Pass],
+) -> Result<Vec<Survivor>, Stop>
+    requires keeper { IsKeptBy manager.now keeper.old }
+    requires own { All (IsOf manager.now) passes.old }
+    requires all { AreAll keeper.old passes.old }
+    ensures keeper { IsKeptBy manager.now keeper.new × (keeper.new.given ≡ keeper.old.given) }
+    ensures own { All (IsOf manager.now) passes.new }
+    ensures all { AreAll keeper.new passes.new }
+    ensures stays { AllZip Stays passes.old passes.new }
+    ensures steps { let l = manager.now.limits in
+        AllMake (survey_steps l keeper.old.given (alive_after l.attempts keeper.new.seen))
+        keeper.old passes.old keeper.new passes.new }
+    ensures few { IfOk result (λ found.
+        length found.items ≤ alive_after manager.now.limits.attempts keeper.new.seen) }
+    ensures found { IfOk result (λ found. AreSurvivors manager.now.limits keeper.new.seen found.items) }
+    ensures history { OnOk result (IsHistoryOf keeper.new passes.old keeper.new.seen) }
+    ensures together { OnOk result (AreTogether manager.now.limits keeper.new passes.new keeper.new.seen) }
+    ensures some { OnOk result (1 ≤ length passes.new) }
+{
+    let account = keeper.account(manager, passes);
+    let Some(count) = alive_in(&account) else {
+        return Err(Stop::Unequal);
+    };
+    let found = find(alloc, manager, passes, count)?;
+    keeper.gather(manager, passes);
+    Ok(found)
+}
+
+/// All that is alive, each element once, by ascending ids, with all that another manager needs to go on with
+/// it (`restore`). The slice holds every pass of the manager that was given out, in order of number
+/// (`Keeper::has_all` tests this). They have done nothing but look, and have gathered. `NoPass` exactly where
+/// no pass was given out, else `Busy` exactly where one has a unit of work open; `NoMemory`. `Unequal` would
+/// be an error of this crate; it came in no test.
+pub fn survey(
+    alloc: Global,
+    manager: &Manager,
+    keeper: &mut Keeper,
+    passes: &mut [Pass],
+) -> Result<Vec<Survivor>, RollFault>
+    requires keeper { IsKeptBy manager.now keeper.old }
+    requires own { All (IsOf manager.now) passes.old }
+    requires all { AreAll keeper.old passes.old }
+    ensures keeper { IsKeptBy manager.now keeper.new × (keeper.new.given ≡ keeper.old.given) }
+    ensures own { All (IsOf manager.now) passes.new }
+    ensures all { AreAll keeper.new passes.new }
+    ensures stays { AllZip Stays passes.old passes.new }
+    ensures found { IfOk result (λ found. AreSurvivors manager.now.limits keeper.new.seen found.items) }
+    ensures history { OnOk result (IsHistoryOf keeper.new passes.old keeper.new.seen) }
+    ensures together { OnOk result (AreTogether manager.now.limits keeper.new passes.new keeper.new.seen) }
+    ensures due { IfErr result (IsSurveyDue passes.old) }
+    ensures no_pass { (result ≡ Err faults.NoPass) ↔ (passes.old ≡ []) }
+    ensures busy { (result ≡ Err faults.Busy) ↔ (¬ AreFree passes.old) }
+    ensures steps { let l = manager.now.limits in
+        AllMake (survey_steps l keeper.old.given (alive_after l.attempts keeper.new.seen))
+        keeper.old passes.old keeper.new passes.new }
+{
+    if passes.len() == 0 {
+        return Err(RollFault::NoPass);
+    }
+    if has_open(passes) {
+        return Err(RollFault::Busy);
+    }
+    match find_all(alloc, manager, keeper, passes) {
+        Ok(found) => Ok(found),
+        Err(Stop::NoMemory) => Err(RollFault::NoMemory),
+        Err(Stop::Full) => Err(RollFault::Unequal),
+        Err(Stop::Unequal) => Err(RollFault::Unequal),
+    }
+}
