@@ -6,7 +6,7 @@ use Rattle.tp_script.specs.declared.fault.LineFault.{LineFault}
 use Rattle.tp_script.specs.declared.fault.LineError.{LineError}
 use Rattle.tp_script.specs.declared.fault.LineError.TheVariants as errors
 use Rattle.tp_script.specs.LineWords.{◌>>=◌}
-use Rattle.tp_script.specs.Session.{draft_at, drafts_at}
+use Rattle.tp_script.specs.Drafts.{draft_at, drafts_at}
 use Rattle.tp_script.specs.Reading.{Fails}
 
 -- what was read before, and what is still read

@@ -1,4 +1,4 @@
--- A script with workers: its lines, one after the other.
+-- A script that is a session: its lines, one after the other.
 use Rattle.std.proofs.Common.{◌≡◌, ℕ, ◌+◌, ◌≤◌, ◌<◌, ◌||◌, Bool, true, false, List, [], ◌∷◌, length, Result, Ok, Err, refl, sym, ap, ◌∙◌}
 use Rattle.std.specs.List.{list_any}
 use Rattle.std.proofs.lemmas.Bool.{le-ltb, lt-ltb}
@@ -10,28 +10,28 @@ use Rattle.tp_script.specs.declared.fault.Refused.{Refused}
 use Rattle.tp_script.specs.Reading.{Fails, fault_at}
 use Rattle.tp_script.specs.Session.{HeadView, no_head}
 use Rattle.tp_script.specs.Text.{lines, words}
-use Rattle.tp_script.specs.Workers.{ChecksAs, begins_worker, checked, has_worker, line_in, lines_checked, unless_faulty}
+use Rattle.tp_script.specs.Workers.{ChecksAs, begins_session, checked, is_session, line_in, lines_checked, unless_faulty}
 
--- ---- whether there is a worker
+-- ---- whether it is a session
 
-unfoldable pub any_worker : List (List ℕ) → Bool
-any_worker all = list_any (λ line. begins_worker (words line)) all
+unfoldable pub any_session : List (List ℕ) → Bool
+any_session all = list_any (λ line. begins_session (words line)) all
 
-pub has_worker_is : (bytes : List ℕ) → has_worker bytes ≡ any_worker (lines bytes)
-unfolding has_worker any_worker
-has_worker_is bytes = refl
+pub is_session_is : (bytes : List ℕ) → is_session bytes ≡ any_session (lines bytes)
+unfolding is_session any_session
+is_session_is bytes = refl
 
-pub worker_none : any_worker [] ≡ false
-unfolding any_worker
-worker_none = refl
+pub session_none : any_session [] ≡ false
+unfolding any_session
+session_none = refl
 
-pub worker_found : (line : List ℕ) (others : List (List ℕ)) (all : Bool) → true ≡ begins_worker (words line) → any_worker (line ∷ others) ≡ all → true ≡ all
-unfolding any_worker
-worker_found line others all here so_far = ap (λ b. b || any_worker others) here ∙ so_far
+pub session_found : (line : List ℕ) (others : List (List ℕ)) (all : Bool) → true ≡ begins_session (words line) → any_session (line ∷ others) ≡ all → true ≡ all
+unfolding any_session
+session_found line others all here so_far = ap (λ b. b || any_session others) here ∙ so_far
 
-pub worker_later : (line : List ℕ) (others : List (List ℕ)) (all : Bool) → false ≡ begins_worker (words line) → any_worker (line ∷ others) ≡ all → any_worker others ≡ all
-unfolding any_worker
-worker_later line others all here so_far = ap (λ b. b || any_worker others) here ∙ so_far
+pub session_later : (line : List ℕ) (others : List (List ℕ)) (all : Bool) → false ≡ begins_session (words line) → any_session (line ∷ others) ≡ all → any_session others ≡ all
+unfolding any_session
+session_later line others all here so_far = ap (λ b. b || any_session others) here ∙ so_far
 
 -- ---- whether a line is faulty
 

@@ -10,5 +10,7 @@ pub mod ServerLines
 pub mod Commands
 pub mod Grammar
 pub mod Reading
+pub mod Drafts
+pub mod Alive
 pub mod Session
 pub mod Workers

@@ -13,6 +13,8 @@ use Rattle.tp_script.specs.ServerLines as lines
 use Rattle.tp_script.specs.declared.commands.RaceWords.{RaceWords}
 use Rattle.tp_script.specs.declared.commands.SubmitWords.{SubmitWords}
 use Rattle.tp_script.specs.Commands as commands
+use Rattle.tp_script.specs.declared.alive.AliveWords.{AliveWords}
+use Rattle.tp_script.specs.Alive as alive
 
 -- a fault is the one that is said, and a lack of memory may always come
 abbrev pub Fails : {Y : Type 0} → LineError → Result Y LineFault → Type 0
@@ -48,6 +50,17 @@ submit_view w = record {
   amount = w.amount.now;
   word_two = w.word_two.now;
   word_three = w.word_three.now;
+}
+
+-- the words of an `alive` line, without where they lie in memory
+abbrev pub alive_view : AliveWords → alive.AliveWords
+alive_view w = record {
+  id = w.id.now;
+  attempts = w.attempts.now;
+  rounds = w.rounds.now;
+  draft = w.draft.now;
+  root = w.root.now;
+  root_draft = w.root_draft.now;
 }
 
 -- the words of a race line, without where they lie in memory

@@ -1,36 +1,39 @@
 -- What a line of a live session says, by the definitions of the lines of scripts.
-use Rattle.std.specs.Prelude.{◌≡◌, ℕ, ◌-◌, ◌^◌, ◌<◌, List, [], ◌∷◌, ◌++◌, length, map, Bool, true, false, ◌&&◌}
-use Rattle.std.specs.Prelude.{Option, Some, None, Result, Ok, Err, nat_lt, nat_le, position, is_none, codes}
-use Rattle.std.specs.Prelude.{if◌then◌else◌, count_by, ◌==◌, string_bytes}
-use Rattle.std.specs.List.{slice_split, list_all}
+use Rattle.std.specs.Prelude.{◌≡◌, ℕ, ◌-◌, ◌^◌, ◌<◌, List, [], ◌∷◌, ◌++◌, length, map, Bool, true, false}
+use Rattle.std.specs.Prelude.{◌&&◌, Option, Some, None, Result, Ok, Err, nat_lt, nat_le, position, is_none}
+use Rattle.std.specs.Prelude.{if◌then◌else◌, string_bytes}
+use Rattle.std.specs.List.{list_all}
 use Rattle.std.specs.Str.{bytes_eq}
-use Rattle.tp_model.specs.Drafts.{DraftView}
 use Rattle.tp_script.specs.declared.fault.LineFault.{LineFault}
-use Rattle.tp_script.specs.declared.fault.LineFault.TheVariants.{Syntax, BadNumber, BadLimits, BadName, TooLong}
+use Rattle.tp_script.specs.declared.fault.LineFault.TheVariants.{Syntax, BadLimits, BadName, TooLong}
 use Rattle.tp_script.specs.declared.fault.LineFault.TheVariants.{Order}
 use Rattle.tp_script.specs.declared.keyword.Keyword.{Keyword}
 use Rattle.tp_script.specs.declared.keyword.Keyword.TheVariants as first
+use Rattle.tp_script.specs.declared.keyword.SessionWord.{SessionWord}
+use Rattle.tp_script.specs.declared.keyword.SessionWord.TheVariants as own
 use Rattle.tp_script.specs.declared.keyword.Verb.{Verb}
 use Rattle.tp_script.specs.declared.keyword.Verb.TheVariants as verb
 use Rattle.tp_script.specs.declared.script.Command.{Command}
 use Rattle.tp_script.specs.declared.script.DeskAct.TheVariants as desk
 use Rattle.tp_script.specs.declared.head.Act.{Act}
 use Rattle.tp_script.specs.declared.head.Act.TheVariants as act
+use Rattle.tp_script.specs.declared.head.AliveLine.{AliveLine}
 use Rattle.tp_script.specs.declared.head.Head.{Head}
-use Rattle.tp_script.specs.declared.head.TheConstants.{MAX_WORKERS}
+use Rattle.tp_script.specs.declared.head.TheConstants.{MAX_ALIVE, MAX_WORKERS}
 use Rattle.tp_script.specs.declared.head.WorkerAct.{WorkerAct}
 use Rattle.tp_script.specs.declared.head.WorkerAct.TheVariants as does
 use Rattle.tp_script.specs.declared.head.WorkerLine.{WorkerLine}
 use Rattle.tp_script.specs.Text.{words}
-use Rattle.tp_script.specs.Commands.{SubmitWords, submit_words, stage_at, command_at}
+use Rattle.tp_script.specs.Alive.{alive_at, alive_words}
+use Rattle.tp_script.specs.Commands.{stage_at, command_at}
+use Rattle.tp_script.specs.Drafts.{draft_words, drafts_at}
 use Rattle.tp_script.specs.Grammar.{is_comment, keyword_line, no_lines}
-use Rattle.tp_script.specs.Keyword.{keyword}
+use Rattle.tp_script.specs.Keyword.{keyword, session_word}
 use Rattle.tp_script.specs.Passes.{is_race}
 use Rattle.tp_script.specs.Ranges.{IsInRange}
 use Rattle.tp_script.specs.Script.{ScriptView, script_view}
 use Rattle.tp_script.specs.ServerLines.{new_name, server_line, shape_at}
 use Rattle.tp_script.specs.LineWords.{◌>>=◌, require, known, none, one, two, three, number_at}
-use Rattle.tp_model.specs.declared.types.TheConstants.{MAX_OUTPUTS, REPLY_STAGE}
 
 -- ---- the head
 
@@ -39,10 +42,11 @@ pub record WorkerView : Type 0 where
   pub name : List ℕ
   pub stage : ℕ
 
--- the settings and servers, as of a script, and the workers
+-- the settings and servers, as of a script, the workers, and what is alive
 pub record HeadView : Type 0 where
   pub script : ScriptView
   pub workers : List WorkerView
+  pub alive : List AliveLine
 
 -- what a worker line shows
 abbrev pub worker_view : WorkerLine → WorkerView
@@ -50,59 +54,19 @@ worker_view w = record { name = string_bytes w.name; stage = w.stage }
 
 -- what a head shows
 abbrev pub head_view : Head → HeadView
-head_view h = record { script = script_view h.script; workers = map worker_view h.workers.items }
+head_view h = record {
+  script = script_view h.script;
+  workers = map worker_view h.workers.items;
+  alive = h.alive.items;
+}
 
 -- a head without lines
 abbrev pub no_head : HeadView
-no_head = record { script = no_lines; workers = [] }
+no_head = record { script = no_lines; workers = []; alive = [] }
 
 -- the place of the worker of this name, if there is one
 abbrev pub worker_at : List ℕ → HeadView → Option ℕ
 worker_at name h = position (λ w. bytes_eq w.name name) h.workers
-
--- ---- drafts
-
--- a draft has two to four colons
-abbrev pub colons : List ℕ → ℕ
-colons w = count_by (λ b. b == 58) w
-
-abbrev pub is_draft : List ℕ → Bool
-is_draft w = nat_le 2 (colons w) && nat_le (colons w) 4
-
--- a stage that an output may go to
-unfoldable pub output_stage : List ℕ → Result ℕ LineFault
-output_stage w = do
-  stage ← number_at REPLY_STAGE w
-  _ ← require (nat_le 1 stage) BadNumber
-  Ok stage
-
--- the numbers of a draft
-unfoldable pub draft_of : SubmitWords → Result DraftView LineFault
-draft_of w = do
-  stage ← output_stage w.stage
-  key ← number_at (2 ^ 64 - 1) w.key
-  amount ← number_at (2 ^ 64 - 1) w.amount
-  word_two ← number_at (2 ^ 64 - 1) w.word_two
-  word_three ← number_at (2 ^ 64 - 1) w.word_three
-  Ok (record { stage = stage; body = key ∷ amount ∷ word_two ∷ word_three ∷ [] })
-
--- STAGE:W0:W1, with words 2 and 3 of the body after; missing ones are 0
-unfoldable pub draft_at : List ℕ → Result DraftView LineFault
-draft_at w = submit_words (slice_split (λ b. b == 58) w) >>= λ ws. draft_of ws
-
--- one draft after the other
-unfoldable pub drafts_at : List (List ℕ) → Result (List DraftView) LineFault
-drafts_at [] = Ok []
-drafts_at (w ∷ ws) = do
-  first ← draft_at w
-  others ← drafts_at ws
-  Ok (first ∷ others)
-
--- the words of drafts after a name, at most four
-abbrev pub draft_words : List (List ℕ) → Result (List (List ℕ)) LineFault
-draft_words (name ∷ drafts) =
-    require (nat_le (length drafts) MAX_OUTPUTS && list_all is_draft drafts) Syntax >>= λ _. Ok drafts
-draft_words [] = Err Syntax
 
 -- ---- commands
 
@@ -151,6 +115,14 @@ act_by (Some worker) v ws h = worker_act v ws >>= λ a. Ok (act.Worker worker a)
 unfoldable pub act_at : Verb → List (List ℕ) → HeadView → Result Act LineFault
 act_at v ws h = act_by (worker_of v ws h) v ws h
 
+-- `account`
+abbrev pub account_at : List (List ℕ) → Result Act LineFault
+account_at ws = none ws >>= λ _. Ok act.Account
+
+-- `dump`
+abbrev pub dump_at : List (List ℕ) → Result Act LineFault
+dump_at ws = none ws >>= λ _. Ok act.Dump
+
 -- ---- lines
 
 -- the words of a line of at most 200 bytes, each a space or visible; a comment has none
@@ -169,6 +141,13 @@ worker_line (name, stage) h = do
   _ ← require (nat_lt (length h.workers) MAX_WORKERS) BadLimits
   Ok (record h { workers = h.workers ++ record { name = fresh; stage = place } ∷ [] })
 
+-- `alive ID ATTEMPTS ROUNDS OUT` or `alive ID ATTEMPTS ROUNDS OUT ROOT OUT`
+unfoldable pub alive_line : List (List ℕ) → HeadView → Result HeadView LineFault
+alive_line ws h = do
+  line ← alive_at ws
+  _ ← require (nat_lt (length h.alive) MAX_ALIVE) BadLimits
+  Ok (record h { alive = h.alive ++ line ∷ [] })
+
 -- `server NAME KIND STAGE REGISTERS ACT OUT..`, with a name that no worker has
 unfoldable pub head_server : List (List ℕ) → HeadView → Result HeadView LineFault
 head_server ws h = do
@@ -182,6 +161,17 @@ abbrev pub with_script : Result ScriptView LineFault → HeadView → Result (He
 with_script (Ok s) h = Ok (record h { script = s }, None)
 with_script (Err fault) h = Err fault
 
+-- Where the head says what is alive, `restore` alone may be the first command. Another is out of order then,
+-- unless it says nothing that a command could.
+abbrev pub unless_alive : List AliveLine → Result Act LineFault → Result Act LineFault
+unless_alive [] said = said
+unless_alive (line ∷ others) (Err Syntax) = Err Syntax
+unless_alive (line ∷ others) said = Err Order
+
+-- the first command, unless it is `restore`
+abbrev pub first_command : Result Act LineFault → HeadView → Result (HeadView × Option Act) LineFault
+first_command said h = unless_alive h.alive said >>= λ a. Ok (h, Some a)
+
 -- a line of the head of a script's first word: what the head is then, and the command that ends it, if it is
 -- one
 unfoldable pub head_keyword : Keyword → List (List ℕ) → HeadView → Result (HeadView × Option Act) LineFault
@@ -191,15 +181,26 @@ head_keyword first.Limit ws h = with_script (keyword_line first.Limit ws h.scrip
 head_keyword first.Spare ws h = with_script (keyword_line first.Spare ws h.script) h
 head_keyword first.Server ws h = head_server ws h >>= λ t. Ok (t, None)
 head_keyword first.Start ws h = with_script (keyword_line first.Start ws h.script) h
-head_keyword (first.Do v) ws h = act_at v ws h >>= λ a. Ok (h, Some a)
-head_keyword first.Account ws h = none ws >>= λ _. Ok (h, Some act.Account)
+head_keyword (first.Do v) ws h = first_command (act_at v ws h) h
+head_keyword first.Account ws h = first_command (account_at ws) h
+
+-- a line of the head of a first word that sessions alone have
+unfoldable pub head_own : SessionWord → List (List ℕ) → HeadView → Result (HeadView × Option Act) LineFault
+head_own own.Worker ws h = two ws >>= λ x. worker_line x h >>= λ t. Ok (t, None)
+head_own own.Alive ws h = alive_line ws h >>= λ t. Ok (t, None)
+head_own own.Restore ws h = none ws >>= λ _. Ok (h, Some act.Restore)
+head_own own.Dump ws h = first_command (dump_at ws) h
+
+-- a line of the head of this first word
+abbrev pub head_by : Option SessionWord → List ℕ → List (List ℕ) → HeadView
+    → Result (HeadView × Option Act) LineFault
+head_by (Some word) w ws h = head_own word ws h
+head_by None w ws h = known (keyword w) Syntax >>= λ k. head_keyword k ws h
 
 -- the words of a line of the head
 unfoldable pub head_words : List (List ℕ) → HeadView → Result (HeadView × Option Act) LineFault
 head_words [] h = Ok (h, None)
-head_words (w ∷ ws) h = if bytes_eq w (codes "worker")
-    then (two ws >>= λ x. worker_line x h >>= λ t. Ok (t, None))
-    else (known (keyword w) Syntax >>= λ k. head_keyword k ws h)
+head_words (w ∷ ws) h = head_by (session_word w) w ws h
 
 -- a line of the head
 unfoldable pub head_at : List ℕ → HeadView → Result (HeadView × Option Act) LineFault
@@ -219,13 +220,24 @@ body_keyword first.Spare ws h = out_of_order (one ws)
 body_keyword first.Server ws h = out_of_order (shape_at ws)
 body_keyword first.Start ws h = out_of_order (three ws)
 body_keyword (first.Do v) ws h = act_at v ws h >>= λ a. Ok (Some a)
-body_keyword first.Account ws h = none ws >>= λ _. Ok (Some act.Account)
+body_keyword first.Account ws h = account_at ws >>= λ a. Ok (Some a)
+
+-- a line after the head of a first word that sessions alone have
+unfoldable pub body_own : SessionWord → List (List ℕ) → Result (Option Act) LineFault
+body_own own.Worker ws = out_of_order (two ws)
+body_own own.Alive ws = out_of_order (alive_words ws)
+body_own own.Restore ws = out_of_order (none ws)
+body_own own.Dump ws = dump_at ws >>= λ a. Ok (Some a)
+
+-- a line after the head of this first word
+abbrev pub body_by : Option SessionWord → List ℕ → List (List ℕ) → HeadView → Result (Option Act) LineFault
+body_by (Some word) w ws h = body_own word ws
+body_by None w ws h = known (keyword w) Syntax >>= λ k. body_keyword k ws h
 
 -- the words of a line after the head
 unfoldable pub body_words : List (List ℕ) → HeadView → Result (Option Act) LineFault
 body_words [] h = Ok None
-body_words (w ∷ ws) h = if bytes_eq w (codes "worker") then out_of_order (two ws)
-    else (known (keyword w) Syntax >>= λ k. body_keyword k ws h)
+body_words (w ∷ ws) h = body_by (session_word w) w ws h
 
 -- a line after the head
 unfoldable pub body_at : List ℕ → HeadView → Result (Option Act) LineFault
@@ -238,3 +250,5 @@ abbrev pub IsActInRange : ℕ → ℕ → Act → Type 0
 IsActInRange servers workers (act.Command c) = IsInRange servers c × (is_race c ≡ false)
 IsActInRange servers workers (act.Worker worker a) = worker < workers
 IsActInRange servers workers act.Account = Unit {0}
+IsActInRange servers workers act.Dump = Unit {0}
+IsActInRange servers workers act.Restore = Unit {0}

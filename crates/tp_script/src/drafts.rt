@@ -3,8 +3,8 @@ ghost use Rattle.tp_model.specs.declared.types.TheConstants.{MAX_OUTPUTS, REPLY_
 ghost use Rattle.std.specs.Prelude.{◌≡◌, ◌≤◌, ◌&&◌, map, length, IfOk, nat_le};
 ghost use Rattle.std.specs.List.{list_all};
 ghost use Rattle.tp_script.specs.Reading.{Gives, submit_view};
-ghost use Rattle.tp_script.specs.Session.{colons, draft_at, draft_of, draft_words, drafts_at, is_draft};
-ghost use Rattle.tp_script.specs.Session.{output_stage};
+ghost use Rattle.tp_script.specs.Drafts.{colons, draft_at, draft_of, draft_words, drafts_at, is_draft};
+ghost use Rattle.tp_script.specs.Drafts.{output_stage};
 
 use crate::commands::{SubmitWords, submit_words};
 use crate::fault::{LineError, LineFault};
@@ -21,8 +21,8 @@ fn colons(word: &[u8]) -> usize
     word.iter().filter(|byte| **byte == b':').count()
 }
 
-// Whether a word has two to four colons.
-fn is_draft(word: &[u8]) -> bool
+/// Whether a word has two to four colons.
+pub(crate) fn is_draft(word: &[u8]) -> bool
     ensures { result ≡ is_draft word.now }
 {
     let colons = colons(word);
@@ -51,7 +51,7 @@ pub(crate) fn draft_words<'a>(words: &'a [&'a [u8]]) -> Result<&'a [&'a [u8]], L
 }
 
 // A stage that an output may go to.
-#[tactic(auto, unfolding(crate::specs::Session::output_stage))]
+#[tactic(auto, unfolding(crate::specs::Drafts::output_stage))]
 fn output_stage(word: &[u8]) -> Result<u8, LineError>
     ensures gives { Gives (λ n. n) result (output_stage word.now) }
     ensures bounds { IfOk result (λ n. (1 ≤ n) × (n ≤ REPLY_STAGE)) }
@@ -64,7 +64,7 @@ fn output_stage(word: &[u8]) -> Result<u8, LineError>
 }
 
 // The numbers of a draft.
-#[tactic(auto, unfolding(crate::specs::Session::draft_of))]
+#[tactic(auto, unfolding(crate::specs::Drafts::draft_of))]
 fn draft_of(words: SubmitWords<'_>) -> Result<Draft, LineError>
     ensures { Gives (λ d. d) result (draft_of (submit_view words.entry)) }
 {
@@ -81,9 +81,9 @@ fn draft_of(words: SubmitWords<'_>) -> Result<Draft, LineError>
     }
 }
 
-// `STAGE:W0:W1`, with words 2 and 3 after.
-#[tactic(auto, unfolding(crate::specs::Session::draft_at))]
-fn draft_at(alloc: Global, word: &[u8]) -> Result<Draft, LineError>
+/// `STAGE:W0:W1`, with words 2 and 3 after.
+#[tactic(auto, unfolding(crate::specs::Drafts::draft_at))]
+pub(crate) fn draft_at(alloc: Global, word: &[u8]) -> Result<Draft, LineError>
     ensures { Gives (λ d. d) result (draft_at word.now) }
 {
     let parts = parts(alloc, word, b':')?;

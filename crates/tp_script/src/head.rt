@@ -1,6 +1,8 @@
 //! The head of a live session, and what its lines ask for.
 ghost use Rattle.std.specs.Prelude.{◌≤◌, vec_len};
-ghost use Rattle.tp_script.specs.declared.head.TheConstants.{MAX_WORKERS};
+ghost use Rattle.std.specs.List.{All};
+ghost use Rattle.tp_script.specs.Alive.{IsAliveInRange};
+ghost use Rattle.tp_script.specs.declared.head.TheConstants.{MAX_ALIVE, MAX_WORKERS};
 
 use crate::script::{Command, Script};
 use arrayvec::ArrayVec;
@@ -9,6 +11,10 @@ use tp_model::types::Draft;
 
 /// How many workers a session may have: with the most servers and the client they have all passes.
 pub const MAX_WORKERS: usize = 23;
+
+/// How many elements a head may say are alive: as many as a manager has rows at most, those of all passes and
+/// the spare ones.
+pub const MAX_ALIVE: usize = 10_240;
 
 /// A worker line: a worker outside of the program, which works on a stage through a pass of its own.
 #[derive(Drop)]
@@ -19,6 +25,24 @@ pub struct WorkerLine {
     pub stage: u8,
     ghost low: { 1 ≤ stage },
     ghost high: { stage ≤ 14 },
+}
+
+/// An `alive` line: an element that waits or is parked, as `dump` tells of it. It is alive again once the
+/// session is restored.
+#[derive(Clone, Copy, Debug, PartialEq, Eq)]
+pub struct AliveLine {
+    /// Its id before.
+    pub id: u32,
+    /// How many units of work took it in its round and were aborted, 0 to 7.
+    pub attempts: u8,
+    /// How many further rounds it was given, 0 to 3.
+    pub rounds: u8,
+    /// Its stage and its body.
+    pub draft: Draft,
+    /// The id of its root before; its own id where it is its own root.
+    pub root: u32,
+    /// The stage and the body of its root.
+    pub root_draft: Draft,
 }
 
 /// What a worker does.
@@ -43,14 +67,22 @@ pub enum Act {
     Worker { worker: usize, act: WorkerAct },
     /// The account is reported.
     Account,
+    /// The lines of a session are reported that leads to this state.
+    Dump,
+    /// What the head says is alive again. It is the first command.
+    Restore,
 }
 
-/// The head of a session: settings, servers and workers.
+/// The head of a session: settings, servers, workers, and what is alive.
 #[derive(Drop)]
 pub struct Head {
     /// The settings and the servers, as those of a script.
     pub script: Script,
     /// The workers, in the order of their lines.
     pub workers: Vec<WorkerLine>,
+    /// What is alive, in the order of the lines. Lines may contradict each other.
+    pub alive: Vec<AliveLine>,
     ghost few: { vec_len workers ≤ MAX_WORKERS },
+    ghost few_alive: { vec_len alive ≤ MAX_ALIVE },
+    ghost alive_in_range: { All IsAliveInRange alive.items },
 }

@@ -1,7 +1,8 @@
 //! The first words of lines.
 ghost use Rattle.std.specs.Prelude.{◌≡◌};
-ghost use Rattle.tp_script.specs.Keyword.{keyword};
+ghost use Rattle.tp_script.specs.Keyword.{keyword, session_word};
 
+use crate::line_words::is;
 use crate::script::DeskAct;
 
 /// What a line is, by its first word.
@@ -88,5 +89,38 @@ impl Keyword {
             .find(|row| row.0.as_bytes() == word)
             .copied()?;
         Some(row.1)
+    }
+}
+
+/// What a line of a session is, by its first word, where sessions alone have the word.
+#[derive(Clone, Copy, Debug, PartialEq, Eq)]
+pub enum SessionWord {
+    /// The line names a worker.
+    Worker,
+    /// The line says that an element is alive.
+    Alive,
+    /// The line asks that what the head says be alive again.
+    Restore,
+    /// The line asks for the lines of a session that leads to this state.
+    Dump,
+}
+
+impl SessionWord {
+    /// What a line of this first word is, where sessions alone have the word.
+    #[tactic(auto, unfolding(crate::specs::Keyword::session_word))]
+    pub fn of(word: &[u8]) -> Option<SessionWord>
+        ensures { result ≡ session_word word.now }
+    {
+        if is(word, "worker") {
+            Some(SessionWord::Worker)
+        } else if is(word, "alive") {
+            Some(SessionWord::Alive)
+        } else if is(word, "restore") {
+            Some(SessionWord::Restore)
+        } else if is(word, "dump") {
+            Some(SessionWord::Dump)
+        } else {
+            None
+        }
     }
 }

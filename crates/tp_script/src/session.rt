@@ -1,31 +1,30 @@
-//! The lines of a live session: its head of settings, servers and workers, and its commands.
-ghost use Rattle.std.specs.Prelude.{◌≡◌, ◌≤◌, ◌<◌, ◌&&◌, map, length, IfOk, IfSome, OnErr, nat_le, position};
-ghost use Rattle.std.specs.Prelude.{string_bytes, vec_len};
-ghost use Rattle.std.specs.Str.{bytes_eq};
-ghost use Rattle.std.specs.Prelude.{None, ℕ};
+//! The lines of a live session: its head of settings, servers, workers and what is alive, and its commands.
+ghost use Rattle.std.specs.Prelude.{◌≡◌, ◌≤◌, ◌&&◌, None, Result, Some, map, length, nat_le, vec_len, ℕ};
+ghost use Rattle.std.specs.Prelude.{IfOk, IfSome, OnErr};
 ghost use Rattle.tp_script.specs.Grammar.{keyword_line};
 ghost use Rattle.tp_script.specs.LineWords.{one};
-ghost use Rattle.tp_script.specs.declared.keyword.Verb.TheVariants as verbs;
+ghost use Rattle.tp_script.specs.declared.fault.LineFault.{LineFault};
+ghost use Rattle.tp_script.specs.declared.head.Act.{Act};
+ghost use Rattle.tp_script.specs.declared.head.Act.TheVariants.{Dump};
 ghost use Rattle.tp_script.specs.Ranges.{IsInRange};
 ghost use Rattle.tp_script.specs.Reading.{Gives};
 ghost use Rattle.tp_script.specs.Script.{script_view};
-ghost use Rattle.tp_script.specs.Session.{HeadView, IsActInRange, act_at, body_at, body_keyword, body_words};
-ghost use Rattle.tp_script.specs.Session.{head_at, head_keyword, head_server, head_view, head_words, is_named};
-ghost use Rattle.tp_script.specs.Session.{line_words, live, no_head, worker_act, worker_at, worker_commit};
-ghost use Rattle.tp_script.specs.Session.{out_of_order, with_script, worker_line, worker_of, worker_take};
+ghost use Rattle.tp_script.specs.Session.{IsActInRange, account_at, act_at, body_at, body_keyword, body_own};
+ghost use Rattle.tp_script.specs.Session.{body_words, dump_at, head_at, head_keyword, head_own, head_server};
+ghost use Rattle.tp_script.specs.Session.{head_view, head_words, line_words, live, no_head, out_of_order};
+ghost use Rattle.tp_script.specs.Session.{unless_alive, with_script};
 
-use crate::commands::stage_at;
-use crate::drafts::{draft_words, drafts_at};
+use crate::alive::alive_words;
 use crate::fault::{LineError, LineFault};
 use crate::grammar::{all_allowed, first_word, is_comment};
-use crate::head::{Act, Head, MAX_WORKERS, WorkerAct, WorkerLine};
-use crate::keyword::{Keyword, Verb};
-use crate::line_words::{is, none, number_at, one, three, two};
-use crate::script::{Command, DeskAct, Script};
+use crate::head::{Act, Head};
+use crate::keyword::{Keyword, SessionWord, Verb};
+use crate::line_words::{none, one, three, two};
+use crate::script::{Command, Script};
 use crate::servers::shape_at;
 use crate::text::words;
+use crate::worker_lines::worker_act;
 use std::alloc::Global;
-use std::string::String;
 
 // What a session does of the commands of scripts: all but races.
 fn live(command: Command) -> Result<Act, LineError>
@@ -37,70 +36,6 @@ fn live(command: Command) -> Result<Act, LineError>
         return Err(LineFault::Syntax.into());
     }
     Ok(Act::Command(command))
-}
-
-// `take NAME ID` of a worker.
-#[tactic(auto, unfolding(crate::specs::Session::worker_take))]
-fn worker_take(words: &[&[u8]]) -> Result<WorkerAct, LineError>
-    ensures { Gives (λ a. a) result (worker_take (map (λ x. x.now) words.now)) }
-{
-    let (_name, id) = two(words)?;
-    let id = number_at(id, u64::from(u32::MAX))? as u32;
-    Ok(WorkerAct::Take { id })
-}
-
-// `commit NAME OUT..` of a worker.
-#[tactic(auto, unfolding(crate::specs::Session::worker_commit))]
-fn worker_commit(alloc: Global, words: &[&[u8]]) -> Result<WorkerAct, LineError>
-    ensures { Gives (λ a. a) result (worker_commit (map (λ x. x.now) words.now)) }
-{
-    let drafts = draft_words(words)?;
-    let drafts = drafts_at(alloc, drafts)?;
-    Ok(WorkerAct::Commit { drafts })
-}
-
-// What a worker's line of a desk's first word says.
-#[tactic(auto, unfolding(crate::specs::Session::worker_act))]
-fn worker_desk(alloc: Global, act: DeskAct, words: &[&[u8]]) -> Result<WorkerAct, LineError>
-    ensures { Gives (λ a. a) result (worker_act (verbs.Desk act) (map (λ x. x.now) words.now)) }
-{
-    if act == DeskAct::Commit {
-        return worker_commit(alloc, words);
-    }
-    one(words)?;
-    match act {
-        DeskAct::Claim => Ok(WorkerAct::Claim),
-        DeskAct::Abort => Ok(WorkerAct::Abort),
-        DeskAct::Turn => Err(LineFault::BadName.into()),
-        DeskAct::Next => Err(LineFault::BadName.into()),
-        DeskAct::Take { .. } => Err(LineFault::BadName.into()),
-        DeskAct::Prepare => Err(LineFault::BadName.into()),
-        DeskAct::Commit => Err(LineFault::BadName.into()),
-        DeskAct::Drop => Err(LineFault::BadName.into()),
-    }
-}
-
-// What a worker is asked by a line of this first word.
-#[tactic(auto, unfolding(crate::specs::Session::worker_act))]
-fn worker_act(alloc: Global, verb: Verb, words: &[&[u8]]) -> Result<WorkerAct, LineError>
-    ensures { Gives (λ a. a) result (worker_act verb (map (λ x. x.now) words.now)) }
-{
-    match verb {
-        Verb::Desk(act) => worker_desk(alloc, act, words),
-        Verb::Take => worker_take(words),
-        Verb::Balance => {
-            two(words)?;
-            Err(LineFault::BadName.into())
-        }
-        _ => Err(LineFault::Syntax.into()),
-    }
-}
-
-// Whether the words after this first word begin with a name.
-fn is_named(verb: Verb) -> bool
-    ensures { result ≡ is_named verb }
-{
-    matches!(verb, Verb::Desk(_) | Verb::Take | Verb::Balance)
 }
 
 // The words of a line.
@@ -128,45 +63,15 @@ impl Head {
         Head {
             script: Script::new(alloc),
             workers: Vec::new(alloc),
+            alive: Vec::new(alloc),
         }
-    }
-
-    // The place of the worker of this name in memory.
-    fn find(&self, name: &[u8]) -> Option<usize>
-        ensures found { result ≡ position (λ w. bytes_eq (string_bytes w.name) name.now) self.now.workers.items }
-        ensures within { IfSome result (λ i. i < vec_len self.now.workers) }
-    {
-        self.workers
-            .iter()
-            .position(|worker| worker.name.as_bytes() == name)
-    }
-
-    // The place of the worker of this name, if there is one.
-    fn worker_at(&self, name: &[u8]) -> Option<usize>
-        ensures found { result ≡ worker_at name.now (head_view self.now) }
-        ensures within { IfSome result (λ i. i < vec_len self.now.workers) }
-    {
-        self.find(name)
-    }
-
-    // The worker that the words after a first word name.
-    fn worker_of(&self, verb: Verb, words: &[&[u8]]) -> Option<usize>
-        ensures found { result ≡ worker_of verb (map (λ x. x.now) words.now) (head_view self.now) }
-        ensures within { IfSome result (λ i. i < vec_len self.now.workers) }
-    {
-        let Some((name, _others)) = words.split_first() else {
-            return None;
-        };
-        if !is_named(verb) {
-            return None;
-        }
-        self.worker_at(name)
     }
 
     // The command of this first word, with the words after it.
     #[tactic(auto, unfolding(crate::specs::Session::act_at))]
     fn act_at(&self, alloc: Global, verb: Verb, words: &[&[u8]]) -> Result<Act, LineError>
-        ensures gives { Gives (λ a. a) result (act_at verb (map (λ x. x.now) words.now) (head_view self.now)) }
+        ensures gives { Gives (λ a. a) result
+            (act_at verb (map (λ x. x.now) words.now) (head_view self.now)) }
         ensures in_range { IfOk result (λ a.
             IsActInRange (vec_len self.now.script.servers) (vec_len self.now.workers) a) }
     {
@@ -177,25 +82,6 @@ impl Head {
                 Ok(Act::Worker { worker, act })
             }
         }
-    }
-
-    // `worker NAME STAGE`
-    #[tactic(auto, unfolding(crate::specs::Session::worker_line))]
-    fn worker_line(&mut self, alloc: Global, words: (&[u8], &[u8])) -> Result<(), LineError>
-        ensures gives { Gives (λ _. head_view self.new) result
-            (worker_line (words.entry.0.now, words.entry.1.now) (head_view self.old)) }
-        ensures kept { OnErr result (head_view self.new ≡ head_view self.old) }
-    {
-        let name = self.script.new_name(alloc, words.0)?;
-        if self.worker_at(words.0).is_some() {
-            return Err(LineFault::BadName.into());
-        }
-        let stage = stage_at(words.1)?;
-        if self.workers.len() >= MAX_WORKERS {
-            return Err(LineFault::BadLimits.into());
-        }
-        self.workers.push(WorkerLine { name, stage })?;
-        Ok(())
     }
 
     // `server NAME KIND STAGE REGISTERS ACT OUT..`
@@ -210,6 +96,25 @@ impl Head {
             return Err(LineFault::BadName.into());
         }
         self.script.server_line(alloc, words)
+    }
+
+    // The first command, unless it is `restore`: out of order where the head says what is alive.
+    fn first_command(&self, read: Result<Act, LineError>) -> Result<Act, LineError>
+        ensures gives { (said : Result Act LineFault) → Gives (λ a. a) read said
+            → Gives (λ a. a) result (unless_alive (head_view self.now).alive said) }
+        ensures in_range { IfOk read (λ a.
+            IsActInRange (vec_len self.now.script.servers) (vec_len self.now.workers) a)
+            → IfOk result (λ a.
+            IsActInRange (vec_len self.now.script.servers) (vec_len self.now.workers) a) }
+    {
+        if self.alive.is_empty() {
+            return read;
+        }
+        match read {
+            Err(LineError::NoMemory) => Err(LineError::NoMemory),
+            Err(LineError::Fault(LineFault::Syntax)) => Err(LineFault::Syntax.into()),
+            _ => Err(LineFault::Order.into()),
+        }
     }
 
     // A line of the head of a script's first word.
@@ -232,12 +137,12 @@ impl Head {
                 Ok(None)
             }
             Keyword::Do(verb) => {
-                let act = self.act_at(alloc, verb, words)?;
+                let act = self.first_command(self.act_at(alloc, verb, words))?;
                 Ok(Some(act))
             }
             Keyword::Account => {
-                none(words)?;
-                Ok(Some(Act::Account))
+                let act = self.first_command(account_at(words))?;
+                Ok(Some(act))
             }
             Keyword::Rows => self.script_line(alloc, keyword, words),
             Keyword::Units => self.script_line(alloc, keyword, words),
@@ -264,6 +169,40 @@ impl Head {
         Ok(None)
     }
 
+    // A line of the head of a first word that sessions alone have.
+    #[tactic(auto, unfolding(crate::specs::Session::head_own))]
+    fn head_own(
+        &mut self,
+        alloc: Global,
+        word: SessionWord,
+        words: &[&[u8]],
+    ) -> Result<Option<Act>, LineError>
+        ensures gives { Gives (λ a. (head_view self.new, a)) result
+            (head_own word (map (λ x. x.now) words.now) (head_view self.old)) }
+        ensures kept { OnErr result (head_view self.new ≡ head_view self.old) }
+        ensures in_range { IfOk result (λ said. IfSome said (λ a.
+            IsActInRange (vec_len self.new.script.servers) (vec_len self.new.workers) a)) }
+    {
+        match word {
+            SessionWord::Worker => {
+                self.worker_line(alloc, two(words)?)?;
+                Ok(None)
+            }
+            SessionWord::Alive => {
+                self.alive_line(alloc, words)?;
+                Ok(None)
+            }
+            SessionWord::Restore => {
+                none(words)?;
+                Ok(Some(Act::Restore))
+            }
+            SessionWord::Dump => {
+                let act = self.first_command(dump_at(words))?;
+                Ok(Some(act))
+            }
+        }
+    }
+
     // The words of a line of the head.
     #[tactic(auto, unfolding(crate::specs::Session::head_words))]
     fn head_words(&mut self, alloc: Global, words: &[&[u8]]) -> Result<Option<Act>, LineError>
@@ -276,13 +215,10 @@ impl Head {
         let Some((first, others)) = words.split_first() else {
             return Ok(None);
         };
-        if is(first, "worker") {
-            let words = two(others)?;
-            self.worker_line(alloc, words)?;
-            return Ok(None);
+        match SessionWord::of(first) {
+            Some(word) => self.head_own(alloc, word, others),
+            None => self.head_keyword(alloc, first_word(first)?, others),
         }
-        let keyword = first_word(first)?;
-        self.head_keyword(alloc, keyword, others)
     }
 
     /// Adds what a line of the head says, or answers the first command, which ends the head. A faulty line
@@ -317,8 +253,8 @@ impl Head {
                 Ok(Some(act))
             }
             Keyword::Account => {
-                none(words)?;
-                Ok(Some(Act::Account))
+                let act = account_at(words)?;
+                Ok(Some(act))
             }
             Keyword::Server => {
                 shape_at(alloc, words)?;
@@ -345,12 +281,10 @@ impl Head {
         let Some((first, others)) = words.split_first() else {
             return Ok(None);
         };
-        if is(first, "worker") {
-            two(others)?;
-            return Err(LineFault::Order.into());
+        match SessionWord::of(first) {
+            Some(word) => body_own(word, others),
+            None => self.body_keyword(alloc, first_word(first)?, others),
         }
-        let keyword = first_word(first)?;
-        self.body_keyword(alloc, keyword, others)
     }
 
     /// What a line after the head asks for, if it isn't empty or a comment.
@@ -362,6 +296,50 @@ impl Head {
     {
         let words = line_words(alloc, line)?;
         self.body_words(alloc, words.as_slice())
+    }
+}
+
+// `account`
+fn account_at(words: &[&[u8]]) -> Result<Act, LineError>
+    ensures gives { Gives (λ a. a) result (account_at (map (λ x. x.now) words.now)) }
+    ensures in_range { (servers : ℕ) → (workers : ℕ) → IfOk result (λ a. IsActInRange servers workers a) }
+{
+    none(words)?;
+    Ok(Act::Account)
+}
+
+// `dump`
+fn dump_at(words: &[&[u8]]) -> Result<Act, LineError>
+    ensures gives { Gives (λ a. a) result (dump_at (map (λ x. x.now) words.now)) }
+    ensures in_range { (servers : ℕ) → (workers : ℕ) → IfOk result (λ a. IsActInRange servers workers a) }
+{
+    none(words)?;
+    Ok(Act::Dump)
+}
+
+// A line after the head of a first word that sessions alone have.
+#[tactic(auto, unfolding(crate::specs::Session::body_own))]
+fn body_own(word: SessionWord, words: &[&[u8]]) -> Result<Option<Act>, LineError>
+    ensures gives { Gives (λ a. a) result (body_own word (map (λ x. x.now) words.now)) }
+    ensures dump { IfOk result (λ said. said ≡ Some Dump) }
+{
+    match word {
+        SessionWord::Worker => {
+            two(words)?;
+            Err(LineFault::Order.into())
+        }
+        SessionWord::Alive => {
+            alive_words(words)?;
+            Err(LineFault::Order.into())
+        }
+        SessionWord::Restore => {
+            none(words)?;
+            Err(LineFault::Order.into())
+        }
+        SessionWord::Dump => {
+            let act = dump_at(words)?;
+            Ok(Some(act))
+        }
     }
 }
 

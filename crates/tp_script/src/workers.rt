@@ -1,36 +1,37 @@
-//! Scripts with workers: whether a script has one, and all its lines checked as those of a session.
+//! Scripts that are sessions: whether a script is one, and all its lines checked as those of a session.
 ghost use Rattle.std.specs.Prelude.{◌≡◌, IfOk, IsErrOf, map};
 ghost use Rattle.tp_script.specs.Reading.{Gives};
 ghost use Rattle.tp_script.specs.Session.{head_view};
-ghost use Rattle.tp_script.specs.Workers.{ChecksAs, begins_worker, checked, has_worker, line_in};
+ghost use Rattle.tp_script.specs.Workers.{ChecksAs, begins_session, checked, is_session, line_in};
 ghost use Rattle.tp_script.specs.Text.{words};
 
 use crate::fault::{LineError, LineFault, ReadFault};
 use crate::head::Head;
-use crate::line_words::is;
+use crate::keyword::SessionWord;
 use crate::parse::at_line;
 use crate::source::MAX_SCRIPT_BYTES;
 use crate::text::{lines, words};
 use std::alloc::{AllocError, Global};
 
-/// Whether a line begins with the word `worker`.
-fn is_of_worker(alloc: Global, line: &[u8]) -> Result<bool, AllocError>
-    ensures { IfOk result (λ found. found ≡ begins_worker (words line.now)) }
+/// Whether a line begins with a word that sessions alone have.
+fn is_of_session(alloc: Global, line: &[u8]) -> Result<bool, AllocError>
+    ensures { IfOk result (λ found. found ≡ begins_session (words line.now)) }
 {
     let words = words(alloc, line)?;
     match words.as_slice().split_first() {
-        Some((first, _others)) => Ok(is(first, "worker")),
+        Some((first, _others)) => Ok(SessionWord::of(first).is_some()),
         None => Ok(false),
     }
 }
 
-/// Whether a script has a worker: a line of it begins with the word `worker`.
-pub fn has_worker(alloc: Global, bytes: &[u8]) -> Result<bool, AllocError>
-    ensures { IfOk result (λ found. found ≡ has_worker bytes.now) }
+/// Whether a script is a session: a line of it begins with `worker`, `alive`, `restore` or `dump`, words that
+/// sessions alone have.
+pub fn is_session(alloc: Global, bytes: &[u8]) -> Result<bool, AllocError>
+    ensures { IfOk result (λ found. found ≡ is_session bytes.now) }
 {
     let lines = lines(alloc, bytes)?;
     for text in &lines {
-        if is_of_worker(alloc, text)? {
+        if is_of_session(alloc, text)? {
             return Ok(true);
         }
     }
@@ -55,8 +56,8 @@ fn check_line(
     Ok(command.is_some())
 }
 
-/// Checks the bytes of a script with workers: each line is one of a session, in its place. Else the script is
-/// refused at its first faulty line.
+/// Checks the bytes of a script that is a session: each line is one of a session, in its place. Else the
+/// script is refused at its first faulty line.
 pub fn check_lines(alloc: Global, bytes: &[u8]) -> Result<(), ReadFault>
     ensures { ChecksAs result (checked bytes.now) }
 {

@@ -2,7 +2,7 @@ use Rattle.std.proofs.Common.{◌∙◌, sym, rules, tests}
 use Rattle.std.proofs.lemmas.Iterator.{YieldsList-from_slice}
 use Rattle.std.proofs.lemmas.Iterator.Search.{all_from_yields_List}
 use Rattle.std.proofs.lemmas.List.Folds.{list_all-map}
-use Rattle.tp_script.specs.Session.{is_draft}
+use Rattle.tp_script.specs.Drafts.{is_draft}
 use Rattle.tp_script.proofs.drafts.all_drafts.Goals as goal
 
 pub returns : goal.returns

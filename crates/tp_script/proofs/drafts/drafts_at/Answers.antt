@@ -1,7 +1,7 @@
 use Rattle.std.proofs.Common.{◌≡◌, ℕ, [], List, drop, map, ap, arith, Bor}
 use Rattle.std.proofs.lemmas.Result.{err_from_is_err_and}
 use Rattle.std.proofs.lemmas.List.{drop_more, drop_all}
-use Rattle.tp_script.specs.Session.{drafts_at}
+use Rattle.tp_script.specs.Drafts.{drafts_at}
 use Rattle.tp_script.proofs.DraftLemmas.{drafts_go_on, drafts_end, drafts_done}
 use Rattle.tp_script.proofs.drafts.drafts_at.Goals as goal
 

@@ -1,6 +1,6 @@
 use Rattle.std.proofs.Common.{◌≡◌, drop, map}
 use Rattle.arrayvec.specs.ArrayVec.{array_vec_len}
-use Rattle.tp_script.specs.Session.{drafts_at}
+use Rattle.tp_script.specs.Drafts.{drafts_at}
 use Rattle.tp_script.proofs.DraftLemmas.{with_front}
 use Rattle.tp_script.proofs.drafts.drafts_at.Given as goal
 

@@ -1,0 +1,52 @@
+-- The outputs of a worker's commit, as its line says them; what an `alive` line says that an element is, too.
+use Rattle.std.specs.Prelude.{ℕ, ◌-◌, ◌^◌, List, [], ◌∷◌, length, Bool, ◌&&◌, Result, Ok, Err, nat_le}
+use Rattle.std.specs.Prelude.{count_by, ◌==◌}
+use Rattle.std.specs.List.{slice_split, list_all}
+use Rattle.tp_model.specs.Drafts.{DraftView}
+use Rattle.tp_model.specs.declared.types.TheConstants.{MAX_OUTPUTS, REPLY_STAGE}
+use Rattle.tp_script.specs.declared.fault.LineFault.{LineFault}
+use Rattle.tp_script.specs.declared.fault.LineFault.TheVariants.{Syntax, BadNumber}
+use Rattle.tp_script.specs.Commands.{SubmitWords, submit_words}
+use Rattle.tp_script.specs.LineWords.{◌>>=◌, require, number_at}
+
+-- a draft has two to four colons
+abbrev pub colons : List ℕ → ℕ
+colons w = count_by (λ b. b == 58) w
+
+abbrev pub is_draft : List ℕ → Bool
+is_draft w = nat_le 2 (colons w) && nat_le (colons w) 4
+
+-- a stage that an output may go to
+unfoldable pub output_stage : List ℕ → Result ℕ LineFault
+output_stage w = do
+  stage ← number_at REPLY_STAGE w
+  _ ← require (nat_le 1 stage) BadNumber
+  Ok stage
+
+-- the numbers of a draft
+unfoldable pub draft_of : SubmitWords → Result DraftView LineFault
+draft_of w = do
+  stage ← output_stage w.stage
+  key ← number_at (2 ^ 64 - 1) w.key
+  amount ← number_at (2 ^ 64 - 1) w.amount
+  word_two ← number_at (2 ^ 64 - 1) w.word_two
+  word_three ← number_at (2 ^ 64 - 1) w.word_three
+  Ok (record { stage = stage; body = key ∷ amount ∷ word_two ∷ word_three ∷ [] })
+
+-- STAGE:W0:W1, with words 2 and 3 of the body after; missing ones are 0
+unfoldable pub draft_at : List ℕ → Result DraftView LineFault
+draft_at w = submit_words (slice_split (λ b. b == 58) w) >>= λ ws. draft_of ws
+
+-- one draft after the other
+unfoldable pub drafts_at : List (List ℕ) → Result (List DraftView) LineFault
+drafts_at [] = Ok []
+drafts_at (w ∷ ws) = do
+  first ← draft_at w
+  others ← drafts_at ws
+  Ok (first ∷ others)
+
+-- the words of drafts after a name, at most four
+abbrev pub draft_words : List (List ℕ) → Result (List (List ℕ)) LineFault
+draft_words (name ∷ drafts) =
+    require (nat_le (length drafts) MAX_OUTPUTS && list_all is_draft drafts) Syntax >>= λ _. Ok drafts
+draft_words [] = Err Syntax
