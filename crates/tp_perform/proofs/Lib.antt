@@ -13,5 +13,6 @@ pub mod Races
 pub mod Beginnings
 pub mod Pushes
 pub mod Rollovers
+pub mod Restores
 pub mod Began
 pub mod Managers

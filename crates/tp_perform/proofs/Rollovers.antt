@@ -1,5 +1,5 @@
 -- What a rollover leaves between two commands.
-use Rattle.std.proofs.Common.{◌≡◌, ◌≤◌, ◌+◌, ℕ, suc, List, [], ◌∷◌, ◌++◌, All, Option, Some, None, inl, inr, refl, sym, ◌∙◌, ap, subst, arith, length, map, drop, take}
+use Rattle.std.proofs.Common.{◌≡◌, ◌≤◌, ◌+◌, ℕ, suc, List, [], ◌∷◌, ◌++◌, All, Option, Some, None, inl, refl, sym, ◌∙◌, ap, subst, arith, length, map, drop, take}
 use Rattle.std.specs.Option.{option_map}
 use Rattle.std.specs.List.{AllZip}
 use Rattle.std.specs.declared.alloc.Global.{Global}
@@ -19,7 +19,8 @@ use Rattle.tp_desk.specs.InHand.{InHand}
 use Rattle.tp_alone.specs.Thread.{Stays}
 use Rattle.tp_rollover.specs.Answers.{Rolls}
 use Rattle.tp_rollover.specs.Faults.{AreFree}
-use Rattle.tp_rollover.specs.Managed.{GoesOn, IsManaged, IsRefusedFor}
+use Rattle.tp_rollover.specs.Managed.{GoesOn, IsManaged, IsRefusedFor, StaysManaged}
+use Rattle.tp_rollover.proofs.Heads.{stay_same}
 use Rattle.tp_rollover.specs.declared.moved.RollFault.{RollFault}
 use Rattle.tp_rollover.specs.declared.managed.Managed.{Managed}
 use Rattle.tp_rollover.specs.declared.moved.Moved.{Moved}
@@ -28,7 +29,7 @@ use Rattle.tp_workers.specs.Free.{IsFreePass}
 use Rattle.tp_commands.specs.declared.place.Place.{Place}
 use Rattle.tp_commands.specs.Acting.{place_shown, places_shown, work_in}
 use Rattle.tp_commands.specs.Places.{AllLie, Lies, all_firsts, first_of, firsts, workers}
-use Rattle.tp_perform.specs.Rollover.{BeginsAgain, RollsOn, renamed, roll_refused_text, stand}
+use Rattle.tp_perform.specs.Rollover.{BeginsAgain, RollRefused, RollsOn, renamed, roll_refused_text, stand}
 use Rattle.tp_perform.specs.Scenes.{OnlyPass, Scene, passes_in}
 use Rattle.tp_perform.specs.Told.{AreReady, IsScene, units_held}
 use Rattle.tp_perform.proofs.Gatherings.{Looks, all_in, gathered, held_gathered, only_passes, ready_gathered, ready_on, same_held, scene_on, zip_drop, zip_take, zip_with}
@@ -57,7 +58,7 @@ none_held n ps qs long before after =
     (All-drop (λ (p : PassShown). p.open_unit ≡ None) n _ (All-drop (λ (p : PassShown). p.open_unit ≡ None) 1 _ after))
 
 -- the client's is free
-first_free : (m : ManagerShown) (ps : List PassShown) → All (IsOf m) ps → AreFree ps → All (IsFreePass m) (take 1 ps)
+pub first_free : (m : ManagerShown) (ps : List PassShown) → All (IsOf m) ps → AreFree ps → All (IsFreePass m) (take 1 ps)
 first_free m [] own free = All-nil (IsFreePass m)
 first_free m (p ∷ ps) own free =
     All-cons (IsFreePass m) p [] (record { own = All-head (IsOf m) p ps own; free = All-head (λ (p : PassShown). p.open_unit ≡ None) p ps free }) (All-nil (IsFreePass m))
@@ -73,6 +74,13 @@ own_of old new is same = subst (λ z. All (IsOf z) new.passes.items) same is.own
 pub gathers_of : (old mid new : Managed) → mid.manager ≡ old.manager → Gathers mid.manager.limits (gather_steps mid.manager.limits (length mid.passes.items)) mid.keeper new.keeper mid.passes.items new.passes.items
     → Gathers old.manager.limits (gather_steps old.manager.limits (length mid.passes.items)) mid.keeper new.keeper mid.passes.items new.passes.items
 gathers_of old mid new same gathers = subst (λ (m : ManagerShown). Gathers m.limits (gather_steps m.limits (length mid.passes.items)) mid.keeper new.keeper mid.passes.items new.passes.items) same gathers
+
+pub stands_refused : (old new : Managed) (a b : Scene) (text : List ℕ) → new.manager ≡ old.manager → RollRefused (stand old a) text (record { manager = old.manager; keeper = new.keeper; scene = b }) → RollRefused (stand old a) text (stand new b)
+stands_refused old new a b text same refuses = subst (λ (m : ManagerShown). RollRefused (stand old a) text (record { manager = m; keeper = new.keeper; scene = b })) (sym same) refuses
+
+-- where nothing has changed
+pub stays_still : (old new : Managed) → new ≡ old → StaysManaged old new
+stays_still old new same = subst (λ z. StaysManaged old z) (sym same) (record { manager = refl; given = refl; passes = stay_same old.passes.items })
 
 pub stands_with : (old new : Managed) (a b : Scene) (text : List ℕ) → new.manager ≡ old.manager → RollsOn (stand old a) text (record { manager = old.manager; keeper = new.keeper; scene = b }) → RollsOn (stand old a) text (stand new b)
 stands_with old new a b text same rolls = subst (λ (m : ManagerShown). RollsOn (stand old a) text (record { manager = m; keeper = new.keeper; scene = b })) (sym same) rolls
@@ -154,7 +162,7 @@ module _ {X : Type 0} {F : X → Type 0} (behaviour : DynBox X Global F → Beha
       let both = length-append (workers (length ss) ps) a.racers in
       omega (arith, whole, both)
 
-  as_many_racers : (ps qs : List PassShown) (ss : List Box) (os ns : List (Place X F)) (a b : Scene) → length qs ≡ length ps → IsScene behaviour registers pending ps ss os a → IsScene behaviour registers pending qs ss ns b
+  pub as_many_racers : (ps qs : List PassShown) (ss : List Box) (os ns : List (Place X F)) (a b : Scene) → length qs ≡ length ps → IsScene behaviour registers pending ps ss os a → IsScene behaviour registers pending qs ss ns b
       → length b.racers ≡ length a.racers
   as_many_racers ps qs ss os ns a b long old new =
       let one = racers_are ps ss os a old in
@@ -230,7 +238,7 @@ module _ {X : Type 0} {F : X → Type 0} (behaviour : DynBox X Global F → Beha
 
     pub refused : (why : RollFault) (text : List ℕ) → 1 ≤ length ps → IsRefusedFor m.limits ps why → text ≡ line (roll_refused_text why)
         → (a : Scene) × (b : Scene) × IsScene behaviour registers pending ps ss os a
-        × RollsOn (record { manager = m; keeper = keeper; scene = a }) text (record { manager = m; keeper = keeper'; scene = b })
+        × RollRefused (record { manager = m; keeper = keeper; scene = a }) text (record { manager = m; keeper = keeper'; scene = b })
         × IsScene behaviour registers pending rs ss os b
     refused why text some due is =
         let a = scene_there behaviour registers pending ps ss os some in
@@ -241,7 +249,7 @@ module _ {X : Type 0} {F : X → Type 0} (behaviour : DynBox X Global F → Beha
           a.0,
           b.0,
           a.1,
-          inr (record {
+          record {
             why = why;
             due = subst (λ zs. IsRefusedFor m.limits zs why) (sym olds) due;
             manager = refl;
@@ -255,6 +263,6 @@ module _ {X : Type 0} {F : X → Type 0} (behaviour : DynBox X Global F → Beha
             };
             gathered = b.1;
             text_is = is;
-          }),
+          },
           b.2,
         )

@@ -4,6 +4,7 @@ pub mod Drains
 pub mod GivingUp
 pub mod Reported
 pub mod Rollover
+pub mod Restore
 pub mod Scenes
 pub mod Together
 pub mod Told

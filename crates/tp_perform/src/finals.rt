@@ -28,6 +28,19 @@ fn register(server: &Box<dyn Server + Send>, k: u64) -> Option<u64>
     server.balance(k)
 }
 
+/// The registers of committed work of a server, in order.
+pub fn registers_of(alloc: Global, server: &Box<dyn Server + Send>) -> Result<Vec<u64>, AllocError>
+    ensures { IfOk result (λ values. values.items ≡ registers server.now) }
+{
+    let mut values = Vec::new(alloc);
+    for k in 0..register_count(server) {
+        if let Some(value) = register(server, k) {
+            values.push(value)?;
+        }
+    }
+    Ok(values)
+}
+
 /// The final line of the server of this name: its registers of committed work, in order.
 fn final_line(
     alloc: Global,
@@ -38,12 +51,7 @@ fn final_line(
         string_bytes text ≡ line (final_text name.now (registers server.now))) }
     ensures line { IfOk result (λ text. IsLine (string_bytes text)) }
 {
-    let mut values = Vec::new(alloc);
-    for k in 0..register_count(server) {
-        if let Some(value) = register(server, k) {
-            values.push(value)?;
-        }
-    }
+    let values = registers_of(alloc, server)?;
     let registers = values.as_slice();
     line(alloc, Answer::Final { name, registers })
 }

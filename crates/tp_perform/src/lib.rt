@@ -11,9 +11,11 @@ pub mod perform;
 mod program;
 mod race_lines;
 mod racing;
-mod rollover;
+mod restoring;
+pub mod rollover;
 pub mod serve;
 
 pub use one_command::perform_next;
 pub use program::{run, run_to_end};
+pub use restoring::restore;
 pub use rollover::roll_over_line;

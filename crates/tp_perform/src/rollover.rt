@@ -21,7 +21,7 @@ use tp_rollover::{Managed, Moved, RollFault};
 use tp_server::Server;
 
 /// What the elements that were carried over are called.
-fn all_renamed(alloc: Global, moved: &[Moved]) -> Result<Vec<Renamed>, AllocError>
+pub fn all_renamed(alloc: Global, moved: &[Moved]) -> Result<Vec<Renamed>, AllocError>
     ensures { IfOk result (λ all. all.items ≡ map renamed moved.now) }
 {
     let mut all = Vec::new(alloc);
@@ -43,8 +43,8 @@ fn rolled_line(alloc: Global, moved: &[Moved]) -> Result<String, AllocError>
     line(alloc, Answer::RolledOver(&elements))
 }
 
-/// The line of a rollover that was refused.
-fn refused_line(alloc: Global, why: RollFault) -> Result<String, AllocError>
+/// The line of a rollover that was refused, or of a restore or a dump.
+pub fn refused_line(alloc: Global, why: RollFault) -> Result<String, AllocError>
     ensures text { IfOk result (λ text. string_bytes text ≡ line (roll_refused_text why)) }
     ensures line { IfOk result (λ text. IsLine (string_bytes text)) }
 {
@@ -74,7 +74,11 @@ pub(crate) fn gather_all(managed: &mut Managed)
 }
 
 /// Has the desks begin anew. The passes are all, from the client's on, and none has a unit open.
-fn begin_all_again(passes: &[Pass], servers: &[Box<dyn Server + Send>], places: &mut [Place])
+pub(crate) fn begin_all_again(
+    passes: &[Pass],
+    servers: &[Box<dyn Server + Send>],
+    places: &mut [Place],
+)
     requires free { AreFree passes.now }
     requires clear { All (λ server. pending server ≡ None) servers.now }
     requires enough { 1 + length servers.now ≤ length passes.now }

@@ -1,5 +1,5 @@
 use Rattle.std.proofs.Common.{◌≡◌, take}
-use Rattle.tp_perform.proofs.finals.final_line.Given as goal
+use Rattle.tp_perform.proofs.finals.registers_of.Given as goal
 
 -- the registers so far
 abbrev pub invariant-loop-k : goal.invariant-loop-k

@@ -1,0 +1,79 @@
+-- What a restore leaves between two commands.
+use Rattle.std.proofs.Common.{◌≡◌, ◌∙◌, ◌≤◌, ◌+◌, ℕ, List, All, None, Option, sym, ap, subst, arith, length, map}
+use Rattle.std.specs.List.{AllZip}
+use Rattle.std.specs.declared.alloc.Global.{Global}
+use Rattle.std.specs.declared.dyn_box.DynBox.{DynBox}
+use Rattle.std.proofs.lemmas.List.Elements.{All-drop, All-take}
+use Rattle.tp_model.specs.declared.types.Limits.{Limits}
+use Rattle.tp_model.specs.Steps.{AreLimits}
+use Rattle.tp_server.specs.Behaviour.{Behaviour}
+use Rattle.tp_server.specs.Pending.{Pending}
+use Rattle.tp_manager.specs.Shown.{IsOf, PassShown}
+use Rattle.tp_rollover.specs.Faults.{AreFree}
+use Rattle.tp_rollover.specs.Managed.{IsManaged, IsRefusedFor, IsUnrestored, WasShort}
+use Rattle.tp_rollover.specs.Survivors.{Restores}
+use Rattle.tp_rollover.specs.declared.managed.Managed.{Managed}
+use Rattle.tp_rollover.specs.declared.moved.Moved.{Moved}
+use Rattle.tp_rollover.specs.declared.moved.RollFault.{RollFault}
+use Rattle.tp_rollover.specs.declared.moved.RollFault.TheVariants as faults
+use Rattle.tp_rollover.specs.declared.survivors.Survivor.{Survivor}
+use Rattle.tp_commands.specs.declared.place.Place.{Place}
+use Rattle.tp_commands.specs.Acting.{places_shown}
+use Rattle.tp_commands.specs.Places.{AllLie, all_firsts, firsts, workers}
+use Rattle.tp_perform.specs.Restore.{Restored}
+use Rattle.tp_perform.specs.Rollover.{BeginsAgain, stand}
+use Rattle.tp_perform.specs.Scenes.{Scene, passes_in}
+use Rattle.tp_perform.specs.Told.{AreReady, IsScene, units_held}
+use Rattle.tp_perform.proofs.Gatherings.{all_in}
+use Rattle.tp_perform.proofs.Rollovers.{all_again, as_many_racers, first_free, none_held}
+use Rattle.tp_perform.proofs.Slices.{scene_there}
+
+-- why none was made is why it was refused, where no unit was open
+pub refused_as : (l k : Limits) (passes : List PassShown) (why : RollFault) → AreLimits l → k ≡ l → AreFree passes → IsUnrestored k why → IsRefusedFor l passes why
+refused_as l k passes faults.NoMemory limits same free due = free
+refused_as l k passes faults.BadLimits limits same free due = absurd (due (subst AreLimits (sym same) limits))
+refused_as l k passes faults.NoPass limits same free due = absurd due
+refused_as l k passes faults.Busy limits same free due = absurd due
+refused_as l k passes faults.Full limits same free due = (free, subst WasShort same due)
+refused_as l k passes faults.Unequal limits same free due = free
+
+module _ {X : Type 0} {F : X → Type 0} (behaviour : DynBox X Global F → Behaviour) (registers : DynBox X Global F → List ℕ) (pending : DynBox X Global F → Option Pending)
+    (old new : Managed) (ss : List (DynBox X Global F)) (os ns : List (Place X F)) (managed : IsManaged old) (managed' : IsManaged new) (limits : new.manager.limits ≡ old.manager.limits)
+    (idle : AreFree old.passes.items) (free : AreFree new.passes.items) (ready : AreReady behaviour registers pending old.manager old.passes.items ss os) (enough : 1 + length ss ≤ length old.passes.items)
+    (lie : AllLie behaviour registers pending (workers (length ss) new.passes.items) ss ns) (began : firsts ns ≡ all_firsts (workers (length ss) new.passes.items) ss)
+    (dropped : map (λ (o : Place X F). o.is_dropped) ns ≡ map (λ (o : Place X F). o.is_dropped) os) where
+  as_long : length new.passes.items ≡ length old.passes.items
+  as_long = managed'.parts ∙ (ap (λ (l : Limits). l.parts) limits ∙ sym managed.parts)
+
+  pub ready_anew : AreReady behaviour registers pending new.manager new.passes.items ss ns
+  ready_anew = record { own = managed'.own; client = first_free new.manager new.passes.items managed'.own free; lie = lie }
+
+  pub held_anew : units_held (length ss) new.passes.items ≡ units_held (length ss) old.passes.items
+  held_anew = none_held (length ss) old.passes.items new.passes.items as_long idle free
+
+  worker_free : (ps : List PassShown) → AreFree ps → AreFree (workers (length ss) ps)
+  worker_free ps none = All-take (λ (p : PassShown). p.open_unit ≡ None) (length ss) _ (All-drop (λ (p : PassShown). p.open_unit ≡ None) 1 ps none)
+
+  pub restored : (survivors : List Survivor) (moved : List Moved) → Restores new.manager.limits new.keeper new.passes.items survivors moved
+      → (a : Scene) × (b : Scene) × IsScene behaviour registers pending old.passes.items ss os a × Restored survivors (stand old a) moved (stand new b) × IsScene behaviour registers pending new.passes.items ss ns b
+  restored survivors moved again =
+      let a = scene_there behaviour registers pending old.passes.items ss os (omega (arith, enough)) in
+      let b = scene_there behaviour registers pending new.passes.items ss ns (omega (arith, enough, as_long)) in
+      let olds : passes_in a.0 ≡ old.passes.items = all_in behaviour registers pending old.manager old.passes.items ss os a.0 ready a.1 in
+      let news : passes_in b.0 ≡ new.passes.items = all_in behaviour registers pending new.manager new.passes.items ss ns b.0 ready_anew b.1 in
+      let anew = all_again behaviour registers pending (workers (length ss) old.passes.items) (workers (length ss) new.passes.items) ss os ns ready.lie (worker_free old.passes.items idle) lie (worker_free new.passes.items free) began dropped in (
+        a.0,
+        b.0,
+        a.1,
+        record {
+          limits = limits;
+          restores = subst (λ zs. Restores new.manager.limits new.keeper zs survivors moved) (sym news) again;
+          idle = subst AreFree (sym olds) idle;
+          free = subst AreFree (sym news) free;
+          own = subst (All (IsOf new.manager)) (sym news) managed'.own;
+          places = subst (λ zs. AllZip BeginsAgain zs b.0.places) (sym a.1.1)
+              (subst (λ zs. AllZip BeginsAgain (places_shown behaviour registers pending (workers (length ss) old.passes.items) ss os) zs) (sym b.1.1) anew);
+          racers = as_many_racers behaviour registers pending old.passes.items new.passes.items ss os ns a.0 b.0 as_long a.1 b.1;
+        },
+        b.1,
+      )

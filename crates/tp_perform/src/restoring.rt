@@ -1,0 +1,94 @@
+//! The act `restore`: what was described stands again in a new manager, and the desks begin anew in it.
+ghost use Rattle.std.specs.Prelude.{◌≡◌, ◌+◌, ◌≤◌, IfErr, IfOk, OnErr, OnOk, length};
+ghost use Rattle.tp_report.specs.Answer.{line};
+ghost use Rattle.tp_rollover.specs.Faults.{AreFree};
+ghost use Rattle.tp_rollover.specs.Managed.{IsManaged, IsRefusedFor};
+ghost use Rattle.tp_rollover.specs.Survivors.{Restores};
+ghost use Rattle.tp_perform.specs.Restore.{Restored};
+ghost use Rattle.tp_perform.specs.Rollover.{RollRefused, roll_refused_text, stand};
+ghost use Rattle.tp_perform.specs.Scenes.{Scene};
+ghost use Rattle.tp_perform.specs.Told.{AreReady, IsScene, units_held};
+
+use crate::rollover::{begin_all_again, gather_all};
+use std::alloc::Global;
+use tp_commands::Place;
+use tp_rollover::{Managed, Moved, RollFault, Successor, Survivor, has_open};
+use tp_server::Server;
+
+/// A manager with the same limits takes the place of this one. In it is alive what was described, each element
+/// once, and nothing else. `Busy` where a unit of work is open.
+fn take_up(
+    alloc: Global,
+    managed: &mut Managed,
+    survivors: &[Survivor],
+) -> Result<Vec<Moved>, RollFault>
+    requires managed { IsManaged managed.old }
+    ensures managed { IsManaged managed.new }
+    ensures limits { managed.new.manager.limits ≡ managed.old.manager.limits }
+    ensures idle { OnOk result (AreFree managed.old.passes.items) }
+    ensures free { OnOk result (AreFree managed.new.passes.items) }
+    ensures restored { IfOk result (λ moved. Restores managed.new.manager.limits managed.new.keeper
+        managed.new.passes.items survivors.now moved.items) }
+    ensures same { OnErr result (managed.new ≡ managed.old) }
+    ensures fault { IfErr result (IsRefusedFor managed.old.manager.limits managed.old.passes.items) }
+{
+    if has_open(&managed.passes) {
+        return Err(RollFault::Busy);
+    }
+    match Managed::restored(alloc, managed.manager.limits(), survivors) {
+        Ok(next) => {
+            let Successor {
+                managed: new,
+                moved,
+            } = next;
+            *managed = new;
+            Ok(moved)
+        }
+        Err(fault) => Err(fault),
+    }
+}
+
+/// Has what was described stand again, each element once, in a new manager with the same limits, in which the
+/// desks begin anew with the same registers. Answers what each element is there, in the order of the
+/// descriptions. It is refused with `Busy` where a unit of work is open, `Full` where the limits have not the
+/// rows or the units, `Unequal` where the descriptions contradict each other or the limits, and `NoMemory`.
+/// Nothing has changed then, and all passes gather. The passes are the client's, then one for each server, then
+/// others.
+pub fn restore(
+    alloc: Global,
+    managed: &mut Managed,
+    servers: &[Box<dyn Server + Send>],
+    places: &mut [Place],
+    survivors: &[Survivor],
+) -> Result<Vec<Moved>, RollFault>
+    requires managed { IsManaged managed.old }
+    requires ready { AreReady behaviour registers pending managed.old.manager managed.old.passes.items
+        servers.now places.old }
+    requires enough { 1 + length servers.now ≤ length managed.old.passes.items }
+    ensures managed { IsManaged managed.new }
+    ensures limits { managed.new.manager.limits ≡ managed.old.manager.limits }
+    ensures ready { AreReady behaviour registers pending managed.new.manager managed.new.passes.items
+        servers.now places.new }
+    ensures as_many { length places.new ≡ length places.old }
+    ensures held { units_held (length servers.now) managed.new.passes.items
+        ≡ units_held (length servers.now) managed.old.passes.items }
+    ensures restored { IfOk result (λ moved. (old : Scene) × (new : Scene)
+        × IsScene behaviour registers pending managed.old.passes.items servers.now places.old old
+        × Restored survivors.now (stand managed.old old) moved.items (stand managed.new new)
+        × IsScene behaviour registers pending managed.new.passes.items servers.now places.new new) }
+    ensures refused { IfErr result (λ why. (old : Scene) × (new : Scene)
+        × IsScene behaviour registers pending managed.old.passes.items servers.now places.old old
+        × RollRefused (stand managed.old old) (line (roll_refused_text why)) (stand managed.new new)
+        × IsScene behaviour registers pending managed.new.passes.items servers.now places.new new) }
+{
+    match take_up(alloc, managed, survivors) {
+        Ok(moved) => {
+            begin_all_again(&managed.passes, servers, places);
+            Ok(moved)
+        }
+        Err(why) => {
+            gather_all(managed);
+            Err(why)
+        }
+    }
+}
