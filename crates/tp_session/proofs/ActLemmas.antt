@@ -1,5 +1,5 @@
 -- What an act leaves: what holds of what is held, and what is there.
-use Rattle.std.proofs.Common.{◌≡◌, ◌∙◌, ℕ, ◌+◌, ◌≤◌, ◌<◌, ◌||◌, Bool, List, [], ◌∷◌, All, None, Option, Some, refl, sym, ap, subst, arith, length, map, is_some, slice_set, slice_get, get_or, take, drop, ◌++◌}
+use Rattle.std.proofs.Common.{◌≡◌, ◌∙◌, ℕ, ◌+◌, ◌≤◌, ◌<◌, ◌||◌, Bool, List, All, Option, Some, refl, sym, ap, subst, arith, length, map, is_some, slice_set, slice_get, get_or, take, drop, ◌++◌}
 use Rattle.std.specs.List.{list_any}
 use Rattle.std.specs.declared.alloc.Global.{Global}
 use Rattle.std.specs.declared.dyn_box.DynBox.{DynBox}
@@ -12,7 +12,7 @@ use Rattle.tp_server.specs.Pending.{Pending}
 use Rattle.tp_manager.specs.Accounts.{AreAll, Gathers}
 use Rattle.tp_manager.specs.Bounds.{gather_steps}
 use Rattle.tp_manager.specs.Shown.{IsKeptBy, IsOf, KeeperShown, ManagerShown, PassShown}
-use Rattle.tp_workers.specs.Free.{IsFreePass, numbers}
+use Rattle.tp_workers.specs.Free.{IsFreePass}
 use Rattle.tp_script.specs.Script.{script_view}
 use Rattle.tp_script.specs.declared.head.Head.{Head}
 use Rattle.tp_script.specs.declared.head.WorkerAct.{WorkerAct}
@@ -25,11 +25,11 @@ use Rattle.tp_perform.specs.Scenes.{Scene}
 use Rattle.tp_perform.specs.Told.{AreReady, IsScene, PerformsAll, units_held}
 use Rattle.tp_perform.proofs.Gatherings.{gathered, held_gathered, ready_gathered}
 use Rattle.tp_session.specs.Hands.{IsHand, WorkerDoes, hand, unit_of}
-use Rattle.tp_session.specs.Live.{ClientCounts, CommandTold, IsHeld, IsLive, Leads, Live, LiveGathers, RolloverTold, TellsAccount, WorkerDid, is_open}
+use Rattle.tp_session.specs.Live.{ClientCounts, CommandTold, IsHeld, Leads, LiveGathers, RolloverTold, TellsAccount, WorkerDid, is_open}
 use Rattle.tp_session.specs.declared.hand.WorkerAnswer.{WorkerAnswer}
 use Rattle.tp_session.specs.declared.held.Held.{Held}
 use Rattle.tp_session.proofs.LiveLemmas.{is_live, live_of, live_there}
-use Rattle.tp_session.proofs.OpenLemmas.{shown_open}
+use Rattle.tp_session.proofs.OpenLemmas.{live_open}
 use Rattle.tp_session.proofs.PassLemmas.{client_first, held_first, held_set, racers_are, ready_first, ready_set, numbered_set, scene_first, scene_set, worker_there}
 
 -- what is written back as a slice is what was lent
@@ -225,10 +225,7 @@ module _ {X : Type 0} {F : X → Type 0} (behaviour : DynBox X Global F → Beha
         let l = live_there behaviour registers pending head old held in
         let s = l.0.stand.scene in
         let first = client_first behaviour registers pending old.managed.passes.items old.servers.items old.places.items s l.1.scene d in
-        let counted : (list_any is_some old.works.items || list_any (λ o. is_some (work_in o.aside)) old.places.items) ≡ is_open l.0 =
-        ap (λ b. list_any is_some old.works.items || b) (shown_open behaviour registers pending _ old.servers.items old.places.items held.ready.lie)
-        ∙ (ap (λ ps. list_any is_some old.works.items || list_any (λ q. is_some q.desk.work) ps) (sym l.1.scene.1)
-        ∙ ap (λ ws. list_any is_some ws || list_any (λ q. is_some q.desk.work) s.places) (sym l.1.works)) in
+        let counted = live_open behaviour registers pending head old l.0 held l.1 in
         record {
           before = l.0;
           after = record { stand = record l.0.stand { scene = record s { client = p } }; works = l.0.works };

@@ -6,9 +6,10 @@ use Rattle.tp_script.specs.Session.{HeadView, body_at, head_at, head_view}
 use Rattle.tp_script.specs.declared.head.Head.{Head}
 use Rattle.tp_session.specs.Conversed.{HeadRead, TakesHeadLine}
 use Rattle.tp_session.specs.Heard.{Hears, HearsFront, IsAllOf, Next, Tells}
-use Rattle.tp_session.specs.Live.{Live}
+use Rattle.tp_session.specs.Live.{Live, TellsAct}
 use Rattle.tp_session.specs.Reading.{to_come, unused}
 use Rattle.tp_session.specs.Told.{BodyTold, HeadLine, HeadLines, HeadTold, LineTold}
+use Rattle.tp_session.specs.declared.first.First.{First}
 use Rattle.tp_session.specs.declared.reading.Lines.{Lines}
 use Rattle.tp_session.proofs.CommandLemmas.{command_keeps}
 use Rattle.tp_session.proofs.HeardLemmas.{Hears-none, Hears-then, hears_all, hears_some}
@@ -38,7 +39,7 @@ head_none a old w prior = record {
 -- a line of the head more
 pub head_next : (a b b' b'' : Option (List ℕ)) (n : ℕ) (old mid new : HeadView) (w x y : Option (List ℕ)) (kept answers answers' answers'' prior : List ℕ)
     → HeadSoFar a b n old mid w x answers prior → Next true b kept b' → Tells x y answers' answers → b'' ≡ b'
-    → TakesHeadLine false (n + 1) (head_at kept mid) mid answers' new answers'' → HeadSoFar a b'' (n + 1) old new w y answers'' prior
+    → TakesHeadLine None (n + 1) (head_at kept mid) mid answers' new answers'' → HeadSoFar a b'' (n + 1) old new w y answers'' prior
 head_next a b b' b'' n old mid new w x y kept answers answers' answers'' prior so_far next told same takes =
     let one = subst (λ said. HeadLine (n + 1) said mid takes.0 new) (kept_head kept next.0 mid next.1) takes.1 in
     let number : n + 1 ≡ 0 + length so_far.taken + 1 = omega (arith, so_far.heard.1) in
@@ -53,7 +54,7 @@ head_next a b b' b'' n old mid new w x y kept answers answers' answers'' prior s
 
 -- the end of the input
 pub head_end : (a b b' : Option (List ℕ)) (n : ℕ) (old new : HeadView) (w x y : Option (List ℕ)) (kept answers answers' prior : List ℕ)
-    → HeadSoFar a b n old new w x answers prior → Next false b kept b' → Tells x y answers' answers → HeadRead None a b' kept old new (λ text. Tells w y answers' (prior ++ text))
+    → HeadSoFar a b n old new w x answers prior → Next false b kept b' → Tells x y answers' answers → HeadRead None a b' old new (λ text. Tells w y answers' (prior ++ text))
 head_end a b b' n old new w x y kept answers answers' prior so_far next told = (
   next.1,
   record {
@@ -66,21 +67,20 @@ head_end a b b' n old new w x y kept answers answers' prior so_far next told = (
 )
 
 -- the first command
-pub head_command : (a b b' b'' : Option (List ℕ)) (n : ℕ) (old mid new : HeadView) (w x y : Option (List ℕ)) (kept kept' answers answers' answers'' prior : List ℕ)
-    → HeadSoFar a b n old mid w x answers prior → Next true b kept b' → Tells x y answers' answers → b'' ≡ b' → kept' ≡ kept
-    → TakesHeadLine true (n + 1) (head_at kept mid) mid answers' new answers'' → HeadRead (Some n) a b'' kept' old new (λ text. Tells w y answers'' (prior ++ text))
-head_command a b b' b'' n old mid new w x y kept kept' answers answers' answers'' prior so_far next told same also takes =
-    let said : head_at next.0 mid ≡ Ok (new, Some takes.0) = sym (kept_head kept next.0 mid next.1) ∙ takes.1 in
-    let is : new ≡ mid = command_keeps next.0 mid new takes.0 said in (
+pub head_command : (a b b' b'' : Option (List ℕ)) (f : First) (old mid new : HeadView) (w x y : Option (List ℕ)) (kept answers answers' answers'' prior : List ℕ)
+    → HeadSoFar a b f.past old mid w x answers prior → Next true b kept b' → Tells x y answers' answers → b'' ≡ b'
+    → TakesHeadLine (Some f.act) (f.past + 1) (head_at kept mid) mid answers' new answers'' → HeadRead (Some f) a b'' old new (λ text. Tells w y answers'' (prior ++ text))
+head_command a b b' b'' f old mid new w x y kept answers answers' answers'' prior so_far next told same takes =
+    let said : head_at next.0 mid ≡ Ok (new, Some f.act) = sym (kept_head kept next.0 mid next.1) ∙ takes.0 in
+    let is : new ≡ mid = command_keeps next.0 mid new f.act said in (
       next.0,
-      also ∙ next.1,
-      (takes.0, ap (λ h. head_at next.0 h) is ∙ said),
+      ap (λ h. head_at next.0 h) is ∙ said,
       record {
         taken = so_far.taken;
         heard = (subst (Hears a (so_far.taken ++ next.0 ∷ [])) (sym same) (Hears-then a b b' so_far.taken (next.0 ∷ []) so_far.heard.0 next.2), so_far.heard.1);
         text = so_far.text;
         lines = subst (λ h. HeadLines 0 so_far.taken old so_far.text h) (sym is) so_far.lines;
-        told = subst (λ l. Tells w y l (prior ++ so_far.text)) (sym takes.2) (told_then w x y answers' answers (prior ++ so_far.text) so_far.told told);
+        told = subst (λ l. Tells w y l (prior ++ so_far.text)) (sym takes.1) (told_then w x y answers' answers (prior ++ so_far.text) so_far.told told);
       },
     )
 
@@ -100,7 +100,7 @@ head_front a b n old new w x y answers prior so_far front = record {
 module _ (head : Head) (past : ℕ) where
   abbrev pub BodySoFar : Option (List ℕ) → Option (List ℕ) → ℕ → Live → Live → Option (List ℕ) → Option (List ℕ) → List ℕ → List ℕ → Type 0
   BodySoFar a b n old new w x answers prior =
-      BodyTold head past [] (λ taken. Hears a taken b × (n ≡ past + length taken)) old new (λ text. Tells w x answers (prior ++ text))
+      BodyTold head past None (λ taken. Hears a taken b × (n ≡ past + length taken)) old new (λ text. Tells w x answers (prior ++ text))
 
   pub body_none : (a : Option (List ℕ)) (old : Live) (w : Option (List ℕ)) (prior : List ℕ) → BodySoFar a a past old old w w prior prior
   body_none a old w prior = record {
@@ -129,7 +129,7 @@ module _ (head : Head) (past : ℕ) where
 
   -- the end of the input
   pub body_end : (a b b' : Option (List ℕ)) (n : ℕ) (old new : Live) (w x y : Option (List ℕ)) (kept answers answers' prior : List ℕ)
-      → BodySoFar a b n old new w x answers prior → Next false b kept b' → Tells x y answers' answers → BodyTold head past [] (IsAllOf a) old new (λ text. Tells w y answers' (prior ++ text))
+      → BodySoFar a b n old new w x answers prior → Next false b kept b' → Tells x y answers' answers → BodyTold head past None (IsAllOf a) old new (λ text. Tells w y answers' (prior ++ text))
   body_end a b b' n old new w x y kept answers answers' prior so_far next told = record {
     taken = so_far.taken;
     heard = hears_all a b' so_far.taken (subst (λ ls. Hears a ls b') (append-nil so_far.taken) (Hears-then a b b' so_far.taken [] so_far.heard.0 next.0)) next.1;
@@ -140,7 +140,7 @@ module _ (head : Head) (past : ℕ) where
 
   -- after a fault
   pub body_front : (a b : Option (List ℕ)) (n : ℕ) (old new : Live) (w x y : Option (List ℕ)) (answers prior : List ℕ)
-      → BodySoFar a b n old new w x answers prior → AppendsFront x y answers → BodyTold head past [] (HearsFront a) old new (λ text. AppendsFront w y (prior ++ text))
+      → BodySoFar a b n old new w x answers prior → AppendsFront x y answers → BodyTold head past None (HearsFront a) old new (λ text. AppendsFront w y (prior ++ text))
   body_front a b n old new w x y answers prior so_far front = record {
     taken = so_far.taken;
     heard = hears_some a b so_far.taken so_far.heard.0;
@@ -149,14 +149,14 @@ module _ (head : Head) (past : ℕ) where
     told = told_front w x y answers (prior ++ so_far.text) so_far.told front;
   }
 
-  -- a line, and then others
-  pub body_begun : (a a' : Option (List ℕ)) (Heard : Option (List ℕ) → List (List ℕ) → Type 0) (kept : List ℕ) (old mid new : Live) (answers answers' : List ℕ) (Told : List ℕ → Type 0) → a' ≡ a
-      → (text : List ℕ) × (answers' ≡ answers ++ text) × LineTold head (past + 1) (body_at kept (head_view head)) old text mid
-      → BodyTold head (past + 1) [] (Heard a') mid new (λ text. Told (answers' ++ text)) → BodyTold head past (kept ∷ []) (Heard a) old new (λ text. Told (answers ++ text))
-  body_begun a a' Heard kept old mid new answers answers' Told same one others = record {
-    taken = others.taken;
-    heard = subst (λ come. Heard come others.taken) same others.heard;
-    text = one.0 ++ others.text;
-    lines = (one.0, others.text, mid, one.2, others.lines, refl);
-    told = subst Told (ap (λ l. l ++ others.text) one.1 ∙ append_assoc answers one.0 others.text) others.told;
-  }
+-- the first command, and then others
+pub body_begun : (head : Head) (f : First) (a a' : Option (List ℕ)) (Heard : Option (List ℕ) → List (List ℕ) → Type 0) (old mid new : Live) (answers answers' : List ℕ) (Told : List ℕ → Type 0) → a' ≡ a
+    → (text : List ℕ) × (answers' ≡ answers ++ text) × TellsAct head f.act old text mid
+    → BodyTold head (f.past + 1) None (Heard a') mid new (λ text. Told (answers' ++ text)) → BodyTold head f.past (Some f.act) (Heard a) old new (λ text. Told (answers ++ text))
+body_begun head f a a' Heard old mid new answers answers' Told same one others = record {
+  taken = others.taken;
+  heard = subst (λ come. Heard come others.taken) same others.heard;
+  text = one.0 ++ others.text;
+  lines = (one.0, others.text, mid, one.2, others.lines, refl);
+  told = subst Told (ap (λ l. l ++ others.text) one.1 ∙ append_assoc answers one.0 others.text) others.told;
+}

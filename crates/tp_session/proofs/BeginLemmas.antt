@@ -1,5 +1,5 @@
 -- What is there before the first command of a session.
-use Rattle.std.proofs.Common.{◌≡◌, ◌∙◌, ℕ, ◌+◌, ◌≤◌, List, [], All, None, Option, refl, sym, ap, subst, arith, length, map, drop}
+use Rattle.std.proofs.Common.{◌≡◌, ◌∙◌, ℕ, ◌+◌, ◌≤◌, List, All, None, Option, sym, ap, subst, arith, length, map, drop}
 use Rattle.std.specs.declared.alloc.Global.{Global}
 use Rattle.std.specs.declared.dyn_box.DynBox.{DynBox}
 use Rattle.std.proofs.lemmas.List.{length-drop, length-map, length-take-le}
@@ -8,7 +8,7 @@ use Rattle.tp_model.specs.declared.types.Work.{Work}
 use Rattle.tp_server.specs.Behaviour.{Behaviour, behaviour_of}
 use Rattle.tp_server.specs.Pending.{Pending}
 use Rattle.tp_manager.specs.Accounts.{AreAll}
-use Rattle.tp_manager.specs.Shown.{IsOf, ManagerShown, PassShown}
+use Rattle.tp_manager.specs.Shown.{ManagerShown, PassShown}
 use Rattle.tp_rollover.specs.Managed.{IsNewPass}
 use Rattle.tp_rollover.specs.declared.managed.Managed.{Managed}
 use Rattle.tp_script.specs.Script.{server_view}

@@ -9,7 +9,7 @@ use Rattle.tp_manager.specs.Shown.{IsOf, ManagerShown, PassShown}
 use Rattle.tp_desk.specs.Turns.{EndsOpen}
 use Rattle.tp_workers.specs.Free.{IsFreePass}
 use Rattle.tp_report.specs.declared.answer.ServerAnswer.TheVariants as told
-use Rattle.tp_session.specs.Hands.{AllHold, GivesUp, Hand, IsHand, TellsAbort, hand, hands, unit_of}
+use Rattle.tp_session.specs.Hands.{AllHold, GivesUp, Hand, IsHand, TellsAbort, hands, unit_of}
 use Rattle.tp_session.specs.declared.hand.WorkerAnswer.{WorkerAnswer}
 use Rattle.tp_session.specs.declared.hand.WorkerAnswer.TheVariants.{Told}
 

@@ -1,10 +1,9 @@
 -- What desks began with, and what they leave.
-use Rattle.std.proofs.Common.{◌≡◌, ◌∙◌, ℕ, ◌+◌, true, List, [], ◌∷◌, ◌++◌, Option, Some, None, Result, Ok, IfSome, IsSome, inl, inr, refl, sym, ap, subst, length, map}
+use Rattle.std.proofs.Common.{◌≡◌, ◌∙◌, ℕ, ◌+◌, true, List, [], ◌++◌, Option, Some, None, Result, Ok, inl, inr, refl, sym, ap, subst, map}
 use Rattle.std.specs.declared.alloc.Global.{Global}
 use Rattle.std.specs.declared.dyn_box.DynBox.{DynBox}
 use Rattle.tp_server.specs.Behaviour.{Behaviour}
 use Rattle.tp_server.specs.Pending.{Pending}
-use Rattle.tp_script.specs.Session.{body_at, head_view}
 use Rattle.tp_script.specs.declared.fault.LineFault.{LineFault}
 use Rattle.tp_script.specs.declared.head.Act.{Act}
 use Rattle.tp_script.specs.declared.head.Head.{Head}
@@ -16,8 +15,9 @@ use Rattle.tp_perform.specs.Told.{AreReady, IsScene, began_of}
 use Rattle.tp_perform.proofs.Began.{began_same, scene_began}
 use Rattle.tp_session.specs.Heard.{HearsFront, Next, Tells}
 use Rattle.tp_session.specs.Left.{Acted, BodyDone, LineDone, OrSame, Reaches, began_at, began_in}
-use Rattle.tp_session.specs.Live.{IsHeld, IsLive, Leads, Live, RolloverTold}
+use Rattle.tp_session.specs.Live.{IsHeld, IsLive, Leads, Live, RolloverTold, TellsAct}
 use Rattle.tp_session.specs.Told.{BodyTold, LineTold}
+use Rattle.tp_session.specs.declared.first.First.{First}
 use Rattle.tp_session.specs.declared.held.Held.{Held}
 use Rattle.tp_session.proofs.AttendLemmas.{BodySoFar, body_begun, body_next}
 use Rattle.tp_session.proofs.HeardLemmas.{Hears-none, hears_some}
@@ -69,20 +69,20 @@ module _ {X : Type 0} {F : X → Type 0} (behaviour : DynBox X Global F → Beha
 
 -- ---- lines
 
--- one line alone
-pub one_done : (head : Head) (past : ℕ) (kept : List ℕ) (come : Option (List ℕ)) (old new : Live) → LineDone head (past + 1) kept old new → BodyDone head past (kept ∷ []) come old new
-one_done head past kept come old new (inl same) = inl same
-one_done head past kept come old new (inr line) = inr (record {
+-- the first command alone
+pub one_done : (head : Head) (f : First) (come : Option (List ℕ)) (old new : Live) → Acted head f.act old new → BodyDone head f.past (Some f.act) come old new
+one_done head f come old new (inl same) = inl same
+one_done head f come old new (inr done) = inr (record {
   taken = [];
   heard = hears_some come come [] (Hears-none come);
-  text = line.0 ++ [];
-  lines = (line.0, [], new, line.1, (refl, refl), refl);
+  text = done.0 ++ [];
+  lines = (done.0, [], new, done.1, (refl, refl), refl);
   told = tt;
 })
 
 -- lines so far
 pub body_done : (head : Head) (past : ℕ) (a b : Option (List ℕ)) (n : ℕ) (old new : Live) (w x : Option (List ℕ)) (answers prior : List ℕ) → BodySoFar head past a b n old new w x answers prior
-    → BodyTold head past [] (HearsFront a) old new (λ text. Unit {0})
+    → BodyTold head past None (HearsFront a) old new (λ text. Unit {0})
 body_done head past a b n old new w x answers prior so_far = record {
   taken = so_far.taken;
   heard = hears_some a b so_far.taken so_far.heard.0;
@@ -93,17 +93,17 @@ body_done head past a b n old new w x answers prior so_far = record {
 
 -- and one more
 pub line_done : (head : Head) (past : ℕ) (a b b' : Option (List ℕ)) (n : ℕ) (old mid new : Live) (w x y : Option (List ℕ)) (kept answers answers' prior : List ℕ) → BodySoFar head past a b n old mid w x answers prior → Next true b kept b' → Tells x y answers' answers
-    → LineDone head (n + 1) kept mid new → BodyDone head past [] a old new
+    → LineDone head (n + 1) kept mid new → BodyDone head past None a old new
 line_done head past a b b' n old mid new w x y kept answers answers' prior so_far next told (inl same) =
-    inr (subst (λ l. BodyTold head past [] (HearsFront a) old l (λ text. Unit {0})) (sym same) (body_done head past a b n old mid w x answers prior so_far))
+    inr (subst (λ l. BodyTold head past None (HearsFront a) old l (λ text. Unit {0})) (sym same) (body_done head past a b n old mid w x answers prior so_far))
 line_done head past a b b' n old mid new w x y kept answers answers' prior so_far next told (inr line) =
     inr (body_done head past a b' (n + 1) old new w y (answers' ++ line.0) prior (body_next head past a b b' b' n old mid new w x y kept answers answers' (answers' ++ line.0) prior so_far next told refl (line.0, refl, line.1)))
 
--- a line, and then others
-pub from_done : (head : Head) (past : ℕ) (kept : List ℕ) (come come' : Option (List ℕ)) (old mid new : Live) → come' ≡ come → (text : List ℕ) × LineTold head (past + 1) (body_at kept (head_view head)) old text mid → BodyDone head (past + 1) [] come' mid new
-    → BodyDone head past (kept ∷ []) come old new
-from_done head past kept come come' old mid new is one (inl same) = one_done head past kept come old new (inr (one.0, subst (λ l. LineTold head (past + 1) (body_at kept (head_view head)) old one.0 l) (sym same) one.1))
-from_done head past kept come come' old mid new is one (inr others) = inr (body_begun head past come come' HearsFront kept old mid new [] one.0 (λ text. Unit {0}) is (one.0, refl, one.1) others)
+-- the first command, and then others
+pub from_done : (head : Head) (f : First) (come come' : Option (List ℕ)) (old mid new : Live) → come' ≡ come → (text : List ℕ) × TellsAct head f.act old text mid → BodyDone head (f.past + 1) None come' mid new
+    → BodyDone head f.past (Some f.act) come old new
+from_done head f come come' old mid new is one (inl same) = one_done head f come old new (inr (one.0, subst (λ l. TellsAct head f.act old one.0 l) (sym same) one.1))
+from_done head f come come' old mid new is one (inr others) = inr (body_begun head f come come' HearsFront old mid new [] one.0 (λ text. Unit {0}) is (one.0, refl, one.1) others)
 
 -- an act is what its line asks for
 pub act_done : (head : Head) (n : ℕ) (said : Result (Option Act) LineFault) (act : Act) (old new : Live) → said ≡ Ok (Some act) → Acted head act old new → OrSame (λ a b. (text : List ℕ) × LineTold head n said a text b) old new

@@ -1,7 +1,9 @@
 pub mod ActLemmas
+pub mod AliveLemmas
 pub mod AttendLemmas
 pub mod BeginLemmas
 pub mod CommandLemmas
+pub mod DumpLemmas
 pub mod EndLemmas
 pub mod HandLemmas
 pub mod HeardLemmas

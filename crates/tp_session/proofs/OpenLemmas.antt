@@ -1,5 +1,5 @@
--- Whether a unit of work is open at a place.
-use Rattle.std.proofs.Common.{◌≡◌, ◌||◌, is_some, List, [], ◌∷◌, Option, refl, ap, ℕ}
+-- Whether a unit of work is open.
+use Rattle.std.proofs.Common.{◌≡◌, ◌∙◌, ◌||◌, is_some, List, [], ◌∷◌, Option, refl, sym, ap, ℕ}
 use Rattle.std.specs.List.{list_any}
 use Rattle.std.specs.declared.alloc.Global.{Global}
 use Rattle.std.specs.declared.dyn_box.DynBox.{DynBox}
@@ -9,6 +9,9 @@ use Rattle.tp_manager.specs.Shown.{PassShown}
 use Rattle.tp_commands.specs.declared.place.Place.{Place}
 use Rattle.tp_commands.specs.Acting.{places_shown, work_in}
 use Rattle.tp_commands.specs.Places.{AllLie}
+use Rattle.tp_script.specs.declared.head.Head.{Head}
+use Rattle.tp_session.specs.Live.{IsHeld, IsLive, Live, is_open}
+use Rattle.tp_session.specs.declared.held.Held.{Held}
 
 module _ {X : Type 0} {F : X → Type 0} (behaviour : DynBox X Global F → Behaviour) (registers : DynBox X Global F → List ℕ) (pending : DynBox X Global F → Option Pending) where
   pub shown_open : (ps : List PassShown) (ss : List (DynBox X Global F)) (os : List (Place X F)) → AllLie behaviour registers pending ps ss os
@@ -19,3 +22,11 @@ module _ {X : Type 0} {F : X → Type 0} (behaviour : DynBox X Global F → Beha
   shown_open (x ∷ ps) [] os all = absurd all
   shown_open (x ∷ ps) (y ∷ ss) [] all = absurd all
   shown_open (x ∷ ps) (y ∷ ss) (z ∷ os) all = ap (λ b. is_some (work_in z.aside) || b) (shown_open ps ss os all.1)
+
+  -- whether a unit of work is open, of what is held
+  pub live_open : (head : Head) (h : Held X F) (l : Live) → IsHeld behaviour registers pending head h → IsLive behaviour registers pending h l
+      → (list_any is_some h.works.items || list_any (λ o. is_some (work_in o.aside)) h.places.items) ≡ is_open l
+  live_open head h l held is =
+      ap (λ b. list_any is_some h.works.items || b) (shown_open _ h.servers.items h.places.items held.ready.lie)
+      ∙ (ap (λ ps. list_any is_some h.works.items || list_any (λ q. is_some q.desk.work) ps) (sym is.scene.1)
+      ∙ ap (λ ws. list_any is_some ws || list_any (λ q. is_some q.desk.work) l.stand.scene.places) (sym is.works))

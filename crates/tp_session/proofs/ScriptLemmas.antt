@@ -14,7 +14,7 @@ use Rattle.tp_script.specs.Fault.{refused_text}
 use Rattle.tp_script.specs.Grammar.{script}
 use Rattle.tp_script.specs.Script.{ScriptView}
 use Rattle.tp_script.specs.Session.{no_head}
-use Rattle.tp_script.specs.Workers.{checked, has_worker}
+use Rattle.tp_script.specs.Workers.{checked, is_session}
 use Rattle.tp_script.specs.declared.fault.LineFault.TheVariants.{TooLong}
 use Rattle.tp_script.specs.declared.fault.Refused.{Refused}
 use Rattle.tp_script.specs.declared.source.TheConstants.{MAX_SCRIPT_BYTES}
@@ -83,7 +83,7 @@ module _ (outcome : Result Exit Fault) (a b : Option (List ℕ)) where
   -- a front that is too long does as all
   ran_front : (bytes : List ℕ) → Ran outcome (take (MAX_SCRIPT_BYTES + 1) bytes) a b → Ran outcome bytes a b
   ran_front bytes ran = elim (cases_lt MAX_SCRIPT_BYTES (length bytes)) [
-    | inl long ↦ of_refused (has_worker bytes) bytes long (to_refused (has_worker (take (MAX_SCRIPT_BYTES + 1) bytes)) (take (MAX_SCRIPT_BYTES + 1) bytes) (omega (arith, length-take (MAX_SCRIPT_BYTES + 1) bytes, long)) ran)
+    | inl long ↦ of_refused (is_session bytes) bytes long (to_refused (is_session (take (MAX_SCRIPT_BYTES + 1) bytes)) (take (MAX_SCRIPT_BYTES + 1) bytes) (omega (arith, length-take (MAX_SCRIPT_BYTES + 1) bytes, long)) ran)
     | inr short ↦ subst (λ read. Ran outcome read a b) (take_all (MAX_SCRIPT_BYTES + 1) bytes (omega (arith, short))) ran
   ]
 

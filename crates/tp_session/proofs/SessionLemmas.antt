@@ -5,47 +5,49 @@ use Rattle.std.specs.Io.KnownBytes.{Appends}
 use Rattle.tp_report.specs.Written.{AppendsFront}
 use Rattle.tp_report.proofs.Devices.{front_none}
 use Rattle.tp_script.specs.Session.{HeadView, head_view, no_head}
+use Rattle.tp_script.specs.declared.head.Act.{Act}
 use Rattle.tp_script.specs.declared.head.Head.{Head}
 use Rattle.tp_perform.specs.Ending.{final_lines}
 use Rattle.tp_session.specs.Conversed.{BodyFront, BodyWhole, Conversed, ConversedFront, HeadRead, LiveBegins, LiveEnds}
 use Rattle.tp_session.specs.Heard.{HearsFront, IsAllOf, IsSilent, Tells}
 use Rattle.tp_session.specs.Live.{Live}
 use Rattle.tp_session.specs.Told.{BodyTold, HeadTold, begun, past_of}
+use Rattle.tp_session.specs.declared.first.First.{First}
 use Rattle.tp_session.proofs.ToldLemmas.{told_with, told_with_front}
 use Rattle.tp_session.proofs.WholeLemmas.{session_head, session_part, session_whole}
 
 -- where there is no command nothing is left behind the head
-pub head_silent : (first : Option ℕ) (come left : Option (List ℕ)) (kept : List ℕ) (old new : HeadView) (Told : List ℕ → Type 0) → HeadRead first come left kept old new Told → first ≡ None → IsSilent left
-head_silent None come left kept old new Told read none = read.0
-head_silent (Some past) come left kept old new Told read none = absurd cc
+pub head_silent : (first : Option First) (come left : Option (List ℕ)) (old new : HeadView) (Told : List ℕ → Type 0) → HeadRead first come left old new Told → first ≡ None → IsSilent left
+head_silent None come left old new Told read none = read.0
+head_silent (Some f) come left old new Told read none = absurd cc
 
-module _ (first : Option ℕ) (kept : List ℕ) (head : Head) (a b c : Option (List ℕ)) (answers : List ℕ) where
+module _ (first : Option First) (head : Head) (a b c : Option (List ℕ)) (answers : List ℕ) where
   abbrev Read : Option (List ℕ) → Option (List ℕ) → Type 0
-  Read come left = HeadRead first come left kept no_head (head_view head) (λ text. Tells a b answers text)
+  Read come left = HeadRead first come left no_head (head_view head) (λ text. Tells a b answers text)
 
   abbrev Front : List ℕ → Type 0
   Front text = AppendsFront b c (answers ++ text)
 
-  none_known : (f : Option ℕ) (bytes : List ℕ) → HeadRead f (Some bytes) None kept no_head (head_view head) (λ text. Tells a b answers text) → ⊥
+  none_known : (f : Option First) (bytes : List ℕ) → HeadRead f (Some bytes) None no_head (head_view head) (λ text. Tells a b answers text) → ⊥
   none_known None bytes read = read.1.heard
-  none_known (Some past) bytes read = read.3.heard.0
+  none_known (Some first) bytes read = read.2.heard.0
 
-  pub conversed : (come left : Option (List ℕ)) → Read come left → BodyWhole head (past_of first) (begun first kept) left (λ text. Appends b c (answers ++ text))
+  pub conversed : (come left : Option (List ℕ)) → Read come left → BodyWhole head (past_of first) (begun first) left (λ text. Appends b c (answers ++ text))
       → IfSome come (λ bytes. Conversed bytes a c)
   conversed None left read held = tt
   conversed (Some bytes) None read held = absurd (none_known first bytes read)
   conversed (Some bytes) (Some rest) read held =
-      session_whole bytes rest kept head (λ text. Tells a b answers text) (λ text. Appends b c (answers ++ text)) (Appends a c) (λ h t told done. told_with a b c answers h t told done) first read held
+      session_whole bytes rest head (λ text. Tells a b answers text) (λ text. Appends b c (answers ++ text)) (Appends a c) (λ h t told done. told_with a b c answers h t told done) first read held
 
-  pub conversed_front : (come left : Option (List ℕ)) → Read come left → BodyFront head (past_of first) (begun first kept) left Front → IfSome come (λ bytes. ConversedFront bytes a c)
+  pub conversed_front : (come left : Option (List ℕ)) → Read come left → BodyFront head (past_of first) (begun first) left Front → IfSome come (λ bytes. ConversedFront bytes a c)
   conversed_front None left read held = tt
   conversed_front (Some bytes) None read held = absurd (none_known first bytes read)
   conversed_front (Some bytes) (Some rest) read (inl none) =
-      inl (head_view head, session_head bytes rest kept head (λ text. Tells a b answers text) Front (AppendsFront a c) (λ h t told done. told_with_front a b c answers h t told done) first read none)
+      inl (head_view head, session_head bytes rest head (λ text. Tells a b answers text) Front (AppendsFront a c) (λ h t told done. told_with_front a b c answers h t told done) first read none)
   conversed_front (Some bytes) (Some rest) read (inr (inl part)) =
-      inr (inl (session_part bytes rest kept head (λ text. Tells a b answers text) Front (AppendsFront a c) (λ h t told done. told_with_front a b c answers h t told done) first read part))
+      inr (inl (session_part bytes rest head (λ text. Tells a b answers text) Front (AppendsFront a c) (λ h t told done. told_with_front a b c answers h t told done) first read part))
   conversed_front (Some bytes) (Some rest) read (inr (inr whole)) =
-      inr (inr (session_whole bytes rest kept head (λ text. Tells a b answers text) Front (AppendsFront a c) (λ h t told done. told_with_front a b c answers h t told done) first read whole))
+      inr (inr (session_whole bytes rest head (λ text. Tells a b answers text) Front (AppendsFront a c) (λ h t told done. told_with_front a b c answers h t told done) first read whole))
 
 -- a fault in the head
 pub head_fault : (come : Option (List ℕ)) (a c : Option (List ℕ)) → (new : HeadView) × HeadTold (HearsFront come) no_head new (λ text. AppendsFront a c text) → IfSome come (λ bytes. ConversedFront bytes a c)
@@ -55,14 +57,14 @@ head_fault (Some bytes) a c told = inl told
 -- ---- behind the head
 
 -- nothing more was told
-pub front_before : (head : Head) (past : ℕ) (before : List (List ℕ)) (come a c : Option (List ℕ)) (prior : List ℕ) → AppendsFront a c prior → BodyFront head past before come (λ text. AppendsFront a c (prior ++ text))
+pub front_before : (head : Head) (past : ℕ) (before : Option Act) (come a c : Option (List ℕ)) (prior : List ℕ) → AppendsFront a c prior → BodyFront head past before come (λ text. AppendsFront a c (prior ++ text))
 front_before head past before come a c prior front = inl (subst (AppendsFront a c) (sym (append-nil prior)) front)
 
 -- nor was anything written
-pub front_nothing : (head : Head) (past : ℕ) (before : List (List ℕ)) (come a : Option (List ℕ)) (prior : List ℕ) → BodyFront head past before come (λ text. AppendsFront a a (prior ++ text))
+pub front_nothing : (head : Head) (past : ℕ) (before : Option Act) (come a : Option (List ℕ)) (prior : List ℕ) → BodyFront head past before come (λ text. AppendsFront a a (prior ++ text))
 front_nothing head past before come a prior = front_before head past before come a a prior (front_none a prior)
 
-module _ (head : Head) (past : ℕ) (before : List (List ℕ)) (come a b c : Option (List ℕ)) (answers prior : List ℕ) (first last : Live) (begins : LiveBegins (head_view head) first) where
+module _ (head : Head) (past : ℕ) (before : Option Act) (come a b c : Option (List ℕ)) (answers prior : List ℕ) (first last : Live) (begins : LiveBegins (head_view head) first) where
   -- the final lines of these servers are told too
   module _ (registers : List (List ℕ)) (ends : LiveEnds last registers) (finals : List ℕ)
       (are : final_lines (head_view head).script.servers registers (length (head_view head).script.servers) ≡ finals)

@@ -1,15 +1,15 @@
 -- A whole session, put together from its head and what stands behind it.
-use Rattle.std.proofs.Common.{◌≡◌, ◌∙◌, ℕ, ◌+◌, List, [], ◌∷◌, ◌++◌, Option, Some, None, refl, sym, ap, subst, append-nil, append_assoc, length, take}
+use Rattle.std.proofs.Common.{◌≡◌, ◌∙◌, ℕ, List, [], ◌∷◌, ◌++◌, Option, Some, None, refl, sym, ap, subst, append-nil, append_assoc}
 use Rattle.tp_script.specs.Session.{head_view, no_head}
+use Rattle.tp_script.specs.declared.head.Act.{Act}
 use Rattle.tp_script.specs.declared.head.Head.{Head}
 use Rattle.tp_session.specs.Conversed.{BodyPart, BodyWhole, HeadRead, Session, SessionPart}
 use Rattle.tp_session.specs.Heard.{HearsFront, heard}
 use Rattle.tp_session.specs.Live.{Live}
 use Rattle.tp_session.specs.Reading.{to_come, unused}
-use Rattle.tp_session.specs.Told.{BodyLines, BodyTold, HeadTold, LineTold, begun, past_of}
+use Rattle.tp_session.specs.Told.{BodyLines, BodyTold, HeadTold, LinesFrom, begun, past_of}
+use Rattle.tp_session.specs.declared.first.First.{First}
 use Rattle.tp_session.specs.declared.reading.Lines.{Lines}
-use Rattle.tp_session.specs.declared.reading.TheConstants.{MAX_KEPT}
-use Rattle.tp_session.proofs.LineLemmas.{kept_body}
 
 -- at the beginning all is to come
 pub come_all : (l : Lines) (rest : Option (List ℕ)) → unused l ≡ [] → to_come l rest ≡ rest
@@ -17,7 +17,7 @@ come_all l None is = refl
 come_all l (Some bytes) is = ap (λ u. Some (u ++ bytes)) is
 
 -- the same lines, and something else of what was told
-pub body_then : (head : Head) (past : ℕ) (before : List (List ℕ)) (Heard Heard' : List (List ℕ) → Type 0) (old new : Live) (Told Told' : List ℕ → Type 0)
+pub body_then : (head : Head) (past : ℕ) (before : Option Act) (Heard Heard' : List (List ℕ) → Type 0) (old new : Live) (Told Told' : List ℕ → Type 0)
     → ((ls : List (List ℕ)) → Heard ls → Heard' ls) → ((t : List ℕ) → Told t → Told' t) → BodyTold head past before Heard old new Told → BodyTold head past before Heard' old new Told'
 body_then head past before Heard Heard' old new Told Told' also so b = record {
   taken = b.taken;
@@ -27,21 +27,15 @@ body_then head past before Heard Heard' old new Told Told' also so b = record {
   told = so b.text b.told;
 }
 
--- the first line by what is kept of it
-kept_first : (head : Head) (past : ℕ) (kept line : List ℕ) (others : List (List ℕ)) (old new : Live) (text : List ℕ) → kept ≡ take MAX_KEPT line
-    → BodyLines head past (kept ∷ others) old text new → BodyLines head past (line ∷ others) old text new
-kept_first head past kept line others old new text is b =
-    (b.0, b.1, b.2, subst (λ said. LineTold head (past + 1) said old b.0 b.2) (kept_body kept line (head_view head) is) b.3, b.4, b.5)
-
 -- no front of nothing
 no_front : (xs ys : List (List ℕ)) → xs ++ ys ≡ [] → xs ≡ []
 no_front [] ys is = refl
 no_front (x ∷ xs) ys is = absurd cc
 
-module _ (bytes rest kept : List ℕ) (head : Head) (HeadDone Done Wrote : List ℕ → Type 0) (both : (h t : List ℕ) → HeadDone h → Done t → Wrote (h ++ t)) where
+module _ (bytes rest : List ℕ) (head : Head) (HeadDone Done Wrote : List ℕ → Type 0) (both : (h t : List ℕ) → HeadDone h → Done t → Wrote (h ++ t)) where
   -- all of it
-  pub session_whole : (first : Option ℕ) → HeadRead first (Some bytes) (Some rest) kept no_head (head_view head) HeadDone
-      → BodyWhole head (past_of first) (begun first kept) (Some rest) Done → Session bytes Wrote
+  pub session_whole : (first : Option First) → HeadRead first (Some bytes) (Some rest) no_head (head_view head) HeadDone
+      → BodyWhole head (past_of first) (begun first) (Some rest) Done → Session bytes Wrote
   session_whole None read whole =
       let none : whole.body.taken ≡ [] = sym whole.body.heard ∙ read.0 in
       record {
@@ -51,7 +45,6 @@ module _ (bytes rest kept : List ℕ) (head : Head) (HeadDone Done Wrote : List 
         heads = read.1.lines;
         behind = [];
         lines_are = read.1.heard ∙ ap (λ ls. read.1.taken ++ ls) read.0;
-        command = tt;
         first = whole.first;
         begins = whole.begins;
         text = whole.body.text;
@@ -61,27 +54,26 @@ module _ (bytes rest kept : List ℕ) (head : Head) (HeadDone Done Wrote : List 
         ends = whole.ends;
         told = both read.1.text _ read.1.told whole.body.told;
       }
-  session_whole (Some past) read whole = record {
+  session_whole (Some f) read whole = record {
     head = head;
-    taken = read.3.taken;
-    head_text = read.3.text;
-    heads = read.3.lines;
+    taken = read.2.taken;
+    head_text = read.2.text;
+    heads = read.2.lines;
     behind = read.0 ∷ whole.body.taken;
-    lines_are = read.3.heard.0 ∙ (ap (λ ls. (read.3.taken ++ read.0 ∷ []) ++ ls) whole.body.heard ∙ append_assoc read.3.taken (read.0 ∷ []) whole.body.taken);
-    command = read.2;
+    lines_are = read.2.heard.0 ∙ (ap (λ ls. (read.2.taken ++ read.0 ∷ []) ++ ls) whole.body.heard ∙ append_assoc read.2.taken (read.0 ∷ []) whole.body.taken);
     first = whole.first;
     begins = whole.begins;
     text = whole.body.text;
     last = whole.last;
-    body = kept_first head (length read.3.taken) kept read.0 whole.body.taken whole.first whole.last whole.body.text read.1 (subst (λ n. BodyLines head n (kept ∷ whole.body.taken) whole.first whole.body.text whole.last) (sym read.3.heard.1) whole.body.lines);
+    body = (f.act, read.1, subst (λ n. LinesFrom (Some f.act) head n whole.body.taken whole.first whole.body.text whole.last) (sym read.2.heard.1) whole.body.lines);
     registers = whole.registers;
     ends = whole.ends;
-    told = both read.3.text _ read.3.told whole.body.told;
+    told = both read.2.text _ read.2.told whole.body.told;
   }
 
   -- some of it
-  pub session_part : (first : Option ℕ) → HeadRead first (Some bytes) (Some rest) kept no_head (head_view head) HeadDone
-      → BodyPart head (past_of first) (begun first kept) (Some rest) Done → SessionPart bytes Wrote
+  pub session_part : (first : Option First) → HeadRead first (Some bytes) (Some rest) no_head (head_view head) HeadDone
+      → BodyPart head (past_of first) (begun first) (Some rest) Done → SessionPart bytes Wrote
   session_part None read part =
       let none : part.body.taken ≡ [] = no_front part.body.taken part.body.heard.0 (sym part.body.heard.1 ∙ read.0) in
       record {
@@ -92,7 +84,6 @@ module _ (bytes rest kept : List ℕ) (head : Head) (HeadDone Done Wrote : List 
         behind = [];
         others = [];
         lines_are = read.1.heard ∙ ap (λ ls. read.1.taken ++ ls) read.0;
-        command = tt;
         first = part.first;
         begins = part.begins;
         text = part.body.text;
@@ -100,26 +91,25 @@ module _ (bytes rest kept : List ℕ) (head : Head) (HeadDone Done Wrote : List 
         body = subst (λ ls. BodyLines head 0 ls part.first part.body.text part.last) none part.body.lines;
         told = both read.1.text part.body.text read.1.told part.body.told;
       }
-  session_part (Some past) read part = record {
+  session_part (Some f) read part = record {
     head = head;
-    taken = read.3.taken;
-    head_text = read.3.text;
-    heads = read.3.lines;
+    taken = read.2.taken;
+    head_text = read.2.text;
+    heads = read.2.lines;
     behind = read.0 ∷ part.body.taken;
     others = part.body.heard.0;
-    lines_are = read.3.heard.0 ∙ (ap (λ ls. (read.3.taken ++ read.0 ∷ []) ++ ls) part.body.heard.1 ∙ append_assoc read.3.taken (read.0 ∷ []) (part.body.taken ++ part.body.heard.0));
-    command = read.2;
+    lines_are = read.2.heard.0 ∙ (ap (λ ls. (read.2.taken ++ read.0 ∷ []) ++ ls) part.body.heard.1 ∙ append_assoc read.2.taken (read.0 ∷ []) (part.body.taken ++ part.body.heard.0));
     first = part.first;
     begins = part.begins;
     text = part.body.text;
     last = part.last;
-    body = kept_first head (length read.3.taken) kept read.0 part.body.taken part.first part.last part.body.text read.1 (subst (λ n. BodyLines head n (kept ∷ part.body.taken) part.first part.body.text part.last) (sym read.3.heard.1) part.body.lines);
-    told = both read.3.text part.body.text read.3.told part.body.told;
+    body = (f.act, read.1, subst (λ n. LinesFrom (Some f.act) head n part.body.taken part.first part.body.text part.last) (sym read.2.heard.1) part.body.lines);
+    told = both read.2.text part.body.text read.2.told part.body.told;
   }
 
-module _ (bytes rest kept : List ℕ) (head : Head) (HeadDone Done Wrote : List ℕ → Type 0) (both : (h t : List ℕ) → HeadDone h → Done t → Wrote (h ++ t)) where
+module _ (bytes rest : List ℕ) (head : Head) (HeadDone Done Wrote : List ℕ → Type 0) (both : (h t : List ℕ) → HeadDone h → Done t → Wrote (h ++ t)) where
   -- its head alone
-  pub session_head : (first : Option ℕ) → HeadRead first (Some bytes) (Some rest) kept no_head (head_view head) HeadDone → Done []
+  pub session_head : (first : Option First) → HeadRead first (Some bytes) (Some rest) no_head (head_view head) HeadDone → Done []
       → HeadTold (HearsFront (Some bytes)) no_head (head_view head) Wrote
   session_head None read done = record {
     taken = read.1.taken;
@@ -128,10 +118,10 @@ module _ (bytes rest kept : List ℕ) (head : Head) (HeadDone Done Wrote : List 
     lines = read.1.lines;
     told = subst Wrote (append-nil read.1.text) (both read.1.text [] read.1.told done);
   }
-  session_head (Some past) read done = record {
-    taken = read.3.taken;
-    heard = (read.0 ∷ heard rest, read.3.heard.0 ∙ append_assoc read.3.taken (read.0 ∷ []) (heard rest));
-    text = read.3.text;
-    lines = read.3.lines;
-    told = subst Wrote (append-nil read.3.text) (both read.3.text [] read.3.told done);
+  session_head (Some f) read done = record {
+    taken = read.2.taken;
+    heard = (read.0 ∷ heard rest, read.2.heard.0 ∙ append_assoc read.2.taken (read.0 ∷ []) (heard rest));
+    text = read.2.text;
+    lines = read.2.lines;
+    told = subst Wrote (append-nil read.2.text) (both read.2.text [] read.2.told done);
   }

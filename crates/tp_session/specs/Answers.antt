@@ -1,7 +1,9 @@
 -- The texts of a session that scripts don't have.
-use Rattle.std.specs.Prelude.{ℕ, List, codes, decimal, slice_index}
+use Rattle.std.specs.Prelude.{ℕ, List, codes, decimal, length, slice_index}
+use Rattle.std.specs.List.{flat_map}
 use Rattle.tp_model.specs.declared.types.Work.{Work}
-use Rattle.tp_report.specs.Answer.{line, named_text}
+use Rattle.tp_report.specs.Answer.{line, named_text, renamed_text}
+use Rattle.tp_report.specs.declared.answer.Renamed.{Renamed}
 use Rattle.tp_script.specs.declared.fault.LineFault.{LineFault}
 use Rattle.tp_script.specs.Fault.{◌<>◌, fault_text}
 use Rattle.tp_session.specs.declared.hand.WorkerAnswer.{WorkerAnswer}
@@ -23,3 +25,7 @@ took_line name w = name <> codes " work " <> decimal w.element.id <> codes " uni
 abbrev pub worker_line : List ℕ → WorkerAnswer → List ℕ
 worker_line name (Took work) = took_line name work
 worker_line name (Told answer) = line (named_text name answer)
+
+-- how many elements are alive again, and each of them: its id in its line, and its id from now on
+abbrev pub restored_text : List Renamed → List ℕ
+restored_text elements = (codes "restored " <> decimal (length elements)) <> flat_map renamed_text elements

@@ -1,6 +1,6 @@
 -- What a whole session is told.
-use Rattle.std.specs.Prelude.{◌≡◌, ◌⊎◌, ℕ, ◌+◌, Bool, true, false, List, [], ◌∷◌, ◌++◌, All, Option, Some, None}
-use Rattle.std.specs.Prelude.{Result, Ok, Err, length, map, take}
+use Rattle.std.specs.Prelude.{◌≡◌, ◌⊎◌, ℕ, ◌+◌, List, [], ◌∷◌, ◌++◌, All, Option, Some, None}
+use Rattle.std.specs.Prelude.{Result, Ok, Err, length, map}
 use Rattle.std.specs.List.{AllZip}
 use Rattle.std.specs.Io.KnownBytes.{Appends}
 use Rattle.tp_model.specs.declared.types.Limits.{Limits}
@@ -27,31 +27,29 @@ use Rattle.tp_perform.specs.Scenes.{Stand, passes_in}
 use Rattle.tp_session.specs.Hands.{GivesUp, hands}
 use Rattle.tp_session.specs.Heard.{Hears, HearsFront, IsAllOf, IsSilent, heard}
 use Rattle.tp_session.specs.Live.{Live}
-use Rattle.tp_session.specs.Told.{BodyLines, BodyTold, HeadLine, HeadLines, HeadTold}
-use Rattle.tp_session.specs.declared.reading.TheConstants.{MAX_KEPT}
+use Rattle.tp_session.specs.Told.{BodyTold, HeadLine, HeadLines, HeadTold, LinesFrom}
+use Rattle.tp_session.specs.declared.first.First.{First}
 
 -- ---- the head
 
--- this line is the first command behind this head
-abbrev pub IsCommand : List ℕ → HeadView → Type 0
-IsCommand line head = (act : Act) × (head_at line head ≡ Ok (head, Some act))
+-- this line is the first command behind this head, and asks for this
+abbrev pub IsCommand : List ℕ → Act → HeadView → Type 0
+IsCommand line act head = head_at line head ≡ Ok (head, Some act)
 
 -- a line was the first command, or it was answered as one of the head; and this was told before and after
-abbrev pub TakesHeadLine : Bool → ℕ → Result (HeadView × Option Act) LineFault → HeadView → List ℕ → HeadView
-    → List ℕ → Type 0
-TakesHeadLine true n said old before new after =
-    (act : Act) × (said ≡ Ok (new, Some act)) × (after ≡ before)
-TakesHeadLine false n said old before new after =
+abbrev pub TakesHeadLine : Option Act → ℕ → Result (HeadView × Option Act) LineFault → HeadView → List ℕ
+    → HeadView → List ℕ → Type 0
+TakesHeadLine (Some act) n said old before new after = (said ≡ Ok (new, Some act)) × (after ≡ before)
+TakesHeadLine None n said old before new after =
     (text : List ℕ) × HeadLine n said old text new × (after ≡ before ++ text)
 
--- the head was read and told up to the first command, of which this is kept, or to the end of the input
-abbrev pub HeadRead : Option ℕ → Option (List ℕ) → Option (List ℕ) → List ℕ → HeadView → HeadView
+-- the head was read and told up to the first command, which is this, or to the end of the input
+abbrev pub HeadRead : Option First → Option (List ℕ) → Option (List ℕ) → HeadView → HeadView
     → (List ℕ → Type 0) → Type 0
-HeadRead None come left kept old new Told = IsSilent left
+HeadRead None come left old new Told = IsSilent left
     × HeadTold (λ taken. Hears come taken left) old new Told
-HeadRead (Some past) come left kept old new Told = (line : List ℕ) × (kept ≡ take MAX_KEPT line)
-    × IsCommand line new
-    × HeadTold (λ taken. Hears come (taken ++ line ∷ []) left × (length taken ≡ past)) old new Told
+HeadRead (Some first) come left old new Told = (line : List ℕ) × IsCommand line first.act new
+    × HeadTold (λ taken. Hears come (taken ++ line ∷ []) left × (length taken ≡ first.past)) old new Told
 
 -- ---- what is made
 
@@ -114,7 +112,7 @@ finals_of h registers = final_lines h.script.servers registers (length h.script.
 
 -- All lines behind the head were answered, the final lines are those of the registers that are left, and all
 -- of that was told.
-pub record BodyWhole (head : Head) (past : ℕ) (begun : List (List ℕ)) (come : Option (List ℕ))
+pub record BodyWhole (head : Head) (past : ℕ) (begun : Option Act) (come : Option (List ℕ))
     (Told : List ℕ → Type 0) : Type 0 where
   pub first : Live
   pub begins : LiveBegins (head_view head) first
@@ -125,7 +123,7 @@ pub record BodyWhole (head : Head) (past : ℕ) (begun : List (List ℕ)) (come 
       (λ text. Told (text ++ finals_of (head_view head) registers))
 
 -- some of them were, and this was told
-pub record BodyPart (head : Head) (past : ℕ) (begun : List (List ℕ)) (come : Option (List ℕ))
+pub record BodyPart (head : Head) (past : ℕ) (begun : Option Act) (come : Option (List ℕ))
     (Told : List ℕ → Type 0) : Type 0 where
   pub first : Live
   pub begins : LiveBegins (head_view head) first
@@ -133,16 +131,18 @@ pub record BodyPart (head : Head) (past : ℕ) (begun : List (List ℕ)) (come :
   pub body : BodyTold head past begun (HearsFront come) first last Told
 
 -- after a fault: nothing more was told than before, or a front of that
-abbrev pub BodyFront : Head → ℕ → List (List ℕ) → Option (List ℕ) → (List ℕ → Type 0) → Type 0
+abbrev pub BodyFront : Head → ℕ → Option Act → Option (List ℕ) → (List ℕ → Type 0) → Type 0
 BodyFront head past begun come Told =
     Told [] ⊎ (BodyPart head past begun come Told ⊎ BodyWhole head past begun come Told)
 
 -- ---- a whole session
 
--- the first line behind a head is a command
-abbrev pub BeginsBody : List (List ℕ) → HeadView → Type 0
-BeginsBody [] head = Unit {0}
-BeginsBody (line ∷ others) head = IsCommand line head
+-- The first line behind a head is a command. What it asks for was done, and then the other lines were answered,
+-- behind so many others.
+abbrev pub CommandLines : Head → ℕ → List (List ℕ) → Live → List ℕ → Live → Type 0
+CommandLines head past [] old text new = (text ≡ []) × (new ≡ old)
+CommandLines head past (line ∷ others) old text new =
+    (act : Act) × IsCommand line act (head_view head) × LinesFrom (Some act) head past others old text new
 
 -- The lines of the bytes are those of the head and those behind it, of which the first is a command. Each is
 -- answered, in order, and behind the answers are the final lines. Told says of the text what became of it.
@@ -153,12 +153,11 @@ pub record Session (bytes : List ℕ) (Told : List ℕ → Type 0) : Type 0 wher
   pub heads : HeadLines 0 taken no_head head_text (head_view head)
   pub behind : List (List ℕ)
   pub lines_are : heard bytes ≡ taken ++ behind
-  pub command : BeginsBody behind (head_view head)
   pub first : Live
   pub begins : LiveBegins (head_view head) first
   pub text : List ℕ
   pub last : Live
-  pub body : BodyLines head (length taken) behind first text last
+  pub body : CommandLines head (length taken) behind first text last
   pub registers : List (List ℕ)
   pub ends : LiveEnds last registers
   pub told : Told (head_text ++ (text ++ finals_of (head_view head) registers))
@@ -172,12 +171,11 @@ pub record SessionPart (bytes : List ℕ) (Told : List ℕ → Type 0) : Type 0 
   pub behind : List (List ℕ)
   pub others : List (List ℕ)
   pub lines_are : heard bytes ≡ taken ++ (behind ++ others)
-  pub command : BeginsBody behind (head_view head)
   pub first : Live
   pub begins : LiveBegins (head_view head) first
   pub text : List ℕ
   pub last : Live
-  pub body : BodyLines head (length taken) behind first text last
+  pub body : CommandLines head (length taken) behind first text last
   pub told : Told (head_text ++ text)
 
 -- a whole session was answered, and its answers and final lines written

@@ -36,8 +36,8 @@ abbrev pub LineDone : Head → ℕ → List ℕ → Live → Live → Type 0
 LineDone head n line = OrSame (λ old new. (text : List ℕ)
     × LineTold head n (body_at line (head_view head)) old text new)
 
--- lines from these on were done, whatever became of the last one's answer
-abbrev pub BodyDone : Head → ℕ → List (List ℕ) → Option (List ℕ) → Live → Live → Type 0
+-- the first command and lines behind it were done, whatever became of the last one's answer
+abbrev pub BodyDone : Head → ℕ → Option Act → Option (List ℕ) → Live → Live → Type 0
 BodyDone head past begun come = OrSame (λ old new.
     BodyTold head past begun (HearsFront come) old new (λ text. Unit {0}))
 

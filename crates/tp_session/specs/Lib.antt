@@ -1,5 +1,6 @@
 pub mod Hands
 pub mod Answers
+pub mod Dump
 pub mod Live
 pub mod Left
 pub mod Heard

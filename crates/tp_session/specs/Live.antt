@@ -1,19 +1,30 @@
 -- What the lines of a session are told.
-use Rattle.std.specs.Prelude.{◌≡◌, ◌+◌, ◌||◌, ℕ, Bool, true, false, List, Option, Some, is_some, length, map}
+use Rattle.std.specs.Prelude.{◌≡◌, ◌+◌, ◌||◌, ◌==◌, ◌⊎◌, if◌then◌else◌, ℕ, Bool, true, false, List, Option, Some}
+use Rattle.std.specs.Prelude.{is_some, length, map}
 use Rattle.std.specs.Prelude.{slice_get, slice_set, string_bytes}
 use Rattle.std.specs.List.{list_any}
 use Rattle.std.specs.declared.alloc.Global.{Global}
 use Rattle.std.specs.declared.dyn_box.DynBox.{DynBox}
 use Rattle.tp_model.specs.Steps.{rows_of}
+use Rattle.tp_model.specs.declared.types.Status.{Status}
+use Rattle.tp_model.specs.declared.types.Status.TheVariants as status
 use Rattle.tp_model.specs.declared.types.Work.{Work}
 use Rattle.tp_server.specs.Behaviour.{Behaviour}
 use Rattle.tp_server.specs.Pending.{Pending}
 use Rattle.tp_manager.specs.Shown.{ManagerShown, PassShown}
-use Rattle.tp_rollover.specs.Managed.{IsManaged}
+use Rattle.tp_alone.specs.Thread.{AreTogether}
+use Rattle.tp_rollover.specs.Answers.{IsHistoryOf}
+use Rattle.tp_rollover.specs.Managed.{IsManaged, IsUnsurveyed}
+use Rattle.tp_rollover.specs.Survivors.{AreSurvivors}
+use Rattle.tp_rollover.specs.declared.moved.Moved.{Moved}
+use Rattle.tp_rollover.specs.declared.moved.RollFault.{RollFault}
+use Rattle.tp_rollover.specs.declared.survivors.Survivor.{Survivor}
 use Rattle.tp_report.specs.Answer.{account_text, answer_text, line}
 use Rattle.tp_report.specs.declared.answer.Answer.TheVariants as answer
 use Rattle.tp_script.specs.Passes.{is_rollover}
 use Rattle.tp_script.specs.Script.{ScriptView, script_view}
+use Rattle.tp_script.specs.Session.{HeadView, head_view}
+use Rattle.tp_script.specs.declared.head.AliveLine.{AliveLine}
 use Rattle.tp_script.specs.declared.head.Act.{Act}
 use Rattle.tp_script.specs.declared.head.Act.TheVariants as acts
 use Rattle.tp_script.specs.declared.head.Head.{Head}
@@ -21,10 +32,12 @@ use Rattle.tp_script.specs.declared.head.WorkerAct.{WorkerAct}
 use Rattle.tp_script.specs.declared.head.WorkerLine.{WorkerLine}
 use Rattle.tp_script.specs.declared.script.Command.{Command}
 use Rattle.tp_commands.specs.Asked.{FoundLine, TellsCount}
-use Rattle.tp_perform.specs.Rollover.{RollsOn}
-use Rattle.tp_perform.specs.Scenes.{Gathered, Stand}
+use Rattle.tp_perform.specs.Restore.{Restored}
+use Rattle.tp_perform.specs.Rollover.{OnlyLooked, RollRefused, RollsOn, renamed, roll_refused_text}
+use Rattle.tp_perform.specs.Scenes.{Gathered, Stand, passes_in}
 use Rattle.tp_perform.specs.Told.{AreReady, IsScene, PerformsAll, units_held}
-use Rattle.tp_session.specs.Answers.{worker_line}
+use Rattle.tp_session.specs.Answers.{restored_text, worker_line}
+use Rattle.tp_session.specs.Dump.{dump_lines, dump_text}
 use Rattle.tp_session.specs.Hands.{Hand, WorkerDoes, unit_of}
 use Rattle.tp_session.specs.declared.hand.WorkerAnswer.{WorkerAnswer}
 use Rattle.tp_session.specs.declared.held.Held.{Held}
@@ -105,11 +118,94 @@ pub record AccountTold (old : Live) (text : List ℕ) (new : Live) : Type 0 wher
   pub counts : ClientCounts old text done
   pub gathers : LiveGathers done new
 
+-- ---- restores
+
+-- an element that was tried so often in its round is parked where that is the limit, and else it waits
+abbrev pub status_at : ℕ → ℕ → Status
+status_at limit attempts = if attempts == limit then status.Parked attempts else status.Waiting attempts
+
+-- what an `alive` line describes, under this limit of attempts
+abbrev pub survivor_of : ℕ → AliveLine → Survivor
+survivor_of limit a = record {
+  id = a.id;
+  root = a.root;
+  stage = a.draft.stage;
+  body = a.draft.body;
+  status = status_at limit a.attempts;
+  rounds = a.rounds;
+  root_stage = a.root_draft.stage;
+  root_body = a.root_draft.body;
+}
+
+-- what all `alive` lines of a head describe, in their order
+abbrev pub survivors_of : HeadView → List Survivor
+survivors_of h = map (survivor_of h.script.settings.attempts) h.alive
+
+-- This stands again in another manager, and the line tells what each element is called there. Or it was
+-- refused, and nothing has changed.
+abbrev pub RestoresOn : List Survivor → Stand → List ℕ → Stand → Type 0
+RestoresOn survivors old text new =
+    ((moved : List Moved) × Restored survivors old moved new × (text ≡ line (restored_text (map renamed moved))))
+    ⊎ RollRefused old text new
+
+-- the line tells what stands again of what the head says is alive, and the workers have what they had
+pub record RestoreTold (h : HeadView) (old : Live) (text : List ℕ) (new : Live) : Type 0 where
+  pub restores : RestoresOn (survivors_of h) old.stand text new.stand
+  pub works : new.works ≡ old.works
+
+-- ---- dumps
+
+-- the passes have done nothing but look, and all else is as it was
+pub record LiveLooks (old new : Live) : Type 0 where
+  pub manager : new.stand.manager ≡ old.stand.manager
+  pub given : new.stand.keeper.given ≡ old.stand.keeper.given
+  pub looked : OnlyLooked old.stand.scene new.stand.scene
+  pub works : new.works ≡ old.works
+
+-- the lines that lead to this state, where this is alive
+abbrev pub lines_of : HeadView → Live → List Survivor → List (List ℕ)
+lines_of h l survivors = let places = l.stand.scene.places in
+    dump_lines h (map (λ p. p.desk.registers) places) (map (λ p. p.is_dropped) places) survivors
+
+-- All that is alive was found, each element once, and no unit holds an element: so it is after all that the
+-- passes had done, which all of them have seen.
+pub record FoundAlive (old : Live) (survivors : List Survivor) (new : Live) : Type 0 where
+  pub found : AreSurvivors old.stand.manager.limits new.stand.keeper.seen survivors
+  pub history : IsHistoryOf new.stand.keeper (passes_in old.stand.scene) new.stand.keeper.seen
+  pub together : AreTogether old.stand.manager.limits new.stand.keeper (passes_in new.stand.scene)
+      new.stand.keeper.seen
+
+-- so it was, and the answer tells the lines that lead there
+abbrev pub Surveyed : HeadView → Live → List ℕ → Live → Type 0
+Surveyed h old text new = (survivors : List Survivor) × FoundAlive old survivors new
+    × (text ≡ dump_text (lines_of h old survivors))
+
+-- it wasn't found, and the line tells why
+pub record Unsurveyed (old : Live) (text : List ℕ) : Type 0 where
+  pub why : RollFault
+  pub due : IsUnsurveyed (passes_in old.stand.scene) why
+  pub text_is : text ≡ line (roll_refused_text why)
+
+-- With a unit of work open a dump is refused, and nothing is done; else the passes look for what is alive.
+abbrev pub TellsDump : HeadView → Bool → Live → List ℕ → Live → Type 0
+TellsDump h true old text new = (text ≡ line (answer_text answer.Busy)) × (new ≡ old)
+TellsDump h false old text new = LiveLooks old new × (Surveyed h old text new ⊎ Unsurveyed old text)
+
+-- so it was, and then all gather
+pub record DumpTold (h : HeadView) (old : Live) (text : List ℕ) (new : Live) : Type 0 where
+  pub done : Live
+  pub tells : TellsDump h (is_open old) old text done
+  pub gathers : LiveGathers done new
+
+-- ---- all acts
+
 -- the line of what is asked for
 abbrev pub TellsAct : Head → Act → Live → List ℕ → Live → Type 0
 TellsAct head (acts.Command c) old text new = TellsBy (is_rollover c) (script_view head.script) c old text new
 TellsAct head (acts.Worker at act) old text new = WorkerTold head.workers.items act at old text new
 TellsAct head acts.Account old text new = AccountTold old text new
+TellsAct head acts.Dump old text new = DumpTold (head_view head) old text new
+TellsAct head acts.Restore old text new = RestoreTold (head_view head) old text new
 
 -- ---- what is held in memory
 

@@ -1,4 +1,4 @@
--- What the run of a script leaves, with workers or without.
+-- What the run of a script leaves, where it is a session and where it isn't.
 use Rattle.std.specs.Prelude.{ℕ, Bool, true, false, List, Option, Result, Ok, Err}
 use Rattle.std.specs.Io.KnownBytes.{Appends, Keeps}
 use Rattle.tp_report.specs.Answer.{line}
@@ -9,12 +9,12 @@ use Rattle.tp_report.specs.declared.fault.Fault.{Fault}
 use Rattle.tp_report.specs.declared.fault.Fault.TheVariants as faults
 use Rattle.tp_script.specs.Fault.{refused_text}
 use Rattle.tp_script.specs.Grammar.{script}
-use Rattle.tp_script.specs.Workers.{checked, has_worker}
+use Rattle.tp_script.specs.Workers.{checked, is_session}
 use Rattle.tp_script.specs.declared.fault.Refused.{Refused}
 use Rattle.tp_perform.specs.Whole.{Answered}
 use Rattle.tp_session.specs.Conversed.{Conversed, ConversedFront}
 
--- What is left of a script with workers: without a faulty line what a session of its lines leaves, the
+-- What is left of a script that is a session: without a faulty line what a session of its lines leaves, the
 -- answers to them and the final lines; of a refused one the one line of its refusal; after a fault a front of
 -- that, and nothing where the script wasn't read.
 abbrev pub ChecksAndConverses : Result Exit Fault → Result (Unit {0}) Refused → List ℕ → Option (List ℕ)
@@ -32,10 +32,10 @@ ChecksAndConverses (Err faults.Write) (Ok whole) bytes old new = ConversedFront 
 ChecksAndConverses (Err faults.Write) (Err refused) bytes old new =
     AppendsFront old new (line (refused_text refused))
 
--- with a worker that, and without one the report of its run
+-- of a session that, and else the report of its run
 abbrev pub RanBy : Bool → Result Exit Fault → List ℕ → Option (List ℕ) → Option (List ℕ) → Type 0
 RanBy true outcome bytes old new = ChecksAndConverses outcome (checked bytes) bytes old new
 RanBy false outcome bytes old new = Answered outcome (script bytes) old new
 
 abbrev pub Ran : Result Exit Fault → List ℕ → Option (List ℕ) → Option (List ℕ) → Type 0
-Ran outcome bytes old new = RanBy (has_worker bytes) outcome bytes old new
+Ran outcome bytes old new = RanBy (is_session bytes) outcome bytes old new

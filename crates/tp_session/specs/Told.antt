@@ -1,11 +1,13 @@
 -- What the lines of a session are answered, one after another.
 use Rattle.std.specs.Prelude.{◌≡◌, ℕ, ◌+◌, List, [], ◌∷◌, ◌++◌, Option, Some, None, Result, Ok, Err}
+use Rattle.std.specs.Option.{option_map}
 use Rattle.tp_script.specs.Session.{HeadView, body_at, head_at, head_view}
 use Rattle.tp_script.specs.declared.fault.LineFault.{LineFault}
 use Rattle.tp_script.specs.declared.head.Act.{Act}
 use Rattle.tp_script.specs.declared.head.Head.{Head}
 use Rattle.tp_session.specs.Answers.{refused_line}
 use Rattle.tp_session.specs.Live.{Live, TellsAct}
+use Rattle.tp_session.specs.declared.first.First.{First}
 
 -- ---- the head
 
@@ -52,21 +54,30 @@ BodyLines head past (line ∷ others) old text new =
     × BodyLines head (past + 1) others between rest new
     × (text ≡ first ++ rest)
 
--- these lines, and then others, as far as they were heard and told
-pub record BodyTold (head : Head) (past : ℕ) (begun : List (List ℕ)) (Heard : List (List ℕ) → Type 0)
+-- What the first command asks for was done, where there is one, and then such lines were answered, behind so
+-- many others.
+abbrev pub LinesFrom : Option Act → Head → ℕ → List (List ℕ) → Live → List ℕ → Live → Type 0
+LinesFrom None head past lines old text new = BodyLines head past lines old text new
+LinesFrom (Some act) head past lines old text new =
+    (first : List ℕ) × (rest : List ℕ) × (between : Live)
+    × TellsAct head act old first between
+    × BodyLines head (past + 1) lines between rest new
+    × (text ≡ first ++ rest)
+
+-- that, as far as lines were heard and told
+pub record BodyTold (head : Head) (past : ℕ) (begun : Option Act) (Heard : List (List ℕ) → Type 0)
     (old new : Live) (Told : List ℕ → Type 0) : Type 0 where
   pub taken : List (List ℕ)
   pub heard : Heard taken
   pub text : List ℕ
-  pub lines : BodyLines head past (begun ++ taken) old text new
+  pub lines : LinesFrom begun head past taken old text new
   pub told : Told text
 
--- the line of the first command, if there is one, of which this is kept
-abbrev pub begun : Option ℕ → List ℕ → List (List ℕ)
-begun None kept = []
-begun (Some past) kept = kept ∷ []
+-- what the first command asks for, if there is one
+abbrev pub begun : Option First → Option Act
+begun first = option_map (λ f. f.act) first
 
 -- how many lines stand in front of it
-abbrev pub past_of : Option ℕ → ℕ
+abbrev pub past_of : Option First → ℕ
 past_of None = 0
-past_of (Some past) = past
+past_of (Some first) = first.past

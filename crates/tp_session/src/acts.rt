@@ -13,8 +13,10 @@ ghost use Rattle.tp_session.specs.Live.{AccountTold, ClientCounts, CommandTold, 
 ghost use Rattle.tp_session.specs.Live.{RolloverTold, TellsAccount, TellsAct, TellsBy, WorkerDid, WorkerTold};
 
 use crate::answers::worker_line;
+use crate::dump::dump_told;
 use crate::hand::{WorkerAnswer, worker_act};
 use crate::held::Held;
+use crate::restoring::restore_told;
 use std::alloc::{AllocError, Global};
 use std::string::String;
 use tp_commands::{Place, count};
@@ -94,7 +96,7 @@ fn told_by(
 }
 
 /// All passes gather.
-fn gather(head: &Head, held: &mut Held)
+pub(crate) fn gather(head: &Head, held: &mut Held)
     requires held { IsHeld behaviour registers pending head.now held.old }
     ensures held { IsHeld behaviour registers pending head.now held.new }
     ensures began { began_in registers held.new ≡ began_in registers held.old }
@@ -178,7 +180,7 @@ fn has_place(places: &[Place]) -> bool
 }
 
 /// Whether a unit of work is open.
-fn is_open(places: &[Place], works: &[Option<Work>]) -> bool
+pub(crate) fn is_open(places: &[Place], works: &[Option<Work>]) -> bool
     ensures { result ≡ (list_any is_some works.now || list_any (λ p. is_some (work_in p.aside)) places.now) }
 {
     if has_work(works) {
@@ -255,5 +257,7 @@ pub fn act_line(
         Act::Command(command) => told_by(alloc, head, held, *command),
         Act::Worker { worker, act } => worker_told(alloc, head, held, *worker, act),
         Act::Account => account_told(alloc, head, held),
+        Act::Dump => dump_told(alloc, head, held),
+        Act::Restore => restore_told(alloc, head, held),
     }
 }

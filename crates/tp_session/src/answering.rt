@@ -1,6 +1,6 @@
 //! The lines behind the head, answered one by one.
-ghost use Rattle.std.specs.Prelude.{◌≡◌, ◌+◌, ◌<◌, ◌^◌, ◌++◌, ◌∷◌, ◌⊎◌, List, ℕ, [], None, IsErrOf, IsTrue};
-ghost use Rattle.std.specs.Prelude.{OnErr, OnOk, vec_len};
+ghost use Rattle.std.specs.Prelude.{◌≡◌, ◌+◌, ◌<◌, ◌^◌, ◌++◌, ◌⊎◌, List, ℕ, None, Some, IfSome, IsErrOf};
+ghost use Rattle.std.specs.Prelude.{IsTrue, OnErr, OnOk, vec_len};
 ghost use Rattle.tp_report.specs.Written.{AppendsFront};
 ghost use Rattle.tp_script.specs.Session.{IsActInRange, body_at, head_view};
 ghost use Rattle.tp_session.specs.Answers.{refused_line};
@@ -12,6 +12,7 @@ ghost use Rattle.tp_session.specs.Told.{BodyTold, LineTold, begun, past_of};
 
 use crate::acts::act_line;
 use crate::answers::refused_line;
+use crate::first::First;
 use crate::held::Held;
 use crate::reading::Lines;
 use std::alloc::Global;
@@ -118,13 +119,13 @@ pub fn attend<R: Source, W: Sink>(
     requires few { past + room lines.old + 1 < 2 ^ 64 }
     ensures held { IsHeld behaviour registers pending head.now held.new }
     ensures went { Reaches behaviour registers pending
-        (BodyDone head.now past [] (to_come lines.old (R.rest reader.old))) held.old held.new }
+        (BodyDone head.now past None (to_come lines.old (R.rest reader.old))) held.old held.new }
     ensures told { OnOk result (Leads behaviour registers pending (λ old new.
-        BodyTold head.now past [] (IsAllOf (to_come lines.old (R.rest reader.old))) old new
+        BodyTold head.now past None (IsAllOf (to_come lines.old (R.rest reader.old))) old new
         (λ text. Tells (W.contents writer.old) (W.contents writer.new)
         lines.new.answers.items (lines.old.answers.items ++ text))) held.old held.new) }
     ensures front { OnErr result (Begins behaviour registers pending (λ old last.
-        BodyTold head.now past [] (HearsFront (to_come lines.old (R.rest reader.old))) old last
+        BodyTold head.now past None (HearsFront (to_come lines.old (R.rest reader.old))) old last
         (λ text. AppendsFront (W.contents writer.old) (W.contents writer.new)
         (lines.old.answers.items ++ text))) held.old) }
     ensures write { IsErrOf result Fault.Write → IsTrue (W.has_failed writer.new) }
@@ -143,33 +144,34 @@ pub fn attend<R: Source, W: Sink>(
     unreachable!();
 }
 
-/// Answers the line that was read last, behind so many others, and then line after line to the end of the
-/// input.
+/// Answers the first command, and then line after line to the end of the input.
 fn answer_from<R: Source, W: Sink>(
     alloc: Global,
     head: &Head,
     held: &mut Held,
-    past: u64,
+    first: &First,
     lines: &mut Lines,
     reader: &mut R,
     writer: &mut W,
 ) -> Result<(), Fault>
     requires held { IsHeld behaviour registers pending head.now held.old }
     requires asked { R.asked reader.old + lines.old.left < 2 ^ 64 }
-    requires few { past + room lines.old + 2 < 2 ^ 64 }
+    requires in_range { IsActInRange
+        (vec_len head.now.script.servers) (vec_len head.now.workers) first.now.act }
+    requires few { first.now.past + room lines.old + 2 < 2 ^ 64 }
     ensures held { IsHeld behaviour registers pending head.now held.new }
     ensures went { Reaches behaviour registers pending
-        (BodyDone head.now past (lines.old.line.items ∷ []) (to_come lines.old (R.rest reader.old)))
+        (BodyDone head.now first.now.past (Some first.now.act) (to_come lines.old (R.rest reader.old)))
         held.old held.new }
     ensures told { OnOk result (Leads behaviour registers pending (λ old new.
-        BodyTold head.now past (lines.old.line.items ∷ [])
+        BodyTold head.now first.now.past (Some first.now.act)
         (IsAllOf (to_come lines.old (R.rest reader.old))) old new
         (λ text. Tells (W.contents writer.old) (W.contents writer.new)
         lines.new.answers.items (lines.old.answers.items ++ text))) held.old held.new) }
     ensures front { OnErr result (AppendsFront (W.contents writer.old) (W.contents writer.new)
         lines.old.answers.items
         ⊎ Begins behaviour registers pending (λ old last.
-        BodyTold head.now past (lines.old.line.items ∷ [])
+        BodyTold head.now first.now.past (Some first.now.act)
         (HearsFront (to_come lines.old (R.rest reader.old))) old last
         (λ text. AppendsFront (W.contents writer.old) (W.contents writer.new)
         (lines.old.answers.items ++ text))) held.old) }
@@ -179,38 +181,39 @@ fn answer_from<R: Source, W: Sink>(
     ensures long { IsErrOf result Fault.Read
         → IsTrue (R.has_failed reader.new) ⊎ IsLong lines.old (R.rest reader.old) }
 {
-    answer_line(alloc, head, held, past + 1, lines)?;
-    attend(alloc, head, held, past + 1, lines, reader, writer)
+    answer(alloc, head, held, &first.act, lines)?;
+    attend(alloc, head, held, first.past + 1, lines, reader, writer)
 }
 
-/// Answers the line that was read last, where it is the first command, and then those behind it to the end of
-/// the input. `first` is how many lines were read before the first command, if there is one.
+/// Answers the first command, if there is one, and then the lines behind it to the end of the input.
 pub(crate) fn answer_all<R: Source, W: Sink>(
     alloc: Global,
     head: &Head,
     held: &mut Held,
-    first: Option<u64>,
+    first: Option<First>,
     lines: &mut Lines,
     reader: &mut R,
     writer: &mut W,
 ) -> Result<(), Fault>
     requires held { IsHeld behaviour registers pending head.now held.old }
     requires asked { R.asked reader.old + lines.old.left < 2 ^ 64 }
+    requires in_range { IfSome (begun first) (IsActInRange
+        (vec_len head.now.script.servers) (vec_len head.now.workers)) }
     requires few { past_of first + room lines.old + 2 < 2 ^ 64 }
     requires ended { first ≡ None → IsSilent (to_come lines.old (R.rest reader.old)) }
     ensures held { IsHeld behaviour registers pending head.now held.new }
     ensures went { Reaches behaviour registers pending
-        (BodyDone head.now (past_of first) (begun first lines.old.line.items)
+        (BodyDone head.now (past_of first) (begun first)
         (to_come lines.old (R.rest reader.old))) held.old held.new }
     ensures told { OnOk result (Leads behaviour registers pending (λ old new.
-        BodyTold head.now (past_of first) (begun first lines.old.line.items)
+        BodyTold head.now (past_of first) (begun first)
         (IsAllOf (to_come lines.old (R.rest reader.old))) old new
         (λ text. Tells (W.contents writer.old) (W.contents writer.new)
         lines.new.answers.items (lines.old.answers.items ++ text))) held.old held.new) }
     ensures front { OnErr result (AppendsFront (W.contents writer.old) (W.contents writer.new)
         lines.old.answers.items
         ⊎ Begins behaviour registers pending (λ old last.
-        BodyTold head.now (past_of first) (begun first lines.old.line.items)
+        BodyTold head.now (past_of first) (begun first)
         (HearsFront (to_come lines.old (R.rest reader.old))) old last
         (λ text. AppendsFront (W.contents writer.old) (W.contents writer.new)
         (lines.old.answers.items ++ text))) held.old) }
@@ -222,6 +225,6 @@ pub(crate) fn answer_all<R: Source, W: Sink>(
 {
     match first {
         None => Ok(()),
-        Some(past) => answer_from(alloc, head, held, past, lines, reader, writer),
+        Some(first) => answer_from(alloc, head, held, &first, lines, reader, writer),
     }
 }

@@ -1,5 +1,5 @@
-//! The whole run of a script, from the reader's bytes to the writer's. One with a worker is checked whole,
-//! and then performed as the session that its lines are.
+//! The whole run of a script, from the reader's bytes to the writer's. One that is a session, by its first
+//! words, is checked whole, and then performed as the session that its lines are.
 ghost use Rattle.std.specs.Prelude.{◌≡◌, ◌+◌, ◌^◌, ◌<◌, ◌≤◌, Result, Ok, IfSome, IsErrOf, IsTrue, true};
 ghost use Rattle.tp_report.specs.Faults.{TellsFault, exit_status};
 ghost use Rattle.tp_report.specs.declared.fault.Exit.{Exit};
@@ -12,11 +12,11 @@ use crate::session::converse;
 use std::alloc::Global;
 use std::thread::Threads;
 use tp_report::{Exit, Fault, Sink, exit_status, fault_of, write_fault, write_refusal};
-use tp_script::{BytesSource, ReadFault, Source, check_lines, has_worker, read_all};
+use tp_script::{BytesSource, ReadFault, Source, check_lines, is_session, read_all};
 
-/// Reads a script and performs it over the shared manager. A script without a worker is reported as
-/// `tp_perform::run` does. One with workers is checked whole, and then its lines are answered as those of a
-/// session. The reader is asked at most 100,000 times.
+/// Reads a script and performs it over the shared manager. One that isn't a session is reported
+/// as `tp_perform::run` does. One that is (`is_session`) is checked whole, and then its lines are answered as
+/// those of a session. The reader is asked at most 100,000 times.
 pub fn run<T: Threads + Sync, R: Source, W: Sink>(
     rt: &T,
     alloc: Global,
@@ -72,15 +72,15 @@ fn run_bytes<T: Threads + Sync, W: Sink>(
     ensures no_read { ¬ (IsErrOf result Fault.Read) }
     ensures write { IsErrOf result Fault.Write → IsTrue (W.has_failed writer.new) }
 {
-    match has_worker(alloc, bytes) {
-        Ok(true) => run_with_workers(alloc, bytes, writer),
+    match is_session(alloc, bytes) {
+        Ok(true) => run_as_session(alloc, bytes, writer),
         Ok(false) => tp_perform::run(rt, alloc, &mut BytesSource::new(bytes), writer),
         Err(_) => Err(Fault::NoMemory),
     }
 }
 
-/// Checks all lines of a script with workers, and then performs it.
-fn run_with_workers<W: Sink>(alloc: Global, bytes: &[u8], writer: &mut W) -> Result<Exit, Fault>
+/// Checks all lines of a script that is a session, and then performs it.
+fn run_as_session<W: Sink>(alloc: Global, bytes: &[u8], writer: &mut W) -> Result<Exit, Fault>
     ensures ran { ChecksAndConverses result (checked bytes.now) bytes.now
         (W.contents writer.old) (W.contents writer.new) }
     ensures no_read { ¬ (IsErrOf result Fault.Read) }

@@ -1,7 +1,7 @@
 //! A session from its first line to its final lines: its head is read, what it needs is made, and each line
 //! is answered.
 ghost use Rattle.std.specs.Prelude.{◌≡◌, ◌+◌, ◌*◌, ◌<◌, ◌≤◌, ◌^◌, ◌++◌, ◌⊎◌, None, All, IfSome, IsErrOf, IsTrue};
-ghost use Rattle.std.specs.Prelude.{OnErr, OnOk, Result, length, map};
+ghost use Rattle.std.specs.Prelude.{OnErr, OnOk, Result, length, map, vec_len};
 ghost use Rattle.std.specs.Io.KnownBytes.{Appends};
 ghost use Rattle.tp_workers.specs.Free.{IsFreePass};
 ghost use Rattle.tp_server.specs.Behaviour.{behaviour_of};
@@ -9,7 +9,7 @@ ghost use Rattle.tp_report.specs.Faults.{TellsFault, exit_status};
 ghost use Rattle.tp_report.specs.Written.{AppendsFront};
 ghost use Rattle.tp_report.specs.declared.fault.Exit.{Exit};
 ghost use Rattle.tp_report.specs.declared.fault.Fault.{Fault};
-ghost use Rattle.tp_script.specs.Session.{head_view};
+ghost use Rattle.tp_script.specs.Session.{IsActInRange, head_view};
 ghost use Rattle.tp_session.specs.Conversed.{BodyFront, BodyWhole, Conversed, ConversedAs, ConversedFront};
 ghost use Rattle.tp_session.specs.Conversed.{IsNewManaged, LiveEnds, limits_of};
 ghost use Rattle.tp_session.specs.Heard.{HearsFront, IsAllOf, IsSilent, Tells};
@@ -23,6 +23,7 @@ ghost use Rattle.tp_session.specs.declared.reading.TheConstants.{MAX_ASKED};
 
 use crate::answering::answer_all;
 use crate::ending::{end_passes, finals};
+use crate::first::First;
 use crate::heading::read_head;
 use crate::held::Held;
 use crate::making::{first_places, no_works};
@@ -101,23 +102,24 @@ fn limits_of(head: &Head) -> Limits
     }
 }
 
-/// Makes the manager that a session needs, and answers the lines behind the head. The first of them is the line
-/// that was read last, where there is a command.
+/// Makes the manager that a session needs, and answers the first command and the lines behind it.
 fn hold<R: Source, W: Sink>(
     alloc: Global,
     head: &Head,
-    first: Option<u64>,
+    first: Option<First>,
     lines: &mut Lines,
     reader: &mut R,
     writer: &mut W,
 ) -> Result<(), Fault>
     requires asked { R.asked reader.old + lines.old.left < 2 ^ 64 }
+    requires in_range { IfSome (begun first) (IsActInRange
+        (vec_len head.now.script.servers) (vec_len head.now.workers)) }
     requires few { past_of first + room lines.old + 2 < 2 ^ 64 }
     requires ended { first ≡ None → IsSilent (to_come lines.old (R.rest reader.old)) }
-    ensures told { OnOk result (BodyWhole head.now (past_of first) (begun first lines.old.line.items)
+    ensures told { OnOk result (BodyWhole head.now (past_of first) (begun first)
         (to_come lines.old (R.rest reader.old))
         (λ text. Appends (W.contents writer.old) (W.contents writer.new) (lines.old.answers.items ++ text))) }
-    ensures front { OnErr result (BodyFront head.now (past_of first) (begun first lines.old.line.items)
+    ensures front { OnErr result (BodyFront head.now (past_of first) (begun first)
         (to_come lines.old (R.rest reader.old))
         (λ text. AppendsFront (W.contents writer.old) (W.contents writer.new)
         (lines.old.answers.items ++ text))) }
@@ -139,7 +141,7 @@ fn hold<R: Source, W: Sink>(
 fn with_managed<R: Source, W: Sink>(
     alloc: Global,
     head: &Head,
-    first: Option<u64>,
+    first: Option<First>,
     managed: Managed,
     lines: &mut Lines,
     reader: &mut R,
@@ -147,12 +149,14 @@ fn with_managed<R: Source, W: Sink>(
 ) -> Result<(), Fault>
     requires new { IsNewManaged (limits_of (head_view head.now)) managed }
     requires asked { R.asked reader.old + lines.old.left < 2 ^ 64 }
+    requires in_range { IfSome (begun first) (IsActInRange
+        (vec_len head.now.script.servers) (vec_len head.now.workers)) }
     requires few { past_of first + room lines.old + 2 < 2 ^ 64 }
     requires ended { first ≡ None → IsSilent (to_come lines.old (R.rest reader.old)) }
-    ensures told { OnOk result (BodyWhole head.now (past_of first) (begun first lines.old.line.items)
+    ensures told { OnOk result (BodyWhole head.now (past_of first) (begun first)
         (to_come lines.old (R.rest reader.old))
         (λ text. Appends (W.contents writer.old) (W.contents writer.new) (lines.old.answers.items ++ text))) }
-    ensures front { OnErr result (BodyFront head.now (past_of first) (begun first lines.old.line.items)
+    ensures front { OnErr result (BodyFront head.now (past_of first) (begun first)
         (to_come lines.old (R.rest reader.old))
         (λ text. AppendsFront (W.contents writer.old) (W.contents writer.new)
         (lines.old.answers.items ++ text))) }
@@ -176,7 +180,7 @@ fn with_managed<R: Source, W: Sink>(
 fn with_servers<R: Source, W: Sink>(
     alloc: Global,
     head: &Head,
-    first: Option<u64>,
+    first: Option<First>,
     managed: Managed,
     servers: Vec<Box<dyn Server + Send>>,
     lines: &mut Lines,
@@ -190,12 +194,14 @@ fn with_servers<R: Source, W: Sink>(
         ≡ map (λ line. line.registers) head.now.script.servers.items }
     requires clear { All (λ server. pending server ≡ None) servers.items }
     requires asked { R.asked reader.old + lines.old.left < 2 ^ 64 }
+    requires in_range { IfSome (begun first) (IsActInRange
+        (vec_len head.now.script.servers) (vec_len head.now.workers)) }
     requires few { past_of first + room lines.old + 2 < 2 ^ 64 }
     requires ended { first ≡ None → IsSilent (to_come lines.old (R.rest reader.old)) }
-    ensures told { OnOk result (BodyWhole head.now (past_of first) (begun first lines.old.line.items)
+    ensures told { OnOk result (BodyWhole head.now (past_of first) (begun first)
         (to_come lines.old (R.rest reader.old))
         (λ text. Appends (W.contents writer.old) (W.contents writer.new) (lines.old.answers.items ++ text))) }
-    ensures front { OnErr result (BodyFront head.now (past_of first) (begun first lines.old.line.items)
+    ensures front { OnErr result (BodyFront head.now (past_of first) (begun first)
         (to_come lines.old (R.rest reader.old))
         (λ text. AppendsFront (W.contents writer.old) (W.contents writer.new)
         (lines.old.answers.items ++ text))) }
@@ -225,25 +231,27 @@ pub fn answer_to_end<R: Source, W: Sink>(
     alloc: Global,
     head: &Head,
     held: &mut Held,
-    first: Option<u64>,
+    first: Option<First>,
     lines: &mut Lines,
     reader: &mut R,
     writer: &mut W,
 ) -> Result<(), Fault>
     requires held { IsHeld behaviour registers pending head.now held.old }
     requires asked { R.asked reader.old + lines.old.left < 2 ^ 64 }
+    requires in_range { IfSome (begun first) (IsActInRange
+        (vec_len head.now.script.servers) (vec_len head.now.workers)) }
     requires few { past_of first + room lines.old + 2 < 2 ^ 64 }
     requires ended { first ≡ None → IsSilent (to_come lines.old (R.rest reader.old)) }
     ensures free { All (IsFreePass held.new.managed.manager) held.new.managed.passes.items }
     ensures clear { All (λ server. pending server ≡ None) held.new.servers.items }
     ensures each_server { length held.new.servers.items ≡ length held.old.servers.items }
     ensures left { (before : Live) × (last : Live) × IsLive behaviour registers pending held.old before
-        × BodyDone head.now (past_of first) (begun first lines.old.line.items)
+        × BodyDone head.now (past_of first) (begun first)
         (to_come lines.old (R.rest reader.old)) before last
         × AllLeftAt behaviour registers last.stand.scene.places
         (workers (length held.old.servers.items) held.new.managed.passes.items) held.new.servers.items }
     ensures told { OnOk result (Begins behaviour registers pending (λ old last.
-        BodyTold head.now (past_of first) (begun first lines.old.line.items)
+        BodyTold head.now (past_of first) (begun first)
         (IsAllOf (to_come lines.old (R.rest reader.old))) old last
         (λ text. Tells (W.contents writer.old) (W.contents writer.new)
         lines.new.answers.items (lines.old.answers.items ++ text))
@@ -251,7 +259,7 @@ pub fn answer_to_end<R: Source, W: Sink>(
     ensures front { OnErr result (AppendsFront (W.contents writer.old) (W.contents writer.new)
         lines.old.answers.items
         ⊎ Begins behaviour registers pending (λ old last.
-        BodyTold head.now (past_of first) (begun first lines.old.line.items)
+        BodyTold head.now (past_of first) (begun first)
         (HearsFront (to_come lines.old (R.rest reader.old))) old last
         (λ text. AppendsFront (W.contents writer.old) (W.contents writer.new)
         (lines.old.answers.items ++ text))) held.old) }

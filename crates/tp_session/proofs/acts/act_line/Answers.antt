@@ -12,3 +12,15 @@ returns-in-Worker-clause-went g c = reach_same (λ b. (goal.Server-dyn g (b.vtab
 
 pub returns-in-Account-clause-went : goal.returns-in-Account-clause-went
 returns-in-Account-clause-went g c = reach_same (λ b. (goal.Server-dyn g (b.vtable, b.value)).behaviour b.value) (λ b. (goal.Server-dyn g (b.vtable, b.value)).registers b.value) (λ b. (goal.Server-dyn g (b.vtable, b.value)).pending b.value) c.args.head.now c.args.held.now c.account_told.new.held _ c.requires.held c.account_told.ensures.began
+
+pub returns-in-Dump-clause-tells : goal.returns-in-Dump-clause-tells
+returns-in-Dump-clause-tells g c = rw c.in-Dump.is c.dump_told.ensures.tells
+
+pub returns-in-Dump-clause-went : goal.returns-in-Dump-clause-went
+returns-in-Dump-clause-went g c = reach_same (λ b. (goal.Server-dyn g (b.vtable, b.value)).behaviour b.value) (λ b. (goal.Server-dyn g (b.vtable, b.value)).registers b.value) (λ b. (goal.Server-dyn g (b.vtable, b.value)).pending b.value) c.args.head.now c.args.held.now c.dump_told.new.held _ c.requires.held c.dump_told.ensures.began
+
+pub returns-in-Restore-clause-tells : goal.returns-in-Restore-clause-tells
+returns-in-Restore-clause-tells g c = rw c.in-Restore.is c.restore_told.ensures.tells
+
+pub returns-in-Restore-clause-went : goal.returns-in-Restore-clause-went
+returns-in-Restore-clause-went g c = rw c.in-Restore.is c.restore_told.ensures.went

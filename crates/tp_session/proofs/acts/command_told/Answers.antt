@@ -1,5 +1,5 @@
 use Rattle.std.proofs.Common.{◌∙◌, ap, length, refl, sym}
-use Rattle.std.specs.Vec.{with_item, with_items}
+use Rattle.std.specs.Vec.{with_items}
 use Rattle.std.specs.List.{refill}
 use Rattle.std.specs.Prelude.{string_bytes}
 use Rattle.std.proofs.lemmas.Result.{IfOk-weaker}

@@ -1,6 +1,5 @@
 use Rattle.std.proofs.Common.{◌∙◌, ap, length, refl}
-use Rattle.std.specs.Vec.{with_item, with_items}
-use Rattle.std.specs.List.{refill}
+use Rattle.std.specs.Vec.{with_items}
 use Rattle.tp_session.proofs.ActLemmas.{gather_in_hand, gather_leads, gather_ready, held_of, refilled}
 use Rattle.tp_session.proofs.acts.gather.Goals as goal
 

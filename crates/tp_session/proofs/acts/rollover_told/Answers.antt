@@ -2,7 +2,7 @@ use Rattle.std.proofs.Common.{◌∙◌, ap, length, refl, subst, sym}
 use Rattle.std.specs.List.{refill}
 use Rattle.std.specs.Prelude.{string_bytes}
 use Rattle.std.proofs.lemmas.Result.{IfOk-weaker}
-use Rattle.tp_perform.specs.Told.{AreReady, units_held}
+use Rattle.tp_perform.specs.Told.{AreReady}
 use Rattle.tp_session.proofs.ActLemmas.{at_of, refilled, rollover_leads}
 use Rattle.tp_session.proofs.LeftLemmas.{rollover_reaches}
 use Rattle.tp_session.proofs.acts.rollover_told.Goals as goal

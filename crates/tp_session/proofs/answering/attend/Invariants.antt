@@ -1,4 +1,4 @@
-use Rattle.std.proofs.Common.{◌≡◌, ◌+◌, ◌≤◌, ◌++◌, [], length}
+use Rattle.std.proofs.Common.{◌≡◌, ◌+◌, ◌≤◌, ◌++◌, None, length}
 use Rattle.tp_session.specs.Heard.{Hears, Tells}
 use Rattle.tp_session.specs.Live.{IsHeld, Leads}
 use Rattle.tp_session.specs.Reading.{Spends, room, to_come}
@@ -13,7 +13,7 @@ invariant-loop-number g l = record {
   room : l.number + room l.lines ≤ l.past + room l.fn.lines;
   spends : Spends 0 l.fn.lines (g.R.Source.rest l.fn.reader) l.lines (g.R.Source.rest l.reader);
   told : Leads (λ b. (goal.Server-dyn g (b.vtable, b.value)).behaviour b.value) (λ b. (goal.Server-dyn g (b.vtable, b.value)).registers b.value) (λ b. (goal.Server-dyn g (b.vtable, b.value)).pending b.value)
-      (λ old new. BodyTold l.head l.past []
+      (λ old new. BodyTold l.head l.past None
       (λ taken. Hears (to_come l.fn.lines (g.R.Source.rest l.fn.reader)) taken (to_come l.lines (g.R.Source.rest l.reader)) × (l.number ≡ l.past + length taken))
       old new
       (λ text. Tells (g.W.Sink.contents l.fn.writer) (g.W.Sink.contents l.writer) l.lines.answers.items (l.fn.lines.answers.items ++ text)))

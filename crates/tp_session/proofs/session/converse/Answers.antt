@@ -8,21 +8,21 @@ use Rattle.tp_session.proofs.WholeLemmas.{come_all}
 use Rattle.tp_session.proofs.session.converse.Goals as goal
 
 pub hold-requires-clause-ended : goal.hold-requires-clause-ended
-hold-requires-clause-ended g c = head_silent _ _ _ _ _ _ _ c.in_ok-first.ensures.head
+hold-requires-clause-ended g c = head_silent _ _ _ _ _ _ c.in_ok-first.ensures.head
 
 pub returns-clause-conversed : goal.returns-clause-conversed
 returns-clause-conversed g c =
     let read = rw (c.new-lines.ensures.untold, c.new-head.ensures) at c.in_ok-first.ensures.head in
     let all = come_all c.new-lines.result (g.R.Source.rest c.args.reader.now) c.new-lines.ensures.unused in
     on_ok_weaker c.hold.result (λ held. subst (λ come. IfSome come (λ bytes. Conversed bytes (g.W.Sink.contents c.args.writer.now) (g.W.Sink.contents c.hold.new.writer))) all
-    (conversed _ _ _ _ (g.W.Sink.contents c.read_head.new.writer) _ _ _ _ read held)) c.hold.ensures.told
+    (conversed _ _ _ (g.W.Sink.contents c.read_head.new.writer) _ _ _ _ read held)) c.hold.ensures.told
 
 pub returns-clause-front : goal.returns-clause-front
 returns-clause-front g c =
     let read = rw (c.new-lines.ensures.untold, c.new-head.ensures) at c.in_ok-first.ensures.head in
     let all = come_all c.new-lines.result (g.R.Source.rest c.args.reader.now) c.new-lines.ensures.unused in
     on_err_weaker c.hold.result (λ held. subst (λ come. IfSome come (λ bytes. ConversedFront bytes (g.W.Sink.contents c.args.writer.now) (g.W.Sink.contents c.hold.new.writer))) all
-    (conversed_front _ _ _ _ (g.W.Sink.contents c.read_head.new.writer) _ _ _ _ read held)) c.hold.ensures.front
+    (conversed_front _ _ _ (g.W.Sink.contents c.read_head.new.writer) _ _ _ _ read held)) c.hold.ensures.front
 
 pub returns-in_err-first-clause-front : goal.returns-in_err-first-clause-front
 returns-in_err-first-clause-front g c =

@@ -1,7 +1,7 @@
 use Rattle.std.proofs.Common.{refl}
 use Rattle.tp_script.specs.Workers.{checked}
 use Rattle.tp_session.proofs.ScriptLemmas.{checks_none, never_unread}
-use Rattle.tp_session.proofs.scripts.run_with_workers.Goals as goal
+use Rattle.tp_session.proofs.scripts.run_as_session.Goals as goal
 
 pub unreachable-requires : goal.unreachable-requires
 unreachable-requires g c = never_unread c.args.bytes.now c.new.result.bytes.now c.in-Ok.ensures c.new.ensures.bytes (c.in-Err-Read-converse.ensures.long (rw c.in-Err-Read-converse.field-0-is refl))

@@ -1,0 +1,50 @@
+-- The lines of a dump, one after another.
+use Rattle.std.proofs.Common.{◌≡◌, ◌∙◌, ℕ, suc, ◌+◌, ◌<◌, Bool, true, false, List, [], ◌∷◌, ◌++◌, Option, Some, None, refl, sym, ap, append_assoc, append-nil, arith, get_or, length, map, slice_get}
+use Rattle.std.specs.Prelude.{codes, decimal}
+use Rattle.std.specs.Option.{option_map}
+use Rattle.std.proofs.lemmas.List.{length-map, map-append}
+use Rattle.std.proofs.lemmas.List.Folds.{flat_map-map}
+use Rattle.std.proofs.lemmas.Option.{slice_get-get_or, slice_get-map}
+use Rattle.std.specs.List.{flat_map}
+use Rattle.tp_report.specs.Answer.{line}
+use Rattle.tp_script.specs.Fault.{◌<>◌}
+use Rattle.tp_script.specs.Script.{ServerView}
+use Rattle.tp_session.specs.Dump.{drop_of, dump_by, dump_text, quoted, start_lines, starts_of}
+
+-- what is seen at a place
+pub seen_at : {A B : Type 0} (v : A → B) (xs : List A) (at : ℕ) (x : A) → at < length xs → x ≡ get_or xs at x → slice_get (map v xs) at ≡ Some (v x)
+seen_at v xs at x within is = slice_get-map v xs at ∙ (ap (option_map v) (slice_get-get_or xs at x within) ∙ ap (λ y. Some (v y)) (sym is))
+
+pub flag_at : {A B : Type 0} (v : A → B) (xs : List A) (at : ℕ) (x : A) (b : B) → at < length xs → v (get_or xs at x) ≡ b → slice_get (map v xs) at ≡ Some b
+flag_at v xs at x b within is = slice_get-map v xs at ∙ (ap (option_map v) (slice_get-get_or xs at x within) ∙ ap (λ y. Some y) is)
+
+-- one item more
+pub pushed : {A B : Type 0} (v : A → B) (old new : List A) (x : A) → new ≡ old ++ x ∷ [] → map v new ≡ map v old ++ v x ∷ []
+pushed v old new x is = ap (map v) is ∙ map-append v old (x ∷ [])
+
+-- the line of one register more
+pub starts_more : (name registers : List ℕ) (k v : ℕ) (start before after : List (List ℕ)) → slice_get registers k ≡ Some v → before ≡ start ++ starts_of name registers k → after ≡ before ++ start_lines name k (Some v)
+    → after ≡ start ++ starts_of name registers (k + 1)
+starts_more name registers k v start before after there so_far one =
+    let next : suc k ≡ k + 1 = omega arith in
+    one ∙ (ap (λ ls. ls ++ start_lines name k (Some v)) so_far ∙ (append_assoc start (starts_of name registers k) (start_lines name k (Some v))
+    ∙ (ap (λ o. start ++ (starts_of name registers k ++ start_lines name k o)) (sym there) ∙ ap (λ n. start ++ starts_of name registers n) next)))
+
+-- a desk that wasn't dropped has no line
+not_dropped : (server : Option ServerView) → drop_of server (Some false) ≡ []
+not_dropped None = refl
+not_dropped (Some s) = refl
+
+pub drop_none : (server : Option ServerView) (dropped : Option Bool) (lines : List (List ℕ)) → dropped ≡ Some false → lines ≡ lines ++ drop_of server dropped
+drop_none server dropped lines is = sym (append-nil lines) ∙ ap (λ ls. lines ++ ls) (sym (ap (drop_of server) is ∙ not_dropped server))
+
+pub drop_one : (server : Option ServerView) (dropped : Option Bool) (view : ServerView) (text : List ℕ) (before after : List (List ℕ)) → server ≡ Some view → dropped ≡ Some true → text ≡ codes "drop " <> view.name → after ≡ before ++ text ∷ []
+    → after ≡ before ++ drop_of server dropped
+drop_one server dropped view text before after there is same one =
+    one ∙ (ap (λ t. before ++ t ∷ []) same ∙ sym (ap (λ s. before ++ drop_of s dropped) there ∙ ap (λ d. before ++ drop_of (Some view) d) is))
+
+-- the lines by their texts
+pub dump_told : {A : Type 0} (text : A → List ℕ) (lines : List A) → dump_by text lines ≡ dump_text (map text lines)
+dump_told text lines =
+    ap (λ n. line (codes "dumped " <> decimal n) <> flat_map (λ l. quoted (text l)) lines) (sym (length-map lines text))
+    ∙ ap (λ t. line (codes "dumped " <> decimal (length (map text lines))) <> t) (sym (flat_map-map quoted text lines))

@@ -1,0 +1,23 @@
+use Rattle.std.proofs.Common.{inl, inr, refl, subst, sym}
+use Rattle.std.proofs.lemmas.Result.{IfOk-weaker}
+use Rattle.tp_perform.specs.Restore.{Restored}
+use Rattle.tp_perform.specs.Rollover.{RollRefused}
+use Rattle.tp_session.proofs.LeftLemmas.{reach_lead}
+use Rattle.tp_session.proofs.LiveLemmas.{leads_so}
+use Rattle.tp_session.proofs.restoring.stand_again.Goals as goal
+
+pub returns-in-Ok-clause-went : goal.returns-in-Ok-clause-went
+returns-in-Ok-clause-went g c =
+    reach_lead (λ b. (goal.Server-dyn g (b.vtable, b.value)).behaviour b.value) (λ b. (goal.Server-dyn g (b.vtable, b.value)).registers b.value) (λ b. (goal.Server-dyn g (b.vtable, b.value)).pending b.value) c.args.head.now c.args.held.now c.restore_held.new.held _ _ c.in-Ok.ensures.held (λ a b done. (_, record { restores = inl (c.in-Ok.moved.items, subst (λ s. Restored s a.stand c.in-Ok.moved.items b.stand) c.requires.described done.0, refl); works = done.1 })) c.in-Ok.ensures.restored
+
+pub returns-in-Err-clause-went : goal.returns-in-Err-clause-went
+returns-in-Err-clause-went g c =
+    reach_lead (λ b. (goal.Server-dyn g (b.vtable, b.value)).behaviour b.value) (λ b. (goal.Server-dyn g (b.vtable, b.value)).registers b.value) (λ b. (goal.Server-dyn g (b.vtable, b.value)).pending b.value) c.args.head.now c.args.held.now c.restore_held.new.held _ _ c.in-Err.ensures.held (λ a b done. (_, record { restores = inr done.0; works = done.1 })) c.in-Err.ensures.refused
+
+pub returns-in-Ok-clause-tells : goal.returns-in-Ok-clause-tells
+returns-in-Ok-clause-tells g c =
+    IfOk-weaker c.restored_line.result _ _ (λ text is. leads_so (λ b. (goal.Server-dyn g (b.vtable, b.value)).behaviour b.value) (λ b. (goal.Server-dyn g (b.vtable, b.value)).registers b.value) (λ b. (goal.Server-dyn g (b.vtable, b.value)).pending b.value) _ _ c.args.held.now c.restore_held.new.held (λ a b done. record { restores = inl (c.in-Ok.moved.items, subst (λ s. Restored s a.stand c.in-Ok.moved.items b.stand) c.requires.described done.0, is); works = done.1 }) c.in-Ok.ensures.restored) (rw c.as_slice.ensures.value at c.restored_line.ensures)
+
+pub returns-in-Err-clause-tells : goal.returns-in-Err-clause-tells
+returns-in-Err-clause-tells g c =
+    IfOk-weaker c.refused_line.result _ _ (λ text is. leads_so (λ b. (goal.Server-dyn g (b.vtable, b.value)).behaviour b.value) (λ b. (goal.Server-dyn g (b.vtable, b.value)).registers b.value) (λ b. (goal.Server-dyn g (b.vtable, b.value)).pending b.value) _ _ c.args.held.now c.restore_held.new.held (λ a b done. record { restores = inr (subst (λ t. RollRefused a.stand t b.stand) (sym is) done.0); works = done.1 }) c.in-Err.ensures.refused) c.refused_line.ensures.text

@@ -1,0 +1,159 @@
+-- The lines of a session that a dump tells: sent to a new session they lead to this state.
+use Rattle.std.specs.Prelude.{◌==◌, ℕ, zero, suc, Bool, true, if◌then◌else◌, List, [], ◌∷◌, ◌++◌, map}
+use Rattle.std.specs.Prelude.{Option, Some, None, codes, decimal, length, slice_get}
+use Rattle.std.specs.List.{flat_map}
+use Rattle.tp_model.specs.declared.types.Status.{Status}
+use Rattle.tp_model.specs.declared.types.Status.TheVariants as status
+use Rattle.tp_rollover.specs.declared.survivors.Survivor.{Survivor}
+use Rattle.tp_server.specs.declared.recipe.Act.{Act}
+use Rattle.tp_server.specs.declared.recipe.Act.TheVariants as act
+use Rattle.tp_server.specs.declared.recipe.AmountFrom.{AmountFrom}
+use Rattle.tp_server.specs.declared.recipe.AmountFrom.TheVariants as amount
+use Rattle.tp_server.specs.declared.recipe.KeyFrom.{KeyFrom}
+use Rattle.tp_server.specs.declared.recipe.KeyFrom.TheVariants as key
+use Rattle.tp_server.specs.declared.recipe.Output.{Output}
+use Rattle.tp_server.specs.declared.recipe.Recipe.{Recipe}
+use Rattle.tp_report.specs.Answer.{line}
+use Rattle.tp_script.specs.Fault.{◌<>◌}
+use Rattle.tp_script.specs.Script.{ServerView, SettingsView}
+use Rattle.tp_script.specs.Session.{HeadView, WorkerView}
+use Rattle.tp_script.specs.declared.script.Kind.{Kind}
+use Rattle.tp_script.specs.declared.script.Kind.TheVariants as kind
+use Rattle.tp_session.specs.Answers.{body_text}
+
+-- ---- settings
+
+abbrev pub settings_lines : SettingsView → List (List ℕ)
+settings_lines s = (codes "rows " <> decimal s.rows) ∷ (codes "units " <> decimal s.units)
+    ∷ (codes "limit " <> decimal s.attempts) ∷ (codes "spare " <> decimal s.spare) ∷ []
+
+-- ---- servers
+
+abbrev pub kind_text : Kind → List ℕ
+kind_text kind.Eager = codes "eager"
+kind_text kind.Lazy = codes "lazy"
+
+abbrev pub act_text : Act → List ℕ
+act_text act.Add = codes "add"
+act_text act.Take = codes "take"
+act_text act.Pass = codes "pass"
+
+-- the amount's word, unless it is word 1
+abbrev pub word_text : ℕ → List ℕ
+word_text word = if word == 1 then [] else codes ":" <> decimal word
+
+abbrev pub key_text : KeyFrom → List ℕ
+key_text key.Same = codes "same"
+key_text (key.Fixed number) = decimal number
+
+abbrev pub amount_text : AmountFrom → List ℕ
+amount_text amount.Same = codes "same"
+amount_text amount.After = codes "after"
+amount_text (amount.Fixed number) = decimal number
+
+abbrev pub output_text : Output → List ℕ
+output_text o =
+    codes " " <> decimal o.stage <> codes ":" <> key_text o.key <> codes ":" <> amount_text o.amount
+
+-- KIND STAGE REGISTERS ACT
+abbrev pub recipe_text : Kind → Recipe → List ℕ
+recipe_text kind r =
+    kind_text kind <> codes " " <> decimal r.stage <> codes " " <> decimal r.registers
+    <> codes " " <> act_text r.act <> word_text r.word
+
+-- `server NAME KIND STAGE REGISTERS ACT OUT..`
+abbrev pub server_line : ServerView → List ℕ
+server_line s =
+    (codes "server " <> s.name <> codes " " <> recipe_text s.kind s.recipe)
+    <> flat_map output_text s.recipe.outputs.items
+
+-- ---- registers
+
+-- `start NAME K V`, unless V is 0
+abbrev pub start_lines : List ℕ → ℕ → Option ℕ → List (List ℕ)
+start_lines name k None = []
+start_lines name k (Some value) =
+    if value == 0 then []
+    else (codes "start " <> name <> codes " " <> decimal k <> codes " " <> decimal value) ∷ []
+
+-- those of a server's first n registers
+abbrev pub starts_of : List ℕ → List ℕ → ℕ → List (List ℕ)
+starts_of name registers zero = []
+starts_of name registers (suc n) = starts_of name registers n ++ start_lines name n (slice_get registers n)
+
+-- all of a server, of which these are the registers
+abbrev pub server_starts : Option ServerView → Option (List ℕ) → List (List ℕ)
+server_starts (Some server) (Some registers) = starts_of server.name registers (length registers)
+server_starts server registers = []
+
+-- those of the first n servers
+abbrev pub all_starts : List ServerView → List (List ℕ) → ℕ → List (List ℕ)
+all_starts servers registers zero = []
+all_starts servers registers (suc n) =
+    all_starts servers registers n ++ server_starts (slice_get servers n) (slice_get registers n)
+
+-- ---- workers
+
+-- `worker NAME STAGE`
+abbrev pub worker_text : WorkerView → List ℕ
+worker_text w = codes "worker " <> w.name <> codes " " <> decimal w.stage
+
+-- ---- what is alive
+
+-- how often an element that is alive was tried in its round
+abbrev pub attempts_of : Status → ℕ
+attempts_of (status.Waiting attempts) = attempts
+attempts_of (status.Parked attempts) = attempts
+attempts_of other = 0
+
+-- STAGE:W0:W1:W2:W3
+abbrev pub draft_text : ℕ → List ℕ → List ℕ
+draft_text stage body = decimal stage <> codes ":" <> body_text body
+
+-- ROOT and what it was, unless the element is its own root
+abbrev pub root_text : Survivor → List ℕ
+root_text s =
+    if s.root == s.id then []
+    else codes " " <> decimal s.root <> codes " " <> draft_text s.root_stage s.root_body
+
+-- `alive ID ATTEMPTS ROUNDS OUT` or `alive ID ATTEMPTS ROUNDS OUT ROOT OUT`
+abbrev pub alive_text : Survivor → List ℕ
+alive_text s =
+    codes "alive " <> decimal s.id <> codes " " <> decimal (attempts_of s.status)
+    <> codes " " <> decimal s.rounds <> codes " " <> draft_text s.stage s.body <> root_text s
+
+-- ---- desks that were dropped
+
+-- `drop NAME`, where the server's desk was dropped
+abbrev pub drop_of : Option ServerView → Option Bool → List (List ℕ)
+drop_of (Some server) (Some true) = (codes "drop " <> server.name) ∷ []
+drop_of server dropped = []
+
+-- those of the first n servers
+abbrev pub drop_lines : List ServerView → List Bool → ℕ → List (List ℕ)
+drop_lines servers dropped zero = []
+drop_lines servers dropped (suc n) =
+    drop_lines servers dropped n ++ drop_of (slice_get servers n) (slice_get dropped n)
+
+-- ---- all of them
+
+-- The lines of a session whose servers have these registers now, whose desks were dropped or not, and in
+-- which this is alive. Behind `restore` stand the commands.
+abbrev pub dump_lines : HeadView → List (List ℕ) → List Bool → List Survivor → List (List ℕ)
+dump_lines h registers dropped survivors =
+    let servers = h.script.servers in
+    settings_lines h.script.settings ++ map server_line servers
+    ++ all_starts servers registers (length servers) ++ map worker_text h.workers
+    ++ map alive_text survivors ++ (codes "restore" ∷ drop_lines servers dropped (length servers))
+
+-- a line of a session in an answer
+abbrev pub quoted : List ℕ → List ℕ
+quoted text = codes "> " <> line text
+
+-- how many lines there are, each with a text, and each of them
+abbrev pub dump_by : {A : Type 0} → (A → List ℕ) → List A → List ℕ
+dump_by text lines = line (codes "dumped " <> decimal (length lines)) <> flat_map (λ l. quoted (text l)) lines
+
+-- the lines of a dump
+abbrev pub dump_text : List (List ℕ) → List ℕ
+dump_text lines = dump_by (λ l. l) lines
