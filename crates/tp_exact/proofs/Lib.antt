@@ -32,3 +32,10 @@ pub mod SessionLines
 pub mod Sessions
 pub mod HeadsChecked
 pub mod Programs
+pub mod Described
+pub mod DumpActs
+pub mod Tries
+pub mod RestoredDumps
+pub mod Cuts
+pub mod AliveReads
+pub mod FoundLines

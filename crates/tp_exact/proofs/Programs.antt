@@ -1,4 +1,4 @@
--- What the whole program leaves of a script, with workers or without.
+-- What the whole program leaves of a script, whether it is a session or not.
 use Rattle.std.proofs.Common.{◌≡◌, ◌∙◌, ℕ, ◌+◌, ◌||◌, Bool, true, false, List, [], ◌∷◌, length, Option, Some, None, Result, Ok, Err, refl, sym, ap, subst, inl, inr}
 use Rattle.std.specs.Prelude.{is_some}
 use Rattle.std.proofs.lemmas.Bool.{cases_lt}
@@ -8,7 +8,7 @@ use Rattle.tp_report.specs.declared.fault.Fault.{Fault}
 use Rattle.tp_report.specs.declared.fault.Fault.TheVariants as faults
 use Rattle.tp_script.specs.LineWords.{◌>>=◌}
 use Rattle.tp_script.specs.Text.{lines}
-use Rattle.tp_script.specs.Workers.{checked, has_worker, line_in, lines_checked, unless_faulty}
+use Rattle.tp_script.specs.Workers.{checked, is_session, line_in, lines_checked, unless_faulty}
 use Rattle.tp_script.specs.declared.fault.LineFault.{LineFault}
 use Rattle.tp_script.specs.declared.fault.Refused.{Refused}
 use Rattle.tp_script.specs.declared.head.Act.{Act}
@@ -17,18 +17,18 @@ use Rattle.tp_script.specs.declared.source.TheConstants.{MAX_SCRIPT_BYTES}
 use Rattle.tp_script.proofs.WorkersLemmas.{checked_is, checked_past}
 use Rattle.tp_session.specs.Heard.{but_empty_last, heard}
 use Rattle.tp_session.specs.Scripts.{ChecksAndConverses, RanBy}
-use Rattle.tp_session.proofs.CommandLemmas.{command_keeps, command_stays}
+use Rattle.tp_session.proofs.CommandLemmas.{command_keeps}
 use Rattle.tp_exact.specs.PlainSession.{HeadRead, read_head, read_line}
 use Rattle.tp_exact.specs.Programs.{ExactProgram, IsCoveredBy, NeverRefuses, WritesAs, answers_of_checked, exit_by, has_refusal_in, refuses, written_by}
 use Rattle.tp_exact.specs.Script.{exit_of}
-use Rattle.tp_exact.specs.Sessions.{NeverRollsOver}
+use Rattle.tp_exact.specs.Sessions.{IsComputed}
 use Rattle.tp_exact.proofs.Runs.{exact_run}
 use Rattle.tp_exact.proofs.Sessions.{exact_session, exact_session_front}
 
 -- ---- what is written
 
 module _ (bytes : List ℕ) (before after : Option (List ℕ)) where
-  workers_write : (outcome : Result Exit Fault) (said : Result (Unit {0}) Refused) → NeverRollsOver bytes → ChecksAndConverses outcome said bytes before after
+  workers_write : (outcome : Result Exit Fault) (said : Result (Unit {0}) Refused) → IsComputed bytes → ChecksAndConverses outcome said bytes before after
       → WritesAs outcome (exit_of said) (answers_of_checked said bytes) before after
   workers_write (Ok exits.Done) (Ok whole) never ran = (refl, exact_session bytes before after never ran)
   workers_write (Ok exits.Done) (Err refused) never ran = absurd ran
@@ -52,7 +52,7 @@ module _ (bytes : List ℕ) (before after : Option (List ℕ)) where
   writes false outcome raceless ran = report_writes outcome raceless ran
 
 pub exact_program : ExactProgram
-exact_program outcome bytes before after covered ran = writes bytes before after (has_worker bytes) outcome covered ran
+exact_program outcome bytes before after covered ran = writes bytes before after (is_session bytes) outcome covered ran
 
 -- ---- no line is refused
 
@@ -124,7 +124,7 @@ head_whole n past (line ∷ others) h whole =
     go more (Ok (taken, Some act)) at to is rest =
         let same : taken ≡ h = command_keeps line h taken act at in
         let behind : IsWhole (n + 1) others (true, h) = subst (λ g. IsWhole (n + 1) others (true, g)) same (subst (IsWhole (n + 1) others) (sym (ok_is (true, taken) to is)) rest) in
-        (refl, ap (λ said. refuses said || has_refusal_in h others) (command_stays line h taken act at) ∙ body_whole (n + 1) others h behind)
+        (refl, body_whole (n + 1) others h behind)
     go more (Err fault) at to is rest = absurd cc
 
 pub never_refuses : NeverRefuses

@@ -18,7 +18,7 @@ all_at P (y ∷ xs) x all here = All-head P y xs all
 all_at P (y ∷ xs) x all (there q) = all_at P xs x (All-tail P y xs all) q
 
 -- the passes of places, and those of races
-looks_apart : (ps qs : List PlaceShown) (rs ts : List PassShown) → AllZip OnlyPass ps qs → AllZip Stays (map (λ p. p.desk.pass) ps ++ rs) (map (λ p. p.desk.pass) qs ++ ts) → AllZip OnlyLooksAt ps qs × AllZip Stays rs ts
+pub looks_apart : (ps qs : List PlaceShown) (rs ts : List PassShown) → AllZip OnlyPass ps qs → AllZip Stays (map (λ p. p.desk.pass) ps ++ rs) (map (λ p. p.desk.pass) qs ++ ts) → AllZip OnlyLooksAt ps qs × AllZip Stays rs ts
 looks_apart [] [] rs ts same looks = (tt, looks)
 looks_apart [] (q ∷ qs) rs ts same looks = absurd same
 looks_apart (p ∷ ps) [] rs ts same looks = absurd same

@@ -1,16 +1,16 @@
 -- The head of a session: what is read of it is what is computed.
-use Rattle.std.proofs.Common.{append_assoc, ◌≡◌, ℕ, ◌+◌, suc, List, [], ◌∷◌, ◌++◌, length, Option, None, Some, Result, Ok, Err, refl, sym, ◌∙◌, ap, subst, arith}
+use Rattle.std.proofs.Common.{append_assoc, ◌≡◌, ℕ, ◌+◌, suc, List, [], ◌∷◌, ◌++◌, length, Option, None, Some, Result, Ok, Err, refl, sym, ◌∙◌, ap, arith}
 use Rattle.tp_script.specs.Session.{HeadView, head_at}
 use Rattle.tp_script.specs.declared.fault.LineFault.{LineFault}
 use Rattle.tp_script.specs.declared.head.Act.{Act}
 use Rattle.tp_session.specs.Answers.{refused_line}
-use Rattle.tp_session.specs.Conversed.{BeginsBody}
+use Rattle.tp_session.specs.Conversed.{IsCommand}
 use Rattle.tp_session.specs.Told.{HeadLine, HeadLines}
 use Rattle.tp_exact.specs.PlainSession.{HeadRead, read_head, read_line, with_text}
 use Rattle.tp_model.proofs.Bridges.{append_nil}
 
-abbrev pub read_as : List ℕ → HeadView → ℕ → List (List ℕ) → HeadRead
-read_as text head past behind = record { text = text; head = head; past = past; behind = behind }
+abbrev pub read_as : List ℕ → HeadView → ℕ → Option Act → List (List ℕ) → HeadRead
+read_as text head past command behind = record { text = text; head = head; past = past; command = command; behind = behind }
 
 -- lines of the head are told, and then the others are read
 pub head_more : (past : ℕ) (taken rest : List (List ℕ)) (h h' : HeadView) (text : List ℕ) → HeadLines past taken h text h' → read_head past (taken ++ rest) h ≡ with_text text (read_head (past + length taken) rest h')
@@ -34,17 +34,24 @@ head_more past (line ∷ others) rest h h' text (first, second, between, one, mo
     go next after (Err fault) at (told, same) =
         ap (read_line past line (others ++ rest) h next) at
         ∙ (ap (with_text (refused_line (past + 1) fault)) (ap next (sym same) ∙ after)
-        ∙ (ap (λ t. read_as t (read_head (past + 1 + length others) rest h').head (read_head (past + 1 + length others) rest h').past (read_head (past + 1 + length others) rest h').behind)
+        ∙ (ap (λ t. read_as t (read_head (past + 1 + length others) rest h').head (read_head (past + 1 + length others) rest h').past (read_head (past + 1 + length others) rest h').command (read_head (past + 1 + length others) rest h').behind)
         (sym (append_assoc (refused_line (past + 1) fault) second (read_head (past + 1 + length others) rest h').text))
         ∙ ap (λ t. abbreviated (t ++ second)) (sym told)))
 
--- the first command and what follows are left
-left : (past : ℕ) (behind : List (List ℕ)) (h : HeadView) → BeginsBody behind h → read_head past behind h ≡ read_as [] h past behind
-left past [] h begins = refl
-left past (line ∷ others) h begins = ap (read_line past line others h (read_head (past + 1) others)) begins.1
-
-pub head_is : (taken behind : List (List ℕ)) (h h' : HeadView) (text : List ℕ) → HeadLines 0 taken h text h' → BeginsBody behind h' → read_head 0 (taken ++ behind) h ≡ read_as text h' (length taken) behind
-head_is taken behind h h' text lines begins =
+-- what is read behind lines of the head
+read_behind : (taken behind lines : List (List ℕ)) (h h' : HeadView) (text : List ℕ) (command : Option Act) → HeadLines 0 taken h text h' → ((past : ℕ) → read_head past behind h' ≡ read_as [] h' past command lines)
+    → read_head 0 (taken ++ behind) h ≡ read_as text h' (length taken) command lines
+read_behind taken behind lines h h' text command told so =
     let e : 0 + length taken ≡ length taken = omega arith in
-    head_more 0 taken behind h h' text lines
-    ∙ (ap (with_text text) (left (0 + length taken) behind h' begins) ∙ (ap (λ t. read_as t h' (0 + length taken) behind) (append_nil text) ∙ ap (λ n. read_as text h' n behind) e))
+    head_more 0 taken behind h h' text told
+    ∙ (ap (with_text text) (so (0 + length taken)) ∙ (ap (λ t. read_as t h' (0 + length taken) command lines) (append_nil text) ∙ ap (λ n. read_as text h' n command lines) e))
+
+-- the head is all
+pub head_alone : (taken : List (List ℕ)) (h h' : HeadView) (text : List ℕ) → HeadLines 0 taken h text h' → read_head 0 (taken ++ []) h ≡ read_as text h' (length taken) None []
+head_alone taken h h' text told = read_behind taken [] [] h h' text None told (λ past. refl)
+
+-- behind it stand the first command and what follows
+pub head_is : (taken : List (List ℕ)) (line : List ℕ) (others : List (List ℕ)) (act : Act) (h h' : HeadView) (text : List ℕ) → HeadLines 0 taken h text h' → IsCommand line act h'
+    → read_head 0 (taken ++ line ∷ others) h ≡ read_as text h' (length taken) (Some act) others
+head_is taken line others act h h' text told command =
+    read_behind taken (line ∷ others) others h h' text (Some act) told (λ past. ap (read_line past line others h' (read_head (past + 1) others)) command)

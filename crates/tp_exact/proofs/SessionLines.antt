@@ -1,5 +1,5 @@
 -- A line of a session, between two gatherings.
-use Rattle.std.proofs.Common.{◌≡◌, ℕ, zero, ◌+◌, suc, ◌||◌, Bool, true, false, List, [], ◌∷◌, ◌++◌, length, map, Option, None, Some, Result, Ok, Err, refl, sym, ◌∙◌, ap, subst, arith}
+use Rattle.std.proofs.Common.{◌≡◌, ℕ, zero, ◌+◌, suc, ◌||◌, Bool, true, false, List, [], ◌∷◌, ◌++◌, length, map, Option, None, Some, Ok, Err, refl, sym, ◌∙◌, ap, subst, arith}
 use Rattle.std.specs.Prelude.{if◌then◌else◌, is_some, slice_get, slice_index_or, slice_set, string_bytes, take, drop}
 use Rattle.std.specs.List.{AllZip, list_any}
 use Rattle.tp_model.specs.Steps.{rows_of}
@@ -12,32 +12,28 @@ use Rattle.tp_manager.specs.Shown.{KeeperShown, ManagerShown, PassShown}
 use Rattle.tp_report.specs.Answer.{account_text, answer_text, line}
 use Rattle.tp_report.specs.declared.answer.Answer.TheVariants as answer
 use Rattle.tp_script.specs.Passes.{is_race, is_rollover}
-use Rattle.tp_script.specs.Script.{ServerView, script_view}
-use Rattle.tp_script.specs.Session.{HeadView, WorkerView, head_view, worker_view}
-use Rattle.tp_script.specs.declared.fault.LineFault.{LineFault}
-use Rattle.tp_script.specs.declared.head.Act.{Act}
+use Rattle.tp_script.specs.Script.{script_view}
+use Rattle.tp_script.specs.Session.{HeadView, head_view, worker_view}
 use Rattle.tp_script.specs.declared.head.Act.TheVariants as acts
 use Rattle.tp_script.specs.declared.head.Head.{Head}
 use Rattle.tp_script.specs.declared.head.WorkerAct.{WorkerAct}
-use Rattle.tp_script.specs.declared.head.WorkerLine.{WorkerLine}
 use Rattle.tp_script.specs.declared.script.Command.{Command}
 use Rattle.tp_commands.specs.Acting.{PlaceShown}
 use Rattle.tp_perform.specs.Scenes.{Gathered, Scene, Stand, passes_in}
 use Rattle.tp_reference.specs.declared.plain_desk.PlainDesk.{PlainDesk}
 use Rattle.tp_reference.specs.PlainClient.{client, counts_of}
-use Rattle.tp_reference.specs.PlainReport.{ReportState, command_step}
+use Rattle.tp_reference.specs.PlainReport.{command_step}
 use Rattle.tp_alone.specs.Thread.{AreTogether, Stays, not_given, state_of, thread_of}
 use Rattle.tp_session.specs.Answers.{worker_line}
 use Rattle.tp_session.specs.Live as lives
 use Rattle.tp_session.specs.Hands.{Hand}
 use Rattle.tp_session.specs.Live.{AccountTold, CommandTold, Live, TellsAccount, TellsBy, WorkerTold}
-use Rattle.tp_session.specs.Told.{LineTold}
 use Rattle.tp_exact.specs.Acts.{Acts}
-use Rattle.tp_exact.specs.PlainSession.{SessionState, account_line, act_step, is_open, line_step, worker_step}
+use Rattle.tp_exact.specs.PlainSession.{SessionState, account_line, act_step, is_open, worker_step}
 use Rattle.tp_exact.specs.PlainWorkers.{WorkerAnswered, worker_does}
-use Rattle.tp_exact.specs.Sessions.{ExactLine, StandsLive, is_beyond}
+use Rattle.tp_exact.specs.Sessions.{ExactLine, StandsLive}
 use Rattle.tp_exact.specs.Stands.{IsFor, IsServedBy, OnlyLooks, Stands}
-use Rattle.tp_exact.proofs.Commands.{idles, scene_passes, served_all, still_all}
+use Rattle.tp_exact.proofs.Commands.{scene_passes, served_all, still_all}
 use Rattle.tp_exact.proofs.Counted.{counts_are}
 use Rattle.tp_exact.proofs.Covered.{exact_command}
 use Rattle.tp_exact.proofs.Parts.{idle}
@@ -218,7 +214,7 @@ module _ (head : Head) (old new : Live) (text : List ℕ) (s : SessionState) (is
 
   -- ---- the account
 
-  open_is : lives.is_open old ≡ is_open s
+  pub open_is : lives.is_open old ≡ is_open s
   open_is =
       ap (λ (ws : List (Option Work)). list_any is_some ws || list_any (λ (p : PlaceShown). is_some p.desk.work) scene.places) (sym is.works)
       ∙ (ap (λ b. list_any is_some s.works || b) (desks_open scene.places s.report.desks scene.racers (not_given l (length (passes_in scene))) is.stands.desks)
@@ -272,6 +268,8 @@ exact_line head n (Ok None) old new text s within is t = (t.0, subst (λ z. Stan
 exact_line head n (Err fault) old new text s within is t = (t.0, subst (λ z. StandsLive (head_view head) z s) (sym t.1) is)
 exact_line head n (Ok (Some (acts.Worker at act))) old new text s within is t = by_worker head old new text s is at act t
 exact_line head n (Ok (Some acts.Account)) old new text s within is t = by_account head old new text s is t
+exact_line head n (Ok (Some acts.Dump)) old new text s within is t = absurd cc
+exact_line head n (Ok (Some acts.Restore)) old new text s within is t = absurd cc
 exact_line head n (Ok (Some (acts.Command c))) old new text s within is t =
     let neither = either_false (is_race c) (is_rollover c) within in
     by_command head old new text s is c neither.0 (subst (λ b. TellsBy b (script_view head.script) c old text new) neither.1 t)

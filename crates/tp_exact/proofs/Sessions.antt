@@ -1,6 +1,5 @@
--- A whole session without a rollover.
-use Rattle.std.proofs.Common.{◌≡◌, ◌<◌, ℕ, ◌+◌, ◌*◌, ◌||◌, Bool, false, List, [], ◌∷◌, ◌++◌, All, length, map, Option, None, Some, Result, Ok, Err, inl, inr, refl, sym, ◌∙◌, ap, subst, append_assoc, arith}
-use Rattle.std.specs.Prelude.{slice_index}
+-- A whole session without a rollover, a dump or a restore.
+use Rattle.std.proofs.Common.{◌≡◌, ℕ, ◌+◌, ◌*◌, ◌||◌, false, List, [], ◌∷◌, ◌++◌, All, length, map, Option, None, Some, Result, Ok, Err, inl, inr, refl, sym, ◌∙◌, ap, subst, append_assoc, arith}
 use Rattle.std.specs.Io.KnownBytes.{Appends}
 use Rattle.std.proofs.lemmas.List.Elements.{All-head, All-nil, All-tail}
 use Rattle.tp_model.specs.History.{In, here, there}
@@ -11,58 +10,76 @@ use Rattle.tp_model.proofs.Bridges.{in_left, in_none}
 use Rattle.tp_model.proofs.Histories.{legal_empty}
 use Rattle.tp_plain.specs.OneThread.{start}
 use Rattle.tp_workers.specs.Free.{IsFreePass}
-use Rattle.tp_manager.specs.Shown.{ManagerShown, PassShown, view_in}
+use Rattle.tp_manager.specs.Shown.{PassShown, view_in}
 use Rattle.tp_script.specs.Session.{HeadView, body_at, head_view, no_head}
-use Rattle.tp_script.specs.Passes.{is_rollover}
+use Rattle.tp_script.specs.Passes.{is_race, is_rollover}
 use Rattle.tp_script.specs.declared.fault.LineFault.{LineFault}
 use Rattle.tp_script.specs.declared.head.Act.{Act}
 use Rattle.tp_script.specs.declared.head.Act.TheVariants as acts
 use Rattle.tp_script.specs.declared.head.Head.{Head}
+use Rattle.tp_script.specs.declared.script.Command.{Command}
 use Rattle.tp_rollover.specs.Managed.{IsNewPass}
 use Rattle.tp_perform.specs.Ending.{final_lines}
 use Rattle.tp_perform.specs.Scenes.{Scene, passes_in}
-use Rattle.tp_reference.specs.declared.plain_desk.PlainDesk.{PlainDesk}
 use Rattle.tp_reference.specs.PlainReport.{finals_below}
 use Rattle.tp_alone.specs.Thread.{AreDrawn, AreTogether, IsFresh, drawn_of}
 use Rattle.tp_alone.proofs.Starts.{alone_start}
 use Rattle.std.proofs.lemmas.List.{append-nil}
 use Rattle.tp_report.specs.Written.{AppendsFront}
-use Rattle.tp_session.specs.Conversed.{BeginsBody, LiveBegins, LiveEnds, Session, SessionPart, finals_of, limits_of}
+use Rattle.tp_session.specs.Conversed.{CommandLines, IsCommand, LiveBegins, LiveEnds, Session, SessionPart, finals_of}
 use Rattle.tp_session.specs.Heard.{HearsFront, heard}
 use Rattle.tp_session.specs.Live.{Live}
-use Rattle.tp_session.specs.Told.{BodyLines, HeadLines, HeadTold}
-use Rattle.tp_exact.specs.PlainSession.{HeadRead, SessionState, begin, line_step, lines_step, read_head, session_by, session_of}
+use Rattle.tp_session.specs.Told.{BodyLines, HeadLines, HeadTold, LinesFrom}
+use Rattle.tp_exact.specs.PlainSession.{HeadRead, SessionState, act_step, begin, line_step, lines_from, lines_step, read_head, session_by, session_of}
 use Rattle.tp_exact.specs.Script.{IsChecked}
-use Rattle.tp_exact.specs.Sessions.{ExactSession, ExactSessionFront, NeverRollsOver, StandsLive, has_rollover_in, is_beyond, rolls_over}
+use Rattle.tp_exact.specs.Sessions.{ExactSession, ExactSessionFront, IsComputed, StandsLive, asks_uncomputed, has_uncomputed_in, is_beyond}
 use Rattle.tp_exact.proofs.Begins.{desks_first, served_first}
 use Rattle.tp_exact.proofs.Finals.{lines_so}
 use Rattle.tp_exact.proofs.Fronts.{front_longer}
 use Rattle.tp_exact.proofs.Scenes.{all_at}
 use Rattle.tp_exact.proofs.Scripts.{registers_left}
-use Rattle.tp_exact.proofs.HeadsChecked.{head_good, line_raceless}
-use Rattle.tp_exact.proofs.SessionHeads.{head_is, head_more, read_as}
+use Rattle.tp_exact.proofs.HeadsChecked.{command_raceless, head_good, line_raceless}
+use Rattle.tp_exact.proofs.SessionHeads.{head_alone, head_is, head_more, read_as}
 use Rattle.tp_exact.proofs.SessionLines.{either_false, exact_line}
 
 -- ---- the lines after the head
 
--- no line asks for a race, so one that doesn't roll over is computed
-not_beyond : (line : List ℕ) (h : HeadView) (said : Result (Option Act) LineFault) → body_at line h ≡ said → rolls_over said ≡ false → is_beyond said ≡ false
-not_beyond line h (Ok None) at none = refl
-not_beyond line h (Err fault) at none = refl
-not_beyond line h (Ok (Some (acts.Worker worker act))) at none = refl
-not_beyond line h (Ok (Some acts.Account)) at none = refl
-not_beyond line h (Ok (Some (acts.Command c))) at none = ap (λ b. b || is_rollover c) (line_raceless line h c at) ∙ none
+-- what asks for no race is computed, unless it is excluded
+not_beyond : (said : Result (Option Act) LineFault) → ((c : Command) → said ≡ Ok (Some (acts.Command c)) → is_race c ≡ false) → asks_uncomputed said ≡ false → is_beyond said ≡ false
+not_beyond (Ok None) raceless none = refl
+not_beyond (Err fault) raceless none = refl
+not_beyond (Ok (Some (acts.Worker worker act))) raceless none = refl
+not_beyond (Ok (Some acts.Account)) raceless none = refl
+not_beyond (Ok (Some acts.Dump)) raceless none = none
+not_beyond (Ok (Some acts.Restore)) raceless none = none
+not_beyond (Ok (Some (acts.Command c))) raceless none = ap (λ b. b || is_rollover c) (raceless c refl) ∙ none
 
-pub lines_are : (head : Head) (past : ℕ) (lines : List (List ℕ)) (old last : Live) (text : List ℕ) (s : SessionState) → has_rollover_in (head_view head) lines ≡ false → StandsLive (head_view head) old s → BodyLines head past lines old text last
+act_same : (x y : Act) → ◌≡◌ {A = Result (Option Act) LineFault} (Ok (Some x)) (Ok (Some y)) → x ≡ y
+act_same x y e = cc
+
+pub lines_are : (head : Head) (past : ℕ) (lines : List (List ℕ)) (old last : Live) (text : List ℕ) (s : SessionState) → has_uncomputed_in (head_view head) lines ≡ false → StandsLive (head_view head) old s → BodyLines head past lines old text last
     → let r = lines_step (head_view head) past lines s in (text ≡ r.0) × StandsLive (head_view head) last r.1
 lines_are head past [] old last text s within is (none, same) = (none, subst (λ z. StandsLive (head_view head) z s) (sym same) is)
 lines_are head past (line ∷ others) old last text s within is (first, rest, between, one, more, whole) =
     let h : HeadView = head_view head in
-    let parts = either_false (rolls_over (body_at line h)) (has_rollover_in h others) within in
-    let a = exact_line head (past + 1) (body_at line h) old between first s (not_beyond line h (body_at line h) refl parts.0) is one in
+    let parts = either_false (asks_uncomputed (body_at line h)) (has_uncomputed_in h others) within in
+    let a = exact_line head (past + 1) (body_at line h) old between first s (not_beyond (body_at line h) (line_raceless line h) parts.0) is one in
     let step : List ℕ × SessionState = line_step h (past + 1) (body_at line h) s in
     let b = lines_are head (past + 1) others between last rest step.1 parts.1 a.1 more in
     (whole ∙ (ap (λ t. t ++ rest) a.0 ∙ ap (λ t. step.0 ++ t) b.0), b.1)
+
+-- the first command, and the lines after it
+from_command : (head : Head) (past : ℕ) (line : List ℕ) (act : Act) (lines : List (List ℕ)) (old last : Live) (text : List ℕ) (s : SessionState) → IsCommand line act (head_view head) → asks_uncomputed (Ok (Some act)) ≡ false → has_uncomputed_in (head_view head) lines ≡ false
+    → StandsLive (head_view head) old s → LinesFrom (Some act) head past lines old text last → let r = lines_from (Some act) (head_view head) past lines s in (text ≡ r.0) × StandsLive (head_view head) last r.1
+from_command head past line act lines old last text s command first_within within is (first, rest, between, one, more, whole) =
+    let h : HeadView = head_view head in
+    let a = exact_line head (past + 1) (Ok (Some act)) old between first s (not_beyond (Ok (Some act)) raceless first_within) is one in
+    let step : List ℕ × SessionState = act_step h act s in
+    let b = lines_are head (past + 1) lines between last rest step.1 within a.1 more in
+    (whole ∙ (ap (λ t. t ++ rest) a.0 ∙ ap (λ t. step.0 ++ t) b.0), b.1)
+  where
+    raceless : (c : Command) → ◌≡◌ {A = Result (Option Act) LineFault} (Ok (Some act)) (Ok (Some (acts.Command c))) → is_race c ≡ false
+    raceless c same = command_raceless line (head_view head) c (command ∙ ap (λ (a : Act). Ok (head_view head, Some a)) (act_same act (acts.Command c) same))
 
 -- ---- before the first command
 
@@ -152,25 +169,45 @@ finals_are h last registers s is ends =
 
 -- ---- a whole session
 
--- what is known of what was read of the head, and of the lines after it
+-- what is known of what was read of the head, of the first command, and of the lines after it
 record IsCoveredRead (read : HeadRead) : Type 0 where
   pub servers : All IsChecked read.head.script.servers
-  pub lines : has_rollover_in read.head read.behind ≡ false
+  pub command : asks_uncomputed (Ok read.command) ≡ false
+  pub lines : has_uncomputed_in read.head read.behind ≡ false
 
-covers : (bytes : List ℕ) → NeverRollsOver bytes → IsCoveredRead (read_head 0 (heard bytes) no_head)
-covers bytes never = record { servers = head_good 0 (heard bytes) no_head (All-nil IsChecked); lines = never }
+covers : (bytes : List ℕ) → IsComputed bytes → IsCoveredRead (read_head 0 (heard bytes) no_head)
+covers bytes computed = record { servers = head_good 0 (heard bytes) no_head (All-nil IsChecked); command = computed.0; lines = computed.1 }
 
-pub whole_is : (bytes : List ℕ) (Told : List ℕ → Type 0) → NeverRollsOver bytes → Session bytes Told → Told (session_of bytes)
-whole_is bytes Told never t =
-    let h : HeadView = head_view t.head in
-    let read = ap (λ lines. read_head 0 lines no_head) t.lines_are ∙ head_is t.taken t.behind no_head h t.head_text t.heads t.command in
-    let within : IsCoveredRead (read_as t.head_text h (length t.taken) t.behind) = subst IsCoveredRead read (covers bytes never) in
-    let body = lines_are t.head (length t.taken) t.behind t.first t.last t.text (begin h) within.lines (begins_live t.head t.first t.begins within.servers) t.body in
-    let computed = lines_step h (length t.taken) t.behind (begin h) in
-    subst Told (ap (λ x. t.head_text ++ (x ++ finals_of h t.registers)) body.0 ∙ (ap (λ x. t.head_text ++ (computed.0 ++ x)) (finals_are h t.last t.registers computed.1 body.1 t.ends) ∙ sym (ap session_by read))) t.told
+module _ (bytes : List ℕ) (Told : List ℕ → Type 0) (computed : IsComputed bytes) (t : Session bytes Told) where
+  abbrev whole_head : HeadView
+  whole_head = head_view t.head
+
+  -- this was read, and the answers behind the head are the computed ones
+  told_so : (command : Option Act) (lines : List (List ℕ)) → read_head 0 (heard bytes) no_head ≡ read_as t.head_text whole_head (length t.taken) command lines
+      → (t.text ≡ (lines_from command whole_head (length t.taken) lines (begin whole_head)).0) → StandsLive whole_head t.last (lines_from command whole_head (length t.taken) lines (begin whole_head)).1 → Told (session_of bytes)
+  told_so command lines read text_is is =
+      let all : List ℕ × SessionState = lines_from command whole_head (length t.taken) lines (begin whole_head) in
+      subst Told (ap (λ x. t.head_text ++ (x ++ finals_of whole_head t.registers)) text_is ∙ (ap (λ x. t.head_text ++ (all.0 ++ x)) (finals_are whole_head t.last t.registers all.1 is t.ends) ∙ sym (ap session_by read))) t.told
+
+  covered_so : (command : Option Act) (lines : List (List ℕ)) → read_head 0 (heard bytes) no_head ≡ read_as t.head_text whole_head (length t.taken) command lines → IsCoveredRead (read_as t.head_text whole_head (length t.taken) command lines)
+  covered_so command lines read = subst IsCoveredRead read (covers bytes computed)
+
+  by_body : (behind : List (List ℕ)) → heard bytes ≡ t.taken ++ behind → CommandLines t.head (length t.taken) behind t.first t.text t.last → Told (session_of bytes)
+  by_body [] are (none, same) =
+      let read = ap (λ lines. read_head 0 lines no_head) are ∙ head_alone t.taken no_head whole_head t.head_text t.heads in
+      let within = covered_so None [] read in
+      told_so None [] read none (subst (λ z. StandsLive whole_head z (begin whole_head)) (sym same) (begins_live t.head t.first t.begins within.servers))
+  by_body (line ∷ others) are (act, command, body) =
+      let read = ap (λ lines. read_head 0 lines no_head) are ∙ head_is t.taken line others act no_head whole_head t.head_text t.heads command in
+      let within = covered_so (Some act) others read in
+      let from = from_command t.head (length t.taken) line act others t.first t.last t.text (begin whole_head) command within.command within.lines (begins_live t.head t.first t.begins within.servers) body in
+      told_so (Some act) others read from.0 from.1
+
+  pub whole_is : Told (session_of bytes)
+  whole_is = by_body t.behind t.lines_are t.body
 
 pub exact_session : ExactSession
-exact_session bytes before after never t = whole_is bytes (Appends before after) never t
+exact_session bytes before after computed t = whole_is bytes (Appends before after) computed t
 
 -- ---- after a fault
 
@@ -182,50 +219,59 @@ fewer h past (line ∷ lines) others s =
     let more = fewer h (past + 1) lines others step.1 in
     (more.0, ap (λ t. step.0 ++ t) more.1 ∙ sym (append_assoc step.0 (lines_step h (past + 1) lines step.1).0 more.0))
 
-none_among : (h : HeadView) (lines others : List (List ℕ)) → has_rollover_in h (lines ++ others) ≡ false → has_rollover_in h lines ≡ false
+fewer_from : (h : HeadView) (past : ℕ) (act : Act) (lines others : List (List ℕ)) (s : SessionState) → (rest : List ℕ) × ((lines_from (Some act) h past (lines ++ others) s).0 ≡ (lines_from (Some act) h past lines s).0 ++ rest)
+fewer_from h past act lines others s =
+    let step : List ℕ × SessionState = act_step h act s in
+    let more = fewer h (past + 1) lines others step.1 in
+    (more.0, ap (λ t. step.0 ++ t) more.1 ∙ sym (append_assoc step.0 (lines_step h (past + 1) lines step.1).0 more.0))
+
+none_among : (h : HeadView) (lines others : List (List ℕ)) → has_uncomputed_in h (lines ++ others) ≡ false → has_uncomputed_in h lines ≡ false
 none_among h [] others none = refl
 none_among h (line ∷ lines) others none =
-    let parts = either_false (rolls_over (body_at line h)) (has_rollover_in h (lines ++ others)) none in
-    ap (λ b. b || has_rollover_in h lines) parts.0 ∙ none_among h lines others parts.1
+    let parts = either_false (asks_uncomputed (body_at line h)) (has_uncomputed_in h (lines ++ others)) none in
+    ap (λ b. b || has_uncomputed_in h lines) parts.0 ∙ none_among h lines others parts.1
 
-module _ (bytes : List ℕ) (before after : Option (List ℕ)) (never : NeverRollsOver bytes) where
+module _ (bytes : List ℕ) (before after : Option (List ℕ)) (computed : IsComputed bytes) where
   -- the head is read up to a line, and what it was told is the beginning
   by_head : (taken rest : List (List ℕ)) (h : HeadView) (text : List ℕ) → heard bytes ≡ taken ++ rest → HeadLines 0 taken no_head text h → AppendsFront before after text → AppendsFront before after (session_of bytes)
   by_head taken rest h text are lines told =
       let read = ap (λ lines. read_head 0 lines no_head) are ∙ head_more 0 taken rest no_head h text lines in
       let others : HeadRead = read_head (0 + length taken) rest h in
-      let body : List ℕ = (lines_step others.head others.past others.behind (begin others.head)).0 in
-      let finals : List ℕ = finals_below others.head.script.servers (lines_step others.head others.past others.behind (begin others.head)).1.report.desks (length others.head.script.servers) in
+      let body : List ℕ = (lines_from others.command others.head others.past others.behind (begin others.head)).0 in
+      let finals : List ℕ = finals_below others.head.script.servers (lines_from others.command others.head others.past others.behind (begin others.head)).1.report.desks (length others.head.script.servers) in
       subst (AppendsFront before after) (sym (ap session_by read ∙ append_assoc text others.text (body ++ finals))) (front_longer before after text (others.text ++ (body ++ finals)) told)
 
   head_front : (head : HeadView) → HeadTold (HearsFront (Some bytes)) no_head head (AppendsFront before after) → AppendsFront before after (session_of bytes)
   head_front head t = by_head t.taken t.heard.0 head t.text t.heard.1 t.lines t.told
 
+  module _ (t : SessionPart bytes (AppendsFront before after)) where
+    abbrev part_head : HeadView
+    part_head = head_view t.head
+
+    by_part : (behind : List (List ℕ)) → heard bytes ≡ t.taken ++ (behind ++ t.others) → CommandLines t.head (length t.taken) behind t.first t.text t.last → AppendsFront before after (session_of bytes)
+    by_part [] are (none, same) =
+        by_head t.taken t.others part_head t.head_text are t.heads (subst (AppendsFront before after) (ap (λ x. t.head_text ++ x) none ∙ append-nil t.head_text) t.told)
+    by_part (line ∷ lines) are (act, command, body) =
+        let read = ap (λ all. read_head 0 all no_head) are ∙ head_is t.taken line (lines ++ t.others) act no_head part_head t.head_text t.heads command in
+        let within : IsCoveredRead (read_as t.head_text part_head (length t.taken) (Some act) (lines ++ t.others)) = subst IsCoveredRead read (covers bytes computed) in
+        let told = from_command t.head (length t.taken) line act lines t.first t.last t.text (begin part_head) command within.command (none_among part_head lines t.others within.lines) (begins_live t.head t.first t.begins within.servers) body in
+        let few = fewer_from part_head (length t.taken) act lines t.others (begin part_head) in
+        let all : List ℕ × SessionState = lines_from (Some act) part_head (length t.taken) (lines ++ t.others) (begin part_head) in
+        let finals : List ℕ = finals_below part_head.script.servers all.1.report.desks (length part_head.script.servers) in
+        let first : List ℕ = (lines_from (Some act) part_head (length t.taken) lines (begin part_head)).0 in
+        let is : session_of bytes ≡ (t.head_text ++ first) ++ (few.0 ++ finals) =
+        ap session_by read ∙ (ap (λ x. t.head_text ++ (x ++ finals)) few.1 ∙ (ap (λ x. t.head_text ++ x) (append_assoc first few.0 finals) ∙ sym (append_assoc t.head_text first (few.0 ++ finals)))) in
+        subst (AppendsFront before after) (sym is) (front_longer before after (t.head_text ++ first) (few.0 ++ finals) (subst (λ x. AppendsFront before after (t.head_text ++ x)) told.0 t.told))
+
   part_front : SessionPart bytes (AppendsFront before after) → AppendsFront before after (session_of bytes)
-  part_front t = go t.behind t.lines_are t.command t.body
-    where
-      go : (behind : List (List ℕ)) → heard bytes ≡ t.taken ++ (behind ++ t.others) → BeginsBody behind (head_view t.head) → BodyLines t.head (length t.taken) behind t.first t.text t.last → AppendsFront before after (session_of bytes)
-      go [] are command body =
-          by_head t.taken t.others (head_view t.head) t.head_text are t.heads (subst (AppendsFront before after) (ap (λ x. t.head_text ++ x) body.0 ∙ append-nil t.head_text) t.told)
-      go (line ∷ lines) are command body =
-          let h : HeadView = head_view t.head in
-          let read = ap (λ all. read_head 0 all no_head) are ∙ head_is t.taken (line ∷ (lines ++ t.others)) no_head h t.head_text t.heads command in
-          let within : IsCoveredRead (read_as t.head_text h (length t.taken) (line ∷ (lines ++ t.others))) = subst IsCoveredRead read (covers bytes never) in
-          let told = lines_are t.head (length t.taken) (line ∷ lines) t.first t.last t.text (begin h) (none_among h (line ∷ lines) t.others within.lines) (begins_live t.head t.first t.begins within.servers) body in
-          let few = fewer h (length t.taken) (line ∷ lines) t.others (begin h) in
-          let all : List ℕ × SessionState = lines_step h (length t.taken) (line ∷ (lines ++ t.others)) (begin h) in
-          let finals : List ℕ = finals_below h.script.servers all.1.report.desks (length h.script.servers) in
-          let first : List ℕ = (lines_step h (length t.taken) (line ∷ lines) (begin h)).0 in
-          let is : session_of bytes ≡ (t.head_text ++ first) ++ (few.0 ++ finals) =
-          ap session_by read ∙ (ap (λ x. t.head_text ++ (x ++ finals)) few.1 ∙ (ap (λ x. t.head_text ++ x) (append_assoc first few.0 finals) ∙ sym (append_assoc t.head_text first (few.0 ++ finals)))) in
-          subst (AppendsFront before after) (sym is) (front_longer before after (t.head_text ++ first) (few.0 ++ finals) (subst (λ x. AppendsFront before after (t.head_text ++ x)) told.0 t.told))
+  part_front t = by_part t t.behind t.lines_are t.body
 
 pub exact_session_front : ExactSessionFront
-exact_session_front bytes before after never t =
+exact_session_front bytes before after computed t =
     elim t [
-      | inl f ↦ head_front bytes before after never f.0 f.1
+      | inl f ↦ head_front bytes before after computed f.0 f.1
       | inr f ↦ elim f [
-        | inl p ↦ part_front bytes before after never p
-        | inr p ↦ whole_is bytes (AppendsFront before after) never p
+        | inl p ↦ part_front bytes before after computed p
+        | inr p ↦ whole_is bytes (AppendsFront before after) computed p
       ]
     ]

@@ -6,7 +6,6 @@ use Rattle.tp_model.specs.declared.types.Claimed.TheVariants as claimeds
 use Rattle.tp_model.specs.declared.types.Ended.{Ended}
 use Rattle.tp_model.specs.declared.types.Ended.TheVariants as endeds
 use Rattle.tp_model.specs.declared.types.Limits.{Limits}
-use Rattle.tp_model.specs.declared.types.Outcome.{Outcome}
 use Rattle.tp_model.specs.declared.types.Refusal.{Refusal}
 use Rattle.tp_model.specs.declared.types.Refusal.TheVariants as refusals
 use Rattle.tp_model.specs.declared.types.Work.{Work}
@@ -14,10 +13,8 @@ use Rattle.tp_model.specs.declared.event.Event.{Event}
 use Rattle.tp_plain.specs.Computed.{abort_of, claim_id_of, claim_of_stage, commit_of}
 use Rattle.tp_plain.specs.OneThread.{State}
 use Rattle.tp_manager.specs.Bounds.{abort_steps, claim_id_steps, claim_steps, commit_steps}
-use Rattle.tp_manager.specs.Calls.{AnswersAbort, Claims}
-use Rattle.tp_manager.specs.Given.{ClaimIdFails}
+use Rattle.tp_manager.specs.Calls.{Claims}
 use Rattle.tp_manager.specs.Shown.{KeeperShown, PassShown}
-use Rattle.tp_desk.specs.Turns.{settled}
 use Rattle.tp_desk.specs.declared.turned.Turned.TheVariants as turneds
 use Rattle.tp_report.specs.declared.answer.ServerAnswer.TheVariants as told
 use Rattle.tp_script.specs.declared.head.WorkerAct.{WorkerAct}

@@ -9,3 +9,5 @@ pub mod PlainWorkers
 pub mod PlainSession
 pub mod Sessions
 pub mod Programs
+pub mod Dumps
+pub mod AliveReads

@@ -1,4 +1,4 @@
--- What the whole program writes of a script, with workers or without: it is computed of its bytes.
+-- What the whole program writes of a script, whether it is a session or not: it is computed of its bytes.
 use Rattle.std.specs.Prelude.{◌≡◌, ℕ, Bool, true, false, List, [], Option, Result, Ok, Err}
 use Rattle.std.specs.List.{list_any}
 use Rattle.std.specs.Io.KnownBytes.{Appends, Keeps}
@@ -10,7 +10,7 @@ use Rattle.tp_report.specs.declared.fault.Fault.TheVariants as faults
 use Rattle.tp_script.specs.Fault.{refused_text}
 use Rattle.tp_script.specs.Grammar.{script}
 use Rattle.tp_script.specs.Session.{HeadView, body_at, no_head}
-use Rattle.tp_script.specs.Workers.{checked, has_worker}
+use Rattle.tp_script.specs.Workers.{checked, is_session}
 use Rattle.tp_script.specs.declared.fault.LineFault.{LineFault}
 use Rattle.tp_script.specs.declared.fault.Refused.{Refused}
 use Rattle.tp_script.specs.declared.head.Act.{Act}
@@ -19,14 +19,14 @@ use Rattle.tp_session.specs.Heard.{heard}
 use Rattle.tp_session.specs.Scripts.{Ran}
 use Rattle.tp_exact.specs.PlainSession.{read_head, session_of}
 use Rattle.tp_exact.specs.Script.{IsCoveredText, exit_of}
-use Rattle.tp_exact.specs.Sessions.{NeverRollsOver}
+use Rattle.tp_exact.specs.Sessions.{IsComputed}
 
--- of a script with workers: the answers to its lines, or the line of its refusal
+-- of a script that is a session: the answers to its lines, or the line of its refusal
 abbrev pub answers_of_checked : Result (Unit {0}) Refused → List ℕ → List ℕ
 answers_of_checked (Ok whole) bytes = session_of bytes
 answers_of_checked (Err refused) bytes = line (refused_text refused)
 
--- what is written: that with a worker, and without one the report
+-- what is written: that of a session, and else the report
 abbrev pub written_by : Bool → List ℕ → List ℕ
 written_by true bytes = answers_of_checked (checked bytes) bytes
 written_by false bytes = report_of_read (script bytes)
@@ -36,9 +36,10 @@ abbrev pub exit_by : Bool → List ℕ → Exit
 exit_by true bytes = exit_of (checked bytes)
 exit_by false bytes = exit_of (script bytes)
 
--- the scripts that this is about: none with a rollover, and of those without workers none with a race
+-- the scripts that this is about: no session with a rollover, a dump or a restore, and of the others none with
+-- a race or a rollover
 abbrev pub IsCoveredBy : Bool → List ℕ → Type 0
-IsCoveredBy true bytes = NeverRollsOver bytes
+IsCoveredBy true bytes = IsComputed bytes
 IsCoveredBy false bytes = IsCoveredText (script bytes)
 
 -- the text is written and the program ended so; after a fault a prefix of it is, and nothing where the reader
@@ -52,8 +53,8 @@ WritesAs (Err other) wanted text before after = AppendsFront before after text
 abbrev pub ExactProgram : Type 0
 ExactProgram =
     (outcome : Result Exit Fault) (bytes : List ℕ) (before after : Option (List ℕ))
-    → IsCoveredBy (has_worker bytes) bytes → Ran outcome bytes before after
-    → WritesAs outcome (exit_by (has_worker bytes) bytes) (written_by (has_worker bytes) bytes) before after
+    → IsCoveredBy (is_session bytes) bytes → Ran outcome bytes before after
+    → WritesAs outcome (exit_by (is_session bytes) bytes) (written_by (is_session bytes) bytes) before after
 
 -- a line is refused
 abbrev pub refuses : Result (Option Act) LineFault → Bool
@@ -64,7 +65,8 @@ refuses (Err fault) = true
 abbrev pub has_refusal_in : HeadView → List (List ℕ) → Bool
 has_refusal_in h lines = list_any (λ line. refuses (body_at line h)) lines
 
--- no line of a checked script is refused: its head is told nothing, and each line after it says something
+-- no line of a checked script is refused: its head is told nothing, and each line after the first command
+-- says something
 abbrev pub NeverRefuses : Type 0
 NeverRefuses = (bytes : List ℕ) → checked bytes ≡ Ok tt
     → let read = read_head 0 (heard bytes) no_head in

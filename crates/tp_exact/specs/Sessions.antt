@@ -1,5 +1,5 @@
 -- What a live session is answered: the computed answers.
-use Rattle.std.specs.Prelude.{◌≡◌, ◌||◌, ℕ, Bool, false, List, Option, Some, Result, Ok}
+use Rattle.std.specs.Prelude.{◌≡◌, ◌||◌, ℕ, Bool, true, false, List, Option, Some, Result, Ok}
 use Rattle.std.specs.List.{list_any}
 use Rattle.std.specs.Io.KnownBytes.{Appends}
 use Rattle.tp_model.specs.declared.types.Limits.{Limits}
@@ -41,9 +41,18 @@ pub record StandsLive (h : HeadView) (live : Live) (s : SessionState) : Type 0 w
       live.stand.scene s.report
   pub works : s.works ≡ live.works
 
--- a line asks for what takes more than one manager or one thread
+-- What is asked for isn't computed of the lines alone: a rollover or a restore, which make what is alive anew
+-- in another manager, or a dump, which can be refused for want of memory. What a dump tells else, `Dumps` says.
+abbrev pub is_uncomputed : Act → Bool
+is_uncomputed (acts.Command c) = is_rollover c
+is_uncomputed acts.Dump = true
+is_uncomputed acts.Restore = true
+is_uncomputed other = false
+
+-- a line asks for that, or for what takes more than one thread
 abbrev pub is_beyond : Result (Option Act) LineFault → Bool
 is_beyond (Ok (Some (acts.Command c))) = is_race c || is_rollover c
+is_beyond (Ok (Some act)) = is_uncomputed act
 is_beyond other = false
 
 -- from what stands for a computed state a line leads to what stands for the computed state after it, and its
@@ -56,28 +65,29 @@ ExactLine =
     → let step = line_step (head_view head) n said s in
     (text ≡ step.0) × StandsLive (head_view head) new step.1
 
--- a line asks for a rollover
-abbrev pub rolls_over : Result (Option Act) LineFault → Bool
-rolls_over (Ok (Some (acts.Command c))) = is_rollover c
-rolls_over other = false
+-- a line asks for what isn't computed
+abbrev pub asks_uncomputed : Result (Option Act) LineFault → Bool
+asks_uncomputed (Ok (Some act)) = is_uncomputed act
+asks_uncomputed other = false
 
 -- whether one of these lines does
-abbrev pub has_rollover_in : HeadView → List (List ℕ) → Bool
-has_rollover_in h lines = list_any (λ line. rolls_over (body_at line h)) lines
+abbrev pub has_uncomputed_in : HeadView → List (List ℕ) → Bool
+has_uncomputed_in h lines = list_any (λ line. asks_uncomputed (body_at line h)) lines
 
--- the sessions that this is about: no line after the head rolls over
-abbrev pub NeverRollsOver : List ℕ → Type 0
-NeverRollsOver bytes = let read = read_head 0 (heard bytes) no_head in
-    has_rollover_in read.head read.behind ≡ false
+-- the sessions that this is about: neither the first command nor a line after it asks for a rollover, a dump
+-- or a restore
+abbrev pub IsComputed : List ℕ → Type 0
+IsComputed bytes = let read = read_head 0 (heard bytes) no_head in
+    (asks_uncomputed (Ok read.command) ≡ false) × (has_uncomputed_in read.head read.behind ≡ false)
 
 -- what is written of such a session is the computed answers, and nothing else
 abbrev pub ExactSession : Type 0
 ExactSession =
     (bytes : List ℕ) (before after : Option (List ℕ))
-    → NeverRollsOver bytes → Conversed bytes before after → Appends before after (session_of bytes)
+    → IsComputed bytes → Conversed bytes before after → Appends before after (session_of bytes)
 
 -- and after a fault a prefix of them
 abbrev pub ExactSessionFront : Type 0
 ExactSessionFront =
     (bytes : List ℕ) (before after : Option (List ℕ))
-    → NeverRollsOver bytes → ConversedFront bytes before after → AppendsFront before after (session_of bytes)
+    → IsComputed bytes → ConversedFront bytes before after → AppendsFront before after (session_of bytes)

@@ -3,6 +3,8 @@
 ghost use Rattle.tp_exact.specs.Client.{ExactClient};
 ghost use Rattle.tp_exact.specs.Commands.{ExactCommand};
 ghost use Rattle.tp_exact.specs.Desks.{ExactDesk};
+ghost use Rattle.tp_exact.specs.AliveReads.{AliveLineReads, FoundLinesRead};
+ghost use Rattle.tp_exact.specs.Dumps.{ExactDump, RestoredDump};
 ghost use Rattle.tp_exact.specs.Finals.{ExactAccount, ExactFinals};
 ghost use Rattle.tp_exact.specs.Programs.{ExactProgram, NeverRefuses};
 ghost use Rattle.tp_exact.specs.Script.{ExactFront, ExactRun, ExactScript};
@@ -55,16 +57,38 @@ pub fn exact_line()
     ensures { ExactLine }
 {}
 
-/// The answers to a whole live session without a rollover: they are the computed ones, and after a fault a
-/// prefix of them.
+/// A dump of a live session, between two gatherings: the lines that it tells, unless it is refused. It leaves
+/// all as it was.
+pub fn exact_dump()
+    ensures { ExactDump }
+{}
+
+/// A head that says what a dump has found alive describes just that, and where it is restored the new
+/// session's manager stands as after a rollover of the dumped one.
+pub fn restored_dump()
+    ensures { RestoredDump }
+{}
+
+/// The `alive` line that a dump tells of an element, read as a line of a head, says just that.
+pub fn alive_line_reads()
+    ensures { AliveLineReads }
+{}
+
+/// All `alive` lines of a dump, read one after another, add to a head just what the dump has found alive.
+pub fn found_lines_read()
+    ensures { FoundLinesRead }
+{}
+
+/// The answers to a whole live session without a rollover, a dump or a restore: they are the computed ones,
+/// and after a fault a prefix of them.
 pub fn exact_session()
     ensures whole { ExactSession }
     ensures front { ExactSessionFront }
 {}
 
-/// What `tp_session::run` leaves of the bytes of a script, by its clause `ran`, where there is no rollover and,
-/// without a worker, no race. With a worker it is the answers of the session that its lines are, else the
-/// report, or the line of the refusal; and after a fault a prefix of that.
+/// What `tp_session::run` leaves of the bytes of a script, by its clause `ran`. Of a session without a
+/// rollover, a dump or a restore it is the answers to its lines, and of another script without a race or a
+/// rollover the report; of a refused one the line of the refusal; and after a fault a prefix of that.
 pub fn exact_program()
     ensures whole { ExactProgram }
     ensures checked { NeverRefuses }

@@ -1,0 +1,100 @@
+-- What a dump of a live session tells where nobody else acts: the computed lines. And what a restore of these
+-- lines is.
+use Rattle.std.specs.Prelude.{◌≡◌, ◌⊎◌, ◌||◌, ◌++◌, ℕ, Bool, true, false, if◌then◌else◌, List, [], ◌∷◌, map}
+use Rattle.std.specs.Prelude.{Option, Some, None}
+use Rattle.std.specs.List.{flat_map, range_with_len}
+use Rattle.tp_model.specs.Counts.{is_parked, is_waiting}
+use Rattle.tp_model.specs.History.{element_of, rounds, status_of}
+use Rattle.tp_model.specs.Steps.{AreLimits, rows_of}
+use Rattle.tp_model.specs.declared.event.Event.{Event}
+use Rattle.tp_model.specs.declared.types.Element.{Element}
+use Rattle.tp_model.specs.declared.types.Status.{Status}
+use Rattle.tp_plain.specs.OneThread.{State}
+use Rattle.tp_rollover.specs.Rolls.{RollsOver, kills}
+use Rattle.tp_rollover.specs.declared.moved.Moved.{Moved}
+use Rattle.tp_rollover.specs.declared.survivors.Survivor.{Survivor}
+use Rattle.tp_report.specs.Answer.{answer_text, line}
+use Rattle.tp_report.specs.declared.answer.Answer.TheVariants as answer
+use Rattle.tp_script.specs.Session.{HeadView, head_view}
+use Rattle.tp_script.specs.declared.head.AliveLine.{AliveLine}
+use Rattle.tp_script.specs.declared.head.Head.{Head}
+use Rattle.tp_perform.specs.Restore.{Restored}
+use Rattle.tp_perform.specs.Scenes.{Stand}
+use Rattle.tp_session.specs.Dump.{attempts_of, dump_lines, dump_text}
+use Rattle.tp_session.specs.Live.{DumpTold, FoundAlive, Live, Unsurveyed, survivors_of}
+use Rattle.tp_exact.specs.PlainSession.{SessionState, is_open}
+use Rattle.tp_exact.specs.Sessions.{StandsLive}
+
+-- an element with this status is alive
+abbrev pub is_alive : Status → Bool
+is_alive status = is_waiting status || is_parked status
+
+-- an element with this id and this root, as it stands
+abbrev pub with_root : ℕ → List Event → ℕ → Element → Option Element → List Survivor
+with_root limit h id item None = []
+with_root limit h id item (Some root) = record {
+  id = id;
+  root = item.root;
+  stage = item.stage;
+  body = item.body;
+  status = status_of limit h id;
+  rounds = rounds h id;
+  root_stage = root.stage;
+  root_body = root.body;
+} ∷ []
+
+-- the element with this id, if there is one and it is alive
+abbrev pub if_alive : ℕ → List Event → ℕ → Option Element → List Survivor
+if_alive limit h id None = []
+if_alive limit h id (Some item) =
+    if is_alive (status_of limit h id) then with_root limit h id item (element_of h item.root) else []
+
+-- all that is alive, by ascending ids
+abbrev pub alive_of : State → List Survivor
+alive_of m = flat_map (λ id. if_alive m.limits.attempts m.history id (element_of m.history id))
+    (range_with_len 0 (rows_of m.limits))
+
+-- the lines that lead to this state
+abbrev pub dump_of : HeadView → SessionState → List (List ℕ)
+dump_of h s = dump_lines h (map (λ d. d.registers) s.report.desks) (map (λ d. d.is_dropped) s.report.desks)
+    (alive_of s.report.manager)
+
+-- With a unit of work open the answer is that it is. Else it is the computed lines, unless what is alive
+-- wasn't found, as for want of memory.
+abbrev pub DumpComputed : Bool → HeadView → SessionState → Live → List ℕ → Type 0
+DumpComputed true h s old text = text ≡ line (answer_text answer.Busy)
+DumpComputed false h s old text = (text ≡ dump_text (dump_of h s)) ⊎ Unsurveyed old text
+
+-- so it is from what stands for a computed state, and what is there then stands for the same one
+abbrev pub ExactDump : Type 0
+ExactDump =
+    (head : Head) (old new : Live) (text : List ℕ) (s : SessionState)
+    → StandsLive (head_view head) old s → DumpTold (head_view head) old text new
+    → DumpComputed (is_open s) (head_view head) s old text × StandsLive (head_view head) new s
+
+-- ---- and what is made of these lines
+
+-- what the line says that a dump tells of this element
+abbrev pub line_of : Survivor → AliveLine
+line_of s = record {
+  id = s.id;
+  attempts = attempts_of s.status;
+  rounds = s.rounds;
+  draft = record { stage = s.stage; body = s.body };
+  root = s.root;
+  root_draft = record { stage = s.root_stage; body = s.root_body };
+}
+
+-- What is alive in a session was found for a dump, and a head says just that, under the same limit of
+-- attempts. Then it describes what was found; and where it is restored, that is a rollover of the session that
+-- was dumped.
+abbrev pub RestoredDump : Type 0
+RestoredDump =
+    (old done : Live) (survivors : List Survivor) (head : HeadView) (first new : Stand) (moved : List Moved)
+    → AreLimits old.stand.manager.limits → FoundAlive old survivors done → head.alive ≡ map line_of survivors
+    → head.script.settings.attempts ≡ old.stand.manager.limits.attempts
+    → new.manager.limits.attempts ≡ old.stand.manager.limits.attempts
+    → Restored (survivors_of head) first moved new
+    → (survivors_of head ≡ survivors)
+    × RollsOver old.stand.manager.limits new.manager.limits 0 done.stand.keeper.seen
+    (done.stand.keeper.seen ++ kills 0 moved) new.keeper.seen moved
