@@ -7,6 +7,7 @@ mod bodies;
 mod boxes;
 mod devices;
 mod faults;
+mod heads;
 mod interrupted;
 mod plain;
 mod plain_cancels;
@@ -69,7 +70,10 @@ fn agreed<R: Abort + AllocGlobal + Threads + Sync>(
 ) -> (Result<PlainExit, Fault>, Vec<u8>) {
     let (answer, held) = written(rt, script.as_bytes());
     let (shared, lines) = performed(rt, script.as_bytes());
-    assert_eq!(rt; plain_of(shared), answer, "at {script:?}");
-    assert_eq!(rt; lines.as_slice(), held.as_slice(), "at {script:?}");
+    assert_eq!(rt;
+        (plain_of(shared), lines.as_slice()),
+        (answer, held.as_slice()),
+        "at {script:?}"
+    );
     (answer, held)
 }

@@ -4,6 +4,7 @@ mod plays;
 mod scenes;
 mod statuses;
 mod storms;
+mod surveys;
 
 use plays::Call::{Aborts, Cancels, Commits, Kills, Requeues, Shows, Stands, Submits, Takes};
 use plays::{Call, Stand};

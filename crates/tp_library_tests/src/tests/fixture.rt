@@ -10,6 +10,18 @@ use tp_server::{
     Act, AmountFrom, EagerServer, KeyFrom, LazyServer, Output, Recipe, Registers, Server,
 };
 
+/// The next two passes of the keeper.
+pub(crate) fn two_more<R: Abort>(rt: &R, manager: &Manager, keeper: &mut Keeper) -> (Pass, Pass)
+    requires { IsKeptBy manager.now keeper.old }
+    ensures keeper { IsKeptBy manager.now keeper.new }
+    ensures own { IsOf manager.now result.0 × IsOf manager.now result.1 }
+    ensures free { (result.0.open_unit ≡ None) × (result.1.open_unit ≡ None) }
+{
+    let first = keeper.pass(manager).expect(rt, "no pass");
+    let second = keeper.pass(manager).expect(rt, "no pass");
+    (first, second)
+}
+
 /// A manager with these limits, its keeper, and its first two passes.
 pub(crate) fn kept<R: Abort + AllocGlobal>(rt: &R, limits: Limits) -> (Manager, Keeper, Pass, Pass)
     ensures keeper { IsKeptBy result.0 result.1 }
@@ -17,8 +29,7 @@ pub(crate) fn kept<R: Abort + AllocGlobal>(rt: &R, limits: Limits) -> (Manager, 
     ensures free { (result.2.open_unit ≡ None) × (result.3.open_unit ≡ None) }
 {
     let (manager, mut keeper) = Keeper::new(rt.alloc(), limits).expect(rt, "no manager");
-    let first = keeper.pass(&manager).expect(rt, "no pass");
-    let second = keeper.pass(&manager).expect(rt, "no pass");
+    let (first, second) = two_more(rt, &manager, &mut keeper);
     (manager, keeper, first, second)
 }
 

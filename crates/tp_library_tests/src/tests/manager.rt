@@ -17,8 +17,7 @@ mod takings;
 mod threads;
 mod turns;
 
-use std::process::Abort;
-use tp_model::types::{Body, Claimed, Draft, Element, Limits, Outcome, Status, Work};
+use tp_model::types::{Body, Claimed, Element, Limits, Outcome, Status, Work};
 
 /// Two passes with four rows and two units each, and two attempts for each element.
 const SMALL: Limits = Limits {
@@ -64,8 +63,4 @@ fn output(id: u32, stage: u8, root: u32, body: Body, unit: u16) -> Element {
         body,
         by: Some(unit),
     }
-}
-
-fn draft(rt: &impl Abort, stage: u8, body: Body) -> Draft {
-    Draft::new(stage, body).expect(rt, "a draft")
 }

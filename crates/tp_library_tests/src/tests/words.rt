@@ -1,6 +1,7 @@
 //! Worked values with their words, and numbers that are no words.
 ghost use Rattle.std.specs.Prelude.{◌≡◌};
 
+use std::process::Abort;
 use tp_model::types::{Limits, Refusal};
 use tp_words::{Claim, FoundClaim, Head, Places, UnitWord};
 
@@ -214,12 +215,10 @@ fn limits(parts: u16, rows: u16, units: u16, attempts: u8) -> Limits
     }
 }
 
-#[test]
-fn places(rt: HostRuntime) {
-    let Ok(small) = Places::new(limits(2, 8, 256, 3)) else {
-        assert!(rt; false);
-        return;
-    };
+/// Where the words of the last row lie, in two parts of eight rows and 256 units each.
+fn row_words_lie(rt: &impl Abort, small: &Places)
+    requires { small.now.limits ≡ record { parts = 2; rows = 8; units = 256; attempts = 3; spare = 0 } }
+{
     assert!(rt; small.rows() == 16);
     assert!(rt; small.size() == 1249);
     assert!(rt; small.head(15) == 90);
@@ -228,6 +227,12 @@ fn places(rt: HostRuntime) {
     assert!(rt; small.body(15, 2) == 93);
     assert!(rt; small.body(15, 3) == 94);
     assert!(rt; small.claim(15) == 95);
+}
+
+/// Where the units' words and the marks lie behind the rows.
+fn units_and_marks_lie(rt: &impl Abort, small: &Places)
+    requires { small.now.limits ≡ record { parts = 2; rows = 8; units = 256; attempts = 3; spare = 0 } }
+{
     assert!(rt; small.unit(0) == 96);
     assert!(rt; small.unit(256) == 352);
     assert!(rt; small.mark(0, 1) == 609);
@@ -235,15 +240,60 @@ fn places(rt: HostRuntime) {
     assert!(rt; small.mark(15, 1) == 1209);
     assert!(rt; small.mark(15, 2) == 1210);
     assert!(rt; small.drawn() == 1248);
+}
+
+/// Where the parts end.
+fn parts_end(rt: &impl Abort, small: &Places)
+    requires { small.now.limits ≡ record { parts = 2; rows = 8; units = 256; attempts = 3; spare = 0 } }
+{
     assert!(rt; small.area_end(0) == 8);
     assert!(rt; small.area_end(7) == 8);
     assert!(rt; small.area_end(8) == 16);
     assert!(rt; small.area_end(15) == 16);
+}
+
+#[test]
+fn places(rt: HostRuntime) {
+    let Ok(small) = Places::new(limits(2, 8, 256, 3)) else {
+        assert!(rt; false);
+        return;
+    };
+    row_words_lie(&rt, &small);
+    units_and_marks_lie(&rt, &small);
+    parts_end(&rt, &small);
     let Ok(largest) = Places::new(limits(32, 256, 1024, 7)) else {
         assert!(rt; false);
         return;
     };
     assert!(rt; largest.size() == 82561);
+}
+
+/// Where the spare blocks begin and end, in three parts of four rows and two units each, with two blocks.
+fn blocks_lie(rt: &impl Abort, places: &Places)
+    requires { places.now.limits ≡ record { parts = 3; rows = 4; units = 2; attempts = 2; spare = 2 } }
+{
+    assert!(rt; places.part_rows() == 12);
+    assert!(rt; places.rows() == 28);
+    assert!(rt; places.block_first(0) == 12);
+    assert!(rt; places.block_first(1) == 20);
+    assert!(rt; places.block_first(2) == 28);
+    assert!(rt; places.area_end(11) == 12);
+    assert!(rt; places.area_end(12) == 20);
+    assert!(rt; places.area_end(19) == 20);
+    assert!(rt; places.area_end(20) == 28);
+    assert!(rt; places.area_end(27) == 28);
+}
+
+/// Where the words lie behind the spare rows.
+fn words_behind_blocks_lie(rt: &impl Abort, places: &Places)
+    requires { places.now.limits ≡ record { parts = 3; rows = 4; units = 2; attempts = 2; spare = 2 } }
+{
+    assert!(rt; places.head(27) == 162);
+    assert!(rt; places.unit(0) == 168);
+    assert!(rt; places.mark(0, 0) == 174);
+    assert!(rt; places.mark(0, 3) == 177);
+    assert!(rt; places.drawn() == 814);
+    assert!(rt; places.size() == 815);
 }
 
 #[test]
@@ -256,22 +306,8 @@ fn places_of_spare_blocks(rt: HostRuntime) {
         assert!(rt; false);
         return;
     };
-    assert!(rt; places.part_rows() == 12);
-    assert!(rt; places.rows() == 28);
-    assert!(rt; places.block_first(0) == 12);
-    assert!(rt; places.block_first(1) == 20);
-    assert!(rt; places.block_first(2) == 28);
-    assert!(rt; places.area_end(11) == 12);
-    assert!(rt; places.area_end(12) == 20);
-    assert!(rt; places.area_end(19) == 20);
-    assert!(rt; places.area_end(20) == 28);
-    assert!(rt; places.area_end(27) == 28);
-    assert!(rt; places.head(27) == 162);
-    assert!(rt; places.unit(0) == 168);
-    assert!(rt; places.mark(0, 0) == 174);
-    assert!(rt; places.mark(0, 3) == 177);
-    assert!(rt; places.drawn() == 814);
-    assert!(rt; places.size() == 815);
+    blocks_lie(&rt, &places);
+    words_behind_blocks_lie(&rt, &places);
     let most = Limits {
         spare: 256,
         ..limits(32, 256, 1024, 7)

@@ -19,12 +19,13 @@ mod together;
 mod tree;
 mod turns;
 
+use crate::tests::fixture::{eager, lazy, output, recipe};
 use std::process::Abort;
 use std::sync::atomic::{AtomicU64, Ordering};
 use std::thread;
 use tp_manager::{Keeper, Manager, Pass};
 use tp_model::types::{Limits, Look, Status};
-use tp_server::Server;
+use tp_server::{Act, Server};
 use tp_workers::ClientJob;
 
 /// A manager with these limits, and the keeper of its passes.
@@ -96,6 +97,26 @@ fn three(
     ensures { All (λ server. pending server ≡ None) result }
 {
     [one, other, third]
+}
+
+/// A server of each kind that adds what comes to stage 1 to its register.
+fn adders<R: Abort + AllocGlobal>(rt: &R) -> [Box<dyn Server + Send>; 2]
+    ensures { All (λ server. pending server ≡ None) result }
+{
+    let one = eager(rt, recipe(1, Act::Add, &[]));
+    let other = lazy(rt, recipe(1, Act::Add, &[]));
+    pair(one, other)
+}
+
+/// A tree of servers: the root, of stage 1, makes an output for each of the branches, of the stages 2 and 3,
+/// and each branch makes a reply.
+fn tree_of_three<R: Abort + AllocGlobal>(rt: &R) -> [Box<dyn Server + Send>; 3]
+    ensures { All (λ server. pending server ≡ None) result }
+{
+    let root = eager(rt, recipe(1, Act::Add, &[output(2), output(3)]));
+    let left = lazy(rt, recipe(2, Act::Add, &[output(15)]));
+    let right = eager(rt, recipe(3, Act::Add, &[output(15)]));
+    three(root, left, right)
 }
 
 /// The statuses of the elements of a stage.

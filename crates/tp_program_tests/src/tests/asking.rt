@@ -136,6 +136,36 @@ pub(crate) fn commits(
     plain.has_open(caller) && plain.commit(caller, drafts) == answer
 }
 
+/// Drafts of these outputs, each a stage and a body, and others up to four.
+fn drafts_of(outputs: &[(u8, Body)]) -> Option<[Draft; 4]> {
+    let mut drafts = [Draft::default(); 4];
+    for (place, (stage, body)) in outputs.iter().enumerate() {
+        if place < 4 {
+            drafts[place] = Draft::new(*stage, *body)?;
+        }
+    }
+    Some(drafts)
+}
+
+/// Whether a commit with these outputs by a pass with a unit in its hand has this outcome.
+pub(crate) fn bears(
+    plain: &mut Plain,
+    caller: u16,
+    outputs: &[(u8, Body)],
+    outcome: Outcome,
+) -> bool
+    requires { caller < plain.old.limits.parts }
+    ensures { plain.new.limits ≡ plain.old.limits }
+{
+    if outputs.len() > 4 {
+        return false;
+    }
+    match drafts_of(outputs) {
+        Some(drafts) => commits(plain, caller, &drafts[..outputs.len()], Ok(outcome)),
+        None => false,
+    }
+}
+
 /// Whether an abort by a pass with a unit in its hand answers this.
 pub(crate) fn aborts(plain: &mut Plain, caller: u16, answer: Ended) -> bool
     requires { caller < plain.old.limits.parts }
@@ -237,11 +267,6 @@ pub(crate) fn stands(plain: &Plain, id: u32, status: Status) -> bool {
         Ok(look) => look.status == status,
         Err(_) => false,
     }
-}
-
-/// A draft for the stage of a body with this amount.
-pub(crate) fn draft<R: Abort>(rt: &R, stage: u8, amount: u64) -> Draft {
-    Draft::new(stage, body(amount)).expect(rt, "no draft")
 }
 
 /// What a claim answers that takes a client's element with this amount for this time, by this unit.

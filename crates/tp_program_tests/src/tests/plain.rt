@@ -1,6 +1,6 @@
 //! Worked rows through the manager of one thread, and each of its calls once.
 
-use super::asking::{body, commits, draft, reads, request, stands, submits, took, two, work};
+use super::asking::{body, commits, reads, request, stands, submits, took, two, work};
 use super::plain_plays::Call::{
     Aborts, Capacity, Claims, Commits, HasOpen, Kills, Reads, Stands, Submits, SubmitsBody, Takes,
 };
@@ -15,7 +15,7 @@ use tp_plain::plain::Plain;
 #[test]
 fn a_request_and_its_reply(rt: HostRuntime) {
     let body = [5, 10, 6, 7];
-    let reply = [Draft::new(15, body).expect(&rt, "no draft")];
+    let reply = [(15, body)];
     let element = Element {
         id: 8,
         stage: 15,
@@ -91,7 +91,7 @@ fn attempts_and_units(rt: HostRuntime) {
 
 #[test]
 fn full_then_committed(rt: HostRuntime) {
-    let replies = [draft(&rt, 15, 9), draft(&rt, 15, 9)];
+    let replies = [(15, body(9)), (15, body(9))];
     let calls = [
         (CLIENT, Submits(1, 9, Ok(0))),
         (SERVER, Takes(1, 0)),
@@ -108,7 +108,7 @@ fn full_then_committed(rt: HostRuntime) {
 
 #[test]
 fn killed_in_the_hand(rt: HostRuntime) {
-    let drafts = [draft(&rt, 2, 9)];
+    let drafts = [(2, body(9))];
     let calls = [
         (CLIENT, Submits(1, 9, Ok(0))),
         (CLIENT, Submits(1, 8, Ok(1))),

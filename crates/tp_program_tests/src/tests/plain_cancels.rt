@@ -1,6 +1,6 @@
 //! Cancels by the manager of one thread.
 
-use super::asking::{draft, two};
+use super::asking::{body, two};
 use super::plain_plays::Call::{Aborts, Cancels, Claims, Commits, Stands, Submits, Takes};
 use super::plain_plays::{CLIENT, SERVER, plays};
 use tp_model::types::{Cancelled, Claimed, Ended, Outcome, Refusal, Status};
@@ -9,7 +9,7 @@ use tp_model::types::{Cancelled, Claimed, Ended, Outcome, Refusal, Status};
 // request.
 #[test]
 fn what_is_held_and_what_waits(rt: HostRuntime) {
-    let drafts = [draft(&rt, 14, 4), draft(&rt, 3, 5), draft(&rt, 15, 9)];
+    let drafts = [(14, body(4)), (3, body(5)), (15, body(9))];
     let calls = [
         (CLIENT, Submits(1, 9, Ok(0))),
         (CLIENT, Submits(2, 7, Ok(1))),
@@ -47,7 +47,7 @@ fn what_is_parked(rt: HostRuntime) {
 
 #[test]
 fn what_is_no_request(rt: HostRuntime) {
-    let drafts = [draft(&rt, 2, 9)];
+    let drafts = [(2, body(9))];
     let calls = [
         (CLIENT, Cancels(0, Err(Refusal::NotThere))),
         (CLIENT, Submits(1, 9, Ok(0))),

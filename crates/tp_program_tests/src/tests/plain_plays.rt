@@ -2,13 +2,12 @@
 ghost use Rattle.std.specs.Prelude.{◌≡◌, ◌<◌};
 
 use super::asking::{
-    aborts, cancels, claim, claim_id, claim_next, collects, collects_next, commits, follows, kills,
+    aborts, bears, cancels, claim, claim_id, claim_next, collects, collects_next, follows, kills,
     reads, releases, requeues, stands, submits, work,
 };
 use std::process::Abort;
 use tp_model::types::{
-    Body, Cancelled, Claimed, Draft, Element, Ended, Killed, Look, Outcome, Refusal, Released,
-    Status,
+    Body, Cancelled, Claimed, Element, Ended, Killed, Look, Outcome, Refusal, Released, Status,
 };
 use tp_plain::plain::Plain;
 
@@ -36,8 +35,8 @@ pub(crate) enum Call<'a> {
     ClaimsId(u32, Result<(u32, u8), Refusal>),
     /// An abort of what is in hand.
     Aborts(Ended),
-    /// A commit of what is in hand, with these outputs.
-    Commits(&'a [Draft], Outcome),
+    /// A commit of what is in hand, with outputs of these stages and bodies.
+    Commits(&'a [(u8, Body)], Outcome),
     /// A kill of the element.
     Kills(u32, Result<Killed, Refusal>),
     /// A release of the element.
@@ -120,9 +119,7 @@ fn answers(plain: &mut Plain, caller: u16, call: Call<'_>) -> bool
         Call::TakesNext(stage, id) => takes_next(plain, caller, stage, id),
         Call::ClaimsId(id, answer) => claim_id(plain, caller, id) == Some(answer),
         Call::Aborts(answer) => aborts(plain, caller, answer),
-        Call::Commits(drafts, answer) => {
-            drafts.len() <= 4 && commits(plain, caller, drafts, Ok(answer))
-        }
+        Call::Commits(outputs, outcome) => bears(plain, caller, outputs, outcome),
         Call::Kills(id, answer) => kills(plain, caller, id, answer),
         Call::Releases(id, answer) => releases(plain, caller, id, answer),
         Call::Collects(id, answer) => collects(plain, caller, id, answer),

@@ -1,6 +1,6 @@
 //! Releases, collects and families by the manager of one thread.
 
-use super::asking::{body, draft, two};
+use super::asking::{body, two};
 use super::plain_plays::Call::{
     Aborts, Collects, CollectsNext, Commits, Follows, Kills, Releases, Stands, Submits, Takes,
 };
@@ -40,7 +40,7 @@ fn what_is_released(rt: HostRuntime) {
 // Unit 16 consumes the element 0 and answers with the reply 4.
 #[test]
 fn what_is_collected(rt: HostRuntime) {
-    let drafts = [draft(&rt, 15, 5), draft(&rt, 14, 6)];
+    let drafts = [(15, body(5)), (14, body(6))];
     let reply = Element {
         id: 4,
         stage: 15,
@@ -69,7 +69,7 @@ fn what_is_collected(rt: HostRuntime) {
 // Unit 16 consumes the element 0 and makes the replies 4 and 5 and the element 6. The element 1 is another request.
 #[test]
 fn what_is_collected_next(rt: HostRuntime) {
-    let drafts = [draft(&rt, 15, 5), draft(&rt, 15, 6), draft(&rt, 14, 7)];
+    let drafts = [(15, body(5)), (15, body(6)), (14, body(7))];
     let waiting = Status::Waiting { attempts: 0 };
     let calls = [
         (CLIENT, Submits(1, 9, Ok(0))),

@@ -1,6 +1,6 @@
 //! Spare blocks of rows, drawn by the passes of the manager of one thread.
 
-use super::asking::{body, commits, draft, reads, sparing, submits, work};
+use super::asking::{body, commits, reads, sparing, submits, work};
 use super::plain_plays::Call::{Capacity, Commits, Kills, Reads, Stands, Submits, Takes};
 use super::plain_plays::{CLIENT, SERVER, plays};
 use std::test::Fail;
@@ -10,7 +10,7 @@ use tp_plain::plain::Plain;
 // Two rows for each pass, and two blocks, of the rows 4 to 11 and 12 to 19.
 #[test]
 fn blocks_in_order(rt: HostRuntime) {
-    let reply = draft(&rt, 15, 9);
+    let reply = (15, body(9));
     let drafts = [reply, reply, reply, reply];
     let one = Outcome::Committed {
         first: 11,
@@ -50,7 +50,7 @@ fn blocks_in_order(rt: HostRuntime) {
 
 #[test]
 fn full_where_the_block_is_drawn(rt: HostRuntime) {
-    let drafts = [draft(&rt, 15, 9), draft(&rt, 15, 9)];
+    let drafts = [(15, body(9)), (15, body(9))];
     let calls = [
         (CLIENT, Submits(1, 9, Ok(0))),
         (SERVER, Takes(1, 0)),
@@ -66,7 +66,7 @@ fn full_where_the_block_is_drawn(rt: HostRuntime) {
 
 #[test]
 fn lost_rows_of_a_block(rt: HostRuntime) {
-    let drafts = [draft(&rt, 15, 9), draft(&rt, 15, 9)];
+    let drafts = [(15, body(9)), (15, body(9))];
     let calls = [
         (CLIENT, Submits(1, 9, Ok(0))),
         (SERVER, Takes(1, 0)),

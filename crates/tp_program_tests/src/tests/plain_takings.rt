@@ -1,6 +1,6 @@
 //! Claims of given elements by the manager of one thread.
 
-use super::asking::{draft, two};
+use super::asking::{body, two};
 use super::plain_plays::Call::{Aborts, ClaimsId, Commits, Kills, Stands, Submits, Takes};
 use super::plain_plays::{CLIENT, SERVER, plays};
 use tp_model::types::{Ended, Killed, Outcome, Refusal, Status};
@@ -35,7 +35,7 @@ fn the_one_that_is_asked_for(rt: HostRuntime) {
 // With one unit a pass: the units come first, and a refusal uses none. Unit 1 is the server's.
 #[test]
 fn refused(rt: HostRuntime) {
-    let drafts = [draft(&rt, 15, 1)];
+    let drafts = [(15, body(1))];
     let calls = [
         (SERVER, ClaimsId(0, Err(Refusal::NotThere))),
         (SERVER, ClaimsId(8, Err(Refusal::NotThere))),

@@ -1,6 +1,6 @@
 //! Claims in turn by the manager of one thread.
 
-use super::asking::{draft, two};
+use super::asking::{body, two};
 use super::plain_plays::Call::{Aborts, ClaimsNext, Commits, Stands, Submits, Takes, TakesNext};
 use super::plain_plays::{CLIENT, SERVER, plays};
 use tp_model::types::{Claimed, Ended, Outcome, Status};
@@ -40,7 +40,7 @@ fn each_has_its_turn(rt: HostRuntime) {
 // Each pass has a place for each stage. After the last id comes the first: after 5, an output, come 2 and 3.
 #[test]
 fn places_of_passes_and_stages(rt: HostRuntime) {
-    let outputs = [draft(&rt, 2, 5), draft(&rt, 2, 6)];
+    let outputs = [(2, body(5)), (2, body(6))];
     let calls = [
         (CLIENT, Submits(1, 9, Ok(0))),
         (CLIENT, Submits(1, 9, Ok(1))),

@@ -79,7 +79,7 @@ fn reader(fails_at: u64) -> Reader<'static>
 }
 
 /// A writer of one byte a call.
-fn writer(rt: &HostRuntime, fails_at: u64) -> Writer {
+fn writer<R: AllocGlobal>(rt: &R, fails_at: u64) -> Writer {
     Writer {
         taken: Vec::new(rt.alloc()),
         most: 1,
@@ -88,26 +88,39 @@ fn writer(rt: &HostRuntime, fails_at: u64) -> Writer {
     }
 }
 
+/// With a reader that fails at this call nothing is performed.
+fn fails_to_read<R: Abort + AllocGlobal + Threads + Sync>(rt: &R, fails_at: u64) {
+    let mut writer = writer(rt, 0);
+    let answer = run(rt, rt.alloc(), &mut reader(fails_at), &mut writer);
+    assert_eq!(rt; answer, Err(Fault::Read), "at call {fails_at}");
+    assert!(rt; writer.taken.is_empty());
+}
+
 #[test]
 fn a_reader_that_fails(rt: HostRuntime) {
     for fails_at in [1, 60, SCRIPT.len() as u64 + 1] {
-        let mut writer = writer(&rt, 0);
-        let answer = run(&rt, rt.alloc(), &mut reader(fails_at), &mut writer);
-        assert_eq!(rt; answer, Err(Fault::Read), "at call {fails_at}");
-        assert!(rt; writer.taken.is_empty());
+        fails_to_read(&rt, fails_at);
     }
+}
+
+/// With a writer that fails at this call (0: at none) the run comes to this, and what is written is the report's
+/// beginning.
+fn writes<R: Abort + AllocGlobal + Threads + Sync>(
+    rt: &R,
+    fails_at: u64,
+    want: Result<Exit, Fault>,
+) -> usize {
+    let mut writer = writer(rt, fails_at);
+    let answer = run(rt, rt.alloc(), &mut reader(0), &mut writer);
+    assert_eq!(rt; answer, want, "at call {fails_at}");
+    assert!(rt; REPORT.as_bytes().starts_with(writer.taken.as_slice()));
+    writer.taken.len()
 }
 
 #[test]
 fn a_writer_that_fails(rt: HostRuntime) {
     for fails_at in [1, 40, REPORT.len() as u64] {
-        let mut writer = writer(&rt, fails_at);
-        let answer = run(&rt, rt.alloc(), &mut reader(0), &mut writer);
-        assert_eq!(rt; answer, Err(Fault::Write), "at call {fails_at}");
-        assert!(rt; REPORT.as_bytes().starts_with(writer.taken.as_slice()));
+        writes(&rt, fails_at, Err(Fault::Write));
     }
-    let mut writer = writer(&rt, 0);
-    let answer = run(&rt, rt.alloc(), &mut reader(0), &mut writer);
-    assert_eq!(rt; answer, Ok(Exit::Done));
-    assert_eq!(rt; writer.taken.as_slice(), REPORT.as_bytes());
+    assert!(rt; writes(&rt, 0, Ok(Exit::Done)) == REPORT.len());
 }

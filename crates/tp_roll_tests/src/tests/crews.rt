@@ -94,7 +94,7 @@ fn works<R: Abort>(rt: &R, crew: &mut Crew, stage: u8, amount: u64, id: u32)
     requires { IsSteadyCrew (shown behaviour) (shown registers) (shown pending) crew.old }
     ensures steady { IsSteadyCrew (shown behaviour) (shown registers) (shown pending) crew.new }
 {
-    assert_eq!(rt; crew.submit(stage, [0, amount, 0, 0]), Ok(id));
+    assert!(rt; crew.submit(stage, [0, amount, 0, 0]) == Ok(id));
     crew.drain(Order::InTurn);
 }
 
@@ -104,7 +104,7 @@ pub(super) fn stands<R: Abort>(rt: &R, crew: &mut Crew, id: u32, status: Status)
     ensures steady { IsSteadyCrew (shown behaviour) (shown registers) (shown pending) crew.new }
 {
     let look = crew.read(id).expect(rt, "not born");
-    assert_eq!(rt; look.status, status);
+    assert!(rt; look.status == status, "at element {id}");
 }
 
 /// The crew rolls over, which carries so many elements.
@@ -138,11 +138,12 @@ fn all_stand<R: Abort>(rt: &R, crew: &mut Crew, moved: &[Moved])
     requires three { length moved.now ≡ 3 }
     ensures steady { IsSteadyCrew (shown behaviour) (shown registers) (shown pending) crew.new }
 {
-    assert_eq!(rt; (moved[0].old, moved[1].old, moved[2].old), (1, 2, 16));
-    assert_eq!(rt; (moved[0].old_root, moved[2].old_root), (1, 0));
-    stands(rt, crew, moved[0].new, Status::Parked { attempts: 1 });
-    stands(rt, crew, moved[1].new, Status::Waiting { attempts: 0 });
-    assert_eq!(rt; crew.reply(moved[2].new_root, 0), Some(moved[2].new));
+    let [parked, waiting, reply] = [moved[0], moved[1], moved[2]];
+    assert!(rt; parked.old == 1 && waiting.old == 2 && reply.old == 16);
+    assert!(rt; parked.old_root == 1 && reply.old_root == 0);
+    stands(rt, crew, parked.new, Status::Parked { attempts: 1 });
+    stands(rt, crew, waiting.new, Status::Waiting { attempts: 0 });
+    assert!(rt; crew.reply(reply.new_root, 0) == Some(reply.new));
 }
 
 #[test]
@@ -193,9 +194,25 @@ fn rolls_often<R: Abort + AllocGlobal>(rt: &R, crew: &mut Crew, many: usize, tim
     }
 }
 
+/// The last of many rollovers: the parked element has the row 0, and the waiting one the row 1. The carrier
+/// has the row 16 and the first unit of the first desk, and the reply the row 17.
+fn rolls_last<R: Abort + AllocGlobal>(rt: &R, crew: &mut Crew)
+    requires { IsSteadyCrew (shown behaviour) (shown registers) (shown pending) crew.old }
+    ensures steady { IsSteadyCrew (shown behaviour) (shown registers) (shown pending) crew.new }
+{
+    let moved = rolls(rt, crew, 3);
+    let [parked, waiting, reply] = [moved[0], moved[1], moved[2]];
+    drop(moved);
+    assert!(rt; parked.old == 0 && waiting.old == 1 && reply.old == 17);
+    assert!(rt; parked.new == 0 && waiting.new == 1 && reply.new == 17);
+    assert!(rt; reply.new_root == 16);
+    stands(rt, crew, 0, Status::Parked { attempts: 1 });
+    stands(rt, crew, 1, Status::Waiting { attempts: 0 });
+    stands(rt, crew, 16, Status::Consumed { unit: 16 });
+}
+
 /// 200 managers one after another: what is parked, waits or is a reply goes on through all of them, and no
-/// more than one carrier is in each. In the last one the parked element has the row 0, and the waiting one the
-/// row 1. The carrier has the row 16 and the first unit of the first desk, and the reply the row 17.
+/// more than one carrier is in each.
 #[test]
 fn two_hundred_managers(rt: HostRuntime) {
     let mut crew = hired(&rt);
@@ -203,13 +220,7 @@ fn two_hundred_managers(rt: HostRuntime) {
     works(&rt, &mut crew, 2, 5, 1);
     works(&rt, &mut crew, 3, 7, 2);
     rolls_often(&rt, &mut crew, 3, 199);
-    let moved = rolls(&rt, &mut crew, 3);
-    assert_eq!(rt; (moved[0].old, moved[1].old, moved[2].old), (0, 1, 17));
-    assert_eq!(rt; (moved[0].new, moved[1].new, moved[2].new), (0, 1, 17));
-    assert_eq!(rt; moved[2].new_root, 16);
-    stands(&rt, &mut crew, 0, Status::Parked { attempts: 1 });
-    stands(&rt, &mut crew, 1, Status::Waiting { attempts: 0 });
-    stands(&rt, &mut crew, 16, Status::Consumed { unit: 16 });
+    rolls_last(&rt, &mut crew);
     assert_eq!(rt;
         crew.room(),
         Room {
@@ -218,6 +229,5 @@ fn two_hundred_managers(rt: HostRuntime) {
         }
     );
     has_added(&rt, &crew, 10);
-    drop(moved);
     drop(crew);
 }

@@ -18,14 +18,25 @@ pub(super) struct Side<'a> {
 }
 
 /// A manager with these limits, its keeper, and its first two passes.
-fn kept<R: Abort + AllocGlobal>(rt: &R, limits: Limits) -> (Manager, Keeper, Pass, Pass)
+pub(super) fn kept<R: Abort + AllocGlobal>(rt: &R, limits: Limits) -> (Manager, Keeper, [Pass; 2])
     ensures keeper { IsKeptBy result.0 result.1 }
-    ensures own { IsOf result.0 result.2 × IsOf result.0 result.3 }
+    ensures own { All (IsOf result.0) result.2 }
 {
     let (manager, mut keeper) = Keeper::new(rt.alloc(), limits).expect(rt, "no manager");
     let first = keeper.pass(&manager).expect(rt, "no pass");
     let second = keeper.pass(&manager).expect(rt, "no pass");
-    (manager, keeper, first, second)
+    (manager, keeper, [first, second])
+}
+
+/// Whether what was found is what was wanted.
+pub(super) fn is_answer(
+    found: Result<Vec<Moved>, RollFault>,
+    wanted: Result<&[Moved], RollFault>,
+) -> bool {
+    match found {
+        Ok(moved) => wanted == Ok(moved.as_slice()),
+        Err(fault) => wanted == Err(fault),
+    }
 }
 
 /// Whether a rollover answers this, if the passes are all of their keepers.
@@ -49,18 +60,10 @@ fn answers(
     if !new_keeper.has_all(new_passes) {
         return false;
     }
-    match roll_over(
+    let found = roll_over(
         alloc, old, old_keeper, old_passes, new, new_keeper, new_passes,
-    ) {
-        Ok(moved) => match answer {
-            Ok(wanted) => moved.as_slice() == wanted,
-            Err(_) => false,
-        },
-        Err(fault) => match answer {
-            Ok(_) => false,
-            Err(wanted) => fault == wanted,
-        },
-    }
+    );
+    is_answer(found, answer)
 }
 
 /// Plays a scene over these managers.
@@ -104,10 +107,8 @@ pub(super) fn rolls<R: Abort + AllocGlobal>(
     sides: &[Side<'_>; 2],
     answer: Result<&[Moved], RollFault>,
 ) {
-    let (old, mut old_keeper, first, second) = kept(rt, sides[0].limits);
-    let (new, mut new_keeper, new_first, new_second) = kept(rt, sides[1].limits);
-    let mut passes = [first, second];
-    let mut new_passes = [new_first, new_second];
+    let (old, mut old_keeper, mut passes) = kept(rt, sides[0].limits);
+    let (new, mut new_keeper, mut new_passes) = kept(rt, sides[1].limits);
     between(
         rt,
         &old,

@@ -38,8 +38,21 @@ fn rolls_on<R: Abort + AllocGlobal>(rt: &R, crew: &mut Crew)
     drop(crew.roll_over(rt.alloc()).expect(rt, "no rollover"));
 }
 
-/// A rollover, a shift in which twelve elements of amount 1 are submitted, and each desk takes four turns, and
-/// another rollover.
+/// A shift in which twelve elements of amount 1 are submitted, and each desk takes four turns.
+fn works<R: Abort + AllocGlobal + Threads + Sync>(rt: &R, crew: &mut Crew)
+    requires steady { IsSteadyCrew (shown behaviour) (shown registers) (shown pending) crew.old }
+    requires hired { (length crew.old.boxes.items ≡ 2) × (crew.old.clients ≡ 1) }
+    ensures steady { IsSteadyCrew (shown behaviour) (shown registers) (shown pending) crew.new }
+    ensures hired { (length crew.new.boxes.items ≡ 2) × (crew.new.clients ≡ 1) }
+{
+    let bodies = Vec::from_array(rt.alloc(), [[0, 1, 0, 0]; 12]).expect(rt, "no memory");
+    let mut jobs = [ClientJob { stage: 1, bodies }];
+    let counts = crew.shift(rt, Plan::in_turn(4), &mut jobs, &mut [], &NoGate);
+    assert!(rt; counts.submitted == 12);
+    drop(jobs);
+}
+
+/// A rollover, a shift, and another rollover.
 fn rolls_and_works<R: Abort + AllocGlobal + Threads + Sync>(rt: &R, crew: &mut Crew)
     requires steady { IsSteadyCrew (shown behaviour) (shown registers) (shown pending) crew.old }
     requires hired { (length crew.old.boxes.items ≡ 2) × (crew.old.clients ≡ 1) }
@@ -47,11 +60,7 @@ fn rolls_and_works<R: Abort + AllocGlobal + Threads + Sync>(rt: &R, crew: &mut C
     ensures hired { (length crew.new.boxes.items ≡ 2) × (crew.new.clients ≡ 1) }
 {
     rolls_on(rt, crew);
-    let bodies = Vec::from_array(rt.alloc(), [[0, 1, 0, 0]; 12]).expect(rt, "no memory");
-    let mut jobs = [ClientJob { stage: 1, bodies }];
-    let counts = crew.shift(rt, Plan::in_turn(4), &mut jobs, &mut [], &NoGate);
-    assert_eq!(rt; counts.submitted, 12);
-    drop(jobs);
+    works(rt, crew);
     rolls_on(rt, crew);
 }
 
@@ -89,18 +98,31 @@ fn without_boxes<R: AllocGlobal>(rt: &R) -> Option<Crew>
     }
 }
 
+/// Whether a rollover goes through. One that doesn't is refused for memory.
+fn has_rolled<R: Abort + AllocGlobal>(rt: &R, crew: &mut Crew) -> bool
+    requires { IsSteadyCrew (shown behaviour) (shown registers) (shown pending) crew.old }
+    ensures steady { IsSteadyCrew (shown behaviour) (shown registers) (shown pending) crew.new }
+{
+    match crew.roll_over(rt.alloc()) {
+        Ok(moved) => {
+            drop(moved);
+            true
+        }
+        Err(fault) => {
+            assert!(rt; fault == RollFault::NoMemory);
+            false
+        }
+    }
+}
+
 /// A rollover that is refused for memory leaves the element as it was, and one with memory carries it over.
 fn rolls_or_stays<R: Abort + AllocGlobal>(rt: &R, crew: &mut Crew)
     requires { IsSteadyCrew (shown behaviour) (shown registers) (shown pending) crew.old }
     ensures steady { IsSteadyCrew (shown behaviour) (shown registers) (shown pending) crew.new }
 {
-    match crew.roll_over(rt.alloc()) {
-        Ok(moved) => drop(moved),
-        Err(fault) => {
-            assert_eq!(rt; fault, RollFault::NoMemory);
-            stands(rt, crew, 0, Status::Waiting { attempts: 0 });
-            drop(rolls(rt, crew, 1));
-        }
+    if !has_rolled(rt, crew) {
+        stands(rt, crew, 0, Status::Waiting { attempts: 0 });
+        drop(rolls(rt, crew, 1));
     }
     stands(rt, crew, 0, Status::Waiting { attempts: 0 });
 }

@@ -2,9 +2,9 @@
 ghost use Rattle.std.specs.Prelude.{All};
 ghost use Rattle.tp_manager.specs.Shown.{IsKeptBy, IsOf};
 
+use super::SMALL;
 use super::plays::Call::{Aborts, Commits, Kills, Submits, Takes};
 use super::plays::{CLIENT, Call, SERVER, play, play_one};
-use super::{SMALL, draft};
 use crate::tests::fixture::kept;
 use std::process::Abort;
 use tp_manager::{Keeper, Manager, Pass};
@@ -121,7 +121,7 @@ fn held_then_killed(rt: HostRuntime) {
 
 #[test]
 fn replies_and_lost_drafts(rt: HostRuntime) {
-    let replies = [draft(&rt, 15, [0, 9, 0, 0]), draft(&rt, 15, [0, 9, 0, 0])];
+    let replies = [(15, [0, 9, 0, 0]), (15, [0, 9, 0, 0])];
     let calls = [
         (CLIENT, Submits(1, [0, 9, 0, 0], Ok(0))),
         (CLIENT, Submits(1, [0, 7, 0, 0], Ok(1))),

@@ -101,17 +101,34 @@ pub(super) fn aborts(manager: &Manager, pass: &mut Pass) -> bool
     pass.has_open() && manager.abort(pass) == Ended::Aborted
 }
 
-/// Whether a commit has this outcome.
+/// Drafts of these outputs, each a stage and a body, and others up to four.
+fn drafts_of(outputs: &[(u8, Body)]) -> Option<[Draft; 4]> {
+    let mut drafts = [Draft::default(); 4];
+    for (place, (stage, body)) in outputs.iter().enumerate() {
+        if place < 4 {
+            drafts[place] = Draft::new(*stage, *body)?;
+        }
+    }
+    Some(drafts)
+}
+
+/// Whether a commit with these outputs has this outcome.
 pub(super) fn commits(
     manager: &Manager,
     pass: &mut Pass,
-    drafts: &[Draft],
+    outputs: &[(u8, Body)],
     outcome: Outcome,
 ) -> bool
     requires { IsOf manager.now pass.old }
     ensures { IsOf manager.now pass.new }
 {
-    pass.has_open() && drafts.len() <= 4 && manager.commit(pass, drafts) == outcome
+    if !pass.has_open() || outputs.len() > 4 {
+        return false;
+    }
+    match drafts_of(outputs) {
+        Some(drafts) => manager.commit(pass, &drafts[..outputs.len()]) == outcome,
+        None => false,
+    }
 }
 
 /// Whether a kill answers this.

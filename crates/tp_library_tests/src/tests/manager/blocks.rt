@@ -6,9 +6,9 @@ use super::plays::Call::{
     Room, SeenBlocks, Submits, Takes,
 };
 use super::plays::{CLIENT, SERVER, plays};
-use super::{NEW, SMALL, draft, output, request, work};
+use super::{NEW, SMALL, output, request, work};
 use tp_model::types::{
-    Account, Body, Cancelled, Claimed, Counts, Draft, Limits, Outcome, Refusal, Status,
+    Account, Body, Cancelled, Claimed, Counts, Limits, Outcome, Refusal, Status,
 };
 
 /// Two passes with a row and eight units each, one attempt for each element, and two spare blocks. So the rows of
@@ -59,7 +59,7 @@ fn part_then_block(rt: HostRuntime) {
 
 #[test]
 fn outputs_in_a_block(rt: HostRuntime) {
-    let drafts = [Draft::default(), Draft::default()];
+    let drafts = [(15, [0, 0, 0, 0]), (15, [0, 0, 0, 0])];
     let calls = [
         (CLIENT, Submits(1, BODY, Ok(0))),
         (SERVER, Takes(1, 0)),
@@ -105,7 +105,7 @@ fn mark_of_spare_rows(rt: HostRuntime) {
 
 #[test]
 fn mark_passes_void_rows(rt: HostRuntime) {
-    let drafts = [Draft::default(), Draft::default()];
+    let drafts = [(15, [0, 0, 0, 0]), (15, [0, 0, 0, 0])];
     let calls = [
         (CLIENT, Submits(1, BODY, Ok(0))),
         (CLIENT, Claims(9, Claimed::Idle)),
@@ -126,7 +126,7 @@ fn mark_passes_void_rows(rt: HostRuntime) {
 #[test]
 fn full_once_all_are_drawn(rt: HostRuntime) {
     let limits = Limits { spare: 1, ..BLOCKS };
-    let drafts = [Draft::default(), Draft::default()];
+    let drafts = [(15, [0, 0, 0, 0]), (15, [0, 0, 0, 0])];
     let calls = [
         (CLIENT, Submits(1, BODY, Ok(0))),
         (CLIENT, Submits(1, BODY, Ok(2))),
@@ -171,7 +171,7 @@ fn all_found() -> Account {
 fn blocks_are_looked_at(rt: HostRuntime) {
     let second = request(2, 2, BODY);
     let third = request(3, 3, BODY);
-    let replies = [draft(&rt, 15, BODY), draft(&rt, 15, BODY)];
+    let replies = [(15, BODY), (15, BODY)];
     let made = Outcome::Committed {
         first: 10,
         count: 2,
@@ -197,7 +197,7 @@ fn blocks_are_looked_at(rt: HostRuntime) {
 
 #[test]
 fn cancel_in_a_later_block(rt: HostRuntime) {
-    let drafts = [draft(&rt, 2, BODY), draft(&rt, 2, BODY)];
+    let drafts = [(2, BODY), (2, BODY)];
     let calls = [
         (CLIENT, Submits(1, BODY, Ok(0))),
         (CLIENT, NextError(0, None)),

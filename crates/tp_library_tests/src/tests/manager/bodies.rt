@@ -2,7 +2,7 @@
 
 use super::plays::Call::{Aborts, Claims, Commits, Finds, Kills, Reads, Submits, Takes};
 use super::plays::{CLIENT, SERVER, plays};
-use super::{NEW, SMALL, draft, output, request, work};
+use super::{NEW, SMALL, output, request, work};
 use tp_model::types::{Body, Killed, Limits, Outcome, Refusal, Status};
 
 /// No two words are alike; the greatest number is among them, and 0.
@@ -18,7 +18,7 @@ const REPLY: Body = [0, 18446744073709551614, 4294967296, 2];
 fn bodies_committed(rt: HostRuntime) {
     let asked = request(0, 1, ASKED);
     let passed_on = output(4, 2, 0, PASSED_ON, 2);
-    let drafts = [draft(&rt, 2, PASSED_ON), draft(&rt, 15, REPLY)];
+    let drafts = [(2, PASSED_ON), (15, REPLY)];
     let committed = Outcome::Committed { first: 4, count: 2 };
     let calls = [
         (CLIENT, Submits(1, ASKED, Ok(0))),
@@ -37,8 +37,8 @@ fn bodies_committed(rt: HostRuntime) {
 fn bodies_aborted_and_lost(rt: HostRuntime) {
     let limits = Limits { units: 3, ..SMALL };
     let asked = request(0, 1, ASKED);
-    let lost = [draft(&rt, 2, PASSED_ON), draft(&rt, 15, REPLY)];
-    let drafts = [draft(&rt, 15, LATER), draft(&rt, 2, ASKED)];
+    let lost = [(2, PASSED_ON), (15, REPLY)];
+    let drafts = [(15, LATER), (2, ASKED)];
     let committed = Outcome::Committed { first: 6, count: 2 };
     let calls = [
         (CLIENT, Submits(1, ASKED, Ok(0))),

@@ -1,18 +1,14 @@
 //! Cancels of whole requests.
 
+use super::SMALL;
 use super::plays::Call::{Cancels, Commits, Family, Reply, Stands, Submits, Takes};
 use super::plays::{CLIENT, SERVER, plays};
-use super::{SMALL, draft};
 use tp_model::types::{Cancelled, Outcome, Refusal, Status};
 
 #[test]
 fn cancel_request(rt: HostRuntime) {
     let body = [0, 6, 0, 0];
-    let drafts = [
-        draft(&rt, 2, body),
-        draft(&rt, 3, body),
-        draft(&rt, 15, body),
-    ];
+    let drafts = [(2, body), (3, body), (15, body)];
     let calls = [
         (CLIENT, Cancels(0, Err(Refusal::NotThere))),
         (CLIENT, Cancels(8, Err(Refusal::NotThere))),
@@ -38,8 +34,8 @@ fn cancel_request(rt: HostRuntime) {
 #[test]
 fn cancel_of_lesser_ids(rt: HostRuntime) {
     let body = [0, 6, 0, 0];
-    let first = [draft(&rt, 2, body), draft(&rt, 2, body)];
-    let second = [draft(&rt, 2, body), draft(&rt, 15, body)];
+    let first = [(2, body), (2, body)];
+    let second = [(2, body), (15, body)];
     let calls = [
         (CLIENT, Submits(1, body, Ok(0))),
         (SERVER, Takes(1, 0)),

@@ -3,7 +3,7 @@ ghost use Rattle.tp_manager.specs.Shown.{IsOf};
 
 use super::plays::Call::{Aborts, Capacity, Claims, Commits, Finds, NextError, Submits, Takes};
 use super::plays::{CLIENT, SERVER, play_one, plays};
-use super::{NEW, NOTHING, SMALL, draft, output, request, work};
+use super::{NEW, NOTHING, SMALL, output, request, work};
 use crate::tests::fixture::two;
 use std::process::Abort;
 use tp_manager::{Manager, Pass};
@@ -15,7 +15,7 @@ const ANSWER: Body = [0, 10, 0, 0];
 
 #[test]
 fn example(rt: HostRuntime) {
-    let reply = [draft(&rt, 15, ANSWER)];
+    let reply = [(15, ANSWER)];
     let calls = [
         (CLIENT, Capacity(8)),
         (CLIENT, Submits(1, BODY, Ok(0))),

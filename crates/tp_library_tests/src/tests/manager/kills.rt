@@ -4,7 +4,7 @@ use super::plays::Call::{
     Aborts, Claims, Commits, Finds, HasOpen, Kills, NextError, Reply, Submits, Takes,
 };
 use super::plays::{CLIENT, SERVER, plays};
-use super::{NOTHING, SMALL, draft, request, work};
+use super::{NOTHING, SMALL, request, work};
 use tp_model::types::{Body, Claimed, Killed, Outcome, Refusal, Status};
 
 const BODY: Body = [0, 9, 0, 0];
@@ -47,7 +47,7 @@ fn kill_refused(rt: HostRuntime) {
 
 #[test]
 fn kill_reply(rt: HostRuntime) {
-    let reply = [draft(&rt, 15, BODY)];
+    let reply = [(15, BODY)];
     let calls = [
         (CLIENT, Submits(1, BODY, Ok(0))),
         (SERVER, Takes(1, 0)),

@@ -3,7 +3,7 @@
 use super::plays::Call::{Aborts, Claims, Commits, Kills, Low, NextError, Reply, Submits, Takes};
 use super::plays::{CLIENT, SERVER, plays};
 use super::{NOTHING, SMALL, request, work};
-use tp_model::types::{Claimed, Draft, Killed, Limits, Outcome};
+use tp_model::types::{Claimed, Killed, Limits, Outcome};
 
 #[test]
 fn claims_go_on(rt: HostRuntime) {
@@ -86,7 +86,7 @@ fn parked_stays(rt: HostRuntime) {
 fn mark_passes_dead_drafts(rt: HostRuntime) {
     let limits = Limits { units: 8, ..SMALL };
     let one = Outcome::Committed { first: 6, count: 1 };
-    let drafts = [Draft::default(), Draft::default()];
+    let drafts = [(15, [0, 0, 0, 0]), (15, [0, 0, 0, 0])];
     let calls = [
         (CLIENT, Submits(1, [0, 5, 0, 0], Ok(0))),
         (SERVER, Claims(1, work(8, 1, request(0, 1, [0, 5, 0, 0])))),
@@ -122,7 +122,7 @@ fn stages_have_marks_of_their_own(rt: HostRuntime) {
         (SERVER, Low(3, 0, 3)),
         (SERVER, Low(1, 0, 0)),
         (SERVER, Takes(1, 0)),
-        (SERVER, Commits(&[Draft::default()], replied)),
+        (SERVER, Commits(&[(15, [0, 0, 0, 0])], replied)),
         (SERVER, Claims(1, Claimed::Idle)),
         (SERVER, Low(1, 0, 3)),
         (SERVER, Low(1, 1, 1)),

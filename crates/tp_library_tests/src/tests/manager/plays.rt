@@ -7,8 +7,7 @@ use crate::tests::fixture::two;
 use std::process::Abort;
 use tp_manager::{Manager, Pass, Room};
 use tp_model::types::{
-    Body, Cancelled, Claimed, Draft, Element, Killed, Limits, Look, Outcome, Refusal, Released,
-    Status,
+    Body, Cancelled, Claimed, Element, Killed, Limits, Look, Outcome, Refusal, Released, Status,
 };
 
 /// The place of a client's pass among two, and that of a server's.
@@ -33,8 +32,8 @@ pub(super) enum Call<'a> {
     ClaimsId(u32, Result<(u32, u8), Refusal>),
     /// The pass's own abort of what it has in hand.
     Aborts,
-    /// A commit of what is in hand, with these outputs.
-    Commits(&'a [Draft], Outcome),
+    /// A commit of what is in hand, with outputs of these stages and bodies.
+    Commits(&'a [(u8, Body)], Outcome),
     /// A kill of the element.
     Kills(u32, Result<Killed, Refusal>),
     /// A release of the element.
@@ -88,7 +87,7 @@ fn answers(manager: &Manager, pass: &mut Pass, call: Call<'_>) -> bool
         Call::NextIdle(stage) => asking::claim_next(manager, pass, stage) == Some(Claimed::Idle),
         Call::ClaimsId(id, answer) => asking::claims_id(manager, pass, id, answer),
         Call::Aborts => asking::aborts(manager, pass),
-        Call::Commits(drafts, outcome) => asking::commits(manager, pass, drafts, outcome),
+        Call::Commits(outputs, outcome) => asking::commits(manager, pass, outputs, outcome),
         Call::Kills(id, answer) => asking::kills(manager, pass, id, answer),
         Call::Releases(id, answer) => asking::releases(manager, pass, id, answer),
         Call::Collects(id, answer) => asking::collects(manager, pass, id, answer),

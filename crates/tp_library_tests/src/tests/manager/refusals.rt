@@ -3,7 +3,7 @@ ghost use Rattle.tp_manager.specs.Shown.{IsKeptBy};
 
 use super::plays::Call::{Aborts, Claims, Commits, Finds, HasOpen, NextError, Reads, Submits};
 use super::plays::{CLIENT, SERVER, plays};
-use super::{NEW, SMALL, draft, output, request, work};
+use super::{NEW, SMALL, output, request, work};
 use crate::tests::fixture::kept;
 use tp_manager::{Keeper, MakeFault, Manager};
 use tp_model::types::{Body, Claimed, Limits, Outcome, Refusal, Status};
@@ -69,7 +69,7 @@ fn attempts_and_units(rt: HostRuntime) {
 fn full_then_committed(rt: HostRuntime) {
     let limits = Limits { rows: 1, ..SMALL };
     let element = request(0, 1, BODY);
-    let replies = [draft(&rt, 15, BODY), draft(&rt, 15, BODY)];
+    let replies = [(15, BODY), (15, BODY)];
     let calls = [
         (CLIENT, Submits(1, BODY, Ok(0))),
         (SERVER, Claims(1, work(2, 1, element))),

@@ -5,7 +5,7 @@ use super::plays::Call::{
     Submits, Takes,
 };
 use super::plays::{CLIENT, SERVER, plays};
-use super::{NEW, SMALL, draft, output};
+use super::{NEW, SMALL, output};
 use tp_model::types::{Killed, Outcome, Refusal, Released, Status};
 
 /// The second pass takes element 0 twice, by its units 2 and 3, and the first one releases it each time: then it waits,
@@ -58,7 +58,7 @@ fn what_is_not_held(rt: HostRuntime) {
 /// Element 0 is consumed by unit 2, which answers with the reply 4.
 #[test]
 fn a_reply_once(rt: HostRuntime) {
-    let drafts = [draft(&rt, 15, [0, 1, 2, 3]), draft(&rt, 14, [0, 5, 0, 0])];
+    let drafts = [(15, [0, 1, 2, 3]), (14, [0, 5, 0, 0])];
     let reply = output(4, 15, 0, [0, 1, 2, 3], 2);
     let calls = [
         (CLIENT, Collects(4, Err(Refusal::NotThere))),
@@ -85,7 +85,7 @@ fn a_reply_once(rt: HostRuntime) {
 /// Unit 2 makes the replies 4, 5 and 6 of request 0. One is killed, and the others are collected in order.
 #[test]
 fn replies_one_after_another(rt: HostRuntime) {
-    let reply = draft(&rt, 15, [0, 1, 2, 3]);
+    let reply = (15, [0, 1, 2, 3]);
     let calls = [
         (CLIENT, CollectsNext(0, None)),
         (CLIENT, CollectsNext(4_000_000_000, None)),

@@ -1,8 +1,9 @@
 //! Passes on threads of their own that draw the spare blocks.
+ghost use denote.Param.Send.{IsSync};
 ghost use Rattle.std.specs.Prelude.{◌≡◌};
 ghost use Rattle.tp_manager.specs.Shown.{IsOf};
 
-use crate::tests::fixture::kept;
+use crate::tests::fixture::{kept, two_more};
 use std::thread::{Threads, join_mut};
 use tp_manager::{Manager, Pass};
 use tp_model::types::{Body, Limits, Refusal};
@@ -65,6 +66,30 @@ fn pair<R: Threads + Sync>(
     both(a, b)
 }
 
+/// Four threads, each with a pass of its own.
+fn all_four<R: Threads + Sync>(
+    rt: &R,
+    manager: &Manager,
+    first: &mut Pass,
+    second: &mut Pass,
+    third: &mut Pass,
+    fourth: &mut Pass,
+) -> Accepted
+    requires first { IsOf manager.now first.old }
+    requires second { IsOf manager.now second.old }
+    requires third { IsOf manager.now third.old }
+    requires fourth { IsOf manager.now fourth.old }
+{
+    let mut one = || -> Accepted
+        requires { IsSync R.row × IsOf manager.now first.now × IsOf manager.now second.now }
+    { pair(rt, manager, first, second) };
+    let mut other = || -> Accepted
+        requires { IsSync R.row × IsOf manager.now third.now × IsOf manager.now fourth.now }
+    { pair(rt, manager, third, fourth) };
+    let (a, b) = join_mut(rt, &mut one, &mut other);
+    both(a, b)
+}
+
 #[test]
 fn four_passes_use_spares(rt: HostRuntime) {
     let limits = Limits {
@@ -75,18 +100,26 @@ fn four_passes_use_spares(rt: HostRuntime) {
         spare: 3,
     };
     let (manager, mut keeper, mut first, mut second) = kept(&rt, limits);
-    let mut third = keeper.pass(&manager).expect(&rt, "no pass");
-    let mut fourth = keeper.pass(&manager).expect(&rt, "no pass");
-    let (a, b) = join_mut(
-        &rt,
-        &mut || pair(&rt, &manager, &mut first, &mut second),
-        &mut || pair(&rt, &manager, &mut third, &mut fourth),
-    );
+    let (mut third, mut fourth) = two_more(&rt, &manager, &mut keeper);
     // So each of the ids 0 to 27 came once.
     let all = Accepted {
         ids: 0x0fff_ffff,
         count: 28,
         full: true,
     };
-    assert!(rt; both(a, b) == all);
+    let accepted = all_four(
+        &rt,
+        &manager,
+        &mut first,
+        &mut second,
+        &mut third,
+        &mut fourth,
+    );
+    assert!(rt; accepted == all);
+    drop(fourth);
+    drop(third);
+    drop(second);
+    drop(first);
+    drop(keeper);
+    drop(manager);
 }

@@ -4,7 +4,7 @@ use super::plays::Call::{
     Aborts, ClaimsId, Commits, HasOpen, Kills, Requeues, Stands, Submits, Takes,
 };
 use super::plays::{CLIENT, SERVER, plays};
-use super::{NEW, NOTHING, SMALL, draft};
+use super::{NEW, NOTHING, SMALL};
 use tp_model::types::{Killed, Outcome, Refusal, Status};
 
 /// Of two elements of a stage the second is taken. The first still waits, and a claim takes it.
@@ -54,7 +54,7 @@ fn again_and_parked(rt: HostRuntime) {
 /// come first. A refusal uses no unit: the server has two, 2 and 3.
 #[test]
 fn refused(rt: HostRuntime) {
-    let drafts = [draft(&rt, 15, [0, 1, 2, 3])];
+    let drafts = [(15, [0, 1, 2, 3])];
     let calls = [
         (SERVER, ClaimsId(0, Err(Refusal::NotThere))),
         (SERVER, ClaimsId(8, Err(Refusal::NotThere))),

@@ -1,9 +1,10 @@
 //! Passes on threads of their own.
+ghost use denote.Param.Send.{IsSync};
 ghost use Rattle.std.specs.Prelude.{◌≡◌, ◌+◌, None};
 ghost use Rattle.tp_manager.specs.Shown.{IsOf};
 
 use super::SMALL;
-use crate::tests::fixture::{kept, two};
+use crate::tests::fixture::{kept, two, two_more};
 use std::thread::{Threads, join_mut};
 use tp_manager::{Manager, Pass};
 use tp_model::types::{Claimed, Limits, Outcome, Refusal, Status};
@@ -154,6 +155,32 @@ fn pair<R: Threads + Sync>(rt: &R, manager: &Manager, first: &mut Pass, second: 
     sum(a, b)
 }
 
+/// Four threads, each with a pass of its own.
+fn all_four<R: Threads + Sync>(
+    rt: &R,
+    manager: &Manager,
+    first: &mut Pass,
+    second: &mut Pass,
+    third: &mut Pass,
+    fourth: &mut Pass,
+) -> Sums
+    requires first { IsOf manager.now first.old × (first.old.open_unit ≡ None) }
+    requires second { IsOf manager.now second.old × (second.old.open_unit ≡ None) }
+    requires third { IsOf manager.now third.old × (third.old.open_unit ≡ None) }
+    requires fourth { IsOf manager.now fourth.old × (fourth.old.open_unit ≡ None) }
+{
+    let mut one = || -> Sums
+        requires { IsSync R.row × IsOf manager.now first.now × IsOf manager.now second.now
+            × (first.now.open_unit ≡ None) × (second.now.open_unit ≡ None) }
+    { pair(rt, manager, first, second) };
+    let mut other = || -> Sums
+        requires { IsSync R.row × IsOf manager.now third.now × IsOf manager.now fourth.now
+            × (third.now.open_unit ≡ None) × (fourth.now.open_unit ≡ None) }
+    { pair(rt, manager, third, fourth) };
+    let (a, b) = join_mut(rt, &mut one, &mut other);
+    sum(a, b)
+}
+
 #[test]
 fn four_threads(rt: HostRuntime) {
     let limits = Limits {
@@ -164,13 +191,22 @@ fn four_threads(rt: HostRuntime) {
         spare: 0,
     };
     let (manager, mut keeper, mut first, mut second) = kept(&rt, limits);
-    let mut third = keeper.pass(&manager).expect(&rt, "no pass");
-    let mut fourth = keeper.pass(&manager).expect(&rt, "no pass");
+    let (mut third, mut fourth) = two_more(&rt, &manager, &mut keeper);
     let mut watcher = keeper.pass(&manager).expect(&rt, "no pass");
-    let (a, b) = join_mut(
+    let sums = all_four(
         &rt,
-        &mut || pair(&rt, &manager, &mut first, &mut second),
-        &mut || pair(&rt, &manager, &mut third, &mut fourth),
+        &manager,
+        &mut first,
+        &mut second,
+        &mut third,
+        &mut fourth,
     );
-    assert!(rt; counted(&manager, &mut watcher) == sum(a, b));
+    assert!(rt; counted(&manager, &mut watcher) == sums);
+    drop(watcher);
+    drop(fourth);
+    drop(third);
+    drop(second);
+    drop(first);
+    drop(keeper);
+    drop(manager);
 }

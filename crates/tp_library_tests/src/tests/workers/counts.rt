@@ -64,6 +64,26 @@ fn are_three<R: Abort>(rt: &R, manager: &Manager, reader: &mut Pass)
     assert!(rt; manager.read(reader, 3) == Err(Refusal::NotThere));
 }
 
+/// What a killer counts who kills three elements that wait, and the same once more.
+fn kills_twice<R: Threads + Sync + Abort>(rt: &R, manager: &Manager, killers: &mut [Pass])
+    requires one { length killers.old ≡ 1 }
+    requires free { All (IsFreePass manager.now) killers.old }
+{
+    let killed = Shift {
+        killed: 3,
+        missing: 1,
+        ..Shift::default()
+    };
+    let again = Shift {
+        already: 3,
+        missing: 1,
+        ..Shift::default()
+    };
+    let first = kills_four(rt, manager, killers);
+    let second = kills_four(rt, manager, killers);
+    assert_eq!(rt; (first, second), (killed, again));
+}
+
 #[test]
 fn client_and_killer_counts(rt: HostRuntime) {
     let limits = Limits {
@@ -77,29 +97,13 @@ fn client_and_killer_counts(rt: HostRuntime) {
     let mut clients = [pass(&rt, &mut keeper, &manager)];
     let mut killers = [pass(&rt, &mut keeper, &manager)];
     let mut reader = pass(&rt, &mut keeper, &manager);
-    let counts = submits_three(&rt, &manager, &mut clients);
     let wanted = Shift {
         submitted: 3,
         ..Shift::default()
     };
-    assert_eq!(rt; counts, wanted);
+    assert_eq!(rt; submits_three(&rt, &manager, &mut clients), wanted);
     are_three(&rt, &manager, &mut reader);
-    let counts = kills_four(&rt, &manager, &mut killers);
-    let wanted = Shift {
-        killed: 3,
-        missing: 1,
-        ..Shift::default()
-    };
-    assert_eq!(rt; counts, wanted);
-
-    // The same job once more, by the same pass.
-    let counts = kills_four(&rt, &manager, &mut killers);
-    let wanted = Shift {
-        already: 3,
-        missing: 1,
-        ..Shift::default()
-    };
-    assert_eq!(rt; counts, wanted);
+    kills_twice(&rt, &manager, &mut killers);
     drop(reader);
     drop(killers);
     drop(clients);

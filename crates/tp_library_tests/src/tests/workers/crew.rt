@@ -1,9 +1,12 @@
 //! A crew: its desks and clients at work, what it counts, and its boxes.
 ghost use Rattle.std.specs.Prelude.{◌≡◌, None, All, length};
+ghost use Rattle.tp_desk.specs.Steady.{shown};
+ghost use Rattle.tp_crew.specs.Crew.{IsSteadyCrew};
 
 use crate::tests::fixture::{eager, lazy, recipe};
 use crate::tests::workers::client;
 use std::process::Abort;
+use std::thread::Threads;
 use tp_crew::{Crew, CrewLimits};
 use tp_desk::Order;
 use tp_manager::MakeFault;
@@ -44,25 +47,45 @@ fn turns_of(counts: &Shift) -> u32 {
         .wrapping_add(counts.nounit)
 }
 
-#[test]
-fn crew_at_work(rt: HostRuntime) {
-    let mut crew = Crew::new(rt.alloc(), limits(), boxes(&rt), 1).expect(&rt, "no crew");
+/// A shift of a client and two desks, of 20 turns each. Answers how many elements the desks consumed.
+fn shifts<R: Threads + Sync + Abort + AllocGlobal>(rt: &R, crew: &mut Crew) -> u32
+    requires steady { IsSteadyCrew (shown behaviour) (shown registers) (shown pending) crew.old }
+    requires hired { (length crew.old.boxes.items ≡ 2) × (crew.old.clients ≡ 1) }
+    ensures steady { IsSteadyCrew (shown behaviour) (shown registers) (shown pending) crew.new }
+    ensures boxes { length crew.new.boxes.items ≡ 2 }
+{
     let mut each = [Shift::default(); 2];
     let counts = crew.shift(
-        &rt,
+        rt,
         Plan::least_first(20),
-        &mut [client(&rt, 1, 10)],
+        &mut [client(rt, 1, 10)],
         &mut each,
         &NoGate,
     );
-    assert_eq!(rt; turns_of(&each[0]), 20);
-    assert_eq!(rt; turns_of(&each[1]), 20);
-    assert_eq!(rt; each[0].done.wrapping_add(each[1].done), counts.done);
+    let [first, second] = each;
+    assert!(rt; turns_of(&first) == 20 && turns_of(&second) == 20);
+    assert!(rt; first.done.wrapping_add(second.done) == counts.done);
+    assert!(rt; counts.submitted == 10);
+    counts.done
+}
+
+/// All that is left is drained: ten elements are consumed.
+fn drains<R: Abort>(rt: &R, crew: &mut Crew, done: u32)
+    requires steady { IsSteadyCrew (shown behaviour) (shown registers) (shown pending) crew.old }
+    requires boxes { length crew.old.boxes.items ≡ 2 }
+    ensures steady { IsSteadyCrew (shown behaviour) (shown registers) (shown pending) crew.new }
+    ensures boxes { length crew.new.boxes.items ≡ 2 }
+{
     let drained = crew.drain(Order::LeastFirst);
-    let total = crew.account().total;
-    assert_eq!(rt; counts.submitted, 10);
-    assert_eq!(rt; counts.done.wrapping_add(drained.done), 10);
-    assert_eq!(rt; total.consumed, 10);
+    assert!(rt; done.wrapping_add(drained.done) == 10);
+    assert!(rt; crew.account().total.consumed == 10);
+}
+
+#[test]
+fn crew_at_work(rt: HostRuntime) {
+    let mut crew = Crew::new(rt.alloc(), limits(), boxes(&rt), 1).expect(&rt, "no crew");
+    let done = shifts(&rt, &mut crew);
+    drains(&rt, &mut crew, done);
     let mut other = eager(&rt, recipe(1, Act::Add, &[]));
     crew.swap(0, &mut other);
     assert_eq!(rt; crew.drain(Order::LeastFirst).done, 0);

@@ -1,10 +1,14 @@
 //! Two desks whose turns overlap: in neither order could one take its turn after the other.
+ghost use Rattle.std.specs.Prelude.{◌≡◌, None, All, length};
+ghost use Rattle.tp_workers.specs.Free.{IsFreePass};
 
-use crate::tests::fixture::{eager, lazy, recipe};
-use crate::tests::workers::{hold, manager, pair, pass, two};
+use crate::tests::workers::{adders, hold, manager, pass, two};
+use std::process::Abort;
 use std::sync::atomic::{AtomicU64, Ordering};
+use std::thread::Threads;
+use tp_manager::{Manager, Pass};
 use tp_model::types::Limits;
-use tp_server::{Act, Server};
+use tp_server::Server;
 use tp_workers::{Gate, Plan, Point, Shift, shift};
 
 /// Holds worker 1 at its start until worker 0 has claimed, and worker 0, once prepared, until worker 1 has settled.
@@ -27,6 +31,40 @@ impl Gate for Overlap {
     }
 }
 
+/// One turn of each of two desks, which overlap: each has done one element.
+fn overlaps<R: Threads + Sync + Abort>(
+    rt: &R,
+    manager: &Manager,
+    desks: &mut [Pass],
+    servers: &mut [Box<dyn Server + Send>],
+)
+    requires two { (length desks.old ≡ 2) × (length servers.old ≡ 2) }
+    requires free { All (IsFreePass manager.now) desks.old }
+    requires clear { All (λ server. pending server ≡ None) servers.old }
+{
+    let gate = Overlap {
+        claimed: AtomicU64::new(0),
+        settled: AtomicU64::new(0),
+        failed: AtomicU64::new(0),
+    };
+    let mut each = [Shift::default(); 2];
+    let counts = shift(
+        rt,
+        manager,
+        desks,
+        servers,
+        &mut [],
+        &mut [],
+        &mut [],
+        &mut [],
+        Plan::least_first(1),
+        &mut each,
+        &gate,
+    );
+    assert!(rt; gate.failed.load(Ordering::SeqCst) == 0);
+    assert_eq!(rt; (counts.done, each[0].done, each[1].done), (2, 1, 1));
+}
+
 #[test]
 fn two_desks_overlap(rt: HostRuntime) {
     let limits = Limits {
@@ -38,37 +76,13 @@ fn two_desks_overlap(rt: HostRuntime) {
     };
     let (manager, mut keeper) = manager(&rt, limits);
     let mut client = pass(&rt, &mut keeper, &manager);
-    let mut passes = two(&rt, &mut keeper, &manager);
+    let mut desks = two(&rt, &mut keeper, &manager);
     assert!(rt; manager.submit(&mut client, 1, [0, 5, 0, 0]) == Ok(0));
     assert!(rt; manager.submit(&mut client, 1, [0, 7, 0, 0]) == Ok(1));
-    let a = eager(&rt, recipe(1, Act::Add, &[]));
-    let b = lazy(&rt, recipe(1, Act::Add, &[]));
-    let gate = Overlap {
-        claimed: AtomicU64::new(0),
-        settled: AtomicU64::new(0),
-        failed: AtomicU64::new(0),
-    };
-    let mut servers = pair(a, b);
-    let mut each = [Shift::default(); 2];
-    let counts = shift(
-        &rt,
-        &manager,
-        &mut passes,
-        &mut servers,
-        &mut [],
-        &mut [],
-        &mut [],
-        &mut [],
-        Plan::least_first(1),
-        &mut each,
-        &gate,
-    );
-    assert_eq!(rt; gate.failed.load(Ordering::SeqCst), 0);
-    assert_eq!(rt; counts.done, 2);
-    assert_eq!(rt; (each[0].done, each[1].done), (1, 1));
+    let mut servers = adders(&rt);
+    overlaps(&rt, &manager, &mut desks, &mut servers);
     drop(servers);
-    drop(gate);
-    drop(passes);
+    drop(desks);
     drop(client);
     drop(keeper);
     drop(manager);

@@ -99,6 +99,14 @@ fn register(crew: &Crew, k: usize, which: u64) -> u64 {
     }
 }
 
+/// The registers of the three boxes: what the first two booked together, and what the third one did.
+fn are_booked<R: Abort>(rt: &R, crew: &Crew) {
+    let sent = register(crew, 0, 0).wrapping_add(register(crew, 1, 0));
+    let added = register(crew, 0, 1).wrapping_add(register(crew, 1, 1));
+    assert_eq!(rt; (sent, added), (100, 380));
+    assert_eq!(rt; (register(crew, 2, 0), register(crew, 2, 1)), (100, 380));
+}
+
 #[test]
 fn storm_of_own_work(rt: HostRuntime) {
     let limits = CrewLimits {
@@ -111,21 +119,10 @@ fn storm_of_own_work(rt: HostRuntime) {
     let mut jobs = [client(&rt, 3, 60), client(&rt, 5, 40)];
     let counts = crew.shift(&rt, Plan::least_first(120), &mut jobs, &mut [], &NoGate);
     let drained = crew.drain(Order::LeastFirst);
-    assert_eq!(rt; counts.submitted, 100);
-    assert_eq!(rt; counts.done.wrapping_add(drained.done), 200);
-    assert_eq!(rt; drained.nounit, 0);
+    let done = counts.done.wrapping_add(drained.done);
+    assert_eq!(rt; (counts.submitted, done, drained.nounit), (100, 200, 0));
     let total = crew.account().total;
-    assert_eq!(rt; total.consumed, 200);
-    assert_eq!(rt; total.waiting, 100);
-    assert_eq!(rt;
-        register(&crew, 0, 0).wrapping_add(register(&crew, 1, 0)),
-        100
-    );
-    assert_eq!(rt; register(&crew, 2, 0), 100);
-    assert_eq!(rt;
-        register(&crew, 0, 1).wrapping_add(register(&crew, 1, 1)),
-        380
-    );
-    assert_eq!(rt; register(&crew, 2, 1), 380);
+    assert_eq!(rt; (total.consumed, total.waiting), (200, 100));
+    are_booked(&rt, &crew);
     drop(jobs);
 }

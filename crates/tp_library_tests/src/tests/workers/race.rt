@@ -3,14 +3,13 @@ ghost use Rattle.std.specs.Prelude.{◌≡◌, None, All, length};
 ghost use Rattle.tp_manager.specs.Shown.{IsOf};
 ghost use Rattle.tp_workers.specs.Free.{IsFreePass};
 
-use crate::tests::fixture::{eager, lazy, recipe};
-use crate::tests::workers::{client, manager, pair, pass, survey, two};
+use crate::tests::workers::{adders, client, manager, pass, survey, two};
 use std::process::Abort;
 use std::thread::Threads;
 use tp_desk::Order;
 use tp_manager::{Manager, Pass};
 use tp_model::types::Limits;
-use tp_server::{Act, Server};
+use tp_server::Server;
 use tp_workers::{Drained, KillJob, NoGate, Plan, Shift, drain, shift};
 
 /// Two desks, two clients and a killer race, then the desks drain.
@@ -22,7 +21,8 @@ fn raced<R: Threads + Sync + Abort + AllocGlobal>(
     clients: &mut [Pass],
     killers: &mut [Pass],
 ) -> (Shift, Drained)
-    requires many { (length desks.old ≡ 2) × (length servers.old ≡ 2) × (length clients.old ≡ 2) × (length killers.old ≡ 1) }
+    requires many { (length desks.old ≡ 2) × (length servers.old ≡ 2)
+        × (length clients.old ≡ 2) × (length killers.old ≡ 1) }
     requires desks { All (IsFreePass manager.now) desks.old }
     requires servers { All (λ server. pending server ≡ None) servers.old }
     requires clients { All (IsFreePass manager.now) clients.old }
@@ -57,14 +57,39 @@ fn adds_up<R: Abort>(
     requires { IsOf manager.now reader.old }
 {
     let all = survey(manager, reader, 1, 128);
-    assert_eq!(rt; counts.submitted, 100);
-    assert_eq!(rt; all.consumed.wrapping_add(all.killed), 100);
-    assert_eq!(rt; counts.killed, all.killed);
-    assert_eq!(rt; counts.done.wrapping_add(drained.done), all.consumed);
+    let settled = all.consumed.wrapping_add(all.killed);
+    let done = counts.done.wrapping_add(drained.done);
+    assert_eq!(rt;
+        (counts.submitted, settled, counts.killed, done),
+        (100, 100, all.killed, all.consumed)
+    );
     let (Some(x), Some(y)) = registers else {
         panic!(rt; "no register")
     };
     assert_eq!(rt; x.wrapping_add(y), all.consumed as u64);
+}
+
+/// The race and the rounds, and what they come to.
+fn races<R: Threads + Sync + Abort + AllocGlobal>(
+    rt: &R,
+    manager: &Manager,
+    desks: &mut [Pass],
+    servers: &mut [Box<dyn Server + Send>],
+    clients: &mut [Pass],
+    killers: &mut [Pass],
+    reader: &mut Pass,
+)
+    requires many { (length desks.old ≡ 2) × (length servers.old ≡ 2)
+        × (length clients.old ≡ 2) × (length killers.old ≡ 1) }
+    requires desks { All (IsFreePass manager.now) desks.old }
+    requires servers { All (λ server. pending server ≡ None) servers.old }
+    requires clients { All (IsFreePass manager.now) clients.old }
+    requires killers { All (IsFreePass manager.now) killers.old }
+    requires reader { IsOf manager.now reader.old }
+{
+    let (counts, drained) = raced(rt, manager, desks, servers, clients, killers);
+    let registers = (servers[0].balance(0), servers[1].balance(0));
+    adds_up(rt, manager, reader, counts, drained, registers);
 }
 
 #[test]
@@ -81,19 +106,16 @@ fn race_with_killer(rt: HostRuntime) {
     let mut desks = two(&rt, &mut keeper, &manager);
     let mut killers = [pass(&rt, &mut keeper, &manager)];
     let mut reader = pass(&rt, &mut keeper, &manager);
-    let a = eager(&rt, recipe(1, Act::Add, &[]));
-    let b = lazy(&rt, recipe(1, Act::Add, &[]));
-    let mut servers = pair(a, b);
-    let (counts, drained) = raced(
+    let mut servers = adders(&rt);
+    races(
         &rt,
         &manager,
         &mut desks,
         &mut servers,
         &mut clients,
         &mut killers,
+        &mut reader,
     );
-    let registers = (servers[0].balance(0), servers[1].balance(0));
-    adds_up(&rt, &manager, &mut reader, counts, drained, registers);
     drop(servers);
     drop(reader);
     drop(killers);

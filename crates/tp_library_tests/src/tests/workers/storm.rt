@@ -4,13 +4,13 @@ ghost use Rattle.std.specs.Prelude.{◌≡◌, ◌*◌, ◌<◌, ◌^◌, None, 
 ghost use Rattle.tp_manager.specs.Shown.{IsOf};
 ghost use Rattle.tp_workers.specs.Free.{IsFreePass};
 
-use crate::tests::fixture::{eager, lazy, output, recipe};
-use crate::tests::workers::{Standing, manager, pass, survey, three, three_passes, two};
+use crate::tests::workers::{Standing, manager, pass, survey, three_passes, tree_of_three};
+use std::process::Abort;
 use std::thread::{Threads, join_mut};
 use tp_desk::Order;
 use tp_manager::{Manager, Pass};
 use tp_model::types::Limits;
-use tp_server::{Act, Server};
+use tp_server::Server;
 use tp_workers::{NoGate, Plan, Shift, drain, shift};
 
 /// The requests 0 to 49 are cancelled, and those after them are not.
@@ -154,6 +154,63 @@ fn adds_up(manager: &Manager, reader: &mut Pass, stage: u8, server: &Box<dyn Ser
     all.waiting == 0 && all.other == 0 && server.balance(0) == Some(all.amount)
 }
 
+/// Each family is settled, and what was killed the two cancellers killed. Answers how the cancelled requests
+/// stand.
+fn settles<R: Threads + Sync + Abort>(
+    rt: &R,
+    manager: &Manager,
+    desks: &mut [Pass],
+    servers: &mut [Box<dyn Server + Send>],
+    first: &mut Pass,
+    second: &mut Pass,
+    reader: &mut Pass,
+) -> Standing
+    requires paired { length desks.old ≡ length servers.old }
+    requires few { 200 * length desks.old < 2 ^ 32 }
+    requires free { All (IsFreePass manager.now) desks.old }
+    requires clear { All (λ server. pending server ≡ None) servers.old }
+    requires first { IsFreePass manager.now first.old }
+    requires second { IsFreePass manager.now second.old }
+    requires reader { IsOf manager.now reader.old }
+    ensures free { All (IsFreePass manager.now) desks.new }
+    ensures clear { All (λ server. pending server ≡ None) servers.new }
+    ensures kept { (length desks.new ≡ length desks.old) × (length servers.new ≡ length servers.old) }
+    ensures reader { IsOf manager.now reader.new }
+{
+    let (_counts, (one, other)) = turns_and_cancels(rt, manager, desks, servers, first, second);
+    let before = families(manager, reader);
+    assert!(rt; before.waiting == 0 && before.other == 0);
+    assert_eq!(rt; before.killed, one.wrapping_add(other));
+    before
+}
+
+/// A drain finds nothing of the cancelled requests, and consumes all else. Each register is the sum of what
+/// its server consumed.
+fn drains<R: Abort>(
+    rt: &R,
+    manager: &Manager,
+    desks: &mut [Pass],
+    servers: &mut [Box<dyn Server + Send>],
+    reader: &mut Pass,
+    before: Standing,
+)
+    requires three { (length desks.old ≡ 3) × (length servers.old ≡ 3) }
+    requires free { All (IsFreePass manager.now) desks.old }
+    requires clear { All (λ server. pending server ≡ None) servers.old }
+    requires reader { IsOf manager.now reader.old }
+{
+    let _drained = drain(manager, desks, servers, Order::LeastFirst);
+    let after = families(manager, reader);
+    assert!(rt; after.waiting == 0 && after.other == 0);
+    assert_eq!(rt;
+        (after.consumed, after.killed),
+        (before.consumed, before.killed)
+    );
+    assert!(rt; adds_up(manager, reader, 1, &servers[0]));
+    assert!(rt; adds_up(manager, reader, 2, &servers[1]));
+    assert!(rt; adds_up(manager, reader, 3, &servers[2]));
+}
+
 #[test]
 fn storm(rt: HostRuntime) {
     let limits = Limits {
@@ -169,36 +226,17 @@ fn storm(rt: HostRuntime) {
     let mut desks = three_passes(&rt, &mut keeper, &manager);
     let mut first = pass(&rt, &mut keeper, &manager);
     let mut second = pass(&rt, &mut keeper, &manager);
-    let root = recipe(1, Act::Add, &[output(2), output(3)]);
-    let a = eager(&rt, root);
-    let b = lazy(&rt, recipe(2, Act::Add, &[output(15)]));
-    let c = eager(&rt, recipe(3, Act::Add, &[output(15)]));
-    let mut servers = three(a, b, c);
-    let (_counts, (one, other)) = turns_and_cancels(
+    let mut servers = tree_of_three(&rt);
+    let before = settles(
         &rt,
         &manager,
         &mut desks,
         &mut servers,
         &mut first,
         &mut second,
+        &mut client,
     );
-
-    // Each family is settled, and what was killed the two cancellers killed.
-    let before = families(&manager, &mut client);
-    assert!(rt; before.waiting == 0 && before.other == 0);
-    assert_eq!(rt; before.killed, one.wrapping_add(other));
-
-    // A drain finds nothing of them, and consumes all else.
-    let _drained = drain(&manager, &mut desks, &mut servers, Order::LeastFirst);
-    let after = families(&manager, &mut client);
-    assert!(rt; after.waiting == 0 && after.other == 0);
-    assert_eq!(rt; after.consumed, before.consumed);
-    assert_eq!(rt; after.killed, before.killed);
-
-    // Each register is the sum of what its server consumed.
-    assert!(rt; adds_up(&manager, &mut client, 1, &servers[0]));
-    assert!(rt; adds_up(&manager, &mut client, 2, &servers[1]));
-    assert!(rt; adds_up(&manager, &mut client, 3, &servers[2]));
+    drains(&rt, &manager, &mut desks, &mut servers, &mut client, before);
     drop(servers);
     drop(second);
     drop(first);

@@ -1,10 +1,14 @@
 //! Six workers that are all under way at once.
+ghost use Rattle.std.specs.Prelude.{◌≡◌, None, All, length};
+ghost use Rattle.tp_workers.specs.Free.{IsFreePass};
 
-use crate::tests::fixture::{eager, lazy, recipe};
-use crate::tests::workers::{client, hold, manager, pair, two};
+use crate::tests::workers::{adders, client, hold, manager, two};
+use std::process::Abort;
 use std::sync::atomic::{AtomicU64, Ordering};
+use std::thread::Threads;
+use tp_manager::{Manager, Pass};
 use tp_model::types::Limits;
-use tp_server::{Act, Server};
+use tp_server::Server;
 use tp_workers::{Gate, KillJob, Plan, Point, shift};
 
 /// Holds each worker at its start until all have come there. Each has one turn or call.
@@ -24,6 +28,44 @@ impl Gate for Together {
     }
 }
 
+/// Two desks, two clients and two killers start together, and both clients submit.
+fn start_together<R: Threads + Sync + Abort + AllocGlobal>(
+    rt: &R,
+    manager: &Manager,
+    desks: &mut [Pass],
+    servers: &mut [Box<dyn Server + Send>],
+    clients: &mut [Pass],
+    killers: &mut [Pass],
+)
+    requires two { (length desks.old ≡ 2) × (length servers.old ≡ 2)
+        × (length clients.old ≡ 2) × (length killers.old ≡ 2) }
+    requires desks { All (IsFreePass manager.now) desks.old }
+    requires servers { All (λ server. pending server ≡ None) servers.old }
+    requires clients { All (IsFreePass manager.now) clients.old }
+    requires killers { All (IsFreePass manager.now) killers.old }
+{
+    let gate = Together {
+        workers: 6,
+        came: AtomicU64::new(0),
+        failed: AtomicU64::new(0),
+    };
+    let counts = shift(
+        rt,
+        manager,
+        desks,
+        servers,
+        clients,
+        &mut [client(rt, 1, 1), client(rt, 1, 1)],
+        killers,
+        &mut [KillJob { first: 0, end: 1 }, KillJob { first: 1, end: 2 }],
+        Plan::least_first(1),
+        &mut [],
+        &gate,
+    );
+    assert!(rt; gate.failed.load(Ordering::SeqCst) == 0);
+    assert_eq!(rt; counts.submitted, 2);
+}
+
 #[test]
 fn six_start_together(rt: HostRuntime) {
     let limits = Limits {
@@ -37,31 +79,16 @@ fn six_start_together(rt: HostRuntime) {
     let mut desks = two(&rt, &mut keeper, &manager);
     let mut clients = two(&rt, &mut keeper, &manager);
     let mut killers = two(&rt, &mut keeper, &manager);
-    let a = eager(&rt, recipe(1, Act::Add, &[]));
-    let b = lazy(&rt, recipe(1, Act::Add, &[]));
-    let gate = Together {
-        workers: 6,
-        came: AtomicU64::new(0),
-        failed: AtomicU64::new(0),
-    };
-    let mut servers = pair(a, b);
-    let counts = shift(
+    let mut servers = adders(&rt);
+    start_together(
         &rt,
         &manager,
         &mut desks,
         &mut servers,
         &mut clients,
-        &mut [client(&rt, 1, 1), client(&rt, 1, 1)],
         &mut killers,
-        &mut [KillJob { first: 0, end: 1 }, KillJob { first: 1, end: 2 }],
-        Plan::least_first(1),
-        &mut [],
-        &gate,
     );
-    assert_eq!(rt; gate.failed.load(Ordering::SeqCst), 0);
-    assert_eq!(rt; counts.submitted, 2);
     drop(servers);
-    drop(gate);
     drop(killers);
     drop(clients);
     drop(desks);

@@ -3,13 +3,12 @@ ghost use Rattle.std.specs.Prelude.{◌≡◌, None, All, length};
 ghost use Rattle.tp_manager.specs.Shown.{IsOf};
 ghost use Rattle.tp_workers.specs.Free.{IsFreePass};
 
-use crate::tests::fixture::{eager, lazy, output, recipe};
-use crate::tests::workers::{client, manager, pass, survey, three, three_passes, two};
+use crate::tests::workers::{client, manager, pass, survey, three_passes, tree_of_three, two};
 use std::process::Abort;
 use std::thread::Threads;
 use tp_manager::{Manager, Pass};
 use tp_model::types::Limits;
-use tp_server::{Act, Server};
+use tp_server::Server;
 use tp_workers::{KillJob, NoGate, Plan, Shift, shift};
 
 /// All work at once: the desks with this many turns, the clients and the killers.
@@ -21,7 +20,8 @@ fn all_work<R: Threads + Sync + Abort + AllocGlobal>(
     clients: &mut [Pass],
     killers: &mut [Pass],
 ) -> Shift
-    requires many { (length desks.old ≡ 3) × (length servers.old ≡ 3) × (length clients.old ≡ 2) × (length killers.old ≡ 2) }
+    requires many { (length desks.old ≡ 3) × (length servers.old ≡ 3)
+        × (length clients.old ≡ 2) × (length killers.old ≡ 2) }
     requires desks { All (IsFreePass manager.now) desks.old }
     requires servers { All (λ server. pending server ≡ None) servers.old }
     requires clients { All (IsFreePass manager.now) clients.old }
@@ -65,11 +65,9 @@ fn adds_up<R: Abort>(
 
     // What was taken is consumed once, and each consumed element has its outputs.
     assert!(rt; left.all() == requests.consumed && right.all() == requests.consumed);
-    assert_eq!(rt; replies.waiting, left.consumed.wrapping_add(right.consumed));
-    assert_eq!(rt;
-        counts.done,
-        replies.waiting.wrapping_add(requests.consumed)
-    );
+    let replied = left.consumed.wrapping_add(right.consumed);
+    let done = replies.waiting.wrapping_add(requests.consumed);
+    assert_eq!(rt; (replies.waiting, counts.done), (replied, done));
     assert!(rt; replies.all() == replies.waiting);
 
     // Nothing is held or parked, and what the killers killed stays so.
@@ -82,6 +80,33 @@ fn adds_up<R: Abort>(
 
     // Each register is the sum of what its server consumed.
     assert!(rt; registers == [Some(requests.amount), Some(left.amount), Some(right.amount)]);
+}
+
+/// All work at once, and what it comes to.
+fn works_and_adds_up<R: Threads + Sync + Abort + AllocGlobal>(
+    rt: &R,
+    manager: &Manager,
+    desks: &mut [Pass],
+    servers: &mut [Box<dyn Server + Send>],
+    clients: &mut [Pass],
+    killers: &mut [Pass],
+    reader: &mut Pass,
+)
+    requires many { (length desks.old ≡ 3) × (length servers.old ≡ 3)
+        × (length clients.old ≡ 2) × (length killers.old ≡ 2) }
+    requires desks { All (IsFreePass manager.now) desks.old }
+    requires servers { All (λ server. pending server ≡ None) servers.old }
+    requires clients { All (IsFreePass manager.now) clients.old }
+    requires killers { All (IsFreePass manager.now) killers.old }
+    requires reader { IsOf manager.now reader.old }
+{
+    let counts = all_work(rt, manager, desks, servers, clients, killers);
+    let registers = [
+        servers[0].balance(0),
+        servers[1].balance(0),
+        servers[2].balance(0),
+    ];
+    adds_up(rt, manager, reader, counts, registers);
 }
 
 /// The root makes two outputs of each element, for the two branches, and each branch makes a reply. The
@@ -100,25 +125,16 @@ fn tree_with_killers(rt: HostRuntime) {
     let mut killers = two(&rt, &mut keeper, &manager);
     let mut desks = three_passes(&rt, &mut keeper, &manager);
     let mut reader = pass(&rt, &mut keeper, &manager);
-    let root = recipe(1, Act::Add, &[output(2), output(3)]);
-    let a = eager(&rt, root);
-    let b = lazy(&rt, recipe(2, Act::Add, &[output(15)]));
-    let c = eager(&rt, recipe(3, Act::Add, &[output(15)]));
-    let mut servers = three(a, b, c);
-    let counts = all_work(
+    let mut servers = tree_of_three(&rt);
+    works_and_adds_up(
         &rt,
         &manager,
         &mut desks,
         &mut servers,
         &mut clients,
         &mut killers,
+        &mut reader,
     );
-    let registers = [
-        servers[0].balance(0),
-        servers[1].balance(0),
-        servers[2].balance(0),
-    ];
-    adds_up(&rt, &manager, &mut reader, counts, registers);
     drop(servers);
     drop(reader);
     drop(desks);
